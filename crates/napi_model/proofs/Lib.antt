@@ -1,0 +1,4 @@
+pub mod SeenCases
+pub mod Words
+pub mod Histories
+pub mod Owners

@@ -1,0 +1,116 @@
+-- The laws of legal histories.
+use Rattle.std.proofs.Common.{◌≡◌, ◌≢◌, ◌⊎◌, ℕ, List, [], ◌∷◌, true, false, refl, sym, ap, ◌∙◌, subst, ⊎_elim, true≢false}
+use Rattle.napi_model.specs.declared.state.Kind.TheVariants as kind
+use Rattle.napi_model.specs.declared.state.Place.{Place}
+use Rattle.napi_model.specs.declared.state.Place.TheVariants.{Nobody, Granted, Polling}
+use Rattle.napi_model.specs.declared.state.State.{State}
+use Rattle.napi_model.specs.declared.event.Prep.TheVariants as prep
+use Rattle.napi_model.specs.declared.event.Done.TheVariants.{Released, Again}
+use Rattle.napi_model.specs.declared.event.Operation.{Operation}
+use Rattle.napi_model.specs.declared.event.Operation.TheVariants.{Look, Schedule, Hand, Take, Complete, MarkDisable, TakeDisable, Unmark, Enable, SetThreaded}
+use Rattle.napi_model.specs.declared.event.Event.{Event}
+use Rattle.napi_model.specs.Step.{after, after_by, IsLegalBy}
+use Rattle.napi_model.specs.History.{LegalHistory, IsBy, state_after, own}
+use Rattle.napi_model.specs.Laws.{IsSound, IsOwnedBy, SchedClearIsNobody, OthersLeaveOwner, OthersLeaveDisable}
+use Rattle.napi_model.proofs.Histories.{state_after-append, legal_front, legal_back, own_first}
+
+-- ---- SCHED clear, and nobody has the instance
+
+hand_apart : (c : ℕ) (p : Place) → p ≡ Nobody → ((p ≡ Granted c) ⊎ (p ≡ Polling c)) → ⊥
+hand_apart c p e h = ⊎_elim (λ (g : p ≡ Granted c). cc) (λ (g : p ≡ Polling c). cc) h
+
+pub sound_by : (c : ℕ) (o : Operation) (s : State) → IsLegalBy c o s → IsSound s → IsSound (after_by c o s)
+sound_by c (Look seen) s l sound = sound
+sound_by c (Schedule prep.Granted) s l sound = λ e. absurd (true≢false e)
+sound_by c (Schedule prep.Missed) s l sound = sound
+sound_by c (Schedule prep.Disabled) s l sound = sound
+sound_by c (Hand kind.List) s l sound = λ e. absurd (hand_apart c s.place (sound e) l)
+sound_by c (Hand kind.Thread) s l sound = λ e. let n = sound e in cc
+sound_by c (Take kind.List true) s l sound = λ e. let n = sound e in cc
+sound_by c (Take kind.Thread true) s l sound = λ e. let n = sound e in cc
+sound_by c (Take k false) s l sound = sound
+sound_by c (Complete Again) s l sound = λ e. let n = sound e in let p = l.0 in cc
+sound_by c (Complete Released) s l sound = λ e. refl
+sound_by c MarkDisable s l sound = sound
+sound_by c (TakeDisable true) s l sound = λ e. absurd (true≢false e)
+sound_by c (TakeDisable false) s l sound = sound
+sound_by c Unmark s l sound = sound
+sound_by c (Enable b) s l sound = λ e. refl
+sound_by c (SetThreaded b) s l sound = sound
+
+pub sound_after : SchedClearIsNobody
+unfolding LegalHistory state_after
+sound_after k s [] sound l = sound
+sound_after k s (e ∷ h) sound l = sound_after k (after s e) h (sound_by e.caller e.operation s l.0.0 sound) l.1
+
+-- ---- an owner's place
+
+pub owned_by_others : (c b : ℕ) (o : Operation) (s : State)
+    → b ≢ c → IsLegalBy b o s → IsSound s → IsOwnedBy c s.place → (after_by b o s).place ≡ s.place
+owned_by_others c b (Look seen) s apart l sound owned = refl
+owned_by_others c b (Schedule prep.Granted) s apart l sound owned = absurd (subst (IsOwnedBy c) (sound l.1) owned)
+owned_by_others c b (Schedule prep.Missed) s apart l sound owned = refl
+owned_by_others c b (Schedule prep.Disabled) s apart l sound owned = refl
+owned_by_others c b (Hand kind.List) s apart l sound owned =
+    absurd (apart (⊎_elim (λ (g : s.place ≡ Granted b). subst (IsOwnedBy c) g owned) (λ (g : s.place ≡ Polling b). subst (IsOwnedBy c) g owned) l))
+owned_by_others c b (Hand kind.Thread) s apart l sound owned = absurd (apart (subst (IsOwnedBy c) l owned))
+owned_by_others c b (Take kind.List true) s apart l sound owned = absurd (subst (IsOwnedBy c) l owned)
+owned_by_others c b (Take kind.Thread true) s apart l sound owned = absurd (subst (IsOwnedBy c) l owned)
+owned_by_others c b (Take k false) s apart l sound owned = refl
+owned_by_others c b (Complete Again) s apart l sound owned = absurd (apart (subst (IsOwnedBy c) l.0 owned))
+owned_by_others c b (Complete Released) s apart l sound owned = absurd (apart (subst (IsOwnedBy c) l.0 owned))
+owned_by_others c b MarkDisable s apart l sound owned = refl
+owned_by_others c b (TakeDisable true) s apart l sound owned = absurd (subst (IsOwnedBy c) (sound l.1) owned)
+owned_by_others c b (TakeDisable false) s apart l sound owned = refl
+owned_by_others c b Unmark s apart l sound owned = refl
+owned_by_others c b (Enable threaded) s apart l sound owned = absurd (apart (subst (IsOwnedBy c) l.0 owned))
+owned_by_others c b (SetThreaded threaded) s apart l sound owned = refl
+
+-- from any sound state
+pub owner_kept : (k c : ℕ) (s : State) (h : List Event)
+    → IsSound s → LegalHistory k s h → own c h ≡ [] → IsOwnedBy c s.place → (state_after s h).place ≡ s.place
+unfolding LegalHistory state_after
+owner_kept k c s [] sound l none owned = refl
+owner_kept k c s (e ∷ h) sound l none owned =
+    let first = own_first c e h none in
+    let same = owned_by_others c e.caller e.operation s first.0 l.0.0 sound owned in
+    owner_kept k c (after s e) h (sound_by e.caller e.operation s l.0.0 sound) l.1 first.1 (subst (IsOwnedBy c) (sym same) owned) ∙ same
+
+pub others_leave_owner : OthersLeaveOwner
+others_leave_owner k c s h others sound l none owned =
+    let t = state_after s h in
+    let kept = owner_kept k c t others (sound_after k s h sound (legal_front k s h others l)) (legal_back k s h others l) none owned in
+    ap (λ (u : State). u.place) (state_after-append s h others) ∙ kept
+
+-- ---- the disable flag
+
+disable_by_others : (k c : ℕ) (o : Operation) (s : State) → c ≢ k → IsBy k c o → (after_by c o s).flags.disable ≡ s.flags.disable
+disable_by_others k c (Look seen) s apart by = refl
+disable_by_others k c (Schedule prep.Granted) s apart by = refl
+disable_by_others k c (Schedule prep.Missed) s apart by = refl
+disable_by_others k c (Schedule prep.Disabled) s apart by = refl
+disable_by_others k c (Hand kind.List) s apart by = refl
+disable_by_others k c (Hand kind.Thread) s apart by = refl
+disable_by_others k c (Take kind true) s apart by = refl
+disable_by_others k c (Take kind false) s apart by = refl
+disable_by_others k c (Complete Again) s apart by = refl
+disable_by_others k c (Complete Released) s apart by = refl
+disable_by_others k c MarkDisable s apart by = absurd (apart by)
+disable_by_others k c (TakeDisable true) s apart by = refl
+disable_by_others k c (TakeDisable false) s apart by = refl
+disable_by_others k c Unmark s apart by = absurd (apart by)
+disable_by_others k c (Enable threaded) s apart by = refl
+disable_by_others k c (SetThreaded threaded) s apart by = refl
+
+pub disable_kept : (k : ℕ) (s : State) (h : List Event)
+    → LegalHistory k s h → own k h ≡ [] → (state_after s h).flags.disable ≡ s.flags.disable
+unfolding LegalHistory state_after
+disable_kept k s [] l none = refl
+disable_kept k s (e ∷ h) l none =
+    let first = own_first k e h none in
+    disable_kept k (after s e) h l.1 first.1 ∙ disable_by_others k e.caller e.operation s first.0 l.0.1
+
+pub others_leave_disable : OthersLeaveDisable
+others_leave_disable k s h others l none =
+    ap (λ (u : State). u.flags.disable) (state_after-append s h others)
+    ∙ disable_kept k (state_after s h) others (legal_back k s h others l) none

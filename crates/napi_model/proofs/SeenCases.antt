@@ -1,0 +1,105 @@
+-- A `Seen` has 2 ^ 6 * 3 values: a fact of each is a test that computes. And equality of two, by the derived `==`.
+use Rattle.std.proofs.Common.{◌≡◌, ◌&&◌, Bool, true, false, Option, Some, None, refl, sym, true≢false}
+use Rattle.std.proofs.Math.Bool.{beq}
+use Rattle.std.specs.Option.{option_eq}
+use Rattle.napi_model.specs.declared.state.Kind.{Kind}
+use Rattle.napi_model.specs.declared.state.Kind.TheVariants.{List, Thread}
+use Rattle.napi_model.specs.declared.state.Seen.{Seen}
+use Rattle.napi_model.specs.contracts.state.KindPartialEq.TheImpl as kind_eq
+
+-- ---- a test of every value
+
+abbrev pub every_bool : (Bool → Bool) → Bool
+every_bool p = p true && p false
+
+abbrev pub every_mark : (Option Kind → Bool) → Bool
+every_mark p = (p None && p (Some List)) && p (Some Thread)
+
+abbrev pub seen_at : Bool → Bool → Bool → Bool → Bool → Bool → Option Kind → Seen
+seen_at a b c d e f m =
+    record { flags = record { sched = a; missed = b; disable = c; npsvc = d; threaded = e; sched_threaded = f }; handed = m }
+
+abbrev pub every_seen : (Seen → Bool) → Bool
+every_seen p =
+    every_bool (λ a. every_bool (λ b. every_bool (λ c. every_bool (λ d. every_bool (λ e. every_bool (λ f. every_mark (λ m. p (seen_at a b c d e f m))))))))
+
+pub and_l : (a b : Bool) → (a && b) ≡ true → a ≡ true
+and_l true b h = refl
+and_l false b h = h
+
+pub and_r : (a b : Bool) → (a && b) ≡ true → b ≡ true
+and_r true b h = h
+and_r false b h = absurd (true≢false (sym h))
+
+bool_holds : (p : Bool → Bool) → every_bool p ≡ true → (b : Bool) → p b ≡ true
+bool_holds p h true = and_l (p true) (p false) h
+bool_holds p h false = and_r (p true) (p false) h
+
+mark_holds : (p : Option Kind → Bool) → every_mark p ≡ true → (m : Option Kind) → p m ≡ true
+mark_holds p h None = and_l (p None) (p (Some List)) (and_l (p None && p (Some List)) (p (Some Thread)) h)
+mark_holds p h (Some List) = and_r (p None) (p (Some List)) (and_l (p None && p (Some List)) (p (Some Thread)) h)
+mark_holds p h (Some Thread) = and_r (p None && p (Some List)) (p (Some Thread)) h
+
+pub seen_holds : (p : Seen → Bool) → every_seen p ≡ true → (s : Seen) → p s ≡ true
+seen_holds p h s =
+    let a = s.flags.sched in
+    let b = s.flags.missed in
+    let c = s.flags.disable in
+    let d = s.flags.npsvc in
+    let e = s.flags.threaded in
+    let f = s.flags.sched_threaded in
+    let r1 = bool_holds (λ x. every_bool (λ b. every_bool (λ c. every_bool (λ d. every_bool (λ e. every_bool (λ f. every_mark (λ m. p (seen_at x b c d e f m)))))))) h a in
+    let r2 = bool_holds (λ x. every_bool (λ c. every_bool (λ d. every_bool (λ e. every_bool (λ f. every_mark (λ m. p (seen_at a x c d e f m))))))) r1 b in
+    let r3 = bool_holds (λ x. every_bool (λ d. every_bool (λ e. every_bool (λ f. every_mark (λ m. p (seen_at a b x d e f m)))))) r2 c in
+    let r4 = bool_holds (λ x. every_bool (λ e. every_bool (λ f. every_mark (λ m. p (seen_at a b c x e f m))))) r3 d in
+    let r5 = bool_holds (λ x. every_bool (λ f. every_mark (λ m. p (seen_at a b c d x f m)))) r4 e in
+    let r6 = bool_holds (λ x. every_mark (λ m. p (seen_at a b c d e x m))) r5 f in
+    mark_holds (λ x. p (seen_at a b c d e f x)) r6 s.handed
+
+-- ---- equality as the derived test
+
+abbrev same_mark : Option Kind → Option Kind → Bool
+same_mark = option_eq (kind_eq.eq-value).it
+
+abbrev pub same_seen : Seen → Seen → Bool
+same_seen x y =
+    (beq x.flags.sched y.flags.sched
+    && (beq x.flags.missed y.flags.missed
+    && (beq x.flags.disable y.flags.disable
+    && (beq x.flags.npsvc y.flags.npsvc
+    && (beq x.flags.threaded y.flags.threaded && beq x.flags.sched_threaded y.flags.sched_threaded)))))
+    && same_mark x.handed y.handed
+
+bool_is : (a b : Bool) → beq a b ≡ true → a ≡ b
+bool_is true true h = refl
+bool_is true false h = absurd (true≢false (sym h))
+bool_is false true h = absurd (true≢false (sym h))
+bool_is false false h = refl
+
+mark_is : (a b : Option Kind) → same_mark a b ≡ true → a ≡ b
+mark_is None None h = refl
+mark_is None (Some k) h = absurd (true≢false (sym h))
+mark_is (Some k) None h = absurd (true≢false (sym h))
+mark_is (Some List) (Some List) h = refl
+mark_is (Some List) (Some Thread) h = absurd (true≢false (sym h))
+mark_is (Some Thread) (Some List) h = absurd (true≢false (sym h))
+mark_is (Some Thread) (Some Thread) h = refl
+
+pub seen_is : (x y : Seen) → same_seen x y ≡ true → x ≡ y
+seen_is x y h =
+    let flags = and_l _ _ h in
+    let h1 = and_r _ _ flags in
+    let h2 = and_r _ _ h1 in
+    let h3 = and_r _ _ h2 in
+    let h4 = and_r _ _ h3 in
+    let e1 = bool_is x.flags.sched y.flags.sched (and_l _ _ flags) in
+    let e2 = bool_is x.flags.missed y.flags.missed (and_l _ _ h1) in
+    let e3 = bool_is x.flags.disable y.flags.disable (and_l _ _ h2) in
+    let e4 = bool_is x.flags.npsvc y.flags.npsvc (and_l _ _ h3) in
+    let e5 = bool_is x.flags.threaded y.flags.threaded (and_l _ _ h4) in
+    let e6 = bool_is x.flags.sched_threaded y.flags.sched_threaded (and_r _ _ h4) in
+    let e7 = mark_is x.handed y.handed (and_r _ _ h) in
+    λ i. seen_at (e1 i) (e2 i) (e3 i) (e4 i) (e5 i) (e6 i) (e7 i)
+
+pub seen_same : (x : Seen) → same_seen x x ≡ true
+seen_same x = seen_holds (λ s. same_seen s s) refl x

@@ -1,0 +1,43 @@
+-- Laws of legal histories.
+use Rattle.std.specs.Prelude.{◌≡◌, ℕ, false, List, [], ◌++◌}
+use Rattle.napi_model.specs.declared.state.Place.{Place}
+use Rattle.napi_model.specs.declared.state.Place.TheVariants.{Nobody, Granted, Polling, Control}
+use Rattle.napi_model.specs.declared.state.State.{State}
+use Rattle.napi_model.specs.declared.event.Event.{Event}
+use Rattle.napi_model.specs.History.{LegalHistory, state_after, own}
+
+-- SCHED says that somebody has the instance: clear, nobody has it
+abbrev pub IsSound : State → Type 0
+IsSound s = s.flags.sched ≡ false → s.place ≡ Nobody
+
+-- the places in which caller c owns the instance
+abbrev pub IsOwnedBy : ℕ → Place → Type 0
+IsOwnedBy c (Granted owner) = owner ≡ c
+IsOwnedBy c (Polling owner) = owner ≡ c
+IsOwnedBy c (Control owner) = owner ≡ c
+IsOwnedBy c _ = ⊥
+
+-- law: with SCHED clear the place is Nobody, in every state that a legal history leads to
+abbrev pub SchedClearIsNobody : Type 0
+SchedClearIsNobody =
+    (controller : ℕ) (start : State) (h : List Event)
+    → IsSound start → LegalHistory controller start h → IsSound (state_after start h)
+
+-- law: whatever others do, an owner stays where it is
+abbrev pub OthersLeaveOwner : Type 0
+OthersLeaveOwner =
+    (controller caller : ℕ) (start : State) (h others : List Event)
+    → IsSound start → LegalHistory controller start (h ++ others) → own caller others ≡ []
+    → IsOwnedBy caller (state_after start h).place
+    → (state_after start (h ++ others)).place ≡ (state_after start h).place
+
+-- law: whatever others than the controller do, the disable flag stays
+abbrev pub OthersLeaveDisable : Type 0
+OthersLeaveDisable =
+    (controller : ℕ) (start : State) (h others : List Event)
+    → LegalHistory controller start (h ++ others) → own controller others ≡ []
+    → (state_after start (h ++ others)).flags.disable ≡ (state_after start h).flags.disable
+
+-- law: a caller's own list of two histories joined is its two own lists joined
+abbrev pub OwnOfJoined : Type 0
+OwnOfJoined = (caller : ℕ) (g h : List Event) → own caller (g ++ h) ≡ own caller g ++ own caller h

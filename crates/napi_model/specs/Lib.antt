@@ -1,0 +1,5 @@
+pub mod Step
+pub mod History
+pub mod Laws
+pub mod Word
+pub mod Serial

@@ -1,0 +1,17 @@
+-- The one-thread object: what its private fields hold, and a call of it as a legal step.
+use Rattle.std.specs.Prelude.{◌≡◌, ℕ}
+use Rattle.napi_model.specs.declared.state.State.{State}
+use Rattle.napi_model.specs.declared.event.Operation.{Operation}
+use Rattle.napi_model.specs.declared.serial.SerialNapi.{SerialNapi}
+use Rattle.napi_model.specs.Step.{event, LegalStep}
+
+abbrev pub state_of : SerialNapi → State
+state_of napi = napi.state
+
+abbrev pub controller_of : SerialNapi → ℕ
+controller_of napi = napi.controller
+
+-- the caller made a legal step with this reply, and nothing else changed
+pub record Steps (old : SerialNapi) (caller : ℕ) (operation : Operation) (new : SerialNapi) : Type 0 where
+  pub legal : LegalStep (state_of old) (event caller operation) (state_of new)
+  pub controller : controller_of new ≡ controller_of old

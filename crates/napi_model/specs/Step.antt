@@ -1,0 +1,163 @@
+-- The legal steps of the one-thread NAPI object: `napi_schedule_prep`, `____napi_schedule`, `napi_complete_done`,
+-- `napi_disable`, `napi_enable` and `dev_set_threaded` of net/core/dev.c.
+use Rattle.std.specs.Prelude.{◌≡◌, ◌≢◌, ℕ, Bool, true, false, not, ◌||◌, ◌⊎◌, Option, Some, None, if◌then◌else◌}
+use Rattle.napi_model.specs.declared.state.Flags.{Flags}
+use Rattle.napi_model.specs.declared.state.Kind.{Kind}
+use Rattle.napi_model.specs.declared.state.Kind.TheVariants.{List, Thread}
+use Rattle.napi_model.specs.declared.state.Seen.{Seen}
+use Rattle.napi_model.specs.declared.state.Place.{Place}
+use Rattle.napi_model.specs.declared.state.Place.TheVariants.{Nobody, Granted, Listed, ToThread, Polling, Control}
+use Rattle.napi_model.specs.declared.state.State.{State}
+use Rattle.napi_model.specs.declared.event.Prep.{Prep}
+use Rattle.napi_model.specs.declared.event.Prep.TheVariants as prep
+use Rattle.napi_model.specs.declared.event.Done.{Done}
+use Rattle.napi_model.specs.declared.event.Done.TheVariants.{Released, Again}
+use Rattle.napi_model.specs.declared.event.Call.{Call}
+use Rattle.napi_model.specs.declared.event.Call.TheVariants as call
+use Rattle.napi_model.specs.declared.event.Operation.{Operation}
+use Rattle.napi_model.specs.declared.event.Operation.TheVariants.{Look, Schedule, Hand, Take, Complete, MarkDisable, TakeDisable, Unmark, Enable, SetThreaded}
+use Rattle.napi_model.specs.declared.event.Event.{Event}
+
+-- ---- states
+
+abbrev pub no_flags : Flags
+no_flags = record { sched = false; missed = false; disable = false; npsvc = false; threaded = false; sched_threaded = false }
+
+-- a new instance is disabled, in its controller's hands
+abbrev pub opening : ℕ → State
+opening controller = record { flags = record no_flags { sched = true; npsvc = true }; place = Control controller }
+
+-- enabled, not threaded, and no poll is asked for
+abbrev pub idle : State
+idle = record { flags = no_flags; place = Nobody }
+
+-- the place where an instance waits that was handed to the list, or to the thread
+abbrev pub place_of : Kind → Place
+place_of List = Listed
+place_of Thread = ToThread
+
+abbrev pub handed_at : Place → Option Kind
+handed_at Nobody = None
+handed_at (Granted c) = None
+handed_at Listed = Some List
+handed_at ToThread = Some Thread
+handed_at (Polling c) = None
+handed_at (Control c) = None
+
+-- what the word tells of a state
+abbrev pub seen_of : State → Seen
+seen_of s = record { flags = s.flags; handed = handed_at s.place }
+
+abbrev pub IsControl : Place → Type 0
+IsControl (Control c) = Unit {0}
+IsControl _ = ⊥
+
+-- ---- the table of legal steps: from which states, with which reply, and what is left
+
+-- caller c may hand an instance over: to the list what it was granted or polls, to the thread what it was granted
+abbrev pub MayHand : ℕ → Kind → Place → Type 0
+MayHand c List p = (p ≡ Granted c) ⊎ (p ≡ Polling c)
+MayHand c Thread p = p ≡ Granted c
+
+abbrev pub IsLegalBy : ℕ → Operation → State → Type 0
+IsLegalBy c (Look seen) s = seen ≡ seen_of s
+IsLegalBy c (Schedule prep.Disabled) s = s.flags.disable ≡ true
+IsLegalBy c (Schedule prep.Granted) s = (s.flags.disable ≡ false) × (s.flags.sched ≡ false)
+IsLegalBy c (Schedule prep.Missed) s = (s.flags.disable ≡ false) × (s.flags.sched ≡ true)
+IsLegalBy c (Hand kind) s = MayHand c kind s.place
+IsLegalBy c (Take kind true) s = s.place ≡ place_of kind
+IsLegalBy c (Take kind false) s = s.place ≢ place_of kind
+IsLegalBy c (Complete Again) s = (s.place ≡ Polling c) × (s.flags.missed ≡ true)
+IsLegalBy c (Complete Released) s = (s.place ≡ Polling c) × (s.flags.missed ≡ false)
+IsLegalBy c MarkDisable s = (s.flags.disable ≡ false) × ¬ IsControl s.place
+IsLegalBy c (TakeDisable false) s = (s.flags.disable ≡ true) × ((s.flags.sched ≡ true) ⊎ (s.flags.npsvc ≡ true))
+IsLegalBy c (TakeDisable true) s = (s.flags.disable ≡ true) × (s.flags.sched ≡ false) × (s.flags.npsvc ≡ false)
+IsLegalBy c Unmark s = (s.place ≡ Control c) × (s.flags.disable ≡ true)
+IsLegalBy c (Enable threaded) s = (s.place ≡ Control c) × (s.flags.disable ≡ false)
+IsLegalBy c (SetThreaded threaded) s = Unit {0}
+
+-- flags that aren't named stay
+abbrev pub after_by : ℕ → Operation → State → State
+after_by c (Look seen) s = s
+after_by c (Schedule prep.Disabled) s = s
+after_by c (Schedule prep.Granted) s = record { flags = record s.flags { sched = true }; place = Granted c }
+after_by c (Schedule prep.Missed) s = record s { flags = record s.flags { missed = true } }
+after_by c (Hand List) s = record s { place = Listed }
+after_by c (Hand Thread) s = record { flags = record s.flags { sched_threaded = true }; place = ToThread }
+after_by c (Take kind true) s = record s { place = Polling c }
+after_by c (Take kind false) s = s
+after_by c (Complete Again) s = record { flags = record s.flags { missed = false; sched_threaded = false }; place = Granted c }
+after_by c (Complete Released) s = record { flags = record s.flags { sched = false; sched_threaded = false }; place = Nobody }
+after_by c MarkDisable s = record s { flags = record s.flags { disable = true } }
+after_by c (TakeDisable false) s = s
+after_by c (TakeDisable true) s = record { flags = record s.flags { sched = true; npsvc = true; threaded = false }; place = Control c }
+after_by c Unmark s = record s { flags = record s.flags { disable = false } }
+after_by c (Enable threaded) s = record { flags = record s.flags { sched = false; npsvc = false; threaded = s.flags.threaded || threaded }; place = Nobody }
+after_by c (SetThreaded threaded) s = record s { flags = record s.flags { threaded = threaded } }
+
+abbrev pub event : ℕ → Operation → Event
+event c o = record { caller = c; operation = o }
+
+abbrev pub IsLegal : State → Event → Type 0
+IsLegal s e = IsLegalBy e.caller e.operation s
+
+abbrev pub after : State → Event → State
+after s e = after_by e.caller e.operation s
+
+-- the relation: what isn't listed isn't legal
+abbrev pub LegalStep : State → Event → State → Type 0
+LegalStep s e t = IsLegal s e × (t ≡ after s e)
+
+-- ---- calls, and the replies that a state determines
+
+abbrev pub call_of : Operation → Call
+call_of (Look seen) = call.Look
+call_of (Schedule reply) = call.Schedule
+call_of (Hand kind) = call.Hand kind
+call_of (Take kind reply) = call.Take kind
+call_of (Complete reply) = call.Complete
+call_of MarkDisable = call.MarkDisable
+call_of (TakeDisable reply) = call.TakeDisable
+call_of Unmark = call.Unmark
+call_of (Enable threaded) = call.Enable threaded
+call_of (SetThreaded threaded) = call.SetThreaded threaded
+
+-- the condition under which caller c makes a call
+abbrev pub MayCall : ℕ → Call → State → Type 0
+MayCall c (call.Hand kind) s = MayHand c kind s.place
+MayCall c call.Complete s = s.place ≡ Polling c
+MayCall c call.MarkDisable s = (s.flags.disable ≡ false) × ¬ IsControl s.place
+MayCall c call.TakeDisable s = s.flags.disable ≡ true
+MayCall c call.Unmark s = (s.place ≡ Control c) × (s.flags.disable ≡ true)
+MayCall c (call.Enable threaded) s = (s.place ≡ Control c) × (s.flags.disable ≡ false)
+MayCall c _ s = Unit {0}
+
+abbrev pub schedule_reply : State → Prep
+schedule_reply s = if s.flags.disable then prep.Disabled else (if s.flags.sched then prep.Missed else prep.Granted)
+
+abbrev pub is_handed : Kind → Place → Bool
+is_handed List Listed = true
+is_handed Thread ToThread = true
+is_handed _ _ = false
+
+abbrev pub take_reply : Kind → State → Bool
+take_reply kind s = is_handed kind s.place
+
+abbrev pub complete_reply : State → Done
+complete_reply s = if s.flags.missed then Again else Released
+
+abbrev pub take_disable_reply : State → Bool
+take_disable_reply s = not (s.flags.sched || s.flags.npsvc)
+
+-- the reply to each call in this state
+abbrev pub answer_of : Call → State → Operation
+answer_of call.Look s = Look (seen_of s)
+answer_of call.Schedule s = Schedule (schedule_reply s)
+answer_of (call.Hand kind) s = Hand kind
+answer_of (call.Take kind) s = Take kind (take_reply kind s)
+answer_of call.Complete s = Complete (complete_reply s)
+answer_of call.MarkDisable s = MarkDisable
+answer_of call.TakeDisable s = TakeDisable (take_disable_reply s)
+answer_of call.Unmark s = Unmark
+answer_of (call.Enable threaded) s = Enable threaded
+answer_of (call.SetThreaded threaded) s = SetThreaded threaded

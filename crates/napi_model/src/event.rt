@@ -1,0 +1,71 @@
+use crate::{Kind, Seen};
+
+/// What a request for a poll is answered. `napi_schedule_prep` answers true exactly for `Granted`.
+#[derive(Clone, Copy, PartialEq, Eq, Debug)]
+pub enum Prep {
+    /// The instance is the caller's, to be handed over.
+    Granted,
+    /// A poll is asked for or under way already; another follows it.
+    Missed,
+    /// A disable is pending; nothing was written.
+    Disabled,
+}
+
+/// What a completion is answered. `napi_complete_done` answers true exactly for `Released`.
+#[derive(Clone, Copy, PartialEq, Eq, Debug)]
+pub enum Done {
+    /// Nobody owns the instance any more.
+    Released,
+    /// A request was missed: the instance is the caller's, to be handed over again.
+    Again,
+}
+
+/// What a caller may ask of an instance.
+#[derive(Clone, Copy, PartialEq, Eq, Debug)]
+pub enum Call {
+    /// Read the word.
+    Look,
+    /// Ask for a poll (`napi_schedule_prep`).
+    Schedule,
+    /// Hand a granted or polled instance over (`____napi_schedule`).
+    Hand(Kind),
+    /// Take an instance that was handed over.
+    Take(Kind),
+    /// End a poll (`napi_complete_done`).
+    Complete,
+    /// Mark a disable as pending (`napi_disable`).
+    MarkDisable,
+    /// Try to take the instance for the controller (`napi_disable`).
+    TakeDisable,
+    /// Clear the mark (`napi_disable`).
+    Unmark,
+    /// Give a disabled instance free, threaded if true (`napi_enable`).
+    Enable(bool),
+    /// Set whether the instance is threaded (`dev_set_threaded`).
+    SetThreaded(bool),
+}
+
+/// A call together with its reply.
+#[derive(Clone, Copy, PartialEq, Eq, Debug)]
+pub enum Operation {
+    Look(Seen),
+    Schedule(Prep),
+    Hand(Kind),
+    /// True is Taken, false NotThere.
+    Take(Kind, bool),
+    Complete(Done),
+    MarkDisable,
+    /// True is Taken, false Busy.
+    TakeDisable(bool),
+    Unmark,
+    Enable(bool),
+    SetThreaded(bool),
+}
+
+/// One step of one caller on an instance.
+#[derive(Clone, Copy, PartialEq, Eq, Debug)]
+pub struct Event {
+    /// The caller's number.
+    pub caller: u32,
+    pub operation: Operation,
+}

@@ -1,0 +1,23 @@
+//! The one-thread NAPI object: its state, its legal steps and histories, its state word, and [`SerialNapi`], which makes
+//! the steps.
+//!
+//! The rules are those of the packet polling core of Linux 6.6 (`net/core/dev.c`, `include/linux/netdevice.h`). The
+//! definitions that every contract cites are in `specs/`: `Step` has the table of legal steps, `History` what a list of
+//! events leaves, `Word` the bits.
+#![tactic(auto)]
+
+mod event;
+mod history;
+mod laws;
+mod serial;
+mod state;
+#[cfg(test)]
+mod tests;
+mod word;
+
+pub use event::{Call, Done, Event, Operation, Prep};
+pub use history::{first_illegal, is_accepted_schedule, is_poll_start, own, state_after};
+pub use laws::{others_leave_disable, others_leave_owner, own_of_joined, sched_clear_is_nobody};
+pub use serial::SerialNapi;
+pub use state::{Flags, Kind, Place, Seen, State};
+pub use word::{decode, encode};

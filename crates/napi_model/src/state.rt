@@ -1,0 +1,252 @@
+use crate::{Call, Done, Event, Operation, Prep};
+
+/// The flags of an instance that `include/linux/netdevice.h` names `NAPI_STATE_..`.
+#[derive(Clone, Copy, PartialEq, Eq, Debug)]
+pub struct Flags {
+    /// A poll is asked for or under way, or the instance is disabled (`NAPI_STATE_SCHED`).
+    pub sched: bool,
+    /// It was asked for again while SCHED was set (`NAPI_STATE_MISSED`).
+    pub missed: bool,
+    /// A disable is pending (`NAPI_STATE_DISABLE`).
+    pub disable: bool,
+    /// The instance is disabled (`NAPI_STATE_NPSVC`; the kernel's netpoll uses the bit too).
+    pub npsvc: bool,
+    /// Polls are made by the instance's own thread (`NAPI_STATE_THREADED`).
+    pub threaded: bool,
+    /// The instance was handed to its thread, which hasn't completed it since (`NAPI_STATE_SCHED_THREADED`).
+    pub sched_threaded: bool,
+}
+
+impl Flags {
+    /// No flag is set.
+    pub const NONE: Flags = Flags {
+        sched: false,
+        missed: false,
+        disable: false,
+        npsvc: false,
+        threaded: false,
+        sched_threaded: false,
+    };
+}
+
+/// To whom a scheduled instance is handed.
+#[derive(Clone, Copy, PartialEq, Eq, Debug)]
+pub enum Kind {
+    /// The poll list of the softirq (`____napi_schedule`, `list_add_tail`).
+    List,
+    /// The instance's own thread (`napi_threaded_poll`).
+    Thread,
+}
+
+/// What the state word tells: the flags, and to whom the instance was handed while nobody has taken it yet.
+#[derive(Clone, Copy, PartialEq, Eq, Debug)]
+pub struct Seen {
+    pub flags: Flags,
+    pub handed: Option<Kind>,
+}
+
+/// Where an instance stands, with the number of the caller that owns it there. The word doesn't tell the number.
+#[derive(Clone, Copy, PartialEq, Eq, Debug)]
+pub enum Place {
+    /// Enabled, and no poll is asked for.
+    Nobody,
+    /// The caller was granted the schedule and has still to hand the instance over.
+    Granted(u32),
+    /// On the poll list.
+    Listed,
+    /// Handed to the instance's thread.
+    ToThread,
+    /// The caller polls it, and has the poll context.
+    Polling(u32),
+    /// Disabled, in the hands of the controller.
+    Control(u32),
+}
+
+/// The whole state of an instance.
+#[derive(Clone, Copy, PartialEq, Eq, Debug)]
+pub struct State {
+    pub flags: Flags,
+    pub place: Place,
+}
+
+impl State {
+    ghost use Rattle.std.specs.Prelude.{◌≡◌, ◌↔◌, IsTrue, IsFalse};
+    ghost use Rattle.napi_model.specs.declared.event.Operation.{Operation};
+    ghost use Rattle.napi_model.specs.declared.state.State.{State};
+    ghost use Rattle.napi_model.specs.Step.{opening, idle, seen_of, IsLegal, IsLegalBy, after, LegalStep, MayCall, call_of, answer_of};
+
+    /// A new instance: disabled, in its controller's hands.
+    pub fn opening(controller: u32) -> State
+        ensures { result ≡ opening controller }
+    {
+        let flags = Flags {
+            sched: true,
+            npsvc: true,
+            ..Flags::NONE
+        };
+        State {
+            flags,
+            place: Place::Control(controller),
+        }
+    }
+
+    /// Enabled, not threaded, and no poll is asked for.
+    pub fn idle() -> State
+        ensures { result ≡ idle }
+    {
+        State {
+            flags: Flags::NONE,
+            place: Place::Nobody,
+        }
+    }
+
+    /// What the state word tells of it.
+    pub fn seen(self) -> Seen
+        ensures { result ≡ seen_of self }
+    {
+        let handed = match self.place {
+            Place::Listed => Some(Kind::List),
+            Place::ToThread => Some(Kind::Thread),
+            _ => None,
+        };
+        Seen {
+            flags: self.flags,
+            handed,
+        }
+    }
+
+    /// Whether the event is a legal step from here, by its reply too.
+    pub fn is_legal(self, event: Event) -> bool
+        ensures { IsTrue result ↔ IsLegal self event }
+    {
+        let caller = event.caller;
+        let flags = self.flags;
+        match event.operation {
+            Operation::Look(seen) => self.seen() == seen,
+            Operation::Schedule(Prep::Disabled) => flags.disable,
+            Operation::Schedule(Prep::Granted) => !flags.disable && !flags.sched,
+            Operation::Schedule(Prep::Missed) => !flags.disable && flags.sched,
+            Operation::Hand(Kind::List) => {
+                self.place == Place::Granted(caller) || self.place == Place::Polling(caller)
+            }
+            Operation::Hand(Kind::Thread) => self.place == Place::Granted(caller),
+            Operation::Take(Kind::List, taken) => taken == (self.place == Place::Listed),
+            Operation::Take(Kind::Thread, taken) => taken == (self.place == Place::ToThread),
+            Operation::Complete(Done::Again) => self.place == Place::Polling(caller)
+                && flags.missed,
+            Operation::Complete(Done::Released) => self.place == Place::Polling(caller)
+                && !flags.missed,
+            Operation::MarkDisable => !flags.disable && !matches!(&self.place, Place::Control(_)),
+            Operation::TakeDisable(taken) => flags.disable && taken != (flags.sched || flags.npsvc),
+            Operation::Unmark => self.place == Place::Control(caller) && flags.disable,
+            Operation::Enable(_) => self.place == Place::Control(caller) && !flags.disable,
+            Operation::SetThreaded(_) => true,
+        }
+    }
+
+    /// The state after an event: the flags that the event doesn't name stay.
+    pub fn after(self, event: Event) -> State
+        ensures state { result ≡ after self event }
+
+        // From a legal event there is this one next state and no other.
+        ensures next { IsLegal self event → LegalStep self event result }
+        ensures only { (other : State) → LegalStep self event other → other ≡ result }
+    {
+        let caller = event.caller;
+        let State {
+            mut flags,
+            mut place,
+        } = self;
+        match event.operation {
+            Operation::Schedule(Prep::Granted) => {
+                flags.sched = true;
+                place = Place::Granted(caller);
+            }
+            Operation::Schedule(Prep::Missed) => flags.missed = true,
+            Operation::Hand(Kind::List) => place = Place::Listed,
+            Operation::Hand(Kind::Thread) => {
+                flags.sched_threaded = true;
+                place = Place::ToThread;
+            }
+            Operation::Take(_, true) => place = Place::Polling(caller),
+            Operation::Complete(Done::Again) => {
+                flags.missed = false;
+                flags.sched_threaded = false;
+                place = Place::Granted(caller);
+            }
+            Operation::Complete(Done::Released) => {
+                flags.sched = false;
+                flags.sched_threaded = false;
+                place = Place::Nobody;
+            }
+            Operation::MarkDisable => flags.disable = true,
+            Operation::TakeDisable(true) => {
+                flags.sched = true;
+                flags.npsvc = true;
+                flags.threaded = false;
+                place = Place::Control(caller);
+            }
+            Operation::Unmark => flags.disable = false,
+            Operation::Enable(threaded) => {
+                flags.sched = false;
+                flags.npsvc = false;
+                flags.threaded |= threaded;
+                place = Place::Nobody;
+            }
+            Operation::SetThreaded(threaded) => flags.threaded = threaded,
+            Operation::Look(_)
+            | Operation::Schedule(Prep::Disabled)
+            | Operation::Take(_, false)
+            | Operation::TakeDisable(false) => {}
+        }
+        State { flags, place }
+    }
+
+    /// Whether a caller may make this call here. Where it may not, no reply to the call is legal.
+    pub fn may_call(self, caller: u32, call: Call) -> bool
+        ensures may { IsTrue result ↔ MayCall caller call self }
+        ensures none { IsFalse result → (o : Operation) → call_of o ≡ call → ¬ IsLegalBy caller o self }
+    {
+        let flags = self.flags;
+        match call {
+            Call::Hand(Kind::List) => self.place == Place::Granted(caller)
+                || self.place == Place::Polling(caller),
+            Call::Hand(Kind::Thread) => self.place == Place::Granted(caller),
+            Call::Complete => self.place == Place::Polling(caller),
+            Call::MarkDisable => !flags.disable && !matches!(&self.place, Place::Control(_)),
+            Call::TakeDisable => flags.disable,
+            Call::Unmark => self.place == Place::Control(caller) && flags.disable,
+            Call::Enable(_) => self.place == Place::Control(caller) && !flags.disable,
+            Call::Look | Call::Schedule | Call::Take(_) | Call::SetThreaded(_) => true,
+        }
+    }
+
+    /// The call with its reply: the one that is legal here.
+    pub fn answer(self, caller: u32, call: Call) -> Operation
+        requires { MayCall caller call self }
+        ensures answer { result ≡ answer_of call self }
+        ensures legal { IsLegalBy caller result self }
+        ensures only { (o : Operation) → call_of o ≡ call → IsLegalBy caller o self → o ≡ result }
+    {
+        let flags = self.flags;
+        match call {
+            Call::Look => Operation::Look(self.seen()),
+            Call::Schedule if flags.disable => Operation::Schedule(Prep::Disabled),
+            Call::Schedule if flags.sched => Operation::Schedule(Prep::Missed),
+            Call::Schedule => Operation::Schedule(Prep::Granted),
+            Call::Hand(kind) => Operation::Hand(kind),
+            Call::Take(Kind::List) => Operation::Take(Kind::List, self.place == Place::Listed),
+            Call::Take(Kind::Thread) => Operation::Take(
+                Kind::Thread,
+                self.place == Place::ToThread,
+            ),
+            Call::Complete if flags.missed => Operation::Complete(Done::Again),
+            Call::Complete => Operation::Complete(Done::Released),
+            Call::MarkDisable => Operation::MarkDisable,
+            Call::TakeDisable => Operation::TakeDisable(!flags.sched && !flags.npsvc),
+            Call::Unmark => Operation::Unmark,
+            Call::Enable(threaded) => Operation::Enable(threaded),
+            Call::SetThreaded(threaded) => Operation::SetThreaded(threaded),
+        }
+    }
+}

@@ -1,0 +1,111 @@
+ghost use Rattle.std.specs.Prelude.{◌≡◌, ◌↔◌, IsTrue, IsNone, IfSome, Some};
+ghost use Rattle.napi_model.specs.declared.state.Seen.{Seen};
+ghost use Rattle.napi_model.specs.Word.{bit_if, mark_word, word_of, mark_in, seen_in, IsMalformed};
+
+use crate::{Flags, Kind, Seen};
+
+const SCHED: u64 = 1;
+
+const MISSED: u64 = 1 << 1;
+
+const DISABLE: u64 = 1 << 2;
+
+const NPSVC: u64 = 1 << 3;
+
+const THREADED: u64 = 1 << 8;
+
+const SCHED_THREADED: u64 = 1 << 9;
+
+const QUEUED: u64 = 1 << 32;
+
+const TO_THREAD: u64 = 1 << 33;
+
+const BOTH_MARKS: u64 = QUEUED | TO_THREAD;
+
+const OTHER_BITS: u64 = !(SCHED
+    | MISSED
+    | DISABLE
+    | NPSVC
+    | THREADED
+    | SCHED_THREADED
+    | BOTH_MARKS);
+
+fn bit(on: bool, bit: u64) -> u64
+    ensures { result ≡ bit_if on bit }
+{
+    if on { bit } else { 0 }
+}
+
+fn mark(handed: Option<Kind>) -> u64
+    ensures { result ≡ mark_word handed }
+{
+    match handed {
+        None => 0,
+        Some(Kind::List) => QUEUED,
+        Some(Kind::Thread) => TO_THREAD,
+    }
+}
+
+/// The state word: the flags' bits of `include/linux/netdevice.h`, and bit 32 or 33 while the instance is handed to the
+/// list or to the thread.
+#[tactic(auto, using(crate::proofs::Words::joined_bits))]
+pub fn encode(seen: Seen) -> u64
+    ensures { result ≡ word_of seen }
+{
+    let flags = seen.flags;
+    bit(flags.sched, SCHED)
+        | bit(flags.missed, MISSED)
+        | bit(flags.disable, DISABLE)
+        | bit(flags.npsvc, NPSVC)
+        | bit(flags.threaded, THREADED)
+        | bit(flags.sched_threaded, SCHED_THREADED)
+        | mark(seen.handed)
+}
+
+fn marked(queued: bool, to_thread: bool) -> Option<Kind>
+    ensures { result ≡ mark_in queued to_thread }
+{
+    match (queued, to_thread) {
+        (true, _) => Some(Kind::List),
+        (false, true) => Some(Kind::Thread),
+        (false, false) => None,
+    }
+}
+
+#[tactic(auto, unfolding(crate::specs::Word::seen_in))]
+fn read(word: u64) -> Seen
+    ensures { result ≡ seen_in word }
+{
+    let flags = Flags {
+        sched: word & SCHED != 0,
+        missed: word & MISSED != 0,
+        disable: word & DISABLE != 0,
+        npsvc: word & NPSVC != 0,
+        threaded: word & THREADED != 0,
+        sched_threaded: word & SCHED_THREADED != 0,
+    };
+    let handed = marked(word & QUEUED != 0, word & TO_THREAD != 0);
+    Seen { flags, handed }
+}
+
+fn is_malformed(word: u64) -> bool
+    ensures { IsTrue result ↔ IsMalformed word }
+{
+    word & OTHER_BITS != 0 || word & BOTH_MARKS == BOTH_MARKS
+}
+
+/// What a state word tells, or `None` where a bit without a name or both marks are set.
+///
+/// It judges bits alone: a word with the mark of the list and without SCHED is decoded, though no instance reaches it.
+pub fn decode(word: u64) -> Option<Seen>
+    ensures malformed { IsNone result ↔ IsMalformed word }
+    ensures word { IfSome result (λ seen. word_of seen ≡ word) }
+
+    // So `decode(encode(seen))` is `seen`.
+    ensures inverse { (seen : Seen) → word_of seen ≡ word → result ≡ Some seen }
+{
+    if is_malformed(word) {
+        return None;
+    }
+    Some(read(word))
+}
