@@ -1,0 +1,40 @@
+-- What a `Dql` shows of a limit in whole numbers.
+use Rattle.std.specs.Prelude.{◌≡◌, ℕ, ◌+◌, ◌≤◌}
+use Rattle.dql_core.specs.Counter.{IsWrapped, distance_of}
+use Rattle.dql_core.specs.Limit.{opening}
+use Rattle.dql_core.specs.declared.bounds.TheConstants.{MAX_IN_FLIGHT}
+use Rattle.dql_core.specs.declared.queue.Adjustment.{Adjustment}
+use Rattle.dql_core.specs.declared.queue.Dql.{Dql}
+use Rattle.dql_core.specs.declared.whole.Limit.{Limit}
+
+-- d shows the limit s: it counts modulo 2 ^ 32 what s counts in whole numbers, and has its other numbers
+pub record Shows (d : Dql) (s : Limit) : Type 0 where
+  pub queued : IsWrapped d.queued s.queued
+  pub completed : IsWrapped d.completed s.completed
+  pub previous_queued : IsWrapped d.previous_queued s.previous_queued
+  pub order : (s.completed ≤ s.previous_queued) × (s.previous_queued ≤ s.queued)
+  pub in_flight : s.queued ≤ s.completed + MAX_IN_FLIGHT
+  pub last_object : d.last_object ≡ s.last_object
+  pub limit : d.limit ≡ s.limit
+  pub previous_over : d.previous_over ≡ s.previous_over
+  pub previous_last_object : d.previous_last_object ≡ s.previous_last_object
+  pub lowest_slack : d.lowest_slack ≡ s.lowest_slack
+  pub slack_start : d.slack_start ≡ s.slack_start
+  pub bounds : (d.min_limit ≡ s.min_limit) × (d.max_limit ≡ s.max_limit)
+  pub hold : d.hold ≡ s.hold
+
+-- the bytes in flight by d's own counters
+abbrev pub bytes_in_flight : Dql → ℕ
+bytes_in_flight d = distance_of d.queued d.completed
+
+-- the new limit with d's bounds and hold, made when its slack began
+abbrev pub opening_of : Dql → Limit
+opening_of d = opening d.min_limit d.max_limit d.hold d.slack_start
+
+-- d is as new, or reset
+abbrev pub IsNew : Dql → Type 0
+IsNew d = Shows d (opening_of d)
+
+-- the limit s with the limit and the slack of a
+abbrev pub with_adjustment : Limit → Adjustment → Limit
+with_adjustment s a = record s { limit = a.limit; lowest_slack = a.lowest_slack; slack_start = a.slack_start }

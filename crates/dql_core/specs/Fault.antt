@@ -1,0 +1,11 @@
+-- The numbers of the faults.
+use Rattle.std.specs.Prelude.{ℕ}
+use Rattle.dql_core.specs.declared.event.DqlFault.{DqlFault}
+use Rattle.dql_core.specs.declared.event.DqlFault.TheVariants.{BadBounds, TooLarge, TooMuchInFlight, MoreThanQueued}
+
+-- the number by which a fault is known
+abbrev pub number_of : DqlFault → ℕ
+number_of BadBounds = 1
+number_of TooLarge = 2
+number_of TooMuchInFlight = 3
+number_of MoreThanQueued = 4

@@ -1,0 +1,6 @@
+pub mod Accepted
+pub mod Counter
+pub mod Dql
+pub mod Fault
+pub mod Limit
+pub mod Whole
