@@ -60,20 +60,28 @@ MayHand c List p = (p ≡ Granted c) ⊎ (p ≡ Polling c)
 MayHand c Thread p = p ≡ Granted c
 
 abbrev pub IsLegalBy : ℕ → Operation → State → Type 0
+-- a read of the word
 IsLegalBy c (Look seen) s = seen ≡ seen_of s
+-- `napi_schedule_prep`
 IsLegalBy c (Schedule prep.Disabled) s = s.flags.disable ≡ true
 IsLegalBy c (Schedule prep.Granted) s = (s.flags.disable ≡ false) × (s.flags.sched ≡ false)
 IsLegalBy c (Schedule prep.Missed) s = (s.flags.disable ≡ false) × (s.flags.sched ≡ true)
+-- `____napi_schedule`
 IsLegalBy c (Hand kind) s = MayHand c kind s.place
+-- `net_rx_action` from the list, `napi_thread_wait` from the thread
 IsLegalBy c (Take kind true) s = s.place ≡ place_of kind
 IsLegalBy c (Take kind false) s = s.place ≢ place_of kind
+-- `napi_complete_done`
 IsLegalBy c (Complete Again) s = (s.place ≡ Polling c) × (s.flags.missed ≡ true)
 IsLegalBy c (Complete Released) s = (s.place ≡ Polling c) × (s.flags.missed ≡ false)
+-- `napi_disable`, in three steps
 IsLegalBy c MarkDisable s = (s.flags.disable ≡ false) × ¬ IsControl s.place
 IsLegalBy c (TakeDisable false) s = (s.flags.disable ≡ true) × ((s.flags.sched ≡ true) ⊎ (s.flags.npsvc ≡ true))
 IsLegalBy c (TakeDisable true) s = (s.flags.disable ≡ true) × (s.flags.sched ≡ false) × (s.flags.npsvc ≡ false)
 IsLegalBy c Unmark s = (s.place ≡ Control c) × (s.flags.disable ≡ true)
+-- `napi_enable`
 IsLegalBy c (Enable threaded) s = (s.place ≡ Control c) × (s.flags.disable ≡ false)
+-- `dev_set_threaded`
 IsLegalBy c (SetThreaded threaded) s = Unit {0}
 
 -- flags that aren't named stay
