@@ -23,8 +23,8 @@ struct Adjustment {
 /// Bytes are queued by [`queued`](Dql::queued) and completed by [`completed`](Dql::completed). The limit is advice:
 /// more bytes may be queued than [`avail`](Dql::avail) says, up to [`MAX_IN_FLIGHT`](crate::MAX_IN_FLIGHT) in flight.
 /// The counters wrap after 2^32 bytes and the answers stay those of the same limit in whole numbers,
-/// [`Limit`](crate::Limit). Moments are milliseconds of a clock of the caller's. Each call does constant work and
-/// takes no memory.
+/// [`Limit`](crate::Limit). Moments are milliseconds of a clock of the caller's. Each call but [`run`](Dql::run) does
+/// constant work, and none takes memory.
 #[derive(Debug, Drop)]
 pub struct Dql {
     queued: u32,

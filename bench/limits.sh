@@ -1,0 +1,42 @@
+#!/bin/sh
+# Times pairs of `queued` and `completed`: crates/bench_limits beside a plain C++ fold of the same rules, built by g++ -O2
+# and, where there is one, by clang++ -O3. Each makes the same calls and prints the same counts, which are compared.
+# Three rounds of all programs in turn; the best time of each is shown.
+#
+# usage: bench/limits.sh [PAIRS]     (100000000 where none are given)
+set -eu
+
+pairs=${1:-100000000}
+bench=$(cd "$(dirname "$0")" && pwd)
+crate=$bench/../crates/bench_limits
+work=$(mktemp -d)
+trap 'rm -rf "$work"' EXIT
+
+(cd "$crate" && rt run -- 1000) > "$work/build.log" 2>&1 || { cat "$work/build.log" >&2; exit 1; }
+cp "$crate/out/bench_limits" "$work/dql_core"
+programs=dql_core
+g++ -O2 -o "$work/gcc" "$bench/limits.cc"
+programs="$programs gcc"
+if command -v clang++ > /dev/null; then
+    clang++ -O3 -o "$work/clang" "$bench/limits.cc"
+    programs="$programs clang"
+fi
+
+for round in 1 2 3; do
+    for program in $programs; do
+        "$work/$program" "$pairs" > "$work/$program.line" 2> "$work/spent"
+        cut -d ' ' -f 1 "$work/spent" >> "$work/$program.times"
+        if ! cmp -s "$work/$program.line" "$work/dql_core.line"; then
+            echo "$program counts otherwise than dql_core:" >&2
+            cat "$work/dql_core.line" "$work/$program.line" >&2
+            exit 1
+        fi
+    done
+done
+
+cat "$work/dql_core.line"
+least() { sort -n "$work/$1.times" | head -n 1; }
+for program in $programs; do
+    awk -v name="$program" -v spent="$(least "$program")" -v pairs="$pairs" -v ours="$(least dql_core)" \
+        'BEGIN { printf "%-9s %5.2f ns a pair, %4.2f of dql_core\n", name, spent / pairs, spent / ours }'
+done

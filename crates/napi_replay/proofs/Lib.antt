@@ -1,0 +1,4 @@
+pub mod PacketFacts
+pub mod ReplayFacts
+pub mod RunFacts
+pub mod TraceFacts

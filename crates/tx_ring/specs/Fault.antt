@@ -1,0 +1,14 @@
+-- The numbers of the faults.
+use Rattle.std.specs.Prelude.{ℕ}
+use Rattle.tx_ring.specs.declared.event.TxFault.{TxFault}
+use Rattle.tx_ring.specs.declared.event.TxFault.TheVariants.{Stopped, Full, TooLarge, TooMuchInFlight, MoreThanSent, BadCapacity, OutOfMemory}
+
+-- the number by which a fault is known
+abbrev pub number_of : TxFault → ℕ
+number_of Stopped = 1
+number_of Full = 2
+number_of TooLarge = 3
+number_of TooMuchInFlight = 4
+number_of MoreThanSent = 5
+number_of BadCapacity = 6
+number_of OutOfMemory = 7

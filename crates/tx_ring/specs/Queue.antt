@@ -1,0 +1,86 @@
+-- A transmit queue under a queue limit, after byte queue limits (`include/linux/netdevice.h`, Linux 6.6): packets are
+-- sent, complete in their order, and the limit over their bytes stops the queue and starts it.
+use Rattle.std.specs.Prelude.{ℕ, ◌+◌, ◌%◌, ◌^◌, Bool, false, ◌&&◌, List, [], ◌∷◌, ◌++◌, length, take, drop, sum, nat_eq, nat_lt, nat_le, int_lt, pos, Option, Some, None, if◌then◌else◌}
+use Rattle.dql_core.specs.Limit.{after_queued, after_completed, avail_of, in_flight_of}
+use Rattle.dql_core.specs.declared.bounds.TheConstants.{MAX_OBJECT, MAX_IN_FLIGHT}
+use Rattle.dql_core.specs.declared.whole.Limit.{Limit}
+use Rattle.tx_ring.specs.declared.event.TxEvent.{TxEvent}
+use Rattle.tx_ring.specs.declared.event.TxEvent.TheVariants.{Send, Finish}
+use Rattle.tx_ring.specs.declared.event.TxFault.{TxFault}
+use Rattle.tx_ring.specs.declared.event.TxFault.TheVariants.{Stopped, Full, TooLarge, TooMuchInFlight, MoreThanSent}
+use Rattle.tx_ring.specs.declared.event.TxState.{TxState}
+
+pub record TransmitQueue : Type 0 where
+  pub capacity : ℕ  -- how many packets its ring can hold
+  pub sizes : List ℕ  -- the bytes of each packet ever sent, in order
+  pub done : ℕ  -- how many of these, the oldest, are complete
+  pub limit : Limit  -- the limit over their bytes, in whole numbers
+  pub stopped : Bool  -- whether the limit has stopped the queue
+
+-- a new queue under a new limit isn't stopped
+abbrev pub opening_queue : ℕ → Limit → TransmitQueue
+opening_queue capacity limit = record { capacity = capacity; sizes = []; done = 0; limit = limit; stopped = false }
+
+-- the packets in the ring: sent and not complete
+abbrev pub held_of : TransmitQueue → List ℕ
+held_of t = drop t.done t.sizes
+
+-- less than nothing is available
+abbrev pub is_over : Limit → Bool
+is_over s = int_lt (avail_of s) (pos 0)
+
+-- what a queue shows; its totals are those of 32 bits
+abbrev pub state_of : TransmitQueue → TxState
+state_of t = record {
+  queued = sum t.sizes % 2 ^ 32;
+  completed = sum (take t.done t.sizes) % 2 ^ 32;
+  limit = t.limit.limit;
+  avail = avail_of t.limit;
+  stopped = t.stopped;
+}
+
+-- a packet is sent: the queue is stopped where less than nothing is available then (`netdev_tx_sent_queue`)
+abbrev pub after_send : TransmitQueue → ℕ → TransmitQueue
+after_send t bytes =
+    let limit = after_queued t.limit bytes in
+    record t { sizes = t.sizes ++ bytes ∷ []; limit = limit; stopped = is_over limit }
+
+-- the bytes of the oldest packets in the ring
+abbrev pub bytes_of : TransmitQueue → ℕ → ℕ
+bytes_of t count = sum (take count (held_of t))
+
+-- the limit learns of so many bytes, and a stopped queue stays so where less than nothing is available then
+abbrev pub after_bytes : TransmitQueue → ℕ → ℕ → ℕ → TransmitQueue
+after_bytes t count bytes now =
+    let limit = after_completed t.limit bytes now in
+    record t { done = t.done + count; limit = limit; stopped = t.stopped && is_over limit }
+
+-- the oldest packets are complete; where they have no bytes the limit isn't touched (`netdev_tx_completed_queue`)
+unfoldable pub after_done : TransmitQueue → ℕ → ℕ → TransmitQueue
+after_done t count now =
+    if nat_eq (bytes_of t count) 0 then record t { done = t.done + count }
+    else after_bytes t count (bytes_of t count) now
+
+-- Whole runs.
+
+-- why a packet isn't sent, the first reason that there is
+abbrev pub send_fault : TransmitQueue → ℕ → Option TxFault
+send_fault t bytes =
+    if t.stopped then Some Stopped
+    else (if nat_le t.capacity (length (held_of t)) then Some Full
+    else (if nat_lt MAX_OBJECT bytes then Some TooLarge
+    else (if nat_lt MAX_IN_FLIGHT (in_flight_of t.limit + bytes) then Some TooMuchInFlight else None)))
+
+-- why so many packets can't be complete
+abbrev pub done_fault : TransmitQueue → ℕ → Option TxFault
+done_fault t count = if nat_lt (length (held_of t)) count then Some MoreThanSent else None
+
+-- why an event is refused
+abbrev pub fault_of : TransmitQueue → TxEvent → Option TxFault
+fault_of t (Send bytes) = send_fault t bytes
+fault_of t (Finish count now) = done_fault t count
+
+-- the queue after an event that isn't refused
+abbrev pub after : TransmitQueue → TxEvent → TransmitQueue
+after t (Send bytes) = after_send t bytes
+after t (Finish count now) = after_done t count now

@@ -1,0 +1,15 @@
+-- What a `TxRing` shows of a transmit queue.
+use Rattle.std.specs.Prelude.{◌≡◌, ◌≤◌, length, take, sum}
+use Rattle.dql_core.specs.Dql.{Shows}
+use Rattle.tx_ring.specs.Queue.{TransmitQueue, held_of}
+use Rattle.tx_ring.specs.declared.ring.TxRing.{TxRing}
+
+-- r shows the queue t: it holds its packets that aren't complete, and its limit shows the limit of t, which counts all of them
+pub record ShowsQueue (r : TxRing) (t : TransmitQueue) : Type 0 where
+  pub capacity : r.sizes.capacity ≡ t.capacity
+  pub held : r.sizes.items ≡ held_of t
+  pub within : t.done ≤ length t.sizes
+  pub limit : Shows r.limit t.limit
+  pub sent : t.limit.queued ≡ sum t.sizes
+  pub complete : t.limit.completed ≡ sum (take t.done t.sizes)
+  pub stopped : r.stopped ≡ t.stopped

@@ -1,0 +1,182 @@
+//! The ring.
+
+ghost use Rattle.std.specs.Prelude.{◌≡◌, ◌+◌, ◌<◌, ◌≤◌, ◌^◌, ◌&&◌, length, sum, take, drop};
+ghost use Rattle.dql_core.specs.Dql.{Shows, bytes_in_flight};
+ghost use Rattle.dql_core.specs.declared.whole.Limit.{Limit};
+ghost use Rattle.tx_ring.specs.Queue.{is_over};
+
+use crate::event::{TxEvent, TxFault, TxState};
+use circular_buffer::HeapCircularBuffer;
+use dql_core::{Dql, DqlFault};
+use std::alloc::Global;
+
+/// The most packets that a ring can hold.
+pub const MAX_CAPACITY: usize = 65_536;
+
+/// A transmit ring: the sizes of the packets that were sent and aren't complete, the limit over their bytes, and
+/// whether it has stopped the queue.
+///
+/// A ring starts unstopped. After a send it is stopped where less than nothing is available of the limit
+/// (`netdev_tx_sent_queue`); after a completion of more than 0 bytes it is started where that is no longer so, and
+/// else stays as it was (`netdev_tx_completed_queue`). No call but [`new`](TxRing::new) takes memory.
+#[derive(Drop)]
+pub struct TxRing {
+    limit: Dql,
+    sizes: HeapCircularBuffer<u32>,
+    stopped: bool,
+    ghost counted: { sum sizes.items ≡ bytes_in_flight limit },
+    ghost fits: { length sizes.items ≤ sizes.capacity },
+}
+
+impl TxRing {
+    ghost use Rattle.std.specs.Prelude.{◌≡◌, ◌≢◌, ℕ, ◌+◌, ◌<◌, ◌≤◌, ◌⊎◌, ◌↔◌, length, IfOk, IfErr, OnOk, OnErr, IsErrOf};
+    ghost use Rattle.std.specs.Result.{result_err};
+    ghost use Rattle.dql_core.specs.Accepted.{accepted, after_all};
+    ghost use Rattle.dql_core.specs.Dql.{Shows, IsNew};
+    ghost use Rattle.dql_core.specs.Limit.{opening};
+    ghost use Rattle.tx_ring.specs.Queue.{TransmitQueue, opening_queue, state_of, after_send, after_done, send_fault, done_fault, fault_of, after};
+    ghost use Rattle.tx_ring.specs.Ring.{ShowsQueue};
+    ghost use Rattle.tx_ring.specs.declared.event.TxFault.TheVariants.{BadCapacity, OutOfMemory};
+
+    /// A new ring of `capacity` packets over a limit that is new or was just reset; it isn't stopped.
+    ///
+    /// Refused by [`BadCapacity`](TxFault::BadCapacity) where `capacity` is 0 or over [`MAX_CAPACITY`], and else by
+    /// [`OutOfMemory`](TxFault::OutOfMemory) where there is no memory for the ring. The limit is dropped then.
+    pub fn new(alloc: Global, capacity: usize, limit: Dql) -> Result<TxRing, TxFault>
+        requires { IsNew limit }
+        ensures ok { (min max hold now : ℕ) → Shows limit (opening min max hold now) → IfOk result (λ r. ShowsQueue r (opening_queue capacity (opening min max hold now))) }
+        ensures bad { IsErrOf result BadCapacity ↔ ((capacity ≡ 0) ⊎ (MAX_CAPACITY < capacity)) }
+        ensures memory { IfErr result (λ e. e ≢ BadCapacity → e ≡ OutOfMemory) }
+    {
+        if capacity == 0 || capacity > MAX_CAPACITY {
+            return Err(TxFault::BadCapacity);
+        }
+        match HeapCircularBuffer::with_capacity(alloc, capacity) {
+            Ok(sizes) => Ok(TxRing {
+                limit,
+                sizes,
+                stopped: false,
+            }),
+            Err(_) => Err(TxFault::OutOfMemory),
+        }
+    }
+
+    /// What the ring shows.
+    pub fn state(&self) -> TxState
+        ensures { (t : TransmitQueue) → ShowsQueue self.now t → result ≡ state_of t }
+    {
+        TxState {
+            queued: self.limit.total_queued(),
+            completed: self.limit.total_completed(),
+            limit: self.limit.limit(),
+            avail: self.limit.avail(),
+            stopped: self.stopped,
+        }
+    }
+
+    /// A packet of `bytes` bytes is sent, and the queue is stopped where less than nothing is available then.
+    ///
+    /// Refused by [`Stopped`](TxFault::Stopped) where the queue is stopped, else by [`Full`](TxFault::Full) where the
+    /// ring holds as many packets as it can, else by [`TooLarge`](TxFault::TooLarge) where `bytes` is over
+    /// [`dql_core::MAX_OBJECT`], else by [`TooMuchInFlight`](TxFault::TooMuchInFlight) where more than
+    /// [`dql_core::MAX_IN_FLIGHT`] bytes would be in flight. The packet isn't sent then, and nothing changes.
+    pub fn send(&mut self, bytes: u32) -> Result<(), TxFault>
+        ensures ok { (t : TransmitQueue) → ShowsQueue self.old t → OnOk result (ShowsQueue self.new (after_send t bytes)) }
+        ensures err { OnErr result (self.new ≡ self.old) }
+        ensures fault { (t : TransmitQueue) → ShowsQueue self.old t → result_err result ≡ send_fault t bytes }
+    {
+        if self.stopped {
+            return Err(TxFault::Stopped);
+        }
+        if self.sizes.is_full() {
+            return Err(TxFault::Full);
+        }
+        match self.limit.queued(bytes) {
+            Ok(()) => {}
+            Err(DqlFault::TooLarge) => return Err(TxFault::TooLarge),
+            Err(_) => return Err(TxFault::TooMuchInFlight),
+        }
+        let Ok(()) = self.sizes.try_push_back(bytes) else {
+            unreachable!();
+        };
+        self.stopped = is_over(&self.limit);
+        Ok(())
+    }
+
+    /// The `count` oldest packets are complete at the moment `now`. Where these are more than 0 bytes the limit learns
+    /// of them, and a stopped queue is started where the limit has room again; else the limit is left alone.
+    ///
+    /// Refused by [`MoreThanSent`](TxFault::MoreThanSent) where the ring holds fewer packets; nothing changes then.
+    pub fn done(&mut self, count: u32, now: u64) -> Result<(), TxFault>
+        ensures ok { (t : TransmitQueue) → ShowsQueue self.old t → OnOk result (ShowsQueue self.new (after_done t count now)) }
+        ensures err { OnErr result (self.new ≡ self.old) }
+        ensures fault { (t : TransmitQueue) → ShowsQueue self.old t → result_err result ≡ done_fault t count }
+    {
+        if count as usize > self.sizes.len() {
+            return Err(TxFault::MoreThanSent);
+        }
+        let bytes = take_front(&mut self.sizes, count as usize);
+        if bytes > 0 {
+            let Ok(()) = self.limit.completed(bytes, now) else {
+                unreachable!();
+            };
+            self.stopped = stays_stopped(self.stopped, &self.limit);
+        }
+        Ok(())
+    }
+
+    /// Makes each of these calls in turn, and gives how many were refused.
+    pub fn run(&mut self, events: &[TxEvent]) -> u64
+        ensures state { (t : TransmitQueue) → ShowsQueue self.old t → ShowsQueue self.new (after_all fault_of after t events.now) }
+        ensures refused { (t : TransmitQueue) → ShowsQueue self.old t → result + length (accepted fault_of after t events.now) ≡ length events.now }
+    {
+        let mut refused = 0u64;
+        for i in 0..events.len() {
+            let event = events[i];
+            refused += u64::from(self.apply(event).is_err());
+        }
+        refused
+    }
+
+    // Makes the call that the event stands for.
+    fn apply(&mut self, event: TxEvent) -> Result<(), TxFault>
+        ensures ok { (t : TransmitQueue) → ShowsQueue self.old t → OnOk result (ShowsQueue self.new (after t event)) }
+        ensures err { OnErr result (self.new ≡ self.old) }
+        ensures fault { (t : TransmitQueue) → ShowsQueue self.old t → result_err result ≡ fault_of t event }
+    {
+        match event {
+            TxEvent::Send(bytes) => self.send(bytes),
+            TxEvent::Finish(count, now) => self.done(count, now),
+        }
+    }
+}
+
+fn is_over(limit: &Dql) -> bool
+    ensures { (s : Limit) → Shows limit.now s → result ≡ is_over s }
+{
+    limit.avail() < 0
+}
+
+fn stays_stopped(stopped: bool, limit: &Dql) -> bool
+    ensures { (s : Limit) → Shows limit.now s → result ≡ (stopped && is_over s) }
+{
+    stopped && is_over(limit)
+}
+
+// Takes the oldest sizes out, and adds them.
+#[tactic(auto, using(crate::proofs::Sums::sums))]
+fn take_front(sizes: &mut HeapCircularBuffer<u32>, count: usize) -> u32
+    requires { (count ≤ length sizes.old.items) × (sum sizes.old.items < 2 ^ 32) }
+    ensures rest { (sizes.new.items ≡ drop count sizes.old.items) × (sizes.new.capacity ≡ sizes.old.capacity) }
+    ensures parts { result + sum sizes.new.items ≡ sum sizes.old.items }
+    ensures taken { result ≡ sum (take count sizes.old.items) }
+{
+    let mut bytes = 0u32;
+    for _ in 0..count {
+        let Some(size) = sizes.pop_front() else {
+            unreachable!();
+        };
+        bytes += size;
+    }
+    bytes
+}
