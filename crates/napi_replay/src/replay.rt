@@ -57,14 +57,15 @@ impl Model for Replay {
 }
 
 impl Replay {
-    fn new(alloc: Global) -> Replay
-        ensures { result ≡ start }
+    // A replay with room for the lines of that many runs, so that no run takes memory.
+    fn new(alloc: Global, runs: usize) -> Result<Replay, AllocError>
+        ensures { IfOk result (λ replay. replay ≡ start) }
     {
-        Replay {
+        Ok(Replay {
             device: None,
             listed: false,
-            runs: Vec::new(alloc),
-        }
+            runs: Vec::with_capacity(alloc, runs)?,
+        })
     }
 
     // Opens the device, unless it is open.
@@ -196,7 +197,11 @@ fn play_rows(alloc: Global, settings: &Settings, rows: &[Row]) -> Result<Played,
     ensures transmits { IfOk result (λ played. ShowsTransmits played.transmit (transmits_of rows.now)) }
     ensures runs { IfOk result (λ played. length played.replay.runs ≤ 100000) }
 {
-    let mut replay = Replay::new(alloc);
+    let runs = rows
+        .iter()
+        .filter(|row| row.event == Event::Softirq)
+        .count();
+    let mut replay = Replay::new(alloc, runs)?;
     let mut transmit = None;
     for (i, row) in rows.iter().enumerate() {
         replay.play(alloc, settings, i as u32 + 1, row)?;

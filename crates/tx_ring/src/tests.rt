@@ -10,57 +10,31 @@ fn new_ring(alloc: Global, capacity: usize, min: u32) -> Result<TxRing, Fail> {
     Ok(TxRing::new(alloc, capacity, Dql::new(min, MAX_LIMIT, 1000, 0)?)?)
 }
 
+fn shown(queued: u32, completed: u32, limit: u32, avail: i64, stopped: bool) -> TxState {
+    TxState {
+        queued,
+        completed,
+        limit,
+        avail,
+        stopped,
+    }
+}
+
 #[test]
 fn queue_limit_grows(rt: HostRuntime) -> Result<(), Fail> {
     let mut ring = new_ring(rt.alloc(), 8, 0)?;
     ring.send(1500)?;
-    assert_eq!(rt;
-        ring.state(),
-        TxState {
-            queued: 1500,
-            completed: 0,
-            limit: 0,
-            avail: -1500,
-            stopped: true
-        }
-    );
+    assert_eq!(rt; ring.state(), shown(1500, 0, 0, -1500, true));
     ring.done(1, 6)?;
-    assert_eq!(rt;
-        ring.state(),
-        TxState {
-            queued: 1500,
-            completed: 1500,
-            limit: 1500,
-            avail: 1500,
-            stopped: false
-        }
-    );
+    assert_eq!(rt; ring.state(), shown(1500, 1500, 1500, 1500, false));
     ring.send(1500)?;
     ring.send(1500)?;
     assert_eq!(rt; ring.send(9), Err(TxFault::Stopped));
     ring.done(1, 6)?;
-    assert_eq!(rt;
-        ring.state(),
-        TxState {
-            queued: 4500,
-            completed: 3000,
-            limit: 1500,
-            avail: 0,
-            stopped: false
-        }
-    );
+    assert_eq!(rt; ring.state(), shown(4500, 3000, 1500, 0, false));
     ring.done(1, 7)?;
     assert_eq!(rt; ring.done(1, 8), Err(TxFault::MoreThanSent));
-    assert_eq!(rt;
-        ring.state(),
-        TxState {
-            queued: 4500,
-            completed: 4500,
-            limit: 3000,
-            avail: 3000,
-            stopped: false
-        }
-    );
+    assert_eq!(rt; ring.state(), shown(4500, 4500, 3000, 3000, false));
     Ok(())
 }
 
@@ -81,49 +55,13 @@ fn ring_over_the_limit(rt: HostRuntime) -> Result<(), Fail> {
         ring.run(&[TxEvent::Send(1000), TxEvent::Send(100), TxEvent::Send(1900)]),
         0
     );
-    assert_eq!(rt;
-        ring.state(),
-        TxState {
-            queued: 7500,
-            completed: 4500,
-            limit: 3000,
-            avail: 0,
-            stopped: false
-        }
-    );
+    assert_eq!(rt; ring.state(), shown(7500, 4500, 3000, 0, false));
     ring.done(1, 8)?;
-    assert_eq!(rt;
-        ring.state(),
-        TxState {
-            queued: 7500,
-            completed: 5500,
-            limit: 3000,
-            avail: 1000,
-            stopped: false
-        }
-    );
+    assert_eq!(rt; ring.state(), shown(7500, 5500, 3000, 1000, false));
     ring.done(1, 1100)?;
-    assert_eq!(rt;
-        ring.state(),
-        TxState {
-            queued: 7500,
-            completed: 5600,
-            limit: 200,
-            avail: -1700,
-            stopped: false
-        }
-    );
+    assert_eq!(rt; ring.state(), shown(7500, 5600, 200, -1700, false));
     ring.send(1)?;
-    assert_eq!(rt;
-        ring.state(),
-        TxState {
-            queued: 7501,
-            completed: 5600,
-            limit: 200,
-            avail: -1701,
-            stopped: true
-        }
-    );
+    assert_eq!(rt; ring.state(), shown(7501, 5600, 200, -1701, true));
     assert_eq!(rt; ring.send(1), Err(TxFault::Stopped));
     Ok(())
 }
@@ -177,16 +115,7 @@ fn memory_is_there_or_refused(rt: HostRuntime) -> Result<(), Fail> {
     limit.queued(10)?;
     limit.reset(7);
     match TxRing::new(rt.alloc(), 65_536, limit) {
-        Ok(ring) => assert_eq!(rt;
-            ring.state(),
-            TxState {
-                queued: 0,
-                completed: 0,
-                limit: 1000,
-                avail: 1000,
-                stopped: false
-            }
-        ),
+        Ok(ring) => assert_eq!(rt; ring.state(), shown(0, 0, 1000, 1000, false)),
         Err(fault) => assert_eq!(rt; fault, TxFault::OutOfMemory),
     }
     Ok(())
@@ -197,27 +126,12 @@ fn packets_of_no_bytes(rt: HostRuntime) -> Result<(), Fail> {
     let mut ring = new_ring(rt.alloc(), 4, 0)?;
     ring.send(0)?;
     ring.send(10)?;
-    let stopped = TxState {
-        queued: 10,
-        completed: 0,
-        limit: 0,
-        avail: -10,
-        stopped: true,
-    };
+    let stopped = shown(10, 0, 0, -10, true);
     assert_eq!(rt; ring.state(), stopped);
     ring.done(1, 5)?;
     assert_eq!(rt; ring.state(), stopped);
     ring.done(1, 6)?;
-    assert_eq!(rt;
-        ring.state(),
-        TxState {
-            queued: 10,
-            completed: 10,
-            limit: 10,
-            avail: 10,
-            stopped: false
-        }
-    );
+    assert_eq!(rt; ring.state(), shown(10, 10, 10, 10, false));
     Ok(())
 }
 
@@ -233,13 +147,7 @@ fn totals_past_32_bits(rt: HostRuntime) -> Result<(), Fail> {
     // 17 * 268435455 is 4563402735
     assert_eq!(rt;
         ring.state(),
-        TxState {
-            queued: 268_435_439,
-            completed: 268_435_439,
-            limit: 268_435_455,
-            avail: 268_435_455,
-            stopped: false
-        }
+        shown(268_435_439, 268_435_439, 268_435_455, 268_435_455, false)
     );
     Ok(())
 }
