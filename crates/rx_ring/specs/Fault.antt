@@ -1,0 +1,9 @@
+-- The numbers of the faults.
+use Rattle.std.specs.Prelude.{ℕ}
+use Rattle.rx_ring.specs.declared.fault.RingFault.{RingFault}
+use Rattle.rx_ring.specs.declared.fault.RingFault.TheVariants.{OutOfMemory, BadCapacity}
+
+-- the number by which a fault is known
+abbrev pub number_of : RingFault → ℕ
+number_of OutOfMemory = 1
+number_of BadCapacity = 2

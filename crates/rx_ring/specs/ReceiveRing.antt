@@ -1,0 +1,44 @@
+-- A receive ring: packets are put in at one end, and polls give them out at the other, at most their weight each
+-- (`Documentation/networking/napi.rst`, the budget of a poll, and `__napi_poll` in `net/core/dev.c` of Linux 6.6).
+use Rattle.std.specs.Prelude.{ℕ, ◌≡◌, ◌≤◌, ◌^◌, ◌-◌, List, ◌++◌, length, drop, map, sum, min}
+use mathlib.Core.List.{IsPrefix}
+use Rattle.rx_ring.specs.declared.packet.Packet.{Packet}
+use Rattle.rx_ring.specs.declared.packet.RxCounts.{RxCounts}
+use Rattle.rx_ring.specs.declared.packet.Totals.{Totals}
+
+pub record ReceiveRing : Type 0 where
+  pub put : List Packet  -- every packet put so far, oldest first
+  pub received : List Packet  -- every packet that polls gave so far, in the order in which they gave them
+
+-- what was received is what was put first: each packet once, and none out of turn
+abbrev pub IsInOrder : ReceiveRing → Type 0
+IsInOrder r = IsPrefix r.received r.put
+
+-- the packets in the ring: put and not received
+abbrev pub held_of : ReceiveRing → List Packet
+held_of r = drop (length r.received) r.put
+
+-- a poll of this weight gives these packets: no more than the weight, and what was received grows by just them
+abbrev pub IsPoll : ℕ → List Packet → List Packet → List Packet → Type 0
+IsPoll weight given before after = (length given ≤ weight) × (after ≡ before ++ given)
+
+-- a count of 64 bits, which stays at its greatest value
+abbrev pub capped : ℕ → ℕ
+capped n = min n (2 ^ 64 - 1)
+
+-- the bytes of these packets
+abbrev pub bytes_of : List Packet → ℕ
+bytes_of packets = sum (map (λ (p : Packet). p.bytes) packets)
+
+-- what is counted of so many polls that gave these packets
+abbrev pub counts_of : ℕ → List Packet → RxCounts
+counts_of polls received = record { polls = polls; packets = capped (length received); bytes = capped (bytes_of received) }
+
+-- what is counted of a whole ring; the bytes are those of all packets put
+abbrev pub totals_of : ReceiveRing → Totals
+totals_of r = record {
+  put = capped (length r.put);
+  polled = capped (length r.received);
+  left = capped (length (held_of r));
+  bytes = capped (bytes_of r.put);
+}

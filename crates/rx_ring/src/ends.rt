@@ -1,0 +1,149 @@
+//! The two ends of a ring.
+
+ghost use Rattle.std.specs.Prelude.{◌≡◌, ◌+◌, ◌≤◌, ◌++◌, [], length, take};
+ghost use mathlib.Core.List.{IsPrefix};
+ghost use Rattle.rtrb.specs.Ring.{sent, received, known_items, known_free, producer_capacity, SameConsumer};
+ghost use Rattle.rx_ring.specs.ReceiveRing.{capped, bytes_of};
+
+use crate::packet::{Batch, MAX_WEIGHT, Packet, RxCounts};
+use rtrb::{Consumer, Producer, PushError};
+
+/// The end at which packets are put in: the interrupt's. It may go to a thread of its own.
+#[derive(Drop)]
+pub struct RxIn {
+    pub(crate) producer: Producer<Packet>,
+    ghost first_fit: { producer_capacity producer ≤ known_free producer + length (sent producer) },
+}
+
+/// The end that polls: the poll context of an instance. It may go to a thread of its own, and from one to another.
+#[derive(Drop)]
+pub struct RxCtx {
+    pub(crate) consumer: Consumer<Packet>,
+    // The mark of `beside`: the next poll gives what was seen there, and looks no further.
+    pub(crate) beside: bool,
+    pub(crate) polls: u64,
+    pub(crate) packets: u64,
+    pub(crate) bytes: u64,
+    ghost packets_counted: { packets ≡ capped (length (received consumer)) },
+    ghost bytes_counted: { bytes ≡ capped (bytes_of (received consumer)) },
+}
+
+impl RxIn {
+    ghost use Rattle.std.specs.Prelude.{◌≡◌, ◌<◌, [], ◌∷◌, ◌++◌, length, IsOk, OnOk, IfErr, OnErr};
+    ghost use Rattle.rx_ring.specs.Ends.{put_list, capacity_of, SameIn};
+
+    /// Puts a packet in, behind all others, or hands it back where the ring is full; nothing changes then.
+    ///
+    /// The first packets that are put, as many as the ring can hold, are never handed back. Later ones fit where polls
+    /// have made room; this end sees the room that was made before the call.
+    pub fn put(&mut self, packet: Packet) -> Result<(), Packet>
+        ensures ring { SameIn self.old self.new }
+        ensures ok { OnOk result (put_list self.new ≡ put_list self.old ++ packet ∷ []) }
+        ensures full { OnErr result (put_list self.new ≡ put_list self.old) }
+        ensures back { IfErr result (λ p. p ≡ packet) }
+        ensures first { length (put_list self.old) < capacity_of self.old → IsOk result }
+    {
+        match self.producer.push(packet) {
+            Ok(()) => Ok(()),
+            Err(PushError::Full(back)) => Err(back),
+        }
+    }
+}
+
+impl RxCtx {
+    ghost use Rattle.std.specs.Prelude.{◌≡◌, ◌≤◌, length, false};
+    ghost use Rattle.rx_ring.specs.ReceiveRing.{counts_of};
+    ghost use Rattle.rx_ring.specs.Ends.{received_list, known_list, polls_of, is_beside, SameCtx, GivesNext};
+
+    /// What is counted of the polls so far.
+    pub fn counts(&self) -> RxCounts
+        ensures { result ≡ counts_of (polls_of self.now) (received_list self.now) }
+    {
+        RxCounts {
+            polls: self.polls,
+            packets: self.packets,
+            bytes: self.bytes,
+        }
+    }
+
+    /// Polls once, as a driver's `poll` (`__napi_poll` calls it): empties the batch, and gives the ring's next packets
+    /// into it, at most `weight`, which is 1 to [`MAX_WEIGHT`](crate::MAX_WEIGHT). Answers how many these are.
+    ///
+    /// Where fewer packets were seen than the weight allows, a poll looks at the ring, and so finds what was put before
+    /// it. A poll right after [`beside`](crate::beside) doesn't look again: it gives exactly the lesser of the weight and
+    /// what the ring held there, and leaves to the next polls what was put since.
+    pub fn poll(&mut self, weight: usize, batch: &mut Batch) -> usize
+        requires { (1 ≤ weight) × (weight ≤ MAX_WEIGHT) }
+        ensures next { GivesNext weight self.old self.new batch.new.items }
+        ensures work { result ≡ length batch.new.items }
+    {
+        if !self.beside && self.consumer.cached_slots() < weight {
+            self.consumer.slots();
+        }
+        let count = self.consumer.cached_slots().min(weight);
+        self.bytes = take_known(&mut self.consumer, count, self.bytes, batch);
+        self.packets = self.packets.saturating_add(count as u64);
+        self.polls = self.polls.saturating_add(1);
+        self.apart();
+        count
+    }
+
+    /// Ends the mark that [`beside`](crate::beside) leaves, so that the next poll looks at the ring again. Whoever gives
+    /// the context away calls this first: what is put meanwhile is then found by the next poll, and not overlooked.
+    pub fn apart(&mut self)
+        ensures ring { SameCtx self.old self.new }
+        ensures received { received_list self.new ≡ received_list self.old }
+        ensures known { known_list self.new ≡ known_list self.old }
+        ensures polls { polls_of self.new ≡ polls_of self.old }
+        ensures unmarked { is_beside self.new ≡ false }
+    {
+        self.beside = false;
+    }
+}
+
+// Takes `count` packets that the consumer has seen, by one step, as all that is in the batch, and adds their bytes.
+fn take_known(consumer: &mut Consumer<Packet>, count: usize, bytes: u64, batch: &mut Batch) -> u64
+    requires known { count ≤ length (known_items consumer.old) }
+    requires room { count ≤ MAX_WEIGHT }
+    requires bytes { bytes ≡ capped (bytes_of (received consumer.old)) }
+    ensures ring { SameConsumer consumer.old consumer.new }
+    ensures batch { batch.new.items ≡ take count (known_items consumer.old) }
+    ensures received { received consumer.new ≡ received consumer.old ++ batch.new.items }
+    ensures known { IsPrefix (known_items consumer.old) (batch.new.items ++ known_items consumer.new) }
+    ensures bytes { result ≡ capped (bytes_of (received consumer.new)) }
+{
+    resize(batch, count);
+    let Ok(()) = consumer.pop_entire_slice(batch.as_mut_slice()) else {
+        unreachable!();
+    };
+    add_bytes(batch.as_slice(), bytes)
+}
+
+const BLANKS: [Packet; MAX_WEIGHT] = [Packet {
+    number: 0,
+    bytes: 0,
+}; MAX_WEIGHT];
+
+// Gives the batch `count` places. What lies in them is written over, so only places that are new are filled.
+fn resize(batch: &mut Batch, count: usize)
+    requires { count ≤ MAX_WEIGHT }
+    ensures { length batch.new.items ≡ count }
+{
+    batch.truncate(count);
+    if batch.len() < count {
+        let Ok(()) = batch.try_extend_from_slice(&BLANKS[batch.len()..count]) else {
+            unreachable!();
+        };
+    }
+}
+
+// The bytes counted so far and those of these packets.
+fn add_bytes(packets: &[Packet], bytes: u64) -> u64
+    ensures { result ≡ capped (bytes + bytes_of packets.now) }
+{
+    let mut bytes = bytes;
+    for packet in packets {
+        bytes = bytes.saturating_add(u64::from(packet.bytes));
+    }
+    bytes
+}

@@ -1,0 +1,23 @@
+//! The receive ring of an instance: an interrupt puts packets in at one end, and polls give them out at the other, each
+//! once and in order, at most their weight at a time.
+//!
+//! This is the ring that a driver's poll works off in the kernel (`Documentation/networking/napi.rst` of Linux 6.6, and
+//! the `poll` that `__napi_poll` of `net/core/dev.c` calls). [`RxIn`] is the interrupt's end and [`RxCtx`] the poll's:
+//! the two may be in different threads, and neither waits for the other. `specs/ReceiveRing.antt` says what a ring is,
+//! and `specs/Ends.antt` what each end shows of it.
+#![tactic(auto)]
+
+mod ends;
+mod fault;
+mod packet;
+mod pair;
+
+pub use ends::{RxCtx, RxIn};
+pub use fault::RingFault;
+pub use packet::{Batch, MAX_WEIGHT, Packet, RxCounts, Totals};
+pub use pair::{MAX_CAPACITY, beside, finish, ring};
+
+#[cfg(test)]
+mod plain;
+#[cfg(test)]
+mod tests;

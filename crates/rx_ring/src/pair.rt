@@ -1,0 +1,97 @@
+//! What is done with both ends of a ring in one hand: it is made, the ends meet, and it is finished.
+
+ghost use Rattle.std.specs.Prelude.{◌≡◌, ◌≢◌, ◌+◌, ◌<◌, ◌^◌, ◌++◌, ◌⊎◌, ◌↔◌, [], false, length, IfOk, IfErr, IsErrOf};
+ghost use Rattle.rtrb.specs.Ring.{received, known_items};
+ghost use Rattle.rx_ring.specs.ReceiveRing.{capped, bytes_of, IsInOrder, totals_of};
+ghost use Rattle.rx_ring.specs.Ends.{put_list, capacity_of, received_list, known_list, polls_of, is_beside, IsOneRing, ring_of, Meets};
+ghost use Rattle.rx_ring.specs.declared.fault.RingFault.TheVariants.{BadCapacity, OutOfMemory};
+
+use crate::ends::{RxCtx, RxIn};
+use crate::fault::RingFault;
+use crate::packet::{Packet, Totals};
+use rtrb::{Consumer, RingBuffer};
+use std::alloc::Global;
+
+/// The most packets that a ring can hold.
+pub const MAX_CAPACITY: usize = 65_536;
+
+/// A new ring of `capacity` packets: its two ends. It is the only call here that takes memory.
+///
+/// Refused by [`BadCapacity`](RingFault::BadCapacity) where `capacity` is 0 or over [`MAX_CAPACITY`], and else by
+/// [`OutOfMemory`](RingFault::OutOfMemory) where there is no memory for the ring.
+pub fn ring(alloc: Global, capacity: usize) -> Result<(RxIn, RxCtx), RingFault>
+    ensures one { IfOk result (λ r. IsOneRing r.0 r.1) }
+    ensures capacity { IfOk result (λ r. capacity_of r.0 ≡ capacity) }
+    ensures empty { IfOk result (λ r. (put_list r.0 ≡ []) × (received_list r.1 ≡ []) × (known_list r.1 ≡ [])) }
+    ensures unpolled { IfOk result (λ r. (polls_of r.1 ≡ 0) × (is_beside r.1 ≡ false)) }
+    ensures bad { IsErrOf result BadCapacity ↔ ((capacity ≡ 0) ⊎ (MAX_CAPACITY < capacity)) }
+    ensures memory { IfErr result (λ e. e ≢ BadCapacity → e ≡ OutOfMemory) }
+{
+    if capacity == 0 || capacity > MAX_CAPACITY {
+        return Err(RingFault::BadCapacity);
+    }
+    match RingBuffer::new(alloc, capacity) {
+        Ok((producer, consumer)) => Ok((
+            RxIn { producer },
+            RxCtx {
+                consumer,
+                beside: false,
+                polls: 0,
+                packets: 0,
+                bytes: 0,
+            },
+        )),
+        Err(_) => Err(RingFault::OutOfMemory),
+    }
+}
+
+/// The two ends of one ring meet: the context sees all that the ring holds, and is marked. Nothing is put or received.
+///
+/// A poll right after it gives exactly the lesser of the weight and what the ring holds. The mark ends with that poll, or
+/// by [`RxCtx::apart`].
+pub fn beside(input: &mut RxIn, ctx: &mut RxCtx)
+    requires { IsOneRing input.old ctx.old }
+    ensures { Meets input.old ctx.old input.new ctx.new }
+{
+    ctx.consumer.slots_beside(&mut input.producer);
+    ctx.beside = true;
+}
+
+/// The end of a ring, whose two ends these are: what was put, what was received, and what is left.
+pub fn finish(input: RxIn, ctx: RxCtx) -> Totals
+    requires { IsOneRing input ctx }
+    ensures totals { result ≡ totals_of (ring_of input ctx) }
+    ensures order { IsInOrder (ring_of input ctx) }
+    ensures sum { length (put_list input) < 2 ^ 64 → result.put ≡ result.polled + result.left }
+{
+    let mut input = input;
+    let mut ctx = ctx;
+    beside(&mut input, &mut ctx);
+    let RxCtx {
+        mut consumer,
+        beside: _,
+        polls: _,
+        packets,
+        bytes,
+    } = ctx;
+    let left = consumer.cached_slots();
+    Totals {
+        put: packets.saturating_add(left as u64),
+        polled: packets,
+        left: left as u64,
+        bytes: count_left(&mut consumer, left, bytes),
+    }
+}
+
+// The bytes counted so far and those of the packets that are left.
+fn count_left(consumer: &mut Consumer<Packet>, left: usize, bytes: u64) -> u64
+    requires left { left ≡ length (known_items consumer.old) }
+    requires bytes { bytes ≡ capped (bytes_of (received consumer.old)) }
+    ensures { result ≡ capped (bytes_of (received consumer.old ++ known_items consumer.old)) }
+{
+    let mut bytes = bytes;
+    for _ in 0..left {
+        bytes = bytes.saturating_add(u64::from(consumer.pop_known().bytes));
+    }
+    bytes
+}
