@@ -1,0 +1,5 @@
+pub mod PollFacts
+pub mod RunFacts
+pub mod PlainFacts
+pub mod ScriptFacts
+pub mod FunctionFacts

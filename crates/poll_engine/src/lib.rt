@@ -1,0 +1,27 @@
+//! Poll lists, polling runs and the polling of an instance by its thread, over whatever is polled.
+//!
+//! The rules are those of `net_rx_action` and `napi_threaded_poll` of Linux 6.6 (`net/core/dev.c`). A [`Bench`] polls
+//! instances by their numbers, and states by relations of its own what a poll does; a [`PollList`] holds numbers.
+//! [`run_softirq`] is written and proved once, for every list and every bench. The definitions that the contracts cite
+//! are in `specs/`: `Polls` has lists of polls, `Thread` the polling of an instance by its thread, `Run` the polling run,
+//! `Laws` what follows over a list of one thread.
+#![tactic(auto)]
+
+mod bench;
+#[cfg(test)]
+mod crowded;
+mod laws;
+mod list;
+mod plain;
+mod run;
+mod scripted;
+mod soft;
+#[cfg(test)]
+mod tests;
+
+pub use bench::{Bench, Next, Once, ThreadReport};
+pub use laws::{no_other_arrivals, plain_list_afterwards, run_is_function, runs_agree};
+pub use list::PollList;
+pub use plain::PlainList;
+pub use run::{RunReport, run_softirq};
+pub use soft::SoftList;
