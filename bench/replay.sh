@@ -1,43 +1,69 @@
 #!/usr/bin/env bash
-# bench/replay.sh [PEER [TURNS]]: whole runs of the replay on a trace of 100000 rows, in turn with another program that
-# reads the same trace (PEER), on one machine. Prints the least time of each, their ratio, and whether the bytes agree.
+# Whole runs of the replay, reading and writing included, in turn with another program that reads the same traces (PEER), on
+# one machine: on the traces of traces.sh, on each .csv file of the folder TRACES where one is named, and, to see the growth
+# in rows, on the trace of sixteen devices at 10000, 30000 and 100000 rows. Prints for each the least time and the greatest
+# size in memory of both, the ratio of the times, and whether the bytes and the exit status agree. The exit status is 1 where
+# they don't.
+# [TRACES=FOLDER] [PROGRAM=PROGRAM] bench/replay.sh [PEER [TURNS]]
 set -euo pipefail
-top=$(cd "$(dirname "$0")/.." && pwd)
+bench=$(cd "$(dirname "$0")" && pwd)
 peer=${1:-}
 turns=${2:-15}
+program=${PROGRAM:-}
 scratch=$(mktemp -d)
 trap 'rm -rf "$scratch"' EXIT
 
-# Bursts of 63 packets, each followed by a run.
-awk 'BEGIN {
-    print "moment,device,event,value"
-    print "0,1,open,4096"
-    for (row = 2; row <= 100000; row++)
-        if (row % 64 == 0) print row ",0,softirq,0"
-        else print row ",1,rx," 60 + row * 37 % 1440
-}' > "$scratch/trace.csv"
-
-# The microseconds of one run of the program $1, whose output goes to $2.
-once() {
-    local start=${EPOCHREALTIME/./}
-    "$1" < "$scratch/trace.csv" > "$2"
-    echo $((${EPOCHREALTIME/./} - start))
-}
-
-least() {
-    sort -n "$1" | head -n 1
-}
-
-"$top/replay" < "$scratch/trace.csv" > "$scratch/replay.out"
-for _ in $(seq "$turns"); do
-    once "$top/crates/napi_replay/out/napi_replay" "$scratch/replay.out" >> "$scratch/replay.times"
-    [ -z "$peer" ] || once "$peer" "$scratch/peer.out" >> "$scratch/peer.times"
+if [ -z "$program" ]; then
+    program=$bench/../crates/napi_replay/out/napi_replay
+    "$bench/../replay" "$bench/../examples/two-packets.csv" > "$scratch/built"
+fi
+cc -O2 -o "$scratch/measure" "$bench/measure.c"
+for rows in 10000 30000 100000; do
+    "$bench/traces.sh" "$scratch/$rows" "$rows"
 done
 
-echo "napi_replay: $(least "$scratch/replay.times") us for 100000 rows, the least of $turns runs"
-if [ -n "$peer" ]; then
-    echo "peer: $(least "$scratch/peer.times") us"
-    echo "ratio: $(awk -v a="$(least "$scratch/replay.times")" -v b="$(least "$scratch/peer.times")" 'BEGIN { printf "%.2f", a / b }')"
-    cmp "$scratch/replay.out" "$scratch/peer.out"
-    echo "the bytes agree"
+# The least of the first column and the greatest of the second one, and the last status.
+best() {
+    awk 'NR == 1 || $1 < least { least = $1 } $2 > most { most = $2 } END { print least, most, $3 }' "$1"
+}
+
+differs=0
+
+# play NAME TRACE: one line for this trace.
+play() {
+    : > "$scratch/ours" > "$scratch/theirs"
+    for _ in $(seq "$turns"); do
+        "$scratch/measure" "$2" "$scratch/ours.out" "$program" >> "$scratch/ours"
+        [ -z "$peer" ] || "$scratch/measure" "$2" "$scratch/theirs.out" "$peer" >> "$scratch/theirs"
+    done
+    read -r time size status <<< "$(best "$scratch/ours")"
+    line=$(awk -v name="$1" -v time="$time" -v size="$size" 'BEGIN { printf "%-14s %7.2f ms %5.1f MB", name, time / 1000, size / 1024 }')
+    if [ -n "$peer" ]; then
+        read -r peer_time peer_size peer_status <<< "$(best "$scratch/theirs")"
+        line+=$(awk -v ours="$time" -v time="$peer_time" -v size="$peer_size" \
+            'BEGIN { printf ", the peer %7.2f ms %5.1f MB, ratio %4.2f", time / 1000, size / 1024, ours / time }')
+        if [ "$status" = "$peer_status" ] && cmp -s "$scratch/ours.out" "$scratch/theirs.out"; then
+            line+=", the same bytes"
+        else
+            line+=", OTHER BYTES"
+            differs=1
+        fi
+    elif [ "$status" != 0 ]; then
+        line+=", status $status"
+        differs=1
+    fi
+    echo "$line"
+}
+
+for name in bursts sends; do
+    play "$name" "$scratch/100000/$name.csv"
+done
+if [ -n "${TRACES:-}" ]; then
+    for trace in "$TRACES"/*.csv; do
+        play "$(basename "$trace" .csv)" "$trace"
+    done
 fi
+for rows in 10000 30000 100000; do
+    play "sixteen $rows" "$scratch/$rows/sixteen.csv"
+done
+exit "$differs"

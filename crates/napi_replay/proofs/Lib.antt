@@ -1,4 +1,3 @@
-pub mod PacketFacts
-pub mod ReplayFacts
+mod ClapFacts
+pub mod PlayFacts
 pub mod RunFacts
-pub mod TraceFacts

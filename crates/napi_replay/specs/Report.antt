@@ -1,18 +1,22 @@
 -- The report's text, word by word. See docs/FORMATS.md, "The report".
-use Rattle.std.specs.Prelude.{ℕ, Bool, List, [], ◌∷◌, ◌++◌, Option, Some, None, option_and_then, codes, decimal, flat_map, if◌then◌else◌, length, sum_by}
+use Rattle.std.specs.Prelude.{ℕ, zero, suc, Bool, List, [], ◌∷◌, ◌++◌, Option, Some, None, Result, Ok, Err, codes, decimal, flat_map, if◌then◌else◌, sum_by}
 use Rattle.std.specs.Fmt.{signed_decimal}
-use Rattle.napi_replay.specs.Counts.{counts_of}
-use Rattle.napi_replay.specs.Devices.{device_of}
+use Rattle.device_model.specs.Bench.{Transmits, attached, counts_at, tx_counts_of}
+use Rattle.device_model.specs.Places.{at}
 use Rattle.napi_replay.specs.Replay.{world_of}
-use Rattle.napi_replay.specs.Transmit.{tx_counts}
-use Rattle.napi_replay.specs.Transmits.{Transmits, transmits_of}
+use Rattle.napi_replay.specs.Transmits.{transmits_of}
 use Rattle.napi_replay.specs.World.{World}
-use Rattle.napi_replay.specs.declared.counts.DeviceCounts.{DeviceCounts}
+use Rattle.device_model.specs.declared.counts.DeviceCounts.{DeviceCounts}
+use Rattle.device_model.specs.declared.counts.DeviceState.{DeviceState}
+use Rattle.device_model.specs.declared.counts.DeviceState.TheVariants.{On, Off, Pending}
+use Rattle.napi_replay.specs.declared.fault.ReplayFault.{ReplayFault}
 use Rattle.napi_replay.specs.declared.report.Totals.{Totals}
-use Rattle.napi_replay.specs.declared.row.Row.{Row}
-use Rattle.napi_replay.specs.declared.run.RunLine.{RunLine}
+use Rattle.device_model.specs.declared.row.Row.{Row}
+use Rattle.napi_replay.specs.declared.line.Line.{Line}
+use Rattle.napi_replay.specs.declared.line.Line.TheVariants.{Softirq, Kthread}
+use Rattle.poll_engine.specs.declared.run.RunReport.{RunReport}
 use Rattle.napi_replay.specs.declared.settings.Settings.{Settings}
-use Rattle.napi_replay.specs.declared.transmit.TxCounts.{TxCounts}
+use Rattle.device_model.specs.declared.transmit.TxCounts.{TxCounts}
 
 -- words with a space between two of them
 abbrev pub words : List (List ℕ) → List ℕ
@@ -27,14 +31,21 @@ ended line = line ++ codes "\n"
 abbrev pub flag : Bool → ℕ
 flag b = if b then 1 else 0
 
--- one run
-abbrev pub run_line : RunLine → List ℕ
-run_line run = words (codes "softirq" ∷ decimal run.row ∷ codes "polls" ∷ decimal run.polls ∷ codes "work" ∷ decimal run.work
+-- what a row that polls did
+abbrev pub poll_line : Line → List ℕ
+poll_line (Softirq row run) = words (codes "softirq" ∷ decimal row ∷ codes "polls" ∷ decimal run.polls ∷ codes "work" ∷ decimal run.work
     ∷ codes "squeezed" ∷ decimal (flag run.squeezed) ∷ [])
+poll_line (Kthread row device report) = words (codes "kthread" ∷ decimal row ∷ codes "device" ∷ decimal device ∷ codes "polls" ∷ decimal report.polls
+    ∷ codes "work" ∷ decimal report.work ∷ [])
 
 -- one device
+abbrev pub state_word : DeviceState → List ℕ
+state_word On = codes "on"
+state_word Off = codes "off"
+state_word Pending = codes "pending"
+
 abbrev pub device_line : ℕ → DeviceCounts → List ℕ
-device_line number counts = words (codes "device" ∷ decimal number ∷ codes "on" ∷ codes "arrived" ∷ decimal counts.arrived ∷ codes "dropped" ∷ decimal counts.dropped
+device_line number counts = words (codes "device" ∷ decimal number ∷ state_word counts.state ∷ codes "arrived" ∷ decimal counts.arrived ∷ codes "dropped" ∷ decimal counts.dropped
     ∷ codes "polled" ∷ decimal counts.polled ∷ codes "bytes" ∷ decimal counts.bytes ∷ codes "left" ∷ decimal counts.left ∷ codes "polls" ∷ decimal counts.polls ∷ [])
 
 abbrev pub napi_line : ℕ → DeviceCounts → List ℕ
@@ -51,8 +62,10 @@ abbrev pub tx_lines : ℕ → Option TxCounts → List ℕ
 tx_lines number None = []
 tx_lines number (Some counts) = ended (tx_line number counts)
 
-abbrev pub device_lines : ℕ → DeviceCounts → Option TxCounts → List ℕ
-device_lines number counts tx = ended (device_line number counts) ++ (ended (napi_line number counts) ++ tx_lines number tx)
+-- the lines of a device, where there is one
+abbrev pub device_lines : ℕ → Option DeviceCounts → List ℕ
+device_lines number None = []
+device_lines number (Some counts) = ended (device_line number counts) ++ (ended (napi_line number counts) ++ tx_lines number counts.tx)
 
 -- the numbers, each after a space
 abbrev pub spaced : List ℕ → List ℕ
@@ -61,27 +74,46 @@ spaced numbers = flat_map (λ number. codes " " ++ decimal number) numbers
 abbrev pub list_line : List ℕ → List ℕ
 list_line numbers = codes "list" ++ spaced numbers
 
+-- a number of a run; a thread's polling is no run
+abbrev pub of_run : (RunReport → ℕ) → Line → ℕ
+of_run number (Softirq row run) = number run
+of_run number (Kthread row device report) = 0
+
 -- opened devices, runs, and sums over the runs
-abbrev pub totals_of : ℕ → List RunLine → Totals
-totals_of devices runs = record {
+abbrev pub totals_of : ℕ → List Line → Totals
+totals_of devices lines = record {
   devices = devices;
-  runs = length runs;
-  polls = sum_by (λ run. run.polls) runs;
-  work = sum_by (λ run. run.work) runs;
-  squeezed = sum_by (λ run. flag run.squeezed) runs;
+  runs = sum_by (of_run (λ run. 1)) lines;
+  polls = sum_by (of_run (λ run. run.polls)) lines;
+  work = sum_by (of_run (λ run. run.work)) lines;
+  squeezed = sum_by (of_run (λ run. flag run.squeezed)) lines;
 }
 
 abbrev pub total_line : Totals → List ℕ
 total_line totals = words (codes "total" ∷ codes "devices" ∷ decimal totals.devices ∷ codes "runs" ∷ decimal totals.runs
     ∷ codes "polls" ∷ decimal totals.polls ∷ codes "work" ∷ decimal totals.work ∷ codes "squeezed" ∷ decimal totals.squeezed ∷ [])
 
--- the line of each run in order, the lines of each opened device in rising order, the poll list, the totals
-unfoldable pub text_of : World → Transmits → List ℕ
-text_of w transmits = flat_map (λ run. ended (run_line run)) w.runs
-    ++ (flat_map (λ entry. device_lines entry.0 (counts_of entry.1) (option_and_then tx_counts (device_of entry.0 transmits))) w.devices
-    ++ (ended (list_line w.list)
-    ++ ended (total_line (totals_of (length w.devices) w.runs))))
+-- what the report tells of device n
+abbrev pub counts_of : World → Transmits → ℕ → Option DeviceCounts
+counts_of w transmits n = counts_at (at n w.devices) (tx_counts_of (at n transmits))
 
--- the serial report: the text of what the rows of a trace make
-abbrev pub serial_report : Settings → List Row → List ℕ
-serial_report s rows = text_of (world_of s rows) (transmits_of rows)
+-- the lines of the devices whose numbers are below n, in rising order
+unfoldable pub lines_below : World → Transmits → ℕ → List ℕ
+lines_below w transmits zero = []
+lines_below w transmits (suc n) = lines_below w transmits n ++ device_lines n (counts_of w transmits n)
+
+-- The line of each row that polls in order, the lines of each device in rising order of their numbers, the poll list, the
+-- totals.
+unfoldable pub text_of : World → Transmits → List ℕ
+text_of w transmits = flat_map (λ line. ended (poll_line line)) w.lines
+    ++ (lines_below w transmits 17
+    ++ (ended (list_line w.list)
+    ++ ended (total_line (totals_of (attached w.devices) w.lines))))
+
+-- the serial report: the text of what the rows of a trace make, or the fault of the first enable row that is early
+abbrev pub report_of : Transmits → Result World ReplayFault → Result (List ℕ) ReplayFault
+report_of transmits (Ok w) = Ok (text_of w transmits)
+report_of transmits (Err fault) = Err fault
+
+abbrev pub serial_report : Settings → List Row → Result (List ℕ) ReplayFault
+serial_report s rows = report_of (transmits_of rows) (world_of s rows)

@@ -1,50 +1,68 @@
 //! The text of the report.
 
 ghost use Rattle.std.specs.Prelude.{◌≡◌, ◌≤◌, ◌++◌, IfOk, OnOk, flat_map, length, string_bytes, sum_by};
-ghost use Rattle.napi_replay.specs.Report.{device_line, device_lines, ended, flag, list_line, napi_line, run_line, total_line, totals_of, tx_line, tx_lines};
+ghost use Rattle.napi_replay.specs.Report.{device_line, device_lines, ended, flag, list_line, napi_line, of_run, poll_line, state_word, total_line, totals_of, tx_line, tx_lines};
 
-use crate::counts::DeviceCounts;
-use crate::run::RunLine;
-use crate::transmit::TxCounts;
+use crate::line::Line;
+use device_model::{DeviceCounts, DeviceState, TxCounts};
 use std::alloc::AllocError;
 use std::fmt;
 
-/// Adds the line of each run.
-pub(crate) fn add_runs(text: &mut String, runs: &[RunLine]) -> Result<(), AllocError>
-    ensures { OnOk result (string_bytes text.new ≡ string_bytes text.old ++ flat_map (λ run. ended (run_line run)) runs.now) }
+/// Adds the line of each row that polled.
+pub(crate) fn add_lines(text: &mut String, lines: &[Line]) -> Result<(), AllocError>
+    ensures { OnOk result (string_bytes text.new ≡ string_bytes text.old ++ flat_map (λ line. ended (poll_line line)) lines.now) }
 {
-    for run in runs {
-        add_run(text, run)?;
+    for line in lines {
+        add_line(text, line)?;
     }
     Ok(())
 }
 
-fn add_run(text: &mut String, run: &RunLine) -> Result<(), AllocError>
-    ensures { OnOk result (string_bytes text.new ≡ string_bytes text.old ++ ended (run_line run.now)) }
+fn add_line(text: &mut String, line: &Line) -> Result<(), AllocError>
+    ensures { OnOk result (string_bytes text.new ≡ string_bytes text.old ++ ended (poll_line line.now)) }
 {
-    writeln!(
-        text,
-        "softirq {} polls {} work {} squeezed {}",
-        run.row,
-        run.polls,
-        run.work,
-        u8::from(run.squeezed)
-    )?;
+    match line {
+        Line::Softirq(row, run) => writeln!(
+            text,
+            "softirq {} polls {} work {} squeezed {}",
+            row,
+            run.polls,
+            run.work,
+            u8::from(run.squeezed)
+        )?,
+        Line::Kthread(row, device, report) => writeln!(
+            text,
+            "kthread {} device {} polls {} work {}",
+            row, device, report.polls, report.work
+        )?,
+    }
     Ok(())
 }
 
-/// Adds the two lines of a device, and a third one where its transmit side had a row.
+/// Adds the lines of a device, where there is one: two, and a third one where its transmit side had a row.
 pub(crate) fn add_device(
     text: &mut String,
     number: u32,
-    counts: &DeviceCounts,
-    tx: Option<TxCounts>,
+    counts: Option<DeviceCounts>,
 ) -> Result<(), AllocError>
-    ensures { OnOk result (string_bytes text.new ≡ string_bytes text.old ++ device_lines number counts.now tx) }
+    ensures { OnOk result (string_bytes text.new ≡ string_bytes text.old ++ device_lines number counts) }
 {
-    add_device_line(text, number, counts)?;
-    add_napi_line(text, number, counts)?;
-    add_transmit(text, number, tx)
+    let Some(counts) = counts else {
+        return Ok(());
+    };
+    add_device_line(text, number, &counts)?;
+    add_napi_line(text, number, &counts)?;
+    add_transmit(text, number, counts.tx)
+}
+
+fn state_word(state: DeviceState) -> &'static str
+    ensures { result.now ≡ state_word state }
+{
+    match state {
+        DeviceState::On => "on",
+        DeviceState::Off => "off",
+        DeviceState::Pending => "pending",
+    }
 }
 
 fn add_device_line(text: &mut String, number: u32, counts: &DeviceCounts) -> Result<(), AllocError>
@@ -52,8 +70,9 @@ fn add_device_line(text: &mut String, number: u32, counts: &DeviceCounts) -> Res
 {
     writeln!(
         text,
-        "device {} on arrived {} dropped {} polled {} bytes {} left {} polls {}",
+        "device {} {} arrived {} dropped {} polled {} bytes {} left {} polls {}",
         number,
+        state_word(counts.state),
         counts.arrived,
         counts.dropped,
         counts.polled,
@@ -130,11 +149,11 @@ fn add_numbers(text: &mut String, numbers: &[u32]) -> Result<(), AllocError>
     Ok(())
 }
 
-/// The sums of the last line: opened devices, and over all runs.
+/// The sums of the last line: opened devices, and over the runs of all softirq rows.
 #[derive(Clone, Copy, Debug, PartialEq, Eq)]
 pub(crate) struct Totals {
-    pub devices: u32,
-    pub runs: u32,
+    pub devices: usize,
+    pub runs: u64,
     pub polls: u64,
     pub work: u64,
     pub squeezed: u64,
@@ -155,39 +174,83 @@ impl fmt::Display for Totals {
     }
 }
 
-fn polls_of(runs: &[RunLine]) -> u64
-    requires { length runs.now ≤ 100000 }
-    ensures { result ≡ sum_by (λ run. run.polls) runs.now }
+// One for the run of a softirq row, as in the next three: a thread's polling is no run.
+fn runs_at(line: &Line) -> u32
+    ensures { result ≡ of_run (λ run. 1) line.now }
 {
-    runs.iter().map(|run| u64::from(run.polls)).sum()
+    match line {
+        Line::Softirq(_, _) => 1,
+        Line::Kthread(..) => 0,
+    }
 }
 
-fn work_of(runs: &[RunLine]) -> u64
-    requires { length runs.now ≤ 100000 }
-    ensures { result ≡ sum_by (λ run. run.work) runs.now }
+fn polls_at(line: &Line) -> u32
+    ensures { result ≡ of_run (λ run. run.polls) line.now }
 {
-    runs.iter().map(|run| u64::from(run.work)).sum()
+    match line {
+        Line::Softirq(_, run) => run.polls,
+        Line::Kthread(..) => 0,
+    }
 }
 
-fn squeezed_of(runs: &[RunLine]) -> u64
-    requires { length runs.now ≤ 100000 }
-    ensures { result ≡ sum_by (λ run. flag run.squeezed) runs.now }
+fn work_at(line: &Line) -> u32
+    ensures { result ≡ of_run (λ run. run.work) line.now }
 {
-    runs.iter().map(|run| u64::from(run.squeezed)).sum()
+    match line {
+        Line::Softirq(_, run) => run.work,
+        Line::Kthread(..) => 0,
+    }
+}
+
+fn squeezed_at(line: &Line) -> u32
+    ensures { result ≡ of_run (λ run. flag run.squeezed) line.now }
+{
+    match line {
+        Line::Softirq(_, run) => u32::from(run.squeezed),
+        Line::Kthread(..) => 0,
+    }
+}
+
+fn runs_of(lines: &[Line]) -> u64
+    requires { length lines.now ≤ 100000 }
+    ensures { result ≡ sum_by (of_run (λ run. 1)) lines.now }
+{
+    lines.iter().map(|line| u64::from(runs_at(line))).sum()
+}
+
+fn polls_of(lines: &[Line]) -> u64
+    requires { length lines.now ≤ 100000 }
+    ensures { result ≡ sum_by (of_run (λ run. run.polls)) lines.now }
+{
+    lines.iter().map(|line| u64::from(polls_at(line))).sum()
+}
+
+fn work_of(lines: &[Line]) -> u64
+    requires { length lines.now ≤ 100000 }
+    ensures { result ≡ sum_by (of_run (λ run. run.work)) lines.now }
+{
+    lines.iter().map(|line| u64::from(work_at(line))).sum()
+}
+
+fn squeezed_of(lines: &[Line]) -> u64
+    requires { length lines.now ≤ 100000 }
+    ensures { result ≡ sum_by (of_run (λ run. flag run.squeezed)) lines.now }
+{
+    lines.iter().map(|line| u64::from(squeezed_at(line))).sum()
 }
 
 impl Totals {
-    /// The sums over these runs.
-    pub(crate) fn of(devices: u32, runs: &[RunLine]) -> Totals
-        requires { length runs.now ≤ 100000 }
-        ensures { result ≡ totals_of devices runs.now }
+    /// The sums over these rows.
+    pub(crate) fn of(devices: usize, lines: &[Line]) -> Totals
+        requires { length lines.now ≤ 100000 }
+        ensures { result ≡ totals_of devices lines.now }
     {
         Totals {
             devices,
-            runs: runs.len() as u32,
-            polls: polls_of(runs),
-            work: work_of(runs),
-            squeezed: squeezed_of(runs),
+            runs: runs_of(lines),
+            polls: polls_of(lines),
+            work: work_of(lines),
+            squeezed: squeezed_of(lines),
         }
     }
 }

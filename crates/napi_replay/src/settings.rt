@@ -1,5 +1,17 @@
 //! How a replay polls.
 
+/// The most threads that poll.
+pub const MOST_POLLERS: u32 = 8;
+
+/// The largest budget of a run.
+pub const MOST_BUDGET: u32 = 65535;
+
+/// The largest weight of a poll.
+pub const MOST_WEIGHT: u32 = 64;
+
+/// The largest window of a run.
+pub const MOST_WINDOW: u32 = 65535;
+
 /// How a replay polls: the numbers of a run over the poll list.
 #[derive(Clone, Copy, Debug, PartialEq, Eq)]
 pub struct Settings {
@@ -31,10 +43,10 @@ impl Settings {
         ensures weight { IfSome result (λ s. s.weight ≡ weight) }
         ensures window { IfSome result (λ s. s.window ≡ window) }
     {
-        let pollers_in = 1 <= pollers && pollers <= 8;
-        let budget_in = 1 <= budget && budget <= 65535;
-        let weight_in = 1 <= weight && weight <= 64;
-        let window_in = 1 <= window && window <= 65535;
+        let pollers_in = 1 <= pollers && pollers <= MOST_POLLERS;
+        let budget_in = 1 <= budget && budget <= MOST_BUDGET;
+        let weight_in = 1 <= weight && weight <= MOST_WEIGHT;
+        let window_in = 1 <= window && window <= MOST_WINDOW;
         if pollers_in && budget_in && weight_in && window_in {
             Some(Settings {
                 pollers,

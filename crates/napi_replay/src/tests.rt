@@ -1,13 +1,16 @@
 //! The worked traces, and what no contract says: that calls succeed, and what a failing reader or writer gives.
 
 use crate::fault::{ReplayFault, fault_line, status};
-use crate::replay::replay_serial;
+use crate::serial::replay_serial;
 use crate::settings::Settings;
-use crate::words::{WordFault, parse_words, word_line, word_status};
+use crate::test_cases::{CONTROLS, Case, POLLING, WORKED};
+use device_model::TraceFault;
 use std::alloc::{AllocError, Global};
 use std::io;
 use std::io::{ErrorKind, Read, Write};
 use std::test::Fail;
+
+const HEADER: &str = "moment,device,event,value\n";
 
 const ONE_PACKET: &str = "moment,device,event,value\n0,1,open,4\n1,1,rx,100\n2,0,softirq,0\n";
 
@@ -18,174 +21,150 @@ list
 total devices 1 runs 1 polls 1 work 1 squeezed 0
 ";
 
-const NO_ROWS_REPORT: &str = "list\ntotal devices 0 runs 0 polls 0 work 0 squeezed 0\n";
-
-const TWO_PACKETS: &str = "0,1,open,4\n1,1,rx,100\n1,1,rx,60\n2,0,softirq,0\n";
-
-const TWO_PACKETS_REPORT: &str = "softirq 4 polls 2 work 2 squeezed 0
-device 1 on arrived 2 dropped 0 polled 2 bytes 160 left 0 polls 2
-napi 1 granted 1 missed 1 disabled 0 again 1 released 1 word 0
-list
-total devices 1 runs 1 polls 2 work 2 squeezed 0
-";
-
-// A window of one poll, and a budget of two packets, leave the device on the list.
-const SQUEEZED_REPORT: &str = "softirq 4 polls 1 work 2 squeezed 1
-device 1 on arrived 2 dropped 0 polled 2 bytes 160 left 0 polls 1
-napi 1 granted 1 missed 1 disabled 0 again 1 released 0 word 4294967297
+const MOST_ROWS_REPORT: &str =
+    "device 1 on arrived 99999 dropped 99995 polled 0 bytes 0 left 4 polls 0
+napi 1 granted 1 missed 3 disabled 0 again 0 released 0 word 4294967299
 list 1
-total devices 1 runs 1 polls 1 work 2 squeezed 1
-";
-
-const CUT_REPORT: &str = "softirq 66 polls 1 work 64 squeezed 0
-device 1 on arrived 64 dropped 0 polled 64 bytes 6400 left 0 polls 1
-napi 1 granted 1 missed 63 disabled 0 again 0 released 0 word 4294967299
-list 1
-total devices 1 runs 1 polls 1 work 64 squeezed 0
-";
-
-const REPOLLED_REPORT: &str = "softirq 66 polls 1 work 64 squeezed 0
-softirq 67 polls 2 work 0 squeezed 0
-device 1 on arrived 64 dropped 0 polled 64 bytes 6400 left 0 polls 3
-napi 1 granted 1 missed 63 disabled 0 again 1 released 1 word 0
-list
-total devices 1 runs 2 polls 3 work 64 squeezed 0
-";
-
-const FULL_RING: &str = "0,1,open,2\n1,1,rx,10\n1,1,rx,20\n1,1,rx,30\n2,0,softirq,0\n";
-
-const FULL_RING_REPORT: &str = "softirq 5 polls 2 work 2 squeezed 0
-device 1 on arrived 3 dropped 1 polled 2 bytes 30 left 0 polls 2
-napi 1 granted 1 missed 1 disabled 0 again 1 released 1 word 0
-list
-total devices 1 runs 1 polls 2 work 2 squeezed 0
-";
-
-const TRANSMIT: &str = "0,1,open,8
-5,1,tx,1500
-6,1,done,1
-6,1,tx,1500
-6,1,tx,1500
-6,1,tx,9
-6,1,done,1
-7,1,done,1
-8,1,done,1
-";
-
-const TRANSMIT_REPORT: &str = "device 1 on arrived 0 dropped 0 polled 0 bytes 0 left 0 polls 0
-napi 1 granted 0 missed 0 disabled 0 again 0 released 0 word 0
-tx 1 sent 3 held 1 done 3 denied 1 limit 3000 avail 3000 stopped 0
-list
 total devices 1 runs 0 polls 0 work 0 squeezed 0
 ";
 
-fn trace_of(alloc: Global, rows: &str) -> Result<String, AllocError> {
-    format!(in alloc; "moment,device,event,value\n{rows}")
-}
-
-// The report of these rows.
-fn report_of(alloc: Global, rows: &str, settings: &Settings) -> Result<Vec<u8>, ReplayFault> {
-    let trace = trace_of(alloc, rows).map_err(|_| ReplayFault::OutOfMemory)?;
-    let mut report = Vec::new(alloc);
-    replay_serial(alloc, trace.as_bytes(), &mut report, settings)?;
-    Ok(report)
-}
-
-// One open, and then as many packets of 100 bytes.
-fn packets(alloc: Global, capacity: u32, count: u32) -> Result<String, AllocError> {
-    let mut rows = format!(in alloc; "0,1,open,{capacity}\n")?;
-    for _ in 0..count {
-        rows.push_str("1,1,rx,100\n")?;
+// The text of these rows below a header.
+fn text_of(alloc: Global, rows: &[(u32, &str)]) -> Result<String, AllocError> {
+    let mut text = String::from_str(alloc, HEADER)?;
+    for (times, row) in rows {
+        for _ in 0..*times {
+            text.push_str(row)?;
+        }
     }
-    Ok(rows)
+    Ok(text)
+}
+
+fn report_of(alloc: Global, case: &Case) -> Result<Vec<u8>, Fail> {
+    let (budget, weight, window) = case.polling;
+    let settings = Settings::new(1, budget, weight, window).ok_or("in range")?;
+    let text = text_of(alloc, case.rows)?;
+    let mut report = Vec::new(alloc);
+    replay_serial(alloc, text.as_bytes(), &mut report, &settings)?;
+    Ok(report)
 }
 
 #[test]
 fn worked_traces(rt: HostRuntime) -> Result<(), Fail> {
-    let alloc = rt.alloc();
-    let rows = [
-        ("", NO_ROWS_REPORT),
-        ("0,1,open,4\n1,1,rx,100\n2,0,softirq,0\n", ONE_PACKET_REPORT),
-        (TWO_PACKETS, TWO_PACKETS_REPORT),
-        (FULL_RING, FULL_RING_REPORT),
-        (TRANSMIT, TRANSMIT_REPORT),
-        // A quoted number, leading zeros, an empty line, and no line feed at the end.
-        (
-            "\"0\",1,open,004\n\n1,01,rx,100\r\n2,0,softirq,0",
-            ONE_PACKET_REPORT,
-        ),
-    ];
-    for (rows, report) in rows {
-        let bytes = report_of(alloc, rows, &Settings::default())?;
-        assert_eq!(rt; bytes.as_slice(), report.as_bytes(), "of {rows:?}");
-    }
-    Ok(())
-}
-
-#[test]
-fn full_weight(rt: HostRuntime) -> Result<(), Fail> {
-    let mut rows = packets(rt.alloc(), 128, 64)?;
-    rows.push_str("2,0,softirq,0\n")?;
-    let bytes = report_of(rt.alloc(), rows.as_str(), &Settings::default())?;
-    assert_eq!(rt; bytes.as_slice(), CUT_REPORT.as_bytes());
-    rows.push_str("3,0,softirq,0\n")?;
-    let bytes = report_of(rt.alloc(), rows.as_str(), &Settings::default())?;
-    assert_eq!(rt; bytes.as_slice(), REPOLLED_REPORT.as_bytes());
-    Ok(())
-}
-
-#[test]
-fn squeezed_runs(rt: HostRuntime) -> Result<(), Fail> {
-    for (budget, window) in [(300, 1), (2, 1024)] {
-        let settings = Settings::new(1, budget, 64, window).ok_or("in range")?;
-        let bytes = report_of(rt.alloc(), TWO_PACKETS, &settings)?;
+    for case in &WORKED {
+        let report = report_of(rt.alloc(), case)?;
         assert_eq!(rt;
-            bytes.as_slice(),
-            SQUEEZED_REPORT.as_bytes(),
-            "budget {budget}"
+            report.as_slice(),
+            case.report.as_bytes(),
+            "of {}",
+            case.name
         );
     }
     Ok(())
 }
 
 #[test]
-fn faulty_rows(rt: HostRuntime) {
-    let rows = [
-        ("0,1,open,4\n1,1,rx\n", 2),
-        ("0,1,open,4\n1,1,blip,0\n", 2),
-        ("0,1,open,4\n1,1,kthread,0\n", 2),
-        ("0,1,open,4\n1,1,Rx,9\n", 2),
-        ("0,1,open,65537\n", 1),
-        ("0,1,open,+5\n", 1),
-        ("x,1,open,4\n", 1),
-        ("18446744073709551616,1,open,4\n", 1),
-        ("000000000000000000000,1,open,4\n", 1),
-        ("0,2,open,4\n", 1),
-        ("0,1,softirq,0\n", 1),
-        ("0,1,rx,5\n", 1),
-        ("0,1,open,4\n1,1,rx,0\n", 2),
-        ("0,1,open,4\n1,1,rx,65536\n", 2),
-        ("0,1,open,4\n1,1,rx,65535\n2,1,open,4\n3,1,rx\n", 3),
-        ("0,0,softirq,1\n", 1),
-        ("0,1,tx,5\n", 1),
-        ("0,1,done,0\n", 1),
-        ("0,1,open,4\n1,1,tx,0\n", 2),
-        ("0,1,open,4\n1,1,tx,65536\n", 2),
-        ("0,1,open,4\n1,1,done,65537\n", 2),
-    ];
-    for (text, row) in rows {
-        let answer = report_of(rt.alloc(), text, &Settings::default());
+fn controls(rt: HostRuntime) -> Result<(), Fail> {
+    for case in &CONTROLS {
+        let report = report_of(rt.alloc(), case)?;
         assert_eq!(rt;
-            answer.err(),
-            Some(ReplayFault::BadEvent { row }),
-            "of {text:?}"
+            report.as_slice(),
+            case.report.as_bytes(),
+            "of {}",
+            case.name
         );
     }
+    Ok(())
+}
+
+#[test]
+fn polling(rt: HostRuntime) -> Result<(), Fail> {
+    for case in &POLLING {
+        let report = report_of(rt.alloc(), case)?;
+        assert_eq!(rt;
+            report.as_slice(),
+            case.report.as_bytes(),
+            "of {}",
+            case.name
+        );
+    }
+    Ok(())
+}
+
+// Rows, and the line of their fault.
+const FAULTY: [(&str, &str); 16] = [
+    ("x,1,open,4\n", "trace fault 3 BadNumber row 1\n"),
+    ("0,1,open,4\n1,1,rx\n", "trace fault 2 BadFields row 2\n"),
+    ("0,1,open,4\n1,1,blip,0\n", "trace fault 4 BadEvent row 2\n"),
+    ("0,1,open,65537\n", "trace fault 5 OutOfRange row 1\n"),
+    ("0,2,rx,5\n", "trace fault 6 UnknownDevice row 1\n"),
+    (
+        "0,1,open,4\n1,1,open,4\n",
+        "trace fault 7 OpenTwice row 2\n",
+    ),
+    (
+        "0,1,open,4\n1,1,enable,0\n",
+        "trace fault 8 WrongState row 2\n",
+    ),
+    (
+        "0,1,open,4\n1,1,disable,0\n2,1,disable,0\n",
+        "trace fault 8 WrongState row 3\n",
+    ),
+    (
+        "18446744073709551616,1,open,4\n",
+        "trace fault 5 OutOfRange row 1\n",
+    ),
+    (
+        "000000000000000000001,1,open,4\n",
+        "trace fault 3 BadNumber row 1\n",
+    ),
+    ("0,1,open,+5\n", "trace fault 3 BadNumber row 1\n"),
+    (
+        "0,1,open,4\n1,1,rx,100\n2,1,disable,0\n3,1,enable,0\n",
+        "trace fault 12 Pending row 4\n",
+    ),
+    (
+        "0,1,open,4\n1,1,rx,100\n2,0,softirq,0\n3,1,busy,0\n",
+        "trace fault 4 BadEvent row 4\n",
+    ),
+    (
+        "0,1,open,4\n1,1,rx,100\n2,1,disable,0\n3,0,softirq,0\n4,1,enable,0\n5,1,enable,0\n",
+        "trace fault 8 WrongState row 6\n",
+    ),
+    (
+        "0,1,open,4\n1,1,rx,100\n2,1,disable,0\n3,1,enable,0\nx\n",
+        "trace fault 2 BadFields row 5\n",
+    ),
+    (
+        "0,1,open,64\n0,2,open,4\n1,2,rx,9\n1,1,disable,0\n1,2,disable,0\n2,1,enable,0\n3,2,enable,0\n",
+        "trace fault 12 Pending row 7\n",
+    ),
+];
+
+// On a fault of the trace nothing is written: the writer would fail.
+#[test]
+fn faulty_traces(rt: HostRuntime) -> Result<(), Fail> {
+    for (rows, line) in FAULTY {
+        let text = format!(in rt.alloc(); "{HEADER}{rows}")?;
+        let mut writer = FailingWriter {
+            taken: Vec::new(rt.alloc()),
+            before: 0,
+        };
+        let settings = Settings::default();
+        let answer = replay_serial(rt.alloc(), text.as_bytes(), &mut writer, &settings);
+        let fault = answer.err().ok_or("a fault")?;
+        assert_eq!(rt;
+            fault_line(rt.alloc(), &fault)?.as_str(),
+            line,
+            "of {rows:?}"
+        );
+        assert_eq!(rt; status(&fault), 2, "of {rows:?}");
+    }
+    Ok(())
 }
 
 #[test]
 fn other_headers(rt: HostRuntime) {
-    let alloc = rt.alloc();
+    let bad = Err(ReplayFault::Trace(TraceFault::BadHeader));
     for text in [
         "",
         "\n",
@@ -193,20 +172,34 @@ fn other_headers(rt: HostRuntime) {
         "moment,device,event\n",
         "0,1,open,4\n",
     ] {
-        let mut report = Vec::new(alloc);
-        let answer = replay_serial(alloc, text.as_bytes(), &mut report, &Settings::default());
-        assert_eq!(rt; answer, Err(ReplayFault::BadHeader), "of {text:?}");
+        let mut report = Vec::new(rt.alloc());
+        let settings = Settings::default();
+        let answer = replay_serial(rt.alloc(), text.as_bytes(), &mut report, &settings);
+        assert_eq!(rt; answer, bad, "of {text:?}");
         assert!(rt; report.is_empty());
     }
 }
 
+// The text of one open, and then as many packets.
+fn packets(alloc: Global, count: u32) -> Result<String, AllocError> {
+    text_of(alloc, &[(1, "0,1,open,4\n"), (count, "1,1,rx,100\n")])
+}
+
 #[test]
 fn most_rows(rt: HostRuntime) -> Result<(), Fail> {
-    let mut rows = packets(rt.alloc(), 4, 99999)?;
-    assert!(rt; report_of(rt.alloc(), rows.as_str(), &Settings::default()).is_ok());
-    rows.push_str("neither a row\n")?;
-    let answer = report_of(rt.alloc(), rows.as_str(), &Settings::default());
-    assert_eq!(rt; answer.err(), Some(ReplayFault::TooManyRows));
+    let settings = Settings::default();
+    let mut text = packets(rt.alloc(), 99999)?;
+    let mut report = Vec::new(rt.alloc());
+    replay_serial(rt.alloc(), text.as_bytes(), &mut report, &settings)?;
+    assert_eq!(rt; report.as_slice(), MOST_ROWS_REPORT.as_bytes());
+    text.push_str("neither a row\n")?;
+    let answer = replay_serial(
+        rt.alloc(),
+        text.as_bytes(),
+        &mut Vec::new(rt.alloc()),
+        &settings,
+    );
+    assert_eq!(rt; answer, Err(ReplayFault::Trace(TraceFault::TooManyRows)));
     Ok(())
 }
 
@@ -245,7 +238,7 @@ fn failing_reads(rt: HostRuntime) {
         if before < reads {
             assert_eq!(rt;
                 answer,
-                Err(ReplayFault::ReadFailed),
+                Err(ReplayFault::Trace(TraceFault::ReadFailed)),
                 "after {before} reads"
             );
             assert!(rt; report.is_empty());
@@ -308,47 +301,80 @@ fn failing_writes(rt: HostRuntime) {
     }
 }
 
-#[test]
-fn fault_lines(rt: HostRuntime) -> Result<(), Fail> {
-    let faults = [
-        (ReplayFault::BadHeader, "trace fault 1 BadHeader row 0\n", 2),
-        (
-            ReplayFault::BadEvent { row: 17 },
-            "trace fault 4 BadEvent row 17\n",
-            2,
-        ),
-        (
-            ReplayFault::TooManyRows,
-            "trace fault 9 TooManyRows row 100001\n",
-            2,
-        ),
-        (ReplayFault::ReadFailed, "trace fault 10 ReadFailed\n", 2),
-        (ReplayFault::OutOfMemory, "memory fault 11 OutOfMemory\n", 4),
-        (
-            ReplayFault::OutputFailed,
-            "output fault 15 OutputFailed\n",
-            4,
-        ),
-    ];
-    for (fault, line, number) in faults {
-        assert_eq!(rt; fault_line(rt.alloc(), &fault)?.as_str(), line);
-        assert_eq!(rt; status(&fault), number);
-    }
-    Ok(())
-}
+// Every fault, its line and its exit status.
+const FAULTS: [(ReplayFault, &str, u8); 13] = [
+    (
+        ReplayFault::Trace(TraceFault::BadHeader),
+        "trace fault 1 BadHeader row 0\n",
+        2,
+    ),
+    (
+        ReplayFault::Trace(TraceFault::BadFields { row: 1 }),
+        "trace fault 2 BadFields row 1\n",
+        2,
+    ),
+    (
+        ReplayFault::Trace(TraceFault::BadNumber { row: 17 }),
+        "trace fault 3 BadNumber row 17\n",
+        2,
+    ),
+    (
+        ReplayFault::Trace(TraceFault::BadEvent { row: 100000 }),
+        "trace fault 4 BadEvent row 100000\n",
+        2,
+    ),
+    (
+        ReplayFault::Trace(TraceFault::OutOfRange { row: 2 }),
+        "trace fault 5 OutOfRange row 2\n",
+        2,
+    ),
+    (
+        ReplayFault::Trace(TraceFault::UnknownDevice { row: 3 }),
+        "trace fault 6 UnknownDevice row 3\n",
+        2,
+    ),
+    (
+        ReplayFault::Trace(TraceFault::OpenTwice { row: 4 }),
+        "trace fault 7 OpenTwice row 4\n",
+        2,
+    ),
+    (
+        ReplayFault::Trace(TraceFault::WrongState { row: 5 }),
+        "trace fault 8 WrongState row 5\n",
+        2,
+    ),
+    (
+        ReplayFault::Trace(TraceFault::TooManyRows),
+        "trace fault 9 TooManyRows row 100001\n",
+        2,
+    ),
+    (
+        ReplayFault::Trace(TraceFault::ReadFailed),
+        "trace fault 10 ReadFailed\n",
+        2,
+    ),
+    (
+        ReplayFault::Trace(TraceFault::OutOfMemory),
+        "memory fault 11 OutOfMemory\n",
+        4,
+    ),
+    (
+        ReplayFault::Pending { row: 6 },
+        "trace fault 12 Pending row 6\n",
+        2,
+    ),
+    (
+        ReplayFault::OutputFailed,
+        "output fault 15 OutputFailed\n",
+        4,
+    ),
+];
 
 #[test]
-fn words(rt: HostRuntime) -> Result<(), Fail> {
-    let usual = Settings::new(1, 300, 64, 1024).ok_or("in range")?;
-    assert_eq!(rt; parse_words(&[]), Ok(usual));
-    let word = String::from_str(rt.alloc(), "--help")?;
-    assert_eq!(rt; parse_words(&[word]), Err(WordFault::Usage));
-    assert_eq!(rt; word_line(&WordFault::Usage), "usage fault 64\n");
-    assert_eq!(rt;
-        word_line(&WordFault::OutOfMemory),
-        "memory fault 11 OutOfMemory\n"
-    );
-    assert_eq!(rt; word_status(&WordFault::Usage), 64);
-    assert_eq!(rt; word_status(&WordFault::OutOfMemory), 4);
+fn fault_lines(rt: HostRuntime) -> Result<(), Fail> {
+    for (fault, line, number) in FAULTS {
+        assert_eq!(rt; fault_line(rt.alloc(), &fault)?.as_str(), line);
+        assert_eq!(rt; status(&fault), number, "of {line:?}");
+    }
     Ok(())
 }

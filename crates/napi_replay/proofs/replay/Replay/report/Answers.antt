@@ -1,5 +1,8 @@
-use Rattle.std.proofs.Common.{append_assoc}
-use Rattle.napi_replay.specs.Report.{text_of}
+use Rattle.std.specs.Prelude.{flat_map}
+use Rattle.device_model.specs.Bench.{attached, devices_of}
+use Rattle.napi_replay.specs.Played.{world_in}
+use Rattle.napi_replay.specs.Report.{ended, lines_below, list_line, poll_line, text_of, total_line, totals_of}
+use Rattle.napi_replay.proofs.PlayFacts.{four-parts}
 use Rattle.napi_replay.proofs.replay.Replay.report.Goals as goal
 
 pub returns : goal.returns
@@ -8,13 +11,17 @@ returns c all shows =
     rw (
       c.in_ok-add_totals.ensures,
       c.in_ok-add_list.ensures,
-      c.in_ok-add_opened.ensures all shows,
-      c.in_ok-add_runs.ensures,
+      c.in_ok-add_devices.ensures all shows,
+      c.in_ok-add_lines.ensures,
       c.new-text.ensures.bytes,
-      c.of.ensures,
-      c.devices.ensures,
-      c.list.ensures,
+      c.of-totals.ensures,
+      c.attached.ensures,
+      c.ids.ensures.ids,
       c.as_slice.ensures.value,
       c.as_slice-2.ensures.value,
-      ← c.self.view_is,
-    ) (simp append_assoc)
+    )
+    (four-parts
+    (flat_map (λ line. ended (poll_line line)) c.args.self.now.lines.items)
+    (lines_below (world_in c.args.self.now) all 17)
+    (ended (list_line c.args.self.now.list))
+    (ended (total_line (totals_of (attached (devices_of c.args.self.now.bench)) c.args.self.now.lines.items))))

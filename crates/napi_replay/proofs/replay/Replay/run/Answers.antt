@@ -1,9 +1,16 @@
-use Rattle.std.proofs.Common.{None, ap, subst}
-use Rattle.napi_replay.specs.One.{IsSound, devices_of, entries}
-use Rattle.napi_replay.proofs.RunFacts.{run-nothing}
+use Rattle.std.proofs.Common.{refl}
+use Rattle.napi_replay.proofs.RunFacts.{only-run, run-room, transmits-stay}
 use Rattle.napi_replay.proofs.replay.Replay.run.Goals as goal
 
-pub returns-in_default-clause-world : goal.returns-in_default-clause-world
-returns-in_default-clause-world c =
-    let sound : IsSound c.self.inside.listed None = subst (IsSound c.self.inside.listed) c.in_default.is c.self.invariant in
-    rw (← c.self.view_is) (run-nothing c.args.settings.now c.args.row _ (ap devices_of c.in_default.is) (ap entries sound))
+pub returns-clause-transmits : goal.returns-clause-transmits
+returns-clause-transmits c = transmits-stay c.args.settings.now _ _ _ c.run_softirq.ensures.run.1
+
+pub returns-clause-world : goal.returns-clause-world
+returns-clause-world c =
+    let is = only-run c.args.settings.now c.args.self.now.bench c.run_softirq.new.bench _ _ _ _ c.run_softirq.ensures.run.1 c.run_softirq.ensures.run.2 in
+    rw (is.devices_after, is.list_after, is.reported) refl
+
+pub invariant_of-self : goal.invariant_of-self
+invariant_of-self c = record {
+  room = run-room c.args.settings.now c.args.self.now.bench c.run_softirq.new.bench _ _ _ _ c.run_softirq.ensures.run.1 c.run_softirq.ensures.run.2 c.args.self.now.room;
+}

@@ -1,0 +1,10 @@
+pub mod Accepted
+pub mod BenchFacts
+pub mod DecidingFacts
+pub mod DeviceFacts
+pub mod NumeralFacts
+pub mod RecordsFacts
+pub mod RowsFacts
+pub mod SwitchFacts
+pub mod ThreadFacts
+pub mod Waiting

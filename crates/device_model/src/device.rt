@@ -1,0 +1,396 @@
+//! One device: its receive ring, its instance, and what was counted.
+
+ghost use Rattle.std.specs.Prelude.{◌≡◌, ◌≢◌, ◌≤◌, true, length, sum, sum_by, IfOk, List};
+ghost use Rattle.device_model.specs.Device.{after_disable, after_enable, after_packet, after_poll, after_request, after_threaded, completed, ended, followed, given, goes_on, handed_over, is_control, is_pending, kind_for, let_go, opened, polled, polled_by_thread, polled_once, settled, state_of};
+ghost use Rattle.device_model.specs.Counts.{counts_of};
+ghost use Rattle.device_model.specs.declared.device.TheConstants.{THREAD};
+ghost use Rattle.device_model.specs.Range.{IsWithin};
+ghost use Rattle.poll_engine.specs.Thread.{IsThreadPolling};
+ghost use Rattle.napi_model.specs.declared.state.Place.TheVariants.{Granted, Polling, ToThread};
+ghost use Rattle.napi_model.specs.Step.{place_of};
+ghost use Rattle.napi_model.specs.declared.state.Kind.TheVariants as kind;
+ghost use Rattle.poll_engine.specs.declared.bench.Next.TheVariants.{Again, Repoll};
+
+use crate::counts::{DeviceCounts, DeviceState};
+use crate::transmit::TxCounts;
+use circular_buffer::HeapCircularBuffer;
+use napi_model::{Done, Kind, Place, Prep, SerialNapi, encode};
+use poll_engine::{Next, Once, ThreadReport};
+use std::alloc::{AllocError, Global};
+use std::marker::Model;
+
+/// The caller that the interrupt of a device is.
+pub(crate) const INTERRUPT: u32 = 0;
+
+/// The caller that polls the list.
+pub(crate) const POLLER: u32 = 1;
+
+/// The caller that the thread of a device is.
+pub(crate) const THREAD: u32 = 2;
+
+/// The caller that makes, disables and enables an instance.
+pub(crate) const CONTROLLER: u32 = 3;
+
+/// The most packets that one poll gives (`NAPI_POLL_WEIGHT`).
+const MOST_WEIGHT: usize = 64;
+
+/// A device's receive ring, the state of its instance, and its counts, each of which stays at its greatest value.
+#[derive(Drop)]
+pub(crate) struct Device {
+    napi: SerialNapi,
+    threaded: bool,
+    ring: HeapCircularBuffer<u32>,
+    arrived: u64,
+    dropped: u64,
+    polled: u64,
+    bytes: u64,
+    polls: u64,
+    granted: u64,
+    missed: u64,
+    disabled: u64,
+    again: u64,
+    released: u64,
+}
+
+impl Model for Device {
+    ghost use Rattle.std.specs.Prelude.{◌≡◌};
+    ghost use Rattle.device_model.specs.DeviceView.{DeviceView};
+    ghost use Rattle.device_model.specs.Owner.{IsOurs};
+    ghost use Rattle.device_model.specs.declared.device.TheConstants.{CONTROLLER};
+    ghost use Rattle.napi_model.specs.Serial.{controller_of, state_of};
+
+    ghost Value = { DeviceView };
+
+    ghost view = { λ d. record {
+      napi = state_of d.napi;
+      threaded = d.threaded;
+      packets = d.ring.items;
+      capacity = d.ring.capacity;
+      arrived = d.arrived;
+      dropped = d.dropped;
+      polled = d.polled;
+      bytes = d.bytes;
+      polls = d.polls;
+      granted = d.granted;
+      missed = d.missed;
+      disabled = d.disabled;
+      again = d.again;
+      released = d.released;
+    } };
+
+    ghost invariant = { λ d. (controller_of d.napi ≡ CONTROLLER) × IsOurs (state_of d.napi).place };
+}
+
+impl Device {
+    /// A device with an empty ring of that many places. Its instance is made and enabled, not threaded.
+    pub(crate) fn open(alloc: Global, capacity: usize) -> Result<Device, AllocError>
+        ensures { IfOk result (λ device. device ≡ opened capacity) }
+    {
+        let ring = HeapCircularBuffer::with_capacity(alloc, capacity)?;
+        let mut napi = SerialNapi::new(CONTROLLER);
+        napi.enable(CONTROLLER, false);
+        Ok(Device {
+            napi,
+            threaded: false,
+            ring,
+            arrived: 0,
+            dropped: 0,
+            polled: 0,
+            bytes: 0,
+            polls: 0,
+            granted: 0,
+            missed: 0,
+            disabled: 0,
+            again: 0,
+            released: 0,
+        })
+    }
+
+    /// What the report tells of the device, with that of its transmit side.
+    pub(crate) fn counts(&self, tx: Option<TxCounts>) -> DeviceCounts
+        ensures { result ≡ counts_of self.now tx }
+    {
+        DeviceCounts {
+            state: self.state(),
+            arrived: self.arrived,
+            dropped: self.dropped,
+            polled: self.polled,
+            bytes: self.bytes,
+            left: self.ring.len() as u64,
+            polls: self.polls,
+            granted: self.granted,
+            missed: self.missed,
+            disabled: self.disabled,
+            again: self.again,
+            released: self.released,
+            word: encode(self.napi.look()),
+            tx,
+        }
+    }
+
+    // Hands the instance to its thread where THREADED is set, else to the list, and answers which.
+    #[tactic(auto, unfolding(crate::specs::Device::handed_over))]
+    fn hand_over(&mut self, caller: u32) -> Kind
+        requires { self.old.napi.place ≡ Granted caller }
+        ensures device { self.new ≡ handed_over caller self.old }
+        ensures kind { result ≡ kind_for self.old.napi }
+        ensures place { self.new.napi.place ≡ place_of result }
+    {
+        let kind = if self.napi.flags().threaded {
+            Kind::Thread
+        } else {
+            Kind::List
+        };
+        self.napi.hand(caller, kind);
+        kind
+    }
+
+    // The interrupt asks for a poll; granted, it hands the instance over, and answers to whom.
+    #[tactic(auto, unfolding(crate::specs::Device::after_request))]
+    fn request(&mut self) -> Option<Kind>
+        ensures device { self.new ≡ (after_request self.old).1 }
+        ensures kind { result ≡ (after_request self.old).0 }
+    {
+        match self.napi.schedule(INTERRUPT) {
+            Prep::Granted => {
+                self.granted = self.granted.saturating_add(1);
+                Some(self.hand_over(INTERRUPT))
+            }
+            Prep::Missed => {
+                self.missed = self.missed.saturating_add(1);
+                None
+            }
+            Prep::Disabled => {
+                self.disabled = self.disabled.saturating_add(1);
+                None
+            }
+        }
+    }
+
+    /// A packet of that many bytes arrives. A full ring drops it; else the interrupt asks for a poll. The answer is to
+    /// whom the instance was handed by that.
+    #[tactic(auto, unfolding(crate::specs::Device::after_packet))]
+    pub(crate) fn arrive(&mut self, bytes: u32) -> Option<Kind>
+        ensures device { self.new ≡ (after_packet bytes self.old).1 }
+        ensures kind { result ≡ (after_packet bytes self.old).0 }
+    {
+        self.arrived = self.arrived.saturating_add(1);
+        if self.ring.try_push_back(bytes).is_err() {
+            self.dropped = self.dropped.saturating_add(1);
+            return None;
+        }
+        self.request()
+    }
+}
+
+impl Device {
+    /// Whether the device is on, off, or being disabled.
+    pub(crate) fn state(&self) -> DeviceState
+        ensures { result ≡ state_of self.now }
+    {
+        if self.napi.flags().disable {
+            return DeviceState::Pending;
+        }
+        match self.napi.place() {
+            Place::Control(_) => DeviceState::Off,
+            _ => DeviceState::On,
+        }
+    }
+
+    /// Whether a disable is pending.
+    pub(crate) fn is_pending(&self) -> bool
+        ensures { result ≡ is_pending self.now }
+    {
+        self.napi.flags().disable
+    }
+
+    /// Marks a device that is on for disabling; any other stays as it is.
+    #[tactic(auto, unfolding(crate::specs::Device::after_disable))]
+    pub(crate) fn disable(&mut self)
+        ensures { self.new ≡ after_disable self.old }
+    {
+        if self.state() == DeviceState::On {
+            self.napi.mark_disable(CONTROLLER);
+        }
+    }
+
+    /// Tries a disable that is pending once. The answer is whether it still is.
+    #[tactic(auto, unfolding(crate::specs::Device::settled))]
+    pub(crate) fn settle(&mut self) -> bool
+        ensures device { self.new ≡ settled self.old }
+        ensures pending { result ≡ is_pending self.new }
+    {
+        if !self.napi.flags().disable {
+            return false;
+        }
+        if !self.napi.take_disable(CONTROLLER) {
+            return true;
+        }
+        self.napi.unmark(CONTROLLER);
+        false
+    }
+
+    /// Enables a device that is off with its threaded setting; any other stays as it is.
+    #[tactic(auto, unfolding(crate::specs::Device::after_enable))]
+    pub(crate) fn enable(&mut self)
+        ensures { self.new ≡ after_enable self.old }
+    {
+        if self.state() == DeviceState::Off {
+            self.napi.enable(CONTROLLER, self.threaded);
+        }
+    }
+
+    /// Sets the device's threaded setting, and THREADED at once.
+    #[tactic(auto, unfolding(crate::specs::Device::after_threaded))]
+    pub(crate) fn set_threaded(&mut self, threaded: bool)
+        ensures { self.new ≡ after_threaded threaded self.old }
+    {
+        self.threaded = threaded;
+        self.napi.set_threaded(threaded);
+    }
+}
+
+impl Device {
+    // Gives the next packets, at most the weight, and answers how many.
+    #[tactic(auto, unfolding(crate::specs::Device::polled))]
+    fn receive(&mut self, weight: u32) -> u32
+        requires { IsWithin 1 64 weight }
+        ensures device { self.new ≡ polled weight self.old }
+        ensures work { result ≡ given weight self.old }
+    {
+        let mut batch = [0u32; MOST_WEIGHT];
+        let count = self.ring.read_into(&mut batch[..weight as usize]);
+        let bytes = byte_sum(&batch[..count]);
+        self.polled = self.polled.saturating_add(count as u64);
+        self.bytes = self.bytes.saturating_add(bytes);
+        self.polls = self.polls.saturating_add(1);
+        count as u32
+    }
+
+    // Completes the instance, and hands it over again where a request was missed.
+    #[tactic(auto, unfolding(crate::specs::Device::completed))]
+    fn complete(&mut self, poller: u32) -> Next
+        requires { self.old.napi.place ≡ Polling poller }
+        ensures device { self.new ≡ (completed poller self.old).1 }
+        ensures next { result ≡ (completed poller self.old).0 }
+        ensures kept { result ≢ Repoll }
+        ensures handed { result ≡ Again kind.Thread → self.new.napi.place ≡ ToThread }
+    {
+        match self.napi.complete(poller) {
+            Done::Released => {
+                self.released = self.released.saturating_add(1);
+                Next::Gone
+            }
+            Done::Again => {
+                self.again = self.again.saturating_add(1);
+                Next::Again(self.hand_over(poller))
+            }
+        }
+    }
+
+    // Ends a poll that gave this many packets. An instance that is to be polled again stays in its poller's hands.
+    #[tactic(auto, unfolding(crate::specs::Device::ended))]
+    fn end(&mut self, poller: u32, work: u32, weight: u32) -> Next
+        requires { self.old.napi.place ≡ Polling poller }
+        ensures device { self.new ≡ (ended poller work weight self.old).1 }
+        ensures next { result ≡ (ended poller work weight self.old).0 }
+        ensures kept { result ≡ Repoll → self.new.napi.place ≡ Polling poller }
+        ensures handed { result ≡ Again kind.Thread → self.new.napi.place ≡ ToThread }
+    {
+        if work == weight && !self.napi.flags().disable {
+            return Next::Repoll;
+        }
+        self.complete(poller)
+    }
+
+    // One poll of an instance that is in its poller's hands (`__napi_poll`).
+    #[tactic(auto, unfolding(crate::specs::Device::polled))]
+    fn poll(&mut self, poller: u32, weight: u32) -> Once
+        requires weight { IsWithin 1 64 weight }
+        requires place { self.old.napi.place ≡ Polling poller }
+        ensures device { self.new ≡ (after_poll poller weight self.old).1 }
+        ensures once { result ≡ (after_poll poller weight self.old).0 }
+        ensures bound { result.work ≤ weight }
+        ensures kept { result.next ≡ Repoll → self.new.napi.place ≡ Polling poller }
+        ensures handed { result.next ≡ Again kind.Thread → self.new.napi.place ≡ ToThread }
+    {
+        let work = self.receive(weight);
+        let next = self.end(poller, work, weight);
+        Once { work, next }
+    }
+
+    /// One poll from the list. An instance that is to be polled again is handed to the list.
+    #[tactic(auto, unfolding(crate::specs::Device::polled_once))]
+    pub(crate) fn poll_once(&mut self, weight: u32) -> Once
+        requires { IsWithin 1 64 weight }
+        ensures device { self.new ≡ (polled_once weight self.old).1 }
+        ensures once { result ≡ (polled_once weight self.old).0 }
+        ensures bound { result.work ≤ weight }
+    {
+        if !self.napi.take(POLLER, Kind::List) {
+            return Once {
+                work: 0,
+                next: Next::Absent,
+            };
+        }
+        let once = self.poll(POLLER, weight);
+        if once.next == Next::Repoll {
+            self.napi.hand(POLLER, Kind::List);
+        }
+        once
+    }
+}
+
+impl Device {
+    // What follows a poll by the thread: it polls the instance once more, as the answer says, unless this was the last
+    // poll that it may make. An instance that it may not poll again goes to the list.
+    fn follow(&mut self, next: Next, is_last: bool) -> bool
+        requires kept { next ≡ Repoll → self.old.napi.place ≡ Polling THREAD }
+        requires handed { next ≡ Again kind.Thread → self.old.napi.place ≡ ToThread }
+        ensures device { self.new ≡ followed next is_last self.old }
+        ensures goes_on { result ≡ goes_on next is_last }
+        ensures place { result ≡ true → self.new.napi.place ≡ Polling THREAD }
+    {
+        match next {
+            Next::Repoll => {
+                if is_last {
+                    self.napi.hand(THREAD, Kind::List);
+                }
+                !is_last
+            }
+            Next::Again(Kind::Thread) => !is_last && self.napi.take(THREAD, Kind::Thread),
+            _ => false,
+        }
+    }
+
+    /// The thread takes the instance, if it was handed to it, and polls it at most so many times.
+    pub(crate) fn poll_thread(&mut self, weight: u32, most: u32) -> ThreadReport
+        requires weight { IsWithin 1 64 weight }
+        requires most { IsWithin 1 131072 most }
+        ensures device { self.new ≡ (polled_by_thread most weight self.old).1 }
+        ensures report { IsThreadPolling weight most (polled_by_thread most weight self.old).0 result }
+    {
+        let mut report = ThreadReport {
+            polls: 0,
+            work: 0,
+            next: Next::Absent,
+        };
+        let mut taken = self.napi.take(THREAD, Kind::Thread);
+        while taken {
+            let once = self.poll(THREAD, weight);
+            report.polls += 1;
+            report.work += once.work;
+            report.next = once.next;
+            taken = self.follow(once.next, report.polls == most);
+        }
+        report
+    }
+}
+
+// The bytes of a batch of packets together.
+fn byte_sum(batch: &[u32]) -> u64
+    requires { length batch.now ≤ 64 }
+    ensures { result ≡ sum batch.now }
+{
+    batch.iter().map(|bytes| u64::from(*bytes)).sum()
+}

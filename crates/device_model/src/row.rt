@@ -1,0 +1,16 @@
+//! A row of a trace.
+
+use crate::event::Event;
+
+/// One row. In a [`Trace`](crate::Trace) its numbers are in their ranges.
+#[derive(Clone, Copy, Debug, PartialEq, Eq)]
+pub struct Row {
+    /// The time of the row in milliseconds. Times need not rise.
+    pub moment: u64,
+    /// The device's number, 1 to 16; 0 for a softirq.
+    pub device: u32,
+    pub event: Event,
+    /// Places for an open (1 to 65536), bytes for an rx or a tx (1 to 65535), packets for a done (at most 65536), 0 or 1
+    /// for a threaded, and else 0.
+    pub value: u32,
+}

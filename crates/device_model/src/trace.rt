@@ -1,0 +1,130 @@
+//! Reading a trace.
+
+ghost use Rattle.std.specs.Prelude.{◌≡◌, ◌≤◌, length, ◌⊎◌, ℕ, List, [], Option, Some, Ok, Err, IfOk, OnOk, IfErr};
+ghost use Rattle.csv.specs.Machine.{next_record};
+ghost use Rattle.csv.specs.Reading.{default_config, reader_state, records_from, strip_bom};
+ghost use Rattle.csv.specs.Records.{fields_of};
+ghost use Rattle.csv.specs.declared.parser.State.TheVariants as state;
+ghost use Rattle.device_model.specs.Source.{IsOpen, IsReadFailure, StandsAt, TakesNext};
+ghost use Rattle.device_model.specs.Trace.{AcceptedAfter, records_of, rows_after, trace_of};
+ghost use Rattle.device_model.specs.declared.row.Row.{Row};
+
+use crate::fault::TraceFault;
+use crate::record::{is_header, row_of};
+use crate::row::Row;
+use crate::switch::Switches;
+use csv::{ByteRecord, ErrorKind, Reader, ReaderBuilder};
+use std::alloc::Global;
+use std::io::Read;
+use std::marker::Model;
+
+/// The most rows of a trace.
+pub const MOST_ROWS: u32 = 100000;
+
+/// The rows of a trace, in order: at most [`MOST_ROWS`], each with its numbers in their ranges, and none refused by those
+/// before it.
+#[derive(Debug, Drop)]
+pub struct Trace {
+    rows: Vec<Row>,
+}
+
+impl Model for Trace {
+    ghost Value = { List Row };
+
+    ghost view = { λ trace. trace.rows.items };
+
+    ghost invariant = { λ trace. (length trace.rows.items ≤ 100000) × AcceptedAfter [] trace.rows.items };
+}
+
+impl Trace {
+    /// The rows, in order. Row 1 is the first.
+    pub fn rows(&self) -> &[Row]
+        ensures rows { result.now ≡ self.now }
+        ensures count { length result.now ≤ 100000 }
+        ensures accepted { AcceptedAfter [] result.now }
+    {
+        self.rows.as_slice()
+    }
+}
+
+// A reader of records of any length, with no header row of its own.
+fn reader_of<R: Read>(alloc: Global, source: R) -> Reader<R>
+    ensures opened { IsOpen result }
+    ensures start { (bytes : List ℕ) → R.remaining source ≡ Some bytes → StandsAt R.remaining result (strip_bom bytes) }
+    ensures state { reader_state result ≡ state.StartRecord }
+{
+    ReaderBuilder::new()
+        .has_headers(false)
+        .flexible(true)
+        .from_reader(alloc, source)
+}
+
+// Reads the next record, and answers whether there was one. A record of any length and any bytes is one.
+fn next_record<R: Read>(reader: &mut Reader<R>, fields: &mut ByteRecord) -> Result<bool, TraceFault>
+    requires { IsOpen reader.old }
+    ensures opened { OnOk result (IsOpen reader.new) }
+    ensures next { IfOk result (λ found. (bytes : List ℕ) → StandsAt R.remaining reader.old bytes
+        → TakesNext R.remaining (next_record default_config (reader_state reader.old) [] [] bytes) found (fields_of fields.new) reader.new) }
+    ensures failure { IfErr result (λ fault. IsReadFailure fault) }
+{
+    match reader.read_byte_record(fields) {
+        Ok(found) => Ok(found),
+        Err(error) => match error.kind() {
+            ErrorKind::OutOfMemory => Err(TraceFault::OutOfMemory),
+            ErrorKind::Io(_) => Err(TraceFault::ReadFailed),
+            _ => unreachable!(),
+        },
+    }
+}
+
+/// Reads the rows of a trace, or its first fault. It asks for at most 100002 records, so it ends; the reader is read ahead
+/// of the row that decides, and a failure met there is the answer. On a fault nothing is kept.
+pub fn read_trace<R: Read + Drop>(alloc: Global, source: R) -> Result<Trace, TraceFault>
+    // The rows are those of the bytes read, where these are known.
+    ensures rows { IfOk result (λ rows. (bytes : List ℕ) → R.remaining source ≡ Some bytes → trace_of (records_of bytes) ≡ Ok rows) }
+    // A fault is the first one of the bytes read, unless the reader or the memory failed.
+    ensures fault { IfErr result (λ fault. (bytes : List ℕ) → R.remaining source ≡ Some bytes
+        → IsReadFailure fault ⊎ (trace_of (records_of bytes) ≡ Err fault)) }
+{
+    let mut reader = reader_of(alloc, source);
+    let mut fields = ByteRecord::new(alloc);
+    let found = next_record(&mut reader, &mut fields)?;
+    if !found {
+        return Err(TraceFault::BadHeader);
+    }
+    if !is_header(&fields) {
+        return Err(TraceFault::BadHeader);
+    }
+    read_rows(alloc, &mut reader, &mut fields)
+}
+
+// Reads the rows that the reader has left, or the first fault of them.
+fn read_rows<R: Read>(
+    alloc: Global,
+    reader: &mut Reader<R>,
+    fields: &mut ByteRecord,
+) -> Result<Trace, TraceFault>
+    requires { IsOpen reader.old }
+    ensures rows { IfOk result (λ rows. (bytes : List ℕ) → StandsAt R.remaining reader.old bytes
+        → rows_after [] (records_from default_config 100001 (reader_state reader.old) bytes) ≡ Ok rows) }
+    ensures fault { IfErr result (λ fault. (bytes : List ℕ) → StandsAt R.remaining reader.old bytes
+        → IsReadFailure fault ⊎ (rows_after [] (records_from default_config 100001 (reader_state reader.old) bytes) ≡ Err fault)) }
+{
+    let mut rows = Vec::new(alloc);
+    let mut switches = Switches::new();
+    for before in 0..MOST_ROWS + 1 {
+        let found = next_record(reader, fields)?;
+        if !found {
+            break;
+        }
+        if before == MOST_ROWS {
+            return Err(TraceFault::TooManyRows);
+        }
+        let row = row_of(before + 1, fields)?;
+        let row = switches.admit(before + 1, row)?;
+        if rows.push(row).is_err() {
+            return Err(TraceFault::OutOfMemory);
+        }
+    }
+    Ok(Trace { rows })
+}
