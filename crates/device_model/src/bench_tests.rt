@@ -438,8 +438,8 @@ fn no_such_device(rt: HostRuntime) -> Result<(), Fail> {
     Ok(())
 }
 
-// Where memory is refused (`rt try --test --fail-alloc N`) nothing changed, and the next call attaches the device. One
-// that is there stays as it is.
+// Where memory is refused (`rt try --test --fail-alloc 5`, to 8) nothing changed, and the next call attaches the device. One
+// that is there stays as it is, be memory refused or not.
 #[test]
 fn attached_again(rt: HostRuntime) -> Result<(), Fail> {
     let mut bench = bench_with(rt.alloc(), false, 1)?;
@@ -449,7 +449,7 @@ fn attached_again(rt: HostRuntime) -> Result<(), Fail> {
         bench.attach(rt.alloc(), 2, 4, 0)?;
     }
     assert!(rt; bench.counts(2).is_some());
-    bench.attach(rt.alloc(), 1, 4, 0)?;
+    let _ = bench.attach(rt.alloc(), 1, 4, 0);
     assert_eq!(rt; bench.counts(1), before);
     assert_eq!(rt; bench.attached(), 2);
     Ok(())

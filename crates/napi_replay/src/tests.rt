@@ -8,6 +8,7 @@ use device_model::TraceFault;
 use std::alloc::{AllocError, Global};
 use std::io;
 use std::io::{ErrorKind, Read, Write};
+use std::process::Abort;
 use std::test::Fail;
 
 const HEADER: &str = "moment,device,event,value\n";
@@ -48,10 +49,10 @@ fn report_of(alloc: Global, case: &Case) -> Result<Vec<u8>, Fail> {
     Ok(report)
 }
 
-#[test]
-fn worked_traces(rt: HostRuntime) -> Result<(), Fail> {
-    for case in &WORKED {
-        let report = report_of(rt.alloc(), case)?;
+// Plays each trace, and compares its report.
+fn compare_reports(rt: &impl Abort, alloc: Global, cases: &[Case]) -> Result<(), Fail> {
+    for case in cases {
+        let report = report_of(alloc, case)?;
         assert_eq!(rt;
             report.as_slice(),
             case.report.as_bytes(),
@@ -60,34 +61,21 @@ fn worked_traces(rt: HostRuntime) -> Result<(), Fail> {
         );
     }
     Ok(())
+}
+
+#[test]
+fn worked_traces(rt: HostRuntime) -> Result<(), Fail> {
+    compare_reports(&rt, rt.alloc(), &WORKED)
 }
 
 #[test]
 fn controls(rt: HostRuntime) -> Result<(), Fail> {
-    for case in &CONTROLS {
-        let report = report_of(rt.alloc(), case)?;
-        assert_eq!(rt;
-            report.as_slice(),
-            case.report.as_bytes(),
-            "of {}",
-            case.name
-        );
-    }
-    Ok(())
+    compare_reports(&rt, rt.alloc(), &CONTROLS)
 }
 
 #[test]
 fn polling(rt: HostRuntime) -> Result<(), Fail> {
-    for case in &POLLING {
-        let report = report_of(rt.alloc(), case)?;
-        assert_eq!(rt;
-            report.as_slice(),
-            case.report.as_bytes(),
-            "of {}",
-            case.name
-        );
-    }
-    Ok(())
+    compare_reports(&rt, rt.alloc(), &POLLING)
 }
 
 // Rows, and the line of their fault.
@@ -301,7 +289,7 @@ fn failing_writes(rt: HostRuntime) {
     }
 }
 
-// Every fault, its line and its exit status.
+// Each fault, its line and its exit status.
 const FAULTS: [(ReplayFault, &str, u8); 13] = [
     (
         ReplayFault::Trace(TraceFault::BadHeader),
