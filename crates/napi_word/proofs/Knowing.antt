@@ -2,10 +2,13 @@
 use Rattle.std.proofs.Common.{eq-eqb, ◌≡◌, ℕ, [], ◌∷◌, Bool, true, false, ◌||◌, refl, sym, ap, ◌∙◌, subst, true≢false}
 use Rattle.napi_model.specs.declared.state.State.{State as Napi}
 use Rattle.napi_model.specs.declared.state.Seen.{Seen}
-use Rattle.napi_model.specs.declared.state.Place.TheVariants.{Control}
+use Rattle.napi_model.specs.declared.state.Kind.{Kind}
+use Rattle.napi_model.specs.declared.event.Prep.TheVariants as prep
+use Rattle.napi_model.specs.declared.event.Done.TheVariants.{Again}
+use Rattle.napi_model.specs.declared.state.Place.TheVariants.{Granted, Polling, Control}
 use Rattle.napi_model.specs.declared.event.Event.{Event}
 use Rattle.napi_model.specs.declared.event.Operation.{Operation}
-use Rattle.napi_model.specs.declared.event.Operation.TheVariants.{Look, Enable}
+use Rattle.napi_model.specs.declared.event.Operation.TheVariants.{Look, Schedule, Take, Complete, TakeDisable, Enable}
 use Rattle.napi_model.specs.Step.{event, opening, after_by}
 use Rattle.napi_model.specs.History.{LegalHistory, IsLegalFor, state_after}
 use Rattle.napi_model.specs.Laws.{is_owner}
@@ -39,6 +42,23 @@ module _ (v : View) (o : Operation) (w : View) (g : Steps v o w) where
   pub controller_stays : HasController v → HasController w
   controller_stays top = g.number ∙ top ∙ sym g.controller
 
+  -- where the pass is after an event of its own
+  pub place_then : place_in w ≡ (after_by (number_of v) o found_state).place
+  place_then = ap (λ (s : Napi). s.place) state_then
+
+-- what a pass was granted, polls or controls
+pub schedule_grants : (v w : View) → Steps v (Schedule prep.Granted) w → place_in w ≡ Granted (number_of w)
+schedule_grants v w g = place_then v (Schedule prep.Granted) w g ∙ ap Granted (sym g.number)
+
+pub again_grants : (v w : View) → Steps v (Complete Again) w → place_in w ≡ Granted (number_of w)
+again_grants v w g = place_then v (Complete Again) w g ∙ ap Granted (sym g.number)
+
+pub take_polls : (v w : View) (k : Kind) → Steps v (Take k true) w → place_in w ≡ Polling (number_of w)
+take_polls v w k g = place_then v (Take k true) w g ∙ ap Polling (sym g.number)
+
+pub take_controls : (v w : View) → Steps v (TakeDisable true) w → place_in w ≡ Control (number_of w)
+take_controls v w g = place_then v (TakeDisable true) w g ∙ ap Control (sym g.number)
+
 -- looks: of an owner, of who is none, and of the controller
 module _ (v : View) (x : Seen) (w : View) (g : Steps v (Look x) w) where
   pub look_place : is_owner (number_of v) (place_in v) ≡ true → place_in w ≡ place_in v
@@ -46,6 +66,9 @@ module _ (v : View) (x : Seen) (w : View) (g : Steps v (Look x) w) where
 
   pub look_free : is_owner (number_of v) (place_in v) ≡ false → is_owner (number_of w) (place_in w) ≡ false
   look_free free = (λ i. is_owner (g.number i) (state_then v (Look x) w g i).place) ∙ g.owner ∙ free
+
+  pub look_polls : place_in v ≡ Polling (number_of v) → place_in w ≡ Polling (number_of w)
+  look_polls is = look_place (ap (is_owner (number_of v)) is ∙ eq-eqb (number_of v) (number_of v) refl) ∙ is ∙ ap Polling (sym g.number)
 
   pub look_control : place_in v ≡ Control (number_of v) → place_in w ≡ Control (number_of w)
   look_control is = look_place (ap (is_owner (number_of v)) is ∙ eq-eqb (number_of v) (number_of v) refl) ∙ is ∙ ap Control (sym g.number)

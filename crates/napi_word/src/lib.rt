@@ -20,6 +20,8 @@ mod rule;
 mod slot;
 mod steps;
 mod table;
+#[cfg(test)]
+mod tests;
 mod view;
 
 pub use ending::Ended;
