@@ -5,9 +5,10 @@ use Rattle.napi_model.specs.declared.state.Place.TheVariants as place
 use Rattle.napi_model.specs.declared.event.Event.{Event}
 use Rattle.napi_model.specs.Step.{opening, IsControl}
 use Rattle.napi_model.specs.History.{LegalHistory, state_after}
-use Rattle.napi_word.specs.declared.pass.Pass.{Pass}
-use Rattle.napi_word.specs.View.{Name, name_of, is_owner}
-use Rattle.napi_word.specs.Passes.{last_of_table}
+use Rattle.napi_word.specs.declared.table.Pass.{Pass}
+use Rattle.rx_ring.specs.Ends.{RingName, ring_name}
+use Rattle.napi_model.specs.Laws.{is_owner}
+use Rattle.napi_word.specs.Passes.{controller_of_table}
 use Rattle.napi_word.specs.Ends.{IsEnded}
 use Rattle.napi_word.proofs.Closing.{get_mid}
 use Rattle.napi_calls.specs.declared.types.Napi.{Napi}
@@ -47,25 +48,25 @@ module _ (n : Napi) (cs : List Caller) (p : Pass) (left : Option RxCtx) (k : Con
   at : slice_get (seats_of cs ++ p ∷ []) (length (seats_of cs)) ≡ Some p
   at = get_mid (seats_of cs) [] p
 
-  ends : (state_after (opening (last_of_table n.table)) e.history).place ≡ place.Control (last_of_table n.table)
+  ends : (state_after (opening (controller_of_table n.table)) e.history).place ≡ place.Control (controller_of_table n.table)
   ends =
       let i = length (seats_of cs) in
       let held = is_control k.stands in
-      e.places i p at (ap (is_owner (number_of p)) held ∙ eq-eqb (number_of p) (number_of p) refl) ∙ held ∙ ap place.Control (k.stands.number ∙ e.lasts i p at)
+      e.places i p at (ap (is_owner (number_of p)) held ∙ eq-eqb (number_of p) (number_of p) refl) ∙ held ∙ ap place.Control (k.stands.number ∙ e.controllers i p at)
 
-  one_history : IsHistoryOf (last_of_table n.table) (seats_of cs ++ p ∷ []) e.history
+  one_history : IsHistoryOf (controller_of_table n.table) (seats_of cs ++ p ∷ []) e.history
   one_history = record {
     legal = e.legal;
     begins = e.begins;
     exact = e.exact;
     all = e.each;
-    only = e.only;
+    only = e.others;
     longest = e.longest;
     ends = ends;
     served = λ front ev rest is accepted.
-        served (last_of_table n.table) front ev rest
-        (subst (LegalHistory (last_of_table n.table) (opening (last_of_table n.table))) is e.legal)
-        (subst (λ (h : List Event). IsControl (state_after (opening (last_of_table n.table)) h).place) is (subst IsControl (sym ends) tt)) accepted;
+        served (controller_of_table n.table) front ev rest
+        (subst (LegalHistory (controller_of_table n.table) (opening (controller_of_table n.table))) is e.legal)
+        (subst (λ (h : List Event). IsControl (state_after (opening (controller_of_table n.table)) h).place) is (subst IsControl (sym ends) tt)) accepted;
   }
 
   pub closed : (ctx : RxCtx) → Has p (Some ctx) → IsClosed n cs p ctx
@@ -73,5 +74,5 @@ module _ (n : Napi) (cs : List Caller) (p : Pass) (left : Option RxCtx) (k : Con
     all = let count = e.count in let seats = all_count cs p in let made = n.count in omega (arith, count, seats, made);
     history = e.history;
     is = subst (λ (m : ℕ). IsHistoryOf m (seats_of cs ++ p ∷ []) e.history) n.count one_history;
-    ring = ap (λ (o : Option Name). unwrap_or o (name_of ctx)) (sym has.ring ∙ e.rings (length (seats_of cs)) p at);
+    ring = ap (λ (o : Option RingName). unwrap_or o (ring_name ctx)) (sym has.ring ∙ e.rings (length (seats_of cs)) p at);
   }

@@ -1,14 +1,15 @@
 -- New seats.
 use Rattle.std.proofs.Common.{◌≡◌, ℕ, zero, suc, ◌<◌, List, [], ◌∷◌, ◌++◌, slice_get, length, Some, Bool, cond, false, ne_eqb, refl, sym, ap, ◌∙◌, subst, arith}
 use Rattle.rx_ring.specs.declared.ends.RxCtx.{RxCtx}
+use Rattle.rx_ring.specs.Ends.{ring_name}
 use Rattle.napi_model.specs.declared.state.Place.{Place}
 use Rattle.napi_model.specs.declared.state.Place.TheVariants as place
 use Rattle.napi_model.specs.Step.{opening}
 use Rattle.napi_model.specs.History.{LegalHistory, own, state_after}
-use Rattle.napi_word.specs.declared.pass.Pass.{Pass}
-use Rattle.napi_word.specs.declared.pass.StateTable.{StateTable}
+use Rattle.napi_word.specs.declared.table.Pass.{Pass}
+use Rattle.napi_word.specs.declared.table.StateTable.{StateTable}
 use Rattle.napi_word.specs.View as view
-use Rattle.napi_word.specs.View.{View, is_owner, name_of}
+use Rattle.napi_word.specs.View.{View}
 use Rattle.napi_word.specs.Rule.{strand}
 use Rattle.napi_word.specs.Passes.{view_of, IsNew, IsPassOf, ring_of_table}
 use Rattle.napi_word.proofs.Closing.{get_mid}
@@ -32,7 +33,7 @@ blank : (role : ℕ → Place) (last : ℕ) (of : RxCtx) (c : ℕ) (p : Pass) �
 unfolding LegalHistory own
 blank role last of c p e is = record {
   number = ap view.number_of e;
-  legal = subst (λ (v : View). ∥ LegalHistory (view.last_of v) (opening (view.last_of v)) (view.shown v) ∥₁) (sym e) ∣ tt ∣₁;
+  legal = subst (λ (v : View). ∥ LegalHistory (view.controller_of v) (opening (view.controller_of v)) (view.shown v) ∥₁) (sym e) ∣ tt ∣₁;
   exact = subst (λ (v : View). own c (view.shown v) ≡ view.mine v) (sym e) refl;
   place = ap (λ (v : View). own_place c (view.place_in v)) e ∙ ap (own_place c) (opens last of c) ∙ is;
 }
@@ -43,18 +44,18 @@ new_stands {t} {last} {of} {c} p new low =
 
 pub new_controls : {t : StateTable} {last : ℕ} {of : RxCtx} (p : Pass) → IsNew t last of last p → Controls place.Control false p
 new_controls {t} {last} {of} p new =
-    let controller : view.last_of (view_of p) ≡ last = ap view.last_of new.view in record {
+    let controller : view.controller_of (view_of p) ≡ last = ap view.controller_of new.view in record {
       stands = subst (λ (n : ℕ). Stands place.Control n p) (sym controller) (blank place.Control last of last p new.view (own_self last));
       flag = ap view.disable_in new.view ∙ unflagged last of last;
     }
 
 -- a seat that shows what it showed when it was made
-pub new_seat : (n : Napi) {last : ℕ} {of : RxCtx} {c : ℕ} (p : Pass) → IsPassOf n.table p → view_of p ≡ strand last of c ∷ [] → last ≡ n.callers → ring_of_table n.table ≡ name_of of → IsNewSeat n c p
+pub new_seat : (n : Napi) {last : ℕ} {of : RxCtx} {c : ℕ} (p : Pass) → IsPassOf n.table p → view_of p ≡ strand last of c ∷ [] → last ≡ n.callers → ring_of_table n.table ≡ ring_name of → IsNewSeat n c p
 new_seat n {last} {of} {c} p table e count ring = record {
   instance = table;
   number_is = ap view.number_of e;
-  controller = ap view.last_of e ∙ count;
-  ring = ap view.ring_of_view e ∙ ap Some (sym ring);
+  controller = ap view.controller_of e ∙ count;
+  ring = ap view.ring_of e ∙ ap Some (sym ring);
   nothing_shown = ap view.shown e;
   nothing_done = ap view.mine e;
 }

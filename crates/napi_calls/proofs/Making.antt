@@ -10,15 +10,15 @@ use Rattle.napi_model.specs.declared.event.Operation.{Operation}
 use Rattle.napi_model.specs.declared.event.Operation.TheVariants.{Look, MarkDisable, TakeDisable}
 use Rattle.napi_model.specs.Step.{event, opening}
 use Rattle.napi_model.specs.History.{LegalHistory, own}
-use Rattle.napi_word.specs.declared.pass.Pass.{Pass}
+use Rattle.napi_word.specs.declared.table.Pass.{Pass}
 use Rattle.napi_word.specs.View as view
 use Rattle.napi_word.specs.View.{View}
-use Rattle.napi_word.specs.Tells.{Grew}
+use Rattle.napi_word.specs.Events.{Steps}
 use Rattle.napi_word.specs.Passes.{view_of, SameTable}
 use Rattle.napi_calls.specs.Seats.{SameSeat, number_of, shown, own_list}
 use Rattle.napi_calls.specs.Knows.{Stands}
 use Rattle.napi_calls.specs.Made.{EndsWith, Made, Lost, WasLost, looks, waits, events}
-use Rattle.napi_calls.proofs.Steps.{stepped, prefix_trans}
+use Rattle.napi_calls.proofs.Steps.{shows_more, shows_legal, prefix_trans}
 use Rattle.napi_calls.proofs.Standing.{shows_of}
 
 ends_one : (c : ℕ) (os : List Operation) (o : Operation) (h : List Event) → EndsWith (events c (os ++ o ∷ [])) (h ++ event c o ∷ [])
@@ -46,28 +46,27 @@ nothing {r} {c} {p} st = record {
 -- the slot is no event
 pub still : {p q : Pass} {os : List Operation} (r : Pass) → Made p os q → SameTable q r → view_of r ≡ view_of q → Made p os r
 still {p} {q} {os} r m t e = record {
-  seat = seat_same m.seat (record { table = t; number = ap view.number_of e; controller = ap view.last_of e; ring = ap view.ring_of_view e });
+  seat = seat_same m.seat (record { table = t; number = ap view.number_of e; controller = ap view.controller_of e; ring = ap view.ring_of e });
   begins = subst (λ (v : View). IsPrefix (shown p) (view.shown v)) (sym e) m.begins;
   grown = ap view.mine e ∙ m.grown;
   ends = subst (λ (v : View). EndsWith (events (number_of p) os) (view.shown v)) (sym e) m.ends;
   shows = record {
-    legal = subst (λ (v : View). LegalHistory (view.last_of v) (opening (view.last_of v)) (view.shown v)) (sym e) m.shows.legal;
+    legal = subst (λ (v : View). LegalHistory (view.controller_of v) (opening (view.controller_of v)) (view.shown v)) (sym e) m.shows.legal;
     exact = subst (λ (v : View). own (view.number_of v) (view.shown v) ≡ view.mine v) (sym e) m.shows.exact;
   };
 }
 
 -- one step more
-pub step : {p q : Pass} {os : List Operation} {o : Operation} (r : Pass) → Made p os q → SameTable q r → Grew (view_of q) o (view_of r) → Made p (os ++ o ∷ []) r
-step {p} {q} {os} {o} r m t grew =
-    let g = stepped q o r grew in
+pub step : {p q : Pass} {os : List Operation} {o : Operation} (r : Pass) → Made p os q → SameTable q r → Steps (view_of q) o (view_of r) → Made p (os ++ o ∷ []) r
+step {p} {q} {os} {o} r m t g =
     let c = number_of p in
     let num : number_of q ≡ c = m.seat.number in record {
       seat = seat_same m.seat (record { table = t; number = g.number; controller = g.controller; ring = g.ring });
-      begins = prefix_trans (shown p) (shown q) (shown r) m.begins g.begins;
-      grown = g.grown ∙ ap (λ (n : ℕ). own_list q ++ event n o ∷ []) num ∙ ap (λ (l : List Event). l ++ event c o ∷ []) m.grown
+      begins = prefix_trans (shown p) (shown q) (shown r) m.begins (shows_more q o r g);
+      grown = g.grows ∙ ap (λ (n : ℕ). own_list q ++ event n o ∷ []) num ∙ ap (λ (l : List Event). l ++ event c o ∷ []) m.grown
           ∙ append_assoc (own_list p) (events c os) (event c o ∷ []) ∙ ap (λ (l : List Event). own_list p ++ l) (sym (map-append (event c) os (o ∷ [])));
-      ends = subst (EndsWith (events c (os ++ o ∷ []))) (sym (g.ends.1 ∙ ap (λ (n : ℕ). g.ends.0 ++ event n o ∷ []) num)) (ends_one c os o g.ends.0);
-      shows = g.shows;
+      ends = subst (EndsWith (events c (os ++ o ∷ []))) (sym (g.ends ∙ ap (λ (n : ℕ). g.before ++ event n o ∷ []) num)) (ends_one c os o g.before);
+      shows = shows_legal q o r g;
     }
 
 -- one call after another

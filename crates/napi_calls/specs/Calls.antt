@@ -5,7 +5,7 @@ use Rattle.napi_model.specs.declared.state.Kind.{Kind}
 use Rattle.napi_model.specs.declared.event.Prep.TheVariants as prep
 use Rattle.napi_model.specs.declared.event.Done.TheVariants as done
 use Rattle.napi_model.specs.declared.event.Operation.TheVariants.{Look, Schedule, Take, Complete, MarkDisable, TakeDisable, Unmark, Enable}
-use Rattle.napi_word.specs.declared.pass.Pass.{Pass}
+use Rattle.napi_word.specs.declared.table.Pass.{Pass}
 use Rattle.napi_calls.specs.declared.types.Caller.{Caller}
 use Rattle.napi_calls.specs.declared.types.Polling.{Polling}
 use Rattle.napi_calls.specs.declared.answers.TryPrep.{TryPrep}

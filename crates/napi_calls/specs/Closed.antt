@@ -6,8 +6,8 @@ use Rattle.napi_model.specs.declared.state.Place.TheVariants.{Control}
 use Rattle.napi_model.specs.declared.event.Event.{Event}
 use Rattle.napi_model.specs.Step.{opening}
 use Rattle.napi_model.specs.History.{LegalHistory, state_after, own, IsAcceptedSchedule}
-use Rattle.napi_word.specs.declared.pass.Pass.{Pass}
-use Rattle.napi_word.specs.View.{name_of}
+use Rattle.napi_word.specs.declared.table.Pass.{Pass}
+use Rattle.rx_ring.specs.Ends.{ring_name}
 use Rattle.napi_calls.specs.declared.types.Napi.{Napi}
 use Rattle.napi_calls.specs.declared.types.Caller.{Caller}
 use Rattle.napi_calls.specs.Seats.{number_of, shown, own_list}
@@ -45,4 +45,4 @@ pub record IsClosed (n : Napi) (callers : List Caller) (control : Pass) (ctx : R
   pub all : length callers ≡ callers_of n
   pub history : List Event
   pub is : IsHistoryOf (callers_of n) (seats_of callers ++ control ∷ []) history
-  pub ring : name_of ctx ≡ ring_of_instance n
+  pub ring : ring_name ctx ≡ ring_of_instance n

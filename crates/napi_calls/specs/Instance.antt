@@ -1,7 +1,7 @@
 -- What a contract sees of an instance, and its new seats.
 use Rattle.std.specs.Prelude.{◌≡◌, ℕ, Some, []}
-use Rattle.napi_word.specs.declared.pass.Pass.{Pass}
-use Rattle.napi_word.specs.View.{Name}
+use Rattle.rx_ring.specs.Ends.{RingName}
+use Rattle.napi_word.specs.declared.table.Pass.{Pass}
 use Rattle.napi_word.specs.Passes.{IsPassOf, ring_of_table}
 use Rattle.napi_calls.specs.declared.types.Napi.{Napi}
 use Rattle.napi_calls.specs.Seats.{number_of, controller_of, shown, own_list, ring_of}
@@ -11,7 +11,7 @@ abbrev pub callers_of : Napi → ℕ
 callers_of n = n.callers
 
 -- the ring whose context was handed in
-abbrev pub ring_of_instance : Napi → Name
+abbrev pub ring_of_instance : Napi → RingName
 ring_of_instance n = ring_of_table n.table
 
 -- the seat is one of this instance

@@ -3,12 +3,13 @@ use Rattle.std.specs.Prelude.{◌≡◌, ℕ, Bool, cond, Option, Some, None}
 use Rattle.rx_ring.specs.declared.ends.RxCtx.{RxCtx}
 use Rattle.napi_model.specs.declared.state.Place.{Place}
 use Rattle.napi_model.specs.declared.state.Place.TheVariants as place
+use Rattle.rx_ring.specs.Ends.{RingName, ring_name}
+use Rattle.napi_model.specs.Laws.{is_owner}
 use Rattle.napi_model.specs.Step.{opening}
 use Rattle.napi_model.specs.History.{LegalHistory, own}
-use Rattle.napi_word.specs.declared.pass.Pass.{Pass}
+use Rattle.napi_word.specs.declared.table.Pass.{Pass}
 use Rattle.napi_word.specs.declared.view.Holds.{Holds}
 use Rattle.napi_word.specs.declared.view.Holds.TheVariants.{Nothing, Out}
-use Rattle.napi_word.specs.View.{Name, is_owner, name_of}
 use Rattle.napi_calls.specs.Seats.{number_of, controller_of, shown, own_list, state_of, ring_of}
 
 -- the place as number c has it: where another has it or nobody, that is all one
@@ -35,8 +36,8 @@ abbrev pub held : Option RxCtx → Holds
 held (Some x) = Out
 held None = Nothing
 
-abbrev pub ring_held : Option RxCtx → Option Name → Option Name
-ring_held (Some x) ring = Some (name_of x)
+abbrev pub ring_held : Option RxCtx → Option RingName → Option RingName
+ring_held (Some x) ring = Some (ring_name x)
 ring_held None ring = ring
 
 -- the context is out of the instance's slot, in the hands of the value, and is that of the ring that was handed in; or

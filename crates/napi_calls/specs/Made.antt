@@ -6,7 +6,7 @@ use Rattle.napi_model.specs.declared.event.Event.{Event}
 use Rattle.napi_model.specs.declared.event.Operation.{Operation}
 use Rattle.napi_model.specs.declared.event.Operation.TheVariants.{Look, TakeDisable}
 use Rattle.napi_model.specs.Step.{event}
-use Rattle.napi_word.specs.declared.pass.Pass.{Pass}
+use Rattle.napi_word.specs.declared.table.Pass.{Pass}
 use Rattle.napi_calls.specs.Seats.{SameSeat, ShowsLegal, number_of, shown, own_list}
 
 -- the events of number c that did these, with these replies

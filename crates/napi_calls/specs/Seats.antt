@@ -2,14 +2,13 @@
 use Rattle.std.specs.Prelude.{◌≡◌, ℕ, List, Option, Some}
 use Rattle.rx_ring.specs.declared.ends.RxIn.{RxIn}
 use Rattle.rx_ring.specs.declared.ends.RxCtx.{RxCtx}
-use Rattle.rx_ring.specs.Ends.{IsOneRing}
+use Rattle.rx_ring.specs.Ends.{RingName, ring_name, IsOneRing}
 use Rattle.napi_model.specs.declared.event.Event.{Event}
 use Rattle.napi_model.specs.declared.state.State.{State}
 use Rattle.napi_model.specs.Step.{opening}
 use Rattle.napi_model.specs.History.{LegalHistory, state_after, own}
-use Rattle.napi_word.specs.declared.pass.Pass.{Pass}
+use Rattle.napi_word.specs.declared.table.Pass.{Pass}
 use Rattle.napi_word.specs.View as view
-use Rattle.napi_word.specs.View.{Name, name_of}
 use Rattle.napi_word.specs.Passes.{view_of, SameTable}
 
 -- the seat's number, and the controller's, which is the greatest
@@ -17,7 +16,7 @@ abbrev pub number_of : Pass → ℕ
 number_of p = view.number_of (view_of p)
 
 abbrev pub controller_of : Pass → ℕ
-controller_of p = view.last_of (view_of p)
+controller_of p = view.controller_of (view_of p)
 
 -- the history that it has seen, and the events of its own calls
 abbrev pub shown : Pass → List Event
@@ -31,8 +30,8 @@ abbrev pub state_of : Pass → State
 state_of p = state_after (opening (controller_of p)) (shown p)
 
 -- the ring whose context was handed in with the instance
-abbrev pub ring_of : Pass → Option Name
-ring_of p = view.ring_of_view (view_of p)
+abbrev pub ring_of : Pass → Option RingName
+ring_of p = view.ring_of (view_of p)
 
 -- the same number of the same instance
 pub record SameSeat (p q : Pass) : Type 0 where
@@ -48,4 +47,4 @@ pub record ShowsLegal (p : Pass) : Type 0 where
 
 -- this end puts packets into the instance's ring
 abbrev pub IsInputOf : RxIn → Pass → Type 0
-IsInputOf input p = (ctx : RxCtx) × (ring_of p ≡ Some (name_of ctx)) × IsOneRing input ctx
+IsInputOf input p = (ctx : RxCtx) × (ring_of p ≡ Some (ring_name ctx)) × IsOneRing input ctx

@@ -4,8 +4,7 @@ ghost use Rattle.napi_model.specs.declared.state.Place.TheVariants as place;
 ghost use Rattle.napi_model.specs.declared.event.Operation.TheVariants.{MarkDisable};
 ghost use Rattle.napi_model.specs.Laws.{IsOwnedBy};
 ghost use Rattle.rx_ring.specs.ReceiveRing.{counts_of};
-ghost use Rattle.rx_ring.specs.Ends.{polls_of, received_list, Meets};
-ghost use Rattle.napi_word.specs.View.{name_of};
+ghost use Rattle.rx_ring.specs.Ends.{ring_name, polls_of, received_list, Meets};
 ghost use Rattle.napi_calls.specs.Seats.{number_of, controller_of, state_of, ring_of, ShowsLegal, IsInputOf};
 ghost use Rattle.napi_calls.specs.Instance.{IsSeatOf};
 ghost use Rattle.napi_calls.specs.Made.{Made, WasLost};
@@ -116,7 +115,7 @@ impl Control<Off> {
         ensures shows { ShowsLegal self.now.pass }
         ensures number { number_of self.now.pass ≡ controller_of self.now.pass }
         ensures place { (state_of self.now.pass).place ≡ place.Control (number_of self.now.pass) }
-        ensures context { ring_of self.now.pass ≡ Some (name_of self.now.state.ctx) }
+        ensures context { ring_of self.now.pass ≡ Some (ring_name self.now.state.ctx) }
         ensures flag { (state_of self.now.pass).flags.disable ≡ false }
     {}
 
@@ -158,11 +157,10 @@ impl Control<Off> {
     {
         let Control {
             mut pass,
-            state: Off { mut ctx },
+            state: Off { ctx },
         } = self;
         let seen = napi.table.look(&mut pass);
         between.run();
-        ctx.apart();
         napi.table.slot_in(&mut pass, ctx);
         match napi.table.enable_swap(&mut pass, seen, threaded) {
             Ok(()) => Ok(Control { pass, state: On }),

@@ -1,9 +1,9 @@
 //! An instance is made, and closed.
 ghost use Rattle.std.specs.Prelude.{◌≡◌, ◌≢◌, ◌<◌, ◌≤◌, ◌+◌, ◌-◌, ℕ, [], length, IfOk, IfErr, Some, slice_get, false, vec_capacity};
 ghost use Rattle.rx_ring.specs.declared.ends.RxCtx.{RxCtx};
-ghost use Rattle.napi_word.specs.declared.pass.Pass.{Pass};
-ghost use Rattle.napi_word.specs.declared.pass.StateTable.{StateTable};
-ghost use Rattle.napi_word.specs.View.{name_of};
+ghost use Rattle.napi_word.specs.declared.table.Pass.{Pass};
+ghost use Rattle.napi_word.specs.declared.table.StateTable.{StateTable};
+ghost use Rattle.rx_ring.specs.Ends.{ring_name};
 ghost use Rattle.napi_word.specs.Passes.{view_of, IsPassOf, IsNew};
 ghost use Rattle.napi_calls.specs.declared.types.Caller.{Caller};
 ghost use Rattle.napi_calls.specs.declared.fault.CloseFault.TheVariants.{NotAll};
@@ -97,7 +97,7 @@ impl Napi {
         ensures fault { IfErr result (λ b. b.fault ≡ fault_of (is_bad_count callers)) }
         ensures back { IfErr result (λ b. b.ctx ≡ ctx) }
         ensures count { IfOk result (λ r. (is_bad_count callers ≡ false) × (callers_of r.0 ≡ callers) × (length r.1.items ≡ callers)) }
-        ensures ring { IfOk result (λ r. ring_of_instance r.0 ≡ name_of ctx) }
+        ensures ring { IfOk result (λ r. ring_of_instance r.0 ≡ ring_name ctx) }
         ensures callers { IfOk result (λ r. (k : ℕ) (c : Caller) → slice_get r.1.items k ≡ Some c → IsNewSeat r.0 k c.pass) }
         ensures control { IfOk result (λ r. IsNewSeat r.0 callers r.2.pass) }
     {

@@ -4,8 +4,7 @@ ghost use Rattle.napi_model.specs.declared.state.Kind.TheVariants as kind;
 ghost use Rattle.napi_model.specs.declared.state.Place.TheVariants as place;
 ghost use Rattle.napi_model.specs.declared.event.Operation.TheVariants.{Look, Hand};
 ghost use Rattle.rx_ring.specs.ReceiveRing.{counts_of};
-ghost use Rattle.rx_ring.specs.Ends.{polls_of, received_list, GivesNext, Meets};
-ghost use Rattle.napi_word.specs.View.{name_of};
+ghost use Rattle.rx_ring.specs.Ends.{ring_name, polls_of, received_list, GivesNext, Meets};
 ghost use Rattle.napi_calls.specs.Seats.{number_of, state_of, ring_of, ShowsLegal, IsInputOf};
 ghost use Rattle.napi_calls.specs.Instance.{IsSeatOf};
 ghost use Rattle.napi_calls.specs.Made.{Made};
@@ -30,7 +29,7 @@ impl Polling {
     pub fn knows(&self)
         ensures shows { ShowsLegal self.now.pass }
         ensures place { (state_of self.now.pass).place ≡ place.Polling (number_of self.now.pass) }
-        ensures context { ring_of self.now.pass ≡ Some (name_of self.now.ctx) }
+        ensures context { ring_of self.now.pass ≡ Some (ring_name self.now.ctx) }
     {}
 
     /// What the state word tells: the flags, and to whom the instance was handed while nobody has taken it.
@@ -77,9 +76,8 @@ impl Polling {
         let Polling {
             mut pass,
             number,
-            mut ctx,
+            ctx,
         } = self;
-        ctx.apart();
         napi.table.slot_in(&mut pass, ctx);
         napi.table.hand(&mut pass, Kind::List);
         Caller { pass, number }
@@ -101,11 +99,10 @@ impl Polling {
         let Polling {
             mut pass,
             number,
-            mut ctx,
+            ctx,
         } = self;
         let seen = napi.table.look(&mut pass);
         between.run();
-        ctx.apart();
         napi.table.slot_in(&mut pass, ctx);
         match napi.table.complete_swap(&mut pass, seen) {
             Ok(Done::Released) => TryDone::Released(Caller { pass, number }),

@@ -1,7 +1,7 @@
 //! The values on which calls are made. Each has a seat of the instance, with what its type says of it, and must be spent.
 ghost use Rattle.std.specs.Prelude.{◌≡◌, Some};
 ghost use Rattle.napi_model.specs.declared.state.Place.TheVariants as place;
-ghost use Rattle.napi_word.specs.Passes.{last_of_table};
+ghost use Rattle.napi_word.specs.Passes.{controller_of_table};
 ghost use Rattle.napi_calls.specs.Knows.{Free, Stands, Controls, Has};
 
 use napi_word::{Pass, StateTable};
@@ -11,7 +11,7 @@ use rx_ring::RxCtx;
 pub struct Napi {
     pub(crate) table: StateTable,
     pub(crate) callers: u32,
-    ghost count: { last_of_table table ≡ callers },
+    ghost count: { controller_of_table table ≡ callers },
 }
 
 /// A caller that owns nothing: an interrupt, a poller or a thread poller at rest.

@@ -4,7 +4,7 @@ use Rattle.napi_calls.proofs.Making.{nothing, step}
 use Rattle.napi_calls.proofs.types.Caller.set_threaded.Goals as goal
 
 pub invariant_of-self : goal.invariant_of-self
-invariant_of-self c = record { stands = kept c.threaded.new.pass c.args.self.now.stands c.threaded.ensures.event (λ s. refl) }
+invariant_of-self c = record { stands = kept c.threaded.new.pass c.args.self.now.stands c.threaded.ensures.step.event (λ s. refl) }
 
 pub returns : goal.returns
-returns c = step c.threaded.new.pass (nothing c.args.self.now.stands) c.threaded.ensures.table c.threaded.ensures.event
+returns c = step c.threaded.new.pass (nothing c.args.self.now.stands) c.threaded.ensures.step.table c.threaded.ensures.step.event

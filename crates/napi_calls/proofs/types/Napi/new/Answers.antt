@@ -1,5 +1,5 @@
 use Rattle.std.proofs.Common.{◌≡◌, ◌+◌, List, [], ◌∷◌, slice_get, length, refl, sym, ap, ◌∙◌, length-append, arith}
-use Rattle.napi_word.specs.declared.pass.Pass.{Pass}
+use Rattle.napi_word.specs.declared.table.Pass.{Pass}
 use Rattle.napi_word.proofs.Start.{new_as}
 use Rattle.napi_calls.proofs.Fresh.{here, front_of, new_seat}
 use Rattle.napi_calls.proofs.Ending.{seats_length, seat_at}
@@ -47,7 +47,7 @@ returns-clause-callers c k one at =
     let last = c.in-Some.last in
     let seat = ap (λ (l : List Pass). slice_get l k) (sym c.seat_callers-seated.ensures) ∙ seat_at c.seat_callers-seated.result.items k one at in
     let new = e.new k one.pass (ap (λ (l : List Pass). slice_get l k) items ∙ front_of rest (last ∷ []) k one.pass seat) in
-    new_seat _ one.pass new.table new.view (omega arith) e.named.1
+    new_seat _ one.pass new.table new.view (omega arith) e.ring
 
 pub returns-clause-control : goal.returns-clause-control
 returns-clause-control c =
@@ -57,4 +57,4 @@ returns-clause-control c =
     let last = c.in-Some.last in
     let many : length rest + 1 ≡ c.args.callers + 1 = sym (length-append rest (last ∷ [])) ∙ ap length (sym items) ∙ e.count.1 in
     let new = new_as _ c.args.callers c.args.ctx c.args.ctx _ c.args.callers last last (omega arith) refl (omega (arith, many)) refl (e.new (length rest) last (here rest [] c.in-Ok-new.both.1.items last items)) in
-    new_seat _ c.control_of-control.result.pass c.control_of-control.ensures.table (c.control_of-control.ensures.view ∙ new.view) refl e.named.1
+    new_seat _ c.control_of-control.result.pass c.control_of-control.ensures.table (c.control_of-control.ensures.view ∙ new.view) refl e.ring
