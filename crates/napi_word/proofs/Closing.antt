@@ -32,8 +32,8 @@ use Rattle.napi_word.specs.Passes.{view_of, controller_of_table}
 use Rattle.napi_word.specs.Ends.{Finds, picked, IsOut, IsEnded, views_of, Gathered}
 use Rattle.napi_word.proofs.Places.{has_owner, has_same, is_false}
 use Rattle.napi_word.proofs.Keeps.{St, Open, opened, running, owner_since, place_since}
-use Rattle.std.specs.List.{AllByRecursion, IsDistinct}
-use Rattle.napi_word.proofs.Counting.{numbers_of, numbers_length, find_number, every_number}
+use Rattle.std.specs.List.{AllByRecursion, IsDistinct, list_any}
+use Rattle.napi_word.proofs.Counting.{numbers_of, numbers_length, find_number, every_number, no_more}
 use Rattle.napi_word.proofs.Whole.{whole}
 
 -- ---- strands of one view in another
@@ -124,7 +124,7 @@ third Out a b = absurd (a refl)
 
 -- ---- the last state
 module _ (t : StateTable) (passes : List Pass) (v : View) (id : ℕ) (f : Found) (g : Gathered passes v f)
-    (count : length passes ≡ controller_of_table t + 1)
+    (count : controller_of_table t + 1 ≤ length passes)
     (s : St) (r : Kept t.table.shared.key s) (at : get_elem? s.views id ≡ maybe.some v) where
   abbrev key : Key
   key = t.table.shared.key
@@ -184,14 +184,25 @@ module _ (t : StateTable) (passes : List Pass) (v : View) (id : ℕ) (f : Found)
   distinct [] f = tt
   distinct (p ∷ ps) f = (apart (number_of (view_of p)) (length (views_of ps)) (numbers_of ps) (at_first p ps f) (before (length (views_of ps)) ps (front_less p ps f) (omega arith)), distinct ps (front_less p ps f))
 
-  pub all : (c : ℕ) → c ≤ controller_of_table t → (k : ℕ) × (p : Pass) × (slice_get passes k ≡ Some p) × (number_of (view_of p) ≡ c)
-  all c low = find_number c passes (every_number key.controller c (numbers_of passes)
-      (distinct passes (λ k x e. ap (λ (l : View). get_elem? l k) g.views ∙ e))
-      (λ q h.
+  all_distinct : IsDistinct eqb (numbers_of passes)
+  all_distinct = distinct passes (λ k x e. ap (λ (l : View). get_elem? l k) g.views ∙ e)
+
+  all_below : (q : ℕ) → list_any (eqb q) (numbers_of passes) ≡ true → q ≤ key.controller
+  all_below q h =
       let a = find_number q passes h in
       let o = front a.1 in
-      subst (λ (n : ℕ). n ≤ key.controller) a.3 ((stood a.0 a.1 a.2).1.owned (number_of (view_of a.1)) o.numbered).few)
-      (numbers_length passes ∙ count) low)
+      subst (λ (n : ℕ). n ≤ key.controller) a.3 ((stood a.0 a.1 a.2).1.owned (number_of (view_of a.1)) o.numbered).few
+
+  pub all : (c : ℕ) → c ≤ controller_of_table t → (k : ℕ) × (p : Pass) × (slice_get passes k ≡ Some p) × (number_of (view_of p) ≡ c)
+  all c low =
+      let same = numbers_length passes in
+      find_number c passes (every_number key.controller c (numbers_of passes) all_distinct all_below (omega (arith, same, count)) low)
+
+  pub counted : length passes ≡ controller_of_table t + 1
+  counted =
+      let same = numbers_length passes in
+      let most = no_more key.controller (numbers_of passes) all_distinct all_below in
+      omega (arith, same, count, most)
 
   pub begins : (k : ℕ) (q : Pass) → slice_get passes k ≡ Some q → IsPrefix (shown (view_of q)) h
   begins k q e = subst (λ (l : List Event). IsPrefix l h) (sym (ap shown (front q).is)) (stood k q e).1.begins
@@ -308,6 +319,7 @@ module _ (t : StateTable) (passes : List Pass) (v : View) (id : ℕ) (f : Found)
       legal = r.legal;
       begins = begins;
       exact = exact;
+      count = counted;
       each = all;
       longest = longest;
       places = places;
@@ -319,7 +331,7 @@ module _ (t : StateTable) (passes : List Pass) (v : View) (id : ℕ) (f : Found)
     }
 
 pub ended : (t : StateTable) (passes : List Pass) (v : View) (id : ℕ) (f : Found) → Gathered passes v f
-    → length passes ≡ controller_of_table t + 1
+    → controller_of_table t + 1 ≤ length passes
     → is_pass v ≡ true → (ws : List ℕ) (slots : List Content) (slot : Content) → Final (Seen (Holding t.table.shared.key) id v) ws slots → get_elem? slots 0 ≡ maybe.some slot
     → IsEnded t passes (picked f.out f.ctx slot)
 ended t passes v id f g count p ws slots slot final there =

@@ -31,7 +31,7 @@ find_number c (p ∷ ps) e = by (eqb c (number_of (view_of p))) refl (λ h. find
     by true is later = (0, p, refl, sym (eqb-true c (number_of (view_of p)) is))
     by false is later = let r = later (ap (λ (b : Bool). b || list_any (eqb c) (numbers_of ps)) (sym is) ∙ e) in (suc r.0, r.1, r.2, r.3)
 
-pub every_number : (last c : ℕ) (xs : List ℕ) → IsDistinct eqb xs → ((q : ℕ) → list_any (eqb q) xs ≡ true → q ≤ last) → length xs ≡ last + 1 → c ≤ last → list_any (eqb c) xs ≡ true
+pub every_number : (last c : ℕ) (xs : List ℕ) → IsDistinct eqb xs → ((q : ℕ) → list_any (eqb q) xs ≡ true → q ≤ last) → last + 1 ≤ length xs → c ≤ last → list_any (eqb c) xs ≡ true
 unfolding IsDistinct
 every_number last c xs distinct below count low = by (list_any (eqb c) xs) refl
   where
@@ -44,3 +44,7 @@ every_number last c xs distinct below count low = by (list_any (eqb c) xs) refl
     by false e =
         let many = length-le_from_distinct_below (c ∷ xs) (last + 1) (absent c xs e, distinct) (λ q h. within q (eqb q c) refl h) in
         absurd (omega (arith, many, count))
+
+-- and there are no more of them
+pub no_more : (last : ℕ) (xs : List ℕ) → IsDistinct eqb xs → ((q : ℕ) → list_any (eqb q) xs ≡ true → q ≤ last) → length xs ≤ last + 1
+no_more last xs distinct below = length-le_from_distinct_below xs (last + 1) distinct (λ q h. let few = below q h in omega (arith, few))

@@ -1,5 +1,5 @@
 -- A table that has ended: the one history, read off.
-use Rattle.std.specs.Prelude.{◌≡◌, ◌↔◌, ℕ, ◌<◌, ◌≤◌, Bool, true, false, List, length, slice_get, Option, Some, None, ◌≢◌, [], ◌∷◌, ◌++◌}
+use Rattle.std.specs.Prelude.{◌≡◌, ◌↔◌, ℕ, ◌<◌, ◌≤◌, ◌+◌, Bool, true, false, List, length, slice_get, Option, Some, None, ◌≢◌, [], ◌∷◌, ◌++◌}
 use mathlib.Core.List.{IsPrefix}
 use Rattle.rx_ring.specs.declared.ends.RxCtx.{RxCtx}
 use Rattle.rx_ring.specs.Ends.{RingName, ring_name, SameCtx}
@@ -55,7 +55,8 @@ pub record IsEnded (t : StateTable) (passes : List Pass) (ctx : Option RxCtx) : 
   -- each pass has seen a beginning of it, and its own list is its number's events in it
   pub begins : (k : ℕ) (p : Pass) → slice_get passes k ≡ Some p → IsPrefix (shown (view_of p)) history
   pub exact : (k : ℕ) (p : Pass) → slice_get passes k ≡ Some p → own (number_of (view_of p)) history ≡ mine (view_of p)
-  -- each number up to the controller's is one of theirs, and other numbers have no event
+  -- no pass is there twice; each number up to the controller's is one of theirs, and other numbers have no event
+  pub count : length passes ≡ controller_of_table t + 1
   pub each : (c : ℕ) → c ≤ controller_of_table t → (k : ℕ) × (p : Pass) × (slice_get passes k ≡ Some p) × (number_of (view_of p) ≡ c)
   pub others : (c : ℕ) → controller_of_table t < c → own c history ≡ []
   -- the longest list shown is all of it

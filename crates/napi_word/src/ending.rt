@@ -1,5 +1,5 @@
 //! All seats are joined, and the table is closed.
-ghost use Rattle.std.specs.Prelude.{◌≡◌, ℕ, ◌+◌, List, [], ◌∷◌, length, Some, slice_get};
+ghost use Rattle.std.specs.Prelude.{◌≡◌, ℕ, ◌+◌, ◌≤◌, List, [], ◌∷◌, length, Some, slice_get};
 ghost use Rattle.napi_word.specs.declared.view.Holds.TheVariants as holds;
 ghost use Rattle.napi_word.specs.View.{ring_of};
 ghost use Rattle.napi_word.specs.Passes.{view_of, IsPassOf, controller_of_table};
@@ -98,10 +98,10 @@ impl StateTable {
             .join_seat::<TakesIn>(&mut gathering.seat, seat);
     }
 
-    /// Closes the table. Where all its passes were gathered, this reads off its one history.
+    /// Closes the table. Where as many passes were gathered as it has, this reads off its one history; there can't be more.
     pub fn finish(self, gathering: Gathering) -> Ended
         requires table { IsGatheredOf self gathering }
-        ensures { (taken : List Pass) → Gathered taken gathering.seat.me.0 gathering.found → length taken ≡ controller_of_table self + 1 → IsEnded self taken result.ctx }
+        ensures { (taken : List Pass) → Gathered taken gathering.seat.me.0 gathering.found → controller_of_table self + 1 ≤ length taken → IsEnded self taken result.ctx }
     {
         let StateTable { table } = self;
         let Gathering { seat, found } = gathering;

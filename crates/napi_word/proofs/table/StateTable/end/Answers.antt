@@ -1,4 +1,4 @@
-use Rattle.std.proofs.Common.{◌≡◌, ◌-◌, ℕ, List, [], ◌∷◌, ◌++◌, slice_get, length, take, sym, ap, ◌∙◌, subst, append_assoc}
+use Rattle.std.proofs.Common.{◌≡◌, ◌-◌, ℕ, List, [], ◌∷◌, ◌++◌, slice_get, length, take, sym, ap, ◌∙◌, subst, append_assoc, arith}
 use Rattle.napi_word.specs.declared.table.Pass.{Pass}
 use Rattle.napi_word.specs.Ends.{Gathered}
 use Rattle.napi_word.proofs.Closing.{get_mid}
@@ -33,4 +33,5 @@ returns c =
     let empty : c.loop-pass.passes.items ≡ [] = none.items ∙ ap (λ (l : List Pass). l ++ []) rest in
     let whole : c.args.passes.items ≡ i.1.0 = i.1.1 ∙ ap (λ (l : List Pass). l ++ i.1.0) empty in
     let g = subst (λ (l : List Pass). Gathered l c.loop-pass.gathering.seat.me.0 c.loop-pass.gathering.found) (sym whole) i.1.2 in
-    c.finish.ensures c.args.passes.items g c.requires.count
+    let count = c.requires.count in
+    c.finish.ensures c.args.passes.items g (omega (arith, count))
