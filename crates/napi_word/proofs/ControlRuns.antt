@@ -10,7 +10,10 @@ use Rattle.napi_model.specs.Step.{event}
 use Rattle.napi_word.specs.View.{mine, View, number_of, controller_of, place_in, disable_in}
 use Rattle.napi_word.specs.declared.view.Holds.TheVariants.{Within}
 use Rattle.napi_model.specs.declared.state.Place.TheVariants.{Control}
-use Rattle.napi_word.specs.Passes.{view_of, Makes, Keeps}
+use Rattle.rx_ring.specs.declared.ends.RxCtx.{RxCtx}
+use Rattle.napi_word.specs.declared.table.StateTable.{StateTable}
+use Rattle.napi_word.proofs.Start.{new_controls, new_unmarked}
+use Rattle.napi_word.specs.Passes.{view_of, IsNew, Makes, Keeps}
 use Rattle.napi_word.specs.Runs.{CountsSteps, IsEnabled, IsMarked, IsTaken, IsDisabled}
 use Rattle.napi_word.proofs.Knowing.{controller_stays, quiet_free, quiet_disable, look_free, look_unmarked, look_control, mark_free, mark_sets, take_controls, take_marked, unmark_controls, unmark_clears, enable_free, enable_unmarked}
 
@@ -51,4 +54,7 @@ two_more {p} {r} {s} {q} {a} {b} {x} {y} {n} {k} {most} more c m l room =
     let two = ap (λ (h : List Event). length h) l.event.grows ∙ length-append (mine (view_of s)) (event (number_of (view_of s)) b ∷ []) in
     let steps = c.steps in
     let few = c.few in
-    record { table = l.table ∙ m.table ∙ c.table; steps = omega (arith, one, two, steps); few = omega (arith, few, room) }
+    record { table = l.table ∙ m.table ∙ c.table; number = l.event.number ∙ m.event.number ∙ c.number; steps = omega (arith, one, two, steps); few = omega (arith, few, room) }
+
+pub new_disabled : {t : StateTable} (k : ℕ) (x : RxCtx) (p : Pass) → IsNew t k x k p → IsDisabled p
+new_disabled {t} k x p new = (ap number_of new.view ∙ sym (ap controller_of new.view), new_controls k x p new, new_unmarked k k x p new, new.own refl)

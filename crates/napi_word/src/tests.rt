@@ -9,7 +9,7 @@ ghost use Rattle.napi_word.specs.declared.table.Pass.{Pass};
 ghost use Rattle.napi_word.specs.View.{mine, number_of};
 ghost use Rattle.napi_word.specs.Passes.{view_of, IsPassOf, SameTable, IsNew, controller_of_table};
 ghost use Rattle.napi_word.specs.Ends.{IsEnded};
-ghost use Rattle.napi_word.specs.Runs.{HasOwnLists};
+ghost use Rattle.napi_word.specs.Runs.{HasOwnLists, IsEnabled};
 
 use crate::{Ended, Pass, StateTable};
 use napi_model::{Done, Kind, Prep, Seen, decode, encode};
@@ -20,15 +20,15 @@ use std::thread::join;
 
 // A table with two callers, 0 and 1, and the controller 2: the three passes, and the vector that they lay in.
 #[derive(Drop)]
-struct Opened {
-    table: StateTable,
-    first: Pass,
-    second: Pass,
-    control: Pass,
-    room: Vec<Pass>,
+pub(crate) struct Opened {
+    pub(crate) table: StateTable,
+    pub(crate) first: Pass,
+    pub(crate) second: Pass,
+    pub(crate) control: Pass,
+    pub(crate) room: Vec<Pass>,
 }
 
-fn table_of_two(alloc: Global, ctx: RxCtx) -> Option<Opened>
+pub(crate) fn table_of_two(alloc: Global, ctx: RxCtx) -> Option<Opened>
     ensures first { IfSome result (λ o. IsNew o.table 2 ctx 0 o.first) }
     ensures second { IfSome result (λ o. IsNew o.table 2 ctx 1 o.second) }
     ensures control { IfSome result (λ o. IsNew o.table 2 ctx 2 o.control) }
@@ -54,17 +54,21 @@ fn table_of_two(alloc: Global, ctx: RxCtx) -> Option<Opened>
 }
 
 // The controller's own list after it gave the instance free, where no word but 9 was there to be found.
-fn enable(table: &StateTable, control: &mut Pass) -> bool
+pub(crate) fn enable(table: &StateTable, control: &mut Pass) -> bool
     requires table { IsPassOf table.now control.old }
     requires new { (ctx : RxCtx) × IsNew table.now 2 ctx 2 control.old }
     ensures table { SameTable control.old control.new }
     ensures number { number_of (view_of control.new) ≡ 2 }
+    ensures rests { IsTrue result → IsEnabled control.new }
     ensures own { IsTrue result → mine (view_of control.new) ≡ event 2 (Enable false) ∷ [] }
 {
     let Some(nine) = decode(9) else {
         return false;
     };
-    table.enable_swap(control, nine, false).is_ok()
+    match table.enable_swap(control, nine, false) {
+        Ok(()) => true,
+        Err(_) => false,
+    }
 }
 
 // The first looks and is granted the schedule; the second expects no flag and finds SCHED, expects that, and is missed.
@@ -95,7 +99,7 @@ fn swaps(table: &StateTable, first: &mut Pass, second: &mut Pass) -> Option<(See
 }
 
 // The end of a table of three: the own list of each caller is the events of its number in the one history.
-fn end_of_three(opened: Opened) -> Option<Ended>
+pub(crate) fn end_of_three(opened: Opened) -> Option<Ended>
     requires first { IsPassOf opened.table opened.first }
     requires second { IsPassOf opened.table opened.second }
     requires control { IsPassOf opened.table opened.control }

@@ -1,13 +1,18 @@
 //! Two callers and the controller in threads of their own, by every kind of step; each one's own list is as long as its
 //! calls are many.
-ghost use Rattle.std.specs.Prelude.{◌≡◌, ◌+◌, ◌*◌, ◌<◌, ◌^◌, IsTrue, IsFalse};
+ghost use Rattle.std.specs.Prelude.{◌≡◌, ℕ, ◌+◌, ◌*◌, ◌<◌, ◌^◌, IsTrue, IsFalse, IfSome};
+ghost use Rattle.std.specs.Thread.{IsSync};
 ghost use Rattle.napi_word.specs.declared.view.Holds.TheVariants.{Nothing, Within};
 ghost use Rattle.napi_word.specs.Passes.{IsPassOf, Polls};
-ghost use Rattle.napi_word.specs.Runs.{CountsSteps, IsEnabled, IsMarked, IsTaken, IsDisabled};
+ghost use Rattle.napi_word.specs.Runs.{CountsSteps, HasOwnLengths, IsEnabled, IsMarked, IsTaken, IsDisabled};
 
-use crate::{Pass, StateTable};
+use crate::tests::{Opened, end_of_three, table_of_two};
+use crate::{Ended, Pass, StateTable, tests};
 use napi_model::{Done, Kind, Prep};
-use std::thread::yield_now;
+use rx_ring::{RxCtx, ring};
+use std::alloc::Global;
+use std::test::Fail;
+use std::thread::{Threads, join, yield_now};
 
 // How often the controller tries to disable and to enable.
 const TRIES: u32 = 1_000_000;
@@ -73,7 +78,11 @@ fn schedule(table: &StateTable, counted: &mut Counted)
     let Some(seen) = seen else { return };
     counted.steps += 1;
     if let Ok(Prep::Granted) = table.schedule_swap(&mut counted.pass, seen) {
-        let kind = if seen.flags.threaded { Kind::Thread } else { Kind::List };
+        let kind = if seen.flags.threaded {
+            Kind::Thread
+        } else {
+            Kind::List
+        };
         table.hand(&mut counted.pass, kind);
         counted.steps += 1;
     }
@@ -192,4 +201,117 @@ fn switches(table: &StateTable, counted: &mut Counted, times: u32) -> bool
         }
     }
     true
+}
+
+// What a run of three threads made: how many events of each caller and of the controller, and the end.
+#[derive(Drop)]
+struct Ran {
+    first: u64,
+    second: u64,
+    control: u64,
+    switched: bool,
+    ended: Ended,
+}
+
+// Two callers, each in a thread of its own.
+fn both<R: Threads + Sync>(
+    rt: &R,
+    table: &StateTable,
+    first: Pass,
+    second: Pass,
+    times: u32,
+) -> (Counted, Counted)
+    requires first { IsPassOf table.now first × (first.holds ≡ Nothing) }
+    requires second { IsPassOf table.now second × (second.holds ≡ Nothing) }
+    requires times { times < 1000 }
+    ensures first { CountsSteps first 0 result.0.pass result.0.steps (12 * times) }
+    ensures second { CountsSteps second 0 result.1.pass result.1.steps (12 * times) }
+{
+    let first = Counted {
+        pass: first,
+        steps: 0,
+    };
+    let second = Counted {
+        pass: second,
+        steps: 0,
+    };
+    join(
+        rt,
+        || -> Counted
+            requires { IsPassOf table.now first.pass × (first.pass.holds ≡ Nothing) × (first.steps + 12 * times < 2 ^ 64) }
+            ensures { CountsSteps first.pass first.steps result.pass result.steps (12 * times) }
+        { turns(table, first, times, true) },
+        || -> Counted
+            requires { IsPassOf table.now second.pass × (second.pass.holds ≡ Nothing) × (second.steps + 12 * times < 2 ^ 64) }
+            ensures { CountsSteps second.pass second.steps result.pass result.steps (12 * times) }
+        { turns(table, second, times, false) },
+    )
+}
+
+// The controller, after its first enable.
+fn control(table: &StateTable, pass: Pass, times: u32) -> (Counted, bool)
+    requires table { IsPassOf table.now pass }
+    requires rests { IsEnabled pass }
+    requires times { times < 1000 }
+    ensures { CountsSteps pass 1 result.0.pass result.0.steps (4000002 * times) }
+{
+    let mut counted = Counted { pass, steps: 1 };
+    let switched = switches(table, &mut counted, times);
+    (counted, switched)
+}
+
+// Each own list is as long as its pass made steps.
+fn run<R: Threads + Sync>(rt: &R, alloc: Global, ctx: RxCtx, times: u32) -> Option<Ran>
+    requires { times < 1000 }
+    ensures { IfSome result (λ r. HasOwnLengths r.first r.second r.control) }
+{
+    let mut opened = table_of_two(alloc, ctx)?;
+    if !tests::enable(&opened.table, &mut opened.control) {
+        return None;
+    }
+    let Opened {
+        table,
+        first,
+        second,
+        control: controls,
+        room,
+    } = opened;
+    let ((first, second), (counted, switched)) = join(
+        rt,
+        || -> (Counted, Counted)
+            requires { IsSync R.row × IsPassOf table first × (first.holds ≡ Nothing) × IsPassOf table second × (second.holds ≡ Nothing) × (times < 1000) }
+            ensures { CountsSteps first 0 result.0.pass result.0.steps (12 * times) × CountsSteps second 0 result.1.pass result.1.steps (12 * times) }
+        { both(rt, &table, first, second, times) },
+        || -> (Counted, bool)
+            requires { IsPassOf table controls × IsEnabled controls }
+            ensures { CountsSteps controls 1 result.0.pass result.0.steps 40000020 }
+        { control(&table, controls, 10) },
+    );
+    let opened = Opened {
+        table,
+        first: first.pass,
+        second: second.pass,
+        control: counted.pass,
+        room,
+    };
+    let ended = end_of_three(opened)?;
+    Some(Ran {
+        first: first.steps,
+        second: second.steps,
+        control: counted.steps,
+        switched,
+        ended,
+    })
+}
+
+#[test]
+fn all_steps_in_three_threads(rt: HostRuntime) -> Result<(), Fail> {
+    let (_input, ctx) = ring(rt.alloc(), 4)?;
+    let Some(ran) = run(&rt, rt.alloc(), ctx, 500) else {
+        panic!(rt; "no memory")
+    };
+    assert!(rt; ran.switched);
+    assert!(rt; ran.first >= 2000 && ran.second >= 2000 && ran.control >= 51);
+    assert!(rt; ran.ended.ctx.is_some());
+    Ok(())
 }
