@@ -213,10 +213,11 @@ build() {
     trap 'interrupted 130' INT
     trap 'interrupted 143' TERM HUP
     : > "$mark"
+    step
     while [ "${state[$program]:-}" != proved ]; do
-        step
         show
         sleep 0.2
+        step
     done
     clear_line
     # What was changed while it was built is newer than the program, so that the next call sees it.
