@@ -1,6 +1,7 @@
 #!/usr/bin/env bash
 # Tries the launcher. What building is about is tried in a small checkout of its own, with an `rt` that proves nothing and
-# makes a program of five lines; what faults are about, on the real program. The last line is `N passed, M failed`.
+# makes a program of five lines; what faults are about, on the real program. The scripts of bench/ and
+# examples/ are given arguments that they have to refuse. The last line is `N passed, M failed`.
 set -uo pipefail
 unset CDPATH
 top=$(dirname "$(dirname "$(readlink -f "$0")")")
@@ -305,12 +306,34 @@ replay: see ./replay --help'
     check 'a trace without a fault' is "$status $(cat "$scratch/err") $(wc -l < "$scratch/out")" '0  5'
 }
 
+# refuses SCRIPT ARGUMENT ..: a line, status 64, and nothing is made.
+refuses() {
+    run "$top/$1" "${@:2}"
+    check "$* is refused" is "$status $(wc -l < "$scratch/err") $(grep -c "^$(basename "$1"): " "$scratch/err")" '64 1 1'
+}
+
+scripts() {
+    cd "$scratch" || exit
+    refuses bench/limits.sh many
+    refuses bench/limits.sh 1 2
+    refuses bench/receive.sh 0
+    refuses bench/refusals.sh "$scratch/trace.csv"
+    refuses bench/replay.sh "$scratch/none"
+    refuses bench/replay.sh /bin/cat -3
+    TRACES=$scratch/none refuses bench/replay.sh
+    refuses bench/traces.sh
+    refuses bench/traces.sh "$scratch/traces" 1e5
+    refuses examples/compare.sh "$scratch/none"
+    check 'a refused script makes nothing' [ ! -e "$scratch/traces" ]
+}
+
 building
 refusals_of_a_build
 two_builds
 interruptions
 words
 terminals
+scripts
 "$top/scripts/build.sh" napi_replay && faults
 echo "$passed passed, $failed failed"
 [ "$failed" = 0 ]
