@@ -83,18 +83,22 @@ take_turn() {
     fi
 }
 
-is_first() {
-    local name
+# How many of the crates were never proved in this checkout.
+unproved() {
+    local name count=0
     for name in "${names[@]}"; do
-        [ -e "$crates/$name/out/incremental" ] || return 0
+        [ -e "$crates/$name/out/incremental" ] || count=$((count + 1))
     done
-    return 1
+    echo "$count"
 }
 
+# What it takes is as measured: a quarter of a GB and half a minute a crate.
 announce() {
+    local count
+    count=$(unproved)
     say "proving and building $program and the libraries below it, ${#names[@]} crates"
-    if is_first; then
-        say 'on 4 cores the first time takes some 3 minutes, 1.5 GB of disk and 5 GB of memory; from then on it starts at once'
+    if [ "$count" != 0 ]; then
+        say "$count of them for the first time: on 4 cores some $(((count + 1) / 2)) minutes, $((count * 250)) MB of disk and 4 GB of memory"
     fi
 }
 
