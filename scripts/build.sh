@@ -112,6 +112,7 @@ begin() {
         command=(rt run -- "${words[@]}")
     fi
     mkdir -p "$folder/out"
+    : > "$folder/out/build.log"
     (cd "$folder" && exec setsid "${command[@]}") < "$input" > "$folder/out/build.log" 2>&1 9>&- &
     pids[$1]=$!
     state[$1]=begun
