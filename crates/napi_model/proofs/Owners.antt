@@ -1,17 +1,17 @@
 -- The laws of legal histories.
-use Rattle.std.proofs.Common.{◌≡◌, ◌≢◌, ◌⊎◌, ℕ, List, [], ◌∷◌, true, false, refl, sym, ap, ◌∙◌, subst, ⊎_elim, true≢false}
+use Rattle.std.proofs.Common.{◌≡◌, ◌≢◌, ◌⊎◌, ℕ, List, [], ◌∷◌, ne_eqb, true, false, refl, sym, ap, ◌∙◌, subst, ⊎_elim, true≢false}
 use Rattle.napi_model.specs.declared.state.Kind.TheVariants as kind
 use Rattle.napi_model.specs.declared.state.Place.{Place}
-use Rattle.napi_model.specs.declared.state.Place.TheVariants.{Nobody, Granted, Polling}
+use Rattle.napi_model.specs.declared.state.Place.TheVariants.{Nobody, Granted, Listed, ToThread, Polling, Control}
 use Rattle.napi_model.specs.declared.state.State.{State}
 use Rattle.napi_model.specs.declared.event.Prep.TheVariants as prep
 use Rattle.napi_model.specs.declared.event.Done.TheVariants.{Released, Again}
 use Rattle.napi_model.specs.declared.event.Operation.{Operation}
 use Rattle.napi_model.specs.declared.event.Operation.TheVariants.{Look, Schedule, Hand, Take, Complete, MarkDisable, TakeDisable, Unmark, Enable, SetThreaded}
 use Rattle.napi_model.specs.declared.event.Event.{Event}
-use Rattle.napi_model.specs.Step.{after, after_by, IsLegalBy}
+use Rattle.napi_model.specs.Step.{after, after_by, opening, IsLegalBy}
 use Rattle.napi_model.specs.History.{LegalHistory, IsBy, state_after, own}
-use Rattle.napi_model.specs.Laws.{IsSound, IsOwnedBy, SchedClearIsNobody, OthersLeaveOwner, OthersLeaveDisable}
+use Rattle.napi_model.specs.Laws.{IsSound, is_owner, IsOwnedBy, IsControlled, SchedClearIsNobody, OthersLeaveOwner, OthersLeaveOwnership, ControlIsTheControllers, OthersLeaveDisable}
 use Rattle.napi_model.proofs.Histories.{state_after-append, legal_front, legal_back, own_first}
 
 -- ---- SCHED clear, and nobody has the instance
@@ -43,27 +43,72 @@ unfolding LegalHistory state_after
 sound_after k s [] sound l = sound
 sound_after k s (e ∷ h) sound l = sound_after k (after s e) h (sound_by e.caller e.operation s l.0.0 sound) l.1
 
+-- ---- whether a caller owns the instance
+
+pub ownership_by_others : (c b : ℕ) (o : Operation) (s : State)
+    → b ≢ c → IsLegalBy b o s → IsSound s → is_owner c (after_by b o s).place ≡ is_owner c s.place
+ownership_by_others c b (Look seen) s apart l sound = refl
+ownership_by_others c b (Schedule prep.Granted) s apart l sound = ne_eqb b c apart ∙ sym (ap (is_owner c) (sound l.1))
+ownership_by_others c b (Schedule prep.Missed) s apart l sound = refl
+ownership_by_others c b (Schedule prep.Disabled) s apart l sound = refl
+ownership_by_others c b (Hand kind.List) s apart l sound =
+    sym (⊎_elim (λ (g : s.place ≡ Granted b). ap (is_owner c) g ∙ ne_eqb b c apart) (λ (g : s.place ≡ Polling b). ap (is_owner c) g ∙ ne_eqb b c apart) l)
+ownership_by_others c b (Hand kind.Thread) s apart l sound = sym (ap (is_owner c) l ∙ ne_eqb b c apart)
+ownership_by_others c b (Take kind.List true) s apart l sound = ne_eqb b c apart ∙ sym (ap (is_owner c) l)
+ownership_by_others c b (Take kind.Thread true) s apart l sound = ne_eqb b c apart ∙ sym (ap (is_owner c) l)
+ownership_by_others c b (Take k false) s apart l sound = refl
+ownership_by_others c b (Complete Again) s apart l sound = sym (ap (is_owner c) l.0)
+ownership_by_others c b (Complete Released) s apart l sound = sym (ap (is_owner c) l.0 ∙ ne_eqb b c apart)
+ownership_by_others c b MarkDisable s apart l sound = refl
+ownership_by_others c b (TakeDisable true) s apart l sound = ne_eqb b c apart ∙ sym (ap (is_owner c) (sound l.1))
+ownership_by_others c b (TakeDisable false) s apart l sound = refl
+ownership_by_others c b Unmark s apart l sound = refl
+ownership_by_others c b (Enable threaded) s apart l sound = sym (ap (is_owner c) l.0 ∙ ne_eqb b c apart)
+ownership_by_others c b (SetThreaded threaded) s apart l sound = refl
+
+-- from any sound state
+pub ownership_kept : (k c : ℕ) (s : State) (h : List Event)
+    → IsSound s → LegalHistory k s h → own c h ≡ [] → is_owner c (state_after s h).place ≡ is_owner c s.place
+unfolding LegalHistory state_after
+ownership_kept k c s [] sound l none = refl
+ownership_kept k c s (e ∷ h) sound l none =
+    let first = own_first c e h none in
+    ownership_kept k c (after s e) h (sound_by e.caller e.operation s l.0.0 sound) l.1 first.1
+    ∙ ownership_by_others c e.caller e.operation s first.0 l.0.0 sound
+
+pub others_leave_ownership : OthersLeaveOwnership
+others_leave_ownership k c s h others sound l none =
+    let t = state_after s h in
+    let kept = ownership_kept k c t others (sound_after k s h sound (legal_front k s h others l)) (legal_back k s h others l) none in
+    ap (λ (u : State). is_owner c u.place) (state_after-append s h others) ∙ kept
+
 -- ---- an owner's place
+
+-- who owns the instance elsewhere, doesn't own it here
+not_owner : {A : Type 0} (c : ℕ) (p q : Place) → p ≡ q → is_owner c q ≡ false → IsOwnedBy c p → A
+not_owner c p q is other owned = absurd (true≢false (sym owned ∙ ap (is_owner c) is ∙ other))
 
 pub owned_by_others : (c b : ℕ) (o : Operation) (s : State)
     → b ≢ c → IsLegalBy b o s → IsSound s → IsOwnedBy c s.place → (after_by b o s).place ≡ s.place
 owned_by_others c b (Look seen) s apart l sound owned = refl
-owned_by_others c b (Schedule prep.Granted) s apart l sound owned = absurd (subst (IsOwnedBy c) (sound l.1) owned)
+owned_by_others c b (Schedule prep.Granted) s apart l sound owned = not_owner c s.place Nobody (sound l.1) refl owned
 owned_by_others c b (Schedule prep.Missed) s apart l sound owned = refl
 owned_by_others c b (Schedule prep.Disabled) s apart l sound owned = refl
-owned_by_others c b (Hand kind.List) s apart l sound owned =
-    absurd (apart (⊎_elim (λ (g : s.place ≡ Granted b). subst (IsOwnedBy c) g owned) (λ (g : s.place ≡ Polling b). subst (IsOwnedBy c) g owned) l))
-owned_by_others c b (Hand kind.Thread) s apart l sound owned = absurd (apart (subst (IsOwnedBy c) l owned))
-owned_by_others c b (Take kind.List true) s apart l sound owned = absurd (subst (IsOwnedBy c) l owned)
-owned_by_others c b (Take kind.Thread true) s apart l sound owned = absurd (subst (IsOwnedBy c) l owned)
+owned_by_others c b (Hand kind.List) s apart l sound owned = ⊎_elim
+    (λ (g : s.place ≡ Granted b). not_owner c s.place (Granted b) g (ne_eqb b c apart) owned)
+    (λ (g : s.place ≡ Polling b). not_owner c s.place (Polling b) g (ne_eqb b c apart) owned)
+    l
+owned_by_others c b (Hand kind.Thread) s apart l sound owned = not_owner c s.place (Granted b) l (ne_eqb b c apart) owned
+owned_by_others c b (Take kind.List true) s apart l sound owned = not_owner c s.place Listed l refl owned
+owned_by_others c b (Take kind.Thread true) s apart l sound owned = not_owner c s.place ToThread l refl owned
 owned_by_others c b (Take k false) s apart l sound owned = refl
-owned_by_others c b (Complete Again) s apart l sound owned = absurd (apart (subst (IsOwnedBy c) l.0 owned))
-owned_by_others c b (Complete Released) s apart l sound owned = absurd (apart (subst (IsOwnedBy c) l.0 owned))
+owned_by_others c b (Complete Again) s apart l sound owned = not_owner c s.place (Polling b) l.0 (ne_eqb b c apart) owned
+owned_by_others c b (Complete Released) s apart l sound owned = not_owner c s.place (Polling b) l.0 (ne_eqb b c apart) owned
 owned_by_others c b MarkDisable s apart l sound owned = refl
-owned_by_others c b (TakeDisable true) s apart l sound owned = absurd (subst (IsOwnedBy c) (sound l.1) owned)
+owned_by_others c b (TakeDisable true) s apart l sound owned = not_owner c s.place Nobody (sound l.1) refl owned
 owned_by_others c b (TakeDisable false) s apart l sound owned = refl
 owned_by_others c b Unmark s apart l sound owned = refl
-owned_by_others c b (Enable threaded) s apart l sound owned = absurd (apart (subst (IsOwnedBy c) l.0 owned))
+owned_by_others c b (Enable threaded) s apart l sound owned = not_owner c s.place (Control b) l.0 (ne_eqb b c apart) owned
 owned_by_others c b (SetThreaded threaded) s apart l sound owned = refl
 
 -- from any sound state
@@ -114,3 +159,34 @@ pub others_leave_disable : OthersLeaveDisable
 others_leave_disable k s h others l none =
     ap (λ (u : State). u.flags.disable) (state_after-append s h others)
     ∙ disable_kept k (state_after s h) others (legal_back k s h others l) none
+
+-- ---- the place Control
+
+pub controlled_by : (k c : ℕ) (o : Operation) (s : State) → IsBy k c o → IsControlled k s → IsControlled k (after_by c o s)
+controlled_by k c (Look seen) s by ok = ok
+controlled_by k c (Schedule prep.Granted) s by ok = λ d e. cc
+controlled_by k c (Schedule prep.Missed) s by ok = ok
+controlled_by k c (Schedule prep.Disabled) s by ok = ok
+controlled_by k c (Hand kind.List) s by ok = λ d e. cc
+controlled_by k c (Hand kind.Thread) s by ok = λ d e. cc
+controlled_by k c (Take q true) s by ok = λ d e. cc
+controlled_by k c (Take q false) s by ok = ok
+controlled_by k c (Complete Again) s by ok = λ d e. cc
+controlled_by k c (Complete Released) s by ok = λ d e. cc
+controlled_by k c MarkDisable s by ok = ok
+controlled_by k c (TakeDisable true) s by ok = λ d e. cc
+controlled_by k c (TakeDisable false) s by ok = ok
+controlled_by k c Unmark s by ok = ok
+controlled_by k c (Enable threaded) s by ok = λ d e. cc
+controlled_by k c (SetThreaded threaded) s by ok = ok
+
+pub controlled_after : ControlIsTheControllers
+unfolding LegalHistory state_after
+controlled_after k s [] ok l = ok
+controlled_after k s (e ∷ h) ok l = controlled_after k (after s e) h (controlled_by k e.caller e.operation s l.0.1 ok) l.1
+
+pub opens_controlled : (k : ℕ) → IsControlled k (opening k)
+opens_controlled k = λ d e. cc
+
+pub opens_sound : (k : ℕ) → IsSound (opening k)
+opens_sound k = λ e. absurd (true≢false e)

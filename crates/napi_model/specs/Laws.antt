@@ -1,7 +1,7 @@
 -- Laws of legal histories.
-use Rattle.std.specs.Prelude.{◌≡◌, ℕ, false, List, [], ◌++◌}
+use Rattle.std.specs.Prelude.{◌≡◌, ℕ, Bool, true, false, nat_eq, List, [], ◌++◌}
 use Rattle.napi_model.specs.declared.state.Place.{Place}
-use Rattle.napi_model.specs.declared.state.Place.TheVariants.{Nobody, Granted, Polling, Control}
+use Rattle.napi_model.specs.declared.state.Place.TheVariants.{Nobody, Granted, Listed, ToThread, Polling, Control}
 use Rattle.napi_model.specs.declared.state.State.{State}
 use Rattle.napi_model.specs.declared.event.Event.{Event}
 use Rattle.napi_model.specs.History.{LegalHistory, state_after, own}
@@ -10,12 +10,21 @@ use Rattle.napi_model.specs.History.{LegalHistory, state_after, own}
 abbrev pub IsSound : State → Type 0
 IsSound s = s.flags.sched ≡ false → s.place ≡ Nobody
 
--- the places in which caller c owns the instance
+-- whether caller c owns the instance in this place
+abbrev pub is_owner : ℕ → Place → Bool
+is_owner c Nobody = false
+is_owner c (Granted owner) = nat_eq owner c
+is_owner c Listed = false
+is_owner c ToThread = false
+is_owner c (Polling owner) = nat_eq owner c
+is_owner c (Control owner) = nat_eq owner c
+
 abbrev pub IsOwnedBy : ℕ → Place → Type 0
-IsOwnedBy c (Granted owner) = owner ≡ c
-IsOwnedBy c (Polling owner) = owner ≡ c
-IsOwnedBy c (Control owner) = owner ≡ c
-IsOwnedBy c _ = ⊥
+IsOwnedBy c p = is_owner c p ≡ true
+
+-- only the controller controls the instance
+abbrev pub IsControlled : ℕ → State → Type 0
+IsControlled controller s = (c : ℕ) → s.place ≡ Control c → c ≡ controller
 
 -- law: with SCHED clear the place is Nobody, in every state that a legal history leads to
 abbrev pub SchedClearIsNobody : Type 0
@@ -30,6 +39,19 @@ OthersLeaveOwner =
     → IsSound start → LegalHistory controller start (h ++ others) → own caller others ≡ []
     → IsOwnedBy caller (state_after start h).place
     → (state_after start (h ++ others)).place ≡ (state_after start h).place
+
+-- law: whatever others do, nobody becomes an owner by it, and no owner ceases to be one
+abbrev pub OthersLeaveOwnership : Type 0
+OthersLeaveOwnership =
+    (controller caller : ℕ) (start : State) (h others : List Event)
+    → IsSound start → LegalHistory controller start (h ++ others) → own caller others ≡ []
+    → is_owner caller (state_after start (h ++ others)).place ≡ is_owner caller (state_after start h).place
+
+-- law: the place Control bears the controller's number, in every state that a legal history leads to
+abbrev pub ControlIsTheControllers : Type 0
+ControlIsTheControllers =
+    (controller : ℕ) (start : State) (h : List Event)
+    → IsControlled controller start → LegalHistory controller start h → IsControlled controller (state_after start h)
 
 -- law: whatever others than the controller do, the disable flag stays
 abbrev pub OthersLeaveDisable : Type 0

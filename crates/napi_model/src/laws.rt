@@ -1,7 +1,7 @@
 //! Laws of legal histories. Each is the contract of a function that does nothing.
 ghost use Rattle.std.specs.Prelude.{ℕ};
 ghost use Rattle.napi_model.specs.Step.{opening, idle};
-ghost use Rattle.napi_model.specs.Laws.{IsSound, SchedClearIsNobody, OthersLeaveOwner, OthersLeaveDisable, OwnOfJoined};
+ghost use Rattle.napi_model.specs.Laws.{IsSound, IsControlled, SchedClearIsNobody, OthersLeaveOwner, OthersLeaveOwnership, ControlIsTheControllers, OthersLeaveDisable, OwnOfJoined};
 
 /// In every state that a legal history leads to from the opening state or from the idle one, SCHED clear says that the
 /// place is `Nobody`.
@@ -14,6 +14,17 @@ pub fn sched_clear_is_nobody()
 /// The events of others leave a caller's `Granted`, `Polling` or `Control` where it is.
 pub fn others_leave_owner()
     ensures { OthersLeaveOwner }
+{}
+
+/// The events of others leave whether a caller owns the instance.
+pub fn others_leave_ownership()
+    ensures { OthersLeaveOwnership }
+{}
+
+/// In every state that a legal history leads to from the opening state, the place `Control` bears the controller's number.
+pub fn control_is_the_controllers()
+    ensures after { ControlIsTheControllers }
+    ensures opening { (controller : ℕ) → IsControlled controller (opening controller) }
 {}
 
 /// Only the controller's events change the disable flag.

@@ -1,6 +1,9 @@
 -- What a contract sees of the two ends of a receive ring, and what a poll and a meeting of the ends do to them.
-use Rattle.std.specs.Prelude.{ℕ, ◌≡◌, ◌+◌, ◌≤◌, Bool, true, false, List, ◌++◌, length, take, min}
+use Rattle.std.specs.Prelude.{ℕ, ◌≡◌, ◌↔◌, ◌+◌, ◌≤◌, Bool, true, false, List, ◌++◌, length, take, min}
+use Rattle.std.specs.Global.{Global}
+use denote.RawPtr.{Ptr}
 use mathlib.Core.List.{IsPrefix}
+use Rattle.rtrb.specs.Shared.{Names}
 use Rattle.rtrb.specs.Ring.{sent, received, known_items, producer_capacity, IsPair, SameProducer, SameConsumer}
 use Rattle.rx_ring.specs.ReceiveRing.{ReceiveRing, IsInOrder, held_of, IsPoll, capped}
 use Rattle.rx_ring.specs.declared.packet.Packet.{Packet}
@@ -43,6 +46,17 @@ SameIn before after = SameProducer before.producer after.producer
 
 abbrev pub SameCtx : RxCtx → RxCtx → Type 0
 SameCtx before after = SameConsumer before.consumer after.consumer
+
+-- what tells a context's ring from others
+abbrev pub RingName : Type 0
+RingName = Ptr × Ptr × Names × Global × ℕ
+
+abbrev pub ring_name : RxCtx → RingName
+ring_name ctx = (ctx.consumer.end.words, ctx.consumer.end.slots, ctx.consumer.end.names, ctx.consumer.end.heap, ctx.consumer.capacity)
+
+-- law: contexts of one name are of one ring, and no others
+abbrev pub NamesTellRings : Type 0
+NamesTellRings = (a b : RxCtx) → (ring_name b ≡ ring_name a) ↔ SameCtx a b
 
 -- the ring whose ends these are
 abbrev pub ring_of : RxIn → RxCtx → ReceiveRing

@@ -15,7 +15,7 @@ mod pair;
 pub use ends::{RxCtx, RxIn};
 pub use fault::RingFault;
 pub use packet::{Batch, MAX_WEIGHT, Packet, RxCounts, Totals};
-pub use pair::{MAX_CAPACITY, beside, finish, ring};
+pub use pair::{MAX_CAPACITY, beside, finish, names_tell_rings, ring};
 
 #[cfg(test)]
 mod plain;

@@ -3,7 +3,7 @@
 ghost use Rattle.std.specs.Prelude.{◌≡◌, ◌≢◌, ◌+◌, ◌<◌, ◌^◌, ◌++◌, ◌⊎◌, ◌↔◌, [], false, length, IfOk, IfErr, IsErrOf};
 ghost use Rattle.rtrb.specs.Ring.{received, known_items};
 ghost use Rattle.rx_ring.specs.ReceiveRing.{capped, bytes_of, IsInOrder, totals_of};
-ghost use Rattle.rx_ring.specs.Ends.{put_list, capacity_of, received_list, known_list, polls_of, is_beside, IsOneRing, ring_of, Meets};
+ghost use Rattle.rx_ring.specs.Ends.{put_list, capacity_of, received_list, known_list, polls_of, is_beside, IsOneRing, ring_of, Meets, NamesTellRings};
 ghost use Rattle.rx_ring.specs.declared.fault.RingFault.TheVariants.{BadCapacity, OutOfMemory};
 
 use crate::ends::{RxCtx, RxIn};
@@ -95,3 +95,9 @@ fn count_left(consumer: &mut Consumer<Packet>, left: usize, bytes: u64) -> u64
     }
     bytes
 }
+
+/// A law: a context is of the same ring as another exactly where their rings have one name. So a name can stand for the
+/// ring where the context itself is out of reach, as in a slot.
+pub fn names_tell_rings()
+    ensures { NamesTellRings }
+{}

@@ -1,0 +1,78 @@
+-- The list of all seats at the end, and its one history.
+use Rattle.std.proofs.Common.{◌≡◌, ℕ, zero, suc, ◌+◌, ◌<◌, List, [], ◌∷◌, ◌++◌, length, slice_get, Option, Some, false, unwrap_or, eq-eqb, refl, sym, ap, ◌∙◌, subst, length-append, arith}
+use Rattle.rx_ring.specs.declared.ends.RxCtx.{RxCtx}
+use Rattle.napi_model.specs.declared.state.Place.TheVariants as place
+use Rattle.napi_model.specs.declared.event.Event.{Event}
+use Rattle.napi_model.specs.Step.{opening, IsControl}
+use Rattle.napi_model.specs.History.{LegalHistory, state_after}
+use Rattle.napi_word.specs.declared.table.Pass.{Pass}
+use Rattle.rx_ring.specs.Ends.{RingName, ring_name}
+use Rattle.napi_model.specs.Laws.{is_owner}
+use Rattle.napi_word.specs.Passes.{controller_of_table}
+use Rattle.napi_word.specs.Ends.{IsEnded}
+use Rattle.napi_word.proofs.Closing.{get_mid}
+use Rattle.napi_calls.specs.declared.types.Napi.{Napi}
+use Rattle.napi_calls.specs.declared.types.Caller.{Caller}
+use Rattle.napi_calls.specs.Seats.{number_of}
+use Rattle.napi_calls.specs.Knows.{Controls, Has}
+use Rattle.napi_calls.specs.Closed.{seats_of, IsHistoryOf, IsClosed}
+use Rattle.napi_calls.proofs.Serving.{served}
+use Rattle.napi_calls.proofs.Standing.{is_control}
+
+pub seats_length : (cs : List Caller) → length (seats_of cs) ≡ length cs
+seats_length [] = refl
+seats_length (x ∷ xs) = ap suc (seats_length xs)
+
+-- the k-th caller's seat is the k-th
+pub seat_at : (cs : List Caller) (k : ℕ) (c : Caller) → slice_get cs k ≡ Some c → slice_get (seats_of cs) k ≡ Some c.pass
+seat_at [] k c e = absurd (cc)
+seat_at (x ∷ xs) zero c e = ap (λ (o : Option Caller). Some (unwrap_or o x).pass) e
+seat_at (x ∷ xs) (suc k) c e = seat_at xs k c e
+
+pub seats_more : (cs : List Caller) (c : Caller) → seats_of (cs ++ c ∷ []) ≡ seats_of cs ++ c.pass ∷ []
+seats_more [] c = refl
+seats_more (x ∷ xs) c = ap (λ (l : List Pass). x.pass ∷ l) (seats_more xs c)
+
+-- the seats of the callers made so far, one more, and those that are left
+pub next_seat : (cs : List Caller) (all rest : List Pass) (p : Pass) (n : ℕ) → all ≡ seats_of cs ++ p ∷ rest → n ≡ length cs → (n < length all) × (slice_get all n ≡ Some p)
+next_seat cs all rest p n e is =
+    let same = seats_length cs in
+    let whole : length all ≡ length (seats_of cs) + length (p ∷ rest) = ap length e ∙ length-append (seats_of cs) (p ∷ rest) in
+    let one : length (p ∷ rest) ≡ length rest + 1 = omega arith in
+    (omega (arith, whole, one, same, is), ap (slice_get all) (is ∙ sym same) ∙ ap (λ l. slice_get l (length (seats_of cs))) e ∙ get_mid (seats_of cs) rest p)
+
+pub all_count : (cs : List Caller) (p : Pass) → length (seats_of cs ++ p ∷ []) ≡ length cs + 1
+all_count cs p = length-append (seats_of cs) (p ∷ []) ∙ ap (λ (n : ℕ). n + 1) (seats_length cs)
+
+module _ (n : Napi) (cs : List Caller) (p : Pass) (left : Option RxCtx) (k : Controls place.Control false p) (e : IsEnded n.table (seats_of cs ++ p ∷ []) left) where
+  at : slice_get (seats_of cs ++ p ∷ []) (length (seats_of cs)) ≡ Some p
+  at = get_mid (seats_of cs) [] p
+
+  ends : (state_after (opening (controller_of_table n.table)) e.history).place ≡ place.Control (controller_of_table n.table)
+  ends =
+      let i = length (seats_of cs) in
+      let held = is_control k.stands in
+      e.places i p at (ap (is_owner (number_of p)) held ∙ eq-eqb (number_of p) (number_of p) refl) ∙ held ∙ ap place.Control (k.stands.number ∙ e.controllers i p at)
+
+  one_history : IsHistoryOf (controller_of_table n.table) (seats_of cs ++ p ∷ []) e.history
+  one_history = record {
+    legal = e.legal;
+    begins = e.begins;
+    exact = e.exact;
+    all = e.each;
+    only = e.others;
+    longest = e.longest;
+    ends = ends;
+    served = λ front ev rest is accepted.
+        served (controller_of_table n.table) front ev rest
+        (subst (LegalHistory (controller_of_table n.table) (opening (controller_of_table n.table))) is e.legal)
+        (subst (λ (h : List Event). IsControl (state_after (opening (controller_of_table n.table)) h).place) is (subst IsControl (sym ends) tt)) accepted;
+  }
+
+  pub closed : (ctx : RxCtx) → Has p (Some ctx) → IsClosed n cs p ctx
+  closed ctx has = record {
+    all = let count = e.count in let seats = all_count cs p in let made = n.count in omega (arith, count, seats, made);
+    history = e.history;
+    is = subst (λ (m : ℕ). IsHistoryOf m (seats_of cs ++ p ∷ []) e.history) n.count one_history;
+    ring = ap (λ (o : Option RingName). unwrap_or o (ring_name ctx)) (sym has.ring ∙ e.rings (length (seats_of cs)) p at);
+  }

@@ -1,0 +1,70 @@
+-- New seats.
+use Rattle.std.proofs.Common.{◌≡◌, ℕ, zero, suc, ◌<◌, List, [], ◌∷◌, ◌++◌, slice_get, length, Some, Bool, cond, false, ne_eqb, refl, sym, ap, ◌∙◌, subst, arith}
+use Rattle.rx_ring.specs.declared.ends.RxCtx.{RxCtx}
+use Rattle.rx_ring.specs.Ends.{ring_name}
+use Rattle.napi_model.specs.declared.state.Place.{Place}
+use Rattle.napi_model.specs.declared.state.Place.TheVariants as place
+use Rattle.napi_model.specs.Step.{opening}
+use Rattle.napi_model.specs.History.{LegalHistory, own, state_after}
+use Rattle.napi_word.specs.declared.table.Pass.{Pass}
+use Rattle.napi_word.specs.declared.table.StateTable.{StateTable}
+use Rattle.napi_word.specs.View as view
+use Rattle.napi_word.specs.View.{View}
+use Rattle.napi_word.specs.Rule.{strand}
+use Rattle.napi_word.specs.Passes.{view_of, IsNew, IsPassOf, ring_of_table}
+use Rattle.napi_word.proofs.Closing.{get_mid}
+use Rattle.napi_calls.specs.declared.types.Napi.{Napi}
+use Rattle.napi_calls.specs.Knows.{own_place, Free, Stands, Controls}
+use Rattle.napi_calls.specs.Instance.{IsNewSeat}
+use Rattle.napi_calls.proofs.Standing.{own_self}
+
+abbrev seat : ℕ → RxCtx → ℕ → View
+seat last of c = strand last of c ∷ []
+
+opens : (last : ℕ) (of : RxCtx) (c : ℕ) → view.place_in (seat last of c) ≡ place.Control last
+unfolding state_after
+opens last of c = refl
+
+unflagged : (last : ℕ) (of : RxCtx) (c : ℕ) → view.disable_in (seat last of c) ≡ false
+unfolding state_after
+unflagged last of c = refl
+
+blank : (role : ℕ → Place) (last : ℕ) (of : RxCtx) (c : ℕ) (p : Pass) → view_of p ≡ seat last of c → own_place c (place.Control last) ≡ role c → Stands role c p
+unfolding LegalHistory own
+blank role last of c p e is = record {
+  number = ap view.number_of e;
+  legal = subst (λ (v : View). ∥ LegalHistory (view.controller_of v) (opening (view.controller_of v)) (view.shown v) ∥₁) (sym e) ∣ tt ∣₁;
+  exact = subst (λ (v : View). own c (view.shown v) ≡ view.mine v) (sym e) refl;
+  place = ap (λ (v : View). own_place c (view.place_in v)) e ∙ ap (own_place c) (opens last of c) ∙ is;
+}
+
+pub new_stands : {t : StateTable} {last : ℕ} {of : RxCtx} {c : ℕ} (p : Pass) → IsNew t last of c p → c < last → Stands Free c p
+new_stands {t} {last} {of} {c} p new low =
+    blank Free last of c p new.view (ap (λ (b : Bool). cond b (place.Control last) place.Nobody) (ne_eqb last c (λ e. omega (arith, low, e))))
+
+pub new_controls : {t : StateTable} {last : ℕ} {of : RxCtx} (p : Pass) → IsNew t last of last p → Controls place.Control false p
+new_controls {t} {last} {of} p new =
+    let controller : view.controller_of (view_of p) ≡ last = ap view.controller_of new.view in record {
+      stands = subst (λ (n : ℕ). Stands place.Control n p) (sym controller) (blank place.Control last of last p new.view (own_self last));
+      flag = ap view.disable_in new.view ∙ unflagged last of last;
+    }
+
+-- a seat that shows what it showed when it was made
+pub new_seat : (n : Napi) {last : ℕ} {of : RxCtx} {c : ℕ} (p : Pass) → IsPassOf n.table p → view_of p ≡ strand last of c ∷ [] → last ≡ n.callers → ring_of_table n.table ≡ ring_name of → IsNewSeat n c p
+new_seat n {last} {of} {c} p table e count ring = record {
+  instance = table;
+  number_is = ap view.number_of e;
+  controller = ap view.controller_of e ∙ count;
+  ring = ap view.ring_of e ∙ ap Some (sym ring);
+  nothing_shown = ap view.shown e;
+  nothing_done = ap view.mine e;
+}
+
+-- of a list that is split before an element, the element's place
+pub here : {A : Type 0} (xs ys zs : List A) (y : A) → zs ≡ xs ++ y ∷ ys → slice_get zs (length xs) ≡ Some y
+here xs ys zs y e = ap (λ l. slice_get l (length xs)) e ∙ get_mid xs ys y
+
+pub front_of : {A : Type 0} (xs ys : List A) (k : ℕ) (y : A) → slice_get xs k ≡ Some y → slice_get (xs ++ ys) k ≡ Some y
+front_of [] ys k y e = absurd (cc)
+front_of (x ∷ xs) ys zero y e = e
+front_of (x ∷ xs) ys (suc k) y e = front_of xs ys k y e

@@ -1,0 +1,7 @@
+pub mod Ending
+pub mod Fresh
+pub mod Making
+pub mod Serving
+pub mod Standing
+pub mod Steps
+pub mod Whole

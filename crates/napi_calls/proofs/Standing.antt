@@ -1,0 +1,170 @@
+-- What a value knows after a step.
+use Rattle.std.proofs.Common.{◌≡◌, ℕ, Bool, true, false, cond, Option, Some, unwrap_or, true≢false, eq-eqb, refl, sym, ap, ◌∙◌, subst}
+use Rattle.rx_ring.specs.declared.ends.RxIn.{RxIn}
+use Rattle.rx_ring.specs.declared.ends.RxCtx.{RxCtx}
+use Rattle.rx_ring.specs.Ends.{RingName, ring_name, IsOneRing}
+use Rattle.napi_model.specs.declared.state.Kind.{Kind}
+use Rattle.napi_model.specs.declared.state.Kind.TheVariants as kind
+use Rattle.napi_model.specs.declared.state.Seen.{Seen}
+use Rattle.napi_model.specs.declared.state.State.{State}
+use Rattle.napi_model.specs.declared.state.Place.{Place}
+use Rattle.napi_model.specs.declared.state.Place.TheVariants.{Nobody, Granted, Polling, Control}
+use Rattle.napi_model.specs.declared.event.Operation.{Operation}
+use Rattle.napi_model.specs.declared.event.Operation.TheVariants.{Look, Hand, MarkDisable, TakeDisable, Unmark, Enable}
+use Rattle.napi_model.specs.Step.{opening, after_by}
+use Rattle.napi_model.specs.History.{LegalHistory, own}
+use Rattle.napi_model.specs.Laws.{is_owner, IsOwnedBy}
+use Rattle.napi_word.specs.declared.table.Pass.{Pass}
+use Rattle.napi_word.specs.declared.view.Holds.TheVariants.{Out}
+use Rattle.napi_word.specs.View as view
+use Rattle.napi_word.specs.View.{View}
+use Rattle.napi_word.specs.Events.{Steps}
+use Rattle.napi_word.specs.Passes.{view_of}
+use Rattle.napi_calls.specs.Seats.{number_of, controller_of, shown, state_of, ring_of, ShowsLegal, IsInputOf}
+use Rattle.napi_calls.specs.Knows.{own_place, Free, Stands, Controls, Has}
+use Rattle.napi_calls.proofs.Steps.{found, state_stepped, shows_legal}
+use Rattle.napi_calls.proofs.Whole.{whole}
+
+-- ---- places as a number has them
+
+is_kept : (c : ℕ) (p q : Place) (b : Bool) → is_owner c p ≡ b → is_owner c q ≡ is_owner c p → (is_owner c p ≡ true → q ≡ p) → own_place c q ≡ own_place c p
+is_kept c p q true is same stays = ap (own_place c) (stays is)
+is_kept c p q false is same stays = ap (λ (b : Bool). cond b q Nobody) (same ∙ is) ∙ sym (ap (λ (b : Bool). cond b p Nobody) is)
+
+owned : (c : ℕ) (p r : Place) (b : Bool) → is_owner c p ≡ b → own_place c p ≡ r → is_owner c r ≡ true → p ≡ r
+owned c p r true is e own = sym (ap (λ (b : Bool). cond b p Nobody) is) ∙ e
+owned c p r false is e own = absurd (true≢false (sym own ∙ ap (is_owner c) (sym e ∙ ap (λ (b : Bool). cond b p Nobody) is)))
+
+free_by : (c : ℕ) (p : Place) (b : Bool) → is_owner c p ≡ b → own_place c p ≡ Nobody → is_owner c p ≡ false
+free_by c p true is e = ap (is_owner c) (sym (ap (λ (b : Bool). cond b p Nobody) is) ∙ e)
+free_by c p false is e = is
+
+-- an owner has its place
+pub own_self : (c : ℕ) → own_place c (Control c) ≡ Control c
+own_self c = ap (λ (b : Bool). cond b (Control c) Nobody) (eq-eqb c c refl)
+
+pub self_granted : (c : ℕ) → own_place c (Granted c) ≡ Granted c
+self_granted c = ap (λ (b : Bool). cond b (Granted c) Nobody) (eq-eqb c c refl)
+
+pub self_polling : (c : ℕ) → own_place c (Polling c) ≡ Polling c
+self_polling c = ap (λ (b : Bool). cond b (Polling c) Nobody) (eq-eqb c c refl)
+
+pub hand_free : (k : Kind) (c : ℕ) (s : State) → own_place c (after_by c (Hand k) s).place ≡ Nobody
+hand_free kind.List c s = refl
+hand_free kind.Thread c s = refl
+
+-- ---- what the types say
+
+pub shows_of : {r : ℕ → Place} {c : ℕ} {p : Pass} → Stands r c p → ShowsLegal p
+shows_of {r} {c} {p} st = record {
+  legal = whole (controller_of p) (opening (controller_of p)) (shown p) st.legal;
+  exact = ap (λ (n : ℕ). own n (shown p)) st.number ∙ st.exact;
+}
+
+pub is_free : {c : ℕ} {p : Pass} → Stands Free c p → is_owner (number_of p) (state_of p).place ≡ false
+is_free {c} {p} st = ap (λ (n : ℕ). is_owner n (state_of p).place) st.number ∙ free_by c (state_of p).place (is_owner c (state_of p).place) refl st.place
+
+pub owns_nothing : {c : ℕ} {p : Pass} → Stands Free c p → IsOwnedBy (number_of p) (state_of p).place → ⊥
+owns_nothing {c} {p} st owns = true≢false (sym owns ∙ is_free st)
+
+pub is_granted : {c : ℕ} {p : Pass} → Stands Granted c p → (state_of p).place ≡ Granted (number_of p)
+is_granted {c} {p} st = owned c (state_of p).place (Granted c) (is_owner c (state_of p).place) refl st.place (eq-eqb c c refl) ∙ ap Granted (sym st.number)
+
+pub is_polling : {c : ℕ} {p : Pass} → Stands Polling c p → (state_of p).place ≡ Polling (number_of p)
+is_polling {c} {p} st = owned c (state_of p).place (Polling c) (is_owner c (state_of p).place) refl st.place (eq-eqb c c refl) ∙ ap Polling (sym st.number)
+
+pub is_control : {c : ℕ} {p : Pass} → Stands Control c p → (state_of p).place ≡ Control (number_of p)
+is_control {c} {p} st = owned c (state_of p).place (Control c) (is_owner c (state_of p).place) refl st.place (eq-eqb c c refl) ∙ ap Control (sym st.number)
+
+-- ---- steps
+
+-- the place behind the event has to be said; the rest is the step's own
+standing : (r : ℕ → Place) (c : ℕ) (p : Pass) (o : Operation) (q : Pass) → (g : Steps (view_of p) o (view_of q)) → number_of p ≡ c → own_place c (after_by c o (found p o q g)).place ≡ r c → Stands r c q
+standing r c p o q g num is = record {
+  number = g.number ∙ num;
+  legal = ∣ (shows_legal p o q g).legal ∣₁;
+  exact = ap (λ (n : ℕ). own n (shown q)) (sym num) ∙ g.exact;
+  place = ap (λ (s : State). own_place c s.place) (state_stepped p o q g) ∙ ap (λ (n : ℕ). own_place c (after_by n o (found p o q g)).place) num ∙ is;
+}
+
+-- an event that makes the role
+pub made : {s : ℕ → Place} {c : ℕ} {p : Pass} {o : Operation} (r : ℕ → Place) (q : Pass) → Stands s c p → Steps (view_of p) o (view_of q)
+    → ((n : State) → own_place c (after_by c o n).place ≡ r c) → Stands r c q
+made {s} {c} {p} {o} r q st g is = standing r c p o q g st.number (is (found p o q g))
+
+-- an event that leaves the place leaves the role, whatever others did before it
+pub kept : {r : ℕ → Place} {c : ℕ} {p : Pass} {o : Operation} (q : Pass) → Stands r c p → Steps (view_of p) o (view_of q)
+    → ((n : State) → (after_by c o n).place ≡ n.place) → Stands r c q
+kept {r} {c} {p} {o} q st g leaves =
+    let e = st.number in
+    let now = (found p o q g).place in
+    let had = (state_of p).place in
+    let owner : is_owner c now ≡ is_owner c had = subst (λ (n : ℕ). is_owner n now ≡ is_owner n had) e g.owner in
+    let place : is_owner c had ≡ true → now ≡ had = λ h. g.place (ap (λ (n : ℕ). is_owner n had) e ∙ h) in
+    standing r c p o q g e (ap (own_place c) (leaves (found p o q g)) ∙ is_kept c had now (is_owner c had) refl owner place ∙ st.place)
+
+pub looked : {r : ℕ → Place} {c : ℕ} {p : Pass} {x : Seen} (q : Pass) → Stands r c p → Steps (view_of p) (Look x) (view_of q) → Stands r c q
+looked q st g = kept q st g (λ s. refl)
+
+-- the slot changes nothing that is shown
+pub moved : {r : ℕ → Place} {c : ℕ} {p : Pass} (q : Pass) → Stands r c p → view_of q ≡ view_of p → Stands r c q
+moved {r} {c} {p} q st e = record {
+  number = ap view.number_of e ∙ st.number;
+  legal = subst (λ (v : View). ∥ LegalHistory (view.controller_of v) (opening (view.controller_of v)) (view.shown v) ∥₁) (sym e) st.legal;
+  exact = subst (λ (v : View). own c (view.shown v) ≡ view.mine v) (sym e) st.exact;
+  place = ap (λ (v : View). own_place c (view.state_in v).place) e ∙ st.place;
+}
+
+pub outside : (p q : Pass) (x : RxCtx) → q.holds ≡ Out → view_of q ≡ view_of p → ring_of p ≡ Some (ring_name x) → Has q (Some x)
+outside p q x out same ring = record { holds = out; ring = ap view.ring_of same ∙ ring }
+
+-- ---- the controller
+
+pub controls_moved : {r : ℕ → Place} {b : Bool} {p : Pass} (q : Pass) → Controls r b p → view_of q ≡ view_of p → Controls r b q
+controls_moved {r} {b} {p} q k e = record {
+  stands = subst (λ (n : ℕ). Stands r n q) (ap view.controller_of (sym e)) (moved q k.stands e);
+  flag = ap (λ (v : View). (view.state_in v).flags.disable) e ∙ k.flag;
+}
+
+-- the flag behind an event that makes it so, and behind one that leaves it
+flag_made : (b : Bool) (p : Pass) (o : Operation) (q : Pass) → Steps (view_of p) o (view_of q) → ((c : ℕ) (s : State) → (after_by c o s).flags.disable ≡ b) → (state_of q).flags.disable ≡ b
+flag_made b p o q g is = ap (λ (s : State). s.flags.disable) (state_stepped p o q g) ∙ is (number_of p) (found p o q g)
+
+flag_kept : (r : ℕ → Place) (b : Bool) (p : Pass) (o : Operation) (q : Pass) → Steps (view_of p) o (view_of q) → Controls r b p
+    → ((c : ℕ) (s : State) → (after_by c o s).flags.disable ≡ s.flags.disable) → (state_of q).flags.disable ≡ b
+flag_kept r b p o q g k leaves = ap (λ (s : State). s.flags.disable) (state_stepped p o q g) ∙ leaves (number_of p) (found p o q g) ∙ g.disable k.stands.number ∙ k.flag
+
+controlling : (r : ℕ → Place) (b : Bool) (p : Pass) (o : Operation) (q : Pass) → Steps (view_of p) o (view_of q) → Stands r (controller_of p) q → (state_of q).flags.disable ≡ b → Controls r b q
+controlling r b p o q g st flag = record { stands = subst (λ (n : ℕ). Stands r n q) (sym g.controller) st; flag = flag }
+
+pub control_looked : {r : ℕ → Place} {b : Bool} {p : Pass} {x : Seen} (q : Pass) → Controls r b p → Steps (view_of p) (Look x) (view_of q) → Controls r b q
+control_looked {r} {b} {p} {x} q k g =
+    controlling r b p (Look x) q g (looked q k.stands g) (flag_kept r b p (Look x) q g k (λ c s. refl))
+
+pub control_busy : {r : ℕ → Place} {b : Bool} {p : Pass} (q : Pass) → Controls r b p → Steps (view_of p) (TakeDisable false) (view_of q) → Controls r b q
+control_busy {r} {b} {p} q k g =
+    controlling r b p (TakeDisable false) q g (kept q k.stands g (λ s. refl)) (flag_kept r b p (TakeDisable false) q g k (λ c s. refl))
+
+pub control_marked : {p : Pass} (q : Pass) → Controls Free false p → Steps (view_of p) MarkDisable (view_of q) → Controls Free true q
+control_marked {p} q k g =
+    controlling Free true p MarkDisable q g (kept q k.stands g (λ s. refl)) (flag_made true p MarkDisable q g (λ c s. refl))
+
+pub control_taken : {p : Pass} (q : Pass) → Controls Free true p → Steps (view_of p) (TakeDisable true) (view_of q) → Controls Control true q
+control_taken {p} q k g =
+    controlling Control true p (TakeDisable true) q g (made Control q k.stands g (λ s. own_self (controller_of p))) (flag_kept Free true p (TakeDisable true) q g k (λ c s. refl))
+
+pub control_unmarked : {p : Pass} (q : Pass) → Controls Control true p → Steps (view_of p) Unmark (view_of q) → Controls Control false q
+control_unmarked {p} q k g =
+    controlling Control false p Unmark q g (kept q k.stands g (λ s. refl)) (flag_made false p Unmark q g (λ c s. refl))
+
+pub control_enabled : {p : Pass} (b : Bool) (q : Pass) → Controls Control false p → Steps (view_of p) (Enable b) (view_of q) → Controls Free false q
+control_enabled {p} b q k g =
+    controlling Free false p (Enable b) q g (made Free q k.stands g (λ s. refl)) (flag_kept Control false p (Enable b) q g k (λ c s. refl))
+
+-- ---- the ring
+
+-- the two ends of the ring are those of the instance
+pub one_ring : {p : Pass} {ctx : RxCtx} (input : RxIn) → Has p (Some ctx) → IsInputOf input p → IsOneRing input ctx
+one_ring {p} {ctx} input has fed =
+    let same : ring_name fed.0 ≡ ring_name ctx = ap (λ (o : Option RingName). unwrap_or o (ring_name ctx)) (sym fed.1 ∙ has.ring) in
+    (sym (ap (λ (n : RingName). n.0) same) ∙ fed.2.0, sym (ap (λ (n : RingName). n.1) same) ∙ fed.2.1, sym (ap (λ (n : RingName). n.2) same) ∙ fed.2.2, sym (ap (λ (n : RingName). n.3) same) ∙ fed.2.3)

@@ -1,0 +1,44 @@
+-- What one step tells of the seat that made it, in the words of seats.
+use Rattle.std.proofs.Common.{◌≡◌, ℕ, List, [], ◌∷◌, ◌++◌, refl, sym, ap, ◌∙◌, subst, append_assoc}
+use mathlib.Core.Option as maybe
+use mathlib.Core.List.{IsPrefix}
+use lib.ListN.{get_elem?}
+use Rattle.napi_model.specs.declared.event.Event.{Event}
+use Rattle.napi_model.specs.declared.event.Operation.{Operation}
+use Rattle.napi_model.specs.declared.state.State.{State}
+use Rattle.napi_model.specs.Step.{event, opening, after_by}
+use Rattle.napi_model.specs.History.{LegalHistory, own}
+use Rattle.napi_word.specs.declared.table.Pass.{Pass}
+use Rattle.napi_word.specs.declared.view.Strand.{Strand}
+use Rattle.napi_word.specs.View as view
+use Rattle.napi_word.specs.View.{View}
+use Rattle.napi_word.specs.Events.{Steps}
+use Rattle.napi_word.specs.Passes.{view_of}
+use Rattle.napi_word.proofs.Knowing.{found_state, state_then}
+use Rattle.napi_calls.specs.Seats.{number_of, shown, state_of, ShowsLegal}
+
+pub prefix_trans : (xs ys zs : List Event) → IsPrefix xs ys → IsPrefix ys zs → IsPrefix xs zs
+prefix_trans xs ys zs p q = (p.0 ++ q.0, sym (append_assoc xs p.0 q.0) ∙ ap (λ (l : List Event). l ++ q.0) p.1 ∙ q.1)
+
+own_begins : (v : View) (h : List Event) → ((k : ℕ) (x : Strand) → get_elem? v k ≡ maybe.some x → IsPrefix x.seen h) → IsPrefix (view.shown v) h
+own_begins [] h all = (h, refl)
+own_begins (x ∷ xs) h all = all 0 x refl
+
+module _ (p : Pass) (o : Operation) (q : Pass) (g : Steps (view_of p) o (view_of q)) where
+  -- the state that the event found: others may have changed it since p looked
+  abbrev pub found : State
+  found = found_state (view_of p) o (view_of q) g
+
+  pub state_stepped : state_of q ≡ after_by (number_of p) o found
+  state_stepped = state_then (view_of p) o (view_of q) g
+
+  pub shows_more : IsPrefix (shown p) (shown q)
+  shows_more =
+      let more : IsPrefix g.before (g.before ++ event (number_of p) o ∷ []) = (event (number_of p) o ∷ [], refl) in
+      subst (IsPrefix (shown p)) (sym g.ends) (prefix_trans (shown p) g.before (g.before ++ event (number_of p) o ∷ []) (own_begins (view_of p) g.before g.begins) more)
+
+  pub shows_legal : ShowsLegal q
+  shows_legal = record {
+    legal = subst (λ (n : ℕ). LegalHistory n (opening n) (shown q)) (sym g.controller) g.legal;
+    exact = ap (λ (n : ℕ). own n (shown q)) g.number ∙ g.exact;
+  }

@@ -1,0 +1,14 @@
+use Rattle.napi_calls.proofs.Standing.{shows_of, owns_nothing}
+use Rattle.napi_calls.proofs.control.Control+Marked.knows.Goals as goal
+
+pub returns-clause-shows : goal.returns-clause-shows
+returns-clause-shows c = shows_of c.args.self.now.controls.stands
+
+pub returns-clause-number : goal.returns-clause-number
+returns-clause-number c = c.args.self.now.controls.stands.number
+
+pub returns-clause-place : goal.returns-clause-place
+returns-clause-place c = owns_nothing c.args.self.now.controls.stands
+
+pub returns-clause-flag : goal.returns-clause-flag
+returns-clause-flag c = c.args.self.now.controls.flag

@@ -1,0 +1,51 @@
+use Rattle.std.proofs.Common.{refl, ◌∙◌, ap}
+use Rattle.napi_word.specs.View.{ring_of}
+use Rattle.napi_calls.proofs.Standing.{control_looked, control_busy, control_taken, control_unmarked, controls_moved, is_control}
+use Rattle.napi_calls.proofs.Making.{nothing, step, still, lost}
+use Rattle.napi_calls.proofs.control.Control+Marked.try_take_between.Goals as goal
+
+pub invariant_of-result : goal.invariant_of-result
+invariant_of-result g c = record {
+  controls = control_busy c.take_load.new.pass c.args.self.controls c.in_default.ensures.step.event;
+  has = record { holds = c.take_load.ensures.step.holds ∙ c.args.self.has.holds; ring = refl };
+}
+
+pub returns-in_default : goal.returns-in_default
+returns-in_default g c = step c.take_load.new.pass (nothing c.args.self.controls.stands) c.take_load.ensures.step.table c.in_default.ensures.step.event
+
+pub unmark-requires-clause-owner : goal.unmark-requires-clause-owner
+unmark-requires-clause-owner g c =
+    let k = controls_moved c.slot_out-ctx.new.pass (control_taken c.take_swap.new.pass (control_looked c.take_load.new.pass c.args.self.controls c.in-Some.ensures.step.event) c.in-Ok.ensures.step.event) c.slot_out-ctx.ensures.keeps.view in
+    is_control k.stands
+
+pub unmark-requires-clause-marked : goal.unmark-requires-clause-marked
+unmark-requires-clause-marked g c =
+    let k = controls_moved c.slot_out-ctx.new.pass (control_taken c.take_swap.new.pass (control_looked c.take_load.new.pass c.args.self.controls c.in-Some.ensures.step.event) c.in-Ok.ensures.step.event) c.slot_out-ctx.ensures.keeps.view in
+    k.flag
+
+pub invariant_of-result-in-Ok : goal.invariant_of-result-in-Ok
+invariant_of-result-in-Ok g c =
+    let k = controls_moved c.slot_out-ctx.new.pass (control_taken c.take_swap.new.pass (control_looked c.take_load.new.pass c.args.self.controls c.in-Some.ensures.step.event) c.in-Ok.ensures.step.event) c.slot_out-ctx.ensures.keeps.view in
+    let e = c.slot_out-ctx.ensures in
+    let u = c.unmark.ensures in record {
+      controls = control_unmarked c.unmark.new.pass k u.step.event;
+      has = record { holds = u.step.holds ∙ e.holds; ring = u.step.event.ring ∙ ap ring_of e.keeps.view ∙ e.ring };
+    }
+
+pub invariant_of-result-in-Err : goal.invariant_of-result-in-Err
+invariant_of-result-in-Err g c = record {
+  controls = control_looked c.take_swap.new.pass (control_looked c.take_load.new.pass c.args.self.controls c.in-Some.ensures.step.event) c.in-Err.ensures.step.event;
+  has = record { holds = c.in-Err.ensures.step.holds ∙ c.take_load.ensures.step.holds ∙ c.args.self.has.holds; ring = refl };
+}
+
+pub returns-in-Ok : goal.returns-in-Ok
+returns-in-Ok g c =
+    let e = c.slot_out-ctx.ensures in
+    let one = step c.take_load.new.pass (nothing c.args.self.controls.stands) c.take_load.ensures.step.table c.in-Some.ensures.step.event in
+    let two = step c.take_swap.new.pass one c.take_swap.ensures.step.table c.in-Ok.ensures.step.event in
+    (_, step c.unmark.new.pass (still c.slot_out-ctx.new.pass two e.keeps.table e.keeps.view) c.unmark.ensures.step.table c.unmark.ensures.step.event)
+
+pub returns-in-Err : goal.returns-in-Err
+returns-in-Err g c =
+    let one = step c.take_load.new.pass (nothing c.args.self.controls.stands) c.take_load.ensures.step.table c.in-Some.ensures.step.event in
+    lost _ _ c.in-Err.ensures.other (step c.take_swap.new.pass one c.take_swap.ensures.step.table c.in-Err.ensures.step.event)

@@ -1,0 +1,23 @@
+use Rattle.std.proofs.Common.{refl}
+use Rattle.napi_model.specs.declared.state.Place.TheVariants as place
+use Rattle.napi_calls.proofs.Standing.{kept, made, self_polling, moved, outside}
+use Rattle.napi_calls.proofs.Making.{nothing, step, still}
+use Rattle.napi_calls.proofs.types.Caller.take.Goals as goal
+
+pub invariant_of-result : goal.invariant_of-result
+invariant_of-result c = record { stands = kept c.take.new.pass c.args.self.stands c.if-not-take.ensures.step.event (λ s. refl) }
+
+pub returns-then-not-take : goal.returns-then-not-take
+returns-then-not-take c = step c.take.new.pass (nothing c.args.self.stands) c.take.ensures.step.table c.if-not-take.ensures.step.event
+
+pub invariant_of-result-2 : goal.invariant_of-result-2
+invariant_of-result-2 c =
+    let e = c.slot_out-ctx.ensures in record {
+      stands = moved c.slot_out-ctx.new.pass (made place.Polling c.take.new.pass c.args.self.stands c.if-not-take.ensures.step.event (λ s. self_polling _)) e.keeps.view;
+      has = outside c.take.new.pass c.slot_out-ctx.new.pass _ e.holds e.keeps.view e.ring;
+    }
+
+pub returns : goal.returns
+returns c =
+    let e = c.slot_out-ctx.ensures in
+    still c.slot_out-ctx.new.pass (step c.take.new.pass (nothing c.args.self.stands) c.take.ensures.step.table c.if-not-take.ensures.step.event) e.keeps.table e.keeps.view

@@ -1,0 +1,50 @@
+use Rattle.std.proofs.Common.{◌≡◌, Bool, true, false, refl}
+use Rattle.napi_model.specs.declared.event.Prep.TheVariants as prep
+use Rattle.napi_word.specs.Told.{prep_of}
+use Rattle.napi_model.specs.declared.state.Place.TheVariants as place
+use Rattle.napi_calls.proofs.Standing.{kept, looked, made, self_granted}
+use Rattle.napi_calls.proofs.Making.{nothing, step, lost}
+use Rattle.napi_calls.proofs.types.Caller.try_schedule_between.Goals as goal
+
+pub invariant_of-result : goal.invariant_of-result
+invariant_of-result g c = record { stands = kept c.schedule_load.new.pass c.args.self.stands c.in_default.ensures.step.event (λ s. refl) }
+
+pub returns-in_default : goal.returns-in_default
+returns-in_default g c = step c.schedule_load.new.pass (nothing c.args.self.stands) c.schedule_load.ensures.step.table c.in_default.ensures.step.event
+
+pub invariant_of-result-in-Ok-Granted : goal.invariant_of-result-in-Ok-Granted
+invariant_of-result-in-Ok-Granted g c =
+    let st = looked c.schedule_load.new.pass c.args.self.stands c.in-Some.ensures.step.event in
+    record { stands = made place.Granted c.schedule_swap.new.pass st (rw c.in-Ok-Granted.field-0-is at c.in-Ok-Granted.ensures).step.event (λ s. self_granted _) }
+
+pub invariant_of-result-in-Ok-Missed : goal.invariant_of-result-in-Ok-Missed
+invariant_of-result-in-Ok-Missed g c =
+    let st = looked c.schedule_load.new.pass c.args.self.stands c.in-Some.ensures.step.event in
+    record { stands = kept c.schedule_swap.new.pass st (rw c.in-Ok-Missed.field-0-is at c.in-Ok-Missed.ensures).step.event (λ s. refl) }
+
+never_disabled : (sched : Bool) → prep.Disabled ≡ prep_of sched → ⊥
+never_disabled true e = cc
+never_disabled false e = cc
+
+pub unreachable-requires : goal.unreachable-requires
+unreachable-requires g c = never_disabled _ (rw c.in-Ok-Disabled.field-0-is at c.in-Ok-Disabled.ensures).reply
+
+pub invariant_of-result-in-Err : goal.invariant_of-result-in-Err
+invariant_of-result-in-Err g c =
+    let st = looked c.schedule_load.new.pass c.args.self.stands c.in-Some.ensures.step.event in
+    record { stands = looked c.schedule_swap.new.pass st c.in-Err.ensures.step.event }
+
+pub returns-in-Ok-Granted : goal.returns-in-Ok-Granted
+returns-in-Ok-Granted g c =
+    let one = step c.schedule_load.new.pass (nothing c.args.self.stands) c.schedule_load.ensures.step.table c.in-Some.ensures.step.event in
+    (_, step c.schedule_swap.new.pass one c.schedule_swap.ensures.step.table (rw c.in-Ok-Granted.field-0-is at c.in-Ok-Granted.ensures).step.event)
+
+pub returns-in-Ok-Missed : goal.returns-in-Ok-Missed
+returns-in-Ok-Missed g c =
+    let one = step c.schedule_load.new.pass (nothing c.args.self.stands) c.schedule_load.ensures.step.table c.in-Some.ensures.step.event in
+    (_, step c.schedule_swap.new.pass one c.schedule_swap.ensures.step.table (rw c.in-Ok-Missed.field-0-is at c.in-Ok-Missed.ensures).step.event)
+
+pub returns-in-Err : goal.returns-in-Err
+returns-in-Err g c =
+    let one = step c.schedule_load.new.pass (nothing c.args.self.stands) c.schedule_load.ensures.step.table c.in-Some.ensures.step.event in
+    lost _ _ c.in-Err.ensures.other (step c.schedule_swap.new.pass one c.schedule_swap.ensures.step.table c.in-Err.ensures.step.event)

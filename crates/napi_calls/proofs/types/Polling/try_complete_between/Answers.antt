@@ -1,0 +1,48 @@
+use Rattle.std.proofs.Common.{refl}
+use Rattle.napi_model.specs.declared.state.Place.TheVariants as place
+use Rattle.napi_calls.specs.Knows.{Free}
+use Rattle.napi_calls.proofs.Standing.{looked, made, self_granted, moved, is_polling, outside}
+use Rattle.napi_calls.proofs.Making.{nothing, step, still, lost}
+use Rattle.napi_calls.proofs.types.Polling.try_complete_between.Goals as goal
+
+pub complete_swap-requires-clause-owner : goal.complete_swap-requires-clause-owner
+complete_swap-requires-clause-owner g c =
+    let st = moved c.slot_in.new.pass (looked c.look-seen.new.pass c.args.self.stands c.look-seen.ensures.step.event) c.slot_in.ensures.keeps.view in
+    is_polling st
+
+pub invariant_of-result : goal.invariant_of-result
+invariant_of-result g c =
+    let st = moved c.slot_in.new.pass (looked c.look-seen.new.pass c.args.self.stands c.look-seen.ensures.step.event) c.slot_in.ensures.keeps.view in
+    record { stands = made Free c.complete_swap.new.pass st (rw c.in-Ok-Released.field-0-is at c.in-Ok-Released.ensures).step.event (λ s. refl) }
+
+pub invariant_of-result-in-Ok-Again : goal.invariant_of-result-in-Ok-Again
+invariant_of-result-in-Ok-Again g c =
+    let st = moved c.slot_in.new.pass (looked c.look-seen.new.pass c.args.self.stands c.look-seen.ensures.step.event) c.slot_in.ensures.keeps.view in
+    record { stands = made place.Granted c.complete_swap.new.pass st (rw c.in-Ok-Again.field-0-is at c.in-Ok-Again.ensures).step.event (λ s. self_granted _) }
+
+pub invariant_of-result-in-Err : goal.invariant_of-result-in-Err
+invariant_of-result-in-Err g c =
+    let st = moved c.slot_in.new.pass (looked c.look-seen.new.pass c.args.self.stands c.look-seen.ensures.step.event) c.slot_in.ensures.keeps.view in
+    let e = c.slot_out-ctx.ensures in record {
+      stands = moved c.slot_out-ctx.new.pass (looked c.complete_swap.new.pass st c.in-Err.ensures.step.event) e.keeps.view;
+      has = outside c.complete_swap.new.pass c.slot_out-ctx.new.pass _ e.holds e.keeps.view e.ring;
+    }
+
+pub returns-in-Ok-Released : goal.returns-in-Ok-Released
+returns-in-Ok-Released g c =
+    let one = step c.look-seen.new.pass (nothing c.args.self.stands) c.look-seen.ensures.step.table c.look-seen.ensures.step.event in
+    let in_slot = still c.slot_in.new.pass one c.slot_in.ensures.keeps.table c.slot_in.ensures.keeps.view in
+    (_, step c.complete_swap.new.pass in_slot c.complete_swap.ensures.step.table (rw c.in-Ok-Released.field-0-is at c.in-Ok-Released.ensures).step.event)
+
+pub returns-in-Ok-Again : goal.returns-in-Ok-Again
+returns-in-Ok-Again g c =
+    let one = step c.look-seen.new.pass (nothing c.args.self.stands) c.look-seen.ensures.step.table c.look-seen.ensures.step.event in
+    let in_slot = still c.slot_in.new.pass one c.slot_in.ensures.keeps.table c.slot_in.ensures.keeps.view in
+    (_, step c.complete_swap.new.pass in_slot c.complete_swap.ensures.step.table (rw c.in-Ok-Again.field-0-is at c.in-Ok-Again.ensures).step.event)
+
+pub returns-in-Err : goal.returns-in-Err
+returns-in-Err g c =
+    let one = step c.look-seen.new.pass (nothing c.args.self.stands) c.look-seen.ensures.step.table c.look-seen.ensures.step.event in
+    let in_slot = still c.slot_in.new.pass one c.slot_in.ensures.keeps.table c.slot_in.ensures.keeps.view in
+    let e = c.slot_out-ctx.ensures in
+    lost _ _ c.in-Err.ensures.other (still c.slot_out-ctx.new.pass (step c.complete_swap.new.pass in_slot c.complete_swap.ensures.step.table c.in-Err.ensures.step.event) e.keeps.table e.keeps.view)

@@ -1,0 +1,69 @@
+-- The events of each answer.
+use Rattle.std.specs.Prelude.{Bool, true, false, List, [], ◌∷◌, ◌++◌, flat_map, Option, Result, Ok, Err}
+use Rattle.napi_model.specs.declared.state.Seen.{Seen}
+use Rattle.napi_model.specs.declared.state.Kind.{Kind}
+use Rattle.napi_model.specs.declared.event.Prep.TheVariants as prep
+use Rattle.napi_model.specs.declared.event.Done.TheVariants as done
+use Rattle.napi_model.specs.declared.event.Operation.TheVariants.{Look, Schedule, Take, Complete, MarkDisable, TakeDisable, Unmark, Enable}
+use Rattle.napi_word.specs.declared.table.Pass.{Pass}
+use Rattle.napi_calls.specs.declared.types.Caller.{Caller}
+use Rattle.napi_calls.specs.declared.types.Polling.{Polling}
+use Rattle.napi_calls.specs.declared.answers.TryPrep.{TryPrep}
+use Rattle.napi_calls.specs.declared.answers.TryPrep.TheVariants as try_prep
+use Rattle.napi_calls.specs.declared.answers.Sched.{Sched}
+use Rattle.napi_calls.specs.declared.answers.Sched.TheVariants as sched
+use Rattle.napi_calls.specs.declared.answers.TryDone.{TryDone}
+use Rattle.napi_calls.specs.declared.answers.TryDone.TheVariants as try_done
+use Rattle.napi_calls.specs.declared.answers.Completed.{Completed}
+use Rattle.napi_calls.specs.declared.answers.Completed.TheVariants as completed
+use Rattle.napi_calls.specs.declared.answers.TryTake.{TryTake}
+use Rattle.napi_calls.specs.declared.answers.TryTake.TheVariants as try_take
+use Rattle.napi_calls.specs.Made.{Made, Lost, WasLost, looks, waits}
+
+-- ---- one try
+
+-- `napi_schedule_prep`
+abbrev pub Prepares : Pass → TryPrep → Type 0
+Prepares p (try_prep.Granted g) = (x : Seen) × Made p (Look x ∷ Schedule prep.Granted ∷ []) g.pass
+Prepares p (try_prep.Missed c) = (x : Seen) × Made p (Look x ∷ Schedule prep.Missed ∷ []) c.pass
+Prepares p (try_prep.Disabled c) = Made p (Schedule prep.Disabled ∷ []) c.pass
+Prepares p (try_prep.Changed c) = WasLost p c.pass
+
+-- `net_rx_action` and `napi_thread_wait`, which find the instance or don't
+abbrev pub Takes : Kind → Pass → Result Polling Caller → Type 0
+Takes k p (Ok w) = Made p (Take k true ∷ []) w.pass
+Takes k p (Err c) = Made p (Take k false ∷ []) c.pass
+
+-- `napi_complete_done`
+abbrev pub TriesToComplete : Pass → TryDone → Type 0
+TriesToComplete p (try_done.Released c) = (x : Seen) × Made p (Look x ∷ Complete done.Released ∷ []) c.pass
+TriesToComplete p (try_done.Again g) = (x : Seen) × Made p (Look x ∷ Complete done.Again ∷ []) g.pass
+TriesToComplete p (try_done.Changed w) = WasLost p w.pass
+
+-- `napi_disable`, behind its mark
+abbrev pub TriesToTake : Pass → TryTake → Type 0
+TriesToTake p (try_take.Taken c) = (x : Seen) × Made p (Look x ∷ TakeDisable true ∷ Unmark ∷ []) c.pass
+TriesToTake p (try_take.Busy c) = Made p (TakeDisable false ∷ []) c.pass
+TriesToTake p (try_take.Changed c) = WasLost p c.pass
+
+-- `napi_enable`
+abbrev pub EnablesAt : Bool → Pass → Pass → Type 0
+EnablesAt threaded p q = (x : Seen) × Made p (Look x ∷ Enable threaded ∷ []) q
+
+-- ---- try after try: those that were lost, and the one that decided
+
+abbrev pub Schedules : Pass → Sched → Type 0
+Schedules p (sched.Granted g) = (ts : List Lost) × (x : Seen) × Made p (flat_map looks ts ++ Look x ∷ Schedule prep.Granted ∷ []) g.pass
+Schedules p (sched.Missed c) = (ts : List Lost) × (x : Seen) × Made p (flat_map looks ts ++ Look x ∷ Schedule prep.Missed ∷ []) c.pass
+Schedules p (sched.Disabled c) = (ts : List Lost) × Made p (flat_map looks ts ++ Schedule prep.Disabled ∷ []) c.pass
+
+abbrev pub Completes : Pass → Completed → Type 0
+Completes p (completed.Released c) = (ts : List Lost) × (x : Seen) × Made p (flat_map looks ts ++ Look x ∷ Complete done.Released ∷ []) c.pass
+Completes p (completed.Again g) = (ts : List Lost) × (x : Seen) × Made p (flat_map looks ts ++ Look x ∷ Complete done.Again ∷ []) g.pass
+
+-- the mark, and then the tries
+abbrev pub Disables : Pass → Pass → Type 0
+Disables p q = (ts : List (Option Lost)) × (x : Seen) × Made p ((MarkDisable ∷ flat_map waits ts) ++ Look x ∷ TakeDisable true ∷ Unmark ∷ []) q
+
+abbrev pub Enables : Bool → Pass → Pass → Type 0
+Enables threaded p q = (ts : List Lost) × (x : Seen) × Made p (flat_map looks ts ++ Look x ∷ Enable threaded ∷ []) q

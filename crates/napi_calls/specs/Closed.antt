@@ -1,0 +1,48 @@
+-- What an instance was that is closed: its one history.
+use Rattle.std.specs.Prelude.{◌≡◌, ℕ, ◌<◌, ◌≤◌, List, [], ◌∷◌, ◌++◌, length, slice_get, Some, false}
+use mathlib.Core.List.{IsPrefix}
+use Rattle.rx_ring.specs.declared.ends.RxCtx.{RxCtx}
+use Rattle.napi_model.specs.declared.state.Place.TheVariants.{Control}
+use Rattle.napi_model.specs.declared.event.Event.{Event}
+use Rattle.napi_model.specs.Step.{opening}
+use Rattle.napi_model.specs.History.{LegalHistory, state_after, own, IsAcceptedSchedule}
+use Rattle.napi_word.specs.declared.table.Pass.{Pass}
+use Rattle.rx_ring.specs.Ends.{ring_name}
+use Rattle.napi_calls.specs.declared.types.Napi.{Napi}
+use Rattle.napi_calls.specs.declared.types.Caller.{Caller}
+use Rattle.napi_calls.specs.Seats.{number_of, shown, own_list}
+use Rattle.napi_calls.specs.Instance.{callers_of, ring_of_instance}
+use Rattle.napi_calls.specs.Served.{IsServed}
+
+-- the callers' seats
+abbrev pub seats_of : List Caller → List Pass
+seats_of [] = []
+seats_of (c ∷ cs) = c.pass ∷ seats_of cs
+
+-- of all of these seats
+abbrev pub Each : List Pass → (Pass → Type 0) → Type 0
+Each seats P = (k : ℕ) (p : Pass) → slice_get seats k ≡ Some p → P p
+
+-- k is the controller's number, and these are all the seats of an instance, the controller's too
+pub record IsHistoryOf (k : ℕ) (seats : List Pass) (h : List Event) : Type 0 where
+  pub legal : LegalHistory k (opening k) h
+  -- whatever a seat has seen begins it
+  pub begins : Each seats (λ p. IsPrefix (shown p) h)
+  -- each own list is exact, each number has its seat, and nobody else has an event
+  pub exact : Each seats (λ p. own (number_of p) h ≡ own_list p)
+  pub all : (c : ℕ) → c ≤ k → (i : ℕ) × (p : Pass) × (slice_get seats i ≡ Some p) × (number_of p ≡ c)
+  pub only : (c : ℕ) → k < c → own c h ≡ []
+  -- the longest list shown is the whole of it
+  pub longest : Each seats (λ p. Each seats (λ q. length (shown q) ≤ length (shown p)) → shown p ≡ h)
+  -- it ends in the controller's hands
+  pub ends : (state_after (opening k) h).place ≡ Control k
+  -- every accepted schedule is followed by a Released, with a poll start between it and the next one
+  pub served : (front : List Event) (e : Event) (rest : List Event) → h ≡ front ++ e ∷ rest
+      → IsAcceptedSchedule (state_after (opening k) front) e → IsServed false rest
+
+-- all callers were there, there is one such history, and the context is that of the ring that was handed in
+pub record IsClosed (n : Napi) (callers : List Caller) (control : Pass) (ctx : RxCtx) : Type 0 where
+  pub all : length callers ≡ callers_of n
+  pub history : List Event
+  pub is : IsHistoryOf (callers_of n) (seats_of callers ++ control ∷ []) history
+  pub ring : ring_name ctx ≡ ring_of_instance n

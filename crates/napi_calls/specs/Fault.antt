@@ -1,0 +1,22 @@
+-- The numbers of the faults.
+use Rattle.std.specs.Prelude.{ℕ, Bool, true, false, ◌||◌, nat_lt}
+use Rattle.napi_calls.specs.declared.fault.NewFault.{NewFault}
+use Rattle.napi_calls.specs.declared.fault.NewFault.TheVariants.{OutOfMemory, BadCount}
+use Rattle.napi_calls.specs.declared.fault.CloseFault.{CloseFault}
+use Rattle.napi_calls.specs.declared.fault.CloseFault.TheVariants.{NotAll}
+
+abbrev pub new_fault_number : NewFault → ℕ
+new_fault_number OutOfMemory = 1
+new_fault_number BadCount = 2
+
+abbrev pub close_fault_number : CloseFault → ℕ
+close_fault_number NotAll = 1
+
+-- an instance has 2 to 8 callers
+abbrev pub is_bad_count : ℕ → Bool
+is_bad_count n = nat_lt n 2 || nat_lt 8 n
+
+-- the one fault with which so many callers can be refused
+abbrev pub fault_of : Bool → NewFault
+fault_of true = BadCount
+fault_of false = OutOfMemory

@@ -1,0 +1,28 @@
+-- What a contract sees of an instance, and its new seats.
+use Rattle.std.specs.Prelude.{◌≡◌, ℕ, Some, []}
+use Rattle.rx_ring.specs.Ends.{RingName}
+use Rattle.napi_word.specs.declared.table.Pass.{Pass}
+use Rattle.napi_word.specs.Passes.{IsPassOf, ring_of_table}
+use Rattle.napi_calls.specs.declared.types.Napi.{Napi}
+use Rattle.napi_calls.specs.Seats.{number_of, controller_of, shown, own_list, ring_of}
+
+-- how many callers were made with it; the controller has this number
+abbrev pub callers_of : Napi → ℕ
+callers_of n = n.callers
+
+-- the ring whose context was handed in
+abbrev pub ring_of_instance : Napi → RingName
+ring_of_instance n = ring_of_table n.table
+
+-- the seat is one of this instance
+abbrev pub IsSeatOf : Napi → Pass → Type 0
+IsSeatOf n p = IsPassOf n.table p
+
+-- a seat as it was made: it has seen nothing, and its own list is empty
+pub record IsNewSeat (n : Napi) (number : ℕ) (p : Pass) : Type 0 where
+  pub instance : IsSeatOf n p
+  pub number_is : number_of p ≡ number
+  pub controller : controller_of p ≡ callers_of n
+  pub ring : ring_of p ≡ Some (ring_of_instance n)
+  pub nothing_shown : shown p ≡ []
+  pub nothing_done : own_list p ≡ []

@@ -1,0 +1,47 @@
+-- What the type of a value says of its seat.
+use Rattle.std.specs.Prelude.{◌≡◌, ℕ, Bool, cond, Option, Some, None}
+use Rattle.rx_ring.specs.declared.ends.RxCtx.{RxCtx}
+use Rattle.napi_model.specs.declared.state.Place.{Place}
+use Rattle.napi_model.specs.declared.state.Place.TheVariants as place
+use Rattle.rx_ring.specs.Ends.{RingName, ring_name}
+use Rattle.napi_model.specs.Laws.{is_owner}
+use Rattle.napi_model.specs.Step.{opening}
+use Rattle.napi_model.specs.History.{LegalHistory, own}
+use Rattle.napi_word.specs.declared.table.Pass.{Pass}
+use Rattle.napi_word.specs.declared.view.Holds.{Holds}
+use Rattle.napi_word.specs.declared.view.Holds.TheVariants.{Nothing, Out}
+use Rattle.napi_calls.specs.Seats.{number_of, controller_of, shown, own_list, state_of, ring_of}
+
+-- the place as number c has it: where another has it or nobody, that is all one
+abbrev pub own_place : ℕ → Place → Place
+own_place c p = cond (is_owner c p) p place.Nobody
+
+-- who owns nothing
+abbrev pub Free : ℕ → Place
+Free c = place.Nobody
+
+-- number c shows a legal history and its exact own list, and has this place in the state that the history leads to
+pub record Stands (role : ℕ → Place) (c : ℕ) (p : Pass) : Type 0 where
+  pub number : number_of p ≡ c
+  pub legal : ∥ LegalHistory (controller_of p) (opening (controller_of p)) (shown p) ∥₁
+  pub exact : own c (shown p) ≡ own_list p
+  pub place : own_place c (state_of p).place ≡ role c
+
+-- so does the controller, and knows the disable flag
+pub record Controls (role : ℕ → Place) (disable : Bool) (p : Pass) : Type 0 where
+  pub stands : Stands role (controller_of p) p
+  pub flag : (state_of p).flags.disable ≡ disable
+
+abbrev pub held : Option RxCtx → Holds
+held (Some x) = Out
+held None = Nothing
+
+abbrev pub ring_held : Option RxCtx → Option RingName → Option RingName
+ring_held (Some x) ring = Some (ring_name x)
+ring_held None ring = ring
+
+-- the context is out of the instance's slot, in the hands of the value, and is that of the ring that was handed in; or
+-- the value has none
+pub record Has (p : Pass) (ctx : Option RxCtx) : Type 0 where
+  pub holds : p.holds ≡ held ctx
+  pub ring : ring_of p ≡ ring_held ctx (ring_of p)

@@ -1,0 +1,50 @@
+-- What a seat of an instance shows. The other definitions here speak of seats by these words alone.
+use Rattle.std.specs.Prelude.{◌≡◌, ℕ, List, Option, Some}
+use Rattle.rx_ring.specs.declared.ends.RxIn.{RxIn}
+use Rattle.rx_ring.specs.declared.ends.RxCtx.{RxCtx}
+use Rattle.rx_ring.specs.Ends.{RingName, ring_name, IsOneRing}
+use Rattle.napi_model.specs.declared.event.Event.{Event}
+use Rattle.napi_model.specs.declared.state.State.{State}
+use Rattle.napi_model.specs.Step.{opening}
+use Rattle.napi_model.specs.History.{LegalHistory, state_after, own}
+use Rattle.napi_word.specs.declared.table.Pass.{Pass}
+use Rattle.napi_word.specs.View as view
+use Rattle.napi_word.specs.Passes.{view_of, SameTable}
+
+-- the seat's number, and the controller's, which is the greatest
+abbrev pub number_of : Pass → ℕ
+number_of p = view.number_of (view_of p)
+
+abbrev pub controller_of : Pass → ℕ
+controller_of p = view.controller_of (view_of p)
+
+-- the history that it has seen, and the events of its own calls
+abbrev pub shown : Pass → List Event
+shown p = view.shown (view_of p)
+
+abbrev pub own_list : Pass → List Event
+own_list p = view.mine (view_of p)
+
+-- the instance's state after the history shown
+abbrev pub state_of : Pass → State
+state_of p = state_after (opening (controller_of p)) (shown p)
+
+-- the ring whose context was handed in with the instance
+abbrev pub ring_of : Pass → Option RingName
+ring_of p = view.ring_of (view_of p)
+
+-- the same number of the same instance
+pub record SameSeat (p q : Pass) : Type 0 where
+  pub table : SameTable p q
+  pub number : number_of q ≡ number_of p
+  pub controller : controller_of q ≡ controller_of p
+  pub ring : ring_of q ≡ ring_of p
+
+-- the history shown is one of the one-thread NAPI object, and the own list is the number's events in it
+pub record ShowsLegal (p : Pass) : Type 0 where
+  pub legal : LegalHistory (controller_of p) (opening (controller_of p)) (shown p)
+  pub exact : own (number_of p) (shown p) ≡ own_list p
+
+-- this end puts packets into the instance's ring
+abbrev pub IsInputOf : RxIn → Pass → Type 0
+IsInputOf input p = (ctx : RxCtx) × (ring_of p ≡ Some (ring_name ctx)) × IsOneRing input ctx

@@ -1,0 +1,18 @@
+-- What has to follow an accepted schedule.
+use Rattle.std.specs.Prelude.{Bool, true, false, List, [], ◌∷◌}
+use Rattle.napi_model.specs.declared.event.Done.TheVariants.{Released}
+use Rattle.napi_model.specs.declared.event.Operation.{Operation}
+use Rattle.napi_model.specs.declared.event.Operation.TheVariants.{Take, Complete}
+use Rattle.napi_model.specs.declared.event.Event.{Event}
+
+-- whether a poll has started; the operation; what is left to show where it starts a poll; what else
+abbrev pub ServedAt : Bool → Operation → Type 0 → Type 0 → Type 0
+ServedAt b (Take kind true) started rest = started
+ServedAt true (Complete Released) started rest = Unit {0}
+ServedAt false (Complete Released) started rest = ⊥
+ServedAt b _ started rest = rest
+
+-- a Released comes, and a poll starts before the first that comes, unless one has started
+unfoldable pub IsServed : Bool → List Event → Type 0
+IsServed b [] = ⊥
+IsServed b (e ∷ es) = ServedAt b e.operation (IsServed true es) (IsServed b es)

@@ -1,0 +1,191 @@
+//! The calls of the controller, who enables and disables the instance.
+ghost use Rattle.std.specs.Prelude.{◌≡◌, [], ◌∷◌, MatchResult, Some, true, false};
+ghost use Rattle.napi_model.specs.declared.state.Place.TheVariants as place;
+ghost use Rattle.napi_model.specs.declared.event.Operation.TheVariants.{MarkDisable};
+ghost use Rattle.napi_model.specs.Laws.{IsOwnedBy};
+ghost use Rattle.rx_ring.specs.ReceiveRing.{counts_of};
+ghost use Rattle.rx_ring.specs.Ends.{ring_name, polls_of, received_list, Meets};
+ghost use Rattle.napi_calls.specs.Seats.{number_of, controller_of, state_of, ring_of, ShowsLegal, IsInputOf};
+ghost use Rattle.napi_calls.specs.Instance.{IsSeatOf};
+ghost use Rattle.napi_calls.specs.Made.{Made, WasLost};
+ghost use Rattle.napi_calls.specs.Calls.{TriesToTake, Disables, EnablesAt, Enables};
+
+use crate::answers::TryTake;
+use crate::between::{Between, Nothing};
+use crate::types::{Control, Marked, Napi, Off, On};
+use rx_ring::{RxCounts, RxIn};
+use std::sync::Wait;
+
+impl Control<On> {
+    /// What the controller of an enabled instance knows. It does nothing.
+    pub fn knows(&self)
+        ensures shows { ShowsLegal self.now.pass }
+        ensures number { number_of self.now.pass ≡ controller_of self.now.pass }
+        ensures place { ¬ IsOwnedBy (number_of self.now.pass) (state_of self.now.pass).place }
+        ensures flag { (state_of self.now.pass).flags.disable ≡ false }
+    {}
+
+    /// Marks that a disable is pending: from now on schedules are refused (the first step of `napi_disable`).
+    pub fn mark(self, napi: &Napi) -> Control<Marked>
+        requires { IsSeatOf napi.now self.pass }
+        ensures { Made self.pass (MarkDisable ∷ []) result.pass }
+    {
+        let Control {
+            mut pass,
+            state: On,
+        } = self;
+        napi.table.mark(&mut pass);
+        Control {
+            pass,
+            state: Marked,
+        }
+    }
+
+    /// Disables the instance (`napi_disable`): marks it, and tries until whoever has it has released it.
+    pub fn disable<R: Wait>(self, rt: &R, napi: &Napi) -> Control<Off>
+        requires { IsSeatOf napi.now self.pass }
+        ensures { Disables self.pass result.pass }
+    {
+        let mut control = self.mark(napi);
+        for _ in rt.forever() {
+            match control.try_take(napi) {
+                TryTake::Taken(taken) => return taken,
+                TryTake::Busy(busy) => control = busy,
+                TryTake::Changed(changed) => control = changed,
+            }
+        }
+        unreachable!()
+    }
+}
+
+impl Control<Marked> {
+    /// What the controller of an instance knows that it marked. It does nothing.
+    pub fn knows(&self)
+        ensures shows { ShowsLegal self.now.pass }
+        ensures number { number_of self.now.pass ≡ controller_of self.now.pass }
+        ensures place { ¬ IsOwnedBy (number_of self.now.pass) (state_of self.now.pass).place }
+        ensures flag { (state_of self.now.pass).flags.disable ≡ true }
+    {}
+
+    /// Takes the instance where nobody has it, in one try, and clears the mark of the disable (the second and the third
+    /// step of `napi_disable`). It doesn't wait.
+    pub fn try_take(self, napi: &Napi) -> TryTake
+        requires { IsSeatOf napi.now self.pass }
+        ensures { TriesToTake self.pass result }
+    {
+        self.try_take_between(napi, &mut Nothing)
+    }
+
+    /// As [`try_take`](Control::try_take), and runs `between` after the load, unless that answers `Busy`.
+    pub fn try_take_between<B: Between>(self, napi: &Napi, between: &mut B) -> TryTake
+        requires { IsSeatOf napi.now self.pass }
+        ensures { TriesToTake self.pass result }
+    {
+        let Control {
+            mut pass,
+            state: Marked,
+        } = self;
+        let Some(seen) = napi.table.take_load(&mut pass) else {
+            return TryTake::Busy(Control {
+                pass,
+                state: Marked,
+            });
+        };
+        between.run();
+        match napi.table.take_swap(&mut pass, seen) {
+            Ok(()) => {
+                let ctx = napi.table.slot_out(&mut pass);
+                napi.table.unmark(&mut pass);
+                TryTake::Taken(Control {
+                    pass,
+                    state: Off { ctx },
+                })
+            }
+            Err(_) => TryTake::Changed(Control {
+                pass,
+                state: Marked,
+            }),
+        }
+    }
+}
+
+impl Control<Off> {
+    /// What the controller of a disabled instance knows, and that its context is that of the instance's ring. It does nothing.
+    pub fn knows(&self)
+        ensures shows { ShowsLegal self.now.pass }
+        ensures number { number_of self.now.pass ≡ controller_of self.now.pass }
+        ensures place { (state_of self.now.pass).place ≡ place.Control (number_of self.now.pass) }
+        ensures context { ring_of self.now.pass ≡ Some (ring_name self.now.state.ctx) }
+        ensures flag { (state_of self.now.pass).flags.disable ≡ false }
+    {}
+
+    /// What is counted of the ring's polls so far.
+    pub fn counts(&self) -> RxCounts
+        ensures { result ≡ counts_of (polls_of self.now.state.ctx) (received_list self.now.state.ctx) }
+    {
+        self.state.ctx.counts()
+    }
+
+    /// The ends of the ring meet.
+    pub fn beside(&mut self, input: &mut RxIn)
+        requires { IsInputOf input.old self.old.pass }
+        ensures meets { Meets input.old self.old.state.ctx input.new self.new.state.ctx }
+        ensures pass { self.new.pass ≡ self.old.pass }
+    {
+        rx_ring::beside(input, &mut self.state.ctx);
+    }
+
+    /// Enables the instance, in one try, and says whether its polls are handed to its own thread (`napi_enable`): a look,
+    /// and an exchange. The context goes back to the slot. It doesn't wait. `Err`: the state changed between the two, and
+    /// nothing is decided.
+    pub fn try_enable(self, napi: &Napi, threaded: bool) -> Result<Control<On>, Control<Off>>
+        requires { IsSeatOf napi.now self.pass }
+        ensures { MatchResult result (λ r. EnablesAt threaded self.pass r.pass) (λ r. WasLost self.pass r.pass) }
+    {
+        self.try_enable_between(napi, threaded, &mut Nothing)
+    }
+
+    /// As [`try_enable`](Control::try_enable), and runs `between` after the look.
+    pub fn try_enable_between<B: Between>(
+        self,
+        napi: &Napi,
+        threaded: bool,
+        between: &mut B,
+    ) -> Result<Control<On>, Control<Off>>
+        requires { IsSeatOf napi.now self.pass }
+        ensures { MatchResult result (λ r. EnablesAt threaded self.pass r.pass) (λ r. WasLost self.pass r.pass) }
+    {
+        let Control {
+            mut pass,
+            state: Off { ctx },
+        } = self;
+        let seen = napi.table.look(&mut pass);
+        between.run();
+        napi.table.slot_in(&mut pass, ctx);
+        match napi.table.enable_swap(&mut pass, seen, threaded) {
+            Ok(()) => Ok(Control { pass, state: On }),
+            Err(_) => {
+                let ctx = napi.table.slot_out(&mut pass);
+                Err(Control {
+                    pass,
+                    state: Off { ctx },
+                })
+            }
+        }
+    }
+
+    /// Enables the instance, try after try until one decides (`napi_enable`).
+    pub fn enable<R: Wait>(self, rt: &R, napi: &Napi, threaded: bool) -> Control<On>
+        requires { IsSeatOf napi.now self.pass }
+        ensures { Enables threaded self.pass result.pass }
+    {
+        let mut control = self;
+        for _ in rt.forever() {
+            match control.try_enable(napi, threaded) {
+                Ok(enabled) => return enabled,
+                Err(off) => control = off,
+            }
+        }
+        unreachable!()
+    }
+}

@@ -1,0 +1,166 @@
+//! An instance is made, and closed.
+ghost use Rattle.std.specs.Prelude.{◌≡◌, ◌≢◌, ◌<◌, ◌≤◌, ◌+◌, ◌-◌, ℕ, [], length, IfOk, IfErr, Some, slice_get, false, vec_capacity};
+ghost use Rattle.rx_ring.specs.declared.ends.RxCtx.{RxCtx};
+ghost use Rattle.napi_word.specs.declared.table.Pass.{Pass};
+ghost use Rattle.napi_word.specs.declared.table.StateTable.{StateTable};
+ghost use Rattle.rx_ring.specs.Ends.{ring_name};
+ghost use Rattle.napi_word.specs.Passes.{view_of, IsPassOf, IsNew};
+ghost use Rattle.napi_calls.specs.declared.types.Caller.{Caller};
+ghost use Rattle.napi_calls.specs.declared.fault.CloseFault.TheVariants.{NotAll};
+ghost use Rattle.napi_calls.specs.Fault.{is_bad_count, fault_of};
+ghost use Rattle.napi_calls.specs.Instance.{callers_of, ring_of_instance, IsSeatOf, IsNewSeat};
+ghost use Rattle.napi_calls.specs.Closed.{seats_of, IsClosed};
+
+use crate::fault::{CloseFault, NewFault};
+use crate::types::{Caller, Control, Napi, Off};
+use napi_word::{Ended, Pass, StateTable, TableBack};
+use rx_ring::RxCtx;
+use std::alloc::Global;
+
+/// An instance isn't made, and its poll context comes back.
+pub struct NewBack {
+    /// Why not.
+    pub fault: NewFault,
+    /// The context that was handed in, as it was.
+    pub ctx: RxCtx,
+}
+
+/// An instance isn't closed, and all that was handed in comes back.
+pub struct CloseBack {
+    /// Why not.
+    pub fault: CloseFault,
+    /// The instance, as it was.
+    pub napi: Napi,
+    /// The callers that were handed in, as they were.
+    pub callers: Vec<Caller>,
+    /// The controller, as it was.
+    pub control: Control<Off>,
+}
+
+// The controller's new pass, with the context taken out of the slot.
+fn control_of(table: &StateTable, mut pass: Pass, last: u32) -> Control<Off>
+    requires { (ctx : RxCtx) × IsNew table.now last ctx last pass }
+    ensures table { IsPassOf table.now result.pass }
+    ensures view { view_of result.pass ≡ view_of pass }
+{
+    let ctx = table.slot_out(&mut pass);
+    Control {
+        pass,
+        state: Off { ctx },
+    }
+}
+
+// A caller's new pass.
+fn caller_of(pass: Pass, number: u32) -> Caller
+    requires { (t : StateTable) × (last : ℕ) × (ctx : RxCtx) × (number < last) × IsNew t last ctx number pass }
+    ensures { result.pass ≡ pass }
+{
+    Caller { pass, number }
+}
+
+fn is_bad(callers: u32) -> bool
+    ensures is { result ≡ is_bad_count callers }
+    ensures good { result ≡ false → (2 ≤ callers) × (callers ≤ 8) }
+{
+    callers < 2 || 8 < callers
+}
+
+// The callers of new passes, in their order.
+fn seat_callers(passes: Vec<Pass>, mut callers: Vec<Caller>) -> Vec<Caller>
+    requires new { (t : StateTable) × (last : ℕ) × (ctx : RxCtx) × (length passes.items ≤ last) × (last ≤ 8) × ((k : ℕ) (p : Pass) → slice_get passes.items k ≡ Some p → IsNew t last ctx k p) }
+    requires empty { callers.items ≡ [] }
+    requires room { length passes.items ≤ vec_capacity callers }
+    ensures { seats_of result.items ≡ passes.items }
+{
+    let mut rest = passes.into_iter();
+    let mut number = 0;
+    while let Some(pass) = rest.next() {
+        callers.push_reserved(caller_of(pass, number));
+        number += 1;
+    }
+    rest.destroy_empty();
+    callers
+}
+
+impl Napi {
+    /// A new instance over the poll context of a receive ring (`netif_napi_add`), with its callers and its controller. It
+    /// is disabled. The callers have the numbers from 0 on, in their order, and the controller's is their count. This is
+    /// the only call that takes memory.
+    ///
+    /// Refused by [`BadCount`](NewFault::BadCount) where `callers` isn't 2 to 8, and else only by
+    /// [`OutOfMemory`](NewFault::OutOfMemory), where there is no memory. The context comes back.
+    pub fn new(
+        alloc: Global,
+        ctx: RxCtx,
+        callers: u32,
+    ) -> Result<(Napi, Vec<Caller>, Control<Off>), NewBack>
+        ensures fault { IfErr result (λ b. b.fault ≡ fault_of (is_bad_count callers)) }
+        ensures back { IfErr result (λ b. b.ctx ≡ ctx) }
+        ensures count { IfOk result (λ r. (is_bad_count callers ≡ false) × (callers_of r.0 ≡ callers) × (length r.1.items ≡ callers)) }
+        ensures ring { IfOk result (λ r. ring_of_instance r.0 ≡ ring_name ctx) }
+        ensures callers { IfOk result (λ r. (k : ℕ) (c : Caller) → slice_get r.1.items k ≡ Some c → IsNewSeat r.0 k c.pass) }
+        ensures control { IfOk result (λ r. IsNewSeat r.0 callers r.2.pass) }
+    {
+        if is_bad(callers) {
+            return Err(NewBack {
+                fault: NewFault::BadCount,
+                ctx,
+            });
+        }
+        let Ok(seated) = Vec::with_capacity(alloc, callers as usize) else {
+            return Err(NewBack {
+                fault: NewFault::OutOfMemory,
+                ctx,
+            });
+        };
+        let (table, mut passes) = match StateTable::new(alloc, ctx, callers + 1) {
+            Ok(both) => both,
+            Err(TableBack { ctx }) => {
+                seated.destroy_empty();
+                return Err(NewBack {
+                    fault: NewFault::OutOfMemory,
+                    ctx,
+                });
+            }
+        };
+        let popped = passes.pop();
+        let Some(last) = popped else { unreachable!() };
+        let control = control_of(&table, last, callers);
+        let seated = seat_callers(passes, seated);
+        Ok((Napi { table, callers }, seated, control))
+    }
+
+    /// Closes a disabled instance (`netif_napi_del`) and hands out its poll context. Where callers are missing it is
+    /// refused by [`NotAll`](CloseFault::NotAll), and all three come back as they were.
+    ///
+    /// Here the one history is read off.
+    pub fn close(self, mut callers: Vec<Caller>, control: Control<Off>) -> Result<RxCtx, CloseBack>
+        requires callers { (k : ℕ) (c : Caller) → slice_get callers.items k ≡ Some c → IsSeatOf self c.pass }
+        requires control { IsSeatOf self control.pass }
+        ensures fault { IfErr result (λ b. (b.fault ≡ NotAll) × (length callers.items < callers_of self)) }
+        ensures back { IfErr result (λ b. (b.napi ≡ self) × (b.callers ≡ callers) × (b.control ≡ control)) }
+        ensures closed { IfOk result (λ ctx. IsClosed self callers.items control.pass ctx) }
+    {
+        if callers.len() < self.callers as usize {
+            return Err(CloseBack {
+                fault: CloseFault::NotAll,
+                napi: self,
+                callers,
+                control,
+            });
+        }
+        let Napi { table, callers: _ } = self;
+        let Control {
+            pass,
+            state: Off { ctx },
+        } = control;
+        let mut gathering = table.gather(pass);
+        while let Some(caller) = callers.pop() {
+            let Caller { pass, number: _ } = caller;
+            table.join(&mut gathering, pass);
+        }
+        callers.destroy_empty();
+        let Ended { ctx: _left } = table.finish(gathering);
+        Ok(ctx)
+    }
+}

@@ -1,0 +1,132 @@
+//! The calls of a poller, who has the poll context.
+ghost use Rattle.std.specs.Prelude.{◌≡◌, ◌≤◌, [], ◌∷◌, length, Some};
+ghost use Rattle.napi_model.specs.declared.state.Kind.TheVariants as kind;
+ghost use Rattle.napi_model.specs.declared.state.Place.TheVariants as place;
+ghost use Rattle.napi_model.specs.declared.event.Operation.TheVariants.{Look, Hand};
+ghost use Rattle.rx_ring.specs.ReceiveRing.{counts_of};
+ghost use Rattle.rx_ring.specs.Ends.{ring_name, polls_of, received_list, GivesNext, Meets};
+ghost use Rattle.napi_calls.specs.Seats.{number_of, state_of, ring_of, ShowsLegal, IsInputOf};
+ghost use Rattle.napi_calls.specs.Instance.{IsSeatOf};
+ghost use Rattle.napi_calls.specs.Made.{Made};
+ghost use Rattle.napi_calls.specs.Calls.{TriesToComplete, Completes};
+
+use crate::answers::{Completed, TryDone};
+use crate::between::{Between, Nothing};
+use crate::types::{Caller, Granted, Napi, Polling};
+use napi_model::{Done, Kind, Seen};
+use rx_ring::{Batch, MAX_WEIGHT, RxCounts, RxIn};
+use std::sync::Wait;
+
+impl Polling {
+    /// The caller's number.
+    pub fn number(&self) -> u32
+        ensures { result ≡ number_of self.now.pass }
+    {
+        self.number
+    }
+
+    /// What any poller knows, and that its context is that of the instance's ring. It does nothing.
+    pub fn knows(&self)
+        ensures shows { ShowsLegal self.now.pass }
+        ensures place { (state_of self.now.pass).place ≡ place.Polling (number_of self.now.pass) }
+        ensures context { ring_of self.now.pass ≡ Some (ring_name self.now.ctx) }
+    {}
+
+    /// What the state word tells: the flags, and to whom the instance was handed while nobody has taken it.
+    pub fn look(&mut self, napi: &Napi) -> Seen
+        requires { IsSeatOf napi.now self.old.pass }
+        ensures event { Made self.old.pass (Look result ∷ []) self.new.pass }
+        ensures ctx { self.new.ctx ≡ self.old.ctx }
+    {
+        napi.table.look(&mut self.pass)
+    }
+
+    /// Polls once, as a driver's `poll` (`__napi_poll` calls it): the batch is emptied, and then has the ring's next
+    /// packets, at most `weight`, which is 1 to 64. Answers how many these are. The history stays as it was.
+    pub fn poll(&mut self, weight: usize, batch: &mut Batch) -> usize
+        requires { (1 ≤ weight) × (weight ≤ MAX_WEIGHT) }
+        ensures next { GivesNext weight self.old.ctx self.new.ctx batch.new.items }
+        ensures work { result ≡ length batch.new.items }
+        ensures pass { self.new.pass ≡ self.old.pass }
+    {
+        self.ctx.poll(weight, batch)
+    }
+
+    /// What is counted of the ring's polls so far, those of other callers too.
+    pub fn counts(&self) -> RxCounts
+        ensures { result ≡ counts_of (polls_of self.now.ctx) (received_list self.now.ctx) }
+    {
+        self.ctx.counts()
+    }
+
+    /// The ends of the ring meet: a poll right after it gives exactly the lesser of its weight and what the ring holds.
+    pub fn beside(&mut self, input: &mut RxIn)
+        requires { IsInputOf input.old self.old.pass }
+        ensures meets { Meets input.old self.old.ctx input.new self.new.ctx }
+        ensures pass { self.new.pass ≡ self.old.pass }
+    {
+        rx_ring::beside(input, &mut self.ctx);
+    }
+
+    /// Hands the instance to the list again, to be polled once more (the repoll of `napi_poll`). The context goes back.
+    pub fn requeue(self, napi: &Napi) -> Caller
+        requires { IsSeatOf napi.now self.pass }
+        ensures { Made self.pass (Hand kind.List ∷ []) result.pass }
+    {
+        let Polling {
+            mut pass,
+            number,
+            ctx,
+        } = self;
+        napi.table.slot_in(&mut pass, ctx);
+        napi.table.hand(&mut pass, Kind::List);
+        Caller { pass, number }
+    }
+
+    /// Ends the poll, in one try (`napi_complete_done`): a look, and an exchange. It doesn't wait.
+    pub fn try_complete(self, napi: &Napi) -> TryDone
+        requires { IsSeatOf napi.now self.pass }
+        ensures { TriesToComplete self.pass result }
+    {
+        self.try_complete_between(napi, &mut Nothing)
+    }
+
+    /// As [`try_complete`](Polling::try_complete), and runs `between` after the look.
+    pub fn try_complete_between<B: Between>(self, napi: &Napi, between: &mut B) -> TryDone
+        requires { IsSeatOf napi.now self.pass }
+        ensures { TriesToComplete self.pass result }
+    {
+        let Polling {
+            mut pass,
+            number,
+            ctx,
+        } = self;
+        let seen = napi.table.look(&mut pass);
+        between.run();
+        napi.table.slot_in(&mut pass, ctx);
+        match napi.table.complete_swap(&mut pass, seen) {
+            Ok(Done::Released) => TryDone::Released(Caller { pass, number }),
+            Ok(Done::Again) => TryDone::Again(Granted { pass, number }),
+            Err(_) => {
+                let ctx = napi.table.slot_out(&mut pass);
+                TryDone::Changed(Polling { pass, number, ctx })
+            }
+        }
+    }
+
+    /// Ends the poll, try after try until one decides (`napi_complete_done`).
+    pub fn complete<R: Wait>(self, rt: &R, napi: &Napi) -> Completed
+        requires { IsSeatOf napi.now self.pass }
+        ensures { Completes self.pass result }
+    {
+        let mut polling = self;
+        for _ in rt.forever() {
+            match polling.try_complete(napi) {
+                TryDone::Released(caller) => return Completed::Released(caller),
+                TryDone::Again(granted) => return Completed::Again(granted),
+                TryDone::Changed(changed) => polling = changed,
+            }
+        }
+        unreachable!()
+    }
+}

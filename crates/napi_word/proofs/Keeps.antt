@@ -1,0 +1,246 @@
+-- One event more keeps the rule.
+use Rattle.std.proofs.Common.{◌≡◌, ◌≢◌, ℕ, zero, suc, List, [], ◌∷◌, ◌++◌, get_or, set, Option, Some, None, true, false, is_some, unwrap_or, refl, sym, ap, ◌∙◌, subst, ⊎_elim, arith, true≢false}
+use mathlib.Core.Option as maybe
+use lib.ListN.{get_elem?}
+use Rattle.atomic_table.specs.Table.{State}
+use Rattle.atomic_table.proofs.Lists.{at_set, set_again}
+use Rattle.napi_model.specs.declared.event.Event.{Event}
+use Rattle.napi_model.specs.declared.event.Operation.{Operation}
+use Rattle.napi_model.specs.declared.state.State.{State as Napi}
+use Rattle.napi_model.specs.Step.{event, opening, seen_of, after}
+use Rattle.napi_model.specs.History.{LegalHistory, IsLegalFor, state_after, own}
+use Rattle.napi_model.specs.Laws.{IsSound, IsControlled, is_owner}
+use Rattle.napi_model.specs.Word.{word_of}
+use Rattle.napi_model.proofs.Histories.{state_after-snoc, state_after-append, legal_snoc, legal_front, legal_back}
+use Rattle.napi_model.proofs.Owners.{sound_after, opens_sound, ownership_kept, owner_kept, disable_kept, controlled_after, opens_controlled}
+use Rattle.napi_word.specs.declared.view.Key.{Key}
+use Rattle.napi_word.specs.declared.view.Strand.{Strand}
+use Rattle.napi_word.specs.View.{View, is_pass, number_of, controller_of, mine, ring_of, state_in, place_in, disable_in}
+use Rattle.napi_word.specs.Slot.{Content, is_out}
+use Rattle.napi_word.specs.Rule.{first_view, Home, Homes, Owned, Fits, Kept, Starts, Holding}
+use Rattle.napi_word.specs.Events.{Steps}
+use Rattle.napi_word.proofs.Owns.{own_mine, own_other, own_rest, begins_self, begins_more}
+
+abbrev pub St : Type 0
+St = State Content View
+
+pub some_is : {a b : ℕ} → Some a ≡ Some b → a ≡ b
+some_is {a} e = ap (λ (o : Option ℕ). unwrap_or o a) e
+
+-- ---- what a pass's view begins with
+pub record Open (v : View) : Type 0 where
+  pub first : Strand
+  pub extra : View
+  pub is : v ≡ first ∷ extra
+  pub numbered : first.number ≡ Some (number_of v)
+
+numbered_of : (n : Option ℕ) → is_some n ≡ true → n ≡ Some (unwrap_or n 0)
+numbered_of (Some c) e = refl
+numbered_of None e = absurd (true≢false (sym e))
+
+pub opened : (v : View) → is_pass v ≡ true → Open v
+opened [] p = absurd (true≢false (sym p))
+opened (x ∷ xs) p = record { first = x; extra = xs; is = refl; numbered = numbered_of x.number p }
+
+-- the strand after the event, behind the history h
+abbrev pub grown : Strand → ℕ → List Event → Operation → Strand
+grown x c h o = record x { seen = h ++ event c o ∷ []; mine = x.mine ++ event c o ∷ [] }
+
+-- a pass is made after the start
+pub running : (key : Key) (s : St) → Holding key s → (id : ℕ) (v : View) → get_elem? s.views id ≡ maybe.some v → is_pass v ≡ true → Kept key s
+running key s h id v at p = ⊎_elim
+    (λ (t : Starts key s). absurd (none id (ap (λ (l : List View). get_elem? l id) (sym t.views) ∙ at)))
+    (λ (r : Kept key s). r)
+    h
+  where
+    none : (j : ℕ) → get_elem? (first_view key ∷ []) j ≡ maybe.some v → ⊥
+    none zero e = true≢false (sym p ∙ ap is_pass (sym (maybe.some-injective _ _ e)))
+    none (suc j) e = maybe.some-ne-none v (sym e)
+
+-- what a pass's view tells of the state
+pub record Knows (k : ℕ) (v : View) (c : ℕ) (now : Napi) : Type 0 where
+  pub number : number_of v ≡ c
+  pub controller : controller_of v ≡ k
+  pub sound : IsSound now
+  pub controlled : IsControlled k now
+  pub owner : is_owner c now.place ≡ is_owner c (place_in v)
+  pub place : is_owner c (place_in v) ≡ true → now.place ≡ place_in v
+  pub disable : c ≡ k → now.flags.disable ≡ disable_in v
+
+-- ---- what the rule says of a strand with a number: since the list that it has seen, others alone made events
+module _ (key : Key) (s : St) (r : Kept key s) (p : ℕ × ℕ) (x : Strand) (f : Fits key r.history r.seat p x) (c : ℕ) (numbered : x.number ≡ Some c) where
+  abbrev state_first : Napi
+  state_first = opening key.controller
+
+  abbrev state_now : Napi
+  state_now = state_after state_first r.history
+
+  abbrev later : List Event
+  later = f.begins.0
+
+  abbrev state_seen : Napi
+  state_seen = state_after state_first x.seen
+
+  legal_parts : LegalHistory key.controller state_first (x.seen ++ later)
+  legal_parts = subst (λ (l : List Event). LegalHistory key.controller state_first l) (sym f.begins.1) r.legal
+
+  none : own c later ≡ []
+  none = let o = f.owned c numbered in own_rest c x.seen later x.mine o.shown (ap (λ (l : List Event). own c l) f.begins.1 ∙ o.whole)
+
+  parts : state_now ≡ state_after state_seen later
+  parts = ap (λ (l : List Event). state_after state_first l) (sym f.begins.1) ∙ state_after-append state_first x.seen later
+
+  sound_t : IsSound state_seen
+  sound_t = sound_after key.controller state_first x.seen (opens_sound key.controller) (legal_front key.controller state_first x.seen later legal_parts)
+
+  back : LegalHistory key.controller state_seen later
+  back = legal_back key.controller state_first x.seen later legal_parts
+
+  pub owner_since : is_owner c state_now.place ≡ is_owner c state_seen.place
+  owner_since = ap (λ (u : Napi). is_owner c u.place) parts ∙ ownership_kept key.controller c state_seen later sound_t back none
+
+  pub place_since : is_owner c state_seen.place ≡ true → state_now.place ≡ state_seen.place
+  place_since y = ap (λ (u : Napi). u.place) parts ∙ owner_kept key.controller c state_seen later sound_t back none y
+
+  pub disable_since : c ≡ key.controller → state_now.flags.disable ≡ state_seen.flags.disable
+  disable_since y = ap (λ (u : Napi). u.flags.disable) parts ∙ disable_kept key.controller state_seen later back (subst (λ (d : ℕ). own d later ≡ []) y none)
+
+-- ---- a step of the seat id
+module _ (key : Key) (s : St) (r : Kept key s) (id : ℕ) (v : View) (at : get_elem? s.views id ≡ maybe.some v) (o : Open v) where
+  abbrev c : ℕ
+  c = number_of v
+
+  abbrev h : List Event
+  h = r.history
+
+  abbrev pub now : Napi
+  now = state_after (opening key.controller) h
+
+  abbrev seen : List Event
+  seen = o.first.seen
+
+  abbrev t : Napi
+  t = state_after (opening key.controller) seen
+
+  pub own_fits : Fits key h r.seat (id, 0) o.first
+  own_fits = r.strands id v at 0 o.first (ap (λ (l : View). get_elem? l 0) o.is)
+
+  pub owned : Owned key h r.seat (id, 0) o.first c
+  owned = own_fits.owned c o.numbered
+
+  owner_now : is_owner c now.place ≡ is_owner c t.place
+  owner_now = owner_since key s r (id, 0) o.first own_fits c o.numbered
+
+  place_now : is_owner c t.place ≡ true → now.place ≡ t.place
+  place_now = place_since key s r (id, 0) o.first own_fits c o.numbered
+
+  disable_now : c ≡ key.controller → now.flags.disable ≡ t.flags.disable
+  disable_now = disable_since key s r (id, 0) o.first own_fits c o.numbered
+
+  viewed : state_in v ≡ t
+  viewed = ap state_in o.is ∙ ap (λ (k : ℕ). state_after (opening k) seen) own_fits.controller
+
+  pub knows : Knows key.controller v c now
+  knows = record {
+    number = refl;
+    controller = ap controller_of o.is ∙ own_fits.controller;
+    sound = sound_after key.controller (opening key.controller) h (opens_sound key.controller) r.legal;
+    controlled = controlled_after key.controller (opening key.controller) h (opens_controlled key.controller) r.legal;
+    owner = owner_now ∙ ap (λ (u : Napi). is_owner c u.place) (sym viewed);
+    place = λ y. place_now (ap (λ (u : Napi). is_owner c u.place) (sym viewed) ∙ y) ∙ ap (λ (u : Napi). u.place) (sym viewed);
+    disable = λ y. disable_now y ∙ ap (λ (u : Napi). u.flags.disable) (sym viewed);
+  }
+
+  pub found : get_or s.words 0 0 ≡ word_of (seen_of now)
+  found = ap (λ (ws : List ℕ). get_or ws 0 0) r.word
+
+  -- ---- one event more
+  module _ (d : Operation) where
+    abbrev e : Event
+    e = event c d
+
+    abbrev pub next : Strand
+    next = grown o.first c h d
+
+    abbrev w : View
+    w = next ∷ []
+
+    exact : own c (h ++ e ∷ []) ≡ o.first.mine ++ e ∷ []
+    exact = own_mine c h e refl ∙ ap (λ (l : List Event). l ++ e ∷ []) owned.whole
+
+    -- the other seats' strands stay
+    others : (j k : ℕ) → j ≢ id → (x : Strand) → Fits key h r.seat (j, k) x → Fits key (h ++ e ∷ []) r.seat (j, k) x
+    others j k apart x f = record {
+      begins = begins_more x.seen h e f.begins;
+      owned = λ n is. let q = f.owned n is in record {
+        whole = own_other n h e (λ (same : c ≡ n). apart (ap (λ (p : ℕ × ℕ). p.0) (sym q.here ∙ ap r.seat (sym same) ∙ owned.here))) ∙ q.whole;
+        shown = q.shown;
+        here = q.here;
+        few = q.few;
+      };
+      controller = f.controller;
+      ring = f.ring;
+      begun = f.begun;
+    }
+
+    next_fits : (k : ℕ) (x : Strand) → get_elem? w k ≡ maybe.some x → Fits key (h ++ e ∷ []) r.seat (id, k) x
+    next_fits zero x is = subst (Fits key (h ++ e ∷ []) r.seat (id, 0)) (maybe.some-injective _ _ is) record {
+      begins = begins_self (h ++ e ∷ []);
+      owned = λ n same. subst (Owned key (h ++ e ∷ []) r.seat (id, 0) next) (some_is (sym o.numbered ∙ same)) record { whole = exact; shown = exact; here = owned.here; few = owned.few };
+      controller = own_fits.controller;
+      ring = own_fits.ring;
+      begun = own_fits.begun;
+    }
+    next_fits (suc k) x is = absurd (maybe.some-ne-none x (sym is))
+
+    grows : IsLegalFor key.controller now e → (homes : Homes) → (is_out (after now e).place ≡ false → Home key.ring.value homes)
+        → Kept key record { words = word_of (seen_of (after now e)) ∷ []; homes = homes; views = set s.views id w }
+    grows legal homes slot = record {
+      history = h ++ e ∷ [];
+      seat = r.seat;
+      legal = legal_snoc key.controller (opening key.controller) h e r.legal legal;
+      word = ap (λ (u : Napi). word_of (seen_of u) ∷ []) (sym (state_after-snoc (opening key.controller) h e));
+      slot = subst (λ (u : Napi). is_out u.place ≡ false → Home key.ring.value homes) (sym (state_after-snoc (opening key.controller) h e)) slot;
+      strands = λ j u there k x is. ⊎_elim
+          (λ (y : (j ≡ id) × (w ≡ u)). subst (λ (i : ℕ). Fits key (h ++ e ∷ []) r.seat (i, k) x) (sym y.0) (next_fits k x (ap (λ (z : View). get_elem? z k) y.1 ∙ is)))
+          (λ (y : (j ≢ id) × (get_elem? s.views j ≡ maybe.some u)). others j k y.0 x (r.strands j u y.1 k x is))
+          (at_set s.views id j w u there);
+      few = λ n above. own_other n h e (λ (same : c ≡ n). let low = owned.few in absurd (omega arith)) ∙ r.few n above;
+    }
+
+    -- the word becomes f of what it was, which is the word of the state after
+    pub steps : (f : ℕ → ℕ) → f (word_of (seen_of now)) ≡ word_of (seen_of (after now e)) → IsLegalFor key.controller now e
+        → (homes : Homes) → (is_out (after now e).place ≡ false → Home key.ring.value homes)
+        → Kept key record { words = set s.words 0 (f (get_or s.words 0 0)); homes = homes; views = set s.views id w }
+    steps f is legal homes slot = subst (λ (ws : List ℕ). Kept key record { words = set ws 0 (f (get_or ws 0 0)); homes = homes; views = set s.views id w }) (sym r.word)
+        (subst (λ (n : ℕ). Kept key record { words = n ∷ []; homes = homes; views = set s.views id w }) (sym is) (grows legal homes slot))
+
+    pub grew : IsLegalFor key.controller now e → Steps v d w
+    grew legal = record {
+      before = h;
+      begins = λ k x is. (r.strands id v at k x is).begins;
+      ends = refl;
+      legal = subst (λ (k : ℕ). LegalHistory k (opening k) (h ++ e ∷ [])) (sym knows.controller) (legal_snoc key.controller (opening key.controller) h e r.legal legal);
+      grows = ap (λ (l : List Event). l ++ e ∷ []) (sym (ap mine o.is));
+      exact = exact;
+      pass = ap is_some o.numbered;
+      number = ap (λ (n : Option ℕ). unwrap_or n 0) o.numbered;
+      controller = sym (ap controller_of o.is);
+      ring = sym (ap ring_of o.is);
+      owner = subst (λ (k : ℕ). is_owner c (state_after (opening k) h).place ≡ is_owner c (place_in v)) (sym knows.controller) knows.owner;
+      place = subst (λ (k : ℕ). is_owner c (place_in v) ≡ true → (state_after (opening k) h).place ≡ place_in v) (sym knows.controller) knows.place;
+      disable = λ top. subst (λ (k : ℕ). (state_after (opening k) h).flags.disable ≡ disable_in v) (sym knows.controller) (knows.disable (top ∙ knows.controller));
+    }
+
+  -- ---- a load that is no event, and leaves the view
+  pub again : (homes : Homes) → (is_out now.place ≡ false → Home key.ring.value homes)
+      → Kept key record { words = set s.words 0 (get_or s.words 0 0); homes = homes; views = set s.views id v }
+  again homes slot = record {
+    history = h;
+    seat = r.seat;
+    legal = r.legal;
+    word = subst (λ (ws : List ℕ). set ws 0 (get_or ws 0 0) ≡ word_of (seen_of now) ∷ []) (sym r.word) refl;
+    slot = slot;
+    strands = λ j u there. r.strands j u (ap (λ (l : List View). get_elem? l j) (sym (set_again s.views id v at)) ∙ there);
+    few = r.few;
+  }

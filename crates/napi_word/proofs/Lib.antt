@@ -1,0 +1,14 @@
+pub mod Places
+pub mod Owns
+pub mod Keeps
+pub mod Allowed
+pub mod Bits
+pub mod Turns
+pub mod Said
+pub mod Knowing
+pub mod Splitting
+pub mod Start
+pub mod Meets
+pub mod Whole
+pub mod Counting
+pub mod Closing

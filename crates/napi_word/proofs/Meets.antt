@@ -1,0 +1,36 @@
+-- What a pass that took in a note shows after its next step.
+use Rattle.std.proofs.Common.{◌≡◌, List, [], ◌∷◌, length, true, refl, sym, subst, true≢false}
+use mathlib.Core.List.{IsPrefix}
+use Rattle.atomic_table.proofs.Lists.{at_longer, at_last}
+use Rattle.napi_model.specs.declared.event.Event.{Event}
+use Rattle.napi_model.specs.declared.event.Operation.{Operation}
+use Rattle.napi_model.specs.Step.{event}
+use Rattle.napi_word.specs.View.{View, is_pass, number_of, shown}
+use Rattle.napi_word.specs.Rule.{note, note_of, joined}
+use Rattle.napi_word.specs.Events.{Steps}
+use Rattle.napi_word.proofs.Owns.{begins_more}
+
+-- a step of a pass that took in another is a step of the pass
+pub steps_joined : (v w : View) (o : Operation) (u : View) → is_pass v ≡ true → Steps (joined v w) o u → Steps v o u
+steps_joined [] w o u p g = absurd (true≢false (sym p))
+steps_joined (x ∷ xs) w o u p g = record {
+  before = g.before;
+  begins = λ k y is. g.begins k y (at_longer (x ∷ xs) w k y is);
+  ends = g.ends;
+  legal = g.legal;
+  grows = g.grows;
+  exact = g.exact;
+  pass = g.pass;
+  number = g.number;
+  controller = g.controller;
+  ring = g.ring;
+  owner = g.owner;
+  place = g.place;
+  disable = g.disable;
+}
+
+pub meets : (v a : View) (o : Operation) (u : View) → is_pass a ≡ true → Steps (joined v (note_of a)) o u → IsPrefix (shown a) (shown u)
+meets v [] o u p g = absurd (true≢false (sym p))
+meets v (x ∷ xs) o u p g =
+    let seen = g.begins (length v) (note x) (at_last v (note x) (length v) refl) in
+    subst (λ (l : List Event). IsPrefix x.seen l) (sym g.ends) (begins_more x.seen g.before (event (number_of (joined v (note x ∷ []))) o) seen)

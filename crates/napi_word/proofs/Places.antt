@@ -1,0 +1,39 @@
+-- Who has the slot, by the place.
+use Rattle.std.proofs.Common.{◌≡◌, ℕ, Bool, true, false, refl, sym, ap, ◌∙◌, true≢false}
+use Rattle.napi_model.specs.declared.state.Place.{Place}
+use Rattle.napi_model.specs.declared.state.Place.TheVariants.{Nobody, Granted, Listed, ToThread, Polling, Control}
+use Rattle.napi_model.specs.Laws.{is_owner}
+use Rattle.napi_word.specs.Slot.{has_at, is_out}
+
+pub has_owner : (c : ℕ) (p : Place) → has_at c p ≡ true → is_owner c p ≡ true
+has_owner c Nobody e = e
+has_owner c (Granted b) e = absurd (true≢false (sym e))
+has_owner c Listed e = e
+has_owner c ToThread e = e
+has_owner c (Polling b) e = e
+has_owner c (Control b) e = e
+
+pub has_out : (c : ℕ) (p : Place) → has_at c p ≡ true → is_out p ≡ true
+has_out c Nobody e = e
+has_out c (Granted b) e = e
+has_out c Listed e = e
+has_out c ToThread e = e
+has_out c (Polling b) e = refl
+has_out c (Control b) e = refl
+
+pub is_false : (b : Bool) → (b ≡ true → ⊥) → b ≡ false
+is_false true h = absurd (h refl)
+is_false false h = refl
+
+pub in_no_hand : (c : ℕ) (p : Place) → is_out p ≡ false → has_at c p ≡ false
+in_no_hand c p e = is_false (has_at c p) (λ h. true≢false (sym (has_out c p h) ∙ e))
+
+-- where an owner stays, and nobody becomes one, the slot is whose it was
+pub has_same : (c : ℕ) (p q : Place) → is_owner c p ≡ is_owner c q → (is_owner c q ≡ true → p ≡ q) → has_at c p ≡ has_at c q
+has_same c p q same stays = by (is_owner c q) refl
+  where
+    by : (b : Bool) → is_owner c q ≡ b → has_at c p ≡ has_at c q
+    by true e = ap (has_at c) (stays e)
+    by false e =
+        is_false (has_at c p) (λ h. true≢false (sym (has_owner c p h) ∙ same ∙ e))
+        ∙ sym (is_false (has_at c q) (λ h. true≢false (sym (has_owner c q h) ∙ e)))

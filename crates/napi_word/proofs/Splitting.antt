@@ -1,0 +1,159 @@
+-- Seats are split off and joined.
+use Rattle.std.proofs.Common.{◌≡◌, ◌≢◌, ◌⊎◌, ℕ, zero, suc, ◌+◌, ◌<◌, List, [], ◌∷◌, ◌++◌, length, set, Bool, true, cond, eqb, eq-eqb, ne_eqb, refl, sym, ap, ◌∙◌, subst, inl, inr, ⊎_elim, arith}
+use mathlib.Core.Option as maybe
+use lib.ListN.{get_elem?}
+use Rattle.atomic_table.specs.Table.{Splits, Joins}
+use Rattle.atomic_table.proofs.Lists.{at_set, at_snoc, set_again}
+use Rattle.napi_model.specs.declared.event.Event.{Event}
+use Rattle.napi_word.specs.declared.view.Key.{Key}
+use Rattle.napi_word.specs.declared.view.Strand.{Strand}
+use Rattle.napi_word.specs.View.{View, is_pass}
+use Rattle.napi_word.specs.Rule.{Fits, Kept, Holding, left_of, right_of, note, note_of, joined, spent}
+use Rattle.napi_word.proofs.Keeps.{St, opened, running}
+
+-- ---- lists
+pub at_end : {A : Type 0} (l : List A) (a b : A) (j : ℕ) → get_elem? (l ++ a ∷ []) j ≡ maybe.some b → (get_elem? l j ≡ maybe.some b) ⊎ ((j ≡ length l) × (a ≡ b))
+at_end [] a b zero e = inr (refl, maybe.some-injective a b e)
+at_end [] a b (suc j) e = absurd (maybe.some-ne-none b (sym e))
+at_end (x ∷ xs) a b zero e = inl e
+at_end (x ∷ xs) a b (suc j) e = ⊎_elim (λ t. inl t) (λ t. inr (ap suc t.0, t.1)) (at_end xs a b j e)
+
+pub within_length : {A : Type 0} (l : List A) (b : A) (j : ℕ) → get_elem? l j ≡ maybe.some b → j < length l
+within_length [] b j e = absurd (maybe.some-ne-none b (sym e))
+within_length (x ∷ xs) b zero e = omega arith
+within_length (x ∷ xs) b (suc j) e = let low = within_length xs b j e in omega (arith, low)
+
+-- of two lists joined, with the place in the list that it is from
+pub at_join : {A : Type 0} (l m : List A) (b : A) (j : ℕ) → get_elem? (l ++ m) j ≡ maybe.some b → (get_elem? l j ≡ maybe.some b) ⊎ ((i : ℕ) × (length l + i ≡ j) × (get_elem? m i ≡ maybe.some b))
+at_join [] m b j e = inr (j, omega arith, e)
+at_join (x ∷ xs) m b zero e = inl e
+at_join (x ∷ xs) m b (suc j) e = ⊎_elim (λ t. inl t) (λ t. let h = t.1 in inr (t.0, omega (arith, h), t.2)) (at_join xs m b j e)
+
+length_set : {A : Type 0} (l : List A) (i : ℕ) (a : A) → length (set l i a) ≡ length l
+length_set [] i a = refl
+length_set (x ∷ xs) zero a = refl
+length_set (x ∷ xs) (suc i) a = ap suc (length_set xs i a)
+
+-- a strand moves to another place
+refit : (key : Key) (h : List Event) (seat seat' : ℕ → ℕ × ℕ) (p q : ℕ × ℕ) (x : Strand) → ((c : ℕ) → seat c ≡ p → seat' c ≡ q) → Fits key h seat p x → Fits key h seat' q x
+refit key h seat seat' p q x goes f = record {
+  begins = f.begins;
+  owned = λ c e. let o = f.owned c e in record { whole = o.whole; shown = o.shown; here = goes c o.here; few = o.few };
+  controller = f.controller;
+  ring = f.ring;
+  begun = f.begun;
+}
+
+-- ---- the second strand is given away
+module _ (key : Key) (id : ℕ) (x y : Strand) (ys : View) (s : St) (r : Kept key s) (at : get_elem? s.views id ≡ maybe.some (x ∷ y ∷ ys)) where
+  abbrev N : ℕ
+  N = length (set s.views id (x ∷ ys))
+
+  abbrev shift : ℕ → ℕ × ℕ
+  shift zero = (id, zero)
+  shift (suc zero) = (N, zero)
+  shift (suc (suc k)) = (id, suc k)
+
+  abbrev moved : ℕ × ℕ → ℕ × ℕ
+  moved p = cond (eqb p.0 id) (shift p.1) p
+
+  here : (k c : ℕ) → r.seat c ≡ (id, k) → moved (r.seat c) ≡ shift k
+  here k c e = ap moved e ∙ ap (λ (b : Bool). cond b (shift k) (id, k)) (eq-eqb id id refl)
+
+  there : (j k c : ℕ) → j ≢ id → r.seat c ≡ (j, k) → moved (r.seat c) ≡ (j, k)
+  there j k c apart e = ap moved e ∙ ap (λ (b : Bool). cond b (shift k) (j, k)) (ne_eqb j id apart)
+
+  left_fits : (k : ℕ) (z : Strand) → get_elem? (x ∷ ys) k ≡ maybe.some z → Fits key r.history (λ c. moved (r.seat c)) (id, k) z
+  left_fits zero z e = refit key r.history r.seat (λ c. moved (r.seat c)) (id, 0) (id, 0) z (here 0) (r.strands id (x ∷ y ∷ ys) at 0 z e)
+  left_fits (suc k) z e = refit key r.history r.seat (λ c. moved (r.seat c)) (id, suc (suc k)) (id, suc k) z (here (suc (suc k))) (r.strands id (x ∷ y ∷ ys) at (suc (suc k)) z e)
+
+  right_fits : (k : ℕ) (z : Strand) → get_elem? (y ∷ []) k ≡ maybe.some z → Fits key r.history (λ c. moved (r.seat c)) (N, k) z
+  right_fits zero z e = refit key r.history r.seat (λ c. moved (r.seat c)) (id, 1) (N, 0) z (here 1) (r.strands id (x ∷ y ∷ ys) at 1 z e)
+  right_fits (suc k) z e = absurd (maybe.some-ne-none z (sym e))
+
+  divided : Kept key record { words = s.words; homes = s.homes; views = set s.views id (x ∷ ys) ++ (y ∷ []) ∷ [] }
+  divided = record {
+    history = r.history;
+    seat = λ c. moved (r.seat c);
+    legal = r.legal;
+    word = r.word;
+    slot = r.slot;
+    strands = λ j u is k z e. ⊎_elim
+        (λ (t : get_elem? (set s.views id (x ∷ ys)) j ≡ maybe.some u). ⊎_elim
+        (λ (d : (j ≡ id) × (x ∷ ys ≡ u)). subst (λ (i : ℕ). Fits key r.history (λ c. moved (r.seat c)) (i, k) z) (sym d.0) (left_fits k z (ap (λ (v : View). get_elem? v k) d.1 ∙ e)))
+        (λ (d : (j ≢ id) × (get_elem? s.views j ≡ maybe.some u)). refit key r.history r.seat (λ c. moved (r.seat c)) (j, k) (j, k) z (λ c. there j k c d.0) (r.strands j u d.1 k z e))
+        (at_set s.views id j (x ∷ ys) u t))
+        (λ (t : (j ≡ N) × (y ∷ [] ≡ u)). subst (λ (i : ℕ). Fits key r.history (λ c. moved (r.seat c)) (i, k) z) (sym t.0) (right_fits k z (ap (λ (v : View). get_elem? v k) t.1 ∙ e)))
+        (at_end (set s.views id (x ∷ ys)) (y ∷ []) u j is);
+    few = r.few;
+  }
+
+pub gives_number : (key : Key) (id : ℕ) (x y : Strand) (ys v : View) → v ≡ x ∷ y ∷ ys → is_pass v ≡ true → Splits (Holding key) id v (left_of v) (right_of v)
+gives_number key id x y ys v is p = subst (λ (u : View). Splits (Holding key) id u (left_of u) (right_of u)) (sym is)
+    (λ s holding at. inr (divided key id x y ys s (running key s holding id (x ∷ y ∷ ys) at (ap is_pass (sym is) ∙ p)) at))
+
+-- ---- a note
+pub notes : (key : Key) (id : ℕ) (v : View) → is_pass v ≡ true → Splits (Holding key) id v v (note_of v)
+notes key id v p s holding at =
+    let r = running key s holding id v at p in
+    let o = opened v p in
+    let shown : note o.first ∷ [] ≡ note_of v = ap note_of (sym o.is) in
+    inr record {
+      history = r.history;
+      seat = r.seat;
+      legal = r.legal;
+      word = r.word;
+      slot = r.slot;
+      strands = λ j u is k z e. ⊎_elim
+          (λ (t : get_elem? (set s.views id v) j ≡ maybe.some u). r.strands j u (ap (λ (l : List View). get_elem? l j) (sym (set_again s.views id v at)) ∙ t) k z e)
+          (λ (t : note_of v ≡ u). one r o.first (r.strands id v at 0 o.first (ap (λ (l : View). get_elem? l 0) o.is)) j k z (ap (λ (l : View). get_elem? l k) (shown ∙ t) ∙ e))
+          (at_snoc (set s.views id v) (note_of v) u j is);
+      few = r.few;
+    }
+  where
+    one : (r : Kept key s) (x : Strand) → Fits key r.history r.seat (id, 0) x → (j k : ℕ) (z : Strand) → get_elem? (note x ∷ []) k ≡ maybe.some z → Fits key r.history r.seat (j, k) z
+    one r x f j zero z e = subst (Fits key r.history r.seat (j, 0)) (maybe.some-injective _ _ e) record { begins = f.begins; owned = λ c none. absurd (cc); controller = f.controller; ring = f.ring; begun = f.begun }
+    one r x f j (suc k) z e = absurd (maybe.some-ne-none z (sym e))
+
+-- ---- a seat is taken in
+module _ (key : Key) (id : ℕ) (v : View) (other : ℕ) (w : View) (s : St) (r : Kept key s) (at : get_elem? s.views id ≡ maybe.some v) (apart : other ≢ id)
+    (beside : get_elem? (set s.views id (joined v w)) other ≡ maybe.some w) where
+  abbrev shifted : ℕ × ℕ → ℕ × ℕ
+  shifted p = cond (eqb p.0 other) (id, length v + p.1) p
+
+  stood : get_elem? s.views other ≡ maybe.some w
+  stood = ⊎_elim (λ (t : (other ≡ id) × (joined v w ≡ w)). absurd (apart t.0)) (λ (t : (other ≢ id) × (get_elem? s.views other ≡ maybe.some w)). t.1) (at_set s.views id other (joined v w) w beside)
+
+  comes : (k c : ℕ) → r.seat c ≡ (other, k) → shifted (r.seat c) ≡ (id, length v + k)
+  comes k c e = ap shifted e ∙ ap (λ (b : Bool). cond b (id, length v + k) (other, k)) (eq-eqb other other refl)
+
+  stays : (j k c : ℕ) → j ≢ other → r.seat c ≡ (j, k) → shifted (r.seat c) ≡ (j, k)
+  stays j k c n e = ap shifted e ∙ ap (λ (b : Bool). cond b (id, length v + k) (j, k)) (ne_eqb j other n)
+
+  both_fit : (k : ℕ) (z : Strand) → get_elem? (joined v w) k ≡ maybe.some z → Fits key r.history (λ c. shifted (r.seat c)) (id, k) z
+  both_fit k z e = ⊎_elim
+      (λ (t : get_elem? v k ≡ maybe.some z). refit key r.history r.seat (λ c. shifted (r.seat c)) (id, k) (id, k) z (λ c. stays id k c (λ n. apart (sym n))) (r.strands id v at k z t))
+      (λ (t : (i : ℕ) × (length v + i ≡ k) × (get_elem? w i ≡ maybe.some z)).
+      subst (λ (i : ℕ). Fits key r.history (λ c. shifted (r.seat c)) (id, i) z) t.1
+      (refit key r.history r.seat (λ c. shifted (r.seat c)) (other, t.0) (id, length v + t.0) z (comes t.0) (r.strands other w stood t.0 z t.2)))
+      (at_join v w z k e)
+
+  merged : Kept key record { words = s.words; homes = s.homes; views = set (set s.views id (joined v w)) other spent }
+  merged = record {
+    history = r.history;
+    seat = λ c. shifted (r.seat c);
+    legal = r.legal;
+    word = r.word;
+    slot = r.slot;
+    strands = λ j u is k z e. ⊎_elim
+        (λ (t : (j ≡ other) × (spent ≡ u)). absurd (maybe.some-ne-none z (sym (ap (λ (l : View). get_elem? l k) t.1 ∙ e))))
+        (λ (t : (j ≢ other) × (get_elem? (set s.views id (joined v w)) j ≡ maybe.some u)). ⊎_elim
+        (λ (d : (j ≡ id) × (joined v w ≡ u)). subst (λ (i : ℕ). Fits key r.history (λ c. shifted (r.seat c)) (i, k) z) (sym d.0) (both_fit k z (ap (λ (l : View). get_elem? l k) d.1 ∙ e)))
+        (λ (d : (j ≢ id) × (get_elem? s.views j ≡ maybe.some u)). refit key r.history r.seat (λ c. shifted (r.seat c)) (j, k) (j, k) z (λ c. stays j k c t.0) (r.strands j u d.1 k z e))
+        (at_set s.views id j (joined v w) u t.1))
+        (at_set (set s.views id (joined v w)) other j spent u is);
+    few = r.few;
+  }
+
+pub joins : (key : Key) (id : ℕ) (v : View) (other : ℕ) (w : View) → is_pass v ≡ true → Joins (Holding key) id v other w (joined v w) spent
+joins key id v other w p s holding at apart beside = inr (merged key id v other w s (running key s holding id v at p) at apart beside)

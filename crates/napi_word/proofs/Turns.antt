@@ -1,0 +1,282 @@
+-- Each kind of step, at each state that the view of its pass allows.
+use Rattle.std.proofs.Common.{◌≡◌, ◌⊎◌, ◌||◌, ℕ, eqb, eq-eqb, Option, Some, None, Bool, true, false, refl, sym, ap, ◌∙◌, subst, inl, inr, ⊎_elim, true≢false, bit_and, bit_or}
+use prog.Atomic.{either}
+use Rattle.std.proofs.lemmas.Bool.{eqb-true}
+use Rattle.atomic_table.specs.Table.{Me}
+use Rattle.napi_model.specs.declared.state.State.{State as Napi}
+use Rattle.napi_model.specs.declared.state.Seen.{Seen}
+use Rattle.napi_model.specs.declared.state.Kind.{Kind}
+use Rattle.napi_model.specs.declared.state.Kind.TheVariants as kind
+use Rattle.napi_model.specs.declared.state.Place.{Place}
+use Rattle.napi_model.specs.declared.state.Place.TheVariants.{Nobody, Granted, Listed, ToThread, Polling, Control}
+use Rattle.napi_model.specs.declared.event.Operation.{Operation}
+use Rattle.napi_model.specs.declared.event.Operation.TheVariants.{Look, Schedule, Hand, Take, Complete, MarkDisable, TakeDisable, Unmark, Enable, SetThreaded}
+use Rattle.napi_model.specs.Step.{seen_of, handed_at, place_of, MayHand, IsControl}
+use Rattle.napi_model.specs.Laws.{is_owner}
+use Rattle.napi_model.specs.Word.{word_of}
+use Rattle.napi_model.proofs.Words.{word_of-injective}
+use Rattle.napi_word.specs.declared.table.Pass.{Pass}
+use Rattle.napi_word.specs.declared.table.StateTable.{StateTable}
+use Rattle.napi_word.specs.declared.view.Holds.{Holds}
+use Rattle.napi_word.specs.View.{View, number_of, controller_of, place_in}
+use Rattle.napi_word.specs.Slot.{Content, has_at, is_out, Tied, Moves, stays, taken, given}
+use Rattle.napi_word.specs.Passes.{tie_of, IsWithin, HandsOver, Polls, IsController, Controls, IsNoOwner, Disable}
+use Rattle.napi_word.specs.Atoms.{MayMake, MayExchange}
+use Rattle.napi_word.specs.Events.{schedule_to, complete_to, disable_to, enable_to}
+use Rattle.napi_word.specs.Told.{Did, when, either_op, no_move, load_op, prep_of, done_of, is_marked, is_busy, busy_op}
+use Rattle.napi_word.proofs.Keeps.{Knows}
+use Rattle.napi_word.proofs.Allowed.{nothing, Fitting, Turn, allowed}
+use Rattle.napi_word.proofs.Bits.{hand_bits, take_mask, with_mark, unhand, hand_word, take_word, threaded_word, unthreaded_word, mark_word, unmark_word}
+
+-- ---- places and marks
+
+marked_place : (k : Kind) (p : Place) → is_marked k (handed_at p) ≡ true → p ≡ place_of k
+marked_place kind.List Nobody e = absurd (true≢false (sym e))
+marked_place kind.List (Granted c) e = absurd (true≢false (sym e))
+marked_place kind.List Listed e = refl
+marked_place kind.List ToThread e = absurd (true≢false (sym e))
+marked_place kind.List (Polling c) e = absurd (true≢false (sym e))
+marked_place kind.List (Control c) e = absurd (true≢false (sym e))
+marked_place kind.Thread Nobody e = absurd (true≢false (sym e))
+marked_place kind.Thread (Granted c) e = absurd (true≢false (sym e))
+marked_place kind.Thread Listed e = absurd (true≢false (sym e))
+marked_place kind.Thread ToThread e = refl
+marked_place kind.Thread (Polling c) e = absurd (true≢false (sym e))
+marked_place kind.Thread (Control c) e = absurd (true≢false (sym e))
+
+place_marked : (k : Kind) → is_marked k (handed_at (place_of k)) ≡ true
+place_marked kind.List = refl
+place_marked kind.Thread = refl
+
+unhand_marked : (k : Kind) (m : Option Kind) → is_marked k m ≡ true → unhand k m ≡ None
+unhand_marked kind.List None e = refl
+unhand_marked kind.List (Some kind.List) e = refl
+unhand_marked kind.List (Some kind.Thread) e = absurd (true≢false (sym e))
+unhand_marked kind.Thread None e = refl
+unhand_marked kind.Thread (Some kind.List) e = absurd (true≢false (sym e))
+unhand_marked kind.Thread (Some kind.Thread) e = refl
+
+unhand_other : (k : Kind) (m : Option Kind) → is_marked k m ≡ false → unhand k m ≡ m
+unhand_other kind.List None e = refl
+unhand_other kind.List (Some kind.List) e = absurd (true≢false e)
+unhand_other kind.List (Some kind.Thread) e = refl
+unhand_other kind.Thread None e = refl
+unhand_other kind.Thread (Some kind.List) e = refl
+unhand_other kind.Thread (Some kind.Thread) e = absurd (true≢false e)
+
+home_at : (k : Kind) → is_out (place_of k) ≡ false
+home_at kind.List = refl
+home_at kind.Thread = refl
+
+or_is : (a b : Bool) → (a || b) ≡ true → (a ≡ true) ⊎ (b ≡ true)
+or_is true b e = inl refl
+or_is false b e = inr e
+
+control_is : (p : Place) → IsControl p → (d : ℕ) × (p ≡ Control d)
+control_is Nobody h = absurd h
+control_is (Granted c) h = absurd h
+control_is Listed h = absurd h
+control_is ToThread h = absurd h
+control_is (Polling c) h = absurd h
+control_is (Control c) h = (c, refl)
+
+gift : {A : Type 0} (b : Bool) (m : Moves) → (m ≡ given → A) → when b m ≡ given → A
+gift true m f e = f e
+gift false m f e = absurd (cc)
+
+-- ---- what the owner and the controller know
+
+owned_place : (k : ℕ) (v : View) (c : ℕ) (now : Napi) → Knows k v c now → (q : Place) → place_in v ≡ q → is_owner c q ≡ true → now.place ≡ q
+owned_place k v c now kn q is mine = kn.place (ap (is_owner c) is ∙ mine) ∙ is
+
+is_polling : (k : ℕ) (v : View) (c : ℕ) (now : Napi) → Knows k v c now → place_in v ≡ Polling (number_of v) → now.place ≡ Polling c
+is_polling k v c now kn is = owned_place k v c now kn (Polling c) (is ∙ ap Polling kn.number) (eq-eqb c c refl)
+
+is_granted : (k : ℕ) (v : View) (c : ℕ) (now : Napi) → Knows k v c now → place_in v ≡ Granted (number_of v) → now.place ≡ Granted c
+is_granted k v c now kn is = owned_place k v c now kn (Granted c) (is ∙ ap Granted kn.number) (eq-eqb c c refl)
+
+is_control : (k : ℕ) (v : View) (c : ℕ) (now : Napi) → Knows k v c now → place_in v ≡ Control (number_of v) → now.place ≡ Control c
+is_control k v c now kn is = owned_place k v c now kn (Control c) (is ∙ ap Control kn.number) (eq-eqb c c refl)
+
+is_last : (k : ℕ) (v : View) (c : ℕ) (now : Napi) → Knows k v c now → number_of v ≡ controller_of v → c ≡ k
+is_last k v c now kn top = sym kn.number ∙ top ∙ kn.controller
+
+-- an exchange is the operation where it wins, and else a look
+exchange_turn : (k : ℕ) (now : Napi) (c : ℕ) (seen : Seen) (next : ℕ) (o : Operation) (m : Moves)
+    → (seen_of now ≡ seen → Turn k now c o m (λ n. next)) → (b : Bool) → eqb (word_of (seen_of now)) (word_of seen) ≡ b
+    → Turn k now c (either_op b o (seen_of now)) (when b m) (λ n. either (eqb n (word_of seen)) next n)
+exchange_turn k now c seen next o m hit true e = let t = hit (word_of-injective _ _ (eqb-true _ _ e)) in record { legal = t.legal; word = rw e t.word; slot = t.slot }
+exchange_turn k now c seen next o m hit false e = record { legal = (refl, tt); word = rw e refl; slot = (refl, refl) }
+
+module _ (t : StateTable) (p : Pass) where
+  abbrev me : Me Content View
+  me = p.seat.me
+
+  abbrev last : ℕ
+  last = t.table.shared.key.controller
+
+  -- a step is allowed that is legal wherever the pass may be
+  makes : (g : ℕ → ℕ) (f : Seen → Operation) (m : Seen → Moves) → ((x : Seen) → m x ≡ given → IsWithin p)
+      → ((now : Napi) (c : ℕ) → Knows last me.0 c now → Turn last now c (f (seen_of now)) (m (seen_of now)) g)
+      → MayMake t p.seat g f m
+  makes g f m ready turn = allowed t.table.shared.key t.table.shared.table_id.slots p.seat.id me t.one_slot p.is_pass p.holds (tie_of p) g f m ready turn
+
+  -- ---- loads
+  pub looks : MayMake t p.seat (λ n. n) (λ x. Look x) no_move
+  looks = makes (λ n. n) (λ x. Look x) no_move (λ x e. absurd (cc))
+      (λ now c kn. record { legal = (refl, tt); word = refl; slot = (refl, refl) })
+
+  try_turn : (now : Napi) (c : ℕ) (b : Bool) → now.flags.disable ≡ b → Turn last now c (load_op b (seen_of now)) stays (λ n. n)
+  try_turn now c true is = record { legal = (is, tt); word = refl; slot = (refl, refl) }
+  try_turn now c false is = record { legal = (refl, tt); word = refl; slot = (refl, refl) }
+
+  pub tries : MayMake t p.seat (λ n. n) (λ x. load_op x.flags.disable x) no_move
+  tries = makes (λ n. n) (λ x. load_op x.flags.disable x) no_move (λ x e. absurd (cc))
+      (λ now c kn. try_turn now c now.flags.disable refl)
+
+  ask_turn : (now : Napi) (c : ℕ) → c ≡ last → now.flags.disable ≡ true → (b : Bool) → is_busy (seen_of now) ≡ b → Turn last now c (busy_op b (seen_of now)) stays (λ n. n)
+  ask_turn now c top off true is = record { legal = ((off, or_is now.flags.sched now.flags.npsvc is), top); word = refl; slot = (refl, refl) }
+  ask_turn now c top off false is = record { legal = (refl, tt); word = refl; slot = (refl, refl) }
+
+  pub asks : IsController p → Disable true p → MayMake t p.seat (λ n. n) (λ x. busy_op (is_busy x) x) no_move
+  asks is off = makes (λ n. n) (λ x. busy_op (is_busy x) x) no_move (λ x e. absurd (cc))
+      (λ now c kn. let top = is_last last me.0 c now kn is in ask_turn now c top (kn.disable top ∙ off) (is_busy (seen_of now)) refl)
+
+  -- ---- exchanges
+  exchanges : (seen next : Seen) (f : Seen → Operation) (m : Seen → Moves) → ((x : Seen) → m x ≡ given → IsWithin p)
+      → ((now : Napi) (c : ℕ) → Knows last me.0 c now → seen_of now ≡ seen → Turn last now c (f (seen_of now)) (m (seen_of now)) (λ n. word_of next))
+      → MayExchange t p.seat seen next f m
+  exchanges seen next f m ready hit = makes (λ n. either (eqb n (word_of seen)) (word_of next) n)
+      (λ x. either_op (eqb (word_of x) (word_of seen)) (f x) x) (λ x. when (eqb (word_of x) (word_of seen)) (m x))
+      (λ x e. gift (eqb (word_of x) (word_of seen)) (m x) (ready x) e)
+      (λ now c kn. exchange_turn last now c seen (word_of next) (f (seen_of now)) (m (seen_of now)) (hit now c kn) (eqb (word_of (seen_of now)) (word_of seen)) refl)
+
+  schedule_hit : (seen : Seen) → seen.flags.disable ≡ false → (now : Napi) (c : ℕ) → Knows last me.0 c now → seen_of now ≡ seen → (b : Bool) → now.flags.sched ≡ b
+      → Turn last now c (Schedule (prep_of b)) stays (λ n. word_of (schedule_to seen.flags.sched seen))
+  schedule_hit seen on now c kn same true is = record {
+    legal = ((ap (λ (x : Seen). x.flags.disable) same ∙ on, is), tt);
+    word = ap (λ (x : Seen). word_of (schedule_to x.flags.sched x)) (sym same) ∙ ap (λ (v : Bool). word_of (schedule_to v (seen_of now))) is;
+    slot = (refl, refl);
+  }
+  schedule_hit seen on now c kn same false is = let nobody = kn.sound is in record {
+    legal = ((ap (λ (x : Seen). x.flags.disable) same ∙ on, is), tt);
+    word = ap (λ (x : Seen). word_of (schedule_to x.flags.sched x)) (sym same) ∙ ap (λ (v : Bool). word_of (schedule_to v (seen_of now))) is
+        ∙ ap (λ (q : Place). word_of (schedule_to false (record { flags = now.flags; handed = handed_at q }))) nobody;
+    slot = (sym (ap is_out nobody), sym (ap (has_at c) nobody));
+  }
+
+  pub schedules : (seen : Seen) → seen.flags.disable ≡ false → MayExchange t p.seat seen (schedule_to seen.flags.sched seen) (λ x. Schedule (prep_of x.flags.sched)) no_move
+  schedules seen on = exchanges seen (schedule_to seen.flags.sched seen) (λ x. Schedule (prep_of x.flags.sched)) no_move (λ x e. absurd (cc))
+      (λ now c kn same. schedule_hit seen on now c kn same now.flags.sched refl)
+
+  complete_hit : (seen : Seen) (now : Napi) (c : ℕ) → now.place ≡ Polling c → seen_of now ≡ seen → (b : Bool) → now.flags.missed ≡ b
+      → Turn last now c (Complete (done_of b)) given (λ n. word_of (complete_to seen.flags.missed seen))
+  complete_hit seen now c place same true is = record {
+    legal = ((place, is), tt);
+    word = ap (λ (x : Seen). word_of (complete_to x.flags.missed x)) (sym same) ∙ ap (λ (v : Bool). word_of (complete_to v (seen_of now))) is
+        ∙ ap (λ (q : Place). word_of (complete_to true (record { flags = now.flags; handed = handed_at q }))) place;
+    slot = (ap (has_at c) place ∙ eq-eqb c c refl, refl);
+  }
+  complete_hit seen now c place same false is = record {
+    legal = ((place, is), tt);
+    word = ap (λ (x : Seen). word_of (complete_to x.flags.missed x)) (sym same) ∙ ap (λ (v : Bool). word_of (complete_to v (seen_of now))) is
+        ∙ ap (λ (q : Place). word_of (complete_to false (record { flags = now.flags; handed = handed_at q }))) place;
+    slot = (ap (has_at c) place ∙ eq-eqb c c refl, refl);
+  }
+
+  pub completes : (seen : Seen) → Polls p → IsWithin p
+      → MayExchange t p.seat seen (complete_to seen.flags.missed seen) (λ x. Complete (done_of x.flags.missed)) (λ x. given)
+  completes seen polls within = exchanges seen (complete_to seen.flags.missed seen) (λ x. Complete (done_of x.flags.missed)) (λ x. given) (λ x e. within)
+      (λ now c kn same. complete_hit seen now c (is_polling last me.0 c now kn polls) same now.flags.missed refl)
+
+  pub disables : (seen : Seen) → IsController p → seen.flags.disable ≡ true → seen.flags.sched ≡ false → seen.flags.npsvc ≡ false
+      → MayExchange t p.seat seen (disable_to seen) (λ x. TakeDisable true) (λ x. taken)
+  disables seen top off sched npsvc = exchanges seen (disable_to seen) (λ x. TakeDisable true) (λ x. taken) (λ x e. absurd (cc))
+      (λ now c kn same.
+      let clear : now.flags.sched ≡ false = ap (λ (x : Seen). x.flags.sched) same ∙ sched in
+      let nobody = kn.sound clear in record {
+        legal = ((ap (λ (x : Seen). x.flags.disable) same ∙ off, clear, ap (λ (x : Seen). x.flags.npsvc) same ∙ npsvc), is_last last me.0 c now kn top);
+        word = ap (λ (x : Seen). word_of (disable_to x)) (sym same) ∙ ap (λ (q : Place). word_of (disable_to (record { flags = now.flags; handed = handed_at q }))) nobody;
+        slot = (ap is_out nobody, eq-eqb c c refl);
+      })
+
+  pub enables : (b : Bool) (seen : Seen) → IsController p → Controls p → Disable false p → IsWithin p
+      → MayExchange t p.seat seen (enable_to b seen) (λ x. Enable b) (λ x. given)
+  enables b seen is control on within = exchanges seen (enable_to b seen) (λ x. Enable b) (λ x. given) (λ x e. within)
+      (λ now c kn same.
+      let place = is_control last me.0 c now kn control in
+      let top = is_last last me.0 c now kn is in record {
+        legal = ((place, kn.disable top ∙ on), top);
+        word = ap (λ (x : Seen). word_of (enable_to b x)) (sym same) ∙ ap (λ (q : Place). word_of (enable_to b (record { flags = now.flags; handed = handed_at q }))) place;
+        slot = (ap (has_at c) place ∙ eq-eqb c c refl, refl);
+      })
+
+  -- ---- single bits
+  hand_turn : (k : Kind) (m : Moves) (now : Napi) (c : ℕ) → MayHand c k now.place → handed_at now.place ≡ None → Fitting m c now.place (place_of k) → Turn last now c (Hand k) m (λ n. bit_or n (hand_bits k))
+  hand_turn kind.List m now c may none slot = record { legal = (may, tt); word = hand_word kind.List (seen_of now) none; slot = slot }
+  hand_turn kind.Thread m now c may none slot = record { legal = (may, tt); word = hand_word kind.Thread (seen_of now) none; slot = slot }
+
+  granted_turn : (k : Kind) (now : Napi) (c : ℕ) → now.place ≡ Granted c → Turn last now c (Hand k) stays (λ n. bit_or n (hand_bits k))
+  granted_turn kind.List now c is = hand_turn kind.List stays now c (inl is) (ap handed_at is) (sym (ap is_out is), sym (ap (has_at c) is))
+  granted_turn kind.Thread now c is = hand_turn kind.Thread stays now c is (ap handed_at is) (sym (ap is_out is), sym (ap (has_at c) is))
+
+  -- who was granted the instance holds nothing, and so gives nothing away
+  nothing_given : (o : Operation) (me' : Me Content View) → place_in me.0 ≡ Granted (number_of me.0) → Did o stays me me' → Did o given me me'
+  nothing_given o me' is d = (d.0, λ h' tie'. subst (λ (y : Holds). Tied y me') (nothing h' (sym tie'.right ∙ ap (has_at (number_of me.0)) is)) (d.1 h' tie'))
+
+  hands_granted : (k : Kind) → place_in me.0 ≡ Granted (number_of me.0) → MayMake t p.seat (λ n. bit_or n (hand_bits k)) (λ x. Hand k) (λ x. given)
+  hands_granted k is s holding len at fits =
+      let a = makes (λ n. bit_or n (hand_bits k)) (λ x. Hand k) no_move (λ x e. absurd (cc))
+      (λ now c kn. granted_turn k now c (is_granted last me.0 c now kn is)) s holding len at fits in
+      (a.0, a.1, a.2, a.3, (a.4.0, a.4.1, nothing_given (Hand k) _ is a.4.2))
+
+  hands_polled : Polls p → IsWithin p → MayMake t p.seat (λ n. bit_or n (hand_bits kind.List)) (λ x. Hand kind.List) (λ x. given)
+  hands_polled is within = makes (λ n. bit_or n (hand_bits kind.List)) (λ x. Hand kind.List) (λ x. given) (λ x e. within)
+      (λ now c kn. let q = is_polling last me.0 c now kn is in hand_turn kind.List given now c (inr q) (ap handed_at q) (ap (has_at c) q ∙ eq-eqb c c refl, refl))
+
+  pub hands : (k : Kind) → HandsOver k p → IsWithin p → MayMake t p.seat (λ n. bit_or n (hand_bits k)) (λ x. Hand k) (λ x. given)
+  hands kind.List may within = ⊎_elim (λ (q : place_in me.0 ≡ Granted (number_of me.0)). hands_granted kind.List q) (λ (q : Polls p). hands_polled q within) may
+  hands kind.Thread may within = hands_granted kind.Thread may
+
+  take_turn : (k : Kind) (now : Napi) (c : ℕ) (b : Bool) → is_marked k (handed_at now.place) ≡ b → Turn last now c (Take k b) (when b taken) (λ n. bit_and n (take_mask k))
+  take_turn k now c true is =
+      let place = marked_place k now.place is in record {
+        legal = (place, tt);
+        word = take_word k (seen_of now) ∙ ap (λ (m : Option Kind). word_of (with_mark m (seen_of now))) (unhand_marked k (handed_at now.place) is);
+        slot = (ap is_out place ∙ home_at k, eq-eqb c c refl);
+      }
+  take_turn k now c false is = record {
+    legal = ((λ e. true≢false (sym (place_marked k) ∙ ap (λ (q : Place). is_marked k (handed_at q)) (sym e) ∙ is)), tt);
+    word = take_word k (seen_of now) ∙ ap (λ (m : Option Kind). word_of (with_mark m (seen_of now))) (unhand_other k (handed_at now.place) is);
+    slot = (refl, refl);
+  }
+
+  pub takes_over : (k : Kind) → MayMake t p.seat (λ n. bit_and n (take_mask k)) (λ x. Take k (is_marked k x.handed)) (λ x. when (is_marked k x.handed) taken)
+  takes_over k = makes (λ n. bit_and n (take_mask k)) (λ x. Take k (is_marked k x.handed)) (λ x. when (is_marked k x.handed) taken)
+      (λ x e. gift (is_marked k x.handed) taken (λ t. absurd (cc)) e) (λ now c kn. take_turn k now c (is_marked k (handed_at now.place)) refl)
+
+  pub sets_threaded : MayMake t p.seat (λ n. bit_or n 256) (λ x. SetThreaded true) no_move
+  sets_threaded = makes (λ n. bit_or n 256) (λ x. SetThreaded true) no_move (λ x e. absurd (cc))
+      (λ now c kn. record { legal = (tt, tt); word = threaded_word (seen_of now); slot = (refl, refl) })
+
+  pub clears_threaded : MayMake t p.seat (λ n. bit_and n 18446744073709551359) (λ x. SetThreaded false) no_move
+  clears_threaded = makes (λ n. bit_and n 18446744073709551359) (λ x. SetThreaded false) no_move (λ x e. absurd (cc))
+      (λ now c kn. record { legal = (tt, tt); word = unthreaded_word (seen_of now); slot = (refl, refl) })
+
+  not_control : (now : Napi) (c : ℕ) → Knows last me.0 c now → c ≡ last → IsNoOwner p → ¬ IsControl now.place
+  not_control now c kn top free h =
+      let d = control_is now.place h in
+      let mine : is_owner c now.place ≡ true = ap (is_owner c) d.1 ∙ eq-eqb d.0 c (kn.controlled d.0 d.1 ∙ sym top) in
+      true≢false (sym mine ∙ kn.owner ∙ ap (λ (n : ℕ). is_owner n (place_in me.0)) (sym kn.number) ∙ free)
+
+  pub marks : IsController p → IsNoOwner p → Disable false p
+      → MayMake t p.seat (λ n. bit_or n 4) (λ x. MarkDisable) no_move
+  marks is free on = makes (λ n. bit_or n 4) (λ x. MarkDisable) no_move (λ x e. absurd (cc))
+      (λ now c kn. let top = is_last last me.0 c now kn is in
+      record { legal = ((kn.disable top ∙ on, not_control now c kn top free), top); word = mark_word (seen_of now); slot = (refl, refl) })
+
+  pub unmarks : IsController p → Controls p → Disable true p
+      → MayMake t p.seat (λ n. bit_and n 18446744073709551611) (λ x. Unmark) no_move
+  unmarks is control off = makes (λ n. bit_and n 18446744073709551611) (λ x. Unmark) no_move (λ x e. absurd (cc))
+      (λ now c kn. let top = is_last last me.0 c now kn is in
+      record { legal = ((is_control last me.0 c now kn control, kn.disable top ∙ off), top); word = unmark_word (seen_of now); slot = (refl, refl) })

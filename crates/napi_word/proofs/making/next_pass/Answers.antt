@@ -1,0 +1,32 @@
+use Rattle.std.proofs.Common.{[], ap, ◌∙◌, sym}
+use Rattle.atomic_table.specs.Table.{Me}
+use Rattle.napi_word.specs.View.{View, is_pass, ring_of}
+use Rattle.napi_word.specs.Slot.{Content, hold_of, owns_slot, ring_in}
+use Rattle.napi_word.specs.Rule.{left_of, right_of}
+use Rattle.napi_word.proofs.Said.{one_there}
+use Rattle.napi_word.proofs.Start.{maker_more, owns_nothing}
+use Rattle.napi_word.proofs.Splitting.{gives_number}
+use Rattle.napi_word.proofs.making.next_pass.Goals as goal
+
+pub split_seat-requires : goal.split_seat-requires
+split_seat-requires c =
+    let key = c.args.table.now.table.shared.key in
+    let more = maker_more key.controller key.ring.value c.args.number c.requires.number in
+    (c.requires.table, one_there c.args.table.now, gives_number key _ _ _ _ _ (c.requires.view ∙ more) c.args.maker.now.is_pass)
+
+pub invariant_of-result : goal.invariant_of-result
+invariant_of-result c =
+    let key = c.args.table.now.table.shared.key in
+    let more = maker_more key.controller key.ring.value c.args.number c.requires.number in
+    let is = c.split_seat.ensures.4 ∙ ap (λ (v : View). (right_of v, [])) (c.requires.view ∙ more) in record {
+      is_pass = ap (λ (m : Me Content View). is_pass m.0) is;
+      marked = ap (λ (m : Me Content View). hold_of m.1) is;
+      right = ap (λ (m : Me Content View). owns_slot m.0) is ∙ owns_nothing key.controller key.ring.value c.args.number c.requires.number;
+      ring = ap (λ (m : Me Content View). ring_in m.1 m.0) is ∙ sym (ap (λ (m : Me Content View). ring_of m.0) is);
+    }
+
+pub returns-clause-view : goal.returns-clause-view
+returns-clause-view c =
+    let key = c.args.table.now.table.shared.key in
+    let more = maker_more key.controller key.ring.value c.args.number c.requires.number in
+    ap (λ (m : Me Content View). m.0) c.split_seat.ensures.2 ∙ ap left_of (c.requires.view ∙ more)

@@ -1,0 +1,36 @@
+use Rattle.std.proofs.Common.{sym, ap, ◌∙◌, subst}
+use mathlib.Core.List.{IsPrefix}
+use Rattle.napi_model.specs.declared.event.Operation.TheVariants.{Look}
+use Rattle.napi_word.specs.View.{View, shown}
+use Rattle.napi_word.specs.Rule.{joined}
+use Rattle.napi_word.specs.Events.{Steps}
+use Rattle.napi_word.proofs.Said.{one_there}
+use Rattle.napi_word.proofs.Splitting.{notes, joins}
+use Rattle.napi_word.proofs.Meets.{steps_joined, meets}
+use Rattle.napi_word.proofs.table.StateTable.meet.Goals as goal
+
+pub split_seat-note-requires : goal.split_seat-note-requires
+split_seat-note-requires c = (c.look-found.ensures.step.table ∙ c.requires.first, one_there c.args.self.now, notes _ _ _ c.look-found.new.pass.is_pass)
+
+pub join_seat-requires : goal.join_seat-requires
+join_seat-requires c =
+    let n = c.split_seat-note.ensures in
+    (c.requires.second, n.3 ∙ c.look-found.ensures.step.table ∙ c.requires.first, ap (λ m. m.1) n.4, one_there c.args.self.now, joins _ _ _ _ _ c.args.second.now.is_pass)
+
+pub returns-clause-second : goal.returns-clause-second
+returns-clause-second c =
+    let v : View = c.args.second.now.seat.me.0 in
+    let j = c.join_seat.ensures in
+    let l = c.look.ensures.step in
+    let e = subst (λ (u : View). Steps u (Look c.look.result) c.look.new.pass.seat.me.0) (ap (λ m. m.0) j.2) l.event in
+    record { table = l.table ∙ j.0; holds = l.holds; event = steps_joined v c.split_seat-note.result.me.0 (Look c.look.result) c.look.new.pass.seat.me.0 c.args.second.now.is_pass e }
+
+pub returns-clause-met : goal.returns-clause-met
+returns-clause-met c =
+    let v : View = c.args.second.now.seat.me.0 in
+    let a : View = c.look-found.new.pass.seat.me.0 in
+    let n = c.split_seat-note.ensures in
+    let j = c.join_seat.ensures in
+    let is = ap (λ m. m.0) j.2 ∙ ap (λ (w : View). joined v w) (ap (λ m. m.0) n.4) in
+    let e = subst (λ (u : View). Steps u (Look c.look.result) c.look.new.pass.seat.me.0) is c.look.ensures.step.event in
+    subst (λ (u : View). IsPrefix (shown u) (shown c.look.new.pass.seat.me.0)) (sym (ap (λ m. m.0) n.2)) (meets v a (Look c.look.result) c.look.new.pass.seat.me.0 c.look-found.new.pass.is_pass e)

@@ -1,0 +1,74 @@
+-- A table that has ended: the one history, read off.
+use Rattle.std.specs.Prelude.{◌≡◌, ◌↔◌, ℕ, ◌<◌, ◌≤◌, ◌+◌, Bool, true, false, List, length, slice_get, Option, Some, None, ◌≢◌, [], ◌∷◌, ◌++◌}
+use mathlib.Core.List.{IsPrefix}
+use Rattle.rx_ring.specs.declared.ends.RxCtx.{RxCtx}
+use Rattle.rx_ring.specs.Ends.{RingName, ring_name, SameCtx}
+use Rattle.napi_model.specs.declared.event.Event.{Event}
+use Rattle.napi_model.specs.Step.{opening}
+use Rattle.napi_model.specs.History.{LegalHistory, state_after, own}
+use Rattle.napi_model.specs.Laws.{is_owner}
+use Rattle.napi_word.specs.declared.view.Holds.{Holds}
+use Rattle.napi_word.specs.declared.view.Holds.TheVariants.{Nothing, Within, Out}
+use Rattle.napi_word.specs.declared.gathering.Found.{Found}
+use Rattle.napi_word.specs.declared.gathering.Gathering.{Gathering}
+use Rattle.napi_word.specs.declared.table.Pass.{Pass}
+use Rattle.napi_word.specs.declared.table.StateTable.{StateTable}
+use Rattle.napi_word.specs.View.{View, ring_of, place_in, controller_of, shown, mine, number_of}
+use Rattle.napi_word.specs.Passes.{view_of, controller_of_table, ring_of_table}
+
+-- what a pass that held this adds to what was found
+abbrev pub Finds : Holds → Option RingName → Found → Found → Type 0
+Finds Nothing ring before after = after ≡ before
+Finds Within ring before after = (x : RxCtx) × (after ≡ record before { ctx = Some x }) × (ring ≡ Some (ring_name x))
+Finds Out ring before after = after ≡ record before { out = true }
+
+abbrev pub picked : Bool → Option RxCtx → Option RxCtx → Option RxCtx
+picked true held slot = None
+picked false (Some x) slot = Some x
+picked false None slot = slot
+
+-- one of the passes has the context out
+abbrev pub IsOut : List Pass → Type 0
+IsOut passes = (k : ℕ) × (p : Pass) × (slice_get passes k ≡ Some p) × (p.holds ≡ Out)
+
+-- the passes' views, one after the other
+abbrev pub views_of : List Pass → View
+views_of [] = []
+views_of (p ∷ ps) = views_of ps ++ view_of p
+
+abbrev pub IsGatheredOf : StateTable → Gathering → Type 0
+IsGatheredOf t g = g.seat.table_id ≡ t.table.shared.table_id
+
+-- one seat has taken in these passes, the last of them first, and this is what was found in their hands
+pub record Gathered (taken : List Pass) (v : View) (f : Found) : Type 0 where
+  pub views : v ≡ views_of taken
+  pub some_out : f.out ≡ true → IsOut taken
+  pub none_out : f.out ≡ false → (k : ℕ) (p : Pass) → slice_get taken k ≡ Some p → p.holds ≢ Out
+  pub none_within : f.ctx ≡ None → (k : ℕ) (p : Pass) → slice_get taken k ≡ Some p → p.holds ≢ Within
+  pub ring : (x : RxCtx) → f.ctx ≡ Some x → (k : ℕ) × (p : Pass) × (slice_get taken k ≡ Some p) × (ring_of (view_of p) ≡ Some (ring_name x))
+
+-- all passes are given, and the table is closed
+pub record IsEnded (t : StateTable) (passes : List Pass) (ctx : Option RxCtx) : Type 0 where
+  -- the one history, which is legal
+  pub history : List Event
+  pub legal : LegalHistory (controller_of_table t) (opening (controller_of_table t)) history
+  -- each pass has seen a beginning of it, and its own list is its number's events in it
+  pub begins : (k : ℕ) (p : Pass) → slice_get passes k ≡ Some p → IsPrefix (shown (view_of p)) history
+  pub exact : (k : ℕ) (p : Pass) → slice_get passes k ≡ Some p → own (number_of (view_of p)) history ≡ mine (view_of p)
+  -- no pass is there twice; each number up to the controller's is one of theirs, and other numbers have no event
+  pub count : length passes ≡ controller_of_table t + 1
+  pub each : (c : ℕ) → c ≤ controller_of_table t → (k : ℕ) × (p : Pass) × (slice_get passes k ≡ Some p) × (number_of (view_of p) ≡ c)
+  pub others : (c : ℕ) → controller_of_table t < c → own c history ≡ []
+  -- the longest list shown is all of it
+  pub longest : (k : ℕ) (p : Pass) → slice_get passes k ≡ Some p
+      → ((j : ℕ) (q : Pass) → slice_get passes j ≡ Some q → length (shown (view_of q)) ≤ length (shown (view_of p)))
+      → shown (view_of p) ≡ history
+  -- an owner is the owner at the end
+  pub places : (k : ℕ) (p : Pass) → slice_get passes k ≡ Some p → is_owner (number_of (view_of p)) (place_in (view_of p)) ≡ true
+      → (state_after (opening (controller_of_table t)) history).place ≡ place_in (view_of p)
+  -- each pass knows the controller's number, and names the ring that was handed in
+  pub controllers : (k : ℕ) (p : Pass) → slice_get passes k ≡ Some p → controller_of (view_of p) ≡ controller_of_table t
+  pub rings : (k : ℕ) (p : Pass) → slice_get passes k ≡ Some p → ring_of (view_of p) ≡ Some (ring_of_table t)
+  -- the context comes back unless a pass has it out, and is that ring's
+  pub none : (ctx ≡ None) ↔ IsOut passes
+  pub same : (x : RxCtx) → ctx ≡ Some x → SameCtx t.table.shared.key.ring.value x

@@ -1,0 +1,83 @@
+-- The contract of every step: one event more.
+use Rattle.std.specs.Prelude.{◌≡◌, ℕ, Bool, true, false, ◌||◌, List, [], ◌∷◌, ◌++◌, Option, Some, None, Result, Ok, Err}
+use mathlib.Core.Option as maybe
+use mathlib.Core.List.{IsPrefix}
+use lib.ListN.{get_elem?}
+use Rattle.napi_model.specs.declared.state.Seen.{Seen}
+use Rattle.napi_model.specs.declared.event.Prep.{Prep}
+use Rattle.napi_model.specs.declared.event.Prep.TheVariants as prep
+use Rattle.napi_model.specs.declared.event.Done.{Done}
+use Rattle.napi_model.specs.declared.event.Operation.{Operation}
+use Rattle.napi_model.specs.declared.event.Operation.TheVariants.{Look, Schedule, Complete, TakeDisable, Enable}
+use Rattle.napi_model.specs.declared.event.Event.{Event}
+use Rattle.napi_model.specs.Step.{event, opening}
+use Rattle.napi_model.specs.History.{LegalHistory, own}
+use Rattle.napi_model.specs.Laws.{is_owner}
+use Rattle.napi_word.specs.declared.view.Strand.{Strand}
+use Rattle.napi_word.specs.View.{View, is_pass, shown, mine, number_of, controller_of, ring_of, state_at, place_in, disable_in}
+
+-- the pass made its event, behind all that had happened until then
+pub record Steps (v : View) (o : Operation) (w : View) : Type 0 where
+  -- the whole history, just before
+  pub before : List Event
+  -- it begins with all that the pass had seen, by itself or from those that it met
+  pub begins : (k : ℕ) (x : Strand) → get_elem? v k ≡ maybe.some x → IsPrefix x.seen before
+  -- the event is the next one, and now the pass shows all
+  pub ends : shown w ≡ before ++ event (number_of v) o ∷ []
+  -- the history is legal
+  pub legal : LegalHistory (controller_of v) (opening (controller_of v)) (shown w)
+  -- the own list grew by the event alone, and is the caller's events in the history
+  pub grows : mine w ≡ mine v ++ event (number_of v) o ∷ []
+  pub exact : own (number_of v) (shown w) ≡ mine w
+  -- number, controller and ring stay
+  pub pass : is_pass w ≡ true
+  pub number : number_of w ≡ number_of v
+  pub controller : controller_of w ≡ controller_of v
+  pub ring : ring_of w ≡ ring_of v
+  -- what others can't have changed since: whether the caller owns the instance, where it has it, and, for the controller,
+  -- the disable flag
+  pub owner : is_owner (number_of v) (state_at v before).place ≡ is_owner (number_of v) (place_in v)
+  pub place : is_owner (number_of v) (place_in v) ≡ true → (state_at v before).place ≡ place_in v
+  pub disable : number_of v ≡ controller_of v → (state_at v before).flags.disable ≡ disable_in v
+
+-- ---- each answer as an operation
+
+abbrev pub by_load : Option Seen → Operation
+by_load None = Schedule prep.Disabled
+by_load (Some x) = Look x
+
+abbrev pub by_schedule : Result Prep Seen → Operation
+by_schedule (Ok p) = Schedule p
+by_schedule (Err x) = Look x
+
+abbrev pub by_complete : Result Done Seen → Operation
+by_complete (Ok d) = Complete d
+by_complete (Err x) = Look x
+
+abbrev pub by_take_load : Option Seen → Operation
+by_take_load None = TakeDisable false
+by_take_load (Some x) = Look x
+
+abbrev pub by_take_swap : Result (Unit {0}) Seen → Operation
+by_take_swap (Ok u) = TakeDisable true
+by_take_swap (Err x) = Look x
+
+abbrev pub by_enable : Bool → Result (Unit {0}) Seen → Operation
+by_enable threaded (Ok u) = Enable threaded
+by_enable threaded (Err x) = Look x
+
+-- ---- what the exchanges write
+
+abbrev pub schedule_to : Bool → Seen → Seen
+schedule_to true x = record x { flags = record x.flags { missed = true } }
+schedule_to false x = record x { flags = record x.flags { sched = true } }
+
+abbrev pub complete_to : Bool → Seen → Seen
+complete_to true x = record x { flags = record x.flags { missed = false; sched_threaded = false } }
+complete_to false x = record x { flags = record x.flags { sched = false; sched_threaded = false } }
+
+abbrev pub disable_to : Seen → Seen
+disable_to x = record x { flags = record x.flags { sched = true; npsvc = true; threaded = false } }
+
+abbrev pub enable_to : Bool → Seen → Seen
+enable_to threaded x = record x { flags = record x.flags { sched = false; npsvc = false; threaded = x.flags.threaded || threaded } }

@@ -1,0 +1,89 @@
+-- Passes to a table, and what a step makes of one.
+use Rattle.std.specs.Prelude.{◌≡◌, ◌≢◌, ℕ, ◌<◌, Bool, true, false, [], ◌∷◌, Some}
+use Rattle.rx_ring.specs.declared.ends.RxCtx.{RxCtx}
+use Rattle.rx_ring.specs.Ends.{RingName, ring_name}
+use Rattle.napi_model.specs.declared.state.Kind.{Kind}
+use Rattle.napi_model.specs.declared.state.Place.TheVariants.{Polling, Control}
+use Rattle.napi_model.specs.declared.event.Operation.{Operation}
+use Rattle.napi_model.specs.Step.{MayHand}
+use Rattle.napi_model.specs.Laws.{is_owner}
+use Rattle.napi_word.specs.declared.view.Holds.TheVariants.{Nothing, Within, Out}
+use Rattle.napi_word.specs.declared.table.Pass.{Pass}
+use Rattle.napi_word.specs.declared.table.StateTable.{StateTable}
+use Rattle.napi_word.specs.View.{View, number_of, controller_of, place_in, disable_in, ring_of}
+use Rattle.napi_word.specs.Slot.{Tied, Moves, moved, owns_slot}
+use Rattle.napi_word.specs.Rule.{strand}
+use Rattle.napi_word.specs.Events.{Steps}
+
+abbrev pub view_of : Pass → View
+view_of p = p.seat.me.0
+
+-- the pass is one to this table
+abbrev pub IsPassOf : StateTable → Pass → Type 0
+IsPassOf t p = p.seat.table_id ≡ t.table.shared.table_id
+
+abbrev pub SameTable : Pass → Pass → Type 0
+SameTable before after = after.seat.table_id ≡ before.seat.table_id
+
+abbrev pub controller_of_table : StateTable → ℕ
+controller_of_table t = t.table.shared.key.controller
+
+-- the ring whose context was handed in
+abbrev pub ring_of_table : StateTable → RingName
+ring_of_table t = ring_name t.table.shared.key.ring.value
+
+-- the contract of every step: the pass made this event, and what it holds of the slot moved so
+pub record Makes (before : Pass) (o : Operation) (m : Moves) (after : Pass) : Type 0 where
+  pub table : SameTable before after
+  pub holds : after.holds ≡ moved m before.holds
+  pub event : Steps (view_of before) o (view_of after)
+
+-- the slot is no event: what the pass knows stays
+pub record Keeps (before : Pass) (after : Pass) : Type 0 where
+  pub table : SameTable before after
+  pub view : view_of after ≡ view_of before
+
+-- ---- what a pass has to be for a step
+
+-- where it holds the slot, the context is in it
+abbrev pub IsWithin : Pass → Type 0
+IsWithin p = p.holds ≢ Out
+
+abbrev pub HandsOver : Kind → Pass → Type 0
+HandsOver kind p = MayHand (number_of (view_of p)) kind (place_in (view_of p))
+
+abbrev pub Polls : Pass → Type 0
+Polls p = place_in (view_of p) ≡ Polling (number_of (view_of p))
+
+abbrev pub OwnsSlot : Pass → Type 0
+OwnsSlot p = owns_slot (view_of p) ≡ true
+
+abbrev pub HasController : View → Type 0
+HasController v = number_of v ≡ controller_of v
+
+abbrev pub IsController : Pass → Type 0
+IsController p = HasController (view_of p)
+
+abbrev pub Controls : Pass → Type 0
+Controls p = place_in (view_of p) ≡ Control (number_of (view_of p))
+
+abbrev pub IsNoOwner : Pass → Type 0
+IsNoOwner p = is_owner (number_of (view_of p)) (place_in (view_of p)) ≡ false
+
+-- the disable flag is so, as far as the pass has seen
+abbrev pub Disable : Bool → Pass → Type 0
+Disable on p = disable_in (view_of p) ≡ on
+
+-- the context is one of the ring that the pass names
+abbrev pub OfItsRing : Pass → RxCtx → Type 0
+OfItsRing p ctx = ring_of (view_of p) ≡ Some (ring_name ctx)
+
+abbrev pub tie_of : (p : Pass) → Tied p.holds p.seat.me
+tie_of p = record { marked = p.marked; right = p.right; ring = p.ring }
+
+-- the pass of number c, which has seen nothing and done nothing; the controller's has the slot, with the context in it
+pub record IsNew (t : StateTable) (controller : ℕ) (ctx : RxCtx) (c : ℕ) (p : Pass) : Type 0 where
+  pub table : IsPassOf t p
+  pub view : view_of p ≡ strand controller ctx c ∷ []
+  pub others : c < controller → p.holds ≡ Nothing
+  pub own : c ≡ controller → p.holds ≡ Within

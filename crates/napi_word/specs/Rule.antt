@@ -1,0 +1,112 @@
+-- The one rule of a table: there is one legal history, whose state the word tells, of which each number's events are one
+-- seat's own list, and of which every list shown is a beginning.
+use Rattle.std.specs.Prelude.{◌≡◌, ◌⊎◌, ℕ, zero, suc, ◌+◌, ◌-◌, ◌<◌, ◌≤◌, true, false, List, [], ◌∷◌, ◌++◌, Some, None}
+use mathlib.Core.Option as maybe
+use mathlib.Core.List.{IsPrefix}
+use lib.ListN.{get_elem?}
+use Rattle.atomic_table.specs.Table.{State}
+use Rattle.rx_ring.specs.declared.ends.RxCtx.{RxCtx}
+use Rattle.rx_ring.specs.Ends.{ring_name}
+use Rattle.napi_model.specs.declared.event.Event.{Event}
+use Rattle.napi_model.specs.Step.{opening, seen_of}
+use Rattle.napi_model.specs.History.{LegalHistory, state_after, own}
+use Rattle.napi_model.specs.Word.{word_of}
+use Rattle.napi_word.specs.declared.view.Key.{Key}
+use Rattle.napi_word.specs.declared.view.Strand.{Strand}
+use Rattle.napi_word.specs.View.{View}
+use Rattle.napi_word.specs.Slot.{Content, is_out}
+
+-- what is in the slot while no seat holds it
+abbrev pub Homes : Type 0
+Homes = List (maybe.Option Content)
+
+-- the slot is at home, and has the context of that ring
+abbrev pub Home : RxCtx → Homes → Type 0
+Home ring homes = (x : RxCtx) × (homes ≡ maybe.some (Some x) ∷ []) × (ring_name x ≡ ring_name ring)
+
+-- a strand of number c, at its place among the seats' strands: there alone, and its own list is c's events in the history,
+-- all of which it has seen
+pub record Owned (key : Key) (h : List Event) (seat : ℕ → ℕ × ℕ) (at : ℕ × ℕ) (x : Strand) (c : ℕ) : Type 0 where
+  pub whole : own c h ≡ x.mine
+  pub shown : own c x.seen ≡ x.mine
+  pub here : seat c ≡ at
+  pub few : c ≤ key.controller
+
+pub record Fits (key : Key) (h : List Event) (seat : ℕ → ℕ × ℕ) (at : ℕ × ℕ) (x : Strand) : Type 0 where
+  pub begins : IsPrefix x.seen h
+  pub owned : (c : ℕ) → x.number ≡ Some c → Owned key h seat at x c
+  pub controller : x.controller ≡ key.controller
+  pub ring : x.ring ≡ key.ring.value
+  pub begun : x.begun ≡ true
+
+-- the rule, of the words, of what is in the slot and of all views
+pub record Kept (key : Key) (s : State Content View) : Type 0 where
+  pub history : List Event
+  -- which seat has a number, and which of its strands it is
+  pub seat : ℕ → ℕ × ℕ
+  pub legal : LegalHistory key.controller (opening key.controller) history
+  pub word : s.words ≡ word_of (seen_of (state_after (opening key.controller) history)) ∷ []
+  -- while somebody polls or controls, that one knows what the slot has
+  pub slot : is_out (state_after (opening key.controller) history).place ≡ false → Home key.ring.value s.homes
+  pub strands : (id : ℕ) (v : View) → get_elem? s.views id ≡ maybe.some v → (k : ℕ) (x : Strand) → get_elem? v k ≡ maybe.some x
+      → Fits key history seat (id, k) x
+  -- behind the controller's number nobody has one
+  pub few : (c : ℕ) → key.controller < c → own c history ≡ []
+
+-- ---- how a table is made: the first seat takes the slot for the controller, and gives the other numbers away
+
+-- number c, which has seen nothing and done nothing
+abbrev pub strand : ℕ → RxCtx → ℕ → Strand
+strand controller ring c = record { begun = true; number = Some c; seen = []; mine = []; controller = controller; ring = ring }
+
+-- so many of them from n on
+abbrev pub strands_from : ℕ → RxCtx → ℕ → ℕ → View
+strands_from controller ring n zero = []
+strands_from controller ring n (suc k) = strand controller ring n ∷ strands_from controller ring (n + 1) k
+
+-- the controller's, and those from n on, which are still to be given away
+abbrev pub maker_at : ℕ → RxCtx → ℕ → View
+maker_at controller ring n = strand controller ring controller ∷ strands_from controller ring n (controller - n)
+
+abbrev pub first_view : Key → View
+first_view key = record { begun = false; number = None; seen = []; mine = []; controller = key.controller; ring = key.ring.value } ∷ []
+
+abbrev pub begun_view : View → View
+begun_view [] = []
+begun_view (x ∷ xs) = maker_at x.controller x.ring 0
+
+-- before the first seat has the slot
+pub record Starts (key : Key) (s : State Content View) : Type 0 where
+  pub word : s.words ≡ 9 ∷ []
+  pub home : Home key.ring.value s.homes
+  pub views : s.views ≡ first_view key ∷ []
+
+abbrev pub Holding : Key → State Content View → Type 0
+Holding key s = Starts key s ⊎ Kept key s
+
+-- ---- how seats are split and joined
+
+-- the second strand is given away
+abbrev pub left_of : View → View
+left_of [] = []
+left_of (x ∷ []) = x ∷ []
+left_of (x ∷ y ∷ ys) = x ∷ ys
+
+abbrev pub right_of : View → View
+right_of [] = []
+right_of (x ∷ []) = []
+right_of (x ∷ y ∷ ys) = y ∷ []
+
+-- a note: the list that a pass shows, with no number
+abbrev pub note : Strand → Strand
+note x = record x { number = None; mine = [] }
+
+abbrev pub note_of : View → View
+note_of [] = []
+note_of (x ∷ xs) = note x ∷ []
+
+abbrev pub joined : View → View → View
+joined v w = v ++ w
+
+abbrev pub spent : View
+spent = []

@@ -1,0 +1,83 @@
+-- What each step's operation and its move of the slot are, told by the word that it finds.
+use Rattle.std.specs.Prelude.{◌≡◌, ℕ, ◌==◌, Bool, true, false, ◌||◌, [], Option, Some, None}
+use Rattle.atomic_table.specs.Table.{Me}
+use Rattle.napi_model.specs.declared.state.Kind.{Kind}
+use Rattle.napi_model.specs.declared.state.Kind.TheVariants as kind
+use Rattle.napi_model.specs.declared.state.Seen.{Seen}
+use Rattle.napi_model.specs.declared.event.Prep.{Prep}
+use Rattle.napi_model.specs.declared.event.Prep.TheVariants as prep
+use Rattle.napi_model.specs.declared.event.Done.{Done}
+use Rattle.napi_model.specs.declared.event.Done.TheVariants.{Released, Again}
+use Rattle.napi_model.specs.declared.event.Operation.{Operation}
+use Rattle.napi_model.specs.declared.event.Operation.TheVariants.{Look, Schedule, TakeDisable}
+use Rattle.napi_model.specs.Word.{word_of}
+use Rattle.napi_word.specs.declared.view.Holds.{Holds}
+use Rattle.napi_word.specs.declared.view.Holds.TheVariants.{Within}
+use Rattle.napi_word.specs.View.{View}
+use Rattle.napi_word.specs.Slot.{Content, Tied, Moves, stays, moved}
+use Rattle.napi_word.specs.Rule.{begun_view}
+use Rattle.napi_word.specs.Events.{Steps}
+
+-- the seat did this operation, and what it holds moved so
+abbrev pub Did : Operation → Moves → Me Content View → Me Content View → Type 0
+Did o m me me' = Steps me.0 o me'.0 × ((h : Holds) → Tied h me → Tied (moved m h) me')
+
+-- the word said x, and so the operation and the move are these
+abbrev pub told : (Seen → Operation) → (Seen → Moves) → Me Content View → ℕ → Me Content View → Type 0
+told f m me n me' = (x : Seen) × (n ≡ word_of x) × Did (f x) (m x) me me'
+
+abbrev pub when : Bool → Moves → Moves
+when true m = m
+when false m = stays
+
+-- an exchange that expected a word: it did the operation where it found that word, and else it is a look
+abbrev pub either_op : Bool → Operation → Seen → Operation
+either_op true o x = o
+either_op false o x = Look x
+
+abbrev pub exchanged : (Seen → Operation) → (Seen → Moves) → ℕ → Me Content View → ℕ → Me Content View → Type 0
+exchanged f m expected = told (λ x. either_op (word_of x == expected) (f x) x) (λ x. when (word_of x == expected) (m x))
+
+abbrev pub no_move : Seen → Moves
+no_move x = stays
+
+-- ---- what a word says of a reply
+
+abbrev pub load_op : Bool → Seen → Operation
+load_op true x = Schedule prep.Disabled
+load_op false x = Look x
+
+abbrev pub prep_of : Bool → Prep
+prep_of true = prep.Missed
+prep_of false = prep.Granted
+
+abbrev pub done_of : Bool → Done
+done_of true = Again
+done_of false = Released
+
+-- the mark for this kind is set
+abbrev pub is_marked : Kind → Option Kind → Bool
+is_marked kind.List (Some kind.List) = true
+is_marked kind.Thread (Some kind.Thread) = true
+is_marked kind.List (Some kind.Thread) = false
+is_marked kind.Thread (Some kind.List) = false
+is_marked kind.List None = false
+is_marked kind.Thread None = false
+
+-- an instance can't be taken by its controller while one of these is set
+abbrev pub is_busy : Seen → Bool
+is_busy x = x.flags.sched || x.flags.npsvc
+
+abbrev pub busy_op : Bool → Seen → Operation
+busy_op true x = TakeDisable false
+busy_op false x = Look x
+
+-- ---- loads that are no events
+
+-- the first seat takes the slot, and has the strands of all numbers
+abbrev pub begun : Me Content View → ℕ → Me Content View → Type 0
+begun me n me' = (me'.0 ≡ begun_view me.0) × Tied Within me'
+
+-- a slot in hand goes back; the view stays
+abbrev pub laid_down : Me Content View → ℕ → Me Content View → Type 0
+laid_down me n me' = (me'.0 ≡ me.0) × (me'.1 ≡ [])

@@ -1,0 +1,115 @@
+//! The steps of the controller: disabling in three steps, and enabling.
+ghost use Rattle.std.specs.Prelude.{◌≡◌, ◌≢◌, true, false, IfSome, IfErr, is_ok};
+ghost use Rattle.napi_model.specs.declared.event.Operation.TheVariants.{MarkDisable, Unmark};
+ghost use Rattle.napi_word.specs.Slot.{stays, taken, given};
+ghost use Rattle.napi_word.specs.Events.{by_take_load, by_take_swap, by_enable, disable_to, enable_to};
+ghost use Rattle.napi_word.specs.Told as told;
+ghost use Rattle.napi_word.specs.Told.{when};
+ghost use Rattle.napi_word.specs.Passes.{IsPassOf, Makes, IsWithin, IsController, Controls, IsNoOwner, Disable};
+
+use crate::plays::{Asks, Disables, Enables, EnablesThreaded, Marks, Unmarks};
+use crate::table::{Pass, StateTable};
+use crate::view::Holds;
+use napi_model::Seen;
+
+const DISABLE: u64 = 1 << 2;
+
+fn disabled(seen: Seen) -> Seen
+    ensures { result ≡ disable_to seen }
+{
+    let mut next = seen;
+    next.flags.sched = true;
+    next.flags.npsvc = true;
+    next.flags.threaded = false;
+    next
+}
+
+fn enabled(seen: Seen, threaded: bool) -> Seen
+    ensures { result ≡ enable_to threaded seen }
+{
+    let mut next = seen;
+    next.flags.sched = false;
+    next.flags.npsvc = false;
+    next.flags.threaded |= threaded;
+    next
+}
+
+fn is_busy(seen: Seen) -> bool
+    ensures { result ≡ told.is_busy seen }
+{
+    seen.flags.sched || seen.flags.npsvc
+}
+
+impl StateTable {
+    /// Marks a disable as pending: from now on schedules are refused (`napi_disable`, its `set_bit` of DISABLE).
+    pub fn mark(&self, pass: &mut Pass)
+        requires table { IsPassOf self.now pass.old }
+        requires controller { IsController pass.old }
+        requires free { IsNoOwner pass.old }
+        requires unmarked { Disable false pass.old }
+        ensures step { Makes pass.old MarkDisable stays pass.new }
+    {
+        self.set::<Marks>(&mut pass.seat, DISABLE);
+    }
+
+    /// Whether a marked instance can be taken (`napi_disable`, its wait while SCHED or NPSVC is set). `None`: it is busy,
+    /// and this was a refused try. `Some`: it may be taken by [`take_swap`](StateTable::take_swap), and this was a look.
+    pub fn take_load(&self, pass: &mut Pass) -> Option<Seen>
+        requires table { IsPassOf self.now pass.old }
+        requires controller { IsController pass.old }
+        requires marked { Disable true pass.old }
+        ensures step { Makes pass.old (by_take_load result) stays pass.new }
+        ensures idle { IfSome result (λ seen. (seen.flags.disable ≡ true) × (seen.flags.sched ≡ false) × (seen.flags.npsvc ≡ false)) }
+    {
+        let seen = self.load::<Asks>(&mut pass.seat);
+        if is_busy(seen) { None } else { Some(seen) }
+    }
+
+    /// Takes a marked, idle instance if the word still says what was seen (`napi_disable`, its `try_cmpxchg`): sets SCHED
+    /// and NPSVC, clears THREADED. Then the controller has the slot with the context. `Err`: another step came between.
+    /// Nothing was written, and this was a look.
+    pub fn take_swap(&self, pass: &mut Pass, seen: Seen) -> Result<(), Seen>
+        requires table { IsPassOf self.now pass.old }
+        requires controller { IsController pass.old }
+        requires idle { (seen.flags.disable ≡ true) × (seen.flags.sched ≡ false) × (seen.flags.npsvc ≡ false) }
+        ensures step { Makes pass.old (by_take_swap result) (when (is_ok result) taken) pass.new }
+        ensures other { IfErr result (λ found. found ≢ seen) }
+    {
+        self.exchange::<Disables>(&mut pass.seat, seen, disabled(seen))?;
+        pass.holds = Holds::Within;
+        Ok(())
+    }
+
+    /// Clears the mark of a pending disable, in the controller's hands (`napi_disable`, its `clear_bit` of DISABLE).
+    pub fn unmark(&self, pass: &mut Pass)
+        requires table { IsPassOf self.now pass.old }
+        requires controller { IsController pass.old }
+        requires owner { Controls pass.old }
+        requires marked { Disable true pass.old }
+        ensures step { Makes pass.old Unmark stays pass.new }
+    {
+        self.keep::<Unmarks>(&mut pass.seat, !DISABLE);
+    }
+
+    /// Gives a disabled instance free if the word still says what was seen (`napi_enable`, its `try_cmpxchg`): clears SCHED
+    /// and NPSVC, sets THREADED where `threaded` is true, and keeps MISSED. The context must be in the slot. `Err`: another
+    /// step came between. Nothing was written, and this was a look.
+    pub fn enable_swap(&self, pass: &mut Pass, seen: Seen, threaded: bool) -> Result<(), Seen>
+        requires table { IsPassOf self.now pass.old }
+        requires controller { IsController pass.old }
+        requires owner { Controls pass.old }
+        requires unmarked { Disable false pass.old }
+        requires within { IsWithin pass.old }
+        ensures step { Makes pass.old (by_enable threaded result) (when (is_ok result) given) pass.new }
+        ensures other { IfErr result (λ found. found ≢ seen) }
+    {
+        let next = enabled(seen, threaded);
+        if threaded {
+            self.exchange::<EnablesThreaded>(&mut pass.seat, seen, next)?;
+        } else {
+            self.exchange::<Enables>(&mut pass.seat, seen, next)?;
+        }
+        pass.holds = Holds::Nothing;
+        Ok(())
+    }
+}

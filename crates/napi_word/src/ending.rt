@@ -1,0 +1,133 @@
+//! All seats are joined, and the table is closed.
+ghost use Rattle.std.specs.Prelude.{◌≡◌, ℕ, ◌+◌, ◌≤◌, List, [], ◌∷◌, length, Some, slice_get};
+ghost use Rattle.napi_word.specs.declared.view.Holds.TheVariants as holds;
+ghost use Rattle.napi_word.specs.View.{ring_of};
+ghost use Rattle.napi_word.specs.Passes.{view_of, IsPassOf, controller_of_table};
+ghost use Rattle.napi_word.specs.Ends.{Finds, picked, IsGatheredOf, Gathered, IsEnded};
+
+use crate::gathering::{Found, Gathering};
+use crate::plays::{LaysDown, TakesIn};
+use crate::table::{Pass, StateTable};
+use crate::view::{Holds, View};
+use atomic_table::Seat;
+use rx_ring::RxCtx;
+
+/// What is left of a table that was closed.
+#[derive(Drop)]
+pub struct Ended {
+    /// The context; `None` exactly where a pass has it out of the slot.
+    pub ctx: Option<RxCtx>,
+}
+
+// A context that a pass had in the slot comes before what the slot itself has. Where one is out, there is none.
+fn pick(found: Found, slot: Option<RxCtx>) -> Option<RxCtx>
+    ensures { result ≡ picked found.out found.ctx slot }
+{
+    let Found { ctx, out } = found;
+    if out {
+        return None;
+    }
+    match ctx {
+        Some(ctx) => Some(ctx),
+        None => slot,
+    }
+}
+
+impl StateTable {
+    // The seat of a pass that has the slot and the context out of it: the slot goes back, with nothing in it.
+    fn lay_down(&self, pass: Pass) -> Seat<Option<RxCtx>, View>
+        requires table { IsPassOf self.now pass }
+        requires out { pass.holds ≡ holds.Out }
+        ensures table { result.table_id ≡ self.now.table.shared.table_id }
+        ensures seat { result.me ≡ (view_of pass, []) }
+    {
+        let Pass { mut seat, holds: _ } = pass;
+        self.table.shared.load::<LaysDown>(&mut seat, 0);
+        seat
+    }
+
+    // The seat of a pass, which holds nothing any more. What it held is noted.
+    fn give_up(&self, pass: Pass, found: &mut Found) -> Seat<Option<RxCtx>, View>
+        requires table { IsPassOf self.now pass }
+        ensures table { result.table_id ≡ self.now.table.shared.table_id }
+        ensures seat { result.me ≡ (view_of pass, []) }
+        ensures found { Finds pass.holds (ring_of (view_of pass)) found.old found.new }
+    {
+        let mut pass = pass;
+        match pass.holds {
+            Holds::Nothing => {
+                let Pass { seat, holds: _ } = pass;
+                seat
+            }
+            Holds::Within => {
+                let ctx = self.slot_out(&mut pass);
+                found.ctx = Some(ctx);
+                self.lay_down(pass)
+            }
+            Holds::Out => {
+                found.out = true;
+                self.lay_down(pass)
+            }
+        }
+    }
+
+    /// Gathers the first pass: who takes no memory joins the others to it one by one, and finishes.
+    pub fn gather(&self, first: Pass) -> Gathering
+        requires table { IsPassOf self.now first }
+        ensures table { IsGatheredOf self.now result }
+        ensures has { Gathered (first ∷ []) result.seat.me.0 result.found }
+    {
+        let mut found = Found {
+            ctx: None,
+            out: false,
+        };
+        let seat = self.give_up(first, &mut found);
+        Gathering { seat, found }
+    }
+
+    /// Gathers one more pass.
+    pub fn join(&self, gathering: &mut Gathering, pass: Pass)
+        requires table { IsGatheredOf self.now gathering.old }
+        requires pass { IsPassOf self.now pass }
+        ensures table { IsGatheredOf self.now gathering.new }
+        ensures has { (taken : List Pass) → Gathered taken gathering.old.seat.me.0 gathering.old.found → Gathered (pass ∷ taken) gathering.new.seat.me.0 gathering.new.found }
+    {
+        let seat = self.give_up(pass, &mut gathering.found);
+        self.table
+            .shared
+            .join_seat::<TakesIn>(&mut gathering.seat, seat);
+    }
+
+    /// Closes the table. Where as many passes were gathered as it has, this reads off its one history; there can't be more.
+    pub fn finish(self, gathering: Gathering) -> Ended
+        requires table { IsGatheredOf self gathering }
+        ensures { (taken : List Pass) → Gathered taken gathering.seat.me.0 gathering.found → controller_of_table self + 1 ≤ length taken → IsEnded self taken result.ctx }
+    {
+        let StateTable { table } = self;
+        let Gathering { seat, found } = gathering;
+        let mut closed = table.close_with(seat);
+        let slot = closed.take(0);
+        closed.free();
+        Ended {
+            ctx: pick(found, slot),
+        }
+    }
+
+    /// Closes the table by all its passes, and reads off its one history: it is legal, each pass's own list is exactly its
+    /// number's events in it, and the longest list shown is the whole of it. A pass keeps what it holds: one that has the
+    /// context out may be given too.
+    pub fn end(self, mut passes: Vec<Pass>) -> Ended
+        requires passes { (k : ℕ) (p : Pass) → slice_get passes.items k ≡ Some p → IsPassOf self p }
+        requires count { length passes.items ≡ controller_of_table self + 1 }
+        ensures { IsEnded self passes.items result.ctx }
+    {
+        let popped = passes.pop();
+        let Some(first) = popped else { unreachable!() };
+        let mut gathering = self.gather(first);
+        while let Some(pass) = passes.pop() {
+            self.join(&mut gathering, pass);
+        }
+        passes.destroy_empty();
+        self.finish(gathering)
+    }
+}

@@ -1,0 +1,32 @@
+//! The state word of an instance that threads share, with the slot of its poll context: every step on it is one event of
+//! one legal history of the one-thread NAPI object, whatever the threads' schedule.
+//!
+//! A [`StateTable`] has the word and the slot. A thread steps with a [`Pass`], which has a caller's number and, in
+//! contracts alone, the list of events that it has seen. Each step is one atomic load, or, and, or compare-exchange of the
+//! word (`napi_schedule_prep`, `napi_complete_done` and the like of `net/core/dev.c` of Linux 6.6, `napi->state`); none
+//! locks, loops or takes memory. `specs/Rule.antt` has the one rule that every step keeps, and `specs/Events.antt` the
+//! contract of every step.
+#![tactic(auto)]
+
+mod atoms;
+mod control;
+mod ending;
+mod gathering;
+mod making;
+mod meeting;
+mod owner;
+mod plays;
+mod rule;
+mod slot;
+mod steps;
+mod table;
+#[cfg(test)]
+mod tests;
+mod view;
+
+pub use ending::Ended;
+pub use gathering::{Found, Gathering};
+pub use making::TableBack;
+pub use rule::InOneHistory;
+pub use table::{Pass, StateTable};
+pub use view::{Holds, Key, Strand, View};

@@ -1,0 +1,30 @@
+//! One pass learns what another has seen.
+ghost use Rattle.std.specs.Prelude.{◌≡◌};
+ghost use mathlib.Core.List.{IsPrefix};
+ghost use Rattle.napi_model.specs.declared.event.Operation.TheVariants.{Look};
+ghost use Rattle.napi_word.specs.View.{shown};
+ghost use Rattle.napi_word.specs.Slot.{stays};
+ghost use Rattle.napi_word.specs.Passes.{view_of, IsPassOf, Makes};
+
+use crate::plays::{Notes, TakesIn};
+use crate::table::{Pass, StateTable};
+use napi_model::Seen;
+
+impl StateTable {
+    /// A look of each, of which this answers both. The list that the first then shows is a beginning of the second's: the
+    /// second's later calls stand behind all that the first had done.
+    pub fn meet(&self, first: &mut Pass, second: &mut Pass) -> (Seen, Seen)
+        requires first { IsPassOf self.now first.old }
+        requires second { IsPassOf self.now second.old }
+        ensures first { Makes first.old (Look result.0) stays first.new }
+        ensures second { Makes second.old (Look result.1) stays second.new }
+        ensures met { IsPrefix (shown (view_of first.new)) (shown (view_of second.new)) }
+    {
+        let found = self.look(first);
+        let note = self.table.shared.split_seat::<Notes>(&mut first.seat);
+        self.table
+            .shared
+            .join_seat::<TakesIn>(&mut second.seat, note);
+        (found, self.look(second))
+    }
+}

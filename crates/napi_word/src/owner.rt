@@ -1,0 +1,94 @@
+//! The steps by which an instance goes from hand to hand: hand over, take, complete.
+ghost use Rattle.std.specs.Prelude.{◌≡◌, ◌≢◌, IfOk, IfErr, is_ok};
+ghost use Rattle.napi_model.specs.declared.event.Operation.TheVariants.{Hand, Take};
+ghost use Rattle.napi_word.specs.Slot.{taken, given};
+ghost use Rattle.napi_word.specs.Events.{by_complete, complete_to};
+ghost use Rattle.napi_word.specs.Told.{when, is_marked, done_of};
+ghost use Rattle.napi_word.specs.Passes.{IsPassOf, Makes, IsWithin, HandsOver, Polls};
+
+use crate::plays::{Completes, HandsToList, HandsToThread, TakesFromList, TakesFromThread};
+use crate::table::{Pass, StateTable};
+use crate::view::Holds;
+use napi_model::{Done, Kind, Seen};
+
+const SCHED_THREADED: u64 = 1 << 9;
+
+const QUEUED: u64 = 1 << 32;
+
+const TO_THREAD: u64 = 1 << 33;
+
+// What a completion answers where the word says this, and what it writes.
+fn completed(seen: Seen) -> (Done, Seen)
+    ensures reply { result.0 ≡ done_of seen.flags.missed }
+    ensures next { result.1 ≡ complete_to seen.flags.missed seen }
+{
+    let mut next = seen;
+    next.flags.sched_threaded = false;
+    if seen.flags.missed {
+        next.flags.missed = false;
+        (Done::Again, next)
+    } else {
+        next.flags.sched = false;
+        (Done::Released, next)
+    }
+}
+
+fn is_handed(handed: Option<Kind>, kind: Kind) -> bool
+    ensures { result ≡ is_marked kind handed }
+{
+    match (handed, kind) {
+        (Some(Kind::List), Kind::List) | (Some(Kind::Thread), Kind::Thread) => true,
+        (Some(Kind::List), Kind::Thread) | (Some(Kind::Thread), Kind::List) | (None, _) => false,
+    }
+}
+
+impl StateTable {
+    /// Hands the instance over: to the list what the pass was granted or polls, to the thread what it was granted
+    /// (`____napi_schedule`). The context must be in the slot. Then the pass has neither.
+    pub fn hand(&self, pass: &mut Pass, kind: Kind)
+        requires table { IsPassOf self.now pass.old }
+        requires owner { HandsOver kind pass.old }
+        requires within { IsWithin pass.old }
+        ensures step { Makes pass.old (Hand kind) given pass.new }
+    {
+        match kind {
+            Kind::List => self.set::<HandsToList>(&mut pass.seat, QUEUED),
+            Kind::Thread => self.set::<HandsToThread>(&mut pass.seat, TO_THREAD | SCHED_THREADED),
+        };
+        pass.holds = Holds::Nothing;
+    }
+
+    /// Takes an instance that was handed over (`net_rx_action` from the list, `napi_thread_wait` from the thread). True:
+    /// the pass polls it, and has the slot with the context. False: it wasn't there, and nothing changed.
+    pub fn take(&self, pass: &mut Pass, kind: Kind) -> bool
+        requires table { IsPassOf self.now pass.old }
+        ensures step { Makes pass.old (Take kind result) (when result taken) pass.new }
+    {
+        let seen = match kind {
+            Kind::List => self.keep::<TakesFromList>(&mut pass.seat, !QUEUED),
+            Kind::Thread => self.keep::<TakesFromThread>(&mut pass.seat, !TO_THREAD),
+        };
+        let there = is_handed(seen.handed, kind);
+        if there {
+            pass.holds = Holds::Within;
+        }
+        there
+    }
+
+    /// Ends a poll if the word still says what was seen (`napi_complete_done`, its `try_cmpxchg` on `napi->state`):
+    /// `Released` clears SCHED, `Again` clears MISSED and keeps SCHED, and the instance is the pass's to be handed over.
+    /// The context must be in the slot. `Err`: another step came between. Nothing was written, and this was a look.
+    pub fn complete_swap(&self, pass: &mut Pass, seen: Seen) -> Result<Done, Seen>
+        requires table { IsPassOf self.now pass.old }
+        requires owner { Polls pass.old }
+        requires within { IsWithin pass.old }
+        ensures step { Makes pass.old (by_complete result) (when (is_ok result) given) pass.new }
+        ensures reply { IfOk result (λ reply. reply ≡ done_of seen.flags.missed) }
+        ensures other { IfErr result (λ found. found ≢ seen) }
+    {
+        let (reply, next) = completed(seen);
+        self.exchange::<Completes>(&mut pass.seat, seen, next)?;
+        pass.holds = Holds::Nothing;
+        Ok(reply)
+    }
+}

@@ -1,0 +1,264 @@
+//! What each step tells: its operation and its move of the slot, by the word that it finds.
+ghost use Rattle.napi_word.specs.Rule.{left_of, right_of, note_of, joined, spent};
+ghost use Rattle.napi_word.specs.Told.{told, exchanged, begun, laid_down};
+
+use crate::view::View;
+use atomic_table::{Join, Play, Split};
+use rx_ring::RxCtx;
+use std::marker::PhantomData;
+
+/// A kind of step.
+pub(crate) trait Step {
+    ghost use Rattle.napi_model.specs.declared.state.Seen.{Seen};
+    ghost use Rattle.napi_model.specs.declared.event.Operation.{Operation};
+    ghost use Rattle.napi_word.specs.Slot.{Moves};
+
+    ghost operation: { Seen → Operation };
+
+    ghost moves: { Seen → Moves };
+}
+
+/// A load, or, or and that makes a step.
+pub(crate) struct Told<K: Step> {
+    marker: PhantomData<K>,
+}
+
+impl<K: Step> Play<Option<RxCtx>, View> for Told<K> {
+    ghost then = { λ s. told K.operation K.moves };
+}
+
+/// A compare-exchange that makes a step where it wins, and else a look.
+pub(crate) struct Exchanged<K: Step> {
+    marker: PhantomData<K>,
+}
+
+impl<K: Step> Play<Option<RxCtx>, View> for Exchanged<K> {
+    ghost then = { λ s. exchanged K.operation K.moves s.first };
+}
+
+pub(crate) struct Looks;
+
+impl Step for Looks {
+    ghost use Rattle.napi_model.specs.declared.event.Operation.TheVariants.{Look};
+    ghost use Rattle.napi_word.specs.Told.{no_move};
+
+    ghost operation = { λ x. Look x };
+
+    ghost moves = { no_move };
+}
+
+pub(crate) struct Tries;
+
+impl Step for Tries {
+    ghost use Rattle.napi_word.specs.Told.{load_op, no_move};
+
+    ghost operation = { λ x. load_op x.flags.disable x };
+
+    ghost moves = { no_move };
+}
+
+pub(crate) struct Schedules;
+
+impl Step for Schedules {
+    ghost use Rattle.napi_model.specs.declared.event.Operation.TheVariants.{Schedule};
+    ghost use Rattle.napi_word.specs.Told.{prep_of, no_move};
+
+    ghost operation = { λ x. Schedule (prep_of x.flags.sched) };
+
+    ghost moves = { no_move };
+}
+
+pub(crate) struct HandsToList;
+
+impl Step for HandsToList {
+    ghost use Rattle.napi_model.specs.declared.event.Operation.TheVariants.{Hand};
+    ghost use Rattle.napi_model.specs.declared.state.Kind.TheVariants as kind;
+    ghost use Rattle.napi_word.specs.Slot.{given};
+
+    ghost operation = { λ x. Hand kind.List };
+
+    ghost moves = { λ x. given };
+}
+
+pub(crate) struct HandsToThread;
+
+impl Step for HandsToThread {
+    ghost use Rattle.napi_model.specs.declared.event.Operation.TheVariants.{Hand};
+    ghost use Rattle.napi_model.specs.declared.state.Kind.TheVariants as kind;
+    ghost use Rattle.napi_word.specs.Slot.{given};
+
+    ghost operation = { λ x. Hand kind.Thread };
+
+    ghost moves = { λ x. given };
+}
+
+pub(crate) struct TakesFromList;
+
+impl Step for TakesFromList {
+    ghost use Rattle.napi_model.specs.declared.event.Operation.TheVariants.{Take};
+    ghost use Rattle.napi_model.specs.declared.state.Kind.TheVariants as kind;
+    ghost use Rattle.napi_word.specs.Slot.{taken};
+    ghost use Rattle.napi_word.specs.Told.{is_marked, when};
+
+    ghost operation = { λ x. Take kind.List (is_marked kind.List x.handed) };
+
+    ghost moves = { λ x. when (is_marked kind.List x.handed) taken };
+}
+
+pub(crate) struct TakesFromThread;
+
+impl Step for TakesFromThread {
+    ghost use Rattle.napi_model.specs.declared.event.Operation.TheVariants.{Take};
+    ghost use Rattle.napi_model.specs.declared.state.Kind.TheVariants as kind;
+    ghost use Rattle.napi_word.specs.Slot.{taken};
+    ghost use Rattle.napi_word.specs.Told.{is_marked, when};
+
+    ghost operation = { λ x. Take kind.Thread (is_marked kind.Thread x.handed) };
+
+    ghost moves = { λ x. when (is_marked kind.Thread x.handed) taken };
+}
+
+pub(crate) struct Completes;
+
+impl Step for Completes {
+    ghost use Rattle.napi_model.specs.declared.event.Operation.TheVariants.{Complete};
+    ghost use Rattle.napi_word.specs.Slot.{given};
+    ghost use Rattle.napi_word.specs.Told.{done_of};
+
+    ghost operation = { λ x. Complete (done_of x.flags.missed) };
+
+    ghost moves = { λ x. given };
+}
+
+pub(crate) struct SetsThreaded;
+
+impl Step for SetsThreaded {
+    ghost use Rattle.std.specs.Prelude.{true};
+    ghost use Rattle.napi_model.specs.declared.event.Operation.TheVariants.{SetThreaded};
+    ghost use Rattle.napi_word.specs.Told.{no_move};
+
+    ghost operation = { λ x. SetThreaded true };
+
+    ghost moves = { no_move };
+}
+
+pub(crate) struct ClearsThreaded;
+
+impl Step for ClearsThreaded {
+    ghost use Rattle.std.specs.Prelude.{false};
+    ghost use Rattle.napi_model.specs.declared.event.Operation.TheVariants.{SetThreaded};
+    ghost use Rattle.napi_word.specs.Told.{no_move};
+
+    ghost operation = { λ x. SetThreaded false };
+
+    ghost moves = { no_move };
+}
+
+pub(crate) struct Marks;
+
+impl Step for Marks {
+    ghost use Rattle.napi_model.specs.declared.event.Operation.TheVariants.{MarkDisable};
+    ghost use Rattle.napi_word.specs.Told.{no_move};
+
+    ghost operation = { λ x. MarkDisable };
+
+    ghost moves = { no_move };
+}
+
+pub(crate) struct Asks;
+
+impl Step for Asks {
+    ghost use Rattle.napi_word.specs.Told.{is_busy, busy_op, no_move};
+
+    ghost operation = { λ x. busy_op (is_busy x) x };
+
+    ghost moves = { no_move };
+}
+
+pub(crate) struct Disables;
+
+impl Step for Disables {
+    ghost use Rattle.std.specs.Prelude.{true};
+    ghost use Rattle.napi_model.specs.declared.event.Operation.TheVariants.{TakeDisable};
+    ghost use Rattle.napi_word.specs.Slot.{taken};
+
+    ghost operation = { λ x. TakeDisable true };
+
+    ghost moves = { λ x. taken };
+}
+
+pub(crate) struct Unmarks;
+
+impl Step for Unmarks {
+    ghost use Rattle.napi_model.specs.declared.event.Operation.TheVariants.{Unmark};
+    ghost use Rattle.napi_word.specs.Told.{no_move};
+
+    ghost operation = { λ x. Unmark };
+
+    ghost moves = { no_move };
+}
+
+pub(crate) struct Enables;
+
+impl Step for Enables {
+    ghost use Rattle.std.specs.Prelude.{false};
+    ghost use Rattle.napi_model.specs.declared.event.Operation.TheVariants.{Enable};
+    ghost use Rattle.napi_word.specs.Slot.{given};
+
+    ghost operation = { λ x. Enable false };
+
+    ghost moves = { λ x. given };
+}
+
+pub(crate) struct EnablesThreaded;
+
+impl Step for EnablesThreaded {
+    ghost use Rattle.std.specs.Prelude.{true};
+    ghost use Rattle.napi_model.specs.declared.event.Operation.TheVariants.{Enable};
+    ghost use Rattle.napi_word.specs.Slot.{given};
+
+    ghost operation = { λ x. Enable true };
+
+    ghost moves = { λ x. given };
+}
+
+/// The first seat takes the slot for the controller, and has the strands of all numbers. No event.
+pub(crate) struct Begins;
+
+impl Play<Option<RxCtx>, View> for Begins {
+    ghost then = { λ s. begun };
+}
+
+/// A pass whose context is out lays the empty slot down, at the end. No event.
+pub(crate) struct LaysDown;
+
+impl Play<Option<RxCtx>, View> for LaysDown {
+    ghost then = { λ s. laid_down };
+}
+
+/// The first seat gives a number away, to a new seat.
+pub(crate) struct GivesNumber;
+
+impl Split<View> for GivesNumber {
+    ghost left = { left_of };
+
+    ghost right = { right_of };
+}
+
+/// The list that a pass has seen, for another pass.
+pub(crate) struct Notes;
+
+impl Split<View> for Notes {
+    ghost left = { λ v. v };
+
+    ghost right = { note_of };
+}
+
+/// One pass takes in another.
+pub(crate) struct TakesIn;
+
+impl Join<View> for TakesIn {
+    ghost both = { joined };
+
+    ghost spent = { spent };
+}

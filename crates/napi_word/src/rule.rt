@@ -1,0 +1,15 @@
+//! The rule that every step keeps.
+ghost use Rattle.napi_word.specs.Rule.{Holding, first_view};
+
+use crate::view::{Key, View};
+use atomic_table::TableRule;
+use rx_ring::RxCtx;
+
+/// There is one legal history, whose state the word tells and of which every pass shows a beginning.
+pub struct InOneHistory;
+
+impl TableRule<Option<RxCtx>, View, Key> for InOneHistory {
+    ghost holds = { Holding };
+
+    ghost first = { first_view };
+}

@@ -1,0 +1,42 @@
+//! The context, out of the slot and back into it. These steps are no events.
+ghost use Rattle.std.specs.Prelude.{◌≡◌};
+ghost use Rattle.napi_word.specs.declared.view.Holds.TheVariants.{Within, Out};
+ghost use Rattle.napi_word.specs.Passes.{IsPassOf, Keeps, IsWithin, OwnsSlot, OfItsRing};
+
+use crate::table::{Pass, StateTable};
+use crate::view::Holds;
+use rx_ring::RxCtx;
+
+impl StateTable {
+    /// The context, out of the slot, which the pass has by polling or controlling the instance.
+    pub fn slot_out(&self, pass: &mut Pass) -> RxCtx
+        requires table { IsPassOf self.now pass.old }
+        requires owner { OwnsSlot pass.old }
+        requires within { IsWithin pass.old }
+        ensures keeps { Keeps pass.old pass.new }
+        ensures holds { pass.new.holds ≡ Out }
+        ensures ring { OfItsRing pass.old result }
+    {
+        let Some(ctx) = self.table.shared.exchange(&mut pass.seat, 0, None) else {
+            unreachable!()
+        };
+        pass.holds = Holds::Out;
+        ctx
+    }
+
+    /// The context, back into the slot from which the pass has it; it must be the one of that ring. The mark that `beside`
+    /// may have left on it ends here, so that its next owner polls what is put meanwhile.
+    pub fn slot_in(&self, pass: &mut Pass, ctx: RxCtx)
+        requires table { IsPassOf self.now pass.old }
+        requires out { pass.old.holds ≡ Out }
+        requires ring { OfItsRing pass.old ctx }
+        ensures keeps { Keeps pass.old pass.new }
+        ensures holds { pass.new.holds ≡ Within }
+    {
+        let mut ctx = ctx;
+        ctx.apart();
+        let old = self.table.shared.exchange(&mut pass.seat, 0, Some(ctx));
+        let None = old else { unreachable!() };
+        pass.holds = Holds::Within;
+    }
+}

@@ -1,0 +1,78 @@
+//! The steps of any pass: looks, schedules, and the threaded flag.
+ghost use Rattle.std.specs.Prelude.{◌≡◌, ◌≢◌, IfSome, IfOk, IfErr, true, false};
+ghost use Rattle.napi_model.specs.declared.event.Operation.TheVariants.{Look, SetThreaded};
+ghost use Rattle.napi_model.specs.declared.event.Prep.TheVariants as prep;
+ghost use Rattle.napi_word.specs.Slot.{stays};
+ghost use Rattle.napi_word.specs.Events.{by_load, by_schedule, schedule_to};
+ghost use Rattle.napi_word.specs.Told.{prep_of};
+ghost use Rattle.napi_word.specs.Passes.{IsPassOf, Makes};
+
+use crate::plays::{ClearsThreaded, Looks, Schedules, SetsThreaded, Tries};
+use crate::table::{Pass, StateTable};
+use napi_model::{Prep, Seen};
+
+const THREADED: u64 = 1 << 8;
+
+// What a schedule answers where the word says this, and what it writes.
+fn scheduled(seen: Seen) -> (Prep, Seen)
+    ensures reply { result.0 ≡ prep_of seen.flags.sched }
+    ensures next { result.1 ≡ schedule_to seen.flags.sched seen }
+{
+    let mut next = seen;
+    if seen.flags.sched {
+        next.flags.missed = true;
+        (Prep::Missed, next)
+    } else {
+        next.flags.sched = true;
+        (Prep::Granted, next)
+    }
+}
+
+impl StateTable {
+    /// What the word says: the flags, and to whom the instance was handed while nobody has taken it (a read of
+    /// `napi->state`).
+    pub fn look(&self, pass: &mut Pass) -> Seen
+        requires table { IsPassOf self.now pass.old }
+        ensures step { Makes pass.old (Look result) stays pass.new }
+    {
+        self.load::<Looks>(&mut pass.seat)
+    }
+
+    /// The first half of `napi_schedule_prep`. `None`: a disable is pending, and the schedule is refused by this. `Some`:
+    /// it may be tried by [`schedule_swap`](StateTable::schedule_swap), and this was a look.
+    pub fn schedule_load(&self, pass: &mut Pass) -> Option<Seen>
+        requires table { IsPassOf self.now pass.old }
+        ensures step { Makes pass.old (by_load result) stays pass.new }
+        ensures enabled { IfSome result (λ seen. seen.flags.disable ≡ false) }
+    {
+        let seen = self.load::<Tries>(&mut pass.seat);
+        if seen.flags.disable { None } else { Some(seen) }
+    }
+
+    /// The second half of `napi_schedule_prep` (`try_cmpxchg` on `napi->state`): sets SCHED, or MISSED where SCHED is set,
+    /// if the word still says what was seen; that must not have DISABLE. `Err`: another step came between. Nothing was
+    /// written, and this was a look at what the word says now.
+    pub fn schedule_swap(&self, pass: &mut Pass, seen: Seen) -> Result<Prep, Seen>
+        requires table { IsPassOf self.now pass.old }
+        requires enabled { seen.flags.disable ≡ false }
+        ensures step { Makes pass.old (by_schedule result) stays pass.new }
+        ensures reply { IfOk result (λ reply. reply ≡ prep_of seen.flags.sched) }
+        ensures other { IfErr result (λ found. found ≢ seen) }
+    {
+        let (reply, next) = scheduled(seen);
+        self.exchange::<Schedules>(&mut pass.seat, seen, next)?;
+        Ok(reply)
+    }
+
+    /// Sets or clears THREADED, in any state (`dev_set_threaded`).
+    pub fn threaded(&self, pass: &mut Pass, threaded: bool)
+        requires table { IsPassOf self.now pass.old }
+        ensures step { Makes pass.old (SetThreaded threaded) stays pass.new }
+    {
+        if threaded {
+            self.set::<SetsThreaded>(&mut pass.seat, THREADED);
+        } else {
+            self.keep::<ClearsThreaded>(&mut pass.seat, !THREADED);
+        }
+    }
+}

@@ -1,0 +1,30 @@
+//! The table of an instance, and the passes to it.
+ghost use Rattle.std.specs.Prelude.{◌≡◌, true, Some};
+ghost use Rattle.napi_word.specs.View.{is_pass, ring_of};
+ghost use Rattle.napi_word.specs.Slot.{hold_of, has_slot, owns_slot, ring_in};
+
+use crate::rule::InOneHistory;
+use crate::view::{Holds, Key, View};
+use atomic_table::{Seat, Table};
+use rx_ring::RxCtx;
+use std::alloc::Global;
+
+/// The state word of an instance (`napi->state`), and the slot of its poll context.
+#[derive(Drop)]
+pub struct StateTable {
+    pub(crate) table: Table<Option<RxCtx>, View, Key, InOneHistory, Global>,
+    ghost one_word: { table.shared.table_id.words ≡ 1 },
+    ghost one_slot: { table.shared.table_id.slots ≡ 1 },
+}
+
+/// One caller's way to a table: with its number, the list that it has seen, and, beside a mark of it, what it holds of the
+/// slot. It may go to another thread. One that is dropped never comes back, so its table can't be ended any more.
+#[derive(Drop)]
+pub struct Pass {
+    pub(crate) seat: Seat<Option<RxCtx>, View>,
+    pub(crate) holds: Holds,
+    ghost is_pass: { is_pass seat.me.0 ≡ true },
+    ghost marked: { hold_of seat.me.1 ≡ Some holds },
+    ghost right: { owns_slot seat.me.0 ≡ has_slot holds },
+    ghost ring: { ring_in seat.me.1 seat.me.0 ≡ ring_of seat.me.0 },
+}
