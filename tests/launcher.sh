@@ -172,8 +172,9 @@ refusals_of_a_build() {
     check 'and where the rest of it stands' says 'high/out/build.log'
     run "$scratch/small/scripts/build.sh" nothing
     check 'a program that is not there' ended 64
-    small "$scratch/trace.csv"
+    small < "$scratch/trace.csv"
     check 'after a failed build the next call builds' ended 0
+    check 'and leaves standard input to the program' prints '^moment'
     RT_FAILS=low
     export RT_FAILS
     touch "$scratch/small/crates/low/src/lib.rt"
@@ -186,7 +187,7 @@ two_builds() {
     small_checkout
     PATH=$PATH_WITH_RT "$scratch/small/replay" "$scratch/trace.csv" > "$scratch/first" 2>&1 &
     first=$!
-    sleep 0.2
+    until [ -e "$scratch/rt.log" ]; do sleep 0.02; done
     small "$scratch/trace.csv"
     check 'a second build beside the first one waits and says so' says 'another build is at work .* waiting'
     check 'and replays then' ended 0
@@ -197,7 +198,7 @@ two_builds() {
 
 interruptions() {
     small_checkout
-    RT_SECONDS=5 PATH=$PATH_WITH_RT run timeout --preserve-status -s INT 0.5 "$scratch/small/replay" "$scratch/trace.csv"
+    RT_SECONDS=5 PATH=$PATH_WITH_RT run timeout --preserve-status -s INT 1.5 "$scratch/small/replay" "$scratch/trace.csv"
     check 'a build can be interrupted' ended 130
     check 'and says what stands' says 'interrupted; what was proved so far is kept'
     check 'nothing goes on' is "$(pgrep -f "$scratch/bin/rt")" ''
@@ -253,7 +254,7 @@ terminals() {
     on_terminal "$scratch/small/replay" "$scratch/trace.csv"
     check 'a file needs no input' is "$status $(tr -d '\r' < "$scratch/out" | tail -n 1)" '0 moment,device,event,value'
     touch "$scratch/small/crates/low/src/lib.rt"
-    PATH=$PATH_WITH_RT on_terminal "$scratch/small/replay" "$scratch/trace.csv"
+    RT_SECONDS=0.6 PATH=$PATH_WITH_RT on_terminal "$scratch/small/replay" "$scratch/trace.csv"
     check 'on a terminal a build writes one line over and over' \
         is "$status $(grep -c 'crate 2 of 4 (low side), 6 of 8 functions checked, 0:0.*crate 4 of 4' "$scratch/out")" '0 1'
 }
