@@ -1,3 +1,4 @@
+# shellcheck shell=sh
 # For scripts, which read this file by `.`: what their arguments have to be. Another one is refused by a line, with status 64.
 
 refuse() {

@@ -187,34 +187,46 @@ functions() {
         }' "$@"
 }
 
-# Where the build stands, as `crate 3 of 6 (poll_engine tx_ring), 158 of 205 functions checked, 1:12`.
+# Whether an `rt` waits for one that somebody else has at work in its crate: its log ends so.
+waiting() {
+    awk '{ last[FILENAME] = $0 }
+        END {
+            for (name in last) if (last[name] ~ /^rt: waiting for another rt/) waits = ", waiting for another rt in this checkout"
+            print waits
+        }' "$@"
+}
+
+# Leaves in `line` where the build stands, as `crate 3 of 6 (poll_engine tx_ring), 158 of 205 functions checked, 1:12`.
 progress() {
-    local name at_work=() logs=() spent=$((SECONDS - since))
+    local name at_work=() spent=$((SECONDS - since))
+    logs=()
     for name in "${names[@]}"; do
         [ -n "${state[$name]:-}" ] || continue
         logs+=("$crates/$name/out/build.log")
         [ "${state[$name]}" = proved ] || at_work+=("$name")
     done
-    printf 'crate %d of %d (%s)%s, %d:%02d' "${#logs[@]}" "${#names[@]}" "${at_work[*]}" "$(functions "${logs[@]}")" \
-        $((spent / 60)) $((spent % 60))
+    waits=$(waiting "${logs[@]}")
+    line=$(printf 'crate %d of %d (%s)%s%s, %d:%02d' "${#logs[@]}" "${#names[@]}" "${at_work[*]}" \
+        "$(functions "${logs[@]}")" "$waits" $((spent / 60)) $((spent % 60)))
 }
 
 clear_line() { [ ! -t 2 ] || printf '\r\033[K' >&2; }
 
-# On a terminal one line is written over and over; elsewhere one is written for each crate that begins.
+# On a terminal one line is written over and over; elsewhere one is written where a crate begins, or begins to wait.
 show() {
+    progress
     if [ -t 2 ]; then
-        printf '\r\033[K%.*s' "${COLUMNS:-80}" "replay: $(progress)" >&2
-    elif [ "${#state[@]}" != "$shown" ]; then
-        shown=${#state[@]}
-        say "$(progress)"
+        printf '\r\033[K%.*s' "${COLUMNS:-80}" "replay: $line" >&2
+    elif [ "${#logs[@]}$waits" != "$shown" ]; then
+        shown=${#logs[@]}$waits
+        say "$line"
     fi
 }
 
 build() {
     local mark=$out/build.begun
     since=$SECONDS
-    shown=0
+    shown=
     trap 'interrupted 130' INT
     trap 'interrupted 143' TERM HUP
     : > "$mark"

@@ -88,6 +88,7 @@ name=\$(basename "\$PWD")
 [ "\$1" != try ] || { shift 6; sh ../../program "\$@"; status=\$?; echo "run=ended status=\$status" >&2; exit \$status; }
 echo "begin \$name" >> "$scratch/rt.log"
 echo 'so far: 3 of 4 functions checked'
+[ "\$name" != "\${RT_WAITS:-}" ] || echo 'rt: waiting for another rt to finish in there'
 sleep "\${RT_SECONDS:-0.3}"
 [ "\$name" != "\${RT_FAILS:-}" ] || { echo 'error: not proved'; exit 1; }
 echo "end \$name" >> "$scratch/rt.log"
@@ -194,6 +195,10 @@ two_builds() {
     wait "$first"
     check 'as the first one does' is "$?" 0
     check 'and each crate is built once' is "$(lines)" 8
+    touch "$scratch/small/crates/low/src/lib.rt"
+    RT_WAITS=high small "$scratch/trace.csv"
+    check 'beside an rt that somebody else has at work it says so too' \
+        says 'crate 3 of 4 (high), .* checked, waiting for another rt in this checkout, 0:0'
 }
 
 interruptions() {

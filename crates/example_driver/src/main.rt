@@ -20,7 +20,8 @@ const WEIGHT: u32 = 64;
 
 const WINDOW: u32 = 1024;
 
-// A burst of packets comes in, and the card's number goes to the list where its interrupt says so.
+// A burst of packets comes in, and the card's number goes to the list where its interrupt says so. There is room for it: a
+// number stands there at most once.
 fn burst(card: &mut Card, list: &mut PlainList, packets: u32) {
     for packet in 0..packets {
         if card.receive(60 + packet % 1440) && list.ids().len() < 64 {
