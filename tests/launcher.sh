@@ -63,19 +63,21 @@ as_nobody() {
     if [ "$(id -u)" = 0 ]; then setpriv --reuid=65534 --regid=65534 --clear-groups "$@"; else "$@"; fi
 }
 
-# A checkout of five crates, of which `apart` is none of the program's, and an `rt` that writes down when each begins and
+# A checkout of seven crates, of which `apart` and two programs are none of the replay's, and an `rt` that writes down when each begins and
 # ends.
 small_checkout() {
     rm -rf "$scratch/small"
     mkdir -p "$scratch/small" "$scratch/bin"
-    cp -r "$top/replay" "$top/scripts" "$scratch/small/"
-    printf 'low:\nside:\nhigh: low  # a note\napart: low\nnapi_replay: high side thiserror\n' > "$scratch/small/crates.txt"
+    cp -r "$top/replay" "$top/scripts" "$top/bench" "$top/examples" "$scratch/small/"
+    printf 'low:\nside:\nhigh: low  # a note\napart: low\nnapi_replay: high side thiserror\nbench_limits: low\nbench_receive: low\n' > "$scratch/small/crates.txt"
     for name in low side high apart; do
         mkdir -p "$scratch/small/crates/$name/src"
         echo > "$scratch/small/crates/$name/src/lib.rt"
     done
-    mkdir -p "$scratch/small/crates/napi_replay/src"
-    echo > "$scratch/small/crates/napi_replay/src/main.rt"
+    for name in napi_replay bench_limits bench_receive; do
+        mkdir -p "$scratch/small/crates/$name/src"
+        echo > "$scratch/small/crates/$name/src/main.rt"
+    done
     cat > "$scratch/small/program" << 'END'
 #!/bin/sh
 [ "$1" != --fault ] || { echo 'trace fault 4 BadEvent row 1' >&2; exit 2; }
@@ -93,9 +95,9 @@ sleep "\${RT_SECONDS:-0.3}"
 [ "\$name" != "\${RT_FAILS:-}" ] || { echo 'error: not proved'; exit 1; }
 echo "end \$name" >> "$scratch/rt.log"
 [ "\$1" = run ] || exit 0
-cp ../../program out/napi_replay
-chmod +x out/napi_replay
-echo 'rt: running out/napi_replay'
+cp ../../program "out/\$name"
+chmod +x "out/\$name"
+echo "rt: running out/\$name"
 exit 2
 END
     chmod +x "$scratch/bin/rt"
@@ -318,8 +320,21 @@ refuses() {
     check "$* is refused" is "$status $(wc -l < "$scratch/err") $(grep -c "^$(basename "$1"): " "$scratch/err")" '64 1 1'
 }
 
+# builds PROGRAM SCRIPT ARGUMENT ..: the script says so. What it makes of the stand-in's program is no matter here.
+builds() {
+    rm -rf "$scratch/small/crates/$1/out"
+    RT_SECONDS=0.1 PATH=$PATH_WITH_RT run timeout 30 "$scratch/small/$2" "${@:3}"
+    check "$2 builds $1 and says so" says "^replay: proving and building $1 "
+    check "$2 has the program then" says "^replay: $1 is proved and built"
+}
+
 scripts() {
     cd "$scratch" || exit
+    builds napi_replay examples/compare.sh
+    builds napi_replay bench/refusals.sh
+    builds napi_replay bench/replay.sh '' 1
+    builds bench_limits bench/limits.sh 1
+    builds bench_receive bench/receive.sh 1
     refuses bench/limits.sh many
     refuses bench/limits.sh 1 2
     refuses bench/receive.sh 0
