@@ -22,6 +22,8 @@ mod steps;
 mod table;
 #[cfg(test)]
 mod tests;
+#[cfg(test)]
+mod thread_tests;
 mod view;
 
 pub use ending::Ended;
