@@ -355,6 +355,8 @@ interruptions
 words
 terminals
 scripts
-"$top/scripts/build.sh" napi_replay && faults
+run "$top/scripts/build.sh" napi_replay
+check 'the real program stands, or is built' ended 0
+faults
 echo "$passed passed, $failed failed"
 [ "$failed" = 0 ]
