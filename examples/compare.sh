@@ -4,8 +4,13 @@
 # status is 0 only where all agree.
 # examples/compare.sh [PROGRAM]
 set -eu
+unset CDPATH
 examples=$(cd "$(dirname "$0")" && pwd)
-program=${1:-$examples/../replay}
+. "$examples/../scripts/arguments.sh"
+at_most 1 "$@"
+[ $# -gt 0 ] || "$examples/../scripts/build.sh" napi_replay
+program=${1:-$examples/../crates/napi_replay/out/napi_replay}
+is_program PROGRAM "$program"
 folder=$(mktemp -d)
 trap 'rm -rf "$folder"' EXIT
 differs=0
