@@ -1,10 +1,9 @@
-use Rattle.std.proofs.Common.{◌≡◌, ℕ, List, [], ◌∷◌, ◌++◌, refl, sym, ap, ◌∙◌, subst}
-use Rattle.napi_model.specs.declared.event.Event.{Event}
+use Rattle.std.proofs.Common.{◌≡◌, ℕ, [], ◌∷◌, ◌++◌, refl, sym, ap, ◌∙◌, subst}
 use Rattle.napi_model.specs.declared.event.Prep.TheVariants as prep
 use Rattle.napi_model.specs.declared.event.Operation.TheVariants.{Look, Schedule}
 use Rattle.napi_model.specs.Step.{event, opening}
 use Rattle.napi_model.specs.History.{LegalHistory, own}
-use Rattle.napi_word.specs.View.{View, number_of, mine}
+use Rattle.napi_word.specs.View.{number_of, mine}
 use Rattle.napi_word.proofs.tests.lost_exchange.Goals as goal
 
 pub returns : goal.returns

@@ -1,4 +1,4 @@
-use Rattle.std.proofs.Common.{◌+◌, ◌*◌}
+use Rattle.std.proofs.Common.{◌*◌}
 use Rattle.napi_word.specs.Runs.{CountsSteps, IsMarked}
 use Rattle.napi_word.proofs.thread_tests.disable.Given as goal
 

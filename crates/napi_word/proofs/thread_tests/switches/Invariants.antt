@@ -1,5 +1,4 @@
-use Rattle.std.proofs.Common.{◌≡◌, ◌*◌}
-use Rattle.napi_word.specs.declared.view.Holds.TheVariants.{Nothing}
+use Rattle.std.proofs.Common.{◌*◌}
 use Rattle.napi_word.specs.Runs.{CountsSteps, IsEnabled}
 use Rattle.napi_word.proofs.thread_tests.switches.Given as goal
 
