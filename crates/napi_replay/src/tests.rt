@@ -3,7 +3,7 @@
 use crate::fault::{ReplayFault, fault_line, status};
 use crate::serial::replay_serial;
 use crate::settings::Settings;
-use crate::test_cases::{CONTROLS, Case, POLLING, WORKED};
+use crate::test_cases::{BOUNDS, CONTROLS, Case, POLLING, WORKED};
 use device_model::TraceFault;
 use std::alloc::{AllocError, Global};
 use std::io;
@@ -76,6 +76,11 @@ fn controls(rt: HostRuntime) -> Result<(), Fail> {
 #[test]
 fn polling(rt: HostRuntime) -> Result<(), Fail> {
     compare_reports(&rt, rt.alloc(), &POLLING)
+}
+
+#[test]
+fn bounds(rt: HostRuntime) -> Result<(), Fail> {
+    compare_reports(&rt, rt.alloc(), &BOUNDS)
 }
 
 // Rows, and the line of their fault.
