@@ -17,7 +17,7 @@ use Rattle.napi_replay.specs.World.{World}
 use Rattle.napi_replay.specs.declared.fault.ReplayFault.{ReplayFault}
 use Rattle.napi_replay.specs.declared.fault.ReplayFault.TheVariants.{Pending}
 use Rattle.napi_replay.specs.declared.line.Line.TheVariants as line
-use Rattle.napi_replay.specs.declared.settings.Settings.{Settings}
+use Rattle.replay_words.specs.declared.settings.Settings.{Settings}
 
 abbrev pub start : World
 start = record { devices = empty; list = []; lines = [] }
