@@ -1,6 +1,6 @@
 use Rattle.std.proofs.Common.{rules}
 use Rattle.device_model.proofs.NumeralFacts.{is_numeral-push, numeral-push}
-use Rattle.device_model.proofs.record.number_of.Goals as goal
+use Rattle.device_model.proofs.record.number_below_21.Goals as goal
 
 pub returns-then-front-gt19 : goal.returns-then-front-gt19
 returns-then-front-gt19 c = rw (is_numeral-push _ _ _ c.in_ok-last.ensures.cases) (search rules)
