@@ -36,8 +36,8 @@ fn schedule(table: &StateTable, pass: &mut Pass, tally: &mut Tally)
     }
 }
 
-// Ends a poll. Only THREADED or DISABLE could be changed between more than one exchange and the next, and nobody does;
-// were it so, the instance would go back on the list.
+// Ends a poll. At most one exchange is lost: once MISSED is set, a schedule changes nothing more. Were both lost, the
+// instance would go back on the list.
 fn complete(table: &StateTable, pass: &mut Pass, tally: &mut Tally)
     requires ready { IsReady table.now pass.old }
     requires polls { Polls pass.old }
