@@ -11,7 +11,7 @@ use poll_engine::{Bench, Next, Once, ThreadReport};
 use std::alloc::{AllocError, Global};
 
 /// Places for the numbers 0 to 16, of which 0 stays empty.
-const PLACES: u32 = 17;
+pub const PLACES: u32 = 17;
 
 /// At most sixteen devices, each in the place of its number. A call on a number that has no device changes nothing.
 #[derive(Drop)]
