@@ -7,20 +7,23 @@
 # usage: bench/word.sh [TURNS]     (1000000 where none are given)
 set -eu
 
+unset CDPATH
+top=$(cd "$(dirname "$0")/.." && pwd)
+. "$top/scripts/arguments.sh"
+at_most 1 "$@"
 turns=${1:-1000000}
-bench=$(cd "$(dirname "$0")" && pwd)
-crate=$bench/../crates/bench_word
+is_count TURNS "$turns"
+is_tool g++
 work=$(mktemp -d)
 trap 'rm -rf "$work"' EXIT
 
-(cd "$crate" && rt run -- 1000) > "$work/build.log" 2>&1 || { cat "$work/build.log" >&2; exit 1; }
-cp "$crate/out/bench_word" "$work/napi_word"
-g++ -std=c++17 -O2 -pthread -o "$work/by_hand" "$bench/word.cc"
+"$top/scripts/build.sh" bench_word
+g++ -std=c++17 -O2 -pthread -o "$work/by_hand" "$top/bench/word.cc"
 
 programs='napi_word seq_cst-value seq_cst-pointer kernel-value kernel-pointer'
 run() {
     case $1 in
-        napi_word) "$work/napi_word" "$turns" ;;
+        napi_word) "$top/crates/bench_word/out/bench_word" "$turns" ;;
         *) "$work/by_hand" "${1%-*}" "${1#*-}" "$turns" ;;
     esac
 }
