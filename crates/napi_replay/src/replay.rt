@@ -9,7 +9,9 @@ use crate::line::Line;
 use crate::report::{Totals, add_device, add_lines, add_list, add_totals};
 use device_model::{Event, PLACES, Row, SerialBench};
 use napi_model::Kind;
-use poll_engine::{Bench, Next, PlainList, PollList, RunReport, ThreadReport, run_softirq};
+use poll_engine::{
+    Bench, Next, PlainList, PollList, RunReport, ThreadReport, run_is_shown, run_softirq,
+};
 use replay_words::Settings;
 use std::alloc::{AllocError, Global};
 
@@ -68,6 +70,7 @@ impl Replay {
         ensures lines { self.new.lines ≡ self.old.lines }
         ensures transmits { KeepsTransmits self.old.bench self.new.bench }
     {
+        run_is_shown::<SerialBench>();
         run_softirq(
             &mut self.list,
             &mut self.bench,
