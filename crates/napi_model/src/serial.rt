@@ -1,4 +1,4 @@
-use crate::{Done, Flags, Kind, Place, Prep, Seen, State};
+use crate::{Call, Done, Event, Flags, Kind, Operation, Place, Prep, Seen, State};
 
 /// A NAPI instance that one thread at a time calls: the kernel's rules without its races.
 ///
@@ -12,8 +12,8 @@ pub struct SerialNapi {
 
 impl SerialNapi {
     ghost use Rattle.std.specs.Prelude.{◌≡◌, ℕ, true, false};
-    ghost use Rattle.napi_model.specs.declared.event.Operation.{Operation};
-    ghost use Rattle.napi_model.specs.Step.{opening, seen_of, IsControl, MayHand, schedule_reply, take_reply, complete_reply, take_disable_reply};
+    ghost use Rattle.napi_model.specs.declared.event.Operation.TheVariants as operation;
+    ghost use Rattle.napi_model.specs.Step.{opening, seen_of, IsControl, MayHand, MayCall, answer_of, schedule_reply, take_reply, complete_reply, take_disable_reply};
     ghost use Rattle.napi_model.specs.Serial.{state_of, controller_of, Steps};
 
     /// A new instance, disabled: SCHED and NPSVC are set, and the place is `Control(controller)` (`netif_napi_add`).
@@ -48,77 +48,62 @@ impl SerialNapi {
         self.state.seen()
     }
 
+    // The step of a call that the caller may make here, as the table of steps has it: the reply that the state determines, and
+    // the state that it leaves.
+    fn step(&mut self, caller: u32, call: Call) -> Operation
+        requires { MayCall caller call (state_of self.old) }
+        ensures answer { result ≡ answer_of call (state_of self.old) }
+        ensures step { Steps self.old caller result self.new }
+    {
+        let operation = self.state.answer(caller, call);
+        self.state = self.state.after(Event { caller, operation });
+        operation
+    }
+
     /// Asks for a poll (`napi_schedule_prep`). With DISABLE set the answer is `Disabled` and nothing changes. Otherwise with
     /// SCHED clear it is `Granted`: SCHED is set, and the caller has to [`hand`](SerialNapi::hand) the instance over.
     /// With SCHED set it is `Missed`, and MISSED tells the poller to poll once more.
     pub fn schedule(&mut self, who: u32) -> Prep
-        ensures step { Steps self.old who (Operation.Schedule result) self.new }
+        ensures step { Steps self.old who (operation.Schedule result) self.new }
         ensures reply { result ≡ schedule_reply (state_of self.old) }
     {
-        let State { flags, place } = &mut self.state;
-        if flags.disable {
-            Prep::Disabled
-        } else if flags.sched {
-            flags.missed = true;
-            Prep::Missed
-        } else {
-            flags.sched = true;
-            *place = Place::Granted(who);
-            Prep::Granted
-        }
+        let Operation::Schedule(reply) = self.step(who, Call::Schedule) else {
+            unreachable!()
+        };
+        reply
     }
 
     /// Hands over what the caller was granted, or puts what it polls back on the list (`____napi_schedule`). For the thread
     /// SCHED_THREADED is set.
     pub fn hand(&mut self, who: u32, kind: Kind)
         requires { MayHand who kind (state_of self.old).place }
-        ensures { Steps self.old who (Operation.Hand kind) self.new }
+        ensures { Steps self.old who (operation.Hand kind) self.new }
     {
-        let State { flags, place } = &mut self.state;
-        match kind {
-            Kind::List => *place = Place::Listed,
-            Kind::Thread => {
-                flags.sched_threaded = true;
-                *place = Place::ToThread;
-            }
-        }
+        self.step(who, Call::Hand(kind));
     }
 
     /// Takes an instance that was handed over, to poll it. False says that it wasn't there, and nothing changed.
     pub fn take(&mut self, who: u32, kind: Kind) -> bool
-        ensures step { Steps self.old who (Operation.Take kind result) self.new }
+        ensures step { Steps self.old who (operation.Take kind result) self.new }
         ensures reply { result ≡ take_reply kind (state_of self.old) }
     {
-        let waits = match kind {
-            Kind::List => Place::Listed,
-            Kind::Thread => Place::ToThread,
+        let Operation::Take(_, taken) = self.step(who, Call::Take(kind)) else {
+            unreachable!()
         };
-        let State { place, .. } = &mut self.state;
-        let is_there = *place == waits;
-        if is_there {
-            *place = Place::Polling(who);
-        }
-        is_there
+        taken
     }
 
     /// Ends a poll (`napi_complete_done`). With MISSED set the answer is `Again`: MISSED is cleared, and the caller has to
     /// hand the instance over once more. Otherwise it is `Released`: SCHED is cleared. SCHED_THREADED is cleared in both.
     pub fn complete(&mut self, who: u32) -> Done
         requires { (state_of self.old).place ≡ Place.Polling who }
-        ensures step { Steps self.old who (Operation.Complete result) self.new }
+        ensures step { Steps self.old who (operation.Complete result) self.new }
         ensures reply { result ≡ complete_reply (state_of self.old) }
     {
-        let State { flags, place } = &mut self.state;
-        flags.sched_threaded = false;
-        if flags.missed {
-            flags.missed = false;
-            *place = Place::Granted(who);
-            Done::Again
-        } else {
-            flags.sched = false;
-            *place = Place::Nobody;
-            Done::Released
-        }
+        let Operation::Complete(reply) = self.step(who, Call::Complete) else {
+            unreachable!()
+        };
+        reply
     }
 
     /// Marks a disable as pending: from now on requests are answered `Disabled` (`napi_disable` sets DISABLE first).
@@ -126,9 +111,9 @@ impl SerialNapi {
         requires controller { who ≡ controller_of self.old }
         requires unmarked { (state_of self.old).flags.disable ≡ false }
         requires place { ¬ IsControl (state_of self.old).place }
-        ensures { Steps self.old who Operation.MarkDisable self.new }
+        ensures { Steps self.old who operation.MarkDisable self.new }
     {
-        self.state.flags.disable = true;
+        self.step(who, Call::MarkDisable);
     }
 
     /// Tries to take the instance for the controller. False says that SCHED or NPSVC is set still, and nothing changed.
@@ -136,18 +121,13 @@ impl SerialNapi {
     pub fn take_disable(&mut self, who: u32) -> bool
         requires controller { who ≡ controller_of self.old }
         requires marked { (state_of self.old).flags.disable ≡ true }
-        ensures step { Steps self.old who (Operation.TakeDisable result) self.new }
+        ensures step { Steps self.old who (operation.TakeDisable result) self.new }
         ensures reply { result ≡ take_disable_reply (state_of self.old) }
     {
-        let State { flags, place } = &mut self.state;
-        if flags.sched || flags.npsvc {
-            return false;
-        }
-        flags.sched = true;
-        flags.npsvc = true;
-        flags.threaded = false;
-        *place = Place::Control(who);
-        true
+        let Operation::TakeDisable(taken) = self.step(who, Call::TakeDisable) else {
+            unreachable!()
+        };
+        taken
     }
 
     /// Clears the mark of a disable that is done (`napi_disable` clears DISABLE last).
@@ -155,9 +135,9 @@ impl SerialNapi {
         requires controller { who ≡ controller_of self.old }
         requires place { (state_of self.old).place ≡ Place.Control who }
         requires marked { (state_of self.old).flags.disable ≡ true }
-        ensures { Steps self.old who Operation.Unmark self.new }
+        ensures { Steps self.old who operation.Unmark self.new }
     {
-        self.state.flags.disable = false;
+        self.step(who, Call::Unmark);
     }
 
     /// Gives a disabled instance free (`napi_enable`): SCHED and NPSVC are cleared, THREADED is set where `threaded` is true
@@ -166,22 +146,16 @@ impl SerialNapi {
         requires controller { who ≡ controller_of self.old }
         requires place { (state_of self.old).place ≡ Place.Control who }
         requires unmarked { (state_of self.old).flags.disable ≡ false }
-        ensures { Steps self.old who (Operation.Enable threaded) self.new }
+        ensures { Steps self.old who (operation.Enable threaded) self.new }
     {
-        let State { flags, place } = &mut self.state;
-        flags.sched = false;
-        flags.npsvc = false;
-        if threaded {
-            flags.threaded = true;
-        }
-        *place = Place::Nobody;
+        self.step(who, Call::Enable(threaded));
     }
 
     /// Sets or clears THREADED, in any state, whoever asks (`dev_set_threaded`).
     pub fn set_threaded(&mut self, threaded: bool)
-        ensures step { (who : ℕ) → Steps self.old who (Operation.SetThreaded threaded) self.new }
+        ensures step { (who : ℕ) → Steps self.old who (operation.SetThreaded threaded) self.new }
         ensures controller { controller_of self.new ≡ controller_of self.old }
     {
-        self.state.flags.threaded = threaded;
+        self.step(0, Call::SetThreaded(threaded));
     }
 }
