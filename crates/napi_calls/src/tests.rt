@@ -1,6 +1,7 @@
-//! Worked runs: two callers in turn, with their words and with all their events; and contention.
+//! Worked runs: two callers in turn, with their words and with all their events; and contention; refusals.
 
 mod bed;
 mod contention;
 mod events;
+mod refusals;
 mod turns;

@@ -1,12 +1,13 @@
 //! An instance of two callers, and the answers that the runs want; another answer ends the test.
 
-ghost use Rattle.std.specs.Prelude.{◌≡◌, [], ◌∷◌, true, false};
+ghost use Rattle.std.specs.Prelude.{◌≡◌, ℕ, [], ◌∷◌, length, slice_get, Some, true, false};
 ghost use Rattle.rx_ring.specs.Ends.{IsOneRing};
 ghost use Rattle.napi_model.specs.declared.state.Seen.{Seen};
 ghost use Rattle.napi_model.specs.declared.state.Kind.TheVariants as kind;
 ghost use Rattle.napi_model.specs.declared.event.Prep.TheVariants as prep;
 ghost use Rattle.napi_model.specs.declared.event.Done.TheVariants as done;
 ghost use Rattle.napi_model.specs.declared.event.Operation.TheVariants.{Look, Schedule, Hand, Take, Complete, MarkDisable, TakeDisable, Unmark};
+ghost use Rattle.napi_calls.specs.declared.types.Caller.{Caller};
 ghost use Rattle.napi_calls.specs.Instance.{IsSeatOf, IsNewSeat, callers_of};
 ghost use Rattle.napi_calls.specs.Seats.{IsInputOf};
 ghost use Rattle.napi_calls.specs.Made.{Made};
@@ -32,20 +33,22 @@ pub struct Bed {
     ghost control_of: { IsSeatOf napi control.pass },
 }
 
-pub fn make_bed(rt: &impl Abort, alloc: Global) -> Bed
-    ensures first { IsNewSeat result.napi 0 result.first.pass }
-    ensures second { IsNewSeat result.napi 1 result.second.pass }
-    ensures control { IsNewSeat result.napi 2 result.control.pass }
-    ensures input { IsInputOf result.input result.first.pass }
+/// The two callers of a new instance.
+pub fn seat_two(
+    rt: &impl Abort,
+    input: RxIn,
+    napi: Napi,
+    mut callers: Vec<Caller>,
+    control: Control<Off>,
+) -> Bed
+    requires two { (callers_of napi ≡ 2) × (length callers.items ≡ 2) }
+    requires callers { (k : ℕ) (c : Caller) → slice_get callers.items k ≡ Some c → IsNewSeat napi k c.pass }
+    requires control { IsNewSeat napi 2 control.pass }
+    ensures bed { (result.napi ≡ napi) × (result.input ≡ input) }
+    ensures first { IsNewSeat napi 0 result.first.pass }
+    ensures second { IsNewSeat napi 1 result.second.pass }
+    ensures control { IsNewSeat napi 2 result.control.pass }
 {
-    let made = ring(alloc, 4);
-    let Ok((input, ctx)) = made else {
-        panic!(rt; "no ring")
-    };
-    let made = Napi::new(alloc, ctx, 2);
-    let Ok((napi, mut callers, control)) = made else {
-        panic!(rt; "no instance")
-    };
     let popped = callers.pop();
     let Some(second) = popped else {
         panic!(rt; "no second caller")
@@ -62,6 +65,23 @@ pub fn make_bed(rt: &impl Abort, alloc: Global) -> Bed
         second,
         control,
     }
+}
+
+pub fn make_bed(rt: &impl Abort, alloc: Global) -> Bed
+    ensures first { IsNewSeat result.napi 0 result.first.pass }
+    ensures second { IsNewSeat result.napi 1 result.second.pass }
+    ensures control { IsNewSeat result.napi 2 result.control.pass }
+    ensures input { IsInputOf result.input result.first.pass }
+{
+    let made = ring(alloc, 4);
+    let Ok((input, ctx)) = made else {
+        panic!(rt; "no ring")
+    };
+    let made = Napi::new(alloc, ctx, 2);
+    let Ok((napi, callers, control)) = made else {
+        panic!(rt; "no instance")
+    };
+    seat_two(rt, input, napi, callers, control)
 }
 
 /// The word that a caller looks at.
@@ -174,6 +194,13 @@ pub fn disabled(rt: &impl Abort, napi: &Napi, control: Control<On>) -> Control<O
         panic!(rt; "not disabled")
     };
     control
+}
+
+pub fn requeued(napi: &Napi, polling: Polling) -> Caller
+    requires { IsSeatOf napi.now polling.pass }
+    ensures { IsSeatOf napi.now result.pass }
+{
+    polling.requeue(napi)
 }
 
 /// Closes the instance with both callers.

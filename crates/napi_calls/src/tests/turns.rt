@@ -3,10 +3,10 @@
 use crate::meet;
 use crate::tests::bed::{
     Bed, again, closed, disabled, enabled, granted, handed, make_bed, missed, not_there, released,
-    taken, word,
+    requeued, taken, word,
 };
 use napi_model::{Kind, encode};
-use rx_ring::Batch;
+use rx_ring::{Batch, Packet};
 use std::test::Fail;
 
 #[test]
@@ -49,5 +49,46 @@ fn two_callers(rt: HostRuntime) -> Result<(), Fail> {
     assert_eq!(rt; control.counts().polls, 1);
     let ctx = closed(&rt, rt.alloc(), napi, first, second, control);
     assert_eq!(rt; ctx.counts().polls, 1);
+    Ok(())
+}
+
+// What the calls give back or put into the slot has lost no packet: the batches joined are what was put.
+#[test]
+fn no_packet_is_thrown_away(rt: HostRuntime) -> Result<(), Fail> {
+    let Bed {
+        mut input,
+        napi,
+        first,
+        second,
+        control,
+    } = make_bed(&rt, rt.alloc());
+    for number in 0u64..4 {
+        let packet = Packet { number, bytes: 60 };
+        assert_eq!(rt; input.put(packet), Ok(()));
+    }
+    let control = enabled(&rt, &napi, control, false);
+    let owner = granted(&rt, &napi, first);
+    let mut caller = handed(&napi, owner, Kind::List);
+    let mut batch = Batch::new();
+    for number in 0u64..3 {
+        let mut poller = taken(&rt, &napi, caller, Kind::List);
+        assert_eq!(rt; poller.poll(1, &mut batch), 1);
+        assert_eq!(rt; batch.as_slice(), [Packet { number, bytes: 60 }].as_slice());
+        caller = requeued(&napi, poller);
+    }
+    let poller = taken(&rt, &napi, caller, Kind::List);
+    let first = released(&rt, &napi, poller);
+    let control = disabled(&rt, &napi, control);
+    assert_eq!(rt; control.counts().packets, 3);
+    let mut ctx = closed(&rt, rt.alloc(), napi, first, second, control);
+    assert_eq!(rt; ctx.poll(64, &mut batch), 1);
+    assert_eq!(rt;
+        batch.as_slice(),
+        [Packet {
+            number: 3,
+            bytes: 60
+        }]
+        .as_slice()
+    );
     Ok(())
 }

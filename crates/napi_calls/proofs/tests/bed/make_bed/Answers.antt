@@ -1,42 +1,9 @@
-use Rattle.std.proofs.Common.{◌≡◌, ℕ, ◌+◌, List, [], ◌∷◌, ◌++◌, Some, slice_get, length, sym, ap, ◌∙◌, subst, length-append, arith}
-use Rattle.napi_calls.specs.declared.types.Caller.{Caller}
-use Rattle.napi_calls.specs.declared.types.Napi.{Napi}
-use Rattle.napi_calls.specs.Instance.{IsNewSeat}
-use Rattle.napi_calls.proofs.Fresh.{here, front_of}
+use Rattle.std.proofs.Common.{Some, sym, ap, ◌∙◌, subst}
+use Rattle.rx_ring.specs.declared.ends.RxIn.{RxIn}
+use Rattle.rx_ring.specs.Ends.{IsOneRing}
 use Rattle.napi_calls.proofs.tests.bed.make_bed.Goals as goal
-
-abbrev Seated : Napi → List Caller → Type 0
-Seated n callers = (k : ℕ) (c : Caller) → slice_get callers k ≡ Some c → IsNewSeat n k c.pass
-
--- of two callers the second is popped first
-two_popped : (n : Napi) (callers rest none : List Caller) (first second : Caller) → Seated n callers → length callers ≡ 2 → callers ≡ rest ++ second ∷ [] → rest ≡ none ++ first ∷ []
-    → IsNewSeat n 0 first.pass × IsNewSeat n 1 second.pass
-two_popped n callers rest none first second seated count items left =
-    let two : length rest + 1 ≡ 2 = sym (length-append rest (second ∷ [])) ∙ ap length (sym items) ∙ count in
-    let one : length none + 1 ≡ length rest = sym (length-append none (first ∷ [])) ∙ ap length (sym left) in
-    let at = ap (λ (l : List Caller). slice_get l (length none)) items ∙ front_of rest (second ∷ []) (length none) first (here none [] rest first left) in (
-      subst (λ (k : ℕ). IsNewSeat n k first.pass) (omega (arith, one, two)) (seated (length none) first at),
-      subst (λ (k : ℕ). IsNewSeat n k second.pass) (omega (arith, two)) (seated (length rest) second (here rest [] callers second items)),
-    )
-
-pub invariant_of-result : goal.invariant_of-result
-invariant_of-result g c =
-    let e = c.in-Ok-made.ensures in
-    let both = two_popped c.in-Ok-made.napi c.in-Ok-made.callers.items c.pop-popped.new.self.items c.pop-popped-2.new.self.items c.in-Some-popped.first c.in-Some.second e.callers e.count.2 c.in-Some.ensures.items c.in-Some-popped.ensures.items in
-    record { two = e.count.1; first_of = both.0.instance; second_of = both.1.instance; control_of = e.control.instance }
-
-pub returns-clause-first : goal.returns-clause-first
-returns-clause-first g c =
-    let e = c.in-Ok-made.ensures in
-    (two_popped c.in-Ok-made.napi c.in-Ok-made.callers.items c.pop-popped.new.self.items c.pop-popped-2.new.self.items c.in-Some-popped.first c.in-Some.second e.callers e.count.2 c.in-Some.ensures.items c.in-Some-popped.ensures.items).0
-
-pub returns-clause-second : goal.returns-clause-second
-returns-clause-second g c =
-    let e = c.in-Ok-made.ensures in
-    (two_popped c.in-Ok-made.napi c.in-Ok-made.callers.items c.pop-popped.new.self.items c.pop-popped-2.new.self.items c.in-Some-popped.first c.in-Some.second e.callers e.count.2 c.in-Some.ensures.items c.in-Some-popped.ensures.items).1
 
 pub returns-clause-input : goal.returns-clause-input
 returns-clause-input g c =
-    let e = c.in-Ok-made.ensures in
-    let both = two_popped c.in-Ok-made.napi c.in-Ok-made.callers.items c.pop-popped.new.self.items c.pop-popped-2.new.self.items c.in-Some-popped.first c.in-Some.second e.callers e.count.2 c.in-Some.ensures.items c.in-Some-popped.ensures.items in
-    (c.in-Ok.ctx, both.0.ring ∙ ap Some e.ring, c.in-Ok.ensures.one)
+    let bed = c.seat_two.ensures in
+    (c.in-Ok.ctx, bed.first.ring ∙ ap Some c.in-Ok-made.ensures.ring, subst (λ (i : RxIn). IsOneRing i c.in-Ok.ctx) (sym bed.bed.1) c.in-Ok.ensures.one)
