@@ -6,14 +6,18 @@
 # usage: bench/limits.sh [PAIRS]     (100000000 where none are given)
 set -eu
 
-pairs=${1:-100000000}
+unset CDPATH
 bench=$(cd "$(dirname "$0")" && pwd)
-crate=$bench/../crates/bench_limits
+. "$bench/../scripts/arguments.sh"
+at_most 1 "$@"
+pairs=${1:-100000000}
+is_count PAIRS "$pairs"
+is_tool g++
 work=$(mktemp -d)
 trap 'rm -rf "$work"' EXIT
 
-(cd "$crate" && rt run -- 1000) > "$work/build.log" 2>&1 || { cat "$work/build.log" >&2; exit 1; }
-cp "$crate/out/bench_limits" "$work/dql_core"
+"$bench/../scripts/build.sh" bench_limits
+cp "$bench/../crates/bench_limits/out/bench_limits" "$work/dql_core"
 programs=dql_core
 g++ -O2 -o "$work/gcc" "$bench/limits.cc"
 programs="$programs gcc"

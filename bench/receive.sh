@@ -5,15 +5,19 @@
 # usage: bench/receive.sh [ROUNDS]     (1000 rounds of 4096 packets where none are given)
 set -eu
 
+unset CDPATH
+top=$(cd "$(dirname "$0")/.." && pwd)
+. "$top/scripts/arguments.sh"
+at_most 1 "$@"
 rounds=${1:-1000}
-crate=$(cd "$(dirname "$0")/../crates/bench_receive" && pwd)
+is_count ROUNDS "$rounds"
 work=$(mktemp -d)
 trap 'rm -rf "$work"' EXIT
 
-(cd "$crate" && rt run -- 10) > "$work/build.log" 2>&1 || { cat "$work/build.log" >&2; exit 1; }
+"$top/scripts/build.sh" bench_receive
 
 for run in 1 2 3 4 5 6 7 8 9; do
-    "$crate/out/bench_receive" "$rounds" > "$work/counts" 2>> "$work/times"
+    "$top/crates/bench_receive/out/bench_receive" "$rounds" > "$work/counts" 2>> "$work/times"
     if [ "$(cut -d ' ' -f 2- "$work/counts" | uniq | wc -l)" != 1 ]; then
         echo 'the packets are counted otherwise:' >&2
         cat "$work/counts" >&2

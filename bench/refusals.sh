@@ -3,8 +3,14 @@
 # status and no report.
 # bench/refusals.sh [PROGRAM]
 set -eu
+unset CDPATH
 top=$(cd "$(dirname "$0")/.." && pwd)
+. "$top/scripts/arguments.sh"
+at_most 1 "$@"
+[ $# -gt 0 ] || "$top/scripts/build.sh" napi_replay
 program=${1:-$top/crates/napi_replay/out/napi_replay}
+is_program PROGRAM "$program"
+is_tool cc
 folder=$(mktemp -d)
 trap 'rm -rf "$folder"' EXIT
 

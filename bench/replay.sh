@@ -6,17 +6,22 @@
 # they don't.
 # [TRACES=FOLDER] [PROGRAM=PROGRAM] bench/replay.sh [PEER [TURNS]]
 set -euo pipefail
+unset CDPATH
 bench=$(cd "$(dirname "$0")" && pwd)
+. "$bench/../scripts/arguments.sh"
+at_most 2 "$@"
 peer=${1:-}
 turns=${2:-15}
-program=${PROGRAM:-}
+program=${PROGRAM:-$bench/../crates/napi_replay/out/napi_replay}
+[ -z "$peer" ] || is_program PEER "$peer"
+is_count TURNS "$turns"
+[ -z "${TRACES:-}" ] || [ -d "$TRACES" ] || refuse "TRACES is '$TRACES', which is no folder"
+is_tool cc
+[ -n "${PROGRAM:-}" ] || "$bench/../scripts/build.sh" napi_replay
+is_program PROGRAM "$program"
 scratch=$(mktemp -d)
 trap 'rm -rf "$scratch"' EXIT
 
-if [ -z "$program" ]; then
-    program=$bench/../crates/napi_replay/out/napi_replay
-    "$bench/../replay" "$bench/../examples/two-packets.csv" > "$scratch/built"
-fi
 cc -O2 -o "$scratch/measure" "$bench/measure.c"
 for rows in 10000 30000 100000; do
     "$bench/traces.sh" "$scratch/$rows" "$rows"

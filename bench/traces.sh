@@ -3,9 +3,13 @@
 # devices with every event.
 # bench/traces.sh FOLDER [ROWS]     (100000 rows where none are given)
 set -eu
-folder=$1
+. "$(dirname "$0")/../scripts/arguments.sh"
+at_most 2 "$@"
+folder=${1:-}
+[ -n "$folder" ] || refuse "name a folder to write to: traces.sh FOLDER [ROWS]"
 rows=${2:-100000}
-mkdir -p "$folder"
+is_count ROWS "$rows"
+mkdir -p "$folder" || refuse "FOLDER is '$folder', which can't be made"
 
 # Bursts of 63 packets, each followed by a run.
 awk -v rows="$rows" 'BEGIN {

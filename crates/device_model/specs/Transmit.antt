@@ -1,9 +1,8 @@
 -- The transmit side of a device: its queue, and what became of its tx and done rows. It knows nothing of polls.
 use Rattle.std.specs.Prelude.{◌≡◌, ℕ, Bool, true, false, Option, Some, None, if◌then◌else◌}
+use Rattle.dql_core.specs.Bounds.{DQL_MAX_LIMIT}
 use Rattle.dql_core.specs.Limit.{opening}
-use Rattle.dql_core.specs.declared.bounds.TheConstants.{MAX_LIMIT}
 use Rattle.device_model.specs.Counter.{raised}
-use Rattle.device_model.specs.declared.transmit.TheConstants.{HOLD}
 use Rattle.device_model.specs.declared.transmit.Transmit.{Transmit}
 use Rattle.device_model.specs.declared.transmit.TxCounts.{TxCounts}
 use Rattle.tx_ring.specs.Queue.{TransmitQueue, after_done, after_send, done_fault, opening_queue, send_fault, state_of}
@@ -20,10 +19,15 @@ pub record TransmitView : Type 0 where
   -- whether there was a row
   pub used : Bool
 
+-- how long slack is held before the limit shrinks, in milliseconds: the `hold_time` of `dql_init`, which
+-- `netdev_init_one_queue` (net/core/dev.c) calls with HZ, a second
+abbrev pub hold_time : ℕ
+hold_time = 1000
+
 -- an empty queue of that many packets under a limit that starts at that moment
 abbrev pub opened_transmit : ℕ → ℕ → TransmitView
 opened_transmit capacity moment = record {
-  queue = opening_queue capacity (opening 0 MAX_LIMIT HOLD moment);
+  queue = opening_queue capacity (opening 0 DQL_MAX_LIMIT hold_time moment);
   sent = 0;
   held = 0;
   done = 0;

@@ -26,8 +26,8 @@ fn number_below_20(digits: &[u8]) -> Option<u64>
     Some(number)
 }
 
-// The number that one to twenty digits write. It is kept in a u64 up to the last of them: a u128 takes twice the time.
-fn number_of(field: &[u8]) -> Option<u128>
+// The number that one to twenty digits write, kept in a u64 up to the last of them.
+fn number_below_21(field: &[u8]) -> Option<u128>
     ensures { result ≡ (if is_numeral field.now then Some (numeral field.now) else None) }
 {
     let (last, front) = field.split_last()?;
@@ -39,6 +39,19 @@ fn number_of(field: &[u8]) -> Option<u128>
         return None;
     }
     Some(u128::from(number) * 10 + u128::from(*last - b'0'))
+}
+
+// The number that one to twenty digits write. All but the longest are read in a u64: a u128 takes twice the time.
+fn number_of(field: &[u8]) -> Option<u128>
+    ensures { result ≡ (if is_numeral field.now then Some (numeral field.now) else None) }
+{
+    if field.is_empty() || field.len() > 19 {
+        return number_below_21(field);
+    }
+    match number_below_20(field) {
+        Some(number) => Some(u128::from(number)),
+        None => None,
+    }
 }
 
 fn device_fits(event: Event, device: u128) -> bool

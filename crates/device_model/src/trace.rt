@@ -21,6 +21,9 @@ use std::marker::Model;
 /// The most rows of a trace.
 pub const MOST_ROWS: u32 = 100000;
 
+// Room for the bytes of any row with numbers of twenty digits, so that the record grows for no row in its ranges.
+const RECORD_BYTES: usize = 96;
+
 /// The rows of a trace, in order: at most [`MOST_ROWS`], each with its numbers in their ranges, and none refused by those
 /// before it.
 #[derive(Debug, Drop)]
@@ -87,7 +90,9 @@ pub fn read_trace<R: Read + Drop>(alloc: Global, source: R) -> Result<Trace, Tra
         → IsReadFailure fault ⊎ (trace_of (records_of bytes) ≡ Err fault)) }
 {
     let mut reader = reader_of(alloc, source);
-    let mut fields = ByteRecord::new(alloc);
+    let Ok(mut fields) = ByteRecord::with_capacity(alloc, RECORD_BYTES, 4) else {
+        return Err(TraceFault::OutOfMemory);
+    };
     let found = next_record(&mut reader, &mut fields)?;
     if !found {
         return Err(TraceFault::BadHeader);
@@ -110,7 +115,10 @@ fn read_rows<R: Read>(
     ensures fault { IfErr result (λ fault. (bytes : List ℕ) → StandsAt R.remaining reader.old bytes
         → IsReadFailure fault ⊎ (rows_after [] (records_from default_config 100001 (reader_state reader.old) bytes) ≡ Err fault)) }
 {
-    let mut rows = Vec::new(alloc);
+    // Room for all rows at once: what is never written costs nothing, and no row is moved.
+    let Ok(mut rows) = Vec::with_capacity(alloc, MOST_ROWS as usize) else {
+        return Err(TraceFault::OutOfMemory);
+    };
     let mut switches = Switches::new();
     for before in 0..MOST_ROWS + 1 {
         let found = next_record(reader, fields)?;

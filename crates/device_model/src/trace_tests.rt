@@ -397,3 +397,37 @@ fn fault_numbers(rt: HostRuntime) -> Result<(), Fail> {
     assert_eq!(rt; shown.as_str(), "row 7 hasn't four fields");
     Ok(())
 }
+
+// A header, and then packets of device 1 without end.
+#[derive(Drop)]
+struct EndlessReader<'a> {
+    front: &'static [u8],
+    given: &'a mut u64,
+}
+
+impl Read for EndlessReader<'_> {
+    fn read(&mut self, buf: &mut [u8]) -> io::Result<usize> {
+        if self.front.is_empty() {
+            self.front = b"1,1,rx,100\n";
+        }
+        let count = self.front.len().min(buf.len());
+        buf[..count].copy_from_slice(&self.front[..count]);
+        self.front = &self.front[count..];
+        *self.given = self.given.saturating_add(count as u64);
+        Ok(count)
+    }
+}
+
+// The reader is asked for the header, 100001 rows and what one look ahead takes, and for no more.
+#[test]
+fn endless_input(rt: HostRuntime) {
+    let mut given = 0u64;
+    let reader = EndlessReader {
+        front: b"moment,device,event,value\n0,1,open,4\n",
+        given: &mut given,
+    };
+    let answer = read_trace(rt.alloc(), reader);
+    assert_eq!(rt; answer.err(), Some(TraceFault::TooManyRows));
+    let most = 26 + 11 * 100_001;
+    assert!(rt; most <= given && given <= most + 16_384, "{given} bytes");
+}

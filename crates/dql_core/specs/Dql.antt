@@ -2,7 +2,7 @@
 use Rattle.std.specs.Prelude.{◌≡◌, ℕ, ◌+◌, ◌≤◌}
 use Rattle.dql_core.specs.Counter.{IsWrapped, distance_of}
 use Rattle.dql_core.specs.Limit.{opening}
-use Rattle.dql_core.specs.declared.bounds.TheConstants.{MAX_IN_FLIGHT}
+use Rattle.dql_core.specs.Bounds.{most_in_flight}
 use Rattle.dql_core.specs.declared.queue.Adjustment.{Adjustment}
 use Rattle.dql_core.specs.declared.queue.Dql.{Dql}
 use Rattle.dql_core.specs.declared.whole.Limit.{Limit}
@@ -13,7 +13,7 @@ pub record Shows (d : Dql) (s : Limit) : Type 0 where
   pub completed : IsWrapped d.completed s.completed
   pub previous_queued : IsWrapped d.previous_queued s.previous_queued
   pub order : (s.completed ≤ s.previous_queued) × (s.previous_queued ≤ s.queued)
-  pub in_flight : s.queued ≤ s.completed + MAX_IN_FLIGHT
+  pub in_flight : s.queued ≤ s.completed + most_in_flight
   pub last_object : d.last_object ≡ s.last_object
   pub limit : d.limit ≡ s.limit
   pub previous_over : d.previous_over ≡ s.previous_over

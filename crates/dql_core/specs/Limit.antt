@@ -1,7 +1,7 @@
 -- The rules of dynamic queue limits in whole numbers that never wrap, after `lib/dynamic_queue_limits.c` of Linux 6.6.
 -- `Limit` is the struct of `src/whole.rt`, which names each number. A `-` stops at 0, as the kernel's `POSDIFF` does.
 use Rattle.std.specs.Prelude.{ℕ, ◌+◌, ◌-◌, ◌*◌, Bool, ◌&&◌, ◌||◌, not, nat_eq, nat_lt, nat_le, min, max, if◌then◌else◌, Option, Some, None, ℤ, pos, ◌-ℤ◌}
-use Rattle.dql_core.specs.declared.bounds.TheConstants.{MAX_OBJECT, MAX_IN_FLIGHT}
+use Rattle.dql_core.specs.Bounds.{DQL_MAX_OBJECT, most_in_flight}
 use Rattle.dql_core.specs.declared.event.DqlFault.{DqlFault}
 use Rattle.dql_core.specs.declared.event.DqlFault.TheVariants.{TooLarge, TooMuchInFlight, MoreThanQueued}
 use Rattle.dql_core.specs.declared.event.LimitEvent.{LimitEvent}
@@ -121,8 +121,8 @@ after_completed s count now = settled s count (adjusted s count now)
 -- why an object of so many bytes may not be queued, the first reason that there is
 abbrev pub queued_fault : Limit → ℕ → Option DqlFault
 queued_fault s count =
-    if nat_lt MAX_OBJECT count then Some TooLarge
-    else (if nat_lt MAX_IN_FLIGHT (in_flight_of s + count) then Some TooMuchInFlight else None)
+    if nat_lt DQL_MAX_OBJECT count then Some TooLarge
+    else (if nat_lt most_in_flight (in_flight_of s + count) then Some TooMuchInFlight else None)
 
 -- why so many bytes can't be completed
 abbrev pub completed_fault : Limit → ℕ → Option DqlFault

@@ -2,7 +2,7 @@
 
 ghost use Rattle.std.specs.Prelude.{◌≡◌, ◌+◌, ◌-◌, ◌%◌, ◌<◌, ◌≤◌};
 ghost use Rattle.dql_core.specs.Counter.{distance_of};
-ghost use Rattle.dql_core.specs.declared.bounds.TheConstants.{MAX_LIMIT, MAX_OBJECT, MAX_IN_FLIGHT};
+ghost use Rattle.dql_core.specs.Bounds.{DQL_MAX_LIMIT, DQL_MAX_OBJECT, most_in_flight};
 
 use crate::bounds::{MAX_IN_FLIGHT, MAX_LIMIT, MAX_OBJECT};
 use crate::counter::{advance, distance, is_at_or_after, positive_difference, signed_difference};
@@ -39,12 +39,12 @@ pub struct Dql {
     min_limit: u32,
     max_limit: u32,
     hold: u64,
-    ghost bounds: { (min_limit ≤ limit) × (limit ≤ max_limit) × (max_limit ≤ MAX_LIMIT) },
-    ghost in_flight: { distance_of queued completed ≤ MAX_IN_FLIGHT },
+    ghost bounds: { (min_limit ≤ limit) × (limit ≤ max_limit) × (max_limit ≤ DQL_MAX_LIMIT) },
+    ghost in_flight: { distance_of queued completed ≤ most_in_flight },
     ghost previous: { distance_of previous_queued completed ≤ distance_of queued completed },
     // limit + previous_over is at most MAX_IN_FLIGHT where previous_over isn't 0
-    ghost over: { previous_over ≤ MAX_IN_FLIGHT - limit },
-    ghost objects: { (last_object ≤ MAX_OBJECT) × (previous_last_object ≤ MAX_OBJECT) },
+    ghost over: { previous_over ≤ most_in_flight - limit },
+    ghost objects: { (last_object ≤ DQL_MAX_OBJECT) × (previous_last_object ≤ DQL_MAX_OBJECT) },
 }
 
 impl Dql {
@@ -66,7 +66,7 @@ impl Dql {
         ensures ok { IfOk result (λ d. Shows d (opening min max hold now)) }
         ensures fresh { IfOk result IsNew }
         ensures fault { IfErr result (λ e. e ≡ BadBounds) }
-        ensures refused { IsErr result ↔ ((max < min) ⊎ (MAX_LIMIT < max)) }
+        ensures refused { IsErr result ↔ ((max < min) ⊎ (DQL_MAX_LIMIT < max)) }
     {
         if min > max || max > MAX_LIMIT {
             return Err(DqlFault::BadBounds);
@@ -113,7 +113,7 @@ impl Dql {
 
     /// The bytes in flight: queued and not yet completed, at most [`MAX_IN_FLIGHT`](crate::MAX_IN_FLIGHT).
     pub fn in_flight(&self) -> u32
-        ensures counter { (result ≡ bytes_in_flight self.now) × (result ≤ MAX_IN_FLIGHT) }
+        ensures counter { (result ≡ bytes_in_flight self.now) × (result ≤ most_in_flight) }
         ensures whole { (s : Limit) → Shows self.now s → result ≡ in_flight_of s }
     {
         distance(self.queued, self.completed)
@@ -284,8 +284,8 @@ impl Dql {
 
     // The bytes in the queue that weren't needed to keep it busy.
     fn slack(&self, count: u32) -> u32
-        requires { count ≤ MAX_IN_FLIGHT }
-        ensures most { result ≤ MAX_LIMIT }
+        requires { count ≤ most_in_flight }
+        ensures most { result ≤ DQL_MAX_LIMIT }
         ensures whole { (s : Limit) → Shows self.now s → result ≡ slack_of s count }
     {
         let last = if self.previous_over == 0 {
@@ -327,7 +327,7 @@ impl Dql {
     }
 
     fn slackened(&self, lowest: u32, now: u64) -> Adjustment
-        requires { lowest ≤ MAX_LIMIT }
+        requires { lowest ≤ DQL_MAX_LIMIT }
         ensures { (s : Limit) → Shows self.now s → with_adjustment s result ≡ slackened s lowest now }
     {
         if now.saturating_sub(self.slack_start) > self.hold {

@@ -1,3 +1,2 @@
-mod ClapFacts
 pub mod PlayFacts
 pub mod RunFacts

@@ -13,7 +13,7 @@ use Rattle.napi_replay.specs.World.{World}
 use Rattle.napi_replay.specs.declared.fault.ReplayFault.{ReplayFault}
 use Rattle.napi_replay.specs.declared.fault.ReplayFault.TheVariants.{Pending}
 use Rattle.napi_replay.specs.declared.line.Line.{Line}
-use Rattle.napi_replay.specs.declared.settings.Settings.{Settings}
+use Rattle.replay_words.specs.declared.settings.Settings.{Settings}
 
 -- a row of a trace
 pub accepted-at : (earlier rows : List Row) (i : ℕ) (d : Row) → i < length rows → AcceptedAfter earlier rows → (before : List Row) × IsAccepted before (get_or rows i d)

@@ -18,7 +18,7 @@ use Rattle.poll_engine.proofs.FunctionFacts.{run-is-function}
 use Rattle.poll_engine.proofs.PlainFacts.{list-afterwards}
 use Rattle.poll_engine.proofs.PollFacts.{arrivals-append, arrivals-one, length-ids, repolled-append, repolled-one}
 use Rattle.napi_replay.specs.Run.{polled_at, run_of}
-use Rattle.napi_replay.specs.declared.settings.Settings.{Settings}
+use Rattle.replay_words.specs.declared.settings.Settings.{Settings}
 
 abbrev pub Leads : Settings → SerialBench → List Poll → SerialBench → Type 0
 Leads s before polls after = Chain (At Polls s.weight) before polls after

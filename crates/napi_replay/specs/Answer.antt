@@ -7,7 +7,7 @@ use Rattle.device_model.specs.declared.row.Row.{Row}
 use Rattle.napi_replay.specs.Report.{serial_report}
 use Rattle.napi_replay.specs.declared.fault.ReplayFault.{ReplayFault}
 use Rattle.napi_replay.specs.declared.fault.ReplayFault.TheVariants.{Trace, Pending, OutputFailed}
-use Rattle.napi_replay.specs.declared.settings.Settings.{Settings}
+use Rattle.replay_words.specs.declared.settings.Settings.{Settings}
 
 abbrev pub answer_of : Settings → Result (List Row) TraceFault → Result (List ℕ) ReplayFault
 answer_of s (Ok rows) = serial_report s rows

@@ -1,12 +1,9 @@
 pub mod Answer
-pub mod Defaults
 pub mod Fault
-pub mod Options
 pub mod Played
-pub mod Range
+pub mod Program
 pub mod Replay
 pub mod Report
 pub mod Run
 pub mod Transmits
-pub mod Words
 pub mod World

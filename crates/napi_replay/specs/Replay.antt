@@ -17,8 +17,7 @@ use Rattle.napi_replay.specs.World.{World}
 use Rattle.napi_replay.specs.declared.fault.ReplayFault.{ReplayFault}
 use Rattle.napi_replay.specs.declared.fault.ReplayFault.TheVariants.{Pending}
 use Rattle.napi_replay.specs.declared.line.Line.TheVariants as line
-use Rattle.napi_replay.specs.declared.replay.TheConstants.{MOST_THREAD_POLLS}
-use Rattle.napi_replay.specs.declared.settings.Settings.{Settings}
+use Rattle.replay_words.specs.declared.settings.Settings.{Settings}
 
 abbrev pub start : World
 start = record { devices = empty; list = []; lines = [] }
@@ -42,14 +41,18 @@ with_run s row w =
     let run = run_of s w.devices w.list in
     record { devices = run.0.bench; list = run.1; lines = w.lines ++ line.Softirq row (run_report s.budget s.window run.0.polls) ∷ [] }
 
+-- the most polls that a thread makes at a time; the kernel has no such bound, and a trace has too few packets to meet it
+abbrev pub most_thread_polls : ℕ
+most_thread_polls = 131072
+
 abbrev pub thread_report_of : List Once → ThreadReport
 thread_report_of polls = record { polls = length polls; work = sum_by (λ once. once.work) polls; next = last_next polls }
 
 abbrev pub with_thread : Settings → ℕ → ℕ → World → World
 with_thread s row number w =
-    let polls = thread_polls_of s.weight MOST_THREAD_POLLS (at number w.devices) in
+    let polls = thread_polls_of s.weight most_thread_polls (at number w.devices) in
     record {
-      devices = changed (λ d. (polled_by_thread MOST_THREAD_POLLS s.weight d).1) number w.devices;
+      devices = changed (λ d. (polled_by_thread most_thread_polls s.weight d).1) number w.devices;
       list = w.list ++ entry (is_left_to_list (last_next polls)) number;
       lines = w.lines ++ line.Kthread row number (thread_report_of polls) ∷ [];
     }

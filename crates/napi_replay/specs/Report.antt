@@ -15,7 +15,7 @@ use Rattle.device_model.specs.declared.row.Row.{Row}
 use Rattle.napi_replay.specs.declared.line.Line.{Line}
 use Rattle.napi_replay.specs.declared.line.Line.TheVariants.{Softirq, Kthread}
 use Rattle.poll_engine.specs.declared.run.RunReport.{RunReport}
-use Rattle.napi_replay.specs.declared.settings.Settings.{Settings}
+use Rattle.replay_words.specs.declared.settings.Settings.{Settings}
 use Rattle.device_model.specs.declared.transmit.TxCounts.{TxCounts}
 
 -- words with a space between two of them

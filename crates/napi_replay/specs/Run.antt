@@ -6,7 +6,7 @@ use Rattle.device_model.specs.Places.{at, changed}
 use Rattle.poll_engine.specs.Function.{Progress}
 use Rattle.poll_engine.specs.Function.{run_of as run_by}
 use Rattle.poll_engine.specs.declared.bench.Once.{Once}
-use Rattle.napi_replay.specs.declared.settings.Settings.{Settings}
+use Rattle.replay_words.specs.declared.settings.Settings.{Settings}
 
 -- a poll of a number from the list: what it did, and the devices afterwards
 abbrev pub polled_at : Devices → ℕ → ℕ → Once × Devices

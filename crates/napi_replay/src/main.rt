@@ -6,24 +6,17 @@
 
 mod fault;
 mod line;
-mod mode;
+mod program;
 mod replay;
 mod report;
 mod serial;
-mod settings;
 #[cfg(test)]
 mod test_cases;
 #[cfg(test)]
 mod tests;
-#[cfg(test)]
-mod word_tests;
-mod words;
 
-use crate::fault::{ReplayFault, fault_line, status};
-use crate::mode::Mode;
-use crate::serial::replay_serial;
-use crate::settings::Settings;
-use crate::words::{WordFault, parse_words, word_line, word_status};
+use crate::program::{Ending, ProgramFault, end_by, run_program};
+use replay_words::WordFault;
 use std::io::ErrorKind;
 use std::process::ExitCode;
 use std::{env, io};
@@ -40,32 +33,21 @@ fn given_words(rt: &HostRuntime) -> Result<Vec<String>, WordFault> {
     }
 }
 
-// The mode and the settings that the words ask for.
-fn asked(rt: &HostRuntime) -> Result<(Mode, Settings), WordFault> {
-    parse_words(rt.alloc(), given_words(rt)?.as_slice())
-}
-
-// Serial is the one mode that words can ask for.
-fn replay_input(rt: &HostRuntime, _mode: Mode, settings: &Settings) -> Result<(), ReplayFault> {
-    let mut writer = io::writer(rt);
-    replay_serial(rt.alloc(), rt.reader(), &mut writer, settings)
+// The program over its real ends.
+fn run(rt: &HostRuntime) -> Ending {
+    let mut errors = rt.stderr();
+    match given_words(rt) {
+        Ok(words) => run_program(
+            rt.alloc(),
+            words.as_slice(),
+            rt.reader(),
+            &mut io::writer(rt),
+            &mut errors,
+        ),
+        Err(fault) => end_by(rt.alloc(), &ProgramFault::Words(fault), &mut errors),
+    }
 }
 
 fn main(rt: HostRuntime) -> ExitCode {
-    let (mode, settings) = match asked(&rt) {
-        Ok(asked) => asked,
-        Err(fault) => {
-            let _ = eprint!(rt; "{}", word_line(&fault));
-            return ExitCode::from(word_status(&fault));
-        }
-    };
-    match replay_input(&rt, mode, &settings) {
-        Ok(()) => ExitCode::SUCCESS,
-        Err(fault) => {
-            if let Ok(line) = fault_line(rt.alloc(), &fault) {
-                let _ = eprint!(rt; "{line}");
-            }
-            ExitCode::from(status(&fault))
-        }
-    }
+    ExitCode::from(run(&rt).status)
 }

@@ -7,10 +7,10 @@ ghost use Rattle.device_model.specs.Waiting.{waiting};
 use crate::fault::ReplayFault;
 use crate::line::Line;
 use crate::report::{Totals, add_device, add_lines, add_list, add_totals};
-use crate::settings::Settings;
 use device_model::{Event, Row, SerialBench};
 use napi_model::Kind;
 use poll_engine::{Bench, Next, PlainList, PollList, RunReport, ThreadReport, run_softirq};
+use replay_words::Settings;
 use std::alloc::{AllocError, Global};
 
 /// The most polls that a kthread row makes. A trace has too few packets to meet it.

@@ -14,8 +14,8 @@ ghost use Rattle.napi_replay.specs.declared.fault.ReplayFault.TheVariants.{Outpu
 
 use crate::fault::ReplayFault;
 use crate::replay::Replay;
-use crate::settings::Settings;
 use device_model::{Event, Row, read_trace};
+use replay_words::Settings;
 use std::alloc::Global;
 use std::io::{Read, Write};
 

@@ -518,3 +518,72 @@ total devices 2 runs 4 polls 8 work 300 squeezed 2
 ",
     },
 ];
+
+// At the bounds of the numbers: slack held for as long as the hold and one millisecond longer, a thread that polls more often
+// than a run may, and the largest rings.
+pub(crate) const BOUNDS: [Case; 4] = [
+    Case {
+        name: "slack held for the hold",
+        rows: &[
+            (1, "0,1,open,8\n5,1,tx,1500\n6,1,done,1\n"),
+            (2, "6,1,tx,1500\n"),
+            (1, "6,1,done,1\n7,1,done,1\n"),
+            (3, "7,1,tx,1000\n"),
+            (1, "8,1,done,1\n8,1,tx,1000\n1007,1,done,1\n"),
+        ],
+        polling: USUAL,
+        report: "device 1 on arrived 0 dropped 0 polled 0 bytes 0 left 0 polls 0
+napi 1 granted 0 missed 0 disabled 0 again 0 released 0 word 0
+tx 1 sent 7 held 0 done 5 denied 0 limit 3000 avail 1000 stopped 0
+list
+total devices 1 runs 0 polls 0 work 0 squeezed 0
+",
+    },
+    Case {
+        name: "slack held for longer than the hold",
+        rows: &[
+            (1, "0,1,open,8\n5,1,tx,1500\n6,1,done,1\n"),
+            (2, "6,1,tx,1500\n"),
+            (1, "6,1,done,1\n7,1,done,1\n"),
+            (3, "7,1,tx,1000\n"),
+            (1, "8,1,done,1\n8,1,tx,1000\n1008,1,done,1\n"),
+        ],
+        polling: USUAL,
+        report: "device 1 on arrived 0 dropped 0 polled 0 bytes 0 left 0 polls 0
+napi 1 granted 0 missed 0 disabled 0 again 0 released 0 word 0
+tx 1 sent 7 held 0 done 5 denied 0 limit 2000 avail 0 stopped 0
+list
+total devices 1 runs 0 polls 0 work 0 squeezed 0
+",
+    },
+    Case {
+        name: "a thread polls 400 packets",
+        rows: &[
+            (1, "0,1,open,1024\n1,1,threaded,1\n"),
+            (400, "2,1,rx,100\n"),
+            (1, "3,1,kthread,0\n"),
+        ],
+        polling: USUAL,
+        report: "kthread 403 device 1 polls 8 work 400
+device 1 on arrived 400 dropped 0 polled 400 bytes 40000 left 0 polls 8
+napi 1 granted 1 missed 399 disabled 0 again 1 released 1 word 256
+list
+total devices 1 runs 0 polls 0 work 0 squeezed 0
+",
+    },
+    Case {
+        name: "the largest ring, filled and emptied",
+        rows: &[
+            (1, "0,1,open,65536\n1,1,threaded,1\n"),
+            (65537, "2,1,rx,100\n"),
+            (1, "3,1,kthread,0\n"),
+        ],
+        polling: (1, 64, 1),
+        report: "kthread 65540 device 1 polls 1026 work 65536
+device 1 on arrived 65537 dropped 1 polled 65536 bytes 6553600 left 0 polls 1026
+napi 1 granted 1 missed 65535 disabled 0 again 1 released 1 word 256
+list
+total devices 1 runs 0 polls 0 work 0 squeezed 0
+",
+    },
+];

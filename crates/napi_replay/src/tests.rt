@@ -1,10 +1,11 @@
 //! The worked traces, and what no contract says: that calls succeed, and what a failing reader or writer gives.
 
 use crate::fault::{ReplayFault, fault_line, status};
+use crate::program::{Ending, run_program};
 use crate::serial::replay_serial;
-use crate::settings::Settings;
-use crate::test_cases::{CONTROLS, Case, POLLING, WORKED};
+use crate::test_cases::{BOUNDS, CONTROLS, Case, POLLING, WORKED};
 use device_model::TraceFault;
+use replay_words::Settings;
 use std::alloc::{AllocError, Global};
 use std::io;
 use std::io::{ErrorKind, Read, Write};
@@ -76,6 +77,11 @@ fn controls(rt: HostRuntime) -> Result<(), Fail> {
 #[test]
 fn polling(rt: HostRuntime) -> Result<(), Fail> {
     compare_reports(&rt, rt.alloc(), &POLLING)
+}
+
+#[test]
+fn bounds(rt: HostRuntime) -> Result<(), Fail> {
+    compare_reports(&rt, rt.alloc(), &BOUNDS)
 }
 
 // Rows, and the line of their fault.
@@ -365,4 +371,57 @@ fn fault_lines(rt: HostRuntime) -> Result<(), Fail> {
         assert_eq!(rt; status(&fault), number, "of {line:?}");
     }
     Ok(())
+}
+
+// The program over ends in memory: how it ended, what went out, and what went to the errors.
+fn play_program(
+    alloc: Global,
+    words: &[&str],
+    text: &str,
+) -> Result<(Ending, Vec<u8>, Vec<u8>), AllocError> {
+    let mut given = Vec::new(alloc);
+    for word in words {
+        given.push(String::from_str(alloc, *word)?)?;
+    }
+    let mut output = Vec::new(alloc);
+    let mut errors = Vec::new(alloc);
+    let ending = run_program(
+        alloc,
+        given.as_slice(),
+        text.as_bytes(),
+        &mut output,
+        &mut errors,
+    );
+    Ok((ending, output, errors))
+}
+
+#[test]
+fn programs(rt: HostRuntime) -> Result<(), Fail> {
+    let (ending, output, errors) = play_program(rt.alloc(), &["--budget=300"], ONE_PACKET)?;
+    assert_eq!(rt; ending.status, 0);
+    assert_eq!(rt; output.as_slice(), ONE_PACKET_REPORT.as_bytes());
+    assert!(rt; errors.is_empty());
+    for (words, text, status, line) in [
+        (["--budget=0"], ONE_PACKET, 64, "usage fault 64\n"),
+        (["--budget=1"], "", 2, "trace fault 1 BadHeader row 0\n"),
+    ] {
+        let (ending, output, errors) = play_program(rt.alloc(), &words, text)?;
+        assert_eq!(rt; (ending.status, ending.told), (status, true));
+        assert!(rt; output.is_empty());
+        assert_eq!(rt; errors.as_slice(), line.as_bytes());
+    }
+    Ok(())
+}
+
+// The status is that of the fault also where its line can't be told.
+#[test]
+fn failing_errors(rt: HostRuntime) {
+    let mut errors = FailingWriter {
+        taken: Vec::new(rt.alloc()),
+        before: 3,
+    };
+    let mut output = Vec::new(rt.alloc());
+    let ending = run_program(rt.alloc(), &[], b"".as_slice(), &mut output, &mut errors);
+    assert_eq!(rt; (ending.status, ending.told), (2, false));
+    assert_eq!(rt; errors.taken.as_slice(), b"tra".as_slice());
 }

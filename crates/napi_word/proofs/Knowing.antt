@@ -1,12 +1,16 @@
 -- What a pass knows by its last event.
-use Rattle.std.proofs.Common.{eq-eqb, ◌≡◌, ℕ, [], ◌∷◌, Bool, true, false, ◌||◌, refl, sym, ap, ◌∙◌, subst, true≢false}
+use Rattle.std.proofs.Common.{inl, eq-eqb, ◌≡◌, ℕ, [], ◌∷◌, Bool, true, false, ◌||◌, refl, sym, ap, ◌∙◌, subst, true≢false}
 use Rattle.napi_model.specs.declared.state.State.{State as Napi}
 use Rattle.napi_model.specs.declared.state.Seen.{Seen}
-use Rattle.napi_model.specs.declared.state.Place.TheVariants.{Control}
+use Rattle.napi_model.specs.declared.state.Kind.{Kind}
+use Rattle.napi_model.specs.declared.state.Kind.TheVariants as kind
+use Rattle.napi_model.specs.declared.event.Prep.TheVariants as prep
+use Rattle.napi_model.specs.declared.event.Done.TheVariants.{Again}
+use Rattle.napi_model.specs.declared.state.Place.TheVariants.{Granted, Polling, Control}
 use Rattle.napi_model.specs.declared.event.Event.{Event}
 use Rattle.napi_model.specs.declared.event.Operation.{Operation}
-use Rattle.napi_model.specs.declared.event.Operation.TheVariants.{Look, Enable}
-use Rattle.napi_model.specs.Step.{event, opening, after_by}
+use Rattle.napi_model.specs.declared.event.Operation.TheVariants.{Look, Schedule, Take, Complete, MarkDisable, TakeDisable, Unmark, Enable}
+use Rattle.napi_model.specs.Step.{event, opening, after_by, MayHand}
 use Rattle.napi_model.specs.History.{LegalHistory, IsLegalFor, state_after}
 use Rattle.napi_model.specs.Laws.{is_owner}
 use Rattle.napi_model.proofs.Histories.{legal_back, state_after-snoc}
@@ -39,19 +43,50 @@ module _ (v : View) (o : Operation) (w : View) (g : Steps v o w) where
   pub controller_stays : HasController v → HasController w
   controller_stays top = g.number ∙ top ∙ sym g.controller
 
+  -- where the pass is after an event of its own
+  pub place_then : place_in w ≡ (after_by (number_of v) o found_state).place
+  place_then = ap (λ (s : Napi). s.place) state_then
+
+-- what a pass was granted, polls or controls
+pub schedule_grants : (v w : View) → Steps v (Schedule prep.Granted) w → place_in w ≡ Granted (number_of w)
+schedule_grants v w g = place_then v (Schedule prep.Granted) w g ∙ ap Granted (sym g.number)
+
+pub again_grants : (v w : View) → Steps v (Complete Again) w → place_in w ≡ Granted (number_of w)
+again_grants v w g = place_then v (Complete Again) w g ∙ ap Granted (sym g.number)
+
+pub take_polls : (v w : View) (k : Kind) → Steps v (Take k true) w → place_in w ≡ Polling (number_of w)
+take_polls v w k g = place_then v (Take k true) w g ∙ ap Polling (sym g.number)
+
+pub take_controls : (v w : View) → Steps v (TakeDisable true) w → place_in w ≡ Control (number_of w)
+take_controls v w g = place_then v (TakeDisable true) w g ∙ ap Control (sym g.number)
+
+-- an event that changes nothing leaves what its pass knows
+module _ (v : View) (o : Operation) (w : View) (g : Steps v o w) (quiet : after_by (number_of v) o (found_state v o w g) ≡ found_state v o w g) where
+  pub quiet_place : is_owner (number_of v) (place_in v) ≡ true → place_in w ≡ place_in v
+  quiet_place owner = ap (λ (s : Napi). s.place) (state_then v o w g ∙ quiet) ∙ g.place owner
+
+  pub quiet_free : is_owner (number_of v) (place_in v) ≡ false → is_owner (number_of w) (place_in w) ≡ false
+  quiet_free free = (λ i. is_owner (g.number i) ((state_then v o w g ∙ quiet) i).place) ∙ g.owner ∙ free
+
+  pub quiet_disable : HasController v → disable_in w ≡ disable_in v
+  quiet_disable top = ap (λ (s : Napi). s.flags.disable) (state_then v o w g ∙ quiet) ∙ g.disable top
+
 -- looks: of an owner, of who is none, and of the controller
 module _ (v : View) (x : Seen) (w : View) (g : Steps v (Look x) w) where
   pub look_place : is_owner (number_of v) (place_in v) ≡ true → place_in w ≡ place_in v
-  look_place owner = ap (λ (s : Napi). s.place) (state_then v (Look x) w g) ∙ g.place owner
+  look_place = quiet_place v (Look x) w g refl
 
   pub look_free : is_owner (number_of v) (place_in v) ≡ false → is_owner (number_of w) (place_in w) ≡ false
-  look_free free = (λ i. is_owner (g.number i) (state_then v (Look x) w g i).place) ∙ g.owner ∙ free
+  look_free = quiet_free v (Look x) w g refl
+
+  pub look_unmarked : HasController v → disable_in w ≡ disable_in v
+  look_unmarked = quiet_disable v (Look x) w g refl
+
+  pub look_polls : place_in v ≡ Polling (number_of v) → place_in w ≡ Polling (number_of w)
+  look_polls is = look_place (ap (is_owner (number_of v)) is ∙ eq-eqb (number_of v) (number_of v) refl) ∙ is ∙ ap Polling (sym g.number)
 
   pub look_control : place_in v ≡ Control (number_of v) → place_in w ≡ Control (number_of w)
   look_control is = look_place (ap (is_owner (number_of v)) is ∙ eq-eqb (number_of v) (number_of v) refl) ∙ is ∙ ap Control (sym g.number)
-
-  pub look_unmarked : HasController v → disable_in w ≡ disable_in v
-  look_unmarked top = ap (λ (s : Napi). s.flags.disable) (state_then v (Look x) w g) ∙ g.disable top
 
   pub look_disable : HasController v → x.flags.disable ≡ disable_in v
   look_disable top = ap (λ (y : Seen). y.flags.disable) (step_of v (Look x) w g).0 ∙ g.disable top
@@ -62,3 +97,26 @@ enable_unmarked v b w g top = ap (λ (s : Napi). s.flags.disable) (state_then v 
 
 pub enable_free : (v : View) (b : Bool) (w : View) → Steps v (Enable b) w → is_owner (number_of w) (place_in w) ≡ false
 enable_free v b w g = ap (λ (s : Napi). is_owner (number_of w) s.place) (state_then v (Enable b) w g)
+
+-- the controller's take leaves the mark of the disable, and its unmark clears it
+pub take_marked : (v w : View) → Steps v (TakeDisable true) w → HasController v → disable_in w ≡ disable_in v
+take_marked v w g top = ap (λ (s : Napi). s.flags.disable) (state_then v (TakeDisable true) w g) ∙ g.disable top
+
+pub unmark_controls : (v w : View) → Steps v Unmark w → place_in v ≡ Control (number_of v) → place_in w ≡ Control (number_of w)
+unmark_controls v w g is =
+    place_then v Unmark w g ∙ g.place (ap (is_owner (number_of v)) is ∙ eq-eqb (number_of v) (number_of v) refl) ∙ is ∙ ap Control (sym g.number)
+
+pub unmark_clears : (v w : View) → Steps v Unmark w → disable_in w ≡ false
+unmark_clears v w g = ap (λ (s : Napi). s.flags.disable) (state_then v Unmark w g)
+
+-- a mark leaves who owns the instance
+pub mark_free : (v w : View) → Steps v MarkDisable w → is_owner (number_of v) (place_in v) ≡ false → is_owner (number_of w) (place_in w) ≡ false
+mark_free v w g free = (λ i. is_owner (g.number i) (place_then v MarkDisable w g i)) ∙ g.owner ∙ free
+
+pub mark_sets : (v w : View) → Steps v MarkDisable w → disable_in w ≡ true
+mark_sets v w g = ap (λ (s : Napi). s.flags.disable) (state_then v MarkDisable w g)
+
+-- what was granted may be handed to either
+pub granted_hands : (v : View) (k : Kind) → place_in v ≡ Granted (number_of v) → MayHand (number_of v) k (place_in v)
+granted_hands v kind.List is = inl is
+granted_hands v kind.Thread is = is

@@ -12,3 +12,4 @@ pub mod Meets
 pub mod Whole
 pub mod Counting
 pub mod Closing
+pub mod ControlRuns

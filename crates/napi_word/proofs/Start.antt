@@ -12,13 +12,14 @@ use Rattle.napi_model.specs.Word.{word_of}
 use Rattle.napi_word.specs.declared.view.Key.{Key}
 use Rattle.napi_word.specs.declared.view.Strand.{Strand}
 use Rattle.napi_word.specs.declared.view.Holds.TheVariants.{Within}
-use Rattle.napi_word.specs.View.{View}
+use Rattle.napi_word.specs.View.{View, number_of, place_in, disable_in}
+use Rattle.napi_model.specs.declared.state.Place.TheVariants.{Control}
 use Rattle.napi_word.specs.Slot.{Content, is_out, owns_slot, hold_of}
 use Rattle.napi_word.specs.Rule.{strand, strands_from, maker_at, first_view, begun_view, Homes, Owned, Fits, Kept, Starts, Holding}
 use Rattle.napi_word.specs.Told.{begun}
 use Rattle.napi_word.specs.declared.table.Pass.{Pass}
 use Rattle.napi_word.specs.declared.table.StateTable.{StateTable}
-use Rattle.napi_word.specs.Passes.{view_of, IsPassOf, IsNew}
+use Rattle.napi_word.specs.Passes.{view_of, IsPassOf, IsNew, Controls, Disable}
 use Rattle.napi_word.proofs.Owns.{own_none}
 use Rattle.napi_word.proofs.Keeps.{some_is}
 
@@ -147,3 +148,19 @@ new_last {t} last x n p at table view holds = record {
   others = λ low. absurd (omega (arith, low));
   own = λ same. holds;
 }
+
+-- ---- what the controller's pass knows at first
+
+place_at_start : (k : ℕ) → (state_after (model.opening k) []).place ≡ Control k
+unfolding state_after
+place_at_start k = refl
+
+disable_at_start : (k : ℕ) → (state_after (model.opening k) []).flags.disable ≡ false
+unfolding state_after
+disable_at_start k = refl
+
+pub new_controls : {t : StateTable} (k : ℕ) (x : RxCtx) (p : Pass) → IsNew t k x k p → Controls p
+new_controls {t} k x p new = ap place_in new.view ∙ place_at_start k ∙ ap Control (sym (ap number_of new.view))
+
+pub new_unmarked : {t : StateTable} (k c : ℕ) (x : RxCtx) (p : Pass) → IsNew t k x c p → Disable false p
+new_unmarked {t} k c x p new = ap disable_in new.view ∙ disable_at_start k

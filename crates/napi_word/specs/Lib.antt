@@ -6,3 +6,4 @@ pub mod Told
 pub mod Atoms
 pub mod Passes
 pub mod Ends
+pub mod Runs

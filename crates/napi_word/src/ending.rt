@@ -13,6 +13,7 @@ use atomic_table::Seat;
 use rx_ring::RxCtx;
 
 /// What is left of a table that was closed.
+#[derive(Drop)]
 pub struct Ended {
     /// The context; `None` exactly where a pass has it out of the slot.
     pub ctx: Option<RxCtx>,

@@ -20,6 +20,10 @@ mod rule;
 mod slot;
 mod steps;
 mod table;
+#[cfg(test)]
+mod tests;
+#[cfg(test)]
+mod thread_tests;
 mod view;
 
 pub use ending::Ended;

@@ -14,6 +14,7 @@ use std::alloc::{AllocFailed, Global};
 use std::snapshot::Snapshot;
 
 /// A table that wasn't made, for want of memory.
+#[derive(Drop)]
 pub struct TableBack {
     /// The context that was handed in.
     pub ctx: RxCtx,

@@ -10,6 +10,7 @@ use rx_ring::RxCtx;
 use std::alloc::Global;
 
 /// The state word of an instance (`napi->state`), and the slot of its poll context.
+#[derive(Drop)]
 pub struct StateTable {
     pub(crate) table: Table<Option<RxCtx>, View, Key, InOneHistory, Global>,
     ghost one_word: { table.shared.table_id.words ≡ 1 },
@@ -17,7 +18,8 @@ pub struct StateTable {
 }
 
 /// One caller's way to a table: with its number, the list that it has seen, and, beside a mark of it, what it holds of the
-/// slot. It may go to another thread.
+/// slot. It may go to another thread. One that is dropped never comes back, so its table can't be ended any more.
+#[derive(Drop)]
 pub struct Pass {
     pub(crate) seat: Seat<Option<RxCtx>, View>,
     pub(crate) holds: Holds,

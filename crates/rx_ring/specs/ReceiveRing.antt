@@ -6,6 +6,14 @@ use Rattle.rx_ring.specs.declared.packet.Packet.{Packet}
 use Rattle.rx_ring.specs.declared.packet.RxCounts.{RxCounts}
 use Rattle.rx_ring.specs.declared.packet.Totals.{Totals}
 
+-- the most packets that a ring can hold
+abbrev pub most_places : ℕ
+most_places = 65536
+
+-- the greatest weight of a poll: the kernel's usual one (`include/linux/netdevice.h`)
+abbrev pub NAPI_POLL_WEIGHT : ℕ
+NAPI_POLL_WEIGHT = 64
+
 pub record ReceiveRing : Type 0 where
   pub put : List Packet  -- every packet put so far, oldest first
   pub received : List Packet  -- every packet that polls gave so far, in the order in which they gave them

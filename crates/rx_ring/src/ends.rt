@@ -3,7 +3,7 @@
 ghost use Rattle.std.specs.Prelude.{◌≡◌, ◌+◌, ◌≤◌, ◌++◌, [], length, take};
 ghost use mathlib.Core.List.{IsPrefix};
 ghost use Rattle.rtrb.specs.Ring.{sent, received, known_items, known_free, producer_capacity, SameConsumer};
-ghost use Rattle.rx_ring.specs.ReceiveRing.{capped, bytes_of};
+ghost use Rattle.rx_ring.specs.ReceiveRing.{NAPI_POLL_WEIGHT, capped, bytes_of};
 
 use crate::packet::{Batch, MAX_WEIGHT, Packet, RxCounts};
 use rtrb::{Consumer, Producer, PushError};
@@ -52,7 +52,7 @@ impl RxIn {
 
 impl RxCtx {
     ghost use Rattle.std.specs.Prelude.{◌≡◌, ◌≤◌, length, false};
-    ghost use Rattle.rx_ring.specs.ReceiveRing.{counts_of};
+    ghost use Rattle.rx_ring.specs.ReceiveRing.{NAPI_POLL_WEIGHT, counts_of};
     ghost use Rattle.rx_ring.specs.Ends.{received_list, known_list, polls_of, is_beside, SameCtx, GivesNext};
 
     /// What is counted of the polls so far.
@@ -73,7 +73,7 @@ impl RxCtx {
     /// it. A poll right after [`beside`](crate::beside) doesn't look again: it gives exactly the lesser of the weight and
     /// what the ring held there, and leaves to the next polls what was put since.
     pub fn poll(&mut self, weight: usize, batch: &mut Batch) -> usize
-        requires { (1 ≤ weight) × (weight ≤ MAX_WEIGHT) }
+        requires { (1 ≤ weight) × (weight ≤ NAPI_POLL_WEIGHT) }
         ensures next { GivesNext weight self.old self.new batch.new.items }
         ensures work { result ≡ length batch.new.items }
     {
@@ -104,7 +104,7 @@ impl RxCtx {
 // Takes `count` packets that the consumer has seen, by one step, as all that is in the batch, and adds their bytes.
 fn take_known(consumer: &mut Consumer<Packet>, count: usize, bytes: u64, batch: &mut Batch) -> u64
     requires known { count ≤ length (known_items consumer.old) }
-    requires room { count ≤ MAX_WEIGHT }
+    requires room { count ≤ NAPI_POLL_WEIGHT }
     requires bytes { bytes ≡ capped (bytes_of (received consumer.old)) }
     ensures ring { SameConsumer consumer.old consumer.new }
     ensures batch { batch.new.items ≡ take count (known_items consumer.old) }
@@ -126,7 +126,7 @@ const BLANKS: [Packet; MAX_WEIGHT] = [Packet {
 
 // Gives the batch `count` places. What lies in them is written over, so only places that are new are filled.
 fn resize(batch: &mut Batch, count: usize)
-    requires { count ≤ MAX_WEIGHT }
+    requires { count ≤ NAPI_POLL_WEIGHT }
     ensures { length batch.new.items ≡ count }
 {
     batch.truncate(count);

@@ -2,7 +2,7 @@
 
 ghost use Rattle.std.specs.Prelude.{◌≡◌, ◌≤◌, ◌++◌, [], length};
 ghost use Rattle.rtrb.specs.Ring.{received, known_items, SameConsumer};
-ghost use Rattle.rx_ring.specs.ReceiveRing.{capped, bytes_of};
+ghost use Rattle.rx_ring.specs.ReceiveRing.{NAPI_POLL_WEIGHT, capped, bytes_of};
 ghost use Rattle.rx_ring.specs.Ends.{GivesNext};
 
 use crate::RxCtx;
@@ -10,7 +10,7 @@ use crate::packet::{Batch, MAX_WEIGHT, Packet};
 use rtrb::Consumer;
 
 pub fn poll_by_pops(ctx: &mut RxCtx, weight: usize, batch: &mut Batch) -> usize
-    requires { (1 ≤ weight) × (weight ≤ MAX_WEIGHT) }
+    requires { (1 ≤ weight) × (weight ≤ NAPI_POLL_WEIGHT) }
     ensures next { GivesNext weight ctx.old ctx.new batch.new.items }
     ensures work { result ≡ length batch.new.items }
 {
@@ -29,7 +29,7 @@ pub fn poll_by_pops(ctx: &mut RxCtx, weight: usize, batch: &mut Batch) -> usize
 // Pops `count` packets that the consumer has seen into the empty batch, one by one, and adds their bytes.
 fn pop_each(consumer: &mut Consumer<Packet>, count: usize, bytes: u64, batch: &mut Batch) -> u64
     requires known { count ≤ length (known_items consumer.old) }
-    requires room { (count ≤ MAX_WEIGHT) × (batch.old.items ≡ []) }
+    requires room { (count ≤ NAPI_POLL_WEIGHT) × (batch.old.items ≡ []) }
     requires bytes { bytes ≡ capped (bytes_of (received consumer.old)) }
     ensures ring { SameConsumer consumer.old consumer.new }
     ensures count { length batch.new.items ≡ count }

@@ -1,7 +1,7 @@
 //! Worked runs, and what no clause says: that later puts find room, that polls find what was put, and two threads.
 
 ghost use Rattle.std.specs.Prelude.{◌≡◌, ◌≤◌, length, min, take};
-ghost use Rattle.rx_ring.specs.ReceiveRing.{held_of};
+ghost use Rattle.rx_ring.specs.ReceiveRing.{NAPI_POLL_WEIGHT, held_of};
 ghost use Rattle.rx_ring.specs.Ends.{IsOneRing, SameIn, SameCtx, ring_of};
 
 use crate::plain::poll_by_pops;
@@ -19,7 +19,7 @@ fn packet(number: u64, bytes: u32) -> Packet {
 // What the clauses of both calls give together: a poll right after `beside` is exact.
 fn poll_beside(input: &mut RxIn, ctx: &mut RxCtx, weight: usize, batch: &mut Batch) -> usize
     requires ring { IsOneRing input.old ctx.old }
-    requires weight { (1 ≤ weight) × (weight ≤ MAX_WEIGHT) }
+    requires weight { (1 ≤ weight) × (weight ≤ NAPI_POLL_WEIGHT) }
     ensures ring { IsOneRing input.new ctx.new }
     ensures exact { batch.new.items ≡ take weight (held_of (ring_of input.old ctx.old)) }
     ensures work { result ≡ min weight (length (held_of (ring_of input.old ctx.old))) }
@@ -64,6 +64,31 @@ fn capacity_refusals(rt: HostRuntime) -> Result<(), Fail> {
         let refused = ring(rt.alloc(), capacity).err();
         assert_eq!(rt; refused, Some(RingFault::BadCapacity), "{capacity} packets");
     }
+    Ok(())
+}
+
+// A ring of the most places, filled to the last one, and polled with the greatest weight until it is empty, twice.
+#[test]
+fn largest_ring(rt: HostRuntime) -> Result<(), Fail> {
+    let (mut input, mut ctx) = ring(rt.alloc(), 65_536)?;
+    let mut batch = Batch::new();
+    assert_eq!(rt; (batch.capacity(), MAX_WEIGHT), (64, 64));
+    for _ in 0..2 {
+        for k in 0..65_536 {
+            assert_eq!(rt; input.put(packet(k, 1)), Ok(()));
+        }
+        assert_eq!(rt; input.put(packet(0, 1)), Err(packet(0, 1)));
+        for _ in 0..1024 {
+            assert_eq!(rt; ctx.poll(64, &mut batch), 64);
+        }
+        assert_eq!(rt; ctx.poll(64, &mut batch), 0);
+    }
+    let counts = RxCounts {
+        polls: 2050,
+        packets: 131_072,
+        bytes: 131_072,
+    };
+    assert_eq!(rt; ctx.counts(), counts);
     Ok(())
 }
 

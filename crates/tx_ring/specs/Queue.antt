@@ -1,8 +1,8 @@
 -- A transmit queue under a queue limit, after byte queue limits (`include/linux/netdevice.h`, Linux 6.6): packets are
 -- sent, complete in their order, and the limit over their bytes stops the queue and starts it.
 use Rattle.std.specs.Prelude.{ℕ, ◌+◌, ◌%◌, ◌^◌, Bool, false, ◌&&◌, List, [], ◌∷◌, ◌++◌, length, take, drop, sum, nat_eq, nat_lt, nat_le, int_lt, pos, Option, Some, None, if◌then◌else◌}
+use Rattle.dql_core.specs.Bounds.{DQL_MAX_OBJECT, most_in_flight}
 use Rattle.dql_core.specs.Limit.{after_queued, after_completed, avail_of, in_flight_of}
-use Rattle.dql_core.specs.declared.bounds.TheConstants.{MAX_OBJECT, MAX_IN_FLIGHT}
 use Rattle.dql_core.specs.declared.whole.Limit.{Limit}
 use Rattle.tx_ring.specs.declared.event.TxEvent.{TxEvent}
 use Rattle.tx_ring.specs.declared.event.TxEvent.TheVariants.{Send, Finish}
@@ -16,6 +16,10 @@ pub record TransmitQueue : Type 0 where
   pub done : ℕ  -- how many of these, the oldest, are complete
   pub limit : Limit  -- the limit over their bytes, in whole numbers
   pub stopped : Bool  -- whether the limit has stopped the queue
+
+-- the most packets that a ring can hold
+abbrev pub most_places : ℕ
+most_places = 65536
 
 -- a new queue under a new limit isn't stopped
 abbrev pub opening_queue : ℕ → Limit → TransmitQueue
@@ -68,8 +72,8 @@ abbrev pub send_fault : TransmitQueue → ℕ → Option TxFault
 send_fault t bytes =
     if t.stopped then Some Stopped
     else (if nat_le t.capacity (length (held_of t)) then Some Full
-    else (if nat_lt MAX_OBJECT bytes then Some TooLarge
-    else (if nat_lt MAX_IN_FLIGHT (in_flight_of t.limit + bytes) then Some TooMuchInFlight else None)))
+    else (if nat_lt DQL_MAX_OBJECT bytes then Some TooLarge
+    else (if nat_lt most_in_flight (in_flight_of t.limit + bytes) then Some TooMuchInFlight else None)))
 
 -- why so many packets can't be complete
 abbrev pub done_fault : TransmitQueue → ℕ → Option TxFault

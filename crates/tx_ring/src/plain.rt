@@ -2,8 +2,9 @@
 //! was told of, and folds them anew for each answer.
 
 use crate::{TxEvent, TxState};
-use dql_core::{Limit, LimitEvent, MAX_IN_FLIGHT, MAX_LIMIT, MAX_OBJECT};
-use std::alloc::{AllocError, Global};
+use dql_core::{Dql, DqlFault, LimitEvent};
+use std::alloc::Global;
+use std::test::Fail;
 
 #[derive(Drop)]
 pub struct PlainQueue {
@@ -25,16 +26,10 @@ impl PlainQueue {
         }
     }
 
-    fn limit(&self) -> Limit {
-        let mut limit = Limit::new(0, MAX_LIMIT, 50, 0);
+    fn limit(&self) -> Result<Dql, DqlFault> {
+        let mut limit = Dql::new(0, 1_879_048_192, 50, 0)?;
         limit.run(&self.told);
-        limit
-    }
-
-    fn avail(&self) -> i128 {
-        let limit = self.limit();
-        let room = i128::try_from(limit.limit.saturating_add(limit.completed)).unwrap_or(0);
-        room.saturating_sub(i128::try_from(limit.queued).unwrap_or(0))
+        Ok(limit)
     }
 
     fn bytes_between(&self, from: usize, to: usize) -> u128 {
@@ -46,7 +41,7 @@ impl PlainQueue {
     }
 
     /// Makes the call, and says whether it was refused.
-    pub fn refuses(&mut self, event: TxEvent) -> Result<bool, AllocError> {
+    pub fn refuses(&mut self, event: TxEvent) -> Result<bool, Fail> {
         let held = self.sizes.len().saturating_sub(self.done);
         match event {
             TxEvent::Send(bytes) => {
@@ -55,14 +50,14 @@ impl PlainQueue {
                     .saturating_add(u128::from(bytes));
                 if self.stopped
                     || held >= self.capacity
-                    || bytes > MAX_OBJECT
-                    || in_flight > u128::from(MAX_IN_FLIGHT)
+                    || bytes > 268_435_455
+                    || in_flight > 1_073_741_823
                 {
                     return Ok(true);
                 }
                 self.sizes.push(bytes)?;
                 self.told.push(LimitEvent::Queued(bytes))?;
-                self.stopped = self.avail() < 0;
+                self.stopped = self.limit()?.avail() < 0;
             }
             TxEvent::Finish(count, now) => {
                 if count as usize > held {
@@ -73,20 +68,21 @@ impl PlainQueue {
                 self.done = until;
                 if bytes > 0 {
                     self.told.push(LimitEvent::Completed(bytes, now))?;
-                    self.stopped = self.stopped && self.avail() < 0;
+                    self.stopped = self.stopped && self.limit()?.avail() < 0;
                 }
             }
         }
         Ok(false)
     }
 
-    pub fn state(&self) -> TxState {
-        TxState {
+    pub fn state(&self) -> Result<TxState, Fail> {
+        let limit = self.limit()?;
+        Ok(TxState {
             queued: (self.bytes_between(0, self.sizes.len()) % (1 << 32)) as u32,
             completed: (self.bytes_between(0, self.done) % (1 << 32)) as u32,
-            limit: u32::try_from(self.limit().limit).unwrap_or(0),
-            avail: i64::try_from(self.avail()).unwrap_or(0),
+            limit: limit.limit(),
+            avail: limit.avail(),
             stopped: self.stopped,
-        }
+        })
     }
 }

@@ -34,7 +34,7 @@ impl TxRing {
     ghost use Rattle.dql_core.specs.Accepted.{accepted, after_all};
     ghost use Rattle.dql_core.specs.Dql.{Shows, IsNew};
     ghost use Rattle.dql_core.specs.Limit.{opening};
-    ghost use Rattle.tx_ring.specs.Queue.{TransmitQueue, opening_queue, state_of, after_send, after_done, send_fault, done_fault, fault_of, after};
+    ghost use Rattle.tx_ring.specs.Queue.{TransmitQueue, most_places, opening_queue, state_of, after_send, after_done, send_fault, done_fault, fault_of, after};
     ghost use Rattle.tx_ring.specs.Ring.{ShowsQueue};
     ghost use Rattle.tx_ring.specs.declared.event.TxFault.TheVariants.{BadCapacity, OutOfMemory};
 
@@ -45,7 +45,7 @@ impl TxRing {
     pub fn new(alloc: Global, capacity: usize, limit: Dql) -> Result<TxRing, TxFault>
         requires { IsNew limit }
         ensures ok { (min max hold now : ℕ) → Shows limit (opening min max hold now) → IfOk result (λ r. ShowsQueue r (opening_queue capacity (opening min max hold now))) }
-        ensures bad { IsErrOf result BadCapacity ↔ ((capacity ≡ 0) ⊎ (MAX_CAPACITY < capacity)) }
+        ensures bad { IsErrOf result BadCapacity ↔ ((capacity ≡ 0) ⊎ (most_places < capacity)) }
         ensures memory { IfErr result (λ e. e ≢ BadCapacity → e ≡ OutOfMemory) }
     {
         if capacity == 0 || capacity > MAX_CAPACITY {

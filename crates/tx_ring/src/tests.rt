@@ -2,12 +2,12 @@
 
 use crate::plain::PlainQueue;
 use crate::{TxEvent, TxFault, TxRing, TxState};
-use dql_core::{Dql, MAX_LIMIT};
+use dql_core::Dql;
 use std::alloc::Global;
 use std::test::Fail;
 
 fn new_ring(alloc: Global, capacity: usize, min: u32) -> Result<TxRing, Fail> {
-    Ok(TxRing::new(alloc, capacity, Dql::new(min, MAX_LIMIT, 1000, 0)?)?)
+    Ok(TxRing::new(alloc, capacity, Dql::new(min, 1_879_048_192, 1000, 0)?)?)
 }
 
 fn shown(queued: u32, completed: u32, limit: u32, avail: i64, stopped: bool) -> TxState {
@@ -99,7 +99,7 @@ fn transmit_refusals(rt: HostRuntime) -> Result<(), Fail> {
 #[test]
 fn capacity_refusals(rt: HostRuntime) -> Result<(), Fail> {
     for capacity in [0, 65_537] {
-        let limit = Dql::new(0, MAX_LIMIT, 1000, 0)?;
+        let limit = Dql::new(0, 1_879_048_192, 1000, 0)?;
         assert_eq!(rt;
             TxRing::new(rt.alloc(), capacity, limit).err(),
             Some(TxFault::BadCapacity)
@@ -108,10 +108,30 @@ fn capacity_refusals(rt: HostRuntime) -> Result<(), Fail> {
     Ok(())
 }
 
+// A ring of the most places, filled to the last one, emptied and filled again.
+#[test]
+fn largest_ring(rt: HostRuntime) -> Result<(), Fail> {
+    let mut ring = new_ring(rt.alloc(), 65_536, 65_536)?;
+    for _ in 0..2 {
+        for _ in 0..65_536 {
+            ring.send(1)?;
+        }
+        assert_eq!(rt; (ring.state().avail, ring.state().stopped), (0, false));
+        assert_eq!(rt; ring.send(1), Err(TxFault::Full));
+        assert_eq!(rt; ring.done(65_537, 5), Err(TxFault::MoreThanSent));
+        ring.done(65_536, 5)?;
+    }
+    assert_eq!(rt;
+        ring.state(),
+        shown(131_072, 131_072, 65_536, 65_536, false)
+    );
+    Ok(())
+}
+
 // With each allocation refused in turn (`rt try --test --fail-alloc N`) the answer is the fault, and nothing else changes.
 #[test]
 fn memory_is_there_or_refused(rt: HostRuntime) -> Result<(), Fail> {
-    let mut limit = Dql::new(1000, MAX_LIMIT, 1000, 0)?;
+    let mut limit = Dql::new(1000, 1_879_048_192, 1000, 0)?;
     limit.queued(10)?;
     limit.reset(7);
     match TxRing::new(rt.alloc(), 65_536, limit) {
@@ -180,7 +200,7 @@ fn faults_have_numbers_and_texts(rt: HostRuntime) -> Result<(), Fail> {
 // Packets of many sizes, empty ones too, and completions of none, some or more than all packets.
 #[test]
 fn plain_queue_agrees(rt: HostRuntime) -> Result<(), Fail> {
-    let limit = Dql::new(0, MAX_LIMIT, 50, 0)?;
+    let limit = Dql::new(0, 1_879_048_192, 50, 0)?;
     let mut ring = TxRing::new(rt.alloc(), 6, limit)?;
     let mut plain = PlainQueue::new(rt.alloc(), 6);
     let mut word = 1u32;
@@ -196,7 +216,7 @@ fn plain_queue_agrees(rt: HostRuntime) -> Result<(), Fail> {
         };
         let refused = plain.refuses(event)?;
         assert_eq!(rt; ring.run(&[event]), u64::from(refused), "at step {step}");
-        assert_eq!(rt; ring.state(), plain.state(), "after step {step}");
+        assert_eq!(rt; ring.state(), plain.state()?, "after step {step}");
         refusals = refusals.saturating_add(u32::from(refused));
         stops = stops.saturating_add(u32::from(ring.state().stopped));
     }

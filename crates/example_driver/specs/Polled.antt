@@ -1,0 +1,69 @@
+-- What a poll from the list does to a card, as equations (`napi_poll` and `napi_complete_done` of net/core/dev.c).
+use Rattle.std.specs.Prelude.{◌≡◌, ◌==◌, ℕ, true, false, Bool, List, [], ◌++◌, length, take, if◌then◌else◌}
+use Rattle.napi_model.specs.Serial.{state_of}
+use Rattle.napi_model.specs.Step.{after, complete_reply, event, take_reply}
+use Rattle.napi_model.specs.declared.event.Done.{Done}
+use Rattle.napi_model.specs.declared.event.Done.TheVariants.{Released, Again}
+use Rattle.napi_model.specs.declared.event.Operation.{Operation}
+use Rattle.napi_model.specs.declared.event.Operation.TheVariants as operation
+use Rattle.napi_model.specs.declared.state.Kind.TheVariants as kind
+use Rattle.napi_model.specs.declared.state.State.{State}
+use Rattle.poll_engine.specs.declared.bench.Next.{Next}
+use Rattle.poll_engine.specs.declared.bench.Next.TheVariants as next
+use Rattle.poll_engine.specs.declared.bench.Once.{Once}
+use Rattle.rx_ring.specs.Ends.{ring_of}
+use Rattle.rx_ring.specs.ReceiveRing.{ReceiveRing, held_of}
+use Rattle.rx_ring.specs.declared.packet.Packet.{Packet}
+use Rattle.example_driver.specs.declared.card.Card.{Card}
+use Rattle.example_driver.specs.declared.card.TheConstants.{CARD, POLLER}
+use Rattle.example_driver.specs.declared.stated.StatedBench.{StatedBench}
+
+-- a card as its polls see it: its instance's state, and its receive ring
+pub record CardView : Type 0 where
+  pub napi : State
+  pub ring : ReceiveRing
+
+abbrev pub view_of : Card → CardView
+view_of card = record { napi = state_of card.napi; ring = ring_of card.input card.ctx }
+
+-- the card after the poller's operation on its instance
+abbrev pub made : Operation → CardView → CardView
+made operation card = record card { napi = after card.napi (event POLLER operation) }
+
+-- a poll gives the ring's next packets, as many as there are and the weight allows
+abbrev pub given : ℕ → CardView → List Packet
+given weight card = take weight (held_of card.ring)
+
+abbrev pub received : ℕ → CardView → CardView
+received weight card = record card { ring = record card.ring { received = card.ring.received ++ given weight card } }
+
+-- a completion releases the instance; where a request was missed, the poller owns it again and hands it to the list
+abbrev pub completed : Done → CardView → Next × CardView
+completed Released card = (next.Gone, made (operation.Complete Released) card)
+completed Again card = (next.Again kind.List, made (operation.Hand kind.List) (made (operation.Complete Again) card))
+
+-- a poll that used its whole weight puts the instance back on the list, any other completes it
+abbrev pub ended : Bool → CardView → Next × CardView
+ended true card = (next.Repoll, made (operation.Hand kind.List) card)
+ended false card = completed (complete_reply card.napi) card
+
+abbrev pub after_take : Bool → ℕ → CardView → Once × CardView
+after_take false weight card = (record { work = 0; next = next.Absent }, card)
+after_take true weight card =
+    let work = length (given weight card) in
+    let end = ended (work == weight) (received weight (made (operation.Take kind.List true) card)) in
+    (record { work = work; next = end.0 }, end.1)
+
+-- the card is taken from the list and polled once, if it is there
+unfoldable pub polled : ℕ → CardView → Once × CardView
+polled weight card = after_take (take_reply kind.List card.napi) weight card
+
+-- a poll of the bench: another number than the card's is absent
+abbrev pub Polls : StatedBench → ℕ → ℕ → Once → StatedBench → Type 0
+Polls before id weight once after =
+    (once ≡ (if id == CARD then (polled weight (view_of before.card)).0 else record { work = 0; next = next.Absent }))
+    × (view_of after.card ≡ (if id == CARD then (polled weight (view_of before.card)).1 else view_of before.card))
+
+-- the card has no thread: nobody polls it there
+abbrev pub ThreadPolls : StatedBench → ℕ → ℕ → ℕ → List Once → StatedBench → Type 0
+ThreadPolls before id weight most polls after = (polls ≡ []) × (view_of after.card ≡ view_of before.card)

@@ -1,0 +1,57 @@
+//! A bench that states nothing of itself. What holds of every run comes for free: which numbers are polled and in which
+//! order, that polls and work keep to budget, weight and window, and what the list holds afterwards. What a poll does is
+//! not checked: one that answers `Gone` and leaves the instance scheduled passes too, and the card is never polled again.
+
+use crate::card::{CARD, Card, Driver, POLLER};
+use napi_model::{Done, Kind};
+use poll_engine::{Bench, Next, Once, ThreadReport};
+
+/// A bench of one card.
+#[derive(Drop)]
+pub(crate) struct QuietBench {
+    pub(crate) card: Card,
+}
+
+impl Driver for QuietBench {
+    fn card(&mut self) -> &mut Card {
+        &mut self.card
+    }
+}
+
+impl Bench for QuietBench {
+    ghost polls = { λ _ _ _ _ _. Unit };
+
+    ghost thread_polls = { λ _ _ _ _ _ _. Unit };
+
+    fn poll_once(&mut self, id: u32, weight: u32) -> Once {
+        let card = &mut self.card;
+        if id != CARD || !card.napi.take(POLLER, Kind::List) {
+            return Once {
+                work: 0,
+                next: Next::Absent,
+            };
+        }
+        let work = card.ctx.poll(weight as usize, &mut card.batch) as u32;
+        let next = if work == weight {
+            card.napi.hand(POLLER, Kind::List);
+            Next::Repoll
+        } else {
+            match card.napi.complete(POLLER) {
+                Done::Released => Next::Gone,
+                Done::Again => {
+                    card.napi.hand(POLLER, Kind::List);
+                    Next::Again(Kind::List)
+                }
+            }
+        };
+        Once { work, next }
+    }
+
+    fn poll_thread(&mut self, _id: u32, _weight: u32, _most: u32) -> ThreadReport {
+        ThreadReport {
+            polls: 0,
+            work: 0,
+            next: Next::Absent,
+        }
+    }
+}

@@ -1,0 +1,100 @@
+//! A bench that states its polls as equations: what a poll answers and what it leaves of the card are functions of the card
+//! and the weight (`specs/Polled.antt`). A poll that answers `Gone` without completing is refused here.
+
+ghost use Rattle.std.specs.Prelude.{◌≡◌, ◌≤◌, ◌==◌, length};
+ghost use Rattle.napi_model.specs.Serial.{state_of};
+ghost use Rattle.napi_model.specs.declared.state.Place.TheVariants.{Polling};
+ghost use Rattle.example_driver.specs.Polled.{Polls, ThreadPolls, ended, given, polled, received, view_of};
+ghost use Rattle.example_driver.specs.declared.card.TheConstants.{POLLER};
+
+use crate::card::{CARD, Card, Driver, POLLER};
+use napi_model::{Done, Kind};
+use poll_engine::{Bench, Next, Once, ThreadReport};
+use rx_ring::beside;
+
+/// A bench of one card.
+#[derive(Drop)]
+pub(crate) struct StatedBench {
+    pub(crate) card: Card,
+}
+
+impl Card {
+    // Gives the next packets. `beside` brings the ends of the ring together, so that these are all that the ring holds, up to
+    // the weight.
+    fn poll_ring(&mut self, weight: u32) -> u32
+        requires { (1 ≤ weight) × (weight ≤ 64) }
+        ensures card { view_of self.new ≡ received weight (view_of self.old) }
+        ensures work { result ≡ length (given weight (view_of self.old)) }
+    {
+        beside(&mut self.input, &mut self.ctx);
+        self.ctx.poll(weight as usize, &mut self.batch) as u32
+    }
+
+    // Ends a poll.
+    fn end_poll(&mut self, is_whole: bool) -> Next
+        requires { (state_of self.old.napi).place ≡ Polling POLLER }
+        ensures next { result ≡ (ended is_whole (view_of self.old)).0 }
+        ensures card { view_of self.new ≡ (ended is_whole (view_of self.old)).1 }
+    {
+        if is_whole {
+            self.napi.hand(POLLER, Kind::List);
+            return Next::Repoll;
+        }
+        match self.napi.complete(POLLER) {
+            Done::Released => Next::Gone,
+            Done::Again => {
+                self.napi.hand(POLLER, Kind::List);
+                Next::Again(Kind::List)
+            }
+        }
+    }
+
+    // Takes the card from the list and polls it once.
+    #[tactic(auto, unfolding(crate::specs::Polled::polled))]
+    fn poll(&mut self, weight: u32) -> Once
+        requires { (1 ≤ weight) × (weight ≤ 64) }
+        ensures once { result ≡ (polled weight (view_of self.old)).0 }
+        ensures card { view_of self.new ≡ (polled weight (view_of self.old)).1 }
+        ensures bound { result.work ≤ weight }
+    {
+        if !self.napi.take(POLLER, Kind::List) {
+            return Once {
+                work: 0,
+                next: Next::Absent,
+            };
+        }
+        let work = self.poll_ring(weight);
+        let next = self.end_poll(work == weight);
+        Once { work, next }
+    }
+}
+
+impl Driver for StatedBench {
+    fn card(&mut self) -> &mut Card {
+        &mut self.card
+    }
+}
+
+impl Bench for StatedBench {
+    ghost polls = { Polls };
+
+    ghost thread_polls = { ThreadPolls };
+
+    fn poll_once(&mut self, id: u32, weight: u32) -> Once {
+        if id == CARD {
+            return self.card.poll(weight);
+        }
+        Once {
+            work: 0,
+            next: Next::Absent,
+        }
+    }
+
+    fn poll_thread(&mut self, _id: u32, _weight: u32, _most: u32) -> ThreadReport {
+        ThreadReport {
+            polls: 0,
+            work: 0,
+            next: Next::Absent,
+        }
+    }
+}

@@ -1,0 +1,11 @@
+use Rattle.std.proofs.Common.{◌≡◌, ◌<◌, ◌^◌, drop}
+use Rattle.std.specs.Str.{all_ascii_digits}
+use Rattle.std.specs.Str.Parse.{digits_value, digits_value_after}
+use Rattle.replay_words.proofs.words.number_of.Given as goal
+
+abbrev pub invariant-loop-byte : goal.invariant-loop-byte
+invariant-loop-byte l = record {
+  small : l.number < 10 ^ l.byte-index;
+  digits : all_ascii_digits l.bytes ≡ all_ascii_digits (drop l.byte-index l.bytes);
+  value : digits_value 10 l.bytes ≡ digits_value_after 10 l.number (drop l.byte-index l.bytes);
+}

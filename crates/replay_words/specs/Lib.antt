@@ -1,0 +1,4 @@
+pub mod Defaults
+pub mod Options
+pub mod Range
+pub mod Words

@@ -1,0 +1,77 @@
+//! How a replay polls.
+
+/// The most threads that poll.
+pub const MOST_POLLERS: u32 = 8;
+
+/// The largest budget of a run.
+pub const MOST_BUDGET: u32 = 65535;
+
+/// The largest weight of a poll.
+pub const MOST_WEIGHT: u32 = 64;
+
+/// The largest window of a run.
+pub const MOST_WINDOW: u32 = 65535;
+
+/// How a replay polls: the numbers of a run over the poll list.
+#[derive(Clone, Copy, Debug, PartialEq, Eq)]
+pub struct Settings {
+    /// Threads that poll, 1 to 8. A replay on one thread makes no use of it.
+    pub pollers: u32,
+    /// Packets that a run polls before it is squeezed, 1 to 65535 (`netdev_budget`).
+    pub budget: u32,
+    /// Packets that one poll gives at most, 1 to 64 (`NAPI_POLL_WEIGHT`).
+    pub weight: u32,
+    /// Polls that a run makes before it is squeezed, 1 to 65535. It stands in for the kernel's `netdev_budget_usecs`.
+    pub window: u32,
+    ghost pollers_in: { IsWithin 1 8 pollers },
+    ghost budget_in: { IsWithin 1 65535 budget },
+    ghost weight_in: { IsWithin 1 64 weight },
+    ghost window_in: { IsWithin 1 65535 window },
+}
+
+ghost use Rattle.replay_words.specs.Range.{IsWithin};
+
+impl Settings {
+    ghost use Rattle.std.specs.Prelude.{◌≡◌, ◌↔◌, IsSome, IfSome};
+    ghost use Rattle.replay_words.specs.Range.{IsWithin};
+
+    /// The settings of these numbers, or `None` exactly where one is out of its range.
+    pub fn new(pollers: u32, budget: u32, weight: u32, window: u32) -> Option<Settings>
+        ensures lawful { IsSome result ↔ (IsWithin 1 8 pollers × IsWithin 1 65535 budget × IsWithin 1 64 weight × IsWithin 1 65535 window) }
+        ensures pollers { IfSome result (λ s. s.pollers ≡ pollers) }
+        ensures budget { IfSome result (λ s. s.budget ≡ budget) }
+        ensures weight { IfSome result (λ s. s.weight ≡ weight) }
+        ensures window { IfSome result (λ s. s.window ≡ window) }
+    {
+        let pollers_in = 1 <= pollers && pollers <= MOST_POLLERS;
+        let budget_in = 1 <= budget && budget <= MOST_BUDGET;
+        let weight_in = 1 <= weight && weight <= MOST_WEIGHT;
+        let window_in = 1 <= window && window <= MOST_WINDOW;
+        if pollers_in && budget_in && weight_in && window_in {
+            Some(Settings {
+                pollers,
+                budget,
+                weight,
+                window,
+            })
+        } else {
+            None
+        }
+    }
+}
+
+impl Default for Settings {
+    ghost use Rattle.replay_words.specs.Defaults.{HasDefaults};
+
+    ghost is_default = { HasDefaults };
+
+    /// One poller, a budget of 300, a weight of 64 and a window of 1024.
+    fn default() -> Settings {
+        Settings {
+            pollers: 1,
+            budget: 300,
+            weight: 64,
+            window: 1024,
+        }
+    }
+}

@@ -1,0 +1,187 @@
+//! Tests of the words after the program's name.
+
+use crate::{Mode, Settings, WordFault, parse_words, word_line, word_status};
+use std::alloc::Global;
+use std::test::Fail;
+
+fn out_of_memory<E>(_error: E) -> WordFault
+where
+    E: Drop,
+{
+    WordFault::OutOfMemory
+}
+
+fn parse(alloc: Global, words: &[&str]) -> Result<(Mode, Settings), WordFault> {
+    let mut given = Vec::new(alloc);
+    for word in words {
+        let word = String::from_str(alloc, *word).map_err(out_of_memory)?;
+        given.push(word).map_err(out_of_memory)?;
+    }
+    parse_words(alloc, given.as_slice())
+}
+
+// The answer where the words ask for these numbers.
+fn serial(
+    pollers: u32,
+    budget: u32,
+    weight: u32,
+    window: u32,
+) -> Result<(Mode, Settings), WordFault> {
+    let settings = Settings::new(pollers, budget, weight, window).ok_or(WordFault::Usage)?;
+    Ok((Mode::Serial, settings))
+}
+
+#[test]
+fn usual_ones(rt: HostRuntime) {
+    assert_eq!(rt; parse(rt.alloc(), &[]), serial(1, 300, 64, 1024));
+}
+
+#[test]
+fn each_option_in_both_forms(rt: HostRuntime) {
+    let alloc = rt.alloc();
+    assert_eq!(rt;
+        parse(alloc, &["--mode", "serial"]),
+        serial(1, 300, 64, 1024)
+    );
+    assert_eq!(rt; parse(alloc, &["--mode=serial"]), serial(1, 300, 64, 1024));
+    assert_eq!(rt; parse(alloc, &["--pollers", "3"]), serial(3, 300, 64, 1024));
+    assert_eq!(rt; parse(alloc, &["--pollers=3"]), serial(3, 300, 64, 1024));
+    assert_eq!(rt; parse(alloc, &["--budget", "2"]), serial(1, 2, 64, 1024));
+    assert_eq!(rt; parse(alloc, &["--budget=2"]), serial(1, 2, 64, 1024));
+    assert_eq!(rt; parse(alloc, &["--weight", "7"]), serial(1, 300, 7, 1024));
+    assert_eq!(rt; parse(alloc, &["--weight=7"]), serial(1, 300, 7, 1024));
+    assert_eq!(rt; parse(alloc, &["--window", "1"]), serial(1, 300, 64, 1));
+    assert_eq!(rt; parse(alloc, &["--window=1"]), serial(1, 300, 64, 1));
+}
+
+#[test]
+fn all_options_in_any_order(rt: HostRuntime) {
+    let alloc = rt.alloc();
+    let words = [
+        "--window=65535",
+        "--weight",
+        "1",
+        "--mode",
+        "serial",
+        "--budget",
+        "65535",
+        "--pollers=8",
+    ];
+    assert_eq!(rt; parse(alloc, &words), serial(8, 65535, 1, 65535));
+}
+
+#[test]
+fn leading_zeros(rt: HostRuntime) {
+    let alloc = rt.alloc();
+    assert_eq!(rt;
+        parse(alloc, &["--budget", "00002"]),
+        serial(1, 2, 64, 1024)
+    );
+    assert_eq!(rt; parse(alloc, &["--weight=064"]), serial(1, 300, 64, 1024));
+}
+
+#[test]
+fn refused_numbers(rt: HostRuntime) {
+    let alloc = rt.alloc();
+    let words = [
+        ["--pollers", "0"],
+        ["--pollers", "9"],
+        ["--budget", "0"],
+        ["--budget", "65536"],
+        ["--weight", "0"],
+        ["--weight", "65"],
+        ["--window", "0"],
+        ["--window", "65536"],
+        ["--budget", "000002"],
+        ["--budget", "000000"],
+        ["--budget", ""],
+        ["--budget", "+5"],
+        ["--budget", "-5"],
+        ["--budget", "5 "],
+        ["--budget", "0x5"],
+        ["--budget", "٥"],
+        ["--budget", "-"],
+        ["--budget", "--"],
+        ["--budget", "--weight"],
+        ["--budget", "--weight=5"],
+    ];
+    for pair in &words {
+        assert_eq!(rt; parse(alloc, pair.as_slice()), Err(WordFault::Usage));
+    }
+}
+
+#[test]
+fn refused_words(rt: HostRuntime) {
+    let alloc = rt.alloc();
+    let words = [
+        "",
+        "--",
+        "-",
+        "5",
+        "serial",
+        "--help",
+        "-h",
+        "help",
+        "--version",
+        "-V",
+        "--mode",
+        "--budget",
+        "--budget=",
+        "--budget=65536",
+        "--budget=-5",
+        "--budget=5=",
+        "--weight=65",
+        "--mode=",
+        "--mode=shared",
+        "--mode=threads",
+        "--mode=Serial",
+        "--bud=5",
+        "--budge=5",
+        "--budgets=5",
+        "--Budget=5",
+        "-budget=5",
+        "--=5",
+        "---budget=5",
+        " --budget=5",
+        "--help=5",
+    ];
+    for word in &words {
+        assert_eq!(rt; parse(alloc, &[*word]), Err(WordFault::Usage));
+    }
+}
+
+#[test]
+fn refused_lists_of_words(rt: HostRuntime) {
+    let alloc = rt.alloc();
+    let usage = Err(WordFault::Usage);
+    assert_eq!(rt; parse(alloc, &["--mode", "shared"]), usage);
+    assert_eq!(rt; parse(alloc, &["--mode", "threads"]), usage);
+    assert_eq!(rt; parse(alloc, &["--budget=5", "--budget=5"]), usage);
+    assert_eq!(rt; parse(alloc, &["--budget", "5", "--budget=6"]), usage);
+    assert_eq!(rt; parse(alloc, &["--mode=serial", "--mode", "serial"]), usage);
+    assert_eq!(rt; parse(alloc, &["--budget", "5", "6"]), usage);
+    assert_eq!(rt; parse(alloc, &["--budget", "=", "5"]), usage);
+    assert_eq!(rt; parse(alloc, &["--budget=5", "--"]), usage);
+    assert_eq!(rt; parse(alloc, &["--budget=5", "--help"]), usage);
+    assert_eq!(rt; parse(alloc, &["--budget=5", ""]), usage);
+    assert_eq!(rt; parse(alloc, &["", "--budget=5"]), usage);
+}
+
+// Run with each allocation refused in turn, the only other answer is OutOfMemory.
+#[test]
+fn refused_memory(rt: HostRuntime) {
+    let answer = parse(rt.alloc(), &["--mode=serial", "--budget", "5"]);
+    let refused = answer == Err(WordFault::OutOfMemory);
+    assert!(rt; refused || answer == serial(1, 5, 64, 1024));
+}
+
+#[test]
+fn lines_and_statuses(rt: HostRuntime) {
+    assert_eq!(rt; word_line(&WordFault::Usage), "usage fault 64\n");
+    assert_eq!(rt;
+        word_line(&WordFault::OutOfMemory),
+        "memory fault 11 OutOfMemory\n"
+    );
+    assert_eq!(rt; word_status(&WordFault::Usage), 64);
+    assert_eq!(rt; word_status(&WordFault::OutOfMemory), 4);
+}

@@ -1,0 +1,31 @@
+# shellcheck shell=sh
+# For scripts, which read this file by `.`: what their arguments have to be. Another one is refused by a line, with status 64.
+
+refuse() {
+    echo "$(basename "$0"): $*" >&2
+    exit 64
+}
+
+# at_most COUNT "$@": no more arguments than the script knows.
+at_most() {
+    [ $(($# - 1)) -le "$1" ] || refuse "more than $1 argument(s); see the head of $0"
+}
+
+# is_count NAME VALUE: a number of one to nine digits that isn't 0.
+is_count() {
+    case $2 in
+        '' | *[!0-9]* | ??????????*) refuse "$1 is '$2', and has to be a whole number from 1 to 999999999" ;;
+        *[1-9]*) ;;
+        *) refuse "$1 is 0, and has to be at least 1" ;;
+    esac
+}
+
+# is_program NAME VALUE: a file that can be run.
+is_program() {
+    if [ ! -f "$2" ] || [ ! -x "$2" ]; then refuse "$1 is '$2', which is no program"; fi
+}
+
+# is_tool NAME: a command that the script needs.
+is_tool() {
+    command -v "$1" > /dev/null || refuse "it needs $1, which isn't on PATH"
+}

@@ -1,0 +1,15 @@
+#!/usr/bin/env bash
+# tests/recorded.sh: replays the traffic that was recorded from a running Linux, by examples/compare.sh, which compares the
+# work of each row with what the kernel did there. The last line is `N passed, M failed`, one for each recording.
+set -u
+examples=$(cd "$(dirname "$0")/../examples" && pwd)
+log=$(mktemp)
+trap 'rm -f "$log"' EXIT
+"$examples/compare.sh" 2>&1 | tee "$log"
+status=${PIPESTATUS[0]}
+passed=$(grep -c ': as the kernel$' "$log")
+failed=$(grep -c ': other than the kernel$\|: the replay ended with status' "$log")
+# compare.sh is the judge: where it fails and no line tells why, that is one failure.
+if [ "$status" != 0 ] && [ "$failed" = 0 ]; then failed=1; fi
+echo "$passed passed, $failed failed"
+[ "$failed" = 0 ] && [ "$passed" != 0 ]
