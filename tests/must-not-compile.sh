@@ -29,12 +29,12 @@ PY
     grep -q "error\[$(field error "$1")\]" <<<"$said" && ! grep -q '^logic=' <<<"$said"
 }
 
-cp -r crates.txt HANDLES crates "$copy"
+tar -cf - --exclude=out/incremental crates.txt HANDLES crates | tar -xf - -C "$copy"
 for edit in crates/*/must-not-compile/*.edit; do
     name=$(basename "$(dirname "$(dirname "$edit")")")
     crate=$copy/crates/$name
     rm -rf "$crate/src"
-    cp -r "crates/$name/src" "$crate/src"
+    cp -r "crates/$name/src" "$crate"
     if try "$edit"; then
         passed=$((passed + 1))
     else
