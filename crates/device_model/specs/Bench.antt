@@ -65,6 +65,10 @@ pub record Polls (before : SerialBench) (number weight : ℕ) (once : Once) (aft
   pub transmits : KeepsTransmits before after
   pub waits : waiting (devices_of before) ≤ waiting (devices_of after) + leaves once.next
 
+-- the same as a function of the devices: the answer, and the devices afterwards
+abbrev pub polled_at : Devices → ℕ → ℕ → Once × Devices
+polled_at devices number weight = (once_of weight (at number devices), changed (λ d. (polled_once weight d).1) number devices)
+
 abbrev pub thread_polls_of : ℕ → ℕ → Option DeviceView → List Once
 thread_polls_of weight most None = []
 thread_polls_of weight most (Some d) = (polled_by_thread most weight d).0

@@ -7,11 +7,11 @@ use crate::counts::DeviceCounts;
 use crate::device::Device;
 use crate::transmit::Transmit;
 use napi_model::Kind;
-use poll_engine::{Bench, Next, Once, ThreadReport};
+use poll_engine::{Bench, Next, Once, ShownBench, ThreadReport};
 use std::alloc::{AllocError, Global};
 
 /// Places for the numbers 0 to 16, of which 0 stays empty.
-const PLACES: u32 = 17;
+pub const PLACES: u32 = 17;
 
 /// At most sixteen devices, each in the place of its number. A call on a number that has no device changes nothing.
 #[derive(Drop)]
@@ -256,4 +256,14 @@ impl Bench for SerialBench {
             next: Next::Absent,
         }
     }
+}
+
+impl ShownBench for SerialBench {
+    ghost use Rattle.device_model.specs.Bench.{Devices, devices_of, polled_at};
+
+    ghost Shown = { Devices };
+
+    ghost shown = { devices_of };
+
+    ghost poll = { polled_at };
 }

@@ -21,7 +21,7 @@ mod trace;
 mod trace_tests;
 mod transmit;
 
-pub use bench::SerialBench;
+pub use bench::{PLACES, SerialBench};
 pub use counts::{DeviceCounts, DeviceState};
 pub use event::Event;
 pub use fault::TraceFault;

@@ -3,34 +3,23 @@ use Rattle.std.proofs.Common.{◌≡◌, ◌∙◌, ℕ, ◌+◌, ◌≤◌, con
 use Rattle.std.specs.Prelude.{sum_by}
 use Rattle.std.proofs.lemmas.List.{length-drop, length-take}
 use Rattle.std.proofs.lemmas.List.Sums.{sum_by-cons}
-use Rattle.device_model.specs.Bench.{Devices, KeepsTransmits, Polls, devices_of}
+use Rattle.device_model.specs.Bench.{Devices, KeepsTransmits, Polls, devices_of, polled_at}
 use Rattle.device_model.specs.Waiting.{leaves, waiting}
 use Rattle.device_model.specs.declared.bench.SerialBench.{SerialBench}
-use Rattle.poll_engine.specs.Function.{run_report}
+use Rattle.poll_engine.specs.Function.{RunIsShown, run_report}
 use Rattle.poll_engine.specs.Laws.{IsPlainRun}
 use Rattle.poll_engine.specs.Polls.{At, Chain, Poll, arrivals, ids, is_arrival, is_repoll, repolled}
 use Rattle.napi_model.specs.declared.state.Kind.TheVariants as kind
 use Rattle.poll_engine.specs.declared.bench.Next.{Next}
 use Rattle.poll_engine.specs.declared.bench.Next.TheVariants.{Absent, Gone, Again, Repoll}
-use Rattle.poll_engine.specs.declared.bench.Once.{Once}
 use Rattle.poll_engine.specs.declared.run.RunReport.{RunReport}
-use Rattle.poll_engine.proofs.FunctionFacts.{run-is-function}
 use Rattle.poll_engine.proofs.PlainFacts.{list-afterwards}
 use Rattle.poll_engine.proofs.PollFacts.{arrivals-append, arrivals-one, length-ids, repolled-append, repolled-one}
-use Rattle.napi_replay.specs.Run.{polled_at, run_of}
+use Rattle.napi_replay.specs.Run.{run_of}
 use Rattle.replay_words.specs.declared.settings.Settings.{Settings}
 
 abbrev pub Leads : Settings → SerialBench → List Poll → SerialBench → Type 0
 Leads s before polls after = Chain (At Polls s.weight) before polls after
-
--- ---- the devices alone
-
-abbrev IsPollOf : Devices → ℕ → ℕ → Once → Devices → Type 0
-IsPollOf before number weight once after = (once ≡ (polled_at before number weight).0) × (after ≡ (polled_at before number weight).1)
-
-of-devices : (s : Settings) (before after : SerialBench) (polls : List Poll) → Leads s before polls after → Chain (At IsPollOf s.weight) (devices_of before) polls (devices_of after)
-of-devices s before after [] leads = ap devices_of leads
-of-devices s before after (poll ∷ polls) leads = (devices_of leads.0, (leads.1.answer, leads.1.devices), of-devices s leads.0 after polls leads.2)
 
 pub transmits-stay : (s : Settings) (before after : SerialBench) (polls : List Poll) → Leads s before polls after → KeepsTransmits before after
 transmits-stay s before after [] leads = ap (λ (b : SerialBench). b.transmits.items) leads
@@ -42,11 +31,11 @@ pub record IsRunOf (s : Settings) (devices : Devices) (list : List ℕ) (after :
   pub list_after : left ≡ (run_of s devices list).1
   pub reported : report ≡ run_report s.budget s.window (run_of s devices list).0.polls
 
-pub only-run : (s : Settings) (before after : SerialBench) (list left : List ℕ) (polls : List Poll) (report : RunReport) → Leads s before polls after
+-- by the law of runs over what the bench shows, its devices
+pub only-run : RunIsShown Polls devices_of polled_at → (s : Settings) (before after : SerialBench) (list left : List ℕ) (polls : List Poll) (report : RunReport) → Leads s before polls after
     → IsPlainRun s.budget s.window list polls left report → IsRunOf s (devices_of before) list (devices_of after) left report
-only-run s before after list left polls report leads run =
-    let only = run-is-function IsPollOf polled_at (λ b a id weight once. ((λ h. h), (λ h. h))) s.budget s.weight s.window s.budget_in.0 s.window_in.0 (devices_of before) list in
-    let is = only.1 polls (devices_of after) left report (of-devices s before after polls leads) run in
+only-run law s before after list left polls report leads run =
+    let is = law (λ b a id weight once h. (h.answer, h.devices)) s.budget s.weight s.window s.budget_in.0 s.window_in.0 before after list left polls report leads run in
     record { devices_after = is.1; list_after = is.2; reported = is.3 }
 
 -- ---- room on the list

@@ -6,7 +6,14 @@ use poll_engine::{RunReport, ThreadReport};
 #[derive(Clone, Copy, Debug, PartialEq, Eq)]
 pub(crate) enum Line {
     /// A softirq row: its number, and its run over the poll list.
-    Softirq(u32, RunReport),
+    Softirq {
+        row: u32,
+        run: RunReport,
+    },
     /// A kthread row: its number, its device, and the polling by the device's thread.
-    Kthread(u32, u32, ThreadReport),
+    Kthread {
+        row: u32,
+        device: u32,
+        report: ThreadReport,
+    },
 }

@@ -7,9 +7,11 @@ ghost use Rattle.device_model.specs.Waiting.{waiting};
 use crate::fault::ReplayFault;
 use crate::line::Line;
 use crate::report::{Totals, add_device, add_lines, add_list, add_totals};
-use device_model::{Event, Row, SerialBench};
+use device_model::{Event, PLACES, Row, SerialBench};
 use napi_model::Kind;
-use poll_engine::{Bench, Next, PlainList, PollList, RunReport, ThreadReport, run_softirq};
+use poll_engine::{
+    Bench, Next, PlainList, PollList, RunReport, ThreadReport, run_is_shown, run_softirq,
+};
 use replay_words::Settings;
 use std::alloc::{AllocError, Global};
 
@@ -27,7 +29,7 @@ pub(crate) struct Replay {
 }
 
 impl Replay {
-    ghost use Rattle.std.specs.Prelude.{◌≡◌, ◌⊎◌, ◌∷◌, [], ◌++◌, true, false, IfOk, OnOk, IfErr};
+    ghost use Rattle.std.specs.Prelude.{◌≡◌, ◌⊎◌, ℕ, ◌∷◌, [], ◌++◌, true, false, IfOk, OnOk, IfErr};
     ghost use Rattle.device_model.specs.Bench.{KeepsTransmits, ShowsTransmits, Transmits};
     ghost use Rattle.device_model.specs.Places.{empty};
     ghost use Rattle.device_model.specs.Range.{IsWithin};
@@ -62,12 +64,13 @@ impl Replay {
         }
     }
 
-    // One run over the poll list.
-    fn run(&mut self, settings: &Settings, row: u32) -> RunReport
-        ensures world { record (world_in self.new) { lines = self.old.lines.items ++ Softirq row result ∷ [] } ≡ with_run settings.now row (world_in self.old) }
+    // One run over the poll list, whatever the number of its row.
+    fn run(&mut self, settings: &Settings) -> RunReport
+        ensures world { (row : ℕ) → record (world_in self.new) { lines = self.old.lines.items ++ Softirq row result ∷ [] } ≡ with_run settings.now row (world_in self.old) }
         ensures lines { self.new.lines ≡ self.old.lines }
         ensures transmits { KeepsTransmits self.old.bench self.new.bench }
     {
+        run_is_shown::<SerialBench>();
         run_softirq(
             &mut self.list,
             &mut self.bench,
@@ -78,8 +81,8 @@ impl Replay {
     }
 
     // The device's thread polls it; where that leaves the device to the list, its number is put there.
-    fn poll_thread(&mut self, settings: &Settings, row: u32, device: u32) -> ThreadReport
-        ensures world { record (world_in self.new) { lines = self.old.lines.items ++ Kthread row device result ∷ [] } ≡ with_thread settings.now row device (world_in self.old) }
+    fn poll_thread(&mut self, settings: &Settings, device: u32) -> ThreadReport
+        ensures world { (row : ℕ) → record (world_in self.new) { lines = self.old.lines.items ++ Kthread row device result ∷ [] } ≡ with_thread settings.now row device (world_in self.old) }
         ensures lines { self.new.lines ≡ self.old.lines }
         ensures transmits { KeepsTransmits self.old.bench self.new.bench }
     {
@@ -96,8 +99,8 @@ impl Replay {
         ensures world { OnOk result (world_in self.new ≡ with_run settings.now row (world_in self.old)) }
         ensures transmits { KeepsTransmits self.old.bench self.new.bench }
     {
-        let report = self.run(settings, row);
-        self.lines.push(Line::Softirq(row, report))?;
+        let run = self.run(settings);
+        self.lines.push(Line::Softirq { row, run })?;
         Ok(())
     }
 
@@ -105,8 +108,12 @@ impl Replay {
         ensures world { OnOk result (world_in self.new ≡ with_thread settings.now row device (world_in self.old)) }
         ensures transmits { KeepsTransmits self.old.bench self.new.bench }
     {
-        let report = self.poll_thread(settings, row, device);
-        self.lines.push(Line::Kthread(row, device, report))?;
+        let report = self.poll_thread(settings, device);
+        self.lines.push(Line::Kthread {
+            row,
+            device,
+            report,
+        })?;
         Ok(())
     }
 
@@ -177,7 +184,7 @@ impl Replay {
         ensures { (all : Transmits) → ShowsTransmits self.now.bench all
             → OnOk result (string_bytes text.new ≡ string_bytes text.old ++ lines_below (world_in self.now) all 17) }
     {
-        for number in 0..17 {
+        for number in 0..PLACES {
             add_device(text, number, self.bench.counts(number))?;
         }
         Ok(())

@@ -1,6 +1,6 @@
 //! The text of the report.
 
-ghost use Rattle.std.specs.Prelude.{◌≡◌, ◌≤◌, ◌++◌, IfOk, OnOk, flat_map, length, string_bytes, sum_by};
+ghost use Rattle.std.specs.Prelude.{◌≡◌, ◌+◌, ◌^◌, ◌<◌, ◌≤◌, ◌++◌, IfOk, OnOk, flat_map, length, string_bytes};
 ghost use Rattle.napi_replay.specs.Report.{device_line, device_lines, ended, flag, list_line, napi_line, of_run, poll_line, state_word, total_line, totals_of, tx_line, tx_lines};
 
 use crate::line::Line;
@@ -22,7 +22,7 @@ fn add_line(text: &mut String, line: &Line) -> Result<(), AllocError>
     ensures { OnOk result (string_bytes text.new ≡ string_bytes text.old ++ ended (poll_line line.now)) }
 {
     match line {
-        Line::Softirq(row, run) => writeln!(
+        Line::Softirq { row, run } => writeln!(
             text,
             "softirq {} polls {} work {} squeezed {}",
             row,
@@ -30,7 +30,11 @@ fn add_line(text: &mut String, line: &Line) -> Result<(), AllocError>
             run.work,
             u8::from(run.squeezed)
         )?,
-        Line::Kthread(row, device, report) => writeln!(
+        Line::Kthread {
+            row,
+            device,
+            report,
+        } => writeln!(
             text,
             "kthread {} device {} polls {} work {}",
             row, device, report.polls, report.work
@@ -174,84 +178,42 @@ impl fmt::Display for Totals {
     }
 }
 
-// One for the run of a softirq row, as in the next three: a thread's polling is no run.
-fn runs_at(line: &Line) -> u32
-    ensures { result ≡ of_run (λ run. 1) line.now }
-{
-    match line {
-        Line::Softirq(_, _) => 1,
-        Line::Kthread(..) => 0,
-    }
-}
-
-fn polls_at(line: &Line) -> u32
-    ensures { result ≡ of_run (λ run. run.polls) line.now }
-{
-    match line {
-        Line::Softirq(_, run) => run.polls,
-        Line::Kthread(..) => 0,
-    }
-}
-
-fn work_at(line: &Line) -> u32
-    ensures { result ≡ of_run (λ run. run.work) line.now }
-{
-    match line {
-        Line::Softirq(_, run) => run.work,
-        Line::Kthread(..) => 0,
-    }
-}
-
-fn squeezed_at(line: &Line) -> u32
-    ensures { result ≡ of_run (λ run. flag run.squeezed) line.now }
-{
-    match line {
-        Line::Softirq(_, run) => u32::from(run.squeezed),
-        Line::Kthread(..) => 0,
-    }
-}
-
-fn runs_of(lines: &[Line]) -> u64
-    requires { length lines.now ≤ 100000 }
-    ensures { result ≡ sum_by (of_run (λ run. 1)) lines.now }
-{
-    lines.iter().map(|line| u64::from(runs_at(line))).sum()
-}
-
-fn polls_of(lines: &[Line]) -> u64
-    requires { length lines.now ≤ 100000 }
-    ensures { result ≡ sum_by (of_run (λ run. run.polls)) lines.now }
-{
-    lines.iter().map(|line| u64::from(polls_at(line))).sum()
-}
-
-fn work_of(lines: &[Line]) -> u64
-    requires { length lines.now ≤ 100000 }
-    ensures { result ≡ sum_by (of_run (λ run. run.work)) lines.now }
-{
-    lines.iter().map(|line| u64::from(work_at(line))).sum()
-}
-
-fn squeezed_of(lines: &[Line]) -> u64
-    requires { length lines.now ≤ 100000 }
-    ensures { result ≡ sum_by (of_run (λ run. flag run.squeezed)) lines.now }
-{
-    lines.iter().map(|line| u64::from(squeezed_at(line))).sum()
-}
-
 impl Totals {
+    // Adds the run of a softirq row; a thread's polling is no run.
+    fn add(&mut self, line: &Line)
+        requires { (self.old.runs < 2 ^ 63) × (self.old.polls < 2 ^ 63) × (self.old.work < 2 ^ 63) × (self.old.squeezed < 2 ^ 63) }
+        ensures devices { self.new.devices ≡ self.old.devices }
+        ensures runs { self.new.runs ≡ self.old.runs + of_run (λ run. 1) line.now }
+        ensures polls { self.new.polls ≡ self.old.polls + of_run (λ run. run.polls) line.now }
+        ensures work { self.new.work ≡ self.old.work + of_run (λ run. run.work) line.now }
+        ensures squeezed { self.new.squeezed ≡ self.old.squeezed + of_run (λ run. flag run.squeezed) line.now }
+        ensures few { (self.new.runs ≤ self.old.runs + 1) × (self.new.squeezed ≤ self.old.squeezed + 1) }
+        ensures most { (self.new.polls ≤ self.old.polls + 4294967295) × (self.new.work ≤ self.old.work + 4294967295) }
+    {
+        if let Line::Softirq { run, .. } = line {
+            self.runs += 1;
+            self.polls += u64::from(run.polls);
+            self.work += u64::from(run.work);
+            self.squeezed += u64::from(run.squeezed);
+        }
+    }
+
     /// The sums over these rows.
     pub(crate) fn of(devices: usize, lines: &[Line]) -> Totals
         requires { length lines.now ≤ 100000 }
         ensures { result ≡ totals_of devices lines.now }
     {
-        Totals {
+        let mut totals = Totals {
             devices,
-            runs: runs_of(lines),
-            polls: polls_of(lines),
-            work: work_of(lines),
-            squeezed: squeezed_of(lines),
+            runs: 0,
+            polls: 0,
+            work: 0,
+            squeezed: 0,
+        };
+        for line in lines {
+            totals.add(line);
         }
+        totals
     }
 }
 

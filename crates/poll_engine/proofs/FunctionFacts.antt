@@ -4,7 +4,7 @@ use Rattle.std.specs.Prelude.{◌&&◌, ◌==◌, not, if◌then◌else◌}
 use Rattle.std.proofs.Math.Seq.{drop-append_seam}
 use Rattle.std.proofs.lemmas.Bool.Decides.{eqb_tells, leb_tells}
 use Rattle.std.proofs.lemmas.List.{append-nil}
-use Rattle.poll_engine.specs.Function.{IsGivenBy, Progress, RunIsFunction, after_batch, after_poll, from_batch, run_of, run_report, takes_more}
+use Rattle.poll_engine.specs.Function.{IsGivenBy, Progress, RunIsFunction, after_batch, after_poll, from_batch, run_of, run_report, takes_more, IsShownBy, RunIsShown}
 use Rattle.poll_engine.specs.Laws.{HasOneOutcome, IsPlainRun}
 use Rattle.poll_engine.specs.Plain.{NothingBehind, OwnPushes, all_held}
 use Rattle.poll_engine.specs.Polls.{At, Chain, Poll, arrivals, is_arrival, is_repoll, repolled, work_of}
@@ -299,3 +299,20 @@ run-is-function {B} relation poll given budget weight window money room bench li
     made : Outcome relation budget weight window list bench (run_of poll budget weight window bench list)
     made = runs-on relation poll given budget weight window list bench window list (record { bench = bench; polls = [] }) (omega arith)
         (stands-start relation budget weight window list bench money room)
+
+-- ---- a bench that shows something of itself
+
+abbrev GraphOf : {V : Type 0} → (V → ℕ → ℕ → Once × V) → V → ℕ → ℕ → Once → V → Type 0
+GraphOf poll before id weight once after = (once ≡ (poll before id weight).0) × (after ≡ (poll before id weight).1)
+
+shown-chain : {B V : Type 0} (relation : B → ℕ → ℕ → Once → B → Type 0) (shown : B → V) (poll : V → ℕ → ℕ → Once × V) → IsShownBy relation shown poll
+    → (weight : ℕ) (before after : B) (polls : List Poll)
+    → Chain (At relation weight) before polls after → Chain (At (GraphOf poll) weight) (shown before) polls (shown after)
+shown-chain relation shown poll given weight before after [] c = ap shown c
+shown-chain relation shown poll given weight before after (p ∷ polls) c =
+    (shown c.0, given before c.0 p.id weight p.once c.1, shown-chain relation shown poll given weight c.0 after polls c.2)
+
+pub run-is-shown : {B V : Type 0} (relation : B → ℕ → ℕ → Once → B → Type 0) (shown : B → V) (poll : V → ℕ → ℕ → Once × V) → RunIsShown relation shown poll
+run-is-shown relation shown poll given budget weight window money room bench after list left polls report c r =
+    (run-is-function (GraphOf poll) poll (λ b a id w once. ((λ h. h), (λ h. h))) budget weight window money room (shown bench) list).1 polls (shown after) left report
+    (shown-chain relation shown poll given weight bench after polls c) r

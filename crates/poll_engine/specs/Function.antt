@@ -67,3 +67,20 @@ RunIsFunction {B} relation =
     × (after ≡ (run_of poll budget weight window bench list).0.bench)
     × (left ≡ (run_of poll budget weight window bench list).1)
     × (report ≡ run_report budget window (run_of poll budget weight window bench list).0.polls))
+
+-- the polls of a bench are those of a function of what it shows, as far as it shows them
+abbrev pub IsShownBy : {B V : Type 0} → (B → ℕ → ℕ → Once → B → Type 0) → (B → V) → (V → ℕ → ℕ → Once × V) → Type 0
+IsShownBy {B} polls shown poll =
+    (before after : B) (id weight : ℕ) (once : Once) → polls before id weight once after
+    → (once ≡ (poll (shown before) id weight).0) × (shown after ≡ (poll (shown before) id weight).1)
+
+-- law: where they are, each run over a list of one thread is, as far as the bench shows it, the run of that function
+abbrev pub RunIsShown : {B V : Type 0} → (B → ℕ → ℕ → Once → B → Type 0) → (B → V) → (V → ℕ → ℕ → Once × V) → Type 0
+RunIsShown {B} relation shown poll =
+    IsShownBy relation shown poll
+    → (budget weight window : ℕ) → 1 ≤ budget → 1 ≤ window → (bench after : B) (list left : List ℕ) (polls : List Poll) (report : RunReport)
+    → Chain (At relation weight) bench polls after → IsPlainRun budget window list polls left report
+    → (polls ≡ (run_of poll budget weight window (shown bench) list).0.polls)
+    × (shown after ≡ (run_of poll budget weight window (shown bench) list).0.bench)
+    × (left ≡ (run_of poll budget weight window (shown bench) list).1)
+    × (report ≡ run_report budget window (run_of poll budget weight window (shown bench) list).0.polls)

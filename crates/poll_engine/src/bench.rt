@@ -68,3 +68,14 @@ pub trait Bench {
             × thread_polls self.old id weight most polls self.new
             × IsThreadPolling weight most polls result };
 }
+
+/// A bench whose polls from the list are a function, as far as it shows itself.
+pub trait ShownBench: Bench {
+    /// What the bench shows of itself.
+    ghost Shown: { Type 0 };
+
+    ghost shown: { Self → Shown };
+
+    /// The function, of what is shown, number and weight: the answer, and what is shown afterwards.
+    ghost poll: { Shown → ℕ → ℕ → Once × Shown };
+}

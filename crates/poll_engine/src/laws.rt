@@ -1,8 +1,8 @@
 //! Laws of runs over a list of one thread. Each is the contract of a function that does nothing.
-ghost use Rattle.poll_engine.specs.Function.{RunIsFunction};
+ghost use Rattle.poll_engine.specs.Function.{RunIsFunction, RunIsShown};
 ghost use Rattle.poll_engine.specs.Laws.{NoOtherArrivals, PlainListAfterwards, RunsAgree};
 
-use crate::bench::Bench;
+use crate::bench::{Bench, ShownBench};
 
 /// In a run over a list of one thread no arrivals come but those that its polls handed to the list: the first batch is
 /// all that the list held, and each further one what the polls of the batch before it handed over.
@@ -25,4 +25,10 @@ pub fn runs_agree<B: Bench>()
 /// the function that polls batch after batch. What it gives is a run, and every run gives that.
 pub fn run_is_function<B: Bench>()
     ensures { RunIsFunction B.polls }
+{}
+
+/// Where the polls of the bench are a function of what it shows, so is a run over a list of one thread: every run from a
+/// bench gives, as far as the bench shows it, what the function that polls batch after batch gives from what is shown.
+pub fn run_is_shown<B: ShownBench>()
+    ensures { RunIsShown B.polls B.shown B.poll }
 {}

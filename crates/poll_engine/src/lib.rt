@@ -19,8 +19,10 @@ mod soft;
 #[cfg(test)]
 mod tests;
 
-pub use bench::{Bench, Next, Once, ThreadReport};
-pub use laws::{no_other_arrivals, plain_list_afterwards, run_is_function, runs_agree};
+pub use bench::{Bench, Next, Once, ShownBench, ThreadReport};
+pub use laws::{
+    no_other_arrivals, plain_list_afterwards, run_is_function, run_is_shown, runs_agree,
+};
 pub use list::PollList;
 pub use plain::PlainList;
 pub use run::{RunReport, run_softirq};

@@ -1,4 +1,3 @@
 pub mod Defaults
 pub mod Options
-pub mod Range
 pub mod Words

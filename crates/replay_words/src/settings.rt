@@ -23,21 +23,20 @@ pub struct Settings {
     pub weight: u32,
     /// Polls that a run makes before it is squeezed, 1 to 65535. It stands in for the kernel's `netdev_budget_usecs`.
     pub window: u32,
-    ghost pollers_in: { IsWithin 1 8 pollers },
-    ghost budget_in: { IsWithin 1 65535 budget },
-    ghost weight_in: { IsWithin 1 64 weight },
-    ghost window_in: { IsWithin 1 65535 window },
+    ghost pollers_in: { (1 ≤ pollers) × (pollers ≤ 8) },
+    ghost budget_in: { (1 ≤ budget) × (budget ≤ 65535) },
+    ghost weight_in: { (1 ≤ weight) × (weight ≤ 64) },
+    ghost window_in: { (1 ≤ window) × (window ≤ 65535) },
 }
 
-ghost use Rattle.replay_words.specs.Range.{IsWithin};
+ghost use Rattle.std.specs.Prelude.{◌≤◌};
 
 impl Settings {
-    ghost use Rattle.std.specs.Prelude.{◌≡◌, ◌↔◌, IsSome, IfSome};
-    ghost use Rattle.replay_words.specs.Range.{IsWithin};
+    ghost use Rattle.std.specs.Prelude.{◌≡◌, ◌≤◌, ◌↔◌, IsSome, IfSome};
 
     /// The settings of these numbers, or `None` exactly where one is out of its range.
     pub fn new(pollers: u32, budget: u32, weight: u32, window: u32) -> Option<Settings>
-        ensures lawful { IsSome result ↔ (IsWithin 1 8 pollers × IsWithin 1 65535 budget × IsWithin 1 64 weight × IsWithin 1 65535 window) }
+        ensures lawful { IsSome result ↔ (((1 ≤ pollers) × (pollers ≤ 8)) × ((1 ≤ budget) × (budget ≤ 65535)) × ((1 ≤ weight) × (weight ≤ 64)) × ((1 ≤ window) × (window ≤ 65535))) }
         ensures pollers { IfSome result (λ s. s.pollers ≡ pollers) }
         ensures budget { IfSome result (λ s. s.budget ≡ budget) }
         ensures weight { IfSome result (λ s. s.weight ≡ weight) }

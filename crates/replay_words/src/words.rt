@@ -1,10 +1,9 @@
 //! The words after the program's name.
 
-ghost use Rattle.std.specs.Prelude.{◌≡◌, ◌∷◌, Some, None, Err, IfOk, IfSome, option_map, map, string_bytes, codes, false};
+ghost use Rattle.std.specs.Prelude.{◌≡◌, ◌≤◌, ◌∷◌, Some, None, Err, IfOk, IfSome, option_map, map, string_bytes, codes, false};
 ghost use Rattle.std.specs.List.{list_any};
 ghost use Rattle.clap.specs.Words.{app_of, found_of, rows_of, rule_of};
 ghost use Rattle.replay_words.specs.Options.{asked_by, mode_in, number_in, option, read_by_clap, tool};
-ghost use Rattle.replay_words.specs.Range.{IsWithin};
 ghost use Rattle.replay_words.specs.Words.{asked_for, asked_of, is_stray, line_of, mode_of, number_of, status_of};
 ghost use Rattle.replay_words.specs.declared.words.WordFault.TheVariants.{Usage};
 
@@ -61,7 +60,7 @@ fn mode_of(word: &str) -> Option<Mode>
 // The number from 1 to `high` that one to five digits write.
 fn number_of(text: &str, high: u32) -> Option<u32>
     ensures number { result ≡ number_of high text.now }
-    ensures range { IfSome result (λ n. IsWithin 1 high n) }
+    ensures range { IfSome result (λ n. (1 ≤ n) × (n ≤ high)) }
 {
     let bytes = text.as_bytes();
     if bytes.is_empty() || bytes.len() > 5 {
@@ -94,7 +93,7 @@ fn mode_in(matches: &ArgMatches<'_>) -> Option<Mode>
 // The number that is given for an option, or the usual one.
 fn number_in(matches: &ArgMatches<'_>, name: &str, usual: u32, high: u32) -> Option<u32>
     ensures number { result ≡ number_in name.now usual high (rows_of (found_of matches.now)) }
-    ensures range { IsWithin 1 high usual → IfSome result (λ n. IsWithin 1 high n) }
+    ensures range { (1 ≤ usual) × (usual ≤ high) → IfSome result (λ n. (1 ≤ n) × (n ≤ high)) }
 {
     match matches.get_str(name) {
         None => Some(usual),

@@ -6,8 +6,8 @@ pub returns-clause-transmits : goal.returns-clause-transmits
 returns-clause-transmits c = transmits-stay c.args.settings.now _ _ _ c.run_softirq.ensures.run.1
 
 pub returns-clause-world : goal.returns-clause-world
-returns-clause-world c =
-    let is = only-run c.args.settings.now c.args.self.now.bench c.run_softirq.new.bench _ _ _ _ c.run_softirq.ensures.run.1 c.run_softirq.ensures.run.2 in
+returns-clause-world c row =
+    let is = only-run c.run_is_shown.ensures c.args.settings.now c.args.self.now.bench c.run_softirq.new.bench _ _ _ _ c.run_softirq.ensures.run.1 c.run_softirq.ensures.run.2 in
     rw (is.devices_after, is.list_after, is.reported) refl
 
 pub invariant_of-self : goal.invariant_of-self

@@ -1,0 +1,62 @@
+#!/bin/sh
+# Times turns of an instance by its state word: the program of crates/bench_word beside the same turns by hand in C++
+# (bench/word.cc, g++ -O2), with every step sequentially consistent and with the kernel's orders, and with the context
+# itself in the slot or a pointer to it. Once by one thread, once while a second thread schedules all the time.
+# Nine rounds of all programs in turn; the best time of each is shown, and how the program's compares with it.
+#
+# usage: bench/word.sh [TURNS]     (1000000 where none are given)
+set -eu
+
+unset CDPATH
+top=$(cd "$(dirname "$0")/.." && pwd)
+. "$top/scripts/arguments.sh"
+at_most 1 "$@"
+turns=${1:-1000000}
+is_count TURNS "$turns"
+is_tool g++
+work=$(mktemp -d)
+trap 'rm -rf "$work"' EXIT
+
+"$top/scripts/build.sh" bench_word
+g++ -std=c++17 -O2 -pthread -o "$work/by_hand" "$top/bench/word.cc"
+
+programs='napi_word seq_cst-value seq_cst-pointer kernel-value kernel-pointer'
+run() {
+    case $1 in
+        napi_word) "$top/crates/bench_word/out/bench_word" "$turns" ;;
+        *) "$work/by_hand" "${1%-*}" "${1#*-}" "$turns" ;;
+    esac
+}
+
+for round in 1 2 3 4 5 6 7 8 9; do
+    for program in $programs; do
+        run "$program" > "$work/$program.counts" 2>> "$work/$program.times"
+        if ! cmp -s "$work/$program.counts" "$work/napi_word.counts"; then
+            echo "$program counts otherwise than napi_word:" >&2
+            cat "$work/napi_word.counts" "$work/$program.counts" >&2
+            exit 1
+        fi
+    done
+done
+
+cat "$work/napi_word.counts"
+# The best time of a program for one thread, or for two: there of the rounds in which the second thread took part, so that
+# nine polls in ten were answered that another follows.
+least() {
+    awk -v threads="$2" '$1 == threads && ($1 == "one" || 10 * $7 >= 9 * $5) && (!least || $2 < least) { least = $2 }
+        END { print least + 0 }' "$work/$1.times"
+}
+for threads in one two; do
+    ours=$(least napi_word "$threads")
+    for program in $programs; do
+        awk -v name="$program" -v threads="$threads" -v turns="$turns" -v spent="$(least "$program" "$threads")" -v ours="$ours" \
+            'BEGIN {
+                if (spent && ours) printf "%s %-15s %6.1f ns a turn, napi_word %4.2f of it\n", threads, name, spent / turns, ours / spent
+                else printf "%s %-15s no round in which both threads ran\n", threads, name
+            }'
+    done
+done
+# What the second thread did to the turns, in the last round.
+for program in $programs; do
+    awk -v name="$program" '$1 == "two" { line = $0 } END { sub(/.* ns /, "", line); printf "two %-15s %s\n", name, line }' "$work/$program.times"
+done

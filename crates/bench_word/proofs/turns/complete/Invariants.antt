@@ -1,0 +1,6 @@
+use Rattle.napi_word.specs.Passes.{Polls}
+use Rattle.bench_word.specs.Ready.{IsReady}
+use Rattle.bench_word.proofs.turns.complete.Given as goal
+
+abbrev pub invariant-loop : goal.invariant-loop
+invariant-loop l = IsReady l.table l.pass × Polls l.pass
