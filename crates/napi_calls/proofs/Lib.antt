@@ -1,5 +1,6 @@
 pub mod Ending
 pub mod Fresh
+pub mod InTurns
 pub mod Making
 pub mod Serving
 pub mod Standing

@@ -20,6 +20,13 @@ use Rattle.napi_calls.specs.declared.answers.TryTake.{TryTake}
 use Rattle.napi_calls.specs.declared.answers.TryTake.TheVariants as try_take
 use Rattle.napi_calls.specs.Made.{Made, Lost, WasLost, looks, waits}
 
+-- the seat with which the caller goes on
+abbrev pub seat_of : TryPrep → Pass
+seat_of (try_prep.Granted g) = g.pass
+seat_of (try_prep.Missed c) = c.pass
+seat_of (try_prep.Disabled c) = c.pass
+seat_of (try_prep.Changed c) = c.pass
+
 -- ---- one try
 
 -- `napi_schedule_prep`
@@ -28,6 +35,18 @@ Prepares p (try_prep.Granted g) = (x : Seen) × Made p (Look x ∷ Schedule prep
 Prepares p (try_prep.Missed c) = (x : Seen) × Made p (Look x ∷ Schedule prep.Missed ∷ []) c.pass
 Prepares p (try_prep.Disabled c) = Made p (Schedule prep.Disabled ∷ []) c.pass
 Prepares p (try_prep.Changed c) = WasLost p c.pass
+
+-- between its two steps something is run, where there are two: it left itself the same, or it ran
+abbrev pub RunsUnlessDisabled : TryPrep → Type 0 → Type 0 → Type 0
+RunsUnlessDisabled (try_prep.Disabled c) same ran = same
+RunsUnlessDisabled (try_prep.Granted g) same ran = ran
+RunsUnlessDisabled (try_prep.Missed c) same ran = ran
+RunsUnlessDisabled (try_prep.Changed c) same ran = ran
+
+abbrev pub RunsUnlessBusy : TryTake → Type 0 → Type 0 → Type 0
+RunsUnlessBusy (try_take.Busy c) same ran = same
+RunsUnlessBusy (try_take.Taken c) same ran = ran
+RunsUnlessBusy (try_take.Changed c) same ran = ran
 
 -- `net_rx_action` and `napi_thread_wait`, which find the instance or don't
 abbrev pub Takes : Kind → Pass → Result Polling Caller → Type 0

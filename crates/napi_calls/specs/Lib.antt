@@ -6,3 +6,4 @@ pub mod Knows
 pub mod Made
 pub mod Seats
 pub mod Served
+pub mod Turns

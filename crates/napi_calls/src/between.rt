@@ -2,8 +2,12 @@
 
 /// Acts between the look and the exchange of one call, as another thread may. A call runs it once, where it gets that far.
 pub trait Between {
+    // What a run makes of itself.
+    ghost ran: { Self → Self → Type 0 };
+
     /// Is run there.
-    fn run(&mut self);
+    fn run(&mut self)
+        ensures { ran self.old self.new };
 }
 
 /// Does nothing: the `try_` forms are the `_between` forms with it.
@@ -11,5 +15,9 @@ pub trait Between {
 pub struct Nothing;
 
 impl Between for Nothing {
+    ghost use Rattle.std.specs.Prelude.{◌≡◌};
+
+    ghost ran = { λ s t. t ≡ s };
+
     fn run(&mut self) {}
 }

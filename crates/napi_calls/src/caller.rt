@@ -8,7 +8,7 @@ ghost use Rattle.napi_model.specs.Laws.{IsOwnedBy};
 ghost use Rattle.napi_calls.specs.Seats.{number_of, shown, state_of, ShowsLegal};
 ghost use Rattle.napi_calls.specs.Instance.{IsSeatOf};
 ghost use Rattle.napi_calls.specs.Made.{Made};
-ghost use Rattle.napi_calls.specs.Calls.{Prepares, Schedules, Takes};
+ghost use Rattle.napi_calls.specs.Calls.{Prepares, Schedules, Takes, RunsUnlessDisabled};
 
 use crate::answers::{Sched, TryPrep};
 use crate::between::{Between, Nothing};
@@ -57,7 +57,8 @@ impl Caller {
     /// As [`try_schedule`](Caller::try_schedule), and runs `between` after the look, unless that answers `Disabled`.
     pub fn try_schedule_between<B: Between>(self, napi: &Napi, between: &mut B) -> TryPrep
         requires { IsSeatOf napi.now self.pass }
-        ensures { Prepares self.pass result }
+        ensures events { Prepares self.pass result }
+        ensures run { RunsUnlessDisabled result (between.new ≡ between.old) (B.ran between.old between.new) }
     {
         let Caller { mut pass, number } = self;
         let Some(seen) = napi.table.schedule_load(&mut pass) else {

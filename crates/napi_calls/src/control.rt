@@ -8,7 +8,7 @@ ghost use Rattle.rx_ring.specs.Ends.{ring_name, polls_of, received_list, Meets};
 ghost use Rattle.napi_calls.specs.Seats.{number_of, controller_of, state_of, ring_of, ShowsLegal, IsInputOf};
 ghost use Rattle.napi_calls.specs.Instance.{IsSeatOf};
 ghost use Rattle.napi_calls.specs.Made.{Made, WasLost};
-ghost use Rattle.napi_calls.specs.Calls.{TriesToTake, Disables, EnablesAt, Enables};
+ghost use Rattle.napi_calls.specs.Calls.{TriesToTake, RunsUnlessBusy, Disables, EnablesAt, Enables};
 
 use crate::answers::TryTake;
 use crate::between::{Between, Nothing};
@@ -79,7 +79,8 @@ impl Control<Marked> {
     /// As [`try_take`](Control::try_take), and runs `between` after the load, unless that answers `Busy`.
     pub fn try_take_between<B: Between>(self, napi: &Napi, between: &mut B) -> TryTake
         requires { IsSeatOf napi.now self.pass }
-        ensures { TriesToTake self.pass result }
+        ensures events { TriesToTake self.pass result }
+        ensures run { RunsUnlessBusy result (between.new ≡ between.old) (B.ran between.old between.new) }
     {
         let Control {
             mut pass,
@@ -153,7 +154,8 @@ impl Control<Off> {
         between: &mut B,
     ) -> Result<Control<On>, Control<Off>>
         requires { IsSeatOf napi.now self.pass }
-        ensures { MatchResult result (λ r. EnablesAt threaded self.pass r.pass) (λ r. WasLost self.pass r.pass) }
+        ensures events { MatchResult result (λ r. EnablesAt threaded self.pass r.pass) (λ r. WasLost self.pass r.pass) }
+        ensures run { B.ran between.old between.new }
     {
         let Control {
             mut pass,

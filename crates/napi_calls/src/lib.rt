@@ -22,6 +22,8 @@ mod fault;
 mod instance;
 mod polling;
 mod sharing;
+#[cfg(test)]
+mod tests;
 mod types;
 
 pub use answers::{Completed, Sched, TryDone, TryPrep, TryTake};

@@ -94,7 +94,8 @@ impl Polling {
     /// As [`try_complete`](Polling::try_complete), and runs `between` after the look.
     pub fn try_complete_between<B: Between>(self, napi: &Napi, between: &mut B) -> TryDone
         requires { IsSeatOf napi.now self.pass }
-        ensures { TriesToComplete self.pass result }
+        ensures events { TriesToComplete self.pass result }
+        ensures run { B.ran between.old between.new }
     {
         let Polling {
             mut pass,

@@ -10,8 +10,8 @@ invariant_of-result g c = record {
   has = record { holds = c.take_load.ensures.step.holds ∙ c.args.self.has.holds; ring = refl };
 }
 
-pub returns-in_default : goal.returns-in_default
-returns-in_default g c = step c.take_load.new.pass (nothing c.args.self.controls.stands) c.take_load.ensures.step.table c.in_default.ensures.step.event
+pub returns-in_default-clause-events : goal.returns-in_default-clause-events
+returns-in_default-clause-events g c = step c.take_load.new.pass (nothing c.args.self.controls.stands) c.take_load.ensures.step.table c.in_default.ensures.step.event
 
 pub unmark-requires-clause-owner : goal.unmark-requires-clause-owner
 unmark-requires-clause-owner g c =
@@ -38,14 +38,14 @@ invariant_of-result-in-Err g c = record {
   has = record { holds = c.in-Err.ensures.step.holds ∙ c.take_load.ensures.step.holds ∙ c.args.self.has.holds; ring = refl };
 }
 
-pub returns-in-Ok : goal.returns-in-Ok
-returns-in-Ok g c =
+pub returns-in-Ok-clause-events : goal.returns-in-Ok-clause-events
+returns-in-Ok-clause-events g c =
     let e = c.slot_out-ctx.ensures in
     let one = step c.take_load.new.pass (nothing c.args.self.controls.stands) c.take_load.ensures.step.table c.in-Some.ensures.step.event in
     let two = step c.take_swap.new.pass one c.take_swap.ensures.step.table c.in-Ok.ensures.step.event in
     (_, step c.unmark.new.pass (still c.slot_out-ctx.new.pass two e.keeps.table e.keeps.view) c.unmark.ensures.step.table c.unmark.ensures.step.event)
 
-pub returns-in-Err : goal.returns-in-Err
-returns-in-Err g c =
+pub returns-in-Err-clause-events : goal.returns-in-Err-clause-events
+returns-in-Err-clause-events g c =
     let one = step c.take_load.new.pass (nothing c.args.self.controls.stands) c.take_load.ensures.step.table c.in-Some.ensures.step.event in
     lost _ _ c.in-Err.ensures.other (step c.take_swap.new.pass one c.take_swap.ensures.step.table c.in-Err.ensures.step.event)

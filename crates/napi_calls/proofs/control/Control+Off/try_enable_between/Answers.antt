@@ -26,14 +26,14 @@ invariant_of-result-in-Err g c =
       has = outside c.enable_swap.new.pass c.slot_out-ctx.new.pass _ e.holds e.keeps.view e.ring;
     }
 
-pub returns-in-Ok : goal.returns-in-Ok
-returns-in-Ok g c =
+pub returns-in-Ok-clause-events : goal.returns-in-Ok-clause-events
+returns-in-Ok-clause-events g c =
     let one = step c.look-seen.new.pass (nothing c.args.self.controls.stands) c.look-seen.ensures.step.table c.look-seen.ensures.step.event in
     let in_slot = still c.slot_in.new.pass one c.slot_in.ensures.keeps.table c.slot_in.ensures.keeps.view in
     (_, step c.enable_swap.new.pass in_slot c.enable_swap.ensures.step.table c.in-Ok.ensures.step.event)
 
-pub returns-in-Err : goal.returns-in-Err
-returns-in-Err g c =
+pub returns-in-Err-clause-events : goal.returns-in-Err-clause-events
+returns-in-Err-clause-events g c =
     let one = step c.look-seen.new.pass (nothing c.args.self.controls.stands) c.look-seen.ensures.step.table c.look-seen.ensures.step.event in
     let in_slot = still c.slot_in.new.pass one c.slot_in.ensures.keeps.table c.slot_in.ensures.keeps.view in
     let e = c.slot_out-ctx.ensures in

@@ -9,8 +9,8 @@ use Rattle.napi_calls.proofs.types.Caller.try_schedule_between.Goals as goal
 pub invariant_of-result : goal.invariant_of-result
 invariant_of-result g c = record { stands = kept c.schedule_load.new.pass c.args.self.stands c.in_default.ensures.step.event (λ s. refl) }
 
-pub returns-in_default : goal.returns-in_default
-returns-in_default g c = step c.schedule_load.new.pass (nothing c.args.self.stands) c.schedule_load.ensures.step.table c.in_default.ensures.step.event
+pub returns-in_default-clause-events : goal.returns-in_default-clause-events
+returns-in_default-clause-events g c = step c.schedule_load.new.pass (nothing c.args.self.stands) c.schedule_load.ensures.step.table c.in_default.ensures.step.event
 
 pub invariant_of-result-in-Ok-Granted : goal.invariant_of-result-in-Ok-Granted
 invariant_of-result-in-Ok-Granted g c =
@@ -34,17 +34,17 @@ invariant_of-result-in-Err g c =
     let st = looked c.schedule_load.new.pass c.args.self.stands c.in-Some.ensures.step.event in
     record { stands = looked c.schedule_swap.new.pass st c.in-Err.ensures.step.event }
 
-pub returns-in-Ok-Granted : goal.returns-in-Ok-Granted
-returns-in-Ok-Granted g c =
+pub returns-in-Ok-Granted-clause-events : goal.returns-in-Ok-Granted-clause-events
+returns-in-Ok-Granted-clause-events g c =
     let one = step c.schedule_load.new.pass (nothing c.args.self.stands) c.schedule_load.ensures.step.table c.in-Some.ensures.step.event in
     (_, step c.schedule_swap.new.pass one c.schedule_swap.ensures.step.table (rw c.in-Ok-Granted.field-0-is at c.in-Ok-Granted.ensures).step.event)
 
-pub returns-in-Ok-Missed : goal.returns-in-Ok-Missed
-returns-in-Ok-Missed g c =
+pub returns-in-Ok-Missed-clause-events : goal.returns-in-Ok-Missed-clause-events
+returns-in-Ok-Missed-clause-events g c =
     let one = step c.schedule_load.new.pass (nothing c.args.self.stands) c.schedule_load.ensures.step.table c.in-Some.ensures.step.event in
     (_, step c.schedule_swap.new.pass one c.schedule_swap.ensures.step.table (rw c.in-Ok-Missed.field-0-is at c.in-Ok-Missed.ensures).step.event)
 
-pub returns-in-Err : goal.returns-in-Err
-returns-in-Err g c =
+pub returns-in-Err-clause-events : goal.returns-in-Err-clause-events
+returns-in-Err-clause-events g c =
     let one = step c.schedule_load.new.pass (nothing c.args.self.stands) c.schedule_load.ensures.step.table c.in-Some.ensures.step.event in
     lost _ _ c.in-Err.ensures.other (step c.schedule_swap.new.pass one c.schedule_swap.ensures.step.table c.in-Err.ensures.step.event)

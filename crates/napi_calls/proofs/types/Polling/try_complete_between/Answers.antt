@@ -28,20 +28,20 @@ invariant_of-result-in-Err g c =
       has = outside c.complete_swap.new.pass c.slot_out-ctx.new.pass _ e.holds e.keeps.view e.ring;
     }
 
-pub returns-in-Ok-Released : goal.returns-in-Ok-Released
-returns-in-Ok-Released g c =
+pub returns-in-Ok-Released-clause-events : goal.returns-in-Ok-Released-clause-events
+returns-in-Ok-Released-clause-events g c =
     let one = step c.look-seen.new.pass (nothing c.args.self.stands) c.look-seen.ensures.step.table c.look-seen.ensures.step.event in
     let in_slot = still c.slot_in.new.pass one c.slot_in.ensures.keeps.table c.slot_in.ensures.keeps.view in
     (_, step c.complete_swap.new.pass in_slot c.complete_swap.ensures.step.table (rw c.in-Ok-Released.field-0-is at c.in-Ok-Released.ensures).step.event)
 
-pub returns-in-Ok-Again : goal.returns-in-Ok-Again
-returns-in-Ok-Again g c =
+pub returns-in-Ok-Again-clause-events : goal.returns-in-Ok-Again-clause-events
+returns-in-Ok-Again-clause-events g c =
     let one = step c.look-seen.new.pass (nothing c.args.self.stands) c.look-seen.ensures.step.table c.look-seen.ensures.step.event in
     let in_slot = still c.slot_in.new.pass one c.slot_in.ensures.keeps.table c.slot_in.ensures.keeps.view in
     (_, step c.complete_swap.new.pass in_slot c.complete_swap.ensures.step.table (rw c.in-Ok-Again.field-0-is at c.in-Ok-Again.ensures).step.event)
 
-pub returns-in-Err : goal.returns-in-Err
-returns-in-Err g c =
+pub returns-in-Err-clause-events : goal.returns-in-Err-clause-events
+returns-in-Err-clause-events g c =
     let one = step c.look-seen.new.pass (nothing c.args.self.stands) c.look-seen.ensures.step.table c.look-seen.ensures.step.event in
     let in_slot = still c.slot_in.new.pass one c.slot_in.ensures.keeps.table c.slot_in.ensures.keeps.view in
     let e = c.slot_out-ctx.ensures in
