@@ -1,4 +1,4 @@
--- Lists of hands, and the pushes of one of them.
+-- Lists of what the ends know, by index, and the pushes of one end.
 use Rattle.std.proofs.Common.{◌≡◌, ◌≢◌, ℕ, zero, suc, ◌+◌, ◌<◌, ◌≤◌, ◌⊎◌, Bool, true, false, List, [], ◌∷◌, ◌++◌, length, set, eqb, cond, sym, refl, ap, ◌∙◌, subst, inl, inr, ⊎_elim, append_assoc, eq-eqb, ne_eqb, arith}
 use Rattle.std.specs.List.{sum_by}
 use Rattle.std.proofs.lemmas.List.{map-append}
@@ -42,10 +42,10 @@ module _ {A : Type 0} where
   two_weights f (x ∷ xs) (suc i) zero a b n e d = let q : f x ≡ f b = ap f (some-injective x b d) in let h = one_weight f xs i a e in omega (arith, sum_by-cons f x xs)
   two_weights f (x ∷ xs) (suc i) (suc j) a b n e d = let h = two_weights f xs i j a b (λ q. n (ap suc q)) e d in omega (arith, sum_by-cons f x xs)
 
-  abbrev pub All : (ℕ → A → Type 0) → List A → Type 0
-  All F views = (port : ℕ) (v : A) → get_elem? views port ≡ some v → F port v
+  abbrev pub EachAt : (ℕ → A → Type 0) → List A → Type 0
+  EachAt F views = (port : ℕ) (v : A) → get_elem? views port ≡ some v → F port v
 
-  pub all_set : (F : ℕ → A → Type 0) (views : List A) (port : ℕ) (w : A) → F port w → ((j : ℕ) (u : A) → j ≢ port → get_elem? views j ≡ some u → F j u) → All F (set views port w)
+  pub all_set : (F : ℕ → A → Type 0) (views : List A) (port : ℕ) (w : A) → F port w → ((j : ℕ) (u : A) → j ≢ port → get_elem? views j ≡ some u → F j u) → EachAt F (set views port w)
   all_set F views port w mine others j u e = ⊎_elim (λ (x : (j ≡ port) × (w ≡ u)). subst (λ (y : ℕ × A). F y.0 y.1) (λ i. (sym x.0 i, x.1 i)) mine)
       (λ (x : (j ≢ port) × (get_elem? views j ≡ some u)). others j u x.0 x.1) (at_set views port j w u e)
 

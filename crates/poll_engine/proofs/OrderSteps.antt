@@ -1,4 +1,4 @@
--- Each step keeps the one order.
+-- Each step on the queue keeps the one order: a push, a pop, an end made, an end taken back, and a look.
 use Rattle.std.proofs.Common.{◌≡◌, ◌≢◌, ℕ, ◌+◌, ◌<◌, Bool, true, false, true≢false, List, [], ◌∷◌, ◌++◌, length, set, cond, sym, refl, ap, ◌∙◌, subst, inl, inr, ⊎_elim, append_assoc, length-append, lt_of_not-le, arith}
 use Rattle.std.proofs.lemmas.List.{length-set}
 use Rattle.std.proofs.lemmas.List.Sums.{sum_by_push}
@@ -11,7 +11,7 @@ use Rattle.crossbeam_queue.proofs.Lists.{at_set, at_longer, at_last}
 use Rattle.poll_engine.specs.declared.list_rule.Returned.{Returned}
 use Rattle.poll_engine.specs.declared.list_rule.EndView.{EndView}
 use Rattle.poll_engine.specs.PushOrder.{Push, push_of, pushes_by, returned_end, pusher, poller, spent_end, live_count, IsReturned, FitsEnd, InOneOrder, KnowsOrder}
-use Rattle.poll_engine.proofs.EndLists.{in_range, at_push, total_set, one_weight, two_weights, All, all_set, by_mine, by_other, ids_push, one_there}
+use Rattle.poll_engine.proofs.EndLists.{in_range, at_push, total_set, one_weight, two_weights, EachAt, all_set, by_mine, by_other, ids_push, one_there}
 
 by_live : {P : Type 0} (p : ℕ) (u : EndView) → (u.live ≡ true → P) → (u.live ≡ false → P) → P
 by_live {P} p u if_so if_not = elim u.live as (λ b. (b ≡ true → P) → (b ≡ false → P) → P) [ true ↦ (λ f g. f refl) | false ↦ (λ f g. g refl) ] if_so if_not
@@ -105,7 +105,7 @@ forks port v may items views h at =
     let vs : List EndView = set views port l in
     let n : length vs ≡ h.made = length-set views port l ∙ h.sized in
     let made : v.made ≡ h.made = role.4 in
-    let old : All (FitsEnd h.order h.popped h.returned (h.made + 1)) vs =
+    let old : EachAt (FitsEnd h.order h.popped h.returned (h.made + 1)) vs =
     all_set (FitsEnd h.order h.popped h.returned (h.made + 1)) views port l
     ((λ _. (sym role.1, (mine.0 role.0).1)), (λ f. absurd (true≢false f)), λ _. (refl, role.1, role.2, role.3, ap (λ k. k + 1) made))
     (λ j u other e. let t = h.fits j u e in (t.0, t.1, λ p. absurd (other ((t.2 p).1 ∙ sym role.1)))) in
@@ -153,7 +153,7 @@ merges port v other u may live items views h at two at' =
     let theirs = (h.fits other u was).0 live in
     let inside = in_range views other u was in
     let Now : ℕ → EndView → Type 0 = λ j y. j ≢ other → FitsEnd h.order h.popped known h.made j y in
-    let now : All Now vs =
+    let now : EachAt Now vs =
     all_set Now views port both
     (λ _. ((λ _. (sym role.1, (mine.0 role.0).1)), (λ f. absurd (true≢false f)), λ _. (refl, role.1, role.2, ap (λ (ks : List Returned). ks ++ returned_end u.number u.pushed ∷ []) role.3, role.4)))
     (λ j y apart e _. let t = h.fits j y e in (t.0, (λ f. let k = t.1 f in (k.0, k.1, at_longer h.returned (returned_end u.number u.pushed ∷ []) k.0 k.1 k.2, k.3)), λ p. absurd (apart ((t.2 p).1 ∙ sym role.1)))) in

@@ -1,4 +1,4 @@
--- Once the pushes of all ends are noted, there are no more pushes than their notes and the poller tell of.
+-- Once all ends came back, there are no more pushes than theirs and the poller's.
 use Rattle.std.proofs.Common.{◌≡◌, ℕ, zero, suc, ◌+◌, ◌<◌, ◌≤◌, ◌⊎◌, Bool, true, false, List, [], ◌∷◌, ◌++◌, length, map, cond, eqb, sym, refl, ap, ◌∙◌, subst, inl, inr, ⊎_elim, length-append, append-nil, eq-eqb, lt_of_not-le, arith}
 use Rattle.std.specs.List.{sum_by}
 use Rattle.std.proofs.lemmas.List.{length-map, nil_from_length}
@@ -38,7 +38,7 @@ module _ {A : Type 0} where
       let b = h zero x refl in
       omega (arith, sum_by-cons f x xs, sum_by-cons g x xs)
 
--- an push_of is no push of another
+-- one push more is a push more of its own end alone
 pushes_grow : (p : ℕ) (e : Push) (es : List Push) → length (pushes_by p es) ≤ length (pushes_by p (e ∷ es))
 pushes_grow p e es = elim (eqb e.by p) as (λ b. length (pushes_by p es) ≤ length (cond b (e.id ∷ pushes_by p es) (pushes_by p es))) [ true ↦ omega arith | false ↦ omega arith ]
 

@@ -14,7 +14,7 @@ use crate::soft::SoftList;
 use std::alloc::{AllocError, Global};
 use std::sync::{Arc, Wait};
 
-// The room of the queue.
+// The queue's places.
 const ROOM: usize = 64;
 
 // A list with so many ends.

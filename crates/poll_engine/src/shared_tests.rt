@@ -206,3 +206,36 @@ fn two_threads_push_each_number_once(rt: HostRuntime) -> Result<(), Fail> {
     assert!(rt; spliced(&mut list).is_empty());
     Ok(())
 }
+
+/// A poller's thread: takes so many numbers, and counts those that came in turn from 0 on.
+fn take_many<R: Wait + Drop>(rt: R, mut list: SharedList<R>, count: u32) -> u32 {
+    let mut taken = 0u32;
+    let mut in_turn = 0u32;
+    for _ in rt.forever() {
+        for id in spliced(&mut list).ids() {
+            taken = taken.saturating_add(1);
+            if *id == in_turn {
+                in_turn = in_turn.saturating_add(1);
+            }
+        }
+        if taken >= count {
+            break;
+        }
+        thread::yield_now();
+    }
+    in_turn
+}
+
+// The poller's end may go to a thread of its own too.
+#[test]
+fn a_poller_in_its_own_thread(rt: HostRuntime) -> Result<(), Fail> {
+    let (list, mut first, _second) = two_ended(rt, rt.alloc())?;
+    let poller = thread::spawn(&rt, move || take_many(rt, list, 1_000))
+        .ok()
+        .ok_or("no thread")?;
+    for id in 0..1_000u32 {
+        first.push(id);
+    }
+    assert_eq!(rt; poller.join(&rt), 1_000);
+    Ok(())
+}
