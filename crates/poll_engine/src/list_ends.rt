@@ -1,6 +1,6 @@
 //! How a shared poll list is made with its ends, and how it is ended.
 
-ghost use Rattle.std.specs.Prelude.{◌≡◌, ℕ, ◌+◌, ◌≤◌, ◌<◌, List, [], ◌∷◌, ◌++◌, ◌↔◌, ◌⊎◌, ◌≢◌, true, length, slice_index_or, map, IfOk, IfErr, IsErr, All};
+ghost use Rattle.std.specs.Prelude.{◌≡◌, ℕ, ◌+◌, ◌≤◌, ◌<◌, List, [], ◌∷◌, ◌++◌, ◌↔◌, ◌⊎◌, ◌≢◌, true, false, length, slice_index_or, map, IfOk, IfErr, IsErr, All};
 ghost use Rattle.crossbeam_queue.specs.Passes.{view, IsPassOf};
 ghost use Rattle.poll_engine.specs.PushOrder.{Push, returned_pushes, poller, PopsMore, WasEmpty};
 ghost use Rattle.poll_engine.specs.SharedList.{AreFew, IsInOf, IsNewList, AreNewEnds, IsOneOrder, in_hand, as_returned, pushers_of};
@@ -48,6 +48,14 @@ fn with_ends<R: Wait + Copy>(
     Ok((list, ins))
 }
 
+// Whether a list can have so many pushers.
+fn is_in_range(pushers: u32) -> bool
+    ensures good { result ≡ true → (1 ≤ pushers) × (pushers ≤ 64) }
+    ensures bad { result ≡ false → (pushers ≡ 0) ⊎ (64 < pushers) }
+{
+    (1..=64).contains(&pushers)
+}
+
 /// An empty list, and the ends at which others push, as many as asked for: 1 to 64. They are numbered 1, 2 .. in order.
 ///
 /// Another count is `BadSize` (1); no memory is `OutOfMemory` (2). No later call on the list or its ends takes memory.
@@ -62,7 +70,7 @@ pub fn shared_list<R: Wait + Copy>(
     ensures bad { IfErr result (λ e. (e ≡ BadSize) ↔ ((pushers ≡ 0) ⊎ (64 < pushers))) }
     ensures fault { IfErr result (λ e. e ≢ NotAll) }
 {
-    if pushers == 0 || pushers > 64 {
+    if !is_in_range(pushers) {
         return Err(ListFault::BadSize);
     }
     with_ends(rt, alloc, pushers).map_err(|_| ListFault::OutOfMemory)
