@@ -6,3 +6,6 @@ pub mod Turn
 pub mod Laws
 pub mod Script
 pub mod Function
+pub mod PushOrder
+pub mod SharedList
+pub mod ListFaults

@@ -12,9 +12,16 @@ mod bench;
 mod crowded;
 mod laws;
 mod list;
+mod list_ends;
+mod list_fault;
+mod list_in;
+mod list_rule;
 mod plain;
 mod run;
 mod scripted;
+mod shared;
+#[cfg(test)]
+mod shared_tests;
 mod soft;
 #[cfg(test)]
 mod tests;
@@ -24,6 +31,10 @@ pub use laws::{
     no_other_arrivals, plain_list_afterwards, run_is_function, run_is_shown, runs_agree,
 };
 pub use list::PollList;
+pub use list_ends::{ListBack, end_list, shared_list};
+pub use list_fault::ListFault;
+pub use list_in::ListIn;
 pub use plain::PlainList;
 pub use run::{RunReport, run_softirq};
+pub use shared::SharedList;
 pub use soft::SoftList;
