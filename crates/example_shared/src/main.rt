@@ -1,6 +1,9 @@
-//! A network card whose interrupts and poller are threads of their own, over one shared instance with a receive ring. The card
-//! has its interrupt line in common with another device: the first handler puts each packet that came and asks for a poll, the
-//! second only asks. Whatever the threads' schedule, each packet is polled before the program ends.
+//! A network card whose interrupts and poller are threads of their own, over one shared instance with a receive ring. Its
+//! interrupt line is one that another device shares: the first interrupt puts a packet into the ring and asks for a poll, the
+//! second only asks. Whatever the threads' schedule, every packet is polled before the program ends.
+//!
+//! `handlers.rt` is what each thread does; here the instance is made, served and closed. A seat of the instance (`Caller`,
+//! `Control`) must be spent: it goes to its thread in a `Kept`, comes back as what the thread answers, and goes to `close`.
 #![tactic(auto)]
 
 ghost use Rattle.std.specs.Prelude.{◌≡◌, ◌≤◌, ◌+◌, ℕ, length, slice_get, Some, vec_capacity};
@@ -9,102 +12,22 @@ ghost use Rattle.napi_word.specs.Passes.{SameTable};
 ghost use Rattle.napi_calls.specs.Instance.{IsSeatOf};
 ghost use Rattle.napi_calls.specs.declared.types.Caller.{Caller};
 
+mod handlers;
 mod kept;
 
 use anyhow::Result;
+use handlers::{poll_all, receive, request};
 use kept::Kept;
-use napi_calls::{Caller, Completed, Napi, NewBack, Polling, Sched};
-use napi_model::Kind;
-use rx_ring::{Batch, Packet, RxIn, Totals, finish, ring};
+use napi_calls::{Caller, Napi, NewBack};
+use rx_ring::{RxIn, Totals, finish, ring};
 use std::sync::Wait;
-use std::sync::atomic::{AtomicU64, Ordering};
-use std::thread;
+use std::sync::atomic::AtomicU64;
+use std::thread::{Threads, join};
 
-const PACKETS: u64 = 1000;
+// The places of the ring: no packet is dropped.
+const PLACES: usize = 1024;
 
-const WEIGHT: usize = 64;
-
-// Asks for a poll, and hands the instance to the list where that is granted.
-fn ask(rt: &impl Wait, napi: &Napi, caller: Caller) -> Caller
-    requires { IsSeatOf napi.now caller.pass }
-    ensures { IsSeatOf napi.now result.pass }
-{
-    match caller.schedule(rt, napi) {
-        Sched::Granted(granted) => granted.hand(napi, Kind::List),
-        Sched::Missed(caller) => caller,
-        Sched::Disabled(caller) => caller,
-    }
-}
-
-// The first interrupt: packets come in.
-fn receive(
-    rt: &impl Wait,
-    napi: &Napi,
-    mut caller: Caller,
-    mut input: RxIn,
-    ended: &AtomicU64,
-) -> (Caller, RxIn)
-    requires { IsSeatOf napi.now caller.pass }
-    ensures caller { IsSeatOf napi.now result.0.pass }
-    ensures input { SameIn input result.1 }
-{
-    for number in 0..PACKETS {
-        let _ = input.put(Packet { number, bytes: 60 });
-        caller = ask(rt, napi, caller);
-    }
-    ended.fetch_add(1, Ordering::SeqCst);
-    (caller, input)
-}
-
-// The second interrupt, of the same line.
-fn request(rt: &impl Wait, napi: &Napi, mut caller: Caller, ended: &AtomicU64) -> Caller
-    requires { IsSeatOf napi.now caller.pass }
-    ensures { IsSeatOf napi.now result.pass }
-{
-    for _ in 0..PACKETS {
-        caller = ask(rt, napi, caller);
-    }
-    ended.fetch_add(1, Ordering::SeqCst);
-    caller
-}
-
-// Polls once. A poll that used its whole weight is followed by another, any other ends, unless a request was missed.
-fn poll(rt: &impl Wait, napi: &Napi, mut polling: Polling, batch: &mut Batch) -> Caller
-    requires { IsSeatOf napi.now polling.pass }
-    ensures { IsSeatOf napi.now result.pass }
-{
-    if polling.poll(WEIGHT, batch) == WEIGHT {
-        return polling.requeue(napi);
-    }
-    match polling.complete(rt, napi) {
-        Completed::Released(caller) => caller,
-        Completed::Again(granted) => granted.hand(napi, Kind::List),
-    }
-}
-
-// The poller: polls whenever the instance is on the list, until both interrupts have ended and it isn't there any more.
-fn poll_all(rt: &impl Wait, napi: &Napi, mut caller: Caller, ended: &AtomicU64) -> Caller
-    requires { IsSeatOf napi.now caller.pass }
-    ensures { IsSeatOf napi.now result.pass }
-{
-    let mut batch = Batch::new();
-    for _ in rt.forever() {
-        let last = ended.load(Ordering::SeqCst) == 2;
-        match caller.take(napi, Kind::List) {
-            Ok(polling) => caller = poll(rt, napi, polling, &mut batch),
-            Err(rest) => {
-                caller = rest;
-                if last {
-                    return caller;
-                }
-                thread::yield_now();
-            }
-        }
-    }
-    unreachable!()
-}
-
-// Pops a caller.
+// The next caller, of an instance's callers.
 fn pop(napi: &Napi, callers: &mut Vec<Caller>) -> Caller
     requires some { 1 ≤ length callers.old.items }
     requires seats { (k : ℕ) (c : Caller) → slice_get callers.old.items k ≡ Some c → IsSeatOf napi.now c.pass }
@@ -118,8 +41,53 @@ fn pop(napi: &Napi, callers: &mut Vec<Caller>) -> Caller
     caller
 }
 
+// Runs both interrupts and the poller, each in a thread of its own, until all packets are polled.
+fn serve<R: Threads + Wait + Copy + Drop + Send>(
+    rt: R,
+    napi: &Napi,
+    seats: (Caller, Caller, Caller),
+    input: RxIn,
+) -> ((Caller, RxIn), Caller, Caller)
+    requires { IsSeatOf napi.now seats.0.pass × IsSeatOf napi.now seats.1.pass × IsSeatOf napi.now seats.2.pass }
+    ensures seats { IsSeatOf napi.now result.0.0.pass × IsSeatOf napi.now result.1.pass × IsSeatOf napi.now result.2.pass }
+    ensures input { SameIn input result.0.1 }
+{
+    let (first, second, poller) = seats;
+    let ended = AtomicU64::new(0);
+    let end = &ended;
+    let first = Kept { rt, value: first };
+    let second = Kept { rt, value: second };
+    let poller = Kept { rt, value: poller };
+    // Where no thread can be made, the second closure is called first: so the poller comes after both interrupts.
+    let (poller, (first, second)) = join(
+        &rt,
+        move || -> Caller
+            requires { IsSeatOf napi.now poller.value.pass }
+            ensures { SameTable poller.value.pass result.pass }
+        { poll_all(&rt, napi, poller.open(), end) },
+        move || -> ((Caller, RxIn), Caller)
+            requires { IsSeatOf napi.now first.value.pass × IsSeatOf napi.now second.value.pass }
+            ensures seats { SameTable first.value.pass result.0.0.pass × SameTable second.value.pass result.1.pass }
+            ensures input { SameIn input result.0.1 }
+        {
+            join(
+                &rt,
+                move || -> (Caller, RxIn)
+                    requires { IsSeatOf napi.now first.value.pass }
+                    ensures { SameTable first.value.pass result.0.pass × SameIn input result.1 }
+                { receive(&rt, napi, first.open(), input, end) },
+                move || -> Caller
+                    requires { IsSeatOf napi.now second.value.pass }
+                    ensures { SameTable second.value.pass result.pass }
+                { request(&rt, napi, second.open(), end) },
+            )
+        },
+    );
+    (first, second, poller)
+}
+
 fn main(rt: HostRuntime) -> Result<()> {
-    let (input, ctx) = ring(rt.alloc(), 1024)?;
+    let (input, ctx) = ring(rt.alloc(), PLACES)?;
     let (napi, mut callers, control) = match Napi::new(rt.alloc(), ctx, 3) {
         Ok(made) => made,
         Err(NewBack { fault, ctx: _ }) => return Err(fault.into()),
@@ -128,35 +96,7 @@ fn main(rt: HostRuntime) -> Result<()> {
     let second = pop(&napi, &mut callers);
     let first = pop(&napi, &mut callers);
     let control = control.enable(&rt, &napi, false);
-    let ended = AtomicU64::new(0);
-    let (shared, end) = (&napi, &ended);
-    let first = Kept { rt, value: first };
-    let second = Kept { rt, value: second };
-    let poller = Kept { rt, value: poller };
-    let (((first, input), second), poller) = thread::join(
-        &rt,
-        move || -> ((Caller, RxIn), Caller)
-            requires { IsSeatOf shared.now first.value.pass × IsSeatOf shared.now second.value.pass }
-            ensures seats { SameTable first.value.pass result.0.0.pass × SameTable second.value.pass result.1.pass }
-            ensures input { SameIn input result.0.1 }
-        {
-            thread::join(
-                &rt,
-                move || -> (Caller, RxIn)
-                    requires { IsSeatOf shared.now first.value.pass }
-                    ensures { SameTable first.value.pass result.0.pass × SameIn input result.1 }
-                { receive(&rt, shared, first.open(), input, end) },
-                move || -> Caller
-                    requires { IsSeatOf shared.now second.value.pass }
-                    ensures { SameTable second.value.pass result.pass }
-                { request(&rt, shared, second.open(), end) },
-            )
-        },
-        move || -> Caller
-            requires { IsSeatOf shared.now poller.value.pass }
-            ensures { SameTable poller.value.pass result.pass }
-        { poll_all(&rt, shared, poller.open(), end) },
-    );
+    let ((first, input), second, poller) = serve(rt, &napi, (first, second, poller), input);
     let control = control.disable(&rt, &napi);
     callers.push_reserved(first);
     callers.push_reserved(second);

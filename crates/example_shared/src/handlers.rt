@@ -1,0 +1,92 @@
+//! What the interrupts and the poller do. Each call takes the caller, a seat of the instance, and gives it back.
+ghost use Rattle.rx_ring.specs.Ends.{SameIn};
+ghost use Rattle.napi_calls.specs.Instance.{IsSeatOf};
+
+use napi_calls::{Caller, Completed, Napi, Polling, Sched};
+use napi_model::Kind;
+use rx_ring::{Batch, Packet, RxIn};
+use std::sync::Wait;
+use std::sync::atomic::{AtomicU64, Ordering};
+use std::thread;
+
+const PACKETS: u64 = 1000;
+
+const WEIGHT: usize = 64;
+
+// Asks for a poll, and hands the instance to the list where that is granted.
+fn ask(rt: &impl Wait, napi: &Napi, caller: Caller) -> Caller
+    requires { IsSeatOf napi.now caller.pass }
+    ensures { IsSeatOf napi.now result.pass }
+{
+    match caller.schedule(rt, napi) {
+        Sched::Granted(granted) => granted.hand(napi, Kind::List),
+        Sched::Missed(caller) | Sched::Disabled(caller) => caller,
+    }
+}
+
+/// The first interrupt: a packet comes in, and a poll is asked for. A full ring drops the packet.
+pub(crate) fn receive(
+    rt: &impl Wait,
+    napi: &Napi,
+    mut caller: Caller,
+    mut input: RxIn,
+    ended: &AtomicU64,
+) -> (Caller, RxIn)
+    requires { IsSeatOf napi.now caller.pass }
+    ensures caller { IsSeatOf napi.now result.0.pass }
+    ensures input { SameIn input result.1 }
+{
+    for number in 0..PACKETS {
+        let _ = input.put(Packet { number, bytes: 60 });
+        caller = ask(rt, napi, caller);
+    }
+    ended.fetch_add(1, Ordering::SeqCst);
+    (caller, input)
+}
+
+/// The second interrupt, of the same line, which has no packet.
+pub(crate) fn request(rt: &impl Wait, napi: &Napi, mut caller: Caller, ended: &AtomicU64) -> Caller
+    requires { IsSeatOf napi.now caller.pass }
+    ensures { IsSeatOf napi.now result.pass }
+{
+    for _ in 0..PACKETS {
+        caller = ask(rt, napi, caller);
+    }
+    ended.fetch_add(1, Ordering::SeqCst);
+    caller
+}
+
+// Polls once. A poll that used its whole weight is followed by another, any other ends, unless a request was missed.
+fn poll(rt: &impl Wait, napi: &Napi, mut polling: Polling, batch: &mut Batch) -> Caller
+    requires { IsSeatOf napi.now polling.pass }
+    ensures { IsSeatOf napi.now result.pass }
+{
+    if polling.poll(WEIGHT, batch) == WEIGHT {
+        return polling.requeue(napi);
+    }
+    match polling.complete(rt, napi) {
+        Completed::Released(caller) => caller,
+        Completed::Again(granted) => granted.hand(napi, Kind::List),
+    }
+}
+
+/// The poller: polls whenever the instance is on the list, until both interrupts have ended and it isn't there any more. What
+/// they asked for last is found, since it looks whether they have ended first.
+pub(crate) fn poll_all(rt: &impl Wait, napi: &Napi, mut caller: Caller, ended: &AtomicU64) -> Caller
+    requires { IsSeatOf napi.now caller.pass }
+    ensures { IsSeatOf napi.now result.pass }
+{
+    let mut batch = Batch::new();
+    for _ in rt.forever() {
+        let last = ended.load(Ordering::SeqCst) == 2;
+        match caller.take(napi, Kind::List) {
+            Ok(polling) => caller = poll(rt, napi, polling, &mut batch),
+            Err(rest) if last => return rest,
+            Err(rest) => {
+                caller = rest;
+                thread::yield_now();
+            }
+        }
+    }
+    unreachable!()
+}
