@@ -1,7 +1,8 @@
 #!/bin/sh
 # Times turns of an instance by its state word: the program of crates/bench_word beside the same turns by hand in C++
 # (bench/word.cc, g++ -O2), with every step sequentially consistent and with the kernel's orders, and with the context
-# itself in the slot or a pointer to it. Once by one thread, once while a second thread schedules all the time.
+# itself in the slot or a pointer to it. Once by one thread, once while a second thread schedules all the time. Then the
+# turns of one thread by the typed calls of crates/napi_calls, beside the steps below them.
 # Nine rounds of all programs in turn; the best time of each is shown, and how the program's compares with it.
 #
 # usage: bench/word.sh [TURNS]     (1000000 where none are given)
@@ -23,7 +24,8 @@ g++ -std=c++17 -O2 -pthread -o "$work/by_hand" "$top/bench/word.cc"
 programs='napi_word seq_cst-value seq_cst-pointer kernel-value kernel-pointer'
 run() {
     case $1 in
-        napi_word) "$top/crates/bench_word/out/bench_word" "$turns" ;;
+        napi_word) "$top/crates/bench_word/out/bench_word" "$turns" > "$work/all.counts"
+            grep -v '^typed' "$work/all.counts" ;;
         *) "$work/by_hand" "${1%-*}" "${1#*-}" "$turns" ;;
     esac
 }
@@ -39,11 +41,11 @@ for round in 1 2 3 4 5 6 7 8 9; do
     done
 done
 
-cat "$work/napi_word.counts"
-# The best time of a program for one thread, or for two: there of the rounds in which the second thread took part, so that
-# nine polls in ten were answered that another follows.
+cat "$work/all.counts"
+# The best time of a program for one thread, for the typed calls, or for two threads: there of the rounds in which the second
+# thread took part, so that nine polls in ten were answered that another follows.
 least() {
-    awk -v threads="$2" '$1 == threads && ($1 == "one" || 10 * $7 >= 9 * $5) && (!least || $2 < least) { least = $2 }
+    awk -v threads="$2" '$1 == threads && ($1 != "two" || 10 * $7 >= 9 * $5) && (!least || $2 < least) { least = $2 }
         END { print least + 0 }' "$work/$1.times"
 }
 for threads in one two; do
@@ -56,6 +58,8 @@ for threads in one two; do
             }'
     done
 done
+awk -v turns="$turns" -v spent="$(least napi_word typed)" -v steps="$(least napi_word one)" \
+    'BEGIN { printf "one typed calls     %6.1f ns a turn, %4.2f of the steps below them\n", spent / turns, spent / steps }'
 # What the second thread did to the turns, in the last round.
 for program in $programs; do
     awk -v name="$program" '$1 == "two" { line = $0 } END { sub(/.* ns /, "", line); printf "two %-15s %s\n", name, line }' "$work/$program.times"

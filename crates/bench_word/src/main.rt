@@ -1,11 +1,12 @@
 //! Times turns of an instance by its state word: schedule, hand to the list, take, the context out of its slot and back,
-//! complete. Once by one thread, and once while a second thread schedules all the time. What is the same each time goes to
-//! standard output, times and the rest to standard error. The word is the number of turns. `bench/word.sh` compares it with
-//! the same turns by hand.
+//! complete. Once by one thread, once while a second thread schedules all the time, and once by one thread with the typed
+//! calls that stand on these steps. What is the same each time goes to standard output, times and the rest to standard error.
+//! The word is the number of turns. `bench/word.sh` compares it with the same turns by hand.
 #![tactic(auto)]
 
 mod opened;
 mod turns;
+mod typed;
 
 use anyhow::{Context, Result};
 use opened::Opened;
@@ -13,6 +14,7 @@ use rx_ring::ring;
 use std::env;
 use std::time::Instant;
 use turns::{Tally, make_turns, make_turns_beside};
+use typed::make_typed_turns;
 
 fn main(rt: HostRuntime) -> Result<()> {
     let word = env::args(&rt)?
@@ -39,5 +41,12 @@ fn main(rt: HostRuntime) -> Result<()> {
     let spent = start.elapsed(&rt)?.as_nanos();
     println!(rt; "two threads: turns {turns}")?;
     eprintln!(rt; "two {spent} ns polls {polls} again {again} lost {lost}")?;
+
+    let (_input, ctx) = ring(rt.alloc(), 4)?;
+    let start = Instant::now(&rt)?;
+    let Tally { polls, again, lost } = make_typed_turns(&rt, rt.alloc(), ctx, turns)?;
+    let spent = start.elapsed(&rt)?.as_nanos();
+    println!(rt; "typed calls: turns {turns} polls {polls} again {again} lost {lost}")?;
+    eprintln!(rt; "typed {spent} ns")?;
     Ok(())
 }

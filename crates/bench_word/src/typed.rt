@@ -1,0 +1,114 @@
+//! The same turns by the typed calls, which stand on the steps.
+ghost use Rattle.std.specs.Prelude.{◌≡◌, ◌≤◌, ◌+◌, ℕ, length, slice_get, Some, vec_capacity};
+ghost use Rattle.napi_calls.specs.Instance.{IsSeatOf};
+ghost use Rattle.napi_calls.specs.declared.types.Caller.{Caller};
+
+use crate::turns::Tally;
+use napi_calls::{Caller, Napi, NewBack, NewFault, Polling, TryDone, TryPrep};
+use napi_model::Kind;
+use rx_ring::RxCtx;
+use std::alloc::Global;
+use std::sync::Wait;
+
+// Asks for a poll once, and hands over what was granted.
+fn schedule(napi: &Napi, caller: Caller, tally: &mut Tally) -> Caller
+    requires { IsSeatOf napi.now caller.pass }
+    ensures { IsSeatOf napi.now result.pass }
+{
+    match caller.try_schedule(napi) {
+        TryPrep::Granted(granted) => granted.hand(napi, Kind::List),
+        TryPrep::Missed(caller) | TryPrep::Disabled(caller) => caller,
+        TryPrep::Changed(caller) => {
+            tally.lost = tally.lost.wrapping_add(1);
+            caller
+        }
+    }
+}
+
+// Ends a poll. Were two tries lost, the instance would go back on the list.
+fn complete(napi: &Napi, mut polling: Polling, tally: &mut Tally) -> Caller
+    requires { IsSeatOf napi.now polling.pass }
+    ensures { IsSeatOf napi.now result.pass }
+{
+    for _ in 0..2 {
+        match polling.try_complete(napi) {
+            TryDone::Released(caller) => return caller,
+            TryDone::Again(granted) => {
+                tally.again = tally.again.wrapping_add(1);
+                return granted.hand(napi, Kind::List);
+            }
+            TryDone::Changed(rest) => {
+                tally.lost = tally.lost.wrapping_add(1);
+                polling = rest;
+            }
+        }
+    }
+    polling.requeue(napi)
+}
+
+// A schedule, and a poll where the instance waits on the list.
+fn turn(napi: &Napi, caller: Caller, tally: &mut Tally) -> Caller
+    requires { IsSeatOf napi.now caller.pass }
+    ensures { IsSeatOf napi.now result.pass }
+{
+    let caller = schedule(napi, caller, tally);
+    match caller.take(napi, Kind::List) {
+        Err(caller) => caller,
+        Ok(polling) => {
+            tally.polls = tally.polls.wrapping_add(1);
+            complete(napi, polling, tally)
+        }
+    }
+}
+
+fn make_turns(napi: &Napi, mut caller: Caller, turns: u64) -> (Caller, Tally)
+    requires { IsSeatOf napi.now caller.pass }
+    ensures { IsSeatOf napi.now result.0.pass }
+{
+    let mut tally = Tally {
+        polls: 0,
+        again: 0,
+        lost: 0,
+    };
+    for _ in 0..turns {
+        caller = turn(napi, caller, &mut tally);
+    }
+    (caller, tally)
+}
+
+// The next caller, of an instance's callers.
+fn pop(napi: &Napi, callers: &mut Vec<Caller>) -> Caller
+    requires some { 1 ≤ length callers.old.items }
+    requires seats { (k : ℕ) (c : Caller) → slice_get callers.old.items k ≡ Some c → IsSeatOf napi.now c.pass }
+    ensures caller { IsSeatOf napi.now result.pass }
+    ensures left { length callers.new.items + 1 ≡ length callers.old.items }
+    ensures seats { (k : ℕ) (c : Caller) → slice_get callers.new.items k ≡ Some c → IsSeatOf napi.now c.pass }
+    ensures room { vec_capacity callers.new ≡ vec_capacity callers.old }
+{
+    let popped = callers.pop();
+    let Some(caller) = popped else { unreachable!() };
+    caller
+}
+
+/// Makes an instance over this context, so many turns of one caller, and closes it.
+pub fn make_typed_turns(
+    rt: &impl Wait,
+    alloc: Global,
+    ctx: RxCtx,
+    turns: u64,
+) -> Result<Tally, NewFault> {
+    let (napi, mut callers, control) = match Napi::new(alloc, ctx, 2) {
+        Ok(made) => made,
+        Err(NewBack { fault, ctx: _ }) => return Err(fault),
+    };
+    let control = control.enable(rt, &napi, false);
+    let other = pop(&napi, &mut callers);
+    let caller = pop(&napi, &mut callers);
+    let (caller, tally) = make_turns(&napi, caller, turns);
+    callers.push_reserved(caller);
+    callers.push_reserved(other);
+    let control = control.disable(rt, &napi);
+    let closed = napi.close(callers, control);
+    let Ok(_ctx) = closed else { unreachable!() };
+    Ok(tally)
+}
