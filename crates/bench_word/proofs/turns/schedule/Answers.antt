@@ -1,4 +1,4 @@
-use Rattle.std.proofs.Common.{◌≡◌, subst, inl}
+use Rattle.std.proofs.Common.{subst, inl}
 use Rattle.napi_model.specs.declared.event.Prep.{Prep}
 use Rattle.napi_model.specs.declared.event.Operation.TheVariants.{Schedule}
 use Rattle.napi_word.specs.Events.{Steps}
