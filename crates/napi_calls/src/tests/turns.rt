@@ -92,3 +92,36 @@ fn no_packet_is_thrown_away(rt: HostRuntime) -> Result<(), Fail> {
     );
     Ok(())
 }
+
+// An instance that is set threaded while it is polled is handed to its thread, and taken from there alone.
+#[test]
+fn what_the_thread_has_isnt_on_the_list(rt: HostRuntime) -> Result<(), Fail> {
+    let Bed {
+        input: _,
+        napi,
+        first,
+        second,
+        control,
+    } = make_bed(&rt, rt.alloc());
+    let control = enabled(&rt, &napi, control, false);
+    let owner = granted(&rt, &napi, first);
+    let mut first = handed(&napi, owner, Kind::List);
+    let mut poller = taken(&rt, &napi, second, Kind::List);
+    assert_eq!(rt; encode(poller.look(&napi)), 1);
+    first.set_threaded(&napi, true);
+    assert_eq!(rt; word(&napi, &mut first), 257);
+    let mut first = missed(&rt, &napi, first);
+    assert_eq!(rt; word(&napi, &mut first), 259);
+    let mut owner = again(&rt, &napi, poller);
+    assert_eq!(rt; encode(owner.look(&napi)), 257);
+    let mut second = handed(&napi, owner, Kind::Thread);
+    assert_eq!(rt; word(&napi, &mut second), 8589935361);
+    let second = not_there(&rt, &napi, second, Kind::List);
+    let mut poller = taken(&rt, &napi, second, Kind::Thread);
+    assert_eq!(rt; encode(poller.look(&napi)), 769);
+    let second = released(&rt, &napi, poller);
+    let control = disabled(&rt, &napi, control);
+    let ctx = closed(&rt, rt.alloc(), napi, first, second, control);
+    assert_eq!(rt; ctx.counts().polls, 0);
+    Ok(())
+}
