@@ -2,8 +2,9 @@
 // list, take, the context out of its slot and back, complete. The same steps on one word, and the same counts on standard
 // output; times and the rest on standard error.
 //
-// usage: word seq_cst|kernel value|pointer TURNS
+// usage: word seq_cst|loops|kernel value|pointer TURNS
 //   seq_cst   every step is sequentially consistent
+//   loops     the same, and each or and each and is a loop of compare-exchanges, as the toolchain of the crates makes them
 //   kernel    the orders of net/core/dev.c: READ_ONCE is relaxed, try_cmpxchg a full barrier where it wins; the handing
 //             over releases and the taking acquires
 //   value     the slot holds the context itself, as crates/napi_word's does
@@ -31,11 +32,17 @@ constexpr u64 SCHEDULES = 1000;
 
 struct SeqCst {
   static constexpr memory_order read = memory_order::memory_order_seq_cst, lost = read, hand = read, take = read;
+  static constexpr bool loops = false;
+};
+
+struct Loops : SeqCst {
+  static constexpr bool loops = true;
 };
 
 struct Kernel {
   static constexpr memory_order read = memory_order::memory_order_relaxed, lost = read;
   static constexpr memory_order hand = memory_order::memory_order_release, take = memory_order::memory_order_acquire;
+  static constexpr bool loops = false;
 };
 
 // What a poll needs: the end of its ring, and what is counted. As large as the context of crates/rx_ring.
@@ -67,7 +74,22 @@ struct Instance {
   alignas(128) std::atomic<u64> word{0};
   alignas(128) typename Slot::Held slot = Slot::make();
 
-  void hand() { word.fetch_or(QUEUED, Order::hand); }
+  // Makes of the word what `change` says, and gives what it was before.
+  template <class Change>
+  u64 exchange(Change change) {
+    u64 seen = word.load();
+    while (!word.compare_exchange_weak(seen, change(seen))) {
+    }
+    return seen;
+  }
+
+  void hand() {
+    if constexpr (Order::loops) {
+      exchange([](u64 seen) { return seen | QUEUED; });
+    } else {
+      word.fetch_or(QUEUED, Order::hand);
+    }
+  }
 
   void schedule(Tally& tally) {
     u64 seen = word.load(Order::read);
@@ -80,7 +102,13 @@ struct Instance {
     }
   }
 
-  bool take() { return word.fetch_and(~QUEUED, Order::take) & QUEUED; }
+  bool take() {
+    if constexpr (Order::loops) {
+      return exchange([](u64 seen) { return seen & ~QUEUED; }) & QUEUED;
+    } else {
+      return word.fetch_and(~QUEUED, Order::take) & QUEUED;
+    }
+  }
 
   void complete(Tally& tally) {
     u64 seen = word.load(Order::read);
@@ -158,6 +186,7 @@ int main(int words, char** word) {
   if (words < 4) return 64;
   const bool kernel = !std::strcmp(word[1], "kernel"), pointer = !std::strcmp(word[2], "pointer");
   const u64 turns = std::strtoull(word[3], nullptr, 10);
+  if (!std::strcmp(word[1], "loops")) return pointer ? run<Loops, Pointer>(turns) : run<Loops, Value>(turns);
   if (kernel) return pointer ? run<Kernel, Pointer>(turns) : run<Kernel, Value>(turns);
   return pointer ? run<SeqCst, Pointer>(turns) : run<SeqCst, Value>(turns);
 }

@@ -1,6 +1,7 @@
 #!/bin/sh
 # Times turns of an instance by its state word: the program of crates/bench_word beside the same turns by hand in C++
-# (bench/word.cc, g++ -O2), with every step sequentially consistent and with the kernel's orders, and with the context
+# (bench/word.cc, g++ -O2), with every step sequentially consistent, the same with the loops of
+# compare-exchanges that the toolchain makes of each or and and, and with the kernel's orders; and with the context
 # itself in the slot or a pointer to it. Once by one thread, once while a second thread schedules all the time. Then the
 # turns of one thread by the typed calls of crates/napi_calls, beside the steps below them.
 # Nine rounds of all programs in turn; the best time of each is shown, and how the program's compares with it.
@@ -21,7 +22,7 @@ trap 'rm -rf "$work"' EXIT
 "$top/scripts/build.sh" bench_word
 g++ -std=c++17 -O2 -pthread -o "$work/by_hand" "$top/bench/word.cc"
 
-programs='napi_word seq_cst-value seq_cst-pointer kernel-value kernel-pointer'
+programs='napi_word seq_cst-value seq_cst-pointer loops-value kernel-value kernel-pointer'
 run() {
     case $1 in
         napi_word) "$top/crates/bench_word/out/bench_word" "$turns" > "$work/all.counts"
