@@ -1,3 +1,5 @@
+pub mod Joined
+pub mod PolledFacts
 pub mod PollFacts
 pub mod RunFacts
 pub mod PlainFacts

@@ -3,6 +3,8 @@ pub mod Thread
 pub mod Plain
 pub mod Run
 pub mod Turn
+pub mod Instance
+pub mod Polled
 pub mod Laws
 pub mod Script
 pub mod Function

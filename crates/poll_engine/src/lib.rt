@@ -10,6 +10,7 @@
 mod bench;
 #[cfg(test)]
 mod crowded;
+mod instance;
 mod laws;
 mod list;
 mod list_ends;
@@ -27,6 +28,7 @@ mod soft;
 mod tests;
 
 pub use bench::{Bench, Next, Once, ShownBench, ThreadReport};
+pub use instance::poll_instance;
 pub use laws::{
     no_other_arrivals, plain_list_afterwards, run_is_function, run_is_shown, runs_agree,
 };
