@@ -20,6 +20,7 @@ mod caller;
 mod control;
 mod fault;
 mod instance;
+mod kept;
 mod polling;
 mod sharing;
 #[cfg(test)]
@@ -31,5 +32,6 @@ pub use between::{Between, Nothing};
 pub use caller::meet;
 pub use fault::{CloseFault, NewFault};
 pub use instance::{CloseBack, NewBack};
+pub use kept::Kept;
 pub use sharing::{is_sent, is_shared};
 pub use types::{Caller, Control, Granted, Marked, Mode, Napi, Off, On, Polling};

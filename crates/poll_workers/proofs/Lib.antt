@@ -1,0 +1,6 @@
+pub mod Zips
+pub mod ListFacts
+pub mod ActSteps
+pub mod SeatFacts
+pub mod RunFacts
+pub mod DealFacts

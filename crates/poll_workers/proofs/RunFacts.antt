@@ -1,0 +1,141 @@
+-- What the parts of a crew come to for its stations.
+use Rattle.std.proofs.Common.{◌≡◌, ◌≢◌, ℕ, ◌+◌, ◌<◌, ◌≤◌, ◌^◌, min, true, List, [], ◌∷◌, ◌++◌, length, refl, sym, ap, ◌∙◌, subst, IsSome, All, arith, rules}
+use Rattle.std.specs.List.{AllByRecursion, AllZip}
+use Rattle.rx_ring.specs.declared.ends.RxIn.{RxIn}
+use Rattle.rx_ring.specs.declared.packet.Packet.{Packet}
+use Rattle.rx_ring.specs.Ends.{SameIn, capacity_of, put_list}
+use Rattle.rx_ring.specs.ReceiveRing.{bytes_of, capped}
+use Rattle.napi_calls.specs.declared.kept.Kept.{Kept}
+use Rattle.napi_calls.specs.declared.types.Caller.{Caller}
+use Rattle.napi_calls.specs.declared.types.Napi.{Napi}
+use Rattle.napi_calls.specs.Instance.{IsSeatOf}
+use Rattle.poll_workers.specs.declared.acts.Act.{Act}
+use Rattle.poll_workers.specs.declared.opening.Loose.{Loose}
+use Rattle.poll_workers.specs.declared.opening.Placed.{Placed}
+use Rattle.poll_workers.specs.declared.station.Station.{Station}
+use Rattle.poll_workers.specs.declared.station.Finished.{Finished}
+use Rattle.poll_workers.specs.declared.seat.Seat.{Seat}
+use Rattle.poll_workers.specs.declared.job.Job.{Job}
+use Rattle.poll_workers.specs.declared.job.Worked.{Worked}
+use Rattle.poll_workers.specs.declared.thread_poller.ThreadSide.{ThreadSide}
+use Rattle.poll_workers.specs.Acts.{after_acts, arrivals}
+use Rattle.poll_workers.specs.Finishes.{IsCallerAt, IsCallerOf, IsDoneAt, IsFinishOf, IsFinished, IsWorkedOf}
+use Rattle.poll_workers.specs.Opens.{IsInputOf, IsKeptLoose, IsKeptSideOf, IsLoose, IsSideOf}
+use Rattle.poll_workers.specs.Seats.{AreSeatsOf}
+use Rattle.poll_workers.specs.SeatKeeping.{AreSameSeats, IsLawful, IsSameSeat}
+use Rattle.poll_workers.specs.Spreads.{IsJobAt, IsJobOf, IsKeptJobOf, IsSeatAt, IsThreadAt}
+use Rattle.poll_workers.specs.Works.{IsWorkOf}
+use Rattle.poll_workers.proofs.ListFacts.{each_index, zip_all, zip_and, zip_both, zip_each, zip_flip, zip_same}
+
+same_ring : (a b c : RxIn) (napi : Napi) → b ≡ a → SameIn b c → IsInputOf a napi → IsInputOf c napi
+same_ring a b c napi e s h = let whole : IsInputOf b napi = subst (λ (r : RxIn). IsInputOf r napi) (sym e) h in (whole.0, whole.1, search rules)
+
+capped_small : (n : ℕ) → n ≤ 4294967295 → capped n ≡ n
+capped_small n h = omega arith
+
+-- a station whose worker made all its acts, and which was ended, is finished
+finished_of : {R D : Type 0} (acts : D → ℕ) (answer : D → ℕ → Act) (after : D → ℕ → D) (station : Station D) (loose : Kept R (Loose D)) (worked : Worked R D) (end : Finished D)
+    → IsLoose station loose.value → IsWorkedOf acts answer after loose worked → worked.done.whole ≡ true → IsFinishOf worked end
+    → IsFinished acts answer after station end
+finished_of {R} {D} acts answer after station loose worked end opened made whole ended =
+    let work = made.1 in
+    let is = made.4 in
+    let done = is.done in
+    let device : work.device ≡ station.device = made.2 ∙ opened.same_device in
+    let nothing : put_list work.rx ≡ [] = ap (λ (r : RxIn). put_list r) made.3 ∙ opened.nothing_put in
+    let none : length (put_list work.rx) ≡ 0 = ap (λ (l : List Packet). length l) nothing in
+    let places : capacity_of work.rx ≡ station.capacity = ap (λ (r : RxIn). capacity_of r) made.3 ∙ opened.places in
+    let same : arrivals answer after work.device (acts work.device) ≡ arrivals answer after station.device (acts station.device) = ap (λ (d : D). arrivals answer after d (acts d)) device in
+    let long : length (arrivals answer after work.device (acts work.device)) ≡ length (arrivals answer after station.device (acts station.device)) = ap (λ (l : List Packet). length l) same in
+    let few = done.few in
+    record {
+      same_number = ended.same_number ∙ is.same_number ∙ opened.same_number;
+      made = ended.same_device ∙ done.made whole ∙ ap (λ (d : D). after_acts after d (acts d)) device;
+      sum = ended.sum (omega arith);
+      put = λ room.
+          let all : put_list worked.done.rx ≡ arrivals answer after station.device (acts station.device) =
+          done.put whole (omega arith) ∙ ap (λ (l : List Packet). l ++ arrivals answer after work.device (acts work.device)) nothing ∙ same in
+          let count : length (put_list worked.done.rx) ≡ length (arrivals answer after station.device (acts station.device)) = ap (λ (l : List Packet). length l) all in (
+            ended.put ∙ capped_small (length (put_list worked.done.rx)) (omega arith) ∙ count,
+            ended.bytes ∙ ap (λ (l : List Packet). capped (bytes_of l)) all,
+          );
+    }
+
+pub all_finished : {R D : Type 0} (acts : D → ℕ) (answer : D → ℕ → Act) (after : D → ℕ → D)
+    (stations : List (Station D)) (loose : List (Kept R (Loose D))) (worked : List (Worked R D)) (ends : List (Finished D))
+    → AllZip IsKeptLoose stations loose → AllZip (IsWorkedOf acts answer after) loose worked
+    → All (λ w. w.done.whole ≡ true) worked → AllZip IsFinishOf worked ends
+    → AllZip (IsFinished acts answer after) stations ends
+all_finished {R} {D} acts answer after stations loose worked ends opened made whole ended =
+    let a = zip_both _ _ _ _ _ opened made in
+    let d = zip_both _ _ _ _ _ a (zip_all _ (λ (w : Worked R D). w.done.whole ≡ true) _ _ whole ended) in
+    zip_same _ _ _ _ (λ s e h. finished_of acts answer after s h.1.0 h.0 e h.1.1 h.1.2 h.2.0 h.2.1) d
+
+-- what the workers of the jobs gave back is of the stations
+worked_of : {R D G : Type 0} (acts : D → ℕ) (answer : D → ℕ → Act) (after : D → ℕ → D) (loose : Kept R (Loose D)) (job : Job R D G) (worked : Worked R D)
+    → IsKeptJobOf loose job → IsWorkOf acts answer after job.napi.now job.number job.work worked → IsWorkedOf acts answer after loose worked
+worked_of {R} {D} acts answer after loose job worked given made =
+    (job.napi.now, job.work, given.same_device, given.same_rx, rw (← given.same_number) made)
+
+pub all_worked : {R D G : Type 0} (acts : D → ℕ) (answer : D → ℕ → Act) (after : D → ℕ → D)
+    (loose : List (Kept R (Loose D))) (jobs : List (Job R D G)) (worked : List (Worked R D))
+    → AllZip IsKeptJobOf loose jobs
+    → AllZip (λ (j : Job R D G) w. IsWorkOf acts answer after j.napi.now j.number j.work w) jobs worked
+    → AllZip (IsWorkedOf acts answer after) loose worked
+all_worked acts answer after loose jobs worked given made =
+    zip_same _ _ _ _ (λ k w h. worked_of acts answer after k h.0 w h.1 h.2) (zip_both _ _ _ _ _ given made)
+
+done_at : {R D G : Type 0} (acts : D → ℕ) (answer : D → ℕ → Act) (after : D → ℕ → D) (placed : Kept R Placed) (loose : Kept R (Loose D)) (job : Job R D G) (worked : Worked R D)
+    → IsKeptSideOf loose placed → IsKeptJobOf loose job → IsJobAt placed job → IsWorkOf acts answer after job.napi.now job.number job.work worked
+    → IsDoneAt worked placed
+done_at acts answer after placed loose job worked side given at made = record {
+  seats = subst (λ (n : Napi). AreSeatsOf n worked.done.seats.value) at made.done.seats;
+  ring = same_ring loose.value.rx job.work.rx worked.done.rx placed.value.napi given.same_rx made.done.ring side.ring;
+  home = side.home;
+}
+
+-- what the workers gave back is of the instances that stayed behind
+pub all_done_at : {R D G : Type 0} (acts : D → ℕ) (answer : D → ℕ → Act) (after : D → ℕ → D)
+    (placed : List (Kept R Placed)) (loose : List (Kept R (Loose D))) (jobs : List (Job R D G)) (worked : List (Worked R D))
+    → AllZip IsKeptSideOf loose placed → AllZip IsKeptJobOf loose jobs → AllZip IsJobAt placed jobs
+    → AllZip (λ (j : Job R D G) w. IsWorkOf acts answer after j.napi.now j.number j.work w) jobs worked
+    → AllZip IsDoneAt worked placed
+all_done_at acts answer after placed loose jobs worked sides given at made =
+    let a = zip_both _ _ _ _ _ (zip_flip _ _ _ sides) given in
+    let b = zip_both _ _ _ _ _ (zip_and _ _ _ _ a at) made in
+    zip_flip _ _ _ (zip_same _ _ _ _ (λ p w h.
+    let j = h.0 in
+    let k = h.1.0.0 in
+    done_at acts answer after p k j w h.1.0.1 h.1.0.2 h.1.1 h.2) b)
+
+seat_at : {R : Type 0} (placed : Kept R Placed) (seat after : Seat) (caller : Kept R Caller) → IsSeatAt placed seat → IsSameSeat seat after → IsCallerOf after caller → IsCallerAt caller placed
+seat_at placed seat after caller at same of = subst (λ (n : Napi). IsSeatOf n caller.value.pass) (ap (λ b. b.now) same.napi ∙ at.0) of
+
+-- the callers of the poller's seats are of the instances that stayed behind
+pub all_pollers_at : {R : Type 0} (placed : List (Kept R Placed)) (seats afters : List Seat) (callers : List (Kept R Caller))
+    → AllZip IsSeatAt placed seats → AreSameSeats seats afters → AllZip IsCallerOf afters callers → AllZip IsCallerAt callers placed
+all_pollers_at placed seats afters callers at same of =
+    let a = zip_both _ _ _ _ _ at same in
+    let b = zip_both _ _ _ _ _ a of in
+    zip_flip _ _ _ (zip_same _ _ _ _ (λ p k h. seat_at p h.1.0 h.0 k h.1.1 h.1.2 h.2) b)
+
+-- they are there again
+pub all_there : {R : Type 0} (placed : List (Kept R Placed)) (seats afters : List Seat) → AllZip IsSeatAt placed seats → AreSameSeats seats afters → AllByRecursion (λ s. IsSome s.caller) afters
+all_there placed seats afters at same =
+    let a = zip_both _ _ _ _ _ at same in
+    zip_each _ _ _ _ (λ p s h. h.2.caller h.1.1) a
+
+-- so are those of the instances' threads
+pub all_threads_at : {R G : Type 0} (placed : List (Kept R Placed)) (sides : List (ThreadSide R G)) (callers : List (Kept R Caller))
+    → AllZip IsThreadAt placed sides → AllZip (λ (side : ThreadSide R G) caller. IsSeatOf side.napi.now caller.value.pass) sides callers → AllZip IsCallerAt callers placed
+all_threads_at placed sides callers at of =
+    zip_flip _ _ _ (zip_same _ _ _ _ (λ p k h. subst (λ (n : Napi). IsSeatOf n k.value.pass) h.1.napi h.2) (zip_both _ _ _ _ _ at of))
+
+-- all jobs may be done, and all sides may be run
+pub all_can_work : {R D G : Type 0} (loose : List (Kept R (Loose D))) (jobs : List (Job R D G)) → AllZip IsKeptJobOf loose jobs → All (λ (j : Job R D G). AreSeatsOf j.napi.now j.work.seats.value) jobs
+all_can_work loose jobs given = each_index _ _ (zip_each _ _ _ _ (λ k j h. h.seats) given)
+
+pub all_can_poll : {R G : Type 0} (placed : List (Kept R Placed)) (sides : List (ThreadSide R G)) → AllZip IsThreadAt placed sides
+    → All (λ (s : ThreadSide R G). IsSeatOf s.napi.now s.caller.value.pass × (s.number ≤ 16) × IsLawful s.pace) sides
+all_can_poll {R} {G} placed sides at =
+    each_index _ _ (zip_each IsThreadAt (λ (s : ThreadSide R G). IsSeatOf s.napi.now s.caller.value.pass × (s.number ≤ 16) × IsLawful s.pace) _ _ (λ p s h. (h.seat, h.name, h.lawful)) at)

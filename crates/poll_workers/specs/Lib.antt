@@ -1,0 +1,10 @@
+pub mod Acts
+pub mod Seats
+pub mod SeatKeeping
+pub mod Crowds
+pub mod Opens
+pub mod Works
+pub mod Spreads
+pub mod Finishes
+pub mod Deals
+pub mod Tasks

@@ -1,0 +1,24 @@
+//! Interrupt workers, pollers and thread pollers, each in a thread of its own, over shared instances.
+#![tactic(auto)]
+
+mod acts;
+mod crew;
+mod dealing;
+mod gathering;
+mod job;
+mod opening;
+mod poller;
+mod polls;
+mod run;
+mod seat;
+mod serving;
+mod signals;
+mod spreading;
+mod station;
+mod tasks;
+mod thread_poller;
+mod worker;
+
+pub use acts::{Act, Device, Gate, OpenGate};
+pub use run::run_workers;
+pub use station::{Finished, Pace, Station, WorkFault};

@@ -1,0 +1,196 @@
+//! How the instances of stations are made and closed.
+
+ghost use Rattle.std.specs.Prelude.{◌≡◌, ◌≤◌, ◌+◌, ℕ, IfOk, length, slice_get, Some, vec_items, vec_len, vec_capacity};
+ghost use Rattle.std.specs.List.{All, AllZip};
+ghost use Rattle.rx_ring.specs.Ends.{ring_name};
+ghost use Rattle.napi_calls.specs.Instance.{IsSeatOf, callers_of, ring_of_instance};
+ghost use Rattle.napi_calls.specs.declared.types.Caller.{Caller};
+ghost use Rattle.poll_workers.specs.Opens.{IsHome, IsKeptLoose, IsKeptSideOf, IsLoose, IsSideOf, IsStation};
+
+use crate::signals::{Bell, Pause};
+use crate::station::Station;
+use napi_calls::{Caller, Control, Kept, Napi, NewBack, Off};
+use rx_ring::{RxCtx, RxIn, ring};
+use std::alloc::{AllocError, Global};
+use std::sync::Wait;
+
+/// What stays where it is of an instance while its threads run: the instance, the bell of its own thread, where it has one,
+/// and room for its three callers. It must be spent.
+pub(crate) struct Placed {
+    pub(crate) napi: Napi,
+    pub(crate) bell: Option<Bell>,
+    pub(crate) room: Vec<Caller>,
+}
+
+/// What goes to the threads of an instance. It must be spent.
+pub(crate) struct Loose<D> {
+    pub(crate) number: u32,
+    pub(crate) device: D,
+    pub(crate) rx: RxIn,
+    pub(crate) control: Control<Off>,
+    pub(crate) caller: Caller,
+    pub(crate) poller: Caller,
+    pub(crate) thread: Caller,
+    /// What its own thread sleeps on, where it has one.
+    pub(crate) pause: Option<Pause>,
+}
+
+impl Placed {
+    /// Closes the instance, with its three callers (`netif_napi_del`).
+    pub(crate) fn close(
+        self,
+        caller: Caller,
+        poller: Caller,
+        thread: Caller,
+        control: Control<Off>,
+    ) -> RxCtx
+        requires home { IsHome self }
+        requires callers { IsSeatOf self.napi caller.pass × IsSeatOf self.napi poller.pass × IsSeatOf self.napi thread.pass }
+        requires control { IsSeatOf self.napi control.pass }
+        ensures { ring_name result ≡ ring_of_instance self.napi }
+    {
+        let Placed {
+            napi,
+            bell: _,
+            room,
+        } = self;
+        let mut callers = room;
+        callers.push_reserved(caller);
+        callers.push_reserved(poller);
+        callers.push_reserved(thread);
+        let closed = napi.close(callers, control);
+        let Ok(ctx) = closed else { unreachable!() };
+        ctx
+    }
+}
+
+// The next caller, of an instance's callers.
+fn next(napi: &Napi, callers: &mut Vec<Caller>) -> Caller
+    requires some { 1 ≤ length callers.old.items }
+    requires seats { (k : ℕ) (c : Caller) → slice_get callers.old.items k ≡ Some c → IsSeatOf napi.now c.pass }
+    ensures caller { IsSeatOf napi.now result.pass }
+    ensures left { length callers.new.items + 1 ≡ length callers.old.items }
+    ensures seats { (k : ℕ) (c : Caller) → slice_get callers.new.items k ≡ Some c → IsSeatOf napi.now c.pass }
+    ensures room { vec_capacity callers.new ≡ vec_capacity callers.old }
+{
+    let popped = callers.pop();
+    let Some(caller) = popped else { unreachable!() };
+    caller
+}
+
+// The bell of an instance's own thread, and what that sleeps on, where it is to have one.
+fn thread_bell(alloc: Global, thread: bool) -> Result<(Option<Bell>, Option<Pause>), AllocError> {
+    if !thread {
+        return Ok((None, None));
+    }
+    let (bell, parker) = Bell::new(alloc)?;
+    Ok((Some(bell), Some(Pause::new(parker))))
+}
+
+// The instance of a station.
+fn open<D: Drop>(alloc: Global, station: Station<D>) -> Result<(Placed, Loose<D>), AllocError>
+    requires { IsStation station }
+    ensures loose { IfOk result (λ r. IsLoose station r.1) }
+    ensures side { IfOk result (λ r. IsSideOf r.1 r.0) }
+{
+    let Station {
+        number,
+        capacity,
+        thread,
+        device,
+    } = station;
+    let (bell, pause) = thread_bell(alloc, thread)?;
+    let Ok((rx, ctx)) = ring(alloc, capacity) else {
+        return Err(AllocError);
+    };
+    let (napi, mut callers, control) = match Napi::new(alloc, ctx, 3) {
+        Ok(made) => made,
+        Err(NewBack { fault: _, ctx: _ }) => return Err(AllocError),
+    };
+    let thread = next(&napi, &mut callers);
+    let poller = next(&napi, &mut callers);
+    let caller = next(&napi, &mut callers);
+    let placed = Placed {
+        napi,
+        bell,
+        room: callers,
+    };
+    let loose = Loose {
+        number,
+        device,
+        rx,
+        control,
+        caller,
+        poller,
+        thread,
+        pause,
+    };
+    Ok((placed, loose))
+}
+
+// Closes an instance that no thread has used.
+fn shut<D: Drop>(placed: Placed, loose: Loose<D>)
+    requires { IsSideOf loose placed }
+{
+    let Loose {
+        number: _,
+        device: _,
+        rx: _,
+        control,
+        caller,
+        poller,
+        thread,
+        pause: _,
+    } = loose;
+    let _ctx = placed.close(caller, poller, thread, control);
+}
+
+/// Closes instances that no thread has used.
+pub(crate) fn shut_all<R: Wait + Drop, D: Drop>(
+    placed: Vec<Kept<R, Placed>>,
+    loose: Vec<Kept<R, Loose<D>>>,
+)
+    requires { AllZip IsKeptSideOf (vec_items loose) (vec_items placed) }
+{
+    let mut others = loose.into_iter();
+    let mut all = placed.into_iter();
+    while let Some(other) = others.next() {
+        let Some(one) = all.next() else {
+            unreachable!()
+        };
+        shut(one.open(), other.open());
+    }
+}
+
+/// Makes the instances of all stations. There is room for them. With no memory for all of them those that were made are
+/// closed.
+pub(crate) fn open_all<R: Wait + Drop + Copy, D: Drop>(
+    rt: R,
+    alloc: Global,
+    stations: Vec<Station<D>>,
+    placed_room: Vec<Kept<R, Placed>>,
+    loose_room: Vec<Kept<R, Loose<D>>>,
+) -> Result<(Vec<Kept<R, Placed>>, Vec<Kept<R, Loose<D>>>), AllocError>
+    requires stations { All IsStation (vec_items stations) }
+    requires empty { (vec_len placed_room ≡ 0) × (vec_len loose_room ≡ 0) }
+    requires room { (vec_len stations ≤ vec_capacity placed_room) × (vec_len stations ≤ vec_capacity loose_room) }
+    ensures loose { IfOk result (λ r. AllZip IsKeptLoose (vec_items stations) (vec_items r.1)) }
+    ensures sides { IfOk result (λ r. AllZip IsKeptSideOf (vec_items r.1) (vec_items r.0)) }
+    ensures len { IfOk result (λ r. (vec_len r.0 ≡ vec_len stations) × (vec_len r.1 ≡ vec_len stations)) }
+{
+    let mut placed = placed_room;
+    let mut loose = loose_room;
+    for station in stations {
+        match open(alloc, station) {
+            Ok((one, other)) => {
+                placed.push_reserved(Kept::new(rt, one));
+                loose.push_reserved(Kept::new(rt, other));
+            }
+            Err(error) => {
+                shut_all(placed, loose);
+                return Err(error);
+            }
+        }
+    }
+    Ok((placed, loose))
+}

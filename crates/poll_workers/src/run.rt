@@ -1,0 +1,137 @@
+//! A run of all stations.
+
+ghost use Rattle.std.specs.Prelude.{◌≡◌, ◌≤◌, ◌<◌, ◌+◌, IfOk, Ok, vec_items, vec_len, vec_capacity};
+ghost use Rattle.std.specs.List.{All, AllZip};
+ghost use Rattle.std.specs.Thread.{IsSend, IsSync};
+ghost use Rattle.poll_workers.specs.Deals.{IsDealt};
+ghost use Rattle.poll_workers.specs.Finishes.{IsFinished};
+ghost use Rattle.poll_workers.specs.Opens.{IsStation};
+ghost use Rattle.poll_workers.specs.SeatKeeping.{IsLawful};
+
+use crate::acts::{Device, Gate};
+use crate::crew::run_crew;
+use crate::dealing::{Dealt, deal, merge};
+use crate::signals::Signals;
+use crate::spreading::Setting;
+use crate::station::{Finished, Pace, Station, WorkFault};
+use std::alloc::{AllocError, Global};
+use std::sync::Wait;
+use std::thread::Threads;
+
+// What was begun. Where memory was refused for it no further act is made.
+fn begun<'g, 's, R, G, T>(
+    setting: &Setting<'g, 's, R, G>,
+    begun: Result<T, AllocError>,
+) -> Result<T, WorkFault>
+    ensures { IfOk result (λ x. begun ≡ Ok x) }
+{
+    match begun {
+        Ok(begun) => Ok(begun),
+        Err(_) => {
+            setting.signals.stop();
+            Err(WorkFault::OutOfMemory)
+        }
+    }
+}
+
+// Deals the stations, and makes room for what they give.
+fn deal_all<D: Drop>(
+    alloc: Global,
+    stations: Vec<Station<D>>,
+    number: u32,
+    pollers: u32,
+) -> Result<(Dealt<D>, Vec<Finished<D>>), AllocError>
+    requires { 1 ≤ pollers }
+    ensures dealt { IfOk result (λ r. IsDealt (vec_items stations) (vec_items r.0.order) (vec_items r.0.mine) (vec_items r.0.others)) }
+    ensures room { IfOk result (λ r. (vec_len r.1 ≡ 0) × (vec_len r.0.order ≤ vec_capacity r.1)) }
+{
+    let room = Vec::with_capacity(alloc, stations.len())?;
+    Ok((deal(alloc, stations, number, pollers)?, room))
+}
+
+// The crews of the pollers from this one on: the first one's runs while those of the others do. Where memory is refused no
+// further act is made.
+fn run_crews<'g, 's, R, D, G>(
+    setting: &Setting<'g, 's, R, G>,
+    alloc: Global,
+    number: u32,
+    pollers: u32,
+    stations: Vec<Station<D>>,
+) -> Result<Vec<Finished<D>>, WorkFault>
+where
+    R: Threads + Wait + Copy + Drop + Send + Sync,
+    D: Device + Drop + Send,
+    G: Gate + Sync,
+    requires pollers { (number < pollers) × (pollers ≤ 8) }
+    requires pace { IsLawful setting.now.pace }
+    requires stations { All IsStation (vec_items stations) }
+    requires count { vec_len stations ≤ 16 }
+    ensures { IfOk result (λ all. AllZip (IsFinished D.acts D.answer D.after) (vec_items stations) (vec_items all)) }
+{
+    if stations.is_empty() {
+        return Ok(Vec::new(alloc));
+    }
+    if number + 1 == pollers {
+        let (finished, ()) = begun(setting, run_crew(setting, alloc, number, stations, || ()))?;
+        return finished;
+    }
+    let (dealt, room) = begun(setting, deal_all(alloc, stations, number, pollers))?;
+    let Dealt {
+        mine,
+        others,
+        order,
+    } = dealt;
+    if mine.is_empty() {
+        let others = run_crews(setting, alloc, number + 1, pollers, others)?;
+        return Ok(merge(order, Vec::new(alloc), others, room));
+    }
+    let later = || -> Result<Vec<Finished<D>>, WorkFault>
+        requires { IsSend R.row × IsSync R.row × IsSend D.row × IsSync G.row × (number + 1 < pollers) × (pollers ≤ 8) × IsLawful setting.now.pace × All IsStation (vec_items others) × (vec_len others ≤ 16) }
+        ensures { IfOk result (λ all. AllZip (IsFinished D.acts D.answer D.after) (vec_items others) (vec_items all)) }
+    { run_crews(setting, alloc, number + 1, pollers, others) };
+    let (finished, others) = begun(setting, run_crew(setting, alloc, number, mine, later))?;
+    let others = others?;
+    Ok(merge(order, finished?, others, room))
+}
+
+/// Runs the devices of the stations, each in a thread of its own that makes its acts in order, as interrupts of a shared
+/// instance, with so many pollers, 1 to 8, and with the threads of those stations that have one. At the end each device is
+/// disabled, its instance closed, and its ring read off. The answer has the devices in the order of the stations.
+///
+/// The numbers of the stations are all different. Station `number` is polled by poller `(number - 1) mod pollers`.
+///
+/// Refused by `OutOfMemory` (1) where memory is, by `SpawnFailed` (3) where a thread can't be started, and by `GateShut` (2)
+/// where the gate answers false. All threads that were started have ended then, and all instances are closed.
+pub fn run_workers<R, D, G>(
+    rt: &R,
+    alloc: Global,
+    stations: Vec<Station<D>>,
+    pollers: u32,
+    pace: Pace,
+    gate: &G,
+) -> Result<Vec<Finished<D>>, WorkFault>
+where
+    R: Threads + Wait + Sync,
+    D: Device + Drop + Send,
+    G: Gate + Sync,
+    requires stations { All IsStation (vec_items stations) }
+    requires count { vec_len stations ≤ 16 }
+    requires pollers { (1 ≤ pollers) × (pollers ≤ 8) }
+    requires pace { IsLawful pace }
+    // Each device made all its acts, each once and in order; what was put was polled or is left.
+    ensures finished { IfOk result (λ all. AllZip (IsFinished D.acts D.answer D.after) (vec_items stations) (vec_items all)) }
+{
+    let signals = Signals::new();
+    let setting = Setting {
+        rt,
+        gate,
+        signals: &signals,
+        pace,
+    };
+    match run_crews(&setting, alloc, 0, pollers, stations) {
+        Err(WorkFault::OutOfMemory) => Err(WorkFault::OutOfMemory),
+        _ if signals.is_refused() => Err(WorkFault::SpawnFailed),
+        _ if signals.is_stopped() => Err(WorkFault::GateShut),
+        finished => finished,
+    }
+}
