@@ -1,6 +1,7 @@
 pub mod Joined
 pub mod PolledFacts
 pub mod PollFacts
+pub mod PollingFacts
 pub mod RunFacts
 pub mod PlainFacts
 pub mod ScriptFacts

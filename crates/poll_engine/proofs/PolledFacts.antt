@@ -11,9 +11,9 @@ use Rattle.napi_calls.specs.Made.{Made}
 use Rattle.napi_calls.proofs.Making.{more}
 use Rattle.poll_engine.specs.declared.bench.Next.{Next}
 use Rattle.poll_engine.specs.declared.bench.Next.TheVariants.{Absent, Gone, Again, Repoll}
-use Rattle.poll_engine.specs.declared.instance.Polled.{Polled}
-use Rattle.poll_engine.specs.declared.instance.Polled.TheVariants.{Kept, Over}
-use Rattle.poll_engine.specs.Instance.{GivesBatch, GivesOf, LooksAfter, LooksAndEndsBy, PollsOnceBy}
+use Rattle.poll_engine.specs.declared.shared_instance.Polled.{Polled}
+use Rattle.poll_engine.specs.declared.shared_instance.Polled.TheVariants.{Kept, Over}
+use Rattle.poll_engine.specs.SharedPolling.{GivesBatch, GivesOf, LooksAfter, LooksAndEndsBy, PollsOnceBy}
 use Rattle.poll_engine.specs.Polled.{Ends, Leaves, LetsGo, next_after}
 use Rattle.poll_engine.proofs.Joined.{joined, end_made, filled_behind}
 

@@ -3,7 +3,8 @@ pub mod Thread
 pub mod Plain
 pub mod Run
 pub mod Turn
-pub mod Instance
+pub mod Polling
+pub mod SharedPolling
 pub mod Polled
 pub mod Laws
 pub mod Script

@@ -7,9 +7,9 @@ use Rattle.napi_word.specs.declared.table.Pass.{Pass}
 use Rattle.napi_calls.specs.Made.{Made}
 use Rattle.poll_engine.specs.declared.bench.Next.{Next}
 use Rattle.poll_engine.specs.declared.bench.Next.TheVariants.{Repoll}
-use Rattle.poll_engine.specs.declared.instance.Polled.{Polled}
-use Rattle.poll_engine.specs.declared.instance.Polled.TheVariants.{Kept, Over}
-use Rattle.poll_engine.specs.Instance.{EndsBy, LooksAfter, LooksAndEndsBy}
+use Rattle.poll_engine.specs.declared.shared_instance.Polled.{Polled}
+use Rattle.poll_engine.specs.declared.shared_instance.Polled.TheVariants.{Kept, Over}
+use Rattle.poll_engine.specs.SharedPolling.{EndsBy, LooksAfter, LooksAndEndsBy}
 
 abbrev pub seat_after : Polled → Pass
 seat_after (Kept w) = w.pass

@@ -2,7 +2,7 @@ use Rattle.std.proofs.Common.{◌∙◌, sym, subst, ne_eqb, eq-eqb, false, true
 use Rattle.napi_word.specs.declared.table.Pass.{Pass}
 use Rattle.poll_engine.specs.Polled.{Leaves}
 use Rattle.poll_engine.proofs.PolledFacts.{driver_ends, core_ends}
-use Rattle.poll_engine.proofs.instance.poll_held.Goals as goal
+use Rattle.poll_engine.proofs.shared_instance.poll_held.Goals as goal
 
 pub returns-then-work-weight-clause-leaves : goal.returns-then-work-weight-clause-leaves
 returns-then-work-weight-clause-leaves g c =

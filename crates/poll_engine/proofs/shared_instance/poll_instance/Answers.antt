@@ -1,5 +1,5 @@
 use Rattle.poll_engine.proofs.PolledFacts.{once_made, once_gives}
-use Rattle.poll_engine.proofs.instance.poll_instance.Goals as goal
+use Rattle.poll_engine.proofs.shared_instance.poll_instance.Goals as goal
 
 pub returns-clause-made : goal.returns-clause-made
 returns-clause-made g c =
