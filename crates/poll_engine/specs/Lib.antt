@@ -5,8 +5,8 @@ pub mod Run
 pub mod Turn
 pub mod Polling
 pub mod SharedPolling
-pub mod Polled
 pub mod Laws
+pub mod Seat
 pub mod Script
 pub mod Function
 pub mod PushOrder

@@ -21,6 +21,7 @@ mod plain;
 mod polling;
 mod run;
 mod scripted;
+mod seat;
 mod shared;
 mod shared_instance;
 #[cfg(test)]
@@ -42,5 +43,5 @@ pub use plain::PlainList;
 pub use polling::{poll_once_of, poll_thread_of};
 pub use run::{RunReport, run_softirq};
 pub use shared::SharedList;
-pub use shared_instance::poll_instance;
+pub use shared_instance::{poll_instance, poll_instance_by_thread};
 pub use soft::SoftList;
