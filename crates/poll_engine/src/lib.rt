@@ -11,6 +11,8 @@ mod bench;
 #[cfg(test)]
 mod crowded;
 mod instance;
+#[cfg(test)]
+mod instance_tests;
 mod laws;
 mod list;
 mod list_ends;
