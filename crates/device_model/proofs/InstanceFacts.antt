@@ -205,8 +205,8 @@ module _ (P : Type 0) where
         let whole = m ∙ goes_from n weight once.next p (goes-next once.next n goes) there in
         let on = subst (λ (o : Once). goes_on o.next (n == 0) ≡ true) is.0 goes in
         ap (λ (x : List Once × DeviceView). (once ∷ x.0, x.1)) whole ∙ sym (polls-more n weight t on
-          ∙ ap (λ (o : Once). (o ∷ (thread_polls n weight (retaken o.next (after_poll THREAD weight t).1)).0, (thread_polls n weight (retaken o.next (after_poll THREAD weight t).1)).1)) (sym is.0)
-          ∙ ap (λ (x : DeviceView). (once ∷ (thread_polls n weight (retaken once.next x)).0, (thread_polls n weight (retaken once.next x)).1)) (sym is.1))
+        ∙ ap (λ (o : Once). (o ∷ (thread_polls n weight (retaken o.next (after_poll THREAD weight t).1)).0, (thread_polls n weight (retaken o.next (after_poll THREAD weight t).1)).1)) (sym is.0)
+        ∙ ap (λ (x : DeviceView). (once ∷ (thread_polls n weight (retaken once.next x)).0, (thread_polls n weight (retaken once.next x)).1)) (sym is.1))
 
   thread_is : (weight n : ℕ) (held : Bool) (d : DeviceView) (packets : P) (polls : List Once) (last : P) (e : DeviceView) → (held ≡ true → d.napi.place ≡ Polling THREAD)
       → By-thread weight (suc n) held d packets polls last e → (polls, e) ≡ From held (suc n) weight d
