@@ -6,5 +6,6 @@ pub mod NumeralFacts
 pub mod RecordsFacts
 pub mod RowsFacts
 pub mod SwitchFacts
+pub mod InstanceFacts
 pub mod ThreadFacts
 pub mod Waiting

@@ -16,3 +16,4 @@ pub mod Switch
 pub mod Trace
 pub mod Transmit
 pub mod Waiting
+pub mod Instance

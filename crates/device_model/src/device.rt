@@ -4,6 +4,7 @@ ghost use Rattle.std.specs.Prelude.{◌≡◌, ◌≢◌, ◌≤◌, true, lengt
 ghost use Rattle.device_model.specs.Device.{after_disable, after_enable, after_packet, after_poll, after_request, after_threaded, completed, ended, followed, given, goes_on, handed_over, is_control, is_pending, kind_for, let_go, opened, polled, polled_by_thread, polled_once, settled, state_of};
 ghost use Rattle.device_model.specs.Counts.{counts_of};
 ghost use Rattle.device_model.specs.declared.device.TheConstants.{THREAD};
+ghost use Rattle.device_model.specs.Instance.{IsPolled};
 ghost use Rattle.device_model.specs.Range.{IsWithin};
 ghost use Rattle.poll_engine.specs.Thread.{IsThreadPolling};
 ghost use Rattle.napi_model.specs.declared.state.Place.TheVariants.{Granted, Polling, ToThread};
@@ -15,7 +16,7 @@ use crate::counts::{DeviceCounts, DeviceState};
 use crate::transmit::TxCounts;
 use circular_buffer::HeapCircularBuffer;
 use napi_model::{Done, Kind, Place, Prep, SerialNapi, encode};
-use poll_engine::{Next, Once, ThreadReport};
+use poll_engine::{Instance, Once, ThreadReport, poll_once_of, poll_thread_of};
 use std::alloc::{AllocError, Global};
 use std::marker::Model;
 
@@ -267,100 +268,25 @@ impl Device {
         count as u32
     }
 
-    // Completes the instance, and hands it over again where a request was missed.
-    #[tactic(auto, unfolding(crate::specs::Device::completed))]
-    fn complete(&mut self, poller: u32) -> Next
-        requires { self.old.napi.place ≡ Polling poller }
-        ensures device { self.new ≡ (completed poller self.old).1 }
-        ensures next { result ≡ (completed poller self.old).0 }
-        ensures kept { result ≢ Repoll }
-        ensures handed { result ≡ Again kind.Thread → self.new.napi.place ≡ ToThread }
+    // Who polls it.
+    fn poller(&self) -> u32
+        requires { IsPolled self.now }
+        ensures { self.now.napi.place ≡ Polling result }
     {
-        match self.napi.complete(poller) {
-            Done::Released => {
-                self.released = self.released.saturating_add(1);
-                Next::Gone
-            }
-            Done::Again => {
-                self.again = self.again.saturating_add(1);
-                Next::Again(self.hand_over(poller))
-            }
+        match self.napi.place() {
+            Place::Polling(poller) => poller,
+            _ => unreachable!(),
         }
-    }
-
-    // Ends a poll that gave this many packets. An instance that is to be polled again stays in its poller's hands.
-    #[tactic(auto, unfolding(crate::specs::Device::ended))]
-    fn end(&mut self, poller: u32, work: u32, weight: u32) -> Next
-        requires { self.old.napi.place ≡ Polling poller }
-        ensures device { self.new ≡ (ended poller work weight self.old).1 }
-        ensures next { result ≡ (ended poller work weight self.old).0 }
-        ensures kept { result ≡ Repoll → self.new.napi.place ≡ Polling poller }
-        ensures handed { result ≡ Again kind.Thread → self.new.napi.place ≡ ToThread }
-    {
-        if work == weight && !self.napi.flags().disable {
-            return Next::Repoll;
-        }
-        self.complete(poller)
-    }
-
-    // One poll of an instance that is in its poller's hands (`__napi_poll`).
-    #[tactic(auto, unfolding(crate::specs::Device::polled))]
-    fn poll(&mut self, poller: u32, weight: u32) -> Once
-        requires weight { IsWithin 1 64 weight }
-        requires place { self.old.napi.place ≡ Polling poller }
-        ensures device { self.new ≡ (after_poll poller weight self.old).1 }
-        ensures once { result ≡ (after_poll poller weight self.old).0 }
-        ensures bound { result.work ≤ weight }
-        ensures kept { result.next ≡ Repoll → self.new.napi.place ≡ Polling poller }
-        ensures handed { result.next ≡ Again kind.Thread → self.new.napi.place ≡ ToThread }
-    {
-        let work = self.receive(weight);
-        let next = self.end(poller, work, weight);
-        Once { work, next }
     }
 
     /// One poll from the list. An instance that is to be polled again is handed to the list.
-    #[tactic(auto, unfolding(crate::specs::Device::polled_once))]
     pub(crate) fn poll_once(&mut self, weight: u32) -> Once
         requires { IsWithin 1 64 weight }
         ensures device { self.new ≡ (polled_once weight self.old).1 }
         ensures once { result ≡ (polled_once weight self.old).0 }
         ensures bound { result.work ≤ weight }
     {
-        if !self.napi.take(POLLER, Kind::List) {
-            return Once {
-                work: 0,
-                next: Next::Absent,
-            };
-        }
-        let once = self.poll(POLLER, weight);
-        if once.next == Next::Repoll {
-            self.napi.hand(POLLER, Kind::List);
-        }
-        once
-    }
-}
-
-impl Device {
-    // What follows a poll by the thread: it polls the instance once more, as the answer says, unless this was the last
-    // poll that it may make. An instance that it may not poll again goes to the list.
-    fn follow(&mut self, next: Next, is_last: bool) -> bool
-        requires kept { next ≡ Repoll → self.old.napi.place ≡ Polling THREAD }
-        requires handed { next ≡ Again kind.Thread → self.old.napi.place ≡ ToThread }
-        ensures device { self.new ≡ followed next is_last self.old }
-        ensures goes_on { result ≡ goes_on next is_last }
-        ensures place { result ≡ true → self.new.napi.place ≡ Polling THREAD }
-    {
-        match next {
-            Next::Repoll => {
-                if is_last {
-                    self.napi.hand(THREAD, Kind::List);
-                }
-                !is_last
-            }
-            Next::Again(Kind::Thread) => !is_last && self.napi.take(THREAD, Kind::Thread),
-            _ => false,
-        }
+        poll_once_of(self, weight, &mut ())
     }
 
     /// The thread takes the instance, if it was handed to it, and polls it at most so many times.
@@ -370,20 +296,63 @@ impl Device {
         ensures device { self.new ≡ (polled_by_thread most weight self.old).1 }
         ensures report { IsThreadPolling weight most (polled_by_thread most weight self.old).0 result }
     {
-        let mut report = ThreadReport {
-            polls: 0,
-            work: 0,
-            next: Next::Absent,
-        };
-        let mut taken = self.napi.take(THREAD, Kind::Thread);
-        while taken {
-            let once = self.poll(THREAD, weight);
-            report.polls += 1;
-            report.work += once.work;
-            report.next = once.next;
-            taken = self.follow(once.next, report.polls == most);
+        poll_thread_of(self, weight, most, &mut ())
+    }
+}
+
+impl Instance for Device {
+    ghost use Rattle.device_model.specs.Instance.{Completes, Gives, IsPolled, Looks, Requeues, Takes};
+
+    type Packets = ();
+
+    ghost rests = { λ d. Unit };
+
+    ghost in_hand = { IsPolled };
+
+    ghost takes = { Takes };
+
+    ghost gives = { λ d weight packets work e. Gives d weight work e };
+
+    ghost looks = { Looks };
+
+    ghost requeues = { Requeues };
+
+    ghost completes = { Completes };
+
+    fn take(&mut self, kind: Kind) -> bool {
+        match kind {
+            Kind::List => self.napi.take(POLLER, Kind::List),
+            Kind::Thread => self.napi.take(THREAD, Kind::Thread),
         }
-        report
+    }
+
+    #[tactic(auto, unfolding(crate::specs::Device::polled))]
+    fn poll(&mut self, weight: u32, _packets: &mut ()) -> u32 {
+        self.receive(weight)
+    }
+
+    fn is_disabling(&mut self) -> bool {
+        self.napi.flags().disable
+    }
+
+    fn requeue(&mut self) {
+        let poller = self.poller();
+        self.napi.hand(poller, Kind::List);
+    }
+
+    #[tactic(auto, unfolding(crate::specs::Device::completed))]
+    fn complete(&mut self) -> Option<Kind> {
+        let poller = self.poller();
+        match self.napi.complete(poller) {
+            Done::Released => {
+                self.released = self.released.saturating_add(1);
+                None
+            }
+            Done::Again => {
+                self.again = self.again.saturating_add(1);
+                Some(self.hand_over(poller))
+            }
+        }
     }
 }
 

@@ -9,7 +9,7 @@ use Rattle.napi_calls.specs.Made.{Made}
 use Rattle.napi_calls.proofs.Making.{more}
 use Rattle.poll_engine.specs.declared.bench.Next.{Next}
 use Rattle.poll_engine.specs.declared.bench.Next.TheVariants.{Absent, Gone, Again, Repoll}
-use Rattle.poll_engine.specs.Instance.{CompletesBy, EndsBy, HandsTo}
+use Rattle.poll_engine.specs.SharedPolling.{CompletesBy, EndsBy, HandsTo}
 
 filled : (os : List Operation) (o : Operation) (ps : List Operation) → os ++ o ∷ ps ≢ []
 filled [] o ps = λ e. cc

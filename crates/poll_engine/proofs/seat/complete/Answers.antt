@@ -1,6 +1,6 @@
 use Rattle.std.proofs.Common.{refl}
 use Rattle.poll_engine.proofs.Joined.{again_made}
-use Rattle.poll_engine.proofs.instance.complete.Goals as goal
+use Rattle.poll_engine.proofs.seat.complete.Goals as goal
 
 pub returns-in-Again : goal.returns-in-Again
 returns-in-Again g c =

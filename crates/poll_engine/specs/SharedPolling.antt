@@ -1,5 +1,5 @@
 -- The polling of a shared instance, told by the operations of the caller that polls it.
-use Rattle.std.specs.Prelude.{◌≡◌, ℕ, Bool, true, false, List, [], ◌∷◌, ◌++◌, flat_map, if◌then◌else◌, Some}
+use Rattle.std.specs.Prelude.{◌≡◌, ◌==◌, ◌-◌, ℕ, Bool, true, false, List, [], ◌∷◌, ◌++◌, length, flat_map, if◌then◌else◌, Some, MatchBool}
 use Rattle.rx_ring.specs.declared.ends.RxCtx.{RxCtx}
 use Rattle.rx_ring.specs.declared.packet.Packet.{Packet}
 use Rattle.rx_ring.specs.Ends.{ring_name, GivesNext}
@@ -14,8 +14,11 @@ use Rattle.napi_model.specs.declared.event.Operation.TheVariants.{Look, Hand, Ta
 use Rattle.napi_word.specs.declared.table.Pass.{Pass}
 use Rattle.napi_calls.specs.Seats.{ring_of}
 use Rattle.napi_calls.specs.Made.{Lost, looks}
+use Rattle.poll_engine.specs.Polls.{is_repoll}
+use Rattle.poll_engine.specs.Polling.{goes_on}
 use Rattle.poll_engine.specs.declared.bench.Next.{Next}
 use Rattle.poll_engine.specs.declared.bench.Next.TheVariants.{Absent, Gone, Again, Repoll}
+use Rattle.poll_engine.specs.declared.bench.Once.{Once}
 
 -- ---- one poll of an instance that is in the caller's hands, which gave its whole weight or less (`__napi_poll`)
 
@@ -90,3 +93,29 @@ GivesBatch weight p Absent packets = packets ≡ []
 GivesBatch weight p Gone packets = GivesOf weight p packets
 GivesBatch weight p (Again k) packets = GivesOf weight p packets
 GivesBatch weight p Repoll packets = GivesOf weight p packets
+
+-- ---- the polling by the instance's thread (`napi_threaded_poll`)
+
+-- it takes the instance that was handed to it, unless it has it still
+abbrev pub retaken : Bool → List Operation
+retaken true = []
+retaken false = Take kind.Thread true ∷ []
+
+-- The polls of a thread, at most so many, which has the instance in its hands or takes it first. It polls what is left to it,
+-- and ends where a take finds nothing.
+abbrev pub ThreadPollsBy : ℕ → ℕ → Bool → List Once → List Operation → Type 0
+ThreadPollsBy weight most held [] os = (held ≡ false) × (os ≡ Take kind.Thread false ∷ [])
+ThreadPollsBy weight most held (once ∷ more) os =
+    (polled : List Operation) × (rest : List Operation)
+    × PollsBy true (once.work == weight) once.next polled
+    × MatchBool (goes_on once.next most)
+    (ThreadPollsBy weight (most - 1) (is_repoll once.next) more rest)
+    ((more ≡ []) × (rest ≡ let_go once.next))
+    × (os ≡ retaken held ++ polled ++ rest)
+
+-- each of these polls gave packets of the ring, as many as its work, and those of the last one are in the batch; before them
+-- the batch had the first ones
+abbrev pub GivesEach : ℕ → Pass → List Packet → List Once → List Packet → Type 0
+GivesEach weight p before [] packets = packets ≡ before
+GivesEach weight p before (once ∷ more) packets =
+    (given : List Packet) × (once.work ≡ length given) × GivesOf weight p given × GivesEach weight p given more packets
