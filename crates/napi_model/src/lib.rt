@@ -23,4 +23,4 @@ pub use laws::{
 };
 pub use serial::SerialNapi;
 pub use state::{Flags, Kind, Place, Seen, State};
-pub use word::{decode, encode};
+pub use word::{decode, decode_known, encode};

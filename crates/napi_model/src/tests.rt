@@ -4,7 +4,7 @@ ghost use Rattle.napi_model.specs.declared.tests.TheConstants.{CONTROLLER};
 
 use crate::{
     Call, Done, Event, Flags, Kind, Operation, Place, Prep, Seen, SerialNapi, State, decode,
-    encode, first_illegal, is_accepted_schedule, is_poll_start, others_leave_disable,
+    decode_known, encode, first_illegal, is_accepted_schedule, is_poll_start, others_leave_disable,
     others_leave_owner, own, own_of_joined, sched_clear_is_nobody, state_after,
 };
 use std::process::Abort;
@@ -446,7 +446,9 @@ fn word_after(rt: &impl Abort, calls: &[(u32, Call)]) -> u64 {
         assert!(rt; operation.is_some());
     }
     let word = instance.word();
-    assert_eq!(rt; decode(word), Some(instance.napi.look()));
+    let seen = instance.napi.look();
+    assert_eq!(rt; decode(word), Some(seen));
+    assert_eq!(rt; decode_known(encode(seen)), seen);
     word
 }
 

@@ -109,3 +109,12 @@ pub fn decode(word: u64) -> Option<Seen>
     }
     Some(read(word))
 }
+
+/// What a word tells that is known to be a state word: the inverse of [`encode`], with no test.
+pub fn decode_known(word: u64) -> Seen
+    requires { (seen : Seen) × (word_of seen ≡ word) }
+    ensures word { word_of result ≡ word }
+    ensures inverse { (seen : Seen) → word_of seen ≡ word → result ≡ seen }
+{
+    read(word)
+}

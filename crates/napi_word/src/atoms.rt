@@ -9,11 +9,12 @@ use crate::plays::{Exchanged, Step, Told};
 use crate::table::StateTable;
 use crate::view::View;
 use atomic_table::Seat;
-use napi_model::{Seen, decode, encode};
+use napi_model::{Seen, decode_known, encode};
 use rx_ring::RxCtx;
 
 impl StateTable {
     // Reads the word, and answers what it said.
+    #[inline]
     pub(crate) fn load<K: Step>(&self, seat: &mut Seat<Option<RxCtx>, View>) -> Seen
         requires table { seat.old.table_id ≡ self.now.table.shared.table_id }
         requires may { MayMake self.now seat.old (λ n. n) K.operation K.moves }
@@ -21,13 +22,11 @@ impl StateTable {
         ensures did { Did (K.operation result) (K.moves result) seat.old.me seat.new.me }
     {
         let word = self.table.shared.load::<Told<K>>(seat, 0);
-        let Some(seen) = decode(word) else {
-            unreachable!()
-        };
-        seen
+        decode_known(word)
     }
 
     // Sets these bits, and answers what the word said before.
+    #[inline]
     pub(crate) fn set<K: Step>(&self, seat: &mut Seat<Option<RxCtx>, View>, bits: u64) -> Seen
         requires table { seat.old.table_id ≡ self.now.table.shared.table_id }
         requires may { MayMake self.now seat.old (λ n. bit_or n bits) K.operation K.moves }
@@ -35,13 +34,11 @@ impl StateTable {
         ensures did { Did (K.operation result) (K.moves result) seat.old.me seat.new.me }
     {
         let word = self.table.shared.fetch_or::<Told<K>>(seat, 0, bits);
-        let Some(seen) = decode(word) else {
-            unreachable!()
-        };
-        seen
+        decode_known(word)
     }
 
     // Leaves these bits alone as they are, and answers what the word said before.
+    #[inline]
     pub(crate) fn keep<K: Step>(&self, seat: &mut Seat<Option<RxCtx>, View>, bits: u64) -> Seen
         requires table { seat.old.table_id ≡ self.now.table.shared.table_id }
         requires may { MayMake self.now seat.old (λ n. bit_and n bits) K.operation K.moves }
@@ -49,13 +46,11 @@ impl StateTable {
         ensures did { Did (K.operation result) (K.moves result) seat.old.me seat.new.me }
     {
         let word = self.table.shared.fetch_and::<Told<K>>(seat, 0, bits);
-        let Some(seen) = decode(word) else {
-            unreachable!()
-        };
-        seen
+        decode_known(word)
     }
 
     // Writes what is next where the word still says what was seen. Else nothing is written, and what it says is handed back.
+    #[inline]
     pub(crate) fn exchange<K: Step>(
         &self,
         seat: &mut Seat<Option<RxCtx>, View>,
@@ -73,9 +68,7 @@ impl StateTable {
             .table
             .shared
             .compare_exchange::<Exchanged<K>>(seat, 0, old, encode(next));
-        let Some(found) = decode(word) else {
-            unreachable!()
-        };
+        let found = decode_known(word);
         if word == old { Ok(()) } else { Err(found) }
     }
 }

@@ -45,6 +45,7 @@ fn is_handed(handed: Option<Kind>, kind: Kind) -> bool
 impl StateTable {
     /// Hands the instance over: to the list what the pass was granted or polls, to the thread what it was granted
     /// (`____napi_schedule`). The context must be in the slot. Then the pass has neither.
+    #[inline]
     pub fn hand(&self, pass: &mut Pass, kind: Kind)
         requires table { IsPassOf self.now pass.old }
         requires owner { HandsOver kind pass.old }
@@ -60,6 +61,7 @@ impl StateTable {
 
     /// Takes an instance that was handed over (`net_rx_action` from the list, `napi_thread_wait` from the thread). True:
     /// the pass polls it, and has the slot with the context. False: it wasn't there, and nothing changed.
+    #[inline]
     pub fn take(&self, pass: &mut Pass, kind: Kind) -> bool
         requires table { IsPassOf self.now pass.old }
         ensures step { Makes pass.old (Take kind result) (when result taken) pass.new }
@@ -78,6 +80,7 @@ impl StateTable {
     /// Ends a poll if the word still says what was seen (`napi_complete_done`, its `try_cmpxchg` on `napi->state`):
     /// `Released` clears SCHED, `Again` clears MISSED and keeps SCHED, and the instance is the pass's to be handed over.
     /// The context must be in the slot. `Err`: another step came between. Nothing was written, and this was a look.
+    #[inline]
     pub fn complete_swap(&self, pass: &mut Pass, seen: Seen) -> Result<Done, Seen>
         requires table { IsPassOf self.now pass.old }
         requires owner { Polls pass.old }

@@ -9,6 +9,7 @@ use rx_ring::RxCtx;
 
 impl StateTable {
     /// The context, out of the slot, which the pass has by polling or controlling the instance.
+    #[inline]
     pub fn slot_out(&self, pass: &mut Pass) -> RxCtx
         requires table { IsPassOf self.now pass.old }
         requires owner { OwnsSlot pass.old }
@@ -26,6 +27,7 @@ impl StateTable {
 
     /// The context, back into the slot from which the pass has it; it must be the one of that ring. The mark that `beside`
     /// may have left on it ends here, so that its next owner polls what is put meanwhile.
+    #[inline]
     pub fn slot_in(&self, pass: &mut Pass, ctx: RxCtx)
         requires table { IsPassOf self.now pass.old }
         requires out { pass.old.holds ≡ Out }

@@ -31,6 +31,7 @@ fn scheduled(seen: Seen) -> (Prep, Seen)
 impl StateTable {
     /// What the word says: the flags, and to whom the instance was handed while nobody has taken it (a read of
     /// `napi->state`).
+    #[inline]
     pub fn look(&self, pass: &mut Pass) -> Seen
         requires table { IsPassOf self.now pass.old }
         ensures step { Makes pass.old (Look result) stays pass.new }
@@ -40,6 +41,7 @@ impl StateTable {
 
     /// The first half of `napi_schedule_prep`. `None`: a disable is pending, and the schedule is refused by this. `Some`:
     /// it may be tried by [`schedule_swap`](StateTable::schedule_swap), and this was a look.
+    #[inline]
     pub fn schedule_load(&self, pass: &mut Pass) -> Option<Seen>
         requires table { IsPassOf self.now pass.old }
         ensures step { Makes pass.old (by_load result) stays pass.new }
@@ -52,6 +54,7 @@ impl StateTable {
     /// The second half of `napi_schedule_prep` (`try_cmpxchg` on `napi->state`): sets SCHED, or MISSED where SCHED is set,
     /// if the word still says what was seen; that must not have DISABLE. `Err`: another step came between. Nothing was
     /// written, and this was a look at what the word says now.
+    #[inline]
     pub fn schedule_swap(&self, pass: &mut Pass, seen: Seen) -> Result<Prep, Seen>
         requires table { IsPassOf self.now pass.old }
         requires enabled { seen.flags.disable ≡ false }
@@ -65,6 +68,7 @@ impl StateTable {
     }
 
     /// Sets or clears THREADED, in any state (`dev_set_threaded`).
+    #[inline]
     pub fn threaded(&self, pass: &mut Pass, threaded: bool)
         requires table { IsPassOf self.now pass.old }
         ensures step { Makes pass.old (SetThreaded threaded) stays pass.new }

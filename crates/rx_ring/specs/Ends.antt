@@ -1,5 +1,5 @@
 -- What a contract sees of the two ends of a receive ring, and what a poll and a meeting of the ends do to them.
-use Rattle.std.specs.Prelude.{ℕ, ◌≡◌, ◌↔◌, ◌+◌, ◌≤◌, Bool, true, false, List, ◌++◌, length, take, min}
+use Rattle.std.specs.Prelude.{ℕ, ◌≡◌, ◌↔◌, ◌+◌, ◌≤◌, ◌==◌, not, Bool, true, false, List, ◌++◌, length, take, min}
 use Rattle.std.specs.Global.{Global}
 use denote.RawPtr.{Ptr}
 use mathlib.Core.List.{IsPrefix}
@@ -31,8 +31,8 @@ abbrev pub polls_of : RxCtx → ℕ
 polls_of ctx = ctx.polls
 
 -- whether the context bears the mark of `beside`: it has seen all that the ring held then
-abbrev pub is_beside : RxCtx → Bool
-is_beside ctx = ctx.beside
+unfoldable pub is_beside : RxCtx → Bool
+is_beside ctx = not (ctx.mark == 0)
 
 -- Which ring an end is of. The context itself names its ring: what was handed in is kept, and what comes back is compared with it.
 

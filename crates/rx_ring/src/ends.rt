@@ -19,8 +19,9 @@ pub struct RxIn {
 #[derive(Drop)]
 pub struct RxCtx {
     pub(crate) consumer: Consumer<Packet>,
-    // The mark of `beside`: the next poll gives what was seen there, and looks no further.
-    pub(crate) beside: bool,
+    // 1 under the mark of `beside`, else 0. As wide as the counts, so that a context moves in whole words: with a bool there
+    // it would move in pieces that overlap, and a processor then waits for each to be stored.
+    pub(crate) mark: u64,
     pub(crate) polls: u64,
     pub(crate) packets: u64,
     pub(crate) bytes: u64,
@@ -77,7 +78,7 @@ impl RxCtx {
         ensures next { GivesNext weight self.old self.new batch.new.items }
         ensures work { result ≡ length batch.new.items }
     {
-        if !self.beside && self.consumer.cached_slots() < weight {
+        if !self.is_beside() && self.consumer.cached_slots() < weight {
             self.consumer.slots();
         }
         let count = self.consumer.cached_slots().min(weight);
@@ -88,8 +89,17 @@ impl RxCtx {
         count
     }
 
+    // Whether the mark of `beside` is set: the next poll gives what was seen there, and looks no further.
+    #[tactic(auto, unfolding(crate::specs::Ends::is_beside))]
+    fn is_beside(&self) -> bool
+        ensures { result ≡ is_beside self.now }
+    {
+        self.mark != 0
+    }
+
     /// Ends the mark that [`beside`](crate::beside) leaves, so that the next poll looks at the ring again. Whoever gives
     /// the context away calls this first: what is put meanwhile is then found by the next poll, and not overlooked.
+    #[tactic(auto, unfolding(crate::specs::Ends::is_beside))]
     pub fn apart(&mut self)
         ensures ring { SameCtx self.old self.new }
         ensures received { received_list self.new ≡ received_list self.old }
@@ -97,7 +107,7 @@ impl RxCtx {
         ensures polls { polls_of self.new ≡ polls_of self.old }
         ensures unmarked { is_beside self.new ≡ false }
     {
-        self.beside = false;
+        self.mark = 0;
     }
 }
 

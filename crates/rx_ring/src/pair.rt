@@ -19,6 +19,7 @@ pub const MAX_CAPACITY: usize = 65_536;
 ///
 /// Refused by [`BadCapacity`](RingFault::BadCapacity) where `capacity` is 0 or over [`MAX_CAPACITY`], and else by
 /// [`OutOfMemory`](RingFault::OutOfMemory) where there is no memory for the ring.
+#[tactic(auto, unfolding(crate::specs::Ends::is_beside))]
 pub fn ring(alloc: Global, capacity: usize) -> Result<(RxIn, RxCtx), RingFault>
     ensures one { IfOk result (λ r. IsOneRing r.0 r.1) }
     ensures capacity { IfOk result (λ r. capacity_of r.0 ≡ capacity) }
@@ -35,7 +36,7 @@ pub fn ring(alloc: Global, capacity: usize) -> Result<(RxIn, RxCtx), RingFault>
             RxIn { producer },
             RxCtx {
                 consumer,
-                beside: false,
+                mark: 0,
                 polls: 0,
                 packets: 0,
                 bytes: 0,
@@ -49,12 +50,13 @@ pub fn ring(alloc: Global, capacity: usize) -> Result<(RxIn, RxCtx), RingFault>
 ///
 /// A poll right after it gives exactly the lesser of the weight and what the ring holds. The mark ends with that poll, or
 /// by [`RxCtx::apart`].
+#[tactic(auto, unfolding(crate::specs::Ends::is_beside))]
 pub fn beside(input: &mut RxIn, ctx: &mut RxCtx)
     requires { IsOneRing input.old ctx.old }
     ensures { Meets input.old ctx.old input.new ctx.new }
 {
     ctx.consumer.slots_beside(&mut input.producer);
-    ctx.beside = true;
+    ctx.mark = 1;
 }
 
 /// The end of a ring, whose two ends these are: what was put, what was received, and what is left.
@@ -69,7 +71,7 @@ pub fn finish(input: RxIn, ctx: RxCtx) -> Totals
     beside(&mut input, &mut ctx);
     let RxCtx {
         mut consumer,
-        beside: _,
+        mark: _,
         polls: _,
         packets,
         bytes,

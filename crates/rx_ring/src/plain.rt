@@ -9,20 +9,21 @@ use crate::RxCtx;
 use crate::packet::{Batch, MAX_WEIGHT, Packet};
 use rtrb::Consumer;
 
+#[tactic(auto, unfolding(crate::specs::Ends::is_beside))]
 pub fn poll_by_pops(ctx: &mut RxCtx, weight: usize, batch: &mut Batch) -> usize
     requires { (1 ≤ weight) × (weight ≤ NAPI_POLL_WEIGHT) }
     ensures next { GivesNext weight ctx.old ctx.new batch.new.items }
     ensures work { result ≡ length batch.new.items }
 {
     batch.clear();
-    if !ctx.beside {
+    if ctx.mark == 0 {
         ctx.consumer.slots();
     }
     let count = ctx.consumer.cached_slots().min(weight);
     ctx.bytes = pop_each(&mut ctx.consumer, count, ctx.bytes, batch);
     ctx.packets = ctx.packets.saturating_add(count as u64);
     ctx.polls = ctx.polls.saturating_add(1);
-    ctx.beside = false;
+    ctx.mark = 0;
     count
 }
 
