@@ -4,10 +4,11 @@ use Rattle.device_model.specs.DeviceView.{DeviceView}
 use Rattle.device_model.specs.Kept.{is_sound}
 use Rattle.device_model.specs.Places.{at}
 use Rattle.device_model.specs.Waiting.{waits}
-use Rattle.device_model.proofs.BenchFacts.{at-index, kept-changed, sound-at}
+use Rattle.device_model.proofs.BenchFacts.{kept-changed, sound-at}
 use Rattle.device_model.proofs.DeviceFacts.{threaded-keeps}
+use Rattle.device_model.proofs.PlaceFacts.{at-index}
 use Rattle.device_model.proofs.Waiting.{waiting-same}
-use Rattle.device_model.proofs.bench.SerialBench.set_threaded.Goals as goal
+use Rattle.device_model.proofs.bench.SerialBenchReplayBench.set_threaded.Goals as goal
 
 pub invariant_of-self : goal.invariant_of-self
 invariant_of-self c =
@@ -16,7 +17,6 @@ invariant_of-self c =
     let keeps = threaded-keeps c.args.threaded c.in-Some.device (sound-at _ _ c.args.device _ c.args.self.now.kept here) in
     record {
       kept = kept-changed _ _ c.args.device c.in-Some.device _ c.args.self.now.kept here (ap is_sound c.set_threaded.ensures ∙ keeps.sound) (ap is_pending c.set_threaded.ensures ∙ keeps.pending);
-      sides = c.args.self.now.sides;
     }
 
 pub returns-in-Some-clause-waiting : goal.returns-in-Some-clause-waiting

@@ -2,12 +2,12 @@ use Rattle.std.proofs.Common.{◌∙◌, ap, refl, sym, arith}
 use Rattle.device_model.specs.Waiting.{waiting}
 use Rattle.device_model.proofs.BenchFacts.{beyond, settled-all, settled-more, settled-none, settled-off, up-to}
 use Rattle.device_model.proofs.Waiting.{waiting-settled}
-use Rattle.device_model.proofs.bench.SerialBench.settle.Goals as goal
+use Rattle.device_model.proofs.bench.SerialBenchReplayBench.settle.Goals as goal
 use Rattle.device_model.proofs.Waiting.{waiting-settled}
-use Rattle.device_model.proofs.bench.SerialBench.settle.Goals.{then-settle_one, else-settle_one}
+use Rattle.device_model.proofs.bench.SerialBenchReplayBench.settle.Goals.{then-settle_one, else-settle_one}
 
 pub returns-then-not-self-clause-devices : goal.returns-then-not-self-clause-devices
-returns-then-not-self-clause-devices c = sym (settled-off _ _ c.args.self.now.kept c.if-not-self.true)
+returns-then-not-self-clause-devices c stated = sym (settled-off _ _ c.args.self.now.kept c.if-not-self.true)
 
 pub loop-device-init : goal.loop-device-init
 loop-device-init c = record {
@@ -31,17 +31,17 @@ loop-device-preserved c = record {
 }
 
 pub returns-clause-devices : goal.returns-clause-devices
-returns-clause-devices c = c.loop-device.invariant.devices ∙ settled-all c.loop-device.device _ (omega (arith, c.args.self.now.kept.places, c.loop-device-test.false))
+returns-clause-devices c stated = c.loop-device.invariant.devices ∙ settled-all c.loop-device.device _ (omega (arith, c.args.self.now.kept.places, c.loop-device-test.false))
 
 pub invariant_of-self : goal.invariant_of-self
 invariant_of-self c = record {
   kept = record {
     places = c.loop-device.self.kept.places;
     sound = c.loop-device.self.kept.sound;
+    few = c.loop-device.self.kept.few;
     settled = λ off. beyond c.loop-device.device c.loop-device.self.devices.items (omega (arith, c.loop-device.self.kept.places, c.loop-device-test.false)) (c.loop-device.invariant.pending off);
   };
-  sides = c.loop-device.self.sides;
 }
 
 pub returns-clause-waiting : goal.returns-clause-waiting
-returns-clause-waiting c = ap waiting (returns-clause-devices c) ∙ waiting-settled _ _ c.args.self.now.kept
+returns-clause-waiting c = ap waiting (returns-clause-devices c tt) ∙ waiting-settled _ _ c.args.self.now.kept

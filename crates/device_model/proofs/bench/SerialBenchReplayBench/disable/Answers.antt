@@ -3,10 +3,11 @@ use Rattle.device_model.specs.DeviceView.{DeviceView}
 use Rattle.device_model.specs.Kept.{is_sound}
 use Rattle.device_model.specs.Places.{at}
 use Rattle.device_model.specs.Waiting.{waits}
-use Rattle.device_model.proofs.BenchFacts.{at-index, below-some, kept-set, sound-at}
+use Rattle.device_model.proofs.BenchFacts.{kept-set, sound-at}
+use Rattle.device_model.proofs.PlaceFacts.{at-index, below-some}
 use Rattle.device_model.proofs.DeviceFacts.{disable-keeps}
 use Rattle.device_model.proofs.Waiting.{waiting-same}
-use Rattle.device_model.proofs.bench.SerialBench.disable.Goals as goal
+use Rattle.device_model.proofs.bench.SerialBenchReplayBench.disable.Goals as goal
 
 pub invariant_of-self : goal.invariant_of-self
 invariant_of-self c =
@@ -16,7 +17,6 @@ invariant_of-self c =
     record {
       kept = kept-set c.args.self.now.unsettled true c.args.self.now.devices.items c.args.device c.disable.new.self c.args.self.now.kept
           (below-some c.args.self.now.devices.items c.args.device c.in-Some.device here) (ap is_sound c.disable.ensures ∙ keeps.sound) (λ off. cc off) (λ off. cc off);
-      sides = c.args.self.now.sides;
     }
 
 pub returns-in-Some-clause-waiting : goal.returns-in-Some-clause-waiting

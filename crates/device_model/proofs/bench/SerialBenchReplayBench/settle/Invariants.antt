@@ -2,12 +2,12 @@ use Rattle.std.proofs.Common.{◌≡◌, ◌<◌, ℕ, true, false}
 use Rattle.device_model.specs.Kept.{is_pending_at}
 use Rattle.device_model.specs.Places.{at}
 use Rattle.device_model.proofs.BenchFacts.{settled_to}
-use Rattle.device_model.proofs.bench.SerialBench.settle.Given as goal
+use Rattle.device_model.proofs.bench.SerialBenchReplayBench.settle.Given as goal
 
 abbrev pub invariant-loop-device : goal.invariant-loop-device
 invariant-loop-device l = record {
   devices : l.self.devices.items ≡ settled_to l.device l.fn.self.devices.items;
-  transmits : l.self.transmits.items ≡ l.fn.self.transmits.items;
+  transmits : l.self.transmits ≡ l.fn.self.transmits;
   marked : l.self.unsettled ≡ true;
   pending : l.unsettled ≡ false → (number : ℕ) → number < l.device → is_pending_at (at number l.self.devices.items) ≡ false;
 }
