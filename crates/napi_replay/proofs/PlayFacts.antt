@@ -1,18 +1,16 @@
 -- How one more row carries a replay on.
-use Rattle.std.proofs.Common.{◌≡◌, ◌∙◌, ℕ, zero, suc, ◌+◌, ◌<◌, ◌≤◌, Bool, true, false, Ok, Err, List, [], ◌∷◌, ◌++◌, length, length-append, append_assoc, take, drop, get_or, ap, refl, arith}
-use Rattle.std.specs.Prelude.{Result, if◌then◌else◌}
+use Rattle.std.proofs.Common.{◌≡◌, ◌∙◌, ℕ, zero, suc, ◌+◌, ◌<◌, Bool, true, false, Ok, Err, Some, List, [], ◌∷◌, ◌++◌, length, length-append, append_assoc, take, drop, get_or, ap, refl, arith}
+use Rattle.std.specs.Prelude.{Result, if◌then◌else◌, slice_get}
 use Rattle.std.proofs.lemmas.List.{length-take, take_more}
 use Rattle.device_model.specs.Bench.{Transmits}
 use Rattle.device_model.specs.Trace.{AcceptedAfter, IsAccepted}
-use Rattle.device_model.specs.declared.event.Event.{Event}
-use Rattle.device_model.specs.declared.event.Event.TheVariants.{Opened, Rx, Tx, Finish, Softirq, Kthread, Disable, Enable, Threaded}
 use Rattle.device_model.specs.declared.row.Row.{Row}
 use Rattle.napi_replay.specs.Replay.{after_event, after_row, after_rows, is_early, start, world_of}
-use Rattle.napi_replay.specs.Transmits.{after_transmit, after_transmits}
+use Rattle.napi_replay.specs.Report.{report_of, serial_report}
+use Rattle.napi_replay.specs.Transmits.{after_transmit, after_transmits, transmits_of}
 use Rattle.napi_replay.specs.World.{World}
 use Rattle.napi_replay.specs.declared.fault.ReplayFault.{ReplayFault}
 use Rattle.napi_replay.specs.declared.fault.ReplayFault.TheVariants.{Pending}
-use Rattle.napi_replay.specs.declared.line.Line.{Line}
 use Rattle.replay_words.specs.declared.settings.Settings.{Settings}
 
 -- a row of a trace
@@ -71,20 +69,15 @@ pub after_transmits-more : (rows : List Row) (all : Transmits) (i : ℕ) (d : Ro
     → after_transmits (take (i + 1) rows) all ≡ after_transmit (get_or rows i d) (after_transmits (take i rows) all)
 after_transmits-more rows all i d below = rw (take_more rows i d below) (after_transmits-push (take i rows) (get_or rows i d) all)
 
--- a row adds at most one line
-pub lines-more : (s : Settings) (n : ℕ) (row : Row) (w : World) → length (after_row s n row w).lines ≤ length w.lines + 1
-lines-more s n row w = by row.event
-  where
-    by : (event : Event) → length (after_event s n event row w).lines ≤ length w.lines + 1
-    by Opened = omega arith
-    by Rx = omega arith
-    by Tx = omega arith
-    by Finish = omega arith
-    by Softirq = omega (arith, length-append {A = Line})
-    by Kthread = omega (arith, length-append {A = Line})
-    by Disable = omega arith
-    by Enable = omega arith
-    by Threaded = omega arith
+-- the row at a place
+pub get-at : (rows : List Row) (i : ℕ) (d : Row) → i < length rows → slice_get rows i ≡ Some (get_or rows i d)
+get-at [] i d below = absurd (omega (arith, below))
+get-at (row ∷ rows) zero d below = refl
+get-at (row ∷ rows) (suc i) d below = get-at rows i d (omega (arith, below))
+
+-- where the rows have a fault, so has their report
+pub report-early : (s : Settings) (rows : List Row) (fault : ReplayFault) → world_of s rows ≡ Err fault → serial_report s rows ≡ Err fault
+report-early s rows fault early = ap (report_of (transmits_of rows)) early
 
 -- four parts of a text, in whatever order they were joined
 pub four-parts : (a b c d : List ℕ) → ((a ++ b) ++ c) ++ d ≡ a ++ (b ++ (c ++ d))

@@ -2,6 +2,7 @@ pub mod Answer
 pub mod Fault
 pub mod Played
 pub mod Program
+pub mod Refused
 pub mod Replay
 pub mod Report
 pub mod Run

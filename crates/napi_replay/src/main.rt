@@ -9,6 +9,7 @@ mod line;
 mod program;
 mod replay;
 mod report;
+mod rows;
 mod serial;
 #[cfg(test)]
 mod test_cases;

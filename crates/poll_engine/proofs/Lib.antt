@@ -1,7 +1,11 @@
+pub mod Joined
 pub mod PollFacts
+pub mod PollingFacts
 pub mod RunFacts
 pub mod PlainFacts
 pub mod ScriptFacts
+pub mod SeatFacts
+pub mod SeatPolling
 pub mod FunctionFacts
 pub mod EndLists
 pub mod OrderSteps

@@ -5,7 +5,8 @@ use Rattle.std.specs.List.{AllByRecursion}
 use Rattle.std.proofs.lemmas.List.{append-nil, take-append-le, take_all}
 use Rattle.std.proofs.lemmas.List.Sums.{sum_by-append}
 use Rattle.poll_engine.specs.Polls.{is_repoll}
-use Rattle.poll_engine.specs.Script.{Script, ThreadPollsByScript, first_answer, held_next, held_poll, is_absent, passed, report_of, thread_of}
+use Rattle.poll_engine.specs.Polling.{is_absent}
+use Rattle.poll_engine.specs.Script.{Script, ThreadPollsByScript, first_answer, held_next, held_poll, passed, report_of, thread_of}
 use Rattle.poll_engine.specs.Thread.{Continues, IsThreadPolling, is_for_thread, last_next}
 use Rattle.poll_engine.specs.declared.bench.Next.{Next}
 use Rattle.poll_engine.specs.declared.bench.Next.TheVariants.{Absent, Gone, Again, Repoll}

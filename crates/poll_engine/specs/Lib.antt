@@ -3,7 +3,10 @@ pub mod Thread
 pub mod Plain
 pub mod Run
 pub mod Turn
+pub mod Polling
+pub mod SharedPolling
 pub mod Laws
+pub mod Seat
 pub mod Script
 pub mod Function
 pub mod PushOrder

@@ -1,6 +1,7 @@
 -- The tests' bench: what its script answers.
-use Rattle.std.specs.Prelude.{◌≡◌, ℕ, zero, suc, Bool, true, false, ◌||◌, not, if◌then◌else◌, min, List, [], ◌∷◌, ◌++◌, length, take, sum_by}
+use Rattle.std.specs.Prelude.{◌≡◌, ℕ, zero, suc, Bool, false, ◌||◌, not, if◌then◌else◌, min, List, [], ◌∷◌, ◌++◌, length, take, sum_by}
 use Rattle.poll_engine.specs.Polls.{is_repoll}
+use Rattle.poll_engine.specs.Polling.{is_absent}
 use Rattle.poll_engine.specs.Thread.{is_for_thread, last_next}
 use Rattle.poll_engine.specs.declared.bench.Next.{Next}
 use Rattle.poll_engine.specs.declared.bench.Next.TheVariants.{Absent, Gone, Again, Repoll}
@@ -43,12 +44,6 @@ held_next Absent = Gone
 held_next Gone = Gone
 held_next (Again k) = Again k
 held_next Repoll = Repoll
-
-abbrev pub is_absent : Next → Bool
-is_absent Absent = true
-is_absent Gone = false
-is_absent (Again k) = false
-is_absent Repoll = false
 
 abbrev pub held_poll : ℕ → ℕ → Script → Once × Script
 held_poll weight id s =

@@ -10,6 +10,7 @@
 mod bench;
 #[cfg(test)]
 mod crowded;
+mod instance;
 mod laws;
 mod list;
 mod list_ends;
@@ -17,9 +18,12 @@ mod list_fault;
 mod list_in;
 mod list_rule;
 mod plain;
+mod polling;
 mod run;
 mod scripted;
+mod seat;
 mod shared;
+mod shared_instance;
 #[cfg(test)]
 mod shared_tests;
 mod soft;
@@ -27,6 +31,7 @@ mod soft;
 mod tests;
 
 pub use bench::{Bench, Next, Once, ShownBench, ThreadReport};
+pub use instance::Instance;
 pub use laws::{
     no_other_arrivals, plain_list_afterwards, run_is_function, run_is_shown, runs_agree,
 };
@@ -35,6 +40,8 @@ pub use list_ends::{ListBack, end_list, shared_list};
 pub use list_fault::ListFault;
 pub use list_in::ListIn;
 pub use plain::PlainList;
+pub use polling::{poll_once_of, poll_thread_of};
 pub use run::{RunReport, run_softirq};
 pub use shared::SharedList;
+pub use shared_instance::{poll_instance, poll_instance_by_thread};
 pub use soft::SoftList;

@@ -3,7 +3,8 @@
 
 ghost use Rattle.std.specs.Prelude.{◌≡◌, ◌≤◌, ◌||◌, ◌++◌, ◌∷◌, ℕ, List, [], take, not, if◌then◌else◌};
 ghost use Rattle.poll_engine.specs.Polls.{is_repoll};
-ghost use Rattle.poll_engine.specs.Script.{PollsByScript, Script, ThreadPollsByScript, first_answer, held_next, held_poll, is_absent, later_answers, passed};
+ghost use Rattle.poll_engine.specs.Polling.{is_absent};
+ghost use Rattle.poll_engine.specs.Script.{PollsByScript, Script, ThreadPollsByScript, first_answer, held_next, held_poll, later_answers, passed};
 ghost use Rattle.poll_engine.specs.Thread.{IsThreadPolling, is_for_thread};
 ghost use Rattle.poll_engine.specs.declared.bench.Once.{Once};
 

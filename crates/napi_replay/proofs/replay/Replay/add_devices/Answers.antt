@@ -4,10 +4,10 @@ use Rattle.napi_replay.proofs.replay.Replay.add_devices.Goals as goal
 
 pub loop-number-init : goal.loop-number-init
 unfolding lines_below
-loop-number-init c all shows = sym (simp append-nil)
+loop-number-init g c stated all shows = sym (simp append-nil)
 
 pub loop-number-preserved : goal.loop-number-preserved
 unfolding lines_below
-loop-number-preserved c all shows =
+loop-number-preserved g c stated all shows =
     let next : c.loop-number.number + 1 ≡ suc c.loop-number.number = omega arith in
-    rw (next, c.in_ok-add_device.ensures, c.counts.ensures all shows, c.loop-number.invariant all shows) (simp append_assoc)
+    rw (next, c.in_ok-add_device.ensures, c.counts.ensures stated all shows, c.loop-number.invariant stated all shows) (simp append_assoc)

@@ -1,7 +1,8 @@
 use Rattle.std.proofs.Common.{◌≡◌, ◌∙◌, ◌||◌, true, false, refl, rules, arith}
 use Rattle.std.specs.Prelude.{not}
 use Rattle.poll_engine.specs.Polls.{is_repoll}
-use Rattle.poll_engine.specs.Script.{first_answer, is_absent, passed}
+use Rattle.poll_engine.specs.Polling.{is_absent}
+use Rattle.poll_engine.specs.Script.{first_answer, passed}
 use Rattle.poll_engine.specs.Thread.{is_for_thread}
 use Rattle.poll_engine.proofs.ScriptFacts.{polled-lawful, polling-ends, polling-more, polling-most, polling-none, polling-start}
 use Rattle.poll_engine.proofs.scripted.ScriptBenchBench.poll_thread.Goals as goal
