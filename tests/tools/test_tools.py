@@ -282,18 +282,9 @@ class Plot(InFolder):
         self.assertEqual((done.stderr, done.returncode), ("", 0))
         picture = (self.folder / "picture.svg").read_text()
         self.assertIn("bytes in flight (grey)", picture)
-        self.assertIn("packets that wait in all rings", picture)
+        self.assertIn("packets waiting", picture)
 
     def test_where_gnuplot_is_missing_it_says_so(self):
         done = subprocess.run([sys.executable, TOP / "tools/plot", "--series", self.write("series", self.ROWS)],
                               env={"PATH": str(self.folder)}, capture_output=True, text=True, check=False, cwd=self.folder)
         self.assertIn("needs gnuplot, which isn't on PATH", done.stderr)
-
-
-if __name__ == "__main__":
-    result = unittest.TextTestRunner(verbosity=0).run(unittest.defaultTestLoader.loadTestsFromModule(sys.modules["__main__"]))
-    for test, reason in result.skipped:
-        print(f"skipped: {test.id().split('.', 1)[1]}: {reason}")
-    bad = len(result.failures) + len(result.errors)
-    print(f"{result.testsRun - bad - len(result.skipped)} passed, {bad} failed")
-    sys.exit(bad > 0)
