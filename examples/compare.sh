@@ -2,15 +2,18 @@
 # Replays the traces that were recorded from a running Linux, and compares with what the kernel did there: the work of each
 # softirq and kthread row, the squeezes that it counted, its answers to all requests, its queue limits. Each difference is
 # shown. The exit status is 0 only where all agree.
-# examples/compare.sh [PROGRAM]
+# examples/compare.sh [PROGRAM [SERIES]]   other builds of napi_replay and napi_series
 set -eu
 unset CDPATH
 examples=$(cd "$(dirname "$0")" && pwd)
 . "$examples/../scripts/arguments.sh"
-at_most 1 "$@"
+at_most 2 "$@"
 [ $# -gt 0 ] || "$examples/../scripts/build.sh" napi_replay
 program=${1:-$examples/../crates/napi_replay/out/napi_replay}
 is_program PROGRAM "$program"
+[ $# -gt 1 ] || "$examples/../scripts/build.sh" napi_series
+series=${2:-$examples/../crates/napi_series/out/napi_series}
+is_program SERIES "$series"
 folder=$(mktemp -d)
 trap 'rm -rf "$folder"' EXIT
 differs=0
@@ -58,26 +61,32 @@ compare() {
         }' "$examples/$name.work" "$folder/report" || differs=1
 }
 
-# compare_limits NAME EACH: replays what stands before each fall of the kernel's limit, and before every EACHth completion, and
-# compares the limit, the room and, where it is known, whether the queue is stopped.
+# compare_limits NAME: compares the series with the kernel's limit, its room and, where it is known, whether the queue was stopped
+# before and after, at every completion.
 compare_limits() {
     name=$1
-    awk -v each="$2" 'NR % each == 0 || $3 < limit { print } { limit = $3; last = $0 } END { if (NR % each) print last }' \
-        "$examples/$name.limits" > "$folder/chosen"
-    while read -r row _ limit avail stopped; do
-        head -n "$((row + 1))" "$examples/$name.csv" | "$program" 2>&1 |
-            awk -v wanted="$row $limit $avail $stopped" -v row="$row" -v known="$stopped" '
-                $1 == "tx" { told = row " " $12 " " $14 " " (known == "-" ? "-" : $16) }
-                END { if (told != wanted) print "row, limit, avail, stopped: " told ", the kernel " wanted }'
-    done < "$folder/chosen" > "$folder/others"
-    compared=$(wc -l < "$folder/chosen")
-    if [ -s "$folder/others" ] || [ "$compared" -lt 2 ]; then
-        sed "s/^/$name: /" "$folder/others"
-        echo "$name: $compared completions: other than the kernel"
+    status=0
+    "$series" < "$examples/$name.csv" > "$folder/series" 2> "$folder/fault" || status=$?
+    if [ "$status" != 0 ]; then
+        echo "$name: the series ended with status $status: $(tail -n 1 "$folder/fault")"
         differs=1
-    else
-        echo "$name: $compared completions: as the kernel"
+        return
     fi
+    awk -v name="$name" '
+        FNR == NR { before[$1] = $2; after[$1] = $3 " " $4 " " $5; recorded++; next }
+        FNR == 1 { next }
+        $1 in after {
+            compared++
+            told = $10 " " $11 " " (after[$1] ~ /-$/ ? "-" : $12)
+            if (told != after[$1]) { print name ": row " $1 ": limit, avail, stopped " told ", the kernel " after[$1]; other++ }
+            if (stopped != before[$1] && before[$1] != "-") { print name ": row " $1 ": stopped " stopped " before it, the kernel " before[$1]; other++ }
+        }
+        { stopped = $12 }
+        END {
+            if (compared < recorded || !recorded) { print name ": " compared + 0 " completions, the kernel " recorded + 0; other++ }
+            print name ": " compared + 0 " completions" (other ? ": other than the kernel" : ": as the kernel")
+            exit other > 0
+        }' FS=' ' "$examples/$name.limits" FS=, "$folder/series" || differs=1
 }
 
 compare linux-veth-tcp -
@@ -85,5 +94,5 @@ compare linux-veth-bursts -
 compare linux-veth-small-budget 55 --budget 64
 compare linux-veth-threaded -
 compare linux-napi-disable 267 --budget 64
-compare_limits linux-virtio-limits 36
+compare_limits linux-virtio-limits
 exit "$differs"

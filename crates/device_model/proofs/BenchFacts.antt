@@ -1,28 +1,17 @@
 -- How a change of one device keeps what is true of all.
-use Rattle.std.proofs.Common.{◌≡◌, ◌≢◌, ◌∙◌, ℕ, zero, suc, ◌+◌, ◌<◌, ◌≤◌, Bool, true, false, Option, Some, None, [], ◌∷◌, length, ◌++◌, length-set, get_or, slice_set, take, drop, ap, refl, sym, arith}
+use Rattle.std.proofs.Common.{◌≡◌, ◌≢◌, ◌∙◌, ℕ, zero, suc, ◌+◌, ◌<◌, ◌≤◌, Bool, true, false, Option, Some, None, [], ◌∷◌, length, ◌++◌, length-set, replicate, get_or, slice_set, take, drop, ap, refl, sym, arith}
 use Rattle.std.specs.Prelude.{◌==◌, nat_lt}
 use Rattle.std.proofs.lemmas.Bool.{eqb-true, eqb-false, ltb-true, ltb-false}
 use Rattle.std.proofs.lemmas.Grind.{get_or-set_at}
 use Rattle.std.proofs.lemmas.List.{append-nil, drop_all, get_or-set_other, take_all}
 use Rattle.device_model.specs.Bench.{all_settled, settled_at}
-use Rattle.device_model.specs.Device.{is_pending, settled}
+use Rattle.device_model.specs.Device.{is_pending, opened, settled}
 use Rattle.device_model.specs.DeviceView.{DeviceView}
 use Rattle.device_model.specs.Kept.{IsKept, is_pending_at, is_sound, is_sound_at}
 use Rattle.device_model.proofs.DeviceFacts.{settled-same}
-use Rattle.device_model.specs.Places.{Places, at, changed, changed_from}
-
-pub below-some : {A : Type 0} → (xs : Places A) (i : ℕ) (a : A) → at i xs ≡ Some a → i < length xs
-below-some [] i a e = cc e
-below-some (x ∷ xs) zero a e = omega arith
-below-some (x ∷ xs) (suc i) a e = omega (arith, below-some xs i a e)
-
--- what stands at a number after another place was set, or this one
-pub at-set : {A : Type 0} → (P : Option A → Type 0) → (xs : Places A) (i j : ℕ) (y : Option A) → i < length xs → P y → P (at j xs) → P (at j (slice_set xs i y))
-at-set P xs i j y below new old = by (j == i) refl
-  where
-    by : (b : Bool) → (j == i) ≡ b → P (at j (slice_set xs i y))
-    by true e = rw (get_or-set_at xs i j y None (eqb-true j i e) below) new
-    by false e = rw (get_or-set_other xs i j y None (eqb-false j i e)) old
+use Rattle.device_model.proofs.Waiting.{waiting-empty, waiting-most}
+use Rattle.device_model.specs.Places.{Places, at, changed, changed_from, empty}
+use Rattle.device_model.proofs.PlaceFacts.{at-set, below-some}
 
 pub sound-at : (u : Bool) (xs : Places DeviceView) (n : ℕ) (d : DeviceView) → IsKept u xs → at n xs ≡ Some d → is_sound d ≡ true
 sound-at u xs n d k e = ap is_sound_at (sym e) ∙ k.sound n
@@ -37,19 +26,32 @@ kept-set u v xs n e k below sound both pending = record {
   places = length-set xs n (Some e) ∙ k.places;
   sound = λ m. at-set (λ o. is_sound_at o ≡ true) xs n m (Some e) below sound (k.sound m);
   settled = λ off m. at-set (λ o. is_pending_at o ≡ false) xs n m (Some e) below (pending off) (k.settled (both off) m);
+  few = waiting-most _ (length-set xs n (Some e) ∙ k.places);
 }
+
+none-at : (count n : ℕ) → at {A = DeviceView} n (replicate count None) ≡ None
+none-at zero n = refl
+none-at (suc count) zero = refl
+none-at (suc count) (suc n) = none-at count n
+
+-- no devices
+pub kept-empty : IsKept false empty
+kept-empty = record {
+  places = refl;
+  sound = λ n. ap is_sound_at (none-at 17 n);
+  settled = λ off n. ap is_pending_at (none-at 17 n);
+  few = omega (arith, waiting-empty);
+}
+
+-- a new device, which is sound and isn't pending
+pub kept-opened : (u : Bool) (xs : Places DeviceView) (n capacity : ℕ) → IsKept u xs → n < length xs → IsKept u (slice_set xs n (Some (opened capacity)))
+kept-opened u xs n capacity k below = kept-set u u xs n (opened capacity) k below refl (λ off. off) (λ off. refl)
 
 -- a change of one device that keeps both
 pub kept-changed : (u : Bool) (xs : Places DeviceView) (n : ℕ) (d e : DeviceView) → IsKept u xs → at n xs ≡ Some d → is_sound e ≡ true → is_pending e ≡ is_pending d
     → IsKept u (slice_set xs n (Some e))
 kept-changed u xs n d e k here sound pending =
     kept-set u u xs n e k (below-some xs n d here) sound (λ off. off) (λ off. pending ∙ ap is_pending_at (sym here) ∙ k.settled off n)
-
--- what is read at a number below the places
-pub at-index : {A : Type 0} → (xs : Places A) (i : ℕ) (x : Option A) → i < length xs → get_or xs i x ≡ x → at i xs ≡ x
-at-index [] i x below e = absurd (omega (arith, below))
-at-index (y ∷ xs) zero x below e = e
-at-index (y ∷ xs) (suc i) x below e = at-index xs i x (omega (arith, below)) e
 
 -- ---- settling
 

@@ -3,6 +3,7 @@ pub mod BenchFacts
 pub mod DecidingFacts
 pub mod DeviceFacts
 pub mod NumeralFacts
+pub mod PlaceFacts
 pub mod RecordsFacts
 pub mod RowsFacts
 pub mod SwitchFacts

@@ -1,4 +1,4 @@
--- The devices of a bench, and what calls do to them.
+-- What the devices of a bench are, and what its calls and polls do to what it shows.
 use Rattle.std.specs.Prelude.{◌≡◌, ℕ, ◌+◌, ◌≤◌, List, [], Option, Some, None, is_some, filter, length, map}
 use Rattle.napi_model.specs.declared.state.Kind.{Kind}
 use Rattle.poll_engine.specs.Thread.{last_next}
@@ -8,11 +8,9 @@ use Rattle.device_model.specs.Counts.{counts_of}
 use Rattle.device_model.specs.Device.{after_packet, polled_by_thread, polled_once, settled}
 use Rattle.device_model.specs.DeviceView.{DeviceView}
 use Rattle.device_model.specs.Places.{Places, at, changed}
-use Rattle.device_model.specs.Transmit.{ShowsTransmit, TransmitView, tx_counts}
-use Rattle.device_model.specs.Waiting.{count, is_left_to_list, leaves, waiting}
-use Rattle.device_model.specs.declared.bench.SerialBench.{SerialBench}
+use Rattle.device_model.specs.Transmit.{TransmitView, tx_counts}
+use Rattle.device_model.specs.Waiting.{count, is_left_to_list, leaves}
 use Rattle.device_model.specs.declared.counts.DeviceCounts.{DeviceCounts}
-use Rattle.device_model.specs.declared.transmit.Transmit.{Transmit}
 use Rattle.device_model.specs.declared.transmit.TxCounts.{TxCounts}
 
 abbrev pub Devices : Type 0
@@ -21,25 +19,13 @@ Devices = Places DeviceView
 abbrev pub Transmits : Type 0
 Transmits = Places TransmitView
 
--- the devices that were attached
-abbrev pub devices_of : SerialBench → Devices
-devices_of bench = bench.devices.items
+-- a call changed the transmit sides that a bench shows so
+abbrev pub Changes : {B : Type 0} → (B → Transmits → Type 0) → (Transmits → Transmits) → B → B → Type 0
+Changes shows change old new = (all : Transmits) → shows old all → shows new (change all)
 
--- what is kept of a transmit side shows this
-abbrev pub ShowsAt : Option Transmit → Option TransmitView → Type 0
-ShowsAt None None = Unit {0}
-ShowsAt (Some kept) (Some t) = ShowsTransmit kept t
-ShowsAt None (Some t) = ⊥
-ShowsAt (Some kept) None = ⊥
-
--- the transmit sides of a bench show these
-pub record ShowsTransmits (bench : SerialBench) (all : Transmits) : Type 0 where
-  pub places : length all ≡ 17
-  pub each : (number : ℕ) → ShowsAt (at number bench.transmits.items) (at number all)
-
--- a call left the transmit sides as they were
-abbrev pub KeepsTransmits : SerialBench → SerialBench → Type 0
-KeepsTransmits old new = new.transmits.items ≡ old.transmits.items
+-- a call left them as they were
+abbrev pub Keeps : {B : Type 0} → (B → Transmits → Type 0) → B → B → Type 0
+Keeps shows old new = Changes shows (λ all. all) old new
 
 -- ---- packets
 
@@ -58,27 +44,40 @@ abbrev pub once_of : ℕ → Option DeviceView → Once
 once_of weight None = record { work = 0; next = Absent }
 once_of weight (Some d) = (polled_once weight d).0
 
--- a poll from the list: its answer and the devices afterwards are functions of those before
-pub record Polls (before : SerialBench) (number weight : ℕ) (once : Once) (after : SerialBench) : Type 0 where
-  pub answer : once ≡ once_of weight (at number (devices_of before))
-  pub devices : devices_of after ≡ changed (λ d. (polled_once weight d).1) number (devices_of before)
-  pub transmits : KeepsTransmits before after
-  pub waits : waiting (devices_of before) ≤ waiting (devices_of after) + leaves once.next
-
--- the same as a function of the devices: the answer, and the devices afterwards
+-- a poll from the list as a function of the devices: the answer, and the devices afterwards
 abbrev pub polled_at : Devices → ℕ → ℕ → Once × Devices
 polled_at devices number weight = (once_of weight (at number devices), changed (λ d. (polled_once weight d).1) number devices)
+
+-- a poll from the list, by what a bench shows: where it is exact, answer and devices afterwards are this function's
+pub record IsPoll {B : Type 0} (Exact : Type 0) (devices : B → Devices) (shows : B → Transmits → Type 0) (waiting : B → ℕ)
+    (before : B) (number weight : ℕ) (once : Once) (after : B) : Type 0 where
+  pub exact : Exact → (once ≡ (polled_at (devices before) number weight).0) × (devices after ≡ (polled_at (devices before) number weight).1)
+  pub transmits : Keeps shows before after
+  pub waits : waiting before ≤ waiting after + leaves once.next
+
+-- that the polls from the list, of a bench that states them so, are these
+abbrev pub ArePolls : {B : Type 0} → Type 0 → (B → Devices) → (B → Transmits → Type 0) → (B → ℕ) → (B → ℕ → ℕ → Once → B → Type 0) → Type 0
+ArePolls {B} Exact devices shows waiting polls =
+    (before after : B) (number weight : ℕ) (once : Once) → polls before number weight once after → IsPoll Exact devices shows waiting before number weight once after
 
 abbrev pub thread_polls_of : ℕ → ℕ → Option DeviceView → List Once
 thread_polls_of weight most None = []
 thread_polls_of weight most (Some d) = (polled_by_thread most weight d).0
 
 -- the same of the polling of a device by its thread
-pub record ThreadPolls (before : SerialBench) (number weight most : ℕ) (polls : List Once) (after : SerialBench) : Type 0 where
-  pub made : polls ≡ thread_polls_of weight most (at number (devices_of before))
-  pub devices : devices_of after ≡ changed (λ d. (polled_by_thread most weight d).1) number (devices_of before)
-  pub transmits : KeepsTransmits before after
-  pub waits : waiting (devices_of after) ≡ waiting (devices_of before) + count (is_left_to_list (last_next polls))
+abbrev pub thread_polled_at : Devices → ℕ → ℕ → ℕ → Devices
+thread_polled_at devices number weight most = changed (λ d. (polled_by_thread most weight d).1) number devices
+
+pub record IsThreadPolls {B : Type 0} (Exact : Type 0) (devices : B → Devices) (shows : B → Transmits → Type 0) (waiting : B → ℕ)
+    (before : B) (number weight most : ℕ) (polls : List Once) (after : B) : Type 0 where
+  pub exact : Exact → (polls ≡ thread_polls_of weight most (at number (devices before))) × (devices after ≡ thread_polled_at (devices before) number weight most)
+  pub transmits : Keeps shows before after
+  pub waits : waiting before + count (is_left_to_list (last_next polls)) ≤ waiting after
+
+abbrev pub AreThreadPolls : {B : Type 0} → Type 0 → (B → Devices) → (B → Transmits → Type 0) → (B → ℕ) → (B → ℕ → ℕ → ℕ → List Once → B → Type 0) → Type 0
+AreThreadPolls {B} Exact devices shows waiting polls =
+    (before after : B) (number weight most : ℕ) (all : List Once) → polls before number weight most all after
+    → IsThreadPolls Exact devices shows waiting before number weight most all after
 
 -- ---- disabling
 

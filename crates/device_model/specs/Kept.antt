@@ -1,10 +1,11 @@
 -- What is true of the devices of a bench at all times.
-use Rattle.std.specs.Prelude.{◌≡◌, ℕ, Bool, true, false, not, ◌||◌, Option, Some, None, length}
+use Rattle.std.specs.Prelude.{◌≡◌, ◌≤◌, ℕ, Bool, true, false, not, ◌||◌, Option, Some, None, length}
 use Rattle.napi_model.specs.declared.state.Place.{Place}
 use Rattle.napi_model.specs.declared.state.Place.TheVariants.{Nobody}
 use Rattle.device_model.specs.Device.{is_pending}
 use Rattle.device_model.specs.DeviceView.{DeviceView}
 use Rattle.device_model.specs.Places.{Places, at}
+use Rattle.device_model.specs.Waiting.{waiting}
 
 -- an instance that somebody has, or that was handed over, is scheduled
 abbrev pub is_held : Place → Bool
@@ -27,3 +28,5 @@ pub record IsKept (unsettled : Bool) (devices : Places DeviceView) : Type 0 wher
   pub sound : (number : ℕ) → is_sound_at (at number devices) ≡ true
   -- where no disable is unsettled, none is pending
   pub settled : unsettled ≡ false → (number : ℕ) → is_pending_at (at number devices) ≡ false
+  -- each waits once at most
+  pub few : waiting devices ≤ 17

@@ -11,6 +11,8 @@ pub mod Places
 pub mod Range
 pub mod Record
 pub mod Row
+pub mod SerialBench
+pub mod Sides
 pub mod Source
 pub mod Switch
 pub mod Trace

@@ -1,7 +1,7 @@
 //! Calls on a bench one by one, with their answers and the state words after them, and what no contract says: that a call
 //! succeeds where memory is there.
 
-use crate::{DeviceCounts, DeviceState, SerialBench, TxCounts};
+use crate::{DeviceCounts, DeviceState, ReplayBench, SerialBench, TxCounts};
 use napi_model::Kind;
 use poll_engine::{Bench, Next, Once, ThreadReport};
 use std::alloc::{AllocError, Global};

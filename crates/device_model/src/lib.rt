@@ -14,18 +14,21 @@ mod event;
 mod fault;
 mod laws;
 mod record;
+mod replay_bench;
 mod row;
+mod sides;
 mod switch;
 mod trace;
 #[cfg(test)]
 mod trace_tests;
 mod transmit;
 
-pub use bench::{PLACES, SerialBench};
+pub use bench::SerialBench;
 pub use counts::{DeviceCounts, DeviceState};
 pub use event::Event;
 pub use fault::TraceFault;
 pub use laws::{first_fault_stands, first_records_decide};
+pub use replay_bench::{PLACES, ReplayBench};
 pub use row::Row;
 pub use switch::Switch;
 pub use trace::{MOST_ROWS, Trace, read_trace};

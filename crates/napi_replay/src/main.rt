@@ -4,34 +4,9 @@
 //! or that of the fault. The words after the program's name ask for a mode and for the numbers of a run.
 #![tactic(auto)]
 
-mod fault;
-mod line;
-mod program;
-mod replay;
-mod report;
-mod serial;
-#[cfg(test)]
-mod test_cases;
-#[cfg(test)]
-mod tests;
-
-use crate::program::{Ending, ProgramFault, end_by, run_program};
-use replay_words::WordFault;
-use std::io::ErrorKind;
+use std::io;
 use std::process::ExitCode;
-use std::{env, io};
-
-// The words after the program's name. One that is no text is no word of the program.
-fn given_words(rt: &HostRuntime) -> Result<Vec<String>, WordFault> {
-    match env::args(rt) {
-        Ok(words) => words
-            .skip(1)
-            .collect(rt.alloc())
-            .map_err(|_| WordFault::OutOfMemory),
-        Err(error) if error.kind() == ErrorKind::OutOfMemory => Err(WordFault::OutOfMemory),
-        Err(_) => Err(WordFault::Usage),
-    }
-}
+use trace_replay::{Ending, end_by, given_words, run_program};
 
 // The program over its real ends.
 fn run(rt: &HostRuntime) -> Ending {
@@ -44,7 +19,7 @@ fn run(rt: &HostRuntime) -> Ending {
             &mut io::writer(rt),
             &mut errors,
         ),
-        Err(fault) => end_by(rt.alloc(), &ProgramFault::Words(fault), &mut errors),
+        Err(fault) => end_by(rt.alloc(), &fault, &mut errors),
     }
 }
 

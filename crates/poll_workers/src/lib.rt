@@ -8,7 +8,6 @@ mod gathering;
 mod job;
 mod opening;
 mod poller;
-mod polls;
 mod run;
 mod seat;
 mod serving;

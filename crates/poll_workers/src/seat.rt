@@ -4,11 +4,10 @@ ghost use Rattle.std.specs.Prelude.{◌≡◌, ◌≤◌, IsSome, None};
 ghost use Rattle.std.specs.Option.{ForSome};
 ghost use Rattle.napi_calls.specs.Instance.{IsSeatOf};
 
-use crate::polls::poll_instance_thread;
 use crate::signals::Bell;
 use napi_calls::{Caller, Napi};
 use napi_model::Kind;
-use poll_engine::{Next, Once, ThreadReport, poll_instance};
+use poll_engine::{Next, Once, ThreadReport, poll_instance, poll_instance_by_thread};
 use rx_ring::Batch;
 use std::mem;
 use std::sync::Wait;
@@ -105,7 +104,7 @@ impl<'n> Seat<'n> {
                 next: Next::Absent,
             };
         };
-        let (caller, report) = poll_instance_thread(rt, self.napi, caller, weight, most, batch);
+        let (caller, report) = poll_instance_by_thread(rt, self.napi, caller, weight, most, batch);
         self.sit(caller);
         report
     }

@@ -57,8 +57,8 @@ fn mode_of(word: &str) -> Option<Mode>
     }
 }
 
-// The number from 1 to `high` that one to five digits write.
-fn number_of(text: &str, high: u32) -> Option<u32>
+/// The number from 1 to `high` that one to five ASCII digits write, or `None`.
+pub fn number_of(text: &str, high: u32) -> Option<u32>
     ensures number { result ≡ number_of high text.now }
     ensures range { IfSome result (λ n. (1 ≤ n) × (n ≤ high)) }
 {

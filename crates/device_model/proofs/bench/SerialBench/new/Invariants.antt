@@ -2,7 +2,4 @@ use Rattle.std.proofs.Common.{◌≡◌, None, replicate}
 use Rattle.device_model.proofs.bench.SerialBench.new.Given as goal
 
 abbrev pub invariant-loop : goal.invariant-loop
-invariant-loop l = record {
-  devices : l.devices.items ≡ replicate l.counter None;
-  transmits : l.transmits.items ≡ replicate l.counter None;
-}
+invariant-loop l = l.devices.items ≡ replicate l.counter None

@@ -2,7 +2,8 @@ use Rattle.std.proofs.Common.{◌≡◌, ◌∙◌, Some, ap, sym, arith}
 use Rattle.device_model.specs.Device.{is_pending}
 use Rattle.device_model.specs.Kept.{is_sound}
 use Rattle.device_model.specs.Places.{at}
-use Rattle.device_model.proofs.BenchFacts.{at-index, below-some, kept-set, pending-off, sound-at}
+use Rattle.device_model.proofs.BenchFacts.{kept-set, pending-off, sound-at}
+use Rattle.device_model.proofs.PlaceFacts.{at-index, below-some}
 use Rattle.device_model.proofs.DeviceFacts.{settle-keeps, settled-same}
 use Rattle.device_model.proofs.bench.SerialBench.settle_one.Goals as goal
 
@@ -15,5 +16,4 @@ invariant_of-self c =
       kept = kept-set c.args.self.now.unsettled c.args.self.now.unsettled c.args.self.now.devices.items c.args.device c.settle.new.self c.args.self.now.kept (below-some c.args.self.now.devices.items c.args.device c.in-Some.device here) (ap is_sound c.settle.ensures.device ∙ keeps.sound) (λ off. off) (λ off.
           let was = pending-off _ _ c.args.device _ c.args.self.now.kept here off in
           ap is_pending (c.settle.ensures.device ∙ settled-same _ was) ∙ was);
-      sides = c.args.self.now.sides;
     }

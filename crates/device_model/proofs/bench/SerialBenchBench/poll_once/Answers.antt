@@ -2,8 +2,9 @@ use Rattle.std.proofs.Common.{◌≡◌, ◌∙◌, Some, ap, refl, sym, arith}
 use Rattle.device_model.specs.Device.{is_pending}
 use Rattle.device_model.specs.Kept.{is_sound}
 use Rattle.device_model.specs.Places.{at}
-use Rattle.device_model.proofs.BenchFacts.{at-index, kept-changed, sound-at}
+use Rattle.device_model.proofs.BenchFacts.{kept-changed, sound-at}
 use Rattle.device_model.proofs.DeviceFacts.{once-keeps}
+use Rattle.device_model.proofs.PlaceFacts.{at-index}
 use Rattle.device_model.proofs.Waiting.{waiting-less}
 use Rattle.device_model.proofs.bench.SerialBenchBench.poll_once.Goals as goal
 
@@ -14,7 +15,6 @@ invariant_of-self c =
     let keeps = once-keeps c.args.weight c.in-Some.device (sound-at _ _ c.args.id _ c.args.self.now.kept here) in
     record {
       kept = kept-changed _ _ c.args.id c.in-Some.device _ c.args.self.now.kept here (ap is_sound c.poll_once.ensures.device ∙ keeps.sound) (ap is_pending c.poll_once.ensures.device ∙ keeps.pending);
-      sides = c.args.self.now.sides;
     }
 
 pub returns-in-Some-clause-leads : goal.returns-in-Some-clause-leads
@@ -23,9 +23,8 @@ returns-in-Some-clause-leads c =
     at-index _ c.args.id _ (omega (arith, c.args.self.now.kept.places)) (sym c.index_mut.ensures.value) ∙ c.in-Some.is in
     let keeps = once-keeps c.args.weight c.in-Some.device (sound-at _ _ c.args.id _ c.args.self.now.kept here) in
     record {
-      answer = rw here c.poll_once.ensures.once;
-      devices = rw (here, c.poll_once.ensures.device) refl;
-      transmits = refl;
+      exact = λ stated. (rw here c.poll_once.ensures.once, rw (here, c.poll_once.ensures.device) refl);
+      transmits = λ all shown. shown;
       waits = waiting-less c.args.self.now.devices.items c.args.id _ c.in-Some.device c.poll_once.new.self here
           (rw (c.poll_once.ensures.device, c.poll_once.ensures.once) keeps.listed);
     }

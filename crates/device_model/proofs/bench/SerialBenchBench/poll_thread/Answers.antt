@@ -2,9 +2,10 @@ use Rattle.std.proofs.Common.{◌≡◌, ◌∙◌, Some, ap, refl, sym, arith}
 use Rattle.device_model.specs.Device.{is_pending, polled_by_thread}
 use Rattle.device_model.specs.Kept.{is_sound}
 use Rattle.device_model.specs.Places.{at}
-use Rattle.device_model.proofs.BenchFacts.{at-index, kept-changed, sound-at}
+use Rattle.device_model.proofs.BenchFacts.{kept-changed, sound-at}
 use Rattle.device_model.proofs.DeviceFacts.{thread-keeps}
-use Rattle.device_model.proofs.Waiting.{waiting-set}
+use Rattle.device_model.proofs.PlaceFacts.{at-index}
+use Rattle.device_model.proofs.Waiting.{waiting-more}
 use Rattle.device_model.proofs.bench.SerialBenchBench.poll_thread.Goals as goal
 
 pub invariant_of-self : goal.invariant_of-self
@@ -14,7 +15,6 @@ invariant_of-self c =
     let keeps = thread-keeps c.args.most c.args.weight c.in-Some.device (sound-at _ _ c.args.id _ c.args.self.now.kept here) in
     record {
       kept = kept-changed _ _ c.args.id c.in-Some.device _ c.args.self.now.kept here (ap is_sound c.poll_thread.ensures.device ∙ keeps.sound) (ap is_pending c.poll_thread.ensures.device ∙ keeps.pending);
-      sides = c.args.self.now.sides;
     }
 
 pub returns-in-Some : goal.returns-in-Some
@@ -24,10 +24,9 @@ returns-in-Some c =
     let keeps = thread-keeps c.args.most c.args.weight c.in-Some.device (sound-at _ _ c.args.id _ c.args.self.now.kept here) in (
       (polled_by_thread c.args.most c.args.weight c.in-Some.device).0,
       record {
-        made = rw here refl;
-        devices = rw (here, c.poll_thread.ensures.device) refl;
-        transmits = refl;
-        waits = waiting-set c.args.self.now.devices.items c.args.id _ c.in-Some.device c.poll_thread.new.self here (rw c.poll_thread.ensures.device keeps.listed);
+        exact = λ stated. (rw here refl, rw (here, c.poll_thread.ensures.device) refl);
+        transmits = λ all shown. shown;
+        waits = waiting-more c.args.self.now.devices.items c.args.id _ c.in-Some.device c.poll_thread.new.self here (rw c.poll_thread.ensures.device keeps.listed);
       },
       c.poll_thread.ensures.report,
     )

@@ -1,9 +1,0 @@
-use Rattle.std.proofs.Common.{◌≡◌, ◌++◌, string_bytes}
-use Rattle.device_model.specs.Bench.{ShowsTransmits, Transmits}
-use Rattle.napi_replay.specs.Played.{world_in}
-use Rattle.napi_replay.specs.Report.{lines_below}
-use Rattle.napi_replay.proofs.replay.Replay.add_devices.Given as goal
-
-abbrev pub invariant-loop-number : goal.invariant-loop-number
-invariant-loop-number l = (all : Transmits) → ShowsTransmits l.self.bench all
-    → string_bytes l.text ≡ string_bytes l.initial.text ++ lines_below (world_in l.self) all l.number

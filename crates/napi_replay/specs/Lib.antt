@@ -1,9 +1,0 @@
-pub mod Answer
-pub mod Fault
-pub mod Played
-pub mod Program
-pub mod Replay
-pub mod Report
-pub mod Run
-pub mod Transmits
-pub mod World

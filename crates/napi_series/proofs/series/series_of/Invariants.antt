@@ -1,0 +1,10 @@
+use Rattle.std.proofs.Common.{◌≡◌, ◌++◌, string_bytes}
+use Rattle.napi_series.specs.Series.{header, lines_to}
+use Rattle.trace_replay.specs.After.{IsAfter}
+use Rattle.napi_series.proofs.series.series_of.Given as goal
+
+abbrev pub invariant-loop-index : goal.invariant-loop-index
+invariant-loop-index l = record {
+  after : IsAfter l.settings l.rows l.index l.replay;
+  text : string_bytes l.text ≡ header ++ lines_to l.settings l.every l.rows l.index;
+}

@@ -1,0 +1,47 @@
+-- The whole program: what it writes and how it ends, of the words after its name and the bytes of its input.
+use Rattle.std.specs.Prelude.{◌≡◌, ◌≢◌, ◌⊎◌, ℕ, List, Option, Some, None, Ok, Err}
+use Rattle.std.specs.Io.KnownBytes.{Keeps}
+use Rattle.napi_series.specs.Series.{series_by}
+use Rattle.napi_series.specs.Words.{series_asked_for}
+use Rattle.replay_words.specs.Words.{Text, asked_of}
+use Rattle.replay_words.specs.declared.mode.Mode.{Mode}
+use Rattle.replay_words.specs.declared.settings.Settings.{Settings}
+use Rattle.replay_words.specs.declared.words.WordFault.TheVariants.{Usage, OutOfMemory}
+use Rattle.trace_replay.specs.Answer.{IsOutside}
+use Rattle.trace_replay.specs.Program.{EndsBy}
+use Rattle.trace_replay.specs.declared.fault.ReplayFault.TheVariants.{OutputFailed}
+use Rattle.trace_replay.specs.declared.program.Ending.{Ending}
+use Rattle.trace_replay.specs.declared.program.ProgramFault.{ProgramFault}
+use Rattle.trace_replay.specs.declared.program.ProgramFault.TheVariants.{Words, Replay}
+
+-- the words ask for a line of each so many rows, by these settings
+pub record AskFor (words : List Text) (every : ℕ) (settings : Settings) : Type 0 where
+  pub mode : Mode
+  pub asked : series_asked_for words ≡ Some (every, asked_of (mode, settings))
+
+-- the text is the series of these bytes that the words ask for
+pub record IsSeries (words : List Text) (bytes text : List ℕ) : Type 0 where
+  pub every : ℕ
+  pub settings : Settings
+  pub asked : AskFor words every settings
+  pub series : series_by settings every bytes ≡ Ok text
+
+-- by what the words ask for it is the fault of the bytes, where these are known, or the reader, the memory or a writer failed
+pub record IsReplayFault (words : List Text) (input : Option (List ℕ)) (fault : _) : Type 0 where
+  pub every : ℕ
+  pub settings : Settings
+  pub asked : AskFor words every settings
+  pub why : (bytes : List ℕ) → input ≡ Some bytes → IsOutside fault ⊎ (series_by settings every bytes ≡ Err fault)
+
+-- the fault is that of the words or of the bytes
+abbrev pub IsFault : List Text → Option (List ℕ) → ProgramFault → Type 0
+IsFault words input (Words Usage) = series_asked_for words ≡ None
+IsFault words input (Words OutOfMemory) = Unit {0}
+IsFault words input (Replay fault) = IsReplayFault words input fault
+
+-- the program failed by some fault; on each but a failed output nothing was written
+pub record Failed (words : List Text) (input output_old output_new errors_old errors_new : Option (List ℕ)) (ending : Ending) : Type 0 where
+  pub fault : ProgramFault
+  pub why : IsFault words input fault
+  pub untouched : fault ≢ Replay OutputFailed → Keeps output_old output_new
+  pub ends : EndsBy fault errors_old errors_new ending

@@ -1,0 +1,90 @@
+-- The series of a trace: a CSV line behind each row, or behind each Nth one, with the values that the report of the rows so
+-- far would have.
+use Rattle.std.specs.Prelude.{ℕ, zero, suc, ◌+◌, ◌%◌, ◌==◌, List, [], ◌∷◌, ◌++◌, Option, Some, None, Result, Ok, Err, codes, decimal, flat_map, if◌then◌else◌, length}
+use Rattle.std.specs.Fmt.{signed_decimal}
+use Rattle.std.specs.List.{slice_get}
+use Rattle.device_model.specs.Trace.{records_of, trace_of}
+use Rattle.device_model.specs.declared.counts.DeviceCounts.{DeviceCounts}
+use Rattle.device_model.specs.declared.fault.TraceFault.{TraceFault}
+use Rattle.device_model.specs.declared.row.Row.{Row}
+use Rattle.device_model.specs.declared.transmit.TxCounts.{TxCounts}
+use Rattle.dql_core.specs.Counter.{distance_of}
+use Rattle.replay_words.specs.declared.settings.Settings.{Settings}
+use Rattle.trace_replay.specs.After.{counts_after, polled_after}
+use Rattle.trace_replay.specs.Replay.{world_of}
+use Rattle.trace_replay.specs.Report.{flag, state_word}
+use Rattle.trace_replay.specs.World.{World}
+use Rattle.trace_replay.specs.declared.fault.ReplayFault.{ReplayFault}
+use Rattle.trace_replay.specs.declared.fault.ReplayFault.TheVariants.{Trace}
+use Rattle.trace_replay.specs.declared.line.Line.{Line}
+use Rattle.trace_replay.specs.declared.line.Line.TheVariants.{Softirq, Kthread}
+
+abbrev pub header : List ℕ
+header = codes "row,moment,device,state,waiting,arrived,dropped,polled,in_flight,limit,avail,stopped,polls,work,squeezed\n"
+
+-- fields, a comma before each
+abbrev pub fields : List (List ℕ) → List ℕ
+fields texts = flat_map (λ text. codes "," ++ text) texts
+
+-- the row: its number, its moment and its device
+abbrev pub row_fields : ℕ → Row → List ℕ
+row_fields n row = decimal n ++ fields (decimal row.moment ∷ decimal row.device ∷ [])
+
+-- the device: its state, the packets that wait in its ring, that arrived, that were dropped, that were polled
+abbrev pub device_fields : Option DeviceCounts → List ℕ
+device_fields None = codes ",,,,,"
+device_fields (Some counts) = fields (state_word counts.state ∷ decimal counts.left ∷ decimal counts.arrived ∷ decimal counts.dropped ∷ decimal counts.polled ∷ [])
+
+-- its transmit side, where that had a row: the bytes in flight (sent and not complete), the limit, the bytes that may still be
+-- queued, whether the queue is stopped
+abbrev pub queue_fields : Option TxCounts → List ℕ
+queue_fields None = codes ",,,,"
+queue_fields (Some tx) = fields (decimal (distance_of tx.state.queued tx.state.completed) ∷ decimal tx.state.limit ∷ signed_decimal tx.state.avail
+    ∷ decimal (flag tx.state.stopped) ∷ [])
+
+abbrev pub queue_of : Option DeviceCounts → Option TxCounts
+queue_of None = None
+queue_of (Some counts) = counts.tx
+
+-- what a row that polled did; a thread's polling is never squeezed
+abbrev pub run_fields : Option Line → List ℕ
+run_fields None = codes ",,,"
+run_fields (Some (Softirq row run)) = fields (decimal run.polls ∷ decimal run.work ∷ decimal (flag run.squeezed) ∷ [])
+run_fields (Some (Kthread row device report)) = fields (decimal report.polls ∷ decimal report.work ∷ [] ∷ [])
+
+-- the line of a row
+abbrev pub line_of : ℕ → Row → Option DeviceCounts → Option Line → List ℕ
+line_of n row counts polled = row_fields n row ++ (device_fields counts ++ (queue_fields (queue_of counts) ++ (run_fields polled ++ codes "\n")))
+
+-- the line behind the first n rows, of which this is the last
+abbrev pub line_after : Settings → List Row → ℕ → Option Row → List ℕ
+line_after s rows n None = []
+line_after s rows n (Some row) = line_of n row (counts_after s rows n row.device) (polled_after s rows n)
+
+-- the same, where row n has one
+abbrev pub part_after : Settings → ℕ → List Row → ℕ → Option Row → List ℕ
+part_after s every rows n row = if n % every == 0 then line_after s rows n row else []
+
+-- the lines behind the first n rows
+unfoldable pub lines_to : Settings → ℕ → List Row → ℕ → List ℕ
+lines_to s every rows zero = []
+lines_to s every rows (suc n) = lines_to s every rows n ++ part_after s every rows (n + 1) (slice_get rows n)
+
+abbrev pub text_of : Settings → ℕ → List Row → List ℕ
+text_of s every rows = header ++ lines_to s every rows (length rows)
+
+-- the series of a trace's rows, or the fault that their report has
+abbrev pub series_in : Result World ReplayFault → List ℕ → Result (List ℕ) ReplayFault
+series_in (Ok w) text = Ok text
+series_in (Err fault) text = Err fault
+
+abbrev pub series_of : Settings → ℕ → List Row → Result (List ℕ) ReplayFault
+series_of s every rows = series_in (world_of s rows) (text_of s every rows)
+
+-- that of a text: of its rows, or the first fault of the trace
+abbrev pub answer_of : Settings → ℕ → Result (List Row) TraceFault → Result (List ℕ) ReplayFault
+answer_of s every (Ok rows) = series_of s every rows
+answer_of s every (Err fault) = Err (Trace fault)
+
+abbrev pub series_by : Settings → ℕ → List ℕ → Result (List ℕ) ReplayFault
+series_by s every bytes = answer_of s every (trace_of (records_of bytes))

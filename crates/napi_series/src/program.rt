@@ -1,0 +1,61 @@
+//! The whole program, but for its real ends: from the words, the input and the two outputs to the exit status.
+
+ghost use Rattle.std.specs.Prelude.{◌≡◌, ◌≢◌, ℕ, List, Some, IfErr, OnOk, map, string_bytes};
+ghost use Rattle.std.specs.Io.KnownBytes.{Appends, Keeps};
+ghost use Rattle.napi_series.specs.Program.{Failed, IsFault, IsSeries};
+ghost use Rattle.trace_replay.specs.declared.fault.ReplayFault.TheVariants.{OutputFailed};
+ghost use Rattle.trace_replay.specs.declared.program.ProgramFault.TheVariants.{Replay};
+
+use crate::series::write_series;
+use crate::words::parse_series_words;
+use std::alloc::Global;
+use std::io::{Read, Write};
+use trace_replay::{Ending, ProgramFault, end_by};
+
+// Replays the input as the words ask for, and writes its series.
+fn write_asked<R: Read + Drop, W: Write>(
+    alloc: Global,
+    words: &[String],
+    input: R,
+    output: &mut W,
+) -> Result<(), ProgramFault>
+    ensures written { OnOk result ((bytes : List ℕ) → R.remaining input ≡ Some bytes
+        → (text : List ℕ) × IsSeries (map string_bytes words.now) bytes text × Appends (W.contents output.old) (W.contents output.new) text) }
+    ensures fault { IfErr result (IsFault (map string_bytes words.now) (R.remaining input)) }
+    ensures untouched { IfErr result (λ fault. fault ≢ Replay OutputFailed → Keeps (W.contents output.old) (W.contents output.new)) }
+{
+    match parse_series_words(alloc, words) {
+        Ok((every, settings)) => match write_series(alloc, input, output, &settings, every) {
+            Ok(()) => Ok(()),
+            Err(fault) => Err(ProgramFault::Replay(fault)),
+        },
+        Err(fault) => Err(ProgramFault::Words(fault)),
+    }
+}
+
+/// Runs the program: replays `input` as the words after its name ask for, writes the series to `output` or the line of the
+/// fault to `errors`, and says how it ended.
+///
+/// The status is 0 exactly where the series was written.
+pub(crate) fn run_program<R: Read + Drop, W: Write, E: Write>(
+    alloc: Global,
+    words: &[String],
+    input: R,
+    output: &mut W,
+    errors: &mut E,
+) -> Ending
+    // What is written is the series of the bytes read that the words ask for, and nothing else.
+    ensures written { result.status ≡ 0 → (bytes : List ℕ) → R.remaining input ≡ Some bytes
+        → (text : List ℕ) × IsSeries (map string_bytes words.now) bytes text × Appends (W.contents output.old) (W.contents output.new) text }
+    ensures quiet { result.status ≡ 0 → Keeps (E.contents errors.old) (E.contents errors.new) }
+    ensures failed { result.status ≢ 0
+        → Failed (map string_bytes words.now) (R.remaining input) (W.contents output.old) (W.contents output.new) (E.contents errors.old) (E.contents errors.new) result }
+{
+    match write_asked(alloc, words, input, output) {
+        Ok(()) => Ending {
+            status: 0,
+            told: false,
+        },
+        Err(fault) => end_by(alloc, &fault, errors),
+    }
+}

@@ -1,0 +1,119 @@
+//! The series of a trace: from the bytes of the trace to the bytes of the series.
+
+ghost use Rattle.std.specs.Prelude.{◌≡◌, ◌≢◌, ◌⊎◌, ◌≤◌, ◌<◌, ◌+◌, ◌++◌, [], ℕ, List, Ok, Err, Some, IfOk, IfErr, OnOk, length, slice_get, string_bytes};
+ghost use Rattle.std.specs.Io.KnownBytes.{Appends, Keeps};
+ghost use Rattle.device_model.specs.Trace.{AcceptedAfter};
+ghost use Rattle.device_model.specs.declared.fault.TraceFault.TheVariants.{OutOfMemory};
+ghost use Rattle.napi_series.specs.Series.{part_after, series_by, series_of};
+ghost use Rattle.trace_replay.specs.Answer.{IsOutside};
+ghost use Rattle.trace_replay.specs.After.{IsAfter};
+ghost use Rattle.trace_replay.specs.Replay.{world_of};
+ghost use Rattle.trace_replay.specs.declared.fault.ReplayFault.TheVariants.{OutputFailed, Trace};
+
+use crate::line::add_line;
+use device_model::{Row, read_trace};
+use replay_words::Settings;
+use std::alloc::{AllocError, Global};
+use std::io::{Read, Write};
+use trace_replay::{ReplayFault, SerialReplay};
+
+const HEADER: &str =
+    "row,moment,device,state,waiting,arrived,dropped,polled,in_flight,limit,avail,stopped,polls,work,squeezed\n";
+
+// Adds the line behind the row of that index, the last one that was played, where it has one.
+fn add_part(
+    text: &mut String,
+    settings: &Settings,
+    every: u32,
+    rows: &[Row],
+    index: usize,
+    replay: &SerialReplay,
+) -> Result<(), AllocError>
+    requires every { 0 < every }
+    requires count { length rows.now ≤ 100000 }
+    requires index { index < length rows.now }
+    requires after { IsAfter settings.now rows.now (index + 1) replay.now }
+    ensures { OnOk result (string_bytes text.new ≡ string_bytes text.old ++ part_after settings.now every rows.now (index + 1) (slice_get rows.now index)) }
+{
+    let number = index as u32 + 1;
+    if number % every != 0 {
+        return Ok(());
+    }
+    let row = &rows[index];
+    add_line(
+        text,
+        number,
+        row,
+        replay.counts(row.device),
+        replay.polled(number),
+    )
+}
+
+// The series of the rows.
+fn series_of(
+    alloc: Global,
+    settings: &Settings,
+    every: u32,
+    rows: &[Row],
+) -> Result<String, ReplayFault>
+    requires every { 0 < every }
+    requires accepted { AcceptedAfter [] rows.now }
+    requires count { length rows.now ≤ 100000 }
+    ensures text { IfOk result (λ text. series_of settings.now every rows.now ≡ Ok (string_bytes text)) }
+    ensures fault { IfErr result (λ fault. (fault ≡ Trace OutOfMemory) ⊎ (world_of settings.now rows.now ≡ Err fault)) }
+{
+    let mut text = String::from_str(alloc, HEADER)?;
+    let mut replay = SerialReplay::new(alloc, rows)?;
+    for index in 0..rows.len() {
+        replay.play_row(alloc, settings, rows, index)?;
+        add_part(&mut text, settings, every, rows, index, &replay)?;
+    }
+    Ok(text)
+}
+
+// Plays the rows, and writes the series of them, all of it at once.
+fn write_rows<W: Write>(
+    alloc: Global,
+    rows: &[Row],
+    writer: &mut W,
+    settings: &Settings,
+    every: u32,
+) -> Result<(), ReplayFault>
+    requires every { 0 < every }
+    requires accepted { AcceptedAfter [] rows.now }
+    requires count { length rows.now ≤ 100000 }
+    ensures written { OnOk result ((text : List ℕ) × (series_of settings.now every rows.now ≡ Ok text) × Appends (W.contents writer.old) (W.contents writer.new) text) }
+    ensures fault { IfErr result (λ fault. IsOutside fault ⊎ (series_of settings.now every rows.now ≡ Err fault)) }
+    ensures untouched { IfErr result (λ fault. fault ≢ OutputFailed → Keeps (W.contents writer.old) (W.contents writer.new)) }
+{
+    let text = series_of(alloc, settings, every, rows)?;
+    match writer.write_all(text.as_bytes()) {
+        Ok(()) => Ok(()),
+        Err(_) => Err(ReplayFault::OutputFailed),
+    }
+}
+
+/// Plays a trace on one thread, and writes its series: a line behind each row whose number is a multiple of `every`.
+///
+/// Nothing is written before the whole trace is read and played, so on every fault but `OutputFailed` nothing was. After
+/// a failed write it isn't known how much went out. Want of memory may come before any other fault.
+pub(crate) fn write_series<R: Read + Drop, W: Write>(
+    alloc: Global,
+    reader: R,
+    writer: &mut W,
+    settings: &Settings,
+    every: u32,
+) -> Result<(), ReplayFault>
+    requires every { 0 < every }
+    // What is written is the series of the rows of the bytes read, and nothing else.
+    ensures written { OnOk result ((bytes : List ℕ) → R.remaining reader ≡ Some bytes
+        → (text : List ℕ) × (series_by settings.now every bytes ≡ Ok text) × Appends (W.contents writer.old) (W.contents writer.new) text) }
+
+    // A fault is that of the bytes read, unless the reader, the memory or the writer failed.
+    ensures fault { IfErr result (λ fault. (bytes : List ℕ) → R.remaining reader ≡ Some bytes
+        → IsOutside fault ⊎ (series_by settings.now every bytes ≡ Err fault)) }
+    ensures untouched { IfErr result (λ fault. fault ≢ OutputFailed → Keeps (W.contents writer.old) (W.contents writer.new)) }
+{
+    let trace = read_trace(alloc, reader)?;
+    write_rows(alloc, trace.rows(), writer, settings, every)
+}

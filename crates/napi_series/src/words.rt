@@ -1,0 +1,45 @@
+//! The words after the program's name.
+
+ghost use Rattle.std.specs.Prelude.{◌≡◌, ◌≤◌, None, Err, IfOk, IfSome, map, option_map, string_bytes};
+ghost use Rattle.napi_series.specs.Program.{AskFor};
+ghost use Rattle.napi_series.specs.Words.{every_of, series_asked_for};
+ghost use Rattle.replay_words.specs.declared.words.WordFault.TheVariants.{Usage};
+
+use replay_words::{Settings, WordFault, number_of, parse_words};
+use std::alloc::Global;
+
+// How many rows make one line, and the other words.
+fn split_every(words: &[String]) -> Option<(u32, &[String])>
+    ensures split { option_map (λ s. (s.0, map string_bytes s.1.now)) result ≡ every_of (map string_bytes words.now) }
+    ensures range { IfSome result (λ s. 1 ≤ s.0) }
+{
+    match words {
+        [first, number, rest @ ..] if first.as_str() == "--every" => {
+            Some((number_of(number.as_str(), 99999)?, rest))
+        }
+        _ => Some((1, words)),
+    }
+}
+
+/// How many rows make one line, 1 to 99999, and the settings of the replay. `--every` and its number stand before the other
+/// words, which are those of `napi_replay`.
+///
+/// # Errors
+///
+/// [`WordFault::Usage`] where the words aren't so; [`WordFault::OutOfMemory`] where memory was refused.
+pub(crate) fn parse_series_words(
+    alloc: Global,
+    words: &[String],
+) -> Result<(u32, Settings), WordFault>
+    ensures asked { IfOk result (λ asked. AskFor (map string_bytes words.now) asked.0 asked.1) }
+    ensures usage { result ≡ Err Usage → series_asked_for (map string_bytes words.now) ≡ None }
+    ensures range { IfOk result (λ asked. 1 ≤ asked.0) }
+{
+    let Some((every, rest)) = split_every(words) else {
+        return Err(WordFault::Usage);
+    };
+    match parse_words(alloc, rest) {
+        Ok((_mode, settings)) => Ok((every, settings)),
+        Err(fault) => Err(fault),
+    }
+}

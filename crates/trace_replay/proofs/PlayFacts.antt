@@ -1,0 +1,84 @@
+-- How one more row carries a replay on.
+use Rattle.std.proofs.Common.{◌≡◌, ◌∙◌, ℕ, zero, suc, ◌+◌, ◌<◌, Bool, true, false, Ok, Err, Some, List, [], ◌∷◌, ◌++◌, length, append_assoc, take, drop, get_or, ap, refl, arith}
+use Rattle.std.specs.Prelude.{Result, if◌then◌else◌, slice_get}
+use Rattle.std.proofs.lemmas.List.{length-take, take_more}
+use Rattle.device_model.specs.Bench.{Transmits}
+use Rattle.device_model.specs.Trace.{AcceptedAfter, IsAccepted}
+use Rattle.device_model.specs.declared.row.Row.{Row}
+use Rattle.trace_replay.specs.Replay.{after_row, after_rows, is_early, start, world_of}
+use Rattle.trace_replay.specs.Report.{report_of, serial_report}
+use Rattle.trace_replay.specs.Transmits.{after_transmit, after_transmits, transmits_of}
+use Rattle.trace_replay.specs.World.{World}
+use Rattle.trace_replay.specs.declared.fault.ReplayFault.{ReplayFault}
+use Rattle.trace_replay.specs.declared.fault.ReplayFault.TheVariants.{Pending}
+use Rattle.replay_words.specs.declared.settings.Settings.{Settings}
+
+-- a row of a trace
+pub accepted-at : (earlier rows : List Row) (i : ℕ) (d : Row) → i < length rows → AcceptedAfter earlier rows → (before : List Row) × IsAccepted before (get_or rows i d)
+accepted-at earlier [] i d below h = absurd (omega (arith, below))
+accepted-at earlier (row ∷ rows) zero d below h = (earlier, h.0)
+accepted-at earlier (row ∷ rows) (suc i) d below h = accepted-at (earlier ++ row ∷ []) rows i d (omega (arith, below)) h.1
+
+-- the rest of the rows, where those before it were played
+then_rows : Settings → ℕ → List Row → Result World ReplayFault → Result World ReplayFault
+then_rows s n rows (Ok w) = after_rows s n rows w
+then_rows s n rows (Err fault) = Err fault
+
+after_rows-append : (s : Settings) (n m : ℕ) (xs ys : List Row) (w : World) → m ≡ n + length xs → after_rows s n (xs ++ ys) w ≡ then_rows s m ys (after_rows s n xs w)
+unfolding then_rows
+after_rows-append s n m [] ys w e = let at : m ≡ n = omega arith in rw at refl
+after_rows-append s n m (x ∷ xs) ys w e = by (is_early x.event x.device w) (after_rows-append s (n + 1) m xs ys (after_row s n x w) (omega arith))
+  where
+    by : (b : Bool) → after_rows s (n + 1) (xs ++ ys) (after_row s n x w) ≡ then_rows s m ys (after_rows s (n + 1) xs (after_row s n x w))
+        → (if b then Err (Pending n) else after_rows s (n + 1) (xs ++ ys) (after_row s n x w)) ≡ then_rows s m ys (if b then Err (Pending n) else after_rows s (n + 1) xs (after_row s n x w))
+    by true h = refl
+    by false h = h
+
+split-at : (rows : List Row) (i : ℕ) (d : Row) → i < length rows → rows ≡ take i rows ++ get_or rows i d ∷ drop (i + 1) rows
+split-at [] i d below = absurd (omega (arith, below))
+split-at (row ∷ rows) zero d below = refl
+split-at (row ∷ rows) (suc i) d below =
+    let next : suc i + 1 ≡ suc (i + 1) = omega arith in
+    rw next (ap (λ (l : List Row). row ∷ l) (split-at rows i d (omega (arith, below))))
+
+-- one more row that isn't early
+pub played-more : (s : Settings) (rows : List Row) (i : ℕ) (d : Row) (old new : World) → i < length rows → after_rows s 1 (take i rows) start ≡ Ok old
+    → is_early (get_or rows i d).event (get_or rows i d).device old ≡ false → new ≡ after_row s (i + 1) (get_or rows i d) old → after_rows s 1 (take (i + 1) rows) start ≡ Ok new
+unfolding then_rows
+played-more s rows i d old new below before on_time step =
+    let row : Row = get_or rows i d in
+    let appended = after_rows-append s 1 (i + 1) (take i rows) (row ∷ []) start (omega (arith, length-take i rows)) in
+    ap (λ (l : List Row). after_rows s 1 l start) (take_more rows i d below) ∙ appended ∙ rw (before, on_time, step) refl
+
+-- a row that is early ends all
+pub played-early : (s : Settings) (rows : List Row) (i : ℕ) (d : Row) (old : World) → i < length rows → after_rows s 1 (take i rows) start ≡ Ok old
+    → is_early (get_or rows i d).event (get_or rows i d).device old ≡ true → world_of s rows ≡ Err (Pending (i + 1))
+unfolding then_rows
+played-early s rows i d old below before early =
+    let row : Row = get_or rows i d in
+    let whole : rows ≡ take i rows ++ row ∷ drop (i + 1) rows = split-at rows i d below in
+    let appended = after_rows-append s 1 (i + 1) (take i rows) (row ∷ drop (i + 1) rows) start (omega (arith, length-take i rows)) in
+    ap (λ (l : List Row). after_rows s 1 l start) whole ∙ appended ∙ rw (before, early) refl
+
+after_transmits-push : (rows : List Row) (row : Row) (all : Transmits) → after_transmits (rows ++ row ∷ []) all ≡ after_transmit row (after_transmits rows all)
+after_transmits-push [] row all = refl
+after_transmits-push (r ∷ rows) row all = after_transmits-push rows row (after_transmit r all)
+
+-- the transmit sides, over the front of a list of rows
+pub after_transmits-more : (rows : List Row) (all : Transmits) (i : ℕ) (d : Row) → i < length rows
+    → after_transmits (take (i + 1) rows) all ≡ after_transmit (get_or rows i d) (after_transmits (take i rows) all)
+after_transmits-more rows all i d below = rw (take_more rows i d below) (after_transmits-push (take i rows) (get_or rows i d) all)
+
+-- the row at a place
+pub get-at : (rows : List Row) (i : ℕ) (d : Row) → i < length rows → slice_get rows i ≡ Some (get_or rows i d)
+get-at [] i d below = absurd (omega (arith, below))
+get-at (row ∷ rows) zero d below = refl
+get-at (row ∷ rows) (suc i) d below = get-at rows i d (omega (arith, below))
+
+-- where the rows have a fault, so has their report
+pub report-early : (s : Settings) (rows : List Row) (fault : ReplayFault) → world_of s rows ≡ Err fault → serial_report s rows ≡ Err fault
+report-early s rows fault early = ap (report_of (transmits_of rows)) early
+
+-- four parts of a text, in whatever order they were joined
+pub four-parts : (a b c d : List ℕ) → ((a ++ b) ++ c) ++ d ≡ a ++ (b ++ (c ++ d))
+four-parts a b c d = append_assoc (a ++ b) c d ∙ append_assoc a b (c ++ d)

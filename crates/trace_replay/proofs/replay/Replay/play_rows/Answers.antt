@@ -1,0 +1,42 @@
+use Rattle.std.proofs.Common.{inl, inr, ◌<◌, length, get_or, take, subst, sym, arith}
+use Rattle.std.proofs.lemmas.Result.{err_from_is_err_and}
+use Rattle.device_model.specs.declared.event.Event.TheVariants.{Opened}
+use Rattle.device_model.specs.declared.row.Row.{Row}
+use Rattle.trace_replay.specs.Transmits.{after_transmits}
+use Rattle.trace_replay.proofs.PlayFacts.{accepted-at, after_transmits-more, get-at, played-early, played-more, report-early}
+use Rattle.trace_replay.proofs.replay.Replay.play_rows.Goals as goal
+
+-- the row that an index out of the rows would give
+abbrev none : Row
+none = record { moment = 0; device = 0; event = Opened; value = 0 }
+
+pub play-requires-clause-device : goal.play-requires-clause-device
+play-requires-clause-device g c = (accepted-at _ c.args.rows.now c.loop-i.i none (omega arith) c.requires.accepted).1.device
+
+pub play-requires-clause-value : goal.play-requires-clause-value
+play-requires-clause-value g c = (accepted-at _ c.args.rows.now c.loop-i.i none (omega arith) c.requires.accepted).1.value
+
+pub loop-i-preserved : goal.loop-i-preserved
+loop-i-preserved g c =
+    let below : c.loop-i.i < length c.args.rows.now = omega arith in
+    record {
+      played = λ stated.
+          let world = c.in_ok-play.ensures.world stated in
+          played-more c.args.settings.now c.args.rows.now c.loop-i.i none _ _ below (c.loop-i.invariant.played stated) world.0 world.1;
+      transmits = λ all shown. subst (g.B.ReplayBench.shows c.play.new.self.bench) (sym (after_transmits-more c.args.rows.now all c.loop-i.i none below))
+          (c.in_ok-play.ensures.transmits (after_transmits (take c.loop-i.i c.args.rows.now) all) (c.loop-i.invariant.transmits all shown));
+      lines = omega (arith, c.in_ok-play.ensures.lines, c.loop-i.invariant.lines);
+    }
+
+pub returns-in_err-play-clause-fault : goal.returns-in_err-play-clause-fault
+returns-in_err-play-clause-fault g c =
+    let p = err_from_is_err_and c.from_residual.result c.from_residual.ensures.1 in
+    let below : c.loop-i.i < length c.args.rows.now = omega arith in
+    rw (p.1, p.2)
+    (elim c.in_err-play.ensures.fault [
+      | inl memory ↦ inl memory
+      | inr early ↦ inr (
+        (c.loop-i.i, get_or c.args.rows.now c.loop-i.i none, get-at c.args.rows.now c.loop-i.i none below, early.0, early.1),
+        λ stated. rw early.1 (report-early c.args.settings.now c.args.rows.now _ (played-early c.args.settings.now c.args.rows.now c.loop-i.i none _ below (c.loop-i.invariant.played stated) (early.2 stated))),
+      )
+    ])

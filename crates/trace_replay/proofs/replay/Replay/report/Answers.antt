@@ -1,0 +1,27 @@
+use Rattle.std.specs.Prelude.{flat_map}
+use Rattle.device_model.specs.Bench.{attached}
+use Rattle.trace_replay.specs.Played.{world_in}
+use Rattle.trace_replay.specs.Report.{ended, lines_below, list_line, poll_line, text_of, total_line, totals_of}
+use Rattle.trace_replay.proofs.PlayFacts.{four-parts}
+use Rattle.trace_replay.proofs.replay.Replay.report.Goals as goal
+
+pub returns : goal.returns
+unfolding text_of
+returns g c stated all shows =
+    rw (
+      c.in_ok-add_totals.ensures,
+      c.in_ok-add_list.ensures,
+      c.in_ok-add_devices.ensures stated all shows,
+      c.in_ok-add_lines.ensures,
+      c.new-text.ensures.bytes,
+      c.of-totals.ensures,
+      c.attached.ensures stated,
+      c.ids.ensures.ids,
+      c.as_slice.ensures.value,
+      c.as_slice-2.ensures.value,
+    )
+    (four-parts
+    (flat_map (λ line. ended (poll_line line)) c.args.self.now.lines.items)
+    (lines_below (world_in g.B.ReplayBench.devices c.args.self.now) all 17)
+    (ended (list_line c.args.self.now.list))
+    (ended (total_line (totals_of (attached (g.B.ReplayBench.devices c.args.self.now.bench)) c.args.self.now.lines.items))))

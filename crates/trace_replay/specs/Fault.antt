@@ -1,0 +1,39 @@
+-- The line, the number and the exit status of each fault. See docs/FORMATS.md, "Faults".
+use Rattle.std.specs.Prelude.{ℕ, List, ◌++◌, codes, decimal}
+use Rattle.device_model.specs.Fault.{number_of as trace_number}
+use Rattle.device_model.specs.declared.fault.TraceFault.{TraceFault}
+use Rattle.device_model.specs.declared.fault.TraceFault.TheVariants.{BadHeader, BadFields, BadNumber, BadEvent, OutOfRange, UnknownDevice, OpenTwice, WrongState, TooManyRows, ReadFailed, OutOfMemory}
+use Rattle.trace_replay.specs.declared.fault.ReplayFault.{ReplayFault}
+use Rattle.trace_replay.specs.declared.fault.ReplayFault.TheVariants.{Trace, Pending, OutputFailed}
+
+abbrev pub number_of : ReplayFault → ℕ
+number_of (Trace fault) = trace_number fault
+number_of (Pending row) = 12
+number_of OutputFailed = 15
+
+abbrev pub trace_line : TraceFault → List ℕ
+trace_line BadHeader = codes "trace fault 1 BadHeader row 0"
+trace_line (BadFields row) = codes "trace fault 2 BadFields row " ++ decimal row
+trace_line (BadNumber row) = codes "trace fault 3 BadNumber row " ++ decimal row
+trace_line (BadEvent row) = codes "trace fault 4 BadEvent row " ++ decimal row
+trace_line (OutOfRange row) = codes "trace fault 5 OutOfRange row " ++ decimal row
+trace_line (UnknownDevice row) = codes "trace fault 6 UnknownDevice row " ++ decimal row
+trace_line (OpenTwice row) = codes "trace fault 7 OpenTwice row " ++ decimal row
+trace_line (WrongState row) = codes "trace fault 8 WrongState row " ++ decimal row
+trace_line TooManyRows = codes "trace fault 9 TooManyRows row 100001"
+trace_line ReadFailed = codes "trace fault 10 ReadFailed"
+trace_line OutOfMemory = codes "memory fault 11 OutOfMemory"
+
+abbrev pub line_of : ReplayFault → List ℕ
+line_of (Trace fault) = trace_line fault
+line_of (Pending row) = codes "trace fault 12 Pending row " ++ decimal row
+line_of OutputFailed = codes "output fault 15 OutputFailed"
+
+abbrev pub trace_status : TraceFault → ℕ
+trace_status OutOfMemory = 4
+trace_status _ = 2
+
+abbrev pub status_of : ReplayFault → ℕ
+status_of (Trace fault) = trace_status fault
+status_of (Pending row) = 2
+status_of OutputFailed = 4

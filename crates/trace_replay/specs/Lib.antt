@@ -1,0 +1,11 @@
+pub mod After
+pub mod Answer
+pub mod Fault
+pub mod Played
+pub mod Program
+pub mod Refused
+pub mod Replay
+pub mod Report
+pub mod Run
+pub mod Transmits
+pub mod World

@@ -1,0 +1,17 @@
+-- Why the rows of a trace have no report.
+use Rattle.std.specs.Prelude.{◌≡◌, ◌⊎◌, ℕ, ◌+◌, List, Some, Err, slice_get}
+use Rattle.device_model.specs.declared.event.Event.TheVariants.{Enable}
+use Rattle.device_model.specs.declared.fault.TraceFault.TheVariants.{OutOfMemory}
+use Rattle.device_model.specs.declared.row.Row.{Row}
+use Rattle.trace_replay.specs.Report.{serial_report}
+use Rattle.trace_replay.specs.declared.fault.ReplayFault.{ReplayFault}
+use Rattle.trace_replay.specs.declared.fault.ReplayFault.TheVariants.{Pending, Trace}
+use Rattle.replay_words.specs.declared.settings.Settings.{Settings}
+
+-- the fault names an enable row
+abbrev pub IsOfEnable : List Row → ReplayFault → Type 0
+IsOfEnable rows fault = (i : ℕ) × (row : Row) × (slice_get rows i ≡ Some row) × (row.event ≡ Enable) × (fault ≡ Pending (i + 1))
+
+-- memory was refused, or an enable row met a disable that was pending; on an exact bench that is the rows' own fault
+abbrev pub IsRefused : Type 0 → Settings → List Row → ReplayFault → Type 0
+IsRefused Exact s rows fault = (fault ≡ Trace OutOfMemory) ⊎ (IsOfEnable rows fault × (Exact → serial_report s rows ≡ Err fault))

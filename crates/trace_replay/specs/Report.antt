@@ -1,0 +1,131 @@
+-- The report's text, word by word. See docs/FORMATS.md, "The report".
+use Rattle.std.specs.Prelude.{ℕ, zero, suc, ◌-◌, ◌==◌, length, slice_get, Bool, List, [], ◌∷◌, ◌++◌, Option, Some, None, Result, Ok, Err, codes, decimal, flat_map, if◌then◌else◌, sum_by}
+use Rattle.std.specs.Fmt.{signed_decimal}
+use Rattle.device_model.specs.Bench.{Transmits, attached, counts_at, tx_counts_of}
+use Rattle.device_model.specs.Places.{at}
+use Rattle.trace_replay.specs.Replay.{world_of}
+use Rattle.trace_replay.specs.Transmits.{transmits_of}
+use Rattle.trace_replay.specs.World.{World}
+use Rattle.device_model.specs.declared.counts.DeviceCounts.{DeviceCounts}
+use Rattle.device_model.specs.declared.counts.DeviceState.{DeviceState}
+use Rattle.device_model.specs.declared.counts.DeviceState.TheVariants.{On, Off, Pending}
+use Rattle.trace_replay.specs.declared.fault.ReplayFault.{ReplayFault}
+use Rattle.trace_replay.specs.declared.report.Totals.{Totals}
+use Rattle.device_model.specs.declared.row.Row.{Row}
+use Rattle.trace_replay.specs.declared.line.Line.{Line}
+use Rattle.trace_replay.specs.declared.line.Line.TheVariants.{Softirq, Kthread}
+use Rattle.poll_engine.specs.declared.run.RunReport.{RunReport}
+use Rattle.replay_words.specs.declared.settings.Settings.{Settings}
+use Rattle.device_model.specs.declared.transmit.TxCounts.{TxCounts}
+
+-- words with a space between two of them
+abbrev pub words : List (List ℕ) → List ℕ
+words [] = []
+words (word ∷ []) = word
+words (word ∷ next ∷ more) = word ++ (32 ∷ words (next ∷ more))
+
+-- each line ends with a line feed
+abbrev pub ended : List ℕ → List ℕ
+ended line = line ++ codes "\n"
+
+abbrev pub flag : Bool → ℕ
+flag b = if b then 1 else 0
+
+-- what a row that polls did
+abbrev pub poll_line : Line → List ℕ
+poll_line (Softirq row run) = words (codes "softirq" ∷ decimal row ∷ codes "polls" ∷ decimal run.polls ∷ codes "work" ∷ decimal run.work
+    ∷ codes "squeezed" ∷ decimal (flag run.squeezed) ∷ [])
+poll_line (Kthread row device report) = words (codes "kthread" ∷ decimal row ∷ codes "device" ∷ decimal device ∷ codes "polls" ∷ decimal report.polls
+    ∷ codes "work" ∷ decimal report.work ∷ [])
+
+-- one device
+abbrev pub state_word : DeviceState → List ℕ
+state_word On = codes "on"
+state_word Off = codes "off"
+state_word Pending = codes "pending"
+
+abbrev pub device_line : ℕ → DeviceCounts → List ℕ
+device_line number counts = words (codes "device" ∷ decimal number ∷ state_word counts.state ∷ codes "arrived" ∷ decimal counts.arrived ∷ codes "dropped" ∷ decimal counts.dropped
+    ∷ codes "polled" ∷ decimal counts.polled ∷ codes "bytes" ∷ decimal counts.bytes ∷ codes "left" ∷ decimal counts.left ∷ codes "polls" ∷ decimal counts.polls ∷ [])
+
+abbrev pub napi_line : ℕ → DeviceCounts → List ℕ
+napi_line number counts = words (codes "napi" ∷ decimal number ∷ codes "granted" ∷ decimal counts.granted ∷ codes "missed" ∷ decimal counts.missed
+    ∷ codes "disabled" ∷ decimal counts.disabled ∷ codes "again" ∷ decimal counts.again ∷ codes "released" ∷ decimal counts.released ∷ codes "word" ∷ decimal counts.word ∷ [])
+
+-- its transmit side, only where that had a row
+abbrev pub tx_line : ℕ → TxCounts → List ℕ
+tx_line number counts = words (codes "tx" ∷ decimal number ∷ codes "sent" ∷ decimal counts.sent ∷ codes "held" ∷ decimal counts.held
+    ∷ codes "done" ∷ decimal counts.done ∷ codes "denied" ∷ decimal counts.denied ∷ codes "limit" ∷ decimal counts.state.limit
+    ∷ codes "avail" ∷ signed_decimal counts.state.avail ∷ codes "stopped" ∷ decimal (flag counts.state.stopped) ∷ [])
+
+abbrev pub tx_lines : ℕ → Option TxCounts → List ℕ
+tx_lines number None = []
+tx_lines number (Some counts) = ended (tx_line number counts)
+
+-- the lines of a device, where there is one
+abbrev pub device_lines : ℕ → Option DeviceCounts → List ℕ
+device_lines number None = []
+device_lines number (Some counts) = ended (device_line number counts) ++ (ended (napi_line number counts) ++ tx_lines number counts.tx)
+
+-- the numbers, each after a space
+abbrev pub spaced : List ℕ → List ℕ
+spaced numbers = flat_map (λ number. codes " " ++ decimal number) numbers
+
+abbrev pub list_line : List ℕ → List ℕ
+list_line numbers = codes "list" ++ spaced numbers
+
+-- a number of a run; a thread's polling is no run
+abbrev pub of_run : (RunReport → ℕ) → Line → ℕ
+of_run number (Softirq row run) = number run
+of_run number (Kthread row device report) = 0
+
+-- opened devices, runs, and sums over the runs
+abbrev pub totals_of : ℕ → List Line → Totals
+totals_of devices lines = record {
+  devices = devices;
+  runs = sum_by (of_run (λ run. 1)) lines;
+  polls = sum_by (of_run (λ run. run.polls)) lines;
+  work = sum_by (of_run (λ run. run.work)) lines;
+  squeezed = sum_by (of_run (λ run. flag run.squeezed)) lines;
+}
+
+abbrev pub total_line : Totals → List ℕ
+total_line totals = words (codes "total" ∷ codes "devices" ∷ decimal totals.devices ∷ codes "runs" ∷ decimal totals.runs
+    ∷ codes "polls" ∷ decimal totals.polls ∷ codes "work" ∷ decimal totals.work ∷ codes "squeezed" ∷ decimal totals.squeezed ∷ [])
+
+-- what the report tells of device n
+abbrev pub counts_of : World → Transmits → ℕ → Option DeviceCounts
+counts_of w transmits n = counts_at (at n w.devices) (tx_counts_of (at n transmits))
+
+-- what row n did, where it is the last one that polled
+abbrev pub row_of : Line → ℕ
+row_of (Softirq row run) = row
+row_of (Kthread row device report) = row
+
+abbrev pub if_of_row : ℕ → Option Line → Option Line
+if_of_row n None = None
+if_of_row n (Some line) = if row_of line == n then Some line else None
+
+abbrev pub polled_by : ℕ → World → Option Line
+polled_by n w = if_of_row n (slice_get w.lines (length w.lines - 1))
+
+-- the lines of the devices whose numbers are below n, in rising order
+unfoldable pub lines_below : World → Transmits → ℕ → List ℕ
+lines_below w transmits zero = []
+lines_below w transmits (suc n) = lines_below w transmits n ++ device_lines n (counts_of w transmits n)
+
+-- The line of each row that polls in order, the lines of each device in rising order of their numbers, the poll list, the
+-- totals.
+unfoldable pub text_of : World → Transmits → List ℕ
+text_of w transmits = flat_map (λ line. ended (poll_line line)) w.lines
+    ++ (lines_below w transmits 17
+    ++ (ended (list_line w.list)
+    ++ ended (total_line (totals_of (attached w.devices) w.lines))))
+
+-- the serial report: the text of what the rows of a trace make, or the fault of the first enable row that is early
+abbrev pub report_of : Transmits → Result World ReplayFault → Result (List ℕ) ReplayFault
+report_of transmits (Ok w) = Ok (text_of w transmits)
+report_of transmits (Err fault) = Err fault
+
+abbrev pub serial_report : Settings → List Row → Result (List ℕ) ReplayFault
+serial_report s rows = report_of (transmits_of rows) (world_of s rows)

@@ -1,0 +1,87 @@
+//! All rows of a trace, over whatever bench: this alone plays them and forms their report, in every mode that plays rows.
+
+ghost use Rattle.std.specs.Prelude.{◌≡◌, ◌≢◌, ◌≤◌, ◌⊎◌, ℕ, [], IfErr, IfOk, Ok, OnOk, length, string_bytes};
+ghost use Rattle.std.specs.Io.KnownBytes.{Appends, Keeps as KeepsBytes};
+ghost use Rattle.device_model.specs.Bench.{Changes};
+ghost use Rattle.device_model.specs.Places.{empty};
+ghost use Rattle.device_model.specs.Trace.{AcceptedAfter};
+ghost use Rattle.device_model.specs.declared.fault.TraceFault.TheVariants.{OutOfMemory};
+ghost use Rattle.trace_replay.specs.Played.{world_in};
+ghost use Rattle.trace_replay.specs.Refused.{IsRefused};
+ghost use Rattle.trace_replay.specs.Replay.{start, world_of};
+ghost use Rattle.trace_replay.specs.Report.{serial_report};
+ghost use Rattle.trace_replay.specs.Transmits.{after_transmits};
+ghost use Rattle.trace_replay.specs.declared.fault.ReplayFault.TheVariants.{OutputFailed, Trace};
+
+use crate::fault::ReplayFault;
+use crate::line::Line;
+use crate::replay::Replay;
+use device_model::{Event, ReplayBench, Row};
+use replay_words::Settings;
+use std::alloc::{AllocError, Global};
+use std::io::Write;
+
+/// No lines yet, and room for that of each row that polls.
+pub(crate) fn room_for_lines(alloc: Global, rows: &[Row]) -> Result<Vec<Line>, AllocError>
+    ensures { IfOk result (λ lines. lines.items ≡ []) }
+{
+    let polling = rows
+        .iter()
+        .filter(|row| row.event == Event::Softirq || row.event == Event::Kthread)
+        .count();
+    Vec::with_capacity(alloc, polling)
+}
+
+impl<B: ReplayBench> Replay<B> {
+    // Plays the rows in order, up to the first that is refused.
+    fn play_rows(
+        &mut self,
+        alloc: Global,
+        settings: &Settings,
+        rows: &[Row],
+    ) -> Result<(), ReplayFault>
+        requires accepted { AcceptedAfter [] rows.now }
+        requires count { length rows.now ≤ 100000 }
+        requires start { B.Exact → world_in B.devices self.old ≡ start }
+        requires lines { self.old.lines.items ≡ [] }
+        ensures world { B.Exact → OnOk result (world_of settings.now rows.now ≡ Ok (world_in B.devices self.new)) }
+        ensures transmits { OnOk result (Changes B.shows (after_transmits rows.now) self.old.bench self.new.bench) }
+        ensures lines { OnOk result (length self.new.lines.items ≤ 100000) }
+        ensures fault { IfErr result (IsRefused B.Exact settings.now rows.now) }
+    {
+        for (i, row) in rows.iter().enumerate() {
+            self.play(alloc, settings, i as u32 + 1, row)?;
+        }
+        Ok(())
+    }
+
+    /// Plays the rows of a trace on a bench that has no devices yet, and gives the text of their report.
+    pub(crate) fn report_rows(
+        &mut self,
+        alloc: Global,
+        settings: &Settings,
+        rows: &[Row],
+    ) -> Result<String, ReplayFault>
+        requires accepted { AcceptedAfter [] rows.now }
+        requires count { length rows.now ≤ 100000 }
+        requires start { B.Exact → world_in B.devices self.old ≡ start }
+        requires transmits { B.shows self.old.bench empty }
+        requires lines { self.old.lines.items ≡ [] }
+        ensures report { B.Exact → IfOk result (λ text. serial_report settings.now rows.now ≡ Ok (string_bytes text)) }
+        ensures fault { IfErr result (IsRefused B.Exact settings.now rows.now) }
+    {
+        self.play_rows(alloc, settings, rows)?;
+        Ok(self.report(alloc)?)
+    }
+}
+
+/// Writes the text of a report, all of it at once.
+pub(crate) fn write_text<W: Write>(writer: &mut W, text: &String) -> Result<(), ReplayFault>
+    ensures written { OnOk result (Appends (W.contents writer.old) (W.contents writer.new) (string_bytes text.now)) }
+    ensures fault { IfErr result (λ fault. fault ≡ OutputFailed) }
+{
+    match writer.write_all(text.as_bytes()) {
+        Ok(()) => Ok(()),
+        Err(_) => Err(ReplayFault::OutputFailed),
+    }
+}

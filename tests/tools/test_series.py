@@ -1,0 +1,114 @@
+"""Tests of napi_series: its lines are what the reports of all prefixes tell, and its faults those of napi_replay."""
+
+import subprocess
+import unittest
+from pathlib import Path
+
+from prefixes import series_by_reports
+
+TOP = Path(__file__).resolve().parent.parent.parent
+REPLAY = TOP / "crates/napi_replay/out/napi_replay"
+SERIES = TOP / "crates/napi_series/out/napi_series"
+HEADER = "moment,device,event,value\n"
+NAMES = "row,moment,device,state,waiting,arrived,dropped,polled,in_flight,limit,avail,stopped,polls,work,squeezed\n"
+
+# Every event, a full ring, a pending disable, a thread, a queue that is over its limit, a completion that is refused.
+MIXED = """0,1,open,3
+0,2,open,2
+1,1,rx,100
+1,1,rx,200
+1,2,rx,300
+1,1,rx,50
+1,1,rx,60
+2,0,softirq,0
+2,1,disable,0
+3,0,softirq,0
+3,1,rx,70
+4,2,threaded,1
+4,2,tx,500
+4,2,tx,600
+4,2,tx,700
+5,2,done,1
+6,2,done,9
+6,2,rx,80
+7,2,kthread,0
+7,0,softirq,0
+7,0,softirq,0
+7,0,softirq,0
+7,0,softirq,0
+8,1,enable,0
+8,1,tx,65535
+2000,1,done,1
+2001,2,done,0
+2001,0,softirq,0
+2001,2,disable,0
+2002,1,threaded,0
+"""
+
+
+def run(program, words, text):
+    return subprocess.run([program, *words], input=text, capture_output=True, text=True, check=False)
+
+
+class Series(unittest.TestCase):
+    def check_prefixes(self, rows, words, every=1):
+        """The series has to be what a replay of each prefix reports."""
+        done = run(SERIES, [*(["--every", str(every)] if every > 1 else []), *words], HEADER + "".join(f"{row}\n" for row in rows))
+        self.assertEqual((done.stderr, done.returncode), ("", 0))
+        self.assertEqual(done.stdout, series_by_reports(REPLAY, rows, words, every))
+
+    def test_small_traces_agree_with_the_reports_of_their_prefixes(self):
+        traces = [MIXED.split()] + [(TOP / f"examples/{name}.csv").read_text().split()[1:]
+                                    for name in ("two-packets", "bursts", "queue-limit")]
+        for rows in traces:
+            for words in ([], ["--budget", "2"], ["--weight=1", "--window", "1"]):
+                self.check_prefixes(rows, words)
+            self.check_prefixes(rows, [], 3)
+            self.check_prefixes(rows, ["--budget", "1"], len(rows) + 1)
+
+    def test_a_recorded_piece_agrees_with_the_reports_of_its_prefixes(self):
+        rows = (TOP / "examples/linux-napi-disable.csv").read_text().split()[1:]
+        self.check_prefixes(rows[:600], ["--budget", "64"], 7)
+        rows = (TOP / "examples/linux-veth-threaded.csv").read_text().split()[1:]
+        self.check_prefixes(rows[:600], [], 7)
+
+    def test_by_hand(self):
+        """A packet comes and is polled. The limit of 0 stops the queue at its first 100 bytes, so that the second packet is
+        held back, and their completion lifts it by 100."""
+        text = HEADER + "0,1,open,8\n3,1,rx,60\n4,0,softirq,0\n5,1,tx,100\n6,1,tx,100\n7,1,done,1\n"
+        self.assertEqual(run(SERIES, [], text).stdout, NAMES + "1,0,1,on,0,0,0,0,,,,,,,\n2,3,1,on,1,1,0,0,,,,,,,\n"
+                         "3,4,0,,,,,,,,,,1,1,0\n4,5,1,on,0,1,0,1,100,0,-100,1,,,\n5,6,1,on,0,1,0,1,100,0,-100,1,,,\n"
+                         "6,7,1,on,0,1,0,1,0,100,100,0,,,\n")
+
+    def test_no_rows(self):
+        self.assertEqual(run(SERIES, [], HEADER).stdout, NAMES)
+
+    def test_faults_are_those_of_the_replay(self):
+        for rows in ("x\n", "0,1\n", "x,1,open,4\n", "0,1,what,4\n", "0,17,open,4\n", "0,1,rx,4\n", "0,1,open,4\n0,1,open,4\n",
+                     "0,1,open,4\n0,1,enable,0\n", "0,1,open,4\n1,1,rx,100\n2,1,disable,0\n3,1,enable,0\n",
+                     "0,1,open,4\n" + "0,1,rx,1\n" * 100000):
+            for words in ([], ["--every", "2"]):
+                mine = run(SERIES, words, HEADER + rows)
+                theirs = run(REPLAY, [], HEADER + rows)
+                self.assertNotEqual(theirs.returncode, 0)
+                self.assertEqual((mine.stdout, mine.stderr, mine.returncode), ("", theirs.stderr, theirs.returncode))
+        self.assertEqual(run(SERIES, [], "").stderr, "trace fault 1 BadHeader row 0\n")
+
+    def test_words(self):
+        for words in (["--every"], ["--every", "0"], ["--every", "x"], ["--every", "100000"], ["--every", "-1"], ["--every", ""],
+                      ["--every", "2", "--every", "2"], ["--budget", "2", "--every", "2"], ["--help"], ["-"], ["--budget", "0"],
+                      ["--every", "2", "--mode", "threads"]):
+            done = run(SERIES, words, HEADER)
+            self.assertEqual((done.stdout, done.stderr, done.returncode), ("", "usage fault 64\n", 64), words)
+        for words in (["--every", "99999"], ["--every", "00001"], ["--every", "2", "--budget=5", "--mode", "serial"]):
+            done = run(SERIES, words, HEADER)
+            self.assertEqual((done.stdout, done.stderr, done.returncode), (NAMES, "", 0), words)
+        done = subprocess.run([SERIES, b"--every", b"\xff"], input=b"", capture_output=True, check=False)
+        self.assertEqual((done.stderr, done.returncode), (b"usage fault 64\n", 64))
+
+    def test_ends_that_fail(self):
+        with open("/dev/full", "wb") as full:
+            done = subprocess.run([SERIES], input=HEADER.encode(), stdout=full, stderr=subprocess.PIPE, check=False)
+        self.assertEqual((done.stderr, done.returncode), (b"output fault 15 OutputFailed\n", 4))
+        done = subprocess.run(["sh", "-c", f"'{SERIES}' < '{TOP}/examples'"], capture_output=True, check=False)
+        self.assertEqual((done.stdout, done.stderr, done.returncode), (b"", b"trace fault 10 ReadFailed\n", 2))
