@@ -15,6 +15,8 @@ mod signals;
 mod spreading;
 mod station;
 mod tasks;
+#[cfg(test)]
+mod tests;
 mod thread_poller;
 mod worker;
 
