@@ -1,5 +1,5 @@
 -- How a change of one shared device keeps what is true of all.
-use Rattle.std.proofs.Common.{◌≡◌, ◌∙◌, ℕ, ◌+◌, ◌<◌, ◌≤◌, Bool, true, false, Option, Some, None, [], ◌∷◌, length, length-set, get_or, slice_set, replicate, zero, suc, ap, subst, refl, sym, arith}
+use Rattle.std.proofs.Common.{◌≡◌, ◌∙◌, ℕ, ◌+◌, ◌<◌, ◌≤◌, Bool, true, false, Option, Some, None, [], ◌∷◌, ◌++◌, length, length-set, get_or, slice_set, replicate, zero, suc, ap, subst, refl, sym, arith}
 use Rattle.std.specs.Prelude.{sum_by, if◌then◌else◌}
 use Rattle.std.proofs.Math.Logic.{∥∥₁_elim}
 use Rattle.std.proofs.Props.{props}
@@ -97,3 +97,22 @@ module _ {R : Type 0} where
     rest = λ n. subst IsRestAt (sym (none-at 17 n)) tt;
     few = omega (arith, one-each (replicate 17 None));
   } ∣₁)
+
+  -- all of these are at rest
+  abbrev pub AllRest : Places (Station R) → Type 0
+  AllRest xs = (n : ℕ) → IsRestAt (at n xs)
+
+  front : (xs : Places (Station R)) (x : Option (Station R)) (n : ℕ) → IsRestAt (at n (xs ++ x ∷ [])) → IsRestAt (at n xs)
+  front [] x n rest = tt
+  front (y ∷ xs) x zero rest = rest
+  front (y ∷ xs) x (suc n) rest = front xs x n rest
+
+  last : (xs : Places (Station R)) (x : Option (Station R)) → AllRest (xs ++ x ∷ []) → IsRestAt x
+  last [] x rest = rest 0
+  last (y ∷ xs) x rest = last xs x (λ n. rest (suc n))
+
+  pub rest-popped : (old new : Places (Station R)) (x : Option (Station R)) → old ≡ new ++ x ∷ [] → ∥ AllRest old ∥₁ → ∥ AllRest new ∥₁
+  rest-popped old new x e all = ∥∥₁_elim all (hlevel props) (λ a. ∣ (λ n. front new x n (subst AllRest e a n)) ∣₁)
+
+  pub rest-last : (old new : Places (Station R)) (s : Station R) → old ≡ new ++ Some s ∷ [] → ∥ AllRest old ∥₁ → IsAtRest s.device
+  rest-last old new s e all = ∥∥₁_elim all (rest-prop s.device) (λ a. last new (Some s) (subst AllRest e a))

@@ -26,3 +26,24 @@ pub(crate) fn put_back<T>(place: &mut Option<T>, value: T)
         Some(_) => unreachable!(),
     }
 }
+
+/// Opens a place that is done with, and gives its value.
+pub(crate) fn open<T>(place: Option<T>) -> T
+    requires { is_some place ≡ true }
+    ensures { place ≡ Some result }
+{
+    match place {
+        Some(value) => value,
+        None => unreachable!(),
+    }
+}
+
+/// Throws an empty place away.
+pub(crate) fn discard<T>(place: Option<T>)
+    requires { is_some place ≡ false }
+{
+    match place {
+        None => {}
+        Some(_) => unreachable!(),
+    }
+}

@@ -54,6 +54,23 @@ impl<R: Wait + Copy + Drop> SharedBench<R> {
         })
     }
 
+    /// Ends every device: polls until nobody has its instance, disables it and closes it.
+    pub fn end(self) {
+        let SharedBench {
+            rt: _,
+            mut devices,
+            transmits: _,
+            mut batch,
+            unsettled: _,
+        } = self;
+        while let Some(place) = devices.pop() {
+            if let Some(station) = place {
+                station.end(&mut batch);
+            }
+        }
+        devices.destroy_empty();
+    }
+
     // Makes a device in its place, unless one is there.
     fn keep(&mut self, alloc: Global, device: u32, capacity: u32) -> Result<(), AllocError>
         requires device { IsWithin 1 16 device }

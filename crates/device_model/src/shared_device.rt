@@ -10,7 +10,7 @@ ghost use Rattle.poll_engine.specs.Thread.{IsThreadPolling};
 ghost use Rattle.poll_engine.specs.declared.bench.Once.{Once};
 
 use crate::counts::{DeviceCounts, DeviceState};
-use crate::places::{put_back, take_out};
+use crate::places::{discard, open, put_back, take_out};
 use crate::transmit::TxCounts;
 use napi_calls::{
     Caller, Completed, Control, Granted, Marked, Napi, NewBack, Off, On, Polling, Sched, TryTake,
@@ -463,5 +463,55 @@ impl<R: Wait + Copy + Drop> SharedDevice<R> {
     /// What the report tells of the device, with its transmit side.
     pub(crate) fn counts(&self, tx: Option<TxCounts>) -> DeviceCounts {
         DeviceCounts { tx, ..self.told }
+    }
+}
+
+ghost use Rattle.device_model.specs.declared.shared_device.Controlled.TheVariants as controlled;
+
+impl<R: Wait + Copy + Drop> SharedDevice<R> {
+    /// Ends the device: polls until nobody has its instance, which is disabled then, and closed.
+    pub(crate) fn end(mut self, batch: &mut Batch)
+        requires { IsAtRest self }
+    {
+        let rt = self.rt;
+        for _ in rt.forever() {
+            match take_out(&mut self.control) {
+                Controlled::Off(control) => return self.close(control),
+                control => {
+                    let control = tried(&self.napi, marked(&self.napi, control));
+                    put_back(&mut self.control, control);
+                }
+            }
+            poll_once_of(&mut self, 64, batch);
+            poll_thread_of(&mut self, 64, 131072, batch);
+        }
+        unreachable!()
+    }
+
+    // Closes the instance.
+    fn close(self, control: Control<Off>)
+        requires { HasNoControl self (controlled.Off control) }
+    {
+        let SharedDevice {
+            rt: _,
+            napi,
+            interrupt,
+            poller,
+            thread,
+            polling,
+            by: _,
+            control: place,
+            mut seats,
+            input: _,
+            threaded: _,
+            told: _,
+        } = self;
+        discard(place);
+        discard(polling);
+        seats.push_reserved(open(interrupt));
+        seats.push_reserved(open(poller));
+        seats.push_reserved(open(thread));
+        let closed = napi.close(seats, control);
+        let Ok(_ctx) = closed else { unreachable!() };
     }
 }

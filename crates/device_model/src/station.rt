@@ -30,6 +30,14 @@ impl<R: Wait + Copy + Drop> Station<R> {
     ghost use Rattle.poll_engine.specs.Thread.{IsThreadPolling, last_next};
     ghost use Rattle.poll_engine.specs.declared.bench.Once.{Once};
 
+    // Ends the device.
+    pub(crate) fn end(self, batch: &mut Batch)
+        requires { IsAtRest self.device }
+    {
+        let Station { device, listed: _ } = self;
+        device.end(batch);
+    }
+
     // A packet. The answer is to whom the device was handed by that.
     pub(crate) fn arrive(&mut self, bytes: u32) -> Option<Kind>
         requires { IsAtRest self.old.device }
