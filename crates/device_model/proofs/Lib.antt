@@ -6,6 +6,7 @@ pub mod NumeralFacts
 pub mod PlaceFacts
 pub mod RecordsFacts
 pub mod RowsFacts
+pub mod SharedFacts
 pub mod SwitchFacts
 pub mod InstanceFacts
 pub mod ThreadFacts

@@ -12,8 +12,11 @@ pub mod Range
 pub mod Record
 pub mod Row
 pub mod SerialBench
+pub mod SharedBench
+pub mod SharedDevice
 pub mod Sides
 pub mod Source
+pub mod Stations
 pub mod Switch
 pub mod Trace
 pub mod Transmit
