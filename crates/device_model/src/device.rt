@@ -78,7 +78,7 @@ impl Model for Device {
       released = d.released;
     } };
 
-    ghost invariant = { λ d. (controller_of d.napi ≡ CONTROLLER) × IsOurs (state_of d.napi).place };
+    ghost invariant = { λ d. (controller_of d.napi ≡ CONTROLLER) × IsOurs (state_of d.napi) };
 }
 
 impl Device {
@@ -281,6 +281,7 @@ impl Device {
                 self.released = self.released.saturating_add(1);
                 Next::Gone
             }
+            Done::Held => unreachable!(),
             Done::Again => {
                 self.again = self.again.saturating_add(1);
                 Next::Again(self.hand_over(poller))
