@@ -1,4 +1,4 @@
-use Rattle.std.proofs.Common.{◌≡◌, Bool, false, sym, subst, ◌∙◌}
+use Rattle.std.proofs.Common.{Bool, false, sym, subst, ◌∙◌}
 use Rattle.napi_model.specs.declared.state.Kind.TheVariants as kind
 use Rattle.napi_model.specs.declared.event.Operation.TheVariants.{Take}
 use Rattle.napi_word.specs.Events.{Steps}

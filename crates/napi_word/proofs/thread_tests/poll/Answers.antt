@@ -1,4 +1,4 @@
-use Rattle.std.proofs.Common.{◌≡◌, false, sym, ◌∙◌, subst, inl, inr}
+use Rattle.std.proofs.Common.{false, sym, ◌∙◌, subst, inl, inr}
 use Rattle.napi_model.specs.declared.event.Done.{Done}
 use Rattle.napi_model.specs.declared.event.Operation.TheVariants.{Complete}
 use Rattle.napi_word.specs.Events.{Steps}
