@@ -1,6 +1,6 @@
 //! Times turns of an instance by its state word: schedule, hand to the list, take, the context out of its slot and back,
 //! complete. Once by one thread, once while a second thread schedules all the time, and once by one thread with the typed
-//! calls that stand on these steps. What is the same each time goes to standard output, times and the rest to standard error.
+//! calls that stand on these steps; and turns of busy polling by the typed calls. What is the same each time goes to standard output, times and the rest to standard error.
 //! The word is the number of turns. `bench/word.sh` compares it with the same turns by hand.
 #![tactic(auto)]
 
@@ -14,7 +14,7 @@ use rx_ring::ring;
 use std::env;
 use std::time::Instant;
 use turns::{Tally, make_turns, make_turns_beside};
-use typed::make_typed_turns;
+use typed::{Round, make_typed_turns};
 
 fn main(rt: HostRuntime) -> Result<()> {
     let word = env::args(&rt)?
@@ -44,9 +44,22 @@ fn main(rt: HostRuntime) -> Result<()> {
 
     let (_input, ctx) = ring(rt.alloc(), 4)?;
     let start = Instant::now(&rt)?;
-    let Tally { polls, again, lost } = make_typed_turns(&rt, rt.alloc(), ctx, turns)?;
+    let Tally { polls, again, lost } = make_typed_turns(
+        &rt,
+        rt.alloc(),
+        ctx,
+        Round::Listed,
+        turns,
+    )?;
     let spent = start.elapsed(&rt)?.as_nanos();
     println!(rt; "typed calls: turns {turns} polls {polls} again {again} lost {lost}")?;
     eprintln!(rt; "typed {spent} ns")?;
+
+    let (_input, ctx) = ring(rt.alloc(), 4)?;
+    let start = Instant::now(&rt)?;
+    let Tally { polls, again, lost } = make_typed_turns(&rt, rt.alloc(), ctx, Round::Busy, turns)?;
+    let spent = start.elapsed(&rt)?.as_nanos();
+    println!(rt; "busy polling: turns {turns} polls {polls} again {again} lost {lost}")?;
+    eprintln!(rt; "busy {spent} ns")?;
     Ok(())
 }

@@ -1,4 +1,5 @@
 //! The turns: each asks for a poll, and polls where the instance waits on the list.
+ghost use Rattle.std.specs.Prelude.{false};
 ghost use Rattle.napi_word.specs.Passes.{IsWithin, Polls};
 ghost use Rattle.bench_word.specs.Ready.{IsReady};
 
@@ -40,13 +41,14 @@ fn schedule(table: &StateTable, pass: &mut Pass, tally: &mut Tally)
 // instance would go back on the list.
 fn complete(table: &StateTable, pass: &mut Pass, tally: &mut Tally)
     requires ready { IsReady table.now pass.old }
-    requires polls { Polls pass.old }
+    requires polls { Polls false pass.old }
     ensures { IsReady table.now pass.new }
 {
     let mut seen = table.look(pass);
     for _ in 0..2 {
         match table.complete_swap(pass, seen) {
             Ok(Done::Released) => return,
+            Ok(Done::Held) => unreachable!(),
             Ok(Done::Again) => {
                 tally.again = tally.again.wrapping_add(1);
                 table.hand(pass, Kind::List);

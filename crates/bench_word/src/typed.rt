@@ -1,14 +1,23 @@
-//! The same turns by the typed calls, which stand on the steps.
+//! The same turns by the typed calls, which stand on the steps, and turns of busy polling.
 ghost use Rattle.std.specs.Prelude.{◌≡◌, ◌≤◌, ◌+◌, ℕ, length, slice_get, Some, vec_capacity};
 ghost use Rattle.napi_calls.specs.Instance.{IsSeatOf};
 ghost use Rattle.napi_calls.specs.declared.types.Caller.{Caller};
 
 use crate::turns::Tally;
-use napi_calls::{Caller, Napi, NewBack, NewFault, Polling, TryDone, TryPrep};
+use napi_calls::{Caller, Napi, NewBack, NewFault, Polling, TryBusy, TryDone, TryPrep};
 use napi_model::Kind;
 use rx_ring::RxCtx;
 use std::alloc::Global;
 use std::sync::Wait;
+
+/// How a turn polls.
+#[derive(Clone, Copy)]
+pub enum Round {
+    /// By the list, on which a schedule puts the instance.
+    Listed,
+    /// By busy polling: a completion that is held, the stop, and a completion.
+    Busy,
+}
 
 // Asks for a poll once, and hands over what was granted.
 fn schedule(napi: &Napi, caller: Caller, tally: &mut Tally) -> Caller
@@ -61,7 +70,32 @@ fn turn(napi: &Napi, caller: Caller, tally: &mut Tally) -> Caller
     }
 }
 
-fn make_turns(napi: &Napi, mut caller: Caller, turns: u64) -> (Caller, Tally)
+// A turn of busy polling, where the instance is idle.
+fn busy_turn(rt: &impl Wait, napi: &Napi, caller: Caller, tally: &mut Tally) -> Caller
+    requires { IsSeatOf napi.now caller.pass }
+    ensures { IsSeatOf napi.now result.pass }
+{
+    match caller.try_busy(napi) {
+        TryBusy::Refused(caller) => caller,
+        TryBusy::Changed(caller) => {
+            tally.lost = tally.lost.wrapping_add(1);
+            caller
+        }
+        TryBusy::Taken(mut busy) => {
+            busy.complete_held(napi);
+            tally.polls = tally.polls.wrapping_add(1);
+            complete(napi, busy.stop(rt, napi), tally)
+        }
+    }
+}
+
+fn make_turns(
+    rt: &impl Wait,
+    napi: &Napi,
+    mut caller: Caller,
+    kind: Round,
+    turns: u64,
+) -> (Caller, Tally)
     requires { IsSeatOf napi.now caller.pass }
     ensures { IsSeatOf napi.now result.0.pass }
 {
@@ -71,7 +105,10 @@ fn make_turns(napi: &Napi, mut caller: Caller, turns: u64) -> (Caller, Tally)
         lost: 0,
     };
     for _ in 0..turns {
-        caller = turn(napi, caller, &mut tally);
+        caller = match kind {
+            Round::Listed => turn(napi, caller, &mut tally),
+            Round::Busy => busy_turn(rt, napi, caller, &mut tally),
+        };
     }
     (caller, tally)
 }
@@ -90,11 +127,12 @@ fn pop(napi: &Napi, callers: &mut Vec<Caller>) -> Caller
     caller
 }
 
-/// Makes an instance over this context, so many turns of one caller, and closes it.
+/// Makes an instance over this context, so many turns of this kind by one caller, and closes it.
 pub fn make_typed_turns(
     rt: &impl Wait,
     alloc: Global,
     ctx: RxCtx,
+    kind: Round,
     turns: u64,
 ) -> Result<Tally, NewFault> {
     let (napi, mut callers, control) = match Napi::new(alloc, ctx, 2) {
@@ -104,7 +142,7 @@ pub fn make_typed_turns(
     let control = control.enable(rt, &napi, false);
     let other = pop(&napi, &mut callers);
     let caller = pop(&napi, &mut callers);
-    let (caller, tally) = make_turns(&napi, caller, turns);
+    let (caller, tally) = make_turns(rt, &napi, caller, kind, turns);
     callers.push_reserved(caller);
     callers.push_reserved(other);
     let control = control.disable(rt, &napi);

@@ -124,20 +124,24 @@ handed-on : (threaded : Bool) (poller : ℕ) (d g : DeviceView) → g.napi.flags
 handed-on true poller d g sched pending = record { sound = sched; pending = pending; listed = refl; sched = λ e. sched }
 handed-on false poller d g sched pending = record { sound = sched; pending = pending; listed = refl; sched = λ e. sched }
 
+kept-in-hand : (d : DeviceView) → IsInHand d → Leaves d d Repoll
+kept-in-hand d hand = record { sound = sound-of d.napi.place d.napi.flags.sched hand.sched; pending = refl; listed = rw hand.off refl; sched = λ e. hand.sched }
+
 completed-leaves : (poller : ℕ) (d : DeviceView) → IsInHand d → Leaves d (completed poller d).1 (completed poller d).0
 unfolding completed handed_over
-completed-leaves poller d hand = by d.napi.flags.missed
+completed-leaves poller d hand = by d.napi.flags.in_busy_poll d.napi.flags.missed
   where
-    by : (missed : Bool) → let end = after_done poller (if missed then done.Again else done.Released) d in Leaves d end.1 end.0
-    by true = handed-on d.napi.flags.threaded poller d (record (made poller (operation.Complete done.Again) d) { again = raised d.again 1 }) hand.sched refl
-    by false = record { sound = refl; pending = refl; listed = refl; sched = λ e. cc e }
+    by : (busy missed : Bool) → let end = after_done poller (if busy then done.Held else (if missed then done.Again else done.Released)) d in Leaves d end.1 end.0
+    by true missed = kept-in-hand d hand
+    by false true = handed-on d.napi.flags.threaded poller d (record (made poller (operation.Complete done.Again) d) { again = raised d.again 1 }) hand.sched refl
+    by false false = record { sound = refl; pending = refl; listed = refl; sched = λ e. cc e }
 
 ended-leaves : (poller work weight : ℕ) (d : DeviceView) → IsInHand d → Leaves d (ended poller work weight d).1 (ended poller work weight d).0
 unfolding ended
 ended-leaves poller work weight d hand = by (asks_again work weight d)
   where
     by : (again : Bool) → Leaves d (ended_by again poller d).1 (ended_by again poller d).0
-    by true = record { sound = sound-of d.napi.place d.napi.flags.sched hand.sched; pending = refl; listed = rw hand.off refl; sched = λ e. hand.sched }
+    by true = kept-in-hand d hand
     by false = completed-leaves poller d hand
 
 poll-leaves : (poller weight : ℕ) (d : DeviceView) → IsInHand d → let poll = after_poll poller weight d in Leaves d poll.1 poll.0.next

@@ -1,7 +1,8 @@
 -- The polling of a device by the calls of its trait is the function of the device that the rules say.
 use Rattle.std.proofs.Common.{◌≡◌, ◌∙◌, ℕ, zero, suc, ◌-◌, ◌≤◌, Bool, true, false, List, [], ◌∷◌, Option, Some, None, MatchBool, ap, refl, sym, subst, arith}
 use Rattle.std.specs.Prelude.{◌==◌, ◌&&◌, not, if◌then◌else◌}
-use Rattle.napi_model.specs.Step.{take_reply}
+use Rattle.napi_model.specs.Step.{complete_reply, take_reply}
+use Rattle.napi_model.specs.declared.event.Done.{Done}
 use Rattle.napi_model.specs.declared.event.Done.TheVariants as done
 use Rattle.napi_model.specs.declared.event.Operation.TheVariants as operation
 use Rattle.napi_model.specs.declared.state.Kind.{Kind}
@@ -122,13 +123,13 @@ module _ (P : Type 0) where
 
   completed_place : (c : ℕ) (d : DeviceView) → (completed c d).0 ≡ Again kind.Thread → (completed c d).1.napi.place ≡ ToThread
   unfolding completed handed_over
-  completed_place c d e = by d.napi.flags.missed d.napi.flags.threaded refl e
+  completed_place c d e = by (complete_reply d.napi) d.napi.flags.threaded refl e
     where
-      by : (missed threaded : Bool) → d.napi.flags.threaded ≡ threaded → (after_done c (if missed then done.Again else done.Released) d).0 ≡ Again kind.Thread
-          → (after_done c (if missed then done.Again else done.Released) d).1.napi.place ≡ ToThread
-      by false threaded t e = cc e
-      by true true t e = rw t refl
-      by true false t e = cc (rw t at e)
+      by : (reply : Done) (threaded : Bool) → d.napi.flags.threaded ≡ threaded → (after_done c reply d).0 ≡ Again kind.Thread → (after_done c reply d).1.napi.place ≡ ToThread
+      by done.Released threaded t e = cc e
+      by done.Held threaded t e = cc e
+      by done.Again true t e = rw t refl
+      by done.Again false t e = cc (rw t at e)
 
   never : (b : Bool) → (b && false) ≡ false
   never true = refl

@@ -4,6 +4,8 @@ use Rattle.std.specs.Prelude.{◌==◌, if◌then◌else◌}
 use Rattle.std.specs.List.{AllByRecursion}
 use Rattle.std.proofs.lemmas.Bool.{ne_eqb}
 use Rattle.std.proofs.Math.Nat.{min-le_left}
+use Rattle.napi_model.specs.Step.{complete_reply}
+use Rattle.napi_model.specs.declared.event.Done.{Done}
 use Rattle.napi_model.specs.declared.event.Done.TheVariants as reply
 use Rattle.napi_model.specs.declared.state.Kind.TheVariants as kind
 use Rattle.poll_engine.specs.Thread.{Continues, is_for_thread, last_next}
@@ -83,15 +85,16 @@ some-polls (suc most) weight d room = by (goes_on (after_poll THREAD weight d).0
 -- a poll of an instance that is there
 ended-polled : (poller work weight : ℕ) (d : DeviceView) → (ended poller work weight d).0 ≢ Absent
 unfolding ended completed
-ended-polled poller work weight d = by (asks_again work weight d) d.napi.flags.missed
+ended-polled poller work weight d = by (asks_again work weight d)
   where
-    done : (missed : Bool) → (after_done poller (if missed then reply.Again else reply.Released) d).0 ≢ Absent
-    done true = λ e. cc e
-    done false = λ e. cc e
+    done : (reply : Done) → (after_done poller reply d).0 ≢ Absent
+    done reply.Again = λ e. cc e
+    done reply.Released = λ e. cc e
+    done reply.Held = λ e. cc e
 
-    by : (again missed : Bool) → (ended_by again poller d).0 ≢ Absent
-    by true missed = λ e. cc e
-    by false missed = done d.napi.flags.missed
+    by : (again : Bool) → (ended_by again poller d).0 ≢ Absent
+    by true = λ e. cc e
+    by false = done (complete_reply d.napi)
 
 thread_polls-are : (most weight : ℕ) (d : DeviceView) → Polls weight most (thread_polls most weight d).0
 unfolding thread_polls

@@ -2,7 +2,7 @@
 use Rattle.std.specs.Prelude.{ℕ, zero, suc, ◌==◌, ◌&&◌, not, min, Bool, true, false, List, [], ◌∷◌, ◌++◌, length, take, drop, sum, Option, Some, None, if◌then◌else◌, nat_lt}
 use Rattle.napi_model.specs.Step.{after, complete_reply, event, opening, schedule_reply, take_disable_reply, take_reply}
 use Rattle.napi_model.specs.declared.event.Done.{Done}
-use Rattle.napi_model.specs.declared.event.Done.TheVariants.{Released, Again}
+use Rattle.napi_model.specs.declared.event.Done.TheVariants.{Released, Again, Held}
 use Rattle.napi_model.specs.declared.event.Operation.{Operation}
 use Rattle.napi_model.specs.declared.event.Operation.TheVariants as operation
 use Rattle.napi_model.specs.declared.event.Prep.{Prep}
@@ -91,12 +91,14 @@ polled weight d = record d {
   polls = raised d.polls 1;
 }
 
--- a completion (`napi_complete_done`); where a request was missed, the poller owns the instance again and hands it over
+-- a completion (`napi_complete_done`); where a request was missed, the poller owns the instance again and hands it over;
+-- what is busy polled stays in its hands
 abbrev pub after_done : ℕ → Done → DeviceView → Next × DeviceView
 after_done poller Released d = (next.Gone, record (made poller (operation.Complete Released) d) { released = raised d.released 1 })
 after_done poller Again d =
     let again = record (made poller (operation.Complete Again) d) { again = raised d.again 1 } in
     (next.Again (kind_for again.napi), handed_over poller again)
+after_done poller Held d = (next.Repoll, d)
 
 unfoldable pub completed : ℕ → DeviceView → Next × DeviceView
 completed poller d = after_done poller (complete_reply d.napi) d

@@ -79,7 +79,7 @@ impl Model for Device {
       released = d.released;
     } };
 
-    ghost invariant = { λ d. (controller_of d.napi ≡ CONTROLLER) × IsOurs (state_of d.napi).place };
+    ghost invariant = { λ d. (controller_of d.napi ≡ CONTROLLER) × IsOurs (state_of d.napi) };
 }
 
 impl Device {
@@ -348,6 +348,7 @@ impl Instance for Device {
                 self.released = self.released.saturating_add(1);
                 None
             }
+            Done::Held => unreachable!(),
             Done::Again => {
                 self.again = self.again.saturating_add(1);
                 Some(self.hand_over(poller))

@@ -3,7 +3,7 @@ use Rattle.std.specs.Prelude.{◌≡◌, ◌==◌, ℕ, true, false, Bool, List,
 use Rattle.napi_model.specs.Serial.{state_of}
 use Rattle.napi_model.specs.Step.{after, complete_reply, event, take_reply}
 use Rattle.napi_model.specs.declared.event.Done.{Done}
-use Rattle.napi_model.specs.declared.event.Done.TheVariants.{Released, Again}
+use Rattle.napi_model.specs.declared.event.Done.TheVariants.{Released, Again, Held}
 use Rattle.napi_model.specs.declared.event.Operation.{Operation}
 use Rattle.napi_model.specs.declared.event.Operation.TheVariants as operation
 use Rattle.napi_model.specs.declared.state.Kind.TheVariants as kind
@@ -41,6 +41,7 @@ received weight card = record card { ring = record card.ring { received = card.r
 abbrev pub completed : Done → CardView → Next × CardView
 completed Released card = (next.Gone, made (operation.Complete Released) card)
 completed Again card = (next.Again kind.List, made (operation.Hand kind.List) (made (operation.Complete Again) card))
+completed Held card = (next.Repoll, card)
 
 -- a poll that used its whole weight puts the instance back on the list, any other completes it
 abbrev pub ended : Bool → CardView → Next × CardView

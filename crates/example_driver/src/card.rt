@@ -1,6 +1,8 @@
 //! The card: two rings, an instance, and what its interrupts do.
 
+ghost use Rattle.std.specs.Prelude.{◌≡◌, false};
 ghost use Rattle.rx_ring.specs.Ends.{IsOneRing};
+ghost use Rattle.napi_model.specs.Serial.{state_of};
 
 use anyhow::Result;
 use dql_core::{Dql, MAX_LIMIT};
@@ -30,6 +32,7 @@ pub(crate) struct Card {
     tx: TxRing,
     arrived: u64,
     ghost rings: { IsOneRing input ctx },
+    ghost quiet: { (state_of napi).flags.in_busy_poll ≡ false },
 }
 
 /// A bench that drives one card.

@@ -38,6 +38,7 @@ impl Bench for QuietBench {
         } else {
             match card.napi.complete(POLLER) {
                 Done::Released => Next::Gone,
+                Done::Held => unreachable!(),
                 Done::Again => {
                     card.napi.hand(POLLER, Kind::List);
                     Next::Again(Kind::List)

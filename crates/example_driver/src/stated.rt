@@ -42,6 +42,7 @@ impl Card {
         }
         match self.napi.complete(POLLER) {
             Done::Released => Next::Gone,
+            Done::Held => unreachable!(),
             Done::Again => {
                 self.napi.hand(POLLER, Kind::List);
                 Next::Again(Kind::List)

@@ -10,10 +10,10 @@ use Rattle.napi_model.specs.declared.state.State.{State}
 use Rattle.napi_model.specs.declared.state.Place.{Place}
 use Rattle.napi_model.specs.declared.state.Place.TheVariants.{Nobody, Granted, Polling, Control}
 use Rattle.napi_model.specs.declared.event.Operation.{Operation}
-use Rattle.napi_model.specs.declared.event.Operation.TheVariants.{Look, Hand, MarkDisable, TakeDisable, Unmark, Enable}
+use Rattle.napi_model.specs.declared.event.Operation.TheVariants.{Look, Hand, Take, MarkDisable, TakeDisable, Unmark, Enable}
 use Rattle.napi_model.specs.Step.{opening, after_by}
 use Rattle.napi_model.specs.History.{LegalHistory, own}
-use Rattle.napi_model.specs.Laws.{is_owner, IsOwnedBy}
+use Rattle.napi_model.specs.Laws.{is_owner, IsOwnedBy, IsPolled}
 use Rattle.napi_word.specs.declared.table.Pass.{Pass}
 use Rattle.napi_word.specs.declared.view.Holds.TheVariants.{Out}
 use Rattle.napi_word.specs.View as view
@@ -21,7 +21,8 @@ use Rattle.napi_word.specs.View.{View}
 use Rattle.napi_word.specs.Events.{Steps}
 use Rattle.napi_word.specs.Passes.{view_of}
 use Rattle.napi_calls.specs.Seats.{number_of, controller_of, shown, state_of, ring_of, ShowsLegal, IsInputOf}
-use Rattle.napi_calls.specs.Knows.{own_place, Free, Stands, Controls, Has}
+use Rattle.napi_word.proofs.Knowing.{unbusy, take_polls, quiet_polls}
+use Rattle.napi_calls.specs.Knows.{own_place, Free, Stands, BusyPolls, Controls, Has}
 use Rattle.napi_calls.proofs.Steps.{found, state_stepped, shows_legal}
 use Rattle.napi_calls.proofs.Whole.{whole}
 
@@ -114,6 +115,31 @@ moved {r} {c} {p} q st e = record {
   exact = subst (λ (v : View). own c (view.shown v) ≡ view.mine v) (sym e) st.exact;
   place = ap (λ (v : View). own_place c (view.state_in v).place) e ∙ st.place;
 }
+
+-- ---- who polls
+
+-- nobody busy polls what was granted
+pub granted_unbusy : {c : ℕ} {p : Pass} → Stands Granted c p → BusyPolls false p
+granted_unbusy {c} {p} st = unbusy (controller_of p) (shown p) (shows_of st).legal (λ is. subst IsPolled (is_granted st) is)
+
+pub busy_taken : {c : ℕ} {p : Pass} {k : Kind} (q : Pass) → Stands Free c p → Steps (view_of p) (Take k true) (view_of q) → BusyPolls false q
+busy_taken {c} {p} {k} q st g = (take_polls (view_of p) (view_of q) k g).1
+
+-- an event that makes it so, and one that changes nothing
+pub busy_made : {b : Bool} {r : ℕ → Place} {c : ℕ} {p : Pass} {o : Operation} (q : Pass) → Stands r c p → Steps (view_of p) o (view_of q)
+    → ((c : ℕ) (s : State) → (after_by c o s).flags.in_busy_poll ≡ b) → BusyPolls b q
+busy_made {b} {r} {c} {p} {o} q st g is = ap (λ (s : State). s.flags.in_busy_poll) (state_stepped p o q g) ∙ is (number_of p) (found p o q g)
+
+pub busy_kept : {b : Bool} {c : ℕ} {p : Pass} {o : Operation} (q : Pass) → Stands Polling c p → BusyPolls b p → Steps (view_of p) o (view_of q)
+    → ((n : ℕ) (s : State) → after_by n o s ≡ s) → BusyPolls b q
+busy_kept {b} {c} {p} {o} q st busy g quiet =
+    (quiet_polls (view_of p) o (view_of q) g (quiet (number_of p) (found p o q g)) (is_polling st, busy)).1
+
+pub busy_looked : {b : Bool} {c : ℕ} {p : Pass} {x : Seen} (q : Pass) → Stands Polling c p → BusyPolls b p → Steps (view_of p) (Look x) (view_of q) → BusyPolls b q
+busy_looked q st busy g = busy_kept q st busy g (λ n s. refl)
+
+pub busy_moved : {b : Bool} {c : ℕ} {p : Pass} (q : Pass) → Stands Polling c p → BusyPolls b p → view_of q ≡ view_of p → BusyPolls b q
+busy_moved {b} q st busy e = ap (λ (v : View). (view.state_in v).flags.in_busy_poll) e ∙ busy
 
 pub outside : (p q : Pass) (x : RxCtx) → q.holds ≡ Out → view_of q ≡ view_of p → ring_of p ≡ Some (ring_name x) → Has q (Some x)
 outside p q x out same ring = record { holds = out; ring = ap view.ring_of same ∙ ring }

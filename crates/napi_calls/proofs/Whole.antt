@@ -6,9 +6,9 @@ use Rattle.std.proofs.Props.{props}
 use Rattle.napi_model.specs.declared.state.Kind.TheVariants as kind
 use Rattle.napi_model.specs.declared.state.State.{State}
 use Rattle.napi_model.specs.declared.event.Prep.TheVariants as prep
-use Rattle.napi_model.specs.declared.event.Done.TheVariants.{Released, Again}
+use Rattle.napi_model.specs.declared.event.Done.TheVariants.{Released, Again, Held}
 use Rattle.napi_model.specs.declared.event.Operation.{Operation}
-use Rattle.napi_model.specs.declared.event.Operation.TheVariants.{Look, Schedule, Hand, Take, Complete, MarkDisable, TakeDisable, Unmark, Enable, SetThreaded}
+use Rattle.napi_model.specs.declared.event.Operation.TheVariants.{Look, Schedule, Hand, Take, Complete, BusyTake, BusyStop, MarkDisable, TakeDisable, Unmark, Enable, SetThreaded}
 use Rattle.napi_model.specs.declared.event.Event.{Event}
 use Rattle.napi_model.specs.Step.{after, IsLegalBy}
 use Rattle.napi_model.specs.History.{IsBy, LegalHistory}
@@ -29,12 +29,15 @@ told_prop c (Look seen) s = hlevel props
 told_prop c (Schedule prep.Disabled) s = hlevel props
 told_prop c (Schedule prep.Granted) s = hlevel props
 told_prop c (Schedule prep.Missed) s = hlevel props
-told_prop c (Hand kind.List) s = one_or_other (hlevel props) (hlevel props) (λ a b. let bad = sym a ∙ b in cc)
+told_prop c (Hand kind.List) s = one_or_other (hlevel props) (hlevel props) (λ a b. let bad = sym a ∙ b.0 in cc)
 told_prop c (Hand kind.Thread) s = hlevel props
 told_prop c (Take kind true) s = hlevel props
 told_prop c (Take kind false) s = hlevel props
 told_prop c (Complete Again) s = hlevel props
 told_prop c (Complete Released) s = hlevel props
+told_prop c (Complete Held) s = hlevel props
+told_prop c BusyTake s = hlevel props
+told_prop c BusyStop s = hlevel props
 told_prop c MarkDisable s = hlevel props
 told_prop c (TakeDisable true) s = hlevel props
 told_prop c (TakeDisable false) s = hlevel props
@@ -61,6 +64,9 @@ tells c (Take kind true) s l = l
 tells c (Take kind false) s l = l
 tells c (Complete Again) s l = l
 tells c (Complete Released) s l = l
+tells c (Complete Held) s l = l
+tells c BusyTake s l = l
+tells c BusyStop s l = l
 tells c MarkDisable s l = l
 tells c (TakeDisable true) s l = l
 tells c (TakeDisable false) s l = (l.0, either s.flags.sched s.flags.npsvc l.1)
@@ -78,6 +84,9 @@ is_legal c (Take kind true) s l = l
 is_legal c (Take kind false) s l = l
 is_legal c (Complete Again) s l = l
 is_legal c (Complete Released) s l = l
+is_legal c (Complete Held) s l = l
+is_legal c BusyTake s l = l
+is_legal c BusyStop s l = l
 is_legal c MarkDisable s l = l
 is_legal c (TakeDisable true) s l = l
 is_legal c (TakeDisable false) s l = (l.0, which s.flags.sched s.flags.npsvc l.1)
@@ -95,6 +104,8 @@ by_prop k c (Schedule p) = hlevel props
 by_prop k c (Hand kind) = hlevel props
 by_prop k c (Take kind b) = hlevel props
 by_prop k c (Complete d) = hlevel props
+by_prop k c BusyTake = hlevel props
+by_prop k c BusyStop = hlevel props
 by_prop k c (SetThreaded b) = hlevel props
 
 pub whole : (k : ℕ) (s : State) (h : List Event) → ∥ LegalHistory k s h ∥₁ → LegalHistory k s h

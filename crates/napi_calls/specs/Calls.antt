@@ -4,10 +4,12 @@ use Rattle.napi_model.specs.declared.state.Seen.{Seen}
 use Rattle.napi_model.specs.declared.state.Kind.{Kind}
 use Rattle.napi_model.specs.declared.event.Prep.TheVariants as prep
 use Rattle.napi_model.specs.declared.event.Done.TheVariants as done
-use Rattle.napi_model.specs.declared.event.Operation.TheVariants.{Look, Schedule, Take, Complete, MarkDisable, TakeDisable, Unmark, Enable}
+use Rattle.napi_model.specs.declared.event.Operation.TheVariants.{Look, Schedule, Take, Complete, BusyTake, BusyStop, MarkDisable, TakeDisable, Unmark, Enable}
+use Rattle.napi_model.specs.Step.{MayBusyTake}
 use Rattle.napi_word.specs.declared.table.Pass.{Pass}
 use Rattle.napi_calls.specs.declared.types.Caller.{Caller}
 use Rattle.napi_calls.specs.declared.types.Polling.{Polling}
+use Rattle.napi_calls.specs.declared.types.Busy.{Busy}
 use Rattle.napi_calls.specs.declared.answers.TryPrep.{TryPrep}
 use Rattle.napi_calls.specs.declared.answers.TryPrep.TheVariants as try_prep
 use Rattle.napi_calls.specs.declared.answers.Sched.{Sched}
@@ -16,6 +18,10 @@ use Rattle.napi_calls.specs.declared.answers.TryDone.{TryDone}
 use Rattle.napi_calls.specs.declared.answers.TryDone.TheVariants as try_done
 use Rattle.napi_calls.specs.declared.answers.Completed.{Completed}
 use Rattle.napi_calls.specs.declared.answers.Completed.TheVariants as completed
+use Rattle.napi_calls.specs.declared.answers.TryBusy.{TryBusy}
+use Rattle.napi_calls.specs.declared.answers.TryBusy.TheVariants as try_busy
+use Rattle.napi_calls.specs.declared.answers.TryStop.{TryStop}
+use Rattle.napi_calls.specs.declared.answers.TryStop.TheVariants as try_stop
 use Rattle.napi_calls.specs.declared.answers.TryTake.{TryTake}
 use Rattle.napi_calls.specs.declared.answers.TryTake.TheVariants as try_take
 use Rattle.napi_calls.specs.Made.{Made, Lost, WasLost, looks, waits}
@@ -48,6 +54,11 @@ RunsUnlessBusy (try_take.Busy c) same ran = same
 RunsUnlessBusy (try_take.Taken c) same ran = ran
 RunsUnlessBusy (try_take.Changed c) same ran = ran
 
+abbrev pub RunsUnlessRefused : TryBusy → Type 0 → Type 0 → Type 0
+RunsUnlessRefused (try_busy.Refused c) same ran = same
+RunsUnlessRefused (try_busy.Taken b) same ran = ran
+RunsUnlessRefused (try_busy.Changed c) same ran = ran
+
 -- `net_rx_action` and `napi_thread_wait`, which find the instance or don't
 abbrev pub Takes : Kind → Pass → Result Polling Caller → Type 0
 Takes k p (Ok w) = Made p (Take k true ∷ []) w.pass
@@ -58,6 +69,17 @@ abbrev pub TriesToComplete : Pass → TryDone → Type 0
 TriesToComplete p (try_done.Released c) = (x : Seen) × Made p (Look x ∷ Complete done.Released ∷ []) c.pass
 TriesToComplete p (try_done.Again g) = (x : Seen) × Made p (Look x ∷ Complete done.Again ∷ []) g.pass
 TriesToComplete p (try_done.Changed w) = WasLost p w.pass
+
+-- `napi_busy_loop`: refused exactly where the look says that the instance may not be taken
+abbrev pub TriesToBusyPoll : Pass → TryBusy → Type 0
+TriesToBusyPoll p (try_busy.Taken b) = (x : Seen) × MayBusyTake x.flags × Made p (Look x ∷ BusyTake ∷ []) b.pass
+TriesToBusyPoll p (try_busy.Refused c) = (x : Seen) × ¬ MayBusyTake x.flags × Made p (Look x ∷ []) c.pass
+TriesToBusyPoll p (try_busy.Changed c) = (t : Lost) × MayBusyTake t.first.flags × Made p (looks t) c.pass
+
+-- `busy_poll_stop`
+abbrev pub TriesToStop : Pass → TryStop → Type 0
+TriesToStop p (try_stop.Stopped w) = (x : Seen) × Made p (Look x ∷ BusyStop ∷ []) w.pass
+TriesToStop p (try_stop.Changed b) = WasLost p b.pass
 
 -- `napi_disable`, behind its mark
 abbrev pub TriesToTake : Pass → TryTake → Type 0
@@ -79,6 +101,13 @@ Schedules p (sched.Disabled c) = (ts : List Lost) × Made p (flat_map looks ts +
 abbrev pub Completes : Pass → Completed → Type 0
 Completes p (completed.Released c) = (ts : List Lost) × (x : Seen) × Made p (flat_map looks ts ++ Look x ∷ Complete done.Released ∷ []) c.pass
 Completes p (completed.Again g) = (ts : List Lost) × (x : Seen) × Made p (flat_map looks ts ++ Look x ∷ Complete done.Again ∷ []) g.pass
+
+abbrev pub BusyPolling : Pass → Result Busy Caller → Type 0
+BusyPolling p (Ok b) = (ts : List Lost) × (x : Seen) × MayBusyTake x.flags × Made p (flat_map looks ts ++ Look x ∷ BusyTake ∷ []) b.pass
+BusyPolling p (Err c) = (ts : List Lost) × (x : Seen) × ¬ MayBusyTake x.flags × Made p (flat_map looks ts ++ Look x ∷ []) c.pass
+
+abbrev pub Stops : Pass → Pass → Type 0
+Stops p q = (ts : List Lost) × (x : Seen) × Made p (flat_map looks ts ++ Look x ∷ BusyStop ∷ []) q
 
 -- the mark, and then the tries
 abbrev pub Disables : Pass → Pass → Type 0

@@ -27,7 +27,11 @@ pub record Stands (role : ℕ → Place) (c : ℕ) (p : Pass) : Type 0 where
   pub exact : own c (shown p) ≡ own_list p
   pub place : own_place c (state_of p).place ≡ role c
 
--- so does the controller, and knows the disable flag
+-- who polls knows whether it busy polls
+abbrev pub BusyPolls : Bool → Pass → Type 0
+BusyPolls busy p = (state_of p).flags.in_busy_poll ≡ busy
+
+-- the controller stands so too, and knows the disable flag
 pub record Controls (role : ℕ → Place) (disable : Bool) (p : Pass) : Type 0 where
   pub stands : Stands role (controller_of p) p
   pub flag : (state_of p).flags.disable ≡ disable

@@ -1,16 +1,20 @@
 -- What has to follow an accepted schedule.
 use Rattle.std.specs.Prelude.{Bool, true, false, List, [], ◌∷◌}
+use Rattle.napi_model.specs.History.{starts_poll}
 use Rattle.napi_model.specs.declared.event.Done.TheVariants.{Released}
 use Rattle.napi_model.specs.declared.event.Operation.{Operation}
-use Rattle.napi_model.specs.declared.event.Operation.TheVariants.{Take, Complete}
+use Rattle.napi_model.specs.declared.event.Operation.TheVariants.{Complete}
 use Rattle.napi_model.specs.declared.event.Event.{Event}
+
+abbrev pub Either : Bool → Type 0 → Type 0 → Type 0
+Either true a b = a
+Either false a b = b
 
 -- whether a poll has started; the operation; what is left to show where it starts a poll; what else
 abbrev pub ServedAt : Bool → Operation → Type 0 → Type 0 → Type 0
-ServedAt b (Take kind true) started rest = started
 ServedAt true (Complete Released) started rest = Unit {0}
 ServedAt false (Complete Released) started rest = ⊥
-ServedAt b _ started rest = rest
+ServedAt b o started rest = Either (starts_poll o) started rest
 
 -- a Released comes, and a poll starts before the first that comes, unless one has started
 unfoldable pub IsServed : Bool → List Event → Type 0

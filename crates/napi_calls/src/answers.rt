@@ -1,5 +1,5 @@
 //! What the calls answer, with the value that goes on.
-use crate::types::{Caller, Control, Granted, Marked, Off, Polling};
+use crate::types::{Busy, Caller, Control, Granted, Marked, Off, Polling};
 
 /// The answer to one try to schedule.
 pub enum TryPrep {
@@ -39,6 +39,24 @@ pub enum Completed {
     Released(Caller),
     /// A poll was asked for meanwhile: the instance is this caller's, who has to hand it over again.
     Again(Granted),
+}
+
+/// The answer to one try to busy poll.
+pub enum TryBusy {
+    /// The instance is this caller's, who busy polls it.
+    Taken(Busy),
+    /// A poll is asked for or under way, or the instance is disabled, or a disable is pending.
+    Refused(Caller),
+    /// The state changed between the look and the exchange: nothing is decided.
+    Changed(Caller),
+}
+
+/// The answer to one try to stop busy polling.
+pub enum TryStop {
+    /// The caller polls the instance once more.
+    Stopped(Polling),
+    /// The state changed between the look and the exchange: nothing is decided.
+    Changed(Busy),
 }
 
 /// The answer to one try to take the instance for a disable.

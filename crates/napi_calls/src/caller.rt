@@ -1,5 +1,5 @@
 //! The calls of a caller, and of one to whom the instance was granted.
-ghost use Rattle.std.specs.Prelude.{◌≡◌, [], ◌∷◌};
+ghost use Rattle.std.specs.Prelude.{◌≡◌, [], ◌∷◌, false};
 ghost use mathlib.Core.List.{IsPrefix};
 ghost use Rattle.napi_model.specs.declared.state.Seen.{Seen};
 ghost use Rattle.napi_model.specs.declared.state.Place.TheVariants as place;
@@ -128,6 +128,7 @@ impl Granted {
     pub fn knows(&self)
         ensures shows { ShowsLegal self.now.pass }
         ensures place { (state_of self.now.pass).place ≡ place.Granted (number_of self.now.pass) }
+        ensures flag { (state_of self.now.pass).flags.in_busy_poll ≡ false }
     {}
 
     /// What the state word tells: the flags, and to whom the instance was handed while nobody has taken it.

@@ -3,7 +3,7 @@
 //!
 //! [`Napi::new`] makes an instance over a receive ring's poll context, disabled, with its callers and its controller. A
 //! [`Caller`] asks for polls and takes the instance to poll it; a [`Granted`] caller has to hand it over; [`Polling`] has
-//! the poll context; [`Control`] enables and disables the instance. Each is a seat of a thread of its own and must be
+//! the poll context, and so has a [`Busy`] caller, who busy polls; [`Control`] enables and disables the instance. Each is a seat of a thread of its own and must be
 //! spent: it goes into the next call, and at last into [`Napi::close`].
 //!
 //! Every call is a few atomic steps on one word, with no lock. Whatever the threads' schedule, these stand in one legal
@@ -16,6 +16,7 @@
 
 mod answers;
 mod between;
+mod busy;
 mod caller;
 mod control;
 mod fault;
@@ -27,11 +28,11 @@ mod sharing;
 mod tests;
 mod types;
 
-pub use answers::{Completed, Sched, TryDone, TryPrep, TryTake};
+pub use answers::{Completed, Sched, TryBusy, TryDone, TryPrep, TryStop, TryTake};
 pub use between::{Between, Nothing};
 pub use caller::meet;
 pub use fault::{CloseFault, NewFault};
 pub use instance::{CloseBack, NewBack};
 pub use kept::Kept;
 pub use sharing::{is_sent, is_shared};
-pub use types::{Caller, Control, Granted, Marked, Mode, Napi, Off, On, Polling};
+pub use types::{Busy, Caller, Control, Granted, Marked, Mode, Napi, Off, On, Polling};

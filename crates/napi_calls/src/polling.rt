@@ -1,5 +1,5 @@
 //! The calls of a poller, who has the poll context.
-ghost use Rattle.std.specs.Prelude.{◌≡◌, ◌≤◌, [], ◌∷◌, length, Some};
+ghost use Rattle.std.specs.Prelude.{◌≡◌, ◌≤◌, [], ◌∷◌, length, Some, false};
 ghost use Rattle.napi_model.specs.declared.state.Kind.TheVariants as kind;
 ghost use Rattle.napi_model.specs.declared.state.Place.TheVariants as place;
 ghost use Rattle.napi_model.specs.declared.event.Operation.TheVariants.{Look, Hand};
@@ -29,6 +29,7 @@ impl Polling {
     pub fn knows(&self)
         ensures shows { ShowsLegal self.now.pass }
         ensures place { (state_of self.now.pass).place ≡ place.Polling (number_of self.now.pass) }
+        ensures flag { (state_of self.now.pass).flags.in_busy_poll ≡ false }
         ensures context { ring_of self.now.pass ≡ Some (ring_name self.now.ctx) }
     {}
 
@@ -108,6 +109,7 @@ impl Polling {
         match napi.table.complete_swap(&mut pass, seen) {
             Ok(Done::Released) => TryDone::Released(Caller { pass, number }),
             Ok(Done::Again) => TryDone::Again(Granted { pass, number }),
+            Ok(Done::Held) => unreachable!(),
             Err(_) => {
                 let ctx = napi.table.slot_out(&mut pass);
                 TryDone::Changed(Polling { pass, number, ctx })

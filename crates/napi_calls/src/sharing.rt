@@ -1,5 +1,5 @@
 //! What may cross threads.
-use crate::types::{Caller, Control, Granted, Marked, Napi, Off, On, Polling};
+use crate::types::{Busy, Caller, Control, Granted, Marked, Napi, Off, On, Polling};
 
 fn shared<T: Sync>() {}
 
@@ -16,6 +16,7 @@ pub fn is_sent() {
     sent::<Caller>();
     sent::<Granted>();
     sent::<Polling>();
+    sent::<Busy>();
     sent::<Control<Off>>();
     sent::<Control<On>>();
     sent::<Control<Marked>>();

@@ -1,6 +1,8 @@
-//! Worked runs: two callers in turn, with their words and with all their events; and contention; refusals; threads.
+//! Worked runs: two callers in turn, with their words and with all their events; and contention; busy polling; refusals;
+//! threads.
 
 mod bed;
+mod busy;
 mod contention;
 mod events;
 mod refusals;

@@ -1,8 +1,8 @@
 //! The values on which calls are made. Each has a seat of the instance, with what its type says of it, and must be spent.
-ghost use Rattle.std.specs.Prelude.{◌≡◌, Some};
+ghost use Rattle.std.specs.Prelude.{◌≡◌, Some, true, false};
 ghost use Rattle.napi_model.specs.declared.state.Place.TheVariants as place;
 ghost use Rattle.napi_word.specs.Passes.{controller_of_table};
-ghost use Rattle.napi_calls.specs.Knows.{Free, Stands, Controls, Has};
+ghost use Rattle.napi_calls.specs.Knows.{Free, Stands, BusyPolls, Controls, Has};
 
 use napi_word::{Pass, StateTable};
 use rx_ring::RxCtx;
@@ -34,6 +34,18 @@ pub struct Polling {
     pub(crate) number: u32,
     pub(crate) ctx: RxCtx,
     ghost stands: { Stands place.Polling number pass },
+    ghost busy: { BusyPolls false pass },
+    ghost has: { Has pass (Some ctx) },
+}
+
+/// A caller that busy polls the instance: it polls it, and whoever schedules meanwhile is answered by one more poll of its.
+/// It has the poll context, as [`Polling`] has, and goes on as one.
+pub struct Busy {
+    pub(crate) pass: Pass,
+    pub(crate) number: u32,
+    pub(crate) ctx: RxCtx,
+    ghost stands: { Stands place.Polling number pass },
+    ghost busy: { BusyPolls true pass },
     ghost has: { Has pass (Some ctx) },
 }
 

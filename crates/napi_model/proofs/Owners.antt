@@ -1,36 +1,39 @@
 -- The laws of legal histories.
-use Rattle.std.proofs.Common.{◌≡◌, ◌≢◌, ◌⊎◌, ℕ, List, [], ◌∷◌, ne_eqb, true, false, refl, sym, ap, ◌∙◌, subst, ⊎_elim, true≢false}
+use Rattle.std.proofs.Common.{◌≡◌, ◌≢◌, ℕ, Bool, List, [], ◌∷◌, ne_eqb, true, false, refl, sym, ap, ◌∙◌, subst, ⊎_elim, true≢false}
 use Rattle.napi_model.specs.declared.state.Kind.TheVariants as kind
 use Rattle.napi_model.specs.declared.state.Place.{Place}
 use Rattle.napi_model.specs.declared.state.Place.TheVariants.{Nobody, Granted, Listed, ToThread, Polling, Control}
 use Rattle.napi_model.specs.declared.state.State.{State}
 use Rattle.napi_model.specs.declared.event.Prep.TheVariants as prep
-use Rattle.napi_model.specs.declared.event.Done.TheVariants.{Released, Again}
+use Rattle.napi_model.specs.declared.event.Done.TheVariants.{Released, Again, Held}
 use Rattle.napi_model.specs.declared.event.Operation.{Operation}
-use Rattle.napi_model.specs.declared.event.Operation.TheVariants.{Look, Schedule, Hand, Take, Complete, MarkDisable, TakeDisable, Unmark, Enable, SetThreaded}
+use Rattle.napi_model.specs.declared.event.Operation.TheVariants.{Look, Schedule, Hand, Take, Complete, BusyTake, BusyStop, MarkDisable, TakeDisable, Unmark, Enable, SetThreaded}
 use Rattle.napi_model.specs.declared.event.Event.{Event}
-use Rattle.napi_model.specs.Step.{after, after_by, opening, IsLegalBy}
+use Rattle.napi_model.specs.Step.{after, after_by, opening, IsLegalBy, Polls, MayHand}
 use Rattle.napi_model.specs.History.{LegalHistory, IsBy, state_after, own}
-use Rattle.napi_model.specs.Laws.{IsSound, is_owner, IsOwnedBy, IsControlled, SchedClearIsNobody, OthersLeaveOwner, OthersLeaveOwnership, ControlIsTheControllers, OthersLeaveDisable}
+use Rattle.napi_model.specs.Laws.{IsSound, is_owner, IsOwnedBy, stand_of, IsPolled, BusyIsPolled, IsControlled, SchedClearIsNobody, BusyPollIsPolling, OthersLeaveOwner, OthersLeaveOwnership, ControlIsTheControllers, OthersLeaveDisable}
 use Rattle.napi_model.proofs.Histories.{state_after-append, legal_front, legal_back, own_first}
 
 -- ---- SCHED clear, and nobody has the instance
 
-hand_apart : (c : ℕ) (p : Place) → p ≡ Nobody → ((p ≡ Granted c) ⊎ (p ≡ Polling c)) → ⊥
-hand_apart c p e h = ⊎_elim (λ (g : p ≡ Granted c). cc) (λ (g : p ≡ Polling c). cc) h
+hand_apart : (c : ℕ) (s : State) → s.place ≡ Nobody → MayHand c kind.List s → ⊥
+hand_apart c s e h = ⊎_elim (λ (g : s.place ≡ Granted c). cc) (λ (g : Polls c false s). let p = g.0 in cc) h
 
 pub sound_by : (c : ℕ) (o : Operation) (s : State) → IsLegalBy c o s → IsSound s → IsSound (after_by c o s)
 sound_by c (Look seen) s l sound = sound
 sound_by c (Schedule prep.Granted) s l sound = λ e. absurd (true≢false e)
 sound_by c (Schedule prep.Missed) s l sound = sound
 sound_by c (Schedule prep.Disabled) s l sound = sound
-sound_by c (Hand kind.List) s l sound = λ e. absurd (hand_apart c s.place (sound e) l)
+sound_by c (Hand kind.List) s l sound = λ e. absurd (hand_apart c s (sound e) l)
 sound_by c (Hand kind.Thread) s l sound = λ e. let n = sound e in cc
 sound_by c (Take kind.List true) s l sound = λ e. let n = sound e in cc
 sound_by c (Take kind.Thread true) s l sound = λ e. let n = sound e in cc
 sound_by c (Take k false) s l sound = sound
 sound_by c (Complete Again) s l sound = λ e. let n = sound e in let p = l.0 in cc
 sound_by c (Complete Released) s l sound = λ e. refl
+sound_by c (Complete Held) s l sound = sound
+sound_by c BusyTake s l sound = λ e. absurd (true≢false e)
+sound_by c BusyStop s l sound = sound
 sound_by c MarkDisable s l sound = sound
 sound_by c (TakeDisable true) s l sound = λ e. absurd (true≢false e)
 sound_by c (TakeDisable false) s l sound = sound
@@ -43,6 +46,38 @@ unfolding LegalHistory state_after
 sound_after k s [] sound l = sound
 sound_after k s (e ∷ h) sound l = sound_after k (after s e) h (sound_by e.caller e.operation s l.0.0 sound) l.1
 
+-- ---- IN_BUSY_POLL, and the place is a Polling
+
+pub busy_by : (c : ℕ) (o : Operation) (s : State) → IsLegalBy c o s → IsSound s → BusyIsPolled s → BusyIsPolled (after_by c o s)
+busy_by c (Look seen) s l sound busy = busy
+busy_by c (Schedule prep.Granted) s l sound busy = λ e. absurd (subst IsPolled (sound l.1) (busy e))
+busy_by c (Schedule prep.Missed) s l sound busy = busy
+busy_by c (Schedule prep.Disabled) s l sound busy = busy
+busy_by c (Hand kind.List) s l sound busy = λ e. ⊎_elim
+    (λ (g : s.place ≡ Granted c). subst IsPolled g (busy e))
+    (λ (g : Polls c false s). absurd (true≢false (sym e ∙ g.1)))
+    l
+busy_by c (Hand kind.Thread) s l sound busy = λ e. subst IsPolled l (busy e)
+busy_by c (Take k true) s l sound busy = λ e. tt
+busy_by c (Take k false) s l sound busy = busy
+busy_by c (Complete Again) s l sound busy = λ e. absurd (true≢false (sym e ∙ l.2))
+busy_by c (Complete Released) s l sound busy = λ e. absurd (true≢false (sym e ∙ l.2))
+busy_by c (Complete Held) s l sound busy = busy
+busy_by c BusyTake s l sound busy = λ e. tt
+busy_by c BusyStop s l sound busy = λ e. absurd (true≢false (sym e))
+busy_by c MarkDisable s l sound busy = busy
+busy_by c (TakeDisable true) s l sound busy = λ e. absurd (subst IsPolled (sound l.1) (busy e))
+busy_by c (TakeDisable false) s l sound busy = busy
+busy_by c Unmark s l sound busy = busy
+busy_by c (Enable b) s l sound busy = λ e. absurd (subst IsPolled l.0 (busy e))
+busy_by c (SetThreaded b) s l sound busy = busy
+
+pub busy_after : BusyPollIsPolling
+unfolding LegalHistory state_after
+busy_after k s [] sound busy l = busy
+busy_after k s (e ∷ h) sound busy l =
+    busy_after k (after s e) h (sound_by e.caller e.operation s l.0.0 sound) (busy_by e.caller e.operation s l.0.0 sound busy) l.1
+
 -- ---- whether a caller owns the instance
 
 pub ownership_by_others : (c b : ℕ) (o : Operation) (s : State)
@@ -52,13 +87,16 @@ ownership_by_others c b (Schedule prep.Granted) s apart l sound = ne_eqb b c apa
 ownership_by_others c b (Schedule prep.Missed) s apart l sound = refl
 ownership_by_others c b (Schedule prep.Disabled) s apart l sound = refl
 ownership_by_others c b (Hand kind.List) s apart l sound =
-    sym (⊎_elim (λ (g : s.place ≡ Granted b). ap (is_owner c) g ∙ ne_eqb b c apart) (λ (g : s.place ≡ Polling b). ap (is_owner c) g ∙ ne_eqb b c apart) l)
+    sym (⊎_elim (λ (g : s.place ≡ Granted b). ap (is_owner c) g ∙ ne_eqb b c apart) (λ (g : Polls b false s). ap (is_owner c) g.0 ∙ ne_eqb b c apart) l)
 ownership_by_others c b (Hand kind.Thread) s apart l sound = sym (ap (is_owner c) l ∙ ne_eqb b c apart)
 ownership_by_others c b (Take kind.List true) s apart l sound = ne_eqb b c apart ∙ sym (ap (is_owner c) l)
 ownership_by_others c b (Take kind.Thread true) s apart l sound = ne_eqb b c apart ∙ sym (ap (is_owner c) l)
 ownership_by_others c b (Take k false) s apart l sound = refl
 ownership_by_others c b (Complete Again) s apart l sound = sym (ap (is_owner c) l.0)
 ownership_by_others c b (Complete Released) s apart l sound = sym (ap (is_owner c) l.0 ∙ ne_eqb b c apart)
+ownership_by_others c b (Complete Held) s apart l sound = refl
+ownership_by_others c b BusyTake s apart l sound = ne_eqb b c apart ∙ sym (ap (is_owner c) (sound l.1))
+ownership_by_others c b BusyStop s apart l sound = refl
 ownership_by_others c b MarkDisable s apart l sound = refl
 ownership_by_others c b (TakeDisable true) s apart l sound = ne_eqb b c apart ∙ sym (ap (is_owner c) (sound l.1))
 ownership_by_others c b (TakeDisable false) s apart l sound = refl
@@ -82,21 +120,21 @@ others_leave_ownership k c s h others sound l none =
     let kept = ownership_kept k c t others (sound_after k s h sound (legal_front k s h others l)) (legal_back k s h others l) none in
     ap (λ (u : State). is_owner c u.place) (state_after-append s h others) ∙ kept
 
--- ---- an owner's place
+-- ---- where an owner stands
 
 -- who owns the instance elsewhere, doesn't own it here
 not_owner : {A : Type 0} (c : ℕ) (p q : Place) → p ≡ q → is_owner c q ≡ false → IsOwnedBy c p → A
 not_owner c p q is other owned = absurd (true≢false (sym owned ∙ ap (is_owner c) is ∙ other))
 
 pub owned_by_others : (c b : ℕ) (o : Operation) (s : State)
-    → b ≢ c → IsLegalBy b o s → IsSound s → IsOwnedBy c s.place → (after_by b o s).place ≡ s.place
+    → b ≢ c → IsLegalBy b o s → IsSound s → IsOwnedBy c s.place → stand_of (after_by b o s) ≡ stand_of s
 owned_by_others c b (Look seen) s apart l sound owned = refl
 owned_by_others c b (Schedule prep.Granted) s apart l sound owned = not_owner c s.place Nobody (sound l.1) refl owned
 owned_by_others c b (Schedule prep.Missed) s apart l sound owned = refl
 owned_by_others c b (Schedule prep.Disabled) s apart l sound owned = refl
 owned_by_others c b (Hand kind.List) s apart l sound owned = ⊎_elim
     (λ (g : s.place ≡ Granted b). not_owner c s.place (Granted b) g (ne_eqb b c apart) owned)
-    (λ (g : s.place ≡ Polling b). not_owner c s.place (Polling b) g (ne_eqb b c apart) owned)
+    (λ (g : Polls b false s). not_owner c s.place (Polling b) g.0 (ne_eqb b c apart) owned)
     l
 owned_by_others c b (Hand kind.Thread) s apart l sound owned = not_owner c s.place (Granted b) l (ne_eqb b c apart) owned
 owned_by_others c b (Take kind.List true) s apart l sound owned = not_owner c s.place Listed l refl owned
@@ -104,6 +142,9 @@ owned_by_others c b (Take kind.Thread true) s apart l sound owned = not_owner c 
 owned_by_others c b (Take k false) s apart l sound owned = refl
 owned_by_others c b (Complete Again) s apart l sound owned = not_owner c s.place (Polling b) l.0 (ne_eqb b c apart) owned
 owned_by_others c b (Complete Released) s apart l sound owned = not_owner c s.place (Polling b) l.0 (ne_eqb b c apart) owned
+owned_by_others c b (Complete Held) s apart l sound owned = refl
+owned_by_others c b BusyTake s apart l sound owned = not_owner c s.place Nobody (sound l.1) refl owned
+owned_by_others c b BusyStop s apart l sound owned = not_owner c s.place (Polling b) l.0 (ne_eqb b c apart) owned
 owned_by_others c b MarkDisable s apart l sound owned = refl
 owned_by_others c b (TakeDisable true) s apart l sound owned = not_owner c s.place Nobody (sound l.1) refl owned
 owned_by_others c b (TakeDisable false) s apart l sound owned = refl
@@ -113,19 +154,19 @@ owned_by_others c b (SetThreaded threaded) s apart l sound owned = refl
 
 -- from any sound state
 pub owner_kept : (k c : ℕ) (s : State) (h : List Event)
-    → IsSound s → LegalHistory k s h → own c h ≡ [] → IsOwnedBy c s.place → (state_after s h).place ≡ s.place
+    → IsSound s → LegalHistory k s h → own c h ≡ [] → IsOwnedBy c s.place → stand_of (state_after s h) ≡ stand_of s
 unfolding LegalHistory state_after
 owner_kept k c s [] sound l none owned = refl
 owner_kept k c s (e ∷ h) sound l none owned =
     let first = own_first c e h none in
     let same = owned_by_others c e.caller e.operation s first.0 l.0.0 sound owned in
-    owner_kept k c (after s e) h (sound_by e.caller e.operation s l.0.0 sound) l.1 first.1 (subst (IsOwnedBy c) (sym same) owned) ∙ same
+    owner_kept k c (after s e) h (sound_by e.caller e.operation s l.0.0 sound) l.1 first.1 (subst (λ (t : Place × Bool). IsOwnedBy c t.0) (sym same) owned) ∙ same
 
 pub others_leave_owner : OthersLeaveOwner
 others_leave_owner k c s h others sound l none owned =
     let t = state_after s h in
     let kept = owner_kept k c t others (sound_after k s h sound (legal_front k s h others l)) (legal_back k s h others l) none owned in
-    ap (λ (u : State). u.place) (state_after-append s h others) ∙ kept
+    ap stand_of (state_after-append s h others) ∙ kept
 
 -- ---- the disable flag
 
@@ -140,6 +181,9 @@ disable_by_others k c (Take kind true) s apart by = refl
 disable_by_others k c (Take kind false) s apart by = refl
 disable_by_others k c (Complete Again) s apart by = refl
 disable_by_others k c (Complete Released) s apart by = refl
+disable_by_others k c (Complete Held) s apart by = refl
+disable_by_others k c BusyTake s apart by = refl
+disable_by_others k c BusyStop s apart by = refl
 disable_by_others k c MarkDisable s apart by = absurd (apart by)
 disable_by_others k c (TakeDisable true) s apart by = refl
 disable_by_others k c (TakeDisable false) s apart by = refl
@@ -173,6 +217,9 @@ controlled_by k c (Take q true) s by ok = λ d e. cc
 controlled_by k c (Take q false) s by ok = ok
 controlled_by k c (Complete Again) s by ok = λ d e. cc
 controlled_by k c (Complete Released) s by ok = λ d e. cc
+controlled_by k c (Complete Held) s by ok = ok
+controlled_by k c BusyTake s by ok = λ d e. cc
+controlled_by k c BusyStop s by ok = ok
 controlled_by k c MarkDisable s by ok = ok
 controlled_by k c (TakeDisable true) s by ok = λ d e. cc
 controlled_by k c (TakeDisable false) s by ok = ok
@@ -187,6 +234,9 @@ controlled_after k s (e ∷ h) ok l = controlled_after k (after s e) h (controll
 
 pub opens_controlled : (k : ℕ) → IsControlled k (opening k)
 opens_controlled k = λ d e. cc
+
+pub opens_unbusy : (k : ℕ) → BusyIsPolled (opening k)
+opens_unbusy k = λ e. absurd (true≢false (sym e))
 
 pub opens_sound : (k : ℕ) → IsSound (opening k)
 opens_sound k = λ e. absurd (true≢false e)

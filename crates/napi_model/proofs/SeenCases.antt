@@ -1,4 +1,4 @@
--- A `Seen` has 2 ^ 6 * 3 values: a fact of each is a test that computes. And equality of two, by the derived `==`.
+-- A `Seen` has 2 ^ 7 * 3 values: a fact of each is a test that computes. And equality of two, by the derived `==`.
 use Rattle.std.proofs.Common.{◌≡◌, ◌&&◌, Bool, true, false, Option, Some, None, refl, sym, true≢false}
 use Rattle.std.proofs.Math.Bool.{beq}
 use Rattle.std.specs.Option.{option_eq}
@@ -15,13 +15,13 @@ every_bool p = p true && p false
 abbrev pub every_mark : (Option Kind → Bool) → Bool
 every_mark p = (p None && p (Some List)) && p (Some Thread)
 
-abbrev pub seen_at : Bool → Bool → Bool → Bool → Bool → Bool → Option Kind → Seen
-seen_at a b c d e f m =
-    record { flags = record { sched = a; missed = b; disable = c; npsvc = d; threaded = e; sched_threaded = f }; handed = m }
+abbrev pub seen_at : Bool → Bool → Bool → Bool → Bool → Bool → Bool → Option Kind → Seen
+seen_at a b c d e f g m =
+    record { flags = record { sched = a; missed = b; disable = c; npsvc = d; in_busy_poll = e; threaded = f; sched_threaded = g }; handed = m }
 
 abbrev pub every_seen : (Seen → Bool) → Bool
 every_seen p =
-    every_bool (λ a. every_bool (λ b. every_bool (λ c. every_bool (λ d. every_bool (λ e. every_bool (λ f. every_mark (λ m. p (seen_at a b c d e f m))))))))
+    every_bool (λ a. every_bool (λ b. every_bool (λ c. every_bool (λ d. every_bool (λ e. every_bool (λ f. every_bool (λ g. every_mark (λ m. p (seen_at a b c d e f g m)))))))))
 
 pub and_l : (a b : Bool) → (a && b) ≡ true → a ≡ true
 and_l true b h = refl
@@ -46,15 +46,17 @@ seen_holds p h s =
     let b = s.flags.missed in
     let c = s.flags.disable in
     let d = s.flags.npsvc in
-    let e = s.flags.threaded in
-    let f = s.flags.sched_threaded in
-    let r1 = bool_holds (λ x. every_bool (λ b. every_bool (λ c. every_bool (λ d. every_bool (λ e. every_bool (λ f. every_mark (λ m. p (seen_at x b c d e f m)))))))) h a in
-    let r2 = bool_holds (λ x. every_bool (λ c. every_bool (λ d. every_bool (λ e. every_bool (λ f. every_mark (λ m. p (seen_at a x c d e f m))))))) r1 b in
-    let r3 = bool_holds (λ x. every_bool (λ d. every_bool (λ e. every_bool (λ f. every_mark (λ m. p (seen_at a b x d e f m)))))) r2 c in
-    let r4 = bool_holds (λ x. every_bool (λ e. every_bool (λ f. every_mark (λ m. p (seen_at a b c x e f m))))) r3 d in
-    let r5 = bool_holds (λ x. every_bool (λ f. every_mark (λ m. p (seen_at a b c d x f m)))) r4 e in
-    let r6 = bool_holds (λ x. every_mark (λ m. p (seen_at a b c d e x m))) r5 f in
-    mark_holds (λ x. p (seen_at a b c d e f x)) r6 s.handed
+    let e = s.flags.in_busy_poll in
+    let f = s.flags.threaded in
+    let g = s.flags.sched_threaded in
+    let r1 = bool_holds (λ x. every_bool (λ b. every_bool (λ c. every_bool (λ d. every_bool (λ e. every_bool (λ f. every_bool (λ g. every_mark (λ m. p (seen_at x b c d e f g m))))))))) h a in
+    let r2 = bool_holds (λ x. every_bool (λ c. every_bool (λ d. every_bool (λ e. every_bool (λ f. every_bool (λ g. every_mark (λ m. p (seen_at a x c d e f g m)))))))) r1 b in
+    let r3 = bool_holds (λ x. every_bool (λ d. every_bool (λ e. every_bool (λ f. every_bool (λ g. every_mark (λ m. p (seen_at a b x d e f g m))))))) r2 c in
+    let r4 = bool_holds (λ x. every_bool (λ e. every_bool (λ f. every_bool (λ g. every_mark (λ m. p (seen_at a b c x e f g m)))))) r3 d in
+    let r5 = bool_holds (λ x. every_bool (λ f. every_bool (λ g. every_mark (λ m. p (seen_at a b c d x f g m))))) r4 e in
+    let r6 = bool_holds (λ x. every_bool (λ g. every_mark (λ m. p (seen_at a b c d e x g m)))) r5 f in
+    let r7 = bool_holds (λ x. every_mark (λ m. p (seen_at a b c d e f x m))) r6 g in
+    mark_holds (λ x. p (seen_at a b c d e f g x)) r7 s.handed
 
 -- ---- equality as the derived test
 
@@ -67,7 +69,8 @@ same_seen x y =
     && (beq x.flags.missed y.flags.missed
     && (beq x.flags.disable y.flags.disable
     && (beq x.flags.npsvc y.flags.npsvc
-    && (beq x.flags.threaded y.flags.threaded && beq x.flags.sched_threaded y.flags.sched_threaded)))))
+    && (beq x.flags.in_busy_poll y.flags.in_busy_poll
+    && (beq x.flags.threaded y.flags.threaded && beq x.flags.sched_threaded y.flags.sched_threaded))))))
     && same_mark x.handed y.handed
 
 bool_is : (a b : Bool) → beq a b ≡ true → a ≡ b
@@ -96,10 +99,12 @@ seen_is x y h =
     let e2 = bool_is x.flags.missed y.flags.missed (and_l _ _ h1) in
     let e3 = bool_is x.flags.disable y.flags.disable (and_l _ _ h2) in
     let e4 = bool_is x.flags.npsvc y.flags.npsvc (and_l _ _ h3) in
-    let e5 = bool_is x.flags.threaded y.flags.threaded (and_l _ _ h4) in
-    let e6 = bool_is x.flags.sched_threaded y.flags.sched_threaded (and_r _ _ h4) in
-    let e7 = mark_is x.handed y.handed (and_r _ _ h) in
-    λ i. seen_at (e1 i) (e2 i) (e3 i) (e4 i) (e5 i) (e6 i) (e7 i)
+    let h5 = and_r _ _ h4 in
+    let e5 = bool_is x.flags.in_busy_poll y.flags.in_busy_poll (and_l _ _ h4) in
+    let e6 = bool_is x.flags.threaded y.flags.threaded (and_l _ _ h5) in
+    let e7 = bool_is x.flags.sched_threaded y.flags.sched_threaded (and_r _ _ h5) in
+    let e8 = mark_is x.handed y.handed (and_r _ _ h) in
+    λ i. seen_at (e1 i) (e2 i) (e3 i) (e4 i) (e5 i) (e6 i) (e7 i) (e8 i)
 
 pub seen_same : (x : Seen) → same_seen x x ≡ true
 seen_same x = seen_holds (λ s. same_seen s s) refl x

@@ -28,16 +28,17 @@ and_sum n a b e =
     ∙ or_disjoint (bit_and n a) (bit_and n b) (and_apart n a b e)
 
 read_sum : (w : ℕ) → bit_and w named_bits
-    ≡ bit_and w 1 + bit_and w 2 + bit_and w 4 + bit_and w 8 + bit_and w 256 + bit_and w 512 + bit_and w 4294967296 + bit_and w 8589934592
+    ≡ bit_and w 1 + bit_and w 2 + bit_and w 4 + bit_and w 8 + bit_and w 64 + bit_and w 256 + bit_and w 512 + bit_and w 4294967296 + bit_and w 8589934592
 read_sum w =
-    let e7 = and_sum w 4294968079 8589934592 refl in
-    let e6 = and_sum w 783 4294967296 refl in
-    let e5 = and_sum w 271 512 refl in
-    let e4 = and_sum w 15 256 refl in
+    let e8 = and_sum w 4294968143 8589934592 refl in
+    let e7 = and_sum w 847 4294967296 refl in
+    let e6 = and_sum w 335 512 refl in
+    let e5 = and_sum w 79 256 refl in
+    let e4 = and_sum w 15 64 refl in
     let e3 = and_sum w 7 8 refl in
     let e2 = and_sum w 3 4 refl in
     let e1 = and_sum w 1 2 refl in
-    rw (e7, e6, e5, e4, e3, e2, e1)
+    rw (e8, e7, e6, e5, e4, e3, e2, e1)
 
 none_or_all : (v bit b : ℕ) → v ≡ b * bit → b < 2 → 0 < bit → (v ≡ 0) ⊎ ((v ≡ bit) × (v ≢ 0))
 none_or_all v bit zero e small positive = inl (omega (arith, e))
@@ -65,10 +66,10 @@ word_of-injective x y e = sym (seen_in-word x) ∙ ap seen_in e ∙ seen_in-word
 
 -- the bits joined are their sum
 pub joined_bits : (s : Seen) →
-    bit_or (bit_or (bit_or (bit_or (bit_or (bit_or (bit_if s.flags.sched 1) (bit_if s.flags.missed 2)) (bit_if s.flags.disable 4)) (bit_if s.flags.npsvc 8)) (bit_if s.flags.threaded 256)) (bit_if s.flags.sched_threaded 512)) (mark_word s.handed)
+    bit_or (bit_or (bit_or (bit_or (bit_or (bit_or (bit_or (bit_if s.flags.sched 1) (bit_if s.flags.missed 2)) (bit_if s.flags.disable 4)) (bit_if s.flags.npsvc 8)) (bit_if s.flags.in_busy_poll 64)) (bit_if s.flags.threaded 256)) (bit_if s.flags.sched_threaded 512)) (mark_word s.handed)
     ≡ word_of s
 unfolding word_of
-joined_bits s = eqb-true _ _ (seen_holds (λ x. eqb (bit_or (bit_or (bit_or (bit_or (bit_or (bit_or (bit_if x.flags.sched 1) (bit_if x.flags.missed 2)) (bit_if x.flags.disable 4)) (bit_if x.flags.npsvc 8)) (bit_if x.flags.threaded 256)) (bit_if x.flags.sched_threaded 512)) (mark_word x.handed)) (word_of x)) refl s)
+joined_bits s = eqb-true _ _ (seen_holds (λ x. eqb (bit_or (bit_or (bit_or (bit_or (bit_or (bit_or (bit_or (bit_if x.flags.sched 1) (bit_if x.flags.missed 2)) (bit_if x.flags.disable 4)) (bit_if x.flags.npsvc 8)) (bit_if x.flags.in_busy_poll 64)) (bit_if x.flags.threaded 256)) (bit_if x.flags.sched_threaded 512)) (mark_word x.handed)) (word_of x)) refl s)
 
 -- a word of what was seen has no other bit, and not both marks
 well_formed : (s : Seen) → (eqb (bit_and (word_of s) other_bits) 0 && not (eqb (bit_and (word_of s) both_marks) both_marks)) ≡ true
@@ -118,4 +119,4 @@ word_of-seen_in w small ok =
     let parts = read_sum w in
     let whole = named_only w small none in
     let marks = marks_sum w (λ b. ok (inr b)) in
-    omega (arith, parts, whole, marks, bit_is w 0, bit_is w 1, bit_is w 2, bit_is w 3, bit_is w 8, bit_is w 9)
+    omega (arith, parts, whole, marks, bit_is w 0, bit_is w 1, bit_is w 2, bit_is w 3, bit_is w 6, bit_is w 8, bit_is w 9)

@@ -1,10 +1,10 @@
 -- Histories: lists of events, from an opening state that is an argument throughout.
-use Rattle.std.specs.Prelude.{◌≡◌, ℕ, true, nat_eq, List, [], ◌∷◌, filter}
+use Rattle.std.specs.Prelude.{◌≡◌, ℕ, Bool, true, false, nat_eq, List, [], ◌∷◌, filter}
 use Rattle.napi_model.specs.declared.state.Place.{Place}
 use Rattle.napi_model.specs.declared.state.State.{State}
 use Rattle.napi_model.specs.declared.event.Prep.TheVariants as prep
 use Rattle.napi_model.specs.declared.event.Operation.{Operation}
-use Rattle.napi_model.specs.declared.event.Operation.TheVariants.{Schedule, Take, MarkDisable, TakeDisable, Unmark, Enable}
+use Rattle.napi_model.specs.declared.event.Operation.TheVariants.{Schedule, Take, BusyStop, MarkDisable, TakeDisable, Unmark, Enable}
 use Rattle.napi_model.specs.declared.event.Event.{Event}
 use Rattle.napi_model.specs.Step.{after, IsLegal, IsControl}
 
@@ -33,13 +33,14 @@ LegalHistory controller s (e ∷ es) = IsLegalFor controller s e × LegalHistory
 unfoldable pub own : ℕ → List Event → List Event
 own caller h = filter (λ (e : Event). nat_eq e.caller caller) h
 
--- an instance that was handed over is taken, and polled
-abbrev pub IsPollStartBy : Operation → Type 0
-IsPollStartBy (Take kind true) = Unit {0}
-IsPollStartBy _ = ⊥
+-- an instance that was handed over is taken, and polled, or one that was busy polled is polled once more
+abbrev pub starts_poll : Operation → Bool
+starts_poll (Take kind true) = true
+starts_poll BusyStop = true
+starts_poll _ = false
 
 abbrev pub IsPollStart : Event → Type 0
-IsPollStart e = IsPollStartBy e.operation
+IsPollStart e = starts_poll e.operation ≡ true
 
 -- a request that a poll has to follow: granted, or missed while the instance isn't in the controller's hands
 abbrev pub IsAcceptedAt : Place → Operation → Type 0

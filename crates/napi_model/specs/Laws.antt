@@ -22,6 +22,18 @@ is_owner c (Control owner) = nat_eq owner c
 abbrev pub IsOwnedBy : ℕ → Place → Type 0
 IsOwnedBy c p = is_owner c p ≡ true
 
+-- where an owner stands: in which place, and whether it busy polls
+abbrev pub stand_of : State → Place × Bool
+stand_of s = (s.place, s.flags.in_busy_poll)
+
+-- only who polls the instance busy polls it
+abbrev pub IsPolled : Place → Type 0
+IsPolled (Polling c) = Unit {0}
+IsPolled _ = ⊥
+
+abbrev pub BusyIsPolled : State → Type 0
+BusyIsPolled s = s.flags.in_busy_poll ≡ true → IsPolled s.place
+
 -- only the controller controls the instance
 abbrev pub IsControlled : ℕ → State → Type 0
 IsControlled controller s = (c : ℕ) → s.place ≡ Control c → c ≡ controller
@@ -32,13 +44,19 @@ SchedClearIsNobody =
     (controller : ℕ) (start : State) (h : List Event)
     → IsSound start → LegalHistory controller start h → IsSound (state_after start h)
 
--- law: whatever others do, an owner stays where it is
+-- law: IN_BUSY_POLL stands only while the place is a Polling, in every state that a legal history leads to
+abbrev pub BusyPollIsPolling : Type 0
+BusyPollIsPolling =
+    (controller : ℕ) (start : State) (h : List Event)
+    → IsSound start → BusyIsPolled start → LegalHistory controller start h → BusyIsPolled (state_after start h)
+
+-- law: whatever others do, an owner stays where it is, and busy polls or doesn't as before
 abbrev pub OthersLeaveOwner : Type 0
 OthersLeaveOwner =
     (controller caller : ℕ) (start : State) (h others : List Event)
     → IsSound start → LegalHistory controller start (h ++ others) → own caller others ≡ []
     → IsOwnedBy caller (state_after start h).place
-    → (state_after start (h ++ others)).place ≡ (state_after start h).place
+    → stand_of (state_after start (h ++ others)) ≡ stand_of (state_after start h)
 
 -- law: whatever others do, nobody becomes an owner by it, and no owner ceases to be one
 abbrev pub OthersLeaveOwnership : Type 0

@@ -1,5 +1,5 @@
 -- The legal steps of the one-thread NAPI object: `napi_schedule_prep`, `____napi_schedule`, `napi_complete_done`,
--- `napi_disable`, `napi_enable` and `dev_set_threaded` of net/core/dev.c.
+-- `napi_disable`, `napi_enable`, `dev_set_threaded`, `napi_busy_loop` and `busy_poll_stop` of net/core/dev.c.
 use Rattle.std.specs.Prelude.{◌≡◌, ◌≢◌, ℕ, Bool, true, false, not, ◌||◌, ◌⊎◌, Option, Some, None, if◌then◌else◌}
 use Rattle.napi_model.specs.declared.state.Flags.{Flags}
 use Rattle.napi_model.specs.declared.state.Kind.{Kind}
@@ -11,17 +11,17 @@ use Rattle.napi_model.specs.declared.state.State.{State}
 use Rattle.napi_model.specs.declared.event.Prep.{Prep}
 use Rattle.napi_model.specs.declared.event.Prep.TheVariants as prep
 use Rattle.napi_model.specs.declared.event.Done.{Done}
-use Rattle.napi_model.specs.declared.event.Done.TheVariants.{Released, Again}
+use Rattle.napi_model.specs.declared.event.Done.TheVariants.{Released, Again, Held}
 use Rattle.napi_model.specs.declared.event.Call.{Call}
 use Rattle.napi_model.specs.declared.event.Call.TheVariants as call
 use Rattle.napi_model.specs.declared.event.Operation.{Operation}
-use Rattle.napi_model.specs.declared.event.Operation.TheVariants.{Look, Schedule, Hand, Take, Complete, MarkDisable, TakeDisable, Unmark, Enable, SetThreaded}
+use Rattle.napi_model.specs.declared.event.Operation.TheVariants.{Look, Schedule, Hand, Take, Complete, BusyTake, BusyStop, MarkDisable, TakeDisable, Unmark, Enable, SetThreaded}
 use Rattle.napi_model.specs.declared.event.Event.{Event}
 
 -- ---- states
 
 abbrev pub no_flags : Flags
-no_flags = record { sched = false; missed = false; disable = false; npsvc = false; threaded = false; sched_threaded = false }
+no_flags = record { sched = false; missed = false; disable = false; npsvc = false; in_busy_poll = false; threaded = false; sched_threaded = false }
 
 -- a new instance is disabled, in its controller's hands
 abbrev pub opening : ℕ → State
@@ -54,10 +54,18 @@ IsControl _ = ⊥
 
 -- ---- the table of legal steps: from which states, with which reply, and what is left
 
+-- caller c polls an instance, and busy polls it or doesn't
+abbrev pub Polls : ℕ → Bool → State → Type 0
+Polls c busy s = (s.place ≡ Polling c) × (s.flags.in_busy_poll ≡ busy)
+
 -- caller c may hand an instance over: to the list what it was granted or polls, to the thread what it was granted
-abbrev pub MayHand : ℕ → Kind → Place → Type 0
-MayHand c List p = (p ≡ Granted c) ⊎ (p ≡ Polling c)
-MayHand c Thread p = p ≡ Granted c
+abbrev pub MayHand : ℕ → Kind → State → Type 0
+MayHand c List s = (s.place ≡ Granted c) ⊎ Polls c false s
+MayHand c Thread s = s.place ≡ Granted c
+
+-- an instance with none of these may be taken, to busy poll it
+abbrev pub MayBusyTake : Flags → Type 0
+MayBusyTake f = (f.disable ≡ false) × (f.sched ≡ false) × (f.in_busy_poll ≡ false)
 
 abbrev pub IsLegalBy : ℕ → Operation → State → Type 0
 -- a read of the word
@@ -67,13 +75,17 @@ IsLegalBy c (Schedule prep.Disabled) s = s.flags.disable ≡ true
 IsLegalBy c (Schedule prep.Granted) s = (s.flags.disable ≡ false) × (s.flags.sched ≡ false)
 IsLegalBy c (Schedule prep.Missed) s = (s.flags.disable ≡ false) × (s.flags.sched ≡ true)
 -- `____napi_schedule`
-IsLegalBy c (Hand kind) s = MayHand c kind s.place
+IsLegalBy c (Hand kind) s = MayHand c kind s
 -- `net_rx_action` from the list, `napi_thread_wait` from the thread
 IsLegalBy c (Take kind true) s = s.place ≡ place_of kind
 IsLegalBy c (Take kind false) s = s.place ≢ place_of kind
 -- `napi_complete_done`
-IsLegalBy c (Complete Again) s = (s.place ≡ Polling c) × (s.flags.missed ≡ true)
-IsLegalBy c (Complete Released) s = (s.place ≡ Polling c) × (s.flags.missed ≡ false)
+IsLegalBy c (Complete Again) s = (s.place ≡ Polling c) × (s.flags.missed ≡ true) × (s.flags.in_busy_poll ≡ false)
+IsLegalBy c (Complete Released) s = (s.place ≡ Polling c) × (s.flags.missed ≡ false) × (s.flags.in_busy_poll ≡ false)
+IsLegalBy c (Complete Held) s = Polls c true s
+-- `napi_busy_loop`, which takes the instance, and `busy_poll_stop`
+IsLegalBy c BusyTake s = MayBusyTake s.flags
+IsLegalBy c BusyStop s = Polls c true s
 -- `napi_disable`, in three steps
 IsLegalBy c MarkDisable s = (s.flags.disable ≡ false) × ¬ IsControl s.place
 IsLegalBy c (TakeDisable false) s = (s.flags.disable ≡ true) × ((s.flags.sched ≡ true) ⊎ (s.flags.npsvc ≡ true))
@@ -96,6 +108,9 @@ after_by c (Take kind true) s = record s { place = Polling c }
 after_by c (Take kind false) s = s
 after_by c (Complete Again) s = record { flags = record s.flags { missed = false; sched_threaded = false }; place = Granted c }
 after_by c (Complete Released) s = record { flags = record s.flags { sched = false; sched_threaded = false }; place = Nobody }
+after_by c (Complete Held) s = s
+after_by c BusyTake s = record { flags = record s.flags { sched = true; in_busy_poll = true }; place = Polling c }
+after_by c BusyStop s = record s { flags = record s.flags { in_busy_poll = false; missed = false } }
 after_by c MarkDisable s = record s { flags = record s.flags { disable = true } }
 after_by c (TakeDisable false) s = s
 after_by c (TakeDisable true) s = record { flags = record s.flags { sched = true; npsvc = true; threaded = false }; place = Control c }
@@ -124,6 +139,8 @@ call_of (Schedule reply) = call.Schedule
 call_of (Hand kind) = call.Hand kind
 call_of (Take kind reply) = call.Take kind
 call_of (Complete reply) = call.Complete
+call_of BusyTake = call.BusyTake
+call_of BusyStop = call.BusyStop
 call_of MarkDisable = call.MarkDisable
 call_of (TakeDisable reply) = call.TakeDisable
 call_of Unmark = call.Unmark
@@ -132,8 +149,10 @@ call_of (SetThreaded threaded) = call.SetThreaded threaded
 
 -- the condition under which caller c makes a call
 abbrev pub MayCall : ℕ → Call → State → Type 0
-MayCall c (call.Hand kind) s = MayHand c kind s.place
+MayCall c (call.Hand kind) s = MayHand c kind s
 MayCall c call.Complete s = s.place ≡ Polling c
+MayCall c call.BusyTake s = MayBusyTake s.flags
+MayCall c call.BusyStop s = Polls c true s
 MayCall c call.MarkDisable s = (s.flags.disable ≡ false) × ¬ IsControl s.place
 MayCall c call.TakeDisable s = s.flags.disable ≡ true
 MayCall c call.Unmark s = (s.place ≡ Control c) × (s.flags.disable ≡ true)
@@ -152,7 +171,7 @@ abbrev pub take_reply : Kind → State → Bool
 take_reply kind s = is_handed kind s.place
 
 abbrev pub complete_reply : State → Done
-complete_reply s = if s.flags.missed then Again else Released
+complete_reply s = if s.flags.in_busy_poll then Held else (if s.flags.missed then Again else Released)
 
 abbrev pub take_disable_reply : State → Bool
 take_disable_reply s = not (s.flags.sched || s.flags.npsvc)
@@ -164,6 +183,8 @@ answer_of call.Schedule s = Schedule (schedule_reply s)
 answer_of (call.Hand kind) s = Hand kind
 answer_of (call.Take kind) s = Take kind (take_reply kind s)
 answer_of call.Complete s = Complete (complete_reply s)
+answer_of call.BusyTake s = BusyTake
+answer_of call.BusyStop s = BusyStop
 answer_of call.MarkDisable s = MarkDisable
 answer_of call.TakeDisable s = TakeDisable (take_disable_reply s)
 answer_of call.Unmark s = Unmark

@@ -13,7 +13,7 @@ bit_if false bit = 0
 abbrev pub flags_word : Flags → ℕ
 flags_word f =
     bit_if f.sched 1 + bit_if f.missed 2 + bit_if f.disable 4 + bit_if f.npsvc 8
-    + bit_if f.threaded 256 + bit_if f.sched_threaded 512
+    + bit_if f.in_busy_poll 64 + bit_if f.threaded 256 + bit_if f.sched_threaded 512
 
 abbrev pub mark_word : Option Kind → ℕ
 mark_word None = 0
@@ -29,7 +29,7 @@ both_marks = 4294967296 + 8589934592
 
 -- the bits of 64 that have a name here, and those that have none
 abbrev pub named_bits : ℕ
-named_bits = 1 + 2 + 4 + 8 + 256 + 512 + both_marks
+named_bits = 1 + 2 + 4 + 8 + 64 + 256 + 512 + both_marks
 
 abbrev pub other_bits : ℕ
 other_bits = 18446744073709551615 - named_bits
@@ -54,6 +54,7 @@ seen_in word = record {
     missed = has_bit word 2;
     disable = has_bit word 4;
     npsvc = has_bit word 8;
+    in_busy_poll = has_bit word 64;
     threaded = has_bit word 256;
     sched_threaded = has_bit word 512;
   };

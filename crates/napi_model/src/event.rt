@@ -18,6 +18,8 @@ pub enum Done {
     Released,
     /// A request was missed: the instance is the caller's, to be handed over again.
     Again,
+    /// The instance is busy polled: the caller polls it still.
+    Held,
 }
 
 /// What a caller may ask of an instance.
@@ -33,6 +35,10 @@ pub enum Call {
     Take(Kind),
     /// End a poll (`napi_complete_done`).
     Complete,
+    /// Take an idle instance, to busy poll it (`napi_busy_loop`).
+    BusyTake,
+    /// Stop busy polling, and poll once more (`busy_poll_stop`).
+    BusyStop,
     /// Mark a disable as pending (`napi_disable`).
     MarkDisable,
     /// Try to take the instance for the controller (`napi_disable`).
@@ -54,6 +60,8 @@ pub enum Operation {
     /// True is Taken, false NotThere.
     Take(Kind, bool),
     Complete(Done),
+    BusyTake,
+    BusyStop,
     MarkDisable,
     /// True is Taken, false Busy.
     TakeDisable(bool),

@@ -27,11 +27,14 @@ pub fn own(alloc: Global, caller: u32, history: &[Event]) -> Result<Vec<Event>, 
         .collect(alloc)
 }
 
-/// Whether an instance that was handed over is taken by this event: then its next poll begins.
+/// Whether by this event an instance that was handed over is taken, or its busy polling stopped: then its next poll begins.
 pub fn is_poll_start(event: Event) -> bool
     ensures { IsTrue result ↔ IsPollStart event }
 {
-    matches!(&event.operation, Operation::Take(_, true))
+    matches!(
+        &event.operation,
+        Operation::Take(_, true) | Operation::BusyStop
+    )
 }
 
 /// Whether this event, in this state, is a request that a poll has to follow: granted, or missed while the instance isn't

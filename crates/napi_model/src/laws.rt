@@ -1,7 +1,7 @@
 //! Laws of legal histories. Each is the contract of a function that does nothing.
 ghost use Rattle.std.specs.Prelude.{ℕ};
 ghost use Rattle.napi_model.specs.Step.{opening, idle};
-ghost use Rattle.napi_model.specs.Laws.{IsSound, IsControlled, SchedClearIsNobody, OthersLeaveOwner, OthersLeaveOwnership, ControlIsTheControllers, OthersLeaveDisable, OwnOfJoined};
+ghost use Rattle.napi_model.specs.Laws.{IsSound, IsControlled, BusyIsPolled, SchedClearIsNobody, BusyPollIsPolling, OthersLeaveOwner, OthersLeaveOwnership, ControlIsTheControllers, OthersLeaveDisable, OwnOfJoined};
 
 /// In every state that a legal history leads to from the opening state or from the idle one, SCHED clear says that the
 /// place is `Nobody`.
@@ -11,7 +11,15 @@ pub fn sched_clear_is_nobody()
     ensures idle { IsSound idle }
 {}
 
-/// The events of others leave a caller's `Granted`, `Polling` or `Control` where it is.
+/// In every state that a legal history leads to from the opening state or from the idle one, IN_BUSY_POLL says that the
+/// place is a `Polling`.
+pub fn busy_poll_is_polling()
+    ensures after { BusyPollIsPolling }
+    ensures opening { (controller : ℕ) → BusyIsPolled (opening controller) }
+    ensures idle { BusyIsPolled idle }
+{}
+
+/// The events of others leave a caller's `Granted`, `Polling` or `Control` where it is, and whether it busy polls.
 pub fn others_leave_owner()
     ensures { OthersLeaveOwner }
 {}

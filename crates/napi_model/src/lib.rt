@@ -18,8 +18,8 @@ mod word;
 pub use event::{Call, Done, Event, Operation, Prep};
 pub use history::{first_illegal, is_accepted_schedule, is_poll_start, own, state_after};
 pub use laws::{
-    control_is_the_controllers, others_leave_disable, others_leave_owner, others_leave_ownership,
-    own_of_joined, sched_clear_is_nobody,
+    busy_poll_is_polling, control_is_the_controllers, others_leave_disable, others_leave_owner,
+    others_leave_ownership, own_of_joined, sched_clear_is_nobody,
 };
 pub use serial::SerialNapi;
 pub use state::{Flags, Kind, Place, Seen, State};

@@ -11,9 +11,9 @@ pub struct SerialNapi {
 }
 
 impl SerialNapi {
-    ghost use Rattle.std.specs.Prelude.{◌≡◌, ℕ, true, false};
+    ghost use Rattle.std.specs.Prelude.{◌≡◌, ◌↔◌, ℕ, true, false, IsTrue, IsFalse};
     ghost use Rattle.napi_model.specs.declared.event.Operation.TheVariants as operation;
-    ghost use Rattle.napi_model.specs.Step.{opening, seen_of, IsControl, MayHand, MayCall, answer_of, schedule_reply, take_reply, complete_reply, take_disable_reply};
+    ghost use Rattle.napi_model.specs.Step.{opening, seen_of, IsControl, MayHand, MayCall, answer_of, schedule_reply, take_reply, complete_reply, take_disable_reply, MayBusyTake, Polls};
     ghost use Rattle.napi_model.specs.Serial.{state_of, controller_of, Steps};
 
     /// A new instance, disabled: SCHED and NPSVC are set, and the place is `Control(controller)` (`netif_napi_add`).
@@ -76,7 +76,7 @@ impl SerialNapi {
     /// Hands over what the caller was granted, or puts what it polls back on the list (`____napi_schedule`). For the thread
     /// SCHED_THREADED is set.
     pub fn hand(&mut self, who: u32, kind: Kind)
-        requires { MayHand who kind (state_of self.old).place }
+        requires { MayHand who kind (state_of self.old) }
         ensures { Steps self.old who (operation.Hand kind) self.new }
     {
         self.step(who, Call::Hand(kind));
@@ -95,6 +95,7 @@ impl SerialNapi {
 
     /// Ends a poll (`napi_complete_done`). With MISSED set the answer is `Again`: MISSED is cleared, and the caller has to
     /// hand the instance over once more. Otherwise it is `Released`: SCHED is cleared. SCHED_THREADED is cleared in both.
+    /// While the caller busy polls the answer is `Held` instead, and nothing changes.
     pub fn complete(&mut self, who: u32) -> Done
         requires { (state_of self.old).place ≡ Place.Polling who }
         ensures step { Steps self.old who (operation.Complete result) self.new }
@@ -104,6 +105,29 @@ impl SerialNapi {
             unreachable!()
         };
         reply
+    }
+
+    /// Takes an idle instance, to busy poll it: SCHED and IN_BUSY_POLL are set, and the place is `Polling(who)` (the
+    /// `cmpxchg` of `napi_busy_loop`). False says that DISABLE, SCHED or IN_BUSY_POLL is set, and this was a look.
+    pub fn busy_take(&mut self, who: u32) -> bool
+        ensures taken { IsTrue result → Steps self.old who operation.BusyTake self.new }
+        ensures refused { IsFalse result → Steps self.old who (operation.Look (seen_of (state_of self.old))) self.new }
+        ensures when { IsTrue result ↔ MayBusyTake (state_of self.old).flags }
+    {
+        if !self.state.may_call(who, Call::BusyTake) {
+            self.step(who, Call::Look);
+            return false;
+        }
+        self.step(who, Call::BusyTake);
+        true
+    }
+
+    /// Stops busy polling: IN_BUSY_POLL and MISSED are cleared, and the caller polls once more (`busy_poll_stop`).
+    pub fn busy_stop(&mut self, who: u32)
+        requires { Polls who true (state_of self.old) }
+        ensures { Steps self.old who operation.BusyStop self.new }
+    {
+        self.step(who, Call::BusyStop);
     }
 
     /// Marks a disable as pending: from now on requests are answered `Disabled` (`napi_disable` sets DISABLE first).

@@ -11,6 +11,8 @@ pub struct Flags {
     pub disable: bool,
     /// The instance is disabled (`NAPI_STATE_NPSVC`; the kernel's netpoll uses the bit too).
     pub npsvc: bool,
+    /// The instance is busy polled (`NAPI_STATE_IN_BUSY_POLL`).
+    pub in_busy_poll: bool,
     /// Polls are made by the instance's own thread (`NAPI_STATE_THREADED`).
     pub threaded: bool,
     /// The instance was handed to its thread, which hasn't completed it since (`NAPI_STATE_SCHED_THREADED`).
@@ -18,15 +20,27 @@ pub struct Flags {
 }
 
 impl Flags {
+    ghost use Rattle.std.specs.Prelude.{◌↔◌, IsTrue};
+    ghost use Rattle.napi_model.specs.Step.{MayBusyTake};
+
     /// No flag is set.
     pub const NONE: Flags = Flags {
         sched: false,
         missed: false,
         disable: false,
         npsvc: false,
+        in_busy_poll: false,
         threaded: false,
         sched_threaded: false,
     };
+
+    /// Whether an instance with these flags may be taken, to busy poll it: none of DISABLE, SCHED and IN_BUSY_POLL is set
+    /// (`napi_busy_loop`, the test before its `cmpxchg`).
+    pub fn may_busy_take(self) -> bool
+        ensures { IsTrue result ↔ MayBusyTake self }
+    {
+        !self.disable && !self.sched && !self.in_busy_poll
+    }
 }
 
 /// To whom a scheduled instance is handed.
@@ -127,15 +141,22 @@ impl State {
             Operation::Schedule(Prep::Granted) => !flags.disable && !flags.sched,
             Operation::Schedule(Prep::Missed) => !flags.disable && flags.sched,
             Operation::Hand(Kind::List) => {
-                self.place == Place::Granted(caller) || self.place == Place::Polling(caller)
+                self.place == Place::Granted(caller)
+                    || self.place == Place::Polling(caller) && !flags.in_busy_poll
             }
             Operation::Hand(Kind::Thread) => self.place == Place::Granted(caller),
             Operation::Take(Kind::List, taken) => taken == (self.place == Place::Listed),
             Operation::Take(Kind::Thread, taken) => taken == (self.place == Place::ToThread),
             Operation::Complete(Done::Again) => self.place == Place::Polling(caller)
-                && flags.missed,
+                && flags.missed
+                && !flags.in_busy_poll,
             Operation::Complete(Done::Released) => self.place == Place::Polling(caller)
-                && !flags.missed,
+                && !flags.missed
+                && !flags.in_busy_poll,
+            Operation::BusyTake => flags.may_busy_take(),
+            Operation::Complete(Done::Held) | Operation::BusyStop => {
+                self.place == Place::Polling(caller) && flags.in_busy_poll
+            }
             Operation::MarkDisable => !flags.disable && !matches!(&self.place, Place::Control(_)),
             Operation::TakeDisable(taken) => flags.disable && taken != (flags.sched || flags.npsvc),
             Operation::Unmark => self.place == Place::Control(caller) && flags.disable,
@@ -179,6 +200,15 @@ impl State {
                 flags.sched_threaded = false;
                 place = Place::Nobody;
             }
+            Operation::BusyTake => {
+                flags.sched = true;
+                flags.in_busy_poll = true;
+                place = Place::Polling(caller);
+            }
+            Operation::BusyStop => {
+                flags.in_busy_poll = false;
+                flags.missed = false;
+            }
             Operation::MarkDisable => flags.disable = true,
             Operation::TakeDisable(true) => {
                 flags.sched = true;
@@ -197,6 +227,7 @@ impl State {
             Operation::Look(_)
             | Operation::Schedule(Prep::Disabled)
             | Operation::Take(_, false)
+            | Operation::Complete(Done::Held)
             | Operation::TakeDisable(false) => {}
         }
         State { flags, place }
@@ -210,9 +241,11 @@ impl State {
         let flags = self.flags;
         match call {
             Call::Hand(Kind::List) => self.place == Place::Granted(caller)
-                || self.place == Place::Polling(caller),
+                || self.place == Place::Polling(caller) && !flags.in_busy_poll,
             Call::Hand(Kind::Thread) => self.place == Place::Granted(caller),
             Call::Complete => self.place == Place::Polling(caller),
+            Call::BusyTake => flags.may_busy_take(),
+            Call::BusyStop => self.place == Place::Polling(caller) && flags.in_busy_poll,
             Call::MarkDisable => !flags.disable && !matches!(&self.place, Place::Control(_)),
             Call::TakeDisable => flags.disable,
             Call::Unmark => self.place == Place::Control(caller) && flags.disable,
@@ -240,8 +273,11 @@ impl State {
                 Kind::Thread,
                 self.place == Place::ToThread,
             ),
+            Call::Complete if flags.in_busy_poll => Operation::Complete(Done::Held),
             Call::Complete if flags.missed => Operation::Complete(Done::Again),
             Call::Complete => Operation::Complete(Done::Released),
+            Call::BusyTake => Operation::BusyTake,
+            Call::BusyStop => Operation::BusyStop,
             Call::MarkDisable => Operation::MarkDisable,
             Call::TakeDisable => Operation::TakeDisable(!flags.sched && !flags.npsvc),
             Call::Unmark => Operation::Unmark,

@@ -3,9 +3,10 @@ ghost use Rattle.napi_model.specs.Serial.{controller_of};
 ghost use Rattle.napi_model.specs.declared.tests.TheConstants.{CONTROLLER};
 
 use crate::{
-    Call, Done, Event, Flags, Kind, Operation, Place, Prep, Seen, SerialNapi, State, decode,
-    decode_known, encode, first_illegal, is_accepted_schedule, is_poll_start, others_leave_disable,
-    others_leave_owner, own, own_of_joined, sched_clear_is_nobody, state_after,
+    Call, Done, Event, Flags, Kind, Operation, Place, Prep, Seen, SerialNapi, State,
+    busy_poll_is_polling, decode, decode_known, encode, first_illegal, is_accepted_schedule,
+    is_poll_start, others_leave_disable, others_leave_owner, own, own_of_joined,
+    sched_clear_is_nobody, state_after,
 };
 use std::process::Abort;
 use std::test::Fail;
@@ -55,6 +56,11 @@ impl Instance {
             }
             Call::Take(kind) => Some(Operation::Take(kind, napi.take(caller, kind))),
             Call::Complete => Some(Operation::Complete(napi.complete(caller))),
+            Call::BusyTake => napi.busy_take(caller).then_some(Operation::BusyTake),
+            Call::BusyStop => {
+                napi.busy_stop(caller);
+                Some(Operation::BusyStop)
+            }
             Call::SetThreaded(threaded) => {
                 napi.set_threaded(threaded);
                 Some(Operation::SetThreaded(threaded))
@@ -140,6 +146,11 @@ const THREADED_SCHED: Flags = Flags {
     ..IDLE
 };
 
+const BUSY: Flags = Flags {
+    in_busy_poll: true,
+    ..SCHED
+};
+
 const TO_THREAD: Flags = Flags {
     sched_threaded: true,
     ..THREADED_SCHED
@@ -169,6 +180,8 @@ fn call_of(operation: Operation) -> Call {
         Operation::Hand(kind) => Call::Hand(kind),
         Operation::Take(kind, _) => Call::Take(kind),
         Operation::Complete(_) => Call::Complete,
+        Operation::BusyTake => Call::BusyTake,
+        Operation::BusyStop => Call::BusyStop,
         Operation::MarkDisable => Call::MarkDisable,
         Operation::TakeDisable(_) => Call::TakeDisable,
         Operation::Unmark => Call::Unmark,
@@ -381,6 +394,62 @@ fn steps_of_a_thread(rt: HostRuntime) {
     play(&rt, &steps);
 }
 
+#[test]
+fn steps_of_busy_polling(rt: HostRuntime) {
+    let missed = Flags {
+        missed: true,
+        ..BUSY
+    };
+    let marked = Flags {
+        disable: true,
+        ..BUSY
+    };
+    let sched_marked = Flags {
+        disable: true,
+        ..SCHED
+    };
+    let by_first = Place::Polling(0);
+    let steps = [
+        (2, Operation::Enable(false), IDLE, Place::Nobody),
+        (0, Operation::BusyTake, BUSY, by_first),
+        (1, Operation::Schedule(Prep::Missed), missed, by_first),
+        (1, Operation::Take(Kind::List, false), missed, by_first),
+        (0, Operation::Complete(Done::Held), missed, by_first),
+        (0, Operation::BusyStop, SCHED, by_first),
+        (0, Operation::Complete(Done::Released), IDLE, Place::Nobody),
+        (1, Operation::BusyTake, BUSY, Place::Polling(1)),
+        (2, Operation::MarkDisable, marked, Place::Polling(1)),
+        (2, Operation::TakeDisable(false), marked, Place::Polling(1)),
+        (
+            1,
+            Operation::Complete(Done::Held),
+            marked,
+            Place::Polling(1),
+        ),
+        (1, Operation::BusyStop, sched_marked, Place::Polling(1)),
+        (1, Operation::Hand(Kind::List), sched_marked, Place::Listed),
+    ];
+    play(&rt, &steps);
+}
+
+/// An instance isn't taken to be busy polled while it is disabled, marked, granted or busy polled.
+#[test]
+fn refused_busy_polling(rt: HostRuntime) {
+    let mut instance = Instance::new();
+    assert!(rt; !instance.napi.busy_take(0), "disabled");
+    instance.perform(CONTROLLER, Call::Enable(false));
+    assert!(rt; instance.napi.busy_take(0));
+    assert_eq!(rt; instance.word(), 65);
+    assert!(rt; !instance.napi.busy_take(1), "busy polled");
+    assert_eq!(rt; instance.perform(0, Call::Hand(Kind::List)), None);
+    assert_eq!(rt; instance.perform(1, Call::BusyStop), None);
+    instance.perform(0, Call::BusyStop);
+    instance.perform(0, Call::Complete);
+    instance.perform(CONTROLLER, Call::MarkDisable);
+    assert!(rt; !instance.napi.busy_take(0), "marked");
+    assert_eq!(rt; instance.word(), 4);
+}
+
 fn seen(flags: Flags) -> Operation {
     Operation::Look(Seen {
         flags,
@@ -503,7 +572,7 @@ fn words_of_the_states(rt: HostRuntime) {
 #[test]
 fn malformed_words(rt: HostRuntime) {
     for bit in 0..64u32 {
-        let is_named = matches!(bit, 0..4 | 8 | 9 | 32 | 33);
+        let is_named = matches!(bit, 0..4 | 6 | 8 | 9 | 32 | 33);
         assert_eq!(rt; decode(1 << bit).is_some(), is_named, "bit {bit}");
     }
     assert_eq!(rt; decode(1 + (1 << 32) + (1 << 33)), None, "both marks");
@@ -520,8 +589,8 @@ fn instance_and_state_agree(rt: HostRuntime) -> Result<(), Fail> {
     for _ in 0..20000 {
         seed = seed.wrapping_mul(1664525).wrapping_add(1013904223);
         let choice = seed >> 16;
-        let caller = choice / 16 % 3;
-        let Some(operation) = instance.perform(caller, call_at(choice % 16)) else {
+        let caller = choice / 18 % 3;
+        let Some(operation) = instance.perform(caller, call_at(choice % 18)) else {
             continue;
         };
         let event = Event { caller, operation };
@@ -547,6 +616,8 @@ fn call_at(choice: u32) -> Call {
         12 => Call::TakeDisable,
         13 => Call::Unmark,
         14 => Call::Enable(false),
+        15 => Call::BusyTake,
+        16 => Call::BusyStop,
         _ => Call::SetThreaded(true),
     }
 }
@@ -612,6 +683,8 @@ fn requests_and_poll_starts(rt: HostRuntime) {
     for (operation, starts) in [
         (Operation::Take(Kind::List, true), true),
         (Operation::Take(Kind::Thread, true), true),
+        (Operation::BusyStop, true),
+        (Operation::BusyTake, false),
         (Operation::Take(Kind::List, false), false),
         (Operation::Hand(Kind::List), false),
     ] {
@@ -628,6 +701,7 @@ fn requests_and_poll_starts(rt: HostRuntime) {
 fn laws() {
     sched_clear_is_nobody();
     others_leave_owner();
+    busy_poll_is_polling();
     others_leave_disable();
     own_of_joined();
 }

@@ -12,6 +12,8 @@ const DISABLE: u64 = 1 << 2;
 
 const NPSVC: u64 = 1 << 3;
 
+const IN_BUSY_POLL: u64 = 1 << 6;
+
 const THREADED: u64 = 1 << 8;
 
 const SCHED_THREADED: u64 = 1 << 9;
@@ -26,6 +28,7 @@ const OTHER_BITS: u64 = !(SCHED
     | MISSED
     | DISABLE
     | NPSVC
+    | IN_BUSY_POLL
     | THREADED
     | SCHED_THREADED
     | BOTH_MARKS);
@@ -57,6 +60,7 @@ pub fn encode(seen: Seen) -> u64
         | bit(flags.missed, MISSED)
         | bit(flags.disable, DISABLE)
         | bit(flags.npsvc, NPSVC)
+        | bit(flags.in_busy_poll, IN_BUSY_POLL)
         | bit(flags.threaded, THREADED)
         | bit(flags.sched_threaded, SCHED_THREADED)
         | mark(seen.handed)
@@ -81,6 +85,7 @@ fn read(word: u64) -> Seen
         missed: word & MISSED != 0,
         disable: word & DISABLE != 0,
         npsvc: word & NPSVC != 0,
+        in_busy_poll: word & IN_BUSY_POLL != 0,
         threaded: word & THREADED != 0,
         sched_threaded: word & SCHED_THREADED != 0,
     };

@@ -1,5 +1,5 @@
 -- One event more keeps the rule.
-use Rattle.std.proofs.Common.{◌≡◌, ◌≢◌, ℕ, zero, suc, List, [], ◌∷◌, ◌++◌, get_or, set, Option, Some, None, true, false, is_some, unwrap_or, refl, sym, ap, ◌∙◌, subst, ⊎_elim, arith, true≢false}
+use Rattle.std.proofs.Common.{◌≡◌, ◌≢◌, ℕ, zero, suc, List, [], ◌∷◌, ◌++◌, get_or, set, Option, Some, None, Bool, true, false, is_some, unwrap_or, refl, sym, ap, ◌∙◌, subst, ⊎_elim, arith, true≢false}
 use mathlib.Core.Option as maybe
 use lib.ListN.{get_elem?}
 use Rattle.atomic_table.specs.Table.{State}
@@ -9,13 +9,14 @@ use Rattle.napi_model.specs.declared.event.Operation.{Operation}
 use Rattle.napi_model.specs.declared.state.State.{State as Napi}
 use Rattle.napi_model.specs.Step.{event, opening, seen_of, after}
 use Rattle.napi_model.specs.History.{LegalHistory, IsLegalFor, state_after, own}
-use Rattle.napi_model.specs.Laws.{IsSound, IsControlled, is_owner}
+use Rattle.napi_model.specs.declared.state.Place.{Place}
+use Rattle.napi_model.specs.Laws.{IsSound, IsControlled, is_owner, stand_of}
 use Rattle.napi_model.specs.Word.{word_of}
 use Rattle.napi_model.proofs.Histories.{state_after-snoc, state_after-append, legal_snoc, legal_front, legal_back}
 use Rattle.napi_model.proofs.Owners.{sound_after, opens_sound, ownership_kept, owner_kept, disable_kept, controlled_after, opens_controlled}
 use Rattle.napi_word.specs.declared.view.Key.{Key}
 use Rattle.napi_word.specs.declared.view.Strand.{Strand}
-use Rattle.napi_word.specs.View.{View, is_pass, number_of, controller_of, mine, ring_of, state_in, place_in, disable_in}
+use Rattle.napi_word.specs.View.{View, is_pass, number_of, controller_of, mine, ring_of, state_in, place_in, disable_in, busy_in}
 use Rattle.napi_word.specs.Slot.{Content, is_out}
 use Rattle.napi_word.specs.Rule.{first_view, Home, Homes, Owned, Fits, Kept, Starts, Holding}
 use Rattle.napi_word.specs.Events.{Steps}
@@ -65,6 +66,7 @@ pub record Knows (k : ℕ) (v : View) (c : ℕ) (now : Napi) : Type 0 where
   pub controlled : IsControlled k now
   pub owner : is_owner c now.place ≡ is_owner c (place_in v)
   pub place : is_owner c (place_in v) ≡ true → now.place ≡ place_in v
+  pub busy : is_owner c (place_in v) ≡ true → now.flags.in_busy_poll ≡ busy_in v
   pub disable : c ≡ k → now.flags.disable ≡ disable_in v
 
 -- ---- what the rule says of a strand with a number: since the list that it has seen, others alone made events
@@ -99,8 +101,11 @@ module _ (key : Key) (s : St) (r : Kept key s) (p : ℕ × ℕ) (x : Strand) (f 
   pub owner_since : is_owner c state_now.place ≡ is_owner c state_seen.place
   owner_since = ap (λ (u : Napi). is_owner c u.place) parts ∙ ownership_kept key.controller c state_seen later sound_t back none
 
+  pub stand_since : is_owner c state_seen.place ≡ true → stand_of state_now ≡ stand_of state_seen
+  stand_since y = ap stand_of parts ∙ owner_kept key.controller c state_seen later sound_t back none y
+
   pub place_since : is_owner c state_seen.place ≡ true → state_now.place ≡ state_seen.place
-  place_since y = ap (λ (u : Napi). u.place) parts ∙ owner_kept key.controller c state_seen later sound_t back none y
+  place_since y = ap (λ (t : Place × Bool). t.0) (stand_since y)
 
   pub disable_since : c ≡ key.controller → state_now.flags.disable ≡ state_seen.flags.disable
   disable_since y = ap (λ (u : Napi). u.flags.disable) parts ∙ disable_kept key.controller state_seen later back (subst (λ (d : ℕ). own d later ≡ []) y none)
@@ -131,8 +136,8 @@ module _ (key : Key) (s : St) (r : Kept key s) (id : ℕ) (v : View) (at : get_e
   owner_now : is_owner c now.place ≡ is_owner c t.place
   owner_now = owner_since key s r (id, 0) o.first own_fits c o.numbered
 
-  place_now : is_owner c t.place ≡ true → now.place ≡ t.place
-  place_now = place_since key s r (id, 0) o.first own_fits c o.numbered
+  stand_now : is_owner c t.place ≡ true → stand_of now ≡ stand_of t
+  stand_now = stand_since key s r (id, 0) o.first own_fits c o.numbered
 
   disable_now : c ≡ key.controller → now.flags.disable ≡ t.flags.disable
   disable_now = disable_since key s r (id, 0) o.first own_fits c o.numbered
@@ -147,7 +152,8 @@ module _ (key : Key) (s : St) (r : Kept key s) (id : ℕ) (v : View) (at : get_e
     sound = sound_after key.controller (opening key.controller) h (opens_sound key.controller) r.legal;
     controlled = controlled_after key.controller (opening key.controller) h (opens_controlled key.controller) r.legal;
     owner = owner_now ∙ ap (λ (u : Napi). is_owner c u.place) (sym viewed);
-    place = λ y. place_now (ap (λ (u : Napi). is_owner c u.place) (sym viewed) ∙ y) ∙ ap (λ (u : Napi). u.place) (sym viewed);
+    place = λ y. ap (λ (t : Place × Bool). t.0) (stand_now (ap (λ (u : Napi). is_owner c u.place) (sym viewed) ∙ y)) ∙ ap (λ (u : Napi). u.place) (sym viewed);
+    busy = λ y. ap (λ (t : Place × Bool). t.1) (stand_now (ap (λ (u : Napi). is_owner c u.place) (sym viewed) ∙ y)) ∙ ap (λ (u : Napi). u.flags.in_busy_poll) (sym viewed);
     disable = λ y. disable_now y ∙ ap (λ (u : Napi). u.flags.disable) (sym viewed);
   }
 
@@ -229,6 +235,7 @@ module _ (key : Key) (s : St) (r : Kept key s) (id : ℕ) (v : View) (at : get_e
       ring = sym (ap ring_of o.is);
       owner = subst (λ (k : ℕ). is_owner c (state_after (opening k) h).place ≡ is_owner c (place_in v)) (sym knows.controller) knows.owner;
       place = subst (λ (k : ℕ). is_owner c (place_in v) ≡ true → (state_after (opening k) h).place ≡ place_in v) (sym knows.controller) knows.place;
+      busy = subst (λ (k : ℕ). is_owner c (place_in v) ≡ true → (state_after (opening k) h).flags.in_busy_poll ≡ busy_in v) (sym knows.controller) knows.busy;
       disable = λ top. subst (λ (k : ℕ). (state_after (opening k) h).flags.disable ≡ disable_in v) (sym knows.controller) (knows.disable (top ∙ knows.controller));
     }
 

@@ -1,26 +1,34 @@
 -- What a pass knows by its last event.
-use Rattle.std.proofs.Common.{inl, eq-eqb, ◌≡◌, ℕ, [], ◌∷◌, Bool, true, false, ◌||◌, refl, sym, ap, ◌∙◌, subst, true≢false}
+use Rattle.std.proofs.Common.{inl, eq-eqb, ◌≡◌, ℕ, List, [], ◌∷◌, Bool, true, false, ◌||◌, refl, sym, ap, ◌∙◌, subst, true≢false}
 use Rattle.napi_model.specs.declared.state.State.{State as Napi}
 use Rattle.napi_model.specs.declared.state.Seen.{Seen}
 use Rattle.napi_model.specs.declared.state.Kind.{Kind}
 use Rattle.napi_model.specs.declared.state.Kind.TheVariants as kind
 use Rattle.napi_model.specs.declared.event.Prep.TheVariants as prep
-use Rattle.napi_model.specs.declared.event.Done.TheVariants.{Again}
+use Rattle.napi_model.specs.declared.event.Done.TheVariants.{Again, Held}
 use Rattle.napi_model.specs.declared.state.Place.TheVariants.{Granted, Polling, Control}
 use Rattle.napi_model.specs.declared.event.Event.{Event}
 use Rattle.napi_model.specs.declared.event.Operation.{Operation}
-use Rattle.napi_model.specs.declared.event.Operation.TheVariants.{Look, Schedule, Take, Complete, MarkDisable, TakeDisable, Unmark, Enable}
-use Rattle.napi_model.specs.Step.{event, opening, after_by, MayHand}
+use Rattle.napi_model.specs.declared.event.Operation.TheVariants.{Look, Schedule, Take, Complete, BusyTake, BusyStop, MarkDisable, TakeDisable, Unmark, Enable}
+use Rattle.napi_model.specs.Step.{event, opening, after_by, place_of, MayHand}
 use Rattle.napi_model.specs.History.{LegalHistory, IsLegalFor, state_after}
-use Rattle.napi_model.specs.Laws.{is_owner}
-use Rattle.napi_model.proofs.Histories.{legal_back, state_after-snoc}
+use Rattle.napi_model.specs.Laws.{is_owner, IsPolled}
+use Rattle.napi_model.proofs.Histories.{legal_front, legal_back, state_after-snoc}
+use Rattle.napi_model.proofs.Owners.{busy_after, opens_sound, opens_unbusy}
 use Rattle.napi_word.specs.View.{View, number_of, controller_of, state_at, state_in, place_in, disable_in}
 use Rattle.napi_word.specs.Events.{Steps}
-use Rattle.napi_word.specs.Passes.{HasController}
+use Rattle.napi_word.specs.Told.{done_of}
+use Rattle.napi_word.specs.Passes.{HasController, HasPoll}
+use Rattle.napi_word.proofs.Places.{is_false}
 
 pub either_not : (a b : Bool) → (a || b) ≡ false → (a ≡ false) × (b ≡ false)
 either_not true b e = absurd (true≢false e)
 either_not false b e = (refl, e)
+
+-- IN_BUSY_POLL stands at a Polling alone
+pub unbusy : (k : ℕ) (h : List Event) → LegalHistory k (opening k) h → ¬ IsPolled (state_after (opening k) h).place → (state_after (opening k) h).flags.in_busy_poll ≡ false
+unbusy k h legal none =
+    is_false (state_after (opening k) h).flags.in_busy_poll (λ e. none (busy_after k (opening k) h (opens_sound k) (opens_unbusy k) legal e))
 
 module _ (v : View) (o : Operation) (w : View) (g : Steps v o w) where
   -- the state that the event found
@@ -36,6 +44,12 @@ module _ (v : View) (o : Operation) (w : View) (g : Steps v o w) where
       let whole = subst (LegalHistory (controller_of v) (opening (controller_of v))) g.ends g.legal in
       legal_one (controller_of v) found_state (event (number_of v) o) (legal_back (controller_of v) (opening (controller_of v)) g.before (event (number_of v) o ∷ []) whole)
 
+  pub found_unbusy : ¬ IsPolled found_state.place → found_state.flags.in_busy_poll ≡ false
+  found_unbusy =
+      let k = controller_of v in
+      let whole = subst (LegalHistory k (opening k)) g.ends g.legal in
+      unbusy k g.before (legal_front k (opening k) g.before (event (number_of v) o ∷ []) whole)
+
   -- the state that the view shows after the event
   pub state_then : state_in w ≡ after_by (number_of v) o found_state
   state_then = (λ i. state_after (opening (g.controller i)) (g.ends i)) ∙ state_after-snoc (opening (controller_of v)) g.before (event (number_of v) o)
@@ -47,6 +61,10 @@ module _ (v : View) (o : Operation) (w : View) (g : Steps v o w) where
   pub place_then : place_in w ≡ (after_by (number_of v) o found_state).place
   place_then = ap (λ (s : Napi). s.place) state_then
 
+not_polled : (k : Kind) → ¬ IsPolled (place_of k)
+not_polled kind.List is = is
+not_polled kind.Thread is = is
+
 -- what a pass was granted, polls or controls
 pub schedule_grants : (v w : View) → Steps v (Schedule prep.Granted) w → place_in w ≡ Granted (number_of w)
 schedule_grants v w g = place_then v (Schedule prep.Granted) w g ∙ ap Granted (sym g.number)
@@ -54,11 +72,21 @@ schedule_grants v w g = place_then v (Schedule prep.Granted) w g ∙ ap Granted 
 pub again_grants : (v w : View) → Steps v (Complete Again) w → place_in w ≡ Granted (number_of w)
 again_grants v w g = place_then v (Complete Again) w g ∙ ap Granted (sym g.number)
 
-pub take_polls : (v w : View) (k : Kind) → Steps v (Take k true) w → place_in w ≡ Polling (number_of w)
-take_polls v w k g = place_then v (Take k true) w g ∙ ap Polling (sym g.number)
+pub take_polls : (v w : View) (k : Kind) → Steps v (Take k true) w → HasPoll false w
+take_polls v w k g =
+    let off = found_unbusy v (Take k true) w g (λ is. not_polled k (subst IsPolled (step_of v (Take k true) w g).0 is)) in
+    (place_then v (Take k true) w g ∙ ap Polling (sym g.number), ap (λ (s : Napi). s.flags.in_busy_poll) (state_then v (Take k true) w g) ∙ off)
+
+pub busy_take_polls : (v w : View) → Steps v BusyTake w → HasPoll true w
+busy_take_polls v w g = (place_then v BusyTake w g ∙ ap Polling (sym g.number), ap (λ (s : Napi). s.flags.in_busy_poll) (state_then v BusyTake w g))
 
 pub take_controls : (v w : View) → Steps v (TakeDisable true) w → place_in w ≡ Control (number_of w)
 take_controls v w g = place_then v (TakeDisable true) w g ∙ ap Control (sym g.number)
+
+-- an exchange that completes is never held
+pub never_held : (missed : Bool) → Held ≡ done_of missed → ⊥
+never_held true e = cc
+never_held false e = cc
 
 -- an event that changes nothing leaves what its pass knows
 module _ (v : View) (o : Operation) (w : View) (g : Steps v o w) (quiet : after_by (number_of v) o (found_state v o w g) ≡ found_state v o w g) where
@@ -68,8 +96,23 @@ module _ (v : View) (o : Operation) (w : View) (g : Steps v o w) (quiet : after_
   pub quiet_free : is_owner (number_of v) (place_in v) ≡ false → is_owner (number_of w) (place_in w) ≡ false
   quiet_free free = (λ i. is_owner (g.number i) ((state_then v o w g ∙ quiet) i).place) ∙ g.owner ∙ free
 
+  pub quiet_polls : {b : Bool} → HasPoll b v → HasPoll b w
+  quiet_polls is =
+      let owner = ap (is_owner (number_of v)) is.0 ∙ eq-eqb (number_of v) (number_of v) refl in
+      (quiet_place owner ∙ is.0 ∙ ap Polling (sym g.number), ap (λ (s : Napi). s.flags.in_busy_poll) (state_then v o w g ∙ quiet) ∙ g.busy owner ∙ is.1)
+
   pub quiet_disable : HasController v → disable_in w ≡ disable_in v
   quiet_disable top = ap (λ (s : Napi). s.flags.disable) (state_then v o w g ∙ quiet) ∙ g.disable top
+
+-- a completion that is held
+pub held_polls : {b : Bool} (v w : View) → Steps v (Complete Held) w → HasPoll b v → HasPoll b w
+held_polls v w g = quiet_polls v (Complete Held) w g refl
+
+-- the stop of busy polling leaves the poll
+pub stop_polls : (v w : View) → Steps v BusyStop w → HasPoll true v → HasPoll false w
+stop_polls v w g is =
+    let owner = ap (is_owner (number_of v)) is.0 ∙ eq-eqb (number_of v) (number_of v) refl in
+    (place_then v BusyStop w g ∙ g.place owner ∙ is.0 ∙ ap Polling (sym g.number), ap (λ (s : Napi). s.flags.in_busy_poll) (state_then v BusyStop w g))
 
 -- looks: of an owner, of who is none, and of the controller
 module _ (v : View) (x : Seen) (w : View) (g : Steps v (Look x) w) where
@@ -82,8 +125,8 @@ module _ (v : View) (x : Seen) (w : View) (g : Steps v (Look x) w) where
   pub look_unmarked : HasController v → disable_in w ≡ disable_in v
   look_unmarked = quiet_disable v (Look x) w g refl
 
-  pub look_polls : place_in v ≡ Polling (number_of v) → place_in w ≡ Polling (number_of w)
-  look_polls is = look_place (ap (is_owner (number_of v)) is ∙ eq-eqb (number_of v) (number_of v) refl) ∙ is ∙ ap Polling (sym g.number)
+  pub look_polls : {b : Bool} → HasPoll b v → HasPoll b w
+  look_polls = quiet_polls v (Look x) w g refl
 
   pub look_control : place_in v ≡ Control (number_of v) → place_in w ≡ Control (number_of w)
   look_control is = look_place (ap (is_owner (number_of v)) is ∙ eq-eqb (number_of v) (number_of v) refl) ∙ is ∙ ap Control (sym g.number)
@@ -117,6 +160,6 @@ pub mark_sets : (v w : View) → Steps v MarkDisable w → disable_in w ≡ true
 mark_sets v w g = ap (λ (s : Napi). s.flags.disable) (state_then v MarkDisable w g)
 
 -- what was granted may be handed to either
-pub granted_hands : (v : View) (k : Kind) → place_in v ≡ Granted (number_of v) → MayHand (number_of v) k (place_in v)
+pub granted_hands : (v : View) (k : Kind) → place_in v ≡ Granted (number_of v) → MayHand (number_of v) k (state_in v)
 granted_hands v kind.List is = inl is
 granted_hands v kind.Thread is = is

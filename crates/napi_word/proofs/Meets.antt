@@ -26,6 +26,7 @@ steps_joined (x ∷ xs) w o u p g = record {
   ring = g.ring;
   owner = g.owner;
   place = g.place;
+  busy = g.busy;
   disable = g.disable;
 }
 

@@ -10,8 +10,10 @@ use Rattle.napi_model.specs.declared.state.Kind.TheVariants as kind
 use Rattle.napi_model.specs.declared.state.Place.{Place}
 use Rattle.napi_model.specs.declared.state.Place.TheVariants.{Nobody, Granted, Listed, ToThread, Polling, Control}
 use Rattle.napi_model.specs.declared.event.Operation.{Operation}
-use Rattle.napi_model.specs.declared.event.Operation.TheVariants.{Look, Schedule, Hand, Take, Complete, MarkDisable, TakeDisable, Unmark, Enable, SetThreaded}
+use Rattle.napi_model.specs.declared.event.Operation.TheVariants.{Look, Schedule, Hand, Take, Complete, BusyTake, BusyStop, MarkDisable, TakeDisable, Unmark, Enable, SetThreaded}
+use Rattle.napi_model.specs.declared.event.Done.TheVariants.{Held}
 use Rattle.napi_model.specs.Step.{seen_of, handed_at, place_of, MayHand, IsControl}
+use Rattle.napi_model.specs.Step as step
 use Rattle.napi_model.specs.Laws.{is_owner}
 use Rattle.napi_model.specs.Word.{word_of}
 use Rattle.napi_model.proofs.Words.{word_of-injective}
@@ -20,9 +22,9 @@ use Rattle.napi_word.specs.declared.table.StateTable.{StateTable}
 use Rattle.napi_word.specs.declared.view.Holds.{Holds}
 use Rattle.napi_word.specs.View.{View, number_of, controller_of, place_in}
 use Rattle.napi_word.specs.Slot.{Content, has_at, is_out, Tied, Moves, stays, taken, given}
-use Rattle.napi_word.specs.Passes.{tie_of, IsWithin, HandsOver, Polls, IsController, Controls, IsNoOwner, Disable}
+use Rattle.napi_word.specs.Passes.{tie_of, IsWithin, HandsOver, HasPoll, Polls, IsController, Controls, IsNoOwner, Disable}
 use Rattle.napi_word.specs.Atoms.{MayMake, MayExchange}
-use Rattle.napi_word.specs.Events.{schedule_to, complete_to, disable_to, enable_to}
+use Rattle.napi_word.specs.Events.{schedule_to, complete_to, busy_to, stop_to, disable_to, enable_to}
 use Rattle.napi_word.specs.Told.{Did, when, either_op, no_move, load_op, prep_of, done_of, is_marked, is_busy, busy_op}
 use Rattle.napi_word.proofs.Keeps.{Knows}
 use Rattle.napi_word.proofs.Allowed.{nothing, Fitting, Turn, allowed}
@@ -89,8 +91,10 @@ gift false m f e = absurd (cc)
 owned_place : (k : ℕ) (v : View) (c : ℕ) (now : Napi) → Knows k v c now → (q : Place) → place_in v ≡ q → is_owner c q ≡ true → now.place ≡ q
 owned_place k v c now kn q is mine = kn.place (ap (is_owner c) is ∙ mine) ∙ is
 
-is_polling : (k : ℕ) (v : View) (c : ℕ) (now : Napi) → Knows k v c now → place_in v ≡ Polling (number_of v) → now.place ≡ Polling c
-is_polling k v c now kn is = owned_place k v c now kn (Polling c) (is ∙ ap Polling kn.number) (eq-eqb c c refl)
+is_polling : (k : ℕ) (v : View) (c : ℕ) (now : Napi) (b : Bool) → Knows k v c now → HasPoll b v → step.Polls c b now
+is_polling k v c now b kn is =
+    let place = is.0 ∙ ap Polling kn.number in
+    (owned_place k v c now kn (Polling c) place (eq-eqb c c refl), kn.busy (ap (is_owner c) place ∙ eq-eqb c c refl) ∙ is.1)
 
 is_granted : (k : ℕ) (v : View) (c : ℕ) (now : Napi) → Knows k v c now → place_in v ≡ Granted (number_of v) → now.place ≡ Granted c
 is_granted k v c now kn is = owned_place k v c now kn (Granted c) (is ∙ ap Granted kn.number) (eq-eqb c c refl)
@@ -169,25 +173,47 @@ module _ (t : StateTable) (p : Pass) where
   schedules seen on = exchanges seen (schedule_to seen.flags.sched seen) (λ x. Schedule (prep_of x.flags.sched)) no_move (λ x e. absurd (cc))
       (λ now c kn same. schedule_hit seen on now c kn same now.flags.sched refl)
 
-  complete_hit : (seen : Seen) (now : Napi) (c : ℕ) → now.place ≡ Polling c → seen_of now ≡ seen → (b : Bool) → now.flags.missed ≡ b
+  complete_hit : (seen : Seen) (now : Napi) (c : ℕ) → step.Polls c false now → seen_of now ≡ seen → (b : Bool) → now.flags.missed ≡ b
       → Turn last now c (Complete (done_of b)) given (λ n. word_of (complete_to seen.flags.missed seen))
-  complete_hit seen now c place same true is = record {
-    legal = ((place, is), tt);
+  complete_hit seen now c polls same true is = record {
+    legal = ((polls.0, is, polls.1), tt);
     word = ap (λ (x : Seen). word_of (complete_to x.flags.missed x)) (sym same) ∙ ap (λ (v : Bool). word_of (complete_to v (seen_of now))) is
-        ∙ ap (λ (q : Place). word_of (complete_to true (record { flags = now.flags; handed = handed_at q }))) place;
-    slot = (ap (has_at c) place ∙ eq-eqb c c refl, refl);
+        ∙ ap (λ (q : Place). word_of (complete_to true (record { flags = now.flags; handed = handed_at q }))) polls.0;
+    slot = (ap (has_at c) polls.0 ∙ eq-eqb c c refl, refl);
   }
-  complete_hit seen now c place same false is = record {
-    legal = ((place, is), tt);
+  complete_hit seen now c polls same false is = record {
+    legal = ((polls.0, is, polls.1), tt);
     word = ap (λ (x : Seen). word_of (complete_to x.flags.missed x)) (sym same) ∙ ap (λ (v : Bool). word_of (complete_to v (seen_of now))) is
-        ∙ ap (λ (q : Place). word_of (complete_to false (record { flags = now.flags; handed = handed_at q }))) place;
-    slot = (ap (has_at c) place ∙ eq-eqb c c refl, refl);
+        ∙ ap (λ (q : Place). word_of (complete_to false (record { flags = now.flags; handed = handed_at q }))) polls.0;
+    slot = (ap (has_at c) polls.0 ∙ eq-eqb c c refl, refl);
   }
 
-  pub completes : (seen : Seen) → Polls p → IsWithin p
+  pub completes : (seen : Seen) → Polls false p → IsWithin p
       → MayExchange t p.seat seen (complete_to seen.flags.missed seen) (λ x. Complete (done_of x.flags.missed)) (λ x. given)
   completes seen polls within = exchanges seen (complete_to seen.flags.missed seen) (λ x. Complete (done_of x.flags.missed)) (λ x. given) (λ x e. within)
-      (λ now c kn same. complete_hit seen now c (is_polling last me.0 c now kn polls) same now.flags.missed refl)
+      (λ now c kn same. complete_hit seen now c (is_polling last me.0 c now false kn polls) same now.flags.missed refl)
+
+  pub takes_busy : (seen : Seen) → step.MayBusyTake seen.flags → MayExchange t p.seat seen (busy_to seen) (λ x. BusyTake) (λ x. taken)
+  takes_busy seen free = exchanges seen (busy_to seen) (λ x. BusyTake) (λ x. taken) (λ x e. absurd (cc))
+      (λ now c kn same.
+      let may = subst (λ (x : Seen). step.MayBusyTake x.flags) (sym same) free in
+      let nobody = kn.sound may.1 in record {
+        legal = (may, tt);
+        word = ap (λ (x : Seen). word_of (busy_to x)) (sym same) ∙ ap (λ (q : Place). word_of (busy_to (record { flags = now.flags; handed = handed_at q }))) nobody;
+        slot = (ap is_out nobody, eq-eqb c c refl);
+      })
+
+  pub stops_busy : (seen : Seen) → Polls true p → MayExchange t p.seat seen (stop_to seen) (λ x. BusyStop) no_move
+  stops_busy seen polls = exchanges seen (stop_to seen) (λ x. BusyStop) no_move (λ x e. absurd (cc))
+      (λ now c kn same. record {
+        legal = (is_polling last me.0 c now true kn polls, tt);
+        word = ap (λ (x : Seen). word_of (stop_to x)) (sym same);
+        slot = (refl, refl);
+      })
+
+  pub completes_held : Polls true p → MayMake t p.seat (λ n. n) (λ x. Complete Held) no_move
+  completes_held polls = makes (λ n. n) (λ x. Complete Held) no_move (λ x e. absurd (cc))
+      (λ now c kn. record { legal = (is_polling last me.0 c now true kn polls, tt); word = refl; slot = (refl, refl) })
 
   pub disables : (seen : Seen) → IsController p → seen.flags.disable ≡ true → seen.flags.sched ≡ false → seen.flags.npsvc ≡ false
       → MayExchange t p.seat seen (disable_to seen) (λ x. TakeDisable true) (λ x. taken)
@@ -212,7 +238,7 @@ module _ (t : StateTable) (p : Pass) where
       })
 
   -- ---- single bits
-  hand_turn : (k : Kind) (m : Moves) (now : Napi) (c : ℕ) → MayHand c k now.place → handed_at now.place ≡ None → Fitting m c now.place (place_of k) → Turn last now c (Hand k) m (λ n. bit_or n (hand_bits k))
+  hand_turn : (k : Kind) (m : Moves) (now : Napi) (c : ℕ) → MayHand c k now → handed_at now.place ≡ None → Fitting m c now.place (place_of k) → Turn last now c (Hand k) m (λ n. bit_or n (hand_bits k))
   hand_turn kind.List m now c may none slot = record { legal = (may, tt); word = hand_word kind.List (seen_of now) none; slot = slot }
   hand_turn kind.Thread m now c may none slot = record { legal = (may, tt); word = hand_word kind.Thread (seen_of now) none; slot = slot }
 
@@ -230,12 +256,12 @@ module _ (t : StateTable) (p : Pass) where
       (λ now c kn. granted_turn k now c (is_granted last me.0 c now kn is)) s holding len at fits in
       (a.0, a.1, a.2, a.3, (a.4.0, a.4.1, nothing_given (Hand k) _ is a.4.2))
 
-  hands_polled : Polls p → IsWithin p → MayMake t p.seat (λ n. bit_or n (hand_bits kind.List)) (λ x. Hand kind.List) (λ x. given)
+  hands_polled : Polls false p → IsWithin p → MayMake t p.seat (λ n. bit_or n (hand_bits kind.List)) (λ x. Hand kind.List) (λ x. given)
   hands_polled is within = makes (λ n. bit_or n (hand_bits kind.List)) (λ x. Hand kind.List) (λ x. given) (λ x e. within)
-      (λ now c kn. let q = is_polling last me.0 c now kn is in hand_turn kind.List given now c (inr q) (ap handed_at q) (ap (has_at c) q ∙ eq-eqb c c refl, refl))
+      (λ now c kn. let q = is_polling last me.0 c now false kn is in hand_turn kind.List given now c (inr q) (ap handed_at q.0) (ap (has_at c) q.0 ∙ eq-eqb c c refl, refl))
 
   pub hands : (k : Kind) → HandsOver k p → IsWithin p → MayMake t p.seat (λ n. bit_or n (hand_bits k)) (λ x. Hand k) (λ x. given)
-  hands kind.List may within = ⊎_elim (λ (q : place_in me.0 ≡ Granted (number_of me.0)). hands_granted kind.List q) (λ (q : Polls p). hands_polled q within) may
+  hands kind.List may within = ⊎_elim (λ (q : place_in me.0 ≡ Granted (number_of me.0)). hands_granted kind.List q) (λ (q : Polls false p). hands_polled q within) may
   hands kind.Thread may within = hands_granted kind.Thread may
 
   take_turn : (k : Kind) (now : Napi) (c : ℕ) (b : Bool) → is_marked k (handed_at now.place) ≡ b → Turn last now c (Take k b) (when b taken) (λ n. bit_and n (take_mask k))

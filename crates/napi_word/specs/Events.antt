@@ -8,13 +8,13 @@ use Rattle.napi_model.specs.declared.event.Prep.{Prep}
 use Rattle.napi_model.specs.declared.event.Prep.TheVariants as prep
 use Rattle.napi_model.specs.declared.event.Done.{Done}
 use Rattle.napi_model.specs.declared.event.Operation.{Operation}
-use Rattle.napi_model.specs.declared.event.Operation.TheVariants.{Look, Schedule, Complete, TakeDisable, Enable}
+use Rattle.napi_model.specs.declared.event.Operation.TheVariants.{Look, Schedule, Complete, TakeDisable}
 use Rattle.napi_model.specs.declared.event.Event.{Event}
 use Rattle.napi_model.specs.Step.{event, opening}
 use Rattle.napi_model.specs.History.{LegalHistory, own}
 use Rattle.napi_model.specs.Laws.{is_owner}
 use Rattle.napi_word.specs.declared.view.Strand.{Strand}
-use Rattle.napi_word.specs.View.{View, is_pass, shown, mine, number_of, controller_of, ring_of, state_at, place_in, disable_in}
+use Rattle.napi_word.specs.View.{View, is_pass, shown, mine, number_of, controller_of, ring_of, state_at, place_in, disable_in, busy_in}
 
 -- the pass made its event, behind all that had happened until then
 pub record Steps (v : View) (o : Operation) (w : View) : Type 0 where
@@ -34,10 +34,11 @@ pub record Steps (v : View) (o : Operation) (w : View) : Type 0 where
   pub number : number_of w ≡ number_of v
   pub controller : controller_of w ≡ controller_of v
   pub ring : ring_of w ≡ ring_of v
-  -- what others can't have changed since: whether the caller owns the instance, where it has it, and, for the controller,
-  -- the disable flag
+  -- what others can't have changed since: whether the caller owns the instance, where it has it and whether it busy polls
+  -- it, and, for the controller, the disable flag
   pub owner : is_owner (number_of v) (state_at v before).place ≡ is_owner (number_of v) (place_in v)
   pub place : is_owner (number_of v) (place_in v) ≡ true → (state_at v before).place ≡ place_in v
+  pub busy : is_owner (number_of v) (place_in v) ≡ true → (state_at v before).flags.in_busy_poll ≡ busy_in v
   pub disable : number_of v ≡ controller_of v → (state_at v before).flags.disable ≡ disable_in v
 
 -- ---- each answer as an operation
@@ -58,13 +59,10 @@ abbrev pub by_take_load : Option Seen → Operation
 by_take_load None = TakeDisable false
 by_take_load (Some x) = Look x
 
-abbrev pub by_take_swap : Result (Unit {0}) Seen → Operation
-by_take_swap (Ok u) = TakeDisable true
-by_take_swap (Err x) = Look x
-
-abbrev pub by_enable : Bool → Result (Unit {0}) Seen → Operation
-by_enable threaded (Ok u) = Enable threaded
-by_enable threaded (Err x) = Look x
+-- an exchange with one operation, where it wins
+abbrev pub by_swap : Operation → Result (Unit {0}) Seen → Operation
+by_swap o (Ok u) = o
+by_swap o (Err x) = Look x
 
 -- ---- what the exchanges write
 
@@ -75,6 +73,12 @@ schedule_to false x = record x { flags = record x.flags { sched = true } }
 abbrev pub complete_to : Bool → Seen → Seen
 complete_to true x = record x { flags = record x.flags { missed = false; sched_threaded = false } }
 complete_to false x = record x { flags = record x.flags { sched = false; sched_threaded = false } }
+
+abbrev pub busy_to : Seen → Seen
+busy_to x = record x { flags = record x.flags { sched = true; in_busy_poll = true } }
+
+abbrev pub stop_to : Seen → Seen
+stop_to x = record x { flags = record x.flags { in_busy_poll = false; missed = false } }
 
 abbrev pub disable_to : Seen → Seen
 disable_to x = record x { flags = record x.flags { sched = true; npsvc = true; threaded = false } }

@@ -3,14 +3,14 @@ use Rattle.std.specs.Prelude.{◌≡◌, ◌≢◌, ℕ, ◌<◌, Bool, true, fa
 use Rattle.rx_ring.specs.declared.ends.RxCtx.{RxCtx}
 use Rattle.rx_ring.specs.Ends.{RingName, ring_name}
 use Rattle.napi_model.specs.declared.state.Kind.{Kind}
-use Rattle.napi_model.specs.declared.state.Place.TheVariants.{Polling, Control}
+use Rattle.napi_model.specs.declared.state.Place.TheVariants.{Control}
 use Rattle.napi_model.specs.declared.event.Operation.{Operation}
-use Rattle.napi_model.specs.Step.{MayHand}
+use Rattle.napi_model.specs.Step as step
 use Rattle.napi_model.specs.Laws.{is_owner}
 use Rattle.napi_word.specs.declared.view.Holds.TheVariants.{Nothing, Within, Out}
 use Rattle.napi_word.specs.declared.table.Pass.{Pass}
 use Rattle.napi_word.specs.declared.table.StateTable.{StateTable}
-use Rattle.napi_word.specs.View.{View, number_of, controller_of, place_in, disable_in, ring_of}
+use Rattle.napi_word.specs.View.{View, number_of, controller_of, state_in, place_in, disable_in, ring_of}
 use Rattle.napi_word.specs.Slot.{Tied, Moves, moved, owns_slot}
 use Rattle.napi_word.specs.Rule.{strand}
 use Rattle.napi_word.specs.Events.{Steps}
@@ -50,10 +50,14 @@ abbrev pub IsWithin : Pass → Type 0
 IsWithin p = p.holds ≢ Out
 
 abbrev pub HandsOver : Kind → Pass → Type 0
-HandsOver kind p = MayHand (number_of (view_of p)) kind (place_in (view_of p))
+HandsOver kind p = step.MayHand (number_of (view_of p)) kind (state_in (view_of p))
 
-abbrev pub Polls : Pass → Type 0
-Polls p = place_in (view_of p) ≡ Polling (number_of (view_of p))
+-- by the list that it shows, a pass polls the instance, and busy polls it or doesn't
+abbrev pub HasPoll : Bool → View → Type 0
+HasPoll busy v = step.Polls (number_of v) busy (state_in v)
+
+abbrev pub Polls : Bool → Pass → Type 0
+Polls busy p = HasPoll busy (view_of p)
 
 abbrev pub OwnsSlot : Pass → Type 0
 OwnsSlot p = owns_slot (view_of p) ≡ true

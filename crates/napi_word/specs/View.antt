@@ -54,3 +54,6 @@ place_in v = (state_in v).place
 
 abbrev pub disable_in : View → Bool
 disable_in v = (state_in v).flags.disable
+
+abbrev pub busy_in : View → Bool
+busy_in v = (state_in v).flags.in_busy_poll

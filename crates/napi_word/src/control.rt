@@ -1,8 +1,8 @@
 //! The steps of the controller: disabling in three steps, and enabling.
 ghost use Rattle.std.specs.Prelude.{◌≡◌, ◌≢◌, true, false, IfSome, IfErr, is_ok};
-ghost use Rattle.napi_model.specs.declared.event.Operation.TheVariants.{MarkDisable, Unmark};
+ghost use Rattle.napi_model.specs.declared.event.Operation.TheVariants.{MarkDisable, TakeDisable, Unmark, Enable};
 ghost use Rattle.napi_word.specs.Slot.{stays, taken, given};
-ghost use Rattle.napi_word.specs.Events.{by_take_load, by_take_swap, by_enable, disable_to, enable_to};
+ghost use Rattle.napi_word.specs.Events.{by_take_load, by_swap, disable_to, enable_to};
 ghost use Rattle.napi_word.specs.Told as told;
 ghost use Rattle.napi_word.specs.Told.{when};
 ghost use Rattle.napi_word.specs.Passes.{IsPassOf, Makes, IsWithin, IsController, Controls, IsNoOwner, Disable};
@@ -72,7 +72,7 @@ impl StateTable {
         requires table { IsPassOf self.now pass.old }
         requires controller { IsController pass.old }
         requires idle { (seen.flags.disable ≡ true) × (seen.flags.sched ≡ false) × (seen.flags.npsvc ≡ false) }
-        ensures step { Makes pass.old (by_take_swap result) (when (is_ok result) taken) pass.new }
+        ensures step { Makes pass.old (by_swap (TakeDisable true) result) (when (is_ok result) taken) pass.new }
         ensures other { IfErr result (λ found. found ≢ seen) }
     {
         self.exchange::<Disables>(&mut pass.seat, seen, disabled(seen))?;
@@ -100,7 +100,7 @@ impl StateTable {
         requires owner { Controls pass.old }
         requires unmarked { Disable false pass.old }
         requires within { IsWithin pass.old }
-        ensures step { Makes pass.old (by_enable threaded result) (when (is_ok result) given) pass.new }
+        ensures step { Makes pass.old (by_swap (Enable threaded) result) (when (is_ok result) given) pass.new }
         ensures other { IfErr result (λ found. found ≢ seen) }
     {
         let next = enabled(seen, threaded);

@@ -9,6 +9,7 @@
 #![tactic(auto)]
 
 mod atoms;
+mod busy;
 mod control;
 mod ending;
 mod gathering;

@@ -1,5 +1,5 @@
 //! The steps by which an instance goes from hand to hand: hand over, take, complete.
-ghost use Rattle.std.specs.Prelude.{◌≡◌, ◌≢◌, IfOk, IfErr, is_ok};
+ghost use Rattle.std.specs.Prelude.{◌≡◌, ◌≢◌, false, IfOk, IfErr, is_ok};
 ghost use Rattle.napi_model.specs.declared.event.Operation.TheVariants.{Hand, Take};
 ghost use Rattle.napi_word.specs.Slot.{taken, given};
 ghost use Rattle.napi_word.specs.Events.{by_complete, complete_to};
@@ -83,7 +83,7 @@ impl StateTable {
     #[inline]
     pub fn complete_swap(&self, pass: &mut Pass, seen: Seen) -> Result<Done, Seen>
         requires table { IsPassOf self.now pass.old }
-        requires owner { Polls pass.old }
+        requires owner { Polls false pass.old }
         requires within { IsWithin pass.old }
         ensures step { Makes pass.old (by_complete result) (when (is_ok result) given) pass.new }
         ensures reply { IfOk result (λ reply. reply ≡ done_of seen.flags.missed) }

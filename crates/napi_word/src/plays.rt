@@ -130,6 +130,40 @@ impl Step for Completes {
     ghost moves = { λ x. given };
 }
 
+pub(crate) struct TakesBusy;
+
+impl Step for TakesBusy {
+    ghost use Rattle.napi_model.specs.declared.event.Operation.TheVariants.{BusyTake};
+    ghost use Rattle.napi_word.specs.Slot.{taken};
+
+    ghost operation = { λ x. BusyTake };
+
+    ghost moves = { λ x. taken };
+}
+
+pub(crate) struct StopsBusy;
+
+impl Step for StopsBusy {
+    ghost use Rattle.napi_model.specs.declared.event.Operation.TheVariants.{BusyStop};
+    ghost use Rattle.napi_word.specs.Told.{no_move};
+
+    ghost operation = { λ x. BusyStop };
+
+    ghost moves = { no_move };
+}
+
+pub(crate) struct CompletesHeld;
+
+impl Step for CompletesHeld {
+    ghost use Rattle.napi_model.specs.declared.event.Done.TheVariants.{Held};
+    ghost use Rattle.napi_model.specs.declared.event.Operation.TheVariants.{Complete};
+    ghost use Rattle.napi_word.specs.Told.{no_move};
+
+    ghost operation = { λ x. Complete Held };
+
+    ghost moves = { no_move };
+}
+
 pub(crate) struct SetsThreaded;
 
 impl Step for SetsThreaded {

@@ -1,9 +1,10 @@
 //! Worked runs on one thread and on several, with own lists that are proved as they stand at the end.
-ghost use Rattle.std.specs.Prelude.{◌≡◌, ℕ, ◌+◌, ◌-◌, ◌<◌, ◌≤◌, ◌^◌, List, [], ◌∷◌, length, Some, None, slice_get, IfSome, IsTrue, false, ◌++◌};
+ghost use Rattle.std.specs.Prelude.{◌≡◌, ℕ, ◌+◌, ◌-◌, ◌<◌, ◌≤◌, ◌^◌, List, [], ◌∷◌, length, map, Some, None, slice_get, IfSome, IsTrue, false, ◌++◌};
 ghost use Rattle.rx_ring.specs.declared.ends.RxCtx.{RxCtx};
 ghost use Rattle.napi_model.specs.declared.event.Event.{Event};
 ghost use Rattle.napi_model.specs.declared.event.Prep.TheVariants as prep;
-ghost use Rattle.napi_model.specs.declared.event.Operation.TheVariants.{Look, Schedule, Enable};
+ghost use Rattle.napi_model.specs.declared.event.Operation.TheVariants.{Look, Schedule, Complete, BusyTake, BusyStop, Enable};
+ghost use Rattle.napi_model.specs.declared.event.Done.TheVariants.{Held};
 ghost use Rattle.napi_model.specs.Step.{event};
 ghost use Rattle.napi_word.specs.declared.table.Pass.{Pass};
 ghost use Rattle.napi_word.specs.View.{mine, number_of};
@@ -145,6 +146,49 @@ fn lost_exchange(alloc: Global, ctx: RxCtx) -> Option<Lost>
         last,
         ended,
     })
+}
+
+// Busy polls once: a completion that is held, a stop that expects another word, and one that finds the word.
+fn busy_polls(table: &StateTable, pass: &mut Pass) -> Option<(Seen, Seen)>
+    requires table { IsPassOf table.now pass.old }
+    ensures table { SameTable pass.old pass.new }
+    ensures own { IfSome result (λ r. mine (view_of pass.new) ≡ mine (view_of pass.old) ++ map (event (number_of (view_of pass.old))) (Look r.0 ∷ BusyTake ∷ Complete Held ∷ Look r.1 ∷ BusyStop ∷ [])) }
+{
+    let idle = table.look(pass);
+    if !idle.flags.may_busy_take() {
+        return None;
+    }
+    let Ok(()) = table.busy_swap(pass, idle) else {
+        return None;
+    };
+    table.complete_load(pass);
+    let Err(busy) = table.stop_swap(pass, idle) else {
+        return None;
+    };
+    let Ok(()) = table.stop_swap(pass, busy) else {
+        return None;
+    };
+    Some((idle, busy))
+}
+
+#[test]
+fn a_lost_stop_is_a_look(rt: HostRuntime) -> Result<(), Fail> {
+    let (_input, ctx) = ring(rt.alloc(), 4)?;
+    let Some(mut opened) = table_of_two(rt.alloc(), ctx) else {
+        panic!(rt; "no memory")
+    };
+    assert!(rt; enable(&opened.table, &mut opened.control));
+    let Some((idle, busy)) = busy_polls(&opened.table, &mut opened.first) else {
+        panic!(rt; "another word")
+    };
+    assert_eq!(rt; encode(idle), 0);
+    assert_eq!(rt; encode(busy), 65);
+    assert_eq!(rt; encode(opened.table.look(&mut opened.second)), 1);
+    let Some(ended) = end_of_three(opened) else {
+        panic!(rt; "no memory")
+    };
+    assert!(rt; ended.ctx.is_some());
+    Ok(())
 }
 
 // With each allocation refused in turn (`rt try --test --fail-alloc N`) the context comes back, with what its ring holds.

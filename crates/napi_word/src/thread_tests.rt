@@ -1,6 +1,6 @@
-//! Two callers and the controller in threads of their own, by every kind of step; each one's own list is as long as its
-//! calls are many.
-ghost use Rattle.std.specs.Prelude.{◌≡◌, ℕ, ◌+◌, ◌*◌, ◌<◌, ◌^◌, IsTrue, IsFalse, IfSome};
+//! Two callers and the controller in threads of their own, by every kind of step but those of busy polling; each one's own
+//! list is as long as its calls are many.
+ghost use Rattle.std.specs.Prelude.{◌≡◌, false, ℕ, ◌+◌, ◌*◌, ◌<◌, ◌^◌, IsTrue, IsFalse, IfSome};
 ghost use Rattle.std.specs.Thread.{IsSync};
 ghost use Rattle.napi_word.specs.declared.view.Holds.TheVariants.{Nothing, Within};
 ghost use Rattle.napi_word.specs.Passes.{IsPassOf, Polls};
@@ -27,7 +27,7 @@ pub(crate) struct Counted {
 // A poll of what was taken: the context goes out and back. The poll ends by a completion, or by handing over again.
 fn poll(table: &StateTable, counted: &mut Counted)
     requires table { IsPassOf table.now counted.old.pass }
-    requires polls { Polls counted.old.pass }
+    requires polls { Polls false counted.old.pass }
     requires within { counted.old.pass.holds ≡ Within }
     requires room { counted.old.steps + 3 < 2 ^ 64 }
     ensures counts { CountsSteps counted.old.pass counted.old.steps counted.new.pass counted.new.steps 3 }
@@ -39,6 +39,7 @@ fn poll(table: &StateTable, counted: &mut Counted)
     counted.steps += 2;
     match table.complete_swap(&mut counted.pass, seen) {
         Ok(Done::Released) => {}
+        Ok(Done::Held) => unreachable!(),
         Ok(Done::Again) => {
             table.hand(&mut counted.pass, Kind::List);
             counted.steps += 1;

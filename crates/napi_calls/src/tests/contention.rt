@@ -14,10 +14,10 @@ use std::process::Abort;
 use std::test::Fail;
 
 /// Another caller, who schedules once in the middle of a call.
-struct Schedules<'a> {
-    napi: &'a Napi,
-    caller: Option<Caller>,
-    answer: Option<TryPrep>,
+pub struct Schedules<'a> {
+    pub napi: &'a Napi,
+    pub caller: Option<Caller>,
+    pub answer: Option<TryPrep>,
     ghost before: { ForSome caller (λ c. IsSeatOf napi.now c.pass × (is_none answer ≡ true)) },
     ghost after: { ForSome answer (λ a. IsSeatOf napi.now (seat_of a)) },
 }
@@ -36,7 +36,7 @@ impl Between for Schedules<'_> {
 
 impl Schedules<'_> {
     /// What the schedule was answered.
-    fn answered(self, rt: &impl Abort) -> TryPrep
+    pub fn answered(self, rt: &impl Abort) -> TryPrep
         ensures { IsSeatOf self.entry.napi.now (seat_of result) }
     {
         let Schedules {
@@ -55,9 +55,9 @@ impl Schedules<'_> {
 }
 
 /// Another caller, who sets the instance threaded in the middle of a call.
-struct SetsThreaded<'a> {
-    napi: &'a Napi,
-    caller: Caller,
+pub struct SetsThreaded<'a> {
+    pub napi: &'a Napi,
+    pub caller: Caller,
     ghost seat: { IsSeatOf napi.now caller.pass },
 }
 

@@ -3,7 +3,7 @@ use Rattle.napi_model.specs.declared.event.Done.{Done}
 use Rattle.napi_model.specs.declared.event.Operation.TheVariants.{Complete}
 use Rattle.napi_word.specs.Events.{Steps}
 use Rattle.napi_word.specs.Passes.{view_of}
-use Rattle.napi_word.proofs.Knowing.{again_grants, look_polls}
+use Rattle.napi_word.proofs.Knowing.{again_grants, look_polls, never_held}
 use Rattle.bench_word.proofs.turns.complete.Goals as goal
 
 pub loop-init : goal.loop-init
@@ -30,3 +30,6 @@ loop-preserved c =
 
 pub hand-requires-2-clause-owner : goal.hand-requires-2-clause-owner
 hand-requires-2-clause-owner c = inr c.loop.invariant.1
+
+pub unreachable-requires : goal.unreachable-requires
+unreachable-requires c = never_held _ (rw c.in-Ok-Held.field-0-is at c.in-Ok-Held.ensures).reply

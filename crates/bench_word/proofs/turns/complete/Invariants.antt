@@ -1,6 +1,7 @@
+use Rattle.std.specs.Prelude.{false}
 use Rattle.napi_word.specs.Passes.{Polls}
 use Rattle.bench_word.specs.Ready.{IsReady}
 use Rattle.bench_word.proofs.turns.complete.Given as goal
 
 abbrev pub invariant-loop : goal.invariant-loop
-invariant-loop l = IsReady l.table l.pass × Polls l.pass
+invariant-loop l = IsReady l.table l.pass × Polls false l.pass

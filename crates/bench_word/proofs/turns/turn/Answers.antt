@@ -1,10 +1,8 @@
-use Rattle.std.proofs.Common.{◌≡◌, Bool, sym, subst, ◌∙◌}
+use Rattle.std.proofs.Common.{Bool, false, sym, subst, ◌∙◌}
 use Rattle.napi_model.specs.declared.state.Kind.TheVariants as kind
-use Rattle.napi_model.specs.declared.state.Place.TheVariants.{Polling}
 use Rattle.napi_model.specs.declared.event.Operation.TheVariants.{Take}
-use Rattle.napi_word.specs.View.{View, place_in, number_of}
 use Rattle.napi_word.specs.Events.{Steps}
-use Rattle.napi_word.specs.Passes.{view_of}
+use Rattle.napi_word.specs.Passes.{view_of, HasPoll}
 use Rattle.napi_word.proofs.Knowing.{take_polls}
 use Rattle.bench_word.proofs.turns.turn.Goals as goal
 
@@ -13,4 +11,4 @@ complete-requires-clause-polls c =
     let v = view_of c.schedule.new.pass in
     let w = view_of c.take.new.pass in
     let event = subst (λ (b : Bool). Steps v (Take kind.List b) w) c.if-take.true c.take.ensures.step.event in
-    subst (λ (u : View). place_in u ≡ Polling (number_of u)) (sym (c.slot_in.ensures.keeps.view ∙ c.slot_out-ctx.ensures.keeps.view)) (take_polls v w kind.List event)
+    subst (HasPoll false) (sym (c.slot_in.ensures.keeps.view ∙ c.slot_out-ctx.ensures.keeps.view)) (take_polls v w kind.List event)

@@ -2,4 +2,4 @@ use Rattle.napi_calls.specs.Instance.{IsSeatOf}
 use Rattle.bench_word.proofs.typed.make_turns.Given as goal
 
 abbrev pub invariant-loop : goal.invariant-loop
-invariant-loop l = IsSeatOf l.napi l.caller.pass
+invariant-loop g l = IsSeatOf l.napi l.caller.pass

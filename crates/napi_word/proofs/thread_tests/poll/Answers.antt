@@ -1,16 +1,15 @@
-use Rattle.std.proofs.Common.{◌≡◌, sym, ◌∙◌, subst, inl, inr}
+use Rattle.std.proofs.Common.{false, sym, ◌∙◌, subst, inl, inr}
 use Rattle.napi_model.specs.declared.event.Done.{Done}
 use Rattle.napi_model.specs.declared.event.Operation.TheVariants.{Complete}
-use Rattle.napi_model.specs.declared.state.Place.TheVariants.{Polling}
-use Rattle.napi_word.specs.View.{View, number_of, place_in}
 use Rattle.napi_word.specs.Events.{Steps}
-use Rattle.napi_word.proofs.Knowing.{look_polls, again_grants}
+use Rattle.napi_word.specs.Passes.{HasPoll}
+use Rattle.napi_word.proofs.Knowing.{look_polls, again_grants, never_held}
 use Rattle.napi_word.proofs.thread_tests.poll.Goals as goal
 
 pub complete_swap-requires-clause-owner : goal.complete_swap-requires-clause-owner
 complete_swap-requires-clause-owner c =
     let same = c.slot_in.ensures.keeps.view ∙ c.slot_out-ctx.ensures.keeps.view in
-    look_polls _ c.look-seen.result _ c.look-seen.ensures.step.event (subst (λ (v : View). place_in v ≡ Polling (number_of v)) (sym same) c.requires.polls)
+    look_polls _ c.look-seen.result _ c.look-seen.ensures.step.event (subst (HasPoll false) (sym same) c.requires.polls)
 
 pub hand-requires-clause-owner : goal.hand-requires-clause-owner
 hand-requires-clause-owner c =
@@ -21,5 +20,8 @@ hand-requires-clause-owner c =
 pub hand-requires-in-Err-clause-owner : goal.hand-requires-in-Err-clause-owner
 hand-requires-in-Err-clause-owner c =
     let same = c.slot_in.ensures.keeps.view ∙ c.slot_out-ctx.ensures.keeps.view in
-    let polls = look_polls _ c.look-seen.result _ c.look-seen.ensures.step.event (subst (λ (v : View). place_in v ≡ Polling (number_of v)) (sym same) c.requires.polls) in
+    let polls = look_polls _ c.look-seen.result _ c.look-seen.ensures.step.event (subst (HasPoll false) (sym same) c.requires.polls) in
     inr (look_polls _ _ _ c.in-Err.ensures.step.event polls)
+
+pub unreachable-requires : goal.unreachable-requires
+unreachable-requires c = never_held _ (rw c.in-Ok-Held.field-0-is at c.in-Ok-Held.ensures).reply

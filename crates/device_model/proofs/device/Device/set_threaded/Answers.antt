@@ -1,5 +1,4 @@
-use Rattle.std.proofs.Common.{◌∙◌, ap, refl, subst, sym}
-use Rattle.napi_model.specs.declared.state.State.{State}
+use Rattle.std.proofs.Common.{◌∙◌, refl, subst, sym}
 use Rattle.device_model.specs.Device.{after_threaded}
 use Rattle.device_model.specs.Owner.{IsOurs}
 use Rattle.device_model.specs.declared.device.TheConstants.{CONTROLLER}
@@ -8,7 +7,7 @@ use Rattle.device_model.proofs.device.Device.set_threaded.Goals as goal
 pub invariant_of-self : goal.invariant_of-self
 invariant_of-self c =
     let step = (c.set_threaded.ensures.step CONTROLLER).legal.1 in
-    (c.set_threaded.ensures.controller ∙ c.self.invariant.0, subst IsOurs (sym (ap (λ (s : State). s.place) step)) c.self.invariant.1)
+    (c.set_threaded.ensures.controller ∙ c.self.invariant.0, subst IsOurs (sym step) c.self.invariant.1)
 
 pub returns : goal.returns
 unfolding after_threaded

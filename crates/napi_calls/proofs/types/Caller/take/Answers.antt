@@ -1,6 +1,6 @@
 use Rattle.std.proofs.Common.{refl}
 use Rattle.napi_model.specs.declared.state.Place.TheVariants as place
-use Rattle.napi_calls.proofs.Standing.{kept, made, self_polling, moved, outside}
+use Rattle.napi_calls.proofs.Standing.{kept, made, self_polling, moved, busy_taken, busy_moved, outside}
 use Rattle.napi_calls.proofs.Making.{nothing, step, still}
 use Rattle.napi_calls.proofs.types.Caller.take.Goals as goal
 
@@ -12,8 +12,10 @@ returns-then-not-take c = step c.take.new.pass (nothing c.args.self.stands) c.ta
 
 pub invariant_of-result-2 : goal.invariant_of-result-2
 invariant_of-result-2 c =
-    let e = c.slot_out-ctx.ensures in record {
-      stands = moved c.slot_out-ctx.new.pass (made place.Polling c.take.new.pass c.args.self.stands c.if-not-take.ensures.step.event (λ s. self_polling _)) e.keeps.view;
+    let e = c.slot_out-ctx.ensures in
+    let st = made place.Polling c.take.new.pass c.args.self.stands c.if-not-take.ensures.step.event (λ s. self_polling _) in record {
+      stands = moved c.slot_out-ctx.new.pass st e.keeps.view;
+      busy = busy_moved c.slot_out-ctx.new.pass st (busy_taken c.take.new.pass c.args.self.stands c.if-not-take.ensures.step.event) e.keeps.view;
       has = outside c.take.new.pass c.slot_out-ctx.new.pass _ e.holds e.keeps.view e.ring;
     }
 

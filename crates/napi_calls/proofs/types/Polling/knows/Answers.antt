@@ -7,5 +7,8 @@ returns-clause-shows c = shows_of c.args.self.now.stands
 pub returns-clause-place : goal.returns-clause-place
 returns-clause-place c = is_polling c.args.self.now.stands
 
+pub returns-clause-flag : goal.returns-clause-flag
+returns-clause-flag c = c.args.self.now.busy
+
 pub returns-clause-context : goal.returns-clause-context
 returns-clause-context c = c.args.self.now.has.ring

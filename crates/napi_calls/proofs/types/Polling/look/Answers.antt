@@ -1,11 +1,12 @@
 use Rattle.std.proofs.Common.{◌∙◌}
-use Rattle.napi_calls.proofs.Standing.{looked}
+use Rattle.napi_calls.proofs.Standing.{looked, busy_looked}
 use Rattle.napi_calls.proofs.Making.{nothing, step}
 use Rattle.napi_calls.proofs.types.Polling.look.Goals as goal
 
 pub invariant_of-self : goal.invariant_of-self
 invariant_of-self c = record {
   stands = looked c.look.new.pass c.args.self.now.stands c.look.ensures.step.event;
+  busy = busy_looked c.look.new.pass c.args.self.now.stands c.args.self.now.busy c.look.ensures.step.event;
   has = record { holds = c.look.ensures.step.holds ∙ c.args.self.now.has.holds; ring = c.look.ensures.step.event.ring ∙ c.args.self.now.has.ring };
 }
 

@@ -1,14 +1,19 @@
 use Rattle.std.proofs.Common.{refl}
 use Rattle.napi_model.specs.declared.state.Place.TheVariants as place
+use Rattle.napi_word.proofs.Knowing.{never_held}
 use Rattle.napi_calls.specs.Knows.{Free}
-use Rattle.napi_calls.proofs.Standing.{looked, made, self_granted, moved, is_polling, outside}
+use Rattle.napi_calls.proofs.Standing.{looked, made, self_granted, moved, is_polling, busy_looked, busy_moved, outside}
 use Rattle.napi_calls.proofs.Making.{nothing, step, still, lost}
 use Rattle.napi_calls.proofs.types.Polling.try_complete_between.Goals as goal
 
 pub complete_swap-requires-clause-owner : goal.complete_swap-requires-clause-owner
 complete_swap-requires-clause-owner g c =
-    let st = moved c.slot_in.new.pass (looked c.look-seen.new.pass c.args.self.stands c.look-seen.ensures.step.event) c.slot_in.ensures.keeps.view in
-    is_polling st
+    let first = looked c.look-seen.new.pass c.args.self.stands c.look-seen.ensures.step.event in
+    let busy = busy_looked c.look-seen.new.pass c.args.self.stands c.args.self.busy c.look-seen.ensures.step.event in
+    (is_polling (moved c.slot_in.new.pass first c.slot_in.ensures.keeps.view), busy_moved c.slot_in.new.pass first busy c.slot_in.ensures.keeps.view)
+
+pub unreachable-requires : goal.unreachable-requires
+unreachable-requires g c = never_held _ (rw c.in-Ok-Held.field-0-is at c.in-Ok-Held.ensures).reply
 
 pub invariant_of-result : goal.invariant_of-result
 invariant_of-result g c =
@@ -22,9 +27,13 @@ invariant_of-result-in-Ok-Again g c =
 
 pub invariant_of-result-in-Err : goal.invariant_of-result-in-Err
 invariant_of-result-in-Err g c =
-    let st = moved c.slot_in.new.pass (looked c.look-seen.new.pass c.args.self.stands c.look-seen.ensures.step.event) c.slot_in.ensures.keeps.view in
+    let first = looked c.look-seen.new.pass c.args.self.stands c.look-seen.ensures.step.event in
+    let st = moved c.slot_in.new.pass first c.slot_in.ensures.keeps.view in
+    let busy = busy_moved c.slot_in.new.pass first (busy_looked c.look-seen.new.pass c.args.self.stands c.args.self.busy c.look-seen.ensures.step.event) c.slot_in.ensures.keeps.view in
+    let last = looked c.complete_swap.new.pass st c.in-Err.ensures.step.event in
     let e = c.slot_out-ctx.ensures in record {
-      stands = moved c.slot_out-ctx.new.pass (looked c.complete_swap.new.pass st c.in-Err.ensures.step.event) e.keeps.view;
+      stands = moved c.slot_out-ctx.new.pass last e.keeps.view;
+      busy = busy_moved c.slot_out-ctx.new.pass last (busy_looked c.complete_swap.new.pass st busy c.in-Err.ensures.step.event) e.keeps.view;
       has = outside c.complete_swap.new.pass c.slot_out-ctx.new.pass _ e.holds e.keeps.view e.ring;
     }
 

@@ -1,0 +1,17 @@
+use Rattle.std.proofs.Common.{◌∙◌, refl}
+use Rattle.napi_calls.proofs.Standing.{kept, busy_kept, is_polling}
+use Rattle.napi_calls.proofs.Making.{nothing, step}
+use Rattle.napi_calls.proofs.types.Busy.complete_held.Goals as goal
+
+pub complete_load-requires-clause-owner : goal.complete_load-requires-clause-owner
+complete_load-requires-clause-owner c = (is_polling c.args.self.now.stands, c.args.self.now.busy)
+
+pub invariant_of-self : goal.invariant_of-self
+invariant_of-self c = record {
+  stands = kept c.complete_load.new.pass c.args.self.now.stands c.complete_load.ensures.event (λ s. refl);
+  busy = busy_kept c.complete_load.new.pass c.args.self.now.stands c.args.self.now.busy c.complete_load.ensures.event (λ n s. refl);
+  has = record { holds = c.complete_load.ensures.holds ∙ c.args.self.now.has.holds; ring = c.complete_load.ensures.event.ring ∙ c.args.self.now.has.ring };
+}
+
+pub returns-clause-event : goal.returns-clause-event
+returns-clause-event c = step c.complete_load.new.pass (nothing c.args.self.now.stands) c.complete_load.ensures.table c.complete_load.ensures.event

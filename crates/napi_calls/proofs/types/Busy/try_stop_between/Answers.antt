@@ -1,0 +1,41 @@
+use Rattle.std.proofs.Common.{◌∙◌, refl}
+use Rattle.napi_calls.proofs.Standing.{looked, kept, busy_looked, busy_made, is_polling}
+use Rattle.napi_calls.proofs.Making.{nothing, step, lost}
+use Rattle.napi_calls.proofs.types.Busy.try_stop_between.Goals as goal
+
+pub stop_swap-requires-clause-owner : goal.stop_swap-requires-clause-owner
+stop_swap-requires-clause-owner g c = (
+  is_polling (looked c.look-seen.new.pass c.args.self.stands c.look-seen.ensures.step.event),
+  busy_looked c.look-seen.new.pass c.args.self.stands c.args.self.busy c.look-seen.ensures.step.event,
+)
+
+pub invariant_of-result : goal.invariant_of-result
+invariant_of-result g c =
+    let st = looked c.look-seen.new.pass c.args.self.stands c.look-seen.ensures.step.event in
+    let one = c.look-seen.ensures.step in
+    let two = c.in-Ok.ensures.step in record {
+      stands = kept c.stop_swap.new.pass st two.event (λ s. refl);
+      busy = busy_made c.stop_swap.new.pass st two.event (λ n s. refl);
+      has = record { holds = two.holds ∙ one.holds ∙ c.args.self.has.holds; ring = two.event.ring ∙ one.event.ring ∙ c.args.self.has.ring };
+    }
+
+pub invariant_of-result-in-Err : goal.invariant_of-result-in-Err
+invariant_of-result-in-Err g c =
+    let st = looked c.look-seen.new.pass c.args.self.stands c.look-seen.ensures.step.event in
+    let busy = busy_looked c.look-seen.new.pass c.args.self.stands c.args.self.busy c.look-seen.ensures.step.event in
+    let one = c.look-seen.ensures.step in
+    let two = c.in-Err.ensures.step in record {
+      stands = looked c.stop_swap.new.pass st two.event;
+      busy = busy_looked c.stop_swap.new.pass st busy two.event;
+      has = record { holds = two.holds ∙ one.holds ∙ c.args.self.has.holds; ring = two.event.ring ∙ one.event.ring ∙ c.args.self.has.ring };
+    }
+
+pub returns-in-Ok-clause-events : goal.returns-in-Ok-clause-events
+returns-in-Ok-clause-events g c =
+    let one = step c.look-seen.new.pass (nothing c.args.self.stands) c.look-seen.ensures.step.table c.look-seen.ensures.step.event in
+    (_, step c.stop_swap.new.pass one c.stop_swap.ensures.step.table c.in-Ok.ensures.step.event)
+
+pub returns-in-Err-clause-events : goal.returns-in-Err-clause-events
+returns-in-Err-clause-events g c =
+    let one = step c.look-seen.new.pass (nothing c.args.self.stands) c.look-seen.ensures.step.table c.look-seen.ensures.step.event in
+    lost _ _ c.in-Err.ensures.other (step c.stop_swap.new.pass one c.stop_swap.ensures.step.table c.in-Err.ensures.step.event)

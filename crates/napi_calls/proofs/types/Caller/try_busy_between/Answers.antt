@@ -1,0 +1,44 @@
+use Rattle.std.proofs.Common.{refl, sym, ◌∙◌, true≢false}
+use Rattle.napi_model.specs.declared.state.Place.TheVariants as place
+use Rattle.napi_calls.proofs.Standing.{looked, made, self_polling, moved, busy_made, busy_moved, outside}
+use Rattle.napi_calls.proofs.Making.{nothing, step, still}
+use Rattle.napi_calls.proofs.types.Caller.try_busy_between.Goals as goal
+
+pub invariant_of-result : goal.invariant_of-result
+invariant_of-result g c = record { stands = looked c.look-seen.new.pass c.args.self.stands c.look-seen.ensures.step.event }
+
+pub returns-then-not-may_busy_take-clause-events : goal.returns-then-not-may_busy_take-clause-events
+returns-then-not-may_busy_take-clause-events g c = (
+  c.look-seen.result,
+  λ may. true≢false (sym (c.may_busy_take.ensures.1 may) ∙ c.if-not-may_busy_take.true),
+  step c.look-seen.new.pass (nothing c.args.self.stands) c.look-seen.ensures.step.table c.look-seen.ensures.step.event,
+)
+
+pub invariant_of-result-in-Ok : goal.invariant_of-result-in-Ok
+invariant_of-result-in-Ok g c =
+    let st = looked c.look-seen.new.pass c.args.self.stands c.look-seen.ensures.step.event in
+    let taken = c.in-Ok.ensures.step.event in
+    let polls = made place.Polling c.busy_swap.new.pass st taken (λ s. self_polling _) in
+    let e = c.slot_out-ctx.ensures in record {
+      stands = moved c.slot_out-ctx.new.pass polls e.keeps.view;
+      busy = busy_moved c.slot_out-ctx.new.pass polls (busy_made c.busy_swap.new.pass st taken (λ n s. refl)) e.keeps.view;
+      has = outside c.busy_swap.new.pass c.slot_out-ctx.new.pass _ e.holds e.keeps.view e.ring;
+    }
+
+pub invariant_of-result-in-Err : goal.invariant_of-result-in-Err
+invariant_of-result-in-Err g c =
+    let st = looked c.look-seen.new.pass c.args.self.stands c.look-seen.ensures.step.event in
+    record { stands = looked c.busy_swap.new.pass st c.in-Err.ensures.step.event }
+
+pub returns-in-Ok-clause-events : goal.returns-in-Ok-clause-events
+returns-in-Ok-clause-events g c =
+    let e = c.slot_out-ctx.ensures in
+    let one = step c.look-seen.new.pass (nothing c.args.self.stands) c.look-seen.ensures.step.table c.look-seen.ensures.step.event in
+    let two = step c.busy_swap.new.pass one c.busy_swap.ensures.step.table c.in-Ok.ensures.step.event in
+    (_, c.may_busy_take.ensures.0 c.if-not-may_busy_take.false, still c.slot_out-ctx.new.pass two e.keeps.table e.keeps.view)
+
+pub returns-in-Err-clause-events : goal.returns-in-Err-clause-events
+returns-in-Err-clause-events g c =
+    let one = step c.look-seen.new.pass (nothing c.args.self.stands) c.look-seen.ensures.step.table c.look-seen.ensures.step.event in
+    let two = step c.busy_swap.new.pass one c.busy_swap.ensures.step.table c.in-Err.ensures.step.event in
+    (record { first = c.look-seen.result; second = _; differ = c.in-Err.ensures.other }, c.may_busy_take.ensures.0 c.if-not-may_busy_take.false, two)

@@ -1,0 +1,171 @@
+//! Busy polling: the call of a caller that begins it, and the calls of one that busy polls.
+ghost use Rattle.std.specs.Prelude.{◌≡◌, ◌≤◌, [], ◌∷◌, length, Some, true};
+ghost use Rattle.napi_model.specs.declared.state.Place.TheVariants as place;
+ghost use Rattle.napi_model.specs.declared.event.Done.TheVariants.{Held};
+ghost use Rattle.napi_model.specs.declared.event.Operation.TheVariants.{Look, Complete};
+ghost use Rattle.rx_ring.specs.ReceiveRing.{counts_of};
+ghost use Rattle.rx_ring.specs.Ends.{ring_name, polls_of, received_list, GivesNext, Meets};
+ghost use Rattle.napi_calls.specs.Seats.{number_of, state_of, ring_of, ShowsLegal, IsInputOf};
+ghost use Rattle.napi_calls.specs.Instance.{IsSeatOf};
+ghost use Rattle.napi_calls.specs.Made.{Made};
+ghost use Rattle.napi_calls.specs.Calls.{TriesToBusyPoll, RunsUnlessRefused, BusyPolling, TriesToStop, Stops};
+
+use crate::answers::{TryBusy, TryStop};
+use crate::between::{Between, Nothing};
+use crate::types::{Busy, Caller, Napi, Polling};
+use napi_model::Seen;
+use rx_ring::{Batch, MAX_WEIGHT, RxCounts, RxIn};
+use std::sync::Wait;
+
+impl Caller {
+    /// Takes an idle instance to busy poll it, once (`napi_busy_loop`): a look, and an exchange. It doesn't wait. `Refused`
+    /// exactly where the look shows DISABLE, SCHED or IN_BUSY_POLL.
+    pub fn try_busy(self, napi: &Napi) -> TryBusy
+        requires { IsSeatOf napi.now self.pass }
+        ensures { TriesToBusyPoll self.pass result }
+    {
+        self.try_busy_between(napi, &mut Nothing)
+    }
+
+    /// As [`try_busy`](Caller::try_busy), and runs `between` after the look, unless that answers `Refused`.
+    pub fn try_busy_between<B: Between>(self, napi: &Napi, between: &mut B) -> TryBusy
+        requires { IsSeatOf napi.now self.pass }
+        ensures events { TriesToBusyPoll self.pass result }
+        ensures run { RunsUnlessRefused result (between.new ≡ between.old) (B.ran between.old between.new) }
+    {
+        let Caller { mut pass, number } = self;
+        let seen = napi.table.look(&mut pass);
+        if !seen.flags.may_busy_take() {
+            return TryBusy::Refused(Caller { pass, number });
+        }
+        between.run();
+        match napi.table.busy_swap(&mut pass, seen) {
+            Ok(()) => {
+                let ctx = napi.table.slot_out(&mut pass);
+                TryBusy::Taken(Busy { pass, number, ctx })
+            }
+            Err(_) => TryBusy::Changed(Caller { pass, number }),
+        }
+    }
+
+    /// Takes an idle instance to busy poll it, try after try until one decides (`napi_busy_loop`). `Err`: it was refused.
+    pub fn busy<R: Wait>(self, rt: &R, napi: &Napi) -> Result<Busy, Caller>
+        requires { IsSeatOf napi.now self.pass }
+        ensures { BusyPolling self.pass result }
+    {
+        let mut caller = self;
+        for _ in rt.forever() {
+            match caller.try_busy(napi) {
+                TryBusy::Taken(busy) => return Ok(busy),
+                TryBusy::Refused(refused) => return Err(refused),
+                TryBusy::Changed(changed) => caller = changed,
+            }
+        }
+        unreachable!()
+    }
+}
+
+impl Busy {
+    /// The caller's number.
+    pub fn number(&self) -> u32
+        ensures { result ≡ number_of self.now.pass }
+    {
+        self.number
+    }
+
+    /// What any caller knows that busy polls, and that its context is that of the instance's ring. It does nothing.
+    pub fn knows(&self)
+        ensures shows { ShowsLegal self.now.pass }
+        ensures place { (state_of self.now.pass).place ≡ place.Polling (number_of self.now.pass) }
+        ensures flag { (state_of self.now.pass).flags.in_busy_poll ≡ true }
+        ensures context { ring_of self.now.pass ≡ Some (ring_name self.now.ctx) }
+    {}
+
+    /// What the state word tells: the flags, and to whom the instance was handed while nobody has taken it.
+    pub fn look(&mut self, napi: &Napi) -> Seen
+        requires { IsSeatOf napi.now self.old.pass }
+        ensures event { Made self.old.pass (Look result ∷ []) self.new.pass }
+        ensures ctx { self.new.ctx ≡ self.old.ctx }
+    {
+        napi.table.look(&mut self.pass)
+    }
+
+    /// Polls once, as [`Polling::poll`].
+    pub fn poll(&mut self, weight: usize, batch: &mut Batch) -> usize
+        requires { (1 ≤ weight) × (weight ≤ MAX_WEIGHT) }
+        ensures next { GivesNext weight self.old.ctx self.new.ctx batch.new.items }
+        ensures work { result ≡ length batch.new.items }
+        ensures pass { self.new.pass ≡ self.old.pass }
+    {
+        self.ctx.poll(weight, batch)
+    }
+
+    /// What is counted of the ring's polls so far, those of other callers too.
+    pub fn counts(&self) -> RxCounts
+        ensures { result ≡ counts_of (polls_of self.now.ctx) (received_list self.now.ctx) }
+    {
+        self.ctx.counts()
+    }
+
+    /// The ends of the ring meet, as for [`Polling::beside`].
+    pub fn beside(&mut self, input: &mut RxIn)
+        requires { IsInputOf input.old self.old.pass }
+        ensures meets { Meets input.old self.old.ctx input.new self.new.ctx }
+        ensures pass { self.new.pass ≡ self.old.pass }
+    {
+        rx_ring::beside(input, &mut self.ctx);
+    }
+
+    /// Completes a poll whose work is below its weight (`napi_complete_done`, which does nothing under IN_BUSY_POLL): the
+    /// caller busy polls on.
+    pub fn complete_held(&mut self, napi: &Napi)
+        requires { IsSeatOf napi.now self.old.pass }
+        ensures event { Made self.old.pass (Complete Held ∷ []) self.new.pass }
+        ensures ctx { self.new.ctx ≡ self.old.ctx }
+    {
+        napi.table.complete_load(&mut self.pass);
+    }
+
+    /// Stops busy polling, in one try (`busy_poll_stop`): a look, and an exchange. It doesn't wait. What was scheduled
+    /// meanwhile is answered by the poll that has to follow.
+    pub fn try_stop(self, napi: &Napi) -> TryStop
+        requires { IsSeatOf napi.now self.pass }
+        ensures { TriesToStop self.pass result }
+    {
+        self.try_stop_between(napi, &mut Nothing)
+    }
+
+    /// As [`try_stop`](Busy::try_stop), and runs `between` after the look.
+    pub fn try_stop_between<B: Between>(self, napi: &Napi, between: &mut B) -> TryStop
+        requires { IsSeatOf napi.now self.pass }
+        ensures events { TriesToStop self.pass result }
+        ensures run { B.ran between.old between.new }
+    {
+        let Busy {
+            mut pass,
+            number,
+            ctx,
+        } = self;
+        let seen = napi.table.look(&mut pass);
+        between.run();
+        match napi.table.stop_swap(&mut pass, seen) {
+            Ok(()) => TryStop::Stopped(Polling { pass, number, ctx }),
+            Err(_) => TryStop::Changed(Busy { pass, number, ctx }),
+        }
+    }
+
+    /// Stops busy polling, try after try until one decides (`busy_poll_stop`).
+    pub fn stop<R: Wait>(self, rt: &R, napi: &Napi) -> Polling
+        requires { IsSeatOf napi.now self.pass }
+        ensures { Stops self.pass result.pass }
+    {
+        let mut busy = self;
+        for _ in rt.forever() {
+            match busy.try_stop(napi) {
+                TryStop::Stopped(polling) => return polling,
+                TryStop::Changed(changed) => busy = changed,
+            }
+        }
+        unreachable!()
+    }
+}
