@@ -1,33 +1,40 @@
 #!/bin/sh
-# Refuses each allocation, each read and each write of the replay program in turn. Each refusal has to give its line, its exit
-# status and no report.
-# bench/refusals.sh [PROGRAM]
+# Refuses each allocation, each read, each write and each start of a thread of the replay program in turn, in each of its
+# modes, or in those that are named. Each refusal has to give its line, its exit status and no report.
+# bench/refusals.sh [PROGRAM [MODE ..]]
 set -eu
 unset CDPATH
 top=$(cd "$(dirname "$0")/.." && pwd)
 . "$top/scripts/arguments.sh"
-at_most 1 "$@"
+at_most 4 "$@"
 [ $# -gt 0 ] || "$top/scripts/build.sh" napi_replay
 program=${1:-$top/crates/napi_replay/out/napi_replay}
 is_program PROGRAM "$program"
+[ $# = 0 ] || shift
+[ $# -gt 0 ] || set -- serial shared threads
 is_tool cc
 folder=$(mktemp -d)
 trap 'rm -rf "$folder"' EXIT
 
 cat > "$folder/refuse.c" <<'END'
-// Refuses the call whose number, counted from 1, is in REFUSE_MEMORY, REFUSE_READ or REFUSE_WRITE.
+// Refuses the call whose number, counted from 1, is in REFUSE_MEMORY, REFUSE_READ, REFUSE_WRITE or REFUSE_THREAD.
 #define _GNU_SOURCE
 #include <dlfcn.h>
 #include <errno.h>
+#include <fcntl.h>
+#include <pthread.h>
 #include <stdlib.h>
 #include <unistd.h>
 
-struct calls { const char *name; long made, refused; };
-static struct calls memory = {"REFUSE_MEMORY", 0, 0}, reads = {"REFUSE_READ", 0, 0}, writes = {"REFUSE_WRITE", 0, 0};
+struct calls { const char *name; long made; };
+static struct calls memory = {"REFUSE_MEMORY", 0}, reads = {"REFUSE_READ", 0}, writes = {"REFUSE_WRITE", 0}, threads = {"REFUSE_THREAD", 0};
 
+// The file REFUSED is there once a call was refused.
 static int refuses(struct calls *calls) {
-    if (!calls->refused) { const char *text = getenv(calls->name); calls->refused = text ? atol(text) : -1; }
-    return ++calls->made == calls->refused;
+    const char *text = getenv(calls->name);
+    if (!text || __atomic_add_fetch(&calls->made, 1, __ATOMIC_SEQ_CST) != atol(text)) return 0;
+    close(open(getenv("REFUSED"), O_CREAT | O_WRONLY, 0600));
+    return 1;
 }
 void *malloc(size_t size) {
     static void *(*next)(size_t);
@@ -53,6 +60,12 @@ ssize_t write(int file, const void *bytes, size_t size) {
     if (file == 1 && refuses(&writes)) { errno = EIO; return -1; }
     return next(file, bytes, size);
 }
+int pthread_create(pthread_t *thread, const pthread_attr_t *attributes, void *(*run)(void *), void *given) {
+    static int (*next)(pthread_t *, const pthread_attr_t *, void *(*)(void *), void *);
+    if (!next) next = (int (*)(pthread_t *, const pthread_attr_t *, void *(*)(void *), void *))dlsym(RTLD_NEXT, "pthread_create");
+    if (refuses(&threads)) return EAGAIN;
+    return next(thread, attributes, run, given);
+}
 END
 cc -O1 -shared -fPIC -o "$folder/refuse.so" "$folder/refuse.c" -ldl
 
@@ -66,42 +79,73 @@ cc -O1 -shared -fPIC -o "$folder/refuse.so" "$folder/refuse.c" -ldl
     echo '3,16,kthread,0'
     awk 'BEGIN { for (row = 13; row < 20000; row++) print row (row % 100 ? ",1,done,0" : ",0,softirq,0") }'
 } > "$folder/trace.csv"
-"$program" < "$folder/trace.csv" > "$folder/report"
 
 fail() { echo "refusals: $*" >&2; exit 1; }
 
-# refuse_each KIND STATUS LINE: until the program makes no call with that number. A refused call has to end it with that
-# status and that line, and without a report. Leaves the calls refused in `count`.
-refuse_each() {
-    count=0
-    while :; do
-        status=0
-        env "$1=$((count + 1))" LD_PRELOAD="$folder/refuse.so" "$program" < "$folder/trace.csv" > "$folder/out" 2> "$folder/err" ||
-            status=$?
-        if [ "$status" = 0 ]; then
-            cmp -s "$folder/out" "$folder/report" || fail "$1=$((count + 1)): another report"
-            break
-        fi
-        count=$((count + 1))
-        [ "$status" = "$2" ] || fail "$1=$count: status $status"
-        [ ! -s "$folder/out" ] || fail "$1=$count: a report was written"
-        [ "$(cat "$folder/err")" = "$3" ] || fail "$1=$count: another line: $(cat "$folder/err")"
-    done
-    [ "$count" -gt 0 ] || fail "$1: nothing was refused"
+# One run with the call of that number refused: refuse KIND NUMBER. Leaves its status in `status`.
+refuse() {
+    status=0
+    rm -f "$folder/refused"
+    env "$1=$2" REFUSED="$folder/refused" LD_PRELOAD="$folder/refuse.so" \
+        "$program" --mode "$mode" < "$folder/trace.csv" > "$folder/out" 2> "$folder/err" || status=$?
 }
 
-refuse_each REFUSE_MEMORY 4 'memory fault 11 OutOfMemory'
-memory=$count
-refuse_each REFUSE_READ 2 'trace fault 10 ReadFailed'
-reads=$count
-refuse_each REFUSE_WRITE 4 'output fault 15 OutputFailed'
-writes=$count
+# Whether the run was as one without a refusal.
+is_whole() { [ "$status" = 0 ] && cmp -s "$folder/out" "$folder/report" && [ ! -s "$folder/err" ]; }
 
-status=0
-"$program" < "$folder" > "$folder/out" 2> "$folder/err" || status=$?
-[ "$status" = 2 ] && [ ! -s "$folder/out" ] && [ "$(cat "$folder/err")" = 'trace fault 10 ReadFailed' ] || fail "a folder is read"
-status=0
-"$program" < "$folder/trace.csv" > /dev/full 2> "$folder/err" || status=$?
-[ "$status" = 4 ] && [ "$(cat "$folder/err")" = 'output fault 15 OutputFailed' ] || fail "a device that is full is written"
+# refuse_each KIND STATUS LINE: until the program makes no call with that number. A refused call has to end it with that
+# status and that line, and without a report; or, where memory is asked for again, to change nothing. Leaves the calls refused
+# in `count`, and those that changed nothing in `idle`.
+refuse_each() {
+    count=0
+    idle=0
+    while :; do
+        refuse "$1" $((count + 1))
+        [ -e "$folder/refused" ] || break
+        count=$((count + 1))
+        if [ "$1" = REFUSE_MEMORY ] && is_whole; then
+            idle=$((idle + 1))
+            continue
+        fi
+        [ "$status" = "$2" ] || fail "$mode $1=$count: status $status"
+        [ ! -s "$folder/out" ] || fail "$mode $1=$count: a report was written"
+        line=$(cat "$folder/err")
+        # Memory that the start of a thread asks for: the thread could not be started.
+        [ "$1 $mode $line" != 'REFUSE_MEMORY threads worker fault 16 SpawnFailed' ] || line=$3
+        [ "$line" = "$3" ] || fail "$mode $1=$count: another line: $line"
+    done
+    is_whole || fail "$mode $1: nothing was refused, and another report was written"
+}
 
-echo "$memory allocations, $reads reads and $writes writes refused"
+# some_refused WHAT: at least one call was refused that ended the program.
+some_refused() { [ "$count" -gt "$idle" ] || fail "$mode: no $1 was refused"; }
+
+refuse_all() {
+    "$program" --mode "$mode" < "$folder/trace.csv" > "$folder/report"
+    refuse_each REFUSE_MEMORY 4 'memory fault 11 OutOfMemory'
+    some_refused allocation
+    memory="$count allocations ($idle of them made up for)"
+    refuse_each REFUSE_READ 2 'trace fault 10 ReadFailed'
+    some_refused read
+    reads=$count
+    refuse_each REFUSE_WRITE 4 'output fault 15 OutputFailed'
+    some_refused write
+    writes=$count
+    refuse_each REFUSE_THREAD 4 'worker fault 16 SpawnFailed'
+    [ "$mode" != threads ] || some_refused thread
+    echo "$mode: $memory, $reads reads, $writes writes and $count starts of threads refused"
+}
+
+refuse_ends() {
+    status=0
+    "$program" --mode "$mode" < "$folder" > "$folder/out" 2> "$folder/err" || status=$?
+    [ "$status" = 2 ] && [ ! -s "$folder/out" ] && [ "$(cat "$folder/err")" = 'trace fault 10 ReadFailed' ] || fail "$mode: a folder is read"
+    status=0
+    "$program" --mode "$mode" < "$folder/trace.csv" > /dev/full 2> "$folder/err" || status=$?
+    [ "$status" = 4 ] && [ "$(cat "$folder/err")" = 'output fault 15 OutputFailed' ] || fail "$mode: a device that is full is written"
+}
+
+for mode in "$@"; do
+    refuse_all
+    refuse_ends
+done

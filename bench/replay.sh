@@ -9,6 +9,7 @@ set -euo pipefail
 unset CDPATH
 bench=$(cd "$(dirname "$0")" && pwd)
 . "$bench/../scripts/arguments.sh"
+. "$bench/../scripts/best.sh"
 at_most 2 "$@"
 peer=${1:-}
 turns=${2:-15}
@@ -26,11 +27,6 @@ cc -O2 -o "$scratch/measure" "$bench/measure.c"
 for rows in 10000 30000 100000; do
     "$bench/traces.sh" "$scratch/$rows" "$rows"
 done
-
-# The least of the first column and the greatest of the second one, and the last status.
-best() {
-    awk 'NR == 1 || $1 < least { least = $1 } $2 > most { most = $2 } END { print least, most, $3 }' "$1"
-}
 
 differs=0
 

@@ -11,6 +11,7 @@ use std::alloc::Global;
 /// An instance, and the passes of two callers and its controller.
 #[derive(Drop)]
 pub struct Opened {
+    /// The instance's state word, and the slot of its poll context.
     pub table: StateTable,
     /// Who makes the turns.
     pub poller: Pass,

@@ -25,7 +25,7 @@ use Rattle.device_model.specs.declared.device.TheConstants.{INTERRUPT, POLLER, T
 use Rattle.device_model.proofs.ThreadFacts.{goes-more, goes-next, some-polls}
 
 -- an instance that isn't scheduled is on no list
-unheld : (p : Place) (sched : Bool) → (not (is_held p) || sched) ≡ true → sched ≡ false → is_handed kind.List p ≡ false
+pub unheld : (p : Place) (sched : Bool) → (not (is_held p) || sched) ≡ true → sched ≡ false → is_handed kind.List p ≡ false
 unheld place.Nobody sched h e = refl
 unheld (place.Granted c) sched h e = refl
 unheld place.Listed sched h e = cc (rw e at h)
@@ -100,16 +100,16 @@ packet-keeps bytes d sound = by (has_room d)
 -- ---- a poll
 
 -- an instance in its poller's hands, off the list
-record IsInHand (d : DeviceView) : Type 0 where
-  sched : d.napi.flags.sched ≡ true
-  off : is_handed kind.List d.napi.place ≡ false
+pub record IsInHand (d : DeviceView) : Type 0 where
+  pub sched : d.napi.flags.sched ≡ true
+  pub off : is_handed kind.List d.napi.place ≡ false
 
 -- what a poll leaves: entries are added where it handed the instance to the list
-record Leaves (d e : DeviceView) (next : Next) : Type 0 where
-  sound : is_sound e ≡ true
-  pending : is_pending e ≡ is_pending d
-  listed : waits (Some e) ≡ count (is_arrival next)
-  sched : is_for_thread next ≡ true → e.napi.flags.sched ≡ true
+pub record Leaves (d e : DeviceView) (next : Next) : Type 0 where
+  pub sound : is_sound e ≡ true
+  pub pending : is_pending e ≡ is_pending d
+  pub listed : waits (Some e) ≡ count (is_arrival next)
+  pub sched : is_for_thread next ≡ true → e.napi.flags.sched ≡ true
 
 sound-of : (p : Place) (sched : Bool) → sched ≡ true → (not (is_held p) || sched) ≡ true
 sound-of place.Nobody sched e = refl
@@ -127,7 +127,7 @@ handed-on false poller d g sched pending = record { sound = sched; pending = pen
 kept-in-hand : (d : DeviceView) → IsInHand d → Leaves d d Repoll
 kept-in-hand d hand = record { sound = sound-of d.napi.place d.napi.flags.sched hand.sched; pending = refl; listed = rw hand.off refl; sched = λ e. hand.sched }
 
-completed-leaves : (poller : ℕ) (d : DeviceView) → IsInHand d → Leaves d (completed poller d).1 (completed poller d).0
+pub completed-leaves : (poller : ℕ) (d : DeviceView) → IsInHand d → Leaves d (completed poller d).1 (completed poller d).0
 unfolding completed handed_over
 completed-leaves poller d hand = by d.napi.flags.in_busy_poll d.napi.flags.missed
   where

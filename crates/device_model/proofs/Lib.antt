@@ -1,12 +1,12 @@
 pub mod Accepted
 pub mod BenchFacts
+pub mod BusyFacts
 pub mod DecidingFacts
 pub mod DeviceFacts
 pub mod NumeralFacts
 pub mod PlaceFacts
 pub mod RecordsFacts
 pub mod RowsFacts
-pub mod SharedFacts
 pub mod SwitchFacts
 pub mod InstanceFacts
 pub mod ThreadFacts

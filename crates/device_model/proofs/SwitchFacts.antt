@@ -9,7 +9,7 @@ use Rattle.device_model.specs.Row.{device_fits}
 use Rattle.device_model.specs.Switch.{Tracks, events_of, set_by, switch_after, switch_of}
 use Rattle.std.proofs.lemmas.Bool.Decides.{nat_tests}
 use Rattle.device_model.specs.declared.event.Event.{Event}
-use Rattle.device_model.specs.declared.event.Event.TheVariants.{Opened, Rx, Tx, Finish, Softirq, Kthread, Disable, Enable, Threaded}
+use Rattle.device_model.specs.declared.event.Event.TheVariants.{Opened, Rx, Tx, Finish, Softirq, Kthread, Disable, Enable, Threaded, Busy}
 use Rattle.device_model.specs.declared.row.Row.{Row}
 use Rattle.device_model.specs.declared.switch.Switch.{Switch}
 use Rattle.device_model.specs.declared.switch.Switch.TheVariants.{Unopened}
@@ -65,3 +65,4 @@ device_range Kthread n other h = grind (arith, nat_tests)
 device_range Disable n other h = grind (arith, nat_tests)
 device_range Enable n other h = grind (arith, nat_tests)
 device_range Threaded n other h = grind (arith, nat_tests)
+device_range Busy n other h = grind (arith, nat_tests)

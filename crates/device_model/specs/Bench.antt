@@ -1,9 +1,12 @@
 -- What the devices of a bench are, and what its calls and polls do to what it shows.
 use Rattle.std.specs.Prelude.{◌≡◌, ℕ, ◌+◌, ◌≤◌, List, [], Option, Some, None, is_some, filter, length, map}
 use Rattle.napi_model.specs.declared.state.Kind.{Kind}
+use Rattle.poll_engine.specs.BusyPolling.{no_report}
 use Rattle.poll_engine.specs.Thread.{last_next}
+use Rattle.poll_engine.specs.declared.bench.BusyReport.{BusyReport}
 use Rattle.poll_engine.specs.declared.bench.Next.TheVariants.{Absent}
 use Rattle.poll_engine.specs.declared.bench.Once.{Once}
+use Rattle.device_model.specs.BusyPolling.{polled_busily}
 use Rattle.device_model.specs.Counts.{counts_of}
 use Rattle.device_model.specs.Device.{after_packet, polled_by_thread, polled_once, settled}
 use Rattle.device_model.specs.DeviceView.{DeviceView}
@@ -78,6 +81,25 @@ abbrev pub AreThreadPolls : {B : Type 0} → Type 0 → (B → Devices) → (B �
 AreThreadPolls {B} Exact devices shows waiting polls =
     (before after : B) (number weight most : ℕ) (all : List Once) → polls before number weight most all after
     → IsThreadPolls Exact devices shows waiting before number weight most all after
+
+-- the same of busy polling
+abbrev pub busy_report_of : ℕ → ℕ → Option DeviceView → BusyReport
+busy_report_of weight rounds None = no_report
+busy_report_of weight rounds (Some d) = (polled_busily rounds weight d).0
+
+abbrev pub busily_polled_at : Devices → ℕ → ℕ → ℕ → Devices
+busily_polled_at devices number weight rounds = changed (λ d. (polled_busily rounds weight d).1) number devices
+
+pub record IsBusyPoll {B : Type 0} (Exact : Type 0) (devices : B → Devices) (shows : B → Transmits → Type 0) (waiting : B → ℕ)
+    (before : B) (number weight rounds : ℕ) (report : BusyReport) (after : B) : Type 0 where
+  pub exact : Exact → (report ≡ busy_report_of weight rounds (at number (devices before))) × (devices after ≡ busily_polled_at (devices before) number weight rounds)
+  pub transmits : Keeps shows before after
+  pub waits : waiting before + count (is_left_to_list report.next) ≤ waiting after
+
+abbrev pub AreBusyPolls : {B : Type 0} → Type 0 → (B → Devices) → (B → Transmits → Type 0) → (B → ℕ) → (B → ℕ → ℕ → ℕ → BusyReport → B → Type 0) → Type 0
+AreBusyPolls {B} Exact devices shows waiting polls =
+    (before after : B) (number weight rounds : ℕ) (report : BusyReport) → polls before number weight rounds report after
+    → IsBusyPoll Exact devices shows waiting before number weight rounds report after
 
 -- ---- disabling
 

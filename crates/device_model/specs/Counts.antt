@@ -22,6 +22,7 @@ counts_of d tx = record {
   disabled = d.disabled;
   again = d.again;
   released = d.released;
+  held = d.held;
   word = word_of (seen_of d.napi);
   tx = tx;
 }

@@ -43,6 +43,7 @@ opened capacity = record {
   disabled = 0;
   again = 0;
   released = 0;
+  held = 0;
 }
 
 -- ---- the hand-over: to the thread where THREADED is set, else to the poll list (`____napi_schedule`)
@@ -83,11 +84,15 @@ after_packet bytes d =
 abbrev pub given : ℕ → DeviceView → ℕ
 given weight d = min weight (length d.packets)
 
+-- the bytes of these packets
+abbrev pub bytes_given : ℕ → DeviceView → ℕ
+bytes_given weight d = sum (take (given weight d) d.packets)
+
 unfoldable pub polled : ℕ → DeviceView → DeviceView
 polled weight d = record d {
   packets = drop (given weight d) d.packets;
   polled = raised d.polled (given weight d);
-  bytes = raised d.bytes (sum (take (given weight d) d.packets));
+  bytes = raised d.bytes (bytes_given weight d);
   polls = raised d.polls 1;
 }
 

@@ -22,3 +22,4 @@ pub record DeviceView : Type 0 where
   pub disabled : ℕ
   pub again : ℕ
   pub released : ℕ
+  pub held : ℕ

@@ -1,4 +1,5 @@
 pub mod Bench
+pub mod BusyPolling
 pub mod Counter
 pub mod Counts
 pub mod Device
@@ -12,11 +13,8 @@ pub mod Range
 pub mod Record
 pub mod Row
 pub mod SerialBench
-pub mod SharedBench
-pub mod SharedDevice
 pub mod Sides
 pub mod Source
-pub mod Stations
 pub mod Switch
 pub mod Trace
 pub mod Transmit

@@ -1,7 +1,7 @@
 -- The numbers that a row of each event may bear. See docs/FORMATS.md, "The trace".
 use Rattle.std.specs.Prelude.{ℕ, ◌==◌, ◌&&◌, Bool, nat_le}
 use Rattle.device_model.specs.declared.event.Event.{Event}
-use Rattle.device_model.specs.declared.event.Event.TheVariants.{Opened, Rx, Tx, Finish, Softirq, Kthread, Disable, Enable, Threaded}
+use Rattle.device_model.specs.declared.event.Event.TheVariants.{Opened, Rx, Tx, Finish, Softirq, Kthread, Disable, Enable, Threaded, Busy}
 
 abbrev pub is_within : ℕ → ℕ → ℕ → Bool
 is_within low high n = nat_le low n && nat_le n high
@@ -21,8 +21,9 @@ device_fits Kthread n = is_device n
 device_fits Disable n = is_device n
 device_fits Enable n = is_device n
 device_fits Threaded n = is_device n
+device_fits Busy n = is_device n
 
--- the value that it may bear: places, bytes, bytes, packets, the setting of threaded, and else 0
+-- the value that it may bear: places, bytes, bytes, packets, the setting of threaded, the rounds of busy polling, and else 0
 abbrev pub value_fits : Event → ℕ → Bool
 value_fits Opened n = is_within 1 65536 n
 value_fits Rx n = is_within 1 65535 n
@@ -33,3 +34,4 @@ value_fits Kthread n = n == 0
 value_fits Disable n = n == 0
 value_fits Enable n = n == 0
 value_fits Threaded n = nat_le n 1
+value_fits Busy n = is_within 1 65535 n

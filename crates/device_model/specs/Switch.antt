@@ -1,7 +1,7 @@
 -- What the earlier rows of a device say of the next one: faults 6 to 8. See docs/FORMATS.md, "The trace".
 use Rattle.std.specs.Prelude.{◌≡◌, ℕ, ◌+◌, ◌<◌, ◌==◌, List, [], ◌∷◌, map, filter, Option, Some, None, unwrap_or, slice_index_or, Result, Ok, Err}
 use Rattle.device_model.specs.declared.event.Event.{Event}
-use Rattle.device_model.specs.declared.event.Event.TheVariants.{Opened, Rx, Tx, Finish, Softirq, Kthread, Disable, Enable, Threaded}
+use Rattle.device_model.specs.declared.event.Event.TheVariants.{Opened, Rx, Tx, Finish, Softirq, Kthread, Disable, Enable, Threaded, Busy}
 use Rattle.device_model.specs.declared.fault.TraceFault.{TraceFault}
 use Rattle.device_model.specs.declared.fault.TraceFault.TheVariants.{UnknownDevice, OpenTwice, WrongState}
 use Rattle.device_model.specs.declared.row.Row.{Row}
@@ -19,6 +19,7 @@ set_by Kthread = None
 set_by Disable = Some Off
 set_by Enable = Some On
 set_by Threaded = None
+set_by Busy = None
 
 -- the events of a device, in order
 abbrev pub events_of : ℕ → List Row → List Event
@@ -56,6 +57,7 @@ refusal n Enable Unopened = Some (UnknownDevice n)
 refusal n Enable On = Some (WrongState n)
 refusal n Enable Off = None
 refusal n Threaded switch = wants_open n switch
+refusal n Busy switch = wants_open n switch
 
 abbrev pub unless_refused : {A : Type 0} → Option TraceFault → A → Result A TraceFault
 unless_refused None x = Ok x

@@ -9,7 +9,7 @@ use crate::replay_bench::{PLACES, ReplayBench};
 use crate::sides::TransmitSides;
 use crate::transmit::Transmit;
 use napi_model::Kind;
-use poll_engine::{Bench, Next, Once, ShownBench, ThreadReport};
+use poll_engine::{Bench, BusyReport, Next, Once, ShownBench, ThreadReport};
 use std::alloc::{AllocError, Global};
 
 /// The devices of one thread, each in the place of its number.
@@ -85,12 +85,14 @@ impl SerialBench {
 
 impl Bench for SerialBench {
     ghost use Rattle.std.specs.Prelude.{⊤};
-    ghost use Rattle.device_model.specs.Bench.{IsPoll, IsThreadPolls};
+    ghost use Rattle.device_model.specs.Bench.{IsBusyPoll, IsPoll, IsThreadPolls};
     ghost use Rattle.device_model.specs.SerialBench.{ShowsTransmits, devices_of, waiting_of};
 
     ghost polls = { IsPoll ⊤ devices_of ShowsTransmits waiting_of };
 
     ghost thread_polls = { IsThreadPolls ⊤ devices_of ShowsTransmits waiting_of };
+
+    ghost busy_polls = { IsBusyPoll ⊤ devices_of ShowsTransmits waiting_of };
 
     fn poll_once(&mut self, id: u32, weight: u32) -> Once {
         if id < PLACES {
@@ -115,6 +117,15 @@ impl Bench for SerialBench {
             work: 0,
             next: Next::Absent,
         }
+    }
+
+    fn busy_poll(&mut self, id: u32, weight: u32, rounds: u32) -> BusyReport {
+        if id < PLACES {
+            if let Some(device) = &mut self.devices[id as usize] {
+                return device.busy_poll(weight, rounds);
+            }
+        }
+        BusyReport::NONE
     }
 }
 
@@ -220,6 +231,8 @@ impl ReplayBench for SerialBench {
     ghost polled = { λ before after number weight once is. is };
 
     ghost thread_polled = { λ before after number weight most polls are. are };
+
+    ghost busily_polled = { λ before after number weight rounds report is. is };
 
     ghost few = { λ bench. bench.kept.few };
 }

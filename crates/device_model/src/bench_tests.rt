@@ -338,6 +338,7 @@ fn full_ring(rt: HostRuntime) -> Result<(), Fail> {
         again: 1,
         released: 1,
         word: 0,
+        held: 0,
         tx: None,
     };
     assert_eq!(rt; bench.counts(1), Some(counts));
@@ -362,6 +363,7 @@ fn disabled_counts(rt: HostRuntime) -> Result<(), Fail> {
         again: 1,
         released: 2,
         word: 256,
+        held: 0,
         tx: None,
     };
     assert_eq!(rt; bench.counts(1), Some(counts));

@@ -16,6 +16,7 @@ pub enum DeviceState {
 /// The values of a device's lines in the report, in their order. Each count stays at its greatest value.
 #[derive(Clone, Copy, Debug, PartialEq, Eq)]
 pub struct DeviceCounts {
+    /// Whether the device is enabled after the last row.
     pub state: DeviceState,
     /// Packets that arrived, the dropped ones among them.
     pub arrived: u64,
@@ -39,6 +40,8 @@ pub struct DeviceCounts {
     pub again: u64,
     /// Completions that were answered Released.
     pub released: u64,
+    /// Completions that were answered Held.
+    pub held: u64,
     /// The state word.
     pub word: u64,
     /// The transmit side, where the device had a tx or done row.

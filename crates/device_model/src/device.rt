@@ -1,7 +1,8 @@
 //! One device: its receive ring, its instance, and what was counted.
 
-ghost use Rattle.std.specs.Prelude.{◌≡◌, ◌≢◌, ◌≤◌, true, length, sum, sum_by, IfOk, List};
-ghost use Rattle.device_model.specs.Device.{after_disable, after_enable, after_packet, after_poll, after_request, after_threaded, completed, ended, followed, given, goes_on, handed_over, is_control, is_pending, kind_for, let_go, opened, polled, polled_by_thread, polled_once, settled, state_of};
+ghost use Rattle.std.specs.Prelude.{◌≡◌, ◌≢◌, ◌≤◌, ◌<◌, ◌^◌, true, length, sum, sum_by, IfOk, List};
+ghost use Rattle.device_model.specs.BusyPolling.{polled_busily};
+ghost use Rattle.device_model.specs.Device.{after_disable, after_enable, after_packet, after_poll, after_request, after_threaded, bytes_given, completed, ended, followed, given, goes_on, handed_over, is_control, is_pending, kind_for, let_go, opened, polled, polled_by_thread, polled_once, settled, state_of};
 ghost use Rattle.device_model.specs.Counts.{counts_of};
 ghost use Rattle.device_model.specs.declared.device.TheConstants.{THREAD};
 ghost use Rattle.device_model.specs.Instance.{IsPolled};
@@ -16,7 +17,10 @@ use crate::counts::{DeviceCounts, DeviceState};
 use crate::transmit::TxCounts;
 use circular_buffer::HeapCircularBuffer;
 use napi_model::{Done, Kind, Place, Prep, SerialNapi, encode};
-use poll_engine::{Instance, Once, ThreadReport, poll_once_of, poll_thread_of};
+use poll_engine::{
+    BusyInstance, BusyReport, Instance, Once, ThreadReport, poll_busy_of, poll_once_of,
+    poll_thread_of,
+};
 use std::alloc::{AllocError, Global};
 use std::marker::Model;
 
@@ -51,6 +55,7 @@ pub(crate) struct Device {
     disabled: u64,
     again: u64,
     released: u64,
+    held: u64,
 }
 
 impl Model for Device {
@@ -77,6 +82,7 @@ impl Model for Device {
       disabled = d.disabled;
       again = d.again;
       released = d.released;
+      held = d.held;
     } };
 
     ghost invariant = { λ d. (controller_of d.napi ≡ CONTROLLER) × IsOurs (state_of d.napi) };
@@ -104,6 +110,7 @@ impl Device {
             disabled: 0,
             again: 0,
             released: 0,
+            held: 0,
         })
     }
 
@@ -124,6 +131,7 @@ impl Device {
             disabled: self.disabled,
             again: self.again,
             released: self.released,
+            held: self.held,
             word: encode(self.napi.look()),
             tx,
         }
@@ -254,14 +262,16 @@ impl Device {
 impl Device {
     // Gives the next packets, at most the weight, and answers how many.
     #[tactic(auto, unfolding(crate::specs::Device::polled))]
-    fn receive(&mut self, weight: u32) -> u32
+    fn receive(&mut self, weight: u32, load: &mut Load) -> u32
         requires { IsWithin 1 64 weight }
         ensures device { self.new ≡ polled weight self.old }
         ensures work { result ≡ given weight self.old }
+        ensures bytes { load.new ≡ bytes_given weight self.old }
     {
         let mut batch = [0u32; MOST_WEIGHT];
         let count = self.ring.read_into(&mut batch[..weight as usize]);
         let bytes = byte_sum(&batch[..count]);
+        load.bytes = bytes;
         self.polled = self.polled.saturating_add(count as u64);
         self.bytes = self.bytes.saturating_add(bytes);
         self.polls = self.polls.saturating_add(1);
@@ -286,7 +296,7 @@ impl Device {
         ensures once { result ≡ (polled_once weight self.old).0 }
         ensures bound { result.work ≤ weight }
     {
-        poll_once_of(self, weight, &mut ())
+        poll_once_of(self, weight, &mut Load::NONE)
     }
 
     /// The thread takes the instance, if it was handed to it, and polls it at most so many times.
@@ -296,14 +306,24 @@ impl Device {
         ensures device { self.new ≡ (polled_by_thread most weight self.old).1 }
         ensures report { IsThreadPolling weight most (polled_by_thread most weight self.old).0 result }
     {
-        poll_thread_of(self, weight, most, &mut ())
+        poll_thread_of(self, weight, most, &mut Load::NONE)
+    }
+
+    /// The poller takes an instance that is idle, polls it for so many rounds, stops and polls once more.
+    pub(crate) fn busy_poll(&mut self, weight: u32, rounds: u32) -> BusyReport
+        requires weight { IsWithin 1 64 weight }
+        requires rounds { IsWithin 1 65535 rounds }
+        ensures device { self.new ≡ (polled_busily rounds weight self.old).1 }
+        ensures report { result ≡ (polled_busily rounds weight self.old).0 }
+    {
+        poll_busy_of(self, rounds, weight, &mut Load::NONE)
     }
 }
 
 impl Instance for Device {
     ghost use Rattle.device_model.specs.Instance.{Completes, Gives, IsPolled, Looks, Requeues, Takes};
 
-    type Packets = ();
+    type Packets = Load;
 
     ghost rests = { λ d. Unit };
 
@@ -311,7 +331,7 @@ impl Instance for Device {
 
     ghost takes = { Takes };
 
-    ghost gives = { λ d weight packets work e. Gives d weight work e };
+    ghost gives = { λ d weight load work e. Gives d weight load work e };
 
     ghost looks = { Looks };
 
@@ -327,8 +347,8 @@ impl Instance for Device {
     }
 
     #[tactic(auto, unfolding(crate::specs::Device::polled))]
-    fn poll(&mut self, weight: u32, _packets: &mut ()) -> u32 {
-        self.receive(weight)
+    fn poll(&mut self, weight: u32, load: &mut Load) -> u32 {
+        self.receive(weight, load)
     }
 
     fn is_disabling(&mut self) -> bool {
@@ -357,10 +377,73 @@ impl Instance for Device {
     }
 }
 
+impl BusyInstance for Device {
+    ghost use Rattle.device_model.specs.Instance.{BusyTakes, Holds, IsPolledBusily, Stops};
+
+    ghost in_busy = { IsPolledBusily };
+
+    ghost busy_takes = { BusyTakes };
+
+    ghost holds = { Holds };
+
+    ghost stops = { Stops };
+
+    ghost bytes_in = { λ load. load };
+
+    fn busy_take(&mut self) -> bool {
+        self.napi.busy_take(POLLER)
+    }
+
+    #[tactic(auto, unfolding(crate::specs::Device::polled))]
+    fn busy_poll(&mut self, weight: u32, load: &mut Load) -> u32 {
+        self.receive(weight, load)
+    }
+
+    fn hold(&mut self) {
+        match self.napi.complete(POLLER) {
+            Done::Held => self.held = self.held.saturating_add(1),
+            _ => unreachable!(),
+        }
+    }
+
+    fn stop(&mut self) {
+        self.napi.busy_stop(POLLER);
+    }
+
+    fn bytes_of(load: &Load) -> u64 {
+        load.bytes
+    }
+}
+
+/// The bytes of the packets that a poll gave: at most 64, each of 32 bits of bytes.
+#[derive(Drop)]
+pub(crate) struct Load {
+    bytes: u64,
+}
+
+impl Model for Load {
+    ghost use Rattle.std.specs.Prelude.{ℕ, ◌<◌, ◌^◌};
+
+    ghost Value = { ℕ };
+
+    ghost view = { λ load. load.bytes };
+
+    ghost invariant = { λ load. load.bytes < 2 ^ 38 };
+}
+
+impl Load {
+    const NONE: Load = Load { bytes: 0 };
+}
+
 // The bytes of a batch of packets together.
 fn byte_sum(batch: &[u32]) -> u64
     requires { length batch.now ≤ 64 }
-    ensures { result ≡ sum batch.now }
+    ensures sum { result ≡ sum batch.now }
+    ensures bound { result < 2 ^ 38 }
 {
-    batch.iter().map(|bytes| u64::from(*bytes)).sum()
+    let mut sum = 0;
+    for bytes in batch {
+        sum += u64::from(*bytes);
+    }
+    sum
 }

@@ -25,12 +25,14 @@ pub enum Event {
     Enable,
     /// `threaded`: the device is polled by its thread from now on, or by the list again (`dev_set_threaded`).
     Threaded,
+    /// `busy`, in version 2: the device is busy polled for `value` rounds (`napi_busy_loop`).
+    Busy,
 }
 
-/// The event that a word names, if it names one.
+/// The event that a word names in a trace of this version, if it names one.
 #[tactic(auto, unfolding(crate::specs::Record::event_of))]
-pub(crate) fn event_of(word: &[u8]) -> Option<Event>
-    ensures { result ≡ event_of word.now }
+pub(crate) fn event_of(version: u32, word: &[u8]) -> Option<Event>
+    ensures { result ≡ event_of version word.now }
 {
     if word == b"open".as_slice() {
         return Some(Event::Opened);
@@ -58,6 +60,9 @@ pub(crate) fn event_of(word: &[u8]) -> Option<Event>
     }
     if word == b"threaded".as_slice() {
         return Some(Event::Threaded);
+    }
+    if version == 2 && word == b"busy".as_slice() {
+        return Some(Event::Busy);
     }
     None
 }

@@ -1,9 +1,10 @@
 //! What the fields of one record say by themselves.
 
-ghost use Rattle.std.specs.Prelude.{◌≡◌, ◌≤◌, length, true, option_map, if◌then◌else◌, Some, None, IfOk};
+ghost use Rattle.std.specs.Prelude.{◌≡◌, ◌≤◌, length, true, option_map, if◌then◌else◌, Some, None, IfOk, IfSome};
 ghost use Rattle.std.specs.Str.{all_ascii_digits};
 ghost use Rattle.csv.specs.Records.{fields_of};
-ghost use Rattle.device_model.specs.Record.{four_of, is_header, is_numeral, numeral, of_fields, ranged, row_of};
+ghost use Rattle.device_model.specs.Range.{IsWithin};
+ghost use Rattle.device_model.specs.Record.{first_four, four_of, is_numeral, is_title, numeral, of_fields, ranged, row_of, version_of};
 ghost use Rattle.device_model.specs.Row.{device_fits, value_fits};
 
 use crate::event::{Event, event_of};
@@ -68,7 +69,7 @@ fn value_fits(event: Event, value: u128) -> bool
 {
     match event {
         Event::Opened => 1 <= value && value <= 65536,
-        Event::Rx | Event::Tx => 1 <= value && value <= 65535,
+        Event::Rx | Event::Tx | Event::Busy => 1 <= value && value <= 65535,
         Event::Finish => value <= 65536,
         Event::Threaded => value <= 1,
         Event::Softirq | Event::Kthread | Event::Disable | Event::Enable => value == 0,
@@ -103,13 +104,14 @@ fn ranged(
 // Row `number` of these fields.
 #[tactic(auto, unfolding(crate::specs::Record::of_fields))]
 fn of_fields(
+    version: u32,
     number: u32,
     moment: &[u8],
     device: &[u8],
     event: &[u8],
     value: &[u8],
 ) -> Result<Row, TraceFault>
-    ensures row { result ≡ of_fields number moment.now device.now event.now value.now }
+    ensures row { result ≡ of_fields version number moment.now device.now event.now value.now }
     ensures device { IfOk result (λ row. device_fits row.event row.device ≡ true) }
     ensures value { IfOk result (λ row. value_fits row.event row.value ≡ true) }
 {
@@ -120,7 +122,7 @@ fn of_fields(
     ) else {
         return Err(TraceFault::BadNumber { row: number });
     };
-    let Some(event) = event_of(event) else {
+    let Some(event) = event_of(version, event) else {
         return Err(TraceFault::BadEvent { row: number });
     };
     ranged(number, moment, device, event, value)
@@ -134,6 +136,13 @@ fn four_of(fields: &ByteRecord) -> Option<(&[u8], &[u8], &[u8], &[u8])>
     if fields.len() != 4 {
         return None;
     }
+    first_four(fields)
+}
+
+// The first four fields of a record that has so many.
+fn first_four(fields: &ByteRecord) -> Option<(&[u8], &[u8], &[u8], &[u8])>
+    ensures { option_map (λ four. (four.0.now, four.1.now, four.2.now, four.3.now)) result ≡ first_four (fields_of fields.now) }
+{
     let moment = fields.get(0)?;
     let device = fields.get(1)?;
     let event = fields.get(2)?;
@@ -141,27 +150,49 @@ fn four_of(fields: &ByteRecord) -> Option<(&[u8], &[u8], &[u8], &[u8])>
     Some((moment, device, event, value))
 }
 
-/// The row that a record tells, whose number it is, or the first of the faults 2 to 5 that it has.
-pub(crate) fn row_of(number: u32, fields: &ByteRecord) -> Result<Row, TraceFault>
-    ensures row { result ≡ row_of number (fields_of fields.now) }
+/// The row that a record of a trace of this version tells, whose number it is, or the first of the faults 2 to 5 that it has.
+pub(crate) fn row_of(version: u32, number: u32, fields: &ByteRecord) -> Result<Row, TraceFault>
+    ensures row { result ≡ row_of version number (fields_of fields.now) }
     ensures device { IfOk result (λ row. device_fits row.event row.device ≡ true) }
     ensures value { IfOk result (λ row. value_fits row.event row.value ≡ true) }
 {
     let Some((moment, device, event, value)) = four_of(fields) else {
         return Err(TraceFault::BadFields { row: number });
     };
-    of_fields(number, moment, device, event, value)
+    of_fields(version, number, moment, device, event, value)
 }
 
-/// Whether a record is a trace's first: `moment,device,event,value`.
-pub(crate) fn is_header(fields: &ByteRecord) -> bool
-    ensures { result ≡ is_header (fields_of fields.now) }
+// Whether the first fields of a record are the titles `moment,device,event,value`.
+fn is_titled(fields: &ByteRecord) -> bool
+    ensures { result ≡ is_title (first_four (fields_of fields.now)) }
 {
-    let Some((moment, device, event, value)) = four_of(fields) else {
+    let Some((moment, device, event, value)) = first_four(fields) else {
         return false;
     };
     moment == b"moment".as_slice()
         && device == b"device".as_slice()
         && event == b"event".as_slice()
         && value == b"value".as_slice()
+}
+
+/// The version that a trace's first record tells, if it is one: `moment,device,event,value` is version 1, and the same with a
+/// fifth field `2` is version 2.
+#[tactic(auto, unfolding(crate::specs::Record::version_of))]
+pub(crate) fn version_of(fields: &ByteRecord) -> Option<u32>
+    ensures version { result ≡ version_of (fields_of fields.now) }
+    ensures range { IfSome result (λ version. IsWithin 1 2 version) }
+{
+    if !is_titled(fields) {
+        return None;
+    }
+    if fields.len() == 4 {
+        return Some(1);
+    }
+    if fields.len() != 5 {
+        return None;
+    }
+    match fields.get(4) {
+        Some(field) if field == b"2".as_slice() => Some(2),
+        _ => None,
+    }
 }

@@ -1,7 +1,7 @@
 //! What the rows of a trace play on.
 
-ghost use Rattle.std.specs.Prelude.{◌≡◌, ◌≤◌, ◌+◌, ℕ, not, OnErr, OnOk};
-ghost use Rattle.device_model.specs.Bench.{ArePolls, AreThreadPolls, Changes, Devices, Keeps, Transmits, all_settled, arrived, attached, counts_at, handed_by, tx_counts_of};
+ghost use Rattle.std.specs.Prelude.{◌≡◌, ◌≤◌, ◌+◌, ℕ, not, IfSome, OnErr, OnOk};
+ghost use Rattle.device_model.specs.Bench.{AreBusyPolls, ArePolls, AreThreadPolls, Changes, Devices, Keeps, Transmits, all_settled, arrived, attached, counts_at, handed_by, tx_counts_of};
 ghost use Rattle.device_model.specs.Device.{after_disable, after_enable, after_threaded, opened};
 ghost use Rattle.device_model.specs.Kept.{is_pending_at};
 ghost use Rattle.device_model.specs.Places.{added, at, changed};
@@ -104,13 +104,17 @@ pub trait ReplayBench: Bench {
 
     /// What the report tells of a device, or `None` where there is no such device.
     fn counts(&self, device: u32) -> Option<DeviceCounts>
-        ensures { Exact → (all : Transmits) → shows self.now all → result ≡ counts_at (at device (devices self.now)) (tx_counts_of (at device all)) };
+        ensures devices { Exact → (all : Transmits) → shows self.now all → result ≡ counts_at (at device (devices self.now)) (tx_counts_of (at device all)) }
+        ensures transmits { (all : Transmits) → shows self.now all → IfSome result (λ counts. counts.tx ≡ tx_counts_of (at device all)) };
 
     /// What a poll from the list is.
     ghost polled: { ArePolls Exact devices shows waiting Self.polls };
 
     /// What the polling of a device by its thread is.
     ghost thread_polled: { AreThreadPolls Exact devices shows waiting Self.thread_polls };
+
+    /// What busy polling of a device is.
+    ghost busily_polled: { AreBusyPolls Exact devices shows waiting Self.busy_polls };
 
     /// Each number waits once at most.
     ghost few: { (bench : Self) → waiting bench ≤ 17 };

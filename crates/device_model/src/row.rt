@@ -9,6 +9,7 @@ pub struct Row {
     pub moment: u64,
     /// The device's number, 1 to 16; 0 for a softirq.
     pub device: u32,
+    /// What happens.
     pub event: Event,
     /// Places for an open (1 to 65536), bytes for an rx or a tx (1 to 65535), packets for a done (at most 65536), 0 or 1
     /// for a threaded, and else 0.

@@ -9,7 +9,7 @@ use std::alloc::{AllocError, Global};
 /// At most sixteen transmit sides, each in the place of its device's number. A call on a number that has none changes
 /// nothing.
 #[derive(Drop)]
-pub(crate) struct TransmitSides {
+pub struct TransmitSides {
     of: Vec<Option<Transmit>>,
     ghost places: { length of.items ≡ 17 },
 }
@@ -23,7 +23,7 @@ impl TransmitSides {
     ghost use Rattle.device_model.specs.Transmit.{ShowsTransmit, TransmitView, after_finish, after_tx};
 
     /// No sides. Their places are made here, so that no other call takes memory.
-    pub(crate) fn new(alloc: Global) -> Result<TransmitSides, AllocError>
+    pub fn new(alloc: Global) -> Result<TransmitSides, AllocError>
         ensures { IfOk result (λ sides. ShowsSides sides empty) }
     {
         let mut of = Vec::with_capacity(alloc, PLACES as usize)?;
@@ -34,7 +34,7 @@ impl TransmitSides {
     }
 
     /// The side of a device, unless that has one.
-    pub(crate) fn attach(&mut self, device: u32, transmit: Transmit)
+    pub fn attach(&mut self, device: u32, transmit: Transmit)
         requires { IsWithin 1 16 device }
         ensures { (view : TransmitView) → ShowsTransmit transmit view → Changes ShowsSides (added device view) self.old self.new }
     {
@@ -45,7 +45,7 @@ impl TransmitSides {
     }
 
     /// A tx row.
-    pub(crate) fn send(&mut self, device: u32, bytes: u32)
+    pub fn send(&mut self, device: u32, bytes: u32)
         ensures { Changes ShowsSides (changed (after_tx bytes) device) self.old self.new }
     {
         if device < PLACES {
@@ -56,7 +56,7 @@ impl TransmitSides {
     }
 
     /// A done row.
-    pub(crate) fn finish(&mut self, device: u32, count: u32, moment: u64)
+    pub fn finish(&mut self, device: u32, count: u32, moment: u64)
         ensures { Changes ShowsSides (changed (after_finish count moment) device) self.old self.new }
     {
         if device < PLACES {
@@ -67,7 +67,7 @@ impl TransmitSides {
     }
 
     /// What the report tells of a side, where it had a row.
-    pub(crate) fn counts(&self, device: u32) -> Option<TxCounts>
+    pub fn counts(&self, device: u32) -> Option<TxCounts>
         ensures { (all : Transmits) → ShowsSides self.now all → result ≡ tx_counts_of (at device all) }
     {
         if device >= PLACES {

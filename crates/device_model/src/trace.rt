@@ -5,12 +5,13 @@ ghost use Rattle.csv.specs.Machine.{next_record};
 ghost use Rattle.csv.specs.Reading.{default_config, reader_state, records_from, strip_bom};
 ghost use Rattle.csv.specs.Records.{fields_of};
 ghost use Rattle.csv.specs.declared.parser.State.TheVariants as state;
+ghost use Rattle.device_model.specs.Range.{IsWithin};
 ghost use Rattle.device_model.specs.Source.{IsOpen, IsReadFailure, StandsAt, TakesNext};
-ghost use Rattle.device_model.specs.Trace.{AcceptedAfter, records_of, rows_after, trace_of};
+ghost use Rattle.device_model.specs.Trace.{AcceptedAfter, TraceView, records_of, rows_after, trace_of, version_in};
 ghost use Rattle.device_model.specs.declared.row.Row.{Row};
 
 use crate::fault::TraceFault;
-use crate::record::{is_header, row_of};
+use crate::record::{row_of, version_of};
 use crate::row::Row;
 use crate::switch::Switches;
 use csv::{ByteRecord, ErrorKind, Reader, ReaderBuilder};
@@ -24,29 +25,38 @@ pub const MOST_ROWS: u32 = 100000;
 // Room for the bytes of any row with numbers of twenty digits, so that the record grows for no row in its ranges.
 const RECORD_BYTES: usize = 96;
 
-/// The rows of a trace, in order: at most [`MOST_ROWS`], each with its numbers in their ranges, and none refused by those
-/// before it.
+/// The version of a trace and its rows, in order: at most [`MOST_ROWS`], each with its numbers in their ranges, and none
+/// refused by those before it.
 #[derive(Debug, Drop)]
 pub struct Trace {
+    version: u32,
     rows: Vec<Row>,
 }
 
 impl Model for Trace {
-    ghost Value = { List Row };
+    ghost Value = { TraceView };
 
-    ghost view = { λ trace. trace.rows.items };
+    ghost view = { λ trace. record { version = trace.version; rows = trace.rows.items } };
 
-    ghost invariant = { λ trace. (length trace.rows.items ≤ 100000) × AcceptedAfter [] trace.rows.items };
+    ghost invariant = { λ trace. IsWithin 1 2 trace.version × (length trace.rows.items ≤ 100000) × AcceptedAfter [] trace.rows.items };
 }
 
 impl Trace {
     /// The rows, in order. Row 1 is the first.
     pub fn rows(&self) -> &[Row]
-        ensures rows { result.now ≡ self.now }
+        ensures rows { result.now ≡ self.now.rows }
         ensures count { length result.now ≤ 100000 }
         ensures accepted { AcceptedAfter [] result.now }
     {
         self.rows.as_slice()
+    }
+
+    /// The version, 1 or 2, that its first record tells.
+    pub fn version(&self) -> u32
+        ensures version { result ≡ self.now.version }
+        ensures range { IsWithin 1 2 result }
+    {
+        self.version
     }
 }
 
@@ -84,7 +94,8 @@ fn next_record<R: Read>(reader: &mut Reader<R>, fields: &mut ByteRecord) -> Resu
 /// of the row that decides, and a failure met there is the answer. On a fault nothing is kept.
 pub fn read_trace<R: Read + Drop>(alloc: Global, source: R) -> Result<Trace, TraceFault>
     // The rows are those of the bytes read, where these are known.
-    ensures rows { IfOk result (λ rows. (bytes : List ℕ) → R.remaining source ≡ Some bytes → trace_of (records_of bytes) ≡ Ok rows) }
+    ensures rows { IfOk result (λ trace. (bytes : List ℕ) → R.remaining source ≡ Some bytes → trace_of (records_of bytes) ≡ Ok trace.rows) }
+    ensures version { IfOk result (λ trace. (bytes : List ℕ) → R.remaining source ≡ Some bytes → trace.version ≡ version_in (records_of bytes)) }
     // A fault is the first one of the bytes read, unless the reader or the memory failed.
     ensures fault { IfErr result (λ fault. (bytes : List ℕ) → R.remaining source ≡ Some bytes
         → IsReadFailure fault ⊎ (trace_of (records_of bytes) ≡ Err fault)) }
@@ -97,23 +108,26 @@ pub fn read_trace<R: Read + Drop>(alloc: Global, source: R) -> Result<Trace, Tra
     if !found {
         return Err(TraceFault::BadHeader);
     }
-    if !is_header(&fields) {
+    let Some(version) = version_of(&fields) else {
         return Err(TraceFault::BadHeader);
-    }
-    read_rows(alloc, &mut reader, &mut fields)
+    };
+    read_rows(alloc, version, &mut reader, &mut fields)
 }
 
 // Reads the rows that the reader has left, or the first fault of them.
 fn read_rows<R: Read>(
     alloc: Global,
+    version: u32,
     reader: &mut Reader<R>,
     fields: &mut ByteRecord,
 ) -> Result<Trace, TraceFault>
-    requires { IsOpen reader.old }
-    ensures rows { IfOk result (λ rows. (bytes : List ℕ) → StandsAt R.remaining reader.old bytes
-        → rows_after [] (records_from default_config 100001 (reader_state reader.old) bytes) ≡ Ok rows) }
+    requires reader { IsOpen reader.old }
+    requires version { IsWithin 1 2 version }
+    ensures version { IfOk result (λ trace. trace.version ≡ version) }
+    ensures rows { IfOk result (λ trace. (bytes : List ℕ) → StandsAt R.remaining reader.old bytes
+        → rows_after version [] (records_from default_config 100001 (reader_state reader.old) bytes) ≡ Ok trace.rows) }
     ensures fault { IfErr result (λ fault. (bytes : List ℕ) → StandsAt R.remaining reader.old bytes
-        → IsReadFailure fault ⊎ (rows_after [] (records_from default_config 100001 (reader_state reader.old) bytes) ≡ Err fault)) }
+        → IsReadFailure fault ⊎ (rows_after version [] (records_from default_config 100001 (reader_state reader.old) bytes) ≡ Err fault)) }
 {
     // Room for all rows at once: what is never written costs nothing, and no row is moved.
     let Ok(mut rows) = Vec::with_capacity(alloc, MOST_ROWS as usize) else {
@@ -128,11 +142,11 @@ fn read_rows<R: Read>(
         if before == MOST_ROWS {
             return Err(TraceFault::TooManyRows);
         }
-        let row = row_of(before + 1, fields)?;
+        let row = row_of(version, before + 1, fields)?;
         let row = switches.admit(before + 1, row)?;
         if rows.push(row).is_err() {
             return Err(TraceFault::OutOfMemory);
         }
     }
-    Ok(Trace { rows })
+    Ok(Trace { version, rows })
 }

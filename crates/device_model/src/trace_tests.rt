@@ -431,3 +431,53 @@ fn endless_input(rt: HostRuntime) {
     let most = 26 + 11 * 100_001;
     assert!(rt; most <= given && given <= most + 16_384, "{given} bytes");
 }
+
+#[test]
+fn busy_rows_of_version_2(rt: HostRuntime) -> Result<(), Fail> {
+    let text = "moment,device,event,value,2\n0,1,open,4\n1,1,busy,2\n1,1,busy,65535\n";
+    let trace = read_trace(rt.alloc(), text.as_bytes())?;
+    let rows = [
+        row(0, 1, Event::Opened, 4),
+        row(1, 1, Event::Busy, 2),
+        row(1, 1, Event::Busy, 65535),
+    ];
+    assert_eq!(rt; trace.rows(), rows.as_slice());
+    assert_eq!(rt; trace.version(), 2);
+    assert_eq!(rt; read_rows(rt.alloc(), "")?.version(), 1);
+    Ok(())
+}
+
+#[test]
+fn faults_of_version_2(rt: HostRuntime) {
+    let worked = [
+        ("moment,device,event,value,1\n", TraceFault::BadHeader),
+        ("moment,device,event,value,3\n", TraceFault::BadHeader),
+        ("moment,device,event,value,02\n", TraceFault::BadHeader),
+        ("moment,device,event,value,2,2\n", TraceFault::BadHeader),
+        ("moment,device,event,values,2\n", TraceFault::BadHeader),
+        (
+            "moment,device,event,value,2\n0,1,open,4,2\n",
+            TraceFault::BadFields { row: 1 },
+        ),
+        (
+            "moment,device,event,value,2\n0,1,busy,2\n",
+            TraceFault::UnknownDevice { row: 1 },
+        ),
+        (
+            "moment,device,event,value,2\n0,1,open,4\n1,1,busy,0\n",
+            TraceFault::OutOfRange { row: 2 },
+        ),
+        (
+            "moment,device,event,value,2\n0,1,open,4\n1,1,busy,65536\n",
+            TraceFault::OutOfRange { row: 2 },
+        ),
+        (
+            "moment,device,event,value\n0,1,open,4\n1,1,busy,2\n",
+            TraceFault::BadEvent { row: 2 },
+        ),
+    ];
+    for (text, fault) in worked {
+        let read = read_trace(rt.alloc(), text.as_bytes()).map(|_| ());
+        assert_eq!(rt; read, Err(fault));
+    }
+}

@@ -13,7 +13,7 @@ const HOLD: u64 = 1000;
 
 /// A device's transmit ring, and what became of its tx and done rows. Counts stay at their greatest value.
 #[derive(Drop)]
-pub(crate) struct Transmit {
+pub struct Transmit {
     ring: TxRing,
     sent: u64,
     held: u64,
@@ -33,12 +33,13 @@ pub struct TxCounts {
     pub done: u64,
     /// Completions that the ring refused.
     pub denied: u64,
+    /// How the ring and its limit stand after the last row.
     pub state: TxState,
 }
 
 impl Transmit {
     /// A new ring of that many places, under a limit of the kernel's bounds that starts at that moment.
-    pub(crate) fn open(alloc: Global, capacity: u32, moment: u64) -> Result<Transmit, AllocError>
+    pub fn open(alloc: Global, capacity: u32, moment: u64) -> Result<Transmit, AllocError>
         requires { IsWithin 1 65536 capacity }
         ensures { IfOk result (λ transmit. ShowsTransmit transmit (opened_transmit capacity moment)) }
     {
@@ -60,7 +61,7 @@ impl Transmit {
     }
 
     /// A tx row: a packet of that many bytes is sent, or held back and counted (`netdev_tx_sent_queue`).
-    pub(crate) fn send(&mut self, bytes: u32)
+    pub fn send(&mut self, bytes: u32)
         ensures { (view : TransmitView) → ShowsTransmit self.old view → ShowsTransmit self.new (after_tx bytes view) }
     {
         self.used = true;
@@ -71,7 +72,7 @@ impl Transmit {
     }
 
     /// A done row: that many packets are complete, or too many and counted (`netdev_tx_completed_queue`).
-    pub(crate) fn finish(&mut self, count: u32, moment: u64)
+    pub fn finish(&mut self, count: u32, moment: u64)
         ensures { (view : TransmitView) → ShowsTransmit self.old view → ShowsTransmit self.new (after_finish count moment view) }
     {
         self.used = true;
@@ -82,7 +83,7 @@ impl Transmit {
     }
 
     /// What the report tells of it, where it had a row.
-    pub(crate) fn counts(&self) -> Option<TxCounts>
+    pub fn counts(&self) -> Option<TxCounts>
         ensures { (view : TransmitView) → ShowsTransmit self.now view → result ≡ tx_counts view }
     {
         if !self.used {

@@ -8,6 +8,8 @@ use Rattle.napi_model.specs.declared.event.Operation.{Operation}
 use Rattle.napi_model.specs.declared.event.Operation.TheVariants as operation
 use Rattle.napi_model.specs.declared.state.Kind.TheVariants as kind
 use Rattle.napi_model.specs.declared.state.State.{State}
+use Rattle.poll_engine.specs.BusyPolling.{no_report}
+use Rattle.poll_engine.specs.declared.bench.BusyReport.{BusyReport}
 use Rattle.poll_engine.specs.declared.bench.Next.{Next}
 use Rattle.poll_engine.specs.declared.bench.Next.TheVariants as next
 use Rattle.poll_engine.specs.declared.bench.Once.{Once}
@@ -68,3 +70,7 @@ Polls before id weight once after =
 -- the card has no thread: nobody polls it there
 abbrev pub ThreadPolls : StatedBench → ℕ → ℕ → ℕ → List Once → StatedBench → Type 0
 ThreadPolls before id weight most polls after = (polls ≡ []) × (view_of after.card ≡ view_of before.card)
+
+-- nor does anybody busy poll it
+abbrev pub BusyPolls : StatedBench → ℕ → ℕ → ℕ → BusyReport → StatedBench → Type 0
+BusyPolls before id weight rounds report after = (report ≡ no_report) × (view_of after.card ≡ view_of before.card)

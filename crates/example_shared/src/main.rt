@@ -13,12 +13,10 @@ ghost use Rattle.napi_calls.specs.Instance.{IsSeatOf};
 ghost use Rattle.napi_calls.specs.declared.types.Caller.{Caller};
 
 mod handlers;
-mod kept;
 
 use anyhow::Result;
 use handlers::{poll_all, receive, request};
-use kept::Kept;
-use napi_calls::{Caller, Napi, NewBack};
+use napi_calls::{Caller, Kept, Napi, NewBack};
 use rx_ring::{RxIn, Totals, finish, ring};
 use std::sync::Wait;
 use std::sync::atomic::AtomicU64;
@@ -55,9 +53,9 @@ fn serve<R: Threads + Wait + Copy + Drop + Send>(
     let (first, second, poller) = seats;
     let ended = AtomicU64::new(0);
     let end = &ended;
-    let first = Kept { rt, value: first };
-    let second = Kept { rt, value: second };
-    let poller = Kept { rt, value: poller };
+    let first = Kept::new(rt, first);
+    let second = Kept::new(rt, second);
+    let poller = Kept::new(rt, poller);
     // Where no thread can be made, the second closure is called first: so the poller comes after both interrupts.
     let (poller, (first, second)) = join(
         &rt,

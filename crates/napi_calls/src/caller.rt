@@ -1,9 +1,8 @@
-//! The calls of a caller, and of one to whom the instance was granted.
-ghost use Rattle.std.specs.Prelude.{◌≡◌, [], ◌∷◌, false};
+//! The calls of a caller.
+ghost use Rattle.std.specs.Prelude.{◌≡◌, [], ◌∷◌};
 ghost use mathlib.Core.List.{IsPrefix};
 ghost use Rattle.napi_model.specs.declared.state.Seen.{Seen};
-ghost use Rattle.napi_model.specs.declared.state.Place.TheVariants as place;
-ghost use Rattle.napi_model.specs.declared.event.Operation.TheVariants.{Look, Hand, SetThreaded};
+ghost use Rattle.napi_model.specs.declared.event.Operation.TheVariants.{Look, SetThreaded};
 ghost use Rattle.napi_model.specs.Laws.{IsOwnedBy};
 ghost use Rattle.napi_calls.specs.Seats.{number_of, shown, state_of, ShowsLegal};
 ghost use Rattle.napi_calls.specs.Instance.{IsSeatOf};
@@ -114,38 +113,4 @@ pub fn meet(napi: &Napi, first: &mut Caller, second: &mut Caller)
     ensures met { IsPrefix (shown first.new.pass) (shown second.new.pass) }
 {
     napi.table.meet(&mut first.pass, &mut second.pass);
-}
-
-impl Granted {
-    /// The caller's number.
-    pub fn number(&self) -> u32
-        ensures { result ≡ number_of self.now.pass }
-    {
-        self.number
-    }
-
-    /// What any caller knows to whom the instance was granted. It does nothing.
-    pub fn knows(&self)
-        ensures shows { ShowsLegal self.now.pass }
-        ensures place { (state_of self.now.pass).place ≡ place.Granted (number_of self.now.pass) }
-        ensures flag { (state_of self.now.pass).flags.in_busy_poll ≡ false }
-    {}
-
-    /// What the state word tells: the flags, and to whom the instance was handed while nobody has taken it.
-    pub fn look(&mut self, napi: &Napi) -> Seen
-        requires { IsSeatOf napi.now self.old.pass }
-        ensures { Made self.old.pass (Look result ∷ []) self.new.pass }
-    {
-        napi.table.look(&mut self.pass)
-    }
-
-    /// Hands the instance over to the list or to its thread (`____napi_schedule`).
-    pub fn hand(self, napi: &Napi, kind: Kind) -> Caller
-        requires { IsSeatOf napi.now self.pass }
-        ensures { Made self.pass (Hand kind ∷ []) result.pass }
-    {
-        let Granted { mut pass, number } = self;
-        napi.table.hand(&mut pass, kind);
-        Caller { pass, number }
-    }
 }

@@ -20,6 +20,7 @@ mod busy;
 mod caller;
 mod control;
 mod fault;
+mod granted;
 mod instance;
 mod kept;
 mod polling;

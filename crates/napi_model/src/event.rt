@@ -1,3 +1,5 @@
+//! The calls on an instance, what they are answered, and events: calls with their replies.
+
 use crate::{Kind, Seen};
 
 /// What a request for a poll is answered. `napi_schedule_prep` answers true exactly for `Granted`.
@@ -54,19 +56,29 @@ pub enum Call {
 /// A call together with its reply.
 #[derive(Clone, Copy, PartialEq, Eq, Debug)]
 pub enum Operation {
+    /// A look, and what the word told.
     Look(Seen),
+    /// A request for a poll, and its reply (`napi_schedule_prep`).
     Schedule(Prep),
+    /// The instance was handed over (`____napi_schedule`).
     Hand(Kind),
-    /// True is Taken, false NotThere.
+    /// A take. True is Taken, false NotThere.
     Take(Kind, bool),
+    /// A completion, and its reply (`napi_complete_done`).
     Complete(Done),
+    /// An idle instance was taken, to busy poll it (`napi_busy_loop`).
     BusyTake,
+    /// Busy polling was stopped (`busy_poll_stop`).
     BusyStop,
+    /// A disable was marked as pending (`napi_disable`).
     MarkDisable,
-    /// True is Taken, false Busy.
+    /// A take for the controller (`napi_disable`). True is Taken, false Busy.
     TakeDisable(bool),
+    /// The mark was cleared (`napi_disable`).
     Unmark,
+    /// The instance was given free, threaded if true (`napi_enable`).
     Enable(bool),
+    /// It was set whether the instance is threaded (`dev_set_threaded`).
     SetThreaded(bool),
 }
 
@@ -75,5 +87,6 @@ pub enum Operation {
 pub struct Event {
     /// The caller's number.
     pub caller: u32,
+    /// What it did, with the reply.
     pub operation: Operation,
 }

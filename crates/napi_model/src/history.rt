@@ -1,3 +1,5 @@
+//! Histories, and what is read off them.
+
 ghost use Rattle.std.specs.Prelude.{◌≡◌, ◌↔◌, ◌+◌, ◌<◌, IsTrue, IsNone, IfSome, IfOk, length, take};
 ghost use Rattle.napi_model.specs.History.{state_after, IsLegalFor, LegalHistory, own, IsPollStart, IsAcceptedSchedule};
 

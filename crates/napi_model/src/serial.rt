@@ -1,3 +1,5 @@
+//! The instance of one thread.
+
 use crate::{Call, Done, Event, Flags, Kind, Operation, Place, Prep, Seen, State};
 
 /// A NAPI instance that one thread at a time calls: the kernel's rules without its races.

@@ -1,3 +1,5 @@
+//! The state of an instance, and the table of its steps.
+
 use crate::{Call, Done, Event, Operation, Prep};
 
 /// The flags of an instance that `include/linux/netdevice.h` names `NAPI_STATE_..`.
@@ -55,7 +57,9 @@ pub enum Kind {
 /// What the state word tells: the flags, and to whom the instance was handed while nobody has taken it yet.
 #[derive(Clone, Copy, PartialEq, Eq, Debug)]
 pub struct Seen {
+    /// The flags (`struct napi_struct`, `state`).
     pub flags: Flags,
+    /// To whom it was handed; `None` where it wasn't, or has been taken.
     pub handed: Option<Kind>,
 }
 
@@ -79,7 +83,9 @@ pub enum Place {
 /// The whole state of an instance.
 #[derive(Clone, Copy, PartialEq, Eq, Debug)]
 pub struct State {
+    /// The flags (`struct napi_struct`, `state`).
     pub flags: Flags,
+    /// Where it stands.
     pub place: Place,
 }
 

@@ -1,3 +1,5 @@
+//! Worked steps, words and histories, and the refusals of the table.
+
 ghost use Rattle.std.specs.Prelude.{◌≡◌};
 ghost use Rattle.napi_model.specs.Serial.{controller_of};
 ghost use Rattle.napi_model.specs.declared.tests.TheConstants.{CONTROLLER};

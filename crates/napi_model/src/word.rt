@@ -1,3 +1,6 @@
+//! The state word: the flags at the kernel's bits (`struct napi_struct`, `state`), and two marks above them that tell to whom
+//! the instance was handed.
+
 ghost use Rattle.std.specs.Prelude.{◌≡◌, ◌↔◌, IsTrue, IsNone, IfSome, Some};
 ghost use Rattle.napi_model.specs.declared.state.Seen.{Seen};
 ghost use Rattle.napi_model.specs.Word.{bit_if, mark_word, word_of, mark_in, seen_in, IsMalformed};

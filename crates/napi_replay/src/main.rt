@@ -4,25 +4,24 @@
 //! or that of the fault. The words after the program's name ask for a mode and for the numbers of a run.
 #![tactic(auto)]
 
+use replay_modes::run_program;
 use std::io;
 use std::process::ExitCode;
-use trace_replay::{Ending, end_by, given_words, run_program};
+use trace_replay::{end_by, given_words};
 
 // The program over its real ends.
-fn run(rt: &HostRuntime) -> Ending {
+fn main(rt: HostRuntime) -> ExitCode {
     let mut errors = rt.stderr();
-    match given_words(rt) {
+    let ending = match given_words(&rt) {
         Ok(words) => run_program(
+            &rt,
             rt.alloc(),
             words.as_slice(),
             rt.reader(),
-            &mut io::writer(rt),
+            &mut io::writer(&rt),
             &mut errors,
         ),
         Err(fault) => end_by(rt.alloc(), &fault, &mut errors),
-    }
-}
-
-fn main(rt: HostRuntime) -> ExitCode {
-    ExitCode::from(run(&rt).status)
+    };
+    ExitCode::from(ending.status)
 }

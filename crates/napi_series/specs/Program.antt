@@ -4,7 +4,7 @@ use Rattle.std.specs.Io.KnownBytes.{Keeps}
 use Rattle.napi_series.specs.Series.{series_by}
 use Rattle.napi_series.specs.Words.{series_asked_for}
 use Rattle.replay_words.specs.Words.{Text, asked_of}
-use Rattle.replay_words.specs.declared.mode.Mode.{Mode}
+use Rattle.replay_words.specs.declared.mode.Mode.TheVariants.{Serial}
 use Rattle.replay_words.specs.declared.settings.Settings.{Settings}
 use Rattle.replay_words.specs.declared.words.WordFault.TheVariants.{Usage, OutOfMemory}
 use Rattle.trace_replay.specs.Answer.{IsOutside}
@@ -16,8 +16,7 @@ use Rattle.trace_replay.specs.declared.program.ProgramFault.TheVariants.{Words, 
 
 -- the words ask for a line of each so many rows, by these settings
 pub record AskFor (words : List Text) (every : ℕ) (settings : Settings) : Type 0 where
-  pub mode : Mode
-  pub asked : series_asked_for words ≡ Some (every, asked_of (mode, settings))
+  pub asked : series_asked_for words ≡ Some (every, asked_of (Serial, settings))
 
 -- the text is the series of these bytes that the words ask for
 pub record IsSeries (words : List Text) (bytes text : List ℕ) : Type 0 where

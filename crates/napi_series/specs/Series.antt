@@ -17,7 +17,7 @@ use Rattle.trace_replay.specs.World.{World}
 use Rattle.trace_replay.specs.declared.fault.ReplayFault.{ReplayFault}
 use Rattle.trace_replay.specs.declared.fault.ReplayFault.TheVariants.{Trace}
 use Rattle.trace_replay.specs.declared.line.Line.{Line}
-use Rattle.trace_replay.specs.declared.line.Line.TheVariants.{Softirq, Kthread}
+use Rattle.trace_replay.specs.declared.line.Line.TheVariants.{Softirq, Kthread, Busy}
 
 abbrev pub header : List ℕ
 header = codes "row,moment,device,state,waiting,arrived,dropped,polled,in_flight,limit,avail,stopped,polls,work,squeezed\n"
@@ -46,11 +46,12 @@ abbrev pub queue_of : Option DeviceCounts → Option TxCounts
 queue_of None = None
 queue_of (Some counts) = counts.tx
 
--- what a row that polled did; a thread's polling is never squeezed
+-- what a row that polled did; a thread's polling is never squeezed, nor is busy polling
 abbrev pub run_fields : Option Line → List ℕ
 run_fields None = codes ",,,"
 run_fields (Some (Softirq row run)) = fields (decimal run.polls ∷ decimal run.work ∷ decimal (flag run.squeezed) ∷ [])
 run_fields (Some (Kthread row device report)) = fields (decimal report.polls ∷ decimal report.work ∷ [] ∷ [])
+run_fields (Some (Busy row device report)) = fields (decimal report.polls ∷ decimal report.work ∷ [] ∷ [])
 
 -- the line of a row
 abbrev pub line_of : ℕ → Row → Option DeviceCounts → Option Line → List ℕ

@@ -63,6 +63,7 @@ fn add_run(text: &mut String, polled: Option<Line>) -> Result<(), AllocError>
         Some(Line::Kthread { report, .. }) => {
             write!(text, ",{},{},", report.polls, report.work)?
         }
+        Some(Line::Busy { report, .. }) => { write!(text, ",{},{},", report.polls, report.work)? }
         None => text.push_str(",,,")?,
     }
     Ok(())

@@ -5,7 +5,7 @@ ghost use Rattle.napi_series.specs.Program.{AskFor};
 ghost use Rattle.napi_series.specs.Words.{every_of, series_asked_for};
 ghost use Rattle.replay_words.specs.declared.words.WordFault.TheVariants.{Usage};
 
-use replay_words::{Settings, WordFault, number_of, parse_words};
+use replay_words::{Mode, Settings, WordFault, number_of, parse_words};
 use std::alloc::Global;
 
 // How many rows make one line, and the other words.
@@ -22,7 +22,7 @@ fn split_every(words: &[String]) -> Option<(u32, &[String])>
 }
 
 /// How many rows make one line, 1 to 99999, and the settings of the replay. `--every` and its number stand before the other
-/// words, which are those of `napi_replay`.
+/// words, which are those of `napi_replay`; the mode is serial, in which rows stand in their order.
 ///
 /// # Errors
 ///
@@ -39,7 +39,8 @@ pub(crate) fn parse_series_words(
         return Err(WordFault::Usage);
     };
     match parse_words(alloc, rest) {
-        Ok((_mode, settings)) => Ok((every, settings)),
+        Ok((Mode::Serial, settings)) => Ok((every, settings)),
+        Ok(_) => Err(WordFault::Usage),
         Err(fault) => Err(fault),
     }
 }

@@ -11,7 +11,7 @@ use Rattle.poll_engine.specs.declared.bench.Next.{Next}
 use Rattle.poll_engine.specs.declared.bench.Next.TheVariants.{Absent, Gone, Again, Repoll}
 use Rattle.poll_engine.specs.SharedPolling.{CompletesBy, EndsBy, HandsTo}
 
-filled : (os : List Operation) (o : Operation) (ps : List Operation) → os ++ o ∷ ps ≢ []
+pub filled : (os : List Operation) (o : Operation) (ps : List Operation) → os ++ o ∷ ps ≢ []
 filled [] o ps = λ e. cc
 filled (b ∷ bs) o ps = λ e. cc
 

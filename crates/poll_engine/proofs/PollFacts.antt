@@ -5,7 +5,7 @@ use Rattle.std.proofs.lemmas.List.Elements.{filter-append}
 use Rattle.std.proofs.lemmas.List.Sums.{sum_by-append}
 use Rattle.poll_engine.specs.Polls.{Chain, Poll, arrivals, ids, is_arrival, is_repoll, repolled, work_of}
 
-pub chain-push : {B : Type 0} (leads : B → Poll → B → Type 0) (before : B) (polls : List Poll) (after last : B) (poll : Poll)
+pub chain-push : {A B : Type 0} (leads : B → A → B → Type 0) (before : B) (polls : List A) (after last : B) (poll : A)
     → Chain leads before polls after → leads after poll last → Chain leads before (polls ++ poll ∷ []) last
 chain-push leads before [] after last poll h l = (last, rw (sym h) l, refl)
 chain-push leads before (p ∷ polls) after last poll h l = (h.0, h.1, chain-push leads h.0 polls after last poll h.2 l)

@@ -26,15 +26,15 @@ filled_before : (os ps : List Operation) → os ≢ [] → os ++ ps ≢ []
 filled_before [] ps some = absurd (some refl)
 filled_before (o ∷ os) ps some = λ none. cc none
 
-gives_same : (weight : ℕ) (p q : Pass) (packets : List Packet) → ring_of q ≡ ring_of p → GivesOf weight q packets → GivesOf weight p packets
+pub gives_same : (weight : ℕ) (p q : Pass) (packets : List Packet) → ring_of q ≡ ring_of p → GivesOf weight q packets → GivesOf weight p packets
 gives_same weight p q packets same g = (g.0, g.1, sym same ∙ g.2, g.3)
 
 module _ {R : Type 0} where
-  same_pass : (s : Seat R) (p q : Pass) → pass_of s.hold ≡ Some p → pass_of s.hold ≡ Some q → p ≡ q
+  pub same_pass : (s : Seat R) (p q : Pass) → pass_of s.hold ≡ Some p → pass_of s.hold ≡ Some q → p ≡ q
   same_pass s p q a b = some_inj (sym a ∙ b)
 
   -- one call after another
-  seat_joined : (s t u : Seat R) (os ps : List Operation) → ps ≢ [] → SeatMade s os t → SeatMade t ps u → SeatMade s (os ++ ps) u
+  pub seat_joined : (s t u : Seat R) (os ps : List Operation) → ps ≢ [] → SeatMade s os t → SeatMade t ps u → SeatMade s (os ++ ps) u
   seat_joined s t u os ps some a b = record {
     from = a.from;
     to = b.to;

@@ -5,6 +5,8 @@ pub mod Run
 pub mod Turn
 pub mod Polling
 pub mod SharedPolling
+pub mod BusyPolling
+pub mod SharedBusy
 pub mod Laws
 pub mod Seat
 pub mod Script

@@ -15,9 +15,9 @@ abbrev pub At : {B : Type 0} → (B → ℕ → ℕ → Once → B → Type 0) �
 At polls weight before poll after = polls before poll.id weight poll.once after
 
 -- these polls, one after the other, lead from the one bench to the other
-abbrev pub Chain : {B : Type 0} → (B → Poll → B → Type 0) → B → List Poll → B → Type 0
+abbrev pub Chain : {A B : Type 0} → (B → A → B → Type 0) → B → List A → B → Type 0
 Chain leads before [] after = after ≡ before
-Chain {B} leads before (poll ∷ polls) after = (next : B) × leads before poll next × Chain leads next polls after
+Chain {B = B} leads before (poll ∷ polls) after = (next : B) × leads before poll next × Chain leads next polls after
 
 -- the poll hands its instance to the list (`____napi_schedule`)
 abbrev pub is_arrival : Next → Bool

@@ -1,12 +1,13 @@
 -- The tests' bench: what its script answers.
-use Rattle.std.specs.Prelude.{◌≡◌, ℕ, zero, suc, Bool, false, ◌||◌, not, if◌then◌else◌, min, List, [], ◌∷◌, ◌++◌, length, take, sum_by}
+use Rattle.std.specs.Prelude.{◌≡◌, ℕ, Bool, false, not, if◌then◌else◌, min, List, [], ◌∷◌, ◌++◌, take, Option, Some, None}
+use Rattle.napi_model.specs.declared.state.Kind.{Kind}
+use Rattle.poll_engine.specs.BusyPolling.{no_report}
 use Rattle.poll_engine.specs.Polls.{is_repoll}
-use Rattle.poll_engine.specs.Polling.{is_absent}
-use Rattle.poll_engine.specs.Thread.{is_for_thread, last_next}
+use Rattle.poll_engine.specs.Polling.{PollsByThread, is_absent}
+use Rattle.poll_engine.specs.declared.bench.BusyReport.{BusyReport}
 use Rattle.poll_engine.specs.declared.bench.Next.{Next}
 use Rattle.poll_engine.specs.declared.bench.Next.TheVariants.{Absent, Gone, Again, Repoll}
 use Rattle.poll_engine.specs.declared.bench.Once.{Once}
-use Rattle.poll_engine.specs.declared.bench.ThreadReport.{ThreadReport}
 
 -- what the polls to come answer, the last answer for ever, and what was polled
 pub record Script : Type 0 where
@@ -38,35 +39,51 @@ poll_of weight id s = (
 abbrev pub PollsByScript : Script → ℕ → ℕ → Once → Script → Type 0
 PollsByScript before id weight once after = (once ≡ (poll_of weight id before).0) × (after ≡ (poll_of weight id before).1)
 
--- in the thread's hands an instance isn't absent: it is gone
-abbrev pub held_next : Next → Next
-held_next Absent = Gone
-held_next Gone = Gone
-held_next (Again k) = Again k
-held_next Repoll = Repoll
+-- an instance of the bench, in the sight of its thread
+pub record Turn : Type 0 where
+  pub id : ℕ
+  pub script : Script
 
-abbrev pub held_poll : ℕ → ℕ → Script → Once × Script
-held_poll weight id s =
-    (record { work = (poll_of weight id s).0.work; next = held_next (poll_of weight id s).0.next }, (poll_of weight id s).1)
+abbrev pub passed_by : Turn → Turn
+passed_by t = record t { script = passed t.script }
 
--- The polls of a thread, at most so many, which has the instance in its hands or takes it first: where the next answer is
--- Absent, the take finds nothing, and that answer is passed.
-unfoldable pub thread_of : ℕ → ℕ → ℕ → Bool → Script → List Once × Script
-thread_of weight id zero held s = ([], s)
-thread_of weight id (suc most) held s =
-    if held || not (is_absent (first_answer s.answers).next)
-    then (if is_for_thread (held_poll weight id s).0.next
-    then (
-      (held_poll weight id s).0 ∷ (thread_of weight id most (is_repoll (held_poll weight id s).0.next) (held_poll weight id s).1).0,
-      (thread_of weight id most (is_repoll (held_poll weight id s).0.next) (held_poll weight id s).1).1,
-    )
-    else ((held_poll weight id s).0 ∷ [], (held_poll weight id s).1))
-    else ([], passed s)
+abbrev pub next_of : Turn → Next
+next_of t = (first_answer t.script.answers).next
 
+-- it is there, unless the next answer is Absent, which is passed then
+abbrev pub TurnTakes : Turn → Kind → Bool → Turn → Type 0
+TurnTakes before kind taken after = (taken ≡ not (is_absent (next_of before))) × (after ≡ (if taken then before else passed_by before))
+
+-- a poll gives the work of the next answer, at most its weight, and its number is kept
+abbrev pub TurnGives : Turn → ℕ → ℕ → Turn → Type 0
+TurnGives before weight work after =
+    (work ≡ min (first_answer before.script.answers).work weight)
+    × (after ≡ record before { script = record before.script { polled = take 64 (before.script.polled ++ before.id ∷ []) } })
+
+-- it is being disabled, unless the next answer is a repoll, which is passed then
+abbrev pub TurnLooks : Turn → Bool → Turn → Type 0
+TurnLooks before disabling after = (disabling ≡ not (is_repoll (next_of before))) × (after ≡ (if disabling then before else passed_by before))
+
+abbrev pub TurnRequeues : Turn → Turn → Type 0
+TurnRequeues before after = after ≡ before
+
+abbrev pub again_of : Next → Option Kind
+again_of (Again k) = Some k
+again_of Absent = None
+again_of Gone = None
+again_of Repoll = None
+
+abbrev pub TurnCompletes : Turn → Option Kind → Turn → Type 0
+TurnCompletes before again after = (again ≡ again_of (next_of before)) × (after ≡ passed_by before)
+
+-- the polling of this instance by its thread
 abbrev pub ThreadPollsByScript : Script → ℕ → ℕ → ℕ → List Once → Script → Type 0
 ThreadPollsByScript before id weight most polls after =
-    (polls ≡ (thread_of weight id most false before).0) × (after ≡ (thread_of weight id most false before).1)
+    (turn : Turn)
+    × PollsByThread TurnTakes (λ t weight packets work u. TurnGives t weight work u) TurnLooks TurnRequeues TurnCompletes
+    weight most false (record { id = id; script = before }) (tt {0}) polls (tt {0}) turn
+    × (after ≡ turn.script)
 
--- what these polls come to
-abbrev pub report_of : List Once → ThreadReport
-report_of polls = record { polls = length polls; work = sum_by (λ once. once.work) polls; next = last_next polls }
+-- no instance is idle
+abbrev pub BusyPollsByScript : Script → ℕ → ℕ → ℕ → BusyReport → Script → Type 0
+BusyPollsByScript before id weight rounds report after = (report ≡ no_report) × (after ≡ before)

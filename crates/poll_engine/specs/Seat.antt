@@ -5,7 +5,8 @@ use Rattle.napi_model.specs.declared.state.Kind.{Kind}
 use Rattle.napi_model.specs.declared.state.Kind.TheVariants as kind
 use Rattle.napi_model.specs.declared.state.Seen.{Seen}
 use Rattle.napi_model.specs.declared.event.Operation.{Operation}
-use Rattle.napi_model.specs.declared.event.Operation.TheVariants.{Look, Hand, Take}
+use Rattle.napi_model.specs.declared.event.Done.TheVariants.{Held}
+use Rattle.napi_model.specs.declared.event.Operation.TheVariants.{Look, Hand, Take, Complete}
 use Rattle.napi_word.specs.declared.table.Pass.{Pass}
 use Rattle.napi_calls.specs.declared.types.Napi.{Napi}
 use Rattle.napi_calls.specs.Instance.{IsSeatOf}
@@ -13,24 +14,34 @@ use Rattle.napi_calls.specs.Made.{Made}
 use Rattle.poll_engine.specs.declared.bench.Next.{Next}
 use Rattle.poll_engine.specs.declared.bench.Next.TheVariants as next
 use Rattle.poll_engine.specs.declared.seat.Hold.{Hold}
-use Rattle.poll_engine.specs.declared.seat.Hold.TheVariants.{Rests, Polls, Gone}
+use Rattle.poll_engine.specs.declared.seat.Hold.TheVariants.{Rests, Polls, PollsBusily, Gone}
 use Rattle.poll_engine.specs.declared.seat.Seat.{Seat}
+use Rattle.poll_engine.specs.SharedBusy.{BusyTakesBy, StopsBy}
 use Rattle.poll_engine.specs.SharedPolling.{EndsBy, GivesOf}
 
 abbrev pub pass_of : Hold → Option Pass
 pass_of (Rests c) = Some c.pass
 pass_of (Polls w) = Some w.pass
+pass_of (PollsBusily b) = Some b.pass
 pass_of Gone = None
 
 abbrev pub IsRest : Napi → Hold → Type 0
 IsRest napi (Rests c) = IsSeatOf napi c.pass
 IsRest napi (Polls w) = ⊥
+IsRest napi (PollsBusily b) = ⊥
 IsRest napi Gone = ⊥
 
 abbrev pub IsInHand : Napi → Hold → Type 0
 IsInHand napi (Rests c) = ⊥
 IsInHand napi (Polls w) = IsSeatOf napi w.pass
+IsInHand napi (PollsBusily b) = ⊥
 IsInHand napi Gone = ⊥
+
+abbrev pub IsInBusyHand : Napi → Hold → Type 0
+IsInBusyHand napi (Rests c) = ⊥
+IsInBusyHand napi (Polls w) = ⊥
+IsInBusyHand napi (PollsBusily b) = IsSeatOf napi b.pass
+IsInBusyHand napi Gone = ⊥
 
 -- to whom it was handed after it was granted again, or nobody has it
 abbrev pub next_of : Option Kind → Next
@@ -43,6 +54,9 @@ module _ {R : Type 0} where
 
   abbrev pub seat_in_hand : Seat R → Type 0
   seat_in_hand s = IsInHand s.napi.now s.hold
+
+  abbrev pub seat_in_busy : Seat R → Type 0
+  seat_in_busy s = IsInBusyHand s.napi.now s.hold
 
   -- a call of this seat made these
   pub record SeatMade (s : Seat R) (os : List Operation) (t : Seat R) : Type 0 where
@@ -72,3 +86,12 @@ module _ {R : Type 0} where
 
   abbrev pub SeatCompletes : Seat R → Option Kind → Seat R → Type 0
   SeatCompletes s again t = (os : List Operation) × SeatMade s os t × EndsBy s.thread (next_of again) os
+
+  abbrev pub SeatBusyTakes : Seat R → Bool → Seat R → Type 0
+  SeatBusyTakes s taken t = (os : List Operation) × SeatMade s os t × BusyTakesBy taken os
+
+  abbrev pub SeatHolds : Seat R → Seat R → Type 0
+  SeatHolds s t = SeatMade s (Complete Held ∷ []) t
+
+  abbrev pub SeatStops : Seat R → Seat R → Type 0
+  SeatStops s t = (os : List Operation) × SeatMade s os t × StopsBy os

@@ -2,6 +2,7 @@
 
 ghost use Rattle.std.specs.Prelude.{ℕ, List, ◌≤◌};
 ghost use Rattle.poll_engine.specs.Thread.{IsThreadPolling};
+ghost use Rattle.poll_engine.specs.declared.bench.BusyReport.{BusyReport};
 ghost use Rattle.poll_engine.specs.declared.bench.Once.{Once};
 
 use napi_model::Kind;
@@ -42,7 +43,34 @@ pub struct ThreadReport {
     pub next: Next,
 }
 
-/// Instances that are polled by their numbers. Each bench states by two relations what its calls do.
+/// What busy polling of an instance did (`napi_busy_loop`).
+#[derive(Clone, Copy, Debug, PartialEq, Eq)]
+pub struct BusyReport {
+    /// The polls that were made: one for each round, and one more.
+    pub polls: u32,
+    /// The packets that these gave together.
+    pub work: u32,
+    /// The rounds with work below the weight, whose completions were held.
+    pub held: u32,
+    /// The bytes of the packets.
+    pub bytes: u64,
+    /// How the last poll ended, [`Next::Absent`] where the instance wasn't idle and none was made. After [`Next::Repoll`] and
+    /// [`Next::Again`] of the list the number is still to be pushed.
+    pub next: Next,
+}
+
+impl BusyReport {
+    /// Nothing was polled.
+    pub const NONE: BusyReport = BusyReport {
+        polls: 0,
+        work: 0,
+        held: 0,
+        bytes: 0,
+        next: Next::Absent,
+    };
+}
+
+/// Instances that are polled by their numbers. Each bench states by three relations what its calls do.
 pub trait Bench {
     /// `polls before id weight answer after`: a poll of this instance from the list, with this weight, leads from the
     /// one bench to the other with this answer.
@@ -51,6 +79,10 @@ pub trait Bench {
     /// `thread_polls before id weight most polls after`: the polling of this instance by its thread leads from the one
     /// bench to the other by these polls, a take that finds nothing and the handing over after a last `Repoll` included.
     ghost thread_polls: { Self → ℕ → ℕ → ℕ → List Once → Self → Type 0 };
+
+    /// `busy_polls before id weight rounds report after`: busy polling of this instance for so many rounds leads from the one
+    /// bench to the other with this report.
+    ghost busy_polls: { Self → ℕ → ℕ → ℕ → BusyReport → Self → Type 0 };
 
     /// Takes an instance from the list and polls it once with this weight, in 1..=64 (`napi_poll`). An instance that
     /// isn't to be taken is [`Next::Absent`].
@@ -67,6 +99,13 @@ pub trait Bench {
         ensures { (polls : List Once)
             × thread_polls self.old id weight most polls self.new
             × IsThreadPolling weight most polls result };
+
+    /// Takes an instance that is idle, polls it for so many rounds, in 1..=65535, stops and polls it once more
+    /// (`napi_busy_loop`, `busy_poll_stop`).
+    fn busy_poll(&mut self, id: u32, weight: u32, rounds: u32) -> BusyReport
+        requires weight { (1 ≤ weight) × (weight ≤ 64) }
+        requires rounds { (1 ≤ rounds) × (rounds ≤ 65535) }
+        ensures leads { busy_polls self.old id weight rounds result self.new };
 }
 
 /// A bench whose polls from the list are a function, as far as it shows itself.

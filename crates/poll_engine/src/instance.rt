@@ -1,6 +1,6 @@
 //! One instance, as its poller sees it.
 
-ghost use Rattle.std.specs.Prelude.{ℕ, Bool, ◌≤◌, MatchBool, Option};
+ghost use Rattle.std.specs.Prelude.{◌≡◌, ℕ, Bool, ◌≤◌, ◌<◌, ◌^◌, MatchBool, Option};
 ghost use Rattle.napi_model.specs.declared.state.Kind.{Kind};
 
 use napi_model::Kind;
@@ -64,4 +64,56 @@ pub trait Instance {
         requires { in_hand self.old }
         ensures leads { completes self.old result self.new }
         ensures rests { rests self.new };
+}
+
+/// An instance that can be busy polled, too. Between [`busy_take`](BusyInstance::busy_take) and [`stop`](BusyInstance::stop) it
+/// bears IN_BUSY_POLL.
+pub trait BusyInstance: Instance {
+    /// It is in the hands of its poller, who busy polls it.
+    ghost in_busy: { Self → Type 0 };
+
+    /// `busy_takes before taken after`
+    ghost busy_takes: { Self → Bool → Self → Type 0 };
+
+    /// `holds before after`
+    ghost holds: { Self → Self → Type 0 };
+
+    /// `stops before after`
+    ghost stops: { Self → Self → Type 0 };
+
+    /// The bytes of packets that a poll gave.
+    ghost bytes_in: { Self.Packets → ℕ };
+
+    /// Takes the instance to busy poll it (`napi_busy_loop`). Answers whether it was idle.
+    fn busy_take(&mut self) -> bool
+        requires { Self.rests self.old }
+        ensures leads { busy_takes self.old result self.new }
+        ensures hands { MatchBool result (in_busy self.new) (Self.rests self.new) };
+
+    /// A driver's poll under IN_BUSY_POLL: gives the ring's next packets, at most `weight`, which is 1 to 64, and answers how
+    /// many.
+    fn busy_poll(&mut self, weight: u32, packets: &mut Self::Packets) -> u32
+        requires busy { in_busy self.old }
+        requires weight { (1 ≤ weight) × (weight ≤ 64) }
+        ensures leads { Self.gives self.old weight packets.new result self.new }
+        ensures busy { in_busy self.new }
+        ensures bound { result ≤ weight };
+
+    /// Completes a poll with work below its weight (`napi_complete_done`, which answers false under IN_BUSY_POLL): the
+    /// instance is held.
+    fn hold(&mut self)
+        requires { in_busy self.old }
+        ensures leads { holds self.old self.new }
+        ensures busy { in_busy self.new };
+
+    /// Stops the busy polling (`busy_poll_stop`): one poll has to follow.
+    fn stop(&mut self)
+        requires { in_busy self.old }
+        ensures leads { stops self.old self.new }
+        ensures hand { Self.in_hand self.new };
+
+    /// The bytes of packets that a poll gave: at most 64, each of 32 bits of bytes.
+    fn bytes_of(packets: &Self::Packets) -> u64
+        ensures sum { result ≡ bytes_in packets.now }
+        ensures bound { result < 2 ^ 38 };
 }

@@ -6,7 +6,9 @@ ghost use Rattle.rx_ring.specs.Ends.{IsOneRing, ring_name};
 ghost use Rattle.napi_calls.specs.declared.types.Caller.{Caller};
 ghost use Rattle.napi_calls.specs.Instance.{IsSeatOf, ring_of_instance};
 
-use crate::{Next, Once, ThreadReport, poll_instance, poll_instance_by_thread};
+use crate::{
+    BusyReport, Next, Once, ThreadReport, busy_instance, poll_instance, poll_instance_by_thread,
+};
 use napi_calls::{Caller, Completed, Control, Napi, Off, Sched, TryTake};
 use napi_model::{Kind, encode};
 use rx_ring::{Batch, Packet, RxCtx, RxIn, finish, ring};
@@ -23,7 +25,7 @@ const fn once(work: u32, next: Next) -> Once {
     Once { work, next }
 }
 
-/// A disabled instance over a ring of four, with its two callers and so many packets in the ring.
+/// A disabled instance over a ring of eight, with its two callers and packets of so many bytes in the ring.
 struct Bed {
     input: RxIn,
     napi: Napi,
@@ -47,15 +49,19 @@ fn pop(rt: &impl Abort, napi: &Napi, callers: &mut Vec<Caller>) -> Caller
     caller
 }
 
-fn make_bed(rt: &impl Abort, alloc: Global, packets: u64) -> Bed
+fn make_bed(rt: &impl Abort, alloc: Global, bytes: &[u32]) -> Bed
     ensures { (ctx : RxCtx) × (ring_of_instance result.napi ≡ ring_name ctx) × IsOneRing result.input ctx }
 {
-    let made = ring(alloc, 4);
+    let made = ring(alloc, 8);
     let Ok((mut input, ctx)) = made else {
         panic!(rt; "no ring")
     };
-    for number in 0..packets {
-        assert_eq!(rt; input.put(packet(number)), Ok(()));
+    for (number, bytes) in bytes.iter().enumerate() {
+        let packet = Packet {
+            number: number as u64,
+            bytes: *bytes,
+        };
+        assert_eq!(rt; input.put(packet), Ok(()));
     }
     let made = Napi::new(alloc, ctx, 2);
     let Ok((napi, mut callers, control)) = made else {
@@ -143,7 +149,7 @@ fn an_instance_on_the_list_that_is_being_disabled(rt: HostRuntime) -> Result<(),
         first,
         second,
         control,
-    } = make_bed(&rt, rt.alloc(), 3);
+    } = make_bed(&rt, rt.alloc(), &[60, 60, 60]);
     let control = control.enable(&rt, &napi, false);
     let mut first = handed(&rt, &napi, first, Kind::List);
     let control = control.mark(&napi);
@@ -172,7 +178,7 @@ fn handed_to_the_thread_after_again(rt: HostRuntime) -> Result<(), Fail> {
         first,
         second,
         control,
-    } = make_bed(&rt, rt.alloc(), 0);
+    } = make_bed(&rt, rt.alloc(), &[]);
     let control = control.enable(&rt, &napi, false);
     let mut first = handed(&rt, &napi, first, Kind::List);
     let answer = second.take(&napi, Kind::List);
@@ -216,7 +222,7 @@ fn again_goes_to_the_thread_where_there_is_one(rt: HostRuntime) -> Result<(), Fa
         first,
         second,
         control,
-    } = make_bed(&rt, rt.alloc(), 0);
+    } = make_bed(&rt, rt.alloc(), &[]);
     let control = control.enable(&rt, &napi, true);
     let first = handed(&rt, &napi, first, Kind::List);
     let mut first = missed(&rt, &napi, first);
@@ -252,7 +258,7 @@ fn full_weight_is_polled_again(rt: HostRuntime) -> Result<(), Fail> {
         first,
         second,
         control,
-    } = make_bed(&rt, rt.alloc(), 3);
+    } = make_bed(&rt, rt.alloc(), &[60, 60, 60]);
     let control = control.enable(&rt, &napi, false);
     let first = handed(&rt, &napi, first, Kind::List);
     let mut batch = Batch::new();
@@ -280,7 +286,7 @@ fn play_by_thread<R: Abort + Wait>(rt: &R, alloc: Global, most: u32, want: Threa
         first,
         second,
         control,
-    } = make_bed(rt, alloc, 3);
+    } = make_bed(rt, alloc, &[60, 60, 60]);
     let control = control.enable(rt, &napi, true);
     let mut batch = Batch::new();
     let (second, report) = poll_instance_by_thread(rt, &napi, second, 2, most, &mut batch);
@@ -312,4 +318,73 @@ fn a_thread_polls_until_no_repoll_is_asked(rt: HostRuntime) {
     play_by_thread(&rt, rt.alloc(), 1, cut, once(1, Next::Gone));
     play_by_thread(&rt, rt.alloc(), 2, whole, once(0, Next::Absent));
     play_by_thread(&rt, rt.alloc(), 131072, whole, once(0, Next::Absent));
+}
+
+#[test]
+fn busy_polling_gives_the_next_packets_and_hands_over(rt: HostRuntime) -> Result<(), Fail> {
+    let Bed {
+        input: _,
+        napi,
+        first,
+        second,
+        control,
+    } = make_bed(&rt, rt.alloc(), &[1, 2, 4, 8, 16, 32]);
+    let mut batch = Batch::new();
+    let (first, refused) = busy_instance(&rt, &napi, first, 2, 2, &mut batch);
+    assert_eq!(rt; refused, BusyReport::NONE);
+    assert_eq!(rt; batch.len(), 0);
+    let control = control.enable(&rt, &napi, false);
+    let (mut first, report) = busy_instance(&rt, &napi, first, 2, 2, &mut batch);
+    let want = BusyReport {
+        polls: 3,
+        work: 6,
+        held: 0,
+        bytes: 63,
+        next: Next::Repoll,
+    };
+    assert_eq!(rt; report, want);
+    let last = [
+        Packet {
+            number: 4,
+            bytes: 16,
+        },
+        Packet {
+            number: 5,
+            bytes: 32,
+        },
+    ];
+    assert_eq!(rt; batch.as_slice(), last.as_slice());
+    assert_eq!(rt; word(&napi, &mut first), 4294967297);
+    let (second, polled) = poll_instance(&rt, &napi, second, 2, true, &mut batch);
+    assert_eq!(rt; polled, once(0, Next::Gone));
+    let control = control.disable(&rt, &napi);
+    let _ = closed(&rt, rt.alloc(), napi, first, second, control);
+    Ok(())
+}
+
+#[test]
+fn busy_polling_holds_rounds_below_the_weight(rt: HostRuntime) -> Result<(), Fail> {
+    let Bed {
+        input: _,
+        napi,
+        first,
+        second,
+        control,
+    } = make_bed(&rt, rt.alloc(), &[60, 60, 60]);
+    let control = control.enable(&rt, &napi, false);
+    let mut batch = Batch::new();
+    let (mut first, report) = busy_instance(&rt, &napi, first, 3, 2, &mut batch);
+    let want = BusyReport {
+        polls: 4,
+        work: 3,
+        held: 2,
+        bytes: 180,
+        next: Next::Gone,
+    };
+    assert_eq!(rt; report, want);
+    assert_eq!(rt; batch.len(), 0);
+    assert_eq!(rt; word(&napi, &mut first), 0);
+    let control = control.disable(&rt, &napi);
+    let _ = closed(&rt, rt.alloc(), napi, first, second, control);
+    Ok(())
 }

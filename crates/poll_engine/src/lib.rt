@@ -8,6 +8,7 @@
 #![tactic(auto)]
 
 mod bench;
+mod busy_polling;
 #[cfg(test)]
 mod crowded;
 mod instance;
@@ -32,8 +33,9 @@ mod soft;
 #[cfg(test)]
 mod tests;
 
-pub use bench::{Bench, Next, Once, ShownBench, ThreadReport};
-pub use instance::Instance;
+pub use bench::{Bench, BusyReport, Next, Once, ShownBench, ThreadReport};
+pub use busy_polling::poll_busy_of;
+pub use instance::{BusyInstance, Instance};
 pub use laws::{
     no_other_arrivals, plain_list_afterwards, run_is_function, run_is_shown, runs_agree,
 };
@@ -44,6 +46,7 @@ pub use list_in::ListIn;
 pub use plain::PlainList;
 pub use polling::{poll_once_of, poll_thread_of};
 pub use run::{RunReport, run_softirq};
+pub use seat::{Seat, hand_over};
 pub use shared::SharedList;
-pub use shared_instance::{poll_instance, poll_instance_by_thread};
+pub use shared_instance::{busy_instance, poll_instance, poll_instance_by_thread};
 pub use soft::SoftList;

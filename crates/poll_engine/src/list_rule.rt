@@ -6,7 +6,9 @@ use std::collections::LinkedList;
 
 /// An end that came back: its number, and what was pushed at it. No value of it is made.
 pub struct Returned {
+    /// Its number.
     pub number: u64,
+    /// What was pushed at it, in order.
     pub pushed: LinkedList<u32>,
 }
 

@@ -1,17 +1,16 @@
 //! The tests' bench: it answers by a script, and states its relations as equations. It is proved with the crate, so that
 //! a wrong body of it is refused.
 
-ghost use Rattle.std.specs.Prelude.{◌≡◌, ◌≤◌, ◌||◌, ◌++◌, ◌∷◌, ℕ, List, [], take, not, if◌then◌else◌};
-ghost use Rattle.poll_engine.specs.Polls.{is_repoll};
-ghost use Rattle.poll_engine.specs.Polling.{is_absent};
-ghost use Rattle.poll_engine.specs.Script.{PollsByScript, Script, ThreadPollsByScript, first_answer, held_next, held_poll, later_answers, passed};
-ghost use Rattle.poll_engine.specs.Thread.{IsThreadPolling, is_for_thread};
-ghost use Rattle.poll_engine.specs.declared.bench.Once.{Once};
+ghost use Rattle.std.specs.Prelude.{◌≡◌, ◌++◌, ◌∷◌, [], take};
+ghost use Rattle.poll_engine.specs.Script.{BusyPollsByScript, PollsByScript, Script, ThreadPollsByScript, Turn, first_answer, passed};
 
-use crate::bench::{Bench, Next, Once, ThreadReport};
+use crate::bench::{Bench, BusyReport, Next, Once, ThreadReport};
+use crate::instance::Instance;
+use crate::polling::poll_thread_of;
 use crate::soft::SoftList;
 use napi_model::Kind;
 use std::marker::Model;
+use std::mem;
 
 /// Instances whose polls answer by one script, whichever is polled. It keeps the first 64 numbers polled.
 #[derive(Drop)]
@@ -65,36 +64,6 @@ impl<'a> ScriptBench<'a> {
             self.answers = &self.answers[1..];
         }
     }
-
-    // Takes the instance, unless it is in the thread's hands: the next answer says whether it is there.
-    fn take(&mut self, held: bool) -> bool
-        ensures taken { result ≡ (held || not (is_absent (first_answer self.old.answers).next)) }
-        ensures passed { self.new ≡ (if result then self.old else passed self.old) }
-    {
-        if !held && self.first().next == Next::Absent {
-            self.pass();
-            return false;
-        }
-        true
-    }
-
-    // Polls an instance that is in the thread's hands.
-    fn poll_held(&mut self, id: u32, weight: u32) -> Once
-        requires { (1 ≤ weight) × (weight ≤ 64) }
-        ensures once { result ≡ (held_poll weight id self.old).0 }
-        ensures after { self.new ≡ (held_poll weight id self.old).1 }
-        ensures bound { result.work ≤ weight }
-    {
-        let once = self.poll_once(id, weight);
-        Once {
-            work: once.work,
-            next: if once.next == Next::Absent {
-                Next::Gone
-            } else {
-                once.next
-            },
-        }
-    }
 }
 
 // Keeps a number, where there is room.
@@ -107,24 +76,79 @@ fn keep(polled: &mut SoftList, id: u32)
     }
 }
 
-// Whether the instance is still in the thread's hands.
-fn is_repoll(next: Next) -> bool
-    ensures { result ≡ is_repoll next }
-{
-    next == Next::Repoll
+/// An instance of the bench, in the sight of its thread.
+#[derive(Drop)]
+struct ScriptTurn<'a> {
+    id: u32,
+    bench: ScriptBench<'a>,
 }
 
-// Whether the thread may poll once more.
-fn is_for_thread(next: Next) -> bool
-    ensures { result ≡ is_for_thread next }
-{
-    next == Next::Repoll || next == Next::Again(Kind::Thread)
+impl<'a> Model for ScriptTurn<'a> {
+    ghost Value = { Turn };
+
+    ghost view = { λ t. record { id = t.id; script = t.bench } };
+}
+
+// The next answer says whether the instance is there, how many packets it has, and how a poll of it ends: one that gives its
+// whole weight is told apart from a repoll by a look that says the instance is being disabled.
+impl<'a> Instance for ScriptTurn<'a> {
+    ghost use Rattle.poll_engine.specs.Script.{TurnCompletes, TurnGives, TurnLooks, TurnRequeues, TurnTakes};
+
+    type Packets = ();
+
+    ghost rests = { λ _. Unit {0} };
+
+    ghost in_hand = { λ _. Unit {0} };
+
+    ghost takes = { TurnTakes };
+
+    ghost gives = { λ t weight _ work u. TurnGives t weight work u };
+
+    ghost looks = { TurnLooks };
+
+    ghost requeues = { TurnRequeues };
+
+    ghost completes = { TurnCompletes };
+
+    fn take(&mut self, _kind: Kind) -> bool {
+        let is_there = self.bench.first().next != Next::Absent;
+        if !is_there {
+            self.bench.pass();
+        }
+        is_there
+    }
+
+    fn poll(&mut self, weight: u32, _packets: &mut ()) -> u32 {
+        keep(&mut self.bench.polled, self.id);
+        self.bench.first().work.min(weight)
+    }
+
+    fn is_disabling(&mut self) -> bool {
+        let is_repoll = self.bench.first().next == Next::Repoll;
+        if is_repoll {
+            self.bench.pass();
+        }
+        !is_repoll
+    }
+
+    fn requeue(&mut self) {}
+
+    fn complete(&mut self) -> Option<Kind> {
+        let again = match self.bench.first().next {
+            Next::Again(kind) => Some(kind),
+            _ => None,
+        };
+        self.bench.pass();
+        again
+    }
 }
 
 impl<'a> Bench for ScriptBench<'a> {
     ghost polls = { PollsByScript };
 
     ghost thread_polls = { ThreadPollsByScript };
+
+    ghost busy_polls = { BusyPollsByScript };
 
     fn poll_once(&mut self, id: u32, weight: u32) -> Once {
         let answer = self.first();
@@ -137,22 +161,15 @@ impl<'a> Bench for ScriptBench<'a> {
     }
 
     fn poll_thread(&mut self, id: u32, weight: u32, most: u32) -> ThreadReport {
-        let mut report = ThreadReport {
-            polls: 0,
-            work: 0,
-            next: Next::Absent,
-        };
-        while report.polls < most && self.take(is_repoll(report.next)) {
-            let once = self.poll_held(id, weight);
-            report = ThreadReport {
-                polls: report.polls + 1,
-                work: report.work + once.work,
-                next: once.next,
-            };
-            if !is_for_thread(once.next) {
-                break;
-            }
-        }
+        let bench = mem::replace(self, ScriptBench::new(&[]));
+        let mut turn = ScriptTurn { id, bench };
+        let report = poll_thread_of(&mut turn, weight, most, &mut ());
+        *self = turn.bench;
         report
+    }
+
+    /// A script's instances are never idle.
+    fn busy_poll(&mut self, _id: u32, _weight: u32, _rounds: u32) -> BusyReport {
+        BusyReport::NONE
     }
 }

@@ -7,9 +7,11 @@ ghost use Rattle.poll_engine.specs.declared.bench.Once.{Once};
 ghost use Rattle.napi_calls.specs.Instance.{IsSeatOf};
 ghost use Rattle.napi_calls.specs.Made.{Made};
 ghost use Rattle.napi_calls.specs.Seats.{SameSeat};
+ghost use Rattle.poll_engine.specs.SharedBusy.{PollsBusilyBy};
 ghost use Rattle.poll_engine.specs.SharedPolling.{GivesBatch, GivesEach, PollsOnceBy, ThreadPollsBy};
 
-use crate::bench::{Next, Once, ThreadReport};
+use crate::bench::{BusyReport, Next, Once, ThreadReport};
+use crate::busy_polling::poll_busy_of;
 use crate::polling::{poll_once_of, poll_thread_of};
 use crate::seat::{Hold, Seat};
 use napi_calls::{Caller, Napi};
@@ -80,5 +82,37 @@ pub fn poll_instance_by_thread<R: Wait>(
         hold: Hold::Rests(caller),
     };
     let report = poll_thread_of(&mut seat, weight, most, batch);
+    (seat.rise(), report)
+}
+
+/// Busy polls an instance that threads share (`napi_busy_loop`): where it is idle the caller takes it, makes so many rounds, in
+/// 1..=65535, stops (`busy_poll_stop`) and polls once more. Each poll has this weight, in 1..=64. A round with work below the
+/// weight completes, which holds the instance. The last poll then releases it or, after `Again`, hands it to the thread where
+/// THREADED is seen and else to the list; with its whole weight it hands it to the list. After [`Next::Repoll`] and
+/// [`Next::Again`] of the list its number is still to be pushed. An instance that isn't idle is [`Next::Absent`].
+///
+/// The batch is emptied before each poll: it then has the packets of the last one, and none where no poll was made.
+pub fn busy_instance<R: Wait>(
+    rt: &R,
+    napi: &Napi,
+    caller: Caller,
+    rounds: u32,
+    weight: u32,
+    batch: &mut Batch,
+) -> (Caller, BusyReport)
+    requires seat { IsSeatOf napi.now caller.pass }
+    requires rounds { (1 ≤ rounds) × (rounds ≤ 65535) }
+    requires weight { (1 ≤ weight) × (weight ≤ 64) }
+    ensures seat { SameSeat caller.pass result.0.pass }
+    ensures polls { (os : List Operation) × Made caller.pass os result.0.pass × PollsBusilyBy weight rounds caller.pass result.1 batch.new.items os }
+{
+    batch.clear();
+    let mut seat = Seat {
+        rt,
+        napi,
+        thread: true,
+        hold: Hold::Rests(caller),
+    };
+    let report = poll_busy_of(&mut seat, rounds, weight, batch);
     (seat.rise(), report)
 }

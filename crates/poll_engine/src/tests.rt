@@ -1,3 +1,5 @@
+//! Worked polling runs over a scripted bench: budgets, windows, repolls, and what the list holds afterwards.
+
 ghost use Rattle.std.specs.Prelude.{◌≤◌};
 
 use crate::crowded::CrowdedList;

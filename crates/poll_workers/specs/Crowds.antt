@@ -1,6 +1,7 @@
 -- What polls keep of a poller's seats: that each stays at its instance.
 use Rattle.std.specs.Prelude.{◌≡◌, ℕ, List, [], ◌∷◌, vec_items}
 use Rattle.std.proofs.Common.{◌∙◌, refl}
+use Rattle.poll_engine.specs.declared.bench.BusyReport.{BusyReport}
 use Rattle.poll_engine.specs.declared.bench.Once.{Once}
 use Rattle.poll_workers.specs.declared.seat.Seat.{Seat}
 use Rattle.poll_workers.specs.declared.poller.Crowd.{Crowd}
@@ -12,6 +13,9 @@ module _ {R : Type 0} where
 
   abbrev pub ThreadKeepsSeats : Crowd R → ℕ → ℕ → ℕ → List Once → Crowd R → Type 0
   ThreadKeepsSeats before id weight most polls after = after ≡ before
+
+  abbrev pub BusyKeepsSeats : Crowd R → ℕ → ℕ → ℕ → BusyReport → Crowd R → Type 0
+  BusyKeepsSeats before id weight rounds report after = after ≡ before
 
 -- seats that nobody touched
 pub seats_stay : (l : List Seat) → AreSameSeats l l

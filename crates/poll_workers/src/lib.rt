@@ -1,6 +1,7 @@
 //! Interrupt workers, pollers and thread pollers, each in a thread of its own, over shared instances.
 #![tactic(auto)]
 
+mod act_list;
 mod acts;
 mod crew;
 mod dealing;
@@ -20,6 +21,7 @@ mod tests;
 mod thread_poller;
 mod worker;
 
+pub use act_list::ActList;
 pub use acts::{Act, Device, Gate, OpenGate};
 pub use run::run_workers;
 pub use station::{Finished, Pace, Station, WorkFault};

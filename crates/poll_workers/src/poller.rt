@@ -10,7 +10,7 @@ use crate::signals::{Pause, Post, Signals};
 use crate::station::Pace;
 use crate::tasks::Task;
 use napi_calls::Kept;
-use poll_engine::{Bench, Next, Once, SharedList, ThreadReport, run_softirq};
+use poll_engine::{Bench, BusyReport, Next, Once, SharedList, ThreadReport, run_softirq};
 use rx_ring::Batch;
 use std::sync::Wait;
 
@@ -32,11 +32,13 @@ fn find(seats: &[Seat], number: u32) -> Option<usize>
 }
 
 impl<'n, R: Wait> Bench for Crowd<'n, R> {
-    ghost use Rattle.poll_workers.specs.Crowds.{KeepsSeats, ThreadKeepsSeats};
+    ghost use Rattle.poll_workers.specs.Crowds.{BusyKeepsSeats, KeepsSeats, ThreadKeepsSeats};
 
     ghost polls = { KeepsSeats };
 
     ghost thread_polls = { ThreadKeepsSeats };
+
+    ghost busy_polls = { BusyKeepsSeats };
 
     fn poll_once(&mut self, id: u32, weight: u32) -> Once {
         match find(self.seats.as_slice(), id) {
@@ -55,6 +57,11 @@ impl<'n, R: Wait> Bench for Crowd<'n, R> {
             work: 0,
             next: Next::Absent,
         }
+    }
+
+    /// Polls nothing: no worker busy polls.
+    fn busy_poll(&mut self, _id: u32, _weight: u32, _rounds: u32) -> BusyReport {
+        BusyReport::NONE
     }
 }
 

@@ -4,7 +4,7 @@ ghost use Rattle.std.specs.Prelude.{◌≡◌, ◌≤◌, ◌+◌, IfOk, vec_len
 ghost use Rattle.std.specs.List.{All};
 ghost use Rattle.poll_workers.specs.Opens.{IsStation};
 
-use crate::{Act, Device, Finished, Gate, OpenGate, Pace, Station, WorkFault, run_workers};
+use crate::{Act, ActList, Finished, Gate, OpenGate, Pace, Station, WorkFault, run_workers};
 use rx_ring::Packet;
 use std::alloc::{AllocError, Global};
 use std::process::Abort;
@@ -14,53 +14,12 @@ use std::test::Fail;
 use std::thread;
 use std::thread::Threads;
 
-/// A device that makes these acts.
-#[derive(Drop)]
-struct Script {
-    acts: Vec<Act>,
-    ghost few: { vec_len acts ≤ 100000 },
-}
-
-impl Script {
-    fn new(alloc: Global) -> Script {
-        Script {
-            acts: Vec::new(alloc),
-        }
+// So many packets of 100 bytes.
+fn receive(acts: &mut Vec<Act>, packets: u64) -> Result<(), AllocError> {
+    for number in 0..packets {
+        acts.push(Act::Arrive(Packet { number, bytes: 100 }))?;
     }
-
-    fn act(&mut self, act: Act) -> Result<(), AllocError> {
-        if self.acts.len() < 100000 {
-            self.acts.push(act)?;
-        }
-        Ok(())
-    }
-
-    // So many packets of 100 bytes.
-    fn receive(&mut self, packets: u64) -> Result<(), AllocError> {
-        for number in 0..packets {
-            self.act(Act::Arrive(Packet { number, bytes: 100 }))?;
-        }
-        Ok(())
-    }
-}
-
-impl Device for Script {
-    ghost use Rattle.std.specs.Prelude.{vec_len, slice_index_or};
-    ghost use Rattle.poll_workers.specs.declared.acts.Act.TheVariants.{Nothing};
-
-    ghost acts = { λ d. vec_len d.acts };
-
-    ghost answer = { λ d k. slice_index_or d.acts.items k Nothing };
-
-    ghost after = { λ d _. d };
-
-    fn acts(&self) -> u32 {
-        self.acts.len() as u32
-    }
-
-    fn act(&mut self, k: u32) -> Act {
-        self.acts[k as usize]
-    }
+    Ok(())
 }
 
 const PACE: Pace = Pace {
@@ -127,14 +86,62 @@ impl Gate for ShutAt {
     }
 }
 
+/// Holds whoever polls at its start, until worker 1 has come to its disable, and some while more. The worker may come to its
+/// next act only once the poller was let go.
+#[derive(Drop)]
+struct HoldsPoller {
+    poller: u32,
+    disable: u32,
+    asked: AtomicBool,
+    let_go: AtomicBool,
+}
+
+impl HoldsPoller {
+    fn new(poller: u32, disable: u32) -> HoldsPoller {
+        HoldsPoller {
+            poller,
+            disable,
+            asked: AtomicBool::new(false),
+            let_go: AtomicBool::new(false),
+        }
+    }
+
+    fn hold(&self) -> bool {
+        let mut more = 100_000u32;
+        for _ in 0..1_000_000u32 {
+            thread::yield_now();
+            if self.asked.load(Ordering::SeqCst) {
+                more = more.saturating_sub(1);
+            }
+            if more == 0 {
+                break;
+            }
+        }
+        self.let_go.store(true, Ordering::SeqCst);
+        self.asked.load(Ordering::SeqCst)
+    }
+}
+
+impl Gate for HoldsPoller {
+    fn pass(&self, worker: u32, act: u32) -> bool {
+        if worker == self.poller {
+            return self.hold();
+        }
+        if worker == 1 && act == self.disable {
+            self.asked.store(true, Ordering::SeqCst);
+        }
+        worker != 1 || act <= self.disable || self.let_go.load(Ordering::SeqCst)
+    }
+}
+
 // One more station.
 fn with(
-    mut stations: Vec<Station<Script>>,
+    mut stations: Vec<Station<ActList>>,
     number: u32,
     capacity: usize,
     thread: bool,
-    device: Script,
-) -> Result<Vec<Station<Script>>, AllocError>
+    acts: Vec<Act>,
+) -> Result<Vec<Station<ActList>>, AllocError>
     requires all { All IsStation stations.items }
     requires number { (1 ≤ number) × (number ≤ 16) }
     requires capacity { (1 ≤ capacity) × (capacity ≤ 65536) }
@@ -145,41 +152,39 @@ fn with(
         number,
         capacity,
         thread,
-        device,
+        device: ActList::new(acts),
     })?;
     Ok(stations)
 }
 
 // Two devices with so many packets each, the first one with a thread of its own where it is asked for.
-fn two(alloc: Global, packets: u64, thread: bool) -> Result<Vec<Station<Script>>, AllocError>
+fn two(alloc: Global, packets: u64, thread: bool) -> Result<Vec<Station<ActList>>, AllocError>
     ensures all { IfOk result (λ v. All IsStation v.items) }
     ensures len { IfOk result (λ v. vec_len v ≡ 2) }
 {
-    let mut first = Script::new(alloc);
-    first.act(Act::SetThreaded(thread))?;
-    first.receive(packets)?;
-    let mut second = Script::new(alloc);
-    second.act(Act::Nothing)?;
-    second.receive(packets)?;
+    let mut first = vec![in alloc; Act::SetThreaded(thread)]?;
+    receive(&mut first, packets)?;
+    let mut second = vec![in alloc; Act::Nothing]?;
+    receive(&mut second, packets)?;
     let stations = with(Vec::new(alloc), 2, 1000, false, second)?;
     with(stations, 1, 1000, thread, first)
 }
 
 // 500 packets, a disable, an enable, and 500 packets more.
-fn twice_500(alloc: Global) -> Result<Script, AllocError> {
-    let mut device = Script::new(alloc);
-    device.receive(500)?;
-    device.act(Act::Disable)?;
-    device.act(Act::Enable)?;
-    device.receive(500)?;
-    Ok(device)
+fn twice_500(alloc: Global) -> Result<Vec<Act>, AllocError> {
+    let mut acts = Vec::new(alloc);
+    receive(&mut acts, 500)?;
+    acts.push(Act::Disable)?;
+    acts.push(Act::Enable)?;
+    receive(&mut acts, 500)?;
+    Ok(acts)
 }
 
 fn run_twice_500<R: Threads + Wait + Sync>(
     rt: &R,
     alloc: Global,
     pollers: u32,
-) -> Result<Vec<Finished<Script>>, Fail>
+) -> Result<Vec<Finished<ActList>>, Fail>
     requires { (1 ≤ pollers) × (pollers ≤ 8) }
 {
     let stations = with(Vec::new(alloc), 2, 1000, false, twice_500(alloc)?)?;
@@ -188,7 +193,7 @@ fn run_twice_500<R: Threads + Wait + Sync>(
 }
 
 // What each device's ring came to: the packets put, those polled with those left, and all their bytes.
-fn add_totals(rt: &impl Abort, done: &[Finished<Script>], packets: u64) {
+fn add_totals(rt: &impl Abort, done: &[Finished<ActList>], packets: u64) {
     for finished in done {
         let totals = finished.totals;
         assert_eq!(rt; totals.put, packets);
@@ -199,7 +204,7 @@ fn add_totals(rt: &impl Abort, done: &[Finished<Script>], packets: u64) {
 
 #[test]
 fn nothing_is_run_without_stations(rt: HostRuntime) -> Result<(), Fail> {
-    let none: Vec<Station<Script>> = Vec::new(rt.alloc());
+    let none: Vec<Station<ActList>> = Vec::new(rt.alloc());
     let done = run_workers(&rt, rt.alloc(), none, 8, PACE, &OpenGate)?;
     assert_eq!(rt; done.len(), 0);
     Ok(())
@@ -257,6 +262,26 @@ fn a_gate_shuts_the_run(rt: HostRuntime) -> Result<(), Fail> {
         let stations = two(rt.alloc(), 10, true)?;
         let done = run_workers(&rt, rt.alloc(), stations, 1, PACE, &ShutAt { worker, act });
         assert!(rt; matches!(done, Err(WorkFault::GateShut)));
+    }
+    Ok(())
+}
+
+// A packet comes and the device is disabled while whoever polls it waits at the gate: the disable waits for the poll.
+#[test]
+fn a_disable_waits_for_a_poller_at_the_gate(rt: HostRuntime) -> Result<(), Fail> {
+    for (poller, thread) in [(100, false), (201, true)] {
+        let mut acts = vec![in rt.alloc(); Act::SetThreaded(thread)]?;
+        receive(&mut acts, 1)?;
+        acts.push(Act::Disable)?;
+        acts.push(Act::Nothing)?;
+        let stations = with(Vec::new(rt.alloc()), 1, 4, thread, acts)?;
+        let gate = HoldsPoller::new(poller, 2);
+        let done = run_workers(&rt, rt.alloc(), stations, 1, PACE, &gate)?;
+        assert_eq!(rt; done.len(), 1);
+        for finished in done {
+            let totals = finished.totals;
+            assert_eq!(rt; (totals.put, totals.polled, totals.left), (1, 1, 0));
+        }
     }
     Ok(())
 }

@@ -6,7 +6,7 @@ use Rattle.std.specs.Str.Parse.{digits_value}
 use Rattle.clap.specs.Lexer.{strip_byte, long_of}
 use Rattle.replay_words.specs.Defaults.{usual_budget, usual_pollers, usual_weight, usual_window}
 use Rattle.replay_words.specs.declared.mode.Mode.{Mode}
-use Rattle.replay_words.specs.declared.mode.Mode.TheVariants.{Serial}
+use Rattle.replay_words.specs.declared.mode.Mode.TheVariants.{Serial, Shared, Threads}
 use Rattle.replay_words.specs.declared.settings.Settings.{Settings}
 use Rattle.replay_words.specs.declared.words.WordFault.{WordFault}
 use Rattle.replay_words.specs.declared.words.WordFault.TheVariants.{Usage, OutOfMemory}
@@ -41,9 +41,12 @@ asked_of asked = record {
 abbrev pub Text : Type 0
 Text = List ℕ
 
--- the mode that a word names, of those whose replay is there
+-- the mode that a word names
 abbrev pub mode_of : Text → Option Mode
-mode_of word = if bytes_eq word (codes "serial") then Some Serial else None
+mode_of word =
+    if bytes_eq word (codes "serial") then Some Serial
+    else (if bytes_eq word (codes "shared") then Some Shared
+    else (if bytes_eq word (codes "threads") then Some Threads else None))
 
 -- the number from 1 to `high` that one to five digits write
 abbrev pub number_of : ℕ → Text → Option ℕ

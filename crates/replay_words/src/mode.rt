@@ -7,6 +7,6 @@ pub enum Mode {
     Serial,
     /// One thread plays the rows in order over instances that threads could share.
     Shared,
-    /// The rows are played beside threads that poll.
+    /// Each device's rows are played by a thread of its own, beside threads that poll.
     Threads,
 }

@@ -55,6 +55,20 @@ fn each_option_in_both_forms(rt: HostRuntime) {
 }
 
 #[test]
+fn each_mode(rt: HostRuntime) -> Result<(), WordFault> {
+    let (_, usual) = parse(rt.alloc(), &[])?;
+    let modes = [
+        ("serial", Mode::Serial),
+        ("shared", Mode::Shared),
+        ("threads", Mode::Threads),
+    ];
+    for (word, mode) in modes {
+        assert_eq!(rt; parse(rt.alloc(), &["--mode", word]), Ok((mode, usual)));
+    }
+    Ok(())
+}
+
+#[test]
 fn all_options_in_any_order(rt: HostRuntime) {
     let alloc = rt.alloc();
     let words = [
@@ -132,9 +146,8 @@ fn refused_words(rt: HostRuntime) {
         "--budget=5=",
         "--weight=65",
         "--mode=",
-        "--mode=shared",
-        "--mode=threads",
         "--mode=Serial",
+        "--mode=threads ",
         "--bud=5",
         "--budge=5",
         "--budgets=5",
@@ -154,8 +167,10 @@ fn refused_words(rt: HostRuntime) {
 fn refused_lists_of_words(rt: HostRuntime) {
     let alloc = rt.alloc();
     let usage = Err(WordFault::Usage);
-    assert_eq!(rt; parse(alloc, &["--mode", "shared"]), usage);
-    assert_eq!(rt; parse(alloc, &["--mode", "threads"]), usage);
+    assert_eq!(rt;
+        parse(alloc, &["--mode", "shared", "--mode", "serial"]),
+        usage
+    );
     assert_eq!(rt; parse(alloc, &["--budget=5", "--budget=5"]), usage);
     assert_eq!(rt; parse(alloc, &["--budget", "5", "--budget=6"]), usage);
     assert_eq!(rt; parse(alloc, &["--mode=serial", "--mode", "serial"]), usage);

@@ -19,7 +19,7 @@ use thiserror::Error;
 pub enum WordFault {
     /// 1: the words ask for nothing that the program does: a word that is no option or no value, an option that is there
     /// twice or has no value, a value out of its range.
-    #[error("usage: napi_replay [--mode serial] [--pollers N] [--budget N] [--weight N] [--window N] < TRACE.csv")]
+    #[error("usage: napi_replay [--mode serial|shared|threads] [--pollers N] [--budget N] [--weight N] [--window N] < TRACE.csv")]
     Usage,
     /// 2: memory was refused while they were read.
     #[error("out of memory")]
@@ -46,12 +46,16 @@ pub fn word_status(fault: &WordFault) -> u8
     }
 }
 
-// The mode that a word names, of those whose replay is there. `shared` and `threads` are refused until theirs is.
+// The mode that a word names.
 fn mode_of(word: &str) -> Option<Mode>
     ensures { result ≡ mode_of word.now }
 {
     if word == "serial" {
         Some(Mode::Serial)
+    } else if word == "shared" {
+        Some(Mode::Shared)
+    } else if word == "threads" {
+        Some(Mode::Threads)
     } else {
         None
     }

@@ -9,6 +9,7 @@ use crate::RxCtx;
 use crate::packet::{Batch, MAX_WEIGHT, Packet};
 use rtrb::Consumer;
 
+/// Polls as `RxCtx::poll`.
 #[tactic(auto, unfolding(crate::specs::Ends::is_beside))]
 pub fn poll_by_pops(ctx: &mut RxCtx, weight: usize, batch: &mut Batch) -> usize
     requires { (1 ≤ weight) × (weight ≤ NAPI_POLL_WEIGHT) }

@@ -76,8 +76,8 @@ get-at (row ∷ rows) zero d below = refl
 get-at (row ∷ rows) (suc i) d below = get-at rows i d (omega (arith, below))
 
 -- where the rows have a fault, so has their report
-pub report-early : (s : Settings) (rows : List Row) (fault : ReplayFault) → world_of s rows ≡ Err fault → serial_report s rows ≡ Err fault
-report-early s rows fault early = ap (report_of (transmits_of rows)) early
+pub report-early : (s : Settings) (rows : List Row) (fault : ReplayFault) → world_of s rows ≡ Err fault → (version : ℕ) → serial_report s version rows ≡ Err fault
+report-early s rows fault early version = ap (report_of version (transmits_of rows)) early
 
 -- four parts of a text, in whatever order they were joined
 pub four-parts : (a b c d : List ℕ) → ((a ++ b) ++ c) ++ d ≡ a ++ (b ++ (c ++ d))

@@ -14,4 +14,4 @@ IsOfEnable rows fault = (i : ℕ) × (row : Row) × (slice_get rows i ≡ Some r
 
 -- memory was refused, or an enable row met a disable that was pending; on an exact bench that is the rows' own fault
 abbrev pub IsRefused : Type 0 → Settings → List Row → ReplayFault → Type 0
-IsRefused Exact s rows fault = (fault ≡ Trace OutOfMemory) ⊎ (IsOfEnable rows fault × (Exact → serial_report s rows ≡ Err fault))
+IsRefused Exact s rows fault = (fault ≡ Trace OutOfMemory) ⊎ (IsOfEnable rows fault × (Exact → (version : ℕ) → serial_report s version rows ≡ Err fault))

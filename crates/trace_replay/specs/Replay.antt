@@ -1,12 +1,12 @@
 -- What the rows of a trace do, one after the other.
 use Rattle.std.specs.Prelude.{ℕ, ◌+◌, ◌==◌, Bool, false, if◌then◌else◌, List, [], ◌∷◌, ◌++◌, length, Result, Ok, Err, sum_by}
-use Rattle.device_model.specs.Bench.{all_settled, arrived, handed_by, thread_polls_of}
+use Rattle.device_model.specs.Bench.{all_settled, arrived, busily_polled_at, busy_report_of, handed_by, thread_polls_of}
 use Rattle.device_model.specs.Device.{after_disable, after_enable, after_threaded, opened, polled_by_thread}
 use Rattle.device_model.specs.Kept.{is_pending_at}
 use Rattle.device_model.specs.Places.{added, at, changed, empty}
 use Rattle.device_model.specs.Waiting.{is_left_to_list, is_listed}
 use Rattle.device_model.specs.declared.event.Event.{Event}
-use Rattle.device_model.specs.declared.event.Event.TheVariants.{Opened, Rx, Tx, Finish, Softirq, Kthread, Disable, Enable, Threaded}
+use Rattle.device_model.specs.declared.event.Event.TheVariants.{Opened, Rx, Tx, Finish, Softirq, Kthread, Disable, Enable, Threaded, Busy}
 use Rattle.device_model.specs.declared.row.Row.{Row}
 use Rattle.poll_engine.specs.Function.{run_report}
 use Rattle.poll_engine.specs.Thread.{last_next}
@@ -34,7 +34,7 @@ with_packet number bytes w = record w {
   list = w.list ++ entry (is_listed (handed_by bytes (at number w.devices))) number;
 }
 
--- ---- a run over the list, and a thread's polling, each with its line
+-- ---- a run over the list, a thread's polling and busy polling, each with its line
 
 abbrev pub with_run : Settings → ℕ → World → World
 with_run s row w =
@@ -57,6 +57,16 @@ with_thread s row number w =
       lines = w.lines ++ line.Kthread row number (thread_report_of polls) ∷ [];
     }
 
+-- busy polling for so many rounds, with its line
+abbrev pub with_busy : Settings → ℕ → ℕ → ℕ → World → World
+with_busy s row number rounds w =
+    let report = busy_report_of s.weight rounds (at number w.devices) in
+    record {
+      devices = busily_polled_at w.devices number s.weight rounds;
+      list = w.list ++ entry (is_left_to_list report.next) number;
+      lines = w.lines ++ line.Busy row number report ∷ [];
+    }
+
 -- ---- rows
 
 -- the effect of row n, by its event; tx and done rows have theirs on the transmit side alone
@@ -69,6 +79,7 @@ after_event s n Softirq row w = with_run s n w
 after_event s n Kthread row w = with_thread s n row.device w
 after_event s n Disable row w = record w { devices = changed after_disable row.device w.devices }
 after_event s n Enable row w = record w { devices = changed after_enable row.device w.devices }
+after_event s n Busy row w = with_busy s n row.device row.value w
 after_event s n Threaded row w = record w { devices = changed (after_threaded (row.value == 1)) row.device w.devices }
 
 -- after each row every pending disable is tried once

@@ -13,7 +13,7 @@ use Rattle.trace_replay.specs.declared.fault.ReplayFault.{ReplayFault}
 use Rattle.trace_replay.specs.declared.report.Totals.{Totals}
 use Rattle.device_model.specs.declared.row.Row.{Row}
 use Rattle.trace_replay.specs.declared.line.Line.{Line}
-use Rattle.trace_replay.specs.declared.line.Line.TheVariants.{Softirq, Kthread}
+use Rattle.trace_replay.specs.declared.line.Line.TheVariants.{Softirq, Kthread, Busy}
 use Rattle.poll_engine.specs.declared.run.RunReport.{RunReport}
 use Rattle.replay_words.specs.declared.settings.Settings.{Settings}
 use Rattle.device_model.specs.declared.transmit.TxCounts.{TxCounts}
@@ -37,6 +37,8 @@ poll_line (Softirq row run) = words (codes "softirq" ∷ decimal row ∷ codes "
     ∷ codes "squeezed" ∷ decimal (flag run.squeezed) ∷ [])
 poll_line (Kthread row device report) = words (codes "kthread" ∷ decimal row ∷ codes "device" ∷ decimal device ∷ codes "polls" ∷ decimal report.polls
     ∷ codes "work" ∷ decimal report.work ∷ [])
+poll_line (Busy row device report) = words (codes "busy" ∷ decimal row ∷ codes "device" ∷ decimal device ∷ codes "polls" ∷ decimal report.polls
+    ∷ codes "work" ∷ decimal report.work ∷ [])
 
 -- one device
 abbrev pub state_word : DeviceState → List ℕ
@@ -48,9 +50,13 @@ abbrev pub device_line : ℕ → DeviceCounts → List ℕ
 device_line number counts = words (codes "device" ∷ decimal number ∷ state_word counts.state ∷ codes "arrived" ∷ decimal counts.arrived ∷ codes "dropped" ∷ decimal counts.dropped
     ∷ codes "polled" ∷ decimal counts.polled ∷ codes "bytes" ∷ decimal counts.bytes ∷ codes "left" ∷ decimal counts.left ∷ codes "polls" ∷ decimal counts.polls ∷ [])
 
-abbrev pub napi_line : ℕ → DeviceCounts → List ℕ
-napi_line number counts = words (codes "napi" ∷ decimal number ∷ codes "granted" ∷ decimal counts.granted ∷ codes "missed" ∷ decimal counts.missed
-    ∷ codes "disabled" ∷ decimal counts.disabled ∷ codes "again" ∷ decimal counts.again ∷ codes "released" ∷ decimal counts.released ∷ codes "word" ∷ decimal counts.word ∷ [])
+-- in version 2 the completions that were held, too
+abbrev pub held_part : ℕ → ℕ → List ℕ
+held_part version held = if version == 2 then codes " held " ++ decimal held else []
+
+abbrev pub napi_line : ℕ → ℕ → DeviceCounts → List ℕ
+napi_line version number counts = words (codes "napi" ∷ decimal number ∷ codes "granted" ∷ decimal counts.granted ∷ codes "missed" ∷ decimal counts.missed
+    ∷ codes "disabled" ∷ decimal counts.disabled ∷ codes "again" ∷ decimal counts.again ∷ codes "released" ∷ decimal counts.released ∷ codes "word" ∷ decimal counts.word ∷ []) ++ held_part version counts.held
 
 -- its transmit side, only where that had a row
 abbrev pub tx_line : ℕ → TxCounts → List ℕ
@@ -63,9 +69,9 @@ tx_lines number None = []
 tx_lines number (Some counts) = ended (tx_line number counts)
 
 -- the lines of a device, where there is one
-abbrev pub device_lines : ℕ → Option DeviceCounts → List ℕ
-device_lines number None = []
-device_lines number (Some counts) = ended (device_line number counts) ++ (ended (napi_line number counts) ++ tx_lines number counts.tx)
+abbrev pub device_lines : ℕ → ℕ → Option DeviceCounts → List ℕ
+device_lines version number None = []
+device_lines version number (Some counts) = ended (device_line number counts) ++ (ended (napi_line version number counts) ++ tx_lines number counts.tx)
 
 -- the numbers, each after a space
 abbrev pub spaced : List ℕ → List ℕ
@@ -74,10 +80,11 @@ spaced numbers = flat_map (λ number. codes " " ++ decimal number) numbers
 abbrev pub list_line : List ℕ → List ℕ
 list_line numbers = codes "list" ++ spaced numbers
 
--- a number of a run; a thread's polling is no run
+-- a number of a run; a thread's polling is no run, nor is busy polling
 abbrev pub of_run : (RunReport → ℕ) → Line → ℕ
 of_run number (Softirq row run) = number run
 of_run number (Kthread row device report) = 0
+of_run number (Busy row device report) = 0
 
 -- opened devices, runs, and sums over the runs
 abbrev pub totals_of : ℕ → List Line → Totals
@@ -101,6 +108,7 @@ counts_of w transmits n = counts_at (at n w.devices) (tx_counts_of (at n transmi
 abbrev pub row_of : Line → ℕ
 row_of (Softirq row run) = row
 row_of (Kthread row device report) = row
+row_of (Busy row device report) = row
 
 abbrev pub if_of_row : ℕ → Option Line → Option Line
 if_of_row n None = None
@@ -110,22 +118,22 @@ abbrev pub polled_by : ℕ → World → Option Line
 polled_by n w = if_of_row n (slice_get w.lines (length w.lines - 1))
 
 -- the lines of the devices whose numbers are below n, in rising order
-unfoldable pub lines_below : World → Transmits → ℕ → List ℕ
-lines_below w transmits zero = []
-lines_below w transmits (suc n) = lines_below w transmits n ++ device_lines n (counts_of w transmits n)
+unfoldable pub lines_below : ℕ → World → Transmits → ℕ → List ℕ
+lines_below version w transmits zero = []
+lines_below version w transmits (suc n) = lines_below version w transmits n ++ device_lines version n (counts_of w transmits n)
 
 -- The line of each row that polls in order, the lines of each device in rising order of their numbers, the poll list, the
 -- totals.
-unfoldable pub text_of : World → Transmits → List ℕ
-text_of w transmits = flat_map (λ line. ended (poll_line line)) w.lines
-    ++ (lines_below w transmits 17
+unfoldable pub text_of : ℕ → World → Transmits → List ℕ
+text_of version w transmits = flat_map (λ line. ended (poll_line line)) w.lines
+    ++ (lines_below version w transmits 17
     ++ (ended (list_line w.list)
     ++ ended (total_line (totals_of (attached w.devices) w.lines))))
 
--- the serial report: the text of what the rows of a trace make, or the fault of the first enable row that is early
-abbrev pub report_of : Transmits → Result World ReplayFault → Result (List ℕ) ReplayFault
-report_of transmits (Ok w) = Ok (text_of w transmits)
-report_of transmits (Err fault) = Err fault
+-- the serial report: the text of what the rows of a trace of this version make, or the fault of the first enable row that is early
+abbrev pub report_of : ℕ → Transmits → Result World ReplayFault → Result (List ℕ) ReplayFault
+report_of version transmits (Ok w) = Ok (text_of version w transmits)
+report_of version transmits (Err fault) = Err fault
 
-abbrev pub serial_report : Settings → List Row → Result (List ℕ) ReplayFault
-serial_report s rows = report_of (transmits_of rows) (world_of s rows)
+abbrev pub serial_report : Settings → ℕ → List Row → Result (List ℕ) ReplayFault
+serial_report s version rows = report_of version (transmits_of rows) (world_of s rows)

@@ -17,9 +17,19 @@ pub enum ReplayFault {
     /// 12: this row enables a device whose disable is pending still. Rows count from 1.
     #[error("row {row} enables a device whose disable is pending still")]
     Pending { row: u32 },
+    /// 13: more packets arrive at this device than its ring has places for. Only runs with threads are refused so, and the
+    /// lowest such device is named.
+    #[error("the ring of device {device} needs {needs} places")]
+    RingTooSmall { device: u32, needs: u32 },
+    /// 14: a gate shut a run with threads.
+    #[error("a gate was shut")]
+    GateShut,
     /// 15: the writer failed. How much of the report went out isn't known.
     #[error("the report could not be written")]
     OutputFailed,
+    /// 16: a thread of a run could not be started.
+    #[error("a thread could not be started")]
+    SpawnFailed,
 }
 
 impl From<TraceFault> for ReplayFault {
@@ -53,7 +63,10 @@ impl ReplayFault {
         match self {
             ReplayFault::Trace(fault) => fault.number(),
             ReplayFault::Pending { .. } => 12,
+            ReplayFault::RingTooSmall { .. } => 13,
+            ReplayFault::GateShut => 14,
             ReplayFault::OutputFailed => 15,
+            ReplayFault::SpawnFailed => 16,
         }
     }
 }
@@ -99,7 +112,15 @@ impl fmt::Display for FaultLine<'_> {
         match self.0 {
             ReplayFault::Trace(fault) => write!(f, "{}", TraceLine(fault)),
             ReplayFault::Pending { row } => write!(f, "trace fault 12 Pending row {row}"),
+            ReplayFault::RingTooSmall { device, needs } => {
+                write!(
+                    f,
+                    "ring fault 13 RingTooSmall device {device} needs {needs}"
+                )
+            }
+            ReplayFault::GateShut => write!(f, "worker fault 14 GateShut"),
             ReplayFault::OutputFailed => write!(f, "output fault 15 OutputFailed"),
+            ReplayFault::SpawnFailed => write!(f, "worker fault 16 SpawnFailed"),
         }
     }
 }
@@ -113,12 +134,17 @@ pub fn fault_line(alloc: Global, fault: &ReplayFault) -> Result<String, AllocErr
     format!(in alloc; "{}\n", FaultLine(fault))
 }
 
-/// The exit status of a fault: 2 for the trace's own faults, 4 where memory or the output failed.
+/// The exit status of a fault: 2 for the trace's own faults, 3 for a ring that is too small, 4 where memory, the output or the
+/// workers failed.
 pub fn status(fault: &ReplayFault) -> u8
     ensures { result ≡ status_of fault.now }
 {
     match fault {
-        ReplayFault::Trace(TraceFault::OutOfMemory) | ReplayFault::OutputFailed => 4,
+        ReplayFault::Trace(TraceFault::OutOfMemory)
+        | ReplayFault::GateShut
+        | ReplayFault::OutputFailed
+        | ReplayFault::SpawnFailed => 4,
+        ReplayFault::RingTooSmall { .. } => 3,
         _ => 2,
     }
 }

@@ -1,6 +1,6 @@
 //! What the rows that poll leave for the report.
 
-use poll_engine::{RunReport, ThreadReport};
+use poll_engine::{BusyReport, RunReport, ThreadReport};
 
 /// What one row that polls did.
 #[derive(Clone, Copy, Debug, PartialEq, Eq)]
@@ -16,6 +16,12 @@ pub enum Line {
         device: u32,
         report: ThreadReport,
     },
+    /// A busy row: its number, its device, and the busy polling of the device.
+    Busy {
+        row: u32,
+        device: u32,
+        report: BusyReport,
+    },
 }
 
 ghost use Rattle.std.specs.Prelude.{◌≡◌};
@@ -29,6 +35,7 @@ impl Line {
         match self {
             Line::Softirq { row, .. } => *row,
             Line::Kthread { row, .. } => *row,
+            Line::Busy { row, .. } => *row,
         }
     }
 }

@@ -1,17 +1,14 @@
-//! The whole program, but for its real ends: from the words, the input and the two outputs to the exit status.
+//! What programs that replay have in common: their words, why they failed, and how they ended.
 
-ghost use Rattle.std.specs.Prelude.{◌≡◌, ◌≢◌, ◌++◌, ℕ, List, Some, true, IfErr, OnOk, map, string_bytes, codes};
-ghost use Rattle.std.specs.Io.KnownBytes.{Appends, Keeps};
-ghost use Rattle.trace_replay.specs.Program.{EndsBy, Failed, IsFault, IsReport, line_of, status_of};
-ghost use Rattle.trace_replay.specs.declared.fault.ReplayFault.TheVariants.{OutputFailed};
-ghost use Rattle.trace_replay.specs.declared.program.ProgramFault.TheVariants.{Replay};
+ghost use Rattle.std.specs.Prelude.{◌≡◌, true};
+ghost use Rattle.std.specs.Io.KnownBytes.{Appends};
+ghost use Rattle.trace_replay.specs.Program.{EndsBy, line_of, status_of};
 
 use crate::fault::{ReplayFault, fault_line, status};
-use crate::serial::replay_serial;
-use replay_words::{WordFault, parse_words, word_line, word_status};
+use replay_words::{WordFault, word_line, word_status};
 use std::alloc::Global;
 use std::env;
-use std::io::{ErrorKind, Read, Write};
+use std::io::{ErrorKind, Write};
 use thiserror::Error;
 
 /// Why the program gave no report.
@@ -80,53 +77,5 @@ pub fn end_by<E: Write>(alloc: Global, fault: &ProgramFault, errors: &mut E) -> 
     Ending {
         status: fault.status(),
         told: tell(alloc, fault, errors),
-    }
-}
-
-// Replays the input as the words ask for, and writes the report.
-fn replay_asked<R: Read + Drop, W: Write>(
-    alloc: Global,
-    words: &[String],
-    input: R,
-    output: &mut W,
-) -> Result<(), ProgramFault>
-    ensures written { OnOk result ((bytes : List ℕ) → R.remaining input ≡ Some bytes
-        → (text : List ℕ) × IsReport (map string_bytes words.now) bytes text × Appends (W.contents output.old) (W.contents output.new) text) }
-    ensures fault { IfErr result (IsFault (map string_bytes words.now) (R.remaining input)) }
-    ensures untouched { IfErr result (λ fault. fault ≢ Replay OutputFailed → Keeps (W.contents output.old) (W.contents output.new)) }
-{
-    match parse_words(alloc, words) {
-        Ok((_mode, settings)) => match replay_serial(alloc, input, output, &settings) {
-            Ok(()) => Ok(()),
-            Err(fault) => Err(ProgramFault::Replay(fault)),
-        },
-        Err(fault) => Err(ProgramFault::Words(fault)),
-    }
-}
-
-/// Runs the program: replays `input` as the words after its name ask for, writes the report to `output` or the line of the
-/// fault to `errors`, and says how it ended.
-///
-/// The status is 0 exactly where the report was written. Serial is the one mode that words can ask for.
-pub fn run_program<R: Read + Drop, W: Write, E: Write>(
-    alloc: Global,
-    words: &[String],
-    input: R,
-    output: &mut W,
-    errors: &mut E,
-) -> Ending
-    // What is written is the report of the bytes read, by the settings that the words ask for, and nothing else.
-    ensures written { result.status ≡ 0 → (bytes : List ℕ) → R.remaining input ≡ Some bytes
-        → (text : List ℕ) × IsReport (map string_bytes words.now) bytes text × Appends (W.contents output.old) (W.contents output.new) text }
-    ensures quiet { result.status ≡ 0 → Keeps (E.contents errors.old) (E.contents errors.new) }
-    ensures failed { result.status ≢ 0
-        → Failed (map string_bytes words.now) (R.remaining input) (W.contents output.old) (W.contents output.new) (E.contents errors.old) (E.contents errors.new) result }
-{
-    match replay_asked(alloc, words, input, output) {
-        Ok(()) => Ending {
-            status: 0,
-            told: false,
-        },
-        Err(fault) => end_by(alloc, &fault, errors),
     }
 }

@@ -7,7 +7,7 @@ use crate::line::Line;
 use crate::report::{Totals, add_device, add_lines, add_list, add_totals};
 use device_model::{Event, PLACES, ReplayBench, Row};
 use napi_model::Kind;
-use poll_engine::{Next, PlainList, PollList, RunReport, ThreadReport, run_softirq};
+use poll_engine::{BusyReport, Next, PlainList, PollList, RunReport, ThreadReport, run_softirq};
 use replay_words::Settings;
 use std::alloc::{AllocError, Global};
 
@@ -30,20 +30,22 @@ impl<B: ReplayBench> Replay<B> {
     ghost use Rattle.device_model.specs.Places.{empty};
     ghost use Rattle.device_model.specs.Range.{IsWithin};
     ghost use Rattle.device_model.specs.Row.{device_fits, value_fits};
+    ghost use Rattle.device_model.specs.Waiting.{count, is_left_to_list};
     ghost use Rattle.device_model.specs.declared.event.Event.TheVariants.{Enable};
     ghost use Rattle.device_model.specs.declared.fault.TraceFault.TheVariants.{OutOfMemory};
     ghost use Rattle.trace_replay.specs.Played.{world_in};
-    ghost use Rattle.trace_replay.specs.Replay.{after_event, after_row, is_early, start, with_packet, with_run, with_thread};
+    ghost use Rattle.trace_replay.specs.Replay.{after_event, after_row, entry, is_early, start, with_busy, with_packet, with_run, with_thread};
     ghost use Rattle.trace_replay.specs.Transmits.{after_transmit};
     ghost use Rattle.trace_replay.specs.World.{World};
     ghost use Rattle.trace_replay.specs.declared.fault.ReplayFault.TheVariants.{Pending, Trace};
-    ghost use Rattle.trace_replay.specs.declared.line.Line.TheVariants.{Kthread, Softirq};
+    ghost use Rattle.trace_replay.specs.declared.line.Line.TheVariants.{Busy, Kthread, Softirq};
 
     /// A replay over a bench without devices. Where there is room for a line of each row that polls, none of these takes
     /// memory.
     pub(crate) fn new(bench: B, lines: Vec<Line>) -> Replay<B>
         requires { lines.items ≡ [] }
         ensures bench { result.bench ≡ bench }
+        ensures lines { result.lines.items ≡ [] }
         ensures world { B.devices bench ≡ empty → world_in B.devices result ≡ start }
     {
         Replay {
@@ -79,6 +81,18 @@ impl<B: ReplayBench> Replay<B> {
         )
     }
 
+    // Where a poll that ended so left the device to the list, its number is put there.
+    fn list_left(&mut self, device: u32, next: Next)
+        requires { length self.old.list + count (is_left_to_list next) ≤ B.waiting self.old.bench }
+        ensures list { self.new.list ≡ self.old.list ++ entry (is_left_to_list next) device }
+        ensures bench { self.new.bench ≡ self.old.bench }
+        ensures lines { self.new.lines ≡ self.old.lines }
+    {
+        if matches!(next, Next::Again(Kind::List) | Next::Repoll) {
+            self.list.push(device);
+        }
+    }
+
     // The device's thread polls it; where that leaves the device to the list, its number is put there.
     fn poll_thread(&mut self, settings: &Settings, device: u32) -> ThreadReport
         ensures world { B.Exact → (row : ℕ) → record (world_in B.devices self.new) { lines = self.old.lines.items ++ Kthread row device result ∷ [] } ≡ with_thread settings.now row device (world_in B.devices self.old) }
@@ -88,9 +102,7 @@ impl<B: ReplayBench> Replay<B> {
         let report = self
             .bench
             .poll_thread(device, settings.weight, MOST_THREAD_POLLS);
-        if matches!(report.next, Next::Again(Kind::List) | Next::Repoll) {
-            self.list.push(device);
-        }
+        self.list_left(device, report.next);
         report
     }
 
@@ -111,6 +123,39 @@ impl<B: ReplayBench> Replay<B> {
     {
         let report = self.poll_thread(settings, device);
         self.lines.push(Line::Kthread {
+            row,
+            device,
+            report,
+        })?;
+        Ok(())
+    }
+
+    // The device is busy polled; where that leaves the device to the list, its number is put there.
+    fn poll_busily(&mut self, settings: &Settings, device: u32, rounds: u32) -> BusyReport
+        requires { IsWithin 1 65535 rounds }
+        ensures world { B.Exact → (row : ℕ) → record (world_in B.devices self.new) { lines = self.old.lines.items ++ Busy row device result ∷ [] } ≡ with_busy settings.now row device rounds (world_in B.devices self.old) }
+        ensures lines { self.new.lines ≡ self.old.lines }
+        ensures transmits { Keeps B.shows self.old.bench self.new.bench }
+    {
+        let report = self.bench.busy_poll(device, settings.weight, rounds);
+        self.list_left(device, report.next);
+        report
+    }
+
+    fn busy(
+        &mut self,
+        settings: &Settings,
+        row: u32,
+        device: u32,
+        rounds: u32,
+    ) -> Result<(), AllocError>
+        requires { IsWithin 1 65535 rounds }
+        ensures lines { OnOk result (length self.new.lines.items ≤ length self.old.lines.items + 1) }
+        ensures world { B.Exact → OnOk result (world_in B.devices self.new ≡ with_busy settings.now row device rounds (world_in B.devices self.old)) }
+        ensures transmits { Keeps B.shows self.old.bench self.new.bench }
+    {
+        let report = self.poll_busily(settings, device, rounds);
+        self.lines.push(Line::Busy {
             row,
             device,
             report,
@@ -148,6 +193,7 @@ impl<B: ReplayBench> Replay<B> {
                     return Err(ReplayFault::Pending { row: number });
                 }
             }
+            Event::Busy => self.busy(settings, number, row.device, row.value)?,
             Event::Threaded => self.bench.set_threaded(row.device, row.value == 1),
         }
         Ok(())
@@ -183,25 +229,25 @@ impl<B: ReplayBench> Replay<B> {
     ghost use Rattle.trace_replay.specs.Report.{lines_below, text_of};
 
     // Adds the lines of each device, in rising order of their numbers.
-    fn add_devices(&self, text: &mut String) -> Result<(), AllocError>
+    fn add_devices(&self, version: u32, text: &mut String) -> Result<(), AllocError>
         ensures { B.Exact → (all : Transmits) → B.shows self.now.bench all
-            → OnOk result (string_bytes text.new ≡ string_bytes text.old ++ lines_below (world_in B.devices self.now) all 17) }
+            → OnOk result (string_bytes text.new ≡ string_bytes text.old ++ lines_below version (world_in B.devices self.now) all 17) }
     {
         for number in 0..PLACES {
-            add_device(text, number, self.bench.counts(number))?;
+            add_device(text, version, number, self.bench.counts(number))?;
         }
         Ok(())
     }
 
-    /// The text of the report.
+    /// The text of the report, as a trace of this version has it.
     #[tactic(auto, unfolding(crate::specs::Report::text_of))]
-    pub(crate) fn report(&self, alloc: Global) -> Result<String, AllocError>
+    pub(crate) fn report(&self, alloc: Global, version: u32) -> Result<String, AllocError>
         requires { length self.now.lines.items ≤ 100000 }
-        ensures { B.Exact → (all : Transmits) → B.shows self.now.bench all → IfOk result (λ text. string_bytes text ≡ text_of (world_in B.devices self.now) all) }
+        ensures { B.Exact → (all : Transmits) → B.shows self.now.bench all → IfOk result (λ text. string_bytes text ≡ text_of version (world_in B.devices self.now) all) }
     {
         let mut text = String::new(alloc);
         add_lines(&mut text, self.lines.as_slice())?;
-        self.add_devices(&mut text)?;
+        self.add_devices(version, &mut text)?;
         add_list(&mut text, self.list.ids())?;
         let totals = Totals::of(self.bench.attached(), self.lines.as_slice());
         add_totals(&mut text, &totals)?;

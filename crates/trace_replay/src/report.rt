@@ -1,7 +1,7 @@
 //! The text of the report.
 
 ghost use Rattle.std.specs.Prelude.{◌≡◌, ◌+◌, ◌^◌, ◌<◌, ◌≤◌, ◌++◌, IfOk, OnOk, flat_map, length, string_bytes};
-ghost use Rattle.trace_replay.specs.Report.{device_line, device_lines, ended, flag, list_line, napi_line, of_run, poll_line, state_word, total_line, totals_of, tx_line, tx_lines};
+ghost use Rattle.trace_replay.specs.Report.{device_line, device_lines, ended, flag, held_part, list_line, napi_line, of_run, poll_line, state_word, total_line, totals_of, tx_line, tx_lines};
 
 use crate::line::Line;
 use device_model::{DeviceCounts, DeviceState, TxCounts};
@@ -39,6 +39,15 @@ fn add_line(text: &mut String, line: &Line) -> Result<(), AllocError>
             "kthread {} device {} polls {} work {}",
             row, device, report.polls, report.work
         )?,
+        Line::Busy {
+            row,
+            device,
+            report,
+        } => writeln!(
+            text,
+            "busy {} device {} polls {} work {}",
+            row, device, report.polls, report.work
+        )?,
     }
     Ok(())
 }
@@ -46,16 +55,17 @@ fn add_line(text: &mut String, line: &Line) -> Result<(), AllocError>
 /// Adds the lines of a device, where there is one: two, and a third one where its transmit side had a row.
 pub(crate) fn add_device(
     text: &mut String,
+    version: u32,
     number: u32,
     counts: Option<DeviceCounts>,
 ) -> Result<(), AllocError>
-    ensures { OnOk result (string_bytes text.new ≡ string_bytes text.old ++ device_lines number counts) }
+    ensures { OnOk result (string_bytes text.new ≡ string_bytes text.old ++ device_lines version number counts) }
 {
     let Some(counts) = counts else {
         return Ok(());
     };
     add_device_line(text, number, &counts)?;
-    add_napi_line(text, number, &counts)?;
+    add_napi_line(text, version, number, &counts)?;
     add_transmit(text, number, counts.tx)
 }
 
@@ -88,10 +98,25 @@ fn add_device_line(text: &mut String, number: u32, counts: &DeviceCounts) -> Res
     Ok(())
 }
 
-fn add_napi_line(text: &mut String, number: u32, counts: &DeviceCounts) -> Result<(), AllocError>
-    ensures { OnOk result (string_bytes text.new ≡ string_bytes text.old ++ ended (napi_line number counts.now)) }
+// In version 2 it ends with the completions that were held.
+fn add_held(text: &mut String, version: u32, held: u64) -> Result<(), AllocError>
+    ensures { OnOk result (string_bytes text.new ≡ string_bytes text.old ++ held_part version held) }
 {
-    writeln!(
+    if version == 2 {
+        write!(text, " held {held}")?;
+    }
+    Ok(())
+}
+
+fn add_napi_line(
+    text: &mut String,
+    version: u32,
+    number: u32,
+    counts: &DeviceCounts,
+) -> Result<(), AllocError>
+    ensures { OnOk result (string_bytes text.new ≡ string_bytes text.old ++ ended (napi_line version number counts.now)) }
+{
+    write!(
         text,
         "napi {} granted {} missed {} disabled {} again {} released {} word {}",
         number,
@@ -102,11 +127,17 @@ fn add_napi_line(text: &mut String, number: u32, counts: &DeviceCounts) -> Resul
         counts.released,
         counts.word
     )?;
+    add_held(text, version, counts.held)?;
+    text.push_str("\n")?;
     Ok(())
 }
 
-// Adds the line of a device's transmit side, where that had a row.
-fn add_transmit(text: &mut String, number: u32, counts: Option<TxCounts>) -> Result<(), AllocError>
+/// Adds the line of a device's transmit side, where that had a row. The only error is want of memory.
+pub fn add_transmit(
+    text: &mut String,
+    number: u32,
+    counts: Option<TxCounts>,
+) -> Result<(), AllocError>
     ensures { OnOk result (string_bytes text.new ≡ string_bytes text.old ++ tx_lines number counts) }
 {
     match counts {
@@ -157,10 +188,15 @@ fn add_numbers(text: &mut String, numbers: &[u32]) -> Result<(), AllocError>
 /// The sums of the last line: opened devices, and over the runs of all softirq rows.
 #[derive(Clone, Copy, Debug, PartialEq, Eq)]
 pub(crate) struct Totals {
+    /// Opened devices.
     pub devices: usize,
+    /// Runs of the softirq.
     pub runs: u64,
+    /// Polls of these runs.
     pub polls: u64,
+    /// Packets that these polls gave.
     pub work: u64,
+    /// Runs that were squeezed.
     pub squeezed: u64,
 }
 
@@ -180,7 +216,7 @@ impl fmt::Display for Totals {
 }
 
 impl Totals {
-    // Adds the run of a softirq row; a thread's polling is no run.
+    // Adds the run of a softirq row; a thread's polling is no run, and busy polling is none.
     fn add(&mut self, line: &Line)
         requires { (self.old.runs < 2 ^ 63) × (self.old.polls < 2 ^ 63) × (self.old.work < 2 ^ 63) × (self.old.squeezed < 2 ^ 63) }
         ensures devices { self.new.devices ≡ self.old.devices }

@@ -10,7 +10,7 @@ ghost use Rattle.trace_replay.specs.Played.{world_in};
 ghost use Rattle.trace_replay.specs.Refused.{IsRefused};
 ghost use Rattle.trace_replay.specs.Replay.{start, world_of};
 ghost use Rattle.trace_replay.specs.Report.{serial_report};
-ghost use Rattle.trace_replay.specs.Transmits.{after_transmits};
+ghost use Rattle.trace_replay.specs.Transmits.{after_transmits, transmits_of};
 ghost use Rattle.trace_replay.specs.declared.fault.ReplayFault.TheVariants.{OutputFailed, Trace};
 
 use crate::fault::ReplayFault;
@@ -27,7 +27,7 @@ pub(crate) fn room_for_lines(alloc: Global, rows: &[Row]) -> Result<Vec<Line>, A
 {
     let polling = rows
         .iter()
-        .filter(|row| row.event == Event::Softirq || row.event == Event::Kthread)
+        .filter(|row| matches!(row.event, Event::Softirq | Event::Kthread | Event::Busy))
         .count();
     Vec::with_capacity(alloc, polling)
 }
@@ -60,6 +60,7 @@ impl<B: ReplayBench> Replay<B> {
         &mut self,
         alloc: Global,
         settings: &Settings,
+        version: u32,
         rows: &[Row],
     ) -> Result<String, ReplayFault>
         requires accepted { AcceptedAfter [] rows.now }
@@ -67,16 +68,53 @@ impl<B: ReplayBench> Replay<B> {
         requires start { B.Exact → world_in B.devices self.old ≡ start }
         requires transmits { B.shows self.old.bench empty }
         requires lines { self.old.lines.items ≡ [] }
-        ensures report { B.Exact → IfOk result (λ text. serial_report settings.now rows.now ≡ Ok (string_bytes text)) }
+        ensures report { B.Exact → IfOk result (λ text. serial_report settings.now version rows.now ≡ Ok (string_bytes text)) }
+        ensures transmits { OnOk result (B.shows self.new.bench (transmits_of rows.now)) }
         ensures fault { IfErr result (IsRefused B.Exact settings.now rows.now) }
     {
         self.play_rows(alloc, settings, rows)?;
-        Ok(self.report(alloc)?)
+        Ok(self.report(alloc, version)?)
     }
 }
 
-/// Writes the text of a report, all of it at once.
-pub(crate) fn write_text<W: Write>(writer: &mut W, text: &String) -> Result<(), ReplayFault>
+/// Plays the rows of a trace on a bench that has no devices yet, and gives the text of their report, as a trace of this version
+/// has it. The bench comes back, after a fault too.
+///
+/// The faults are want of memory, and an enable row whose disable is pending still.
+pub fn report_on<B: ReplayBench>(
+    alloc: Global,
+    bench: B,
+    settings: &Settings,
+    version: u32,
+    rows: &[Row],
+) -> (B, Result<String, ReplayFault>)
+    requires accepted { AcceptedAfter [] rows.now }
+    requires count { length rows.now ≤ 100000 }
+    requires devices { B.Exact → B.devices bench ≡ empty }
+    requires transmits { B.shows bench empty }
+
+    // On an exact bench text and fault are those of the serial report.
+    ensures report { B.Exact → IfOk result.1 (λ text. serial_report settings.now version rows.now ≡ Ok (string_bytes text)) }
+    ensures fault { IfErr result.1 (IsRefused B.Exact settings.now rows.now) }
+    ensures transmits { OnOk result.1 (B.shows result.0 (transmits_of rows.now)) }
+{
+    let lines = match room_for_lines(alloc, rows) {
+        Ok(lines) => lines,
+        Err(error) => return (bench, Err(ReplayFault::from(error))),
+    };
+    let mut replay = Replay::new(bench, lines);
+    let report = replay.report_rows(alloc, settings, version, rows);
+    let Replay {
+        bench,
+        list: _,
+        lines: _,
+    } = replay;
+    (bench, report)
+}
+
+/// Writes the text of a report, all of it at once. The only fault is [`OutputFailed`](ReplayFault::OutputFailed), after which
+/// it isn't known how much went out.
+pub fn write_text<W: Write>(writer: &mut W, text: &String) -> Result<(), ReplayFault>
     ensures written { OnOk result (Appends (W.contents writer.old) (W.contents writer.new) (string_bytes text.now)) }
     ensures fault { IfErr result (λ fault. fault ≡ OutputFailed) }
 {

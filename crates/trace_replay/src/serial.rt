@@ -8,8 +8,7 @@ ghost use Rattle.trace_replay.specs.Report.{serial_report};
 ghost use Rattle.trace_replay.specs.declared.fault.ReplayFault.TheVariants.{OutputFailed};
 
 use crate::fault::ReplayFault;
-use crate::replay::Replay;
-use crate::rows::{room_for_lines, write_text};
+use crate::rows::{report_on, write_text};
 use device_model::{Row, SerialBench, read_trace};
 use replay_words::Settings;
 use std::alloc::Global;
@@ -18,19 +17,19 @@ use std::io::{Read, Write};
 // Plays the rows, and writes the report of them, all of it at once.
 fn write_report<W: Write>(
     alloc: Global,
+    version: u32,
     rows: &[Row],
     writer: &mut W,
     settings: &Settings,
 ) -> Result<(), ReplayFault>
     requires accepted { AcceptedAfter [] rows.now }
     requires count { length rows.now ≤ 100000 }
-    ensures written { OnOk result ((text : List ℕ) × (serial_report settings.now rows.now ≡ Ok text) × Appends (W.contents writer.old) (W.contents writer.new) text) }
-    ensures fault { IfErr result (λ fault. IsOutside fault ⊎ (serial_report settings.now rows.now ≡ Err fault)) }
+    ensures written { OnOk result ((text : List ℕ) × (serial_report settings.now version rows.now ≡ Ok text) × Appends (W.contents writer.old) (W.contents writer.new) text) }
+    ensures fault { IfErr result (λ fault. IsOutside fault ⊎ (serial_report settings.now version rows.now ≡ Err fault)) }
     ensures untouched { IfErr result (λ fault. fault ≢ OutputFailed → Keeps (W.contents writer.old) (W.contents writer.new)) }
 {
-    let mut replay = Replay::new(SerialBench::new(alloc)?, room_for_lines(alloc, rows)?);
-    let text = replay.report_rows(alloc, settings, rows)?;
-    write_text(writer, &text)
+    let (_bench, report) = report_on(alloc, SerialBench::new(alloc)?, settings, version, rows);
+    write_text(writer, &report?)
 }
 
 /// Plays a trace on one thread, and writes the report of it.
@@ -53,5 +52,5 @@ pub fn replay_serial<R: Read + Drop, W: Write>(
     ensures untouched { IfErr result (λ fault. fault ≢ OutputFailed → Keeps (W.contents writer.old) (W.contents writer.new)) }
 {
     let trace = read_trace(alloc, reader)?;
-    write_report(alloc, trace.rows(), writer, settings)
+    write_report(alloc, trace.version(), trace.rows(), writer, settings)
 }

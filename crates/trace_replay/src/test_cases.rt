@@ -587,3 +587,48 @@ total devices 1 runs 0 polls 0 work 0 squeezed 0
 ",
     },
 ];
+
+// Traces of version 2.
+pub(crate) const BUSY: [Case; 3] = [
+    Case {
+        name: "rounds that are held",
+        rows: &[(
+            1,
+            "0,1,open,4\n1,1,disable,0\n2,1,rx,100\n3,1,enable,0\n4,1,busy,2\n",
+        )],
+        polling: USUAL,
+        report: "busy 5 device 1 polls 3 work 1
+device 1 on arrived 1 dropped 0 polled 1 bytes 100 left 0 polls 3
+napi 1 granted 0 missed 1 disabled 0 again 0 released 1 word 0 held 2
+list
+total devices 1 runs 0 polls 0 work 0 squeezed 0
+",
+    },
+    Case {
+        name: "busy polling of an instance on the list",
+        rows: &[(1, "0,1,open,4\n1,1,rx,100\n2,1,busy,2\n")],
+        polling: USUAL,
+        report: "busy 3 device 1 polls 0 work 0
+device 1 on arrived 1 dropped 0 polled 0 bytes 0 left 1 polls 0
+napi 1 granted 1 missed 0 disabled 0 again 0 released 0 word 4294967297 held 0
+list 1
+total devices 1 runs 0 polls 0 work 0 squeezed 0
+",
+    },
+    Case {
+        name: "a full weight behind the stop",
+        rows: &[
+            (1, "0,1,open,256\n1,1,disable,0\n"),
+            (129, "2,1,rx,100\n"),
+            (1, "3,1,enable,0\n4,1,busy,1\n5,0,softirq,0\n"),
+        ],
+        polling: USUAL,
+        report: "busy 133 device 1 polls 2 work 128
+softirq 134 polls 1 work 1 squeezed 0
+device 1 on arrived 129 dropped 0 polled 129 bytes 12900 left 0 polls 3
+napi 1 granted 0 missed 129 disabled 0 again 0 released 1 word 0 held 0
+list
+total devices 1 runs 1 polls 1 work 1 squeezed 0
+",
+    },
+];

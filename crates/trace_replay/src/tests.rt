@@ -1,9 +1,8 @@
 //! The worked traces, and what no contract says: that calls succeed, and what a failing reader or writer gives.
 
 use crate::fault::{ReplayFault, fault_line, status};
-use crate::program::{Ending, run_program};
 use crate::serial::replay_serial;
-use crate::test_cases::{BOUNDS, CONTROLS, Case, POLLING, WORKED};
+use crate::test_cases::{BOUNDS, BUSY, CONTROLS, Case, POLLING, WORKED};
 use device_model::TraceFault;
 use replay_words::Settings;
 use std::alloc::{AllocError, Global};
@@ -13,6 +12,8 @@ use std::process::Abort;
 use std::test::Fail;
 
 const HEADER: &str = "moment,device,event,value\n";
+
+const HEADER_2: &str = "moment,device,event,value,2\n";
 
 const ONE_PACKET: &str = "moment,device,event,value\n0,1,open,4\n1,1,rx,100\n2,0,softirq,0\n";
 
@@ -31,8 +32,8 @@ total devices 1 runs 0 polls 0 work 0 squeezed 0
 ";
 
 // The text of these rows below a header.
-fn text_of(alloc: Global, rows: &[(u32, &str)]) -> Result<String, AllocError> {
-    let mut text = String::from_str(alloc, HEADER)?;
+fn text_of(alloc: Global, header: &str, rows: &[(u32, &str)]) -> Result<String, AllocError> {
+    let mut text = String::from_str(alloc, header)?;
     for (times, row) in rows {
         for _ in 0..*times {
             text.push_str(row)?;
@@ -41,19 +42,24 @@ fn text_of(alloc: Global, rows: &[(u32, &str)]) -> Result<String, AllocError> {
     Ok(text)
 }
 
-fn report_of(alloc: Global, case: &Case) -> Result<Vec<u8>, Fail> {
+fn report_of(alloc: Global, header: &str, case: &Case) -> Result<Vec<u8>, Fail> {
     let (budget, weight, window) = case.polling;
     let settings = Settings::new(1, budget, weight, window).ok_or("in range")?;
-    let text = text_of(alloc, case.rows)?;
+    let text = text_of(alloc, header, case.rows)?;
     let mut report = Vec::new(alloc);
     replay_serial(alloc, text.as_bytes(), &mut report, &settings)?;
     Ok(report)
 }
 
 // Plays each trace, and compares its report.
-fn compare_reports(rt: &impl Abort, alloc: Global, cases: &[Case]) -> Result<(), Fail> {
+fn compare_reports(
+    rt: &impl Abort,
+    alloc: Global,
+    header: &str,
+    cases: &[Case],
+) -> Result<(), Fail> {
     for case in cases {
-        let report = report_of(alloc, case)?;
+        let report = report_of(alloc, header, case)?;
         assert_eq!(rt;
             report.as_slice(),
             case.report.as_bytes(),
@@ -66,22 +72,27 @@ fn compare_reports(rt: &impl Abort, alloc: Global, cases: &[Case]) -> Result<(),
 
 #[test]
 fn worked_traces(rt: HostRuntime) -> Result<(), Fail> {
-    compare_reports(&rt, rt.alloc(), &WORKED)
+    compare_reports(&rt, rt.alloc(), HEADER, &WORKED)
 }
 
 #[test]
 fn controls(rt: HostRuntime) -> Result<(), Fail> {
-    compare_reports(&rt, rt.alloc(), &CONTROLS)
+    compare_reports(&rt, rt.alloc(), HEADER, &CONTROLS)
 }
 
 #[test]
 fn polling(rt: HostRuntime) -> Result<(), Fail> {
-    compare_reports(&rt, rt.alloc(), &POLLING)
+    compare_reports(&rt, rt.alloc(), HEADER, &POLLING)
 }
 
 #[test]
 fn bounds(rt: HostRuntime) -> Result<(), Fail> {
-    compare_reports(&rt, rt.alloc(), &BOUNDS)
+    compare_reports(&rt, rt.alloc(), HEADER, &BOUNDS)
+}
+
+#[test]
+fn busy_polling(rt: HostRuntime) -> Result<(), Fail> {
+    compare_reports(&rt, rt.alloc(), HEADER_2, &BUSY)
 }
 
 // Rows, and the line of their fault.
@@ -176,7 +187,11 @@ fn other_headers(rt: HostRuntime) {
 
 // The text of one open, and then as many packets.
 fn packets(alloc: Global, count: u32) -> Result<String, AllocError> {
-    text_of(alloc, &[(1, "0,1,open,4\n"), (count, "1,1,rx,100\n")])
+    text_of(
+        alloc,
+        HEADER,
+        &[(1, "0,1,open,4\n"), (count, "1,1,rx,100\n")],
+    )
 }
 
 #[test]
@@ -296,7 +311,7 @@ fn failing_writes(rt: HostRuntime) {
 }
 
 // Each fault, its line and its exit status.
-const FAULTS: [(ReplayFault, &str, u8); 13] = [
+const FAULTS: [(ReplayFault, &str, u8); 16] = [
     (
         ReplayFault::Trace(TraceFault::BadHeader),
         "trace fault 1 BadHeader row 0\n",
@@ -358,70 +373,36 @@ const FAULTS: [(ReplayFault, &str, u8); 13] = [
         2,
     ),
     (
+        ReplayFault::RingTooSmall {
+            device: 1,
+            needs: 1000,
+        },
+        "ring fault 13 RingTooSmall device 1 needs 1000\n",
+        3,
+    ),
+    (ReplayFault::GateShut, "worker fault 14 GateShut\n", 4),
+    (
         ReplayFault::OutputFailed,
         "output fault 15 OutputFailed\n",
         4,
     ),
+    (ReplayFault::SpawnFailed, "worker fault 16 SpawnFailed\n", 4),
 ];
+
+// Each of these faults has its line and its status.
+fn compare_lines(
+    rt: &impl Abort,
+    alloc: Global,
+    faults: &[(ReplayFault, &str, u8)],
+) -> Result<(), Fail> {
+    for (fault, line, number) in faults {
+        assert_eq!(rt; fault_line(alloc, fault)?.as_str(), *line);
+        assert_eq!(rt; status(fault), *number, "of {line:?}");
+    }
+    Ok(())
+}
 
 #[test]
 fn fault_lines(rt: HostRuntime) -> Result<(), Fail> {
-    for (fault, line, number) in FAULTS {
-        assert_eq!(rt; fault_line(rt.alloc(), &fault)?.as_str(), line);
-        assert_eq!(rt; status(&fault), number, "of {line:?}");
-    }
-    Ok(())
-}
-
-// The program over ends in memory: how it ended, what went out, and what went to the errors.
-fn play_program(
-    alloc: Global,
-    words: &[&str],
-    text: &str,
-) -> Result<(Ending, Vec<u8>, Vec<u8>), AllocError> {
-    let mut given = Vec::new(alloc);
-    for word in words {
-        given.push(String::from_str(alloc, *word)?)?;
-    }
-    let mut output = Vec::new(alloc);
-    let mut errors = Vec::new(alloc);
-    let ending = run_program(
-        alloc,
-        given.as_slice(),
-        text.as_bytes(),
-        &mut output,
-        &mut errors,
-    );
-    Ok((ending, output, errors))
-}
-
-#[test]
-fn programs(rt: HostRuntime) -> Result<(), Fail> {
-    let (ending, output, errors) = play_program(rt.alloc(), &["--budget=300"], ONE_PACKET)?;
-    assert_eq!(rt; ending.status, 0);
-    assert_eq!(rt; output.as_slice(), ONE_PACKET_REPORT.as_bytes());
-    assert!(rt; errors.is_empty());
-    for (words, text, status, line) in [
-        (["--budget=0"], ONE_PACKET, 64, "usage fault 64\n"),
-        (["--budget=1"], "", 2, "trace fault 1 BadHeader row 0\n"),
-    ] {
-        let (ending, output, errors) = play_program(rt.alloc(), &words, text)?;
-        assert_eq!(rt; (ending.status, ending.told), (status, true));
-        assert!(rt; output.is_empty());
-        assert_eq!(rt; errors.as_slice(), line.as_bytes());
-    }
-    Ok(())
-}
-
-// The status is that of the fault also where its line can't be told.
-#[test]
-fn failing_errors(rt: HostRuntime) {
-    let mut errors = FailingWriter {
-        taken: Vec::new(rt.alloc()),
-        before: 3,
-    };
-    let mut output = Vec::new(rt.alloc());
-    let ending = run_program(rt.alloc(), &[], b"".as_slice(), &mut output, &mut errors);
-    assert_eq!(rt; (ending.status, ending.told), (2, false));
-    assert_eq!(rt; errors.taken.as_slice(), b"tra".as_slice());
+    compare_lines(&rt, rt.alloc(), FAULTS.as_slice())
 }

@@ -6,6 +6,7 @@ use dql_core::{Dql, DqlFault, LimitEvent};
 use std::alloc::Global;
 use std::test::Fail;
 
+/// The queue: all sizes sent, how many of them are done, and what its limit was told.
 #[derive(Drop)]
 pub struct PlainQueue {
     capacity: usize,
@@ -16,6 +17,7 @@ pub struct PlainQueue {
 }
 
 impl PlainQueue {
+    /// An empty queue of so many places.
     pub fn new(alloc: Global, capacity: usize) -> PlainQueue {
         PlainQueue {
             capacity,
@@ -75,6 +77,7 @@ impl PlainQueue {
         Ok(false)
     }
 
+    /// What a transmit ring shows after these calls.
     pub fn state(&self) -> Result<TxState, Fail> {
         let limit = self.limit()?;
         Ok(TxState {

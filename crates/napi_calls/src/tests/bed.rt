@@ -22,10 +22,15 @@ use std::process::Abort;
 
 /// A disabled instance over a ring of four, with its two callers.
 pub struct Bed {
+    /// The other end of its ring.
     pub input: RxIn,
+    /// The instance.
     pub napi: Napi,
+    /// Caller 0.
     pub first: Caller,
+    /// Caller 1.
     pub second: Caller,
+    /// Its controller.
     pub control: Control<Off>,
     ghost two: { callers_of napi ≡ 2 },
     ghost first_of: { IsSeatOf napi first.pass },
@@ -67,6 +72,7 @@ pub fn seat_two(
     }
 }
 
+/// A new bed.
 pub fn make_bed(rt: &impl Abort, alloc: Global) -> Bed
     ensures first { IsNewSeat result.napi 0 result.first.pass }
     ensures second { IsNewSeat result.napi 1 result.second.pass }
@@ -92,6 +98,7 @@ pub fn word(napi: &Napi, caller: &mut Caller) -> u64
     encode(caller.look(napi))
 }
 
+/// Enables the instance, which has to be decided at the first try.
 pub fn enabled(rt: &impl Abort, napi: &Napi, control: Control<Off>, threaded: bool) -> Control<On>
     requires { IsSeatOf napi.now control.pass }
     ensures seat { IsSeatOf napi.now result.pass }
@@ -104,6 +111,7 @@ pub fn enabled(rt: &impl Abort, napi: &Napi, control: Control<Off>, threaded: bo
     control
 }
 
+/// A schedule, which has to be granted.
 pub fn granted(rt: &impl Abort, napi: &Napi, caller: Caller) -> Granted
     requires { IsSeatOf napi.now caller.pass }
     ensures seat { IsSeatOf napi.now result.pass }
@@ -116,6 +124,7 @@ pub fn granted(rt: &impl Abort, napi: &Napi, caller: Caller) -> Granted
     granted
 }
 
+/// A schedule, which has to be missed.
 pub fn missed(rt: &impl Abort, napi: &Napi, caller: Caller) -> Caller
     requires { IsSeatOf napi.now caller.pass }
     ensures seat { IsSeatOf napi.now result.pass }
@@ -128,6 +137,7 @@ pub fn missed(rt: &impl Abort, napi: &Napi, caller: Caller) -> Caller
     caller
 }
 
+/// Hands the instance over.
 pub fn handed(napi: &Napi, granted: Granted, kind: Kind) -> Caller
     requires { IsSeatOf napi.now granted.pass }
     ensures seat { IsSeatOf napi.now result.pass }
@@ -136,6 +146,7 @@ pub fn handed(napi: &Napi, granted: Granted, kind: Kind) -> Caller
     granted.hand(napi, kind)
 }
 
+/// Takes the instance, which has to be there.
 pub fn taken(rt: &impl Abort, napi: &Napi, caller: Caller, kind: Kind) -> Polling
     requires { IsSeatOf napi.now caller.pass }
     ensures seat { IsSeatOf napi.now result.pass }
@@ -148,6 +159,7 @@ pub fn taken(rt: &impl Abort, napi: &Napi, caller: Caller, kind: Kind) -> Pollin
     polling
 }
 
+/// Tries to take the instance, which must not be there.
 pub fn not_there(rt: &impl Abort, napi: &Napi, caller: Caller, kind: Kind) -> Caller
     requires { IsSeatOf napi.now caller.pass }
     ensures seat { IsSeatOf napi.now result.pass }
@@ -160,6 +172,7 @@ pub fn not_there(rt: &impl Abort, napi: &Napi, caller: Caller, kind: Kind) -> Ca
     caller
 }
 
+/// Completes, which has to be answered by another grant.
 pub fn again(rt: &impl Abort, napi: &Napi, polling: Polling) -> Granted
     requires { IsSeatOf napi.now polling.pass }
     ensures seat { IsSeatOf napi.now result.pass }
@@ -172,6 +185,7 @@ pub fn again(rt: &impl Abort, napi: &Napi, polling: Polling) -> Granted
     granted
 }
 
+/// Completes, which has to release the instance.
 pub fn released(rt: &impl Abort, napi: &Napi, polling: Polling) -> Caller
     requires { IsSeatOf napi.now polling.pass }
     ensures seat { IsSeatOf napi.now result.pass }
@@ -184,6 +198,7 @@ pub fn released(rt: &impl Abort, napi: &Napi, polling: Polling) -> Caller
     caller
 }
 
+/// Disables the instance, which nobody must have.
 pub fn disabled(rt: &impl Abort, napi: &Napi, control: Control<On>) -> Control<Off>
     requires { IsSeatOf napi.now control.pass }
     ensures seat { IsSeatOf napi.now result.pass }
@@ -196,6 +211,7 @@ pub fn disabled(rt: &impl Abort, napi: &Napi, control: Control<On>) -> Control<O
     control
 }
 
+/// Hands the instance to the list to be polled again.
 pub fn requeued(napi: &Napi, polling: Polling) -> Caller
     requires { IsSeatOf napi.now polling.pass }
     ensures { IsSeatOf napi.now result.pass }

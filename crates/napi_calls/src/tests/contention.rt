@@ -15,8 +15,11 @@ use std::test::Fail;
 
 /// Another caller, who schedules once in the middle of a call.
 pub struct Schedules<'a> {
+    /// The instance.
     pub napi: &'a Napi,
+    /// The caller, until it has scheduled.
     pub caller: Option<Caller>,
+    /// What it was answered then.
     pub answer: Option<TryPrep>,
     ghost before: { ForSome caller (λ c. IsSeatOf napi.now c.pass × (is_none answer ≡ true)) },
     ghost after: { ForSome answer (λ a. IsSeatOf napi.now (seat_of a)) },
@@ -56,7 +59,9 @@ impl Schedules<'_> {
 
 /// Another caller, who sets the instance threaded in the middle of a call.
 pub struct SetsThreaded<'a> {
+    /// The instance.
     pub napi: &'a Napi,
+    /// The caller.
     pub caller: Caller,
     ghost seat: { IsSeatOf napi.now caller.pass },
 }

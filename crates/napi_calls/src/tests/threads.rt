@@ -7,7 +7,7 @@ ghost use Rattle.napi_word.specs.Passes.{SameTable};
 ghost use Rattle.napi_calls.specs.Instance.{IsSeatOf};
 
 use crate::tests::bed::enabled;
-use crate::{Caller, Completed, Control, Napi, On, Sched};
+use crate::{Caller, Completed, Control, Kept, Napi, On, Sched};
 use napi_model::Kind;
 use rx_ring::{Batch, Packet, RxIn, ring};
 use std::process::Abort;
@@ -30,29 +30,6 @@ fn pop_caller(rt: &impl Abort, napi: &Napi, callers: &mut Vec<Caller>) -> Caller
         panic!(rt; "no caller is left")
     };
     caller
-}
-
-/// Keeps a value that must be spent, where a closure may only hold what may be dropped. Its drop never returns.
-struct Kept<R: Wait + Drop, T> {
-    rt: R,
-    value: T,
-}
-
-impl<R: Wait + Drop, T> Drop for Kept<R, T> {
-    fn drop(self) {
-        let Kept { rt, value: _value } = self;
-        for _ in rt.forever() {}
-        unreachable!()
-    }
-}
-
-impl<R: Wait + Drop, T> Kept<R, T> {
-    fn open(self) -> T
-        ensures { result ≡ self.value }
-    {
-        let Kept { rt: _, value } = self;
-        value
-    }
 }
 
 // Asks for a poll, and hands to the list what it is granted.
@@ -175,10 +152,10 @@ fn two_interrupts_and_a_poller(rt: HostRuntime) -> Result<(), Fail> {
     let control = enabled(&rt, &napi, control, false);
     let halves = AtomicU64::new(0);
     let done = AtomicU64::new(0);
-    let first = Kept { rt, value: first };
-    let second = Kept { rt, value: second };
-    let poller = Kept { rt, value: poller };
-    let control = Kept { rt, value: control };
+    let first = Kept::new(rt, first);
+    let second = Kept::new(rt, second);
+    let poller = Kept::new(rt, poller);
+    let control = Kept::new(rt, control);
     let (shared, half, end) = (&napi, &halves, &done);
     let ((first, second), (poller, control)) = thread::join(
         &rt,

@@ -16,9 +16,9 @@ returns-then-before-eq-MOST_ROWS-clause-fault g c bytes start =
     let (left, at, so_far) = c.loop-before.invariant.goes_on bytes start in
     let found : c.in_ok-found.found ≡ true = search rules in
     let next = rw found at (c.in_ok-found.ensures.next left at) in
-    let (rest, stands, one) = goes-on g.R.Read.remaining c.loop-before.reader c.next_record.new.reader (fields_of c.next_record.new.fields) c.loop-before.rows.items c.loop-before.before _ left (omega arith) next so_far in
+    let (rest, stands, one) = goes-on _ g.R.Read.remaining c.loop-before.reader c.next_record.new.reader (fields_of c.next_record.new.fields) c.loop-before.rows.items c.loop-before.before _ left (omega arith) next so_far in
     let full : nat_lt (length c.loop-before.rows.items) 100000 ≡ false = le-ltb _ _ (omega (arith, c.loop-before.invariant.count)) in
-    inr (one ∙ rows-over _ _ _ full)
+    inr (one ∙ rows-over _ _ _ _ full)
 
 pub returns-in_err-row-clause-fault : goal.returns-in_err-row-clause-fault
 returns-in_err-row-clause-fault g c =
@@ -27,10 +27,10 @@ returns-in_err-row-clause-fault g c =
     let (left, at, so_far) = c.loop-before.invariant.goes_on bytes start in
     let found : c.in_ok-found.found ≡ true = search rules in
     let next = rw found at (c.in_ok-found.ensures.next left at) in
-    let (rest, stands, one) = goes-on g.R.Read.remaining c.loop-before.reader c.next_record.new.reader (fields_of c.next_record.new.fields) c.loop-before.rows.items c.loop-before.before _ left (omega arith) next so_far in
+    let (rest, stands, one) = goes-on _ g.R.Read.remaining c.loop-before.reader c.next_record.new.reader (fields_of c.next_record.new.fields) c.loop-before.rows.items c.loop-before.before _ left (omega arith) next so_far in
     let room : nat_lt (length c.loop-before.rows.items) 100000 ≡ true = lt-ltb _ _ (omega (arith, c.loop-before.invariant.count)) in
     let row = rw (sym c.loop-before.invariant.count) at c.in_err-row.ensures.row in
-    inr (one ∙ rows-bad _ _ _ _ room (with_row-bad _ _ _ row)))
+    inr (one ∙ rows-bad _ _ _ _ _ room (with_row-bad _ _ _ _ row)))
 
 pub returns-in_err-row-2-clause-fault : goal.returns-in_err-row-2-clause-fault
 returns-in_err-row-2-clause-fault g c =
@@ -39,17 +39,17 @@ returns-in_err-row-2-clause-fault g c =
     let (left, at, so_far) = c.loop-before.invariant.goes_on bytes start in
     let found : c.in_ok-found.found ≡ true = search rules in
     let next = rw found at (c.in_ok-found.ensures.next left at) in
-    let (rest, stands, one) = goes-on g.R.Read.remaining c.loop-before.reader c.next_record.new.reader (fields_of c.next_record.new.fields) c.loop-before.rows.items c.loop-before.before _ left (omega arith) next so_far in
+    let (rest, stands, one) = goes-on _ g.R.Read.remaining c.loop-before.reader c.next_record.new.reader (fields_of c.next_record.new.fields) c.loop-before.rows.items c.loop-before.before _ left (omega arith) next so_far in
     let room : nat_lt (length c.loop-before.rows.items) 100000 ≡ true = lt-ltb _ _ (omega (arith, c.loop-before.invariant.count)) in
     let row = rw (sym c.loop-before.invariant.count) at c.in_ok-row.ensures.row in
     let refused = rw (sym c.loop-before.invariant.count) at (c.in_err-row-2.ensures.admits c.loop-before.rows.items c.loop-before.invariant.tracks) in
-    inr (one ∙ rows-bad _ _ _ _ room (with_row-refused _ _ _ _ row refused)))
+    inr (one ∙ rows-bad _ _ _ _ _ room (with_row-refused _ _ _ _ _ row refused)))
 
 pub loop-before-preserved : goal.loop-before-preserved
 loop-before-preserved g c =
     let row = rw (sym c.loop-before.invariant.count) at c.in_ok-row.ensures.row in
     let admits = rw (sym c.loop-before.invariant.count) at (c.in_ok-row-2.ensures.admits c.loop-before.rows.items c.loop-before.invariant.tracks) in
-    let good = with_row-good _ _ _ _ row admits in
+    let good = with_row-good _ _ _ _ _ row admits in
     let pushed : is_ok c.push.result ≡ true = search rules in
     let items = rw pushed at c.push.ensures.items in
     rw (items, good.0) (record {
@@ -63,18 +63,18 @@ loop-before-preserved g c =
           let (left, at, so_far) = c.loop-before.invariant.goes_on bytes start in
           let found : c.in_ok-found.found ≡ true = search rules in
           let next = rw found at (c.in_ok-found.ensures.next left at) in
-          let (rest, stands, one) = goes-on g.R.Read.remaining c.loop-before.reader c.next_record.new.reader (fields_of c.next_record.new.fields) c.loop-before.rows.items c.loop-before.before _ left (omega arith) next so_far in
+          let (rest, stands, one) = goes-on _ g.R.Read.remaining c.loop-before.reader c.next_record.new.reader (fields_of c.next_record.new.fields) c.loop-before.rows.items c.loop-before.before _ left (omega arith) next so_far in
           let room : nat_lt (length c.loop-before.rows.items) 100000 ≡ true = lt-ltb _ _ (omega (arith, c.loop-before.invariant.count)) in
-          (rest, stands, one ∙ rows-good _ _ _ _ room good.1);
+          (rest, stands, one ∙ rows-good _ _ _ _ _ room good.1);
     })
 
 pub returns-clause-rows : goal.returns-clause-rows
 returns-clause-rows g c bytes start =
     let (left, at, so_far) = c.loop-before.invariant.goes_on bytes start in
     elim c.loop-before-test.branch [
-      | else-loop-before-test w ↦ so_far ∙ ap (rows_after c.loop-before.rows.items) (records-zero (100001 - c.loop-before.before) (reader_state c.loop-before.reader) left (omega arith)) ∙ rows-end _
+      | else-loop-before-test w ↦ so_far ∙ ap (rows_after c.args.version c.loop-before.rows.items) (records-zero (100001 - c.loop-before.before) (reader_state c.loop-before.reader) left (omega arith)) ∙ rows-end _ _
       | then-loop-before-test+in_ok-found+then-not-found w ↦
           let none : w.in_ok-found.found ≡ false = search rules in
           let next = rw none at (w.in_ok-found.ensures.next left at) in
-          ends g.R.Read.remaining c.loop-before.reader w.next_record.new.reader (fields_of w.next_record.new.fields) c.loop-before.rows.items c.loop-before.before _ left (omega arith) next so_far
+          ends _ g.R.Read.remaining c.loop-before.reader w.next_record.new.reader (fields_of w.next_record.new.fields) c.loop-before.rows.items c.loop-before.before _ left (omega arith) next so_far
     ]

@@ -13,6 +13,6 @@ invariant-loop-before g l = record {
   accepted : AcceptedAfter [] l.rows.items;
   tracks : Tracks l.switches.of l.rows.items;
   goes_on : (bytes : List ℕ) → StandsAt g.R.Read.remaining l.fn.reader bytes → (left : List ℕ) × StandsAt g.R.Read.remaining l.reader left
-      × (rows_after [] (records_from default_config 100001 (reader_state l.fn.reader) bytes)
-      ≡ rows_after l.rows.items (records_from default_config (100001 - l.before) (reader_state l.reader) left));
+      × (rows_after l.version [] (records_from default_config 100001 (reader_state l.fn.reader) bytes)
+      ≡ rows_after l.version l.rows.items (records_from default_config (100001 - l.before) (reader_state l.reader) left));
 }

@@ -10,4 +10,4 @@ pub loop-number-preserved : goal.loop-number-preserved
 unfolding lines_below
 loop-number-preserved g c stated all shows =
     let next : c.loop-number.number + 1 ≡ suc c.loop-number.number = omega arith in
-    rw (next, c.in_ok-add_device.ensures, c.counts.ensures stated all shows, c.loop-number.invariant stated all shows) (simp append_assoc)
+    rw (next, c.in_ok-add_device.ensures, c.counts.ensures.devices stated all shows, c.loop-number.invariant stated all shows) (simp append_assoc)

@@ -6,4 +6,4 @@ use Rattle.trace_replay.proofs.replay.Replay.add_devices.Given as goal
 
 abbrev pub invariant-loop-number : goal.invariant-loop-number
 invariant-loop-number g l = g.B.ReplayBench.Exact → (all : Transmits) → g.B.ReplayBench.shows l.self.bench all
-    → string_bytes l.text ≡ string_bytes l.initial.text ++ lines_below (world_in g.B.ReplayBench.devices l.self) all l.number
+    → string_bytes l.text ≡ string_bytes l.initial.text ++ lines_below l.version (world_in g.B.ReplayBench.devices l.self) all l.number

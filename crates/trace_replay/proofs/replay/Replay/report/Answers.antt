@@ -22,6 +22,6 @@ returns g c stated all shows =
     )
     (four-parts
     (flat_map (λ line. ended (poll_line line)) c.args.self.now.lines.items)
-    (lines_below (world_in g.B.ReplayBench.devices c.args.self.now) all 17)
+    (lines_below c.args.version (world_in g.B.ReplayBench.devices c.args.self.now) all 17)
     (ended (list_line c.args.self.now.list))
     (ended (total_line (totals_of (attached (g.B.ReplayBench.devices c.args.self.now.bench)) c.args.self.now.lines.items))))

@@ -1,0 +1,41 @@
+#!/usr/bin/env bash
+# Runs packets through sixteen devices with 1, 2, 4 and 8 pollers, each a thread of its own beside the devices' workers: the
+# program of crates/bench_workers, three runs each. None may be lost or doubled; the best time of each is shown. Then the
+# processor time of a run in which everybody waits for a worker that is held at its gate for a second: at most 50 ms.
+#
+# usage: bench/workers.sh [PACKETS]     (1000000 where none are given, at most 1048576)
+set -euo pipefail
+
+unset CDPATH
+top=$(cd "$(dirname "$0")/.." && pwd)
+. "$top/scripts/arguments.sh"
+at_most 1 "$@"
+packets=${1:-1000000}
+is_count PACKETS "$packets"
+[ "$packets" -le 1048576 ] || refuse "PACKETS is $packets, and has to be at most 1048576"
+work=$(mktemp -d)
+trap 'rm -rf "$work"' EXIT
+
+"$top/scripts/build.sh" bench_workers
+program=$top/crates/bench_workers/out/bench_workers
+
+# run WORD ..: one run, whose packets all have to be there once.
+run() {
+    "$program" "$@" > "$work/counts" 2>> "$work/times"
+    if [ "$(cat "$work/counts")" != "packets $3 lost 0 doubled 0" ]; then
+        cat "$work/counts" >&2
+        exit 1
+    fi
+}
+
+for pollers in 1 2 4 8; do
+    : > "$work/times"
+    for _ in 1 2 3; do run 16 "$pollers" "$packets"; done
+    awk -v pollers="$pollers" -v packets="$packets" '!least || $1 < least { least = $1 }
+        END { printf "%d pollers: %.0f ms, %.1f ns a packet\n", pollers, least / 1e6, least / packets }' "$work/times"
+done
+
+TIMEFORMAT='%3U %3S'
+spent=$( { time run 4 2 4 1000; } 2>&1 | awk '{ printf "%d", ($1 + $2) * 1000 + 0.5 }')
+echo "held at the gate for a second: $spent ms of processor time"
+[ "$spent" -le 50 ]

@@ -1,9 +1,0 @@
-use Rattle.std.proofs.Common.{◌≡◌, ◌≤◌, None, replicate}
-use Rattle.std.specs.Prelude.{vec_capacity}
-use Rattle.device_model.proofs.shared_bench.SharedBench.new.Given as goal
-
-abbrev pub invariant-loop : goal.invariant-loop
-invariant-loop g l = record {
-  devices : l.devices.items ≡ replicate l.counter None;
-  room : 17 ≤ vec_capacity l.devices;
-}

@@ -1,0 +1,44 @@
+//! The calls of a caller to whom the instance was granted.
+ghost use Rattle.std.specs.Prelude.{◌≡◌, [], ◌∷◌, false};
+ghost use Rattle.napi_model.specs.declared.state.Place.TheVariants as place;
+ghost use Rattle.napi_model.specs.declared.event.Operation.TheVariants.{Look, Hand};
+ghost use Rattle.napi_calls.specs.Seats.{number_of, state_of, ShowsLegal};
+ghost use Rattle.napi_calls.specs.Instance.{IsSeatOf};
+ghost use Rattle.napi_calls.specs.Made.{Made};
+
+use crate::types::{Caller, Granted, Napi};
+use napi_model::{Kind, Seen};
+
+impl Granted {
+    /// The caller's number.
+    pub fn number(&self) -> u32
+        ensures { result ≡ number_of self.now.pass }
+    {
+        self.number
+    }
+
+    /// What any caller knows to whom the instance was granted. It does nothing.
+    pub fn knows(&self)
+        ensures shows { ShowsLegal self.now.pass }
+        ensures place { (state_of self.now.pass).place ≡ place.Granted (number_of self.now.pass) }
+        ensures flag { (state_of self.now.pass).flags.in_busy_poll ≡ false }
+    {}
+
+    /// What the state word tells: the flags, and to whom the instance was handed while nobody has taken it.
+    pub fn look(&mut self, napi: &Napi) -> Seen
+        requires { IsSeatOf napi.now self.old.pass }
+        ensures { Made self.old.pass (Look result ∷ []) self.new.pass }
+    {
+        napi.table.look(&mut self.pass)
+    }
+
+    /// Hands the instance over to the list or to its thread (`____napi_schedule`).
+    pub fn hand(self, napi: &Napi, kind: Kind) -> Caller
+        requires { IsSeatOf napi.now self.pass }
+        ensures { Made self.pass (Hand kind ∷ []) result.pass }
+    {
+        let Granted { mut pass, number } = self;
+        napi.table.hand(&mut pass, kind);
+        Caller { pass, number }
+    }
+}

@@ -1,0 +1,2 @@
+pub mod CountingFacts
+pub mod SharedFacts

@@ -1,0 +1,34 @@
+use Rattle.std.proofs.Common.{◌≡◌, ◌∙◌, Some, length-set, sym, arith}
+use Rattle.device_model.specs.Places.{at}
+use Rattle.device_model.proofs.PlaceFacts.{at-index, below-some}
+use Rattle.shared_replay.proofs.SharedFacts.{few-of, rest-at, shared-set, waiting-at}
+use Rattle.shared_replay.proofs.shared_bench.SharedBenchBench.poll_once.Goals as goal
+
+pub poll_once-requires-clause-rest : goal.poll_once-requires-clause-rest
+poll_once-requires-clause-rest g c =
+    let here : at c.args.id c.args.self.now.devices.items ≡ Some c.in-Some.station =
+    at-index _ c.args.id _ (omega (arith, c.args.self.now.places)) (sym c.index_mut.ensures.value) ∙ c.in-Some.is in
+    rest-at _ c.args.id _ c.args.self.now.kept here
+
+pub invariant_of-self : goal.invariant_of-self
+invariant_of-self g c =
+    let here : at c.args.id c.args.self.now.devices.items ≡ Some c.in-Some.station =
+    at-index _ c.args.id _ (omega (arith, c.args.self.now.places)) (sym c.index_mut.ensures.value) ∙ c.in-Some.is in
+    let places = length-set c.args.self.now.devices.items c.args.id (Some c.poll_once.new.self) ∙ c.args.self.now.places in
+    record {
+      room = c.args.self.now.room;
+      none = c.args.self.now.none;
+      places = places;
+      few = few-of _ places;
+      kept = shared-set _ c.args.id _ c.args.self.now.kept (below-some _ c.args.id _ here) c.poll_once.ensures.rest;
+    }
+
+pub returns-in-Some-clause-leads : goal.returns-in-Some-clause-leads
+returns-in-Some-clause-leads g c =
+    let here : at c.args.id c.args.self.now.devices.items ≡ Some c.in-Some.station =
+    at-index _ c.args.id _ (omega (arith, c.args.self.now.places)) (sym c.index_mut.ensures.value) ∙ c.in-Some.is in
+    record {
+      exact = λ stated. absurd stated;
+      transmits = λ all shown. shown;
+      waits = omega (arith, waiting-at _ c.args.id _ c.poll_once.new.self here, c.poll_once.ensures.listed);
+    }

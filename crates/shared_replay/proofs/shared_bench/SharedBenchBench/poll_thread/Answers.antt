@@ -1,0 +1,46 @@
+use Rattle.std.proofs.Common.{◌≡◌, ◌∙◌, Some, [], ◌<◌, length, length-set, refl, sym, arith}
+use Rattle.device_model.specs.Places.{at}
+use Rattle.device_model.proofs.PlaceFacts.{at-index, below-some}
+use Rattle.shared_replay.proofs.SharedFacts.{few-of, rest-at, shared-set, waiting-at, waiting-back}
+use Rattle.shared_replay.proofs.shared_bench.SharedBenchBench.poll_thread.Goals as goal
+
+pub poll_thread-requires-clause-rest : goal.poll_thread-requires-clause-rest
+poll_thread-requires-clause-rest g c =
+    let here : at c.args.id c.args.self.now.devices.items ≡ Some c.in-Some.station =
+    at-index _ c.args.id _ (omega (arith, c.args.self.now.places)) (sym c.index_mut.ensures.value) ∙ c.in-Some.is in
+    rest-at _ c.args.id _ c.args.self.now.kept here
+
+pub invariant_of-self : goal.invariant_of-self
+invariant_of-self g c =
+    let here : at c.args.id c.args.self.now.devices.items ≡ Some c.in-Some.station =
+    at-index _ c.args.id _ (omega (arith, c.args.self.now.places)) (sym c.index_mut.ensures.value) ∙ c.in-Some.is in
+    let places = length-set c.args.self.now.devices.items c.args.id (Some c.poll_thread.new.self) ∙ c.args.self.now.places in
+    record {
+      room = c.args.self.now.room;
+      none = c.args.self.now.none;
+      places = places;
+      few = few-of _ places;
+      kept = shared-set _ c.args.id _ c.args.self.now.kept (below-some _ c.args.id _ here) c.poll_thread.ensures.rest;
+    }
+
+pub returns-in-Some : goal.returns-in-Some
+returns-in-Some g c =
+    let here : at c.args.id c.args.self.now.devices.items ≡ Some c.in-Some.station =
+    at-index _ c.args.id _ (omega (arith, c.args.self.now.places)) (sym c.index_mut.ensures.value) ∙ c.in-Some.is in (
+      c.poll_thread.ensures.report.0,
+      record {
+        exact = λ stated. absurd stated;
+        transmits = λ all shown. shown;
+        waits = omega (arith, waiting-at _ c.args.id _ c.poll_thread.new.self here, c.poll_thread.ensures.report.2);
+      },
+      c.poll_thread.ensures.report.1,
+    )
+
+pub returns-in_default : goal.returns-in_default
+returns-in_default g c =
+    let below : c.args.id < length c.args.self.now.devices.items = omega (arith, c.args.self.now.places) in
+    let here = at-index _ c.args.id _ below (sym c.index_mut.ensures.value) in (
+      [],
+      record { exact = λ stated. absurd stated; transmits = λ all shown. shown; waits = omega (arith, waiting-back _ c.args.id _ below here) },
+      record { within = omega arith; each = tt; continues = tt; fewer = λ less e. cc e; count = refl; sum = refl; last = refl },
+    )

@@ -1,0 +1,5 @@
+pub mod Polls
+pub mod Replay
+pub mod SharedBench
+pub mod SharedDevice
+pub mod Stations

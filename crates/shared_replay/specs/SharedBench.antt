@@ -1,0 +1,18 @@
+-- What a bench of shared instances shows.
+use Rattle.std.specs.Prelude.{ℕ}
+use Rattle.device_model.specs.Bench.{Devices, Transmits}
+use Rattle.device_model.specs.Places.{empty}
+use Rattle.device_model.specs.Sides.{ShowsSides}
+use Rattle.shared_replay.specs.Stations.{waiting_in}
+use Rattle.shared_replay.specs.declared.shared_bench.SharedBench.{SharedBench}
+
+module _ {R : Type 0} where
+  abbrev pub waiting_of : SharedBench R → ℕ
+  waiting_of bench = waiting_in bench.devices.items
+
+  abbrev pub ShowsTransmits : SharedBench R → Transmits → Type 0
+  ShowsTransmits bench all = ShowsSides bench.transmits all
+
+  -- it tells nothing of its devices in the words of one thread
+  abbrev pub devices_of : SharedBench R → Devices
+  devices_of bench = empty

@@ -1,0 +1,44 @@
+-- Filters and searches over the front of a list, and one more item.
+use Rattle.std.proofs.Common.{◌≡◌, ◌∙◌, ℕ, zero, suc, ◌+◌, ◌<◌, ◌≤◌, Bool, true, false, Some, None, List, [], ◌∷◌, ◌++◌, length, take, get_or, ap, refl, arith}
+use Rattle.std.specs.Prelude.{filter, if◌then◌else◌}
+use Rattle.std.specs.List.{find, range_with_len}
+use Rattle.std.proofs.lemmas.List.{take_more}
+use Rattle.std.proofs.lemmas.List.Elements.{filter-append}
+use Rattle.std.proofs.lemmas.List.Folds.{find-append}
+
+filter-one : {X : Type 0} (p : X → Bool) (x : X) (b : Bool) → p x ≡ b → filter p (x ∷ []) ≡ (if b then x ∷ [] else [])
+filter-one p x true e = rw e refl
+filter-one p x false e = rw e refl
+
+-- one more item passes, or doesn't
+pub filter-more : {X : Type 0} (p : X → Bool) (xs : List X) (i : ℕ) (d : X) (b : Bool) → i < length xs → p (get_or xs i d) ≡ b
+    → filter p (take (i + 1) xs) ≡ filter p (take i xs) ++ (if b then get_or xs i d ∷ [] else [])
+filter-more p xs i d b below e =
+    ap (λ l. filter p l) (take_more xs i d below) ∙ filter-append p (take i xs) (get_or xs i d ∷ []) ∙ ap (λ l. filter p (take i xs) ++ l) (filter-one p (get_or xs i d) b e)
+
+pub find-more : {X : Type 0} (p : X → Bool) (xs : List X) (i : ℕ) (d : X) → i < length xs → find p (take i xs) ≡ None → p (get_or xs i d) ≡ false → find p (take (i + 1) xs) ≡ None
+find-more p xs i d below none e = ap (λ l. find p l) (take_more xs i d below) ∙ find-append p (take i xs) (get_or xs i d ∷ []) ∙ rw (none, e) refl
+
+pub find-here : {X : Type 0} (p : X → Bool) (xs : List X) (i : ℕ) (d : X) → i < length xs → find p (take i xs) ≡ None → p (get_or xs i d) ≡ true → find p xs ≡ Some (get_or xs i d)
+find-here p [] i d below none e = absurd (omega (arith, below))
+find-here p (x ∷ xs) zero d below none e = rw e refl
+find-here p (x ∷ xs) (suc i) d below none e = by (p x) refl (find-here p xs i d (omega (arith, below)))
+  where
+    by : (b : Bool) → p x ≡ b → (find p (take i xs) ≡ None → p (get_or xs i d) ≡ true → find p xs ≡ Some (get_or xs i d)) → find p (x ∷ xs) ≡ Some (get_or xs i d)
+    by true h go = absurd (let n = rw h at none in cc n)
+    by false h go = rw h (go (rw h at none) e)
+
+pub range-more : (a n : ℕ) → range_with_len a (n + 1) ≡ range_with_len a n ++ (a + n) ∷ []
+range-more a zero = let e : a + zero ≡ a = omega arith in rw e refl
+range-more a (suc n) =
+    let e : a + suc n ≡ a + 1 + n = omega arith in
+    let s : suc n + 1 ≡ suc (n + 1) = omega arith in
+    rw (e, s) (ap (λ (l : List ℕ). a ∷ l) (range-more (a + 1) n))
+
+pub filter-long : {X : Type 0} (p : X → Bool) (xs : List X) → length (filter p xs) ≤ length xs
+filter-long p [] = omega arith
+filter-long p (x ∷ xs) = by (p x) refl (filter-long p xs)
+  where
+    by : (b : Bool) → p x ≡ b → length (filter p xs) ≤ length xs → length (filter p (x ∷ xs)) ≤ length (x ∷ xs)
+    by true h go = rw h (omega (arith, go))
+    by false h go = rw h (omega (arith, go))

@@ -1,0 +1,7 @@
+use Rattle.std.proofs.Common.{◌≡◌, None, take}
+use Rattle.std.specs.List.{find}
+use Rattle.threads_replay.specs.Script.{makes_threaded}
+use Rattle.threads_replay.proofs.script.has_thread.Given as goal
+
+abbrev pub invariant-loop-row : goal.invariant-loop-row
+invariant-loop-row l = find makes_threaded (take l.row-index l.rows) ≡ None

@@ -1,0 +1,19 @@
+use Rattle.std.proofs.Common.{◌≡◌, ◌∙◌, None, Some, inr, sym, vec_items}
+use Rattle.threads_replay.specs.Stations.{small_fault}
+use Rattle.threads_replay.proofs.StationFacts.{ends-if-ok, ring-of, rings-if-ok}
+use Rattle.threads_replay.proofs.stations.run_rows.Goals as goal
+
+pub returns-in-Some-clause-fault : goal.returns-in-Some-clause-fault
+returns-in-Some-clause-fault g c =
+    let small : small_fault (vec_items c.in_ok-stations.stations) ≡ Some c.in-Some.fault = rw c.deref.ensures.value at (sym c.ring_fault.ensures ∙ c.in-Some.is) in
+    inr (ring-of c.args.rows.now _ _ c.in_ok-stations.ensures.stations ∙ small)
+
+pub returns-in-None-clause-ends : goal.returns-in-None-clause-ends
+returns-in-None-clause-ends g c =
+    let none : small_fault (vec_items c.in_ok-stations.stations) ≡ None = rw c.deref.ensures.value at (sym c.ring_fault.ensures ∙ c.in-None.is) in
+    ends-if-ok c.args.rows.now (vec_items c.in_ok-stations.stations) c.run_stations.result c.requires.accepted c.requires.count c.in_ok-stations.ensures.stations none c.run_stations.ensures.ends
+
+pub returns-in-None-clause-rings : goal.returns-in-None-clause-rings
+returns-in-None-clause-rings g c =
+    let none : small_fault (vec_items c.in_ok-stations.stations) ≡ None = rw c.deref.ensures.value at (sym c.ring_fault.ensures ∙ c.in-None.is) in
+    rings-if-ok c.run_stations.result (ring-of c.args.rows.now _ _ c.in_ok-stations.ensures.stations ∙ none)

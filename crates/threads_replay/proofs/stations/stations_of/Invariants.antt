@@ -1,0 +1,14 @@
+use Rattle.std.proofs.Common.{◌-◌, ◌<◌, vec_items, vec_len}
+use Rattle.std.specs.Prelude.{filter}
+use Rattle.std.specs.List.{All, AllZip, range_with_len}
+use Rattle.poll_workers.specs.Opens.{IsStation}
+use Rattle.threads_replay.specs.Stations.{IsStationOf}
+use Rattle.threads_replay.specs.ThreadsReport.{is_opened}
+use Rattle.threads_replay.proofs.stations.stations_of.Given as goal
+
+abbrev pub invariant-loop-number : goal.invariant-loop-number
+invariant-loop-number l = record {
+  of : AllZip (IsStationOf l.rows) (filter (is_opened l.rows) (range_with_len 1 (l.number - 1))) (vec_items l.stations);
+  lawful : All IsStation (vec_items l.stations);
+  few : vec_len l.stations < l.number;
+}

@@ -1,0 +1,7 @@
+use Rattle.std.proofs.Common.{◌≡◌, take}
+use Rattle.std.specs.Prelude.{map}
+use Rattle.threads_replay.specs.Stations.{polled_of}
+use Rattle.threads_replay.proofs.threads.all_polled.Given as goal
+
+abbrev pub invariant-loop-end : goal.invariant-loop-end
+invariant-loop-end l = l.all.items ≡ map polled_of (take l.end-index l.ends)

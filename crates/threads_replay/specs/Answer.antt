@@ -1,0 +1,47 @@
+-- What a run of a text with threads answers: the threads report of its rows, or its first fault.
+use Rattle.std.specs.Prelude.{◌≡◌, ℕ, ◌+◌, List, Bool, Option, Some, None, Result, Ok, Err, nat_lt, option_map}
+use Rattle.std.specs.List.{find}
+use Rattle.device_model.specs.Trace.{records_of, trace_of}
+use Rattle.device_model.specs.declared.TraceFault.{TraceFault}
+use Rattle.device_model.specs.declared.row.Row.{Row}
+use Rattle.trace_replay.specs.Answer.{IsOutside as IsSerialOutside}
+use Rattle.trace_replay.specs.declared.fault.ReplayFault.{ReplayFault}
+use Rattle.trace_replay.specs.declared.fault.ReplayFault.TheVariants.{GateShut, RingTooSmall, SpawnFailed, Trace}
+use Rattle.threads_replay.specs.Script.{opening_of}
+use Rattle.threads_replay.specs.ThreadsReport.{arrived, opened, threads_report}
+use Rattle.threads_replay.specs.declared.polled.Polled.{Polled}
+
+-- the places of a device's receive ring
+abbrev pub places_by : Option Row → ℕ
+places_by None = 0
+places_by (Some opening) = opening.value
+
+-- more packets arrive at the device than its ring has places for
+abbrev pub overflows : List Row → ℕ → Bool
+overflows rows device = nat_lt (places_by (opening_of device rows)) (arrived device rows)
+
+-- the first device whose ring is too small
+abbrev pub ring_fault : List Row → Option ReplayFault
+ring_fault rows = option_map (λ device. RingTooSmall device (arrived device rows)) (find (overflows rows) (opened rows))
+
+abbrev pub unless_small : Option ReplayFault → List ℕ → Result (List ℕ) ReplayFault
+unless_small None text = Ok text
+unless_small (Some fault) text = Err fault
+
+abbrev pub answer_of : Result (List Row) TraceFault → Result (List ℕ) ReplayFault
+answer_of (Ok rows) = unless_small (ring_fault rows) (threads_report rows)
+answer_of (Err fault) = Err (Trace fault)
+
+abbrev pub threads_of : List ℕ → Result (List ℕ) ReplayFault
+threads_of bytes = answer_of (trace_of (records_of bytes))
+
+-- the reader, the memory, the writer, the gate or a thread failed
+abbrev pub IsOutside : ReplayFault → Type 0
+IsOutside GateShut = Unit {0}
+IsOutside SpawnFailed = Unit {0}
+IsOutside fault = IsSerialOutside fault
+
+-- what was polled of a device, and what is left, are the packets that arrived there
+pub record IsPolled (rows : List Row) (device : ℕ) (polled : Polled) : Type 0 where
+  pub same_device : polled.device ≡ device
+  pub sum : polled.polled + polled.left ≡ arrived device rows

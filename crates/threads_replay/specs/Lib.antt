@@ -1,0 +1,5 @@
+pub mod Script
+pub mod ScriptShown
+pub mod ThreadsReport
+pub mod Stations
+pub mod Answer

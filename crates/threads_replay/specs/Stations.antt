@@ -1,0 +1,48 @@
+-- The stations of the devices that rows open, and what a run made of them.
+use Rattle.std.specs.Prelude.{◌≡◌, ℕ, ◌+◌, ◌++◌, Bool, List, Option, Some, length, nat_lt, option_map, take}
+use Rattle.std.specs.List.{find}
+use Rattle.device_model.specs.declared.row.Row.{Row}
+use Rattle.poll_workers.specs.declared.station.Finished.{Finished}
+use Rattle.poll_workers.specs.declared.station.Station.{Station}
+use Rattle.trace_replay.specs.declared.fault.ReplayFault.{ReplayFault}
+use Rattle.trace_replay.specs.declared.fault.ReplayFault.TheVariants.{RingTooSmall}
+use Rattle.trace_replay.specs.Report.{ended, tx_lines}
+use Rattle.threads_replay.specs.Script.{has_thread, opening_of, rx_of, script_of, tx_after}
+use Rattle.threads_replay.specs.ScriptShown.{Script}
+use Rattle.threads_replay.specs.declared.polled.Polled.{Polled}
+use Rattle.threads_replay.specs.ThreadsReport.{arrived, arrived_line, bytes}
+
+-- the station of a device, before its acts
+pub record IsStationOf (rows : List Row) (device : ℕ) (station : Station Script) : Type 0 where
+  pub its_number : station.number ≡ device
+  pub its_opening : opening_of device rows ≡ Some station.device.opening
+  pub its_rows : station.device.rows ≡ script_of device rows
+  pub its_made : station.device.made ≡ 0
+  pub its_capacity : station.capacity ≡ station.device.opening.value
+  pub its_thread : station.thread ≡ has_thread (script_of device rows)
+
+-- and after them, where its ring had a place for each packet
+pub record IsEndOf (rows : List Row) (device : ℕ) (end : Finished Script) : Type 0 where
+  pub its_number : end.number ≡ device
+  pub its_opening : opening_of device rows ≡ Some end.device.opening
+  pub its_rows : end.device.rows ≡ script_of device rows
+  pub its_made : end.device.made ≡ length end.device.rows
+  pub its_put : end.totals.put ≡ arrived device rows
+  pub its_bytes : end.totals.bytes ≡ bytes device rows
+  pub sum : end.totals.polled + end.totals.left ≡ end.totals.put
+
+-- its lines of the report
+abbrev pub end_lines : Finished Script → List ℕ
+end_lines end = ended (arrived_line end.number end.totals.put end.totals.bytes)
+    ++ tx_lines end.number (tx_after end.device.opening (take end.device.made end.device.rows))
+
+-- the first of the stations whose ring has fewer places than packets that arrive there
+abbrev pub is_small : Station Script → Bool
+is_small station = nat_lt station.capacity (length (rx_of station.device.rows))
+
+abbrev pub small_fault : List (Station Script) → Option ReplayFault
+small_fault stations = option_map (λ station. RingTooSmall station.number (length (rx_of station.device.rows))) (find is_small stations)
+
+-- what is told of its polls
+abbrev pub polled_of : Finished Script → Polled
+polled_of end = record { device = end.number; polled = end.totals.polled; left = end.totals.left }

@@ -1,0 +1,12 @@
+//! What polls made of the devices' packets.
+
+/// What pollers did with the packets of one device.
+#[derive(Clone, Copy, Debug, PartialEq, Eq)]
+pub struct Polled {
+    /// The device's number.
+    pub device: u32,
+    /// The packets that were polled.
+    pub polled: u64,
+    /// The packets that its ring was left with.
+    pub left: u64,
+}

@@ -1,0 +1,158 @@
+//! The stations of a trace, and their run.
+
+ghost use Rattle.std.specs.Prelude.{◌≡◌, ◌≤◌, ◌⊎◌, ◌+◌, ◌++◌, ◌∷◌, ℕ, [], List, None, Some, filter, IfErr, IfOk, IsSome, OnOk, length, vec_items, vec_len};
+ghost use Rattle.std.specs.List.{All, AllZip};
+ghost use Rattle.device_model.specs.Trace.{AcceptedAfter};
+ghost use Rattle.poll_workers.specs.Finishes.{IsFinished};
+ghost use Rattle.poll_workers.specs.Opens.{IsStation};
+ghost use Rattle.threads_replay.specs.Answer.{IsOutside, ring_fault};
+ghost use Rattle.threads_replay.specs.Script.{opening_of, rx_of};
+ghost use Rattle.threads_replay.specs.ScriptShown.{acts, after, answer};
+ghost use Rattle.threads_replay.specs.Stations.{IsEndOf, IsStationOf, is_small, small_fault};
+ghost use Rattle.threads_replay.specs.ThreadsReport.{is_opened, opened};
+
+use crate::script::{ScriptDevice, opening_of};
+use device_model::{PLACES, Row};
+use poll_workers::{Finished, Gate, Pace, Station, WorkFault, run_workers};
+use replay_words::Settings;
+use std::alloc::{AllocError, Global};
+use std::sync::Wait;
+use std::thread::Threads;
+use trace_replay::ReplayFault;
+
+// The station of a device that the rows open.
+fn station_of(alloc: Global, rows: &[Row], number: u32) -> Result<Station<ScriptDevice>, AllocError>
+    requires accepted { AcceptedAfter [] rows.now }
+    requires count { length rows.now ≤ 100000 }
+    requires number { (1 ≤ number) × (number ≤ 16) }
+    requires opened { IsSome (opening_of number rows.now) }
+    ensures station { IfOk result (λ station. IsStationOf rows.now number station) }
+    ensures lawful { IfOk result (λ station. IsStation station) }
+{
+    let device = ScriptDevice::new(alloc, rows, number)?;
+    Ok(Station {
+        number,
+        capacity: device.capacity() as usize,
+        thread: device.is_threaded(),
+        device,
+    })
+}
+
+// Adds the station of a device, where the rows open it.
+fn add_station(
+    alloc: Global,
+    rows: &[Row],
+    number: u32,
+    stations: &mut Vec<Station<ScriptDevice>>,
+) -> Result<(), AllocError>
+    requires accepted { AcceptedAfter [] rows.now }
+    requires count { length rows.now ≤ 100000 }
+    requires number { (1 ≤ number) × (number ≤ 16) }
+    ensures stations { OnOk result ((devices : List ℕ) → AllZip (IsStationOf rows.now) devices (vec_items stations.old)
+        → AllZip (IsStationOf rows.now) (devices ++ filter (is_opened rows.now) (number ∷ [])) (vec_items stations.new)) }
+    ensures lawful { OnOk result (All IsStation (vec_items stations.old) → All IsStation (vec_items stations.new)) }
+    ensures count { OnOk result (vec_len stations.new ≤ vec_len stations.old + 1) }
+{
+    if opening_of(rows, number).is_some() {
+        stations.push(station_of(alloc, rows, number)?)?;
+    }
+    Ok(())
+}
+
+// The stations of the devices that the rows open, in rising order of their numbers.
+fn stations_of(alloc: Global, rows: &[Row]) -> Result<Vec<Station<ScriptDevice>>, AllocError>
+    requires accepted { AcceptedAfter [] rows.now }
+    requires count { length rows.now ≤ 100000 }
+    ensures stations { IfOk result (λ stations. AllZip (IsStationOf rows.now) (opened rows.now) (vec_items stations)) }
+    ensures lawful { IfOk result (λ stations. All IsStation (vec_items stations)) }
+    ensures count { IfOk result (λ stations. vec_len stations ≤ 16) }
+{
+    let mut stations = Vec::with_capacity(alloc, PLACES as usize)?;
+    for number in 1..PLACES {
+        add_station(alloc, rows, number, &mut stations)?;
+    }
+    Ok(stations)
+}
+
+fn is_small(station: &Station<ScriptDevice>) -> bool
+    ensures { result ≡ is_small station.now }
+{
+    station.capacity < station.device.packets() as usize
+}
+
+// The first of the stations whose ring has fewer places than packets that arrive there.
+fn ring_fault(stations: &[Station<ScriptDevice>]) -> Option<ReplayFault>
+    ensures { result ≡ small_fault stations.now }
+{
+    for station in stations {
+        if is_small(station) {
+            return Some(ReplayFault::RingTooSmall {
+                device: station.number,
+                needs: station.device.packets(),
+            });
+        }
+    }
+    None
+}
+
+// Why a run of workers was refused.
+fn work_fault(fault: WorkFault) -> ReplayFault
+    ensures { IsOutside result }
+{
+    match fault {
+        WorkFault::OutOfMemory => AllocError.into(),
+        WorkFault::GateShut => ReplayFault::GateShut,
+        WorkFault::SpawnFailed => ReplayFault::SpawnFailed,
+    }
+}
+
+// Runs the stations, paced as the settings say.
+fn run_stations<P, G>(
+    rt: &P,
+    alloc: Global,
+    stations: Vec<Station<ScriptDevice>>,
+    settings: &Settings,
+    gate: &G,
+) -> Result<Vec<Finished<ScriptDevice>>, ReplayFault>
+where
+    P: Threads + Wait + Sync,
+    G: Gate + Sync,
+    requires stations { All IsStation (vec_items stations) }
+    requires count { vec_len stations ≤ 16 }
+    ensures ends { IfOk result (λ all. AllZip (IsFinished acts answer after) (vec_items stations) (vec_items all)) }
+    ensures fault { IfErr result (λ fault. IsOutside fault) }
+{
+    let pace = Pace {
+        budget: settings.budget,
+        weight: settings.weight,
+        window: settings.window,
+    };
+    match run_workers(rt, alloc, stations, settings.pollers, pace, gate) {
+        Ok(finished) => Ok(finished),
+        Err(fault) => Err(work_fault(fault)),
+    }
+}
+
+/// Runs the devices that the rows open, in rising order of their numbers.
+pub(crate) fn run_rows<P, G>(
+    rt: &P,
+    alloc: Global,
+    rows: &[Row],
+    settings: &Settings,
+    gate: &G,
+) -> Result<Vec<Finished<ScriptDevice>>, ReplayFault>
+where
+    P: Threads + Wait + Sync,
+    G: Gate + Sync,
+    requires accepted { AcceptedAfter [] rows.now }
+    requires count { length rows.now ≤ 100000 }
+    ensures ends { IfOk result (λ all. AllZip (IsEndOf rows.now) (opened rows.now) (vec_items all)) }
+    ensures rings { OnOk result (ring_fault rows.now ≡ None) }
+    ensures fault { IfErr result (λ fault. IsOutside fault ⊎ (ring_fault rows.now ≡ Some fault)) }
+{
+    let stations = stations_of(alloc, rows)?;
+    match ring_fault(&stations) {
+        Some(fault) => Err(fault),
+        None => run_stations(rt, alloc, stations, settings, gate),
+    }
+}
