@@ -15,6 +15,7 @@ use crate::between::{Between, Nothing};
 use crate::types::{Control, Marked, Napi, Off, On};
 use rx_ring::{RxCounts, RxIn};
 use std::sync::Wait;
+use std::thread;
 
 impl Control<On> {
     /// What the controller of an enabled instance knows. It does nothing.
@@ -41,7 +42,8 @@ impl Control<On> {
         }
     }
 
-    /// Disables the instance (`napi_disable`): marks it, and tries until whoever has it has released it.
+    /// Disables the instance (`napi_disable`): marks it, and tries until whoever has it has released it. Between two tries it
+    /// leaves the processor to others (`usleep_range` there), so that whoever has it can go on.
     pub fn disable<R: Wait>(self, rt: &R, napi: &Napi) -> Control<Off>
         requires { IsSeatOf napi.now self.pass }
         ensures { Disables self.pass result.pass }
@@ -50,7 +52,10 @@ impl Control<On> {
         for _ in rt.forever() {
             match control.try_take(napi) {
                 TryTake::Taken(taken) => return taken,
-                TryTake::Busy(busy) => control = busy,
+                TryTake::Busy(busy) => {
+                    control = busy;
+                    thread::yield_now();
+                }
                 TryTake::Changed(changed) => control = changed,
             }
         }

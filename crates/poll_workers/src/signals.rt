@@ -98,8 +98,12 @@ impl Post {
     }
 }
 
-/// How a poller waits while there is nothing to poll: it spins and yields for a while, and then it sleeps. A wake-up that
-/// comes before the sleep is kept until then, so none is lost.
+// So many rounds complete a backoff.
+const ROUNDS: u32 = 11;
+
+/// How a poller waits while there is nothing to poll: it spins and yields for a while, looks again, and then it sleeps. While
+/// it spins it looks at nothing that the workers write, so that packets gather and no worker waits for the list's or the
+/// word's line in memory. A wake-up that comes before the sleep is kept until then, so none is lost.
 #[derive(Drop)]
 pub(crate) struct Pause {
     parker: Parker,
@@ -124,7 +128,9 @@ impl Pause {
         if self.backoff.is_completed() {
             self.parker.park(rt);
             self.backoff.reset();
-        } else {
+            return;
+        }
+        for _ in 0..ROUNDS {
             self.backoff.snooze();
         }
     }

@@ -1,3 +1,4 @@
+pub mod DealFacts
 pub mod Rows
 pub mod ScriptFacts
 pub mod StationFacts

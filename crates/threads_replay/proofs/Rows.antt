@@ -1,12 +1,12 @@
 -- Filters and searches over the front of a list, and one more item.
-use Rattle.std.proofs.Common.{◌≡◌, ◌∙◌, ℕ, zero, suc, ◌+◌, ◌<◌, ◌≤◌, Bool, true, false, Some, None, List, [], ◌∷◌, ◌++◌, length, take, get_or, ap, refl, arith}
-use Rattle.std.specs.Prelude.{filter, if◌then◌else◌}
+use Rattle.std.proofs.Common.{◌≡◌, ◌∙◌, ℕ, zero, suc, ◌+◌, ◌<◌, ◌≤◌, Bool, true, false, Option, Some, None, List, [], ◌∷◌, ◌++◌, length, take, get_or, ap, refl, arith}
+use Rattle.std.specs.Prelude.{◌&&◌, filter, if◌then◌else◌}
 use Rattle.std.specs.List.{find, range_with_len}
 use Rattle.std.proofs.lemmas.List.{take_more}
 use Rattle.std.proofs.lemmas.List.Elements.{filter-append}
 use Rattle.std.proofs.lemmas.List.Folds.{find-append}
 
-filter-one : {X : Type 0} (p : X → Bool) (x : X) (b : Bool) → p x ≡ b → filter p (x ∷ []) ≡ (if b then x ∷ [] else [])
+pub filter-one : {X : Type 0} (p : X → Bool) (x : X) (b : Bool) → p x ≡ b → filter p (x ∷ []) ≡ (if b then x ∷ [] else [])
 filter-one p x true e = rw e refl
 filter-one p x false e = rw e refl
 
@@ -42,3 +42,17 @@ filter-long p (x ∷ xs) = by (p x) refl (filter-long p xs)
     by : (b : Bool) → p x ≡ b → length (filter p xs) ≤ length xs → length (filter p (x ∷ xs)) ≤ length (x ∷ xs)
     by true h go = rw h (omega (arith, go))
     by false h go = rw h (omega (arith, go))
+
+-- what is found by more than the filter's test is found behind the filter
+pub find-among : {X : Type 0} (p q : X → Bool) (xs : List X) → find (λ x. p x && q x) (filter p xs) ≡ find (λ x. p x && q x) xs
+find-among p q [] = refl
+find-among {X = X} p q (x ∷ xs) = by (p x) refl (find-among p q xs)
+  where
+    by : (b : Bool) → p x ≡ b → find (λ (y : X). p y && q y) (filter p xs) ≡ find (λ (y : X). p y && q y) xs → find (λ (y : X). p y && q y) (filter p (x ∷ xs)) ≡ find (λ (y : X). p y && q y) (x ∷ xs)
+    by true h go =
+        let kept : filter p (x ∷ xs) ≡ x ∷ filter p xs = rw h refl in
+        rw kept (ap (λ (r : Option X). if p x && q x then Some x else r) go)
+    by false h go =
+        let left : filter p (x ∷ xs) ≡ filter p xs = rw h refl in
+        let none : find (λ (y : X). p y && q y) (x ∷ xs) ≡ find (λ (y : X). p y && q y) xs = rw h refl in
+        rw (left, none) go

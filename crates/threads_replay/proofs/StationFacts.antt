@@ -1,5 +1,5 @@
 -- From the rows of a trace to its stations, and from what a run made of these to the report.
-use Rattle.std.proofs.Common.{◌≡◌, ◌∙◌, ℕ, suc, ◌+◌, ◌-◌, ◌<◌, ◌≤◌, Bool, true, false, Option, Some, None, List, [], ◌∷◌, ◌++◌, length, take, append-nil, get_or, ap, refl, sym, subst, arith, flat_map}
+use Rattle.std.proofs.Common.{◌≡◌, ◌∙◌, ℕ, suc, ◌+◌, ◌-◌, ◌<◌, ◌≤◌, Bool, true, false, Option, Some, None, List, [], ◌∷◌, ◌++◌, length, slice_index_or, take, append-nil, get_or, ap, refl, sym, subst, arith, flat_map}
 use Rattle.std.specs.Global.{Vec}
 use Rattle.trace_replay.specs.declared.fault.ReplayFault.{ReplayFault}
 use Rattle.std.specs.Prelude.{◌==◌, ◌&&◌, Result, Ok, Err, IfOk, OnOk, vec_items, filter, map, option_map, sum_by}
@@ -21,13 +21,13 @@ use Rattle.poll_workers.specs.declared.station.Finished.{Finished}
 use Rattle.poll_workers.specs.declared.station.Station.{Station}
 use Rattle.rx_ring.specs.ReceiveRing.{bytes_of, capped}
 use Rattle.threads_replay.specs.Answer.{IsPolled, overflows}
-use Rattle.threads_replay.specs.Script.{is_act_of, is_open, is_rx, opens, rx_of, script_of}
+use Rattle.threads_replay.specs.Script.{is_act_of, is_open, is_rx, opening_of, openings_of, opens, rx_of, script_of}
 use Rattle.threads_replay.specs.ScriptShown.{Script, acts, after, answer}
 use Rattle.threads_replay.specs.Stations.{IsEndOf, IsStationOf, end_lines, is_small, polled_of, small_fault}
 use Rattle.threads_replay.specs.ThreadsReport.{arrived, bytes, device_lines, is_opened, opened}
 use Rattle.trace_replay.proofs.PlayFacts.{accepted-at}
 use Rattle.trace_replay.specs.declared.fault.ReplayFault.TheVariants.{RingTooSmall}
-use Rattle.threads_replay.proofs.Rows.{filter-long, find-here, find-more, range-more}
+use Rattle.threads_replay.proofs.Rows.{filter-long, find-among, find-here, find-more, range-more}
 use Rattle.poll_workers.proofs.Zips.{zip_push}
 use Rattle.threads_replay.proofs.ScriptFacts.{acts-made, arrivals-are}
 
@@ -87,6 +87,17 @@ opened-within earlier (r ∷ rs) device row h e = by (opens device r) refl (open
         let same : r ≡ row = cc (rw o at e) in
         subst (λ (x : Row). (1 ≤ x.value) × (x.value ≤ 65536)) same (open-large r.event r.value (and-front (is_open r.event) (r.device == device) o) h.0.value)
     by false o go = go (rw o at e)
+
+-- it is found among the open rows
+pub opening-among : (rows openings : List Row) (device : ℕ) → openings ≡ openings_of rows → opening_of device openings ≡ opening_of device rows
+opening-among rows openings device e = rw e (find-among (λ (row : Row). is_open row.event) (λ (row : Row). row.device == device) rows)
+
+-- the script of a device stands at its place
+pub script-at : (rows : List Row) (scripts : List (List Row)) (device : ℕ) (script : List Row) → 1 ≤ device → device ≤ 16 → script ≡ slice_index_or scripts (device - 1) []
+    → ((place : ℕ) → device ≤ place + 1 → place < 16 → slice_index_or scripts place [] ≡ script_of (place + 1) rows) → script ≡ script_of device rows
+script-at rows scripts device script low high e of =
+    let place : device - 1 + 1 ≡ device = omega (arith, low) in
+    e ∙ of (device - 1) (omega (arith, low)) (omega (arith, low, high)) ∙ ap (λ (n : ℕ). script_of n rows) place
 
 -- ---- rings
 

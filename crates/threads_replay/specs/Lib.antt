@@ -3,3 +3,4 @@ pub mod ScriptShown
 pub mod ThreadsReport
 pub mod Stations
 pub mod Answer
+pub mod Dealing

@@ -27,6 +27,10 @@ opens device row = is_open row.event && (row.device == device)
 abbrev pub is_act_of : ℕ → Row → Bool
 is_act_of device row = not (is_open row.event) && (row.device == device)
 
+-- the open rows
+abbrev pub openings_of : List Row → List Row
+openings_of rows = filter (λ row. is_open row.event) rows
+
 -- the open row of a device, where it has one
 abbrev pub opening_of : ℕ → List Row → Option Row
 opening_of device rows = find (opens device) rows

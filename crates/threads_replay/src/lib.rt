@@ -5,6 +5,7 @@
 //! writes that. docs/FORMATS.md has the format.
 #![tactic(auto)]
 
+mod dealing;
 mod polled;
 mod report;
 mod script;

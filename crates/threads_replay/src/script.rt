@@ -1,10 +1,12 @@
 //! A device whose acts are its rows of a trace.
 
 ghost use Rattle.std.specs.Prelude.{◌≡◌, ◌≤◌, ◌<◌, ◌+◌, ◌^◌, ℕ, List, [], ◌∷◌, Some, IfOk, OnOk, IsSome, filter, length, take};
+ghost use Rattle.device_model.specs.Range.{IsWithin};
 ghost use Rattle.device_model.specs.Trace.{AcceptedAfter};
 ghost use Rattle.device_model.specs.Transmit.{ShowsTransmit, TransmitView};
-ghost use Rattle.threads_replay.specs.Script.{act_of, has_thread, is_act_of, is_rx, makes_threaded, opening_of, opens, rx_of, script_of, transmit_by, tx_after};
+ghost use Rattle.threads_replay.specs.Script.{act_of, has_thread, is_rx, makes_threaded, opening_of, rx_of, script_of, transmit_by, tx_after};
 
+use crate::dealing::{is_act_of, opens};
 use device_model::{Event, Row, Transmit, TxCounts};
 use poll_workers::{Act, Device};
 use rx_ring::Packet;
@@ -43,18 +45,6 @@ pub fn opening_of(rows: &[Row], device: u32) -> Option<Row>
         }
     }
     None
-}
-
-fn opens(row: &Row, device: u32) -> bool
-    ensures { result ≡ opens device row.now }
-{
-    matches!(row.event, Event::Opened) && row.device == device
-}
-
-fn is_act_of(row: &Row, device: u32) -> bool
-    ensures { result ≡ is_act_of device row.now }
-{
-    !matches!(row.event, Event::Opened) && row.device == device
 }
 
 // The rows of a device behind its open row.
@@ -146,9 +136,24 @@ impl ScriptDevice {
         let Some(opening) = opening_of(rows, device) else {
             unreachable!()
         };
+        ScriptDevice::of(alloc, opening, script_of(alloc, rows, device)?)
+    }
+
+    /// The device of its open row and of its rows behind that one, before its acts.
+    pub(crate) fn of(
+        alloc: Global,
+        opening: Row,
+        rows: Vec<Row>,
+    ) -> Result<ScriptDevice, AllocError>
+        requires places { IsWithin 1 65536 opening.value }
+        requires count { length rows.items ≤ 100000 }
+        ensures opening { IfOk result (λ script. script.opening ≡ opening) }
+        ensures rows { IfOk result (λ script. script.rows ≡ rows.items) }
+        ensures made { IfOk result (λ script. script.made ≡ 0) }
+    {
         Ok(ScriptDevice {
             opening,
-            rows: script_of(alloc, rows, device)?,
+            rows,
             made: 0,
             packets: 0,
             transmit: Transmit::open(alloc, opening.value, opening.moment)?,

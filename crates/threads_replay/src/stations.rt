@@ -2,15 +2,18 @@
 
 ghost use Rattle.std.specs.Prelude.{◌≡◌, ◌≤◌, ◌⊎◌, ◌+◌, ◌++◌, ◌∷◌, ℕ, [], List, None, Some, filter, IfErr, IfOk, IsSome, OnOk, length, vec_items, vec_len};
 ghost use Rattle.std.specs.List.{All, AllZip};
+ghost use Rattle.device_model.specs.Range.{IsWithin};
 ghost use Rattle.device_model.specs.Trace.{AcceptedAfter};
+ghost use Rattle.device_model.specs.declared.row.Row.{Row};
 ghost use Rattle.poll_workers.specs.Finishes.{IsFinished};
 ghost use Rattle.poll_workers.specs.Opens.{IsStation};
 ghost use Rattle.threads_replay.specs.Answer.{IsOutside, ring_fault};
-ghost use Rattle.threads_replay.specs.Script.{opening_of, rx_of};
+ghost use Rattle.threads_replay.specs.Script.{opening_of, rx_of, script_of};
 ghost use Rattle.threads_replay.specs.ScriptShown.{acts, after, answer};
 ghost use Rattle.threads_replay.specs.Stations.{IsEndOf, IsStationOf, is_small, small_fault};
 ghost use Rattle.threads_replay.specs.ThreadsReport.{is_opened, opened};
 
+use crate::dealing::{openings_of, scripts_of, take_script};
 use crate::script::{ScriptDevice, opening_of};
 use device_model::{PLACES, Row};
 use poll_workers::{Finished, Gate, Pace, Station, WorkFault, run_workers};
@@ -20,16 +23,20 @@ use std::sync::Wait;
 use std::thread::Threads;
 use trace_replay::ReplayFault;
 
-// The station of a device that the rows open.
-fn station_of(alloc: Global, rows: &[Row], number: u32) -> Result<Station<ScriptDevice>, AllocError>
-    requires accepted { AcceptedAfter [] rows.now }
-    requires count { length rows.now ≤ 100000 }
-    requires number { (1 ≤ number) × (number ≤ 16) }
-    requires opened { IsSome (opening_of number rows.now) }
-    ensures station { IfOk result (λ station. IsStationOf rows.now number station) }
+// The station of the device of this open row, with its rows behind that one.
+fn station_of(
+    alloc: Global,
+    number: u32,
+    opening: Row,
+    script: Vec<Row>,
+) -> Result<Station<ScriptDevice>, AllocError>
+    requires places { IsWithin 1 65536 opening.value }
+    requires count { length script.items ≤ 100000 }
+    requires number { IsWithin 1 16 number }
+    ensures station { (rows : List Row) → opening_of number rows ≡ Some opening → script.items ≡ script_of number rows → IfOk result (λ station. IsStationOf rows number station) }
     ensures lawful { IfOk result (λ station. IsStation station) }
 {
-    let device = ScriptDevice::new(alloc, rows, number)?;
+    let device = ScriptDevice::of(alloc, opening, script)?;
     Ok(Station {
         number,
         capacity: device.capacity() as usize,
@@ -38,23 +45,25 @@ fn station_of(alloc: Global, rows: &[Row], number: u32) -> Result<Station<Script
     })
 }
 
-// Adds the station of a device, where the rows open it.
+// Adds the station of a device with its script, where one of the open rows opens it.
 fn add_station(
     alloc: Global,
-    rows: &[Row],
+    openings: &[Row],
     number: u32,
+    script: Vec<Row>,
     stations: &mut Vec<Station<ScriptDevice>>,
 ) -> Result<(), AllocError>
-    requires accepted { AcceptedAfter [] rows.now }
-    requires count { length rows.now ≤ 100000 }
-    requires number { (1 ≤ number) × (number ≤ 16) }
-    ensures stations { OnOk result ((devices : List ℕ) → AllZip (IsStationOf rows.now) devices (vec_items stations.old)
-        → AllZip (IsStationOf rows.now) (devices ++ filter (is_opened rows.now) (number ∷ [])) (vec_items stations.new)) }
+    requires places { (opening : Row) → opening_of number openings.now ≡ Some opening → IsWithin 1 65536 opening.value }
+    requires count { length script.items ≤ 100000 }
+    requires number { IsWithin 1 16 number }
+    ensures stations { OnOk result ((rows : List Row) → opening_of number openings.now ≡ opening_of number rows → script.items ≡ script_of number rows
+        → (devices : List ℕ) → AllZip (IsStationOf rows) devices (vec_items stations.old)
+        → AllZip (IsStationOf rows) (devices ++ filter (is_opened rows) (number ∷ [])) (vec_items stations.new)) }
     ensures lawful { OnOk result (All IsStation (vec_items stations.old) → All IsStation (vec_items stations.new)) }
     ensures count { OnOk result (vec_len stations.new ≤ vec_len stations.old + 1) }
 {
-    if opening_of(rows, number).is_some() {
-        stations.push(station_of(alloc, rows, number)?)?;
+    if let Some(opening) = opening_of(openings, number) {
+        stations.push(station_of(alloc, number, opening, script)?)?;
     }
     Ok(())
 }
@@ -67,9 +76,12 @@ fn stations_of(alloc: Global, rows: &[Row]) -> Result<Vec<Station<ScriptDevice>>
     ensures lawful { IfOk result (λ stations. All IsStation (vec_items stations)) }
     ensures count { IfOk result (λ stations. vec_len stations ≤ 16) }
 {
+    let openings = openings_of(alloc, rows)?;
+    let mut scripts = scripts_of(alloc, rows)?;
     let mut stations = Vec::with_capacity(alloc, PLACES as usize)?;
     for number in 1..PLACES {
-        add_station(alloc, rows, number, &mut stations)?;
+        let script = take_script(alloc, &mut scripts, number as usize - 1);
+        add_station(alloc, &openings, number, script, &mut stations)?;
     }
     Ok(stations)
 }

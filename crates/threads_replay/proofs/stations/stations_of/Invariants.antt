@@ -1,7 +1,9 @@
-use Rattle.std.proofs.Common.{◌-◌, ◌<◌, vec_items, vec_len}
+use Rattle.std.proofs.Common.{◌≡◌, ◌-◌, ◌+◌, ◌<◌, ◌≤◌, ℕ, [], slice_index_or, vec_items, vec_len}
 use Rattle.std.specs.Prelude.{filter}
 use Rattle.std.specs.List.{All, AllZip, range_with_len}
 use Rattle.poll_workers.specs.Opens.{IsStation}
+use Rattle.threads_replay.specs.Dealing.{lists}
+use Rattle.threads_replay.specs.Script.{script_of}
 use Rattle.threads_replay.specs.Stations.{IsStationOf}
 use Rattle.threads_replay.specs.ThreadsReport.{is_opened}
 use Rattle.threads_replay.proofs.stations.stations_of.Given as goal
@@ -11,4 +13,6 @@ invariant-loop-number l = record {
   of : AllZip (IsStationOf l.rows) (filter (is_opened l.rows) (range_with_len 1 (l.number - 1))) (vec_items l.stations);
   lawful : All IsStation (vec_items l.stations);
   few : vec_len l.stations < l.number;
+  scripts : (place : ℕ) → l.number ≤ place + 1 → place < 16 → slice_index_or (lists l.scripts) place [] ≡ script_of (place + 1) l.rows;
+  count : vec_len l.scripts ≡ 16;
 }
