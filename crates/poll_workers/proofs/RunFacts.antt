@@ -1,5 +1,5 @@
 -- What the parts of a crew come to for its stations.
-use Rattle.std.proofs.Common.{◌≡◌, ◌≢◌, ℕ, ◌+◌, ◌<◌, ◌≤◌, ◌^◌, min, true, List, [], ◌∷◌, ◌++◌, length, refl, sym, ap, ◌∙◌, subst, IsSome, All, arith, rules}
+use Rattle.std.proofs.Common.{◌≡◌, ℕ, ◌≤◌, true, List, [], ◌++◌, length, sym, ap, ◌∙◌, subst, IsSome, All, arith, rules}
 use Rattle.std.specs.Prelude.{IfOk, Ok, Err, Result, vec_items}
 use Rattle.std.specs.Global.{Vec}
 use Rattle.std.specs.List.{AllByRecursion, AllZip}
@@ -22,10 +22,10 @@ use Rattle.poll_workers.specs.declared.job.Worked.{Worked}
 use Rattle.poll_workers.specs.declared.thread_poller.ThreadSide.{ThreadSide}
 use Rattle.poll_workers.specs.Acts.{after_acts, arrivals}
 use Rattle.poll_workers.specs.Finishes.{IsCallerAt, IsCallerOf, IsDoneAt, IsFinishOf, IsFinished, IsWorkedOf}
-use Rattle.poll_workers.specs.Opens.{IsInputOf, IsKeptLoose, IsKeptSideOf, IsLoose, IsSideOf}
+use Rattle.poll_workers.specs.Opens.{IsInputOf, IsKeptLoose, IsKeptSideOf, IsLoose}
 use Rattle.poll_workers.specs.Seats.{AreSeatsOf}
 use Rattle.poll_workers.specs.SeatKeeping.{AreSameSeats, IsLawful, IsSameSeat}
-use Rattle.poll_workers.specs.Spreads.{IsJobAt, IsJobOf, IsKeptJobOf, IsSeatAt, IsThreadAt}
+use Rattle.poll_workers.specs.Spreads.{IsJobAt, IsKeptJobOf, IsSeatAt, IsThreadAt}
 use Rattle.poll_workers.specs.Works.{IsWorkOf}
 use Rattle.poll_workers.proofs.ListFacts.{each_index, zip_all, zip_and, zip_both, zip_each, zip_flip, zip_same}
 

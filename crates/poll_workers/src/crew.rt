@@ -12,15 +12,13 @@ ghost use Rattle.poll_workers.specs.Works.{IsWorkOf};
 
 use crate::acts::{Device, Gate};
 use crate::gathering::{are_whole, gather, unseat};
-use crate::job::{Job, Worked};
+use crate::job::Worked;
 use crate::opening::{Loose, Placed, open_all, shut_all};
 use crate::poller::PollTask;
-use crate::seat::Seat;
 use crate::signals::{Bell, Pause, Post, Signals};
 use crate::spreading::{Parts, spread};
 use crate::station::{Finished, Setting, Station, WorkFault};
 use crate::tasks::{Begun, Task, begin, begin_all, end, end_all};
-use crate::thread_poller::ThreadSide;
 use napi_calls::{Caller, Kept};
 use poll_engine::{ListIn, SharedList, shared_list};
 use std::alloc::{AllocError, Global};

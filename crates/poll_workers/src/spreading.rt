@@ -1,6 +1,6 @@
 //! What goes to the threads of a crew.
 
-ghost use Rattle.std.specs.Prelude.{◌≡◌, ◌+◌, ◌≤◌, length, vec_items, vec_len, vec_capacity};
+ghost use Rattle.std.specs.Prelude.{◌≡◌, ◌+◌, ◌≤◌, length, vec_items, vec_len};
 ghost use Rattle.std.specs.List.{AllZip};
 ghost use Rattle.poll_workers.specs.Opens.{IsKeptSideOf, IsSideOf};
 ghost use Rattle.poll_workers.specs.SeatKeeping.{IsLawful};

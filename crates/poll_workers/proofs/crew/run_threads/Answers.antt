@@ -1,4 +1,4 @@
-use Rattle.std.proofs.Common.{◌≡◌, ◌+◌, ◌≤◌, length, vec_len, vec_capacity, vec_items, rules, arith}
+use Rattle.std.proofs.Common.{rules, arith}
 use Rattle.std.proofs.lemmas.Grind.{common_steps}
 use Rattle.poll_workers.proofs.Zips.{zip_long}
 use Rattle.poll_workers.proofs.RunFacts.{all_can_poll, all_can_work, all_done_at, all_pollers_at, all_there, all_threads_at, all_worked}
