@@ -1,5 +1,7 @@
 -- What the parts of a crew come to for its stations.
-use Rattle.std.proofs.Common.{◌≡◌, ◌≢◌, ℕ, ◌+◌, ◌<◌, ◌≤◌, ◌^◌, min, true, List, [], ◌∷◌, ◌++◌, length, refl, sym, ap, ◌∙◌, subst, IsSome, All, arith, rules}
+use Rattle.std.proofs.Common.{◌≡◌, ℕ, ◌≤◌, true, List, [], ◌++◌, length, sym, ap, ◌∙◌, subst, IsSome, All, arith, rules}
+use Rattle.std.specs.Prelude.{IfOk, Ok, Err, Result, vec_items}
+use Rattle.std.specs.Global.{Vec}
 use Rattle.std.specs.List.{AllByRecursion, AllZip}
 use Rattle.rx_ring.specs.declared.ends.RxIn.{RxIn}
 use Rattle.rx_ring.specs.declared.packet.Packet.{Packet}
@@ -20,10 +22,10 @@ use Rattle.poll_workers.specs.declared.job.Worked.{Worked}
 use Rattle.poll_workers.specs.declared.thread_poller.ThreadSide.{ThreadSide}
 use Rattle.poll_workers.specs.Acts.{after_acts, arrivals}
 use Rattle.poll_workers.specs.Finishes.{IsCallerAt, IsCallerOf, IsDoneAt, IsFinishOf, IsFinished, IsWorkedOf}
-use Rattle.poll_workers.specs.Opens.{IsInputOf, IsKeptLoose, IsKeptSideOf, IsLoose, IsSideOf}
+use Rattle.poll_workers.specs.Opens.{IsInputOf, IsKeptLoose, IsKeptSideOf, IsLoose}
 use Rattle.poll_workers.specs.Seats.{AreSeatsOf}
 use Rattle.poll_workers.specs.SeatKeeping.{AreSameSeats, IsLawful, IsSameSeat}
-use Rattle.poll_workers.specs.Spreads.{IsJobAt, IsJobOf, IsKeptJobOf, IsSeatAt, IsThreadAt}
+use Rattle.poll_workers.specs.Spreads.{IsJobAt, IsKeptJobOf, IsSeatAt, IsThreadAt}
 use Rattle.poll_workers.specs.Works.{IsWorkOf}
 use Rattle.poll_workers.proofs.ListFacts.{each_index, zip_all, zip_and, zip_both, zip_each, zip_flip, zip_same}
 
@@ -71,22 +73,31 @@ all_finished {R} {D} acts answer after stations loose worked ends opened made wh
     let d = zip_both _ _ _ _ _ a (zip_all _ (λ (w : Worked R D). w.done.whole ≡ true) _ _ whole ended) in
     zip_same _ _ _ _ (λ s e h. finished_of acts answer after s h.1.0 h.0 e h.1.1 h.1.2 h.2.0 h.2.1) d
 
+-- so are all stations of a crew, where the answer is no fault
+pub answer_finished : {R D F : Type 0} (acts : D → ℕ) (answer : D → ℕ → Act) (after : D → ℕ → D)
+    (stations : List (Station D)) (loose : List (Kept R (Loose D))) (worked : List (Worked R D)) (ends : Result (Vec (Finished D)) F)
+    → AllZip IsKeptLoose stations loose → AllZip (IsWorkedOf acts answer after) loose worked
+    → IfOk ends (λ _. All (λ w. w.done.whole ≡ true) worked) → IfOk ends (λ all. AllZip IsFinishOf worked (vec_items all))
+    → IfOk ends (λ all. AllZip (IsFinished acts answer after) stations (vec_items all))
+answer_finished acts answer after stations loose worked (Ok all) opened made whole ended = all_finished acts answer after stations loose worked (vec_items all) opened made whole ended
+answer_finished acts answer after stations loose worked (Err fault) opened made whole ended = tt
+
 -- what the workers of the jobs gave back is of the stations
 worked_of : {R D G : Type 0} (acts : D → ℕ) (answer : D → ℕ → Act) (after : D → ℕ → D) (loose : Kept R (Loose D)) (job : Job R D G) (worked : Worked R D)
-    → IsKeptJobOf loose job → IsWorkOf acts answer after job.napi.now job.number job.work worked → IsWorkedOf acts answer after loose worked
+    → IsKeptJobOf loose job → IsWorkOf acts answer after job.desk.napi.now job.desk.number job.work worked → IsWorkedOf acts answer after loose worked
 worked_of {R} {D} acts answer after loose job worked given made =
-    (job.napi.now, job.work, given.same_device, given.same_rx, rw (← given.same_number) made)
+    (job.desk.napi.now, job.work, given.same_device, given.same_rx, rw (← given.same_number) made)
 
 pub all_worked : {R D G : Type 0} (acts : D → ℕ) (answer : D → ℕ → Act) (after : D → ℕ → D)
     (loose : List (Kept R (Loose D))) (jobs : List (Job R D G)) (worked : List (Worked R D))
     → AllZip IsKeptJobOf loose jobs
-    → AllZip (λ (j : Job R D G) w. IsWorkOf acts answer after j.napi.now j.number j.work w) jobs worked
+    → AllZip (λ (j : Job R D G) w. IsWorkOf acts answer after j.desk.napi.now j.desk.number j.work w) jobs worked
     → AllZip (IsWorkedOf acts answer after) loose worked
 all_worked acts answer after loose jobs worked given made =
     zip_same _ _ _ _ (λ k w h. worked_of acts answer after k h.0 w h.1 h.2) (zip_both _ _ _ _ _ given made)
 
 done_at : {R D G : Type 0} (acts : D → ℕ) (answer : D → ℕ → Act) (after : D → ℕ → D) (placed : Kept R Placed) (loose : Kept R (Loose D)) (job : Job R D G) (worked : Worked R D)
-    → IsKeptSideOf loose placed → IsKeptJobOf loose job → IsJobAt placed job → IsWorkOf acts answer after job.napi.now job.number job.work worked
+    → IsKeptSideOf loose placed → IsKeptJobOf loose job → IsJobAt placed job → IsWorkOf acts answer after job.desk.napi.now job.desk.number job.work worked
     → IsDoneAt worked placed
 done_at acts answer after placed loose job worked side given at made = record {
   seats = subst (λ (n : Napi). AreSeatsOf n worked.done.seats.value) at made.done.seats;
@@ -98,7 +109,7 @@ done_at acts answer after placed loose job worked side given at made = record {
 pub all_done_at : {R D G : Type 0} (acts : D → ℕ) (answer : D → ℕ → Act) (after : D → ℕ → D)
     (placed : List (Kept R Placed)) (loose : List (Kept R (Loose D))) (jobs : List (Job R D G)) (worked : List (Worked R D))
     → AllZip IsKeptSideOf loose placed → AllZip IsKeptJobOf loose jobs → AllZip IsJobAt placed jobs
-    → AllZip (λ (j : Job R D G) w. IsWorkOf acts answer after j.napi.now j.number j.work w) jobs worked
+    → AllZip (λ (j : Job R D G) w. IsWorkOf acts answer after j.desk.napi.now j.desk.number j.work w) jobs worked
     → AllZip IsDoneAt worked placed
 all_done_at acts answer after placed loose jobs worked sides given at made =
     let a = zip_both _ _ _ _ _ (zip_flip _ _ _ sides) given in
@@ -132,10 +143,10 @@ all_threads_at placed sides callers at of =
     zip_flip _ _ _ (zip_same _ _ _ _ (λ p k h. subst (λ (n : Napi). IsSeatOf n k.value.pass) h.1.napi h.2) (zip_both _ _ _ _ _ at of))
 
 -- all jobs may be done, and all sides may be run
-pub all_can_work : {R D G : Type 0} (loose : List (Kept R (Loose D))) (jobs : List (Job R D G)) → AllZip IsKeptJobOf loose jobs → All (λ (j : Job R D G). AreSeatsOf j.napi.now j.work.seats.value) jobs
+pub all_can_work : {R D G : Type 0} (loose : List (Kept R (Loose D))) (jobs : List (Job R D G)) → AllZip IsKeptJobOf loose jobs → All (λ (j : Job R D G). AreSeatsOf j.desk.napi.now j.work.seats.value) jobs
 all_can_work loose jobs given = each_index _ _ (zip_each _ _ _ _ (λ k j h. h.seats) given)
 
 pub all_can_poll : {R G : Type 0} (placed : List (Kept R Placed)) (sides : List (ThreadSide R G)) → AllZip IsThreadAt placed sides
-    → All (λ (s : ThreadSide R G). IsSeatOf s.napi.now s.caller.value.pass × (s.number ≤ 16) × IsLawful s.pace) sides
+    → All (λ (s : ThreadSide R G). IsSeatOf s.napi.now s.caller.value.pass × (s.number ≤ 16) × IsLawful s.setting.now.pace) sides
 all_can_poll {R} {G} placed sides at =
-    each_index _ _ (zip_each IsThreadAt (λ (s : ThreadSide R G). IsSeatOf s.napi.now s.caller.value.pass × (s.number ≤ 16) × IsLawful s.pace) _ _ (λ p s h. (h.seat, h.name, h.lawful)) at)
+    each_index _ _ (zip_each IsThreadAt (λ (s : ThreadSide R G). IsSeatOf s.napi.now s.caller.value.pass × (s.number ≤ 16) × IsLawful s.setting.now.pace) _ _ (λ p s h. (h.seat, h.name, h.lawful)) at)

@@ -9,6 +9,7 @@ use Rattle.napi_calls.specs.Instance.{IsSeatOf, callers_of, ring_of_instance}
 use Rattle.poll_workers.specs.declared.station.Station.{Station}
 use Rattle.poll_workers.specs.declared.opening.Placed.{Placed}
 use Rattle.poll_workers.specs.declared.opening.Loose.{Loose}
+use Rattle.poll_workers.specs.Seats.{AreSeatsOf}
 
 -- its number is 1 to 16, and its ring has 1 to 65536 places
 pub record IsStation {D : Type 0} (station : Station D) : Type 0 where
@@ -36,8 +37,7 @@ module _ {D : Type 0} where
   -- what goes to the threads and what stays behind are of one instance, and of one ring
   pub record IsSideOf (loose : Loose D) (placed : Placed) : Type 0 where
     pub name : loose.number ≤ 16
-    pub control : IsSeatOf placed.napi loose.control.pass
-    pub caller : IsSeatOf placed.napi loose.caller.pass
+    pub seats : AreSeatsOf placed.napi loose.seats
     pub poller : IsSeatOf placed.napi loose.poller.pass
     pub thread : IsSeatOf placed.napi loose.thread.pass
     pub ring : IsInputOf loose.rx placed.napi

@@ -13,16 +13,16 @@ use Rattle.poll_workers.specs.SeatKeeping.{IsLawful}
 module _ {R D G : Type 0} where
   -- the job has the device, its number and its end of the ring, and may be done
   pub record IsJobOf (loose : Loose D) (job : Job R D G) : Type 0 where
-    pub same_number : job.number ≡ loose.number
+    pub same_number : job.desk.number ≡ loose.number
     pub same_device : job.work.device ≡ loose.device
     pub same_rx : job.work.rx ≡ loose.rx
-    pub seats : AreSeatsOf job.napi.now job.work.seats.value
+    pub seats : AreSeatsOf job.desk.napi.now job.work.seats.value
 
   abbrev pub IsKeptJobOf : Kept R (Loose D) → Job R D G → Type 0
   IsKeptJobOf loose job = IsJobOf loose.value job
 
   abbrev pub IsJobAt : Kept R Placed → Job R D G → Type 0
-  IsJobAt placed job = job.napi.now ≡ placed.value.napi
+  IsJobAt placed job = job.desk.napi.now ≡ placed.value.napi
 
 module _ {R : Type 0} where
   abbrev pub IsSeatAt : Kept R Placed → Seat → Type 0
@@ -33,4 +33,4 @@ module _ {R : Type 0} where
     pub napi : side.napi.now ≡ placed.value.napi
     pub seat : IsSeatOf side.napi.now side.caller.value.pass
     pub name : side.number ≤ 16
-    pub lawful : IsLawful side.pace
+    pub lawful : IsLawful side.setting.now.pace

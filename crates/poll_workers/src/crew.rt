@@ -3,24 +3,22 @@
 ghost use Rattle.std.specs.Prelude.{◌≡◌, ◌≤◌, ◌<◌, ◌+◌, IfOk, IfErr, true, vec_items, vec_len, vec_capacity};
 ghost use Rattle.std.specs.List.{All, AllZip};
 ghost use Rattle.napi_calls.specs.Instance.{IsSeatOf};
-ghost use Rattle.poll_workers.specs.Finishes.{IsCallerAt, IsDoneAt, IsFinished, IsWorkedOf};
+ghost use Rattle.poll_workers.specs.Finishes.{IsCallerAt, IsDoneAt, IsFinishOf, IsFinished, IsWorkedOf};
 ghost use Rattle.poll_workers.specs.Opens.{IsKeptSideOf, IsStation};
 ghost use Rattle.poll_workers.specs.SeatKeeping.{AreSameSeats, IsLawful};
 ghost use Rattle.poll_workers.specs.Seats.{AreSeatsOf};
-ghost use Rattle.poll_workers.specs.Tasks.{IsReady};
+ghost use Rattle.poll_workers.specs.Tasks.{HasRoom, IsReady};
 ghost use Rattle.poll_workers.specs.Works.{IsWorkOf};
 
 use crate::acts::{Device, Gate};
 use crate::gathering::{are_whole, gather, unseat};
-use crate::job::{Job, Worked};
+use crate::job::Worked;
 use crate::opening::{Loose, Placed, open_all, shut_all};
 use crate::poller::PollTask;
-use crate::seat::Seat;
 use crate::signals::{Bell, Pause, Post, Signals};
-use crate::spreading::{Parts, Setting, spread};
-use crate::station::{Finished, Station, WorkFault};
+use crate::spreading::{Parts, spread};
+use crate::station::{Finished, Setting, Station, WorkFault};
 use crate::tasks::{Begun, Task, begin, begin_all, end, end_all};
-use crate::thread_poller::ThreadSide;
 use napi_calls::{Caller, Kept};
 use poll_engine::{ListIn, SharedList, shared_list};
 use std::alloc::{AllocError, Global};
@@ -35,23 +33,44 @@ struct Room<J: Task<O>, O> {
     given: Vec<O>,
 }
 
-// Room for as many workers and as many sides of threads.
-fn rooms<J: Task<O>, O: Drop, K: Task<P>, P: Drop>(
+// Room for so many tasks.
+fn task_room<J: Task<O>, O: Drop>(alloc: Global, count: usize) -> Result<Room<J, O>, AllocError>
+    ensures { IfOk result (λ r. HasRoom count r.begun × HasRoom count r.given) }
+{
+    Ok(Room {
+        begun: Vec::with_capacity(alloc, count)?,
+        given: Vec::with_capacity(alloc, count)?,
+    })
+}
+
+/// Room for a crew's tasks, and for the callers of its poller's seats.
+#[derive(Drop)]
+struct Rooms<J: Task<B>, B, S: Task<C>, C> {
+    working: Room<J, B>,
+    siding: Room<S, C>,
+    callers: Vec<C>,
+}
+
+// Room for what goes to the threads of so many stations, and for what they give. The seats are made last, since they must be
+// spent: where memory is refused there are none.
+fn crew_rooms<'n, J: Task<B> + Drop, B: Drop, S: Task<C> + Drop, C: Drop>(
     alloc: Global,
     count: usize,
-) -> Result<(Room<J, O>, Room<K, P>), AllocError>
-    ensures empty { IfOk result (λ r. (vec_len r.0.begun ≡ 0) × (vec_len r.0.given ≡ 0) × (vec_len r.1.begun ≡ 0) × (vec_len r.1.given ≡ 0)) }
-    ensures room { IfOk result (λ r. (count ≤ vec_capacity r.0.begun) × (count ≤ vec_capacity r.0.given) × (count ≤ vec_capacity r.1.begun) × (count ≤ vec_capacity r.1.given)) }
+) -> Result<(Parts<'n, J, S>, Rooms<J, B, S, C>), AllocError>
+    ensures parts { IfOk result (λ r. HasRoom count r.0.jobs × HasRoom count r.0.seats × HasRoom count r.0.sides) }
+    ensures working { IfOk result (λ r. HasRoom count r.1.working.begun × HasRoom count r.1.working.given) }
+    ensures siding { IfOk result (λ r. HasRoom count r.1.siding.begun × HasRoom count r.1.siding.given) }
+    ensures callers { IfOk result (λ r. HasRoom count r.1.callers) }
 {
-    let first = Room {
-        begun: Vec::with_capacity(alloc, count)?,
-        given: Vec::with_capacity(alloc, count)?,
+    let rooms = Rooms {
+        working: task_room(alloc, count)?,
+        siding: task_room(alloc, count)?,
+        callers: Vec::with_capacity(alloc, count)?,
     };
-    let second = Room {
-        begun: Vec::with_capacity(alloc, count)?,
-        given: Vec::with_capacity(alloc, count)?,
-    };
-    Ok((first, second))
+    let jobs = Vec::with_capacity(alloc, count)?;
+    let sides = Vec::with_capacity(alloc, count)?;
+    let seats = Vec::with_capacity(alloc, count)?;
+    Ok((Parts { jobs, seats, sides }, rooms))
 }
 
 /// What the threads of a crew gave back, and what was done beside them.
@@ -147,8 +166,8 @@ struct Ended<R: Wait + Drop, D, E> {
 }
 
 // Runs the threads. With no memory for what they need none is started, and what was to go to them is handed back.
-fn run_threads<'g, 's, 'p, 'n, R, D, G, F, E>(
-    setting: &Setting<'g, 's, R, G>,
+fn run_threads<'t, 'p, 'n, R, D, G, F, E>(
+    setting: &'t Setting<'t, R, G>,
     alloc: Global,
     number: u32,
     post: &'p Post,
@@ -157,7 +176,6 @@ fn run_threads<'g, 's, 'p, 'n, R, D, G, F, E>(
     loose: Vec<Kept<R, Loose<D>>>,
     list: SharedList<R>,
     ins: Vec<ListIn<R>>,
-    caller_room: Vec<Kept<R, Caller>>,
     beside: F,
 ) -> Result<Ended<R, D, E>, Vec<Kept<R, Loose<D>>>>
 where
@@ -170,8 +188,6 @@ where
     requires pace { IsLawful setting.now.pace }
     requires sides { AllZip IsKeptSideOf (vec_items loose) placed.now }
     requires ins { vec_len loose + vec_len loose ≤ vec_len ins }
-    requires empty { vec_len caller_room ≡ 0 }
-    requires room { vec_len loose ≤ vec_capacity caller_room }
     requires beside { F.pre beside }
     ensures worked { IfOk result (λ e. AllZip (IsWorkedOf D.acts D.answer D.after) (vec_items loose) (vec_items e.worked)) }
     ensures dones { IfOk result (λ e. AllZip IsDoneAt (vec_items e.worked) placed.now) }
@@ -181,56 +197,64 @@ where
     ensures len { IfOk result (λ e. vec_len e.worked ≡ vec_len loose) }
     ensures back { IfErr result (λ b. vec_items b ≡ vec_items loose) }
 {
-    let count = loose.len();
-    let Ok(job_room) = Vec::with_capacity(alloc, count) else {
+    let Ok((parts, rooms)) = crew_rooms(alloc, loose.len()) else {
         return Err(loose);
     };
-    let Ok(side_room) = Vec::with_capacity(alloc, count) else {
-        return Err(loose);
-    };
-    let Ok(seat_room) = Vec::with_capacity(alloc, count) else {
-        return Err(loose);
-    };
-    let Ok((work_room, thread_room)) = rooms(alloc, count) else {
-        seat_room.destroy_empty();
-        return Err(loose);
-    };
-    let Parts { jobs, seats, sides } = spread(
-        setting, post, placed, loose, ins, job_room, seat_room, side_room,
-    );
+    let Parts { jobs, seats, sides } = spread(setting, post, placed, loose, ins, parts);
     let poller = PollTask {
-        rt: setting.rt,
-        gate: setting.gate,
-        signals: setting.signals,
+        setting,
         post,
         number,
         list,
         pause,
-        pace: setting.pace,
-        seats,
+        seats: Kept::new(setting.rt, seats),
     };
-    let Driven {
-        polled,
-        worked,
-        threads,
-        beside,
-    } = drive(
+    let driven = drive(
         &setting.rt,
         poller,
         jobs,
         sides,
         post,
         setting.signals,
-        work_room,
-        thread_room,
+        rooms.working,
+        rooms.siding,
         beside,
     );
     Ok(Ended {
+        worked: driven.worked,
+        pollers: unseat(setting.rt, driven.polled.open(), rooms.callers),
+        threads: driven.threads,
+        beside: driven.beside,
+    })
+}
+
+// Ends a crew's stations. There is room for them. Where not all acts were made the answer is `GateShut`.
+fn end_crew<R: Wait + Drop, D: Drop, E>(
+    ended: Ended<R, D, E>,
+    placed: Vec<Kept<R, Placed>>,
+    room: Vec<Finished<D>>,
+) -> (Result<Vec<Finished<D>>, WorkFault>, E)
+    requires dones { AllZip IsDoneAt (vec_items ended.worked) (vec_items placed) }
+    requires pollers { AllZip IsCallerAt (vec_items ended.pollers) (vec_items placed) }
+    requires threads { AllZip IsCallerAt (vec_items ended.threads) (vec_items placed) }
+    requires empty { vec_len room ≡ 0 }
+    requires room { vec_len ended.worked ≤ vec_capacity room }
+    ensures finished { IfOk result.0 (λ all. AllZip IsFinishOf (vec_items ended.worked) (vec_items all)) }
+    ensures whole { IfOk result.0 (λ all. All (λ w. w.done.whole ≡ true) (vec_items ended.worked)) }
+    ensures beside { result.1 ≡ ended.beside }
+{
+    let Ended {
         worked,
-        pollers: unseat(setting.rt, polled.open(), caller_room),
+        pollers,
         threads,
         beside,
-    })
+    } = ended;
+    let whole = are_whole(worked.as_slice());
+    let finished = gather(worked, pollers, threads, placed, room);
+    if !whole {
+        return (Err(WorkFault::GateShut), beside);
+    }
+    (Ok(finished), beside)
 }
 
 /// Runs the devices of one crew, each in a worker's thread, with their poller, whose number is at most 7, and answers how
@@ -238,8 +262,8 @@ where
 ///
 /// Where memory is refused nothing is begun, and `beside` isn't called. Where not all acts were made the answer is
 /// `GateShut`, whatever stopped them.
-pub(crate) fn run_crew<'g, 's, R, D, G, F, E>(
-    setting: &Setting<'g, 's, R, G>,
+pub(crate) fn run_crew<'t, R, D, G, F, E>(
+    setting: &'t Setting<'t, R, G>,
     alloc: Global,
     number: u32,
     stations: Vec<Station<D>>,
@@ -266,11 +290,8 @@ where
     let Ok((list, ins)) = shared_list(rt, alloc, 2 * count as u32) else {
         return Err(AllocError);
     };
-    let placed_room = Vec::with_capacity(alloc, count)?;
-    let loose_room = Vec::with_capacity(alloc, count)?;
-    let caller_room = Vec::with_capacity(alloc, count)?;
     let finished_room = Vec::with_capacity(alloc, count)?;
-    let (placed, loose) = open_all(rt, alloc, stations, placed_room, loose_room)?;
+    let (placed, loose) = open_all(rt, alloc, stations)?;
     let ended = run_threads(
         setting,
         alloc,
@@ -281,25 +302,13 @@ where
         loose,
         list,
         ins,
-        caller_room,
         beside,
     );
-    let Ended {
-        worked,
-        pollers,
-        threads,
-        beside,
-    } = match ended {
-        Ok(ended) => ended,
+    match ended {
+        Ok(ended) => Ok(end_crew(ended, placed, finished_room)),
         Err(loose) => {
             shut_all(placed, loose);
-            return Err(AllocError);
+            Err(AllocError)
         }
-    };
-    let whole = are_whole(worked.as_slice());
-    let finished = gather(worked, pollers, threads, placed, finished_room);
-    if !whole {
-        return Ok((Err(WorkFault::GateShut), beside));
     }
-    Ok((Ok(finished), beside))
 }

@@ -8,7 +8,7 @@ use crate::job::Worked;
 use crate::opening::Placed;
 use crate::seat::Seat;
 use crate::station::Finished;
-use crate::worker::{Done, Seats};
+use crate::worker::Done;
 use napi_calls::{Caller, Kept};
 use rx_ring::finish;
 use std::sync::Wait;
@@ -52,10 +52,9 @@ fn end_one<R: Wait + Drop, D: Drop>(
         seats,
         whole: _,
     } = done;
-    let Seats { caller, control } = seats.open();
     let ctx = placed
         .open()
-        .close(caller, poller.open(), thread.open(), control);
+        .close(seats.open(), poller.open(), thread.open());
     Finished {
         number,
         device,

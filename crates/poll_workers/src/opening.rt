@@ -6,10 +6,12 @@ ghost use Rattle.rx_ring.specs.Ends.{ring_name};
 ghost use Rattle.napi_calls.specs.Instance.{IsSeatOf, callers_of, ring_of_instance};
 ghost use Rattle.napi_calls.specs.declared.types.Caller.{Caller};
 ghost use Rattle.poll_workers.specs.Opens.{IsHome, IsKeptLoose, IsKeptSideOf, IsLoose, IsSideOf, IsStation};
+ghost use Rattle.poll_workers.specs.Seats.{AreSeatsOf};
 
 use crate::signals::{Bell, Pause};
 use crate::station::Station;
-use napi_calls::{Caller, Control, Kept, Napi, NewBack, Off};
+use crate::worker::Seats;
+use napi_calls::{Caller, Kept, Napi, NewBack};
 use rx_ring::{RxCtx, RxIn, ring};
 use std::alloc::{AllocError, Global};
 use std::sync::Wait;
@@ -27,8 +29,7 @@ pub(crate) struct Loose<D> {
     pub(crate) number: u32,
     pub(crate) device: D,
     pub(crate) rx: RxIn,
-    pub(crate) control: Control<Off>,
-    pub(crate) caller: Caller,
+    pub(crate) seats: Seats,
     pub(crate) poller: Caller,
     pub(crate) thread: Caller,
     /// What its own thread sleeps on, where it has one.
@@ -37,16 +38,10 @@ pub(crate) struct Loose<D> {
 
 impl Placed {
     /// Closes the instance, with its three callers (`netif_napi_del`).
-    pub(crate) fn close(
-        self,
-        caller: Caller,
-        poller: Caller,
-        thread: Caller,
-        control: Control<Off>,
-    ) -> RxCtx
+    pub(crate) fn close(self, seats: Seats, poller: Caller, thread: Caller) -> RxCtx
         requires home { IsHome self }
-        requires callers { IsSeatOf self.napi caller.pass × IsSeatOf self.napi poller.pass × IsSeatOf self.napi thread.pass }
-        requires control { IsSeatOf self.napi control.pass }
+        requires seats { AreSeatsOf self.napi seats }
+        requires callers { IsSeatOf self.napi poller.pass × IsSeatOf self.napi thread.pass }
         ensures { ring_name result ≡ ring_of_instance self.napi }
     {
         let Placed {
@@ -54,6 +49,7 @@ impl Placed {
             bell: _,
             room,
         } = self;
+        let Seats { caller, control } = seats;
         let mut callers = room;
         callers.push_reserved(caller);
         callers.push_reserved(poller);
@@ -119,8 +115,7 @@ fn open<D: Drop>(alloc: Global, station: Station<D>) -> Result<(Placed, Loose<D>
         number,
         device,
         rx,
-        control,
-        caller,
+        seats: Seats { caller, control },
         poller,
         thread,
         pause,
@@ -136,13 +131,12 @@ fn shut<D: Drop>(placed: Placed, loose: Loose<D>)
         number: _,
         device: _,
         rx: _,
-        control,
-        caller,
+        seats,
         poller,
         thread,
         pause: _,
     } = loose;
-    let _ctx = placed.close(caller, poller, thread, control);
+    let _ctx = placed.close(seats, poller, thread);
 }
 
 /// Closes instances that no thread has used.
@@ -162,24 +156,19 @@ pub(crate) fn shut_all<R: Wait + Drop, D: Drop>(
     }
 }
 
-/// Makes the instances of all stations. There is room for them. With no memory for all of them those that were made are
-/// closed.
+/// Makes the instances of all stations. With no memory for all of them those that were made are closed.
 pub(crate) fn open_all<R: Wait + Drop + Copy, D: Drop>(
     rt: R,
     alloc: Global,
     stations: Vec<Station<D>>,
-    placed_room: Vec<Kept<R, Placed>>,
-    loose_room: Vec<Kept<R, Loose<D>>>,
 ) -> Result<(Vec<Kept<R, Placed>>, Vec<Kept<R, Loose<D>>>), AllocError>
     requires stations { All IsStation (vec_items stations) }
-    requires empty { (vec_len placed_room ≡ 0) × (vec_len loose_room ≡ 0) }
-    requires room { (vec_len stations ≤ vec_capacity placed_room) × (vec_len stations ≤ vec_capacity loose_room) }
     ensures loose { IfOk result (λ r. AllZip IsKeptLoose (vec_items stations) (vec_items r.1)) }
     ensures sides { IfOk result (λ r. AllZip IsKeptSideOf (vec_items r.1) (vec_items r.0)) }
     ensures len { IfOk result (λ r. (vec_len r.0 ≡ vec_len stations) × (vec_len r.1 ≡ vec_len stations)) }
 {
-    let mut placed = placed_room;
-    let mut loose = loose_room;
+    let mut placed = Vec::with_capacity(alloc, stations.len())?;
+    let mut loose = Vec::with_capacity(alloc, stations.len())?;
     for station in stations {
         match open(alloc, station) {
             Ok((one, other)) => {

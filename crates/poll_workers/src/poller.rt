@@ -6,8 +6,8 @@ ghost use Rattle.poll_workers.specs.SeatKeeping.{AreSameSeats, IsLawful};
 use crate::acts::Gate;
 use crate::seat::Seat;
 use crate::serving::{Serves, serve};
-use crate::signals::{Pause, Post, Signals};
-use crate::station::Pace;
+use crate::signals::{Pause, Post};
+use crate::station::{Pace, Setting};
 use crate::tasks::Task;
 use napi_calls::Kept;
 use poll_engine::{Bench, BusyReport, Next, Once, SharedList, ThreadReport, run_softirq};
@@ -116,57 +116,56 @@ impl<'n, R: Wait> Serves for Poller<'n, R> {
 
 /// A poller's thread.
 #[derive(Drop)]
-pub(crate) struct PollTask<'g, 's, 'p, 'n, R: Wait + Drop, G> {
-    pub(crate) rt: R,
-    pub(crate) gate: &'g G,
-    pub(crate) signals: &'s Signals,
+pub(crate) struct PollTask<'t, 'p, 'n, R: Wait + Drop, G> {
+    pub(crate) setting: &'t Setting<'t, R, G>,
     pub(crate) post: &'p Post,
     /// The poller's number, from 0.
     pub(crate) number: u32,
     pub(crate) list: SharedList<R>,
     pub(crate) pause: Pause,
-    pub(crate) pace: Pace,
     pub(crate) seats: Kept<R, Vec<Seat<'n>>>,
 }
 
-impl<'g, 's, 'p, 'n, R: Wait + Drop + Copy, G: Gate> PollTask<'g, 's, 'p, 'n, R, G> {
+impl<'t, 'p, 'n, R: Wait + Drop + Copy, G: Gate> PollTask<'t, 'p, 'n, R, G> {
     // Polls until told.
     fn poll(self) -> Kept<R, Vec<Seat<'n>>>
         requires number { self.number < 8 }
-        requires pace { IsLawful self.pace }
+        requires pace { IsLawful self.setting.now.pace }
         ensures { AreSameSeats (vec_items self.entry.seats.value) (vec_items result.value) }
     {
         let PollTask {
-            rt,
-            gate,
-            signals,
+            setting,
             post,
             number,
             list,
             pause,
-            pace,
             seats,
         } = self;
-        if !gate.pass(FIRST_POLLER + number, 0) {
-            signals.stop();
+        let rt = setting.rt;
+        if !setting.gate.pass(FIRST_POLLER + number, 0) {
+            setting.signals.stop();
         }
         let crowd = Crowd {
             rt,
             seats: seats.open(),
             batch: Batch::new(),
         };
-        let mut poller = Poller { list, crowd, pace };
+        let mut poller = Poller {
+            list,
+            crowd,
+            pace: setting.pace,
+        };
         serve(&rt, &post.bell, &pause, &mut poller);
         Kept::new(rt, poller.leave())
     }
 }
 
-impl<'g, 's, 'p, 'n, R: Wait + Drop + Copy, G: Gate> Task<Kept<R, Vec<Seat<'n>>>>
-    for PollTask<'g, 's, 'p, 'n, R, G> {
+impl<'t, 'p, 'n, R: Wait + Drop + Copy, G: Gate> Task<Kept<R, Vec<Seat<'n>>>>
+    for PollTask<'t, 'p, 'n, R, G> {
     ghost use Rattle.std.specs.Prelude.{◌<◌, vec_items};
     ghost use Rattle.poll_workers.specs.SeatKeeping.{AreSameSeats, IsLawful};
 
-    ghost can_run = { λ task. (task.number < 8) × IsLawful task.pace };
+    ghost can_run = { λ task. (task.number < 8) × IsLawful task.setting.now.pace };
 
     ghost gives = { λ task seats. AreSameSeats (vec_items task.seats.value) (vec_items seats.value) };
 

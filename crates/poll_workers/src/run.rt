@@ -12,17 +12,13 @@ use crate::acts::{Device, Gate};
 use crate::crew::run_crew;
 use crate::dealing::{Dealt, deal, merge};
 use crate::signals::Signals;
-use crate::spreading::Setting;
-use crate::station::{Finished, Pace, Station, WorkFault};
+use crate::station::{Finished, Pace, Setting, Station, WorkFault};
 use std::alloc::{AllocError, Global};
 use std::sync::Wait;
 use std::thread::Threads;
 
 // What was begun. Where memory was refused for it no further act is made.
-fn begun<'g, 's, R, G, T>(
-    setting: &Setting<'g, 's, R, G>,
-    begun: Result<T, AllocError>,
-) -> Result<T, WorkFault>
+fn begun<R, G, T>(setting: &Setting<R, G>, begun: Result<T, AllocError>) -> Result<T, WorkFault>
     ensures { IfOk result (λ x. begun ≡ Ok x) }
 {
     match begun {
@@ -51,8 +47,8 @@ fn deal_all<D: Drop>(
 
 // The crews of the pollers from this one on: the first one's runs while those of the others do. Where memory is refused no
 // further act is made.
-fn run_crews<'g, 's, R, D, G>(
-    setting: &Setting<'g, 's, R, G>,
+fn run_crews<'t, R, D, G>(
+    setting: &'t Setting<'t, R, G>,
     alloc: Global,
     number: u32,
     pollers: u32,

@@ -1,5 +1,6 @@
 //! What a run is given, and what it gives back.
 
+use crate::signals::Signals;
 use rx_ring::Totals;
 use thiserror::Error;
 
@@ -37,6 +38,15 @@ pub struct Pace {
     pub weight: u32,
     /// The most polls of a run, and of one turn of a thread, 1 to 65535.
     pub window: u32,
+}
+
+/// What all threads of a run have.
+#[derive(Drop)]
+pub(crate) struct Setting<'t, R, G> {
+    pub(crate) rt: R,
+    pub(crate) gate: &'t G,
+    pub(crate) signals: &'t Signals,
+    pub(crate) pace: Pace,
 }
 
 /// Why a run gave nothing. All threads that were started have ended.

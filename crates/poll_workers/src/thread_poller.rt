@@ -7,8 +7,8 @@ ghost use Rattle.poll_workers.specs.SeatKeeping.{IsLawful};
 use crate::acts::Gate;
 use crate::seat::Seat;
 use crate::serving::{Serves, serve};
-use crate::signals::{Bell, Pause, Post, Signals};
-use crate::station::Pace;
+use crate::signals::{Bell, Pause, Post};
+use crate::station::{Pace, Setting};
 use crate::tasks::Task;
 use napi_calls::{Caller, Kept, Napi};
 use napi_model::Kind;
@@ -84,42 +84,37 @@ pub(crate) struct Own<'n, R> {
 
 /// The thread's side of one instance. Where it has no thread, its caller is given back at once.
 #[derive(Drop)]
-pub(crate) struct ThreadSide<'g, 's, 'p, 'n, R: Wait + Drop, G> {
-    pub(crate) rt: R,
-    pub(crate) gate: &'g G,
-    pub(crate) signals: &'s Signals,
+pub(crate) struct ThreadSide<'t, 'p, 'n, R: Wait + Drop, G> {
+    pub(crate) setting: &'t Setting<'t, R, G>,
     pub(crate) poller: &'p Post,
     pub(crate) napi: &'n Napi,
     pub(crate) number: u32,
-    pub(crate) pace: Pace,
     pub(crate) own: Option<Own<'n, R>>,
     pub(crate) caller: Kept<R, Caller>,
 }
 
-impl<'g, 's, 'p, 'n, R: Wait + Drop + Copy, G: Gate> ThreadSide<'g, 's, 'p, 'n, R, G> {
+impl<'t, 'p, 'n, R: Wait + Drop + Copy, G: Gate> ThreadSide<'t, 'p, 'n, R, G> {
     // Polls until told.
     fn poll(self) -> Kept<R, Caller>
         requires seat { IsSeatOf self.napi.now self.caller.value.pass }
         requires name { self.number ≤ 16 }
-        requires pace { IsLawful self.pace }
+        requires pace { IsLawful self.setting.now.pace }
         ensures { IsSeatOf self.entry.napi.now result.value.pass }
     {
         let ThreadSide {
-            rt,
-            gate,
-            signals,
+            setting,
             poller,
             napi,
             number,
-            pace,
             own,
             caller,
         } = self;
+        let rt = setting.rt;
         let Some(Own { bell, pause, list }) = own else {
             return caller;
         };
-        if !gate.pass(FIRST_THREAD + number, 0) {
-            signals.stop();
+        if !setting.gate.pass(FIRST_THREAD + number, 0) {
+            setting.signals.stop();
         }
         let mut alone = Alone {
             rt,
@@ -131,7 +126,7 @@ impl<'g, 's, 'p, 'n, R: Wait + Drop + Copy, G: Gate> ThreadSide<'g, 's, 'p, 'n, 
             },
             list,
             poller: &poller.bell,
-            pace,
+            pace: setting.pace,
             batch: Batch::new(),
         };
         serve(&rt, bell, &pause, &mut alone);
@@ -139,13 +134,13 @@ impl<'g, 's, 'p, 'n, R: Wait + Drop + Copy, G: Gate> ThreadSide<'g, 's, 'p, 'n, 
     }
 }
 
-impl<'g, 's, 'p, 'n, R: Wait + Drop + Copy, G: Gate> Task<Kept<R, Caller>>
-    for ThreadSide<'g, 's, 'p, 'n, R, G> {
+impl<'t, 'p, 'n, R: Wait + Drop + Copy, G: Gate> Task<Kept<R, Caller>>
+    for ThreadSide<'t, 'p, 'n, R, G> {
     ghost use Rattle.std.specs.Prelude.{◌≤◌};
     ghost use Rattle.napi_calls.specs.Instance.{IsSeatOf};
     ghost use Rattle.poll_workers.specs.SeatKeeping.{IsLawful};
 
-    ghost can_run = { λ side. IsSeatOf side.napi.now side.caller.value.pass × (side.number ≤ 16) × IsLawful side.pace };
+    ghost can_run = { λ side. IsSeatOf side.napi.now side.caller.value.pass × (side.number ≤ 16) × IsLawful side.setting.now.pace };
 
     ghost gives = { λ side caller. IsSeatOf side.napi.now caller.value.pass };
 

@@ -1,11 +1,11 @@
-use Rattle.std.proofs.Common.{◌≡◌, ◌+◌, ◌≤◌, length, vec_len, vec_capacity, vec_items, rules, arith}
+use Rattle.std.proofs.Common.{rules, arith}
 use Rattle.std.proofs.lemmas.Grind.{common_steps}
 use Rattle.poll_workers.proofs.Zips.{zip_long}
 use Rattle.poll_workers.proofs.RunFacts.{all_can_poll, all_can_work, all_done_at, all_pollers_at, all_there, all_threads_at, all_worked}
 use Rattle.poll_workers.proofs.crew.run_threads.Goals as goal
 
-pub drive-polled-requires-clause-workers : goal.drive-polled-requires-clause-workers
-drive-polled-requires-clause-workers g c κs within =
+pub drive-driven-requires-clause-workers : goal.drive-driven-requires-clause-workers
+drive-driven-requires-clause-workers g c κs within =
     let a = zip_long _ _ _ c.spread-jobs.ensures.jobs in record {
       can = all_can_work _ _ c.spread-jobs.ensures.jobs;
       begun_empty = search rules;
@@ -14,8 +14,8 @@ drive-polled-requires-clause-workers g c κs within =
       given_room = grind (arith, common_steps, a);
     }
 
-pub drive-polled-requires-clause-threads : goal.drive-polled-requires-clause-threads
-drive-polled-requires-clause-threads g c κs within =
+pub drive-driven-requires-clause-threads : goal.drive-driven-requires-clause-threads
+drive-driven-requires-clause-threads g c κs within =
     let a = zip_long _ _ _ c.spread-jobs.ensures.threads in
     let b = zip_long _ _ _ c.requires.sides in record {
       can = all_can_poll _ _ c.spread-jobs.ensures.threads;
@@ -26,32 +26,32 @@ drive-polled-requires-clause-threads g c κs within =
     }
 
 pub unseat-requires-clause-there : goal.unseat-requires-clause-there
-unseat-requires-clause-there g c = all_there _ _ _ c.spread-jobs.ensures.seats (rw (← c.open.ensures) at c.drive-polled.ensures.polled)
+unseat-requires-clause-there g c = all_there _ _ _ c.spread-jobs.ensures.seats (rw (← c.open.ensures, c.new.ensures) at c.drive-driven.ensures.polled)
 
 pub unseat-requires-clause-room : goal.unseat-requires-clause-room
 unseat-requires-clause-room g c =
-    let same = rw (← c.open.ensures) at c.drive-polled.ensures.polled in
+    let same = rw (← c.open.ensures, c.new.ensures) at c.drive-driven.ensures.polled in
     let a = zip_long _ _ _ c.spread-jobs.ensures.seats in
     let b = zip_long _ _ _ same in
     let d = zip_long _ _ _ c.requires.sides in
-    grind (arith, common_steps, a, b, d, c.requires.room)
+    grind (arith, common_steps, a, b, d, c.in-Ok.ensures.callers.1)
 
 pub returns-clause-worked : goal.returns-clause-worked
-returns-clause-worked g c = all_worked _ _ _ _ _ _ c.spread-jobs.ensures.jobs c.drive-polled.ensures.worked
+returns-clause-worked g c = all_worked _ _ _ _ _ _ c.spread-jobs.ensures.jobs c.drive-driven.ensures.worked
 
 pub returns-clause-dones : goal.returns-clause-dones
-returns-clause-dones g c = all_done_at _ _ _ _ _ _ _ c.requires.sides c.spread-jobs.ensures.jobs c.spread-jobs.ensures.job_places c.drive-polled.ensures.worked
+returns-clause-dones g c = all_done_at _ _ _ _ _ _ _ c.requires.sides c.spread-jobs.ensures.jobs c.spread-jobs.ensures.job_places c.drive-driven.ensures.worked
 
 pub returns-clause-pollers : goal.returns-clause-pollers
 returns-clause-pollers g c =
-    let same = rw (← c.open.ensures) at c.drive-polled.ensures.polled in
+    let same = rw (← c.open.ensures, c.new.ensures) at c.drive-driven.ensures.polled in
     all_pollers_at _ _ _ _ c.spread-jobs.ensures.seats same c.unseat.ensures
 
 pub returns-clause-threads : goal.returns-clause-threads
-returns-clause-threads g c = all_threads_at _ _ _ c.spread-jobs.ensures.threads c.drive-polled.ensures.threads
+returns-clause-threads g c = all_threads_at _ _ _ c.spread-jobs.ensures.threads c.drive-driven.ensures.threads
 
 pub returns-clause-len : goal.returns-clause-len
 returns-clause-len g c =
     let a = zip_long _ _ _ c.spread-jobs.ensures.jobs in
-    let b = zip_long _ _ _ c.drive-polled.ensures.worked in
+    let b = zip_long _ _ _ c.drive-driven.ensures.worked in
     grind (arith, common_steps, a, b)

@@ -1,4 +1,4 @@
-use Rattle.std.proofs.Common.{◌≡◌, ◌+◌, ◌≤◌, length, vec_len, vec_capacity, vec_items, rules, arith}
+use Rattle.std.proofs.Common.{rules, arith}
 use Rattle.std.proofs.lemmas.Grind.{common_steps}
 use Rattle.poll_workers.proofs.opening.open.Goals as goal
 
@@ -6,8 +6,7 @@ pub returns-clause-side : goal.returns-clause-side
 returns-clause-side g c =
     let new = c.in-Ok-new.ensures in record {
       name = c.requires.number.1;
-      control = new.control.instance;
-      caller = c.next-caller.ensures.caller;
+      seats = (c.next-caller.ensures.caller, new.control.instance);
       poller = c.next-poller.ensures.caller;
       thread = c.next-thread.ensures.caller;
       ring = (c.in-Ok.ctx, search rules, c.in-Ok.ensures.one);

@@ -1,4 +1,4 @@
-use Rattle.std.proofs.Common.{◌≡◌, ◌+◌, ◌≤◌, ◌∷◌, ◌++◌, [], length, List, vec_len, vec_capacity, vec_items, rules, arith, refl, sym, ap, ◌∙◌}
+use Rattle.std.proofs.Common.{◌≡◌, ◌∷◌, ◌++◌, [], vec_items, rules, arith, refl}
 use Rattle.std.proofs.lemmas.Grind.{common_steps}
 use Rattle.std.proofs.lemmas.List.{nil_from_length}
 use Rattle.std.specs.Vec.Iter.{into_iter_items}
@@ -8,9 +8,9 @@ use Rattle.poll_workers.proofs.spreading.spread.Goals as goal
 
 pub loop-rest-init : goal.loop-rest-init
 loop-rest-init g c =
-    let no_jobs : vec_items c.args.job_room ≡ [] = nil_from_length _ (grind (arith, common_steps)) in
-    let no_seats : vec_items c.args.seat_room ≡ [] = nil_from_length _ (grind (arith, common_steps)) in
-    let no_sides : vec_items c.args.side_room ≡ [] = nil_from_length _ (grind (arith, common_steps)) in (
+    let no_jobs : vec_items c.args.room.jobs ≡ [] = nil_from_length _ (grind (arith, common_steps)) in
+    let no_seats : vec_items c.args.room.seats ≡ [] = nil_from_length _ (grind (arith, common_steps)) in
+    let no_sides : vec_items c.args.room.sides ≡ [] = nil_from_length _ (grind (arith, common_steps)) in (
       [],
       [],
       record {
@@ -25,9 +25,9 @@ loop-rest-init g c =
         as_count = grind (arith, common_steps);
         side_count = grind (arith, common_steps);
         ends = grind (arith, common_steps);
-        room = c.requires.room.0;
-        as_room = c.requires.room.1;
-        side_room = c.requires.room.2;
+        room = c.requires.room.0.1;
+        as_room = c.requires.room.1.1;
+        side_room = c.requires.room.2.1;
         long = grind (arith, common_steps);
       },
     )
@@ -81,7 +81,7 @@ returns-clause-seats g c =
     let now = c.loop-rest.invariant.2 in
     let empty : into_iter_items c.loop-rest.rests ≡ [] = nil_from_length _ (grind (arith, common_steps, now.long, c.in_default.ensures.len)) in
     let whole = none_left _ _ _ now.all_places (zip_empty _ _ _ now.sides empty) in
-    rw (c.new.ensures, ← whole) now.seat_places
+    rw (← whole) now.seat_places
 
 pub returns-clause-threads : goal.returns-clause-threads
 returns-clause-threads g c =
