@@ -1,5 +1,5 @@
 -- How one more row is dealt to its device.
-use Rattle.std.proofs.Common.{◌≡◌, ◌≢◌, ◌∙◌, ℕ, ◌+◌, ◌-◌, ◌<◌, ◌≤◌, Bool, true, false, List, [], ◌∷◌, ◌++◌, length, append-nil, slice_index_or, slice_set, ap, refl, sym, arith}
+use Rattle.std.proofs.Common.{◌≡◌, ◌≢◌, ◌∙◌, ℕ, ◌+◌, ◌-◌, ◌≤◌, Bool, true, false, List, [], ◌∷◌, ◌++◌, length, append-nil, slice_index_or, slice_set, ap, refl, sym, arith}
 use Rattle.std.specs.Prelude.{◌==◌}
 use Rattle.std.proofs.lemmas.Bool.{eqb-true, eqb-false}
 use Rattle.std.proofs.lemmas.List.{get_or-set_other}
@@ -21,18 +21,6 @@ script-same device rows row e =
 other-device : (device : ℕ) (row : Row) (b : Bool) → is_open row.event ≡ b → (row.device == device) ≡ false → is_act_of device row ≡ false
 other-device device row true o h = rw o refl
 other-device device row false o h = rw (o, h) refl
-
--- an open row is nobody's act
-pub dealt-open : (scripts : List (List Row)) (rows : List Row) (row : Row) → is_open row.event ≡ true → AreScripts scripts rows → AreScripts scripts (rows ++ row ∷ [])
-dealt-open scripts rows row o before place below = before place below ∙ sym (script-other (place + 1) rows row (rw o refl))
-
--- nor is one of no device
-pub dealt-nobody : (scripts : List (List Row)) (rows : List Row) (row : Row) → ((place : ℕ) → place < 16 → row.device ≢ place + 1) → AreScripts scripts rows → AreScripts scripts (rows ++ row ∷ [])
-dealt-nobody scripts rows row nobody before place below = by (row.device == place + 1) refl
-  where
-    by : (b : Bool) → (row.device == place + 1) ≡ b → slice_index_or scripts place [] ≡ script_of (place + 1) (rows ++ row ∷ [])
-    by true h = absurd (nobody place below (eqb-true _ _ h))
-    by false h = before place below ∙ sym (script-other (place + 1) rows row (other-device (place + 1) row (is_open row.event) refl h))
 
 -- another row goes to its device's script
 pub dealt : (scripts : List (List Row)) (rows : List Row) (row : Row) → is_open row.event ≡ false → 1 ≤ row.device → row.device ≤ 16 → length scripts ≡ 16 → AreScripts scripts rows
