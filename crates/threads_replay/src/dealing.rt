@@ -42,27 +42,14 @@ pub(crate) fn openings_of(alloc: Global, rows: &[Row]) -> Result<Vec<Row>, Alloc
     Ok(openings)
 }
 
-// How many rows each device has behind its open row, by the devices' numbers.
-fn act_counts(rows: &[Row]) -> [usize; PLACES as usize] {
-    let mut counts = [0_usize; PLACES as usize];
-    for row in rows {
-        if !is_open(row) && row.device < PLACES {
-            let count = &mut counts[row.device as usize];
-            *count = count.wrapping_add(1);
-        }
-    }
-    counts
-}
-
-// Sixteen scripts without a row. Each has just the room that these rows take, so that none is moved later.
-fn no_scripts(alloc: Global, rows: &[Row]) -> Result<Vec<Vec<Row>>, AllocError>
+// Sixteen scripts without a row.
+fn no_scripts(alloc: Global) -> Result<Vec<Vec<Row>>, AllocError>
     ensures scripts { IfOk result (λ scripts. AreScripts (lists scripts) []) }
     ensures count { IfOk result (λ scripts. vec_len scripts ≡ 16) }
 {
-    let counts = act_counts(rows);
     let mut scripts = Vec::new(alloc);
-    for number in 1..PLACES {
-        scripts.push(Vec::with_capacity(alloc, counts[number as usize])?)?;
+    for _ in 1..PLACES {
+        scripts.push(Vec::new(alloc))?;
     }
     Ok(scripts)
 }
@@ -85,7 +72,7 @@ pub(crate) fn scripts_of(alloc: Global, rows: &[Row]) -> Result<Vec<Vec<Row>>, A
     ensures scripts { IfOk result (λ scripts. AreScripts (lists scripts) rows.now) }
     ensures count { IfOk result (λ scripts. vec_len scripts ≡ 16) }
 {
-    let mut scripts = no_scripts(alloc, rows)?;
+    let mut scripts = no_scripts(alloc)?;
     for row in rows {
         deal(row, &mut scripts)?;
     }
