@@ -92,13 +92,13 @@ unproved() {
     echo "$count"
 }
 
-# What it takes, by what was measured: some 40 s and 250 MB a crate.
+# What it takes, by what was measured: some 80 s and 250 MB a crate.
 announce() {
     local count
     count=$(unproved)
     say "proving and building $program and the libraries below it, ${#names[@]} crates"
     if [ "$count" != 0 ]; then
-        say "$count of them for the first time: on 4 cores some $(((count * 2 + 2) / 3)) minutes, $((count * 250)) MB of disk and up to 7 GB of memory"
+        say "$count of them for the first time: on 4 cores some $(((count * 4 + 2) / 3)) minutes, $((count * 250)) MB of disk and up to 7 GB of memory"
     fi
 }
 
