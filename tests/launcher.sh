@@ -127,7 +127,7 @@ building() {
     check 'the report is all that standard output has' is "$(cat "$scratch/out")" "words --budget 7
 moment,device,event,value"
     check 'it says what it is doing' says 'proving and building napi_replay and the libraries below it, 4 crates'
-    check 'and what the first time takes' says '4 of them for the first time: on 4 cores some 3 minutes, 1000 MB of disk and up to 7 GB of memory'
+    check 'and what the first time takes' says '4 of them for the first time: on 4 cores some 6 minutes, 1000 MB of disk and up to 7 GB of memory'
     check 'and which crate is at work' says 'crate 4 of 4 (napi_replay), [0-9]* of [0-9]* functions checked, 0:0'
     check 'and that it is done' says 'napi_replay is proved and built'
     check 'libraries that need nothing begin side by side' is "$(head -n 2 "$scratch/rt.log" | sort)" "begin low
