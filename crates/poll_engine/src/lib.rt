@@ -23,6 +23,7 @@ mod list_rule;
 mod plain;
 mod polling;
 mod run;
+#[cfg(test)]
 mod scripted;
 mod seat;
 mod shared;
