@@ -98,12 +98,8 @@ impl Post {
     }
 }
 
-// So many rounds complete a backoff.
-const ROUNDS: u32 = 11;
-
-/// How a poller waits while there is nothing to poll: it spins and yields for a while, looks again, and then it sleeps. While
-/// it spins it looks at nothing that the workers write, so that packets gather and no worker waits for the list's or the
-/// word's line in memory. A wake-up that comes before the sleep is kept until then, so none is lost.
+/// How a poller waits while there is nothing to poll: it spins and yields for a while, and then it sleeps. A wake-up that
+/// comes before the sleep is kept until then, so none is lost.
 #[derive(Drop)]
 pub(crate) struct Pause {
     parker: Parker,
@@ -128,9 +124,7 @@ impl Pause {
         if self.backoff.is_completed() {
             self.parker.park(rt);
             self.backoff.reset();
-            return;
-        }
-        for _ in 0..ROUNDS {
+        } else {
             self.backoff.snooze();
         }
     }
