@@ -12,7 +12,7 @@ use Rattle.poll_engine.specs.BusyPolling as rule
 use Rattle.poll_engine.specs.BusyPolling.{Given, busy_report, is_below, no_report}
 use Rattle.poll_engine.specs.Polling.{is_absent}
 use Rattle.poll_engine.specs.Polls.{Chain, is_arrival, is_repoll}
-use Rattle.poll_engine.specs.Seat.{next_of}
+use Rattle.poll_engine.specs.Polling.{next_of}
 use Rattle.poll_engine.specs.declared.bench.BusyReport.{BusyReport}
 use Rattle.poll_engine.specs.declared.bench.Next.{Next}
 use Rattle.poll_engine.specs.declared.bench.Next.TheVariants.{Absent, Gone, Again, Repoll}

@@ -11,7 +11,7 @@ use Rattle.napi_model.specs.declared.state.Place.TheVariants.{Polling, ToThread}
 use Rattle.poll_engine.specs.Polling as polling
 use Rattle.poll_engine.specs.Polling.{is_absent}
 use Rattle.poll_engine.specs.Polls.{is_repoll}
-use Rattle.poll_engine.specs.Seat.{next_of}
+use Rattle.poll_engine.specs.Polling.{next_of}
 use Rattle.poll_engine.specs.declared.bench.Next.{Next}
 use Rattle.poll_engine.specs.declared.bench.Next.TheVariants.{Absent, Gone, Again, Repoll}
 use Rattle.poll_engine.specs.declared.bench.Once.{Once}

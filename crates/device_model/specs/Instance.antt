@@ -6,7 +6,7 @@ use Rattle.napi_model.specs.declared.state.Kind.{Kind}
 use Rattle.napi_model.specs.declared.state.Kind.TheVariants as kind
 use Rattle.napi_model.specs.declared.state.Place.{Place}
 use Rattle.napi_model.specs.declared.state.Place.TheVariants.{Polling}
-use Rattle.poll_engine.specs.Seat.{next_of}
+use Rattle.poll_engine.specs.Polling.{next_of}
 use Rattle.device_model.specs.BusyPolling.{begun, held, is_idle, stopped}
 use Rattle.device_model.specs.Device.{bytes_given, completed, given, made, polled}
 use Rattle.device_model.specs.DeviceView.{DeviceView}

@@ -1,15 +1,8 @@
-pub mod Joined
 pub mod PollFacts
 pub mod PollingFacts
 pub mod PollingParts
 pub mod RunFacts
 pub mod PlainFacts
 pub mod ScriptFacts
-pub mod SeatFacts
-pub mod SeatPolling
 pub mod BusyFacts
-pub mod SeatBusy
 pub mod FunctionFacts
-pub mod EndLists
-pub mod OrderSteps
-pub mod PushCounts

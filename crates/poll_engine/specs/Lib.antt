@@ -4,13 +4,7 @@ pub mod Plain
 pub mod Run
 pub mod Turn
 pub mod Polling
-pub mod SharedPolling
 pub mod BusyPolling
-pub mod SharedBusy
 pub mod Laws
-pub mod Seat
 pub mod Script
 pub mod Function
-pub mod PushOrder
-pub mod SharedList
-pub mod ListFaults

@@ -14,6 +14,11 @@ is_absent Gone = false
 is_absent (Again k) = false
 is_absent Repoll = false
 
+-- to whom it was handed after it was granted again, or nobody has it
+abbrev pub next_of : Option Kind → Next
+next_of None = Gone
+next_of (Some k) = Again k
+
 -- a thread polls once more what is left to it, unless this was the last poll that it may make
 abbrev pub goes_on : Next → ℕ → Bool
 goes_on next most = is_for_thread next && nat_lt 1 most

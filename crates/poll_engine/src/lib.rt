@@ -12,24 +12,13 @@ mod busy_polling;
 #[cfg(test)]
 mod crowded;
 mod instance;
-#[cfg(test)]
-mod instance_tests;
 mod laws;
 mod list;
-mod list_ends;
-mod list_fault;
-mod list_in;
-mod list_rule;
 mod plain;
 mod polling;
 mod run;
 #[cfg(test)]
 mod scripted;
-mod seat;
-mod shared;
-mod shared_instance;
-#[cfg(test)]
-mod shared_tests;
 mod soft;
 #[cfg(test)]
 mod tests;
@@ -41,13 +30,7 @@ pub use laws::{
     no_other_arrivals, plain_list_afterwards, run_is_function, run_is_shown, runs_agree,
 };
 pub use list::PollList;
-pub use list_ends::{ListBack, end_list, shared_list};
-pub use list_fault::ListFault;
-pub use list_in::ListIn;
 pub use plain::PlainList;
 pub use polling::{poll_once_of, poll_thread_of};
 pub use run::{RunReport, run_softirq};
-pub use seat::{Seat, hand_over};
-pub use shared::SharedList;
-pub use shared_instance::{busy_instance, poll_instance, poll_instance_by_thread};
 pub use soft::SoftList;

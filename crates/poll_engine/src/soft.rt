@@ -63,16 +63,16 @@ impl SoftList {
         self.ids.is_empty()
     }
 
-    // Appends a number, where there is room.
-    pub(crate) fn append(&mut self, id: u32)
+    /// Appends a number, where there is room.
+    pub fn append(&mut self, id: u32)
         requires { length self.old < 64 }
         ensures { self.new ≡ self.old ++ id ∷ [] }
     {
         self.ids.push(id);
     }
 
-    // Appends the numbers of another list, where there is room.
-    pub(crate) fn append_all(&mut self, more: &SoftList)
+    /// Appends the numbers of another list, where there is room.
+    pub fn append_all(&mut self, more: &SoftList)
         requires { length self.old + length more.now ≤ 64 }
         ensures { self.new ≡ self.old ++ more.now }
     {

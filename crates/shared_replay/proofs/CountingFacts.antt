@@ -8,13 +8,13 @@ use Rattle.napi_calls.specs.Made.{Made}
 use Rattle.napi_calls.specs.declared.types.Caller.{Caller}
 use Rattle.napi_calls.specs.declared.types.Napi.{Napi}
 use Rattle.poll_engine.specs.Polling as polling
-use Rattle.poll_engine.specs.Seat.{SeatCompletes, SeatGives, SeatLooks, SeatRequeues, SeatTakes, pass_of}
-use Rattle.poll_engine.specs.SharedPolling.{PollsOnceBy}
+use Rattle.shared_polling.specs.Seat.{SeatCompletes, SeatGives, SeatLooks, SeatRequeues, SeatTakes, pass_of}
+use Rattle.shared_polling.specs.SharedPolling.{PollsOnceBy}
 use Rattle.poll_engine.specs.declared.bench.Once.{Once}
-use Rattle.poll_engine.specs.declared.seat.Hold.TheVariants.{Rests}
-use Rattle.poll_engine.specs.declared.seat.Seat.{Seat}
+use Rattle.shared_polling.specs.declared.seat.Hold.TheVariants.{Rests}
+use Rattle.shared_polling.specs.declared.seat.Seat.{Seat}
 use Rattle.poll_engine.proofs.PollingParts.{once_of_part, thread_of_part}
-use Rattle.poll_engine.proofs.SeatPolling.{once_gives, once_made, rises, thread_gives, thread_made}
+use Rattle.shared_polling.proofs.SeatPolling.{once_gives, once_made, rises, thread_gives, thread_made}
 use Rattle.shared_replay.specs.Polls.{ArePollsOf, IsPollOf}
 use Rattle.shared_replay.specs.SharedDevice.{IsCallerAt}
 use Rattle.shared_replay.specs.declared.counting_seat.CountingSeat.{CountingSeat}

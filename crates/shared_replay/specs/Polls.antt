@@ -4,7 +4,7 @@ use Rattle.napi_model.specs.declared.event.Operation.{Operation}
 use Rattle.rx_ring.specs.declared.packet.Packet.{Packet}
 use Rattle.napi_calls.specs.Made.{Made}
 use Rattle.napi_calls.specs.declared.types.Caller.{Caller}
-use Rattle.poll_engine.specs.SharedPolling.{GivesBatch, GivesEach, PollsOnceBy, ThreadPollsBy}
+use Rattle.shared_polling.specs.SharedPolling.{GivesBatch, GivesEach, PollsOnceBy, ThreadPollsBy}
 use Rattle.poll_engine.specs.declared.bench.Once.{Once}
 
 -- a poll from the list, of which these are the packets; Again hands to the thread where THREADED is seen

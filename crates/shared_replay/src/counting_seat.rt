@@ -26,8 +26,8 @@ pub(crate) fn count_completion(told: &mut DeviceCounts, again: bool) {
 
 impl<'a, R: Wait> CountingSeat<'a, R> {
     ghost use Rattle.napi_calls.specs.Instance.{IsSeatOf};
-    ghost use Rattle.poll_engine.specs.Seat.{seat_rests};
-    ghost use Rattle.poll_engine.specs.declared.seat.Hold.TheVariants.{Rests};
+    ghost use Rattle.shared_polling.specs.Seat.{seat_rests};
+    ghost use Rattle.shared_polling.specs.declared.seat.Hold.TheVariants.{Rests};
 
     /// The caller sits down. Its instance has a thread of its own.
     pub(crate) fn sit(
@@ -58,7 +58,7 @@ impl<'a, R: Wait> CountingSeat<'a, R> {
 }
 
 impl<'a, R: Wait> Instance for CountingSeat<'a, R> {
-    ghost use Rattle.poll_engine.specs.Seat.{SeatCompletes, SeatGives, SeatLooks, SeatRequeues, SeatTakes, seat_in_hand, seat_rests};
+    ghost use Rattle.shared_polling.specs.Seat.{SeatCompletes, SeatGives, SeatLooks, SeatRequeues, SeatTakes, seat_in_hand, seat_rests};
 
     type Packets = Batch;
 

@@ -1,9 +1,0 @@
-use Rattle.std.proofs.Common.{refl}
-use Rattle.poll_engine.specs.declared.seat.Hold.TheVariants.{PollsBusily}
-use Rattle.poll_engine.proofs.SeatFacts.{seat_made}
-use Rattle.poll_engine.proofs.seat.SeatBusyInstance.hold.Goals as goal
-
-pub returns-clause-leads : goal.returns-clause-leads
-returns-clause-leads g c =
-    let e = c.busy-busy.ensures in
-    seat_made _ (PollsBusily c.busy-busy.result) _ (PollsBusily c.complete_held.new.self) _ _ _ _ (e.was, e.gone, c.put.ensures) refl refl c.complete_held.ensures.event

@@ -1,0 +1,3 @@
+pub mod EndLists
+pub mod OrderSteps
+pub mod PushCounts

@@ -1,0 +1,3 @@
+pub mod PushOrder
+pub mod SharedList
+pub mod ListFaults

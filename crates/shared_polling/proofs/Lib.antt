@@ -1,0 +1,4 @@
+pub mod Joined
+pub mod SeatFacts
+pub mod SeatPolling
+pub mod SeatBusy

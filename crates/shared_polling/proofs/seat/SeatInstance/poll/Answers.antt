@@ -1,0 +1,17 @@
+use Rattle.std.proofs.Common.{ap, ◌∙◌, Some}
+use Rattle.shared_polling.specs.declared.seat.Hold.TheVariants.{Polls}
+use Rattle.shared_polling.specs.Seat.{pass_of}
+use Rattle.shared_polling.proofs.SeatFacts.{back_is, back_thread}
+use Rattle.shared_polling.proofs.seat.SeatInstance.poll.Goals as goal
+
+pub returns-clause-leads : goal.returns-clause-leads
+returns-clause-leads g c =
+    let e = c.polling-polling.ensures in
+    let w = c.polling-polling.result in record {
+      pass = w.pass;
+      was = ap pass_of e.was;
+      is = back_is _ (Polls w) _ (Polls c.poll-work.new.self) _ (e.was, e.gone, c.put.ensures) ∙ ap Some c.poll-work.ensures.pass;
+      thread = back_thread _ (Polls w) _ (Polls c.poll-work.new.self) _ (e.was, e.gone, c.put.ensures);
+      gives = (w.ctx, c.poll-work.new.self.ctx, w.has.ring, c.poll-work.ensures.next);
+      counts = c.poll-work.ensures.work;
+    }

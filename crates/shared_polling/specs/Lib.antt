@@ -1,0 +1,3 @@
+pub mod SharedPolling
+pub mod SharedBusy
+pub mod Seat
