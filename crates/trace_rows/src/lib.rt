@@ -4,6 +4,7 @@
 //! that it answers so. docs/FORMATS.md has the format.
 #![tactic(auto)]
 
+mod bounded;
 mod event;
 mod fault;
 mod laws;
@@ -15,6 +16,7 @@ mod trace;
 #[cfg(test)]
 mod trace_tests;
 
+pub use bounded::MOST_BYTES;
 pub use event::Event;
 pub use fault::TraceFault;
 pub use laws::{first_fault_stands, first_records_decide};

@@ -398,17 +398,18 @@ fn fault_numbers(rt: HostRuntime) -> Result<(), Fail> {
     Ok(())
 }
 
-// A header, and then packets of device 1 without end.
+// A header, and then the same bytes for ever.
 #[derive(Drop)]
 struct EndlessReader<'a> {
     front: &'static [u8],
+    again: &'static [u8],
     given: &'a mut u64,
 }
 
 impl Read for EndlessReader<'_> {
     fn read(&mut self, buf: &mut [u8]) -> io::Result<usize> {
         if self.front.is_empty() {
-            self.front = b"1,1,rx,100\n";
+            self.front = self.again;
         }
         let count = self.front.len().min(buf.len());
         buf[..count].copy_from_slice(&self.front[..count]);
@@ -424,12 +425,32 @@ fn endless_input(rt: HostRuntime) {
     let mut given = 0u64;
     let reader = EndlessReader {
         front: b"moment,device,event,value\n0,1,open,4\n",
+        again: b"1,1,rx,100\n",
         given: &mut given,
     };
     let answer = read_trace(rt.alloc(), reader);
     assert_eq!(rt; answer.err(), Some(TraceFault::TooManyRows));
     let most = 26 + 11 * 100_001;
     assert!(rt; most <= given && given <= most + 16_384, "{given} bytes");
+}
+
+// A record without end is read no further than any trace goes: 64 MiB, and what one look ahead takes.
+#[test]
+fn endless_record(rt: HostRuntime) {
+    for front in [
+        b"moment,device,event,value\n0,1,open,4\n".as_slice(),
+        b"".as_slice(),
+    ] {
+        let mut given = 0;
+        let source = EndlessReader {
+            front,
+            again: &[b'7'; 4096],
+            given: &mut given,
+        };
+        let read = read_trace(rt.alloc(), source).map(|_| ());
+        assert_eq!(rt; read, Err(TraceFault::ReadFailed));
+        assert!(rt; given > 67108864 && given < 67108864 + 1048576);
+    }
 }
 
 #[test]
