@@ -253,6 +253,7 @@ impl<'s, 'p, 'n, R: Wait> Desk<'s, 'p, 'n, R> {
     ) -> (Hold, bool)
         requires { IsHoldOf self.now.napi.now hold }
         ensures of { IsHoldOf self.now.napi.now result.0 }
+        ensures made { result.1 ≡ true → AllActs (is_some self.now.thread) D.answer D.after device.old (D.acts device.old) hold result.0 rx.old rx.new }
         ensures device { result.1 ≡ true → device.new ≡ after_acts D.after device.old (D.acts device.old) }
         ensures ring { SameIn rx.old rx.new }
         ensures few { length (put_list rx.new) ≤ length (put_list rx.old) + 4294967295 }
