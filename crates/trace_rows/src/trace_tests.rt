@@ -437,20 +437,15 @@ fn endless_input(rt: HostRuntime) {
 // A record without end is read no further than any trace goes: 64 MiB, and what one look ahead takes.
 #[test]
 fn endless_record(rt: HostRuntime) {
-    for front in [
-        b"moment,device,event,value\n0,1,open,4\n".as_slice(),
-        b"".as_slice(),
-    ] {
-        let mut given = 0;
-        let source = EndlessReader {
-            front,
-            again: &[b'7'; 4096],
-            given: &mut given,
-        };
-        let read = read_trace(rt.alloc(), source).map(|_| ());
-        assert_eq!(rt; read, Err(TraceFault::ReadFailed));
-        assert!(rt; given > 67108864 && given < 67108864 + 1048576);
-    }
+    let mut given = 0;
+    let source = EndlessReader {
+        front: b"moment,device,event,value\n0,1,open,4\n",
+        again: &[b'7'; 4096],
+        given: &mut given,
+    };
+    let read = read_trace(rt.alloc(), source).map(|_| ());
+    assert_eq!(rt; read, Err(TraceFault::ReadFailed));
+    assert!(rt; given > 67108864 && given < 67108864 + 1048576);
 }
 
 #[test]
