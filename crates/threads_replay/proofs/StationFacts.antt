@@ -10,21 +10,12 @@ use Rattle.std.proofs.lemmas.Bool.{and_parts, eqb-true, leb-true, ltb-false}
 use Rattle.std.proofs.Math.Dec.{leb}
 use Rattle.std.proofs.lemmas.List.Elements.{All-filter, filter-append}
 use Rattle.std.proofs.lemmas.List.Sums.{sum_by-le}
-<<<<<<< HEAD
 use Rattle.trace_rows.specs.Row.{value_fits}
 use Rattle.trace_rows.specs.Trace.{AcceptedAfter}
 use Rattle.trace_rows.specs.declared.event.Event.{Event}
 use Rattle.trace_rows.specs.declared.event.Event.TheVariants.{Opened, Rx, Tx, Finish, Softirq, Kthread, Disable, Enable, Threaded, Busy}
 use Rattle.trace_rows.specs.declared.row.Row.{Row}
-use Rattle.poll_workers.specs.Acts.{arrivals}
-=======
-use Rattle.device_model.specs.Row.{value_fits}
-use Rattle.device_model.specs.Trace.{AcceptedAfter}
-use Rattle.device_model.specs.declared.event.Event.{Event}
-use Rattle.device_model.specs.declared.event.Event.TheVariants.{Opened, Rx, Tx, Finish, Softirq, Kthread, Disable, Enable, Threaded, Busy}
-use Rattle.device_model.specs.declared.row.Row.{Row}
 use Rattle.interrupt_workers.specs.Acts.{arrivals}
->>>>>>> b028c2f (wip)
 use Rattle.poll_workers.specs.Finishes.{IsFinished}
 use Rattle.interrupt_workers.specs.declared.station.Finished.{Finished}
 use Rattle.interrupt_workers.specs.declared.station.Station.{Station}
