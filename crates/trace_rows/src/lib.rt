@@ -12,8 +12,6 @@ mod record;
 mod row;
 mod switch;
 mod trace;
-#[cfg(test)]
-mod trace_tests;
 
 pub use event::Event;
 pub use fault::TraceFault;
