@@ -87,11 +87,13 @@ impl Write for FailingWriter {
     }
 }
 
-/// Gives a front, and then packets of device 1 without end.
+/// Gives a front, and then the same bytes for ever.
 #[derive(Drop)]
 pub(crate) struct EndlessReader<'a> {
     /// What comes first.
     pub(crate) front: &'static [u8],
+    /// What comes then, again and again.
+    pub(crate) again: &'static [u8],
     /// How many bytes were given.
     pub(crate) given: &'a mut u64,
 }
@@ -99,7 +101,7 @@ pub(crate) struct EndlessReader<'a> {
 impl Read for EndlessReader<'_> {
     fn read(&mut self, buf: &mut [u8]) -> io::Result<usize> {
         if self.front.is_empty() {
-            self.front = b"1,1,rx,100\n";
+            self.front = self.again;
         }
         let count = self.front.len().min(buf.len());
         buf[..count].copy_from_slice(&self.front[..count]);

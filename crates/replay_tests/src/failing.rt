@@ -105,12 +105,27 @@ fn endless_input(rt: HostRuntime) {
     let mut given = 0u64;
     let reader = EndlessReader {
         front: b"moment,device,event,value\n0,1,open,4\n",
+        again: b"1,1,rx,100\n",
         given: &mut given,
     };
     let answer = read_trace(rt.alloc(), reader);
     assert_eq!(rt; answer.err(), Some(TraceFault::TooManyRows));
     let most = 26 + 11 * 100_001;
     assert!(rt; most <= given && given <= most + 16_384, "{given} bytes");
+}
+
+// A record without end is read no further than any trace goes: 64 MiB, and what one look ahead takes.
+#[test]
+fn endless_record(rt: HostRuntime) {
+    let mut given = 0;
+    let source = EndlessReader {
+        front: b"moment,device,event,value\n0,1,open,4\n",
+        again: &[b'7'; 4096],
+        given: &mut given,
+    };
+    let read = read_trace(rt.alloc(), source);
+    assert_eq!(rt; read.err(), Some(TraceFault::ReadFailed));
+    assert!(rt; given > 67108864 && given < 67108864 + 1048576);
 }
 
 // The status is that of the fault also where its line can't be told.

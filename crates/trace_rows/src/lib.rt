@@ -4,6 +4,7 @@
 //! that it answers so. docs/FORMATS.md has the format.
 #![tactic(auto)]
 
+mod bounded;
 mod event;
 mod fault;
 mod laws;
@@ -13,6 +14,7 @@ mod row;
 mod switch;
 mod trace;
 
+pub use bounded::MOST_BYTES;
 pub use event::Event;
 pub use fault::TraceFault;
 pub use laws::{first_fault_stands, first_records_decide};

@@ -10,6 +10,7 @@ ghost use Rattle.trace_rows.specs.Source.{IsOpen, IsReadFailure, StandsAt, Takes
 ghost use Rattle.trace_rows.specs.Trace.{AcceptedAfter, TraceView, records_of, rows_after, trace_of, version_in};
 ghost use Rattle.trace_rows.specs.declared.row.Row.{Row};
 
+use crate::bounded::Bounded;
 use crate::fault::TraceFault;
 use crate::record::{row_of, version_of};
 use crate::row::Row;
@@ -90,8 +91,9 @@ fn next_record<R: Read>(reader: &mut Reader<R>, fields: &mut ByteRecord) -> Resu
     }
 }
 
-/// Reads the rows of a trace, or its first fault. It asks for at most 100002 records, so it ends; the reader is read ahead
-/// of the row that decides, and a failure met there is the answer. On a fault nothing is kept.
+/// Reads the rows of a trace, or its first fault. It asks for at most 100002 records, so it ends, and for no more once the
+/// source has given over [`MOST_BYTES`](crate::MOST_BYTES): that is `ReadFailed`. The reader is read ahead of the row that
+/// decides, and a failure met there is the answer. On a fault nothing is kept.
 pub fn read_trace<R: Read + Drop>(alloc: Global, source: R) -> Result<Trace, TraceFault>
     // The rows are those of the bytes read, where these are known.
     ensures rows { IfOk result (λ trace. (bytes : List ℕ) → R.remaining source ≡ Some bytes → trace_of (records_of bytes) ≡ Ok trace.rows) }
@@ -100,7 +102,7 @@ pub fn read_trace<R: Read + Drop>(alloc: Global, source: R) -> Result<Trace, Tra
     ensures fault { IfErr result (λ fault. (bytes : List ℕ) → R.remaining source ≡ Some bytes
         → IsReadFailure fault ⊎ (trace_of (records_of bytes) ≡ Err fault)) }
 {
-    let mut reader = reader_of(alloc, source);
+    let mut reader = reader_of(alloc, Bounded::new(source));
     let Ok(mut fields) = ByteRecord::with_capacity(alloc, RECORD_BYTES, 4) else {
         return Err(TraceFault::OutOfMemory);
     };
