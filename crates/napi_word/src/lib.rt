@@ -23,8 +23,6 @@ mod steps;
 mod table;
 #[cfg(test)]
 mod tests;
-#[cfg(test)]
-mod thread_tests;
 mod view;
 
 pub use ending::Ended;

@@ -1,33 +1,17 @@
-//! Whole replays in shared mode beside those in serial mode, whose bytes are proved, and what no contract says: that calls
-//! succeed, and what a failing reader or writer gives.
+//! Whole replays over instances that threads could share, beside those on one thread, whose bytes are proved; and what their
+//! rings hold at the end.
 
-use crate::replay::replay_shared;
-use crate::shared_bench::SharedBench;
 use devices::ReplayBench;
 use napi_model::Kind;
 use poll_engine::{Bench, Next};
 use replay_words::Settings;
-use report_text::ReplayFault;
 use rx_ring::Totals;
+use shared_replay::{SharedBench, replay_shared};
 use std::alloc::{AllocError, Global};
-use std::io;
-use std::io::{ErrorKind, Read, Write};
-use std::process::Abort;
-use std::sync::Wait;
 use std::test::Fail;
 use trace_replay::replay_serial;
-use trace_rows::TraceFault;
 
 const HEADER: &str = "moment,device,event,value\n";
-
-const ONE_PACKET: &str = "moment,device,event,value\n0,1,open,4\n1,1,rx,100\n2,0,softirq,0\n";
-
-const ONE_PACKET_REPORT: &str = "softirq 3 polls 1 work 1 squeezed 0
-device 1 on arrived 1 dropped 0 polled 1 bytes 100 left 0 polls 1
-napi 1 granted 1 missed 0 disabled 0 again 0 released 1 word 0
-list
-total devices 1 runs 1 polls 1 work 1 squeezed 0
-";
 
 // Rows, each text as many times as told, with their budget, weight and window.
 struct Rows {
@@ -174,21 +158,6 @@ fn shared_as_serial_behind_each_row(rt: HostRuntime) -> Result<(), Fail> {
     Ok(())
 }
 
-#[test]
-fn one_packet(rt: HostRuntime) -> Result<(), Fail> {
-    let mut report = Vec::new(rt.alloc());
-    let settings = Settings::default();
-    replay_shared(
-        &rt,
-        rt.alloc(),
-        ONE_PACKET.as_bytes(),
-        &mut report,
-        &settings,
-    )?;
-    assert_eq!(rt; report.as_slice(), ONE_PACKET_REPORT.as_bytes());
-    Ok(())
-}
-
 // What is put is polled or left: the end polls what a hand-over has left, and no more.
 #[test]
 fn totals_at_the_end(rt: HostRuntime) -> Result<(), Fail> {
@@ -241,103 +210,4 @@ fn another_device_stays(rt: HostRuntime) -> Result<(), Fail> {
     assert_eq!(rt; bench.attached(), 2);
     let _ended = bench.end();
     Ok(())
-}
-
-// Gives a byte at a time, and fails at one of its reads.
-#[derive(Drop)]
-struct FailingReader {
-    bytes: &'static [u8],
-    before: u32,
-}
-
-impl Read for FailingReader {
-    fn read(&mut self, buf: &mut [u8]) -> io::Result<usize> {
-        if self.before == 0 {
-            return Err(ErrorKind::Other.into());
-        }
-        self.before -= 1;
-        if self.bytes.is_empty() || buf.is_empty() {
-            return Ok(0);
-        }
-        buf[0] = self.bytes[0];
-        self.bytes = &self.bytes[1..];
-        Ok(1)
-    }
-}
-
-#[test]
-fn failing_reads(rt: HostRuntime) {
-    let reads = ONE_PACKET.len() as u32 + 1;
-    for before in 0..reads + 2 {
-        let reader = FailingReader {
-            bytes: ONE_PACKET.as_bytes(),
-            before,
-        };
-        let mut report = Vec::new(rt.alloc());
-        let answer = replay_shared(&rt, rt.alloc(), reader, &mut report, &Settings::default());
-        if before < reads {
-            assert_eq!(rt;
-                answer,
-                Err(ReplayFault::Trace(TraceFault::ReadFailed)),
-                "after {before} reads"
-            );
-            assert!(rt; report.is_empty());
-        } else {
-            assert_eq!(rt; answer, Ok(()), "after {before} reads");
-            assert_eq!(rt; report.as_slice(), ONE_PACKET_REPORT.as_bytes());
-        }
-    }
-}
-
-// Takes a byte at a time, and fails at one of its writes.
-#[derive(Drop)]
-struct FailingWriter {
-    taken: Vec<u8>,
-    before: u32,
-}
-
-impl Write for FailingWriter {
-    fn write(&mut self, buf: &[u8]) -> io::Result<usize> {
-        if self.before == 0 {
-            return Err(ErrorKind::Other.into());
-        }
-        self.before -= 1;
-        if buf.is_empty() {
-            return Ok(0);
-        }
-        self.taken.push(buf[0])?;
-        Ok(1)
-    }
-
-    fn flush(&mut self) -> io::Result<()> {
-        Ok(())
-    }
-}
-
-#[test]
-fn failing_writes(rt: HostRuntime) {
-    let writes = ONE_PACKET_REPORT.len() as u32;
-    for before in 0..writes + 2 {
-        let mut writer = FailingWriter {
-            taken: Vec::new(rt.alloc()),
-            before,
-        };
-        let answer = replay_shared(
-            &rt,
-            rt.alloc(),
-            ONE_PACKET.as_bytes(),
-            &mut writer,
-            &Settings::default(),
-        );
-        if before < writes {
-            assert_eq!(rt;
-                answer,
-                Err(ReplayFault::OutputFailed),
-                "after {before} writes"
-            );
-        } else {
-            assert_eq!(rt; answer, Ok(()), "after {before} writes");
-            assert_eq!(rt; writer.taken.as_slice(), ONE_PACKET_REPORT.as_bytes());
-        }
-    }
 }

@@ -6,12 +6,11 @@ ghost use Rattle.rx_ring.specs.Ends.{IsOneRing, ring_name};
 ghost use Rattle.napi_calls.specs.declared.types.Caller.{Caller};
 ghost use Rattle.napi_calls.specs.Instance.{IsSeatOf, ring_of_instance};
 
-use crate::{
-    BusyReport, Next, Once, ThreadReport, busy_instance, poll_instance, poll_instance_by_thread,
-};
-use napi_calls::{Caller, Completed, Control, Napi, Off, Sched, TryTake};
+use napi_calls::{Caller, Control, Napi, Off, Sched, TryTake};
 use napi_model::{Kind, encode};
+use poll_engine::{BusyReport, Next, Once, ThreadReport};
 use rx_ring::{Batch, Packet, RxCtx, RxIn, finish, ring};
+use shared_polling::{busy_instance, poll_instance, poll_instance_by_thread};
 use std::alloc::Global;
 use std::process::Abort;
 use std::sync::Wait;
@@ -102,18 +101,6 @@ fn handed<R: Abort + Wait>(rt: &R, napi: &Napi, caller: Caller, kind: Kind) -> C
     granted.hand(napi, kind)
 }
 
-/// Asks for a poll that is missed.
-fn missed<R: Abort + Wait>(rt: &R, napi: &Napi, caller: Caller) -> Caller
-    requires { IsSeatOf napi.now caller.pass }
-    ensures { IsSeatOf napi.now result.pass }
-{
-    let answer = caller.schedule(rt, napi);
-    let Sched::Missed(caller) = answer else {
-        panic!(rt; "not missed")
-    };
-    caller
-}
-
 /// Closes the instance with both callers.
 fn closed(
     rt: &impl Abort,
@@ -167,112 +154,6 @@ fn an_instance_on_the_list_that_is_being_disabled(rt: HostRuntime) -> Result<(),
     let ctx = closed(&rt, rt.alloc(), napi, first, second, control);
     let totals = finish(input, ctx);
     assert_eq!(rt; (totals.put, totals.polled, totals.left), (3, 2, 1));
-    Ok(())
-}
-
-#[test]
-fn handed_to_the_thread_after_again(rt: HostRuntime) -> Result<(), Fail> {
-    let Bed {
-        input: _,
-        napi,
-        first,
-        second,
-        control,
-    } = make_bed(&rt, rt.alloc(), &[]);
-    let control = control.enable(&rt, &napi, false);
-    let mut first = handed(&rt, &napi, first, Kind::List);
-    let answer = second.take(&napi, Kind::List);
-    let Ok(mut poller) = answer else {
-        panic!(rt; "not there")
-    };
-    assert_eq!(rt; encode(poller.look(&napi)), 1);
-    first.set_threaded(&napi, true);
-    assert_eq!(rt; word(&napi, &mut first), 257);
-    let first = missed(&rt, &napi, first);
-    assert_eq!(rt; encode(poller.look(&napi)), 259);
-    let answer = poller.complete(&rt, &napi);
-    let Completed::Again(mut owner) = answer else {
-        panic!(rt; "not again")
-    };
-    assert_eq!(rt; encode(owner.look(&napi)), 257);
-    let mut second = owner.hand(&napi, Kind::Thread);
-    assert_eq!(rt; word(&napi, &mut second), 8589935361);
-    let answer = second.take(&napi, Kind::List);
-    let Err(second) = answer else {
-        panic!(rt; "on the list")
-    };
-    let answer = second.take(&napi, Kind::Thread);
-    let Ok(mut poller) = answer else {
-        panic!(rt; "not there")
-    };
-    assert_eq!(rt; encode(poller.look(&napi)), 769);
-    let second = poller.requeue(&napi);
-    let mut batch = Batch::new();
-    let (second, _) = poll_instance(&rt, &napi, second, 64, false, &mut batch);
-    let control = control.disable(&rt, &napi);
-    let _ = closed(&rt, rt.alloc(), napi, first, second, control);
-    Ok(())
-}
-
-#[test]
-fn again_goes_to_the_thread_where_there_is_one(rt: HostRuntime) -> Result<(), Fail> {
-    let Bed {
-        input: _,
-        napi,
-        first,
-        second,
-        control,
-    } = make_bed(&rt, rt.alloc(), &[]);
-    let control = control.enable(&rt, &napi, true);
-    let first = handed(&rt, &napi, first, Kind::List);
-    let mut first = missed(&rt, &napi, first);
-    assert_eq!(rt; word(&napi, &mut first), 4294967555);
-    let mut batch = Batch::new();
-    let (second, polled) = poll_instance(&rt, &napi, second, 64, false, &mut batch);
-    assert_eq!(rt; polled, once(0, Next::Again(Kind::List)));
-    let mut first = missed(&rt, &napi, first);
-    assert_eq!(rt; word(&napi, &mut first), 4294967555);
-    let (mut second, polled) = poll_instance(&rt, &napi, second, 64, true, &mut batch);
-    assert_eq!(rt; polled, once(0, Next::Again(Kind::Thread)));
-    assert_eq!(rt; word(&napi, &mut second), 8589935361);
-    let (second, polled) = poll_instance(&rt, &napi, second, 64, true, &mut batch);
-    assert_eq!(rt; polled, once(0, Next::Absent));
-    let (mut second, report) = poll_instance_by_thread(&rt, &napi, second, 64, 8, &mut batch);
-    let want = ThreadReport {
-        polls: 1,
-        work: 0,
-        next: Next::Gone,
-    };
-    assert_eq!(rt; report, want);
-    assert_eq!(rt; word(&napi, &mut second), 256);
-    let control = control.disable(&rt, &napi);
-    let _ = closed(&rt, rt.alloc(), napi, first, second, control);
-    Ok(())
-}
-
-#[test]
-fn full_weight_is_polled_again(rt: HostRuntime) -> Result<(), Fail> {
-    let Bed {
-        input: _,
-        napi,
-        first,
-        second,
-        control,
-    } = make_bed(&rt, rt.alloc(), &[60, 60, 60]);
-    let control = control.enable(&rt, &napi, false);
-    let first = handed(&rt, &napi, first, Kind::List);
-    let mut batch = Batch::new();
-    let (mut second, polled) = poll_instance(&rt, &napi, second, 2, true, &mut batch);
-    assert_eq!(rt; polled, once(2, Next::Repoll));
-    assert_eq!(rt; word(&napi, &mut second), 4294967297);
-    let (second, polled) = poll_instance(&rt, &napi, second, 2, true, &mut batch);
-    assert_eq!(rt; polled, once(1, Next::Gone));
-    assert_eq!(rt; batch.as_slice(), [packet(2)].as_slice());
-    let (second, polled) = poll_instance(&rt, &napi, second, 2, true, &mut batch);
-    assert_eq!(rt; polled, once(0, Next::Absent));
-    assert_eq!(rt; batch.len(), 0);
-    let control = control.disable(&rt, &napi);
-    let _ = closed(&rt, rt.alloc(), napi, first, second, control);
     Ok(())
 }
 
@@ -357,33 +238,6 @@ fn busy_polling_gives_the_next_packets_and_hands_over(rt: HostRuntime) -> Result
     assert_eq!(rt; word(&napi, &mut first), 4294967297);
     let (second, polled) = poll_instance(&rt, &napi, second, 2, true, &mut batch);
     assert_eq!(rt; polled, once(0, Next::Gone));
-    let control = control.disable(&rt, &napi);
-    let _ = closed(&rt, rt.alloc(), napi, first, second, control);
-    Ok(())
-}
-
-#[test]
-fn busy_polling_holds_rounds_below_the_weight(rt: HostRuntime) -> Result<(), Fail> {
-    let Bed {
-        input: _,
-        napi,
-        first,
-        second,
-        control,
-    } = make_bed(&rt, rt.alloc(), &[60, 60, 60]);
-    let control = control.enable(&rt, &napi, false);
-    let mut batch = Batch::new();
-    let (mut first, report) = busy_instance(&rt, &napi, first, 3, 2, &mut batch);
-    let want = BusyReport {
-        polls: 4,
-        work: 3,
-        held: 2,
-        bytes: 180,
-        next: Next::Gone,
-    };
-    assert_eq!(rt; report, want);
-    assert_eq!(rt; batch.len(), 0);
-    assert_eq!(rt; word(&napi, &mut first), 0);
     let control = control.disable(&rt, &napi);
     let _ = closed(&rt, rt.alloc(), napi, first, second, control);
     Ok(())
