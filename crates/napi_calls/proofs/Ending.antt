@@ -1,5 +1,5 @@
 -- The list of all seats at the end, and its one history.
-use Rattle.std.proofs.Common.{◌≡◌, ℕ, zero, suc, ◌+◌, ◌<◌, List, [], ◌∷◌, ◌++◌, length, slice_get, Option, Some, false, unwrap_or, eq-eqb, refl, sym, ap, ◌∙◌, subst, length-append, arith}
+use Rattle.std.proofs.Common.{◌≡◌, ◌≢◌, ℕ, zero, suc, ◌+◌, ◌<◌, List, [], ◌∷◌, ◌++◌, length, slice_get, Option, Some, false, unwrap_or, eq-eqb, refl, sym, ap, ◌∙◌, subst, length-append, arith}
 use Rattle.rx_ring.specs.declared.ends.RxCtx.{RxCtx}
 use Rattle.napi_model.specs.declared.state.Place.TheVariants as place
 use Rattle.napi_model.specs.declared.event.Event.{Event}
@@ -11,6 +11,13 @@ use Rattle.napi_model.specs.Laws.{is_owner}
 use Rattle.napi_word.specs.Passes.{controller_of_table}
 use Rattle.napi_word.specs.Ends.{IsEnded}
 use Rattle.napi_word.proofs.Closing.{get_mid}
+use Rattle.rx_ring.specs.declared.packet.Packet.{Packet}
+use Rattle.rx_ring.specs.Ends.{received_list}
+use Rattle.napi_word.specs.declared.view.Holds.TheVariants.{Nothing, Out}
+use Rattle.napi_word.specs.View.{deliverers, Continues}
+use Rattle.napi_word.specs.Slot.{givers}
+use Rattle.napi_word.specs.Passes.{view_of}
+use Rattle.napi_word.proofs.Deliveries.{received_is}
 use Rattle.napi_calls.specs.declared.types.Napi.{Napi}
 use Rattle.napi_calls.specs.declared.types.Caller.{Caller}
 use Rattle.napi_calls.specs.Seats.{number_of}
@@ -75,4 +82,11 @@ module _ (n : Napi) (cs : List Caller) (p : Pass) (left : Option RxCtx) (k : Con
     history = e.history;
     is = subst (λ (m : ℕ). IsHistoryOf m (seats_of cs ++ p ∷ []) e.history) n.count one_history;
     ring = ap (λ (o : Option RingName). unwrap_or o (ring_name ctx)) (sym has.ring ∙ e.rings (length (seats_of cs)) p at);
+    deliveries = e.deliveries;
+    order = subst (λ (m : ℕ). deliverers e.deliveries ≡ givers (opening m) e.history) n.count e.deliveries_order;
+    own_exact = e.deliveries_exact;
+    received =
+        let i = length (seats_of cs) in
+        let out : p.holds ≢ Nothing = λ none. let bad : Out ≡ Nothing = sym has.holds ∙ none in absurd (cc) in
+        subst (λ (l : List Packet). Continues l (received_list ctx)) (received_is (view_of p) n.table.table.shared.key.ring.value e.deliveries (e.firsts i p at) (e.deliveries_held i p at out)) has.received;
   }

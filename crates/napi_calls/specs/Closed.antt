@@ -7,7 +7,11 @@ use Rattle.napi_model.specs.declared.event.Event.{Event}
 use Rattle.napi_model.specs.Step.{opening}
 use Rattle.napi_model.specs.History.{LegalHistory, state_after, own, IsAcceptedSchedule}
 use Rattle.napi_word.specs.declared.table.Pass.{Pass}
-use Rattle.rx_ring.specs.Ends.{ring_name}
+use Rattle.rx_ring.specs.Ends.{ring_name, received_list}
+use Rattle.napi_word.specs.declared.view.Delivery.{Delivery}
+use Rattle.napi_word.specs.View.{delivered, own_deliveries, received_by, deliverers, Continues}
+use Rattle.napi_word.specs.Slot.{givers}
+use Rattle.napi_word.specs.Passes.{view_of}
 use Rattle.napi_calls.specs.declared.types.Napi.{Napi}
 use Rattle.napi_calls.specs.declared.types.Caller.{Caller}
 use Rattle.napi_calls.specs.Seats.{number_of, shown, own_list}
@@ -46,3 +50,9 @@ pub record IsClosed (n : Napi) (callers : List Caller) (control : Pass) (ctx : R
   pub history : List Event
   pub is : IsHistoryOf (callers_of n) (seats_of callers ++ control ∷ []) history
   pub ring : ring_name ctx ≡ ring_of_instance n
+  -- one delivery for each event that gave the context back, in their order; each caller knows all of its own
+  pub deliveries : List Delivery
+  pub order : deliverers deliveries ≡ givers (opening (callers_of n)) history
+  pub own_exact : Each (seats_of callers ++ control ∷ []) (λ p. own_deliveries (number_of p) deliveries ≡ own_deliveries (number_of p) (delivered (view_of p)))
+  -- what was received is what the context had at first, the deliveries joined, and what the controller received since
+  pub received : Continues (received_by n.table.table.shared.key.ring.value deliveries) (received_list ctx)

@@ -1,4 +1,8 @@
 //! The calls of a caller.
+ghost use Rattle.std.specs.Prelude.{IfOk};
+ghost use Rattle.rx_ring.specs.Ends.{received_list};
+ghost use Rattle.napi_word.specs.View.{received_in};
+ghost use Rattle.napi_word.specs.Passes.{view_of};
 ghost use Rattle.std.specs.Prelude.{◌≡◌, [], ◌∷◌};
 ghost use mathlib.Core.List.{IsPrefix};
 ghost use Rattle.napi_model.specs.declared.state.Seen.{Seen};
@@ -93,7 +97,8 @@ impl Caller {
     /// (`net_rx_action`, `napi_thread_wait`). `Err`: it wasn't there, and nothing changed.
     pub fn take(self, napi: &Napi, kind: Kind) -> Result<Polling, Caller>
         requires { IsSeatOf napi.now self.pass }
-        ensures { Takes kind self.pass result }
+        ensures event { Takes kind self.pass result }
+        ensures fresh { IfOk result (λ w. received_list w.ctx ≡ received_in (view_of w.pass)) }
     {
         let Caller { mut pass, number } = self;
         if !napi.table.take(&mut pass, kind) {

@@ -47,7 +47,7 @@ fn back(mut slots: Vec<Option<RxCtx>>) -> TableBack
     TableBack { ctx }
 }
 
-// The first seat takes the slot for the controller. It has the strands of all numbers, the controller's first.
+// The first seat takes the slot for the controller, and ends a mark of `beside` on the context. It has the strands of all numbers, the controller's first.
 fn begin(table: &StateTable, mut seat: Seat<Option<RxCtx>, View>) -> Pass
     requires table { seat.table_id ≡ table.now.table.shared.table_id }
     requires first { seat.me ≡ (first_view table.now.table.shared.key, []) }
@@ -56,6 +56,13 @@ fn begin(table: &StateTable, mut seat: Seat<Option<RxCtx>, View>) -> Pass
     ensures holds { result.holds ≡ holds.Within }
 {
     table.table.shared.load::<Begins>(&mut seat, 0);
+    let Some(mut ctx) = table.table.shared.exchange(&mut seat, 0, None) else {
+        unreachable!()
+    };
+    ctx.apart();
+    let None = table.table.shared.exchange(&mut seat, 0, Some(ctx)) else {
+        unreachable!()
+    };
     Pass {
         seat,
         holds: Holds::Within,

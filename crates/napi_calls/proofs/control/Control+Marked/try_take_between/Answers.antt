@@ -1,13 +1,13 @@
 use Rattle.std.proofs.Common.{refl, ◌∙◌, ap}
 use Rattle.napi_word.specs.View.{ring_of}
-use Rattle.napi_calls.proofs.Standing.{control_looked, control_busy, control_taken, control_unmarked, controls_moved, is_control}
+use Rattle.napi_calls.proofs.Standing.{control_looked, control_busy, control_taken, control_unmarked, controls_moved, is_control, outside, stays_has, has_none}
 use Rattle.napi_calls.proofs.Making.{nothing, step, still, lost}
 use Rattle.napi_calls.proofs.control.Control+Marked.try_take_between.Goals as goal
 
 pub invariant_of-result : goal.invariant_of-result
 invariant_of-result g c = record {
   controls = control_busy c.take_load.new.pass c.args.self.controls c.in_default.ensures.step.event;
-  has = record { holds = c.take_load.ensures.step.holds ∙ c.args.self.has.holds; ring = refl };
+  has = has_none c.take_load.new.pass (c.take_load.ensures.step.holds ∙ c.args.self.has.holds);
 }
 
 pub returns-in_default-clause-events : goal.returns-in_default-clause-events
@@ -29,13 +29,13 @@ invariant_of-result-in-Ok g c =
     let e = c.slot_out-ctx.ensures in
     let u = c.unmark.ensures in record {
       controls = control_unmarked c.unmark.new.pass k u.step.event;
-      has = record { holds = u.step.holds ∙ e.holds; ring = u.step.event.ring ∙ ap ring_of e.keeps.view ∙ e.ring };
+      has = stays_has c.slot_out-ctx.new.pass c.unmark.new.pass _ (outside c.take_swap.new.pass c.slot_out-ctx.new.pass _ e.holds e.keeps.view e.ring e.received) u.step.holds u.step.event.ring u.step.packets;
     }
 
 pub invariant_of-result-in-Err : goal.invariant_of-result-in-Err
 invariant_of-result-in-Err g c = record {
   controls = control_looked c.take_swap.new.pass (control_looked c.take_load.new.pass c.args.self.controls c.in-Some.ensures.step.event) c.in-Err.ensures.step.event;
-  has = record { holds = c.in-Err.ensures.step.holds ∙ c.take_load.ensures.step.holds ∙ c.args.self.has.holds; ring = refl };
+  has = has_none c.take_swap.new.pass (c.in-Err.ensures.step.holds ∙ c.take_load.ensures.step.holds ∙ c.args.self.has.holds);
 }
 
 pub returns-in-Ok-clause-events : goal.returns-in-Ok-clause-events

@@ -1,12 +1,12 @@
 use Rattle.std.proofs.Common.{refl, ◌∙◌}
-use Rattle.napi_calls.proofs.Standing.{control_marked}
+use Rattle.napi_calls.proofs.Standing.{control_marked, has_none}
 use Rattle.napi_calls.proofs.Making.{nothing, step}
 use Rattle.napi_calls.proofs.control.Control+On.mark.Goals as goal
 
 pub invariant_of-result : goal.invariant_of-result
 invariant_of-result c = record {
   controls = control_marked c.mark.new.pass c.args.self.controls c.mark.ensures.step.event;
-  has = record { holds = c.mark.ensures.step.holds ∙ c.args.self.has.holds; ring = refl };
+  has = has_none c.mark.new.pass (c.mark.ensures.step.holds ∙ c.args.self.has.holds);
 }
 
 pub returns : goal.returns

@@ -1,5 +1,5 @@
 use Rattle.std.proofs.Common.{◌∙◌, refl}
-use Rattle.napi_calls.proofs.Standing.{kept, busy_kept, is_polling}
+use Rattle.napi_calls.proofs.Standing.{kept, busy_kept, is_polling, stays_has}
 use Rattle.napi_calls.proofs.Making.{nothing, step}
 use Rattle.napi_calls.proofs.types.Busy.complete_held.Goals as goal
 
@@ -10,7 +10,7 @@ pub invariant_of-self : goal.invariant_of-self
 invariant_of-self c = record {
   stands = kept c.complete_load.new.pass c.args.self.now.stands c.complete_load.ensures.event (λ s. refl);
   busy = busy_kept c.complete_load.new.pass c.args.self.now.stands c.args.self.now.busy c.complete_load.ensures.event (λ n s. refl);
-  has = record { holds = c.complete_load.ensures.holds ∙ c.args.self.now.has.holds; ring = c.complete_load.ensures.event.ring ∙ c.args.self.now.has.ring };
+  has = stays_has c.args.self.now.pass c.complete_load.new.pass _ c.args.self.now.has c.complete_load.ensures.holds c.complete_load.ensures.event.ring c.complete_load.ensures.packets;
 }
 
 pub returns-clause-event : goal.returns-clause-event

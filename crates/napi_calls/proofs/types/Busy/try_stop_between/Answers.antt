@@ -1,5 +1,5 @@
 use Rattle.std.proofs.Common.{◌∙◌, refl}
-use Rattle.napi_calls.proofs.Standing.{looked, kept, busy_looked, busy_made, is_polling}
+use Rattle.napi_calls.proofs.Standing.{looked, kept, busy_looked, busy_made, is_polling, stays_has}
 use Rattle.napi_calls.proofs.Making.{nothing, step, lost}
 use Rattle.napi_calls.proofs.types.Busy.try_stop_between.Goals as goal
 
@@ -16,7 +16,7 @@ invariant_of-result g c =
     let two = c.in-Ok.ensures.step in record {
       stands = kept c.stop_swap.new.pass st two.event (λ s. refl);
       busy = busy_made c.stop_swap.new.pass st two.event (λ n s. refl);
-      has = record { holds = two.holds ∙ one.holds ∙ c.args.self.has.holds; ring = two.event.ring ∙ one.event.ring ∙ c.args.self.has.ring };
+      has = stays_has c.look-seen.new.pass c.stop_swap.new.pass _ (stays_has c.args.self.pass c.look-seen.new.pass _ c.args.self.has one.holds one.event.ring one.packets) two.holds two.event.ring two.packets;
     }
 
 pub invariant_of-result-in-Err : goal.invariant_of-result-in-Err
@@ -27,7 +27,7 @@ invariant_of-result-in-Err g c =
     let two = c.in-Err.ensures.step in record {
       stands = looked c.stop_swap.new.pass st two.event;
       busy = busy_looked c.stop_swap.new.pass st busy two.event;
-      has = record { holds = two.holds ∙ one.holds ∙ c.args.self.has.holds; ring = two.event.ring ∙ one.event.ring ∙ c.args.self.has.ring };
+      has = stays_has c.look-seen.new.pass c.stop_swap.new.pass _ (stays_has c.args.self.pass c.look-seen.new.pass _ c.args.self.has one.holds one.event.ring one.packets) two.holds two.event.ring two.packets;
     }
 
 pub returns-in-Ok-clause-events : goal.returns-in-Ok-clause-events

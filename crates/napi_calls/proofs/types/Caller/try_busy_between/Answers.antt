@@ -22,7 +22,7 @@ invariant_of-result-in-Ok g c =
     let e = c.slot_out-ctx.ensures in record {
       stands = moved c.slot_out-ctx.new.pass polls e.keeps.view;
       busy = busy_moved c.slot_out-ctx.new.pass polls (busy_made c.busy_swap.new.pass st taken (λ n s. refl)) e.keeps.view;
-      has = outside c.busy_swap.new.pass c.slot_out-ctx.new.pass _ e.holds e.keeps.view e.ring;
+      has = outside c.busy_swap.new.pass c.slot_out-ctx.new.pass _ e.holds e.keeps.view e.ring e.received;
     }
 
 pub invariant_of-result-in-Err : goal.invariant_of-result-in-Err

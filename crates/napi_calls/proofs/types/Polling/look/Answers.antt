@@ -1,5 +1,5 @@
 use Rattle.std.proofs.Common.{◌∙◌}
-use Rattle.napi_calls.proofs.Standing.{looked, busy_looked}
+use Rattle.napi_calls.proofs.Standing.{looked, busy_looked, stays_has}
 use Rattle.napi_calls.proofs.Making.{nothing, step}
 use Rattle.napi_calls.proofs.types.Polling.look.Goals as goal
 
@@ -7,7 +7,7 @@ pub invariant_of-self : goal.invariant_of-self
 invariant_of-self c = record {
   stands = looked c.look.new.pass c.args.self.now.stands c.look.ensures.step.event;
   busy = busy_looked c.look.new.pass c.args.self.now.stands c.args.self.now.busy c.look.ensures.step.event;
-  has = record { holds = c.look.ensures.step.holds ∙ c.args.self.now.has.holds; ring = c.look.ensures.step.event.ring ∙ c.args.self.now.has.ring };
+  has = stays_has c.args.self.now.pass c.look.new.pass _ c.args.self.now.has c.look.ensures.step.holds c.look.ensures.step.event.ring c.look.ensures.step.packets;
 }
 
 pub returns-clause-event : goal.returns-clause-event

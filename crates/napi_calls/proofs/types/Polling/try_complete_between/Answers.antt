@@ -34,7 +34,7 @@ invariant_of-result-in-Err g c =
     let e = c.slot_out-ctx.ensures in record {
       stands = moved c.slot_out-ctx.new.pass last e.keeps.view;
       busy = busy_moved c.slot_out-ctx.new.pass last (busy_looked c.complete_swap.new.pass st busy c.in-Err.ensures.step.event) e.keeps.view;
-      has = outside c.complete_swap.new.pass c.slot_out-ctx.new.pass _ e.holds e.keeps.view e.ring;
+      has = outside c.complete_swap.new.pass c.slot_out-ctx.new.pass _ e.holds e.keeps.view e.ring e.received;
     }
 
 pub returns-in-Ok-Released-clause-events : goal.returns-in-Ok-Released-clause-events

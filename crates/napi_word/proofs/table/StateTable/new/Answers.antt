@@ -2,14 +2,13 @@ use Rattle.std.proofs.Common.{rules, ◌≡◌, ◌+◌, ◌-◌, [], ◌∷◌,
 use Rattle.atomic_table.specs.Table.{opening}
 use Rattle.rx_ring.specs.declared.ends.RxCtx.{RxCtx}
 use Rattle.napi_word.specs.declared.view.Key.{Key}
-use Rattle.rx_ring.specs.Ends.{ring_name}
 use Rattle.napi_word.specs.Rule.{Holding, first_view, maker_at}
 use Rattle.napi_word.proofs.Start.{opens, at_push, new_as, new_last}
 use Rattle.napi_word.proofs.table.StateTable.new.Goals as goal
 
 pub new-requires : goal.new-requires
 new-requires c = let key : Key = record { controller = c.args.seats - 1; ring = c.of.result } in
-    subst (λ (xs : List (Option RxCtx)). Holding key (opening (9 ∷ []) xs (first_view key))) (sym c.in-Ok-one_slot.ensures.ok) (opens key c.args.ctx (ap ring_name (sym c.of.ensures)))
+    subst (λ (xs : List (Option RxCtx)). Holding key (opening (9 ∷ []) xs (first_view key))) (sym c.in-Ok-one_slot.ensures.ok) (opens key c.args.ctx (sym c.of.ensures))
 
 pub back-requires : goal.back-requires
 back-requires c = (c.args.ctx, c.in-Err-new.ensures.err ∙ c.in-Ok-one_slot.ensures.ok)
