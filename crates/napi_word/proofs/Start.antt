@@ -18,7 +18,7 @@ use Rattle.napi_word.specs.Rule.{strand, strands_from, maker_at, first_view, beg
 use Rattle.napi_word.specs.Told.{begun}
 use Rattle.napi_word.specs.declared.table.Pass.{Pass}
 use Rattle.napi_word.specs.declared.table.StateTable.{StateTable}
-use Rattle.napi_word.specs.Passes.{view_of, IsPassOf, IsNew, Controls, Disable}
+use Rattle.napi_word.specs.Passes.{ctx_of, IsLaid, view_of, IsPassOf, IsNew, Controls, Disable}
 use Rattle.napi_word.proofs.Owns.{own_none}
 use Rattle.napi_word.proofs.Deliveries.{own_deliveries_none, givers_none}
 use Rattle.napi_word.proofs.Keeps.{some_is}
@@ -141,12 +141,17 @@ at_push (x ∷ xs) y p (suc k) e = ⊎_elim (λ t. inl t) (λ t. inr (ap suc t.0
 pub new_as : {t : StateTable} (k l : ℕ) (x y : RxCtx) (i j : ℕ) (p q : Pass) → k ≡ l → x ≡ y → i ≡ j → p ≡ q → IsNew t k x i p → IsNew t l y j q
 new_as {t} k l x y i j p q a b d e new = subst (λ (z : ℕ × RxCtx × ℕ × Pass). IsNew t z.0 z.1 z.2 z.3) (λ f. (a f, b f, d f, e f)) new
 
-pub new_last : {t : StateTable} (last : ℕ) (x : RxCtx) (n : ℕ) (p : Pass) → n ≡ last → IsPassOf t p → view_of p ≡ maker_at last x n → p.holds ≡ Within → IsNew t last x last p
-new_last {t} last x n p at table view holds = record {
+-- what lies in the slot is the same
+pub still_laid : {x : RxCtx} (p q : Pass) → ctx_of q ≡ ctx_of p → IsLaid x p → IsLaid x q
+still_laid p q same l = record { laid = l.laid; within = same ∙ l.within; ring = l.ring; received = l.received; known = l.known; polls = l.polls; unmarked = l.unmarked }
+
+pub new_last : {t : StateTable} (last : ℕ) (x : RxCtx) (n : ℕ) (p : Pass) → n ≡ last → IsPassOf t p → view_of p ≡ maker_at last x n → p.holds ≡ Within → IsLaid x p → IsNew t last x last p
+new_last {t} last x n p at table view holds laid = record {
   table = table;
   view = view ∙ ap (λ (m : ℕ). maker_at last x m) at ∙ maker_alone last x;
   others = λ low. absurd (omega (arith, low));
   own = λ same. holds;
+  laid = λ same. laid;
 }
 
 -- ---- what the controller's pass knows at first

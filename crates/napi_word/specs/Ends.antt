@@ -16,7 +16,7 @@ use Rattle.napi_word.specs.declared.table.StateTable.{StateTable}
 use Rattle.napi_word.specs.declared.view.Delivery.{Delivery}
 use Rattle.napi_word.specs.View.{View, first_in, delivered, own_deliveries, received_by, last_of, deliverers, ring_of, place_in, controller_of, shown, mine, number_of}
 use Rattle.napi_word.specs.Slot.{givers}
-use Rattle.napi_word.specs.Passes.{view_of, controller_of_table, ring_of_table}
+use Rattle.napi_word.specs.Passes.{view_of, controller_of_table, ring_of_table, first_of_table}
 
 -- what a pass that held this adds to what was found
 abbrev pub Finds : Holds → Option RingName → Found → Found → Type 0
@@ -68,7 +68,7 @@ pub record IsEnded (t : StateTable) (passes : List Pass) (ctx : Option RxCtx) : 
   -- what each owner of the slot received, in the order in which it was given back: each pass has seen a beginning of it, which
   -- has all of its own, nobody else has one, and who holds the slot has seen all
   pub deliveries : List Delivery
-  pub firsts : (k : ℕ) (p : Pass) → slice_get passes k ≡ Some p → first_in (view_of p) ≡ Some t.table.shared.key.ring.value
+  pub firsts : (k : ℕ) (p : Pass) → slice_get passes k ≡ Some p → first_in (view_of p) ≡ Some (first_of_table t)
   pub deliveries_order : deliverers deliveries ≡ givers (opening (controller_of_table t)) history
   pub deliveries_begin : (k : ℕ) (p : Pass) → slice_get passes k ≡ Some p → IsPrefix (delivered (view_of p)) deliveries
   pub deliveries_exact : (k : ℕ) (p : Pass) → slice_get passes k ≡ Some p → own_deliveries (number_of (view_of p)) deliveries ≡ own_deliveries (number_of (view_of p)) (delivered (view_of p))
@@ -76,7 +76,7 @@ pub record IsEnded (t : StateTable) (passes : List Pass) (ctx : Option RxCtx) : 
   pub deliveries_held : (k : ℕ) (p : Pass) → slice_get passes k ≡ Some p → p.holds ≢ Nothing → delivered (view_of p) ≡ deliveries
   -- where nobody holds the slot, the context is the one that was given back last: it has received just these
   pub received : (x : RxCtx) → ctx ≡ Some x → ((k : ℕ) (p : Pass) → slice_get passes k ≡ Some p → p.holds ≡ Nothing)
-      → (received_list x ≡ received_by t.table.shared.key.ring.value deliveries) × (x ≡ last_of t.table.shared.key.ring.value deliveries)
+      → (received_list x ≡ received_by (first_of_table t) deliveries) × (x ≡ last_of (first_of_table t) deliveries)
   -- an owner is the owner at the end
   pub places : (k : ℕ) (p : Pass) → slice_get passes k ≡ Some p → is_owner (number_of (view_of p)) (place_in (view_of p)) ≡ true
       → (state_after (opening (controller_of_table t)) history).place ≡ place_in (view_of p)
@@ -85,4 +85,4 @@ pub record IsEnded (t : StateTable) (passes : List Pass) (ctx : Option RxCtx) : 
   pub rings : (k : ℕ) (p : Pass) → slice_get passes k ≡ Some p → ring_of (view_of p) ≡ Some (ring_of_table t)
   -- the context comes back unless a pass has it out, and is that ring's
   pub none : (ctx ≡ None) ↔ IsOut passes
-  pub same : (x : RxCtx) → ctx ≡ Some x → SameCtx t.table.shared.key.ring.value x
+  pub same : (x : RxCtx) → ctx ≡ Some x → SameCtx (first_of_table t) x

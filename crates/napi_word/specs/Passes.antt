@@ -51,6 +51,10 @@ controller_of_table t = t.table.shared.key.controller
 abbrev pub ring_of_table : StateTable → RingName
 ring_of_table t = ring_name t.table.shared.key.ring.value
 
+-- the context that was handed in
+abbrev pub first_of_table : StateTable → RxCtx
+first_of_table t = t.table.shared.key.ring.value
+
 -- the contract of every step: the pass made this event, and what it holds of the slot moved so
 pub record Makes (before : Pass) (o : Operation) (m : Moves) (after : Pass) : Type 0 where
   pub table : SameTable before after
@@ -111,3 +115,5 @@ pub record IsNew (t : StateTable) (controller : ℕ) (ctx : RxCtx) (c : ℕ) (p 
   pub view : view_of p ≡ strand controller ctx c ∷ []
   pub others : c < controller → p.holds ≡ Nothing
   pub own : c ≡ controller → p.holds ≡ Within
+  -- the controller's has the context that was handed in, but for the mark of `beside`
+  pub laid : c ≡ controller → IsLaid ctx p

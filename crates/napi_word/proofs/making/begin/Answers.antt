@@ -1,10 +1,10 @@
 use Rattle.std.proofs.Common.{◌≡◌, ◌∷◌, ◌++◌, subst, Option, Some, None, [], ap, sym, ◌∙◌, unwrap_or}
 use Rattle.atomic_table.specs.Table.{Me, rest}
 use Rattle.rx_ring.specs.declared.ends.RxCtx.{RxCtx}
-use Rattle.rx_ring.specs.Ends.{ring_name, received_list}
+use Rattle.rx_ring.specs.Ends.{SameCtx, ring_name, received_list, known_list, polls_of}
 use Rattle.rx_ring.proofs.Names.{same_ring}
 use Rattle.napi_word.specs.View.{View, is_pass, ring_of, received_in, Continues}
-use Rattle.napi_word.specs.Slot.{Content, Carried, hold_of, owns_slot, ring_in, beside_in, carried_received}
+use Rattle.napi_word.specs.Slot.{Content, Carried, hold_of, owns_slot, ring_in, beside_in, ctx_in, carried_received}
 use Rattle.napi_word.specs.Rule.{begun_view, begun_slot, maker_at}
 use Rattle.std.proofs.lemmas.List.{append-nil}
 use Rattle.napi_word.proofs.Deliveries.{of_prefix}
@@ -38,4 +38,20 @@ invariant_of-result c =
       unmarked = ap (λ (m : Me Content View). beside_in m.1) is ∙ c.apart.ensures.unmarked;
       received = subst (λ (m : Me Content View). Continues (received_in m.0) (carried_received m.1 m.0)) (sym is)
           (of_prefix (received_list ring ++ []) (received_list x) ([], append-nil (received_list ring ++ []) ∙ append-nil (received_list ring) ∙ sym (c.apart.ensures.received ∙ ap (λ (o : Option RxCtx). received_list (unwrap_or o ring)) was)));
+    }
+
+pub returns-clause-laid : goal.returns-clause-laid
+returns-clause-laid c =
+    let ring = c.args.table.now.table.shared.key.ring.value in
+    let slot : c.load.new.seat.me.1 ≡ (0, Some ring) ∷ [] = c.load.ensures.2.1 ∙ ap (λ (m : Me Content View). begun_slot m.0) c.requires.first in
+    let was : Some c.in-Some.ctx ≡ Some ring = sym c.in-Some.is ∙ slot_is c.exchange.result (Some ring) (rest c.load.new.seat.me.1) [] (sym c.exchange.ensures.2 ∙ slot) in
+    let same : c.in-Some.ctx ≡ ring = ap (λ (o : Option RxCtx). unwrap_or o ring) was in
+    let e = c.apart.ensures in record {
+      laid = c.apart.new.self;
+      within = ap (λ (m : Me Content View). ctx_in m.1) c.exchange-2.ensures.3;
+      ring = subst (λ (x : RxCtx). SameCtx x c.apart.new.self) same e.ring;
+      received = e.received ∙ ap received_list same;
+      known = e.known ∙ ap known_list same;
+      polls = e.polls ∙ ap polls_of same;
+      unmarked = e.unmarked;
     }

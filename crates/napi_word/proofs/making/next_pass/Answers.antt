@@ -1,7 +1,7 @@
 use Rattle.std.proofs.Common.{[], ap, subst, ◌∙◌, sym}
 use Rattle.atomic_table.specs.Table.{Me}
 use Rattle.napi_word.specs.View.{View, is_pass, ring_of, received_in, Continues}
-use Rattle.napi_word.specs.Slot.{Content, hold_of, owns_slot, ring_in, beside_in, carried_received}
+use Rattle.napi_word.specs.Slot.{Content, hold_of, owns_slot, ring_in, beside_in, ctx_in, carried_received}
 use Rattle.napi_word.specs.Rule.{left_of, right_of}
 use Rattle.napi_word.proofs.Deliveries.{prefix_self, of_prefix}
 use Rattle.napi_word.proofs.Said.{one_there}
@@ -33,3 +33,6 @@ returns-clause-view c =
     let key = c.args.table.now.table.shared.key in
     let more = maker_more key.controller key.ring.value c.args.number c.requires.number in
     ap (λ (m : Me Content View). m.0) c.split_seat.ensures.2 ∙ ap left_of (c.requires.view ∙ more)
+
+pub returns-clause-slot : goal.returns-clause-slot
+returns-clause-slot c = ap (λ (m : Me Content View). ctx_in m.1) c.split_seat.ensures.2
