@@ -1,8 +1,4 @@
 //! The calls of a caller.
-ghost use Rattle.std.specs.Prelude.{IfOk};
-ghost use Rattle.rx_ring.specs.Ends.{received_list};
-ghost use Rattle.napi_word.specs.View.{received_in};
-ghost use Rattle.napi_word.specs.Passes.{view_of};
 ghost use Rattle.std.specs.Prelude.{◌≡◌, [], ◌∷◌};
 ghost use mathlib.Core.List.{IsPrefix};
 ghost use Rattle.napi_model.specs.declared.state.Seen.{Seen};
@@ -12,6 +8,7 @@ ghost use Rattle.napi_calls.specs.Seats.{number_of, shown, state_of, ShowsLegal}
 ghost use Rattle.napi_calls.specs.Instance.{IsSeatOf};
 ghost use Rattle.napi_calls.specs.Made.{Made};
 ghost use Rattle.napi_calls.specs.Calls.{Prepares, Schedules, Takes, RunsUnlessDisabled};
+ghost use Rattle.napi_calls.specs.Packets.{Quiet, PreparesQuietly, SchedulesQuietly, TakesFresh};
 
 use crate::answers::{Sched, TryPrep};
 use crate::between::{Between, Nothing};
@@ -36,7 +33,8 @@ impl Caller {
     /// What the state word tells: the flags, and to whom the instance was handed while nobody has taken it.
     pub fn look(&mut self, napi: &Napi) -> Seen
         requires { IsSeatOf napi.now self.old.pass }
-        ensures { Made self.old.pass (Look result ∷ []) self.new.pass }
+        ensures event { Made self.old.pass (Look result ∷ []) self.new.pass }
+        ensures packets { Quiet self.old.pass self.new.pass }
     {
         napi.table.look(&mut self.pass)
     }
@@ -44,7 +42,8 @@ impl Caller {
     /// Says whether polls are from now on handed to the instance's own thread (`dev_set_threaded`). Allowed in any state.
     pub fn set_threaded(&mut self, napi: &Napi, threaded: bool)
         requires { IsSeatOf napi.now self.old.pass }
-        ensures { Made self.old.pass (SetThreaded threaded ∷ []) self.new.pass }
+        ensures event { Made self.old.pass (SetThreaded threaded ∷ []) self.new.pass }
+        ensures packets { Quiet self.old.pass self.new.pass }
     {
         napi.table.threaded(&mut self.pass, threaded);
     }
@@ -52,7 +51,8 @@ impl Caller {
     /// Asks for a poll, once (`napi_schedule_prep`): a look, and an exchange. It doesn't wait; at most two steps are made.
     pub fn try_schedule(self, napi: &Napi) -> TryPrep
         requires { IsSeatOf napi.now self.pass }
-        ensures { Prepares self.pass result }
+        ensures events { Prepares self.pass result }
+        ensures packets { PreparesQuietly self.pass result }
     {
         self.try_schedule_between(napi, &mut Nothing)
     }
@@ -61,6 +61,7 @@ impl Caller {
     pub fn try_schedule_between<B: Between>(self, napi: &Napi, between: &mut B) -> TryPrep
         requires { IsSeatOf napi.now self.pass }
         ensures events { Prepares self.pass result }
+        ensures packets { PreparesQuietly self.pass result }
         ensures run { RunsUnlessDisabled result (between.new ≡ between.old) (B.ran between.old between.new) }
     {
         let Caller { mut pass, number } = self;
@@ -79,7 +80,8 @@ impl Caller {
     /// Asks for a poll, try after try until one decides (`napi_schedule_prep`).
     pub fn schedule<R: Wait>(self, rt: &R, napi: &Napi) -> Sched
         requires { IsSeatOf napi.now self.pass }
-        ensures { Schedules self.pass result }
+        ensures events { Schedules self.pass result }
+        ensures packets { SchedulesQuietly self.pass result }
     {
         let mut caller = self;
         for _ in rt.forever() {
@@ -98,7 +100,7 @@ impl Caller {
     pub fn take(self, napi: &Napi, kind: Kind) -> Result<Polling, Caller>
         requires { IsSeatOf napi.now self.pass }
         ensures event { Takes kind self.pass result }
-        ensures fresh { IfOk result (λ w. received_list w.ctx ≡ received_in (view_of w.pass)) }
+        ensures packets { TakesFresh self.pass result }
     {
         let Caller { mut pass, number } = self;
         if !napi.table.take(&mut pass, kind) {

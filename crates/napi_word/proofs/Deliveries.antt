@@ -28,7 +28,7 @@ prefix_self l = ([], append-nil l)
 pub prefix_snoc : {A : Type 0} (g h : List A) (x : A) → IsPrefix g h → IsPrefix g (h ++ x ∷ [])
 prefix_snoc g h x p = (p.0 ++ x ∷ [], sym (append_assoc g p.0 (x ∷ [])) ∙ ap (λ l. l ++ x ∷ []) p.1)
 
-drop_front : {A : Type 0} (g h : List A) → drop (length g) (g ++ h) ≡ h
+pub drop_front : {A : Type 0} (g h : List A) → drop (length g) (g ++ h) ≡ h
 drop_front [] h = refl
 drop_front (x ∷ g) h = drop_front g h
 

@@ -29,7 +29,7 @@ returns-clause-closed c =
     let enough = c.if-len-self.false in
     let made = c.args.self.count in
     closed c.args.self c.args.callers.items c.args.control.pass c.finish-left.result.ctx c.args.control.controls
-    (c.finish-left.ensures (seats_of c.args.callers.items ++ c.args.control.pass ∷ []) g (search (rules, arith, seats, ok, len, enough, made))) c.args.control.state.ctx c.args.control.has
+    (c.finish-left.ensures (seats_of c.args.callers.items ++ c.args.control.pass ∷ []) g (search (rules, arith, seats, ok, len, enough, made))) c.args.control.state.ctx c.args.control.has c.args.control.exact
 
 pub loop-caller-preserved : goal.loop-caller-preserved
 loop-caller-preserved c =

@@ -1,5 +1,7 @@
-use Rattle.std.proofs.Common.{◌∙◌}
+use Rattle.std.proofs.Common.{◌∙◌, refl}
+use Rattle.napi_word.specs.declared.view.Holds.TheVariants.{Out}
 use Rattle.napi_calls.proofs.Standing.{looked, busy_looked, stays_has}
+use Rattle.napi_calls.proofs.Packets.{owns, held_step}
 use Rattle.napi_calls.proofs.Making.{nothing, step}
 use Rattle.napi_calls.proofs.types.Polling.look.Goals as goal
 
@@ -12,3 +14,6 @@ invariant_of-self c = record {
 
 pub returns-clause-event : goal.returns-clause-event
 returns-clause-event c = step c.look.new.pass (nothing c.args.self.now.stands) c.look.ensures.step.table c.look.ensures.step.event
+
+pub returns-clause-packets : goal.returns-clause-packets
+returns-clause-packets c = held_step c.args.self.now.pass c.look.new.pass (owns c.args.self.now.pass Out c.args.self.now.has.holds refl) c.look.ensures.step.packets
