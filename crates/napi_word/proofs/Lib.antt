@@ -1,5 +1,6 @@
 pub mod Places
 pub mod Owns
+pub mod Deliveries
 pub mod Keeps
 pub mod Allowed
 pub mod Bits
