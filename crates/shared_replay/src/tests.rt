@@ -3,10 +3,11 @@
 
 use crate::replay::replay_shared;
 use crate::shared_bench::SharedBench;
-use device_model::{ReplayBench, TraceFault};
+use devices::ReplayBench;
 use napi_model::Kind;
 use poll_engine::{Bench, Next};
 use replay_words::Settings;
+use report_text::ReplayFault;
 use rx_ring::Totals;
 use std::alloc::{AllocError, Global};
 use std::io;
@@ -14,7 +15,8 @@ use std::io::{ErrorKind, Read, Write};
 use std::process::Abort;
 use std::sync::Wait;
 use std::test::Fail;
-use trace_replay::{ReplayFault, replay_serial};
+use trace_replay::replay_serial;
+use trace_rows::TraceFault;
 
 const HEADER: &str = "moment,device,event,value\n";
 

@@ -3,9 +3,9 @@
 
 use crate::polled::Polled;
 use crate::threads::replay_threads;
-use device_model::TraceFault;
 use poll_workers::{Gate, OpenGate};
 use replay_words::Settings;
+use report_text::ReplayFault;
 use std::alloc::{AllocError, Global};
 use std::io;
 use std::io::{ErrorKind, Read, Write};
@@ -13,7 +13,7 @@ use std::process::Abort;
 use std::sync::Wait;
 use std::test::Fail;
 use std::thread::Threads;
-use trace_replay::ReplayFault;
+use trace_rows::TraceFault;
 
 const HEADER: &str = "moment,device,event,value\n";
 

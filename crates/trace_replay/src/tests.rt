@@ -1,15 +1,15 @@
 //! The worked traces, and what no contract says: that calls succeed, and what a failing reader or writer gives.
 
-use crate::fault::{ReplayFault, fault_line, status};
 use crate::serial::replay_serial;
 use crate::test_cases::{BOUNDS, BUSY, CONTROLS, Case, POLLING, WORKED};
-use device_model::TraceFault;
 use replay_words::Settings;
+use report_text::{ReplayFault, fault_line, status};
 use std::alloc::{AllocError, Global};
 use std::io;
 use std::io::{ErrorKind, Read, Write};
 use std::process::Abort;
 use std::test::Fail;
+use trace_rows::TraceFault;
 
 const HEADER: &str = "moment,device,event,value\n";
 
