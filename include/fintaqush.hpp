@@ -22,6 +22,11 @@ using Status = fq_status;
 using Kind = fq_kind;
 using Packets = std::array<fq_packet, 64>;
 
+namespace detail {
+// A call that the type allows is made: its number has nothing else to say.
+inline void made(std::uint32_t) {}
+} // namespace detail
+
 // What the library has on the heap. It is moved, and never copied.
 class Handle {
 public:
@@ -42,7 +47,7 @@ public:
 
 private:
     void give_up() {
-        if (raw_.private_set) static_cast<void>(fq_abandon(&raw_));
+        if (raw_.private_set) detail::made(fq_abandon(&raw_));
     }
 
     fq_handle raw_ = FQ_NONE;
@@ -127,7 +132,7 @@ private:
 class Granted {
 public:
     [[nodiscard]] Caller hand(Kind kind) && {
-        static_cast<void>(fq_seat_hand(at_.raw(), kind));
+        detail::made(fq_seat_hand(at_.raw(), kind));
         return Caller(std::move(at_));
     }
 
@@ -144,11 +149,11 @@ public:
     // Gives the ring's next packets, at most weight, which is 1 to 64; answers how many.
     std::size_t poll(Packets &out, std::size_t weight = 64) {
         std::size_t count = 0;
-        static_cast<void>(fq_seat_poll(at_.raw(), weight, out.data(), out.size(), &count));
+        detail::made(fq_seat_poll(at_.raw(), weight, out.data(), out.size(), &count));
         return count;
     }
     [[nodiscard]] Caller requeue() && {
-        static_cast<void>(fq_seat_requeue(at_.raw()));
+        detail::made(fq_seat_requeue(at_.raw()));
         return Caller(std::move(at_));
     }
     [[nodiscard]] Completed complete() && {
@@ -242,7 +247,7 @@ private:
 };
 
 inline Control<Marked> Control<On>::mark() && {
-    static_cast<void>(fq_control_mark(at_.raw()));
+    detail::made(fq_control_mark(at_.raw()));
     return Control<Marked>(std::move(at_));
 }
 
@@ -319,7 +324,7 @@ public:
             good = fq_run_polled(at_.raw(), did.first, did.second) == FQ_OK;
         }
         fq_run_report report{};
-        if (!good) static_cast<void>(fq_run_polled(at_.raw(), 0, FQ_NEXT_ABSENT));
+        if (!good) detail::made(fq_run_polled(at_.raw(), 0, FQ_NEXT_ABSENT));
         if (fq_run_end(at_.raw(), &report) != FQ_OK || !good) return std::nullopt;
         return report;
     }
