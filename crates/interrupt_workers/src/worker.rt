@@ -17,6 +17,7 @@ use std::sync::Wait;
 use std::thread;
 
 // Leaves the processor to others, so that whoever has an instance can go on.
+#[derive(Drop)]
 struct Yields;
 
 impl Between for Yields {

@@ -30,9 +30,13 @@ pub enum SeatCall {
 
 /// What the caller is.
 pub enum Hold {
+    /// It owns nothing.
     Rests(Caller),
+    /// It has to hand the instance over.
     Granted(Granted),
+    /// It polls.
     Polls(Polling),
+    /// It busy polls.
     Busy(Busy),
     /// It is taken out for a call.
     Gone,

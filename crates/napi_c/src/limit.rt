@@ -14,6 +14,7 @@ use dql_core::Dql;
 #[repr(C)]
 #[derive(Drop)]
 pub struct FqDql {
+    /// The limit.
     pub dql: Dql,
 }
 
@@ -21,7 +22,9 @@ pub struct FqDql {
 #[repr(C)]
 #[derive(Drop)]
 pub struct FqDqlNew {
+    /// The limit, or one of 0 where it is refused.
     pub dql: FqDql,
+    /// Ok, or bad bounds.
     pub status: u32,
 }
 

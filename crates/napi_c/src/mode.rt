@@ -19,8 +19,11 @@ pub enum ControlCall {
 
 /// What the controller has done last.
 pub enum Mode {
+    /// Disabled.
     Off(Control<Off>),
+    /// Enabled.
     On(Control<On>),
+    /// A disable is pending.
     Marked(Control<Marked>),
     /// It is taken out for a call.
     Gone,

@@ -11,8 +11,11 @@ use std::mem;
 #[repr(C)]
 #[derive(Clone, Copy)]
 pub struct FqRunReport {
+    /// The polls that were made, at most the window.
     pub polls: u32,
+    /// The packets that they gave together.
     pub work: u32,
+    /// Whether budget or window was spent.
     pub squeezed: bool,
 }
 
@@ -37,6 +40,7 @@ pub struct Lister {
 }
 
 impl Lister {
+    /// An empty list.
     pub fn new() -> Lister {
         Lister {
             list: PlainList::new(),

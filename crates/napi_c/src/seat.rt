@@ -17,6 +17,7 @@ use std::sync::Arc;
 
 /// An instance that is shared.
 pub struct Shared {
+    /// The instance.
     pub napi: Napi,
 }
 
@@ -30,8 +31,11 @@ impl Drop for Shared {
 /// A caller with its instance.
 #[derive(Drop)]
 pub struct Seat {
+    /// Its instance.
     pub napi: Arc<Shared, Global>,
+    /// What it is.
     pub hold: Hold,
+    /// It is of that instance.
     pub ghost seat: { SitsAt (arc_value napi).napi hold } by { sits_prop (arc_value napi).napi hold },
 }
 
@@ -68,8 +72,11 @@ impl Seat {
 /// The controller with its instance.
 #[derive(Drop)]
 pub struct Controller {
+    /// Its instance.
     pub napi: Arc<Shared, Global>,
+    /// What it has done last.
     pub mode: Mode,
+    /// It is of that instance.
     pub ghost seat: { ControlsAt (arc_value napi).napi mode } by { controls_prop (arc_value napi).napi mode },
 }
 

@@ -10,15 +10,25 @@ use napi_model::{Call, Event, Flags, Operation, Place, State, encode};
 #[repr(C)]
 #[derive(Clone, Copy)]
 pub struct FqNapi {
+    /// SCHED: a poll is asked for or under way.
     pub sched: bool,
+    /// MISSED: one more has to follow.
     pub missed: bool,
+    /// DISABLE: a disable is pending.
     pub disable: bool,
+    /// NPSVC: the controller has it.
     pub npsvc: bool,
+    /// IN_BUSY_POLL.
     pub in_busy_poll: bool,
+    /// THREADED: it is handed to its own thread.
     pub threaded: bool,
+    /// SCHED_THREADED: it was.
     pub sched_threaded: bool,
+    /// 0 nobody, 1 granted, 2 on the list, 3 with its thread, 4 polled, and else with the controller.
     pub place: u8,
+    /// Who owns it there.
     pub owner: u32,
+    /// Who alone disables and enables it.
     pub controller: u32,
 }
 
