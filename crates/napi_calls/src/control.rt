@@ -16,7 +16,6 @@ use crate::between::{Between, Nothing};
 use crate::types::{Control, Marked, Napi, Off, On};
 use rx_ring::{RxCounts, RxIn};
 use std::sync::Wait;
-use std::thread;
 
 impl Control<On> {
     /// What the controller of an enabled instance knows. It does nothing.
@@ -44,12 +43,25 @@ impl Control<On> {
         }
     }
 
-    /// Disables the instance (`napi_disable`): marks it, and tries until whoever has it has released it. Between two tries it
-    /// leaves the processor to others (`usleep_range` there), so that whoever has it can go on.
+    /// Disables the instance (`napi_disable`): marks it, and tries until whoever has it has released it.
     pub fn disable<R: Wait>(self, rt: &R, napi: &Napi) -> Control<Off>
         requires { IsSeatOf napi.now self.pass }
         ensures events { Disables self.pass result.pass }
         ensures packets { IsFresh self.pass result.pass result.state.ctx }
+    {
+        self.disable_pausing(rt, napi, &mut Nothing)
+    }
+
+    /// As [`disable`](Control::disable), and runs `pause` after each try that found the instance busy: there a thread leaves
+    /// the processor to others (`usleep_range` there), so that whoever has the instance can go on.
+    pub fn disable_pausing<R: Wait, P: Between>(
+        self,
+        rt: &R,
+        napi: &Napi,
+        pause: &mut P,
+    ) -> Control<Off>
+        requires { IsSeatOf napi.now self.pass }
+        ensures { Disables self.pass result.pass }
     {
         let mut control = self.mark(napi);
         for _ in rt.forever() {
@@ -57,7 +69,7 @@ impl Control<On> {
                 TryTake::Taken(taken) => return taken,
                 TryTake::Busy(busy) => {
                     control = busy;
-                    thread::yield_now();
+                    pause.run();
                 }
                 TryTake::Changed(changed) => control = changed,
             }

@@ -65,14 +65,17 @@ pub trait Mode {
 }
 
 /// The instance is disabled, and the controller has its poll context.
+#[derive(Drop)]
 pub struct Off {
     pub(crate) ctx: RxCtx,
 }
 
 /// The instance is enabled.
+#[derive(Drop)]
 pub struct On;
 
 /// A disable is pending: the instance is to be taken from whoever has it, as soon as that one releases it.
+#[derive(Drop)]
 pub struct Marked;
 
 impl Mode for Off {

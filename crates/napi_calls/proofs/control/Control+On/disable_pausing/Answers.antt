@@ -2,7 +2,7 @@ use Rattle.std.proofs.Common.{[], ◌∷◌, ◌∙◌, true}
 use Rattle.napi_model.specs.declared.event.Operation.TheVariants.{Look, TakeDisable, Unmark}
 use Rattle.napi_calls.proofs.Packets.{fresh_behind}
 use Rattle.napi_calls.proofs.Making.{more, more_waits, more_busy}
-use Rattle.napi_calls.proofs.control.Control+On.disable.Goals as goal
+use Rattle.napi_calls.proofs.control.Control+On.disable_pausing.Goals as goal
 
 pub loop-init : goal.loop-init
 loop-init g c = (c.mark-control.ensures.packets, ([], c.mark-control.ensures.event))
