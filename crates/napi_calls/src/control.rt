@@ -61,7 +61,8 @@ impl Control<On> {
         pause: &mut P,
     ) -> Control<Off>
         requires { IsSeatOf napi.now self.pass }
-        ensures { Disables self.pass result.pass }
+        ensures events { Disables self.pass result.pass }
+        ensures packets { IsFresh self.pass result.pass result.state.ctx }
     {
         let mut control = self.mark(napi);
         for _ in rt.forever() {
