@@ -287,7 +287,6 @@ build() {
     trap : PIPE
     trap 'interrupted 130' INT
     trap 'interrupted 143' TERM HUP
-    clear_lanes
     order_crates
     : > "$mark"
     step
@@ -316,6 +315,7 @@ if ! is_built; then
     # shellcheck source=scripts/lanes.sh
     . "$top/scripts/lanes.sh"
     find_lanes
+    clear_lanes
     announce
     build
 fi
