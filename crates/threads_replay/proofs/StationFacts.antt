@@ -15,10 +15,10 @@ use Rattle.trace_rows.specs.Trace.{AcceptedAfter}
 use Rattle.trace_rows.specs.declared.event.Event.{Event}
 use Rattle.trace_rows.specs.declared.event.Event.TheVariants.{Opened, Rx, Tx, Finish, Softirq, Kthread, Disable, Enable, Threaded, Busy}
 use Rattle.trace_rows.specs.declared.row.Row.{Row}
-use Rattle.poll_workers.specs.Acts.{arrivals}
+use Rattle.interrupt_workers.specs.Acts.{arrivals}
 use Rattle.poll_workers.specs.Finishes.{IsFinished}
-use Rattle.poll_workers.specs.declared.station.Finished.{Finished}
-use Rattle.poll_workers.specs.declared.station.Station.{Station}
+use Rattle.interrupt_workers.specs.declared.station.Finished.{Finished}
+use Rattle.interrupt_workers.specs.declared.station.Station.{Station}
 use Rattle.rx_ring.specs.ReceiveRing.{bytes_of, capped}
 use Rattle.threads_replay.specs.Answer.{IsPolled, overflows}
 use Rattle.threads_replay.specs.Script.{is_act_of, is_open, is_rx, opening_of, openings_of, opens, rx_of, script_of}
@@ -28,7 +28,7 @@ use Rattle.threads_replay.specs.ThreadsReport.{arrived, bytes, device_lines, is_
 use Rattle.trace_rows.proofs.Accepted.{accepted-at}
 use Rattle.report_text.specs.declared.fault.ReplayFault.TheVariants.{RingTooSmall}
 use Rattle.threads_replay.proofs.Rows.{filter-long, find-among, find-here, find-more, range-more}
-use Rattle.poll_workers.proofs.Zips.{zip_push}
+use Rattle.crew_tasks.proofs.Zips.{zip_push}
 use Rattle.threads_replay.proofs.ScriptFacts.{acts-made, arrivals-are}
 
 -- ---- what acceptance says of a row's numbers

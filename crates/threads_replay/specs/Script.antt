@@ -6,8 +6,8 @@ use Rattle.trace_rows.specs.declared.event.Event.{Event}
 use Rattle.trace_rows.specs.declared.event.Event.TheVariants as event
 use Rattle.trace_rows.specs.declared.row.Row.{Row}
 use Rattle.transmit_sides.specs.declared.transmit.TxCounts.{TxCounts}
-use Rattle.poll_workers.specs.declared.acts.Act.{Act}
-use Rattle.poll_workers.specs.declared.acts.Act.TheVariants as act
+use Rattle.interrupt_workers.specs.declared.acts.Act.{Act}
+use Rattle.interrupt_workers.specs.declared.acts.Act.TheVariants as act
 
 abbrev pub is_open : Event → Bool
 is_open event.Opened = true

@@ -2,8 +2,8 @@
 use Rattle.std.specs.Prelude.{◌≡◌, ℕ, ◌+◌, ◌++◌, Bool, List, Option, Some, length, nat_lt, option_map, take}
 use Rattle.std.specs.List.{find}
 use Rattle.trace_rows.specs.declared.row.Row.{Row}
-use Rattle.poll_workers.specs.declared.station.Finished.{Finished}
-use Rattle.poll_workers.specs.declared.station.Station.{Station}
+use Rattle.interrupt_workers.specs.declared.station.Finished.{Finished}
+use Rattle.interrupt_workers.specs.declared.station.Station.{Station}
 use Rattle.report_text.specs.declared.fault.ReplayFault.{ReplayFault}
 use Rattle.report_text.specs.declared.fault.ReplayFault.TheVariants.{RingTooSmall}
 use Rattle.report_text.specs.Lines.{ended, tx_lines}

@@ -6,7 +6,7 @@ ghost use Rattle.trace_rows.specs.Range.{IsWithin};
 ghost use Rattle.trace_rows.specs.Trace.{AcceptedAfter};
 ghost use Rattle.trace_rows.specs.declared.row.Row.{Row};
 ghost use Rattle.poll_workers.specs.Finishes.{IsFinished};
-ghost use Rattle.poll_workers.specs.Opens.{IsStation};
+ghost use Rattle.interrupt_workers.specs.Opens.{IsStation};
 ghost use Rattle.threads_replay.specs.Answer.{IsOutside, ring_fault};
 ghost use Rattle.threads_replay.specs.Script.{opening_of, rx_of, script_of};
 ghost use Rattle.threads_replay.specs.ScriptShown.{acts, after, answer};
