@@ -590,7 +590,7 @@ times_of_the_gate() {
     mkdir -p "$scratch/rt-edit-x"
     cat > "$scratch/gate" << 'END'
 #!/usr/bin/env bash
-prove() { bash -c 'exec -a /x/rattle bash -c "for ((i = 0; i < 300000; i++)); do :; done; sleep 0.6" "$@"' '' "$@"; }
+prove() { bash -c 'exec -a /x/rattle bash -c "for ((i = 0; i < 300000; i++)); do :; done; sleep 1.2" "$@"' '' "$@"; }
 prove check --crate-name low && echo 'rt: low proved'
 prove check --crate-name low --test && echo 'rt: low: its tests are proved'
 echo 'rt: low: trying its must-fail edits (2)'
@@ -603,7 +603,7 @@ END
     check "the gate's status is the script's" ended 1
     check 'its lines have their seconds' prints '^ *[0-9]*\.[0-9]  rt: low proved$'
     check 'a crate has its row' prints '^low  *[0-9.]* s  *[0-9.]* s  *[0-9.]* s  *[0-9.]* s  *2: [0-9.]* s  *[0-9.]* s$'
-    check 'with processor time in each place' is "$(awk '/^low/ { print $4 > 0, $8 > 0, $13 > 0 }' "$scratch/out")" '1 1 1'
+    check 'with processor time in each place' is "$(awk '/^low/ { print ($4 > 0), ($8 > 0), ($13 > 0) }' "$scratch/out")" '1 1 1'
     check 'and all that is in the log' cmp -s "$scratch/out" "$scratch/gate.log"
     run "$top/scripts/gate-times.sh" "$scratch/no-gate"
     check 'a command that is not there' ended 64
