@@ -1,8 +1,9 @@
 //! The values on which calls are made. Each has a seat of the instance, with what its type says of it, and must be spent.
 ghost use Rattle.std.specs.Prelude.{◌≡◌, Some, true, false};
 ghost use Rattle.napi_model.specs.declared.state.Place.TheVariants as place;
-ghost use Rattle.napi_word.specs.Passes.{controller_of_table};
-ghost use Rattle.napi_calls.specs.Knows.{Free, Stands, BusyPolls, Controls, Has};
+ghost use Rattle.napi_word.specs.View.{received_in};
+ghost use Rattle.napi_word.specs.Passes.{view_of, controller_of_table};
+ghost use Rattle.napi_calls.specs.Knows.{Free, Stands, BusyPolls, Controls, Has, received_held};
 
 use napi_word::{Pass, StateTable};
 use rx_ring::RxCtx;
@@ -116,4 +117,5 @@ pub struct Control<S: Mode> {
     pub(crate) state: S,
     ghost controls: { Controls S.role S.disable pass },
     ghost has: { Has pass (S.ctx state) },
+    ghost exact: { received_held (S.ctx state) (received_in (view_of pass)) ≡ received_in (view_of pass) },
 }
