@@ -5,8 +5,6 @@
 #![tactic(auto)]
 
 mod bench;
-#[cfg(test)]
-mod bench_tests;
 mod counts;
 mod device;
 mod replay_bench;

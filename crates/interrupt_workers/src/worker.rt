@@ -10,11 +10,24 @@ ghost use Rattle.interrupt_workers.specs.Works.{IsDoneBy};
 
 use crate::acts::{Act, Device};
 use crew_tasks::{Bell, Gate, Signals};
-use napi_calls::{Caller, Control, Granted, Kept, Napi, Off, On, Sched};
+use napi_calls::{Between, Caller, Control, Granted, Kept, Napi, Off, On, Sched};
 use napi_model::Kind;
 use rx_ring::{Packet, RxIn};
 use shared_list::ListIn;
 use std::sync::Wait;
+use std::thread;
+
+// Leaves the processor to others, so that whoever has an instance can go on.
+#[derive(Drop)]
+struct Yields;
+
+impl Between for Yields {
+    ghost ran = { λ _ _. Unit {0} };
+
+    fn run(&mut self) {
+        thread::yield_now();
+    }
+}
 
 /// The controller, by whether the instance is on.
 pub(crate) enum Power {
@@ -168,7 +181,7 @@ impl<'s, 'p, 'n, R: Wait> Desk<'s, 'p, 'n, R> {
             threaded: _threaded,
         } = hold;
         let control = match power {
-            Power::On(control) => control.disable(&self.rt, self.napi),
+            Power::On(control) => control.disable_pausing(&self.rt, self.napi, &mut Yields),
             Power::Off(control) => control,
         };
         Seats { caller, control }

@@ -5,8 +5,6 @@
 #![tactic(auto)]
 
 mod program;
-#[cfg(test)]
-mod tests;
 
 use crate::program::run_program;
 use report_text::{end_by, given_words};

@@ -11,10 +11,6 @@ mod report;
 mod rows;
 mod serial;
 mod serial_replay;
-#[cfg(test)]
-mod test_cases;
-#[cfg(test)]
-mod tests;
 
 pub use line::Line;
 pub use report::state_word;

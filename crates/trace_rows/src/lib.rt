@@ -13,8 +13,6 @@ mod record;
 mod row;
 mod switch;
 mod trace;
-#[cfg(test)]
-mod trace_tests;
 
 pub use bounded::MOST_BYTES;
 pub use event::Event;
