@@ -9,34 +9,34 @@ use Rattle.interrupt_workers.proofs.DealFacts.{all_others, all_picked, merge_zip
 use Rattle.poll_workers.proofs.run.+fn-run_crews-later+run_crews.Goals as goal
 
 pub run_crews-requires-clause-stations : goal.run_crews-requires-clause-stations
-run_crews-requires-clause-stations g t c κs within = let d = rw c.in_ok-dealt.ensures at c.deal_all.ensures.dealt in rw d.rest_is (all_others IsStation (vec_items c.in_ok-dealt.dealt.order) (vec_items c.args.stations) c.requires.stations)
+run_crews-requires-clause-stations g t c κs within = let d = rw c.in_ok-dealt.ensures.made at c.deal_all.ensures.dealt in rw d.rest_is (all_others IsStation (vec_items c.in_ok-dealt.dealt.order) (vec_items c.args.stations) c.requires.stations)
 
 pub run_crews-requires-clause-count : goal.run_crews-requires-clause-count
 run_crews-requires-clause-count g t c =
-    let d = rw c.in_ok-dealt.ensures at c.deal_all.ensures.dealt in
+    let d = rw c.in_ok-dealt.ensures.made at c.deal_all.ensures.dealt in
     let parts = rw (← d.mine_is, ← d.rest_is) at (parts_length (vec_items c.in_ok-dealt.dealt.order) (vec_items c.args.stations) d.long) in
     grind (arith, common_steps, parts, c.requires.count)
 
 pub returns-then-is_empty-2 : goal.returns-then-is_empty-2
 returns-then-is_empty-2 g t c =
-    let d = rw c.in_ok-dealt.ensures at c.deal_all.ensures.dealt in
+    let d = rw c.in_ok-dealt.ensures.made at c.deal_all.ensures.dealt in
     let mine : vec_items c.in_ok-dealt.dealt.mine ≡ [] = nil_from_length _ (grind (arith, common_steps)) in
     let none : vec_items c.new-then-is_empty-2.result ≡ [] = search rules in
     let later = rw d.rest_is at c.in_ok-others.ensures in
     rw (c.merge.ensures, none) (merge_zips _ _ _ _ _ d.long (rw (← d.mine_is, mine) tt) later)
 
 pub run_crew-requires-2-clause-stations : goal.run_crew-requires-2-clause-stations
-run_crew-requires-2-clause-stations g t c κs within = let d = rw c.in_ok-dealt.ensures at c.deal_all.ensures.dealt in rw d.mine_is (all_picked IsStation (vec_items c.in_ok-dealt.dealt.order) (vec_items c.args.stations) c.requires.stations)
+run_crew-requires-2-clause-stations g t c κs within = let d = rw c.in_ok-dealt.ensures.made at c.deal_all.ensures.dealt in rw d.mine_is (all_picked IsStation (vec_items c.in_ok-dealt.dealt.order) (vec_items c.args.stations) c.requires.stations)
 
 pub run_crew-requires-2-clause-count : goal.run_crew-requires-2-clause-count
 run_crew-requires-2-clause-count g t c κs within =
-    let d = rw c.in_ok-dealt.ensures at c.deal_all.ensures.dealt in
+    let d = rw c.in_ok-dealt.ensures.made at c.deal_all.ensures.dealt in
     let parts = rw (← d.mine_is, ← d.rest_is) at (parts_length (vec_items c.in_ok-dealt.dealt.order) (vec_items c.args.stations) d.long) in
     (search rules, grind (arith, common_steps, parts, c.requires.count))
 
 pub run_crew-requires-2-clause-beside : goal.run_crew-requires-2-clause-beside
 run_crew-requires-2-clause-beside g t c κs within =
-    let d = rw c.in_ok-dealt.ensures at c.deal_all.ensures.dealt in
+    let d = rw c.in_ok-dealt.ensures.made at c.deal_all.ensures.dealt in
     let parts = rw (← d.mine_is, ← d.rest_is) at (parts_length (vec_items c.in_ok-dealt.dealt.order) (vec_items c.args.stations) d.long) in
     let stations = rw (← d.rest_is) at (all_others IsStation (vec_items c.in_ok-dealt.dealt.order) (vec_items c.args.stations) c.requires.stations) in
     let fewer : c.args.number + 1 < c.args.pollers = grind (arith, common_steps, c.requires.pollers.0) in
@@ -44,8 +44,8 @@ run_crew-requires-2-clause-beside g t c κs within =
 
 pub returns : goal.returns
 returns g t c =
-    let d = rw c.in_ok-dealt.ensures at c.deal_all.ensures.dealt in
-    let both = c.in_ok-finished-2.ensures in
+    let d = rw c.in_ok-dealt.ensures.made at c.deal_all.ensures.dealt in
+    let both = c.in_ok-finished-2.ensures.made in
     let mine = rw both at c.run_crew-2.ensures.finished in
     let rest = rw both at c.run_crew-2.ensures.beside in
     let whose = IsFinished g.D.Device.acts g.D.Device.answer g.D.Device.after in
