@@ -183,7 +183,10 @@ end_all() {
         # With its group, though `rt` ends all that it started when it ends.
         kill -- "-${pids[$name]}" 2> /dev/null || kill "${pids[$name]}" 2> /dev/null || true
     done
-    for name in "${!entered[@]}"; do wait "${pids[$name]}" 2> /dev/null || true; done
+    for name in "${!entered[@]}"; do
+        # A second signal may break off a `wait`.
+        while kill -0 "${pids[$name]}" 2> /dev/null; do wait "${pids[$name]}" 2> /dev/null || true; done
+    done
     # What couldn't be moved waits there for the next call.
     for name in "${!held[@]}"; do leave "$name" 2> /dev/null || is_whole=; done
     let_all_go
@@ -248,7 +251,7 @@ functions() {
         }' "$@" < /dev/null 2> /dev/null || true
 }
 
-# Leaves in `line` where the build stands, as `crate 3 of 6 (poll_engine tx_ring), 158 of 205 functions checked, 1:12`.
+# Leaves in `line` where the build stands, as `crate 3 of 6 (low side), 158 of 205 functions checked, 1:12`.
 progress() {
     local name at_work=() logs=() spent=$((SECONDS - since)) waits=
     for name in "${names[@]}"; do
@@ -284,7 +287,6 @@ build() {
     trap : PIPE
     trap 'interrupted 130' INT
     trap 'interrupted 143' TERM HUP
-    clear_lanes
     order_crates
     : > "$mark"
     step
@@ -313,6 +315,7 @@ if ! is_built; then
     # shellcheck source=scripts/lanes.sh
     . "$top/scripts/lanes.sh"
     find_lanes
+    clear_lanes
     announce
     build
 fi

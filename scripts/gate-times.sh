@@ -164,7 +164,7 @@ table() {
 interrupted() {
     trap '' INT TERM HUP
     kill -INT -- "-$child" 2> /dev/null
-    wait "$child"
+    while kill -0 "$child" 2> /dev/null; do wait "$child" 2> /dev/null; done
     table "$(whole)" | tee -a "$log"
     exit "$1"
 }

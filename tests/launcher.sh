@@ -92,7 +92,7 @@ END
 #!/bin/sh
 [ "\$1" != version ] || { echo stand-in; exit; }
 name=\$(basename "\$PWD")
-[ "\$1" != try ] || { shift 6; sh "$scratch/small/program" "\$@" \$RT_TRIES; status=\$?; echo "run=ended status=\$status" >&2; exit \$status; }
+[ "\$1" != try ] || { shift 6; sh "$scratch/small/program" "\$@" \$RT_TRIES; status=\$?; printf 'races: not looked for\\nrt: a hint\\nrun=ended status=%s\\n' "\$status" >&2; exit \$status; }
 echo "begin \$name" >> "$scratch/rt.log"
 seen() { echo "\$name \$*" >> "$scratch/rt.seen"; }
 seen in "\$PWD" beside \$(ls ..)
@@ -420,7 +420,7 @@ replay: '--usage' is no option: they are --mode --pollers --budget --weight --wi
     small --unproved "$scratch/trace.csv" --weight 9
     check 'an unproved run replays' is "$status $(head -n 1 "$scratch/out")" '0 words --weight 9'
     check 'and says what it is' says '^replay: this was an UNPROVED run$'
-    check "without rt's own lines" is "$(grep run= "$scratch/err")" ''
+    check "without rt's own lines" is "$(grep -e run= -e races: "$scratch/err")" ''
     small --version
     check 'the version tells of the program' is "$status $(grep -c -e 'version 1 and 2' -e '^program: proved and built' -e '^kit: stand-in' "$scratch/out")" '0 3'
     small --build
@@ -501,7 +501,7 @@ first_answers() {
     small_checkout
     PATH=$PATH_WITH_RT on_terminal "$scratch/small/replay" "$scratch/trace.csv" --weight 4
     tr -d '\r' < "$scratch/out" > "$scratch/terminal"
-    check 'on a terminal an unproved answer comes first' is "$status $(grep -n -e '^words --weight 4' -e 'an UNPROVED run; now it is proved' "$scratch/terminal" | cut -d: -f1 | tr '\n' ' ')" '0 2 4 '
+    check 'on a terminal an unproved answer comes first' is "$status $(grep -n -e '^words --weight 4' -e 'an UNPROVED run; now it is proved' "$scratch/terminal" | cut -d: -f1 | tr '\n' ' ')" '0 2 5 '
     check 'then the proof of it' is "$(tail -n 1 "$scratch/terminal")" 'replay: the proved program gives the same bytes'
     check 'and the answer stands there once' is "$(grep -c '^words' "$scratch/terminal")" 1
     PATH=$PATH_WITH_RT on_terminal "$scratch/small/replay" "$scratch/trace.csv"
@@ -590,7 +590,7 @@ times_of_the_gate() {
     mkdir -p "$scratch/rt-edit-x"
     cat > "$scratch/gate" << 'END'
 #!/usr/bin/env bash
-prove() { bash -c 'exec -a /x/rattle bash -c "for ((i = 0; i < 300000; i++)); do :; done; sleep 0.6" "$@"' '' "$@"; }
+prove() { bash -c 'exec -a /x/rattle bash -c "for ((i = 0; i < 300000; i++)); do :; done; sleep 1.2" "$@"' '' "$@"; }
 prove check --crate-name low && echo 'rt: low proved'
 prove check --crate-name low --test && echo 'rt: low: its tests are proved'
 echo 'rt: low: trying its must-fail edits (2)'
@@ -603,7 +603,7 @@ END
     check "the gate's status is the script's" ended 1
     check 'its lines have their seconds' prints '^ *[0-9]*\.[0-9]  rt: low proved$'
     check 'a crate has its row' prints '^low  *[0-9.]* s  *[0-9.]* s  *[0-9.]* s  *[0-9.]* s  *2: [0-9.]* s  *[0-9.]* s$'
-    check 'with processor time in each place' is "$(awk '/^low/ { print $4 > 0, $8 > 0, $13 > 0 }' "$scratch/out")" '1 1 1'
+    check 'with processor time in each place' is "$(awk '/^low/ { print ($4 > 0), ($8 > 0), ($13 > 0) }' "$scratch/out")" '1 1 1'
     check 'and all that is in the log' cmp -s "$scratch/out" "$scratch/gate.log"
     run "$top/scripts/gate-times.sh" "$scratch/no-gate"
     check 'a command that is not there' ended 64

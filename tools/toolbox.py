@@ -191,3 +191,26 @@ def runs_of(report):
     """Of each softirq row of a report, by its number: polls, work and 1 where it was squeezed."""
     return {int(line[1]): (int(line[3]), int(line[5]), int(line[7])) for line in map(str.split, report.splitlines())
             if line[0] == "softirq"}
+
+
+def with_runs(arrivals, delay):
+    """Rows of arrivals (moment, device, event, value), in order, with a softirq row so long after the first packet that waits."""
+    run = None
+    for row in arrivals:
+        if run is not None and run < row[0]:
+            yield run, 0, "softirq", 0
+            run = None
+        yield row
+        if row[2] == "rx" and run is None:
+            run = row[0] + delay
+    if run is not None:
+        yield run, 0, "softirq", 0
+
+
+def trace_text(rows, version=1):
+    """The text of a trace, where it isn't too long."""
+    header = next(header for header, number in HEADERS.items() if number == version)
+    lines = [",".join(map(str, row)) for row in rows]
+    if len(lines) > MOST_ROWS:
+        raise Refusal(f"{len(lines)} rows, and a trace has at most {MOST_ROWS}: ask for fewer packets or a shorter time")
+    return "".join(f"{line}\n" for line in [header, *lines])

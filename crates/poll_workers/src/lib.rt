@@ -5,8 +5,6 @@ mod crew;
 mod fault;
 mod run;
 mod spreading;
-#[cfg(test)]
-mod tests;
 
 pub use crew_tasks::{Gate, OpenGate, Pace};
 pub use fault::WorkFault;

@@ -9,6 +9,8 @@ mod ends;
 #[cfg(test)]
 mod failing;
 #[cfg(test)]
+mod gates;
+#[cfg(test)]
 mod listing;
 #[cfg(test)]
 mod polling;

@@ -4,7 +4,7 @@ ghost use Rattle.std.specs.Prelude.{◌≡◌, ◌≤◌, ◌+◌, IfOk, vec_len
 ghost use Rattle.std.specs.List.{All};
 ghost use Rattle.interrupt_workers.specs.Opens.{IsStation};
 
-use crate::{Act, ActList, Finished, Gate, OpenGate, Pace, Station, WorkFault, run_workers};
+use poll_workers::{Act, ActList, Finished, Gate, OpenGate, Pace, Station, WorkFault, run_workers};
 use rx_ring::Packet;
 use std::alloc::{AllocError, Global};
 use std::process::Abort;
