@@ -39,6 +39,21 @@ def named_files(page):
                 yield f"there is no {name}"
 
 
+def leftovers(page):
+    for line in page.read_text().splitlines():
+        if re.match(r"(<{7}|={7}|>{7})( |$)", line):
+            yield f"a merge left {line}"
+
+
+def scripts_told(page):
+    """Each script has a row or a sentence in this page or in the one for contributors."""
+    text = page.read_text() + (TOP / "docs/WORKING.md").read_text()
+    for folder in ("bench", "examples", "scripts", "tests"):
+        for path in sorted((TOP / folder).glob("*.sh")):
+            if f"{folder}/{path.name}" not in text:
+                yield f"nothing tells of {folder}/{path.name}"
+
+
 def places(page):
     """The files of a row of docs/WORKING.md's table of places: what follows a crate's file stands in that crate."""
     table = page.read_text().split("## Where things go")[1].split("\n## ")[0]
@@ -94,8 +109,9 @@ def length(page):
 def main():
     pages = page_files()
     readme = TOP / "README.md"
-    checks = [(check, page) for page in pages for check in (links, named_files, played)]
+    checks = [(check, page) for page in pages for check in (links, named_files, leftovers, played)]
     checks += [(pictures, TOP / "docs/pictures"), (places, TOP / "docs/WORKING.md"), (length, readme)]
+    checks.append((scripts_told, TOP / "docs/TESTS.md"))
     failed = 0
     for check, page in checks:
         wrong = list(check(page))
