@@ -121,6 +121,13 @@ check 'the hammer compiles' compile gcc "$top/tests/c/hammer.c" "$scratch/hammer
 check 'the hammer' compared "$scratch/hammered" "$scratch/hammer"
 check 'the hammer, another seed' compared "$scratch/hammered" "$scratch/hammer" 1000000 4711
 
+# The fold of bench/limits.cc was written from the rules, apart from the library.
+as_the_fold() {
+    compile gcc "$top/bench/c_library.c" "$scratch/counts" -O2 && g++ -O2 "$top/bench/limits.cc" -o "$scratch/fold" &&
+        "$scratch/fold" 1000000 > "$scratch/folded" && compared "$scratch/folded" "$scratch/counts" limits 1000000
+}
+check 'a million pairs on a queue limit, as a plain fold counts them' as_the_fold
+
 # sanitized NAME FLAG: the examples and the hammer under a sanitizer.
 sanitized() {
     local name=$1 flag=$2 source program language
