@@ -2,22 +2,32 @@
 # scripts/build.sh PROGRAM: proves and builds the program of crates/PROGRAM and the libraries that it stands on, where that
 # isn't done yet or a source has changed since. Standard error shows how far it is; standard output stays empty. It can be
 # interrupted and begun again: what was proved is kept.
+# scripts/build.sh --stands PROGRAM: builds nothing; status 0 where there is nothing to build, else 1.
 # Exit status: 0 the program stands; 64 there is no such program; 69 there is no `rt`; 70 the build failed; 73 the checkout
 # can't be written to; 130 or 143 interrupted.
 set -euo pipefail
 unset CDPATH
+# A closed standard error, whose number another file would take.
+[ -e /dev/fd/2 ] || exec 2> /dev/null
 top=$(dirname "$(dirname "$(readlink -f "${BASH_SOURCE[0]}")")")
+only=
+if [ "${1:-}" = --stands ]; then
+    only=yes
+    shift
+fi
 program=${1:-}
 crates=$top/crates
 out=$crates/$program/out
 made=$out/$program
 
-names=()         # the program and the libraries of this checkout below it, lowest first
-declare -A needs # of each crate: those of `names` that it names in crates.txt
-declare -A state # of each crate: begun, proved; none before
-declare -A pids
+names=()          # the program and the libraries of this checkout below it, lowest first
+order=()          # the same, the longest chain of others above it first
+declare -A needs=() # of each crate: those of `names` that it names in crates.txt
+declare -A rows=()  # of each crate: its line of crates.txt
+declare -A state=() # of each crate: begun, proved; none before
+declare -A pids=()
 
-say() { echo "replay: $*" >&2; }
+say() { echo "replay: $*" >&2 || true; }
 
 stop() {
     local status=$1
@@ -30,7 +40,7 @@ no_rt() {
     stop 69 "there is no rt on PATH, which proves and builds the program: see 'What it needs' in README.md"
 }
 
-# The crates of crates.txt that the program is made of, a line `NAME DEP ..` for each, lowest first.
+# The crates of crates.txt that the program is made of: for each, lowest first, its line there and then `NAME DEP ..`.
 crates_below() {
     awk -v program="$program" '
         function visit(name,    count, i, deps, own) {
@@ -41,23 +51,41 @@ crates_below() {
                 visit(deps[i])
                 if (deps[i] in named) own = own " " deps[i]
             }
+            print lines[name]
             print name own
         }
-        { sub(/#.*/, "") }
+        { line = $0; sub(/#.*/, "") }
         /:/ {
             colon = index($0, ":")
             split(substr($0, 1, colon - 1), words, " ")
             named[words[1]] = substr($0, colon + 1)
+            lines[words[1]] = line
         }
         END { visit(program) }' "$top/crates.txt"
 }
 
 read_crates() {
-    local name deps
-    while read -r name deps; do
+    local row name deps
+    while IFS= read -r row && read -r name deps; do
         names+=("$name")
+        rows[$name]=$row
         needs[$name]=$deps
     done < <(crates_below)
+}
+
+# The longest chain above a crate, by the bytes of the texts, is what the build takes at least.
+order_crates() {
+    local name need bytes i
+    local -A above=()
+    for ((i = ${#names[@]} - 1; i >= 0; i--)); do
+        name=${names[i]}
+        bytes=$(find "$crates/$name"/{src,specs,proofs} -type f -printf '%s\n' 2> /dev/null | awk '{ sum += $1 } END { print sum + 1 }') || true
+        above[$name]=$((${above[$name]:-0} + bytes))
+        for need in ${needs[$name]}; do
+            [ "${above[$need]:-0}" -ge "${above[$name]}" ] || above[$need]=${above[$name]}
+        done
+    done
+    mapfile -t order < <(for name in "${names[@]}"; do echo "${above[$name]} $name"; done | sort -srn -k 1,1 | cut -d ' ' -f 2)
 }
 
 # Whether the program stands, and nothing that it is made of is newer. Folders count too: a file that is gone leaves its
@@ -71,12 +99,13 @@ is_built() {
     [ -z "$(find "${parts[@]}" -newer "$made" -print -quit 2> /dev/null)" ]
 }
 
-# One build at a time in a checkout; a second one waits, and mostly finds the program built then.
+# One build at a time in a checkout, whatever the program; a second one waits, and mostly finds the program built then.
 take_turn() {
-    if ! { mkdir -p "$out" && : >> "$out/build.lock"; } 2> /dev/null; then
+    local turn=$crates/napi_replay/out
+    if ! { mkdir -p "$out" "$turn" && : >> "$turn/build.lock" && : >> "$out/build.begun"; } 2> /dev/null; then
         stop 73 "the program is to be built, and $out can't be written to: build in a checkout of your own"
     fi
-    exec 9>> "$out/build.lock"
+    exec 9>> "$turn/build.lock"
     if ! flock -n 9; then
         say 'another build is at work in this checkout: waiting for it'
         flock 9
@@ -92,30 +121,35 @@ unproved() {
     echo "$count"
 }
 
-# What it takes, by what was measured: some 80 s and 250 MB a crate.
+# What it takes, by what was measured: some 40 s and 250 MB a crate.
 announce() {
     local count
     count=$(unproved)
     say "proving and building $program and the libraries below it, ${#names[@]} crates"
     if [ "$count" != 0 ]; then
-        say "$count of them for the first time: on 4 cores some $(((count * 4 + 2) / 3)) minutes, $((count * 250)) MB of disk and up to 7 GB of memory"
+        say "$count of them for the first time: on 4 cores some $(((count * 2 + 2) / 3)) minutes, $((count * 250)) MB of disk and up to 7 GB of memory"
     fi
 }
 
-# begin CRATE: its own group of processes, so that Ctrl-C leaves it to `interrupted`. A program is run too, since `rt` makes
-# none without a run: on what the gate runs it on.
+# begin CRATE: in its lane, as its own group of processes, so that Ctrl-C leaves it to `interrupted`; it ends with this call.
+# A program is run too, since `rt` makes none without a run: on what the gate runs it on.
 begin() {
-    local folder=$crates/$1 input=/dev/null words=() command=(rt lib)
+    local lane=$lanes/$1 folder=$crates/$1 input=/dev/null words=() command=(rt lib) ends=()
+    lay "$1" || failed "$1" "no scratch folder could be made for it in $lanes: is the disk full?"
     if [ "$1" = "$program" ]; then
         [ ! -e "$folder/args" ] || mapfile -t words < "$folder/args"
         [ ! -e "$folder/stdin" ] || input=$folder/stdin
         command=(rt run -- "${words[@]}")
     fi
-    mkdir -p "$folder/out"
-    : > "$folder/out/build.log"
-    (cd "$folder" && exec setsid "${command[@]}") < "$input" > "$folder/out/build.log" 2>&1 9>&- &
+    ! command -v setpriv > /dev/null || ends=(setpriv --pdeathsig TERM)
+    : > "$lane/log"
+    (
+        let_all_go
+        cd "$lane/crates/$1" && exec setsid "${ends[@]}" "${command[@]}"
+    ) < "$input" > "$lane/log" 2>&1 9>&- &
     pids[$1]=$!
     state[$1]=begun
+    entered[$1]=$SECONDS
 }
 
 # Whether all that the crate needs is proved.
@@ -131,19 +165,32 @@ has_passed() {
     local status=0
     wait "${pids[$1]}" || status=$?
     if [ "$1" = "$program" ]; then
-        grep -q '^rt: running ' "$crates/$1/out/build.log"
+        grep -q '^rt: running ' "$lanes/$1/log"
     else
         [ "$status" = 0 ]
     fi
 }
 
+# Where the log of a crate stands.
+log_of() {
+    if [ "${state[$1]:-}" = begun ]; then echo "$lanes/$1/log"; else echo "$crates/$1/out/build.log"; fi
+}
+
+# Ends what is at work; what it proved so far moves back.
 end_all() {
-    local name
-    for name in "${names[@]}"; do
-        # `rt` ends all that it started when it ends.
-        [ "${state[$name]:-}" != begun ] || kill "${pids[$name]}" 2> /dev/null || true
+    local name is_whole=yes
+    for name in "${!entered[@]}"; do
+        # With its group, though `rt` ends all that it started when it ends.
+        kill -- "-${pids[$name]}" 2> /dev/null || kill "${pids[$name]}" 2> /dev/null || true
     done
-    wait
+    for name in "${!entered[@]}"; do
+        # A second signal may break off a `wait`.
+        while kill -0 "${pids[$name]}" 2> /dev/null; do wait "${pids[$name]}" 2> /dev/null || true; done
+    done
+    # What couldn't be moved waits there for the next call.
+    for name in "${!held[@]}"; do leave "$name" 2> /dev/null || is_whole=; done
+    let_all_go
+    [ -z "$is_whole" ] || remove_lanes
     rm -f "$made"
 }
 
@@ -155,25 +202,42 @@ interrupted() {
     exit "$1"
 }
 
+# failed CRATE [WHY]
 failed() {
     local log=$crates/$1/out/build.log
+    trap '' INT TERM HUP
     end_all
     clear_line
-    grep -m 5 'error' "$log" >&2 || tail -n 5 "$log" >&2
+    [ -z "${2:-}" ] || stop 70 "$1 couldn't be built: $2"
+    grep -m 5 'error' "$log" >&2 || tail -n 5 "$log" >&2 || true
     stop 70 "$1 couldn't be built; $log has all that \`rt\` said"
 }
 
-# A step of the build: notes what ended, and begins what has become ready. Libraries that don't need each other so run side
-# by side.
+# ended CRATE: notes what became of it. One that was killed for memory beside others is begun once more, alone.
+ended() {
+    local well=
+    ! has_passed "$1" || well=yes
+    if [ -z "$well" ] && [ "$most_lanes" -gt 1 ] && grep -q 'was killed, most likely for memory' "$lanes/$1/log"; then
+        most_lanes=1
+    elif [ -z "$well" ]; then
+        failed "$1"
+    fi
+    leave "$1" || failed "$1" "what was proved couldn't be moved from $lanes/$1 to $crates/$1/out: is the disk full?"
+    state[$1]=${well:+proved}
+    unset "entered[$1]"
+    let_go "$1"
+}
+
+# A step of the build: notes what ended, and begins what has become ready, as far as there is room.
 step() {
     local name
-    for name in "${names[@]}"; do
-        if [ "${state[$name]:-}" = begun ] && ! kill -0 "${pids[$name]}" 2> /dev/null; then
-            has_passed "$name" || failed "$name"
-            state[$name]=proved
-        fi
-        if [ -z "${state[$name]:-}" ] && is_ready "$name"; then
-            begin "$name"
+    busy=
+    for name in "${!entered[@]}"; do
+        kill -0 "${pids[$name]}" 2> /dev/null || ended "$name"
+    done
+    for name in "${order[@]}"; do
+        if [ -z "${state[$name]:-}" ] && is_ready "$name" && has_room; then
+            if hold "$name"; then begin "$name"; else busy=$name; fi
         fi
     done
 }
@@ -184,41 +248,33 @@ functions() {
         END {
             for (name in all) { sum += checked[name]; of += all[name] }
             if (of) print ", " sum " of " of " functions checked"
-        }' "$@"
+        }' "$@" < /dev/null 2> /dev/null || true
 }
 
-# Whether an `rt` waits for one that somebody else has at work in its crate: its log ends so.
-waiting() {
-    awk '{ last[FILENAME] = $0 }
-        END {
-            for (name in last) if (last[name] ~ /^rt: waiting for another rt/) waits = ", waiting for another rt in this checkout"
-            print waits
-        }' "$@"
-}
-
-# Leaves in `line` where the build stands, as `crate 3 of 6 (poll_engine tx_ring), 158 of 205 functions checked, 1:12`.
+# Leaves in `line` where the build stands, as `crate 3 of 6 (low side), 158 of 205 functions checked, 1:12`.
 progress() {
-    local name at_work=() spent=$((SECONDS - since))
-    logs=()
+    local name at_work=() logs=() spent=$((SECONDS - since)) waits=
     for name in "${names[@]}"; do
         [ -n "${state[$name]:-}" ] || continue
-        logs+=("$crates/$name/out/build.log")
+        logs+=("$(log_of "$name")")
         [ "${state[$name]}" = proved ] || at_work+=("$name")
     done
-    waits=$(waiting "${logs[@]}")
+    # Another `rt` has it, or one above it, at work.
+    [ -z "$busy" ] || waits=", waiting for another rt in this checkout, which has $busy at work"
+    begun=${#logs[@]}$busy
     line=$(printf 'crate %d of %d (%s)%s%s, %d:%02d' "${#logs[@]}" "${#names[@]}" "${at_work[*]}" \
         "$(functions "${logs[@]}")" "$waits" $((spent / 60)) $((spent % 60)))
 }
 
-clear_line() { [ ! -t 2 ] || printf '\r\033[K' >&2; }
+clear_line() { [ ! -t 2 ] || printf '\r\033[K' >&2 || true; }
 
 # On a terminal one line is written over and over; elsewhere one is written where a crate begins, or begins to wait.
 show() {
     progress
     if [ -t 2 ]; then
-        printf '\r\033[K%.*s' "${COLUMNS:-80}" "replay: $line" >&2
-    elif [ "${#logs[@]}$waits" != "$shown" ]; then
-        shown=${#logs[@]}$waits
+        printf '\r\033[K%.*s' "${COLUMNS:-80}" "replay: $line" >&2 || true
+    elif [ "$begun" != "$shown" ]; then
+        shown=$begun
         say "$line"
     fi
 }
@@ -227,8 +283,11 @@ build() {
     local mark=$out/build.begun
     since=$SECONDS
     shown=
+    # Nobody reads any more: the build goes on.
+    trap : PIPE
     trap 'interrupted 130' INT
     trap 'interrupted 143' TERM HUP
+    order_crates
     : > "$mark"
     step
     while [ "${state[$program]:-}" != proved ]; do
@@ -239,19 +298,24 @@ build() {
     clear_line
     # What was changed while it was built is newer than the program, so that the next call sees it.
     touch -r "$mark" "$made"
+    remove_lanes
     say "$program is proved and built, in $((SECONDS - since)) s"
 }
 
 [ "$program" != --no-rt ] || no_rt
 read_crates
 if [ "${#names[@]}" = 0 ] || [ ! -e "$crates/$program/src/main.rt" ]; then
-    stop 64 "there is no program '$program' in crates.txt"
+    stop 64 "there is no program '${program//[^[:print:]]/?}' in crates.txt"
 fi
+if is_built; then exit 0; fi
+[ -z "$only" ] || exit 1
+command -v rt > /dev/null || no_rt
+take_turn
 if ! is_built; then
-    command -v rt > /dev/null || no_rt
-    take_turn
-    if ! is_built; then
-        announce
-        build
-    fi
+    # shellcheck source=scripts/lanes.sh
+    . "$top/scripts/lanes.sh"
+    find_lanes
+    clear_lanes
+    announce
+    build
 fi

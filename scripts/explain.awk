@@ -1,6 +1,7 @@
 # Finds the record of the row ROW in a trace, and prints one line: the file TRACE, the line, its text, and the likely cause
 # of the fault FAULT. Records are parted as `csv` reads them: empty lines are none, and a quoted field may span lines. A CR
-# inside a line ends a record too, but what is a line of such a file is anybody's guess; then nothing is printed.
+# inside a line ends a record too, but what is a line of such a file is anybody's guess; then nothing is printed. Where all
+# lines end by CR alone they come here as lines, with BY_CR.
 
 BEGIN {
     row = ENVIRON["ROW"] + 0
@@ -17,19 +18,25 @@ NR == 1 { sub(/^\357\273\277/, "") }
     text = $0
     if (place != "quoted") {
         sub(/\r+$/, "", text)
+        if (found != "") exit
         if (text == "") { empty++; next }
         place = "start"
-        if (++record == row) { tell(text); exit }
+        if (++record == 0 && plain_of(text) == header ",2") events = events " busy"
+        if (record == row) { found = text; line = NR }
     }
     place = place_after($0, place)
     if (place == "unsure") exit
 }
 
-END { if (record < 0 && fault == 1) say("", "there is no line with text in it: the first one has to be " header) }
+END {
+    if (record < 0 && fault == 1) say("", "there is no line with text in it: the first one has to be " header)
+    if (found != "") tell(found)
+}
 
 # Where in a field the text ends: at its `start`, within `quotes`, behind what may be its `closing` quote, or in `plain`
 # text, where a quote is a character like others.
 function place_after(text, place,    i, letter) {
+    if (place == "quoted" && index(text, "\"") == 0) return "quoted"
     if (place == "start" && index(text, "\"") == 0) return text ~ /\r./ ? "unsure" : "plain"
     for (i = 1; i <= length(text); i++) {
         letter = substr(text, i, 1)
@@ -45,12 +52,14 @@ function say(text, cause,    shown) {
     shown = text
     gsub(/[^ -~]/, "?", shown)
     if (length(shown) > 60) shown = substr(shown, 1, 58) ".."
-    print "replay: " ENVIRON["TRACE"] (text == "" ? "" : " line " NR ", '" shown "'") ": " cause \
-        (text != "" && empty ? "; the empty lines above it are no rows" : "")
+    print "replay: " ENVIRON["TRACE"] (text == "" ? "" : " line " line ", '" shown "'") ": " cause \
+        (text != "" && empty ? "; the empty lines above it are no rows" : "") \
+        (text != "" && ENVIRON["BY_CR"] ? "; its lines end by CR alone, and are counted so" : "")
 }
 
 # A quoted field may go on behind this line, so its fields aren't counted here.
 function tell(text,    fields, count) {
+    if (place == "quoted") { say(text, "a quote that it opens isn't closed, so all that follows is one field"); return }
     count = index(text, "\"") || index(text, "\r") ? 0 : split(text, fields, ",")
     say(text, cause(text, fields, count))
 }
@@ -69,11 +78,17 @@ function cause(text, fields, count) {
     return "see the faults in docs/FORMATS.md"
 }
 
+function plain_of(text) {
+    text = tolower(text)
+    gsub(/[ "]/, "", text)
+    return text
+}
+
 function of_header(text,    plain) {
-    plain = tolower(text)
-    gsub(/[ "]/, "", plain)
+    plain = plain_of(text)
     if (index(text, ";")) return "the fields have semicolons between them, and need commas"
     if (index(text, "\t")) return "the fields have tabs between them, and need commas"
+    if (index(plain, header ",") == 1) return "the first line has to be " header ", or " header ",2 for version 2"
     if (plain == header) return "the first line has to be " header ", in lower case and without spaces"
     if (text ~ /^[0-9]/) return "the first line has to be the header, " header
     return "the first line has to be " header
@@ -107,8 +122,8 @@ function of_number(fields, count,    names, bad, why) {
 
 function of_event(event, count,    plain) {
     if (count != 4) return "the event is none of " events
-    plain = tolower(event)
-    gsub(/ /, "", plain)
+    plain = plain_of(event)
+    if (plain == "busy" && !index(events, "busy")) return "a busy row needs the header of version 2: " header ",2"
     if (plain != event && index(" " events " ", " " plain " ")) return "an event is written in lower case and without spaces: " plain
     return "the event is none of " events
 }
@@ -119,6 +134,7 @@ function of_range(fields, count,    event) {
     if (event == "open") return "open has a device of 1..=16 and a value of 1..=65536, its places"
     if (event == "rx" || event == "tx") return event " has a device of 1..=16 and a value of 1..=65535 bytes"
     if (event == "done") return "done has a device of 1..=16 and a value of 0..=65536 packets"
+    if (event == "busy") return "busy has a device of 1..=16 and a value of 1..=65535 rounds"
     if (event == "threaded") return "threaded has a device of 1..=16 and a value of 0 or 1"
     if (event != "") return event " has a device of 1..=16 and the value 0"
     return "its moment, device or value is out of range"

@@ -80,33 +80,76 @@ small_checkout() {
     done
     cat > "$scratch/small/program" << 'END'
 #!/bin/sh
-[ "$1" != --fault ] || { echo 'trace fault 4 BadEvent row 1' >&2; exit 2; }
+[ -z "${SLOW:-}" ] || exec "$SLOW" 20
+case ${FAULTS:-$1} in
+    --fault) cat > /dev/null; echo 'trace fault 4 BadEvent row 1' >&2; exit 2 ;;
+    --usage) echo 'usage fault 64' >&2; exit 64 ;;
+esac
 echo "words $*"
 cat
 END
     cat > "$scratch/bin/rt" << END
 #!/bin/sh
+[ "\$1" != version ] || { echo stand-in; exit; }
 name=\$(basename "\$PWD")
-[ "\$1" != try ] || { shift 6; sh ../../program "\$@"; status=\$?; echo "run=ended status=\$status" >&2; exit \$status; }
+[ "\$1" != try ] || { shift 6; sh "$scratch/small/program" "\$@" \$RT_TRIES; status=\$?; printf 'races: not looked for\\nrt: a hint\\nrun=ended status=%s\\n' "\$status" >&2; exit \$status; }
 echo "begin \$name" >> "$scratch/rt.log"
+seen() { echo "\$name \$*" >> "$scratch/rt.seen"; }
+seen in "\$PWD" beside \$(ls ..)
+[ ! src -ef "$scratch/small/crates/\$name/src" ] && [ src/lib.rt -ef "$scratch/small/crates/\$name/src/lib.rt" ] && seen linked
+[ ! -e out/incremental ] || seen kept
+for below in ../*; do [ "\$below" = "../\$name" ] || [ -e "\$below/out/rlib/stamp" ] || seen lacks "\$below"; done
+mkdir -p out/incremental out/rlib
 echo 'so far: 3 of 4 functions checked'
-[ "\$name" != "\${RT_WAITS:-}" ] || echo 'rt: waiting for another rt to finish in there'
-sleep "\${RT_SECONDS:-0.3}"
+[ "\$name" != "\${RT_KILLED:-}" ] || [ -e "$scratch/killed" ] || {
+    touch "$scratch/killed"
+    echo 'rt: the check was killed, most likely for memory: once more with --jobs 1'
+    exit 9
+}
+sleep "\${RT_SECONDS:-0.05}"
 [ "\$name" != "\${RT_FAILS:-}" ] || { echo 'error: not proved'; exit 1; }
+echo > out/rlib/stamp
 echo "end \$name" >> "$scratch/rt.log"
 [ "\$1" = run ] || exit 0
-cp ../../program "out/\$name"
+cp "$scratch/small/program" "out/\$name"
 chmod +x "out/\$name"
 echo "rt: running out/\$name"
 exit 2
 END
     chmod +x "$scratch/bin/rt"
-    rm -f "$scratch/rt.log"
+    rm -f "$scratch/rt.log" "$scratch/rt.seen" "$scratch/killed"
+    touch "$scratch/rt.log" "$scratch/rt.seen"
 }
+
+# crates ROW ..: other crates in the small checkout, in the order in which they stand on each other.
+crates() {
+    local row name
+    for row in "$@"; do
+        name=${row%%:*}
+        mkdir -p "$scratch/small/crates/$name/src"
+        [ "$name" = napi_replay ] || echo > "$scratch/small/crates/$name/src/lib.rt"
+        echo "$row"
+    done > "$scratch/small/crates.txt"
+}
+
+# The most that stood between a begin and its end at a time.
+most_at_once() { awk '/^begin/ { now++ } /^end/ { now-- } now > most { most = now } END { print most }' "$scratch/rt.log"; }
+seen() { grep -q -e "$1" "$scratch/rt.seen"; }
+no_lanes() { [ ! -e "$scratch/.small.lanes" ] && [ ! -e "$scratch/small/.git/lanes" ]; }
+# until COMMAND ..: waits for it, 10 s at most.
+comes() {
+    local turns=500
+    until "$@"; do
+        turns=$((turns - 1))
+        [ "$turns" != 0 ] || return 1
+        sleep 0.02
+    done
+}
+begun() { grep -q "^begin $1" "$scratch/rt.log"; }
 PATH_WITH_RT=$scratch/bin:$PATH
 # The tools that the launcher takes, and no `rt`.
 mkdir -p "$scratch/tools"
-for tool in bash sh env dirname basename readlink awk find grep sed tail mkdir mktemp rm touch sleep setsid flock cat od tr setpriv id; do
+for tool in bash sh env dirname basename readlink awk find grep sed tail head tee mkdir mkfifo mktemp rm touch sleep setsid flock cat od tr setpriv id cmp; do
     ln -s "$(command -v "$tool")" "$scratch/tools/$tool"
 done
 
@@ -122,12 +165,12 @@ ln -s link "$scratch/elsewhere/link-of-a-link"
 building() {
     small_checkout
     cd "$scratch/elsewhere" || exit
-    PATH=$PATH_WITH_RT CDPATH=$scratch:$scratch/small run ./link-of-a-link ../trace.csv --budget 7
+    RT_SECONDS=1 PATH=$PATH_WITH_RT CDPATH=$scratch:$scratch/small run ./link-of-a-link ../trace.csv --budget 7
     check 'a first call by a symlink, from another folder and with CDPATH, builds and replays' ended 0
     check 'the report is all that standard output has' is "$(cat "$scratch/out")" "words --budget 7
 moment,device,event,value"
     check 'it says what it is doing' says 'proving and building napi_replay and the libraries below it, 4 crates'
-    check 'and what the first time takes' says '4 of them for the first time: on 4 cores some 6 minutes, 1000 MB of disk and up to 7 GB of memory'
+    check 'and what the first time takes' says '4 of them for the first time: on 4 cores some 3 minutes, 1000 MB of disk and up to 7 GB of memory'
     check 'and which crate is at work' says 'crate 4 of 4 (napi_replay), [0-9]* of [0-9]* functions checked, 0:0'
     check 'and that it is done' says 'napi_replay is proved and built'
     check 'libraries that need nothing begin side by side' is "$(head -n 2 "$scratch/rt.log" | sort)" "begin low
@@ -188,9 +231,9 @@ refusals_of_a_build() {
 
 two_builds() {
     small_checkout
-    PATH=$PATH_WITH_RT "$scratch/small/replay" "$scratch/trace.csv" > "$scratch/first" 2>&1 &
+    RT_SECONDS=1 PATH=$PATH_WITH_RT "$scratch/small/replay" "$scratch/trace.csv" > "$scratch/first" 2>&1 &
     first=$!
-    until [ -e "$scratch/rt.log" ]; do sleep 0.02; done
+    comes begun low
     small "$scratch/trace.csv"
     check 'a second build beside the first one waits and says so' says 'another build is at work .* waiting'
     check 'and replays then' ended 0
@@ -198,20 +241,129 @@ two_builds() {
     check 'as the first one does' is "$?" 0
     check 'and each crate is built once' is "$(lines)" 8
     touch "$scratch/small/crates/low/src/lib.rt"
-    RT_WAITS=high small "$scratch/trace.csv"
+    flock "$scratch/small/crates/high" bash -c "until [ -e '$scratch/go' ]; do sleep 0.05; done" &
+    (
+        comes says 'which has high at work'
+        touch "$scratch/go"
+    ) &
+    small "$scratch/trace.csv"
     check 'beside an rt that somebody else has at work it says so too' \
-        says 'crate 3 of 4 (high), .* checked, waiting for another rt in this checkout, 0:0'
+        says 'crate 2 of 4 (.*), .* checked, waiting for another rt in this checkout, which has high at work, 0:0'
+    check 'and goes on when that ends' ended 0
+    wait
 }
 
 interruptions() {
-    small_checkout
+    for signal in INT TERM HUP; do
+        small_checkout
+        [ "$signal" = INT ] && wanted=130 || wanted=143
+        # To this process alone, as `kill` sends it.
+        # What is begun by & has INT ignored, but for this.
+        RT_SECONDS=5 PATH=$PATH_WITH_RT env --default-signal=INT "$scratch/small/replay" "$scratch/trace.csv" > "$scratch/out" 2> "$scratch/err" &
+        comes seen '^side in'
+        kill -"$signal" $!
+        status=0
+        wait $! || status=$?
+        check "$signal ends a build" ended "$wanted"
+        check "which says what stands ($signal)" says 'interrupted; what was proved so far is kept'
+        check "nothing goes on ($signal)" is "$(pgrep -f "$scratch/bin/rt")" ''
+        check "what was begun is kept ($signal)" [ -e "$scratch/small/crates/low/out/incremental" ]
+        check "no lane stays ($signal)" no_lanes
+    done
     RT_SECONDS=5 PATH=$PATH_WITH_RT run timeout --preserve-status -s INT 1.5 "$scratch/small/replay" "$scratch/trace.csv"
-    check 'a build can be interrupted' ended 130
-    check 'and says what stands' says 'interrupted; what was proved so far is kept'
-    check 'nothing goes on' is "$(pgrep -f "$scratch/bin/rt")" ''
+    check 'a build can be interrupted from a terminal' ended 130
     small "$scratch/trace.csv"
     check 'the next call builds' ended 0
+    check 'over what was kept' seen '^low kept'
     check 'and nothing holds it up' is "$(grep waiting "$scratch/err")" ''
+    cp "$(command -v sleep)" "$scratch/slow"
+    for how in '' --unproved; do
+        SLOW=$scratch/slow PATH=$PATH_WITH_RT "$scratch/small/replay" $how "$scratch/trace.csv" > "$scratch/out" 2> "$scratch/err" &
+        comes is_slow
+        kill $!
+        status=0
+        wait $! || status=$?
+        # The stand-in for `rt` doesn't end what it began, as `rt` does.
+        [ -z "$how" ] || { kill "$(pgrep -f "^$scratch/slow")" && comes is_quick; }
+        check "a replay that is ended by its pid leaves nothing at work $how" is "$status $(pgrep -f "^$scratch/slow")" '143 '
+    done
+}
+is_slow() { pgrep -f "^$scratch/slow" > /dev/null; }
+is_quick() { ! is_slow; }
+
+# A build that is killed leaves its lanes to the next one.
+killed() {
+    small_checkout
+    RT_SECONDS=3 PATH=$PATH_WITH_RT "$scratch/small/scripts/build.sh" napi_replay 2> "$scratch/err" &
+    comes seen '^low in'
+    comes seen '^side in'
+    kill -9 $!
+    wait $! 2> /dev/null
+    check 'a killed build leaves its lanes' [ -e "$scratch/.small.lanes/low/crates/low/out/incremental" ]
+    rm "$scratch/rt.log"
+    small "$scratch/trace.csv"
+    check 'the next one takes their work and replays' is "$status $(grep -c kept "$scratch/rt.seen")" '0 2'
+    check 'and clears them away' no_lanes
+    check 'which may be newer than the lanes' is "$(lines)" 8
+}
+
+lanes() {
+    small_checkout
+    crates a: b: c: d: e: 'napi_replay: a b c d e'
+    RT_SECONDS=1 small "$scratch/trace.csv"
+    check 'three crates at a time, and no more' is "$status $(most_at_once)" '0 3'
+    check 'beside the checkout, where it is no clone' seen "^a in $scratch/.small.lanes/a/crates/a beside a$"
+    check 'over the same files' is "$(grep -c ' linked$' "$scratch/rt.seen")" 5
+    check 'the program beside all that it stands on' seen '^napi_replay in .* beside a b c d e napi_replay$'
+    check 'each with its library' is "$(grep -c lacks "$scratch/rt.seen")" 0
+    check 'the work moves back' [ -e "$scratch/small/crates/a/out/incremental" ]
+    check 'the library too' [ -e "$scratch/small/crates/a/out/rlib/stamp" ]
+    check 'with what rt said' [ -s "$scratch/small/crates/a/out/build.log" ]
+    check 'and no lane stays' no_lanes
+
+    small_checkout
+    crates short: one: 'two: one' 'three: two' 'napi_replay: short three'
+    mkdir "$scratch/small/.git"
+    echo 'MemAvailable: 3000000 kB' > "$scratch/meminfo"
+    MEMINFO=$scratch/meminfo small "$scratch/trace.csv"
+    check 'where memory is short one at a time' is "$status $(most_at_once)" '0 1'
+    check 'the longest chain first' is "$(grep -m 2 begin "$scratch/rt.log")" 'begin one
+begin two'
+    check 'in .git, where it is a clone' seen "^one in $scratch/small/.git/lanes/one/crates/one "
+    check 'which is as it was then' is "$(ls "$scratch/small/.git")" ''
+
+    small_checkout
+    printf '#!/bin/sh\n[ "$1" != -al ] || exit 1\nexec %s "$@"\n' "$(command -v cp)" > "$scratch/bin/cp"
+    chmod +x "$scratch/bin/cp"
+    small "$scratch/trace.csv"
+    rm "$scratch/bin/cp"
+    check 'where hard links fail, over copies' is "$status $(grep -c ' linked$' "$scratch/rt.seen") $(grep -c lacks "$scratch/rt.seen")" '0 0 0'
+
+    small_checkout
+    RT_KILLED=low small "$scratch/trace.csv"
+    check 'a check that is killed for memory is begun once more' is "$status $(grep -c 'begin low' "$scratch/rt.log")" '0 2'
+
+    small_checkout
+    printf '#!/bin/sh\ncase "$*" in *lanes*) echo "no space left" >&2; exit 1 ;; esac\nexec %s "$@"\n' "$(command -v cp)" > "$scratch/bin/cp"
+    chmod +x "$scratch/bin/cp"
+    small "$scratch/trace.csv"
+    rm "$scratch/bin/cp"
+    check 'a full disk has a line and a status' is "$status $(grep -c "couldn't be built: no scratch folder could be made" "$scratch/err")" '70 1'
+    other_file_system
+}
+
+# The lanes in a TMPDIR that is on another file system, for somebody who can write to the checkout alone.
+other_file_system() {
+    local far
+    far=$(mktemp -d -p /dev/shm 2> /dev/null) && [ "$(id -u)" = 0 ] && [ "$(stat -c %d "$far")" != "$(stat -c %d "$scratch")" ] || return 0
+    small_checkout
+    chown -R 65534 "$scratch/small" "$far" "$scratch/rt.log" "$scratch/rt.seen"
+    PATH=$PATH_WITH_RT TMPDIR=$far run as_nobody "$scratch/small/replay" "$scratch/trace.csv"
+    check 'on another file system it builds too' ended 0
+    check 'in a scratch folder there' seen "^low in $far/lanes-"
+    check 'and moves the work back' [ -e "$scratch/small/crates/low/out/rlib/stamp" ]
+    check 'all of it' is "$(ls "$far")" ''
+    rm -rf "$far"
 }
 
 words() {
@@ -229,6 +381,20 @@ words() {
     check 'words that the program is to refuse reach it' prints '^words --pollers$'
     small '' -x -- < /dev/null
     check 'whatever they look like' prints '^words  -x --$'
+    small --usage < /dev/null
+    check 'what it refuses is named' is "$status $(cat "$scratch/err")" "64 usage fault 64
+replay: '--usage' is no option: they are --mode --pollers --budget --weight --window --unproved --build --version --help (see ./replay --help)"
+    small --buget 7 "$scratch/trace.csv"
+    check 'a mistyped option is told of before its value is taken for a file' is "$status $(cat "$scratch/err")" \
+        "64 replay: '--buget' is no option: is --budget meant, a whole number, 1..=65535? (see ./replay --help)"
+    for judged in '--weight 65|--weight '\''65'\'': its value is a whole number, 1..=64' '--mode sreial|--mode '\''sreial'\'': .* is serial meant?' \
+        '--pollers|--pollers has no value: a whole number, 1..=8' '--budget 1 --budget 2|--budget is given twice' '--|.--. is no option'; do
+        # shellcheck disable=SC2086
+        run awk -f "$top/scripts/words.awk" -- ${judged%%|*}
+        check "the words ${judged%%|*}" prints "^${judged#*|}"
+    done
+    run awk -f "$top/scripts/words.awk" -- --budget=00300 --mode shared --window 65535
+    check 'words that are well' [ ! -s "$scratch/out" ]
     small "$scratch/trace.csv" "$scratch/rt.log"
     check 'two files are refused' ended 66
     check 'with their names' says_only "replay: two traces are named, $scratch/trace.csv and $scratch/rt.log: replay one at a time"
@@ -236,6 +402,10 @@ words() {
     check 'a file and - too' ended 66
     small "$scratch/none.csv"
     check 'a file that is not there' is "$status $(cat "$scratch/err")" "66 replay: $scratch/none.csv: there is no such file"
+    small "$scratch/"$'\e[31mnone'
+    check 'a name reaches no terminal raw' is "$status $(cat "$scratch/err")" "66 replay: \$'$scratch/\\E[31mnone': there is no such file"
+    small - "$scratch/"$'\e[31mnone'
+    check 'nor beside another one' is "$status $(grep -c $'\e' "$scratch/err")" '66 0'
     small "$scratch"
     check 'a folder' is "$status $(cat "$scratch/err")" "66 replay: $scratch: this is a folder, not a trace"
     (umask 077 && cp "$scratch/trace.csv" "$scratch/secret.csv" && chmod 000 "$scratch/secret.csv")
@@ -250,7 +420,60 @@ words() {
     small --unproved "$scratch/trace.csv" --weight 9
     check 'an unproved run replays' is "$status $(head -n 1 "$scratch/out")" '0 words --weight 9'
     check 'and says what it is' says '^replay: this was an UNPROVED run$'
-    check "without rt's own lines" is "$(grep run= "$scratch/err")" ''
+    check "without rt's own lines" is "$(grep -e run= -e races: "$scratch/err")" ''
+    small --version
+    check 'the version tells of the program' is "$status $(grep -c -e 'version 1 and 2' -e '^program: proved and built' -e '^kit: stand-in' "$scratch/out")" '0 3'
+    small --build
+    check 'there may be nothing to build' is "$status $(cat "$scratch/err" "$scratch/out")" '0 replay: napi_replay is proved and built already'
+    small --build "$scratch/trace.csv"
+    check 'a build replays nothing' is "$status $(cat "$scratch/err")" '64 replay: --build replays nothing, and stands alone (see ./replay --help)'
+    for how in '' --unproved; do
+        at="line 1, 'moment,device,event,value'"
+        for row in 0 1; do
+            sed -i "s/BadEvent row ./BadEvent row $row/" "$scratch/small/program" "$scratch/small/crates/napi_replay/out/napi_replay"
+            printf 'moment,device,event,value\n0,1,Rx,9\n' > "$scratch/bad.csv"
+            [ "$row" = 0 ] || at="line 2, '0,1,Rx,9'"
+            small $how --fault "$scratch/bad.csv"
+            check "a cause for a file, row $row $how" says "^replay: $scratch/bad.csv $at: "
+            small $how --fault < "$scratch/bad.csv"
+            check "for standard input, row $row $how" says "^replay: standard input $at: "
+            small $how --fault <(cat "$scratch/bad.csv")
+            check "for a FIFO, row $row $how" says "^replay: /dev/fd/[0-9]* $at: "
+        done
+    done
+    TMPDIR=$scratch/none small "$scratch/trace.csv"
+    check 'without a scratch folder it replays' is "$status $(cat "$scratch/err")" '0 '
+    TMPDIR=$scratch/none small --unproved "$scratch/trace.csv"
+    check 'but has none for an unproved run' ended 70
+}
+
+# closed ENDS COMMAND ..: without these ends, 5 s at most.
+closed() {
+    status=0
+    (
+        for end in $1; do
+            case $end in 0) exec 0<&- ;; 1) exec 1>&- ;; 2) exec 2>&- ;; esac
+        done
+        PATH=$PATH_WITH_RT exec timeout 5 "${@:2}"
+    ) > "$scratch/out" 2> "$scratch/err" || status=$?
+}
+
+ends() {
+    closed 0 "$scratch/small/replay"
+    check 'a closed standard input is no trace' is "$status $(cat "$scratch/err")" '66 replay: no trace: standard input is closed'
+    closed 0 "$scratch/small/replay" "$scratch/trace.csv"
+    check 'and none is needed for a file' is "$status $(tail -n 1 "$scratch/out")" '0 moment,device,event,value'
+    closed 2 "$scratch/small/replay" "$scratch/trace.csv"
+    check 'nor a standard error' ended 0
+    closed 2 "$scratch/small/replay" --fault "$scratch/bad.csv"
+    check 'which changes no status' ended 2
+    closed '0 1 2' "$scratch/small/replay" --fault "$scratch/bad.csv"
+    check 'nor do all three' ended 2
+    closed 1 "$scratch/small/replay" --help
+    check 'a text that goes nowhere is told of' is "$status $(cat "$scratch/err")" "4 replay: the text couldn't be written"
+    touch "$scratch/small/crates/low/src/lib.rt"
+    closed 2 "$scratch/small/replay" "$scratch/trace.csv"
+    check 'a build needs no standard error' is "$status $(tail -n 1 "$scratch/out")" '0 moment,device,event,value'
 }
 
 terminals() {
@@ -264,6 +487,44 @@ terminals() {
     RT_SECONDS=0.6 PATH=$PATH_WITH_RT on_terminal "$scratch/small/replay" "$scratch/trace.csv"
     check 'on a terminal a build writes one line over and over' \
         is "$status $(grep -c 'crate 2 of 4 (low side), 6 of 8 functions checked, 0:0.*crate 4 of 4' "$scratch/out")" '0 1'
+}
+
+first_answers() {
+    small_checkout
+    small --buget 7 "$scratch/trace.csv"
+    check 'words that would be refused build nothing' is "$status $(lines)" '64 0'
+    small --build
+    check 'a build alone' is "$status $(cat "$scratch/out") $(lines)" '0  8'
+    small_checkout
+    small "$scratch/trace.csv"
+    check 'where no terminal is, only proved bytes' is "$status $(grep -c -i unproved "$scratch/err") $(wc -l < "$scratch/out")" '0 0 2'
+    small_checkout
+    PATH=$PATH_WITH_RT on_terminal "$scratch/small/replay" "$scratch/trace.csv" --weight 4
+    tr -d '\r' < "$scratch/out" > "$scratch/terminal"
+    check 'on a terminal an unproved answer comes first' is "$status $(grep -n -e '^words --weight 4' -e 'an UNPROVED run; now it is proved' "$scratch/terminal" | cut -d: -f1 | tr '\n' ' ')" '0 2 5 '
+    check 'then the proof of it' is "$(tail -n 1 "$scratch/terminal")" 'replay: the proved program gives the same bytes'
+    check 'and the answer stands there once' is "$(grep -c '^words' "$scratch/terminal")" 1
+    PATH=$PATH_WITH_RT on_terminal "$scratch/small/replay" "$scratch/trace.csv"
+    check 'the next call replays' is "$(tr -d '\r' < "$scratch/out")" 'words 
+moment,device,event,value'
+    for from in '< "$1"' '<(cat "$1")' '- < <(cat "$1")'; do
+        small_checkout
+        PATH=$PATH_WITH_RT on_terminal bash -c "'$scratch/small/replay' $from" '' "$scratch/trace.csv"
+        check "so it does for a trace from $from" is "$status $(grep -c -e '^moment' -e 'the same bytes' "$scratch/out")" '0 2'
+    done
+    small_checkout
+    PATH=$PATH_WITH_RT RT_TRIES=more on_terminal "$scratch/small/replay" "$scratch/trace.csv"
+    tr -d '\r' < "$scratch/out" > "$scratch/terminal"
+    check 'other bytes are told of, and printed' is "$status $(grep -A 1 'gives OTHER bytes' "$scratch/terminal" | tail -n 1)" '0 words '
+    small_checkout
+    PATH=$PATH_WITH_RT FAULTS=--fault on_terminal "$scratch/small/replay" "$scratch/bad.csv"
+    check 'a fault is told first and proved then' is "$status $(grep -c -e 'line 2' -e 'same bytes' "$scratch/out")" '2 2'
+    RT_FAILS=high
+    export RT_FAILS
+    small_checkout
+    PATH=$PATH_WITH_RT on_terminal "$scratch/small/replay" "$scratch/trace.csv"
+    check 'where the build fails the answer stands, and the status is its' is "$status $(grep -c -e '^moment' -e "high couldn't be built" "$scratch/out")" '70 2'
+    unset RT_FAILS
 }
 
 # explains ROWS LINES: the real program on a trace of these bytes, and what it says.
@@ -299,19 +560,57 @@ replay: bad.csv: there is no line with text in it: the first one has to be momen
 replay: bad.csv: the file is in UTF-16: iconv -f UTF-16LE -t UTF-8 'bad.csv' | ./replay"
     explains "$(printf '%s' "$header" | gzip -cn | od -An -v -to1 | tr -d '\n' | sed 's/ /\\0/g')" "trace fault 1 BadHeader row 0
 replay: bad.csv: the file is packed by gzip: gunzip -c 'bad.csv' | ./replay"
-    # Lines ended by CR alone: editors number them in many ways.
-    explains "moment,device,event,value\r0,1,open,4\r1,1\r" 'trace fault 2 BadFields row 2'
+    explains "moment,device,event,value\r0,1,open,4\r1,1\r" "trace fault 2 BadFields row 2
+$at 3, '1,1': a row has four fields, and this one has 2; its lines end by CR alone, and are counted so"
+    # A CR within a line: editors number such lines in many ways.
+    explains "${header}0,1,open,4\r1,1,rx,9\n1,1\n" 'trace fault 2 BadFields row 3'
+    explains "${header}0,1,open,4\n1,1,rx,\"9\n1,1,rx,9\n" "trace fault 3 BadNumber row 2
+$at 3, '1,1,rx,\"9': a quote that it opens isn't closed, so all that follows is one field"
+    explains "${header}0,1,open,4\n1,1,busy,9\n" "trace fault 4 BadEvent row 2
+$at 3, '1,1,busy,9': a busy row needs the header of version 2: moment,device,event,value,2"
+    explains 'moment,device,event,value,2\n0,1,open,4\n1,1,busy,0\n' "trace fault 5 OutOfRange row 2
+$at 3, '1,1,busy,0': busy has a device of 1..=16 and a value of 1..=65535 rounds"
+    explains 'moment,device,event,value,3\n' "trace fault 1 BadHeader row 0
+$at 1, 'moment,device,event,value,3': the first line has to be moment,device,event,value, or moment,device,event,value,2 for version 2"
     explains "${header}0,1,open,4\n1,1,rx,1.5\n" "trace fault 3 BadNumber row 2
 $at 3, '1,1,rx,1.5': the value is no whole number: it has a fraction"
     explains "${header}0,1,open,4\n1,1,rx,9\n1,1,disable,0\n1,1,enable,0\n" "trace fault 12 Pending row 4
 $at 5, '1,1,enable,0': the disable is pending still: a softirq or kthread row has to finish the polling before the enable"
     run "$top/replay" --budget 0 "$top/examples/two-packets.csv"
-    check 'words that the program refuses' is "$status $(cat "$scratch/err")" '64 usage fault 64
-replay: see ./replay --help'
-    run "$top/replay" < "$scratch/bad.csv"
-    check 'of a trace on standard input the program tells alone' is "$status $(cat "$scratch/err")" '2 trace fault 12 Pending row 4'
+    check 'words that the program refuses' is "$status $(cat "$scratch/err")" "64 usage fault 64
+replay: --budget '0': its value is a whole number, 1..=65535 (see ./replay --help)"
+    closed 1 "$top/replay" "$top/examples/two-packets.csv"
+    check 'a closed output' is "$status $(cat "$scratch/err")" '4 output fault 15 OutputFailed'
     run "$top/replay" "$top/examples/two-packets.csv"
     check 'a trace without a fault' is "$status $(cat "$scratch/err") $(wc -l < "$scratch/out")" '0  5'
+}
+
+# A gate of one crate, whose prover is a shell under the prover's name, and what the script makes of it.
+times_of_the_gate() {
+    mkdir -p "$scratch/rt-edit-x"
+    cat > "$scratch/gate" << 'END'
+#!/usr/bin/env bash
+prove() { bash -c 'exec -a /x/rattle bash -c "for ((i = 0; i < 300000; i++)); do :; done; sleep 1.2" "$@"' '' "$@"; }
+prove check --crate-name low && echo 'rt: low proved'
+prove check --crate-name low --test && echo 'rt: low: its tests are proved'
+echo 'rt: low: trying its must-fail edits (2)'
+cd "$1" && prove check --crate-name low
+echo '3 passed, 1 failed'
+exit 1
+END
+    chmod +x "$scratch/gate"
+    LOG=$scratch/gate.log run "$top/scripts/gate-times.sh" "$scratch/gate" "$scratch/rt-edit-x"
+    check "the gate's status is the script's" ended 1
+    check 'its lines have their seconds' prints '^ *[0-9]*\.[0-9]  rt: low proved$'
+    check 'a crate has its row' prints '^low  *[0-9.]* s  *[0-9.]* s  *[0-9.]* s  *[0-9.]* s  *2: [0-9.]* s  *[0-9.]* s$'
+    check 'with processor time in each place' is "$(awk '/^low/ { print ($4 > 0), ($8 > 0), ($13 > 0) }' "$scratch/out")" '1 1 1'
+    check 'and all that is in the log' cmp -s "$scratch/out" "$scratch/gate.log"
+    run "$top/scripts/gate-times.sh" "$scratch/no-gate"
+    check 'a command that is not there' ended 64
+    LOG=$scratch/none/log run as_nobody "$top/scripts/gate-times.sh" true
+    check 'a log that cannot be written' ended 73
+    LOG=$scratch/gate.log timeout --preserve-status -s INT 1 "$top/scripts/gate-times.sh" "$scratch/slow" 30 > "$scratch/out" 2>&1
+    check 'it can be interrupted, and ends the gate' is "$? $(pgrep -f "^$scratch/slow")" '130 '
 }
 
 # refuses SCRIPT ARGUMENT ..: a line, status 64, and nothing is made.
@@ -349,11 +648,16 @@ scripts() {
 }
 
 building
+lanes
 refusals_of_a_build
 two_builds
 interruptions
+killed
 words
+ends
 terminals
+first_answers
+times_of_the_gate
 scripts
 run "$top/scripts/build.sh" napi_replay
 check 'the real program stands, or is built' ended 0

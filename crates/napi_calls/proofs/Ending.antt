@@ -1,5 +1,5 @@
 -- The list of all seats at the end, and its one history.
-use Rattle.std.proofs.Common.{◌≡◌, ℕ, zero, suc, ◌+◌, ◌<◌, List, [], ◌∷◌, ◌++◌, length, slice_get, Option, Some, false, unwrap_or, eq-eqb, refl, sym, ap, ◌∙◌, subst, length-append, arith}
+use Rattle.std.proofs.Common.{◌≡◌, ◌≢◌, ℕ, zero, suc, ◌+◌, ◌<◌, List, [], ◌∷◌, ◌++◌, length, slice_get, Option, Some, false, unwrap_or, eq-eqb, refl, sym, ap, ◌∙◌, subst, length-append, arith}
 use Rattle.rx_ring.specs.declared.ends.RxCtx.{RxCtx}
 use Rattle.napi_model.specs.declared.state.Place.TheVariants as place
 use Rattle.napi_model.specs.declared.event.Event.{Event}
@@ -11,9 +11,17 @@ use Rattle.napi_model.specs.Laws.{is_owner}
 use Rattle.napi_word.specs.Passes.{controller_of_table}
 use Rattle.napi_word.specs.Ends.{IsEnded}
 use Rattle.napi_word.proofs.Closing.{get_mid}
+use Rattle.rx_ring.specs.declared.packet.Packet.{Packet}
+use Rattle.rx_ring.specs.Ends.{received_list}
+use Rattle.napi_word.specs.declared.view.Holds.TheVariants.{Nothing, Out}
+use Rattle.napi_word.specs.View.{deliverers, own_deliveries, received_in}
+use Rattle.napi_word.specs.Slot.{givers}
+use Rattle.napi_word.specs.Passes.{view_of}
+use Rattle.napi_word.proofs.Deliveries.{received_is}
 use Rattle.napi_calls.specs.declared.types.Napi.{Napi}
 use Rattle.napi_calls.specs.declared.types.Caller.{Caller}
 use Rattle.napi_calls.specs.Seats.{number_of}
+use Rattle.napi_calls.specs.Instance.{first_of_instance}
 use Rattle.napi_calls.specs.Knows.{Controls, Has}
 use Rattle.napi_calls.specs.Closed.{seats_of, IsHistoryOf, IsClosed}
 use Rattle.napi_calls.proofs.Serving.{served}
@@ -69,10 +77,17 @@ module _ (n : Napi) (cs : List Caller) (p : Pass) (left : Option RxCtx) (k : Con
         (subst (λ (h : List Event). IsControl (state_after (opening (controller_of_table n.table)) h).place) is (subst IsControl (sym ends) tt)) accepted;
   }
 
-  pub closed : (ctx : RxCtx) → Has p (Some ctx) → IsClosed n cs p ctx
-  closed ctx has = record {
-    all = let count = e.count in let seats = all_count cs p in let made = n.count in omega (arith, count, seats, made);
-    history = e.history;
-    is = subst (λ (m : ℕ). IsHistoryOf m (seats_of cs ++ p ∷ []) e.history) n.count one_history;
-    ring = ap (λ (o : Option RingName). unwrap_or o (ring_name ctx)) (sym has.ring ∙ e.rings (length (seats_of cs)) p at);
-  }
+  pub closed : (ctx : RxCtx) → Has p (Some ctx) → received_list ctx ≡ received_in (view_of p) → IsClosed n cs p ctx
+  closed ctx has exact =
+      let i = length (seats_of cs) in
+      let out : p.holds ≢ Nothing = λ none. let bad : Out ≡ Nothing = sym has.holds ∙ none in absurd (cc) in record {
+        all = let count = e.count in let seats = all_count cs p in let made = n.count in omega (arith, count, seats, made);
+        history = e.history;
+        is = subst (λ (m : ℕ). IsHistoryOf m (seats_of cs ++ p ∷ []) e.history) n.count one_history;
+        ring = ap (λ (o : Option RingName). unwrap_or o (ring_name ctx)) (sym has.ring ∙ e.rings i p at);
+        deliveries = e.deliveries;
+        order = subst (λ (m : ℕ). deliverers e.deliveries ≡ givers (opening m) e.history) n.count e.deliveries_order;
+        own_exact = e.deliveries_exact;
+        own_only = subst (λ (m : ℕ). (c : ℕ) → m < c → own_deliveries c e.deliveries ≡ []) n.count e.deliveries_others;
+        received = exact ∙ received_is (view_of p) (first_of_instance n) e.deliveries (e.firsts i p at) (e.deliveries_held i p at out);
+      }

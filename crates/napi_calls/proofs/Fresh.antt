@@ -1,7 +1,7 @@
 -- New seats.
-use Rattle.std.proofs.Common.{◌≡◌, ℕ, zero, suc, ◌<◌, List, [], ◌∷◌, ◌++◌, slice_get, length, Some, Bool, cond, false, ne_eqb, refl, sym, ap, ◌∙◌, subst, arith}
+use Rattle.std.proofs.Common.{Option, unwrap_or, append-nil, ◌≡◌, ℕ, zero, suc, ◌<◌, List, [], ◌∷◌, ◌++◌, slice_get, length, Some, Bool, cond, false, ne_eqb, refl, sym, ap, ◌∙◌, subst, arith}
 use Rattle.rx_ring.specs.declared.ends.RxCtx.{RxCtx}
-use Rattle.rx_ring.specs.Ends.{ring_name}
+use Rattle.rx_ring.specs.Ends.{ring_name, received_list}
 use Rattle.napi_model.specs.declared.state.Place.{Place}
 use Rattle.napi_model.specs.declared.state.Place.TheVariants as place
 use Rattle.napi_model.specs.Step.{opening}
@@ -11,7 +11,7 @@ use Rattle.napi_word.specs.declared.table.StateTable.{StateTable}
 use Rattle.napi_word.specs.View as view
 use Rattle.napi_word.specs.View.{View}
 use Rattle.napi_word.specs.Rule.{strand}
-use Rattle.napi_word.specs.Passes.{view_of, IsNew, IsPassOf, ring_of_table}
+use Rattle.napi_word.specs.Passes.{view_of, ctx_of, IsNew, IsPassOf, ring_of_table}
 use Rattle.napi_word.proofs.Closing.{get_mid}
 use Rattle.napi_calls.specs.declared.types.Napi.{Napi}
 use Rattle.napi_calls.specs.Knows.{own_place, Free, Stands, Controls}
@@ -49,6 +49,13 @@ new_controls {t} {last} {of} p new =
       flag = ap view.disable_in new.view ∙ unflagged last of last;
     }
 
+-- the controller's has the context that was handed in
+pub new_exact : {t : StateTable} {last : ℕ} {of : RxCtx} (p q : Pass) (x : RxCtx) → IsNew t last of last p → ctx_of p ≡ Some x → view_of q ≡ view_of p → received_list x ≡ view.received_in (view_of q)
+new_exact {t} {last} {of} p q x new is same =
+    let l = new.laid refl in
+    let one : x ≡ l.laid = ap (λ (o : Option RxCtx). unwrap_or o x) (sym is ∙ l.within) in
+    ap received_list one ∙ l.received ∙ sym (append-nil (received_list of)) ∙ sym (ap view.received_in (same ∙ new.view))
+
 -- a seat that shows what it showed when it was made
 pub new_seat : (n : Napi) {last : ℕ} {of : RxCtx} {c : ℕ} (p : Pass) → IsPassOf n.table p → view_of p ≡ strand last of c ∷ [] → last ≡ n.callers → ring_of_table n.table ≡ ring_name of → IsNewSeat n c p
 new_seat n {last} {of} {c} p table e count ring = record {
@@ -58,6 +65,7 @@ new_seat n {last} {of} {c} p table e count ring = record {
   ring = ap view.ring_of e ∙ ap Some (sym ring);
   nothing_shown = ap view.shown e;
   nothing_done = ap view.mine e;
+  nothing_delivered = ap view.delivered e;
 }
 
 -- of a list that is split before an element, the element's place

@@ -2,6 +2,7 @@ pub mod Ending
 pub mod Fresh
 pub mod InTurns
 pub mod Making
+pub mod Packets
 pub mod Serving
 pub mod Standing
 pub mod Steps

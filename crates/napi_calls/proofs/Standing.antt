@@ -1,8 +1,12 @@
 -- What a value knows after a step.
-use Rattle.std.proofs.Common.{◌≡◌, ℕ, Bool, true, false, cond, Option, Some, unwrap_or, true≢false, eq-eqb, refl, sym, ap, ◌∙◌, subst}
+use Rattle.std.proofs.Common.{◌≡◌, ℕ, Bool, true, false, cond, List, Option, Some, None, unwrap_or, true≢false, eq-eqb, refl, sym, ap, ◌∙◌, subst}
 use Rattle.rx_ring.specs.declared.ends.RxIn.{RxIn}
 use Rattle.rx_ring.specs.declared.ends.RxCtx.{RxCtx}
-use Rattle.rx_ring.specs.Ends.{RingName, ring_name, IsOneRing}
+use Rattle.rx_ring.specs.Ends.{RingName, ring_name, received_list, IsOneRing}
+use Rattle.napi_word.proofs.Deliveries.{of_prefix, prefix_self, received_stays}
+use Rattle.rx_ring.specs.declared.packet.Packet.{Packet}
+use Rattle.napi_word.specs.Slot as slot
+use Rattle.napi_word.specs.Slot.{Delivers, has_slot}
 use Rattle.napi_model.specs.declared.state.Kind.{Kind}
 use Rattle.napi_model.specs.declared.state.Kind.TheVariants as kind
 use Rattle.napi_model.specs.declared.state.Seen.{Seen}
@@ -15,11 +19,11 @@ use Rattle.napi_model.specs.Step.{opening, after_by}
 use Rattle.napi_model.specs.History.{LegalHistory, own}
 use Rattle.napi_model.specs.Laws.{is_owner, IsOwnedBy, IsPolled}
 use Rattle.napi_word.specs.declared.table.Pass.{Pass}
-use Rattle.napi_word.specs.declared.view.Holds.TheVariants.{Out}
+use Rattle.napi_word.specs.declared.view.Holds.TheVariants.{Out, Nothing}
 use Rattle.napi_word.specs.View as view
 use Rattle.napi_word.specs.View.{View}
 use Rattle.napi_word.specs.Events.{Steps}
-use Rattle.napi_word.specs.Passes.{view_of}
+use Rattle.napi_word.specs.Passes.{view_of, received_of}
 use Rattle.napi_calls.specs.Seats.{number_of, controller_of, shown, state_of, ring_of, ShowsLegal, IsInputOf}
 use Rattle.napi_word.proofs.Knowing.{unbusy, take_polls, quiet_polls}
 use Rattle.napi_calls.specs.Knows.{own_place, Free, Stands, BusyPolls, Controls, Has}
@@ -141,8 +145,24 @@ busy_looked q st busy g = busy_kept q st busy g (λ n s. refl)
 pub busy_moved : {b : Bool} {c : ℕ} {p : Pass} (q : Pass) → Stands Polling c p → BusyPolls b p → view_of q ≡ view_of p → BusyPolls b q
 busy_moved {b} q st busy e = ap (λ (v : View). (view.state_in v).flags.in_busy_poll) e ∙ busy
 
-pub outside : (p q : Pass) (x : RxCtx) → q.holds ≡ Out → view_of q ≡ view_of p → ring_of p ≡ Some (ring_name x) → Has q (Some x)
-outside p q x out same ring = record { holds = out; ring = ap view.ring_of same ∙ ring }
+-- the context comes out of the slot as the pass has it there
+pub outside : (p q : Pass) (x : RxCtx) → q.holds ≡ Out → view_of q ≡ view_of p → ring_of p ≡ Some (ring_name x) → received_list x ≡ received_of p → Has q (Some x)
+outside p q x out same ring is = record {
+  holds = out;
+  ring = ap view.ring_of same ∙ ring;
+  received = subst (λ (v : View). view.Continues (view.received_in v) (received_list x)) (sym same) (subst (λ (l : List Packet). view.Continues (view.received_in (view_of p)) l) (sym is) p.received);
+}
+
+-- a step that leaves the slot leaves what the context has received since
+pub stays_has : (p q : Pass) (x : RxCtx) → Has p (Some x) → q.holds ≡ p.holds → ring_of q ≡ ring_of p → Delivers slot.stays p.seat.me q.seat.me → Has q (Some x)
+stays_has p q x h holds ring g = record {
+  holds = holds ∙ h.holds;
+  ring = ring ∙ h.ring;
+  received = subst (λ (l : List Packet). view.Continues l (received_list x)) (sym (received_stays p.seat.me q.seat.me g (p.right ∙ ap has_slot h.holds))) h.received;
+}
+
+pub has_none : (q : Pass) → q.holds ≡ Nothing → Has q None
+has_none q holds = record { holds = holds; ring = refl; received = of_prefix _ _ (prefix_self _) }
 
 -- ---- the controller
 
@@ -194,3 +214,9 @@ pub one_ring : {p : Pass} {ctx : RxCtx} (input : RxIn) → Has p (Some ctx) → 
 one_ring {p} {ctx} input has fed =
     let same : ring_name fed.0 ≡ ring_name ctx = ap (λ (o : Option RingName). unwrap_or o (ring_name ctx)) (sym fed.1 ∙ has.ring) in
     (sym (ap (λ (n : RingName). n.0) same) ∙ fed.2.0, sym (ap (λ (n : RingName). n.1) same) ∙ fed.2.1, sym (ap (λ (n : RingName). n.2) same) ∙ fed.2.2, sym (ap (λ (n : RingName). n.3) same) ∙ fed.2.3)
+
+-- a context that was taken has received just what was delivered
+pub fresh : (p q r : Pass) (x : RxCtx) → Delivers slot.taken p.seat.me q.seat.me → received_list x ≡ received_of q → view_of r ≡ view_of q → received_list x ≡ view.received_in (view_of r)
+fresh p q r x g is same =
+    let t = g.shifts.1 in
+    is ∙ ap (λ (l : slot.Carried). slot.carried_received l (view_of q)) t.1 ∙ t.2 ∙ ap view.received_in (sym same)

@@ -7,11 +7,15 @@ use Rattle.napi_model.specs.declared.event.Event.{Event}
 use Rattle.napi_model.specs.Step.{opening}
 use Rattle.napi_model.specs.History.{LegalHistory, state_after, own, IsAcceptedSchedule}
 use Rattle.napi_word.specs.declared.table.Pass.{Pass}
-use Rattle.rx_ring.specs.Ends.{ring_name}
+use Rattle.rx_ring.specs.Ends.{ring_name, received_list}
+use Rattle.napi_word.specs.declared.view.Delivery.{Delivery}
+use Rattle.napi_word.specs.View.{own_deliveries, received_by, deliverers}
+use Rattle.napi_word.specs.Slot.{givers}
 use Rattle.napi_calls.specs.declared.types.Napi.{Napi}
 use Rattle.napi_calls.specs.declared.types.Caller.{Caller}
 use Rattle.napi_calls.specs.Seats.{number_of, shown, own_list}
-use Rattle.napi_calls.specs.Instance.{callers_of, ring_of_instance}
+use Rattle.napi_calls.specs.Instance.{callers_of, ring_of_instance, first_of_instance}
+use Rattle.napi_calls.specs.Packets.{own_delivered}
 use Rattle.napi_calls.specs.Served.{IsServed}
 
 -- the callers' seats
@@ -46,3 +50,10 @@ pub record IsClosed (n : Napi) (callers : List Caller) (control : Pass) (ctx : R
   pub history : List Event
   pub is : IsHistoryOf (callers_of n) (seats_of callers ++ control ∷ []) history
   pub ring : ring_name ctx ≡ ring_of_instance n
+  -- one delivery for each event that gave the context back, in their order; each caller's own are those that it made
+  pub deliveries : List Delivery
+  pub order : deliverers deliveries ≡ givers (opening (callers_of n)) history
+  pub own_exact : Each (seats_of callers ++ control ∷ []) (λ p. own_deliveries (number_of p) deliveries ≡ own_delivered p)
+  pub own_only : (c : ℕ) → callers_of n < c → own_deliveries c deliveries ≡ []
+  -- the context has received what it had when it was handed in, and then these, joined: each packet once
+  pub received : received_list ctx ≡ received_by (first_of_instance n) deliveries

@@ -1,10 +1,12 @@
 -- What a contract sees of an instance, and its new seats.
 use Rattle.std.specs.Prelude.{◌≡◌, ℕ, Some, []}
+use Rattle.rx_ring.specs.declared.ends.RxCtx.{RxCtx}
 use Rattle.rx_ring.specs.Ends.{RingName}
 use Rattle.napi_word.specs.declared.table.Pass.{Pass}
-use Rattle.napi_word.specs.Passes.{IsPassOf, ring_of_table}
+use Rattle.napi_word.specs.Passes.{IsPassOf, ring_of_table, first_of_table}
 use Rattle.napi_calls.specs.declared.types.Napi.{Napi}
 use Rattle.napi_calls.specs.Seats.{number_of, controller_of, shown, own_list, ring_of}
+use Rattle.napi_calls.specs.Packets.{delivered}
 
 -- how many callers were made with it; the controller has this number
 abbrev pub callers_of : Napi → ℕ
@@ -13,6 +15,10 @@ callers_of n = n.callers
 -- the ring whose context was handed in
 abbrev pub ring_of_instance : Napi → RingName
 ring_of_instance n = ring_of_table n.table
+
+-- the context that was handed in
+abbrev pub first_of_instance : Napi → RxCtx
+first_of_instance n = first_of_table n.table
 
 -- the seat is one of this instance
 abbrev pub IsSeatOf : Napi → Pass → Type 0
@@ -26,3 +32,4 @@ pub record IsNewSeat (n : Napi) (number : ℕ) (p : Pass) : Type 0 where
   pub ring : ring_of p ≡ Some (ring_of_instance n)
   pub nothing_shown : shown p ≡ []
   pub nothing_done : own_list p ≡ []
+  pub nothing_delivered : delivered p ≡ []

@@ -1,9 +1,12 @@
 -- What the type of a value says of its seat.
-use Rattle.std.specs.Prelude.{◌≡◌, ℕ, Bool, cond, Option, Some, None}
+use Rattle.std.specs.Prelude.{◌≡◌, ℕ, Bool, cond, List, Option, Some, None}
 use Rattle.rx_ring.specs.declared.ends.RxCtx.{RxCtx}
 use Rattle.napi_model.specs.declared.state.Place.{Place}
 use Rattle.napi_model.specs.declared.state.Place.TheVariants as place
-use Rattle.rx_ring.specs.Ends.{RingName, ring_name}
+use Rattle.rx_ring.specs.declared.packet.Packet.{Packet}
+use Rattle.rx_ring.specs.Ends.{RingName, ring_name, received_list}
+use Rattle.napi_word.specs.View.{received_in, Continues}
+use Rattle.napi_word.specs.Passes.{view_of}
 use Rattle.napi_model.specs.Laws.{is_owner}
 use Rattle.napi_model.specs.Step.{opening}
 use Rattle.napi_model.specs.History.{LegalHistory, own}
@@ -44,8 +47,14 @@ abbrev pub ring_held : Option RxCtx → Option RingName → Option RingName
 ring_held (Some x) ring = Some (ring_name x)
 ring_held None ring = ring
 
+abbrev pub received_held : Option RxCtx → List Packet → List Packet
+received_held (Some x) known = received_list x
+received_held None known = known
+
 -- the context is out of the instance's slot, in the hands of the value, and is that of the ring that was handed in; or
 -- the value has none
 pub record Has (p : Pass) (ctx : Option RxCtx) : Type 0 where
   pub holds : p.holds ≡ held ctx
   pub ring : ring_of p ≡ ring_held ctx (ring_of p)
+  -- it has received what was delivered, and maybe more since
+  pub received : Continues (received_in (view_of p)) (received_held ctx (received_in (view_of p)))

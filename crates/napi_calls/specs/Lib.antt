@@ -4,6 +4,7 @@ pub mod Fault
 pub mod Instance
 pub mod Knows
 pub mod Made
+pub mod Packets
 pub mod Seats
 pub mod Served
 pub mod Turns

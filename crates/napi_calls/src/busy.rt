@@ -1,5 +1,5 @@
 //! Busy polling: the call of a caller that begins it, and the calls of one that busy polls.
-ghost use Rattle.std.specs.Prelude.{◌≡◌, ◌≤◌, [], ◌∷◌, length, Some, true};
+ghost use Rattle.std.specs.Prelude.{◌≡◌, ◌≤◌, [], ◌∷◌, ◌++◌, length, Some, true};
 ghost use Rattle.napi_model.specs.declared.state.Place.TheVariants as place;
 ghost use Rattle.napi_model.specs.declared.event.Done.TheVariants.{Held};
 ghost use Rattle.napi_model.specs.declared.event.Operation.TheVariants.{Look, Complete};
@@ -9,6 +9,7 @@ ghost use Rattle.napi_calls.specs.Seats.{number_of, state_of, ring_of, ShowsLega
 ghost use Rattle.napi_calls.specs.Instance.{IsSeatOf};
 ghost use Rattle.napi_calls.specs.Made.{Made};
 ghost use Rattle.napi_calls.specs.Calls.{TriesToBusyPoll, RunsUnlessRefused, BusyPolling, TriesToStop, Stops};
+ghost use Rattle.napi_calls.specs.Packets.{HoldsOn, TriesToBusyPollFresh, BusyPollsFresh, TriesToStopHolding, polled};
 
 use crate::answers::{TryBusy, TryStop};
 use crate::between::{Between, Nothing};
@@ -22,7 +23,8 @@ impl Caller {
     /// exactly where the look shows DISABLE, SCHED or IN_BUSY_POLL.
     pub fn try_busy(self, napi: &Napi) -> TryBusy
         requires { IsSeatOf napi.now self.pass }
-        ensures { TriesToBusyPoll self.pass result }
+        ensures events { TriesToBusyPoll self.pass result }
+        ensures packets { TriesToBusyPollFresh self.pass result }
     {
         self.try_busy_between(napi, &mut Nothing)
     }
@@ -31,6 +33,7 @@ impl Caller {
     pub fn try_busy_between<B: Between>(self, napi: &Napi, between: &mut B) -> TryBusy
         requires { IsSeatOf napi.now self.pass }
         ensures events { TriesToBusyPoll self.pass result }
+        ensures packets { TriesToBusyPollFresh self.pass result }
         ensures run { RunsUnlessRefused result (between.new ≡ between.old) (B.ran between.old between.new) }
     {
         let Caller { mut pass, number } = self;
@@ -51,7 +54,8 @@ impl Caller {
     /// Takes an idle instance to busy poll it, try after try until one decides (`napi_busy_loop`). `Err`: it was refused.
     pub fn busy<R: Wait>(self, rt: &R, napi: &Napi) -> Result<Busy, Caller>
         requires { IsSeatOf napi.now self.pass }
-        ensures { BusyPolling self.pass result }
+        ensures events { BusyPolling self.pass result }
+        ensures packets { BusyPollsFresh self.pass result }
     {
         let mut caller = self;
         for _ in rt.forever() {
@@ -85,6 +89,7 @@ impl Busy {
     pub fn look(&mut self, napi: &Napi) -> Seen
         requires { IsSeatOf napi.now self.old.pass }
         ensures event { Made self.old.pass (Look result ∷ []) self.new.pass }
+        ensures packets { HoldsOn self.old.pass self.new.pass }
         ensures ctx { self.new.ctx ≡ self.old.ctx }
     {
         napi.table.look(&mut self.pass)
@@ -96,6 +101,7 @@ impl Busy {
         ensures next { GivesNext weight self.old.ctx self.new.ctx batch.new.items }
         ensures work { result ≡ length batch.new.items }
         ensures pass { self.new.pass ≡ self.old.pass }
+        ensures polled { polled self.new.pass self.new.ctx ≡ polled self.old.pass self.old.ctx ++ batch.new.items }
     {
         self.ctx.poll(weight, batch)
     }
@@ -121,6 +127,7 @@ impl Busy {
     pub fn complete_held(&mut self, napi: &Napi)
         requires { IsSeatOf napi.now self.old.pass }
         ensures event { Made self.old.pass (Complete Held ∷ []) self.new.pass }
+        ensures packets { HoldsOn self.old.pass self.new.pass }
         ensures ctx { self.new.ctx ≡ self.old.ctx }
     {
         napi.table.complete_load(&mut self.pass);
@@ -130,7 +137,8 @@ impl Busy {
     /// meanwhile is answered by the poll that has to follow.
     pub fn try_stop(self, napi: &Napi) -> TryStop
         requires { IsSeatOf napi.now self.pass }
-        ensures { TriesToStop self.pass result }
+        ensures events { TriesToStop self.pass result }
+        ensures packets { TriesToStopHolding self.pass self.ctx result }
     {
         self.try_stop_between(napi, &mut Nothing)
     }
@@ -139,6 +147,7 @@ impl Busy {
     pub fn try_stop_between<B: Between>(self, napi: &Napi, between: &mut B) -> TryStop
         requires { IsSeatOf napi.now self.pass }
         ensures events { TriesToStop self.pass result }
+        ensures packets { TriesToStopHolding self.pass self.ctx result }
         ensures run { B.ran between.old between.new }
     {
         let Busy {
@@ -157,7 +166,9 @@ impl Busy {
     /// Stops busy polling, try after try until one decides (`busy_poll_stop`).
     pub fn stop<R: Wait>(self, rt: &R, napi: &Napi) -> Polling
         requires { IsSeatOf napi.now self.pass }
-        ensures { Stops self.pass result.pass }
+        ensures events { Stops self.pass result.pass }
+        ensures packets { HoldsOn self.pass result.pass }
+        ensures ctx { result.ctx ≡ self.ctx }
     {
         let mut busy = self;
         for _ in rt.forever() {

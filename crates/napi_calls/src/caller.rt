@@ -8,6 +8,7 @@ ghost use Rattle.napi_calls.specs.Seats.{number_of, shown, state_of, ShowsLegal}
 ghost use Rattle.napi_calls.specs.Instance.{IsSeatOf};
 ghost use Rattle.napi_calls.specs.Made.{Made};
 ghost use Rattle.napi_calls.specs.Calls.{Prepares, Schedules, Takes, RunsUnlessDisabled};
+ghost use Rattle.napi_calls.specs.Packets.{Quiet, PreparesQuietly, SchedulesQuietly, TakesFresh};
 
 use crate::answers::{Sched, TryPrep};
 use crate::between::{Between, Nothing};
@@ -32,7 +33,8 @@ impl Caller {
     /// What the state word tells: the flags, and to whom the instance was handed while nobody has taken it.
     pub fn look(&mut self, napi: &Napi) -> Seen
         requires { IsSeatOf napi.now self.old.pass }
-        ensures { Made self.old.pass (Look result ∷ []) self.new.pass }
+        ensures event { Made self.old.pass (Look result ∷ []) self.new.pass }
+        ensures packets { Quiet self.old.pass self.new.pass }
     {
         napi.table.look(&mut self.pass)
     }
@@ -40,7 +42,8 @@ impl Caller {
     /// Says whether polls are from now on handed to the instance's own thread (`dev_set_threaded`). Allowed in any state.
     pub fn set_threaded(&mut self, napi: &Napi, threaded: bool)
         requires { IsSeatOf napi.now self.old.pass }
-        ensures { Made self.old.pass (SetThreaded threaded ∷ []) self.new.pass }
+        ensures event { Made self.old.pass (SetThreaded threaded ∷ []) self.new.pass }
+        ensures packets { Quiet self.old.pass self.new.pass }
     {
         napi.table.threaded(&mut self.pass, threaded);
     }
@@ -48,7 +51,8 @@ impl Caller {
     /// Asks for a poll, once (`napi_schedule_prep`): a look, and an exchange. It doesn't wait; at most two steps are made.
     pub fn try_schedule(self, napi: &Napi) -> TryPrep
         requires { IsSeatOf napi.now self.pass }
-        ensures { Prepares self.pass result }
+        ensures events { Prepares self.pass result }
+        ensures packets { PreparesQuietly self.pass result }
     {
         self.try_schedule_between(napi, &mut Nothing)
     }
@@ -57,6 +61,7 @@ impl Caller {
     pub fn try_schedule_between<B: Between>(self, napi: &Napi, between: &mut B) -> TryPrep
         requires { IsSeatOf napi.now self.pass }
         ensures events { Prepares self.pass result }
+        ensures packets { PreparesQuietly self.pass result }
         ensures run { RunsUnlessDisabled result (between.new ≡ between.old) (B.ran between.old between.new) }
     {
         let Caller { mut pass, number } = self;
@@ -75,7 +80,8 @@ impl Caller {
     /// Asks for a poll, try after try until one decides (`napi_schedule_prep`).
     pub fn schedule<R: Wait>(self, rt: &R, napi: &Napi) -> Sched
         requires { IsSeatOf napi.now self.pass }
-        ensures { Schedules self.pass result }
+        ensures events { Schedules self.pass result }
+        ensures packets { SchedulesQuietly self.pass result }
     {
         let mut caller = self;
         for _ in rt.forever() {
@@ -93,7 +99,8 @@ impl Caller {
     /// (`net_rx_action`, `napi_thread_wait`). `Err`: it wasn't there, and nothing changed.
     pub fn take(self, napi: &Napi, kind: Kind) -> Result<Polling, Caller>
         requires { IsSeatOf napi.now self.pass }
-        ensures { Takes kind self.pass result }
+        ensures event { Takes kind self.pass result }
+        ensures packets { TakesFresh self.pass result }
     {
         let Caller { mut pass, number } = self;
         if !napi.table.take(&mut pass, kind) {

@@ -9,13 +9,13 @@ ghost use Rattle.napi_calls.specs.Seats.{number_of, controller_of, state_of, rin
 ghost use Rattle.napi_calls.specs.Instance.{IsSeatOf};
 ghost use Rattle.napi_calls.specs.Made.{Made, WasLost};
 ghost use Rattle.napi_calls.specs.Calls.{TriesToTake, RunsUnlessBusy, Disables, EnablesAt, Enables};
+ghost use Rattle.napi_calls.specs.Packets.{Quiet, HoldsOn, IsSame, IsFresh, GivesBack, TriesToTakeFresh, received_before};
 
 use crate::answers::TryTake;
 use crate::between::{Between, Nothing};
 use crate::types::{Control, Marked, Napi, Off, On};
 use rx_ring::{RxCounts, RxIn};
 use std::sync::Wait;
-use std::thread;
 
 impl Control<On> {
     /// What the controller of an enabled instance knows. It does nothing.
@@ -29,7 +29,8 @@ impl Control<On> {
     /// Marks that a disable is pending: from now on schedules are refused (the first step of `napi_disable`).
     pub fn mark(self, napi: &Napi) -> Control<Marked>
         requires { IsSeatOf napi.now self.pass }
-        ensures { Made self.pass (MarkDisable ∷ []) result.pass }
+        ensures event { Made self.pass (MarkDisable ∷ []) result.pass }
+        ensures packets { Quiet self.pass result.pass }
     {
         let Control {
             mut pass,
@@ -42,11 +43,26 @@ impl Control<On> {
         }
     }
 
-    /// Disables the instance (`napi_disable`): marks it, and tries until whoever has it has released it. Between two tries it
-    /// leaves the processor to others (`usleep_range` there), so that whoever has it can go on.
+    /// Disables the instance (`napi_disable`): marks it, and tries until whoever has it has released it.
     pub fn disable<R: Wait>(self, rt: &R, napi: &Napi) -> Control<Off>
         requires { IsSeatOf napi.now self.pass }
-        ensures { Disables self.pass result.pass }
+        ensures events { Disables self.pass result.pass }
+        ensures packets { IsFresh self.pass result.pass result.state.ctx }
+    {
+        self.disable_pausing(rt, napi, &mut Nothing)
+    }
+
+    /// As [`disable`](Control::disable), and runs `pause` after each try that found the instance busy: there a thread leaves
+    /// the processor to others (`usleep_range` there), so that whoever has the instance can go on.
+    pub fn disable_pausing<R: Wait, P: Between>(
+        self,
+        rt: &R,
+        napi: &Napi,
+        pause: &mut P,
+    ) -> Control<Off>
+        requires { IsSeatOf napi.now self.pass }
+        ensures events { Disables self.pass result.pass }
+        ensures packets { IsFresh self.pass result.pass result.state.ctx }
     {
         let mut control = self.mark(napi);
         for _ in rt.forever() {
@@ -54,7 +70,7 @@ impl Control<On> {
                 TryTake::Taken(taken) => return taken,
                 TryTake::Busy(busy) => {
                     control = busy;
-                    thread::yield_now();
+                    pause.run();
                 }
                 TryTake::Changed(changed) => control = changed,
             }
@@ -76,7 +92,8 @@ impl Control<Marked> {
     /// step of `napi_disable`). It doesn't wait.
     pub fn try_take(self, napi: &Napi) -> TryTake
         requires { IsSeatOf napi.now self.pass }
-        ensures { TriesToTake self.pass result }
+        ensures events { TriesToTake self.pass result }
+        ensures packets { TriesToTakeFresh self.pass result }
     {
         self.try_take_between(napi, &mut Nothing)
     }
@@ -85,6 +102,7 @@ impl Control<Marked> {
     pub fn try_take_between<B: Between>(self, napi: &Napi, between: &mut B) -> TryTake
         requires { IsSeatOf napi.now self.pass }
         ensures events { TriesToTake self.pass result }
+        ensures packets { TriesToTakeFresh self.pass result }
         ensures run { RunsUnlessBusy result (between.new ≡ between.old) (B.ran between.old between.new) }
     {
         let Control {
@@ -116,13 +134,15 @@ impl Control<Marked> {
 }
 
 impl Control<Off> {
-    /// What the controller of a disabled instance knows, and that its context is that of the instance's ring. It does nothing.
+    /// What the controller of a disabled instance knows, and that its context is that of the instance's ring, which has
+    /// received just what was delivered. It does nothing.
     pub fn knows(&self)
         ensures shows { ShowsLegal self.now.pass }
         ensures number { number_of self.now.pass ≡ controller_of self.now.pass }
         ensures place { (state_of self.now.pass).place ≡ place.Control (number_of self.now.pass) }
         ensures context { ring_of self.now.pass ≡ Some (ring_name self.now.state.ctx) }
         ensures flag { (state_of self.now.pass).flags.disable ≡ false }
+        ensures received { received_list self.now.state.ctx ≡ received_before self.now.pass }
     {}
 
     /// What is counted of the ring's polls so far.
@@ -146,7 +166,8 @@ impl Control<Off> {
     /// nothing is decided.
     pub fn try_enable(self, napi: &Napi, threaded: bool) -> Result<Control<On>, Control<Off>>
         requires { IsSeatOf napi.now self.pass }
-        ensures { MatchResult result (λ r. EnablesAt threaded self.pass r.pass) (λ r. WasLost self.pass r.pass) }
+        ensures events { MatchResult result (λ r. EnablesAt threaded self.pass r.pass) (λ r. WasLost self.pass r.pass) }
+        ensures packets { MatchResult result (λ r. GivesBack self.pass self.state.ctx r.pass) (λ r. HoldsOn self.pass r.pass × IsSame self.state.ctx r.state.ctx) }
     {
         self.try_enable_between(napi, threaded, &mut Nothing)
     }
@@ -160,6 +181,7 @@ impl Control<Off> {
     ) -> Result<Control<On>, Control<Off>>
         requires { IsSeatOf napi.now self.pass }
         ensures events { MatchResult result (λ r. EnablesAt threaded self.pass r.pass) (λ r. WasLost self.pass r.pass) }
+        ensures packets { MatchResult result (λ r. GivesBack self.pass self.state.ctx r.pass) (λ r. HoldsOn self.pass r.pass × IsSame self.state.ctx r.state.ctx) }
         ensures run { B.ran between.old between.new }
     {
         let Control {
@@ -184,7 +206,8 @@ impl Control<Off> {
     /// Enables the instance, try after try until one decides (`napi_enable`).
     pub fn enable<R: Wait>(self, rt: &R, napi: &Napi, threaded: bool) -> Control<On>
         requires { IsSeatOf napi.now self.pass }
-        ensures { Enables threaded self.pass result.pass }
+        ensures events { Enables threaded self.pass result.pass }
+        ensures packets { GivesBack self.pass self.state.ctx result.pass }
     {
         let mut control = self;
         for _ in rt.forever() {

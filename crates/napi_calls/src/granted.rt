@@ -5,6 +5,7 @@ ghost use Rattle.napi_model.specs.declared.event.Operation.TheVariants.{Look, Ha
 ghost use Rattle.napi_calls.specs.Seats.{number_of, state_of, ShowsLegal};
 ghost use Rattle.napi_calls.specs.Instance.{IsSeatOf};
 ghost use Rattle.napi_calls.specs.Made.{Made};
+ghost use Rattle.napi_calls.specs.Packets.{Quiet};
 
 use crate::types::{Caller, Granted, Napi};
 use napi_model::{Kind, Seen};
@@ -27,7 +28,8 @@ impl Granted {
     /// What the state word tells: the flags, and to whom the instance was handed while nobody has taken it.
     pub fn look(&mut self, napi: &Napi) -> Seen
         requires { IsSeatOf napi.now self.old.pass }
-        ensures { Made self.old.pass (Look result ∷ []) self.new.pass }
+        ensures event { Made self.old.pass (Look result ∷ []) self.new.pass }
+        ensures packets { Quiet self.old.pass self.new.pass }
     {
         napi.table.look(&mut self.pass)
     }
@@ -35,7 +37,8 @@ impl Granted {
     /// Hands the instance over to the list or to its thread (`____napi_schedule`).
     pub fn hand(self, napi: &Napi, kind: Kind) -> Caller
         requires { IsSeatOf napi.now self.pass }
-        ensures { Made self.pass (Hand kind ∷ []) result.pass }
+        ensures event { Made self.pass (Hand kind ∷ []) result.pass }
+        ensures packets { Quiet self.pass result.pass }
     {
         let Granted { mut pass, number } = self;
         napi.table.hand(&mut pass, kind);

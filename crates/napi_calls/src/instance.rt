@@ -8,7 +8,7 @@ ghost use Rattle.napi_word.specs.Passes.{view_of, IsPassOf, IsNew};
 ghost use Rattle.napi_calls.specs.declared.types.Caller.{Caller};
 ghost use Rattle.napi_calls.specs.declared.fault.CloseFault.TheVariants.{NotAll};
 ghost use Rattle.napi_calls.specs.Fault.{is_bad_count, fault_of};
-ghost use Rattle.napi_calls.specs.Instance.{callers_of, ring_of_instance, IsSeatOf, IsNewSeat};
+ghost use Rattle.napi_calls.specs.Instance.{callers_of, ring_of_instance, first_of_instance, IsSeatOf, IsNewSeat};
 ghost use Rattle.napi_calls.specs.Closed.{seats_of, IsClosed};
 
 use crate::fault::{CloseFault, NewFault};
@@ -98,6 +98,7 @@ impl Napi {
         ensures back { IfErr result (λ b. b.ctx ≡ ctx) }
         ensures count { IfOk result (λ r. (is_bad_count callers ≡ false) × (callers_of r.0 ≡ callers) × (length r.1.items ≡ callers)) }
         ensures ring { IfOk result (λ r. ring_of_instance r.0 ≡ ring_name ctx) }
+        ensures first { IfOk result (λ r. first_of_instance r.0 ≡ ctx) }
         ensures callers { IfOk result (λ r. (k : ℕ) (c : Caller) → slice_get r.1.items k ≡ Some c → IsNewSeat r.0 k c.pass) }
         ensures control { IfOk result (λ r. IsNewSeat r.0 callers r.2.pass) }
     {
@@ -140,6 +141,7 @@ impl Napi {
         ensures fault { IfErr result (λ b. (b.fault ≡ NotAll) × (length callers.items < callers_of self)) }
         ensures back { IfErr result (λ b. (b.napi ≡ self) × (b.callers ≡ callers) × (b.control ≡ control)) }
         ensures closed { IfOk result (λ ctx. IsClosed self callers.items control.pass ctx) }
+        ensures ctx { IfOk result (λ ctx. ctx ≡ control.state.ctx) }
     {
         if callers.len() < self.callers as usize {
             return Err(CloseBack {

@@ -14,6 +14,7 @@
 //! The `_between` forms run something between the look and the exchange of one call, for tests and simulators.
 #![tactic(auto)]
 
+mod abandon;
 mod answers;
 mod between;
 mod busy;

@@ -1,5 +1,5 @@
 //! The calls of a poller, who has the poll context.
-ghost use Rattle.std.specs.Prelude.{◌≡◌, ◌≤◌, [], ◌∷◌, length, Some, false};
+ghost use Rattle.std.specs.Prelude.{◌≡◌, ◌≤◌, [], ◌∷◌, ◌++◌, length, Some, false};
 ghost use Rattle.napi_model.specs.declared.state.Kind.TheVariants as kind;
 ghost use Rattle.napi_model.specs.declared.state.Place.TheVariants as place;
 ghost use Rattle.napi_model.specs.declared.event.Operation.TheVariants.{Look, Hand};
@@ -9,6 +9,7 @@ ghost use Rattle.napi_calls.specs.Seats.{number_of, state_of, ring_of, ShowsLega
 ghost use Rattle.napi_calls.specs.Instance.{IsSeatOf};
 ghost use Rattle.napi_calls.specs.Made.{Made};
 ghost use Rattle.napi_calls.specs.Calls.{TriesToComplete, Completes};
+ghost use Rattle.napi_calls.specs.Packets.{HoldsOn, GivesBack, TriesToGiveBack, CompletesGivenBack, polled};
 
 use crate::answers::{Completed, TryDone};
 use crate::between::{Between, Nothing};
@@ -37,6 +38,7 @@ impl Polling {
     pub fn look(&mut self, napi: &Napi) -> Seen
         requires { IsSeatOf napi.now self.old.pass }
         ensures event { Made self.old.pass (Look result ∷ []) self.new.pass }
+        ensures packets { HoldsOn self.old.pass self.new.pass }
         ensures ctx { self.new.ctx ≡ self.old.ctx }
     {
         napi.table.look(&mut self.pass)
@@ -49,6 +51,7 @@ impl Polling {
         ensures next { GivesNext weight self.old.ctx self.new.ctx batch.new.items }
         ensures work { result ≡ length batch.new.items }
         ensures pass { self.new.pass ≡ self.old.pass }
+        ensures polled { polled self.new.pass self.new.ctx ≡ polled self.old.pass self.old.ctx ++ batch.new.items }
     {
         self.ctx.poll(weight, batch)
     }
@@ -72,7 +75,8 @@ impl Polling {
     /// Hands the instance to the list again, to be polled once more (the repoll of `napi_poll`). The context goes back.
     pub fn requeue(self, napi: &Napi) -> Caller
         requires { IsSeatOf napi.now self.pass }
-        ensures { Made self.pass (Hand kind.List ∷ []) result.pass }
+        ensures event { Made self.pass (Hand kind.List ∷ []) result.pass }
+        ensures packets { GivesBack self.pass self.ctx result.pass }
     {
         let Polling {
             mut pass,
@@ -87,7 +91,8 @@ impl Polling {
     /// Ends the poll, in one try (`napi_complete_done`): a look, and an exchange. It doesn't wait.
     pub fn try_complete(self, napi: &Napi) -> TryDone
         requires { IsSeatOf napi.now self.pass }
-        ensures { TriesToComplete self.pass result }
+        ensures events { TriesToComplete self.pass result }
+        ensures packets { TriesToGiveBack self.pass self.ctx result }
     {
         self.try_complete_between(napi, &mut Nothing)
     }
@@ -96,6 +101,7 @@ impl Polling {
     pub fn try_complete_between<B: Between>(self, napi: &Napi, between: &mut B) -> TryDone
         requires { IsSeatOf napi.now self.pass }
         ensures events { TriesToComplete self.pass result }
+        ensures packets { TriesToGiveBack self.pass self.ctx result }
         ensures run { B.ran between.old between.new }
     {
         let Polling {
@@ -120,7 +126,8 @@ impl Polling {
     /// Ends the poll, try after try until one decides (`napi_complete_done`).
     pub fn complete<R: Wait>(self, rt: &R, napi: &Napi) -> Completed
         requires { IsSeatOf napi.now self.pass }
-        ensures { Completes self.pass result }
+        ensures events { Completes self.pass result }
+        ensures packets { CompletesGivenBack self.pass self.ctx result }
     {
         let mut polling = self;
         for _ in rt.forever() {

@@ -1,8 +1,9 @@
 //! The values on which calls are made. Each has a seat of the instance, with what its type says of it, and must be spent.
 ghost use Rattle.std.specs.Prelude.{◌≡◌, Some, true, false};
 ghost use Rattle.napi_model.specs.declared.state.Place.TheVariants as place;
-ghost use Rattle.napi_word.specs.Passes.{controller_of_table};
-ghost use Rattle.napi_calls.specs.Knows.{Free, Stands, BusyPolls, Controls, Has};
+ghost use Rattle.napi_word.specs.View.{received_in};
+ghost use Rattle.napi_word.specs.Passes.{view_of, controller_of_table};
+ghost use Rattle.napi_calls.specs.Knows.{Free, Stands, BusyPolls, Controls, Has, received_held};
 
 use napi_word::{Pass, StateTable};
 use rx_ring::RxCtx;
@@ -64,14 +65,17 @@ pub trait Mode {
 }
 
 /// The instance is disabled, and the controller has its poll context.
+#[derive(Drop)]
 pub struct Off {
     pub(crate) ctx: RxCtx,
 }
 
 /// The instance is enabled.
+#[derive(Drop)]
 pub struct On;
 
 /// A disable is pending: the instance is to be taken from whoever has it, as soon as that one releases it.
+#[derive(Drop)]
 pub struct Marked;
 
 impl Mode for Off {
@@ -113,4 +117,5 @@ pub struct Control<S: Mode> {
     pub(crate) state: S,
     ghost controls: { Controls S.role S.disable pass },
     ghost has: { Has pass (S.ctx state) },
+    ghost exact: { received_held (S.ctx state) (received_in (view_of pass)) ≡ received_in (view_of pass) },
 }

@@ -4,10 +4,12 @@
 //! or that of the fault. The words after the program's name ask for a mode and for the numbers of a run.
 #![tactic(auto)]
 
-use replay_modes::run_program;
+mod program;
+
+use crate::program::run_program;
+use report_text::{end_by, given_words};
 use std::io;
 use std::process::ExitCode;
-use trace_replay::{end_by, given_words};
 
 // The program over its real ends.
 fn main(rt: HostRuntime) -> ExitCode {

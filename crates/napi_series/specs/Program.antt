@@ -7,12 +7,12 @@ use Rattle.replay_words.specs.Words.{Text, asked_of}
 use Rattle.replay_words.specs.declared.mode.Mode.TheVariants.{Serial}
 use Rattle.replay_words.specs.declared.settings.Settings.{Settings}
 use Rattle.replay_words.specs.declared.words.WordFault.TheVariants.{Usage, OutOfMemory}
-use Rattle.trace_replay.specs.Answer.{IsOutside}
-use Rattle.trace_replay.specs.Program.{EndsBy}
-use Rattle.trace_replay.specs.declared.fault.ReplayFault.TheVariants.{OutputFailed}
-use Rattle.trace_replay.specs.declared.program.Ending.{Ending}
-use Rattle.trace_replay.specs.declared.program.ProgramFault.{ProgramFault}
-use Rattle.trace_replay.specs.declared.program.ProgramFault.TheVariants.{Words, Replay}
+use Rattle.report_text.specs.Outside.{IsOutside}
+use Rattle.report_text.specs.Program.{EndsBy}
+use Rattle.report_text.specs.declared.fault.ReplayFault.TheVariants.{OutputFailed}
+use Rattle.report_text.specs.declared.program.Ending.{Ending}
+use Rattle.report_text.specs.declared.program.ProgramFault.{ProgramFault}
+use Rattle.report_text.specs.declared.program.ProgramFault.TheVariants.{Words, Replay}
 
 -- the words ask for a line of each so many rows, by these settings
 pub record AskFor (words : List Text) (every : ℕ) (settings : Settings) : Type 0 where

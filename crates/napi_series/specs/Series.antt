@@ -3,19 +3,20 @@
 use Rattle.std.specs.Prelude.{ℕ, zero, suc, ◌+◌, ◌%◌, ◌==◌, List, [], ◌∷◌, ◌++◌, Option, Some, None, Result, Ok, Err, codes, decimal, flat_map, if◌then◌else◌, length}
 use Rattle.std.specs.Fmt.{signed_decimal}
 use Rattle.std.specs.List.{slice_get}
-use Rattle.device_model.specs.Trace.{records_of, trace_of}
-use Rattle.device_model.specs.declared.counts.DeviceCounts.{DeviceCounts}
-use Rattle.device_model.specs.declared.fault.TraceFault.{TraceFault}
-use Rattle.device_model.specs.declared.row.Row.{Row}
-use Rattle.device_model.specs.declared.transmit.TxCounts.{TxCounts}
+use Rattle.trace_rows.specs.Trace.{records_of, trace_of}
+use Rattle.devices.specs.declared.counts.DeviceCounts.{DeviceCounts}
+use Rattle.trace_rows.specs.declared.fault.TraceFault.{TraceFault}
+use Rattle.trace_rows.specs.declared.row.Row.{Row}
+use Rattle.transmit_sides.specs.declared.transmit.TxCounts.{TxCounts}
 use Rattle.dql_core.specs.Counter.{distance_of}
 use Rattle.replay_words.specs.declared.settings.Settings.{Settings}
 use Rattle.trace_replay.specs.After.{counts_after, polled_after}
 use Rattle.trace_replay.specs.Replay.{world_of}
-use Rattle.trace_replay.specs.Report.{flag, state_word}
+use Rattle.report_text.specs.Lines.{flag}
+use Rattle.trace_replay.specs.Report.{state_word}
 use Rattle.trace_replay.specs.World.{World}
-use Rattle.trace_replay.specs.declared.fault.ReplayFault.{ReplayFault}
-use Rattle.trace_replay.specs.declared.fault.ReplayFault.TheVariants.{Trace}
+use Rattle.report_text.specs.declared.fault.ReplayFault.{ReplayFault}
+use Rattle.report_text.specs.declared.fault.ReplayFault.TheVariants.{Trace}
 use Rattle.trace_replay.specs.declared.line.Line.{Line}
 use Rattle.trace_replay.specs.declared.line.Line.TheVariants.{Softirq, Kthread, Busy}
 

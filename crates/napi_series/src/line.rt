@@ -3,9 +3,11 @@
 ghost use Rattle.std.specs.Prelude.{◌≡◌, ◌++◌, OnOk, string_bytes};
 ghost use Rattle.napi_series.specs.Series.{device_fields, line_of, queue_fields, row_fields, run_fields};
 
-use device_model::{DeviceCounts, Row, TxCounts};
+use devices::DeviceCounts;
 use std::alloc::AllocError;
 use trace_replay::{Line, state_word};
+use trace_rows::Row;
+use transmit_sides::TxCounts;
 
 fn add_row(text: &mut String, number: u32, row: &Row) -> Result<(), AllocError>
     ensures { OnOk result (string_bytes text.new ≡ string_bytes text.old ++ row_fields number row.now) }

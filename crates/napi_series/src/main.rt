@@ -11,9 +11,9 @@ mod series;
 mod words;
 
 use crate::program::run_program;
+use report_text::{Ending, end_by, given_words};
 use std::io;
 use std::process::ExitCode;
-use trace_replay::{Ending, end_by, given_words};
 
 // The program over its real ends.
 fn run(rt: &HostRuntime) -> Ending {

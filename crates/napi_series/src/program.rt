@@ -3,14 +3,14 @@
 ghost use Rattle.std.specs.Prelude.{◌≡◌, ◌≢◌, ℕ, List, Some, IfErr, OnOk, map, string_bytes};
 ghost use Rattle.std.specs.Io.KnownBytes.{Appends, Keeps};
 ghost use Rattle.napi_series.specs.Program.{Failed, IsFault, IsSeries};
-ghost use Rattle.trace_replay.specs.declared.fault.ReplayFault.TheVariants.{OutputFailed};
-ghost use Rattle.trace_replay.specs.declared.program.ProgramFault.TheVariants.{Replay};
+ghost use Rattle.report_text.specs.declared.fault.ReplayFault.TheVariants.{OutputFailed};
+ghost use Rattle.report_text.specs.declared.program.ProgramFault.TheVariants.{Replay};
 
 use crate::series::write_series;
 use crate::words::parse_series_words;
+use report_text::{Ending, ProgramFault, end_by};
 use std::alloc::Global;
 use std::io::{Read, Write};
-use trace_replay::{Ending, ProgramFault, end_by};
 
 // Replays the input as the words ask for, and writes its series.
 fn write_asked<R: Read + Drop, W: Write>(

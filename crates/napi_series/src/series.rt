@@ -2,20 +2,21 @@
 
 ghost use Rattle.std.specs.Prelude.{◌≡◌, ◌≢◌, ◌⊎◌, ◌≤◌, ◌<◌, ◌+◌, ◌++◌, [], ℕ, List, Ok, Err, Some, IfOk, IfErr, OnOk, length, slice_get, string_bytes};
 ghost use Rattle.std.specs.Io.KnownBytes.{Appends, Keeps};
-ghost use Rattle.device_model.specs.Trace.{AcceptedAfter};
-ghost use Rattle.device_model.specs.declared.fault.TraceFault.TheVariants.{OutOfMemory};
+ghost use Rattle.trace_rows.specs.Trace.{AcceptedAfter};
+ghost use Rattle.trace_rows.specs.declared.fault.TraceFault.TheVariants.{OutOfMemory};
 ghost use Rattle.napi_series.specs.Series.{part_after, series_by, series_of};
-ghost use Rattle.trace_replay.specs.Answer.{IsOutside};
+ghost use Rattle.report_text.specs.Outside.{IsOutside};
 ghost use Rattle.trace_replay.specs.After.{IsAfter};
 ghost use Rattle.trace_replay.specs.Replay.{world_of};
-ghost use Rattle.trace_replay.specs.declared.fault.ReplayFault.TheVariants.{OutputFailed, Trace};
+ghost use Rattle.report_text.specs.declared.fault.ReplayFault.TheVariants.{OutputFailed, Trace};
 
 use crate::line::add_line;
-use device_model::{Row, read_trace};
 use replay_words::Settings;
+use report_text::ReplayFault;
 use std::alloc::{AllocError, Global};
 use std::io::{Read, Write};
-use trace_replay::{ReplayFault, SerialReplay};
+use trace_replay::SerialReplay;
+use trace_rows::{Row, read_trace};
 
 const HEADER: &str =
     "row,moment,device,state,waiting,arrived,dropped,polled,in_flight,limit,avail,stopped,polls,work,squeezed\n";

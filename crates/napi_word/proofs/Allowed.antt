@@ -1,10 +1,14 @@
 -- A step is allowed where it is a legal one whose word is right, at each state that the view allows.
-use Rattle.std.proofs.Common.{◌≡◌, ◌≢◌, ℕ, zero, suc, set, length, [], ◌∷◌, ◌++◌, Option, Some, None, true, false, unwrap_or, refl, sym, ap, ◌∙◌, subst, inr, true≢false, arith}
+use Rattle.std.proofs.Common.{◌≡◌, ◌≢◌, ℕ, zero, suc, set, length, [], ◌∷◌, ◌++◌, Option, Some, None, Bool, List, true, false, not, ◌&&◌, unwrap_or, refl, sym, ap, ◌∙◌, subst, inr, true≢false, arith}
 use mathlib.Core.Option as maybe
+use mathlib.Core.List.{IsPrefix}
 use lib.ListN.{get_elem?}
+use Rattle.rx_ring.specs.declared.packet.Packet.{Packet}
+use Rattle.napi_word.specs.declared.view.Delivery.{Delivery}
+use Rattle.napi_word.proofs.Deliveries.{prefix_self, to_prefix, of_prefix, received_snoc, last_snoc, More, not_given, more_none, more_one}
 use Rattle.atomic_table.specs.Table.{Me, Act, keeps, takes, gives, rest, put_back, homes_after, carried_after, Valid, Allows}
 use Rattle.rx_ring.specs.declared.ends.RxCtx.{RxCtx}
-use Rattle.rx_ring.specs.Ends.{RingName, ring_name}
+use Rattle.rx_ring.specs.Ends.{RingName, ring_name, received_list}
 use Rattle.napi_model.specs.declared.state.State.{State as Napi}
 use Rattle.napi_model.specs.declared.state.Seen.{Seen}
 use Rattle.napi_model.specs.declared.state.Place.{Place}
@@ -16,12 +20,12 @@ use Rattle.napi_model.proofs.Histories.{state_after-snoc}
 use Rattle.napi_word.specs.declared.view.Key.{Key}
 use Rattle.napi_word.specs.declared.view.Holds.{Holds}
 use Rattle.napi_word.specs.declared.view.Holds.TheVariants.{Nothing, Within, Out}
-use Rattle.napi_word.specs.View.{View, is_pass, number_of, place_in, ring_of}
-use Rattle.napi_word.specs.Slot.{Content, Carried, has_at, is_out, owns_slot, hold_of, has_slot, ring_in, Tied, Moves, stays, taken, given, moved}
-use Rattle.napi_word.specs.Rule.{Home, Homes, Kept, Holding}
+use Rattle.napi_word.specs.View.{View, is_pass, number_of, place_in, ring_of, delivery, own_deliveries, delivered, received_by, received_in, first_in, last_of, Continues}
+use Rattle.napi_word.specs.Slot.{Content, Carried, has_at, is_out, owns_slot, hold_of, has_slot, ring_in, beside_in, carried_received, Tied, Moves, stays, taken, given, moved, Gives, Shifts, Delivers}
+use Rattle.napi_word.specs.Rule.{Home, Homes, Owned, Fits, Kept, Holding}
 use Rattle.napi_word.specs.Told.{told, laid_down}
 use Rattle.napi_word.proofs.Places.{has_out, has_same, in_no_hand}
-use Rattle.napi_word.proofs.Keeps.{St, Open, opened, grown, running, Knows, knows, own_fits, found, steps, grew, again}
+use Rattle.napi_word.proofs.Keeps.{St, Open, opened, grown, running, Knows, knows, own_fits, owned, found, steps, grew, again}
 
 -- ---- marks
 
@@ -70,6 +74,11 @@ ring_kept [] v w e f = refl
 ring_kept ((k, Some y) ∷ l) v w e f = e ∙ f
 ring_kept ((k, None) ∷ l) v w e f = refl
 
+some_held : {h : Holds} (k : ℕ) (x : RxCtx) (l : Carried) → hold_of ((k, Some x) ∷ l) ≡ Some h → has_slot h ≡ true
+some_held zero x [] e = ap has_slot (sym (hold_same e))
+some_held zero x (y ∷ l) e = absurd (cc)
+some_held (suc k) x l e = absurd (cc)
+
 set_one : (homes : Homes) (a : maybe.Option Content) → length homes ≡ 1 → set homes 0 a ≡ a ∷ []
 set_one [] a e = absurd (omega arith)
 set_one (x ∷ []) a e = refl
@@ -106,51 +115,127 @@ module _ (key : Key) (id : ℕ) (me : Me Content View) (h : Holds) (tie : Tied h
   ring_now : ring_of me.0 ≡ Some (ring_name o.first.ring)
   ring_now = ap ring_of o.is
 
+  abbrev ring : RxCtx
+  ring = key.ring.value
+
+  fits_now : Fits key r.history r.deliveries r.seat (id, 0) o.first
+  fits_now = own_fits key s r id me.0 at o
+
+  owned_now : Owned key r.history r.deliveries r.seat (id, 0) o.first c
+  owned_now = owned key s r id me.0 at o
+
+  shown_now : delivered me.0 ≡ o.first.delivered
+  shown_now = ap delivered o.is
+
+  -- who has the slot knows all deliveries
+  all_known : has_at c now.place ≡ true → o.first.delivered ≡ r.deliveries
+  all_known = owned_now.has
+
+  received_now : received_in me.0 ≡ received_by ring o.first.delivered
+  received_now = ap received_in o.is ∙ ap (λ (x : RxCtx). received_by x o.first.delivered) fits_now.ring
+
+  delivers_by : (m : Moves) (me' : Me Content View) → first_in me'.0 ≡ Some o.first.ring → Shifts m r.deliveries me me' → Delivers m me me'
+  delivers_by m me' first y = record {
+    before = r.deliveries;
+    begins = λ k x is. (r.strands id me.0 at k x is).delivered;
+    exact = owned_now.delivers ∙ ap (own_deliveries c) (sym shown_now);
+    held = λ owns. sym (shown_now ∙ all_known (has_now ∙ sym tie.right ∙ owns));
+    first = first ∙ sym (ap first_in o.is);
+    shifts = y;
+  }
+
+  abbrev after_place : Operation → Place
+  after_place d = (after_by c d now).place
+
   module _ (d : Operation) where
-    abbrev w : View
-    w = grown o.first c r.history d ∷ []
+    abbrev w : List Delivery → View
+    w ds = grown o.first c r.history d ds ∷ []
 
     abbrev q : Place
-    q = (after_by c d now).place
+    q = after_place d
 
-    right_after : owns_slot w ≡ has_at c q
-    right_after =
+    right_after : (ds : List Delivery) → owns_slot (w ds) ≡ has_at c q
+    right_after ds =
         ap (λ (n : Option ℕ). has_at (unwrap_or n 0) (state_after (opening o.first.controller) (r.history ++ event c d ∷ [])).place) o.numbered
-        ∙ ap (λ (k : ℕ). has_at c (state_after (opening k) (r.history ++ event c d ∷ [])).place) (own_fits key s r id me.0 at o).controller
+        ∙ ap (λ (k : ℕ). has_at c (state_after (opening k) (r.history ++ event c d ∷ [])).place) fits_now.controller
         ∙ ap (λ (u : Napi). has_at c u.place) (state_after-snoc start r.history (event c d))
 
-    pub slot_step : (m : Moves) → Fitting m c now.place q → (m ≡ given → h ≢ Out)
-        → (a : Act Content) × Valid s.homes me.1 a × (is_out q ≡ false → Home key.ring.value (homes_after s.homes me.1 a)) × Tied (moved m h) (w, carried_after me.1 a)
-    slot_step stays f n = (
-      keeps,
-      tt,
-      λ y. r.slot (sym f.0 ∙ y),
-      record { marked = tie.marked; right = right_after ∙ f.1 ∙ has_now; ring = ring_kept me.1 me.0 w tie.ring ring_now },
-    )
+    received_then : (ds : List Delivery) → received_in (w ds) ≡ received_by ring ds
+    received_then ds = ap (λ (x : RxCtx). received_by x ds) fits_now.ring
+
+    -- a context that is kept in hand has still received what was delivered
+    received_kept : (l : Carried) → hold_of l ≡ Some h → IsPrefix (received_in me.0) (carried_received l me.0) → IsPrefix (received_in (w r.deliveries)) (carried_received l (w r.deliveries))
+    received_kept [] e p = prefix_self (received_in (w r.deliveries))
+    received_kept ((k, None) ∷ l) e p = prefix_self (received_in (w r.deliveries))
+    received_kept ((k, Some x) ∷ l) e p =
+        subst (λ (xs : List Packet). IsPrefix xs (received_list x)) (received_now ∙ ap (received_by ring) (all_known (has_now ∙ some_held k x l e)) ∙ sym (received_then r.deliveries)) p
+
+    -- how the slot and the deliveries go on
+    pub record Went (m : Moves) : Type 0 where
+      pub ds : List Delivery
+      pub more : More now (event c d) r.deliveries ds
+      pub act : Act Content
+      pub valid : Valid s.homes me.1 act
+      pub home : is_out q ≡ false → Home key.ring.value ds (homes_after s.homes me.1 act)
+      pub tied : Tied (moved m h) (w ds, carried_after me.1 act)
+      pub told : Delivers m me (w ds, carried_after me.1 act)
+
+    pub slot_step : (m : Moves) → Fitting m c now.place q → (m ≡ given → h ≢ Out) → Went m
+    slot_step stays f n = record {
+      ds = r.deliveries;
+      more = more_none now (event c d) r.deliveries (not_given c now.place q f.0);
+      act = keeps;
+      valid = tt;
+      home = λ y. r.slot (sym f.0 ∙ y);
+      tied = record {
+        marked = tie.marked;
+        right = right_after r.deliveries ∙ f.1 ∙ has_now;
+        ring = ring_kept me.1 me.0 (w r.deliveries) tie.ring ring_now;
+        unmarked = tie.unmarked;
+        received = of_prefix _ _ (received_kept me.1 tie.marked (to_prefix _ _ tie.received));
+      };
+      told = delivers_by stays (w r.deliveries, me.1) refl (refl, refl);
+    }
     slot_step taken f n =
         let home = r.slot f.0 in
-        let empty = hold_nothing me.1 (tie.marked ∙ ap Some (nothing h (sym has_now ∙ in_no_hand c now.place f.0))) in (
-          takes 0 (Some home.0),
-          ap (λ (hs : Homes). get_elem? hs 0) home.1,
-          λ y. absurd (true≢false (sym (has_out c q f.1) ∙ y)),
-          record {
+        let empty = hold_nothing me.1 (tie.marked ∙ ap Some (nothing h (sym has_now ∙ in_no_hand c now.place f.0))) in
+        let all : received_list home.0 ≡ received_in (w r.deliveries) = home.4 ∙ sym (received_then r.deliveries) in record {
+          ds = r.deliveries;
+          more = more_none now (event c d) r.deliveries (ap (λ (b : Bool). b && not (is_out q)) (in_no_hand c now.place f.0));
+          act = takes 0 (Some home.0);
+          valid = ap (λ (hs : Homes). get_elem? hs 0) home.1;
+          home = λ y. absurd (true≢false (sym (has_out c q f.1) ∙ y));
+          tied = record {
             marked = ap (λ (l : Carried). hold_of ((0, Some home.0) ∷ l)) empty;
-            right = right_after ∙ f.1;
-            ring = ap Some (home.2 ∙ ap ring_name (sym (own_fits key s r id me.0 at o).ring));
-          },
-        )
+            right = right_after r.deliveries ∙ f.1;
+            ring = ap Some (home.2 ∙ ap ring_name (sym fits_now.ring));
+            unmarked = home.3;
+            received = of_prefix _ _ (subst (λ (xs : List Packet). IsPrefix (received_in (w r.deliveries)) xs) (sym all) (prefix_self (received_in (w r.deliveries))));
+          };
+          told = delivers_by taken (w r.deliveries, (0, Some home.0) ∷ me.1) refl (refl, (home.0, ap (λ (l : Carried). (0, Some home.0) ∷ l) empty, all, ap (λ (x : RxCtx). Some (last_of x r.deliveries)) fits_now.ring ∙ ap Some (sym home.5)));
+        }
     slot_step given f n =
         let held = hold_within me.1 (tie.marked ∙ ap Some (within h (sym has_now ∙ f.0) (n refl))) in
-        let named : ring_name held.0 ≡ ring_name o.first.ring = name_same (ap (λ (l : Carried). ring_in l me.0) (sym held.1) ∙ tie.ring ∙ ring_now) in (
-          gives,
-          tt,
-          λ y. (held.0, ap (λ (l : Carried). put_back s.homes l) held.1 ∙ set_one s.homes (maybe.some (Some held.0)) len, named ∙ ap ring_name (own_fits key s r id me.0 at o).ring),
-          record {
+        let named : ring_name held.0 ≡ ring_name o.first.ring = name_same (ap (λ (l : Carried). ring_in l me.0) (sym held.1) ∙ tie.ring ∙ ring_now) in
+        let more = subst (λ (l : Carried). IsPrefix (received_in me.0) (carried_received l me.0)) held.1 (to_prefix _ _ tie.received) in
+        let ds : List Delivery = r.deliveries ++ delivery c more.0 held.0 ∷ [] in
+        let owns : true ≡ owns_slot me.0 = sym f.0 ∙ has_now ∙ sym tie.right in
+        let all : received_list held.0 ≡ received_by ring ds = sym more.1 ∙ ap (λ (l : List Packet). l ++ more.0) (received_now ∙ ap (received_by ring) (all_known f.0)) ∙ sym (received_snoc ring r.deliveries c more.0 held.0) in record {
+          ds = ds;
+          more = more_one now (event c d) r.deliveries more.0 held.0 f.0 (λ i. f.0 i && not (f.1 i));
+          act = gives;
+          valid = tt;
+          home = λ y. (held.0, ap (λ (l : Carried). put_back s.homes l) held.1 ∙ set_one s.homes (maybe.some (Some held.0)) len, named ∙ ap ring_name fits_now.ring, ap beside_in (sym held.1) ∙ tie.unmarked, all, sym (last_snoc ring r.deliveries (delivery c more.0 held.0)));
+          tied = record {
             marked = ap (λ (l : Carried). hold_of (rest l)) held.1;
-            right = right_after ∙ in_no_hand c q f.1;
-            ring = ring_kept (rest me.1) w w (ap (λ (l : Carried). ring_in (rest l) w) held.1) refl;
-          },
-        )
+            right = right_after ds ∙ in_no_hand c q f.1;
+            ring = ring_kept (rest me.1) (w ds) (w ds) (ap (λ (l : Carried). ring_in (rest l) (w ds)) held.1) refl;
+            unmarked = ap (λ (l : Carried). beside_in (rest l)) held.1;
+            received = subst (λ (l : Carried). Continues (received_in (w ds)) (carried_received (rest l) (w ds))) (sym held.1) (of_prefix _ _ (prefix_self (received_in (w ds))));
+          };
+          told = delivers_by given (w ds, rest me.1) refl
+              (subst (λ (b : Bool). Gives b r.deliveries me (w ds, rest me.1)) owns (held.0, more.0, held.1, sym more.1, refl));
+        }
 
 module _ (key : Key) (slots id : ℕ) (me : Me Content View) (one : slots ≡ 1) (p : is_pass me.0 ≡ true) (h : Holds) (tie : Tied h me) where
   pub allowed : (g : ℕ → ℕ) (f : Seen → Operation) (m : Seen → Moves) → ((x : Seen) → m x ≡ given → h ≢ Out)
@@ -164,16 +249,17 @@ module _ (key : Key) (slots id : ℕ) (me : Me Content View) (one : slots ≡ 1)
       let d = f x in
       let t = turn now (number_of me.0) (knows key s r id me.0 at o) in
       let a = slot_step key id me h tie s r (len ∙ one) at o d (m x) t.slot (ready x) in (
-        grown o.first (number_of me.0) r.history d ∷ [],
-        a.0,
-        a.1,
-        inr (steps key s r id me.0 at o d g t.word t.legal (homes_after s.homes me.1 a.0) a.2),
+        grown o.first (number_of me.0) r.history d a.ds ∷ [],
+        a.act,
+        a.valid,
+        inr (steps key s r id me.0 at o d a.ds g t.word t.legal a.more (homes_after s.homes me.1 a.act) a.home),
         (
           x,
           found key s r id me.0 at o,
           (
-            grew key s r id me.0 at o d t.legal,
-            λ h' tie'. subst (λ (y : Holds). Tied (moved (m x) y) (grown o.first (number_of me.0) r.history d ∷ [], carried_after me.1 a.0)) (hold_same (sym tie.marked ∙ tie'.marked)) a.3,
+            grew key s r id me.0 at o d a.ds t.legal,
+            λ h' tie'. subst (λ (y : Holds). Tied (moved (m x) y) (grown o.first (number_of me.0) r.history d a.ds ∷ [], carried_after me.1 a.act)) (hold_same (sym tie.marked ∙ tie'.marked)) a.tied,
+            a.told,
           ),
         ),
       )

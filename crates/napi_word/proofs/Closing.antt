@@ -8,7 +8,7 @@ use lib.ListN.{get_elem?}
 use Rattle.atomic_table.specs.Table.{Final, Seen}
 use Rattle.atomic_table.proofs.Lists.{at_longer}
 use Rattle.rx_ring.specs.declared.ends.RxCtx.{RxCtx}
-use Rattle.rx_ring.specs.Ends.{RingName, ring_name}
+use Rattle.rx_ring.specs.Ends.{RingName, ring_name, received_list}
 use Rattle.rx_ring.proofs.Names.{same_name}
 use Rattle.napi_model.specs.Laws.{is_owner}
 use Rattle.napi_model.proofs.Owners.{ownership_kept, opens_sound}
@@ -25,7 +25,8 @@ use Rattle.napi_word.specs.declared.view.Key.{Key}
 use Rattle.napi_word.specs.declared.view.Holds.{Holds}
 use Rattle.napi_word.specs.declared.view.Holds.TheVariants.{Nothing, Within, Out}
 use Rattle.napi_word.specs.declared.view.Strand.{Strand}
-use Rattle.napi_word.specs.View.{View, is_pass, shown, mine, number_of, controller_of, place_in, ring_of}
+use Rattle.napi_word.specs.declared.view.Delivery.{Delivery}
+use Rattle.napi_word.specs.View.{View, first_in, delivered, own_deliveries, received_by, last_of, is_pass, shown, mine, number_of, controller_of, place_in, ring_of}
 use Rattle.napi_word.specs.Slot.{Content, is_out, has_at, has_slot}
 use Rattle.napi_word.specs.Rule.{Fits, Kept, Holding}
 use Rattle.napi_word.specs.Passes.{view_of, controller_of_table}
@@ -97,21 +98,21 @@ gathered_more p taken v w f f' g finds both = by p.holds refl finds
       some_out = λ e. let o = g.some_out (ap (λ (y : Found). y.out) (sym same) ∙ e) in (suc o.0, o.1, o.2, o.3);
       none_out = λ e. all_more (λ q. q.holds ≢ Out) p taken (λ b. cc) (g.none_out (ap (λ (y : Found). y.out) (sym same) ∙ e));
       none_within = λ e. all_more (λ q. q.holds ≢ Within) p taken (λ b. cc) (g.none_within (ap (λ (y : Found). y.ctx) (sym same) ∙ e));
-      ring = λ x e. let o = g.ring x (ap (λ (y : Found). y.ctx) (sym same) ∙ e) in (suc o.0, o.1, o.2, o.3);
+      ring = λ x e. let o = g.ring x (ap (λ (y : Found). y.ctx) (sym same) ∙ e) in (suc o.0, o.1, o.2, o.3, o.4);
     }
     by Within is t = record {
       views = views;
       some_out = λ e. let o = g.some_out (ap (λ (y : Found). y.out) (sym t.1) ∙ e) in (suc o.0, o.1, o.2, o.3);
       none_out = λ e. all_more (λ q. q.holds ≢ Out) p taken (λ b. cc) (g.none_out (ap (λ (y : Found). y.out) (sym t.1) ∙ e));
       none_within = λ e. let bad : Some t.0 ≡ None = ap (λ (y : Found). y.ctx) (sym t.1) ∙ e in absurd (cc);
-      ring = λ x e. (0, p, refl, t.2 ∙ ap (λ (y : RxCtx). Some (ring_name y)) (ctx_same (ap (λ (y : Found). y.ctx) (sym t.1) ∙ e)));
+      ring = λ x e. (0, p, refl, t.2 ∙ ap (λ (y : RxCtx). Some (ring_name y)) (ctx_same (ap (λ (y : Found). y.ctx) (sym t.1) ∙ e)), is);
     }
     by Out is same = record {
       views = views;
       some_out = λ e. (0, p, refl, is);
       none_out = λ e. absurd (true≢false (ap (λ (y : Found). y.out) (sym same) ∙ e));
       none_within = λ e. all_more (λ q. q.holds ≢ Within) p taken (λ b. cc) (g.none_within (ap (λ (y : Found). y.ctx) (sym same) ∙ e));
-      ring = λ x e. let o = g.ring x (ap (λ (y : Found). y.ctx) (sym same) ∙ e) in (suc o.0, o.1, o.2, o.3);
+      ring = λ x e. let o = g.ring x (ap (λ (y : Found). y.ctx) (sym same) ∙ e) in (suc o.0, o.1, o.2, o.3, o.4);
     }
 
 pub finds_within : (h : Holds) (ring : Option RingName) (before : Found) (x : RxCtx) → h ≡ Within → ring ≡ Some (ring_name x) → Finds h ring before (record before { ctx = Some x })
@@ -139,7 +140,7 @@ module _ (t : StateTable) (passes : List Pass) (v : View) (id : ℕ) (f : Found)
   front q = opened (view_of q) q.is_pass
 
   -- what the rule says of a pass's own strand
-  stood : (k : ℕ) (q : Pass) → slice_get passes k ≡ Some q → (j : ℕ) × Fits key h r.seat (id, j) (front q).first
+  stood : (k : ℕ) (q : Pass) → slice_get passes k ≡ Some q → (j : ℕ) × Fits key h r.deliveries r.seat (id, j) (front q).first
   stood k q e =
       let o = front q in
       let y = stands_in passes k q e 0 o.first (ap (λ (l : View). get_elem? l 0) o.is) in
@@ -211,6 +212,16 @@ module _ (t : StateTable) (passes : List Pass) (v : View) (id : ℕ) (f : Found)
   exact k q e = let o = front q in
       ((stood k q e).1.owned (number_of (view_of q)) o.numbered).whole ∙ sym (ap mine o.is)
 
+  pub firsts : (k : ℕ) (q : Pass) → slice_get passes k ≡ Some q → first_in (view_of q) ≡ Some key.ring.value
+  firsts k q e = ap first_in (front q).is ∙ ap Some (stood k q e).1.ring
+
+  pub deliveries_begin : (k : ℕ) (q : Pass) → slice_get passes k ≡ Some q → IsPrefix (delivered (view_of q)) r.deliveries
+  deliveries_begin k q e = subst (λ (l : List Delivery). IsPrefix l r.deliveries) (sym (ap delivered (front q).is)) (stood k q e).1.delivered
+
+  pub deliveries_exact : (k : ℕ) (q : Pass) → slice_get passes k ≡ Some q → own_deliveries (number_of (view_of q)) r.deliveries ≡ own_deliveries (number_of (view_of q)) (delivered (view_of q))
+  deliveries_exact k q e = let o = front q in
+      ((stood k q e).1.owned (number_of (view_of q)) o.numbered).delivers ∙ ap (λ (l : View). own_deliveries (number_of (view_of q)) (delivered l)) (sym o.is)
+
   pub longest : (k : ℕ) (p : Pass) → slice_get passes k ≡ Some p
       → ((j : ℕ) (q : Pass) → slice_get passes j ≡ Some q → length (shown (view_of q)) ≤ length (shown (view_of p)))
       → shown (view_of p) ≡ h
@@ -242,6 +253,23 @@ module _ (t : StateTable) (passes : List Pass) (v : View) (id : ℕ) (f : Found)
       let fit = stood k q e in
       let is : is_owner (number_of (view_of q)) (seen_place q) ≡ true = ap (is_owner (number_of (view_of q))) (sym (viewed k q e)) ∙ owner in
       place_since key s r (id, fit.0) o.first fit.1 (number_of (view_of q)) o.numbered is ∙ sym (viewed k q e)
+
+  has_now : (k : ℕ) (q : Pass) → slice_get passes k ≡ Some q → has_at (number_of (view_of q)) now.place ≡ has_slot q.holds
+  has_now k q e =
+      let o = front q in
+      let fit = stood k q e in
+      let n = number_of (view_of q) in
+      has_same n now.place (seen_place q) (owner_since key s r (id, fit.0) o.first fit.1 n o.numbered) (place_since key s r (id, fit.0) o.first fit.1 n o.numbered)
+      ∙ ap (has_at n) (sym (viewed k q e)) ∙ q.right
+
+  some_slot : (x : Holds) → x ≢ Nothing → has_slot x ≡ true
+  some_slot Nothing a = absurd (a refl)
+  some_slot Within a = refl
+  some_slot Out a = refl
+
+  pub deliveries_held : (k : ℕ) (q : Pass) → slice_get passes k ≡ Some q → q.holds ≢ Nothing → delivered (view_of q) ≡ r.deliveries
+  deliveries_held k q e some = let o = front q in
+      ap delivered o.is ∙ ((stood k q e).1.owned (number_of (view_of q)) o.numbered).has (has_now k q e ∙ some_slot q.holds some)
 
   pub controllers : (k : ℕ) (q : Pass) → slice_get passes k ≡ Some q → controller_of (view_of q) ≡ key.controller
   controllers k q e = ap controller_of (front q).is ∙ (stood k q e).1.controller
@@ -313,6 +341,19 @@ module _ (t : StateTable) (passes : List Pass) (v : View) (id : ℕ) (f : Found)
     right false (Some y) a b x e = let q = g.ring y b in ap ring_name (ctx_same (sym e)) ∙ named q.0 q.1 y q.2 q.3
     right false None a b x e = let y = in_slot a b in ap ring_name (ctx_same (sym e ∙ y.1)) ∙ y.2
 
+    received : (x : RxCtx) → picked f.out f.ctx slot ≡ Some x → ((k : ℕ) (q : Pass) → slice_get passes k ≡ Some q → q.holds ≡ Nothing)
+        → (received_list x ≡ received_by key.ring.value r.deliveries) × (x ≡ last_of key.ring.value r.deliveries)
+    received x e empty =
+        let home = r.slot (at_home empty) in
+        let there : slot ≡ Some home.0 = maybe.some-injective _ _ (sym there ∙ each 0 (Some home.0) (ap (λ (l : List (maybe.Option Content)). get_elem? l 0) home.1)) in
+        let is : x ≡ home.0 = by f.out f.ctx refl refl e there in
+        (ap received_list is ∙ home.4, is ∙ home.5)
+      where
+        by : (out : Bool) (held : Option RxCtx) → f.out ≡ out → f.ctx ≡ held → picked out held slot ≡ Some x → {y : RxCtx} → slot ≡ Some y → x ≡ y
+        by true held a b e t = absurd (cc)
+        by false (Some z) a b e t = let q = g.ring z b in let bad : Nothing ≡ Within = sym (empty q.0 q.1 q.2) ∙ q.4 in absurd (cc)
+        by false None a b e t = ctx_same (sym e ∙ t)
+
     pub closes : IsEnded t passes (picked f.out f.ctx slot)
     closes = record {
       history = h;
@@ -324,6 +365,14 @@ module _ (t : StateTable) (passes : List Pass) (v : View) (id : ℕ) (f : Found)
       longest = longest;
       places = places;
       others = r.few;
+      deliveries = r.deliveries;
+      firsts = firsts;
+      deliveries_order = r.order;
+      deliveries_begin = deliveries_begin;
+      deliveries_exact = deliveries_exact;
+      deliveries_others = r.few_deliver;
+      deliveries_held = deliveries_held;
+      received = λ x e empty. received x e empty;
       controllers = controllers;
       rings = rings;
       none = (gone f.out f.ctx refl refl, back);

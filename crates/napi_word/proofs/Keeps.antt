@@ -16,11 +16,13 @@ use Rattle.napi_model.proofs.Histories.{state_after-snoc, state_after-append, le
 use Rattle.napi_model.proofs.Owners.{sound_after, opens_sound, ownership_kept, owner_kept, disable_kept, controlled_after, opens_controlled}
 use Rattle.napi_word.specs.declared.view.Key.{Key}
 use Rattle.napi_word.specs.declared.view.Strand.{Strand}
+use Rattle.napi_word.specs.declared.view.Delivery.{Delivery}
 use Rattle.napi_word.specs.View.{View, is_pass, number_of, controller_of, mine, ring_of, state_in, place_in, disable_in, busy_in}
-use Rattle.napi_word.specs.Slot.{Content, is_out}
+use Rattle.napi_word.specs.Slot.{Content, has_at, is_out, is_given, one_if}
 use Rattle.napi_word.specs.Rule.{first_view, Home, Homes, Owned, Fits, Kept, Starts, Holding}
 use Rattle.napi_word.specs.Events.{Steps}
 use Rattle.napi_word.proofs.Owns.{own_mine, own_other, own_rest, begins_self, begins_more}
+use Rattle.napi_word.proofs.Deliveries.{prefix_self, has_others, givers_snoc, More}
 
 abbrev pub St : Type 0
 St = State Content View
@@ -44,8 +46,8 @@ opened [] p = absurd (true≢false (sym p))
 opened (x ∷ xs) p = record { first = x; extra = xs; is = refl; numbered = numbered_of x.number p }
 
 -- the strand after the event, behind the history h
-abbrev pub grown : Strand → ℕ → List Event → Operation → Strand
-grown x c h o = record x { seen = h ++ event c o ∷ []; mine = x.mine ++ event c o ∷ [] }
+abbrev pub grown : Strand → ℕ → List Event → Operation → List Delivery → Strand
+grown x c h o ds = record x { seen = h ++ event c o ∷ []; mine = x.mine ++ event c o ∷ []; delivered = ds }
 
 -- a pass is made after the start
 pub running : (key : Key) (s : St) → Holding key s → (id : ℕ) (v : View) → get_elem? s.views id ≡ maybe.some v → is_pass v ≡ true → Kept key s
@@ -70,7 +72,7 @@ pub record Knows (k : ℕ) (v : View) (c : ℕ) (now : Napi) : Type 0 where
   pub disable : c ≡ k → now.flags.disable ≡ disable_in v
 
 -- ---- what the rule says of a strand with a number: since the list that it has seen, others alone made events
-module _ (key : Key) (s : St) (r : Kept key s) (p : ℕ × ℕ) (x : Strand) (f : Fits key r.history r.seat p x) (c : ℕ) (numbered : x.number ≡ Some c) where
+module _ (key : Key) (s : St) (r : Kept key s) (p : ℕ × ℕ) (x : Strand) (f : Fits key r.history r.deliveries r.seat p x) (c : ℕ) (numbered : x.number ≡ Some c) where
   abbrev state_first : Napi
   state_first = opening key.controller
 
@@ -127,10 +129,10 @@ module _ (key : Key) (s : St) (r : Kept key s) (id : ℕ) (v : View) (at : get_e
   abbrev t : Napi
   t = state_after (opening key.controller) seen
 
-  pub own_fits : Fits key h r.seat (id, 0) o.first
+  pub own_fits : Fits key h r.deliveries r.seat (id, 0) o.first
   own_fits = r.strands id v at 0 o.first (ap (λ (l : View). get_elem? l 0) o.is)
 
-  pub owned : Owned key h r.seat (id, 0) o.first c
+  pub owned : Owned key h r.deliveries r.seat (id, 0) o.first c
   owned = own_fits.owned c o.numbered
 
   owner_now : is_owner c now.place ≡ is_owner c t.place
@@ -161,12 +163,12 @@ module _ (key : Key) (s : St) (r : Kept key s) (id : ℕ) (v : View) (at : get_e
   found = ap (λ (ws : List ℕ). get_or ws 0 0) r.word
 
   -- ---- one event more
-  module _ (d : Operation) where
+  module _ (d : Operation) (ds : List Delivery) where
     abbrev e : Event
     e = event c d
 
     abbrev pub next : Strand
-    next = grown o.first c h d
+    next = grown o.first c h d ds
 
     abbrev w : View
     w = next ∷ []
@@ -175,51 +177,61 @@ module _ (key : Key) (s : St) (r : Kept key s) (id : ℕ) (v : View) (at : get_e
     exact = own_mine c h e refl ∙ ap (λ (l : List Event). l ++ e ∷ []) owned.whole
 
     -- the other seats' strands stay
-    others : (j k : ℕ) → j ≢ id → (x : Strand) → Fits key h r.seat (j, k) x → Fits key (h ++ e ∷ []) r.seat (j, k) x
-    others j k apart x f = record {
+    others : IsLegalFor key.controller now e → More now e r.deliveries ds → (j k : ℕ) → j ≢ id → (x : Strand) → Fits key h r.deliveries r.seat (j, k) x → Fits key (h ++ e ∷ []) ds r.seat (j, k) x
+    others legal more j k apart x f = record {
       begins = begins_more x.seen h e f.begins;
-      owned = λ n is. let q = f.owned n is in record {
-        whole = own_other n h e (λ (same : c ≡ n). apart (ap (λ (p : ℕ × ℕ). p.0) (sym q.here ∙ ap r.seat (sym same) ∙ owned.here))) ∙ q.whole;
-        shown = q.shown;
-        here = q.here;
-        few = q.few;
-      };
+      delivered = more.begins x.delivered f.delivered;
+      owned = λ n is. let q = f.owned n is in
+          let other : c ≢ n = λ same. apart (ap (λ (p : ℕ × ℕ). p.0) (sym q.here ∙ ap r.seat (sym same) ∙ owned.here)) in record {
+            whole = own_other n h e other ∙ q.whole;
+            shown = q.shown;
+            delivers = more.others n other ∙ q.delivers;
+            has = λ there.
+                let before = sym (has_others key.controller n now e knows.sound legal other) ∙ ap (λ (u : Napi). has_at n u.place) (sym (state_after-snoc (opening key.controller) h e)) ∙ there in
+                q.has before ∙ sym (more.same n other before);
+            here = q.here;
+            few = q.few;
+          };
       controller = f.controller;
       ring = f.ring;
       begun = f.begun;
     }
 
-    next_fits : (k : ℕ) (x : Strand) → get_elem? w k ≡ maybe.some x → Fits key (h ++ e ∷ []) r.seat (id, k) x
-    next_fits zero x is = subst (Fits key (h ++ e ∷ []) r.seat (id, 0)) (maybe.some-injective _ _ is) record {
+    next_fits : (k : ℕ) (x : Strand) → get_elem? w k ≡ maybe.some x → Fits key (h ++ e ∷ []) ds r.seat (id, k) x
+    next_fits zero x is = subst (Fits key (h ++ e ∷ []) ds r.seat (id, 0)) (maybe.some-injective _ _ is) record {
       begins = begins_self (h ++ e ∷ []);
-      owned = λ n same. subst (Owned key (h ++ e ∷ []) r.seat (id, 0) next) (some_is (sym o.numbered ∙ same)) record { whole = exact; shown = exact; here = owned.here; few = owned.few };
+      delivered = prefix_self ds;
+      owned = λ n same. subst (Owned key (h ++ e ∷ []) ds r.seat (id, 0) next) (some_is (sym o.numbered ∙ same)) record { whole = exact; shown = exact; delivers = refl; has = λ there. refl; here = owned.here; few = owned.few };
       controller = own_fits.controller;
       ring = own_fits.ring;
       begun = own_fits.begun;
     }
     next_fits (suc k) x is = absurd (maybe.some-ne-none x (sym is))
 
-    grows : IsLegalFor key.controller now e → (homes : Homes) → (is_out (after now e).place ≡ false → Home key.ring.value homes)
+    grows : IsLegalFor key.controller now e → More now e r.deliveries ds → (homes : Homes) → (is_out (after now e).place ≡ false → Home key.ring.value ds homes)
         → Kept key record { words = word_of (seen_of (after now e)) ∷ []; homes = homes; views = set s.views id w }
-    grows legal homes slot = record {
+    grows legal more homes slot = record {
       history = h ++ e ∷ [];
+      deliveries = ds;
       seat = r.seat;
       legal = legal_snoc key.controller (opening key.controller) h e r.legal legal;
       word = ap (λ (u : Napi). word_of (seen_of u) ∷ []) (sym (state_after-snoc (opening key.controller) h e));
-      slot = subst (λ (u : Napi). is_out u.place ≡ false → Home key.ring.value homes) (sym (state_after-snoc (opening key.controller) h e)) slot;
+      slot = subst (λ (u : Napi). is_out u.place ≡ false → Home key.ring.value ds homes) (sym (state_after-snoc (opening key.controller) h e)) slot;
       strands = λ j u there k x is. ⊎_elim
-          (λ (y : (j ≡ id) × (w ≡ u)). subst (λ (i : ℕ). Fits key (h ++ e ∷ []) r.seat (i, k) x) (sym y.0) (next_fits k x (ap (λ (z : View). get_elem? z k) y.1 ∙ is)))
-          (λ (y : (j ≢ id) × (get_elem? s.views j ≡ maybe.some u)). others j k y.0 x (r.strands j u y.1 k x is))
+          (λ (y : (j ≡ id) × (w ≡ u)). subst (λ (i : ℕ). Fits key (h ++ e ∷ []) ds r.seat (i, k) x) (sym y.0) (next_fits k x (ap (λ (z : View). get_elem? z k) y.1 ∙ is)))
+          (λ (y : (j ≢ id) × (get_elem? s.views j ≡ maybe.some u)). others legal more j k y.0 x (r.strands j u y.1 k x is))
           (at_set s.views id j w u there);
       few = λ n above. own_other n h e (λ (same : c ≡ n). let low = owned.few in absurd (omega arith)) ∙ r.few n above;
+      order = more.order ∙ ap (λ (l : List ℕ). l ++ one_if (is_given now e) c) r.order ∙ sym (givers_snoc (opening key.controller) h e);
+      few_deliver = λ n above. more.others n (λ (same : c ≡ n). let low = owned.few in absurd (omega arith)) ∙ r.few_deliver n above;
     }
 
     -- the word becomes f of what it was, which is the word of the state after
-    pub steps : (f : ℕ → ℕ) → f (word_of (seen_of now)) ≡ word_of (seen_of (after now e)) → IsLegalFor key.controller now e
-        → (homes : Homes) → (is_out (after now e).place ≡ false → Home key.ring.value homes)
+    pub steps : (f : ℕ → ℕ) → f (word_of (seen_of now)) ≡ word_of (seen_of (after now e)) → IsLegalFor key.controller now e → More now e r.deliveries ds
+        → (homes : Homes) → (is_out (after now e).place ≡ false → Home key.ring.value ds homes)
         → Kept key record { words = set s.words 0 (f (get_or s.words 0 0)); homes = homes; views = set s.views id w }
-    steps f is legal homes slot = subst (λ (ws : List ℕ). Kept key record { words = set ws 0 (f (get_or ws 0 0)); homes = homes; views = set s.views id w }) (sym r.word)
-        (subst (λ (n : ℕ). Kept key record { words = n ∷ []; homes = homes; views = set s.views id w }) (sym is) (grows legal homes slot))
+    steps f is legal more homes slot = subst (λ (ws : List ℕ). Kept key record { words = set ws 0 (f (get_or ws 0 0)); homes = homes; views = set s.views id w }) (sym r.word)
+        (subst (λ (n : ℕ). Kept key record { words = n ∷ []; homes = homes; views = set s.views id w }) (sym is) (grows legal more homes slot))
 
     pub grew : IsLegalFor key.controller now e → Steps v d w
     grew legal = record {
@@ -240,14 +252,17 @@ module _ (key : Key) (s : St) (r : Kept key s) (id : ℕ) (v : View) (at : get_e
     }
 
   -- ---- a load that is no event, and leaves the view
-  pub again : (homes : Homes) → (is_out now.place ≡ false → Home key.ring.value homes)
+  pub again : (homes : Homes) → (is_out now.place ≡ false → Home key.ring.value r.deliveries homes)
       → Kept key record { words = set s.words 0 (get_or s.words 0 0); homes = homes; views = set s.views id v }
   again homes slot = record {
     history = h;
+    deliveries = r.deliveries;
     seat = r.seat;
     legal = r.legal;
     word = subst (λ (ws : List ℕ). set ws 0 (get_or ws 0 0) ≡ word_of (seen_of now) ∷ []) (sym r.word) refl;
     slot = slot;
     strands = λ j u there. r.strands j u (ap (λ (l : List View). get_elem? l j) (sym (set_again s.views id v at)) ∙ there);
     few = r.few;
+    order = r.order;
+    few_deliver = r.few_deliver;
   }

@@ -1,5 +1,6 @@
 pub mod Places
 pub mod Owns
+pub mod Deliveries
 pub mod Keeps
 pub mod Allowed
 pub mod Bits
@@ -12,4 +13,3 @@ pub mod Meets
 pub mod Whole
 pub mod Counting
 pub mod Closing
-pub mod ControlRuns

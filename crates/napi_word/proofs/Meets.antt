@@ -8,6 +8,8 @@ use Rattle.napi_model.specs.Step.{event}
 use Rattle.napi_word.specs.View.{View, is_pass, number_of, shown}
 use Rattle.napi_word.specs.Rule.{note, note_of, joined}
 use Rattle.napi_word.specs.Events.{Steps}
+use Rattle.atomic_table.specs.Table.{Me}
+use Rattle.napi_word.specs.Slot.{Content, Carried, stays, Delivers}
 use Rattle.napi_word.proofs.Owns.{begins_more}
 
 -- a step of a pass that took in another is a step of the pass
@@ -29,6 +31,11 @@ steps_joined (x ∷ xs) w o u p g = record {
   busy = g.busy;
   disable = g.disable;
 }
+
+-- and what a look tells of deliveries
+pub delivers_joined : (v w : View) (l : Carried) (y : Me Content View) → is_pass v ≡ true → Delivers stays (joined v w, l) y → Delivers stays (v, l) y
+delivers_joined [] w l y p g = absurd (true≢false (sym p))
+delivers_joined (x ∷ xs) w l y p g = record { before = g.before; begins = λ k z is. g.begins k z (at_longer (x ∷ xs) w k z is); exact = g.exact; held = g.held; first = g.first; shifts = g.shifts }
 
 pub meets : (v a : View) (o : Operation) (u : View) → is_pass a ≡ true → Steps (joined v (note_of a)) o u → IsPrefix (shown a) (shown u)
 meets v [] o u p g = absurd (true≢false (sym p))

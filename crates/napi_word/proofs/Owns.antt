@@ -10,7 +10,7 @@ own_one : (c : ℕ) (e : Event) → e.caller ≡ c → own c (e ∷ []) ≡ e �
 unfolding own
 own_one c e same = rw (eq-eqb e.caller c same) refl
 
-own_no : (c : ℕ) (e : Event) → e.caller ≢ c → own c (e ∷ []) ≡ []
+pub own_no : (c : ℕ) (e : Event) → e.caller ≢ c → own c (e ∷ []) ≡ []
 unfolding own
 own_no c e apart = rw (ne_eqb e.caller c apart) refl
 

@@ -7,6 +7,7 @@ use Rattle.atomic_table.proofs.Lists.{at_set, at_snoc, set_again}
 use Rattle.napi_model.specs.declared.event.Event.{Event}
 use Rattle.napi_word.specs.declared.view.Key.{Key}
 use Rattle.napi_word.specs.declared.view.Strand.{Strand}
+use Rattle.napi_word.specs.declared.view.Delivery.{Delivery}
 use Rattle.napi_word.specs.View.{View, is_pass}
 use Rattle.napi_word.specs.Rule.{Fits, Kept, Holding, left_of, right_of, note, note_of, joined, spent}
 use Rattle.napi_word.proofs.Keeps.{St, opened, running}
@@ -35,10 +36,11 @@ length_set (x ∷ xs) zero a = refl
 length_set (x ∷ xs) (suc i) a = ap suc (length_set xs i a)
 
 -- a strand moves to another place
-refit : (key : Key) (h : List Event) (seat seat' : ℕ → ℕ × ℕ) (p q : ℕ × ℕ) (x : Strand) → ((c : ℕ) → seat c ≡ p → seat' c ≡ q) → Fits key h seat p x → Fits key h seat' q x
-refit key h seat seat' p q x goes f = record {
+refit : (key : Key) (h : List Event) (ds : List Delivery) (seat seat' : ℕ → ℕ × ℕ) (p q : ℕ × ℕ) (x : Strand) → ((c : ℕ) → seat c ≡ p → seat' c ≡ q) → Fits key h ds seat p x → Fits key h ds seat' q x
+refit key h ds seat seat' p q x goes f = record {
   begins = f.begins;
-  owned = λ c e. let o = f.owned c e in record { whole = o.whole; shown = o.shown; here = goes c o.here; few = o.few };
+  delivered = f.delivered;
+  owned = λ c e. let o = f.owned c e in record { whole = o.whole; shown = o.shown; delivers = o.delivers; has = o.has; here = goes c o.here; few = o.few };
   controller = f.controller;
   ring = f.ring;
   begun = f.begun;
@@ -63,29 +65,32 @@ module _ (key : Key) (id : ℕ) (x y : Strand) (ys : View) (s : St) (r : Kept ke
   there : (j k c : ℕ) → j ≢ id → r.seat c ≡ (j, k) → moved (r.seat c) ≡ (j, k)
   there j k c apart e = ap moved e ∙ ap (λ (b : Bool). cond b (shift k) (j, k)) (ne_eqb j id apart)
 
-  left_fits : (k : ℕ) (z : Strand) → get_elem? (x ∷ ys) k ≡ maybe.some z → Fits key r.history (λ c. moved (r.seat c)) (id, k) z
-  left_fits zero z e = refit key r.history r.seat (λ c. moved (r.seat c)) (id, 0) (id, 0) z (here 0) (r.strands id (x ∷ y ∷ ys) at 0 z e)
-  left_fits (suc k) z e = refit key r.history r.seat (λ c. moved (r.seat c)) (id, suc (suc k)) (id, suc k) z (here (suc (suc k))) (r.strands id (x ∷ y ∷ ys) at (suc (suc k)) z e)
+  left_fits : (k : ℕ) (z : Strand) → get_elem? (x ∷ ys) k ≡ maybe.some z → Fits key r.history r.deliveries (λ c. moved (r.seat c)) (id, k) z
+  left_fits zero z e = refit key r.history r.deliveries r.seat (λ c. moved (r.seat c)) (id, 0) (id, 0) z (here 0) (r.strands id (x ∷ y ∷ ys) at 0 z e)
+  left_fits (suc k) z e = refit key r.history r.deliveries r.seat (λ c. moved (r.seat c)) (id, suc (suc k)) (id, suc k) z (here (suc (suc k))) (r.strands id (x ∷ y ∷ ys) at (suc (suc k)) z e)
 
-  right_fits : (k : ℕ) (z : Strand) → get_elem? (y ∷ []) k ≡ maybe.some z → Fits key r.history (λ c. moved (r.seat c)) (N, k) z
-  right_fits zero z e = refit key r.history r.seat (λ c. moved (r.seat c)) (id, 1) (N, 0) z (here 1) (r.strands id (x ∷ y ∷ ys) at 1 z e)
+  right_fits : (k : ℕ) (z : Strand) → get_elem? (y ∷ []) k ≡ maybe.some z → Fits key r.history r.deliveries (λ c. moved (r.seat c)) (N, k) z
+  right_fits zero z e = refit key r.history r.deliveries r.seat (λ c. moved (r.seat c)) (id, 1) (N, 0) z (here 1) (r.strands id (x ∷ y ∷ ys) at 1 z e)
   right_fits (suc k) z e = absurd (maybe.some-ne-none z (sym e))
 
   divided : Kept key record { words = s.words; homes = s.homes; views = set s.views id (x ∷ ys) ++ (y ∷ []) ∷ [] }
   divided = record {
     history = r.history;
+    deliveries = r.deliveries;
     seat = λ c. moved (r.seat c);
     legal = r.legal;
     word = r.word;
     slot = r.slot;
     strands = λ j u is k z e. ⊎_elim
         (λ (t : get_elem? (set s.views id (x ∷ ys)) j ≡ maybe.some u). ⊎_elim
-        (λ (d : (j ≡ id) × (x ∷ ys ≡ u)). subst (λ (i : ℕ). Fits key r.history (λ c. moved (r.seat c)) (i, k) z) (sym d.0) (left_fits k z (ap (λ (v : View). get_elem? v k) d.1 ∙ e)))
-        (λ (d : (j ≢ id) × (get_elem? s.views j ≡ maybe.some u)). refit key r.history r.seat (λ c. moved (r.seat c)) (j, k) (j, k) z (λ c. there j k c d.0) (r.strands j u d.1 k z e))
+        (λ (d : (j ≡ id) × (x ∷ ys ≡ u)). subst (λ (i : ℕ). Fits key r.history r.deliveries (λ c. moved (r.seat c)) (i, k) z) (sym d.0) (left_fits k z (ap (λ (v : View). get_elem? v k) d.1 ∙ e)))
+        (λ (d : (j ≢ id) × (get_elem? s.views j ≡ maybe.some u)). refit key r.history r.deliveries r.seat (λ c. moved (r.seat c)) (j, k) (j, k) z (λ c. there j k c d.0) (r.strands j u d.1 k z e))
         (at_set s.views id j (x ∷ ys) u t))
-        (λ (t : (j ≡ N) × (y ∷ [] ≡ u)). subst (λ (i : ℕ). Fits key r.history (λ c. moved (r.seat c)) (i, k) z) (sym t.0) (right_fits k z (ap (λ (v : View). get_elem? v k) t.1 ∙ e)))
+        (λ (t : (j ≡ N) × (y ∷ [] ≡ u)). subst (λ (i : ℕ). Fits key r.history r.deliveries (λ c. moved (r.seat c)) (i, k) z) (sym t.0) (right_fits k z (ap (λ (v : View). get_elem? v k) t.1 ∙ e)))
         (at_end (set s.views id (x ∷ ys)) (y ∷ []) u j is);
     few = r.few;
+    order = r.order;
+    few_deliver = r.few_deliver;
   }
 
 pub gives_number : (key : Key) (id : ℕ) (x y : Strand) (ys v : View) → v ≡ x ∷ y ∷ ys → is_pass v ≡ true → Splits (Holding key) id v (left_of v) (right_of v)
@@ -100,6 +105,7 @@ notes key id v p s holding at =
     let shown : note o.first ∷ [] ≡ note_of v = ap note_of (sym o.is) in
     inr record {
       history = r.history;
+      deliveries = r.deliveries;
       seat = r.seat;
       legal = r.legal;
       word = r.word;
@@ -109,10 +115,12 @@ notes key id v p s holding at =
           (λ (t : note_of v ≡ u). one r o.first (r.strands id v at 0 o.first (ap (λ (l : View). get_elem? l 0) o.is)) j k z (ap (λ (l : View). get_elem? l k) (shown ∙ t) ∙ e))
           (at_snoc (set s.views id v) (note_of v) u j is);
       few = r.few;
+      order = r.order;
+      few_deliver = r.few_deliver;
     }
   where
-    one : (r : Kept key s) (x : Strand) → Fits key r.history r.seat (id, 0) x → (j k : ℕ) (z : Strand) → get_elem? (note x ∷ []) k ≡ maybe.some z → Fits key r.history r.seat (j, k) z
-    one r x f j zero z e = subst (Fits key r.history r.seat (j, 0)) (maybe.some-injective _ _ e) record { begins = f.begins; owned = λ c none. absurd (cc); controller = f.controller; ring = f.ring; begun = f.begun }
+    one : (r : Kept key s) (x : Strand) → Fits key r.history r.deliveries r.seat (id, 0) x → (j k : ℕ) (z : Strand) → get_elem? (note x ∷ []) k ≡ maybe.some z → Fits key r.history r.deliveries r.seat (j, k) z
+    one r x f j zero z e = subst (Fits key r.history r.deliveries r.seat (j, 0)) (maybe.some-injective _ _ e) record { begins = f.begins; delivered = f.delivered; owned = λ c none. absurd (cc); controller = f.controller; ring = f.ring; begun = f.begun }
     one r x f j (suc k) z e = absurd (maybe.some-ne-none z (sym e))
 
 -- ---- a seat is taken in
@@ -130,17 +138,18 @@ module _ (key : Key) (id : ℕ) (v : View) (other : ℕ) (w : View) (s : St) (r 
   stays : (j k c : ℕ) → j ≢ other → r.seat c ≡ (j, k) → shifted (r.seat c) ≡ (j, k)
   stays j k c n e = ap shifted e ∙ ap (λ (b : Bool). cond b (id, length v + k) (j, k)) (ne_eqb j other n)
 
-  both_fit : (k : ℕ) (z : Strand) → get_elem? (joined v w) k ≡ maybe.some z → Fits key r.history (λ c. shifted (r.seat c)) (id, k) z
+  both_fit : (k : ℕ) (z : Strand) → get_elem? (joined v w) k ≡ maybe.some z → Fits key r.history r.deliveries (λ c. shifted (r.seat c)) (id, k) z
   both_fit k z e = ⊎_elim
-      (λ (t : get_elem? v k ≡ maybe.some z). refit key r.history r.seat (λ c. shifted (r.seat c)) (id, k) (id, k) z (λ c. stays id k c (λ n. apart (sym n))) (r.strands id v at k z t))
+      (λ (t : get_elem? v k ≡ maybe.some z). refit key r.history r.deliveries r.seat (λ c. shifted (r.seat c)) (id, k) (id, k) z (λ c. stays id k c (λ n. apart (sym n))) (r.strands id v at k z t))
       (λ (t : (i : ℕ) × (length v + i ≡ k) × (get_elem? w i ≡ maybe.some z)).
-      subst (λ (i : ℕ). Fits key r.history (λ c. shifted (r.seat c)) (id, i) z) t.1
-      (refit key r.history r.seat (λ c. shifted (r.seat c)) (other, t.0) (id, length v + t.0) z (comes t.0) (r.strands other w stood t.0 z t.2)))
+      subst (λ (i : ℕ). Fits key r.history r.deliveries (λ c. shifted (r.seat c)) (id, i) z) t.1
+      (refit key r.history r.deliveries r.seat (λ c. shifted (r.seat c)) (other, t.0) (id, length v + t.0) z (comes t.0) (r.strands other w stood t.0 z t.2)))
       (at_join v w z k e)
 
   merged : Kept key record { words = s.words; homes = s.homes; views = set (set s.views id (joined v w)) other spent }
   merged = record {
     history = r.history;
+    deliveries = r.deliveries;
     seat = λ c. shifted (r.seat c);
     legal = r.legal;
     word = r.word;
@@ -148,11 +157,13 @@ module _ (key : Key) (id : ℕ) (v : View) (other : ℕ) (w : View) (s : St) (r 
     strands = λ j u is k z e. ⊎_elim
         (λ (t : (j ≡ other) × (spent ≡ u)). absurd (maybe.some-ne-none z (sym (ap (λ (l : View). get_elem? l k) t.1 ∙ e))))
         (λ (t : (j ≢ other) × (get_elem? (set s.views id (joined v w)) j ≡ maybe.some u)). ⊎_elim
-        (λ (d : (j ≡ id) × (joined v w ≡ u)). subst (λ (i : ℕ). Fits key r.history (λ c. shifted (r.seat c)) (i, k) z) (sym d.0) (both_fit k z (ap (λ (l : View). get_elem? l k) d.1 ∙ e)))
-        (λ (d : (j ≢ id) × (get_elem? s.views j ≡ maybe.some u)). refit key r.history r.seat (λ c. shifted (r.seat c)) (j, k) (j, k) z (λ c. stays j k c t.0) (r.strands j u d.1 k z e))
+        (λ (d : (j ≡ id) × (joined v w ≡ u)). subst (λ (i : ℕ). Fits key r.history r.deliveries (λ c. shifted (r.seat c)) (i, k) z) (sym d.0) (both_fit k z (ap (λ (l : View). get_elem? l k) d.1 ∙ e)))
+        (λ (d : (j ≢ id) × (get_elem? s.views j ≡ maybe.some u)). refit key r.history r.deliveries r.seat (λ c. shifted (r.seat c)) (j, k) (j, k) z (λ c. stays j k c t.0) (r.strands j u d.1 k z e))
         (at_set s.views id j (joined v w) u t.1))
         (at_set (set s.views id (joined v w)) other j spent u is);
     few = r.few;
+    order = r.order;
+    few_deliver = r.few_deliver;
   }
 
 pub joins : (key : Key) (id : ℕ) (v : View) (other : ℕ) (w : View) → is_pass v ≡ true → Joins (Holding key) id v other w (joined v w) spent

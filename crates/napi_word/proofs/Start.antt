@@ -4,7 +4,6 @@ use mathlib.Core.Option as maybe
 use lib.ListN.{get_elem?}
 use Rattle.atomic_table.specs.Table.{Me, opening, takes, Allows}
 use Rattle.rx_ring.specs.declared.ends.RxCtx.{RxCtx}
-use Rattle.rx_ring.specs.Ends.{ring_name}
 use Rattle.napi_model.specs.Step as model
 use Rattle.napi_model.specs.Step.{seen_of}
 use Rattle.napi_model.specs.History.{LegalHistory, state_after}
@@ -14,17 +13,18 @@ use Rattle.napi_word.specs.declared.view.Strand.{Strand}
 use Rattle.napi_word.specs.declared.view.Holds.TheVariants.{Within}
 use Rattle.napi_word.specs.View.{View, number_of, place_in, disable_in}
 use Rattle.napi_model.specs.declared.state.Place.TheVariants.{Control}
-use Rattle.napi_word.specs.Slot.{Content, is_out, owns_slot, hold_of}
-use Rattle.napi_word.specs.Rule.{strand, strands_from, maker_at, first_view, begun_view, Homes, Owned, Fits, Kept, Starts, Holding}
+use Rattle.napi_word.specs.Slot.{Content, is_out, owns_slot}
+use Rattle.napi_word.specs.Rule.{strand, strands_from, maker_at, first_view, begun_view, begun_slot, Homes, Owned, Fits, Kept, Starts, Holding}
 use Rattle.napi_word.specs.Told.{begun}
 use Rattle.napi_word.specs.declared.table.Pass.{Pass}
 use Rattle.napi_word.specs.declared.table.StateTable.{StateTable}
-use Rattle.napi_word.specs.Passes.{view_of, IsPassOf, IsNew, Controls, Disable}
+use Rattle.napi_word.specs.Passes.{ctx_of, IsLaid, view_of, IsPassOf, IsNew, Controls, Disable}
 use Rattle.napi_word.proofs.Owns.{own_none}
+use Rattle.napi_word.proofs.Deliveries.{own_deliveries_none, givers_none}
 use Rattle.napi_word.proofs.Keeps.{some_is}
 
-pub opens : (key : Key) (x : RxCtx) → ring_name x ≡ ring_name key.ring.value → Holding key (opening (9 ∷ []) (Some x ∷ []) (first_view key))
-opens key x same = inl record { word = refl; home = (x, refl, same); views = refl }
+pub opens : (key : Key) (x : RxCtx) → x ≡ key.ring.value → Holding key (opening (9 ∷ []) (Some x ∷ []) (first_view key))
+opens key x same = inl record { word = refl; home = ap (λ (y : RxCtx). maybe.some (Some y) ∷ []) same; views = refl }
 
 word_at_start : (k : ℕ) → word_of (seen_of (state_after (model.opening k) [])) ≡ 9
 unfolding word_of state_after
@@ -38,7 +38,7 @@ legal_at_start : (k : ℕ) → LegalHistory k (model.opening k) []
 unfolding LegalHistory
 legal_at_start k = tt
 
-owns_at_start : (last : ℕ) (of : RxCtx) (n : ℕ) → owns_slot (maker_at last of n) ≡ true
+pub owns_at_start : (last : ℕ) (of : RxCtx) (n : ℕ) → owns_slot (maker_at last of n) ≡ true
 unfolding state_after
 owns_at_start last of n = eq-eqb last last refl
 
@@ -73,36 +73,40 @@ module _ (key : Key) where
   abbrev seat : ℕ → ℕ × ℕ
   seat c = (0, cond (eqb c last) 0 (suc c))
 
-  new_fits : (c k : ℕ) → seat c ≡ (0, k) → c ≤ last → Fits key [] seat (0, k) (strand last of c)
+  new_fits : (c k : ℕ) → seat c ≡ (0, k) → c ≤ last → Fits key [] [] seat (0, k) (strand last of c)
   new_fits c k here few = record {
     begins = ([], refl);
-    owned = λ d same. subst (Owned key [] seat (0, k) (strand last of c)) (some_is same) record { whole = own_none c; shown = own_none c; here = here; few = few };
+    delivered = ([], refl);
+    owned = λ d same. subst (Owned key [] [] seat (0, k) (strand last of c)) (some_is same) record { whole = own_none c; shown = own_none c; delivers = refl; has = λ there. refl; here = here; few = few };
     controller = refl;
     ring = refl;
     begun = refl;
   }
 
-  maker_fits : (k : ℕ) (x : Strand) → get_elem? (maker_at last of 0) k ≡ maybe.some x → Fits key [] seat (0, k) x
-  maker_fits zero x e = subst (Fits key [] seat (0, 0)) (maybe.some-injective _ _ e)
+  maker_fits : (k : ℕ) (x : Strand) → get_elem? (maker_at last of 0) k ≡ maybe.some x → Fits key [] [] seat (0, k) x
+  maker_fits zero x e = subst (Fits key [] [] seat (0, 0)) (maybe.some-injective _ _ e)
       (new_fits last 0 (ap (λ (b : Bool). (0, cond b 0 (suc last))) (eq-eqb last last refl)) (omega arith))
   maker_fits (suc k) x e =
       let r = at_from last of 0 (last - 0) k x e in
       let low = r.1 in
       let is : k ≡ 0 + k = omega arith in
-      subst (Fits key [] seat (0, suc k)) (ap (strand last of) is ∙ r.0) (new_fits k (suc k) (ap (λ (b : Bool). (0, cond b 0 (suc k))) (ne_eqb k last (λ e. omega (arith, low)))) (omega (arith, low)))
+      subst (Fits key [] [] seat (0, suc k)) (ap (strand last of) is ∙ r.0) (new_fits k (suc k) (ap (λ (b : Bool). (0, cond b 0 (suc k))) (ne_eqb k last (λ e. omega (arith, low)))) (omega (arith, low)))
 
   begun_kept : (ws : List ℕ) (homes : Homes) → ws ≡ 9 ∷ [] → Kept key record { words = set ws 0 (get_or ws 0 0); homes = homes; views = maker_at last of 0 ∷ [] }
   begun_kept ws homes is = record {
     history = [];
+    deliveries = [];
     seat = seat;
     legal = legal_at_start last;
     word = ap (λ (l : List ℕ). set l 0 (get_or l 0 0)) is ∙ ap (λ (n : ℕ). n ∷ []) (sym (word_at_start last));
     slot = λ y. absurd (true≢false (sym (out_at_start last) ∙ y));
     strands = at_only;
     few = λ c above. own_none c;
+    order = sym (givers_none (model.opening last));
+    few_deliver = λ c above. own_deliveries_none c;
   }
     where
-      at_only : (j : ℕ) (u : View) → get_elem? (maker_at last of 0 ∷ []) j ≡ maybe.some u → (k : ℕ) (x : Strand) → get_elem? u k ≡ maybe.some x → Fits key [] seat (j, k) x
+      at_only : (j : ℕ) (u : View) → get_elem? (maker_at last of 0 ∷ []) j ≡ maybe.some u → (k : ℕ) (x : Strand) → get_elem? u k ≡ maybe.some x → Fits key [] [] seat (j, k) x
       at_only zero u there k x e = maker_fits k x (ap (λ (v : View). get_elem? v k) (maybe.some-injective _ _ there) ∙ e)
       at_only (suc j) u there k x e = absurd (maybe.some-ne-none u (sym there))
 
@@ -116,20 +120,16 @@ module _ (key : Key) where
       let first = only_first id me.0 (ap (λ (l : List View). get_elem? l id) (sym t.views) ∙ at) in
       let views : set s.views id (maker_at last of 0) ≡ maker_at last of 0 ∷ [] = λ i. set (t.views i) (first i) (maker_at last of 0) in (
         maker_at last of 0,
-        takes 0 (Some t.home.0),
-        ap (λ (hs : Homes). get_elem? hs 0) t.home.1,
+        takes 0 (Some of),
+        ap (λ (hs : Homes). get_elem? hs 0) t.home,
         inr (subst (λ (vs : List View). Kept key record { words = set s.words 0 (get_or s.words 0 0); homes = set s.homes 0 maybe.none; views = vs }) (sym views) (begun_kept s.words (set s.homes 0 maybe.none) t.word)),
         (
           ap (λ (m : Me Content View). begun_view m.0) (sym is),
-          record {
-            marked = ap (λ (m : Me Content View). hold_of ((0, Some t.home.0) ∷ m.1)) is;
-            right = owns_at_start last of 0;
-            ring = ap Some t.home.2;
-          },
+          ap (λ (m : Me Content View). (0, Some of) ∷ m.1) is ∙ ap (λ (m : Me Content View). begun_slot m.0) (sym is),
         ),
       ))
       (λ (r : Kept key s).
-      absurd (true≢false (sym (r.strands id me.0 at 0 (record { begun = false; number = None; seen = []; mine = []; controller = key.controller; ring = key.ring.value }) (ap (λ (m : Me Content View). get_elem? m.0 0) is)).begun)))
+      absurd (true≢false (sym (r.strands id me.0 at 0 (record { begun = false; number = None; seen = []; mine = []; delivered = []; controller = key.controller; ring = key.ring.value }) (ap (λ (m : Me Content View). get_elem? m.0 0) is)).begun)))
       holding
 
 pub at_push : {A : Type 0} (xs : List A) (y p : A) (k : ℕ) → slice_get (xs ++ y ∷ []) k ≡ Some p → (slice_get xs k ≡ Some p) ⊎ ((k ≡ length xs) × (y ≡ p))
@@ -141,12 +141,17 @@ at_push (x ∷ xs) y p (suc k) e = ⊎_elim (λ t. inl t) (λ t. inr (ap suc t.0
 pub new_as : {t : StateTable} (k l : ℕ) (x y : RxCtx) (i j : ℕ) (p q : Pass) → k ≡ l → x ≡ y → i ≡ j → p ≡ q → IsNew t k x i p → IsNew t l y j q
 new_as {t} k l x y i j p q a b d e new = subst (λ (z : ℕ × RxCtx × ℕ × Pass). IsNew t z.0 z.1 z.2 z.3) (λ f. (a f, b f, d f, e f)) new
 
-pub new_last : {t : StateTable} (last : ℕ) (x : RxCtx) (n : ℕ) (p : Pass) → n ≡ last → IsPassOf t p → view_of p ≡ maker_at last x n → p.holds ≡ Within → IsNew t last x last p
-new_last {t} last x n p at table view holds = record {
+-- what lies in the slot is the same
+pub still_laid : {x : RxCtx} (p q : Pass) → ctx_of q ≡ ctx_of p → IsLaid x p → IsLaid x q
+still_laid p q same l = record { laid = l.laid; within = same ∙ l.within; ring = l.ring; received = l.received; known = l.known; polls = l.polls; unmarked = l.unmarked }
+
+pub new_last : {t : StateTable} (last : ℕ) (x : RxCtx) (n : ℕ) (p : Pass) → n ≡ last → IsPassOf t p → view_of p ≡ maker_at last x n → p.holds ≡ Within → IsLaid x p → IsNew t last x last p
+new_last {t} last x n p at table view holds laid = record {
   table = table;
   view = view ∙ ap (λ (m : ℕ). maker_at last x m) at ∙ maker_alone last x;
   others = λ low. absurd (omega (arith, low));
   own = λ same. holds;
+  laid = λ same. laid;
 }
 
 -- ---- what the controller's pass knows at first
@@ -164,3 +169,10 @@ new_controls {t} k x p new = ap place_in new.view ∙ place_at_start k ∙ ap Co
 
 pub new_unmarked : {t : StateTable} (k c : ℕ) (x : RxCtx) (p : Pass) → IsNew t k x c p → Disable false p
 new_unmarked {t} k c x p new = ap disable_in new.view ∙ disable_at_start k
+
+pub slot_is : (a b : Content) (k l : List (ℕ × Content)) → (0, a) ∷ k ≡ (0, b) ∷ l → a ≡ b
+slot_is a b k l e = ap (λ (m : List (ℕ × Content)). head_of a m) e
+  where
+    head_of : Content → List (ℕ × Content) → Content
+    head_of x [] = x
+    head_of x (y ∷ ys) = y.1

@@ -21,7 +21,7 @@ use Rattle.napi_word.specs.declared.table.Pass.{Pass}
 use Rattle.napi_word.specs.declared.table.StateTable.{StateTable}
 use Rattle.napi_word.specs.declared.view.Holds.{Holds}
 use Rattle.napi_word.specs.View.{View, number_of, controller_of, place_in}
-use Rattle.napi_word.specs.Slot.{Content, has_at, is_out, Tied, Moves, stays, taken, given}
+use Rattle.napi_word.specs.Slot.{Content, has_at, is_out, owns_slot, Tied, Moves, stays, taken, given, Gives, Delivers}
 use Rattle.napi_word.specs.Passes.{tie_of, IsWithin, HandsOver, HasPoll, Polls, IsController, Controls, IsNoOwner, Disable}
 use Rattle.napi_word.specs.Atoms.{MayMake, MayExchange}
 use Rattle.napi_word.specs.Events.{schedule_to, complete_to, busy_to, stop_to, disable_to, enable_to}
@@ -246,9 +246,21 @@ module _ (t : StateTable) (p : Pass) where
   granted_turn kind.List now c is = hand_turn kind.List stays now c (inl is) (ap handed_at is) (sym (ap is_out is), sym (ap (has_at c) is))
   granted_turn kind.Thread now c is = hand_turn kind.Thread stays now c is (ap handed_at is) (sym (ap is_out is), sym (ap (has_at c) is))
 
+  gives_nothing : (x y : Me Content View) → owns_slot x.0 ≡ false → Delivers stays x y → Delivers given x y
+  gives_nothing x y none g = record {
+    before = g.before;
+    begins = g.begins;
+    exact = g.exact;
+    held = g.held;
+    first = g.first;
+    shifts = subst (λ (b : Bool). Gives b g.before x y) (sym none) g.shifts;
+  }
+
   -- who was granted the instance holds nothing, and so gives nothing away
   nothing_given : (o : Operation) (me' : Me Content View) → place_in me.0 ≡ Granted (number_of me.0) → Did o stays me me' → Did o given me me'
-  nothing_given o me' is d = (d.0, λ h' tie'. subst (λ (y : Holds). Tied y me') (nothing h' (sym tie'.right ∙ ap (has_at (number_of me.0)) is)) (d.1 h' tie'))
+  nothing_given o me' is d =
+      let none : owns_slot me.0 ≡ false = ap (has_at (number_of me.0)) is in
+      (d.0, λ h' tie'. subst (λ (y : Holds). Tied y me') (nothing h' (sym tie'.right ∙ none)) (d.1 h' tie'), gives_nothing me me' none d.2)
 
   hands_granted : (k : Kind) → place_in me.0 ≡ Granted (number_of me.0) → MayMake t p.seat (λ n. bit_or n (hand_bits k)) (λ x. Hand k) (λ x. given)
   hands_granted k is s holding len at fits =

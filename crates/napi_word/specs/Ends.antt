@@ -2,7 +2,7 @@
 use Rattle.std.specs.Prelude.{◌≡◌, ◌↔◌, ℕ, ◌<◌, ◌≤◌, ◌+◌, Bool, true, false, List, length, slice_get, Option, Some, None, ◌≢◌, [], ◌∷◌, ◌++◌}
 use mathlib.Core.List.{IsPrefix}
 use Rattle.rx_ring.specs.declared.ends.RxCtx.{RxCtx}
-use Rattle.rx_ring.specs.Ends.{RingName, ring_name, SameCtx}
+use Rattle.rx_ring.specs.Ends.{RingName, ring_name, received_list, SameCtx}
 use Rattle.napi_model.specs.declared.event.Event.{Event}
 use Rattle.napi_model.specs.Step.{opening}
 use Rattle.napi_model.specs.History.{LegalHistory, state_after, own}
@@ -13,8 +13,10 @@ use Rattle.napi_word.specs.declared.gathering.Found.{Found}
 use Rattle.napi_word.specs.declared.gathering.Gathering.{Gathering}
 use Rattle.napi_word.specs.declared.table.Pass.{Pass}
 use Rattle.napi_word.specs.declared.table.StateTable.{StateTable}
-use Rattle.napi_word.specs.View.{View, ring_of, place_in, controller_of, shown, mine, number_of}
-use Rattle.napi_word.specs.Passes.{view_of, controller_of_table, ring_of_table}
+use Rattle.napi_word.specs.declared.view.Delivery.{Delivery}
+use Rattle.napi_word.specs.View.{View, first_in, delivered, own_deliveries, received_by, last_of, deliverers, ring_of, place_in, controller_of, shown, mine, number_of}
+use Rattle.napi_word.specs.Slot.{givers}
+use Rattle.napi_word.specs.Passes.{view_of, controller_of_table, ring_of_table, first_of_table}
 
 -- what a pass that held this adds to what was found
 abbrev pub Finds : Holds → Option RingName → Found → Found → Type 0
@@ -45,7 +47,7 @@ pub record Gathered (taken : List Pass) (v : View) (f : Found) : Type 0 where
   pub some_out : f.out ≡ true → IsOut taken
   pub none_out : f.out ≡ false → (k : ℕ) (p : Pass) → slice_get taken k ≡ Some p → p.holds ≢ Out
   pub none_within : f.ctx ≡ None → (k : ℕ) (p : Pass) → slice_get taken k ≡ Some p → p.holds ≢ Within
-  pub ring : (x : RxCtx) → f.ctx ≡ Some x → (k : ℕ) × (p : Pass) × (slice_get taken k ≡ Some p) × (ring_of (view_of p) ≡ Some (ring_name x))
+  pub ring : (x : RxCtx) → f.ctx ≡ Some x → (k : ℕ) × (p : Pass) × (slice_get taken k ≡ Some p) × (ring_of (view_of p) ≡ Some (ring_name x)) × (p.holds ≡ Within)
 
 -- all passes are given, and the table is closed
 pub record IsEnded (t : StateTable) (passes : List Pass) (ctx : Option RxCtx) : Type 0 where
@@ -63,6 +65,18 @@ pub record IsEnded (t : StateTable) (passes : List Pass) (ctx : Option RxCtx) : 
   pub longest : (k : ℕ) (p : Pass) → slice_get passes k ≡ Some p
       → ((j : ℕ) (q : Pass) → slice_get passes j ≡ Some q → length (shown (view_of q)) ≤ length (shown (view_of p)))
       → shown (view_of p) ≡ history
+  -- what each owner of the slot received, in the order in which it was given back: each pass has seen a beginning of it, which
+  -- has all of its own, nobody else has one, and who holds the slot has seen all
+  pub deliveries : List Delivery
+  pub firsts : (k : ℕ) (p : Pass) → slice_get passes k ≡ Some p → first_in (view_of p) ≡ Some (first_of_table t)
+  pub deliveries_order : deliverers deliveries ≡ givers (opening (controller_of_table t)) history
+  pub deliveries_begin : (k : ℕ) (p : Pass) → slice_get passes k ≡ Some p → IsPrefix (delivered (view_of p)) deliveries
+  pub deliveries_exact : (k : ℕ) (p : Pass) → slice_get passes k ≡ Some p → own_deliveries (number_of (view_of p)) deliveries ≡ own_deliveries (number_of (view_of p)) (delivered (view_of p))
+  pub deliveries_others : (c : ℕ) → controller_of_table t < c → own_deliveries c deliveries ≡ []
+  pub deliveries_held : (k : ℕ) (p : Pass) → slice_get passes k ≡ Some p → p.holds ≢ Nothing → delivered (view_of p) ≡ deliveries
+  -- where nobody holds the slot, the context is the one that was given back last: it has received just these
+  pub received : (x : RxCtx) → ctx ≡ Some x → ((k : ℕ) (p : Pass) → slice_get passes k ≡ Some p → p.holds ≡ Nothing)
+      → (received_list x ≡ received_by (first_of_table t) deliveries) × (x ≡ last_of (first_of_table t) deliveries)
   -- an owner is the owner at the end
   pub places : (k : ℕ) (p : Pass) → slice_get passes k ≡ Some p → is_owner (number_of (view_of p)) (place_in (view_of p)) ≡ true
       → (state_after (opening (controller_of_table t)) history).place ≡ place_in (view_of p)
@@ -71,4 +85,4 @@ pub record IsEnded (t : StateTable) (passes : List Pass) (ctx : Option RxCtx) : 
   pub rings : (k : ℕ) (p : Pass) → slice_get passes k ≡ Some p → ring_of (view_of p) ≡ Some (ring_of_table t)
   -- the context comes back unless a pass has it out, and is that ring's
   pub none : (ctx ≡ None) ↔ IsOut passes
-  pub same : (x : RxCtx) → ctx ≡ Some x → SameCtx t.table.shared.key.ring.value x
+  pub same : (x : RxCtx) → ctx ≡ Some x → SameCtx (first_of_table t) x

@@ -1,7 +1,8 @@
 -- Passes to a table, and what a step makes of one.
-use Rattle.std.specs.Prelude.{◌≡◌, ◌≢◌, ℕ, ◌<◌, Bool, true, false, [], ◌∷◌, Some}
+use Rattle.std.specs.Prelude.{◌≡◌, ◌≢◌, ℕ, ◌<◌, Bool, true, false, List, [], ◌∷◌, Option, Some}
+use Rattle.rx_ring.specs.declared.packet.Packet.{Packet}
 use Rattle.rx_ring.specs.declared.ends.RxCtx.{RxCtx}
-use Rattle.rx_ring.specs.Ends.{RingName, ring_name}
+use Rattle.rx_ring.specs.Ends.{RingName, ring_name, SameCtx, received_list, known_list, polls_of, is_beside}
 use Rattle.napi_model.specs.declared.state.Kind.{Kind}
 use Rattle.napi_model.specs.declared.state.Place.TheVariants.{Control}
 use Rattle.napi_model.specs.declared.event.Operation.{Operation}
@@ -11,12 +12,30 @@ use Rattle.napi_word.specs.declared.view.Holds.TheVariants.{Nothing, Within, Out
 use Rattle.napi_word.specs.declared.table.Pass.{Pass}
 use Rattle.napi_word.specs.declared.table.StateTable.{StateTable}
 use Rattle.napi_word.specs.View.{View, number_of, controller_of, state_in, place_in, disable_in, ring_of}
-use Rattle.napi_word.specs.Slot.{Tied, Moves, moved, owns_slot}
+use Rattle.napi_word.specs.Slot.{Tied, Moves, moved, owns_slot, ctx_in, carried_received, Delivers}
 use Rattle.napi_word.specs.Rule.{strand}
 use Rattle.napi_word.specs.Events.{Steps}
 
 abbrev pub view_of : Pass → View
 view_of p = p.seat.me.0
+
+-- the context in the slot, where the pass holds it there
+abbrev pub ctx_of : Pass → Option RxCtx
+ctx_of p = ctx_in p.seat.me.1
+
+-- the context was laid into the slot: it is the same but for the mark of `beside`, which is gone
+pub record IsLaid (ctx : RxCtx) (p : Pass) : Type 0 where
+  pub laid : RxCtx
+  pub within : ctx_of p ≡ Some laid
+  pub ring : SameCtx ctx laid
+  pub received : received_list laid ≡ received_list ctx
+  pub known : known_list laid ≡ known_list ctx
+  pub polls : polls_of laid ≡ polls_of ctx
+  pub unmarked : is_beside laid ≡ false
+
+-- what the context in the slot has received, where the pass holds it, else what was delivered by what the pass shows
+abbrev pub received_of : Pass → List Packet
+received_of p = carried_received p.seat.me.1 (view_of p)
 
 -- the pass is one to this table
 abbrev pub IsPassOf : StateTable → Pass → Type 0
@@ -32,11 +51,16 @@ controller_of_table t = t.table.shared.key.controller
 abbrev pub ring_of_table : StateTable → RingName
 ring_of_table t = ring_name t.table.shared.key.ring.value
 
+-- the context that was handed in
+abbrev pub first_of_table : StateTable → RxCtx
+first_of_table t = t.table.shared.key.ring.value
+
 -- the contract of every step: the pass made this event, and what it holds of the slot moved so
 pub record Makes (before : Pass) (o : Operation) (m : Moves) (after : Pass) : Type 0 where
   pub table : SameTable before after
   pub holds : after.holds ≡ moved m before.holds
   pub event : Steps (view_of before) o (view_of after)
+  pub packets : Delivers m before.seat.me after.seat.me
 
 -- the slot is no event: what the pass knows stays
 pub record Keeps (before : Pass) (after : Pass) : Type 0 where
@@ -83,7 +107,7 @@ abbrev pub OfItsRing : Pass → RxCtx → Type 0
 OfItsRing p ctx = ring_of (view_of p) ≡ Some (ring_name ctx)
 
 abbrev pub tie_of : (p : Pass) → Tied p.holds p.seat.me
-tie_of p = record { marked = p.marked; right = p.right; ring = p.ring }
+tie_of p = record { marked = p.marked; right = p.right; ring = p.ring; unmarked = p.unmarked; received = p.received }
 
 -- the pass of number c, which has seen nothing and done nothing; the controller's has the slot, with the context in it
 pub record IsNew (t : StateTable) (controller : ℕ) (ctx : RxCtx) (c : ℕ) (p : Pass) : Type 0 where
@@ -91,3 +115,5 @@ pub record IsNew (t : StateTable) (controller : ℕ) (ctx : RxCtx) (c : ℕ) (p 
   pub view : view_of p ≡ strand controller ctx c ∷ []
   pub others : c < controller → p.holds ≡ Nothing
   pub own : c ≡ controller → p.holds ≡ Within
+  -- the controller's has the context that was handed in, but for the mark of `beside`
+  pub laid : c ≡ controller → IsLaid ctx p

@@ -6,35 +6,40 @@ use mathlib.Core.List.{IsPrefix}
 use lib.ListN.{get_elem?}
 use Rattle.atomic_table.specs.Table.{State}
 use Rattle.rx_ring.specs.declared.ends.RxCtx.{RxCtx}
-use Rattle.rx_ring.specs.Ends.{ring_name}
+use Rattle.rx_ring.specs.Ends.{ring_name, is_beside, received_list}
 use Rattle.napi_model.specs.declared.event.Event.{Event}
 use Rattle.napi_model.specs.Step.{opening, seen_of}
 use Rattle.napi_model.specs.History.{LegalHistory, state_after, own}
 use Rattle.napi_model.specs.Word.{word_of}
 use Rattle.napi_word.specs.declared.view.Key.{Key}
 use Rattle.napi_word.specs.declared.view.Strand.{Strand}
-use Rattle.napi_word.specs.View.{View}
-use Rattle.napi_word.specs.Slot.{Content, is_out}
+use Rattle.napi_word.specs.declared.view.Delivery.{Delivery}
+use Rattle.napi_word.specs.View.{View, own_deliveries, received_by, last_of, deliverers}
+use Rattle.napi_word.specs.Slot.{Content, Carried, has_at, is_out, givers}
 
 -- what is in the slot while no seat holds it
 abbrev pub Homes : Type 0
 Homes = List (maybe.Option Content)
 
--- the slot is at home, and has the context of that ring
-abbrev pub Home : RxCtx → Homes → Type 0
-Home ring homes = (x : RxCtx) × (homes ≡ maybe.some (Some x) ∷ []) × (ring_name x ≡ ring_name ring)
+-- the slot is at home, and has the context of that ring as it was given back last, which has received what was delivered, without the mark of `beside`: its next owner's poll looks
+abbrev pub Home : RxCtx → List Delivery → Homes → Type 0
+Home ring ds homes = (x : RxCtx) × (homes ≡ maybe.some (Some x) ∷ []) × (ring_name x ≡ ring_name ring) × (is_beside x ≡ false) × (received_list x ≡ received_by ring ds) × (x ≡ last_of ring ds)
 
 -- a strand of number c, at its place among the seats' strands: there alone, and its own list is c's events in the history,
 -- all of which it has seen
-pub record Owned (key : Key) (h : List Event) (seat : ℕ → ℕ × ℕ) (at : ℕ × ℕ) (x : Strand) (c : ℕ) : Type 0 where
+pub record Owned (key : Key) (h : List Event) (ds : List Delivery) (seat : ℕ → ℕ × ℕ) (at : ℕ × ℕ) (x : Strand) (c : ℕ) : Type 0 where
   pub whole : own c h ≡ x.mine
   pub shown : own c x.seen ≡ x.mine
+  -- its deliveries are those that it has seen, and while it has the slot it has seen all
+  pub delivers : own_deliveries c ds ≡ own_deliveries c x.delivered
+  pub has : has_at c (state_after (opening key.controller) h).place ≡ true → x.delivered ≡ ds
   pub here : seat c ≡ at
   pub few : c ≤ key.controller
 
-pub record Fits (key : Key) (h : List Event) (seat : ℕ → ℕ × ℕ) (at : ℕ × ℕ) (x : Strand) : Type 0 where
+pub record Fits (key : Key) (h : List Event) (ds : List Delivery) (seat : ℕ → ℕ × ℕ) (at : ℕ × ℕ) (x : Strand) : Type 0 where
   pub begins : IsPrefix x.seen h
-  pub owned : (c : ℕ) → x.number ≡ Some c → Owned key h seat at x c
+  pub delivered : IsPrefix x.delivered ds
+  pub owned : (c : ℕ) → x.number ≡ Some c → Owned key h ds seat at x c
   pub controller : x.controller ≡ key.controller
   pub ring : x.ring ≡ key.ring.value
   pub begun : x.begun ≡ true
@@ -42,22 +47,27 @@ pub record Fits (key : Key) (h : List Event) (seat : ℕ → ℕ × ℕ) (at : �
 -- the rule, of the words, of what is in the slot and of all views
 pub record Kept (key : Key) (s : State Content View) : Type 0 where
   pub history : List Event
+  -- what each owner of the slot received, in the order in which it was given back
+  pub deliveries : List Delivery
   -- which seat has a number, and which of its strands it is
   pub seat : ℕ → ℕ × ℕ
   pub legal : LegalHistory key.controller (opening key.controller) history
   pub word : s.words ≡ word_of (seen_of (state_after (opening key.controller) history)) ∷ []
   -- while somebody polls or controls, that one knows what the slot has
-  pub slot : is_out (state_after (opening key.controller) history).place ≡ false → Home key.ring.value s.homes
+  pub slot : is_out (state_after (opening key.controller) history).place ≡ false → Home key.ring.value deliveries s.homes
   pub strands : (id : ℕ) (v : View) → get_elem? s.views id ≡ maybe.some v → (k : ℕ) (x : Strand) → get_elem? v k ≡ maybe.some x
-      → Fits key history seat (id, k) x
+      → Fits key history deliveries seat (id, k) x
   -- behind the controller's number nobody has one
   pub few : (c : ℕ) → key.controller < c → own c history ≡ []
+  -- they are one for each event that gave it away
+  pub order : deliverers deliveries ≡ givers (opening key.controller) history
+  pub few_deliver : (c : ℕ) → key.controller < c → own_deliveries c deliveries ≡ []
 
 -- ---- how a table is made: the first seat takes the slot for the controller, and gives the other numbers away
 
 -- number c, which has seen nothing and done nothing
 abbrev pub strand : ℕ → RxCtx → ℕ → Strand
-strand controller ring c = record { begun = true; number = Some c; seen = []; mine = []; controller = controller; ring = ring }
+strand controller ring c = record { begun = true; number = Some c; seen = []; mine = []; delivered = []; controller = controller; ring = ring }
 
 -- so many of them from n on
 abbrev pub strands_from : ℕ → RxCtx → ℕ → ℕ → View
@@ -69,16 +79,20 @@ abbrev pub maker_at : ℕ → RxCtx → ℕ → View
 maker_at controller ring n = strand controller ring controller ∷ strands_from controller ring n (controller - n)
 
 abbrev pub first_view : Key → View
-first_view key = record { begun = false; number = None; seen = []; mine = []; controller = key.controller; ring = key.ring.value } ∷ []
+first_view key = record { begun = false; number = None; seen = []; mine = []; delivered = []; controller = key.controller; ring = key.ring.value } ∷ []
+
+abbrev pub begun_slot : View → Carried
+begun_slot [] = []
+begun_slot (x ∷ xs) = (0, Some x.ring) ∷ []
 
 abbrev pub begun_view : View → View
 begun_view [] = []
 begun_view (x ∷ xs) = maker_at x.controller x.ring 0
 
--- before the first seat has the slot
+-- before the first seat has the slot: what was handed in is in it
 pub record Starts (key : Key) (s : State Content View) : Type 0 where
   pub word : s.words ≡ 9 ∷ []
-  pub home : Home key.ring.value s.homes
+  pub home : s.homes ≡ maybe.some (Some key.ring.value) ∷ []
   pub views : s.views ≡ first_view key ∷ []
 
 abbrev pub Holding : Key → State Content View → Type 0

@@ -1,12 +1,22 @@
 -- The slot of the poll context: who has it, and what a seat holds of it.
-use Rattle.std.specs.Prelude.{◌≡◌, ℕ, zero, Bool, true, false, nat_eq, List, [], ◌∷◌, Option, Some, None}
+use Rattle.std.specs.Prelude.{◌≡◌, ℕ, zero, Bool, true, false, not, ◌&&◌, nat_eq, List, [], ◌∷◌, ◌++◌, Option, Some, None}
+use mathlib.Core.Option as maybe
+use mathlib.Core.List.{IsPrefix}
+use lib.ListN.{get_elem?}
+use Rattle.atomic_table.specs.Table.{Me}
+use Rattle.rx_ring.specs.declared.packet.Packet.{Packet}
 use Rattle.rx_ring.specs.declared.ends.RxCtx.{RxCtx}
-use Rattle.rx_ring.specs.Ends.{RingName, ring_name}
+use Rattle.rx_ring.specs.Ends.{RingName, ring_name, is_beside, received_list}
 use Rattle.napi_model.specs.declared.state.Place.{Place}
+use Rattle.napi_model.specs.declared.state.State.{State}
+use Rattle.napi_model.specs.declared.event.Event.{Event}
+use Rattle.napi_model.specs.Step.{after}
 use Rattle.napi_model.specs.declared.state.Place.TheVariants.{Nobody, Granted, Listed, ToThread, Polling, Control}
 use Rattle.napi_word.specs.declared.view.Holds.{Holds}
 use Rattle.napi_word.specs.declared.view.Holds.TheVariants.{Nothing, Within, Out}
-use Rattle.napi_word.specs.View.{View, number_of, place_in, ring_of}
+use Rattle.napi_word.specs.declared.view.Strand.{Strand}
+use Rattle.napi_word.specs.declared.view.Delivery.{Delivery}
+use Rattle.napi_word.specs.View.{View, number_of, place_in, ring_of, delivery, own_deliveries, delivered, received_in, last_in, first_in, Continues}
 
 -- whoever polls or controls has the slot
 abbrev pub has_at : ℕ → Place → Bool
@@ -25,6 +35,19 @@ is_out Listed = false
 is_out ToThread = false
 is_out (Polling owner) = true
 is_out (Control owner) = true
+
+-- an event gives the slot away: its caller had it, and then nobody has it
+abbrev pub is_given : State → Event → Bool
+is_given s e = has_at e.caller s.place && not (is_out (after s e).place)
+
+abbrev pub one_if : Bool → ℕ → List ℕ
+one_if true c = c ∷ []
+one_if false c = []
+
+-- who gave it away, in the order of a history
+unfoldable pub givers : State → List Event → List ℕ
+givers s [] = []
+givers s (e ∷ es) = one_if (is_given s e) e.caller ++ givers (after s e) es
 
 -- by the list that it shows, a pass has the slot
 abbrev pub owns_slot : View → Bool
@@ -55,11 +78,31 @@ ring_in ((k, Some x) ∷ l) v = Some (ring_name x)
 ring_in ((k, None) ∷ l) v = ring_of v
 ring_in [] v = ring_of v
 
+-- the context in the slot that is held
+abbrev pub ctx_in : Carried → Option RxCtx
+ctx_in ((k, x) ∷ l) = x
+ctx_in [] = None
+
+-- whether the context in the slot that is held bears the mark of `beside`
+abbrev pub beside_in : Carried → Bool
+beside_in ((k, Some x) ∷ l) = is_beside x
+beside_in ((k, None) ∷ l) = false
+beside_in [] = false
+
+-- what the context in the slot that is held has received, else what the view tells
+abbrev pub carried_received : Carried → View → List Packet
+carried_received ((k, Some x) ∷ l) v = received_list x
+carried_received ((k, None) ∷ l) v = received_in v
+carried_received [] v = received_in v
+
 -- the mark says what the seat holds: the slot exactly where the view says so, with that ring's context in it or with none
 pub record Tied (h : Holds) (me : View × Carried) : Type 0 where
   pub marked : hold_of me.1 ≡ Some h
   pub right : owns_slot me.0 ≡ has_slot h
   pub ring : ring_in me.1 me.0 ≡ ring_of me.0
+  pub unmarked : beside_in me.1 ≡ false
+  -- the context in it has received what was delivered, and maybe more since
+  pub received : Continues (received_in me.0) (carried_received me.1 me.0)
 
 -- ---- what a step does with it
 
@@ -72,3 +115,30 @@ abbrev pub moved : Moves → Holds → Holds
 moved stays h = h
 moved taken h = Within
 moved given h = Nothing
+
+-- ---- what a step tells of the deliveries; they all are those before, of which the caller then knows
+
+-- a slot with its context in it is given away: one delivery more, of what was received since it was taken
+abbrev pub Gives : Bool → List Delivery → Me Content View → Me Content View → Type 0
+Gives true before me me' = (x : RxCtx) × (packets : List Packet) × (me.1 ≡ (0, Some x) ∷ []) × (received_list x ≡ received_in me.0 ++ packets)
+    × (delivered me'.0 ≡ before ++ delivery (number_of me.0) packets x ∷ [])
+Gives false before me me' = (delivered me'.0 ≡ before) × (me'.1 ≡ me.1)
+
+abbrev pub Shifts : Moves → List Delivery → Me Content View → Me Content View → Type 0
+Shifts stays before me me' = (delivered me'.0 ≡ before) × (me'.1 ≡ me.1)
+-- the context that is taken is the one that was given back last, and has received what was delivered
+Shifts taken before me me' = (delivered me'.0 ≡ before) × ((x : RxCtx) × (me'.1 ≡ (0, Some x) ∷ []) × (received_list x ≡ received_in me'.0) × (last_in me'.0 ≡ Some x))
+Shifts given before me me' = Gives (owns_slot me.0) before me me'
+
+pub record Delivers (m : Moves) (me : Me Content View) (me' : Me Content View) : Type 0 where
+  -- all deliveries, just before
+  pub before : List Delivery
+  -- they begin with all that the pass had seen, by itself or from those that it met
+  pub begins : (k : ℕ) (x : Strand) → get_elem? me.0 k ≡ maybe.some x → IsPrefix x.delivered before
+  -- of the caller's own there are no others than those that it knew
+  pub exact : own_deliveries (number_of me.0) before ≡ own_deliveries (number_of me.0) (delivered me.0)
+  -- while the caller has the slot nobody else delivers
+  pub held : owns_slot me.0 ≡ true → before ≡ delivered me.0
+  -- the context that was handed in is known as ever
+  pub first : first_in me'.0 ≡ first_in me.0
+  pub shifts : Shifts m before me me'

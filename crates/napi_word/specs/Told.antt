@@ -12,15 +12,14 @@ use Rattle.napi_model.specs.declared.event.Operation.{Operation}
 use Rattle.napi_model.specs.declared.event.Operation.TheVariants.{Look, Schedule, TakeDisable}
 use Rattle.napi_model.specs.Word.{word_of}
 use Rattle.napi_word.specs.declared.view.Holds.{Holds}
-use Rattle.napi_word.specs.declared.view.Holds.TheVariants.{Within}
 use Rattle.napi_word.specs.View.{View}
-use Rattle.napi_word.specs.Slot.{Content, Tied, Moves, stays, moved}
-use Rattle.napi_word.specs.Rule.{begun_view}
+use Rattle.napi_word.specs.Slot.{Content, Tied, Moves, stays, moved, Delivers}
+use Rattle.napi_word.specs.Rule.{begun_view, begun_slot}
 use Rattle.napi_word.specs.Events.{Steps}
 
 -- the seat did this operation, and what it holds moved so
 abbrev pub Did : Operation → Moves → Me Content View → Me Content View → Type 0
-Did o m me me' = Steps me.0 o me'.0 × ((h : Holds) → Tied h me → Tied (moved m h) me')
+Did o m me me' = Steps me.0 o me'.0 × ((h : Holds) → Tied h me → Tied (moved m h) me') × Delivers m me me'
 
 -- the word said x, and so the operation and the move are these
 abbrev pub told : (Seen → Operation) → (Seen → Moves) → Me Content View → ℕ → Me Content View → Type 0
@@ -74,9 +73,9 @@ busy_op false x = Look x
 
 -- ---- loads that are no events
 
--- the first seat takes the slot, and has the strands of all numbers
+-- the first seat takes the slot, with what was handed in, and has the strands of all numbers
 abbrev pub begun : Me Content View → ℕ → Me Content View → Type 0
-begun me n me' = (me'.0 ≡ begun_view me.0) × Tied Within me'
+begun me n me' = (me'.0 ≡ begun_view me.0) × (me'.1 ≡ begun_slot me.0)
 
 -- a slot in hand goes back; the view stays
 abbrev pub laid_down : Me Content View → ℕ → Me Content View → Type 0

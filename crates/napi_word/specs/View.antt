@@ -1,12 +1,15 @@
 -- What a thread knows of an instance, and what a contract sees of it.
-use Rattle.std.specs.Prelude.{ℕ, Bool, false, is_some, unwrap_or, List, [], ◌∷◌, Option, Some, None}
-use Rattle.rx_ring.specs.Ends.{RingName, ring_name}
+use Rattle.std.specs.Prelude.{ℕ, nat_eq, Bool, false, is_some, unwrap_or, List, [], ◌∷◌, ◌++◌, filter, length, drop, ◌≡◌, Option, Some, None}
+use Rattle.rx_ring.specs.declared.packet.Packet.{Packet}
+use Rattle.rx_ring.specs.declared.ends.RxCtx.{RxCtx}
+use Rattle.rx_ring.specs.Ends.{RingName, ring_name, received_list}
 use Rattle.napi_model.specs.declared.state.Place.{Place}
 use Rattle.napi_model.specs.declared.state.State.{State}
 use Rattle.napi_model.specs.declared.event.Event.{Event}
 use Rattle.napi_model.specs.Step.{opening}
 use Rattle.napi_model.specs.History.{state_after}
 use Rattle.napi_word.specs.declared.view.Strand.{Strand}
+use Rattle.napi_word.specs.declared.view.Delivery.{Delivery}
 
 -- a pass's own strand comes first; the others are of the seats that it took in
 abbrev pub View : Type 0
@@ -40,6 +43,58 @@ controller_of (x ∷ xs) = x.controller
 abbrev pub ring_of : View → Option RingName
 ring_of [] = None
 ring_of (x ∷ xs) = Some (ring_name x.ring)
+
+-- ---- deliveries
+
+abbrev pub delivery : ℕ → List Packet → RxCtx → Delivery
+delivery c packets ctx = record { by = c; packets = packets; ctx = ctx }
+
+-- who delivered, in order
+abbrev pub deliverers : List Delivery → List ℕ
+deliverers [] = []
+deliverers (d ∷ ds) = d.by ∷ deliverers ds
+
+-- the packets of deliveries, in their order
+abbrev pub packets_of : List Delivery → List Packet
+packets_of [] = []
+packets_of (d ∷ ds) = d.packets ++ packets_of ds
+
+-- the context as it was given back last; at first it is the one that was handed in
+abbrev pub last_of : RxCtx → List Delivery → RxCtx
+last_of ring [] = ring
+last_of ring (d ∷ ds) = last_of d.ctx ds
+
+-- a caller's own deliveries, in their order
+unfoldable pub own_deliveries : ℕ → List Delivery → List Delivery
+own_deliveries c ds = filter (λ (d : Delivery). nat_eq d.by c) ds
+
+-- what a context has received that was this one at first, once these were delivered
+abbrev pub received_by : RxCtx → List Delivery → List Packet
+received_by ring ds = received_list ring ++ packets_of ds
+
+-- the second list is the first one and then more
+abbrev pub Continues : List Packet → List Packet → Type 0
+Continues before after = after ≡ before ++ drop (length before) after
+
+-- the deliveries that a pass shows: a beginning of all
+abbrev pub delivered : View → List Delivery
+delivered [] = []
+delivered (x ∷ xs) = x.delivered
+
+-- what the context has received by these
+abbrev pub received_in : View → List Packet
+received_in [] = []
+received_in (x ∷ xs) = received_by x.ring x.delivered
+
+-- the context that was handed in
+abbrev pub first_in : View → Option RxCtx
+first_in [] = None
+first_in (x ∷ xs) = Some x.ring
+
+-- the context that was given back last
+abbrev pub last_in : View → Option RxCtx
+last_in [] = None
+last_in (x ∷ xs) = Some (last_of x.ring x.delivered)
 
 -- the state after a list of events, from the state in which every table opens
 abbrev pub state_at : View → List Event → State

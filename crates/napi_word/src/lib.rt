@@ -23,8 +23,6 @@ mod steps;
 mod table;
 #[cfg(test)]
 mod tests;
-#[cfg(test)]
-mod thread_tests;
 mod view;
 
 pub use ending::Ended;
@@ -32,4 +30,4 @@ pub use gathering::{Found, Gathering};
 pub use making::TableBack;
 pub use rule::InOneHistory;
 pub use table::{Pass, StateTable};
-pub use view::{Holds, Key, Strand, View};
+pub use view::{Delivery, Holds, Key, Strand, View};

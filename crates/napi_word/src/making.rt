@@ -3,7 +3,7 @@ ghost use Rattle.std.specs.Prelude.{◌≡◌, ℕ, ◌+◌, ◌-◌, ◌<◌, �
 ghost use Rattle.napi_word.specs.declared.view.Holds.TheVariants as holds;
 ghost use Rattle.rx_ring.specs.Ends.{ring_name};
 ghost use Rattle.napi_word.specs.Rule.{strand, maker_at, first_view};
-ghost use Rattle.napi_word.specs.Passes.{view_of, IsPassOf, SameTable, IsNew, controller_of_table, ring_of_table};
+ghost use Rattle.napi_word.specs.Passes.{view_of, ctx_of, IsPassOf, SameTable, IsLaid, IsNew, controller_of_table, ring_of_table, first_of_table};
 
 use crate::plays::{Begins, GivesNumber};
 use crate::table::{Pass, StateTable};
@@ -47,15 +47,24 @@ fn back(mut slots: Vec<Option<RxCtx>>) -> TableBack
     TableBack { ctx }
 }
 
-// The first seat takes the slot for the controller. It has the strands of all numbers, the controller's first.
+// The first seat takes the slot for the controller, and ends a mark of `beside` on the context. It has the strands of all
+// numbers, the controller's first.
 fn begin(table: &StateTable, mut seat: Seat<Option<RxCtx>, View>) -> Pass
     requires table { seat.table_id ≡ table.now.table.shared.table_id }
     requires first { seat.me ≡ (first_view table.now.table.shared.key, []) }
     ensures table { IsPassOf table.now result }
     ensures view { view_of result ≡ maker_at table.now.table.shared.key.controller table.now.table.shared.key.ring.value 0 }
     ensures holds { result.holds ≡ holds.Within }
+    ensures laid { IsLaid table.now.table.shared.key.ring.value result }
 {
     table.table.shared.load::<Begins>(&mut seat, 0);
+    let Some(mut ctx) = table.table.shared.exchange(&mut seat, 0, None) else {
+        unreachable!()
+    };
+    ctx.apart();
+    let None = table.table.shared.exchange(&mut seat, 0, Some(ctx)) else {
+        unreachable!()
+    };
     Pass {
         seat,
         holds: Holds::Within,
@@ -70,6 +79,7 @@ fn next_pass(table: &StateTable, maker: &mut Pass, number: u32) -> Pass
     ensures table { SameTable maker.old maker.new }
     ensures view { view_of maker.new ≡ maker_at table.now.table.shared.key.controller table.now.table.shared.key.ring.value (number + 1) }
     ensures holds { maker.new.holds ≡ maker.old.holds }
+    ensures slot { ctx_of maker.new ≡ ctx_of maker.old }
     ensures made { IsNew table.now table.now.table.shared.key.controller table.now.table.shared.key.ring.value number result }
 {
     Pass {
@@ -91,6 +101,7 @@ impl StateTable {
         ensures count { IfOk result (λ r. (vec_len r.1 ≡ seats) × (length r.1.items ≡ seats)) }
         ensures controller { IfOk result (λ r. controller_of_table r.0 ≡ seats - 1) }
         ensures ring { IfOk result (λ r. ring_of_table r.0 ≡ ring_name ctx) }
+        ensures first { IfOk result (λ r. first_of_table r.0 ≡ ctx) }
         ensures new { IfOk result (λ r. (k : ℕ) (p : Pass) → slice_get r.1.items k ≡ Some p → IsNew r.0 (seats - 1) ctx k p) }
         ensures back { IfErr result (λ b. b.ctx ≡ ctx) }
     {

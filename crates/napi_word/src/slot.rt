@@ -1,7 +1,10 @@
 //! The context, out of the slot and back into it. These steps are no events.
-ghost use Rattle.std.specs.Prelude.{◌≡◌};
+ghost use Rattle.std.specs.Prelude.{◌≡◌, false, Some};
+ghost use mathlib.Core.List.{IsPrefix};
+ghost use Rattle.rx_ring.specs.Ends.{is_beside, received_list};
+ghost use Rattle.napi_word.specs.View.{received_in};
 ghost use Rattle.napi_word.specs.declared.view.Holds.TheVariants.{Within, Out};
-ghost use Rattle.napi_word.specs.Passes.{IsPassOf, Keeps, IsWithin, OwnsSlot, OfItsRing};
+ghost use Rattle.napi_word.specs.Passes.{view_of, ctx_of, received_of, IsLaid, IsPassOf, Keeps, IsWithin, OwnsSlot, OfItsRing};
 
 use crate::table::{Pass, StateTable};
 use crate::view::Holds;
@@ -17,6 +20,9 @@ impl StateTable {
         ensures keeps { Keeps pass.old pass.new }
         ensures holds { pass.new.holds ≡ Out }
         ensures ring { OfItsRing pass.old result }
+        ensures unmarked { is_beside result ≡ false }
+        ensures ctx { ctx_of pass.old ≡ Some result }
+        ensures received { received_list result ≡ received_of pass.old }
     {
         let Some(ctx) = self.table.shared.exchange(&mut pass.seat, 0, None) else {
             unreachable!()
@@ -32,8 +38,11 @@ impl StateTable {
         requires table { IsPassOf self.now pass.old }
         requires out { pass.old.holds ≡ Out }
         requires ring { OfItsRing pass.old ctx }
+        requires received { IsPrefix (received_in (view_of pass.old)) (received_list ctx) }
         ensures keeps { Keeps pass.old pass.new }
         ensures holds { pass.new.holds ≡ Within }
+        ensures laid { IsLaid ctx pass.new }
+        ensures received { received_of pass.new ≡ received_list ctx }
     {
         let mut ctx = ctx;
         ctx.apart();

@@ -1,7 +1,7 @@
 //! The table of an instance, and the passes to it.
-ghost use Rattle.std.specs.Prelude.{◌≡◌, true, Some};
-ghost use Rattle.napi_word.specs.View.{is_pass, ring_of};
-ghost use Rattle.napi_word.specs.Slot.{hold_of, has_slot, owns_slot, ring_in};
+ghost use Rattle.std.specs.Prelude.{◌≡◌, true, false, Some};
+ghost use Rattle.napi_word.specs.View.{is_pass, ring_of, received_in, Continues};
+ghost use Rattle.napi_word.specs.Slot.{hold_of, has_slot, owns_slot, ring_in, beside_in, carried_received};
 
 use crate::rule::InOneHistory;
 use crate::view::{Holds, Key, View};
@@ -27,4 +27,6 @@ pub struct Pass {
     ghost marked: { hold_of seat.me.1 ≡ Some holds },
     ghost right: { owns_slot seat.me.0 ≡ has_slot holds },
     ghost ring: { ring_in seat.me.1 seat.me.0 ≡ ring_of seat.me.0 },
+    ghost unmarked: { beside_in seat.me.1 ≡ false },
+    ghost received: { Continues (received_in seat.me.0) (carried_received seat.me.1 seat.me.0) },
 }

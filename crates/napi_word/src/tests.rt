@@ -3,14 +3,13 @@ ghost use Rattle.std.specs.Prelude.{◌≡◌, ℕ, ◌+◌, ◌-◌, ◌<◌, �
 ghost use Rattle.rx_ring.specs.declared.ends.RxCtx.{RxCtx};
 ghost use Rattle.napi_model.specs.declared.event.Event.{Event};
 ghost use Rattle.napi_model.specs.declared.event.Prep.TheVariants as prep;
-ghost use Rattle.napi_model.specs.declared.event.Operation.TheVariants.{Look, Schedule, Complete, BusyTake, BusyStop, Enable};
-ghost use Rattle.napi_model.specs.declared.event.Done.TheVariants.{Held};
+ghost use Rattle.napi_model.specs.declared.event.Operation.TheVariants.{Look, Schedule, Enable};
 ghost use Rattle.napi_model.specs.Step.{event};
 ghost use Rattle.napi_word.specs.declared.table.Pass.{Pass};
 ghost use Rattle.napi_word.specs.View.{mine, number_of};
 ghost use Rattle.napi_word.specs.Passes.{view_of, IsPassOf, SameTable, IsNew, controller_of_table};
 ghost use Rattle.napi_word.specs.Ends.{IsEnded};
-ghost use Rattle.napi_word.specs.Runs.{HasOwnLists, IsEnabled};
+ghost use Rattle.napi_word.specs.Runs.{HasOwnLists};
 
 use crate::{Ended, Pass, StateTable, TableBack};
 use napi_model::{Prep, Seen, decode, encode};
@@ -21,15 +20,15 @@ use std::thread::join;
 
 // A table with two callers, 0 and 1, and the controller 2: the three passes, and the vector that they lay in.
 #[derive(Drop)]
-pub(crate) struct Opened {
-    pub(crate) table: StateTable,
-    pub(crate) first: Pass,
-    pub(crate) second: Pass,
-    pub(crate) control: Pass,
-    pub(crate) room: Vec<Pass>,
+struct Opened {
+    table: StateTable,
+    first: Pass,
+    second: Pass,
+    control: Pass,
+    room: Vec<Pass>,
 }
 
-pub(crate) fn table_of_two(alloc: Global, ctx: RxCtx) -> Option<Opened>
+fn table_of_two(alloc: Global, ctx: RxCtx) -> Option<Opened>
     ensures first { IfSome result (λ o. IsNew o.table 2 ctx 0 o.first) }
     ensures second { IfSome result (λ o. IsNew o.table 2 ctx 1 o.second) }
     ensures control { IfSome result (λ o. IsNew o.table 2 ctx 2 o.control) }
@@ -55,12 +54,11 @@ pub(crate) fn table_of_two(alloc: Global, ctx: RxCtx) -> Option<Opened>
 }
 
 // The controller's own list after it gave the instance free, where no word but 9 was there to be found.
-pub(crate) fn enable(table: &StateTable, control: &mut Pass) -> bool
+fn enable(table: &StateTable, control: &mut Pass) -> bool
     requires table { IsPassOf table.now control.old }
     requires new { (ctx : RxCtx) × IsNew table.now 2 ctx 2 control.old }
     ensures table { SameTable control.old control.new }
     ensures number { number_of (view_of control.new) ≡ 2 }
-    ensures rests { IsTrue result → IsEnabled control.new }
     ensures own { IsTrue result → mine (view_of control.new) ≡ event 2 (Enable false) ∷ [] }
 {
     let Some(nine) = decode(9) else {
@@ -100,7 +98,7 @@ fn swaps(table: &StateTable, first: &mut Pass, second: &mut Pass) -> Option<(See
 }
 
 // The end of a table of three: the own list of each caller is the events of its number in the one history.
-pub(crate) fn end_of_three(opened: Opened) -> Option<Ended>
+fn end_of_three(opened: Opened) -> Option<Ended>
     requires first { IsPassOf opened.table opened.first }
     requires second { IsPassOf opened.table opened.second }
     requires control { IsPassOf opened.table opened.control }
@@ -146,49 +144,6 @@ fn lost_exchange(alloc: Global, ctx: RxCtx) -> Option<Lost>
         last,
         ended,
     })
-}
-
-// Busy polls once: a completion that is held, a stop that expects another word, and one that finds the word.
-fn busy_polls(table: &StateTable, pass: &mut Pass) -> Option<(Seen, Seen)>
-    requires table { IsPassOf table.now pass.old }
-    ensures table { SameTable pass.old pass.new }
-    ensures own { IfSome result (λ r. mine (view_of pass.new) ≡ mine (view_of pass.old) ++ map (event (number_of (view_of pass.old))) (Look r.0 ∷ BusyTake ∷ Complete Held ∷ Look r.1 ∷ BusyStop ∷ [])) }
-{
-    let idle = table.look(pass);
-    if !idle.flags.may_busy_take() {
-        return None;
-    }
-    let Ok(()) = table.busy_swap(pass, idle) else {
-        return None;
-    };
-    table.complete_load(pass);
-    let Err(busy) = table.stop_swap(pass, idle) else {
-        return None;
-    };
-    let Ok(()) = table.stop_swap(pass, busy) else {
-        return None;
-    };
-    Some((idle, busy))
-}
-
-#[test]
-fn a_lost_stop_is_a_look(rt: HostRuntime) -> Result<(), Fail> {
-    let (_input, ctx) = ring(rt.alloc(), 4)?;
-    let Some(mut opened) = table_of_two(rt.alloc(), ctx) else {
-        panic!(rt; "no memory")
-    };
-    assert!(rt; enable(&opened.table, &mut opened.control));
-    let Some((idle, busy)) = busy_polls(&opened.table, &mut opened.first) else {
-        panic!(rt; "another word")
-    };
-    assert_eq!(rt; encode(idle), 0);
-    assert_eq!(rt; encode(busy), 65);
-    assert_eq!(rt; encode(opened.table.look(&mut opened.second)), 1);
-    let Some(ended) = end_of_three(opened) else {
-        panic!(rt; "no memory")
-    };
-    assert!(rt; ended.ctx.is_some());
-    Ok(())
 }
 
 // With each allocation refused in turn (`rt try --test --fail-alloc N`) the context comes back, with what its ring holds.

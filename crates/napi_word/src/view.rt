@@ -1,6 +1,6 @@
 //! What a thread knows of the instance. It is told by contracts alone: no value of `Strand` or `View` is made.
 use napi_model::Event;
-use rx_ring::RxCtx;
+use rx_ring::{Packet, RxCtx};
 use std::collections::LinkedList;
 use std::snapshot::Snapshot;
 
@@ -13,6 +13,16 @@ pub struct Key {
     pub ring: Snapshot<RxCtx>,
 }
 
+/// What an owner of the slot's context received with it, from taking it to giving it back.
+pub struct Delivery {
+    /// The owner's number.
+    pub by: u32,
+    /// Its packets, oldest first.
+    pub packets: LinkedList<Packet>,
+    /// The context as it was given back.
+    pub ctx: RxCtx,
+}
+
 /// What one seat knows.
 pub struct Strand {
     /// False in the first seat alone, until it has the slot.
@@ -23,6 +33,8 @@ pub struct Strand {
     pub seen: LinkedList<Event>,
     /// Its own events.
     pub mine: LinkedList<Event>,
+    /// The deliveries that it has seen: a beginning of all, in the order in which the context was given back.
+    pub delivered: LinkedList<Delivery>,
     /// The controller's number.
     pub controller: u32,
     /// The context that was handed in.

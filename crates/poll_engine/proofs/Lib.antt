@@ -3,6 +3,5 @@ pub mod PollingFacts
 pub mod PollingParts
 pub mod RunFacts
 pub mod PlainFacts
-pub mod ScriptFacts
 pub mod BusyFacts
 pub mod FunctionFacts

@@ -6,5 +6,4 @@ pub mod Turn
 pub mod Polling
 pub mod BusyPolling
 pub mod Laws
-pub mod Script
 pub mod Function

@@ -9,19 +9,13 @@
 
 mod bench;
 mod busy_polling;
-#[cfg(test)]
-mod crowded;
 mod instance;
 mod laws;
 mod list;
 mod plain;
 mod polling;
 mod run;
-#[cfg(test)]
-mod scripted;
 mod soft;
-#[cfg(test)]
-mod tests;
 
 pub use bench::{Bench, BusyReport, Next, Once, ShownBench, ThreadReport};
 pub use busy_polling::poll_busy_of;

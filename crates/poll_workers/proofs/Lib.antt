@@ -1,6 +1,1 @@
-pub mod Zips
-pub mod ListFacts
-pub mod ActSteps
-pub mod SeatFacts
 pub mod RunFacts
-pub mod DealFacts

@@ -11,23 +11,26 @@ use Rattle.napi_calls.specs.declared.kept.Kept.{Kept}
 use Rattle.napi_calls.specs.declared.types.Caller.{Caller}
 use Rattle.napi_calls.specs.declared.types.Napi.{Napi}
 use Rattle.napi_calls.specs.Instance.{IsSeatOf}
-use Rattle.poll_workers.specs.declared.acts.Act.{Act}
-use Rattle.poll_workers.specs.declared.opening.Loose.{Loose}
-use Rattle.poll_workers.specs.declared.opening.Placed.{Placed}
-use Rattle.poll_workers.specs.declared.station.Station.{Station}
-use Rattle.poll_workers.specs.declared.station.Finished.{Finished}
-use Rattle.poll_workers.specs.declared.seat.Seat.{Seat}
-use Rattle.poll_workers.specs.declared.job.Job.{Job}
-use Rattle.poll_workers.specs.declared.job.Worked.{Worked}
-use Rattle.poll_workers.specs.declared.thread_poller.ThreadSide.{ThreadSide}
-use Rattle.poll_workers.specs.Acts.{after_acts, arrivals}
-use Rattle.poll_workers.specs.Finishes.{IsCallerAt, IsCallerOf, IsDoneAt, IsFinishOf, IsFinished, IsWorkedOf}
-use Rattle.poll_workers.specs.Opens.{IsInputOf, IsKeptLoose, IsKeptSideOf, IsLoose}
-use Rattle.poll_workers.specs.Seats.{AreSeatsOf}
-use Rattle.poll_workers.specs.SeatKeeping.{AreSameSeats, IsLawful, IsSameSeat}
+use Rattle.interrupt_workers.specs.declared.acts.Act.{Act}
+use Rattle.interrupt_workers.specs.declared.opening.Loose.{Loose}
+use Rattle.interrupt_workers.specs.declared.opening.Placed.{Placed}
+use Rattle.interrupt_workers.specs.declared.station.Station.{Station}
+use Rattle.interrupt_workers.specs.declared.station.Finished.{Finished}
+use Rattle.seat_pollers.specs.declared.seat.Seat.{Seat}
+use Rattle.interrupt_workers.specs.declared.job.Job.{Job}
+use Rattle.interrupt_workers.specs.declared.job.Worked.{Worked}
+use Rattle.seat_pollers.specs.declared.thread_poller.ThreadSide.{ThreadSide}
+use Rattle.interrupt_workers.specs.Acts.{after_acts, arrivals}
+use Rattle.poll_workers.specs.Finishes.{IsFinished, IsWorkedOf}
+use Rattle.seat_pollers.specs.SeatKeeping.{IsCallerOf}
+use Rattle.interrupt_workers.specs.Ends.{IsCallerAt, IsDoneAt, IsFinishOf}
+use Rattle.interrupt_workers.specs.Opens.{IsInputOf, IsKeptLoose, IsKeptSideOf, IsLoose}
+use Rattle.interrupt_workers.specs.Seats.{AreSeatsOf}
+use Rattle.seat_pollers.specs.SeatKeeping.{AreSameSeats, IsSameSeat}
+use Rattle.crew_tasks.specs.Paces.{IsLawful}
 use Rattle.poll_workers.specs.Spreads.{IsJobAt, IsKeptJobOf, IsSeatAt, IsThreadAt}
-use Rattle.poll_workers.specs.Works.{IsWorkOf}
-use Rattle.poll_workers.proofs.ListFacts.{each_index, zip_all, zip_and, zip_both, zip_each, zip_flip, zip_same}
+use Rattle.interrupt_workers.specs.Works.{IsWorkOf}
+use Rattle.crew_tasks.proofs.ListFacts.{each_index, zip_all, zip_and, zip_both, zip_each, zip_flip, zip_same}
 
 same_ring : (a b c : RxIn) (napi : Napi) → b ≡ a → SameIn b c → IsInputOf a napi → IsInputOf c napi
 same_ring a b c napi e s h = let whole : IsInputOf b napi = subst (λ (r : RxIn). IsInputOf r napi) (sym e) h in (whole.0, whole.1, search rules)

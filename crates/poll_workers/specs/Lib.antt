@@ -1,10 +1,5 @@
-pub mod Acts
-pub mod Seats
-pub mod SeatKeeping
-pub mod Crowds
-pub mod Opens
-pub mod Works
 pub mod Spreads
 pub mod Finishes
-pub mod Deals
-pub mod Tasks
+pub use Rattle.interrupt_workers.specs.Acts
+pub use Rattle.interrupt_workers.specs.Opens
+pub use Rattle.crew_tasks.specs.Paces

@@ -2,46 +2,24 @@
 
 ghost use Rattle.std.specs.Prelude.{◌≡◌, ◌≤◌, ◌<◌, ◌+◌, IfOk, IfErr, true, vec_items, vec_len, vec_capacity};
 ghost use Rattle.std.specs.List.{All, AllZip};
-ghost use Rattle.napi_calls.specs.Instance.{IsSeatOf};
-ghost use Rattle.poll_workers.specs.Finishes.{IsCallerAt, IsDoneAt, IsFinishOf, IsFinished, IsWorkedOf};
-ghost use Rattle.poll_workers.specs.Opens.{IsKeptSideOf, IsStation};
-ghost use Rattle.poll_workers.specs.SeatKeeping.{AreSameSeats, IsLawful};
-ghost use Rattle.poll_workers.specs.Seats.{AreSeatsOf};
-ghost use Rattle.poll_workers.specs.Tasks.{HasRoom, IsReady};
-ghost use Rattle.poll_workers.specs.Works.{IsWorkOf};
+ghost use Rattle.poll_workers.specs.Finishes.{IsFinished, IsWorkedOf};
+ghost use Rattle.interrupt_workers.specs.Ends.{IsCallerAt, IsDoneAt, IsFinishOf};
+ghost use Rattle.interrupt_workers.specs.Opens.{IsKeptSideOf, IsStation};
+ghost use Rattle.crew_tasks.specs.Paces.{IsLawful};
+ghost use Rattle.crew_tasks.specs.Tasks.{HasRoom};
 
-use crate::acts::{Device, Gate};
-use crate::gathering::{are_whole, gather, unseat};
-use crate::job::Worked;
-use crate::opening::{Loose, Placed, open_all, shut_all};
-use crate::poller::PollTask;
-use crate::signals::{Bell, Pause, Post, Signals};
+use crate::fault::WorkFault;
 use crate::spreading::{Parts, spread};
-use crate::station::{Finished, Setting, Station, WorkFault};
-use crate::tasks::{Begun, Task, begin, begin_all, end, end_all};
+use crew_tasks::{Bell, Gate, Pause, Post, Room, Setting, Task, drive, task_room};
+use interrupt_workers::{
+    Device, Finished, Loose, Placed, Station, Worked, are_whole, gather, open_all, shut_all,
+};
 use napi_calls::{Caller, Kept};
-use poll_engine::{ListIn, SharedList, shared_list};
+use seat_pollers::{PollTask, unseat};
+use shared_list::{ListIn, SharedList, shared_list};
 use std::alloc::{AllocError, Global};
 use std::sync::Wait;
-use std::thread;
 use std::thread::Threads;
-
-/// Room for what tasks are while they run, and for what they give.
-#[derive(Drop)]
-struct Room<J: Task<O>, O> {
-    begun: Vec<Begun<J, O>>,
-    given: Vec<O>,
-}
-
-// Room for so many tasks.
-fn task_room<J: Task<O>, O: Drop>(alloc: Global, count: usize) -> Result<Room<J, O>, AllocError>
-    ensures { IfOk result (λ r. HasRoom count r.begun × HasRoom count r.given) }
-{
-    Ok(Room {
-        begun: Vec::with_capacity(alloc, count)?,
-        given: Vec::with_capacity(alloc, count)?,
-    })
-}
 
 /// Room for a crew's tasks, and for the callers of its poller's seats.
 #[derive(Drop)]
@@ -71,89 +49,6 @@ fn crew_rooms<'n, J: Task<B> + Drop, B: Drop, S: Task<C> + Drop, C: Drop>(
     let sides = Vec::with_capacity(alloc, count)?;
     let seats = Vec::with_capacity(alloc, count)?;
     Ok((Parts { jobs, seats, sides }, rooms))
-}
-
-/// What the threads of a crew gave back, and what was done beside them.
-#[derive(Drop)]
-struct Driven<A, B, C, E> {
-    polled: A,
-    worked: Vec<B>,
-    threads: Vec<C>,
-    beside: E,
-}
-
-// The threads of a crew. Whoever polls is started before the workers: where one can't be started no worker makes an act, so
-// that nobody waits for it. The poller is told when all workers have ended. Meanwhile `beside` is called.
-fn drive<R, P, A, W, B, S, C, F, E>(
-    rt: &R,
-    poller: P,
-    workers: Vec<W>,
-    sides: Vec<S>,
-    post: &Post,
-    signals: &Signals,
-    work_room: Room<W, B>,
-    side_room: Room<S, C>,
-    beside: F,
-) -> Driven<A, B, C, E>
-where
-    R: Threads + Wait + Sync,
-    P: Task<A> + Drop + Send,
-    A: Drop + Send,
-    W: Task<B> + Drop + Send,
-    B: Drop + Send,
-    S: Task<C> + Drop + Send,
-    C: Drop + Send,
-    F: FnOnce() -> E + Drop,
-    E: Drop,
-    requires poller { P.can_run poller }
-    requires workers { IsReady W.can_run workers work_room.begun work_room.given }
-    requires threads { IsReady S.can_run sides side_room.begun side_room.given }
-    requires beside { F.pre beside }
-    ensures polled { P.gives poller result.polled }
-    ensures worked { AllZip W.gives workers.items result.worked.items }
-    ensures threads { AllZip S.gives sides.items result.threads.items }
-    ensures beside { F.post beside result.beside }
-{
-    let Room {
-        begun: work_begun,
-        given: work_given,
-    } = work_room;
-    let Room {
-        begun: side_begun,
-        given: side_given,
-    } = side_room;
-    thread::scope(
-        thread::scope_env(),
-        rt,
-        |scope| -> Driven<A, B, C, E>
-            requires poller { P.can_run poller }
-            requires workers { IsReady W.can_run workers work_begun work_given }
-            requires threads { IsReady S.can_run sides side_begun side_given }
-            requires beside { F.pre beside }
-            ensures polled { P.gives poller result.polled }
-            ensures worked { AllZip W.gives workers.items result.worked.items }
-            ensures threads { AllZip S.gives sides.items result.threads.items }
-            ensures beside { F.post beside result.beside }
-        {
-            let siding = begin_all(scope, sides, &post.refused, side_begun);
-            let polling = begin(scope, poller, &post.refused);
-            if post.is_refused() {
-                signals.refuse();
-            }
-            let working = begin_all(scope, workers, &signals.refused, work_begun);
-            let beside = beside();
-            let worked = end_all(rt, working, work_given);
-            post.bell.tell();
-            let polled = end(rt, polling);
-            let threads = end_all(rt, siding, side_given);
-            Driven {
-                polled,
-                worked,
-                threads,
-                beside,
-            }
-        },
-    )
 }
 
 // What is there of a crew when all its threads have ended.

@@ -3,16 +3,15 @@
 ghost use Rattle.std.specs.Prelude.{◌≡◌, ◌≤◌, ◌<◌, ◌+◌, IfOk, Ok, vec_items, vec_len, vec_capacity};
 ghost use Rattle.std.specs.List.{All, AllZip};
 ghost use Rattle.std.specs.Thread.{IsSend, IsSync};
-ghost use Rattle.poll_workers.specs.Deals.{IsDealt};
+ghost use Rattle.interrupt_workers.specs.Deals.{IsDealt};
 ghost use Rattle.poll_workers.specs.Finishes.{IsFinished};
-ghost use Rattle.poll_workers.specs.Opens.{IsStation};
-ghost use Rattle.poll_workers.specs.SeatKeeping.{IsLawful};
+ghost use Rattle.interrupt_workers.specs.Opens.{IsStation};
+ghost use Rattle.crew_tasks.specs.Paces.{IsLawful};
 
-use crate::acts::{Device, Gate};
 use crate::crew::run_crew;
-use crate::dealing::{Dealt, deal, merge};
-use crate::signals::Signals;
-use crate::station::{Finished, Pace, Setting, Station, WorkFault};
+use crate::fault::WorkFault;
+use crew_tasks::{Gate, Pace, Setting, Signals};
+use interrupt_workers::{Dealt, Device, Finished, Station, deal, merge};
 use std::alloc::{AllocError, Global};
 use std::sync::Wait;
 use std::thread::Threads;

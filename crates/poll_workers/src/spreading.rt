@@ -2,20 +2,16 @@
 
 ghost use Rattle.std.specs.Prelude.{◌≡◌, ◌+◌, ◌≤◌, length, vec_items, vec_len};
 ghost use Rattle.std.specs.List.{AllZip};
-ghost use Rattle.poll_workers.specs.Opens.{IsKeptSideOf, IsSideOf};
-ghost use Rattle.poll_workers.specs.SeatKeeping.{IsLawful};
+ghost use Rattle.interrupt_workers.specs.Opens.{IsKeptSideOf, IsSideOf};
+ghost use Rattle.crew_tasks.specs.Paces.{IsLawful};
 ghost use Rattle.poll_workers.specs.Spreads.{IsJobAt, IsJobOf, IsKeptJobOf, IsSeatAt, IsThreadAt};
-ghost use Rattle.poll_workers.specs.Tasks.{HasRoom};
+ghost use Rattle.crew_tasks.specs.Tasks.{HasRoom};
 
-use crate::job::Job;
-use crate::opening::{Loose, Placed};
-use crate::seat::Seat;
-use crate::signals::{Bell, Pause, Post};
-use crate::station::Setting;
-use crate::thread_poller::{Own, ThreadSide};
-use crate::worker::{Desk, Work};
+use crew_tasks::{Bell, Pause, Post, Setting};
+use interrupt_workers::{Desk, Job, Loose, Placed, Work};
 use napi_calls::Kept;
-use poll_engine::ListIn;
+use seat_pollers::{Own, Seat, ThreadSide};
+use shared_list::ListIn;
 use std::sync::Wait;
 
 /// What goes to the threads of a crew, in the order of its stations. It must be spent.

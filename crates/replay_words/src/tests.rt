@@ -37,24 +37,6 @@ fn usual_ones(rt: HostRuntime) {
 }
 
 #[test]
-fn each_option_in_both_forms(rt: HostRuntime) {
-    let alloc = rt.alloc();
-    assert_eq!(rt;
-        parse(alloc, &["--mode", "serial"]),
-        serial(1, 300, 64, 1024)
-    );
-    assert_eq!(rt; parse(alloc, &["--mode=serial"]), serial(1, 300, 64, 1024));
-    assert_eq!(rt; parse(alloc, &["--pollers", "3"]), serial(3, 300, 64, 1024));
-    assert_eq!(rt; parse(alloc, &["--pollers=3"]), serial(3, 300, 64, 1024));
-    assert_eq!(rt; parse(alloc, &["--budget", "2"]), serial(1, 2, 64, 1024));
-    assert_eq!(rt; parse(alloc, &["--budget=2"]), serial(1, 2, 64, 1024));
-    assert_eq!(rt; parse(alloc, &["--weight", "7"]), serial(1, 300, 7, 1024));
-    assert_eq!(rt; parse(alloc, &["--weight=7"]), serial(1, 300, 7, 1024));
-    assert_eq!(rt; parse(alloc, &["--window", "1"]), serial(1, 300, 64, 1));
-    assert_eq!(rt; parse(alloc, &["--window=1"]), serial(1, 300, 64, 1));
-}
-
-#[test]
 fn each_mode(rt: HostRuntime) -> Result<(), WordFault> {
     let (_, usual) = parse(rt.alloc(), &[])?;
     let modes = [
@@ -78,108 +60,30 @@ fn all_options_in_any_order(rt: HostRuntime) {
         "--mode",
         "serial",
         "--budget",
-        "65535",
+        "00002",
         "--pollers=8",
     ];
-    assert_eq!(rt; parse(alloc, &words), serial(8, 65535, 1, 65535));
-}
-
-#[test]
-fn leading_zeros(rt: HostRuntime) {
-    let alloc = rt.alloc();
-    assert_eq!(rt;
-        parse(alloc, &["--budget", "00002"]),
-        serial(1, 2, 64, 1024)
-    );
-    assert_eq!(rt; parse(alloc, &["--weight=064"]), serial(1, 300, 64, 1024));
-}
-
-#[test]
-fn refused_numbers(rt: HostRuntime) {
-    let alloc = rt.alloc();
-    let words = [
-        ["--pollers", "0"],
-        ["--pollers", "9"],
-        ["--budget", "0"],
-        ["--budget", "65536"],
-        ["--weight", "0"],
-        ["--weight", "65"],
-        ["--window", "0"],
-        ["--window", "65536"],
-        ["--budget", "000002"],
-        ["--budget", "000000"],
-        ["--budget", ""],
-        ["--budget", "+5"],
-        ["--budget", "-5"],
-        ["--budget", "5 "],
-        ["--budget", "0x5"],
-        ["--budget", "٥"],
-        ["--budget", "-"],
-        ["--budget", "--"],
-        ["--budget", "--weight"],
-        ["--budget", "--weight=5"],
-    ];
-    for pair in &words {
-        assert_eq!(rt; parse(alloc, pair.as_slice()), Err(WordFault::Usage));
-    }
+    assert_eq!(rt; parse(alloc, &words), serial(8, 2, 1, 65535));
 }
 
 #[test]
 fn refused_words(rt: HostRuntime) {
-    let alloc = rt.alloc();
-    let words = [
-        "",
-        "--",
-        "-",
-        "5",
-        "serial",
-        "--help",
-        "-h",
-        "help",
-        "--version",
-        "-V",
-        "--mode",
-        "--budget",
-        "--budget=",
-        "--budget=65536",
-        "--budget=-5",
-        "--budget=5=",
-        "--weight=65",
-        "--mode=",
-        "--mode=Serial",
-        "--mode=threads ",
-        "--bud=5",
-        "--budge=5",
-        "--budgets=5",
-        "--Budget=5",
-        "-budget=5",
-        "--=5",
-        "---budget=5",
-        " --budget=5",
-        "--help=5",
+    let words: [&[&str]; 11] = [
+        &["--weight", "65"],
+        &["--budget", "0"],
+        &["--budget", "000002"],
+        &["--budget", "+5"],
+        &["--budget", "--weight"],
+        &["--budget"],
+        &["--budget="],
+        &["--bud=5"],
+        &["--budget=5", "--budget=5"],
+        &["--budget=5", "--"],
+        &["--help"],
     ];
-    for word in &words {
-        assert_eq!(rt; parse(alloc, &[*word]), Err(WordFault::Usage));
+    for list in &words {
+        assert_eq!(rt; parse(rt.alloc(), *list), Err(WordFault::Usage));
     }
-}
-
-#[test]
-fn refused_lists_of_words(rt: HostRuntime) {
-    let alloc = rt.alloc();
-    let usage = Err(WordFault::Usage);
-    assert_eq!(rt;
-        parse(alloc, &["--mode", "shared", "--mode", "serial"]),
-        usage
-    );
-    assert_eq!(rt; parse(alloc, &["--budget=5", "--budget=5"]), usage);
-    assert_eq!(rt; parse(alloc, &["--budget", "5", "--budget=6"]), usage);
-    assert_eq!(rt; parse(alloc, &["--mode=serial", "--mode", "serial"]), usage);
-    assert_eq!(rt; parse(alloc, &["--budget", "5", "6"]), usage);
-    assert_eq!(rt; parse(alloc, &["--budget", "=", "5"]), usage);
-    assert_eq!(rt; parse(alloc, &["--budget=5", "--"]), usage);
-    assert_eq!(rt; parse(alloc, &["--budget=5", "--help"]), usage);
-    assert_eq!(rt; parse(alloc, &["--budget=5", ""]), usage);
-    assert_eq!(rt; parse(alloc, &["", "--budget=5"]), usage);
 }
 
 // Run with each allocation refused in turn, the only other answer is OutOfMemory.

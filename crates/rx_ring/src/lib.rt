@@ -18,6 +18,4 @@ pub use packet::{Batch, MAX_WEIGHT, Packet, RxCounts, Totals};
 pub use pair::{MAX_CAPACITY, beside, finish, names_tell_rings, ring};
 
 #[cfg(test)]
-mod plain;
-#[cfg(test)]
 mod tests;

@@ -3,6 +3,7 @@
 use arrayvec::ArrayVec;
 
 /// A packet, as far as the ring is concerned.
+#[repr(C)]
 #[derive(Clone, Copy, Debug, Default, PartialEq, Eq)]
 pub struct Packet {
     /// Its number. The ring makes no use of it.

@@ -4,10 +4,7 @@ ghost use Rattle.std.specs.Prelude.{◌≡◌, ◌≤◌, length, min, take};
 ghost use Rattle.rx_ring.specs.ReceiveRing.{NAPI_POLL_WEIGHT, held_of};
 ghost use Rattle.rx_ring.specs.Ends.{IsOneRing, SameIn, SameCtx, ring_of};
 
-use crate::plain::poll_by_pops;
-use crate::{
-    Batch, MAX_WEIGHT, Packet, RingFault, RxCounts, RxCtx, RxIn, Totals, beside, finish, ring,
-};
+use crate::{Batch, Packet, RingFault, RxCounts, RxCtx, RxIn, Totals, beside, finish, ring};
 use std::sync::Wait;
 use std::test::Fail;
 use std::thread;
@@ -55,40 +52,10 @@ fn receive_ring_of_two(rt: HostRuntime) -> Result<(), Fail> {
         bytes: 70,
     };
     assert_eq!(rt; finish(input, ctx), totals);
-    Ok(())
-}
-
-#[test]
-fn capacity_refusals(rt: HostRuntime) -> Result<(), Fail> {
-    for capacity in [0, 65_537, usize::MAX] {
-        let refused = ring(rt.alloc(), capacity).err();
-        assert_eq!(rt; refused, Some(RingFault::BadCapacity), "{capacity} packets");
-    }
-    Ok(())
-}
-
-// A ring of the most places, filled to the last one, and polled with the greatest weight until it is empty, twice.
-#[test]
-fn largest_ring(rt: HostRuntime) -> Result<(), Fail> {
-    let (mut input, mut ctx) = ring(rt.alloc(), 65_536)?;
-    let mut batch = Batch::new();
-    assert_eq!(rt; (batch.capacity(), MAX_WEIGHT), (64, 64));
-    for _ in 0..2 {
-        for k in 0..65_536 {
-            assert_eq!(rt; input.put(packet(k, 1)), Ok(()));
-        }
-        assert_eq!(rt; input.put(packet(0, 1)), Err(packet(0, 1)));
-        for _ in 0..1024 {
-            assert_eq!(rt; ctx.poll(64, &mut batch), 64);
-        }
-        assert_eq!(rt; ctx.poll(64, &mut batch), 0);
-    }
-    let counts = RxCounts {
-        polls: 2050,
-        packets: 131_072,
-        bytes: 131_072,
-    };
-    assert_eq!(rt; ctx.counts(), counts);
+    assert_eq!(rt;
+        ring(rt.alloc(), 65_537).err(),
+        Some(RingFault::BadCapacity)
+    );
     Ok(())
 }
 
@@ -151,49 +118,6 @@ fn context_given_away_overlooks_nothing(rt: HostRuntime) -> Result<(), Fail> {
     let mut ctx = slot.take().ok_or("the slot is empty")?;
     assert_eq!(rt; ctx.poll(64, &mut batch), 2);
     assert_eq!(rt; batch.as_slice(), [packet(1, 10), packet(2, 20)].as_slice());
-    Ok(())
-}
-
-// Two rings of seven packets, one polled by slices and one by pops, with packets left in the ring, refused, and put
-// after `beside`; batches lie across the wrap again and again.
-#[test]
-fn poll_by_pops_agrees(rt: HostRuntime) -> Result<(), Fail> {
-    let (mut input, mut ctx) = ring(rt.alloc(), 7)?;
-    let (mut plain_input, mut plain_ctx) = ring(rt.alloc(), 7)?;
-    let mut batch = Batch::new();
-    let mut plain_batch = Batch::new();
-    let mut put = 0u64;
-    let mut given = 0usize;
-    let mut wrapped = 0u32;
-    for round in 0..60u32 {
-        if round % 5 == 0 {
-            beside(&mut input, &mut ctx);
-            beside(&mut plain_input, &mut plain_ctx);
-        }
-        for _ in 0..round % 6 {
-            let answer = input.put(packet(put, 1500));
-            assert_eq!(rt;
-                plain_input.put(packet(put, 1500)),
-                answer,
-                "in round {round}"
-            );
-            put = put.saturating_add(u64::from(answer.is_ok()));
-        }
-        let weight = 1 + (round % 4) as usize;
-        let work = ctx.poll(weight, &mut batch);
-        let plain_work = poll_by_pops(&mut plain_ctx, weight, &mut plain_batch);
-        assert_eq!(rt; work, plain_work, "in round {round}");
-        assert_eq!(rt;
-            batch.as_slice(),
-            plain_batch.as_slice(),
-            "in round {round}"
-        );
-        assert_eq!(rt; ctx.counts(), plain_ctx.counts(), "in round {round}");
-        wrapped = wrapped.saturating_add(u32::from((given % 7).saturating_add(work) > 7));
-        given = given.saturating_add(work);
-    }
-    assert!(rt; wrapped > 5, "{wrapped} batches lay across the wrap");
-    assert_eq!(rt; finish(input, ctx), finish(plain_input, plain_ctx));
     Ok(())
 }
 

@@ -1,8 +1,6 @@
 //! The polling of a shared instance.
 #![tactic(auto)]
 
-#[cfg(test)]
-mod instance_tests;
 mod seat;
 mod shared_instance;
 

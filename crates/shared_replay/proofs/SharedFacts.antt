@@ -11,12 +11,12 @@ use Rattle.shared_replay.specs.declared.shared_device.Controlled.{Controlled}
 use Rattle.shared_replay.specs.declared.shared_device.Controlled.TheVariants.{On, Marked, Off}
 use Rattle.shared_replay.specs.declared.shared_device.SharedDevice.{SharedDevice}
 use Rattle.std.proofs.lemmas.List.Sums.{sum_by-cons, sum_by-set}
-use Rattle.device_model.specs.Places.{Places, at}
+use Rattle.trace_rows.specs.Places.{Places, at}
 use Rattle.shared_replay.specs.Stations.{IsEndAt, IsRestAt, IsSharedKept, listed_of, waiting_in}
 use Rattle.shared_replay.specs.SharedDevice.{IsAtRest, IsCallerAt, IsControlAt}
-use Rattle.device_model.specs.Waiting.{count}
+use Rattle.devices.specs.Waiting.{count}
 use Rattle.shared_replay.specs.declared.station.Station.{Station}
-use Rattle.device_model.proofs.PlaceFacts.{at-set, below-some}
+use Rattle.trace_rows.proofs.PlaceFacts.{at-set, below-some}
 
 one : (b : Bool) → count b ≤ 1
 one true = omega arith

@@ -1,8 +1,9 @@
 -- What a bench of shared instances shows.
 use Rattle.std.specs.Prelude.{ℕ}
-use Rattle.device_model.specs.Bench.{Devices, Transmits}
-use Rattle.device_model.specs.Places.{empty}
-use Rattle.device_model.specs.Sides.{ShowsSides}
+use Rattle.devices.specs.Bench.{Devices}
+use Rattle.transmit_sides.specs.Transmits.{Transmits}
+use Rattle.trace_rows.specs.Places.{empty}
+use Rattle.transmit_sides.specs.Sides.{ShowsSides}
 use Rattle.shared_replay.specs.Stations.{waiting_in}
 use Rattle.shared_replay.specs.declared.shared_bench.SharedBench.{SharedBench}
 

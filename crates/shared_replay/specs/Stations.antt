@@ -1,8 +1,8 @@
 -- What is true of the devices of a bench of shared instances at all times.
 use Rattle.std.specs.Prelude.{◌≡◌, ◌≤◌, ℕ, Option, Some, None, length, sum_by}
-use Rattle.device_model.specs.Places.{Places, at}
+use Rattle.trace_rows.specs.Places.{Places, at}
 use Rattle.shared_replay.specs.SharedDevice.{IsAtRest, IsEndOf}
-use Rattle.device_model.specs.Waiting.{count}
+use Rattle.devices.specs.Waiting.{count}
 use Rattle.rx_ring.specs.declared.packet.Totals.{Totals}
 use Rattle.shared_replay.specs.declared.station.Station.{Station}
 

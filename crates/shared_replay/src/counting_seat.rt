@@ -2,11 +2,12 @@
 
 ghost use Rattle.std.specs.Prelude.{◌≡◌, true};
 
-use device_model::DeviceCounts;
+use devices::DeviceCounts;
 use napi_calls::{Caller, Napi};
 use napi_model::Kind;
-use poll_engine::{Instance, Seat};
+use poll_engine::Instance;
 use rx_ring::Batch;
+use shared_polling::Seat;
 use std::sync::Wait;
 
 /// The seat, and what the report tells of the device. Each count stays at its greatest value.

@@ -8,8 +8,6 @@ mod replay;
 mod shared_bench;
 mod shared_device;
 mod station;
-#[cfg(test)]
-mod tests;
 
 pub use replay::replay_shared;
 pub use shared_bench::SharedBench;

@@ -2,20 +2,21 @@
 
 ghost use Rattle.std.specs.Prelude.{◌≡◌, ◌≢◌, ◌⊎◌, ◌≤◌, [], ℕ, List, Ok, Some, IfErr, OnOk, length};
 ghost use Rattle.std.specs.Io.KnownBytes.{Appends, Keeps};
-ghost use Rattle.device_model.specs.Trace.{AcceptedAfter, records_of, trace_of};
-ghost use Rattle.device_model.specs.declared.row.Row.{Row};
+ghost use Rattle.trace_rows.specs.Trace.{AcceptedAfter, records_of, trace_of};
+ghost use Rattle.trace_rows.specs.declared.row.Row.{Row};
 ghost use Rattle.shared_replay.specs.Replay.{IsFaultOf};
-ghost use Rattle.trace_replay.specs.Answer.{IsOutside};
+ghost use Rattle.report_text.specs.Outside.{IsOutside};
 ghost use Rattle.trace_replay.specs.Refused.{IsRefused};
-ghost use Rattle.trace_replay.specs.declared.fault.ReplayFault.TheVariants.{OutputFailed};
+ghost use Rattle.report_text.specs.declared.fault.ReplayFault.TheVariants.{OutputFailed};
 
 use crate::shared_bench::SharedBench;
-use device_model::{Row, read_trace};
 use replay_words::Settings;
+use report_text::{ReplayFault, write_text};
 use std::alloc::Global;
 use std::io::{Read, Write};
 use std::sync::Wait;
-use trace_replay::{ReplayFault, report_on, write_text};
+use trace_replay::report_on;
+use trace_rows::{Row, read_trace};
 
 // Plays the rows on a bench of shared instances, which is ended in any case, and gives the text of their report.
 fn report_rows<H: Wait + Copy + Drop>(

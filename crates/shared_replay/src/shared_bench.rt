@@ -6,12 +6,14 @@ ghost use Rattle.std.specs.Prelude.{◌≡◌, ◌≤◌, length, vec_capacity, 
 use crate::places::put_back;
 use crate::shared_device::SharedDevice;
 use crate::station::{Control, NOT_THERE, Station};
-use device_model::{DeviceCounts, PLACES, ReplayBench, Transmit, TransmitSides};
+use devices::{DeviceCounts, ReplayBench};
 use napi_model::Kind;
 use poll_engine::{Bench, BusyReport, Next, Once, ThreadReport};
 use rx_ring::{Batch, Totals};
 use std::alloc::{AllocError, Global};
 use std::sync::Wait;
+use trace_rows::PLACES;
+use transmit_sides::{Transmit, TransmitSides};
 
 /// The devices, each in the place of its number, over an instance of its own that threads could share. It must be spent by
 /// [`end`](SharedBench::end).
@@ -45,8 +47,8 @@ fn end_place<R: Wait + Copy + Drop>(place: Option<Station<R>>, batch: &mut Batch
 impl<R: Wait + Copy + Drop> SharedBench<R> {
     ghost use Rattle.std.specs.Prelude.{◌≡◌, ◌≤◌, IfOk, OnErr};
     ghost use Rattle.std.specs.List.{AllZip};
-    ghost use Rattle.device_model.specs.Places.{empty};
-    ghost use Rattle.device_model.specs.Range.{IsWithin};
+    ghost use Rattle.trace_rows.specs.Places.{empty};
+    ghost use Rattle.trace_rows.specs.Range.{IsWithin};
     ghost use Rattle.shared_replay.specs.SharedBench.{ShowsTransmits, waiting_of};
 
     /// A bench without devices. Its places are made here, so that no call but `attach` takes memory.
@@ -125,7 +127,7 @@ impl<R: Wait + Copy + Drop> SharedBench<R> {
 }
 
 impl<R: Wait + Copy + Drop> Bench for SharedBench<R> {
-    ghost use Rattle.device_model.specs.Bench.{IsBusyPoll, IsPoll, IsThreadPolls};
+    ghost use Rattle.devices.specs.Bench.{IsBusyPoll, IsPoll, IsThreadPolls};
     ghost use Rattle.shared_replay.specs.SharedBench.{ShowsTransmits, devices_of, waiting_of};
 
     ghost polls = { IsPoll ⊥ devices_of ShowsTransmits waiting_of };

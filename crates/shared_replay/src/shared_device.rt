@@ -2,7 +2,7 @@
 //! what was counted.
 
 ghost use Rattle.std.specs.Prelude.{◌≡◌, ◌≤◌, ◌+◌, ℕ, List, IfOk, Some, length, slice_get, vec_capacity};
-ghost use Rattle.device_model.specs.Range.{IsWithin};
+ghost use Rattle.trace_rows.specs.Range.{IsWithin};
 ghost use Rattle.shared_replay.specs.Polls.{ArePollsOf, IsPollOf};
 ghost use Rattle.shared_replay.specs.SharedDevice.{HasNoControl, IsAtRest, IsControlAt, IsEndOf, IsInputTo};
 ghost use Rattle.napi_calls.specs.Instance.{IsSeatOf};
@@ -12,15 +12,15 @@ ghost use Rattle.poll_engine.specs.declared.bench.Once.{Once};
 
 use crate::counting_seat::{CountingSeat, count_completion};
 use crate::places::{discard, open, put_back, take_out};
-use device_model::{DeviceCounts, DeviceState, TxCounts};
+use devices::{DeviceCounts, DeviceState};
 use napi_calls::{Caller, Control, Marked, Napi, NewBack, Off, On, Sched, TryTake};
 use napi_model::{Kind, Prep, encode};
-use poll_engine::{
-    BusyReport, Next, Once, ThreadReport, busy_instance, hand_over, poll_once_of, poll_thread_of,
-};
+use poll_engine::{BusyReport, Next, Once, ThreadReport, poll_once_of, poll_thread_of};
 use rx_ring::{Batch, Packet, RingFault, RxIn, Totals, finish, ring};
+use shared_polling::{busy_instance, hand_over};
 use std::alloc::{AllocError, Global};
 use std::sync::Wait;
+use transmit_sides::TxCounts;
 
 /// The controller of the instance.
 pub(crate) enum Controlled {

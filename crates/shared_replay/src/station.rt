@@ -24,9 +24,9 @@ pub(crate) enum Control {
 
 impl<R: Wait + Copy + Drop> Station<R> {
     ghost use Rattle.std.specs.Prelude.{◌≡◌, ◌≤◌, ◌+◌, List};
-    ghost use Rattle.device_model.specs.Range.{IsWithin};
+    ghost use Rattle.trace_rows.specs.Range.{IsWithin};
     ghost use Rattle.shared_replay.specs.SharedDevice.{IsAtRest, IsEndOf};
-    ghost use Rattle.device_model.specs.Waiting.{count, is_left_to_list, is_listed, leaves};
+    ghost use Rattle.devices.specs.Waiting.{count, is_left_to_list, is_listed, leaves};
     ghost use Rattle.poll_engine.specs.Thread.{IsThreadPolling, last_next};
     ghost use Rattle.poll_engine.specs.declared.bench.Once.{Once};
 
@@ -124,7 +124,7 @@ pub(crate) const NOT_THERE: ThreadReport = ThreadReport {
 };
 
 ghost use Rattle.std.specs.Prelude.{◌≡◌};
-ghost use Rattle.device_model.specs.Waiting.{is_left_to_list};
+ghost use Rattle.devices.specs.Waiting.{is_left_to_list};
 
 // Whether a poll that ended so left its device to the list.
 fn is_left(next: Next) -> bool

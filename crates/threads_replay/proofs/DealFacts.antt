@@ -5,7 +5,7 @@ use Rattle.std.proofs.lemmas.Bool.{eqb-true, eqb-false}
 use Rattle.std.proofs.lemmas.List.{get_or-set_other}
 use Rattle.std.proofs.lemmas.List.Elements.{filter-append}
 use Rattle.std.proofs.lemmas.Grind.{get_or-set_at}
-use Rattle.device_model.specs.declared.row.Row.{Row}
+use Rattle.trace_rows.specs.declared.row.Row.{Row}
 use Rattle.threads_replay.specs.Dealing.{AreScripts}
 use Rattle.threads_replay.specs.Script.{is_act_of, is_open, script_of}
 use Rattle.threads_replay.proofs.Rows.{filter-one}

@@ -5,18 +5,18 @@ use Rattle.std.proofs.lemmas.Bool.{eq-eqb}
 use Rattle.std.proofs.lemmas.List.{length-take, take_more}
 use Rattle.std.proofs.lemmas.List.Elements.{filter-append}
 use Rattle.std.proofs.lemmas.List.Sums.{sum-map, sum_by-append}
-use Rattle.device_model.specs.Transmit.{ShowsTransmit, TransmitView, opened_transmit}
-use Rattle.device_model.specs.declared.event.Event.{Event}
-use Rattle.device_model.specs.declared.event.Event.TheVariants.{Opened, Rx, Tx, Finish, Softirq, Kthread, Disable, Enable, Threaded, Busy}
-use Rattle.device_model.specs.declared.row.Row.{Row}
-use Rattle.device_model.specs.declared.transmit.Transmit.{Transmit}
-use Rattle.poll_workers.specs.Acts.{after_acts, arrivals, brings}
+use Rattle.transmit_sides.specs.Transmit.{ShowsTransmit, TransmitView, opened_transmit}
+use Rattle.trace_rows.specs.declared.event.Event.{Event}
+use Rattle.trace_rows.specs.declared.event.Event.TheVariants.{Opened, Rx, Tx, Finish, Softirq, Kthread, Disable, Enable, Threaded, Busy}
+use Rattle.trace_rows.specs.declared.row.Row.{Row}
+use Rattle.transmit_sides.specs.declared.transmit.Transmit.{Transmit}
+use Rattle.interrupt_workers.specs.Acts.{after_acts, arrivals, brings}
 use Rattle.rx_ring.specs.ReceiveRing.{bytes_of}
 use Rattle.rx_ring.specs.declared.packet.Packet.{Packet}
 use Rattle.threads_replay.specs.Script.{act_at, act_of, is_rx, rx_of, transmit_after, transmit_by}
 use Rattle.threads_replay.specs.ScriptShown.{IsKept, Script, after, answer}
-use Rattle.poll_workers.specs.declared.acts.Act.{Act}
-use Rattle.trace_replay.proofs.PlayFacts.{get-at}
+use Rattle.interrupt_workers.specs.declared.acts.Act.{Act}
+use Rattle.trace_rows.proofs.Accepted.{get-at}
 use Rattle.threads_replay.proofs.Rows.{filter-long}
 
 -- a row that an index out of the rows would give

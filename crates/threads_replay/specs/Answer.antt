@@ -1,12 +1,12 @@
 -- What a run of a text with threads answers: the threads report of its rows, or its first fault.
 use Rattle.std.specs.Prelude.{◌≡◌, ℕ, ◌+◌, List, Bool, Option, Some, None, Result, Ok, Err, nat_lt, option_map}
 use Rattle.std.specs.List.{find}
-use Rattle.device_model.specs.Trace.{records_of, trace_of}
-use Rattle.device_model.specs.declared.TraceFault.{TraceFault}
-use Rattle.device_model.specs.declared.row.Row.{Row}
-use Rattle.trace_replay.specs.Answer.{IsOutside as IsSerialOutside}
-use Rattle.trace_replay.specs.declared.fault.ReplayFault.{ReplayFault}
-use Rattle.trace_replay.specs.declared.fault.ReplayFault.TheVariants.{GateShut, RingTooSmall, SpawnFailed, Trace}
+use Rattle.trace_rows.specs.Trace.{records_of, trace_of}
+use Rattle.trace_rows.specs.declared.TraceFault.{TraceFault}
+use Rattle.trace_rows.specs.declared.row.Row.{Row}
+use Rattle.report_text.specs.Outside.{IsOutside as IsSerialOutside}
+use Rattle.report_text.specs.declared.fault.ReplayFault.{ReplayFault}
+use Rattle.report_text.specs.declared.fault.ReplayFault.TheVariants.{GateShut, RingTooSmall, SpawnFailed, Trace}
 use Rattle.threads_replay.specs.Script.{opening_of}
 use Rattle.threads_replay.specs.ThreadsReport.{arrived, opened, threads_report}
 use Rattle.threads_replay.specs.declared.polled.Polled.{Polled}

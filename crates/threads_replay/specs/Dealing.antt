@@ -1,7 +1,7 @@
 -- The scripts of all devices, by their places.
 use Rattle.std.specs.Prelude.{◌≡◌, ℕ, ◌+◌, ◌<◌, List, [], map, slice_index_or, vec_items}
 use Rattle.std.specs.Global.{Vec}
-use Rattle.device_model.specs.declared.row.Row.{Row}
+use Rattle.trace_rows.specs.declared.row.Row.{Row}
 use Rattle.threads_replay.specs.Script.{script_of}
 
 abbrev pub lists : Vec (Vec Row) → List (List Row)

@@ -1,13 +1,13 @@
 -- What the rows of a trace say of one device: filters over the rows, which know nothing of polls.
 use Rattle.std.specs.Prelude.{is_some, ℕ, ◌+◌, ◌==◌, ◌&&◌, Bool, true, false, not, List, [], ◌∷◌, Option, Some, None, filter, length, slice_get, take}
 use Rattle.std.specs.List.{find}
-use Rattle.device_model.specs.Transmit.{TransmitView, after_finish, after_tx, opened_transmit, tx_counts}
-use Rattle.device_model.specs.declared.event.Event.{Event}
-use Rattle.device_model.specs.declared.event.Event.TheVariants as event
-use Rattle.device_model.specs.declared.row.Row.{Row}
-use Rattle.device_model.specs.declared.transmit.TxCounts.{TxCounts}
-use Rattle.poll_workers.specs.declared.acts.Act.{Act}
-use Rattle.poll_workers.specs.declared.acts.Act.TheVariants as act
+use Rattle.transmit_sides.specs.Transmit.{TransmitView, after_finish, after_tx, opened_transmit, tx_counts}
+use Rattle.trace_rows.specs.declared.event.Event.{Event}
+use Rattle.trace_rows.specs.declared.event.Event.TheVariants as event
+use Rattle.trace_rows.specs.declared.row.Row.{Row}
+use Rattle.transmit_sides.specs.declared.transmit.TxCounts.{TxCounts}
+use Rattle.interrupt_workers.specs.declared.acts.Act.{Act}
+use Rattle.interrupt_workers.specs.declared.acts.Act.TheVariants as act
 
 abbrev pub is_open : Event → Bool
 is_open event.Opened = true

@@ -1,10 +1,10 @@
 -- A device of a script, as contracts see it.
 use Rattle.std.specs.Prelude.{◌≡◌, ◌≤◌, ℕ, ◌+◌, ◌==◌, List, if◌then◌else◌, length, take}
-use Rattle.device_model.specs.Transmit.{ShowsTransmit, opened_transmit}
-use Rattle.device_model.specs.declared.row.Row.{Row}
-use Rattle.device_model.specs.declared.transmit.Transmit.{Transmit}
-use Rattle.poll_workers.specs.declared.acts.Act.{Act}
-use Rattle.poll_workers.specs.declared.acts.Act.TheVariants as act
+use Rattle.transmit_sides.specs.Transmit.{ShowsTransmit, opened_transmit}
+use Rattle.trace_rows.specs.declared.row.Row.{Row}
+use Rattle.transmit_sides.specs.declared.transmit.Transmit.{Transmit}
+use Rattle.interrupt_workers.specs.declared.acts.Act.{Act}
+use Rattle.interrupt_workers.specs.declared.acts.Act.TheVariants as act
 use Rattle.threads_replay.specs.Script.{act_at, rx_of, transmit_after}
 
 pub record Script : Type 0 where

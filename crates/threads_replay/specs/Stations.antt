@@ -1,12 +1,12 @@
 -- The stations of the devices that rows open, and what a run made of them.
 use Rattle.std.specs.Prelude.{◌≡◌, ℕ, ◌+◌, ◌++◌, Bool, List, Option, Some, length, nat_lt, option_map, take}
 use Rattle.std.specs.List.{find}
-use Rattle.device_model.specs.declared.row.Row.{Row}
-use Rattle.poll_workers.specs.declared.station.Finished.{Finished}
-use Rattle.poll_workers.specs.declared.station.Station.{Station}
-use Rattle.trace_replay.specs.declared.fault.ReplayFault.{ReplayFault}
-use Rattle.trace_replay.specs.declared.fault.ReplayFault.TheVariants.{RingTooSmall}
-use Rattle.trace_replay.specs.Report.{ended, tx_lines}
+use Rattle.trace_rows.specs.declared.row.Row.{Row}
+use Rattle.interrupt_workers.specs.declared.station.Finished.{Finished}
+use Rattle.interrupt_workers.specs.declared.station.Station.{Station}
+use Rattle.report_text.specs.declared.fault.ReplayFault.{ReplayFault}
+use Rattle.report_text.specs.declared.fault.ReplayFault.TheVariants.{RingTooSmall}
+use Rattle.report_text.specs.Lines.{ended, tx_lines}
 use Rattle.threads_replay.specs.Script.{has_thread, opening_of, rx_of, script_of, tx_after}
 use Rattle.threads_replay.specs.ScriptShown.{Script}
 use Rattle.threads_replay.specs.declared.polled.Polled.{Polled}

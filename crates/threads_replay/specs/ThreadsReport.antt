@@ -2,9 +2,9 @@
 -- nothing of polls, and so of no thread. See docs/FORMATS.md, "The report".
 use Rattle.std.specs.Prelude.{ℕ, Bool, List, [], ◌∷◌, ◌++◌, Option, Some, None, codes, decimal, filter, flat_map, is_some, length, sum_by}
 use Rattle.std.specs.List.{range_with_len}
-use Rattle.device_model.specs.declared.row.Row.{Row}
-use Rattle.device_model.specs.declared.transmit.TxCounts.{TxCounts}
-use Rattle.trace_replay.specs.Report.{ended, tx_lines, words}
+use Rattle.trace_rows.specs.declared.row.Row.{Row}
+use Rattle.transmit_sides.specs.declared.transmit.TxCounts.{TxCounts}
+use Rattle.report_text.specs.Lines.{ended, tx_lines, words}
 use Rattle.threads_replay.specs.Script.{opening_of, rx_of, script_of, tx_after}
 
 abbrev pub is_opened : List Row → ℕ → Bool

@@ -1,13 +1,13 @@
 //! How the rows of a trace are dealt to its devices, in one pass.
 
 ghost use Rattle.std.specs.Prelude.{◌≡◌, ◌<◌, ◌≤◌, ◌++◌, ◌∷◌, [], List, IfOk, OnOk, slice_index_or, slice_set, vec_len};
-ghost use Rattle.device_model.specs.declared.row.Row.{Row};
+ghost use Rattle.trace_rows.specs.declared.row.Row.{Row};
 ghost use Rattle.threads_replay.specs.Dealing.{AreScripts, lists};
 ghost use Rattle.threads_replay.specs.Script.{is_act_of, is_open, openings_of, opens};
 
-use device_model::{Event, PLACES, Row};
 use std::alloc::{AllocError, Global};
 use std::mem;
+use trace_rows::{Event, PLACES, Row};
 
 fn is_open(row: &Row) -> bool
     ensures { result ≡ is_open row.now.event }

@@ -10,8 +10,6 @@ mod polled;
 mod report;
 mod script;
 mod stations;
-#[cfg(test)]
-mod tests;
 mod threads;
 
 pub use polled::Polled;

@@ -2,15 +2,15 @@
 
 ghost use Rattle.std.specs.Prelude.{◌≡◌, ◌++◌, IfOk, List, OnOk, flat_map, length, string_bytes, vec_items};
 ghost use Rattle.std.specs.List.{AllZip};
-ghost use Rattle.device_model.specs.declared.row.Row.{Row};
+ghost use Rattle.trace_rows.specs.declared.row.Row.{Row};
 ghost use Rattle.threads_replay.specs.Stations.{IsEndOf, end_lines};
 ghost use Rattle.threads_replay.specs.ThreadsReport.{arrived_line, opened, threads_report, total_line};
-ghost use Rattle.trace_replay.specs.Report.{ended};
+ghost use Rattle.report_text.specs.Lines.{ended};
 
 use crate::script::ScriptDevice;
 use poll_workers::Finished;
+use report_text::add_transmit;
 use std::alloc::{AllocError, Global};
-use trace_replay::add_transmit;
 
 // Adds the lines of a device: one, and a second where its transmit side had a row.
 fn add_end(text: &mut String, end: &Finished<ScriptDevice>) -> Result<(), AllocError>

@@ -1,17 +1,18 @@
 //! A device whose acts are its rows of a trace.
 
 ghost use Rattle.std.specs.Prelude.{◌≡◌, ◌≤◌, ◌<◌, ◌+◌, ◌^◌, ℕ, List, [], ◌∷◌, Some, IfOk, OnOk, IsSome, filter, length, take};
-ghost use Rattle.device_model.specs.Range.{IsWithin};
-ghost use Rattle.device_model.specs.Trace.{AcceptedAfter};
-ghost use Rattle.device_model.specs.Transmit.{ShowsTransmit, TransmitView};
+ghost use Rattle.trace_rows.specs.Range.{IsWithin};
+ghost use Rattle.trace_rows.specs.Trace.{AcceptedAfter};
+ghost use Rattle.transmit_sides.specs.Transmit.{ShowsTransmit, TransmitView};
 ghost use Rattle.threads_replay.specs.Script.{act_of, has_thread, is_rx, makes_threaded, opening_of, rx_of, script_of, transmit_by, tx_after};
 
 use crate::dealing::{is_act_of, opens};
-use device_model::{Event, Row, Transmit, TxCounts};
 use poll_workers::{Act, Device};
 use rx_ring::Packet;
 use std::alloc::{AllocError, Global};
 use std::marker::Model;
+use trace_rows::{Event, Row};
+use transmit_sides::{Transmit, TxCounts};
 
 /// A device of a trace. Its acts are its rows behind its open row, in order; tx and done rows are played on its transmit side
 /// as their act is asked for.

@@ -2,11 +2,11 @@
 
 ghost use Rattle.std.specs.Prelude.{◌≡◌, ◌≤◌, ◌⊎◌, ◌+◌, ◌++◌, ◌∷◌, ℕ, [], List, None, Some, filter, IfErr, IfOk, IsSome, OnOk, length, vec_items, vec_len};
 ghost use Rattle.std.specs.List.{All, AllZip};
-ghost use Rattle.device_model.specs.Range.{IsWithin};
-ghost use Rattle.device_model.specs.Trace.{AcceptedAfter};
-ghost use Rattle.device_model.specs.declared.row.Row.{Row};
+ghost use Rattle.trace_rows.specs.Range.{IsWithin};
+ghost use Rattle.trace_rows.specs.Trace.{AcceptedAfter};
+ghost use Rattle.trace_rows.specs.declared.row.Row.{Row};
 ghost use Rattle.poll_workers.specs.Finishes.{IsFinished};
-ghost use Rattle.poll_workers.specs.Opens.{IsStation};
+ghost use Rattle.interrupt_workers.specs.Opens.{IsStation};
 ghost use Rattle.threads_replay.specs.Answer.{IsOutside, ring_fault};
 ghost use Rattle.threads_replay.specs.Script.{opening_of, rx_of, script_of};
 ghost use Rattle.threads_replay.specs.ScriptShown.{acts, after, answer};
@@ -15,13 +15,13 @@ ghost use Rattle.threads_replay.specs.ThreadsReport.{is_opened, opened};
 
 use crate::dealing::{openings_of, scripts_of, take_script};
 use crate::script::{ScriptDevice, opening_of};
-use device_model::{PLACES, Row};
 use poll_workers::{Finished, Gate, Pace, Station, WorkFault, run_workers};
 use replay_words::Settings;
+use report_text::ReplayFault;
 use std::alloc::{AllocError, Global};
 use std::sync::Wait;
 use std::thread::Threads;
-use trace_replay::ReplayFault;
+use trace_rows::{PLACES, Row};
 
 // The station of the device of this open row, with its rows behind that one.
 fn station_of(

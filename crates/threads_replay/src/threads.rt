@@ -3,25 +3,25 @@
 ghost use Rattle.std.specs.Prelude.{◌≡◌, ◌≢◌, ◌⊎◌, ◌≤◌, [], ℕ, List, Ok, Err, Some, IfErr, IfOk, OnOk, length, map, vec_items};
 ghost use Rattle.std.specs.Io.KnownBytes.{Appends, Keeps};
 ghost use Rattle.std.specs.List.{AllZip};
-ghost use Rattle.device_model.specs.Trace.{AcceptedAfter, records_of, trace_of};
-ghost use Rattle.device_model.specs.declared.row.Row.{Row};
+ghost use Rattle.trace_rows.specs.Trace.{AcceptedAfter, records_of, trace_of};
+ghost use Rattle.trace_rows.specs.declared.row.Row.{Row};
 ghost use Rattle.threads_replay.specs.Answer.{IsOutside, IsPolled, answer_of, threads_of};
 ghost use Rattle.threads_replay.specs.Stations.{polled_of};
 ghost use Rattle.threads_replay.specs.ThreadsReport.{opened};
-ghost use Rattle.trace_replay.specs.declared.fault.ReplayFault.TheVariants.{OutputFailed};
+ghost use Rattle.report_text.specs.declared.fault.ReplayFault.TheVariants.{OutputFailed};
 
 use crate::polled::Polled;
 use crate::report::report_of;
 use crate::script::ScriptDevice;
 use crate::stations::run_rows;
-use device_model::{Row, read_trace};
 use poll_workers::{Finished, Gate};
 use replay_words::Settings;
+use report_text::{ReplayFault, write_text};
 use std::alloc::{AllocError, Global};
 use std::io::{Read, Write};
 use std::sync::Wait;
 use std::thread::Threads;
-use trace_replay::{ReplayFault, write_text};
+use trace_rows::{Row, read_trace};
 
 // What is told of the polls of each device.
 fn all_polled(alloc: Global, ends: &[Finished<ScriptDevice>]) -> Result<Vec<Polled>, AllocError>

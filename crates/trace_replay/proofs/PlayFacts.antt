@@ -1,23 +1,16 @@
 -- How one more row carries a replay on.
-use Rattle.std.proofs.Common.{◌≡◌, ◌∙◌, ℕ, zero, suc, ◌+◌, ◌<◌, Bool, true, false, Ok, Err, Some, List, [], ◌∷◌, ◌++◌, length, append_assoc, take, drop, get_or, ap, refl, arith}
-use Rattle.std.specs.Prelude.{Result, if◌then◌else◌, slice_get}
+use Rattle.std.proofs.Common.{◌≡◌, ◌∙◌, ℕ, zero, suc, ◌+◌, ◌<◌, Bool, true, false, Ok, Err, List, [], ◌∷◌, ◌++◌, length, append_assoc, take, drop, get_or, ap, refl, arith}
+use Rattle.std.specs.Prelude.{Result, if◌then◌else◌}
 use Rattle.std.proofs.lemmas.List.{length-take, take_more}
-use Rattle.device_model.specs.Bench.{Transmits}
-use Rattle.device_model.specs.Trace.{AcceptedAfter, IsAccepted}
-use Rattle.device_model.specs.declared.row.Row.{Row}
+use Rattle.transmit_sides.specs.Transmits.{Transmits}
+use Rattle.trace_rows.specs.declared.row.Row.{Row}
 use Rattle.trace_replay.specs.Replay.{after_row, after_rows, is_early, start, world_of}
 use Rattle.trace_replay.specs.Report.{report_of, serial_report}
 use Rattle.trace_replay.specs.Transmits.{after_transmit, after_transmits, transmits_of}
 use Rattle.trace_replay.specs.World.{World}
-use Rattle.trace_replay.specs.declared.fault.ReplayFault.{ReplayFault}
-use Rattle.trace_replay.specs.declared.fault.ReplayFault.TheVariants.{Pending}
+use Rattle.report_text.specs.declared.fault.ReplayFault.{ReplayFault}
+use Rattle.report_text.specs.declared.fault.ReplayFault.TheVariants.{Pending}
 use Rattle.replay_words.specs.declared.settings.Settings.{Settings}
-
--- a row of a trace
-pub accepted-at : (earlier rows : List Row) (i : ℕ) (d : Row) → i < length rows → AcceptedAfter earlier rows → (before : List Row) × IsAccepted before (get_or rows i d)
-accepted-at earlier [] i d below h = absurd (omega (arith, below))
-accepted-at earlier (row ∷ rows) zero d below h = (earlier, h.0)
-accepted-at earlier (row ∷ rows) (suc i) d below h = accepted-at (earlier ++ row ∷ []) rows i d (omega (arith, below)) h.1
 
 -- the rest of the rows, where those before it were played
 then_rows : Settings → ℕ → List Row → Result World ReplayFault → Result World ReplayFault
@@ -68,12 +61,6 @@ after_transmits-push (r ∷ rows) row all = after_transmits-push rows row (after
 pub after_transmits-more : (rows : List Row) (all : Transmits) (i : ℕ) (d : Row) → i < length rows
     → after_transmits (take (i + 1) rows) all ≡ after_transmit (get_or rows i d) (after_transmits (take i rows) all)
 after_transmits-more rows all i d below = rw (take_more rows i d below) (after_transmits-push (take i rows) (get_or rows i d) all)
-
--- the row at a place
-pub get-at : (rows : List Row) (i : ℕ) (d : Row) → i < length rows → slice_get rows i ≡ Some (get_or rows i d)
-get-at [] i d below = absurd (omega (arith, below))
-get-at (row ∷ rows) zero d below = refl
-get-at (row ∷ rows) (suc i) d below = get-at rows i d (omega (arith, below))
 
 -- where the rows have a fault, so has their report
 pub report-early : (s : Settings) (rows : List Row) (fault : ReplayFault) → world_of s rows ≡ Err fault → (version : ℕ) → serial_report s version rows ≡ Err fault

@@ -3,8 +3,9 @@ use Rattle.std.proofs.Common.{◌≡◌, ℕ, ◌+◌, ◌≤◌, cond, List, []
 use Rattle.std.specs.Prelude.{sum_by}
 use Rattle.std.proofs.lemmas.List.{length-drop, length-take}
 use Rattle.std.proofs.lemmas.List.Sums.{sum_by-cons}
-use Rattle.device_model.specs.Bench.{ArePolls, Devices, Keeps, Transmits, polled_at}
-use Rattle.device_model.specs.Waiting.{leaves}
+use Rattle.devices.specs.Bench.{ArePolls, Devices, polled_at}
+use Rattle.transmit_sides.specs.Transmits.{Keeps, Transmits}
+use Rattle.devices.specs.Waiting.{leaves}
 use Rattle.poll_engine.specs.Function.{run_report}
 use Rattle.poll_engine.specs.Laws.{IsPlainRun}
 use Rattle.poll_engine.specs.Polls.{At, Chain, Poll, arrivals, ids, is_arrival, is_repoll, repolled}

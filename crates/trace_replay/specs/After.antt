@@ -1,15 +1,15 @@
 -- A replay whose first n rows were played, none of them refused, and what it tells.
 use Rattle.std.specs.Prelude.{◌≡◌, ℕ, List, Option, None, Result, Ok, Err, take}
-use Rattle.device_model.specs.Bench.{Transmits}
-use Rattle.device_model.specs.SerialBench.{ShowsTransmits, devices_of}
-use Rattle.device_model.specs.declared.counts.DeviceCounts.{DeviceCounts}
-use Rattle.device_model.specs.declared.row.Row.{Row}
+use Rattle.transmit_sides.specs.Transmits.{Transmits}
+use Rattle.devices.specs.SerialBench.{ShowsTransmits, devices_of}
+use Rattle.devices.specs.declared.counts.DeviceCounts.{DeviceCounts}
+use Rattle.trace_rows.specs.declared.row.Row.{Row}
 use Rattle.trace_replay.specs.Played.{world_in}
 use Rattle.trace_replay.specs.Replay.{world_of}
 use Rattle.trace_replay.specs.Report.{counts_of, polled_by}
 use Rattle.trace_replay.specs.Transmits.{transmits_of}
 use Rattle.trace_replay.specs.World.{World}
-use Rattle.trace_replay.specs.declared.fault.ReplayFault.{ReplayFault}
+use Rattle.report_text.specs.declared.fault.ReplayFault.{ReplayFault}
 use Rattle.trace_replay.specs.declared.line.Line.{Line}
 use Rattle.trace_replay.specs.declared.serial_replay.SerialReplay.{SerialReplay}
 use Rattle.replay_words.specs.declared.settings.Settings.{Settings}

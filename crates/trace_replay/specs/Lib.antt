@@ -1,8 +1,6 @@
 pub mod After
 pub mod Answer
-pub mod Fault
 pub mod Played
-pub mod Program
 pub mod Refused
 pub mod Replay
 pub mod Report

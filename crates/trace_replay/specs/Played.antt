@@ -1,5 +1,5 @@
 -- What a replay keeps, as plain data.
-use Rattle.device_model.specs.Bench.{Devices}
+use Rattle.devices.specs.Bench.{Devices}
 use Rattle.trace_replay.specs.World.{World}
 use Rattle.trace_replay.specs.declared.replay.Replay.{Replay}
 

@@ -1,11 +1,11 @@
 -- Why the rows of a trace have no report.
 use Rattle.std.specs.Prelude.{◌≡◌, ◌⊎◌, ℕ, ◌+◌, List, Some, Err, slice_get}
-use Rattle.device_model.specs.declared.event.Event.TheVariants.{Enable}
-use Rattle.device_model.specs.declared.fault.TraceFault.TheVariants.{OutOfMemory}
-use Rattle.device_model.specs.declared.row.Row.{Row}
+use Rattle.trace_rows.specs.declared.event.Event.TheVariants.{Enable}
+use Rattle.trace_rows.specs.declared.fault.TraceFault.TheVariants.{OutOfMemory}
+use Rattle.trace_rows.specs.declared.row.Row.{Row}
 use Rattle.trace_replay.specs.Report.{serial_report}
-use Rattle.trace_replay.specs.declared.fault.ReplayFault.{ReplayFault}
-use Rattle.trace_replay.specs.declared.fault.ReplayFault.TheVariants.{Pending, Trace}
+use Rattle.report_text.specs.declared.fault.ReplayFault.{ReplayFault}
+use Rattle.report_text.specs.declared.fault.ReplayFault.TheVariants.{Pending, Trace}
 use Rattle.replay_words.specs.declared.settings.Settings.{Settings}
 
 -- the fault names an enable row

@@ -1,21 +1,21 @@
 -- What the rows of a trace do, one after the other.
 use Rattle.std.specs.Prelude.{ℕ, ◌+◌, ◌==◌, Bool, false, if◌then◌else◌, List, [], ◌∷◌, ◌++◌, length, Result, Ok, Err, sum_by}
-use Rattle.device_model.specs.Bench.{all_settled, arrived, busily_polled_at, busy_report_of, handed_by, thread_polls_of}
-use Rattle.device_model.specs.Device.{after_disable, after_enable, after_threaded, opened, polled_by_thread}
-use Rattle.device_model.specs.Kept.{is_pending_at}
-use Rattle.device_model.specs.Places.{added, at, changed, empty}
-use Rattle.device_model.specs.Waiting.{is_left_to_list, is_listed}
-use Rattle.device_model.specs.declared.event.Event.{Event}
-use Rattle.device_model.specs.declared.event.Event.TheVariants.{Opened, Rx, Tx, Finish, Softirq, Kthread, Disable, Enable, Threaded, Busy}
-use Rattle.device_model.specs.declared.row.Row.{Row}
+use Rattle.devices.specs.Bench.{all_settled, arrived, busily_polled_at, busy_report_of, handed_by, thread_polls_of}
+use Rattle.devices.specs.Device.{after_disable, after_enable, after_threaded, opened, polled_by_thread}
+use Rattle.devices.specs.Kept.{is_pending_at}
+use Rattle.trace_rows.specs.Places.{added, at, changed, empty}
+use Rattle.devices.specs.Waiting.{is_left_to_list, is_listed}
+use Rattle.trace_rows.specs.declared.event.Event.{Event}
+use Rattle.trace_rows.specs.declared.event.Event.TheVariants.{Opened, Rx, Tx, Finish, Softirq, Kthread, Disable, Enable, Threaded, Busy}
+use Rattle.trace_rows.specs.declared.row.Row.{Row}
 use Rattle.poll_engine.specs.Function.{run_report}
 use Rattle.poll_engine.specs.Thread.{last_next}
 use Rattle.poll_engine.specs.declared.bench.Once.{Once}
 use Rattle.poll_engine.specs.declared.bench.ThreadReport.{ThreadReport}
 use Rattle.trace_replay.specs.Run.{run_of}
 use Rattle.trace_replay.specs.World.{World}
-use Rattle.trace_replay.specs.declared.fault.ReplayFault.{ReplayFault}
-use Rattle.trace_replay.specs.declared.fault.ReplayFault.TheVariants.{Pending}
+use Rattle.report_text.specs.declared.fault.ReplayFault.{ReplayFault}
+use Rattle.report_text.specs.declared.fault.ReplayFault.TheVariants.{Pending}
 use Rattle.trace_replay.specs.declared.line.Line.TheVariants as line
 use Rattle.replay_words.specs.declared.settings.Settings.{Settings}
 

@@ -1,35 +1,22 @@
 -- The report's text, word by word. See docs/FORMATS.md, "The report".
-use Rattle.std.specs.Prelude.{ℕ, zero, suc, ◌-◌, ◌==◌, length, slice_get, Bool, List, [], ◌∷◌, ◌++◌, Option, Some, None, Result, Ok, Err, codes, decimal, flat_map, if◌then◌else◌, sum_by}
-use Rattle.std.specs.Fmt.{signed_decimal}
-use Rattle.device_model.specs.Bench.{Transmits, attached, counts_at, tx_counts_of}
-use Rattle.device_model.specs.Places.{at}
+use Rattle.std.specs.Prelude.{ℕ, zero, suc, ◌-◌, ◌==◌, length, slice_get, List, [], ◌∷◌, ◌++◌, Option, Some, None, Result, Ok, Err, codes, decimal, flat_map, if◌then◌else◌, sum_by}
+use Rattle.transmit_sides.specs.Transmits.{Transmits, tx_counts_of}
+use Rattle.devices.specs.Bench.{attached, counts_at}
+use Rattle.trace_rows.specs.Places.{at}
 use Rattle.trace_replay.specs.Replay.{world_of}
 use Rattle.trace_replay.specs.Transmits.{transmits_of}
 use Rattle.trace_replay.specs.World.{World}
-use Rattle.device_model.specs.declared.counts.DeviceCounts.{DeviceCounts}
-use Rattle.device_model.specs.declared.counts.DeviceState.{DeviceState}
-use Rattle.device_model.specs.declared.counts.DeviceState.TheVariants.{On, Off, Pending}
-use Rattle.trace_replay.specs.declared.fault.ReplayFault.{ReplayFault}
+use Rattle.devices.specs.declared.counts.DeviceCounts.{DeviceCounts}
+use Rattle.devices.specs.declared.counts.DeviceState.{DeviceState}
+use Rattle.devices.specs.declared.counts.DeviceState.TheVariants.{On, Off, Pending}
+use Rattle.report_text.specs.declared.fault.ReplayFault.{ReplayFault}
 use Rattle.trace_replay.specs.declared.report.Totals.{Totals}
-use Rattle.device_model.specs.declared.row.Row.{Row}
+use Rattle.trace_rows.specs.declared.row.Row.{Row}
 use Rattle.trace_replay.specs.declared.line.Line.{Line}
 use Rattle.trace_replay.specs.declared.line.Line.TheVariants.{Softirq, Kthread, Busy}
 use Rattle.poll_engine.specs.declared.run.RunReport.{RunReport}
 use Rattle.replay_words.specs.declared.settings.Settings.{Settings}
-use Rattle.device_model.specs.declared.transmit.TxCounts.{TxCounts}
-
--- words with a space between two of them
-abbrev pub words : List (List ℕ) → List ℕ
-words [] = []
-words (word ∷ []) = word
-words (word ∷ next ∷ more) = word ++ (32 ∷ words (next ∷ more))
-
--- each line ends with a line feed
-abbrev pub ended : List ℕ → List ℕ
-ended line = line ++ codes "\n"
-
-abbrev pub flag : Bool → ℕ
-flag b = if b then 1 else 0
+use Rattle.report_text.specs.Lines.{ended, flag, tx_lines, words}
 
 -- what a row that polls did
 abbrev pub poll_line : Line → List ℕ
@@ -57,16 +44,6 @@ held_part version held = if version == 2 then codes " held " ++ decimal held els
 abbrev pub napi_line : ℕ → ℕ → DeviceCounts → List ℕ
 napi_line version number counts = words (codes "napi" ∷ decimal number ∷ codes "granted" ∷ decimal counts.granted ∷ codes "missed" ∷ decimal counts.missed
     ∷ codes "disabled" ∷ decimal counts.disabled ∷ codes "again" ∷ decimal counts.again ∷ codes "released" ∷ decimal counts.released ∷ codes "word" ∷ decimal counts.word ∷ []) ++ held_part version counts.held
-
--- its transmit side, only where that had a row
-abbrev pub tx_line : ℕ → TxCounts → List ℕ
-tx_line number counts = words (codes "tx" ∷ decimal number ∷ codes "sent" ∷ decimal counts.sent ∷ codes "held" ∷ decimal counts.held
-    ∷ codes "done" ∷ decimal counts.done ∷ codes "denied" ∷ decimal counts.denied ∷ codes "limit" ∷ decimal counts.state.limit
-    ∷ codes "avail" ∷ signed_decimal counts.state.avail ∷ codes "stopped" ∷ decimal (flag counts.state.stopped) ∷ [])
-
-abbrev pub tx_lines : ℕ → Option TxCounts → List ℕ
-tx_lines number None = []
-tx_lines number (Some counts) = ended (tx_line number counts)
 
 -- the lines of a device, where there is one
 abbrev pub device_lines : ℕ → ℕ → Option DeviceCounts → List ℕ

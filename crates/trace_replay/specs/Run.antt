@@ -1,6 +1,6 @@
 -- One run over the poll list (`net_rx_action`): the function by batches that `poll_engine` defines, over the devices.
 use Rattle.std.specs.Prelude.{ℕ, List}
-use Rattle.device_model.specs.Bench.{Devices, polled_at}
+use Rattle.devices.specs.Bench.{Devices, polled_at}
 use Rattle.poll_engine.specs.Function.{Progress}
 use Rattle.poll_engine.specs.Function.{run_of as run_by}
 use Rattle.replay_words.specs.declared.settings.Settings.{Settings}

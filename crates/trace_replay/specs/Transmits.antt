@@ -1,11 +1,11 @@
 -- The transmit sides of all devices: the fold of the open, tx and done rows. No poll touches them.
 use Rattle.std.specs.Prelude.{List, [], ◌∷◌}
-use Rattle.device_model.specs.Bench.{Transmits}
-use Rattle.device_model.specs.Places.{added, changed, empty}
-use Rattle.device_model.specs.Transmit.{after_finish, after_tx, opened_transmit}
-use Rattle.device_model.specs.declared.event.Event.{Event}
-use Rattle.device_model.specs.declared.event.Event.TheVariants.{Opened, Tx, Finish}
-use Rattle.device_model.specs.declared.row.Row.{Row}
+use Rattle.transmit_sides.specs.Transmits.{Transmits}
+use Rattle.trace_rows.specs.Places.{added, changed, empty}
+use Rattle.transmit_sides.specs.Transmit.{after_finish, after_tx, opened_transmit}
+use Rattle.trace_rows.specs.declared.event.Event.{Event}
+use Rattle.trace_rows.specs.declared.event.Event.TheVariants.{Opened, Tx, Finish}
+use Rattle.trace_rows.specs.declared.row.Row.{Row}
 
 -- the effect of a row, by its event
 abbrev pub transmits_by : Event → Row → Transmits → Transmits

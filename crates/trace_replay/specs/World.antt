@@ -1,6 +1,6 @@
 -- A replay as plain data.
 use Rattle.std.specs.Prelude.{ℕ, List}
-use Rattle.device_model.specs.Bench.{Devices}
+use Rattle.devices.specs.Bench.{Devices}
 use Rattle.trace_replay.specs.declared.line.Line.{Line}
 
 pub record World : Type 0 where

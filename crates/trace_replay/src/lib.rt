@@ -5,23 +5,15 @@
 //! each.
 #![tactic(auto)]
 
-mod fault;
 mod line;
-mod program;
 mod replay;
 mod report;
 mod rows;
 mod serial;
 mod serial_replay;
-#[cfg(test)]
-mod test_cases;
-#[cfg(test)]
-mod tests;
 
-pub use fault::{ReplayFault, fault_line, status};
 pub use line::Line;
-pub use program::{Ending, ProgramFault, end_by, given_words};
-pub use report::{add_transmit, state_word};
-pub use rows::{report_on, write_text};
+pub use report::state_word;
+pub use rows::report_on;
 pub use serial::replay_serial;
 pub use serial_replay::SerialReplay;

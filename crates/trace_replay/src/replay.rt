@@ -2,14 +2,15 @@
 
 ghost use Rattle.std.specs.Prelude.{◌≤◌, length};
 
-use crate::fault::ReplayFault;
 use crate::line::Line;
 use crate::report::{Totals, add_device, add_lines, add_list, add_totals};
-use device_model::{Event, PLACES, ReplayBench, Row};
+use devices::ReplayBench;
 use napi_model::Kind;
 use poll_engine::{BusyReport, Next, PlainList, PollList, RunReport, ThreadReport, run_softirq};
 use replay_words::Settings;
+use report_text::ReplayFault;
 use std::alloc::{AllocError, Global};
+use trace_rows::{Event, PLACES, Row};
 
 /// The most polls that a kthread row makes. A trace has too few packets to meet it.
 pub(crate) const MOST_THREAD_POLLS: u32 = 131072;
@@ -26,18 +27,18 @@ pub(crate) struct Replay<B: ReplayBench> {
 
 impl<B: ReplayBench> Replay<B> {
     ghost use Rattle.std.specs.Prelude.{◌≡◌, ◌⊎◌, ℕ, ◌+◌, ◌∷◌, [], ◌++◌, true, false, OnOk, IfErr};
-    ghost use Rattle.device_model.specs.Bench.{Changes, Keeps, Transmits};
-    ghost use Rattle.device_model.specs.Places.{empty};
-    ghost use Rattle.device_model.specs.Range.{IsWithin};
-    ghost use Rattle.device_model.specs.Row.{device_fits, value_fits};
-    ghost use Rattle.device_model.specs.Waiting.{count, is_left_to_list};
-    ghost use Rattle.device_model.specs.declared.event.Event.TheVariants.{Enable};
-    ghost use Rattle.device_model.specs.declared.fault.TraceFault.TheVariants.{OutOfMemory};
+    ghost use Rattle.transmit_sides.specs.Transmits.{Changes, Keeps, Transmits};
+    ghost use Rattle.trace_rows.specs.Places.{empty};
+    ghost use Rattle.trace_rows.specs.Range.{IsWithin};
+    ghost use Rattle.trace_rows.specs.Row.{device_fits, value_fits};
+    ghost use Rattle.devices.specs.Waiting.{count, is_left_to_list};
+    ghost use Rattle.trace_rows.specs.declared.event.Event.TheVariants.{Enable};
+    ghost use Rattle.trace_rows.specs.declared.fault.TraceFault.TheVariants.{OutOfMemory};
     ghost use Rattle.trace_replay.specs.Played.{world_in};
     ghost use Rattle.trace_replay.specs.Replay.{after_event, after_row, entry, is_early, start, with_busy, with_packet, with_run, with_thread};
     ghost use Rattle.trace_replay.specs.Transmits.{after_transmit};
     ghost use Rattle.trace_replay.specs.World.{World};
-    ghost use Rattle.trace_replay.specs.declared.fault.ReplayFault.TheVariants.{Pending, Trace};
+    ghost use Rattle.report_text.specs.declared.fault.ReplayFault.TheVariants.{Pending, Trace};
     ghost use Rattle.trace_replay.specs.declared.line.Line.TheVariants.{Busy, Kthread, Softirq};
 
     /// A replay over a bench without devices. Where there is room for a line of each row that polls, none of these takes
@@ -224,7 +225,7 @@ impl<B: ReplayBench> Replay<B> {
 
 impl<B: ReplayBench> Replay<B> {
     ghost use Rattle.std.specs.Prelude.{◌≡◌, ◌++◌, IfOk, OnOk, string_bytes};
-    ghost use Rattle.device_model.specs.Bench.{Transmits};
+    ghost use Rattle.transmit_sides.specs.Transmits.{Transmits};
     ghost use Rattle.trace_replay.specs.Played.{world_in};
     ghost use Rattle.trace_replay.specs.Report.{lines_below, text_of};
 

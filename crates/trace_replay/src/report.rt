@@ -1,12 +1,15 @@
 //! The text of the report.
 
 ghost use Rattle.std.specs.Prelude.{◌≡◌, ◌+◌, ◌^◌, ◌<◌, ◌≤◌, ◌++◌, IfOk, OnOk, flat_map, length, string_bytes};
-ghost use Rattle.trace_replay.specs.Report.{device_line, device_lines, ended, flag, held_part, list_line, napi_line, of_run, poll_line, state_word, total_line, totals_of, tx_line, tx_lines};
+ghost use Rattle.trace_replay.specs.Report.{device_line, device_lines, held_part, list_line, napi_line, of_run, poll_line, state_word, total_line, totals_of};
+ghost use Rattle.report_text.specs.Lines.{ended, flag, tx_line, tx_lines};
 
 use crate::line::Line;
-use device_model::{DeviceCounts, DeviceState, TxCounts};
+use devices::{DeviceCounts, DeviceState};
+use report_text::add_transmit;
 use std::alloc::AllocError;
 use std::fmt;
+use transmit_sides::TxCounts;
 
 /// Adds the line of each row that polled.
 pub(crate) fn add_lines(text: &mut String, lines: &[Line]) -> Result<(), AllocError>
@@ -129,38 +132,6 @@ fn add_napi_line(
     )?;
     add_held(text, version, counts.held)?;
     text.push_str("\n")?;
-    Ok(())
-}
-
-/// Adds the line of a device's transmit side, where that had a row. The only error is want of memory.
-pub fn add_transmit(
-    text: &mut String,
-    number: u32,
-    counts: Option<TxCounts>,
-) -> Result<(), AllocError>
-    ensures { OnOk result (string_bytes text.new ≡ string_bytes text.old ++ tx_lines number counts) }
-{
-    match counts {
-        Some(counts) => add_tx_line(text, number, &counts),
-        None => Ok(()),
-    }
-}
-
-fn add_tx_line(text: &mut String, number: u32, counts: &TxCounts) -> Result<(), AllocError>
-    ensures { OnOk result (string_bytes text.new ≡ string_bytes text.old ++ ended (tx_line number counts.now)) }
-{
-    writeln!(
-        text,
-        "tx {} sent {} held {} done {} denied {} limit {} avail {} stopped {}",
-        number,
-        counts.sent,
-        counts.held,
-        counts.done,
-        counts.denied,
-        counts.state.limit,
-        counts.state.avail,
-        u8::from(counts.state.stopped)
-    )?;
     Ok(())
 }
 

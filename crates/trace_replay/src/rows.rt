@@ -2,24 +2,25 @@
 
 ghost use Rattle.std.specs.Prelude.{◌≡◌, ◌≢◌, ◌≤◌, ◌⊎◌, ℕ, [], IfErr, IfOk, Ok, OnOk, length, string_bytes};
 ghost use Rattle.std.specs.Io.KnownBytes.{Appends, Keeps as KeepsBytes};
-ghost use Rattle.device_model.specs.Bench.{Changes};
-ghost use Rattle.device_model.specs.Places.{empty};
-ghost use Rattle.device_model.specs.Trace.{AcceptedAfter};
-ghost use Rattle.device_model.specs.declared.fault.TraceFault.TheVariants.{OutOfMemory};
+ghost use Rattle.transmit_sides.specs.Transmits.{Changes};
+ghost use Rattle.trace_rows.specs.Places.{empty};
+ghost use Rattle.trace_rows.specs.Trace.{AcceptedAfter};
+ghost use Rattle.trace_rows.specs.declared.fault.TraceFault.TheVariants.{OutOfMemory};
 ghost use Rattle.trace_replay.specs.Played.{world_in};
 ghost use Rattle.trace_replay.specs.Refused.{IsRefused};
 ghost use Rattle.trace_replay.specs.Replay.{start, world_of};
 ghost use Rattle.trace_replay.specs.Report.{serial_report};
 ghost use Rattle.trace_replay.specs.Transmits.{after_transmits, transmits_of};
-ghost use Rattle.trace_replay.specs.declared.fault.ReplayFault.TheVariants.{OutputFailed, Trace};
+ghost use Rattle.report_text.specs.declared.fault.ReplayFault.TheVariants.{OutputFailed, Trace};
 
-use crate::fault::ReplayFault;
 use crate::line::Line;
 use crate::replay::Replay;
-use device_model::{Event, ReplayBench, Row};
+use devices::ReplayBench;
 use replay_words::Settings;
+use report_text::ReplayFault;
 use std::alloc::{AllocError, Global};
 use std::io::Write;
+use trace_rows::{Event, Row};
 
 /// No lines yet, and room for that of each row that polls.
 pub(crate) fn room_for_lines(alloc: Global, rows: &[Row]) -> Result<Vec<Line>, AllocError>
@@ -110,16 +111,4 @@ pub fn report_on<B: ReplayBench>(
         lines: _,
     } = replay;
     (bench, report)
-}
-
-/// Writes the text of a report, all of it at once. The only fault is [`OutputFailed`](ReplayFault::OutputFailed), after which
-/// it isn't known how much went out.
-pub fn write_text<W: Write>(writer: &mut W, text: &String) -> Result<(), ReplayFault>
-    ensures written { OnOk result (Appends (W.contents writer.old) (W.contents writer.new) (string_bytes text.now)) }
-    ensures fault { IfErr result (λ fault. fault ≡ OutputFailed) }
-{
-    match writer.write_all(text.as_bytes()) {
-        Ok(()) => Ok(()),
-        Err(_) => Err(ReplayFault::OutputFailed),
-    }
 }

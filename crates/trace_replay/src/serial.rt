@@ -2,17 +2,19 @@
 
 ghost use Rattle.std.specs.Prelude.{◌≡◌, ◌≢◌, ◌⊎◌, ◌≤◌, [], ℕ, List, Ok, Err, Some, IfErr, OnOk, length};
 ghost use Rattle.std.specs.Io.KnownBytes.{Appends, Keeps};
-ghost use Rattle.device_model.specs.Trace.{AcceptedAfter};
-ghost use Rattle.trace_replay.specs.Answer.{IsOutside, replay_of};
+ghost use Rattle.trace_rows.specs.Trace.{AcceptedAfter};
+ghost use Rattle.report_text.specs.Outside.{IsOutside};
+ghost use Rattle.trace_replay.specs.Answer.{replay_of};
 ghost use Rattle.trace_replay.specs.Report.{serial_report};
-ghost use Rattle.trace_replay.specs.declared.fault.ReplayFault.TheVariants.{OutputFailed};
+ghost use Rattle.report_text.specs.declared.fault.ReplayFault.TheVariants.{OutputFailed};
 
-use crate::fault::ReplayFault;
-use crate::rows::{report_on, write_text};
-use device_model::{Row, SerialBench, read_trace};
+use crate::rows::report_on;
+use devices::SerialBench;
 use replay_words::Settings;
+use report_text::{ReplayFault, write_text};
 use std::alloc::Global;
 use std::io::{Read, Write};
+use trace_rows::{Row, read_trace};
 
 // Plays the rows, and writes the report of them, all of it at once.
 fn write_report<W: Write>(

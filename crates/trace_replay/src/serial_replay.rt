@@ -1,12 +1,13 @@
 //! A replay on one thread, row by row.
 
-use crate::fault::ReplayFault;
 use crate::line::Line;
 use crate::replay::Replay;
 use crate::rows::room_for_lines;
-use device_model::{DeviceCounts, ReplayBench, Row, SerialBench};
+use devices::{DeviceCounts, ReplayBench, SerialBench};
 use replay_words::Settings;
+use report_text::ReplayFault;
 use std::alloc::{AllocError, Global};
+use trace_rows::Row;
 
 /// A replay on one thread that is played row by row, and tells what stands behind each.
 #[derive(Drop)]
@@ -16,13 +17,13 @@ pub struct SerialReplay {
 
 impl SerialReplay {
     ghost use Rattle.std.specs.Prelude.{◌≡◌, ◌⊎◌, ◌≤◌, ◌<◌, ◌+◌, ℕ, [], List, Err, IfOk, IfErr, OnOk, length};
-    ghost use Rattle.device_model.specs.Trace.{AcceptedAfter};
-    ghost use Rattle.device_model.specs.declared.fault.TraceFault.TheVariants.{OutOfMemory};
-    ghost use Rattle.device_model.specs.declared.row.Row.{Row};
+    ghost use Rattle.trace_rows.specs.Trace.{AcceptedAfter};
+    ghost use Rattle.trace_rows.specs.declared.fault.TraceFault.TheVariants.{OutOfMemory};
+    ghost use Rattle.trace_rows.specs.declared.row.Row.{Row};
     ghost use Rattle.replay_words.specs.declared.settings.Settings.{Settings};
     ghost use Rattle.trace_replay.specs.After.{IsAfter, counts_after, polled_after};
     ghost use Rattle.trace_replay.specs.Replay.{world_of};
-    ghost use Rattle.trace_replay.specs.declared.fault.ReplayFault.TheVariants.{Trace};
+    ghost use Rattle.report_text.specs.declared.fault.ReplayFault.TheVariants.{Trace};
 
     /// A replay of which no row was played, with room for what these rows will have polled.
     pub fn new(alloc: Global, rows: &[Row]) -> Result<SerialReplay, AllocError>

@@ -13,6 +13,4 @@ pub use event::{TxEvent, TxFault, TxState};
 pub use ring::{MAX_CAPACITY, TxRing};
 
 #[cfg(test)]
-mod plain;
-#[cfg(test)]
 mod tests;

@@ -93,6 +93,38 @@ fn no_packet_is_thrown_away(rt: HostRuntime) -> Result<(), Fail> {
     Ok(())
 }
 
+// The mark of `beside` ends where the context is given back: the next poller finds what was put meanwhile.
+#[test]
+fn what_is_put_behind_a_meeting_is_polled(rt: HostRuntime) -> Result<(), Fail> {
+    let Bed {
+        mut input,
+        napi,
+        first,
+        second,
+        control,
+    } = make_bed(&rt, rt.alloc());
+    let control = enabled(&rt, &napi, control, false);
+    let owner = granted(&rt, &napi, first);
+    let caller = handed(&napi, owner, Kind::List);
+    let mut poller = taken(&rt, &napi, caller, Kind::List);
+    poller.beside(&mut input);
+    let first = requeued(&napi, poller);
+    let packet = Packet {
+        number: 7,
+        bytes: 60,
+    };
+    assert_eq!(rt; input.put(packet), Ok(()));
+    let mut poller = taken(&rt, &napi, second, Kind::List);
+    let mut batch = Batch::new();
+    assert_eq!(rt; poller.poll(64, &mut batch), 1);
+    assert_eq!(rt; batch.as_slice(), [packet].as_slice());
+    let second = released(&rt, &napi, poller);
+    let control = disabled(&rt, &napi, control);
+    let ctx = closed(&rt, rt.alloc(), napi, first, second, control);
+    assert_eq!(rt; ctx.counts().packets, 1);
+    Ok(())
+}
+
 // An instance that is set threaded while it is polled is handed to its thread, and taken from there alone.
 #[test]
 fn what_the_thread_has_isnt_on_the_list(rt: HostRuntime) -> Result<(), Fail> {

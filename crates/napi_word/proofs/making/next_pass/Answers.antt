@@ -1,8 +1,9 @@
-use Rattle.std.proofs.Common.{[], ap, ◌∙◌, sym}
+use Rattle.std.proofs.Common.{[], ap, subst, ◌∙◌, sym}
 use Rattle.atomic_table.specs.Table.{Me}
-use Rattle.napi_word.specs.View.{View, is_pass, ring_of}
-use Rattle.napi_word.specs.Slot.{Content, hold_of, owns_slot, ring_in}
+use Rattle.napi_word.specs.View.{View, is_pass, ring_of, received_in, Continues}
+use Rattle.napi_word.specs.Slot.{Content, hold_of, owns_slot, ring_in, beside_in, ctx_in, carried_received}
 use Rattle.napi_word.specs.Rule.{left_of, right_of}
+use Rattle.napi_word.proofs.Deliveries.{prefix_self, of_prefix}
 use Rattle.napi_word.proofs.Said.{one_there}
 use Rattle.napi_word.proofs.Start.{maker_more, owns_nothing}
 use Rattle.napi_word.proofs.Splitting.{gives_number}
@@ -23,6 +24,8 @@ invariant_of-result c =
       marked = ap (λ (m : Me Content View). hold_of m.1) is;
       right = ap (λ (m : Me Content View). owns_slot m.0) is ∙ owns_nothing key.controller key.ring.value c.args.number c.requires.number;
       ring = ap (λ (m : Me Content View). ring_in m.1 m.0) is ∙ sym (ap (λ (m : Me Content View). ring_of m.0) is);
+      unmarked = ap (λ (m : Me Content View). beside_in m.1) is;
+      received = subst (λ (m : Me Content View). Continues (received_in m.0) (carried_received m.1 m.0)) (sym is) (of_prefix _ _ (prefix_self _));
     }
 
 pub returns-clause-view : goal.returns-clause-view
@@ -30,3 +33,6 @@ returns-clause-view c =
     let key = c.args.table.now.table.shared.key in
     let more = maker_more key.controller key.ring.value c.args.number c.requires.number in
     ap (λ (m : Me Content View). m.0) c.split_seat.ensures.2 ∙ ap left_of (c.requires.view ∙ more)
+
+pub returns-clause-slot : goal.returns-clause-slot
+returns-clause-slot c = ap (λ (m : Me Content View). ctx_in m.1) c.split_seat.ensures.2

@@ -1,5 +1,4 @@
 use Rattle.napi_word.proofs.Start.{new_controls, new_unmarked}
-use Rattle.napi_word.proofs.ControlRuns.{new_disabled, enables}
 use Rattle.napi_word.proofs.tests.enable.Goals as goal
 
 pub enable_swap-requires-clause-owner : goal.enable_swap-requires-clause-owner
@@ -7,6 +6,3 @@ enable_swap-requires-clause-owner c = new_controls 2 c.requires.new.0 c.args.con
 
 pub enable_swap-requires-clause-unmarked : goal.enable_swap-requires-clause-unmarked
 enable_swap-requires-clause-unmarked c = new_unmarked 2 2 c.requires.new.0 c.args.control.now c.requires.new.1
-
-pub returns-in-Ok-clause-rests : goal.returns-in-Ok-clause-rests
-returns-in-Ok-clause-rests c = λ e. enables _ _ c.in-Ok.ensures.step (new_disabled 2 c.requires.new.0 c.args.control.now c.requires.new.1)

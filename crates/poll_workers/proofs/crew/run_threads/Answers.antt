@@ -1,6 +1,6 @@
 use Rattle.std.proofs.Common.{rules, arith}
 use Rattle.std.proofs.lemmas.Grind.{common_steps}
-use Rattle.poll_workers.proofs.Zips.{zip_long}
+use Rattle.crew_tasks.proofs.Zips.{zip_long}
 use Rattle.poll_workers.proofs.RunFacts.{all_can_poll, all_can_work, all_done_at, all_pollers_at, all_there, all_threads_at, all_worked}
 use Rattle.poll_workers.proofs.crew.run_threads.Goals as goal
 

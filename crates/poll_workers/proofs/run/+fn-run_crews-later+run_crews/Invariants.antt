@@ -1,4 +1,4 @@
-use Prim.Native.Nat.{◌+◌, ◌-◌, ◌*◌}
+use Prim.Native.Nat.{◌-◌, ◌*◌}
 use Rattle.poll_workers.proofs.run.+fn-run_crews-later+run_crews.Given as goal
 
 abbrev pub decreases-run_crews : goal.decreases-run_crews

@@ -2,8 +2,8 @@ use Rattle.std.proofs.Common.{◌≡◌, ◌∷◌, ◌++◌, [], vec_items, rul
 use Rattle.std.proofs.lemmas.Grind.{common_steps}
 use Rattle.std.proofs.lemmas.List.{nil_from_length}
 use Rattle.std.specs.Vec.Iter.{into_iter_items}
-use Rattle.poll_workers.proofs.Zips.{zip_push, before_more}
-use Rattle.poll_workers.proofs.ListFacts.{none_left, zip_empty}
+use Rattle.crew_tasks.proofs.Zips.{zip_push, before_more}
+use Rattle.crew_tasks.proofs.ListFacts.{none_left, zip_empty}
 use Rattle.poll_workers.proofs.spreading.spread.Goals as goal
 
 pub loop-rest-init : goal.loop-rest-init

@@ -4,4 +4,4 @@ use Rattle.napi_calls.proofs.Making.{more}
 use Rattle.shared_polling.proofs.seat.hand_over.Goals as goal
 
 pub returns : goal.returns
-returns c = let k = c.kind_for-kind.result in rw c.if-not-thread.false (Look c.look-seen.result ∷ Hand k ∷ [], more (Hand k) [] c.look-seen.ensures c.hand-2.ensures, (c.look-seen.result, c.kind_for-kind.ensures, refl))
+returns c = let k = c.kind_for-kind.result in rw c.if-not-thread.false (Look c.look-seen.result ∷ Hand k ∷ [], more (Hand k) [] c.look-seen.ensures.event c.hand-2.ensures.event, (c.look-seen.result, c.kind_for-kind.ensures, refl))

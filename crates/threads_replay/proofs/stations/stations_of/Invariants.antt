@@ -1,7 +1,7 @@
 use Rattle.std.proofs.Common.{◌≡◌, ◌-◌, ◌+◌, ◌<◌, ◌≤◌, ℕ, [], slice_index_or, vec_items, vec_len}
 use Rattle.std.specs.Prelude.{filter}
 use Rattle.std.specs.List.{All, AllZip, range_with_len}
-use Rattle.poll_workers.specs.Opens.{IsStation}
+use Rattle.interrupt_workers.specs.Opens.{IsStation}
 use Rattle.threads_replay.specs.Dealing.{lists}
 use Rattle.threads_replay.specs.Script.{script_of}
 use Rattle.threads_replay.specs.Stations.{IsStationOf}

@@ -15,3 +15,6 @@ returns-clause-flag c = c.args.self.now.controls.flag
 
 pub returns-clause-context : goal.returns-clause-context
 returns-clause-context c = c.args.self.now.has.ring
+
+pub returns-clause-received : goal.returns-clause-received
+returns-clause-received c = c.args.self.now.exact

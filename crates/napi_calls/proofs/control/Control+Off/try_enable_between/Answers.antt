@@ -1,5 +1,8 @@
-use Rattle.std.proofs.Common.{refl}
-use Rattle.napi_calls.proofs.Standing.{control_looked, control_enabled, controls_moved, is_control, outside}
+use Rattle.std.proofs.Common.{refl, sym, ap, ◌∙◌}
+use Rattle.napi_word.specs.declared.view.Holds.TheVariants.{Within, Out}
+use Rattle.napi_word.specs.View.{number_of}
+use Rattle.napi_calls.proofs.Standing.{control_looked, control_enabled, controls_moved, is_control, outside, has_none}
+use Rattle.napi_calls.proofs.Packets.{owns, held_step, held_still, gives_back, got_back}
 use Rattle.napi_calls.proofs.Making.{nothing, step, still, lost}
 use Rattle.napi_calls.proofs.control.Control+Off.try_enable_between.Goals as goal
 
@@ -16,14 +19,21 @@ enable_swap-requires-clause-unmarked g c =
 pub invariant_of-result : goal.invariant_of-result
 invariant_of-result g c =
     let k = controls_moved c.slot_in.new.pass (control_looked c.look-seen.new.pass c.args.self.controls c.look-seen.ensures.step.event) c.slot_in.ensures.keeps.view in
-    record { controls = control_enabled c.args.threaded c.enable_swap.new.pass k c.in-Ok.ensures.step.event; has = record { holds = c.in-Ok.ensures.step.holds; ring = refl } }
+    record { controls = control_enabled c.args.threaded c.enable_swap.new.pass k c.in-Ok.ensures.step.event; has = has_none c.enable_swap.new.pass c.in-Ok.ensures.step.holds; exact = refl }
 
 pub invariant_of-result-in-Err : goal.invariant_of-result-in-Err
 invariant_of-result-in-Err g c =
     let k = controls_moved c.slot_in.new.pass (control_looked c.look-seen.new.pass c.args.self.controls c.look-seen.ensures.step.event) c.slot_in.ensures.keeps.view in
-    let e = c.slot_out-ctx.ensures in record {
+    let p = c.args.self.pass in
+    let q = c.slot_in.new.pass in
+    let s = c.slot_in.ensures in
+    let one = c.look-seen.ensures.step in
+    let holds = held_still q (held_step p c.look-seen.new.pass (owns p Out c.args.self.has.holds refl) one.packets) s.keeps.view in
+    let e = c.slot_out-ctx.ensures in
+    let kept = got_back p q c.enable_swap.new.pass c.slot_out-ctx.new.pass _ c.slot_out-ctx.result holds s.laid (owns q Within s.holds refl) c.in-Err.ensures.step.packets e.keeps.view e.ctx in record {
       controls = controls_moved c.slot_out-ctx.new.pass (control_looked c.enable_swap.new.pass k c.in-Err.ensures.step.event) e.keeps.view;
-      has = outside c.enable_swap.new.pass c.slot_out-ctx.new.pass _ e.holds e.keeps.view e.ring;
+      has = outside c.enable_swap.new.pass c.slot_out-ctx.new.pass _ e.holds e.keeps.view e.ring e.received;
+      exact = kept.1.received ∙ c.args.self.exact ∙ sym kept.0.received;
     }
 
 pub returns-in-Ok-clause-events : goal.returns-in-Ok-clause-events
@@ -38,3 +48,22 @@ returns-in-Err-clause-events g c =
     let in_slot = still c.slot_in.new.pass one c.slot_in.ensures.keeps.table c.slot_in.ensures.keeps.view in
     let e = c.slot_out-ctx.ensures in
     lost _ _ c.in-Err.ensures.other (still c.slot_out-ctx.new.pass (step c.enable_swap.new.pass in_slot c.enable_swap.ensures.step.table c.in-Err.ensures.step.event) e.keeps.table e.keeps.view)
+
+pub returns-in-Ok-clause-packets : goal.returns-in-Ok-clause-packets
+returns-in-Ok-clause-packets g c =
+    let p = c.args.self.pass in
+    let q = c.slot_in.new.pass in
+    let s = c.slot_in.ensures in
+    let one = c.look-seen.ensures.step in
+    let holds = held_still q (held_step p c.look-seen.new.pass (owns p Out c.args.self.has.holds refl) one.packets) s.keeps.view in
+    gives_back p q c.enable_swap.new.pass c.args.self.state.ctx holds (ap number_of s.keeps.view ∙ one.event.number) s.laid (owns q Within s.holds refl) c.in-Ok.ensures.step.packets
+
+pub returns-in-Err-clause-packets : goal.returns-in-Err-clause-packets
+returns-in-Err-clause-packets g c =
+    let p = c.args.self.pass in
+    let q = c.slot_in.new.pass in
+    let s = c.slot_in.ensures in
+    let one = c.look-seen.ensures.step in
+    let holds = held_still q (held_step p c.look-seen.new.pass (owns p Out c.args.self.has.holds refl) one.packets) s.keeps.view in
+    let e = c.slot_out-ctx.ensures in
+    got_back p q c.enable_swap.new.pass c.slot_out-ctx.new.pass _ c.slot_out-ctx.result holds s.laid (owns q Within s.holds refl) c.in-Err.ensures.step.packets e.keeps.view e.ctx

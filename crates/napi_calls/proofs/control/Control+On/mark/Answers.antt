@@ -1,13 +1,18 @@
 use Rattle.std.proofs.Common.{refl, ◌∙◌}
-use Rattle.napi_calls.proofs.Standing.{control_marked}
+use Rattle.napi_calls.proofs.Standing.{control_marked, has_none}
+use Rattle.napi_calls.proofs.Packets.{quiet_step}
 use Rattle.napi_calls.proofs.Making.{nothing, step}
 use Rattle.napi_calls.proofs.control.Control+On.mark.Goals as goal
 
 pub invariant_of-result : goal.invariant_of-result
 invariant_of-result c = record {
   controls = control_marked c.mark.new.pass c.args.self.controls c.mark.ensures.step.event;
-  has = record { holds = c.mark.ensures.step.holds ∙ c.args.self.has.holds; ring = refl };
+  has = has_none c.mark.new.pass (c.mark.ensures.step.holds ∙ c.args.self.has.holds);
+  exact = refl;
 }
 
-pub returns : goal.returns
-returns c = step c.mark.new.pass (nothing c.args.self.controls.stands) c.mark.ensures.step.table c.mark.ensures.step.event
+pub returns-clause-event : goal.returns-clause-event
+returns-clause-event c = step c.mark.new.pass (nothing c.args.self.controls.stands) c.mark.ensures.step.table c.mark.ensures.step.event
+
+pub returns-clause-packets : goal.returns-clause-packets
+returns-clause-packets c = quiet_step c.args.self.pass c.mark.new.pass c.mark.ensures.step.event c.mark.ensures.step.packets

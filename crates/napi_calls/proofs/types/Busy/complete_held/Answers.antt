@@ -1,5 +1,7 @@
 use Rattle.std.proofs.Common.{◌∙◌, refl}
-use Rattle.napi_calls.proofs.Standing.{kept, busy_kept, is_polling}
+use Rattle.napi_calls.proofs.Standing.{kept, busy_kept, is_polling, stays_has}
+use Rattle.napi_word.specs.declared.view.Holds.TheVariants.{Out}
+use Rattle.napi_calls.proofs.Packets.{owns, held_step}
 use Rattle.napi_calls.proofs.Making.{nothing, step}
 use Rattle.napi_calls.proofs.types.Busy.complete_held.Goals as goal
 
@@ -10,8 +12,11 @@ pub invariant_of-self : goal.invariant_of-self
 invariant_of-self c = record {
   stands = kept c.complete_load.new.pass c.args.self.now.stands c.complete_load.ensures.event (λ s. refl);
   busy = busy_kept c.complete_load.new.pass c.args.self.now.stands c.args.self.now.busy c.complete_load.ensures.event (λ n s. refl);
-  has = record { holds = c.complete_load.ensures.holds ∙ c.args.self.now.has.holds; ring = c.complete_load.ensures.event.ring ∙ c.args.self.now.has.ring };
+  has = stays_has c.args.self.now.pass c.complete_load.new.pass _ c.args.self.now.has c.complete_load.ensures.holds c.complete_load.ensures.event.ring c.complete_load.ensures.packets;
 }
 
 pub returns-clause-event : goal.returns-clause-event
 returns-clause-event c = step c.complete_load.new.pass (nothing c.args.self.now.stands) c.complete_load.ensures.table c.complete_load.ensures.event
+
+pub returns-clause-packets : goal.returns-clause-packets
+returns-clause-packets c = held_step c.args.self.now.pass c.complete_load.new.pass (owns c.args.self.now.pass Out c.args.self.now.has.holds refl) c.complete_load.ensures.packets

@@ -1,6 +1,7 @@
 use Rattle.std.proofs.Common.{refl, sym, ◌∙◌, true≢false}
 use Rattle.napi_model.specs.declared.state.Place.TheVariants as place
 use Rattle.napi_calls.proofs.Standing.{looked, made, self_polling, moved, busy_made, busy_moved, outside}
+use Rattle.napi_calls.proofs.Packets.{quiet_step, quiet_more, taken, fresh_behind}
 use Rattle.napi_calls.proofs.Making.{nothing, step, still}
 use Rattle.napi_calls.proofs.types.Caller.try_busy_between.Goals as goal
 
@@ -22,7 +23,7 @@ invariant_of-result-in-Ok g c =
     let e = c.slot_out-ctx.ensures in record {
       stands = moved c.slot_out-ctx.new.pass polls e.keeps.view;
       busy = busy_moved c.slot_out-ctx.new.pass polls (busy_made c.busy_swap.new.pass st taken (λ n s. refl)) e.keeps.view;
-      has = outside c.busy_swap.new.pass c.slot_out-ctx.new.pass _ e.holds e.keeps.view e.ring;
+      has = outside c.busy_swap.new.pass c.slot_out-ctx.new.pass _ e.holds e.keeps.view e.ring e.received;
     }
 
 pub invariant_of-result-in-Err : goal.invariant_of-result-in-Err
@@ -42,3 +43,19 @@ returns-in-Err-clause-events g c =
     let one = step c.look-seen.new.pass (nothing c.args.self.stands) c.look-seen.ensures.step.table c.look-seen.ensures.step.event in
     let two = step c.busy_swap.new.pass one c.busy_swap.ensures.step.table c.in-Err.ensures.step.event in
     (record { first = c.look-seen.result; second = _; differ = c.in-Err.ensures.other }, c.may_busy_take.ensures.0 c.if-not-may_busy_take.false, two)
+
+pub returns-then-not-may_busy_take-clause-packets : goal.returns-then-not-may_busy_take-clause-packets
+returns-then-not-may_busy_take-clause-packets g c = quiet_step c.args.self.pass c.look-seen.new.pass c.look-seen.ensures.step.event c.look-seen.ensures.step.packets
+
+pub returns-in-Ok-clause-packets : goal.returns-in-Ok-clause-packets
+returns-in-Ok-clause-packets g c =
+    let e = c.slot_out-ctx.ensures in
+    let looks = quiet_step c.args.self.pass c.look-seen.new.pass c.look-seen.ensures.step.event c.look-seen.ensures.step.packets in
+    fresh_behind c.args.self.pass c.look-seen.new.pass _ _ looks
+    (taken c.look-seen.new.pass c.busy_swap.new.pass c.slot_out-ctx.new.pass c.slot_out-ctx.result c.in-Ok.ensures.step.event c.in-Ok.ensures.step.packets e.received e.keeps.view e.unmarked)
+
+pub returns-in-Err-clause-packets : goal.returns-in-Err-clause-packets
+returns-in-Err-clause-packets g c =
+    quiet_more c.args.self.pass c.look-seen.new.pass c.busy_swap.new.pass
+    (quiet_step c.args.self.pass c.look-seen.new.pass c.look-seen.ensures.step.event c.look-seen.ensures.step.packets)
+    (quiet_step c.look-seen.new.pass c.busy_swap.new.pass c.in-Err.ensures.step.event c.in-Err.ensures.step.packets)

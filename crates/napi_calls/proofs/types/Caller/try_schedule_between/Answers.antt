@@ -3,6 +3,7 @@ use Rattle.napi_model.specs.declared.event.Prep.TheVariants as prep
 use Rattle.napi_word.specs.Told.{prep_of}
 use Rattle.napi_model.specs.declared.state.Place.TheVariants as place
 use Rattle.napi_calls.proofs.Standing.{kept, looked, made, self_granted}
+use Rattle.napi_calls.proofs.Packets.{quiet_step, quiet_more}
 use Rattle.napi_calls.proofs.Making.{nothing, step, lost}
 use Rattle.napi_calls.proofs.types.Caller.try_schedule_between.Goals as goal
 
@@ -48,3 +49,27 @@ pub returns-in-Err-clause-events : goal.returns-in-Err-clause-events
 returns-in-Err-clause-events g c =
     let one = step c.schedule_load.new.pass (nothing c.args.self.stands) c.schedule_load.ensures.step.table c.in-Some.ensures.step.event in
     lost _ _ c.in-Err.ensures.other (step c.schedule_swap.new.pass one c.schedule_swap.ensures.step.table c.in-Err.ensures.step.event)
+
+pub returns-in_default-clause-packets : goal.returns-in_default-clause-packets
+returns-in_default-clause-packets g c = quiet_step c.args.self.pass c.schedule_load.new.pass c.in_default.ensures.step.event c.in_default.ensures.step.packets
+
+pub returns-in-Ok-Granted-clause-packets : goal.returns-in-Ok-Granted-clause-packets
+returns-in-Ok-Granted-clause-packets g c =
+    let two = (rw c.in-Ok-Granted.field-0-is at c.in-Ok-Granted.ensures).step in
+    quiet_more c.args.self.pass c.schedule_load.new.pass c.schedule_swap.new.pass
+    (quiet_step c.args.self.pass c.schedule_load.new.pass c.in-Some.ensures.step.event c.in-Some.ensures.step.packets)
+    (quiet_step c.schedule_load.new.pass c.schedule_swap.new.pass two.event two.packets)
+
+pub returns-in-Ok-Missed-clause-packets : goal.returns-in-Ok-Missed-clause-packets
+returns-in-Ok-Missed-clause-packets g c =
+    let two = (rw c.in-Ok-Missed.field-0-is at c.in-Ok-Missed.ensures).step in
+    quiet_more c.args.self.pass c.schedule_load.new.pass c.schedule_swap.new.pass
+    (quiet_step c.args.self.pass c.schedule_load.new.pass c.in-Some.ensures.step.event c.in-Some.ensures.step.packets)
+    (quiet_step c.schedule_load.new.pass c.schedule_swap.new.pass two.event two.packets)
+
+pub returns-in-Err-clause-packets : goal.returns-in-Err-clause-packets
+returns-in-Err-clause-packets g c =
+    let two = c.in-Err.ensures.step in
+    quiet_more c.args.self.pass c.schedule_load.new.pass c.schedule_swap.new.pass
+    (quiet_step c.args.self.pass c.schedule_load.new.pass c.in-Some.ensures.step.event c.in-Some.ensures.step.packets)
+    (quiet_step c.schedule_load.new.pass c.schedule_swap.new.pass two.event two.packets)

@@ -29,4 +29,12 @@ returns-clause-closed c =
     let enough = c.if-len-self.false in
     let made = c.args.self.count in
     closed c.args.self c.args.callers.items c.args.control.pass c.finish-left.result.ctx c.args.control.controls
-    (c.finish-left.ensures (seats_of c.args.callers.items ++ c.args.control.pass ∷ []) g (search (rules, arith, seats, ok, len, enough, made))) c.args.control.state.ctx c.args.control.has
+    (c.finish-left.ensures (seats_of c.args.callers.items ++ c.args.control.pass ∷ []) g (search (rules, arith, seats, ok, len, enough, made))) c.args.control.state.ctx c.args.control.has c.args.control.exact
+
+pub loop-caller-preserved : goal.loop-caller-preserved
+loop-caller-preserved c =
+    let i = c.loop-caller.invariant in
+    let rest = c.pop.new.self.items in
+    let one = c.in-Some.caller in
+    let items : c.args.callers.items ≡ rest ++ one ∷ i.1.0 = i.1.1 ∙ ap (λ (l : List Caller). l ++ i.1.0) c.in-Some.ensures.items ∙ append_assoc rest (one ∷ []) i.1.0 in
+    (c.join.ensures.table, (one ∷ i.1.0, items, c.join.ensures.has (seats_of i.1.0 ++ c.args.control.pass ∷ []) i.1.2))

@@ -1,8 +1,11 @@
-use Rattle.std.proofs.Common.{refl}
+use Rattle.std.proofs.Common.{refl, ap, ◌∙◌}
+use Rattle.napi_word.specs.declared.view.Holds.TheVariants.{Within, Out}
+use Rattle.napi_word.specs.View.{number_of}
 use Rattle.napi_model.specs.declared.state.Place.TheVariants as place
 use Rattle.napi_word.proofs.Knowing.{never_held}
 use Rattle.napi_calls.specs.Knows.{Free}
 use Rattle.napi_calls.proofs.Standing.{looked, made, self_granted, moved, is_polling, busy_looked, busy_moved, outside}
+use Rattle.napi_calls.proofs.Packets.{owns, held_step, held_still, gives_back, got_back}
 use Rattle.napi_calls.proofs.Making.{nothing, step, still, lost}
 use Rattle.napi_calls.proofs.types.Polling.try_complete_between.Goals as goal
 
@@ -34,7 +37,7 @@ invariant_of-result-in-Err g c =
     let e = c.slot_out-ctx.ensures in record {
       stands = moved c.slot_out-ctx.new.pass last e.keeps.view;
       busy = busy_moved c.slot_out-ctx.new.pass last (busy_looked c.complete_swap.new.pass st busy c.in-Err.ensures.step.event) e.keeps.view;
-      has = outside c.complete_swap.new.pass c.slot_out-ctx.new.pass _ e.holds e.keeps.view e.ring;
+      has = outside c.complete_swap.new.pass c.slot_out-ctx.new.pass _ e.holds e.keeps.view e.ring e.received;
     }
 
 pub returns-in-Ok-Released-clause-events : goal.returns-in-Ok-Released-clause-events
@@ -55,3 +58,31 @@ returns-in-Err-clause-events g c =
     let in_slot = still c.slot_in.new.pass one c.slot_in.ensures.keeps.table c.slot_in.ensures.keeps.view in
     let e = c.slot_out-ctx.ensures in
     lost _ _ c.in-Err.ensures.other (still c.slot_out-ctx.new.pass (step c.complete_swap.new.pass in_slot c.complete_swap.ensures.step.table c.in-Err.ensures.step.event) e.keeps.table e.keeps.view)
+
+pub returns-in-Ok-Released-clause-packets : goal.returns-in-Ok-Released-clause-packets
+returns-in-Ok-Released-clause-packets g c =
+    let p = c.args.self.pass in
+    let q = c.slot_in.new.pass in
+    let s = c.slot_in.ensures in
+    let one = c.look-seen.ensures.step in
+    let holds = held_still q (held_step p c.look-seen.new.pass (owns p Out c.args.self.has.holds refl) one.packets) s.keeps.view in
+    gives_back p q c.complete_swap.new.pass c.args.self.ctx holds (ap number_of s.keeps.view ∙ one.event.number) s.laid (owns q Within s.holds refl) (rw c.in-Ok-Released.field-0-is at c.in-Ok-Released.ensures).step.packets
+
+pub returns-in-Ok-Again-clause-packets : goal.returns-in-Ok-Again-clause-packets
+returns-in-Ok-Again-clause-packets g c =
+    let p = c.args.self.pass in
+    let q = c.slot_in.new.pass in
+    let s = c.slot_in.ensures in
+    let one = c.look-seen.ensures.step in
+    let holds = held_still q (held_step p c.look-seen.new.pass (owns p Out c.args.self.has.holds refl) one.packets) s.keeps.view in
+    gives_back p q c.complete_swap.new.pass c.args.self.ctx holds (ap number_of s.keeps.view ∙ one.event.number) s.laid (owns q Within s.holds refl) (rw c.in-Ok-Again.field-0-is at c.in-Ok-Again.ensures).step.packets
+
+pub returns-in-Err-clause-packets : goal.returns-in-Err-clause-packets
+returns-in-Err-clause-packets g c =
+    let p = c.args.self.pass in
+    let q = c.slot_in.new.pass in
+    let s = c.slot_in.ensures in
+    let one = c.look-seen.ensures.step in
+    let holds = held_still q (held_step p c.look-seen.new.pass (owns p Out c.args.self.has.holds refl) one.packets) s.keeps.view in
+    let e = c.slot_out-ctx.ensures in
+    got_back p q c.complete_swap.new.pass c.slot_out-ctx.new.pass _ c.slot_out-ctx.result holds s.laid (owns q Within s.holds refl) c.in-Err.ensures.step.packets e.keeps.view e.ctx

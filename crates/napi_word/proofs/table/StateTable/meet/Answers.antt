@@ -1,12 +1,14 @@
 use Rattle.std.proofs.Common.{sym, ap, ◌∙◌, subst}
 use mathlib.Core.List.{IsPrefix}
 use Rattle.napi_model.specs.declared.event.Operation.TheVariants.{Look}
+use Rattle.atomic_table.specs.Table.{Me}
+use Rattle.napi_word.specs.Slot.{Content, stays, Delivers}
 use Rattle.napi_word.specs.View.{View, shown}
 use Rattle.napi_word.specs.Rule.{joined}
 use Rattle.napi_word.specs.Events.{Steps}
 use Rattle.napi_word.proofs.Said.{one_there}
 use Rattle.napi_word.proofs.Splitting.{notes, joins}
-use Rattle.napi_word.proofs.Meets.{steps_joined, meets}
+use Rattle.napi_word.proofs.Meets.{steps_joined, delivers_joined, meets}
 use Rattle.napi_word.proofs.table.StateTable.meet.Goals as goal
 
 pub split_seat-note-requires : goal.split_seat-note-requires
@@ -23,7 +25,7 @@ returns-clause-second c =
     let j = c.join_seat.ensures in
     let l = c.look.ensures.step in
     let e = subst (λ (u : View). Steps u (Look c.look.result) c.look.new.pass.seat.me.0) (ap (λ m. m.0) j.2) l.event in
-    record { table = l.table ∙ j.0; holds = l.holds; event = steps_joined v c.split_seat-note.result.me.0 (Look c.look.result) c.look.new.pass.seat.me.0 c.args.second.now.is_pass e }
+    record { table = l.table ∙ j.0; holds = l.holds; event = steps_joined v c.split_seat-note.result.me.0 (Look c.look.result) c.look.new.pass.seat.me.0 c.args.second.now.is_pass e; packets = delivers_joined v c.split_seat-note.result.me.0 c.args.second.now.seat.me.1 c.look.new.pass.seat.me c.args.second.now.is_pass (subst (λ (m : Me Content View). Delivers stays m c.look.new.pass.seat.me) j.2 l.packets) }
 
 pub returns-clause-met : goal.returns-clause-met
 returns-clause-met c =

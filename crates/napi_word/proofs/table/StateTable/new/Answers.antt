@@ -2,14 +2,13 @@ use Rattle.std.proofs.Common.{rules, ◌≡◌, ◌+◌, ◌-◌, [], ◌∷◌,
 use Rattle.atomic_table.specs.Table.{opening}
 use Rattle.rx_ring.specs.declared.ends.RxCtx.{RxCtx}
 use Rattle.napi_word.specs.declared.view.Key.{Key}
-use Rattle.rx_ring.specs.Ends.{ring_name}
 use Rattle.napi_word.specs.Rule.{Holding, first_view, maker_at}
-use Rattle.napi_word.proofs.Start.{opens, at_push, new_as, new_last}
+use Rattle.napi_word.proofs.Start.{opens, at_push, new_as, new_last, still_laid}
 use Rattle.napi_word.proofs.table.StateTable.new.Goals as goal
 
 pub new-requires : goal.new-requires
 new-requires c = let key : Key = record { controller = c.args.seats - 1; ring = c.of.result } in
-    subst (λ (xs : List (Option RxCtx)). Holding key (opening (9 ∷ []) xs (first_view key))) (sym c.in-Ok-one_slot.ensures.ok) (opens key c.args.ctx (ap ring_name (sym c.of.ensures)))
+    subst (λ (xs : List (Option RxCtx)). Holding key (opening (9 ∷ []) xs (first_view key))) (sym c.in-Ok-one_slot.ensures.ok) (opens key c.args.ctx (sym c.of.ensures))
 
 pub back-requires : goal.back-requires
 back-requires c = (c.args.ctx, c.in-Err-new.ensures.err ∙ c.in-Ok-one_slot.ensures.ok)
@@ -31,6 +30,7 @@ loop-number-preserved c =
           new_as _ _ _ _ _ _ _ _ i.3 i.4 (sym (t.0 ∙ i.0)) t.1 n.made)
           (at_push c.loop-number.passes.items c.next_pass-pass.result p k (ap (λ l. slice_get l k) (sym push.items) ∙ e)),
       push.len ∙ ap (λ k. k + 1) i.8,
+      still_laid c.loop-number.maker c.next_pass-pass.new.maker n.slot i.9,
     )
 
 pub returns-clause-new : goal.returns-clause-new
@@ -43,7 +43,7 @@ returns-clause-new c =
     λ k p e. ⊎_elim (λ old. i.7 k p old)
     (λ (t : (k ≡ length c.loop-number.passes.items) × (c.loop-number.maker ≡ p)).
     new_as (c.args.seats - 1) (c.args.seats - 1) c.args.ctx c.args.ctx (c.args.seats - 1) k c.loop-number.maker p refl refl (sym (t.0 ∙ i.0 ∙ n)) t.1
-    (new_last (c.args.seats - 1) c.args.ctx c.loop-number.number c.loop-number.maker n i.2 i.5 i.6))
+    (new_last (c.args.seats - 1) c.args.ctx c.loop-number.number c.loop-number.maker n i.2 i.5 i.6 i.9))
     (at_push c.loop-number.passes.items c.loop-number.maker p k (ap (λ l. slice_get l k) (sym push.items) ∙ e))
 
 pub returns-clause-count : goal.returns-clause-count

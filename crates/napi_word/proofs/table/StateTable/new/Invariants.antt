@@ -2,7 +2,7 @@ use Rattle.std.proofs.Common.{◌≡◌, ℕ, ◌-◌, ◌≤◌, vec_len, vec_c
 use Rattle.napi_word.specs.declared.table.Pass.{Pass}
 use Rattle.napi_word.specs.declared.view.Holds.TheVariants.{Within}
 use Rattle.napi_word.specs.Rule.{maker_at}
-use Rattle.napi_word.specs.Passes.{view_of, IsPassOf, IsNew}
+use Rattle.napi_word.specs.Passes.{view_of, IsPassOf, IsLaid, IsNew}
 use Rattle.napi_word.proofs.table.StateTable.new.Given as goal
 
 abbrev pub invariant-loop-number : goal.invariant-loop-number
@@ -16,3 +16,4 @@ invariant-loop-number l =
     × (l.maker.holds ≡ Within)
     × ((k : ℕ) (p : Pass) → slice_get l.passes.items k ≡ Some p → IsNew l.made (l.fn.seats - 1) l.fn.ctx k p)
     × (vec_len l.passes ≡ l.number)
+    × IsLaid l.fn.ctx l.maker

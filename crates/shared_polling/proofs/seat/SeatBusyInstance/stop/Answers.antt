@@ -6,5 +6,5 @@ use Rattle.shared_polling.proofs.seat.SeatBusyInstance.stop.Goals as goal
 pub returns-clause-leads : goal.returns-clause-leads
 returns-clause-leads g c =
     let e = c.busy.ensures in
-    let s = c.stop-polling.ensures in
+    let s = c.stop-polling.ensures.events in
     (_, seat_made _ (PollsBusily c.busy.result) _ (Polls c.stop-polling.result) _ _ _ _ (e.was, e.gone, c.put.ensures) refl refl s.2, (s.0, s.1, refl))

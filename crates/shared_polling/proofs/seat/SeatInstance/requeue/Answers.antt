@@ -6,4 +6,4 @@ use Rattle.shared_polling.proofs.seat.SeatInstance.requeue.Goals as goal
 pub returns-clause-leads : goal.returns-clause-leads
 returns-clause-leads g c =
     let e = c.polling.ensures in
-    seat_made _ (Polls c.polling.result) _ (Rests c.requeue-caller.result) _ _ _ _ (e.was, e.gone, c.put.ensures) refl refl c.requeue-caller.ensures
+    seat_made _ (Polls c.polling.result) _ (Rests c.requeue-caller.result) _ _ _ _ (e.was, e.gone, c.put.ensures) refl refl c.requeue-caller.ensures.event

@@ -5,8 +5,8 @@ use Rattle.shared_polling.proofs.seat.SeatInstance.take.Goals as goal
 
 pub returns-in-Ok-clause-leads : goal.returns-in-Ok-clause-leads
 returns-in-Ok-clause-leads g c =
-    seat_made _ (Rests c.caller.result) _ (Polls c.in-Ok.polling) _ _ _ _ (c.caller.ensures.was, c.caller.ensures.gone, c.put.ensures) refl refl c.in-Ok.ensures
+    seat_made _ (Rests c.caller.result) _ (Polls c.in-Ok.polling) _ _ _ _ (c.caller.ensures.was, c.caller.ensures.gone, c.put.ensures) refl refl c.in-Ok.ensures.event
 
 pub returns-in-Err-clause-leads : goal.returns-in-Err-clause-leads
 returns-in-Err-clause-leads g c =
-    seat_made _ (Rests c.caller.result) _ (Rests c.in-Err.caller) _ _ _ _ (c.caller.ensures.was, c.caller.ensures.gone, c.put-in-Err.ensures) refl refl c.in-Err.ensures
+    seat_made _ (Rests c.caller.result) _ (Rests c.in-Err.caller) _ _ _ _ (c.caller.ensures.was, c.caller.ensures.gone, c.put-in-Err.ensures) refl refl c.in-Err.ensures.event

@@ -1,7 +1,7 @@
 use Rattle.std.proofs.Common.{◌≡◌, ◌+◌, ◌≤◌, ◌++◌, length, vec_len, vec_capacity, vec_items}
 use Rattle.std.specs.List.{AllByRecursion, AllZip}
 use Rattle.std.specs.Vec.Iter.{into_iter_items, into_iter_len}
-use Rattle.device_model.specs.Places.{Places}
+use Rattle.trace_rows.specs.Places.{Places}
 use Rattle.shared_replay.specs.Stations.{IsEndAt, IsRestAt}
 use Rattle.shared_replay.specs.declared.station.Station.{Station}
 use Rattle.shared_replay.proofs.shared_bench.SharedBench.end.Given as goal

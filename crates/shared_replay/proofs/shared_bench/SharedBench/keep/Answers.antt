@@ -1,7 +1,7 @@
 use Rattle.std.proofs.Common.{◌≡◌, ◌∙◌, ◌<◌, None, false, rules, length, length-set, refl, sym, arith}
 use Rattle.std.specs.Prelude.{is_some}
-use Rattle.device_model.specs.Places.{at}
-use Rattle.device_model.proofs.PlaceFacts.{at-index, none-of}
+use Rattle.trace_rows.specs.Places.{at}
+use Rattle.trace_rows.proofs.PlaceFacts.{at-index, none-of}
 use Rattle.shared_replay.proofs.SharedFacts.{few-of, shared-put, waiting-put}
 use Rattle.shared_replay.proofs.shared_bench.SharedBench.keep.Goals as goal
 

@@ -1,6 +1,6 @@
 use Rattle.std.proofs.Common.{◌≡◌, ◌∙◌, Some, length-set, sym, arith}
-use Rattle.device_model.specs.Places.{at}
-use Rattle.device_model.proofs.PlaceFacts.{at-index, below-some}
+use Rattle.trace_rows.specs.Places.{at}
+use Rattle.trace_rows.proofs.PlaceFacts.{at-index, below-some}
 use Rattle.shared_replay.proofs.SharedFacts.{few-of, rest-at, shared-set, waiting-at}
 use Rattle.shared_replay.proofs.shared_bench.SharedBenchBench.poll_once.Goals as goal
 

@@ -1,5 +1,5 @@
 use Rattle.std.proofs.Common.{◌≡◌, ◌++◌, string_bytes}
-use Rattle.device_model.specs.Bench.{Transmits}
+use Rattle.transmit_sides.specs.Transmits.{Transmits}
 use Rattle.trace_replay.specs.Played.{world_in}
 use Rattle.trace_replay.specs.Report.{lines_below}
 use Rattle.trace_replay.proofs.replay.Replay.add_devices.Given as goal

@@ -1,9 +1,10 @@
 use Rattle.std.proofs.Common.{inl, inr, ◌<◌, length, get_or, take, subst, sym, arith}
 use Rattle.std.proofs.lemmas.Result.{err_from_is_err_and}
-use Rattle.device_model.specs.declared.event.Event.TheVariants.{Opened}
-use Rattle.device_model.specs.declared.row.Row.{Row}
+use Rattle.trace_rows.specs.declared.event.Event.TheVariants.{Opened}
+use Rattle.trace_rows.specs.declared.row.Row.{Row}
 use Rattle.trace_replay.specs.Transmits.{after_transmits}
-use Rattle.trace_replay.proofs.PlayFacts.{accepted-at, after_transmits-more, get-at, played-early, played-more, report-early}
+use Rattle.trace_rows.proofs.Accepted.{accepted-at, get-at}
+use Rattle.trace_replay.proofs.PlayFacts.{after_transmits-more, played-early, played-more, report-early}
 use Rattle.trace_replay.proofs.replay.Replay.play_rows.Goals as goal
 
 -- the row that an index out of the rows would give

@@ -1,5 +1,5 @@
 use Rattle.std.proofs.Common.{◌≡◌, ◌≤◌, Ok, length, take}
-use Rattle.device_model.specs.Bench.{Changes}
+use Rattle.transmit_sides.specs.Transmits.{Changes}
 use Rattle.trace_replay.specs.Played.{world_in}
 use Rattle.trace_replay.specs.Replay.{after_rows, start}
 use Rattle.trace_replay.specs.Transmits.{after_transmits}

@@ -1,7 +1,8 @@
 use Rattle.std.specs.Prelude.{flat_map}
-use Rattle.device_model.specs.Bench.{attached}
+use Rattle.devices.specs.Bench.{attached}
 use Rattle.trace_replay.specs.Played.{world_in}
-use Rattle.trace_replay.specs.Report.{ended, lines_below, list_line, poll_line, text_of, total_line, totals_of}
+use Rattle.report_text.specs.Lines.{ended}
+use Rattle.trace_replay.specs.Report.{lines_below, list_line, poll_line, text_of, total_line, totals_of}
 use Rattle.trace_replay.proofs.PlayFacts.{four-parts}
 use Rattle.trace_replay.proofs.replay.Replay.report.Goals as goal
 

@@ -1,11 +1,12 @@
 use Rattle.std.proofs.Common.{inl, inr, take, subst, sym, arith}
 use Rattle.std.proofs.lemmas.Result.{err_from_is_err_and}
-use Rattle.device_model.specs.SerialBench.{ShowsTransmits}
-use Rattle.device_model.specs.Places.{empty}
-use Rattle.device_model.specs.declared.event.Event.TheVariants.{Opened}
-use Rattle.device_model.specs.declared.row.Row.{Row}
+use Rattle.devices.specs.SerialBench.{ShowsTransmits}
+use Rattle.trace_rows.specs.Places.{empty}
+use Rattle.trace_rows.specs.declared.event.Event.TheVariants.{Opened}
+use Rattle.trace_rows.specs.declared.row.Row.{Row}
 use Rattle.trace_replay.specs.Transmits.{after_transmits}
-use Rattle.trace_replay.proofs.PlayFacts.{accepted-at, after_transmits-more, played-early, played-more}
+use Rattle.trace_rows.proofs.Accepted.{accepted-at}
+use Rattle.trace_replay.proofs.PlayFacts.{after_transmits-more, played-early, played-more}
 use Rattle.trace_replay.proofs.serial_replay.SerialReplay.play_row.Goals as goal
 
 -- the row that an index out of the rows would give

@@ -1,0 +1,23 @@
+//! What all threads of a run have.
+
+use crate::signals::Signals;
+
+/// How pollers poll.
+#[derive(Clone, Copy, Debug, PartialEq, Eq)]
+pub struct Pace {
+    /// The packets after which a polling run stops, 1 to 65535 (`netdev_budget`).
+    pub budget: u32,
+    /// The most packets of one poll, 1 to 64 (`struct napi_struct`, `weight`).
+    pub weight: u32,
+    /// The most polls of a run, and of one turn of a thread, 1 to 65535.
+    pub window: u32,
+}
+
+/// What all threads of a run have.
+#[derive(Drop)]
+pub struct Setting<'t, R, G> {
+    pub rt: R,
+    pub gate: &'t G,
+    pub signals: &'t Signals,
+    pub pace: Pace,
+}

@@ -1,8 +1,0 @@
-use Rattle.std.proofs.lemmas.List.{get_or-replicate}
-use Rattle.device_model.specs.Switch.{switch_of}
-use Rattle.device_model.specs.declared.switch.Switch.TheVariants.{Unopened}
-use Rattle.device_model.proofs.switch.Switches.new.Goals as goal
-
-pub returns : goal.returns
-unfolding switch_of
-returns c place below = get_or-replicate 16 place Unopened Unopened below

@@ -1,0 +1,6 @@
+pub mod BenchFacts
+pub mod BusyFacts
+pub mod DeviceFacts
+pub mod InstanceFacts
+pub mod ThreadFacts
+pub mod Waiting

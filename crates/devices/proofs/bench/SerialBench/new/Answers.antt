@@ -1,0 +1,11 @@
+use Rattle.std.proofs.Common.{◌≡◌, false, subst, sym, arith}
+use Rattle.devices.specs.Kept.{IsKept}
+use Rattle.trace_rows.specs.Places.{empty}
+use Rattle.devices.proofs.BenchFacts.{kept-empty}
+use Rattle.devices.proofs.bench.SerialBench.new.Goals as goal
+
+pub invariant_of-result : goal.invariant_of-result
+invariant_of-result c =
+    let all : c.loop.counter ≡ 17 = omega (arith, c.loop-test.false) in
+    let none : c.loop.devices.items ≡ empty = rw all at c.loop.invariant in
+    record { kept = subst (IsKept false) (sym none) kept-empty }

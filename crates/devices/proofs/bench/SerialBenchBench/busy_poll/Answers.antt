@@ -1,0 +1,31 @@
+use Rattle.std.proofs.Common.{◌≡◌, ◌∙◌, Some, ap, refl, sym, arith}
+use Rattle.devices.specs.Device.{is_pending}
+use Rattle.devices.specs.Kept.{is_sound}
+use Rattle.trace_rows.specs.Places.{at}
+use Rattle.devices.proofs.BenchFacts.{kept-changed, sound-at}
+use Rattle.devices.proofs.BusyFacts.{busy-keeps}
+use Rattle.trace_rows.proofs.PlaceFacts.{at-index}
+use Rattle.devices.proofs.Waiting.{waiting-more}
+use Rattle.devices.proofs.bench.SerialBenchBench.busy_poll.Goals as goal
+
+pub invariant_of-self : goal.invariant_of-self
+invariant_of-self c =
+    let here : at c.args.id c.args.self.now.devices.items ≡ Some c.in-Some.device =
+    at-index _ c.args.id _ (omega (arith, c.args.self.now.kept.places)) (sym c.index_mut.ensures.value) ∙ c.in-Some.is in
+    let keeps = busy-keeps c.args.rounds c.args.weight c.in-Some.device (sound-at _ _ c.args.id _ c.args.self.now.kept here) in
+    record {
+      kept = kept-changed _ _ c.args.id c.in-Some.device _ c.args.self.now.kept here (ap is_sound c.busy_poll.ensures.device ∙ keeps.sound) (ap is_pending c.busy_poll.ensures.device ∙ keeps.pending);
+    }
+
+pub returns-in-Some : goal.returns-in-Some
+returns-in-Some c =
+    let here : at c.args.id c.args.self.now.devices.items ≡ Some c.in-Some.device =
+    at-index _ c.args.id _ (omega (arith, c.args.self.now.kept.places)) (sym c.index_mut.ensures.value) ∙ c.in-Some.is in
+    let keeps = busy-keeps c.args.rounds c.args.weight c.in-Some.device (sound-at _ _ c.args.id _ c.args.self.now.kept here) in
+    record {
+      leads = record {
+        exact = λ stated. (rw (here, c.busy_poll.ensures.report) refl, rw (here, c.busy_poll.ensures.device) refl);
+        transmits = λ all shown. shown;
+        waits = waiting-more c.args.self.now.devices.items c.args.id _ c.in-Some.device c.busy_poll.new.self here (rw (c.busy_poll.ensures.device, c.busy_poll.ensures.report) keeps.listed);
+      };
+    }

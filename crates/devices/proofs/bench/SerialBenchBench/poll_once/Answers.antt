@@ -1,0 +1,30 @@
+use Rattle.std.proofs.Common.{◌≡◌, ◌∙◌, Some, ap, refl, sym, arith}
+use Rattle.devices.specs.Device.{is_pending}
+use Rattle.devices.specs.Kept.{is_sound}
+use Rattle.trace_rows.specs.Places.{at}
+use Rattle.devices.proofs.BenchFacts.{kept-changed, sound-at}
+use Rattle.devices.proofs.DeviceFacts.{once-keeps}
+use Rattle.trace_rows.proofs.PlaceFacts.{at-index}
+use Rattle.devices.proofs.Waiting.{waiting-less}
+use Rattle.devices.proofs.bench.SerialBenchBench.poll_once.Goals as goal
+
+pub invariant_of-self : goal.invariant_of-self
+invariant_of-self c =
+    let here : at c.args.id c.args.self.now.devices.items ≡ Some c.in-Some.device =
+    at-index _ c.args.id _ (omega (arith, c.args.self.now.kept.places)) (sym c.index_mut.ensures.value) ∙ c.in-Some.is in
+    let keeps = once-keeps c.args.weight c.in-Some.device (sound-at _ _ c.args.id _ c.args.self.now.kept here) in
+    record {
+      kept = kept-changed _ _ c.args.id c.in-Some.device _ c.args.self.now.kept here (ap is_sound c.poll_once.ensures.device ∙ keeps.sound) (ap is_pending c.poll_once.ensures.device ∙ keeps.pending);
+    }
+
+pub returns-in-Some-clause-leads : goal.returns-in-Some-clause-leads
+returns-in-Some-clause-leads c =
+    let here : at c.args.id c.args.self.now.devices.items ≡ Some c.in-Some.device =
+    at-index _ c.args.id _ (omega (arith, c.args.self.now.kept.places)) (sym c.index_mut.ensures.value) ∙ c.in-Some.is in
+    let keeps = once-keeps c.args.weight c.in-Some.device (sound-at _ _ c.args.id _ c.args.self.now.kept here) in
+    record {
+      exact = λ stated. (rw here c.poll_once.ensures.once, rw (here, c.poll_once.ensures.device) refl);
+      transmits = λ all shown. shown;
+      waits = waiting-less c.args.self.now.devices.items c.args.id _ c.in-Some.device c.poll_once.new.self here
+          (rw (c.poll_once.ensures.device, c.poll_once.ensures.once) keeps.listed);
+    }

@@ -1,0 +1,32 @@
+use Rattle.std.proofs.Common.{◌≡◌, ◌∙◌, Some, ap, refl, sym, arith}
+use Rattle.devices.specs.Device.{is_pending, polled_by_thread}
+use Rattle.devices.specs.Kept.{is_sound}
+use Rattle.trace_rows.specs.Places.{at}
+use Rattle.devices.proofs.BenchFacts.{kept-changed, sound-at}
+use Rattle.devices.proofs.DeviceFacts.{thread-keeps}
+use Rattle.trace_rows.proofs.PlaceFacts.{at-index}
+use Rattle.devices.proofs.Waiting.{waiting-more}
+use Rattle.devices.proofs.bench.SerialBenchBench.poll_thread.Goals as goal
+
+pub invariant_of-self : goal.invariant_of-self
+invariant_of-self c =
+    let here : at c.args.id c.args.self.now.devices.items ≡ Some c.in-Some.device =
+    at-index _ c.args.id _ (omega (arith, c.args.self.now.kept.places)) (sym c.index_mut.ensures.value) ∙ c.in-Some.is in
+    let keeps = thread-keeps c.args.most c.args.weight c.in-Some.device (sound-at _ _ c.args.id _ c.args.self.now.kept here) in
+    record {
+      kept = kept-changed _ _ c.args.id c.in-Some.device _ c.args.self.now.kept here (ap is_sound c.poll_thread.ensures.device ∙ keeps.sound) (ap is_pending c.poll_thread.ensures.device ∙ keeps.pending);
+    }
+
+pub returns-in-Some : goal.returns-in-Some
+returns-in-Some c =
+    let here : at c.args.id c.args.self.now.devices.items ≡ Some c.in-Some.device =
+    at-index _ c.args.id _ (omega (arith, c.args.self.now.kept.places)) (sym c.index_mut.ensures.value) ∙ c.in-Some.is in
+    let keeps = thread-keeps c.args.most c.args.weight c.in-Some.device (sound-at _ _ c.args.id _ c.args.self.now.kept here) in (
+      (polled_by_thread c.args.most c.args.weight c.in-Some.device).0,
+      record {
+        exact = λ stated. (rw here refl, rw (here, c.poll_thread.ensures.device) refl);
+        transmits = λ all shown. shown;
+        waits = waiting-more c.args.self.now.devices.items c.args.id _ c.in-Some.device c.poll_thread.new.self here (rw c.poll_thread.ensures.device keeps.listed);
+      },
+      c.poll_thread.ensures.report,
+    )

@@ -1,0 +1,14 @@
+use Rattle.std.proofs.Common.{◌∙◌, refl, subst, sym}
+use Rattle.devices.specs.Device.{after_threaded}
+use Rattle.devices.specs.Owner.{IsOurs}
+use Rattle.devices.specs.declared.device.TheConstants.{CONTROLLER}
+use Rattle.devices.proofs.device.Device.set_threaded.Goals as goal
+
+pub invariant_of-self : goal.invariant_of-self
+invariant_of-self c =
+    let step = (c.set_threaded.ensures.step CONTROLLER).legal.1 in
+    (c.set_threaded.ensures.controller ∙ c.self.invariant.0, subst IsOurs (sym step) c.self.invariant.1)
+
+pub returns : goal.returns
+unfolding after_threaded
+returns c = rw (← c.self.view_is, (c.set_threaded.ensures.step CONTROLLER).legal.1) refl

@@ -1,0 +1,19 @@
+-- What a bench on one thread shows.
+use Rattle.std.specs.Prelude.{ℕ}
+use Rattle.devices.specs.Bench.{Devices}
+use Rattle.transmit_sides.specs.Transmits.{Transmits}
+use Rattle.transmit_sides.specs.Sides.{ShowsSides}
+use Rattle.devices.specs.Waiting.{waiting}
+use Rattle.devices.specs.declared.bench.SerialBench.{SerialBench}
+
+-- the devices that were attached
+abbrev pub devices_of : SerialBench → Devices
+devices_of bench = bench.devices.items
+
+-- its transmit sides show these
+abbrev pub ShowsTransmits : SerialBench → Transmits → Type 0
+ShowsTransmits bench all = ShowsSides bench.transmits all
+
+-- how many of its devices wait on the poll list
+abbrev pub waiting_of : SerialBench → ℕ
+waiting_of bench = waiting (devices_of bench)

@@ -1,0 +1,28 @@
+-- One act more.
+use Rattle.std.proofs.Common.{◌≡◌, ℕ, ◌+◌, ◌≤◌, length, List, ◌++◌, sym, arith, length-append, append_assoc, add-one, ap, ◌∙◌}
+use Rattle.rx_ring.specs.declared.packet.Packet.{Packet}
+use Rattle.interrupt_workers.specs.declared.acts.Act.{Act}
+use Rattle.interrupt_workers.specs.Acts.{after_acts, arrivals, brings}
+
+pub after_acts-more : {D : Type 0} (after : D → ℕ → D) (d : D) (n : ℕ) → after_acts after d (n + 1) ≡ after (after_acts after d n) n
+after_acts-more after d n = ap (λ m. after_acts after d m) (add-one n)
+
+pub arrivals-more : {D : Type 0} (answer : D → ℕ → Act) (after : D → ℕ → D) (d : D) (n : ℕ)
+    → arrivals answer after d (n + 1) ≡ arrivals answer after d n ++ brings (answer (after_acts after d n) n)
+arrivals-more answer after d n = ap (λ m. arrivals answer after d m) (add-one n)
+
+pub ruleset steps = (after_acts-more, arrivals-more)
+
+-- what one act more brings is put, where there is room for all
+pub put_more : (old arrived brought all now after : List Packet) (places : ℕ)
+    → all ≡ arrived ++ brought
+    → (length old + length arrived ≤ places → now ≡ old ++ arrived)
+    → (length now + length brought ≤ places → after ≡ now ++ brought)
+    → length old + length all ≤ places → after ≡ old ++ all
+put_more old arrived brought all now after places more before then room =
+    let size : length all ≡ length (arrived ++ brought) = ap (λ l. length l) more in
+    let parts = length-append arrived brought in
+    let was = before (omega arith) in
+    let long : length now ≡ length (old ++ arrived) = ap (λ l. length l) was in
+    let pieces = length-append old arrived in
+    then (omega arith) ∙ ap (λ l. l ++ brought) was ∙ append_assoc old arrived brought ∙ ap (λ l. old ++ l) (sym more)

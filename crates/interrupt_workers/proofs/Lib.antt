@@ -1,0 +1,2 @@
+pub mod ActSteps
+pub mod DealFacts

@@ -1,0 +1,15 @@
+use Rattle.std.proofs.Common.{◌≡◌, length}
+use Rattle.std.specs.Vec.Iter.{into_iter_items, into_iter_len}
+use Rattle.std.specs.List.{AllZip}
+use Rattle.interrupt_workers.specs.Opens.{IsKeptSideOf}
+use Rattle.interrupt_workers.proofs.opening.shut_all.Given as goal
+
+abbrev pub invariant-loop-other : goal.invariant-loop-other
+invariant-loop-other g l = record {
+  beside : AllZip IsKeptSideOf (into_iter_items l.others) (into_iter_items l.all);
+  long : into_iter_len l.others ≡ length (into_iter_items l.others);
+  as_long : into_iter_len l.all ≡ length (into_iter_items l.all);
+}
+
+abbrev pub decreases-loop-other : goal.decreases-loop-other
+decreases-loop-other g l = into_iter_len l.others

@@ -1,0 +1,23 @@
+use Rattle.std.proofs.Common.{◌≡◌, ◌+◌, ◌≤◌, ◌++◌, length, ap, sym, ◌∙◌, rules, arith}
+use Rattle.std.proofs.lemmas.Grind.{common_steps}
+use Rattle.rx_ring.specs.Ends.{capacity_of, put_list}
+use Rattle.interrupt_workers.specs.Acts.{after_acts, brings}
+use Rattle.interrupt_workers.proofs.ActSteps.{after_acts-more, arrivals-more, put_more}
+use Rattle.interrupt_workers.proofs.worker.Desk.make_acts.Goals as goal
+
+pub loop-k-preserved : goal.loop-k-preserved
+loop-k-preserved g c =
+    let i = c.loop-k.invariant in
+    let e = c.make_act-hold.ensures in
+    let after = g.D.Device.after in
+    let d = c.args.device.now in
+    let brought = brings (g.D.Device.answer (after_acts after d c.loop-k.k) c.loop-k.k) in
+    let places : capacity_of c.loop-k.rx ≡ capacity_of c.args.rx.now = search rules in
+    let then : length (put_list c.loop-k.rx) + length brought ≤ capacity_of c.args.rx.now → put_list c.make_act-hold.new.rx ≡ put_list c.loop-k.rx ++ brought = rw (← i.made, ← places) e.put in record {
+      of = e.of;
+      made = e.device ∙ ap (λ x. after x c.loop-k.k) i.made ∙ sym (after_acts-more after d c.loop-k.k);
+      acts = e.acts ∙ i.acts;
+      ring = search rules;
+      few = grind (arith, common_steps, i.few, e.few);
+      put = put_more _ _ _ _ _ _ _ (arrivals-more g.D.Device.answer after d c.loop-k.k) i.put then;
+    }

@@ -1,0 +1,6 @@
+pub mod Acts
+pub mod Seats
+pub mod Works
+pub mod Opens
+pub mod Deals
+pub mod Ends

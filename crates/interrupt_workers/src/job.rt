@@ -1,0 +1,47 @@
+//! A worker's thread.
+
+use crate::acts::Device;
+use crate::worker::{Desk, Done, Work};
+use crew_tasks::{Gate, Task};
+use std::sync::Wait;
+
+/// What a worker does: it makes its device's acts, and disables the instance at the end, also where the run was stopped.
+#[derive(Drop)]
+pub struct Job<'t, 'p, 'n, R: Wait + Drop, D, G> {
+    pub gate: &'t G,
+    pub desk: Desk<'t, 'p, 'n, R>,
+    pub work: Work<R, D>,
+}
+
+/// What a worker gives back.
+#[derive(Drop)]
+pub struct Worked<R: Wait + Drop, D> {
+    pub number: u32,
+    pub done: Done<R, D>,
+}
+
+impl<'t, 'p, 'n, R: Wait + Copy + Drop, D: Device + Drop, G: Gate> Task<Worked<R, D>>
+    for Job<'t, 'p, 'n, R, D, G> {
+    ghost use Rattle.interrupt_workers.specs.Seats.{AreSeatsOf};
+    ghost use Rattle.interrupt_workers.specs.Works.{IsWorkOf};
+
+    ghost can_run = { λ job. AreSeatsOf job.desk.napi.now job.work.seats.value };
+
+    ghost gives = { λ job worked. IsWorkOf D.acts D.answer D.after job.desk.napi.now job.desk.number job.work worked };
+
+    fn is_idle(&self) -> bool {
+        false
+    }
+
+    fn run(self) -> Worked<R, D> {
+        let Job { gate, desk, work } = self;
+        let done = desk.work(gate, work);
+        if let Some(bell) = desk.thread {
+            bell.tell();
+        }
+        Worked {
+            number: desk.number,
+            done,
+        }
+    }
+}

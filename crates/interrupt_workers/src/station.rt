@@ -1,0 +1,28 @@
+//! What a run is given, and what it gives back.
+
+use rx_ring::Totals;
+
+/// A device that is to be run.
+#[derive(Drop)]
+pub struct Station<D> {
+    /// Its number, 1 to 16, and that of no other.
+    pub number: u32,
+    /// The packets that its receive ring can hold, 1 to 65536.
+    pub capacity: usize,
+    /// Whether it has a thread of its own that polls it while THREADED is set (`dev_set_threaded`). One that has none is
+    /// polled from the list.
+    pub thread: bool,
+    /// The device.
+    pub device: D,
+}
+
+/// A device that was run.
+#[derive(Drop)]
+pub struct Finished<D> {
+    /// Its number.
+    pub number: u32,
+    /// The device after its acts.
+    pub device: D,
+    /// What is counted of its receive ring.
+    pub totals: Totals,
+}

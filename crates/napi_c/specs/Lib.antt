@@ -1,0 +1,10 @@
+pub mod Status
+pub mod Serial
+pub mod Held
+pub mod Rings
+pub mod Seats
+pub mod Runs
+pub mod Tries
+pub mod SeatCalls
+pub mod Handles
+pub mod Freeing

@@ -1,0 +1,53 @@
+//! What a handle leads to is freed.
+ghost use Rattle.std.specs.Prelude.{◌≡◌, ◌≢◌, None};
+ghost use Rattle.napi_c.specs.Freeing.{is_freeable, free_status, abandon_status};
+ghost use Rattle.napi_c.specs.Status.{OK};
+
+use crate::body::Body;
+use crate::handle::FqHandle;
+use crate::hold::Hold;
+use crate::mode::Mode;
+use crate::status;
+use std::alloc::Global;
+
+// Whether nothing is lost with it but what it holds: nobody waits for it.
+fn is_freeable(body: &Body) -> bool
+    ensures { result ≡ is_freeable body.now }
+{
+    match body {
+        Body::Seat(seat) => matches!(seat.hold, Hold::Rests(_)),
+        Body::Controller(control) => matches!(control.mode, Mode::Off(_)),
+        Body::List(list) => !list.is_running(),
+        _ => true,
+    }
+}
+
+/// Frees what a handle leads to, which then leads to nothing: ok; not allowed, and all stays, of a seat that doesn't rest, of a
+/// controller that isn't off, and of a list in a run; bad handle of one that leads to nothing.
+#[unsafe(no_mangle)]
+pub extern "C" fn fq_free(alloc: Global, handle: &mut FqHandle) -> u32
+    ensures status { result ≡ free_status handle.old.held.body }
+    ensures freed { result ≡ OK → handle.new.held.body ≡ None }
+    ensures kept { result ≢ OK → handle.new.held.body ≡ handle.old.held.body }
+{
+    let Some(boxed) = handle.take(alloc) else {
+        return status::BAD_HANDLE;
+    };
+    if !is_freeable(&*boxed) {
+        handle.put(boxed);
+        return status::NOT_ALLOWED;
+    }
+    status::OK
+}
+
+/// Frees what a handle leads to, whatever its state is: ok, or bad handle of one that leads to nothing.
+#[unsafe(no_mangle)]
+pub extern "C" fn fq_abandon(alloc: Global, handle: &mut FqHandle) -> u32
+    ensures status { result ≡ abandon_status handle.old.held.body }
+    ensures left { handle.new.held.body ≡ None }
+{
+    match handle.take(alloc) {
+        Some(_) => status::OK,
+        None => status::BAD_HANDLE,
+    }
+}

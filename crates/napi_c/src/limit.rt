@@ -1,0 +1,110 @@
+//! Byte queue limits for C.
+
+ghost use Rattle.std.specs.Prelude.{◌≡◌, ◌≢◌, ℕ, ◌<◌, ◌⊎◌, ◌↔◌};
+ghost use Rattle.dql_core.specs.Bounds.{DQL_MAX_LIMIT, most_in_flight};
+ghost use Rattle.dql_core.specs.Dql.{Shows, IsNew};
+ghost use Rattle.dql_core.specs.Limit.{opening, in_flight_of, avail_of, after_reset, after_queued, after_completed, queued_fault, completed_fault};
+ghost use Rattle.dql_core.specs.declared.whole.Limit.{Limit};
+ghost use Rattle.napi_c.specs.Status.{OK, dql_status};
+
+use crate::status;
+use dql_core::Dql;
+
+/// A byte queue limit in the caller's own memory: `struct fq_dql`. C never writes its fields.
+#[repr(C)]
+#[derive(Drop)]
+pub struct FqDql {
+    /// The limit.
+    pub dql: Dql,
+}
+
+/// What [`fq_dql_new`] answers: `struct fq_dql_new`.
+#[repr(C)]
+#[derive(Drop)]
+pub struct FqDqlNew {
+    /// The limit, or one of 0 where it is refused.
+    pub dql: FqDql,
+    /// Ok, or bad bounds.
+    pub status: u32,
+}
+
+/// A new limit, as `Dql::new`.
+#[unsafe(no_mangle)]
+pub extern "C" fn fq_dql_new(min: u32, max: u32, hold: u64, now: u64) -> FqDqlNew
+    ensures ok { result.status ≡ OK → Shows result.dql.dql (opening min max hold now) }
+    ensures refused { (result.status ≢ OK) ↔ ((max < min) ⊎ (DQL_MAX_LIMIT < max)) }
+{
+    match Dql::new(min, max, hold, now) {
+        Ok(dql) => FqDqlNew {
+            dql: FqDql { dql },
+            status: status::OK,
+        },
+        Err(fault) => {
+            let Ok(dql) = Dql::new(0, 0, 0, 0) else {
+                unreachable!()
+            };
+            FqDqlNew {
+                dql: FqDql { dql },
+                status: u32::from(fault.number()),
+            }
+        }
+    }
+}
+
+/// As `Dql::queued`.
+#[unsafe(no_mangle)]
+pub extern "C" fn fq_dql_queued(dql: &mut FqDql, count: u32) -> u32
+    ensures ok { (s : Limit) → Shows dql.old.dql s → result ≡ OK → Shows dql.new.dql (after_queued s count) }
+    ensures status { (s : Limit) → Shows dql.old.dql s → result ≡ dql_status (queued_fault s count) }
+    ensures refused { result ≢ OK → dql.new ≡ dql.old }
+{
+    match dql.dql.queued(count) {
+        Ok(()) => status::OK,
+        Err(fault) => u32::from(fault.number()),
+    }
+}
+
+/// As `Dql::completed`.
+#[unsafe(no_mangle)]
+pub extern "C" fn fq_dql_completed(dql: &mut FqDql, count: u32, now: u64) -> u32
+    ensures ok { (s : Limit) → Shows dql.old.dql s → result ≡ OK → Shows dql.new.dql (after_completed s count now) }
+    ensures status { (s : Limit) → Shows dql.old.dql s → result ≡ dql_status (completed_fault s count) }
+    ensures refused { result ≢ OK → dql.new ≡ dql.old }
+{
+    match dql.dql.completed(count, now) {
+        Ok(()) => status::OK,
+        Err(fault) => u32::from(fault.number()),
+    }
+}
+
+/// As `Dql::reset`.
+#[unsafe(no_mangle)]
+pub extern "C" fn fq_dql_reset(dql: &mut FqDql, now: u64)
+    ensures { (s : Limit) → Shows dql.old.dql s → Shows dql.new.dql (after_reset s now) }
+{
+    dql.dql.reset(now);
+}
+
+/// As `Dql::limit`.
+#[unsafe(no_mangle)]
+pub extern "C" fn fq_dql_limit(dql: &FqDql) -> u32
+    ensures { (s : Limit) → Shows dql.now.dql s → result ≡ s.limit }
+{
+    dql.dql.limit()
+}
+
+/// As `Dql::avail`.
+#[unsafe(no_mangle)]
+pub extern "C" fn fq_dql_avail(dql: &FqDql) -> i64
+    ensures { (s : Limit) → Shows dql.now.dql s → result ≡ avail_of s }
+{
+    dql.dql.avail()
+}
+
+/// As `Dql::in_flight`.
+#[unsafe(no_mangle)]
+pub extern "C" fn fq_dql_in_flight(dql: &FqDql) -> u32
+    ensures { (s : Limit) → Shows dql.now.dql s → result ≡ in_flight_of s }
+{
+    dql.dql.in_flight()
+}

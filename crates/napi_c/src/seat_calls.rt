@@ -1,0 +1,156 @@
+//! The calls of the callers of a shared instance. Each makes one try, and answers changed where another thread came between.
+ghost use Rattle.std.specs.Prelude.{◌≡◌, ◌≤◌, length, take, Some, None};
+ghost use Rattle.napi_model.specs.declared.state.Kind.{Kind};
+ghost use Rattle.napi_c.specs.declared.seat.Seat.{Seat};
+ghost use Rattle.napi_c.specs.declared.body.Body.TheVariants as body;
+ghost use Rattle.napi_c.specs.declared.hold.SeatCall.TheVariants as seat_call;
+ghost use Rattle.napi_c.specs.Serial.{kind_in};
+ghost use Rattle.napi_c.specs.Status.{OK, BAD_HANDLE};
+ghost use Rattle.napi_c.specs.SeatCalls.{SeatAnswers, SeatPolls};
+ghost use Rattle.napi_c.specs.Handles.{IsSeatWith, SeatMakes, SeatGives};
+
+use crate::body::Body;
+use crate::handle::FqHandle;
+use crate::hold::SeatCall;
+use crate::kind::kind_of;
+use crate::status;
+use rx_ring::{Batch, MAX_WEIGHT, Packet};
+use std::alloc::Global;
+
+fn step_in(at: &mut Body, call: SeatCall) -> u32
+    ensures { (s : Seat) → at.old ≡ body.Seat s → IsSeatWith (λ t. SeatAnswers call s.hold result t.hold) at.new }
+{
+    match at {
+        Body::Seat(seat) => seat.step(call),
+        _ => status::BAD_HANDLE,
+    }
+}
+
+// Makes a call on the caller that a handle leads to.
+fn on_seat(alloc: Global, handle: &mut FqHandle, call: SeatCall) -> u32
+    ensures answers { SeatMakes call handle.old result handle.new }
+    ensures none { handle.old.held.body ≡ None → result ≡ BAD_HANDLE }
+{
+    let Some(mut boxed) = handle.take(alloc) else {
+        return status::BAD_HANDLE;
+    };
+    let status = step_in(&mut *boxed, call);
+    handle.put(boxed);
+    status
+}
+
+/// As `Caller::try_schedule`: granted, missed, disabled or changed; not allowed where the caller doesn't rest.
+#[unsafe(no_mangle)]
+pub extern "C" fn fq_seat_schedule(alloc: Global, handle: &mut FqHandle) -> u32
+    ensures { SeatMakes seat_call.Schedule handle.old result handle.new }
+{
+    on_seat(alloc, handle, SeatCall::Schedule)
+}
+
+/// As `Granted::hand`: ok; bad kind; not allowed where the instance isn't granted to the caller.
+#[unsafe(no_mangle)]
+pub extern "C" fn fq_seat_hand(alloc: Global, handle: &mut FqHandle, kind: u32) -> u32
+    ensures { (k : Kind) → kind_in kind ≡ Some k → SeatMakes (seat_call.Hand k) handle.old result handle.new }
+{
+    let Some(kind) = kind_of(kind) else {
+        return status::BAD_KIND;
+    };
+    on_seat(alloc, handle, SeatCall::Hand(kind))
+}
+
+/// As `Caller::take`: taken or not there; bad kind; not allowed where the caller doesn't rest.
+#[unsafe(no_mangle)]
+pub extern "C" fn fq_seat_take(alloc: Global, handle: &mut FqHandle, kind: u32) -> u32
+    ensures { (k : Kind) → kind_in kind ≡ Some k → SeatMakes (seat_call.Take k) handle.old result handle.new }
+{
+    let Some(kind) = kind_of(kind) else {
+        return status::BAD_KIND;
+    };
+    on_seat(alloc, handle, SeatCall::Take(kind))
+}
+
+/// As `Polling::requeue`: ok, or not allowed where the caller doesn't poll.
+#[unsafe(no_mangle)]
+pub extern "C" fn fq_seat_requeue(alloc: Global, handle: &mut FqHandle) -> u32
+    ensures { SeatMakes seat_call.Requeue handle.old result handle.new }
+{
+    on_seat(alloc, handle, SeatCall::Requeue)
+}
+
+/// As `Polling::try_complete`: released, again or changed; held where it busy polls (`Busy::complete_held`); not allowed where
+/// it doesn't poll.
+#[unsafe(no_mangle)]
+pub extern "C" fn fq_seat_complete(alloc: Global, handle: &mut FqHandle) -> u32
+    ensures { SeatMakes seat_call.Complete handle.old result handle.new }
+{
+    on_seat(alloc, handle, SeatCall::Complete)
+}
+
+/// As `Caller::try_busy`: taken, busy or changed; not allowed where the caller doesn't rest.
+#[unsafe(no_mangle)]
+pub extern "C" fn fq_seat_busy_take(alloc: Global, handle: &mut FqHandle) -> u32
+    ensures { SeatMakes seat_call.BusyTake handle.old result handle.new }
+{
+    on_seat(alloc, handle, SeatCall::BusyTake)
+}
+
+/// As `Busy::try_stop`: ok, after which the caller polls once more, or changed; not allowed where it doesn't busy poll.
+#[unsafe(no_mangle)]
+pub extern "C" fn fq_seat_busy_stop(alloc: Global, handle: &mut FqHandle) -> u32
+    ensures { SeatMakes seat_call.BusyStop handle.old result handle.new }
+{
+    on_seat(alloc, handle, SeatCall::BusyStop)
+}
+
+/// As `Caller::set_threaded`: ok, or not allowed where the caller doesn't rest.
+#[unsafe(no_mangle)]
+pub extern "C" fn fq_seat_set_threaded(alloc: Global, handle: &mut FqHandle, threaded: bool) -> u32
+    ensures { SeatMakes (seat_call.SetThreaded threaded) handle.old result handle.new }
+{
+    on_seat(alloc, handle, SeatCall::SetThreaded(threaded))
+}
+
+fn poll_in(at: &mut Body, weight: usize, batch: &mut Batch) -> u32
+    requires { (1 ≤ weight) × (weight ≤ 64) }
+    ensures polls { (s : Seat) → at.old ≡ body.Seat s → IsSeatWith (λ t. SeatPolls weight batch.new.items s.hold result t.hold) at.new }
+    ensures room { result ≡ OK → length batch.new.items ≤ weight }
+{
+    match at {
+        Body::Seat(seat) => seat.poll(weight, batch),
+        _ => status::BAD_HANDLE,
+    }
+}
+
+/// As `Polling::poll`, into an array: the packets are the first `count` of it. Bad weight where it isn't 1 to 64, no room where
+/// the array is shorter than the weight, and not allowed where the caller doesn't poll: these give none.
+#[unsafe(no_mangle)]
+pub extern "C" fn fq_seat_poll(
+    alloc: Global,
+    handle: &mut FqHandle,
+    weight: usize,
+    out: &mut [Packet],
+    count: &mut usize,
+) -> u32
+    ensures polls { result ≡ OK → SeatGives weight (take count.new out.new) handle.old result handle.new }
+    ensures most { (count.new ≤ weight) × (count.new ≤ length out.new) }
+{
+    *count = 0;
+    if weight == 0 || weight > MAX_WEIGHT {
+        return status::BAD_WEIGHT;
+    }
+    if out.len() < weight {
+        return status::NO_ROOM;
+    }
+    let Some(mut boxed) = handle.take(alloc) else {
+        return status::BAD_HANDLE;
+    };
+    let mut batch = Batch::new();
+    let status = poll_in(&mut *boxed, weight, &mut batch);
+    handle.put(boxed);
+    if status == status::OK {
+        let given = batch.as_slice();
+        out[..given.len()].copy_from_slice(given);
+        *count = given.len();
+    }
+    status
+}

@@ -1,0 +1,130 @@
+//! The instance of one thread, in memory of the caller's.
+ghost use Rattle.std.specs.Prelude.{◌≡◌, ◌↔◌, ℕ, IsNone, IfSome};
+ghost use Rattle.napi_model.specs.Step.{opening, MayCall, answer_of, seen_of};
+ghost use Rattle.napi_model.specs.Word.{word_of};
+ghost use Rattle.napi_c.specs.Serial.{place_in, state_in, Steps};
+
+use napi_model::{Call, Event, Flags, Operation, Place, State, encode};
+
+/// An instance: `struct fq_napi`. Each value that C can give it is one.
+#[repr(C)]
+#[derive(Clone, Copy)]
+pub struct FqNapi {
+    /// SCHED: a poll is asked for or under way.
+    pub sched: bool,
+    /// MISSED: one more has to follow.
+    pub missed: bool,
+    /// DISABLE: a disable is pending.
+    pub disable: bool,
+    /// NPSVC: the controller has it.
+    pub npsvc: bool,
+    /// IN_BUSY_POLL.
+    pub in_busy_poll: bool,
+    /// THREADED: it is handed to its own thread.
+    pub threaded: bool,
+    /// SCHED_THREADED: it was.
+    pub sched_threaded: bool,
+    /// 0 nobody, 1 granted, 2 on the list, 3 with its thread, 4 polled, and else with the controller.
+    pub place: u8,
+    /// Who owns it there.
+    pub owner: u32,
+    /// Who alone disables and enables it.
+    pub controller: u32,
+}
+
+fn place_of(place: u8, owner: u32) -> Place
+    ensures { result ≡ place_in place owner }
+{
+    match place {
+        0 => Place::Nobody,
+        1 => Place::Granted(owner),
+        2 => Place::Listed,
+        3 => Place::ToThread,
+        4 => Place::Polling(owner),
+        _ => Place::Control(owner),
+    }
+}
+
+// The number and the owner of a place.
+fn numbers_of(place: Place) -> (u8, u32)
+    ensures { place_in result.0 result.1 ≡ place }
+{
+    match place {
+        Place::Nobody => (0, 0),
+        Place::Granted(owner) => (1, owner),
+        Place::Listed => (2, 0),
+        Place::ToThread => (3, 0),
+        Place::Polling(owner) => (4, owner),
+        Place::Control(owner) => (5, owner),
+    }
+}
+
+fn state_of(napi: &FqNapi) -> State
+    ensures { result ≡ state_in napi.now }
+{
+    State {
+        flags: Flags {
+            sched: napi.sched,
+            missed: napi.missed,
+            disable: napi.disable,
+            npsvc: napi.npsvc,
+            in_busy_poll: napi.in_busy_poll,
+            threaded: napi.threaded,
+            sched_threaded: napi.sched_threaded,
+        },
+        place: place_of(napi.place, napi.owner),
+    }
+}
+
+fn napi_of(state: State, controller: u32) -> FqNapi
+    ensures state { state_in result ≡ state }
+    ensures controller { result.controller ≡ controller }
+{
+    let (place, owner) = numbers_of(state.place);
+    let flags = state.flags;
+    FqNapi {
+        sched: flags.sched,
+        missed: flags.missed,
+        disable: flags.disable,
+        npsvc: flags.npsvc,
+        in_busy_poll: flags.in_busy_poll,
+        threaded: flags.threaded,
+        sched_threaded: flags.sched_threaded,
+        place,
+        owner,
+        controller,
+    }
+}
+
+/// Makes the call where it may be made, and answers its reply.
+pub fn step(napi: &mut FqNapi, caller: u32, call: Call) -> Option<Operation>
+    ensures refused { IsNone result ↔ ¬ MayCall caller call (state_in napi.old) }
+    ensures answer { IfSome result (λ o. o ≡ answer_of call (state_in napi.old)) }
+    ensures step { IfSome result (λ o. Steps napi.old caller o napi.new) }
+    ensures kept { IsNone result → napi.new ≡ napi.old }
+{
+    let state = state_of(napi);
+    if !state.may_call(caller, call) {
+        return None;
+    }
+    let operation = state.answer(caller, call);
+    *napi = napi_of(state.after(Event { caller, operation }), napi.controller);
+    Some(operation)
+}
+
+/// As `SerialNapi::new`.
+#[unsafe(no_mangle)]
+pub extern "C" fn fq_napi_new(controller: u32) -> FqNapi
+    ensures state { state_in result ≡ opening controller }
+    ensures controller { result.controller ≡ controller }
+{
+    napi_of(State::opening(controller), controller)
+}
+
+/// The state word, as `encode`.
+#[unsafe(no_mangle)]
+pub extern "C" fn fq_napi_word(napi: &FqNapi) -> u64
+    ensures { result ≡ word_of (seen_of (state_in napi.now)) }
+{
+    encode(state_of(napi).seen())
+}

@@ -1,0 +1,82 @@
+//! What the controller of the instance of one thread may call.
+ghost use Rattle.std.specs.Prelude.{◌≡◌, ◌↔◌, ◌⊎◌, IsNone, IfSome, true, false};
+ghost use Rattle.napi_model.specs.declared.event.Operation.TheVariants as operation;
+ghost use Rattle.napi_model.specs.declared.event.Call.TheVariants as call;
+ghost use Rattle.napi_model.specs.Step.{MayCall, answer_of};
+ghost use Rattle.napi_c.specs.Serial.{state_in, Steps};
+ghost use Rattle.napi_c.specs.Status.{OK, TAKEN, BUSY, NOT_ALLOWED};
+
+use crate::serial::{FqNapi, step};
+use crate::status;
+use napi_model::{Call, Operation};
+
+// A call of the controller's.
+fn control(napi: &mut FqNapi, who: u32, call: Call) -> Option<Operation>
+    ensures refused { IsNone result ↔ ¬ ((who ≡ napi.old.controller) × MayCall who call (state_in napi.old)) }
+    ensures answer { IfSome result (λ o. o ≡ answer_of call (state_in napi.old)) }
+    ensures step { IfSome result (λ o. Steps napi.old who o napi.new) }
+    ensures kept { IsNone result → napi.new ≡ napi.old }
+{
+    if who != napi.controller {
+        return None;
+    }
+    step(napi, who, call)
+}
+
+/// As `SerialNapi::mark_disable`: ok, or not allowed where the caller may not.
+#[unsafe(no_mangle)]
+pub extern "C" fn fq_napi_mark_disable(napi: &mut FqNapi, who: u32) -> u32
+    ensures made { result ≡ OK → Steps napi.old who operation.MarkDisable napi.new }
+    ensures refused { result ≡ NOT_ALLOWED ↔ ¬ ((who ≡ napi.old.controller) × MayCall who call.MarkDisable (state_in napi.old)) }
+    ensures kept { result ≡ NOT_ALLOWED → napi.new ≡ napi.old }
+    ensures only { (result ≡ OK) ⊎ (result ≡ NOT_ALLOWED) }
+{
+    match control(napi, who, Call::MarkDisable) {
+        Some(_) => status::OK,
+        None => status::NOT_ALLOWED,
+    }
+}
+
+/// As `SerialNapi::take_disable`: taken, busy, or not allowed where the caller may not.
+#[unsafe(no_mangle)]
+pub extern "C" fn fq_napi_take_disable(napi: &mut FqNapi, who: u32) -> u32
+    ensures taken { result ≡ TAKEN → Steps napi.old who (operation.TakeDisable true) napi.new }
+    ensures busy { result ≡ BUSY → Steps napi.old who (operation.TakeDisable false) napi.new }
+    ensures refused { result ≡ NOT_ALLOWED ↔ ¬ ((who ≡ napi.old.controller) × MayCall who call.TakeDisable (state_in napi.old)) }
+    ensures kept { result ≡ NOT_ALLOWED → napi.new ≡ napi.old }
+    ensures only { (result ≡ TAKEN) ⊎ (result ≡ BUSY) ⊎ (result ≡ NOT_ALLOWED) }
+{
+    match control(napi, who, Call::TakeDisable) {
+        Some(Operation::TakeDisable(true)) => status::TAKEN,
+        Some(_) => status::BUSY,
+        None => status::NOT_ALLOWED,
+    }
+}
+
+/// As `SerialNapi::unmark`: ok, or not allowed where the caller may not.
+#[unsafe(no_mangle)]
+pub extern "C" fn fq_napi_unmark(napi: &mut FqNapi, who: u32) -> u32
+    ensures made { result ≡ OK → Steps napi.old who operation.Unmark napi.new }
+    ensures refused { result ≡ NOT_ALLOWED ↔ ¬ ((who ≡ napi.old.controller) × MayCall who call.Unmark (state_in napi.old)) }
+    ensures kept { result ≡ NOT_ALLOWED → napi.new ≡ napi.old }
+    ensures only { (result ≡ OK) ⊎ (result ≡ NOT_ALLOWED) }
+{
+    match control(napi, who, Call::Unmark) {
+        Some(_) => status::OK,
+        None => status::NOT_ALLOWED,
+    }
+}
+
+/// As `SerialNapi::enable`: ok, or not allowed where the caller may not.
+#[unsafe(no_mangle)]
+pub extern "C" fn fq_napi_enable(napi: &mut FqNapi, who: u32, threaded: bool) -> u32
+    ensures made { result ≡ OK → Steps napi.old who (operation.Enable threaded) napi.new }
+    ensures refused { result ≡ NOT_ALLOWED ↔ ¬ ((who ≡ napi.old.controller) × MayCall who (call.Enable threaded) (state_in napi.old)) }
+    ensures kept { result ≡ NOT_ALLOWED → napi.new ≡ napi.old }
+    ensures only { (result ≡ OK) ⊎ (result ≡ NOT_ALLOWED) }
+{
+    match control(napi, who, Call::Enable(threaded)) {
+        Some(_) => status::OK,
+        None => status::NOT_ALLOWED,
+    }
+}

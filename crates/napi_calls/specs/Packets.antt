@@ -1,0 +1,114 @@
+-- What a call does with the packets of its instance's ring: who takes the context has all that was delivered, and who gives it
+-- back delivers what it polled since.
+use Rattle.std.specs.Prelude.{◌≡◌, ℕ, false, List, [], ◌∷◌, ◌++◌, length, drop, Result, Ok, Err}
+use Rattle.rx_ring.specs.declared.packet.Packet.{Packet}
+use Rattle.rx_ring.specs.declared.ends.RxCtx.{RxCtx}
+use Rattle.rx_ring.specs.Ends.{SameCtx, received_list, known_list, polls_of, is_beside}
+use Rattle.napi_word.specs.declared.table.Pass.{Pass}
+use Rattle.napi_word.specs.declared.view.Delivery.{Delivery}
+use Rattle.napi_word.specs.View as view
+use Rattle.napi_word.specs.Passes.{view_of}
+use Rattle.napi_calls.specs.declared.types.Caller.{Caller}
+use Rattle.napi_calls.specs.declared.types.Polling.{Polling}
+use Rattle.napi_calls.specs.declared.types.Busy.{Busy}
+use Rattle.napi_calls.specs.declared.answers.TryPrep.{TryPrep}
+use Rattle.napi_calls.specs.declared.answers.Sched.{Sched}
+use Rattle.napi_calls.specs.declared.answers.Sched.TheVariants as sched
+use Rattle.napi_calls.specs.declared.answers.TryDone.{TryDone}
+use Rattle.napi_calls.specs.declared.answers.TryDone.TheVariants as try_done
+use Rattle.napi_calls.specs.declared.answers.Completed.{Completed}
+use Rattle.napi_calls.specs.declared.answers.Completed.TheVariants as completed
+use Rattle.napi_calls.specs.declared.answers.TryBusy.{TryBusy}
+use Rattle.napi_calls.specs.declared.answers.TryBusy.TheVariants as try_busy
+use Rattle.napi_calls.specs.declared.answers.TryStop.{TryStop}
+use Rattle.napi_calls.specs.declared.answers.TryStop.TheVariants as try_stop
+use Rattle.napi_calls.specs.declared.answers.TryTake.{TryTake}
+use Rattle.napi_calls.specs.declared.answers.TryTake.TheVariants as try_take
+use Rattle.napi_calls.specs.Seats.{number_of}
+use Rattle.napi_calls.specs.Calls.{seat_of}
+
+-- the deliveries that a seat has seen, and those of its own number among them
+abbrev pub delivered : Pass → List Delivery
+delivered p = view.delivered (view_of p)
+
+abbrev pub own_delivered : Pass → List Delivery
+own_delivered p = view.own_deliveries (number_of p) (delivered p)
+
+-- what the context has received by those
+abbrev pub received_before : Pass → List Packet
+received_before p = view.received_in (view_of p)
+
+-- what the context has received since its owner took it
+abbrev pub polled : Pass → RxCtx → List Packet
+polled p ctx = drop (length (received_before p)) (received_list ctx)
+
+-- the context is the same, but that the mark of `beside` may have ended
+pub record IsSame (before after : RxCtx) : Type 0 where
+  pub ring : SameCtx before after
+  pub received : received_list after ≡ received_list before
+  pub known : known_list after ≡ known_list before
+  pub polls : polls_of after ≡ polls_of before
+
+-- ---- what a call does, of which p is the seat before and q the one after
+
+-- its caller delivered nothing; others may have
+abbrev pub Quiet : Pass → Pass → Type 0
+Quiet p q = own_delivered q ≡ own_delivered p
+
+-- its caller has the context throughout, so that nobody delivers
+pub record HoldsOn (p q : Pass) : Type 0 where
+  pub deliveries : delivered q ≡ delivered p
+  pub received : received_before q ≡ received_before p
+
+-- it took the context, which has received just what was delivered, and whose next poll looks at the ring
+pub record IsFresh (p q : Pass) (ctx : RxCtx) : Type 0 where
+  pub quiet : Quiet p q
+  pub received : received_list ctx ≡ received_before q
+  pub unmarked : is_beside ctx ≡ false
+
+-- it gave the context back as it was: one delivery more, of what was polled since it was taken
+pub record GivesBack (p : Pass) (ctx : RxCtx) (q : Pass) : Type 0 where
+  pub laid : RxCtx
+  pub same : IsSame ctx laid
+  pub deliveries : delivered q ≡ delivered p ++ view.delivery (number_of p) (polled p ctx) laid ∷ []
+
+-- ---- by each answer
+
+abbrev pub PreparesQuietly : Pass → TryPrep → Type 0
+PreparesQuietly p answer = Quiet p (seat_of answer)
+
+abbrev pub SchedulesQuietly : Pass → Sched → Type 0
+SchedulesQuietly p (sched.Granted g) = Quiet p g.pass
+SchedulesQuietly p (sched.Missed c) = Quiet p c.pass
+SchedulesQuietly p (sched.Disabled c) = Quiet p c.pass
+
+abbrev pub TakesFresh : Pass → Result Polling Caller → Type 0
+TakesFresh p (Ok w) = IsFresh p w.pass w.ctx
+TakesFresh p (Err c) = Quiet p c.pass
+
+abbrev pub TriesToBusyPollFresh : Pass → TryBusy → Type 0
+TriesToBusyPollFresh p (try_busy.Taken b) = IsFresh p b.pass b.ctx
+TriesToBusyPollFresh p (try_busy.Refused c) = Quiet p c.pass
+TriesToBusyPollFresh p (try_busy.Changed c) = Quiet p c.pass
+
+abbrev pub BusyPollsFresh : Pass → Result Busy Caller → Type 0
+BusyPollsFresh p (Ok b) = IsFresh p b.pass b.ctx
+BusyPollsFresh p (Err c) = Quiet p c.pass
+
+abbrev pub TriesToGiveBack : Pass → RxCtx → TryDone → Type 0
+TriesToGiveBack p ctx (try_done.Released c) = GivesBack p ctx c.pass
+TriesToGiveBack p ctx (try_done.Again g) = GivesBack p ctx g.pass
+TriesToGiveBack p ctx (try_done.Changed w) = HoldsOn p w.pass × IsSame ctx w.ctx
+
+abbrev pub CompletesGivenBack : Pass → RxCtx → Completed → Type 0
+CompletesGivenBack p ctx (completed.Released c) = GivesBack p ctx c.pass
+CompletesGivenBack p ctx (completed.Again g) = GivesBack p ctx g.pass
+
+abbrev pub TriesToStopHolding : Pass → RxCtx → TryStop → Type 0
+TriesToStopHolding p ctx (try_stop.Stopped w) = HoldsOn p w.pass × (w.ctx ≡ ctx)
+TriesToStopHolding p ctx (try_stop.Changed b) = HoldsOn p b.pass × (b.ctx ≡ ctx)
+
+abbrev pub TriesToTakeFresh : Pass → TryTake → Type 0
+TriesToTakeFresh p (try_take.Taken c) = IsFresh p c.pass c.state.ctx
+TriesToTakeFresh p (try_take.Busy c) = Quiet p c.pass
+TriesToTakeFresh p (try_take.Changed c) = Quiet p c.pass

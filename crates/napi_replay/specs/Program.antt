@@ -1,0 +1,62 @@
+-- The whole program: what it writes and how it ends, of the words after its name and the bytes of its input.
+use Rattle.std.specs.Prelude.{◌≡◌, ◌≢◌, ◌⊎◌, ℕ, List, Option, Some, None, Ok, Err}
+use Rattle.std.specs.Io.KnownBytes.{Keeps}
+use Rattle.trace_rows.specs.Trace.{records_of, trace_of}
+use Rattle.trace_rows.specs.declared.row.Row.{Row}
+use Rattle.shared_replay.specs.Replay.{IsFaultOf}
+use Rattle.threads_replay.specs.Answer.{threads_of}
+use Rattle.threads_replay.specs.Answer.{IsOutside as IsOutsideThreads}
+use Rattle.report_text.specs.Outside.{IsOutside}
+use Rattle.trace_replay.specs.Answer.{replay_of}
+use Rattle.report_text.specs.Program.{EndsBy}
+use Rattle.report_text.specs.declared.fault.ReplayFault.{ReplayFault}
+use Rattle.report_text.specs.declared.fault.ReplayFault.TheVariants.{OutputFailed}
+use Rattle.report_text.specs.declared.program.Ending.{Ending}
+use Rattle.report_text.specs.declared.program.ProgramFault.{ProgramFault}
+use Rattle.report_text.specs.declared.program.ProgramFault.TheVariants.{Words, Replay}
+use Rattle.replay_words.specs.Words.{Text, asked_for, asked_of}
+use Rattle.replay_words.specs.declared.mode.Mode.{Mode}
+use Rattle.replay_words.specs.declared.mode.Mode.TheVariants.{Serial, Shared, Threads}
+use Rattle.replay_words.specs.declared.settings.Settings.{Settings}
+use Rattle.replay_words.specs.declared.words.WordFault.TheVariants.{Usage, OutOfMemory}
+
+-- the words ask for this mode and these settings
+abbrev pub AskFor : List Text → Mode × Settings → Type 0
+AskFor words asked = asked_for words ≡ Some (asked_of asked)
+
+-- the text is a mode's report of these bytes. Of shared mode it is said that they give rows; tests show that it is serial mode's
+abbrev pub IsReportIn : Mode → Settings → List ℕ → List ℕ → Type 0
+IsReportIn Serial s bytes text = replay_of s bytes ≡ Ok text
+IsReportIn Shared s bytes text = (rows : List Row) × (trace_of (records_of bytes) ≡ Ok rows)
+IsReportIn Threads s bytes text = threads_of bytes ≡ Ok text
+
+-- a mode's fault of these bytes
+abbrev pub IsFaultIn : Mode → Settings → List ℕ → ReplayFault → Type 0
+IsFaultIn Serial s bytes fault = replay_of s bytes ≡ Err fault
+IsFaultIn Shared s bytes fault = IsFaultOf (trace_of (records_of bytes)) fault
+IsFaultIn Threads s bytes fault = threads_of bytes ≡ Err fault
+
+-- no fault of the bytes: the reader, the memory or the writer failed, or in threads mode a thread
+abbrev pub IsOutsideIn : Mode → ReplayFault → Type 0
+IsOutsideIn Serial fault = IsOutside fault
+IsOutsideIn Shared fault = IsOutside fault
+IsOutsideIn Threads fault = IsOutsideThreads fault
+
+-- the text is the report of these bytes in the mode and by the settings that the words ask for
+abbrev pub IsReport : List Text → List ℕ → List ℕ → Type 0
+IsReport words bytes text = (asked : Mode × Settings) × AskFor words asked × IsReportIn asked.0 asked.1 bytes text
+
+-- the fault is that of the words or, by the mode and the settings that they ask for, that of the bytes, where these are known;
+-- else the reader, the memory, a writer or a thread failed
+abbrev pub IsFault : List Text → Option (List ℕ) → ProgramFault → Type 0
+IsFault words input (Words Usage) = asked_for words ≡ None
+IsFault words input (Words OutOfMemory) = Unit {0}
+IsFault words input (Replay fault) =
+    (asked : Mode × Settings) × AskFor words asked × ((bytes : List ℕ) → input ≡ Some bytes → IsOutsideIn asked.0 fault ⊎ IsFaultIn asked.0 asked.1 bytes fault)
+
+-- the program failed by some fault; on each but a failed output nothing was written
+pub record Failed (words : List Text) (input output_old output_new errors_old errors_new : Option (List ℕ)) (ending : Ending) : Type 0 where
+  pub fault : ProgramFault
+  pub why : IsFault words input fault
+  pub untouched : fault ≢ Replay OutputFailed → Keeps output_old output_new
+  pub ends : EndsBy fault errors_old errors_new ending

@@ -1,0 +1,98 @@
+//! The whole program, but for its real ends: from the words, the input and the two outputs to the exit status.
+
+ghost use Rattle.std.specs.Prelude.{◌≡◌, ◌≢◌, ◌⊎◌, ℕ, List, Some, IfErr, OnOk, map, string_bytes};
+ghost use Rattle.std.specs.Io.KnownBytes.{Appends, Keeps};
+ghost use Rattle.napi_replay.specs.Program.{Failed, IsFault, IsFaultIn, IsOutsideIn, IsReport, IsReportIn};
+ghost use Rattle.report_text.specs.declared.fault.ReplayFault.TheVariants.{OutputFailed};
+ghost use Rattle.report_text.specs.declared.program.ProgramFault.TheVariants.{Replay};
+
+use poll_workers::OpenGate;
+use replay_words::{Mode, Settings, parse_words};
+use report_text::{Ending, ProgramFault, ReplayFault, end_by};
+use shared_replay::replay_shared;
+use std::alloc::Global;
+use std::io::{Read, Write};
+use std::sync::Wait;
+use std::thread::Threads;
+use threads_replay::replay_threads;
+use trace_replay::replay_serial;
+
+// Replays the input in a mode.
+fn replay_in<H, R, W>(
+    rt: &H,
+    alloc: Global,
+    mode: Mode,
+    input: R,
+    output: &mut W,
+    settings: &Settings,
+) -> Result<(), ReplayFault>
+where
+    H: Threads + Wait + Sync,
+    R: Read + Drop,
+    W: Write,
+    ensures written { OnOk result ((bytes : List ℕ) → R.remaining input ≡ Some bytes
+        → (text : List ℕ) × IsReportIn mode settings.now bytes text × Appends (W.contents output.old) (W.contents output.new) text) }
+    ensures fault { IfErr result (λ fault. (bytes : List ℕ) → R.remaining input ≡ Some bytes
+        → IsOutsideIn mode fault ⊎ IsFaultIn mode settings.now bytes fault) }
+    ensures untouched { IfErr result (λ fault. fault ≢ OutputFailed → Keeps (W.contents output.old) (W.contents output.new)) }
+{
+    match mode {
+        Mode::Serial => replay_serial(alloc, input, output, settings),
+        Mode::Shared => replay_shared(rt, alloc, input, output, settings),
+        Mode::Threads => match replay_threads(rt, alloc, input, output, settings, &OpenGate) {
+            Ok(_) => Ok(()),
+            Err(fault) => Err(fault),
+        },
+    }
+}
+
+// Replays the input as the words ask for, and writes the report.
+fn replay_asked<H: Threads + Wait + Sync, R: Read + Drop, W: Write>(
+    rt: &H,
+    alloc: Global,
+    words: &[String],
+    input: R,
+    output: &mut W,
+) -> Result<(), ProgramFault>
+    ensures written { OnOk result ((bytes : List ℕ) → R.remaining input ≡ Some bytes
+        → (text : List ℕ) × IsReport (map string_bytes words.now) bytes text × Appends (W.contents output.old) (W.contents output.new) text) }
+    ensures fault { IfErr result (IsFault (map string_bytes words.now) (R.remaining input)) }
+    ensures untouched { IfErr result (λ fault. fault ≢ Replay OutputFailed → Keeps (W.contents output.old) (W.contents output.new)) }
+{
+    match parse_words(alloc, words) {
+        Ok((mode, settings)) => match replay_in(rt, alloc, mode, input, output, &settings) {
+            Ok(()) => Ok(()),
+            Err(fault) => Err(ProgramFault::Replay(fault)),
+        },
+        Err(fault) => Err(ProgramFault::Words(fault)),
+    }
+}
+
+/// Runs the program: replays `input` as the words after its name ask for, writes the report to `output` or the line of the
+/// fault to `errors`, and says how it ended.
+///
+/// The status is 0 exactly where the report was written. In threads mode no gate is ever shut.
+pub fn run_program<H: Threads + Wait + Sync, R: Read + Drop, W: Write, E: Write>(
+    rt: &H,
+    alloc: Global,
+    words: &[String],
+    input: R,
+    output: &mut W,
+    errors: &mut E,
+) -> Ending
+    // What is written is the report of the bytes read, in the mode and by the settings that the words ask for, and nothing
+    // else.
+    ensures written { result.status ≡ 0 → (bytes : List ℕ) → R.remaining input ≡ Some bytes
+        → (text : List ℕ) × IsReport (map string_bytes words.now) bytes text × Appends (W.contents output.old) (W.contents output.new) text }
+    ensures quiet { result.status ≡ 0 → Keeps (E.contents errors.old) (E.contents errors.new) }
+    ensures failed { result.status ≢ 0
+        → Failed (map string_bytes words.now) (R.remaining input) (W.contents output.old) (W.contents output.new) (E.contents errors.old) (E.contents errors.new) result }
+{
+    match replay_asked(rt, alloc, words, input, output) {
+        Ok(()) => Ending {
+            status: 0,
+            told: false,
+        },
+        Err(fault) => end_by(alloc, &fault, errors),
+    }
+}

@@ -1,0 +1,138 @@
+-- Deliveries that grow at their end, and who may add one.
+use Rattle.std.proofs.Common.{◌≡◌, ◌≢◌, ℕ, List, [], ◌∷◌, ◌++◌, Bool, true, false, not, ◌&&◌, nat_eq, ne_eqb, refl, sym, ap, ◌∙◌, append_assoc, length, drop, subst, Option, Some, unwrap_or, true≢false}
+use mathlib.Core.List.{IsPrefix}
+use Rattle.atomic_table.specs.Table.{Me}
+use Rattle.std.proofs.lemmas.List.{append-nil}
+use Rattle.std.proofs.lemmas.List.Elements.{filter-append}
+use Rattle.std.proofs.lemmas.Bool.{eqb-true}
+use Rattle.rx_ring.specs.declared.packet.Packet.{Packet}
+use Rattle.rx_ring.specs.declared.ends.RxCtx.{RxCtx}
+use Rattle.rx_ring.specs.Ends.{received_list}
+use Rattle.napi_model.specs.declared.state.State.{State as Napi}
+use Rattle.napi_model.specs.declared.state.Place.{Place}
+use Rattle.napi_model.specs.declared.state.Place.TheVariants.{Nobody, Granted, Listed, ToThread, Polling, Control}
+use Rattle.napi_model.specs.declared.event.Event.{Event}
+use Rattle.napi_model.specs.Step.{after}
+use Rattle.napi_model.specs.History.{LegalHistory, IsLegalFor, state_after}
+use Rattle.napi_model.specs.Laws.{IsSound}
+use Rattle.napi_model.proofs.Owners.{ownership_kept, owner_kept}
+use Rattle.napi_word.specs.declared.view.Delivery.{Delivery}
+use Rattle.napi_word.specs.View.{View, first_in, received_in, delivered, delivery, packets_of, own_deliveries, received_by, last_of, deliverers, Continues}
+use Rattle.napi_word.specs.Slot.{Content, stays, Delivers, owns_slot, has_at, is_out, is_given, one_if, givers}
+use Rattle.napi_word.proofs.Places.{has_same, has_out}
+use Rattle.napi_word.proofs.Owns.{own_no}
+
+pub prefix_self : {A : Type 0} (l : List A) → IsPrefix l l
+prefix_self l = ([], append-nil l)
+
+pub prefix_snoc : {A : Type 0} (g h : List A) (x : A) → IsPrefix g h → IsPrefix g (h ++ x ∷ [])
+prefix_snoc g h x p = (p.0 ++ x ∷ [], sym (append_assoc g p.0 (x ∷ [])) ∙ ap (λ l. l ++ x ∷ []) p.1)
+
+pub drop_front : {A : Type 0} (g h : List A) → drop (length g) (g ++ h) ≡ h
+drop_front [] h = refl
+drop_front (x ∷ g) h = drop_front g h
+
+pub to_prefix : (before after : List Packet) → Continues before after → IsPrefix before after
+to_prefix before after e = (drop (length before) after, sym e)
+
+pub of_prefix : (before after : List Packet) → IsPrefix before after → Continues before after
+of_prefix before after p = subst (λ (l : List Packet). Continues before l) p.1 (ap (λ (l : List Packet). before ++ l) (sym (drop_front before p.0)))
+
+packets_snoc : (ds : List Delivery) (d : Delivery) → packets_of (ds ++ d ∷ []) ≡ packets_of ds ++ d.packets
+packets_snoc [] d = append-nil d.packets
+packets_snoc (e ∷ ds) d = ap (λ (l : List Packet). e.packets ++ l) (packets_snoc ds d) ∙ sym (append_assoc e.packets (packets_of ds) d.packets)
+
+pub received_snoc : (ring : RxCtx) (ds : List Delivery) (c : ℕ) (packets : List Packet) (x : RxCtx) → received_by ring (ds ++ delivery c packets x ∷ []) ≡ received_by ring ds ++ packets
+received_snoc ring ds c packets x = ap (λ (l : List Packet). received_list ring ++ l) (packets_snoc ds (delivery c packets x)) ∙ sym (append_assoc (received_list ring) (packets_of ds) packets)
+
+pub last_snoc : (ring : RxCtx) (ds : List Delivery) (d : Delivery) → last_of ring (ds ++ d ∷ []) ≡ d.ctx
+last_snoc ring [] d = refl
+last_snoc ring (e ∷ ds) d = last_snoc e.ctx ds d
+
+own_one_no : (n c : ℕ) (packets : List Packet) (x : RxCtx) → c ≢ n → own_deliveries n (delivery c packets x ∷ []) ≡ []
+unfolding own_deliveries
+own_one_no n c packets x apart = rw (ne_eqb c n apart) refl
+
+own_both : (n : ℕ) (g h : List Delivery) → own_deliveries n (g ++ h) ≡ own_deliveries n g ++ own_deliveries n h
+unfolding own_deliveries
+own_both n g h = filter-append (λ (d : Delivery). nat_eq d.by n) g h
+
+pub has_one : (a b : ℕ) (p : Place) → has_at a p ≡ true → has_at b p ≡ true → a ≡ b
+has_one a b Nobody x y = absurd (true≢false (sym x))
+has_one a b (Granted c) x y = absurd (true≢false (sym x))
+has_one a b Listed x y = absurd (true≢false (sym x))
+has_one a b ToThread x y = absurd (true≢false (sym x))
+has_one a b (Polling c) x y = sym (eqb-true c a x) ∙ eqb-true c b y
+has_one a b (Control c) x y = sym (eqb-true c a x) ∙ eqb-true c b y
+
+-- others' events leave who has the slot
+pub has_others : (k n : ℕ) (s : Napi) (e : Event) → IsSound s → IsLegalFor k s e → e.caller ≢ n → has_at n (after s e).place ≡ has_at n s.place
+unfolding LegalHistory state_after
+has_others k n s e sound legal apart = has_same n (after s e).place s.place
+    (ownership_kept k n s (e ∷ []) sound (legal, tt) (own_no n e apart))
+    (λ y. ap (λ (t : Place × Bool). t.0) (owner_kept k n s (e ∷ []) sound (legal, tt) (own_no n e apart) y))
+
+deliverers_snoc : (ds : List Delivery) (d : Delivery) → deliverers (ds ++ d ∷ []) ≡ deliverers ds ++ d.by ∷ []
+deliverers_snoc [] d = refl
+deliverers_snoc (e ∷ ds) d = ap (λ (l : List ℕ). e.by ∷ l) (deliverers_snoc ds d)
+
+pub givers_snoc : (s : Napi) (h : List Event) (e : Event) → givers s (h ++ e ∷ []) ≡ givers s h ++ one_if (is_given (state_after s h) e) e.caller
+unfolding givers state_after
+givers_snoc s [] e = append-nil (one_if (is_given s e) e.caller)
+givers_snoc s (x ∷ h) e = ap (λ (l : List ℕ). one_if (is_given s x) x.caller ++ l) (givers_snoc (after s x) h e) ∙ sym (append_assoc (one_if (is_given s x) x.caller) (givers (after s x) h) (one_if (is_given (state_after (after s x) h) e) e.caller))
+
+pub givers_none : (s : Napi) → givers s [] ≡ []
+unfolding givers
+givers_none s = refl
+
+-- where the slot stays, it isn't given
+pub not_given : (c : ℕ) (p q : Place) → is_out q ≡ is_out p → (has_at c p && not (is_out q)) ≡ false
+not_given c p q same = by (has_at c p) refl
+  where
+    by : (b : Bool) → has_at c p ≡ b → (has_at c p && not (is_out q)) ≡ false
+    by true e = (λ i. e i && not (same i)) ∙ ap not (has_out c p e)
+    by false e = ap (λ (b : Bool). b && not (is_out q)) e
+
+-- c adds at most a delivery of its own, and that where it has the slot
+pub record More (now : Napi) (e : Event) (ds ds' : List Delivery) : Type 0 where
+  pub begins : (l : List Delivery) → IsPrefix l ds → IsPrefix l ds'
+  pub order : deliverers ds' ≡ deliverers ds ++ one_if (is_given now e) e.caller
+  pub others : (n : ℕ) → e.caller ≢ n → own_deliveries n ds' ≡ own_deliveries n ds
+  pub same : (n : ℕ) → e.caller ≢ n → has_at n now.place ≡ true → ds' ≡ ds
+
+pub more_none : (now : Napi) (e : Event) (ds : List Delivery) → is_given now e ≡ false → More now e ds ds
+more_none now e ds none = record { begins = λ l p. p; order = sym (append-nil (deliverers ds)) ∙ ap (λ (b : Bool). deliverers ds ++ one_if b e.caller) (sym none); others = λ n apart. refl; same = λ n apart has. refl }
+
+pub more_one : (now : Napi) (e : Event) (ds : List Delivery) (packets : List Packet) (x : RxCtx) → has_at e.caller now.place ≡ true → is_given now e ≡ true → More now e ds (ds ++ delivery e.caller packets x ∷ [])
+more_one now e ds packets x has one = record {
+  order = deliverers_snoc ds (delivery e.caller packets x) ∙ ap (λ (b : Bool). deliverers ds ++ one_if b e.caller) (sym one);
+  begins = λ l p. prefix_snoc l ds (delivery e.caller packets x) p;
+  others = λ n apart. own_both n ds (delivery e.caller packets x ∷ []) ∙ ap (λ (l : List Delivery). own_deliveries n ds ++ l) (own_one_no n e.caller packets x apart) ∙ append-nil (own_deliveries n ds);
+  same = λ n apart there. absurd (apart (has_one e.caller n now.place has there));
+}
+
+pub own_deliveries_none : (c : ℕ) → own_deliveries c [] ≡ []
+unfolding own_deliveries
+own_deliveries_none c = refl
+
+-- ---- what a view tells once what it shows of deliveries is known
+
+pub received_as : (v w : View) → first_in w ≡ first_in v → delivered w ≡ delivered v → received_in w ≡ received_in v
+received_as [] [] e d = refl
+received_as [] (y ∷ ys) e d = absurd (cc)
+received_as (x ∷ xs) [] e d = absurd (cc)
+received_as (x ∷ xs) (y ∷ ys) e d = λ i. received_by (ring i) (d i)
+  where
+    ring : y.ring ≡ x.ring
+    ring = ap (λ (o : Option RxCtx). unwrap_or o x.ring) e
+
+-- a step that leaves the slot with its owner leaves what was received before it
+pub received_stays : (me me' : Me Content View) → Delivers stays me me' → owns_slot me.0 ≡ true → received_in me'.0 ≡ received_in me.0
+received_stays me me' g owns = received_as me.0 me'.0 g.first (g.shifts.0 ∙ g.held owns)
+
+pub received_is : (v : View) (r : RxCtx) (ds : List Delivery) → first_in v ≡ Some r → delivered v ≡ ds → received_in v ≡ received_by r ds
+received_is [] r ds e d = absurd (cc)
+received_is (x ∷ xs) r ds e d = λ i. received_by (ring i) (d i)
+  where
+    ring : x.ring ≡ r
+    ring = ap (λ (o : Option RxCtx). unwrap_or o r) e

@@ -1,0 +1,16 @@
+use Rattle.std.proofs.Common.{ap}
+use Rattle.atomic_table.specs.Table.{Me}
+use Rattle.napi_word.specs.View.{View}
+use Rattle.napi_word.specs.Slot.{Content, ctx_in}
+use Rattle.napi_word.proofs.table.StateTable.slot_in.Goals as goal
+
+pub returns-clause-laid : goal.returns-clause-laid
+returns-clause-laid c = record {
+  laid = c.apart.new.self;
+  within = ap (λ (m : Me Content View). ctx_in m.1) c.exchange-old.ensures.3;
+  ring = c.apart.ensures.ring;
+  received = c.apart.ensures.received;
+  known = c.apart.ensures.known;
+  polls = c.apart.ensures.polls;
+  unmarked = c.apart.ensures.unmarked;
+}

@@ -1,6 +1,0 @@
-use Rattle.replay_modes.proofs.program.replay_asked.Goals as goal
-
-pub returns-in-Ok-replay_in-clause-written : goal.returns-in-Ok-replay_in-clause-written
-returns-in-Ok-replay_in-clause-written g c = λ bytes known.
-    let replayed = c.in-Ok-replay_in.ensures.written bytes known in
-    (replayed.0, ((c.in-Ok.mode, c.in-Ok.settings), c.in-Ok.ensures.asked, replayed.1), replayed.2)

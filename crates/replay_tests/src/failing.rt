@@ -1,0 +1,167 @@
+//! What each mode gives where its reader or its writer fails, and the lines of what no run of the program shows.
+
+use crate::ends::{
+    EndlessReader, FailingReader, FailingWriter, ONE_PACKET, ONE_PACKET_REPORT, ONE_PACKET_THREADS,
+};
+use poll_workers::OpenGate;
+use replay_words::{Mode, Settings};
+use report_text::{ProgramFault, ReplayFault, end_by, fault_line, status};
+use shared_replay::replay_shared;
+use std::alloc::Global;
+use std::io::{Read, Write};
+use std::sync::Wait;
+use std::test::Fail;
+use std::thread::Threads;
+use threads_replay::replay_threads;
+use trace_replay::replay_serial;
+use trace_rows::{TraceFault, read_trace};
+
+const MODES: [(Mode, &str); 3] = [
+    (Mode::Serial, ONE_PACKET_REPORT),
+    (Mode::Shared, ONE_PACKET_REPORT),
+    (Mode::Threads, ONE_PACKET_THREADS),
+];
+
+fn replay_in<P: Threads + Wait + Sync, R: Read + Drop, W: Write>(
+    rt: &P,
+    alloc: Global,
+    mode: Mode,
+    reader: R,
+    writer: &mut W,
+) -> Result<(), ReplayFault> {
+    let settings = Settings::default();
+    match mode {
+        Mode::Serial => replay_serial(alloc, reader, writer, &settings),
+        Mode::Shared => replay_shared(rt, alloc, reader, writer, &settings),
+        Mode::Threads => {
+            let polled = replay_threads(rt, alloc, reader, writer, &settings, &OpenGate)?;
+            drop(polled);
+            Ok(())
+        }
+    }
+}
+
+#[test]
+fn failing_reads(rt: HostRuntime) {
+    let reads = ONE_PACKET.len() as u32 + 1;
+    for (mode, wanted) in MODES {
+        for before in 0..reads + 2 {
+            let reader = FailingReader::new(ONE_PACKET, before);
+            let mut report = Vec::new(rt.alloc());
+            let answer = replay_in(&rt, rt.alloc(), mode, reader, &mut report);
+            if before < reads {
+                assert_eq!(rt;
+                    answer,
+                    Err(ReplayFault::Trace(TraceFault::ReadFailed)),
+                    "after {before} reads"
+                );
+                assert!(rt; report.is_empty());
+            } else {
+                assert_eq!(rt; answer, Ok(()), "after {before} reads");
+                assert_eq!(rt; report.as_slice(), wanted.as_bytes());
+            }
+        }
+    }
+}
+
+#[test]
+fn failing_writes(rt: HostRuntime) {
+    for (mode, wanted) in MODES {
+        let writes = wanted.len() as u32;
+        for before in 0..writes + 2 {
+            let mut writer = FailingWriter::new(rt.alloc(), before);
+            let answer = replay_in(&rt, rt.alloc(), mode, ONE_PACKET.as_bytes(), &mut writer);
+            if before < writes {
+                assert_eq!(rt;
+                    answer,
+                    Err(ReplayFault::OutputFailed),
+                    "after {before} writes"
+                );
+            } else {
+                assert_eq!(rt; answer, Ok(()), "after {before} writes");
+                assert_eq!(rt; writer.taken.as_slice(), wanted.as_bytes());
+            }
+        }
+    }
+}
+
+// On a fault of the trace nothing is written: the writer would fail.
+#[test]
+fn faulty_traces(rt: HostRuntime) {
+    for (mode, _) in MODES {
+        let mut writer = FailingWriter::new(rt.alloc(), 0);
+        let text = "moment,device,event,value\n0,1,open,4\n1,1,enable,0\n";
+        let answer = replay_in(&rt, rt.alloc(), mode, text.as_bytes(), &mut writer);
+        assert_eq!(rt;
+            answer,
+            Err(ReplayFault::Trace(TraceFault::WrongState { row: 2 }))
+        );
+    }
+}
+
+// The reader is asked for the header, 100001 rows and what one look ahead takes, and for no more.
+#[test]
+fn endless_input(rt: HostRuntime) {
+    let mut given = 0u64;
+    let reader = EndlessReader {
+        front: b"moment,device,event,value\n0,1,open,4\n",
+        again: b"1,1,rx,100\n",
+        given: &mut given,
+    };
+    let answer = read_trace(rt.alloc(), reader);
+    assert_eq!(rt; answer.err(), Some(TraceFault::TooManyRows));
+    let most = 26 + 11 * 100_001;
+    assert!(rt; most <= given && given <= most + 16_384, "{given} bytes");
+}
+
+// A record without end is read no further than any trace goes: 64 MiB, and what one look ahead takes.
+#[test]
+fn endless_record(rt: HostRuntime) {
+    let mut given = 0;
+    let source = EndlessReader {
+        front: b"moment,device,event,value\n0,1,open,4\n",
+        again: &[b'7'; 4096],
+        given: &mut given,
+    };
+    let read = read_trace(rt.alloc(), source);
+    assert_eq!(rt; read.err(), Some(TraceFault::ReadFailed));
+    assert!(rt; given > 67108864 && given < 67108864 + 1048576);
+}
+
+// The status is that of the fault also where its line can't be told.
+#[test]
+fn failing_errors(rt: HostRuntime) {
+    let fault = ProgramFault::Replay(ReplayFault::Trace(TraceFault::BadHeader));
+    let mut errors = FailingWriter::new(rt.alloc(), 3);
+    let ending = end_by(rt.alloc(), &fault, &mut errors);
+    assert_eq!(rt; (ending.status, ending.told), (2, false));
+    assert_eq!(rt; errors.taken.as_slice(), b"tra".as_slice());
+}
+
+#[test]
+fn fault_lines(rt: HostRuntime) -> Result<(), Fail> {
+    let faults = [
+        (
+            ReplayFault::Trace(TraceFault::ReadFailed),
+            "trace fault 10 ReadFailed\n",
+            2,
+        ),
+        (
+            ReplayFault::Trace(TraceFault::OutOfMemory),
+            "memory fault 11 OutOfMemory\n",
+            4,
+        ),
+        (ReplayFault::GateShut, "worker fault 14 GateShut\n", 4),
+        (
+            ReplayFault::OutputFailed,
+            "output fault 15 OutputFailed\n",
+            4,
+        ),
+        (ReplayFault::SpawnFailed, "worker fault 16 SpawnFailed\n", 4),
+    ];
+    for (fault, line, number) in faults {
+        assert_eq!(rt; fault_line(rt.alloc(), &fault)?.as_str(), line);
+        assert_eq!(rt; status(&fault), number, "of {line:?}");
+    }
+    Ok(())
+}

@@ -1,0 +1,287 @@
+//! Runs of workers and pollers. Gates show that they run side by side.
+
+ghost use Rattle.std.specs.Prelude.{◌≡◌, ◌≤◌, ◌+◌, IfOk, vec_len};
+ghost use Rattle.std.specs.List.{All};
+ghost use Rattle.interrupt_workers.specs.Opens.{IsStation};
+
+use poll_workers::{Act, ActList, Finished, Gate, OpenGate, Pace, Station, WorkFault, run_workers};
+use rx_ring::Packet;
+use std::alloc::{AllocError, Global};
+use std::process::Abort;
+use std::sync::Wait;
+use std::sync::atomic::{AtomicBool, Ordering};
+use std::test::Fail;
+use std::thread;
+use std::thread::Threads;
+
+// So many packets of 100 bytes.
+fn receive(acts: &mut Vec<Act>, packets: u64) -> Result<(), AllocError> {
+    for number in 0..packets {
+        acts.push(Act::Arrive(Packet { number, bytes: 100 }))?;
+    }
+    Ok(())
+}
+
+const PACE: Pace = Pace {
+    budget: 300,
+    weight: 64,
+    window: 1024,
+};
+
+/// Each of these two waits at its act for the other to come to its own, as long as it is told to.
+#[derive(Drop)]
+struct Together {
+    first: (u32, u32),
+    second: (u32, u32),
+    came: [AtomicBool; 2],
+}
+
+impl Together {
+    fn new(first: (u32, u32), second: (u32, u32)) -> Together {
+        Together {
+            first,
+            second,
+            came: [AtomicBool::new(false), AtomicBool::new(false)],
+        }
+    }
+
+    fn meet(&self, mine: usize, other: usize) -> bool {
+        if let Some(flag) = self.came.get(mine) {
+            flag.store(true, Ordering::SeqCst);
+        }
+        for _ in 0..1_000_000u32 {
+            if let Some(flag) = self.came.get(other)
+                && flag.load(Ordering::SeqCst)
+            {
+                return true;
+            }
+            thread::yield_now();
+        }
+        false
+    }
+}
+
+impl Gate for Together {
+    fn pass(&self, worker: u32, act: u32) -> bool {
+        if (worker, act) == self.first {
+            self.meet(0, 1)
+        } else if (worker, act) == self.second {
+            self.meet(1, 0)
+        } else {
+            true
+        }
+    }
+}
+
+/// A gate that is shut at one act of one worker.
+#[derive(Drop)]
+struct ShutAt {
+    worker: u32,
+    act: u32,
+}
+
+impl Gate for ShutAt {
+    fn pass(&self, worker: u32, act: u32) -> bool {
+        worker != self.worker || act != self.act
+    }
+}
+
+/// Holds whoever polls at its start, until worker 1 has come to its disable, and some while more. The worker may come to its
+/// next act only once the poller was let go.
+#[derive(Drop)]
+struct HoldsPoller {
+    poller: u32,
+    disable: u32,
+    asked: AtomicBool,
+    let_go: AtomicBool,
+}
+
+impl HoldsPoller {
+    fn new(poller: u32, disable: u32) -> HoldsPoller {
+        HoldsPoller {
+            poller,
+            disable,
+            asked: AtomicBool::new(false),
+            let_go: AtomicBool::new(false),
+        }
+    }
+
+    fn hold(&self) -> bool {
+        let mut more = 100_000u32;
+        for _ in 0..1_000_000u32 {
+            thread::yield_now();
+            if self.asked.load(Ordering::SeqCst) {
+                more = more.saturating_sub(1);
+            }
+            if more == 0 {
+                break;
+            }
+        }
+        self.let_go.store(true, Ordering::SeqCst);
+        self.asked.load(Ordering::SeqCst)
+    }
+}
+
+impl Gate for HoldsPoller {
+    fn pass(&self, worker: u32, act: u32) -> bool {
+        if worker == self.poller {
+            return self.hold();
+        }
+        if worker == 1 && act == self.disable {
+            self.asked.store(true, Ordering::SeqCst);
+        }
+        worker != 1 || act <= self.disable || self.let_go.load(Ordering::SeqCst)
+    }
+}
+
+// One more station.
+fn with(
+    mut stations: Vec<Station<ActList>>,
+    number: u32,
+    capacity: usize,
+    thread: bool,
+    acts: Vec<Act>,
+) -> Result<Vec<Station<ActList>>, AllocError>
+    requires all { All IsStation stations.items }
+    requires number { (1 ≤ number) × (number ≤ 16) }
+    requires capacity { (1 ≤ capacity) × (capacity ≤ 65536) }
+    ensures all { IfOk result (λ v. All IsStation v.items) }
+    ensures len { IfOk result (λ v. vec_len v ≡ vec_len stations + 1) }
+{
+    stations.push(Station {
+        number,
+        capacity,
+        thread,
+        device: ActList::new(acts),
+    })?;
+    Ok(stations)
+}
+
+// Two devices with so many packets each, the first one with a thread of its own where it is asked for.
+fn two(alloc: Global, packets: u64, thread: bool) -> Result<Vec<Station<ActList>>, AllocError>
+    ensures all { IfOk result (λ v. All IsStation v.items) }
+    ensures len { IfOk result (λ v. vec_len v ≡ 2) }
+{
+    let mut first = vec![in alloc; Act::SetThreaded(thread)]?;
+    receive(&mut first, packets)?;
+    let mut second = vec![in alloc; Act::Nothing]?;
+    receive(&mut second, packets)?;
+    let stations = with(Vec::new(alloc), 2, 1000, false, second)?;
+    with(stations, 1, 1000, thread, first)
+}
+
+// 500 packets, a disable, an enable, and 500 packets more.
+fn twice_500(alloc: Global) -> Result<Vec<Act>, AllocError> {
+    let mut acts = Vec::new(alloc);
+    receive(&mut acts, 500)?;
+    acts.push(Act::Disable)?;
+    acts.push(Act::Enable)?;
+    receive(&mut acts, 500)?;
+    Ok(acts)
+}
+
+fn run_twice_500<R: Threads + Wait + Sync>(
+    rt: &R,
+    alloc: Global,
+    pollers: u32,
+) -> Result<Vec<Finished<ActList>>, Fail>
+    requires { (1 ≤ pollers) × (pollers ≤ 8) }
+{
+    let stations = with(Vec::new(alloc), 2, 1000, false, twice_500(alloc)?)?;
+    let stations = with(stations, 1, 1000, false, twice_500(alloc)?)?;
+    Ok(run_workers(rt, alloc, stations, pollers, PACE, &OpenGate)?)
+}
+
+// What each device's ring came to: the packets put, those polled with those left, and all their bytes.
+fn add_totals(rt: &impl Abort, done: &[Finished<ActList>], packets: u64) {
+    for finished in done {
+        let totals = finished.totals;
+        assert_eq!(rt; totals.put, packets);
+        assert_eq!(rt; totals.polled.saturating_add(totals.left), packets);
+        assert_eq!(rt; totals.bytes, packets.saturating_mul(100));
+    }
+}
+
+#[test]
+fn nothing_is_run_without_stations(rt: HostRuntime) -> Result<(), Fail> {
+    let none: Vec<Station<ActList>> = Vec::new(rt.alloc());
+    let done = run_workers(&rt, rt.alloc(), none, 8, PACE, &OpenGate)?;
+    assert_eq!(rt; done.len(), 0);
+    Ok(())
+}
+
+#[test]
+fn each_packet_is_polled_or_left(rt: HostRuntime) -> Result<(), Fail> {
+    let one = run_twice_500(&rt, rt.alloc(), 1)?;
+    let two = run_twice_500(&rt, rt.alloc(), 2)?;
+    let eight = run_twice_500(&rt, rt.alloc(), 8)?;
+    for done in [one, two, eight] {
+        assert!(rt; done.iter().map(|finished| finished.number).eq([2u32, 1]));
+        add_totals(&rt, done.as_slice(), 1000);
+    }
+    Ok(())
+}
+
+// A worker's last disable waits for the polls that its packets asked for.
+#[test]
+fn what_was_put_is_polled(rt: HostRuntime) -> Result<(), Fail> {
+    for thread in [false, true] {
+        let stations = two(rt.alloc(), 63, thread)?;
+        let done = run_workers(&rt, rt.alloc(), stations, 1, PACE, &OpenGate)?;
+        assert_eq!(rt; done.len(), 2);
+        for finished in done {
+            let totals = finished.totals;
+            assert_eq!(rt; (totals.put, totals.polled, totals.left), (63, 63, 0));
+        }
+    }
+    Ok(())
+}
+
+// Two workers at the same act, a worker and its poller, a worker and its own thread: each waits for the other.
+#[test]
+fn threads_run_side_by_side(rt: HostRuntime) -> Result<(), Fail> {
+    for (first, second) in [
+        ((1, 0), (2, 0)),
+        ((1, 49), (2, 49)),
+        ((1, 0), (100, 0)),
+        ((2, 0), (101, 0)),
+        ((1, 0), (201, 0)),
+    ] {
+        let gate = Together::new(first, second);
+        let stations = two(rt.alloc(), 50, true)?;
+        let done = run_workers(&rt, rt.alloc(), stations, 2, PACE, &gate)?;
+        add_totals(&rt, done.as_slice(), 50);
+    }
+    Ok(())
+}
+
+// Wherever the gate is shut, the run ends and says so.
+#[test]
+fn a_gate_shuts_the_run(rt: HostRuntime) -> Result<(), Fail> {
+    for (worker, act) in [(1, 0), (1, 1), (2, 7), (1, 10), (100, 0), (201, 0)] {
+        let stations = two(rt.alloc(), 10, true)?;
+        let done = run_workers(&rt, rt.alloc(), stations, 1, PACE, &ShutAt { worker, act });
+        assert!(rt; matches!(done, Err(WorkFault::GateShut)));
+    }
+    Ok(())
+}
+
+// A packet comes and the device is disabled while whoever polls it waits at the gate: the disable waits for the poll.
+#[test]
+fn a_disable_waits_for_a_poller_at_the_gate(rt: HostRuntime) -> Result<(), Fail> {
+    for (poller, thread) in [(100, false), (201, true)] {
+        let mut acts = vec![in rt.alloc(); Act::SetThreaded(thread)]?;
+        receive(&mut acts, 1)?;
+        acts.push(Act::Disable)?;
+        acts.push(Act::Nothing)?;
+        let stations = with(Vec::new(rt.alloc()), 1, 4, thread, acts)?;
+        let gate = HoldsPoller::new(poller, 2);
+        let done = run_workers(&rt, rt.alloc(), stations, 1, PACE, &gate)?;
+        assert_eq!(rt; done.len(), 1);
+        for finished in done {
+            let totals = finished.totals;
+            assert_eq!(rt; (totals.put, totals.polled, totals.left), (1, 1, 0));
+        }
+    }
+    Ok(())
+}

@@ -1,0 +1,22 @@
+//! Tests that cross crates: what no contract says of whole replays, of readers and writers that fail, and of shared
+//! instances. Nothing but tests stands here, so that the crates below are proved once.
+#![tactic(auto)]
+
+#[cfg(test)]
+mod attaching;
+#[cfg(test)]
+mod ends;
+#[cfg(test)]
+mod failing;
+#[cfg(test)]
+mod gates;
+#[cfg(test)]
+mod listing;
+#[cfg(test)]
+mod polling;
+#[cfg(test)]
+mod reading;
+#[cfg(test)]
+mod shared;
+#[cfg(test)]
+mod threads;

@@ -1,0 +1,192 @@
+//! The poll list to which other threads push.
+
+ghost use Rattle.std.specs.Prelude.{◌≡◌, [], ◌∷◌, IfOk};
+ghost use Rattle.shared_list.specs.SharedList.{IsInOf, IsNewList, in_hand, pushed_by};
+
+use poll_engine::{PollList, SoftList};
+use shared_list::{ListFault, ListIn, SharedList, end_list, shared_list};
+use std::alloc::Global;
+use std::sync::Wait;
+use std::test::Fail;
+use std::thread;
+
+/// A list with two ends that push.
+fn two_ended<R: Wait + Copy>(
+    rt: R,
+    alloc: Global,
+) -> Result<(SharedList<R>, ListIn<R>, ListIn<R>), Fail>
+    ensures list { IfOk result (λ r. IsNewList 2 r.0) }
+    ensures first { IfOk result (λ r. IsInOf r.0 r.1 × (pushed_by r.1 ≡ [])) }
+    ensures second { IfOk result (λ r. IsInOf r.0 r.2 × (pushed_by r.2 ≡ [])) }
+{
+    let (list, mut ins) = shared_list(rt, alloc, 2)?;
+    let Some(second) = ins.pop() else {
+        return Err("no second end".into());
+    };
+    let Some(first) = ins.pop() else {
+        return Err("no first end".into());
+    };
+    Ok((list, first, second))
+}
+
+/// The numbers that a splice gives.
+fn spliced<R: Wait>(list: &mut SharedList<R>) -> SoftList
+    ensures { in_hand list.new ≡ [] }
+{
+    let mut soft = SoftList::new();
+    list.splice(&mut soft);
+    soft
+}
+
+/// A list of one number.
+fn only(id: u32) -> SoftList
+    ensures { result ≡ id ∷ [] }
+{
+    let mut soft = SoftList::new();
+    soft.append(id);
+    soft
+}
+
+// With each allocation refused in turn (`rt try --test --fail-alloc N`) the answer is the fault, and nothing else changes.
+#[test]
+fn memory_is_there_or_refused(rt: HostRuntime) -> Result<(), Fail> {
+    match shared_list(&rt, rt.alloc(), 3) {
+        Ok((mut list, mut ins)) => {
+            for k in 0..ins.len() {
+                ins[k].push(5);
+            }
+            assert_eq!(rt; spliced(&mut list).ids(), [5, 5, 5].as_slice());
+        }
+        Err(fault) => assert_eq!(rt; fault, ListFault::OutOfMemory),
+    }
+    Ok(())
+}
+
+#[test]
+fn faults_have_numbers_and_texts(rt: HostRuntime) -> Result<(), Fail> {
+    for (fault, number, text) in [
+        (
+            ListFault::BadSize,
+            1,
+            "the count of pushers is out of range",
+        ),
+        (ListFault::OutOfMemory, 2, "out of memory"),
+        (ListFault::NotAll, 3, "ends of the list are missing"),
+    ] {
+        assert_eq!(rt; fault.number(), number);
+        assert_eq!(rt; format!(in rt.alloc(); "{fault}")?.as_str(), text);
+    }
+    Ok(())
+}
+
+#[test]
+fn put_back_keeps_what_came_between(rt: HostRuntime) -> Result<(), Fail> {
+    let none = shared_list(&rt, rt.alloc(), 0).err();
+    assert_eq!(rt; none, Some(ListFault::BadSize));
+    let (mut list, mut first, _second) = two_ended(&rt, rt.alloc())?;
+    first.push(3);
+    first.push(5);
+    assert_eq!(rt; spliced(&mut list).ids(), [3, 5].as_slice());
+    first.push(9);
+    list.put_back(only(7), only(3));
+    assert_eq!(rt; spliced(&mut list).ids(), [7, 9, 3].as_slice());
+    assert!(rt; spliced(&mut list).is_empty());
+    Ok(())
+}
+
+#[test]
+fn ends_with_what_is_left(rt: HostRuntime) -> Result<(), Fail> {
+    let (mut list, mut first, mut second) = two_ended(&rt, rt.alloc())?;
+    first.push(3);
+    second.push(4);
+    first.push(5);
+    let mut soft = SoftList::new();
+    assert_eq!(rt; list.splice(&mut soft), 3);
+    assert_eq!(rt; soft.ids(), [3, 4, 5].as_slice());
+    second.push(6);
+    let Err(mut back) = end_list(list, vec![in rt.alloc(); first]?) else {
+        panic!(rt; "ended with one of two ends");
+    };
+    assert_eq!(rt; back.fault, ListFault::NotAll);
+    back.ins.push(second).ok().ok_or("no memory")?;
+    let left = end_list(back.list, back.ins).ok().ok_or("not all")?;
+    assert_eq!(rt; left.ids(), [6].as_slice());
+    Ok(())
+}
+
+/// A thread's pushes: so many numbers, from this one on.
+fn push_many<R: Wait>(mut end: ListIn<R>, from: u32, count: u32) -> ListIn<R> {
+    for k in 0..count {
+        end.push(from.saturating_add(k));
+    }
+    end
+}
+
+// The queue has 64 places, so each pusher waits for the poller time and again.
+#[test]
+fn two_threads_push_each_number_once(rt: HostRuntime) -> Result<(), Fail> {
+    let (mut list, first, second) = two_ended(rt, rt.alloc())?;
+    let low_thread = thread::spawn(&rt, move || push_many(first, 0, 10_000))
+        .ok()
+        .ok_or("no thread")?;
+    let high_thread = thread::spawn(&rt, move || push_many(second, 100_000, 10_000))
+        .ok()
+        .ok_or("no thread")?;
+    let mut low = 0u32;
+    let mut high = 100_000u32;
+    for _ in rt.forever() {
+        let soft = spliced(&mut list);
+        for id in soft.ids() {
+            if *id < 100_000 {
+                assert_eq!(rt; *id, low);
+                low = low.saturating_add(1);
+            } else {
+                assert_eq!(rt; *id, high);
+                high = high.saturating_add(1);
+            }
+        }
+        if low == 10_000 && high == 110_000 {
+            break;
+        }
+        if soft.is_empty() {
+            thread::yield_now();
+        }
+    }
+    let _first = low_thread.join(&rt);
+    let _second = high_thread.join(&rt);
+    assert!(rt; spliced(&mut list).is_empty());
+    Ok(())
+}
+
+/// A poller's thread: takes so many numbers, and counts those that came in turn from 0 on.
+fn take_many<R: Wait + Drop>(rt: R, mut list: SharedList<R>, count: u32) -> u32 {
+    let mut taken = 0u32;
+    let mut in_turn = 0u32;
+    for _ in rt.forever() {
+        for id in spliced(&mut list).ids() {
+            taken = taken.saturating_add(1);
+            if *id == in_turn {
+                in_turn = in_turn.saturating_add(1);
+            }
+        }
+        if taken >= count {
+            break;
+        }
+        thread::yield_now();
+    }
+    in_turn
+}
+
+// The poller's end may go to a thread of its own too.
+#[test]
+fn a_poller_in_its_own_thread(rt: HostRuntime) -> Result<(), Fail> {
+    let (list, mut first, _second) = two_ended(rt, rt.alloc())?;
+    let poller = thread::spawn(&rt, move || take_many(rt, list, 1_000))
+        .ok()
+        .ok_or("no thread")?;
+    for id in 0..1_000u32 {
+        first.push(id);
+    }
+    assert_eq!(rt; poller.join(&rt), 1_000);
+    Ok(())
+}

@@ -1,0 +1,167 @@
+//! How the records of a trace may be written, and what a reader makes of bytes that are none.
+
+use std::alloc::Global;
+use std::test::Fail;
+use trace_rows::{Event, Row, Trace, TraceFault, read_trace};
+
+const HEADER: &str = "moment,device,event,value\n";
+
+fn row(moment: u64, device: u32, event: Event, value: u32) -> Row {
+    Row {
+        moment,
+        device,
+        event,
+        value,
+    }
+}
+
+// What a text of these rows below the header is read as.
+fn read_rows(alloc: Global, rows: &str) -> Result<Trace, TraceFault> {
+    let text = format!(in alloc; "{HEADER}{rows}").map_err(|_| TraceFault::OutOfMemory)?;
+    read_trace(alloc, text.as_bytes())
+}
+
+#[test]
+fn every_event(rt: HostRuntime) -> Result<(), Fail> {
+    let text = "0,1,open,4
+1,1,rx,100
+2,1,tx,60
+3,1,done,1
+4,1,threaded,1
+5,1,kthread,0
+6,0,softirq,0
+7,1,disable,0
+8,1,enable,0
+9,1,threaded,0
+";
+    let trace = read_rows(rt.alloc(), text)?;
+    let rows = [
+        row(0, 1, Event::Opened, 4),
+        row(1, 1, Event::Rx, 100),
+        row(2, 1, Event::Tx, 60),
+        row(3, 1, Event::Finish, 1),
+        row(4, 1, Event::Threaded, 1),
+        row(5, 1, Event::Kthread, 0),
+        row(6, 0, Event::Softirq, 0),
+        row(7, 1, Event::Disable, 0),
+        row(8, 1, Event::Enable, 0),
+        row(9, 1, Event::Threaded, 0),
+    ];
+    assert_eq!(rt; trace.rows(), rows.as_slice());
+    Ok(())
+}
+
+// One trace in each way that records may be written.
+#[test]
+fn records(rt: HostRuntime) -> Result<(), Fail> {
+    let rows = [
+        row(0, 1, Event::Opened, 4),
+        row(1, 1, Event::Rx, 100),
+        row(2, 0, Event::Softirq, 0),
+    ];
+    for text in [
+        "moment,device,event,value\n0,1,open,4\n1,1,rx,100\n2,0,softirq,0",
+        "moment,device,event,value\r0,1,open,4\r1,1,rx,100\r2,0,softirq,0\r",
+        "moment,device,event,value\r\n0,1,open,4\r\n1,1,rx,100\r\n2,0,softirq,0\r\n",
+        "\u{feff}moment,device,event,value\n0,1,open,4\n1,1,rx,100\n2,0,softirq,0\n",
+        "\n\nmoment,device,event,value\n\n\r\n0,1,open,4\n1,1,rx,100\n\n2,0,softirq,0\n\n",
+        "\"moment\",device,\"event\",value\n\"0\",1,open,004\n1,\"01\",\"rx\",100\n2,0,softirq,\"0\"\n",
+    ] {
+        let trace = read_trace(rt.alloc(), text.as_bytes())?;
+        assert_eq!(rt; trace.rows(), rows.as_slice(), "of {text:?}");
+    }
+    Ok(())
+}
+
+#[test]
+fn quotes_and_bytes(rt: HostRuntime) {
+    let texts = [
+        // A doubled quote, a comma and a line feed between quotes are part of the field.
+        ("0,1,\"rx\"\"\",5\n", TraceFault::BadEvent { row: 1 }),
+        ("0,1,\"r,x\",5\n", TraceFault::BadEvent { row: 1 }),
+        ("0,1,\"rx\n\",5\n", TraceFault::BadEvent { row: 1 }),
+        ("\"\"\"0\",1,rx,5\n", TraceFault::BadNumber { row: 1 }),
+        // A quote that is never closed takes the rest of the text.
+        ("0,1,\"open,4\n1,1,rx,5\n", TraceFault::BadFields { row: 1 }),
+        // A second byte-order mark is part of the first field.
+        ("\u{feff}0,1,open,4\n", TraceFault::BadNumber { row: 1 }),
+        ("0,1,ｏpen,4\n", TraceFault::BadEvent { row: 1 }),
+    ];
+    for (text, fault) in texts {
+        let answer = read_rows(rt.alloc(), text);
+        assert_eq!(rt; answer.err(), Some(fault), "of {text:?}");
+    }
+    let bytes = b"moment,device,event,value\n0,1,\xff,4\n";
+    let answer = read_trace(rt.alloc(), bytes.as_slice());
+    assert_eq!(rt; answer.err(), Some(TraceFault::BadEvent { row: 1 }));
+    let bytes = b"moment,device,event,value\n0,1,open,\xff\n";
+    let answer = read_trace(rt.alloc(), bytes.as_slice());
+    assert_eq!(rt; answer.err(), Some(TraceFault::BadNumber { row: 1 }));
+}
+
+#[test]
+fn headers(rt: HostRuntime) -> Result<(), Fail> {
+    for text in [
+        "",
+        "\n\r\n",
+        "\u{feff}",
+        "moment,dev",
+        "moment,device,event\n",
+        "moment,device,event,value,\n",
+        "Moment,device,event,value\n",
+        "moment,device,event,value \n",
+        "0,1,open,4\n",
+        "\u{feff}\u{feff}moment,device,event,value\n",
+    ] {
+        let answer = read_trace(rt.alloc(), text.as_bytes());
+        assert_eq!(rt; answer.err(), Some(TraceFault::BadHeader), "of {text:?}");
+    }
+    for text in [HEADER, "moment,device,event,value"] {
+        assert!(rt; read_trace(rt.alloc(), text.as_bytes())?.rows().is_empty());
+    }
+    Ok(())
+}
+
+#[test]
+fn busy_rows_of_version_2(rt: HostRuntime) -> Result<(), Fail> {
+    let text = "moment,device,event,value,2\n0,1,open,4\n1,1,busy,2\n1,1,busy,65535\n";
+    let trace = read_trace(rt.alloc(), text.as_bytes())?;
+    let rows = [
+        row(0, 1, Event::Opened, 4),
+        row(1, 1, Event::Busy, 2),
+        row(1, 1, Event::Busy, 65535),
+    ];
+    assert_eq!(rt; trace.rows(), rows.as_slice());
+    assert_eq!(rt; trace.version(), 2);
+    assert_eq!(rt; read_rows(rt.alloc(), "")?.version(), 1);
+    Ok(())
+}
+
+// A text that ends within a row.
+#[test]
+fn cut_texts(rt: HostRuntime) {
+    let cut = [
+        ("2,0,softi", TraceFault::BadFields { row: 3 }),
+        ("2,0", TraceFault::BadFields { row: 3 }),
+        ("2,0,softirq,", TraceFault::BadNumber { row: 3 }),
+        ("2,0,softi,0", TraceFault::BadEvent { row: 3 }),
+    ];
+    for (last, fault) in cut {
+        let text = format!(in rt.alloc(); "0,1,open,4\n1,1,rx,100\n{last}");
+        let Ok(text) = text else { return };
+        let answer = read_rows(rt.alloc(), text.as_str());
+        assert_eq!(rt; answer.err(), Some(fault), "of {last:?}");
+    }
+}
+
+// With each allocation refused in turn (`rt try --test --fail-alloc N`) the answer is the fault.
+#[test]
+fn memory_is_there_or_refused(rt: HostRuntime) {
+    match read_trace(
+        rt.alloc(),
+        b"moment,device,event,value\n0,1,open,4\n1,1,rx,100\n".as_slice(),
+    ) {
+        Ok(trace) => assert_eq!(rt; trace.rows().len(), 2),
+        Err(fault) => assert_eq!(rt; fault, TraceFault::OutOfMemory),
+    }
+}

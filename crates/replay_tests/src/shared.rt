@@ -1,0 +1,213 @@
+//! Whole replays over instances that threads could share, beside those on one thread, whose bytes are proved; and what their
+//! rings hold at the end.
+
+use devices::ReplayBench;
+use napi_model::Kind;
+use poll_engine::{Bench, Next};
+use replay_words::Settings;
+use rx_ring::Totals;
+use shared_replay::{SharedBench, replay_shared};
+use std::alloc::{AllocError, Global};
+use std::test::Fail;
+use trace_replay::replay_serial;
+
+const HEADER: &str = "moment,device,event,value\n";
+
+// Rows, each text as many times as told, with their budget, weight and window.
+struct Rows {
+    name: &'static str,
+    rows: &'static [(u32, &'static str)],
+    polling: (u32, u32, u32),
+}
+
+const TRACES: [Rows; 9] = [
+    Rows {
+        name: "a second request, a full ring",
+        rows: &[(
+            1,
+            "0,1,open,2\n1,1,rx,10\n1,1,rx,20\n1,1,rx,30\n2,0,softirq,0\n3,1,rx,5\n4,0,softirq,0\n",
+        )],
+        polling: (300, 64, 1024),
+    },
+    Rows {
+        name: "a full weight is repolled",
+        rows: &[
+            (1, "0,1,open,128\n"),
+            (65, "1,1,rx,100\n"),
+            (2, "2,0,softirq,0\n"),
+            (64, "3,1,rx,7\n"),
+            (3, "4,0,softirq,0\n"),
+        ],
+        polling: (300, 64, 1024),
+    },
+    Rows {
+        name: "the budget squeezes, entries keep their order",
+        rows: &[
+            (1, "0,1,open,64\n0,2,open,64\n0,3,open,3\n"),
+            (5, "1,1,rx,100\n1,2,rx,60\n1,3,rx,9\n"),
+            (5, "2,0,softirq,0\n"),
+        ],
+        polling: (6, 4, 2),
+    },
+    Rows {
+        name: "a disable before the run, and while the ring holds packets",
+        rows: &[
+            (1, "0,1,open,256\n"),
+            (129, "1,1,rx,100\n"),
+            (1, "2,0,softirq,0\n3,1,disable,0\n4,0,softirq,0\n"),
+            (3, "5,1,rx,8\n"),
+            (1, "6,1,enable,0\n7,1,rx,9\n8,0,softirq,0\n"),
+        ],
+        polling: (300, 64, 1024),
+    },
+    Rows {
+        name: "missed while disabled, a schedule while it is pending",
+        rows: &[(
+            1,
+            "0,1,open,4\n1,1,disable,0\n2,1,rx,100\n3,1,enable,0\n4,1,rx,100\n4,1,disable,0\n5,1,rx,60\n6,0,softirq,0\n",
+        )],
+        polling: (300, 64, 1024),
+    },
+    Rows {
+        name: "a thread polls, and lets the list go on",
+        rows: &[
+            (1, "0,1,open,256\n1,1,threaded,1\n"),
+            (130, "2,1,rx,100\n"),
+            (1, "3,0,softirq,0\n4,1,kthread,0\n"),
+            (3, "4,1,rx,1\n"),
+            (
+                1,
+                "5,1,threaded,0\n6,1,kthread,0\n7,1,rx,3\n8,1,kthread,0\n9,0,softirq,0\n",
+            ),
+        ],
+        polling: (300, 64, 1024),
+    },
+    Rows {
+        name: "a threaded device is disabled and enabled",
+        rows: &[(
+            1,
+            "0,2,open,4\n0,2,threaded,1\n1,2,rx,1\n2,2,disable,0\n3,2,rx,1\n4,2,kthread,0\n5,2,threaded,0\n6,2,enable,0\n7,2,rx,1\n8,2,kthread,0\n9,0,softirq,0\n",
+        )],
+        polling: (300, 64, 1024),
+    },
+    Rows {
+        name: "queue limits of two devices",
+        rows: &[
+            (1, "0,1,open,8\n5,3,open,2\n5,1,tx,1500\n6,1,done,1\n"),
+            (3, "6,1,tx,1500\n6,3,tx,9\n"),
+            (4, "7,1,done,1\n7,3,done,1\n"),
+        ],
+        polling: (300, 64, 1024),
+    },
+    Rows {
+        name: "an enable that is early",
+        rows: &[(1, "0,1,open,4\n1,1,rx,100\n2,1,disable,0\n3,1,enable,0\n")],
+        polling: (300, 64, 1024),
+    },
+];
+
+// The text of the first of these rows.
+fn text_of(alloc: Global, rows: &[(u32, &str)], count: usize) -> Result<String, AllocError> {
+    let mut text = String::from_str(alloc, HEADER)?;
+    let mut left = count;
+    for (times, block) in rows {
+        for _ in 0..*times {
+            for row in block.lines() {
+                if left == 0 {
+                    return Ok(text);
+                }
+                left -= 1;
+                text.push_str(row)?;
+                text.push_str("\n")?;
+            }
+        }
+    }
+    Ok(text)
+}
+
+fn count_of(rows: &[(u32, &str)]) -> usize {
+    let mut count: usize = 0;
+    for (times, block) in rows {
+        let rows = (*times as usize).saturating_mul(block.lines().count());
+        count = count.saturating_add(rows);
+    }
+    count
+}
+
+// Both modes give the same bytes or the same fault behind each row of each trace.
+#[test]
+fn shared_as_serial_behind_each_row(rt: HostRuntime) -> Result<(), Fail> {
+    for trace in &TRACES {
+        let (budget, weight, window) = trace.polling;
+        let settings = Settings::new(1, budget, weight, window).ok_or("in range")?;
+        for count in 0..count_of(trace.rows).saturating_add(1) {
+            let text = text_of(rt.alloc(), trace.rows, count)?;
+            let mut serial = Vec::new(rt.alloc());
+            let mut shared = Vec::new(rt.alloc());
+            let wanted = replay_serial(rt.alloc(), text.as_bytes(), &mut serial, &settings);
+            let answer = replay_shared(&rt, rt.alloc(), text.as_bytes(), &mut shared, &settings);
+            assert_eq!(rt; answer, wanted, "{count} rows of {}", trace.name);
+            assert_eq!(rt;
+                shared.as_slice(),
+                serial.as_slice(),
+                "{count} rows of {}",
+                trace.name
+            );
+        }
+    }
+    Ok(())
+}
+
+// What is put is polled or left: the end polls what a hand-over has left, and no more.
+#[test]
+fn totals_at_the_end(rt: HostRuntime) -> Result<(), Fail> {
+    let mut bench = SharedBench::new(&rt, rt.alloc())?;
+    assert_eq!(rt; bench.attach(rt.alloc(), 2, 4, 0), Ok(()));
+    assert_eq!(rt; bench.attach(rt.alloc(), 16, 4, 0), Ok(()));
+    assert_eq!(rt; bench.attached(), 2);
+    assert_eq!(rt; bench.arrive(2, 100), Some(Kind::List));
+    assert_eq!(rt; bench.arrive(2, 60), None);
+    let once = bench.poll_once(2, 1);
+    assert_eq!(rt; (once.work, once.next), (1, Next::Repoll));
+    bench.disable(16);
+    bench.settle();
+    assert_eq!(rt; bench.arrive(16, 9), None);
+    let ended = bench.end();
+    assert_eq!(rt; ended.len(), 17);
+    for number in 0..17 {
+        let wanted = match number {
+            2 => Some(Totals {
+                put: 2,
+                polled: 2,
+                left: 0,
+                bytes: 160,
+            }),
+            16 => Some(Totals {
+                put: 1,
+                polled: 0,
+                left: 1,
+                bytes: 9,
+            }),
+            _ => None,
+        };
+        assert_eq!(rt; ended[number], wanted, "of device {number}");
+    }
+    Ok(())
+}
+
+// One more device, and one that is there already, leave a device as it was.
+#[test]
+fn another_device_stays(rt: HostRuntime) -> Result<(), Fail> {
+    let mut bench = SharedBench::new(&rt, rt.alloc())?;
+    assert_eq!(rt; bench.attach(rt.alloc(), 1, 4, 0), Ok(()));
+    bench.arrive(1, 100);
+    bench.send(1, 1500);
+    let before = bench.counts(1);
+    // A device that is there stays as it is.
+    assert_eq!(rt; bench.attach(rt.alloc(), 1, 8, 5), Ok(()));
+    assert_eq!(rt; bench.attach(rt.alloc(), 3, 65536, 5), Ok(()));
+    assert_eq!(rt; bench.counts(1), before);
+    assert_eq!(rt; bench.attached(), 2);
+    let _ended = bench.end();
+    Ok(())
+}

@@ -1,0 +1,2 @@
+pub mod SeatKeeping
+pub mod Crowds

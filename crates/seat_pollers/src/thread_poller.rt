@@ -1,0 +1,155 @@
+//! The thread of one instance, which polls that one alone.
+
+ghost use Rattle.std.specs.Prelude.{◌≤◌, IsSome};
+ghost use Rattle.napi_calls.specs.Instance.{IsSeatOf};
+ghost use Rattle.crew_tasks.specs.Paces.{IsLawful};
+
+use crate::seat::Seat;
+use crate::serving::{Serves, serve};
+use crew_tasks::{Bell, Gate, Pace, Pause, Post, Setting, Task};
+use napi_calls::{Caller, Kept, Napi};
+use napi_model::Kind;
+use poll_engine::Next;
+use rx_ring::Batch;
+use shared_list::ListIn;
+use std::sync::Wait;
+
+// A thread poller goes by 200 and its device's number.
+const FIRST_THREAD: u32 = 200;
+
+// What the thread polls. It must be spent.
+struct Alone<'p, 'n, R> {
+    rt: R,
+    seat: Seat<'n>,
+    // Where the instance goes that the thread may not poll again, or from which THREADED was taken.
+    list: ListIn<R>,
+    poller: &'p Bell,
+    pace: Pace,
+    batch: Batch,
+    ghost lawful: { IsLawful pace },
+}
+
+impl<'p, 'n, R: Drop> Alone<'p, 'n, R> {
+    // Gives the caller back.
+    fn leave(self) -> Caller
+        requires { IsSome self.seat.caller }
+        ensures { IsSeatOf self.entry.seat.napi.now result.pass }
+    {
+        let Alone {
+            rt: _,
+            seat,
+            list: _,
+            poller: _,
+            pace: _,
+            batch: _,
+        } = self;
+        seat.leave()
+    }
+}
+
+impl<'p, 'n, R: Wait> Serves for Alone<'p, 'n, R> {
+    ghost use Rattle.seat_pollers.specs.SeatKeeping.{IsSameSeat};
+    ghost use Rattle.std.proofs.Common.{rules};
+
+    ghost keeps = { λ before after. IsSameSeat before.seat after.seat };
+
+    fn turn(&mut self) -> bool {
+        let report = self.seat.poll_thread(
+            &self.rt,
+            self.pace.weight,
+            self.pace.window,
+            &mut self.batch,
+        );
+        if matches!(report.next, Next::Repoll | Next::Again(Kind::List)) {
+            self.list.push(self.seat.number);
+            self.poller.wake();
+        }
+        report.polls > 0
+    }
+
+    ghost stays = { Prim.search rules };
+
+    ghost joins = { Prim.search rules };
+}
+
+/// What the thread of an instance needs, where the instance has one.
+#[derive(Drop)]
+pub struct Own<'n, R> {
+    pub bell: &'n Bell,
+    pub pause: Pause,
+    pub list: ListIn<R>,
+}
+
+/// The thread's side of one instance. Where it has no thread, its caller is given back at once.
+#[derive(Drop)]
+pub struct ThreadSide<'t, 'p, 'n, R: Wait + Drop, G> {
+    pub setting: &'t Setting<'t, R, G>,
+    pub poller: &'p Post,
+    pub napi: &'n Napi,
+    pub number: u32,
+    pub own: Option<Own<'n, R>>,
+    pub caller: Kept<R, Caller>,
+}
+
+impl<'t, 'p, 'n, R: Wait + Drop + Copy, G: Gate> ThreadSide<'t, 'p, 'n, R, G> {
+    // Polls until told.
+    fn poll(self) -> Kept<R, Caller>
+        requires seat { IsSeatOf self.napi.now self.caller.value.pass }
+        requires name { self.number ≤ 16 }
+        requires pace { IsLawful self.setting.now.pace }
+        ensures { IsSeatOf self.entry.napi.now result.value.pass }
+    {
+        let ThreadSide {
+            setting,
+            poller,
+            napi,
+            number,
+            own,
+            caller,
+        } = self;
+        let rt = setting.rt;
+        let Some(Own { bell, pause, list }) = own else {
+            return caller;
+        };
+        if !setting.gate.pass(FIRST_THREAD + number, 0) {
+            setting.signals.stop();
+        }
+        let mut alone = Alone {
+            rt,
+            seat: Seat {
+                number,
+                napi,
+                thread: Some(bell),
+                caller: Some(caller.open()),
+            },
+            list,
+            poller: &poller.bell,
+            pace: setting.pace,
+            batch: Batch::new(),
+        };
+        serve(&rt, bell, &pause, &mut alone);
+        Kept::new(rt, alone.leave())
+    }
+}
+
+impl<'t, 'p, 'n, R: Wait + Drop + Copy, G: Gate> Task<Kept<R, Caller>>
+    for ThreadSide<'t, 'p, 'n, R, G> {
+    ghost use Rattle.std.specs.Prelude.{◌≤◌};
+    ghost use Rattle.napi_calls.specs.Instance.{IsSeatOf};
+    ghost use Rattle.crew_tasks.specs.Paces.{IsLawful};
+
+    ghost can_run = { λ side. IsSeatOf side.napi.now side.caller.value.pass × (side.number ≤ 16) × IsLawful side.setting.now.pace };
+
+    ghost gives = { λ side caller. IsSeatOf side.napi.now caller.value.pass };
+
+    fn is_idle(&self) -> bool {
+        self.own.is_none()
+    }
+
+    fn run(self) -> Kept<R, Caller> {
+        if self.poller.is_refused() {
+            return self.caller;
+        }
+        self.poll()
+    }
+}

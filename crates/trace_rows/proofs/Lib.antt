@@ -1,0 +1,7 @@
+pub mod Accepted
+pub mod DecidingFacts
+pub mod NumeralFacts
+pub mod PlaceFacts
+pub mod RecordsFacts
+pub mod RowsFacts
+pub mod SwitchFacts

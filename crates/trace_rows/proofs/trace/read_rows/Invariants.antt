@@ -1,0 +1,18 @@
+use Rattle.std.proofs.Common.{◌≡◌, ℕ, ◌-◌, ◌≤◌, List, [], length}
+use Rattle.csv.specs.Reading.{default_config, reader_state, records_from}
+use Rattle.trace_rows.specs.Source.{IsOpen, StandsAt}
+use Rattle.trace_rows.specs.Switch.{Tracks}
+use Rattle.trace_rows.specs.Trace.{AcceptedAfter, rows_after}
+use Rattle.trace_rows.proofs.trace.read_rows.Given as goal
+
+abbrev pub invariant-loop-before : goal.invariant-loop-before
+invariant-loop-before g l = record {
+  reader : IsOpen l.reader;
+  small : l.before ≤ 100000;
+  count : length l.rows.items ≡ l.before;
+  accepted : AcceptedAfter [] l.rows.items;
+  tracks : Tracks l.switches.of l.rows.items;
+  goes_on : (bytes : List ℕ) → StandsAt g.R.Read.remaining l.fn.reader bytes → (left : List ℕ) × StandsAt g.R.Read.remaining l.reader left
+      × (rows_after l.version [] (records_from default_config 100001 (reader_state l.fn.reader) bytes)
+      ≡ rows_after l.version l.rows.items (records_from default_config (100001 - l.before) (reader_state l.reader) left));
+}

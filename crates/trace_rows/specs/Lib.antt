@@ -1,0 +1,9 @@
+pub mod Fault
+pub mod Laws
+pub mod Places
+pub mod Range
+pub mod Record
+pub mod Row
+pub mod Source
+pub mod Switch
+pub mod Trace

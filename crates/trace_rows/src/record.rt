@@ -1,0 +1,198 @@
+//! What the fields of one record say by themselves.
+
+ghost use Rattle.std.specs.Prelude.{◌≡◌, ◌≤◌, length, true, option_map, if◌then◌else◌, Some, None, IfOk, IfSome};
+ghost use Rattle.std.specs.Str.{all_ascii_digits};
+ghost use Rattle.csv.specs.Records.{fields_of};
+ghost use Rattle.trace_rows.specs.Range.{IsWithin};
+ghost use Rattle.trace_rows.specs.Record.{first_four, four_of, is_numeral, is_title, numeral, of_fields, ranged, row_of, version_of};
+ghost use Rattle.trace_rows.specs.Row.{device_fits, value_fits};
+
+use crate::event::{Event, event_of};
+use crate::fault::TraceFault;
+use crate::row::Row;
+use csv::ByteRecord;
+
+// The number that at most nineteen digits write, 0 where there are none. A u64 holds it.
+fn number_below_20(digits: &[u8]) -> Option<u64>
+    requires { length digits.now ≤ 19 }
+    ensures { result ≡ (if all_ascii_digits digits.now then Some (numeral digits.now) else None) }
+{
+    let mut number = 0;
+    for byte in digits {
+        if !byte.is_ascii_digit() {
+            return None;
+        }
+        number = number * 10 + u64::from(*byte - b'0');
+    }
+    Some(number)
+}
+
+// The number that one to twenty digits write, kept in a u64 up to the last of them.
+fn number_below_21(field: &[u8]) -> Option<u128>
+    ensures { result ≡ (if is_numeral field.now then Some (numeral field.now) else None) }
+{
+    let (last, front) = field.split_last()?;
+    if front.len() > 19 {
+        return None;
+    }
+    let number = number_below_20(front)?;
+    if !last.is_ascii_digit() {
+        return None;
+    }
+    Some(u128::from(number) * 10 + u128::from(*last - b'0'))
+}
+
+// The number that one to twenty digits write. All but the longest are read in a u64: a u128 takes twice the time.
+fn number_of(field: &[u8]) -> Option<u128>
+    ensures { result ≡ (if is_numeral field.now then Some (numeral field.now) else None) }
+{
+    if field.is_empty() || field.len() > 19 {
+        return number_below_21(field);
+    }
+    match number_below_20(field) {
+        Some(number) => Some(u128::from(number)),
+        None => None,
+    }
+}
+
+fn device_fits(event: Event, device: u128) -> bool
+    ensures { result ≡ device_fits event device }
+{
+    match event {
+        Event::Softirq => device == 0,
+        _ => 1 <= device && device <= 16,
+    }
+}
+
+fn value_fits(event: Event, value: u128) -> bool
+    ensures { result ≡ value_fits event value }
+{
+    match event {
+        Event::Opened => 1 <= value && value <= 65536,
+        Event::Rx | Event::Tx | Event::Busy => 1 <= value && value <= 65535,
+        Event::Finish => value <= 65536,
+        Event::Threaded => value <= 1,
+        Event::Softirq | Event::Kthread | Event::Disable | Event::Enable => value == 0,
+    }
+}
+
+// Row `number` of these numbers, where they are in their ranges.
+#[tactic(auto, unfolding(crate::specs::Record::ranged))]
+fn ranged(
+    number: u32,
+    moment: u128,
+    device: u128,
+    event: Event,
+    value: u128,
+) -> Result<Row, TraceFault>
+    ensures row { result ≡ ranged number moment device event value }
+    ensures device { IfOk result (λ row. device_fits row.event row.device ≡ true) }
+    ensures value { IfOk result (λ row. value_fits row.event row.value ≡ true) }
+{
+    if moment < 1 << 64 && device_fits(event, device) && value_fits(event, value) {
+        Ok(Row {
+            moment: moment as u64,
+            device: device as u32,
+            event,
+            value: value as u32,
+        })
+    } else {
+        Err(TraceFault::OutOfRange { row: number })
+    }
+}
+
+// Row `number` of these fields.
+#[tactic(auto, unfolding(crate::specs::Record::of_fields))]
+fn of_fields(
+    version: u32,
+    number: u32,
+    moment: &[u8],
+    device: &[u8],
+    event: &[u8],
+    value: &[u8],
+) -> Result<Row, TraceFault>
+    ensures row { result ≡ of_fields version number moment.now device.now event.now value.now }
+    ensures device { IfOk result (λ row. device_fits row.event row.device ≡ true) }
+    ensures value { IfOk result (λ row. value_fits row.event row.value ≡ true) }
+{
+    let (Some(moment), Some(device), Some(value)) = (
+        number_of(moment),
+        number_of(device),
+        number_of(value),
+    ) else {
+        return Err(TraceFault::BadNumber { row: number });
+    };
+    let Some(event) = event_of(version, event) else {
+        return Err(TraceFault::BadEvent { row: number });
+    };
+    ranged(number, moment, device, event, value)
+}
+
+// The four fields of a record that has four.
+#[tactic(auto, unfolding(crate::specs::Record::four_of))]
+fn four_of(fields: &ByteRecord) -> Option<(&[u8], &[u8], &[u8], &[u8])>
+    ensures { option_map (λ four. (four.0.now, four.1.now, four.2.now, four.3.now)) result ≡ four_of (fields_of fields.now) }
+{
+    if fields.len() != 4 {
+        return None;
+    }
+    first_four(fields)
+}
+
+// The first four fields of a record that has so many.
+fn first_four(fields: &ByteRecord) -> Option<(&[u8], &[u8], &[u8], &[u8])>
+    ensures { option_map (λ four. (four.0.now, four.1.now, four.2.now, four.3.now)) result ≡ first_four (fields_of fields.now) }
+{
+    let moment = fields.get(0)?;
+    let device = fields.get(1)?;
+    let event = fields.get(2)?;
+    let value = fields.get(3)?;
+    Some((moment, device, event, value))
+}
+
+/// The row that a record of a trace of this version tells, whose number it is, or the first of the faults 2 to 5 that it has.
+pub(crate) fn row_of(version: u32, number: u32, fields: &ByteRecord) -> Result<Row, TraceFault>
+    ensures row { result ≡ row_of version number (fields_of fields.now) }
+    ensures device { IfOk result (λ row. device_fits row.event row.device ≡ true) }
+    ensures value { IfOk result (λ row. value_fits row.event row.value ≡ true) }
+{
+    let Some((moment, device, event, value)) = four_of(fields) else {
+        return Err(TraceFault::BadFields { row: number });
+    };
+    of_fields(version, number, moment, device, event, value)
+}
+
+// Whether the first fields of a record are the titles `moment,device,event,value`.
+fn is_titled(fields: &ByteRecord) -> bool
+    ensures { result ≡ is_title (first_four (fields_of fields.now)) }
+{
+    let Some((moment, device, event, value)) = first_four(fields) else {
+        return false;
+    };
+    moment == b"moment".as_slice()
+        && device == b"device".as_slice()
+        && event == b"event".as_slice()
+        && value == b"value".as_slice()
+}
+
+/// The version that a trace's first record tells, if it is one: `moment,device,event,value` is version 1, and the same with a
+/// fifth field `2` is version 2.
+#[tactic(auto, unfolding(crate::specs::Record::version_of))]
+pub(crate) fn version_of(fields: &ByteRecord) -> Option<u32>
+    ensures version { result ≡ version_of (fields_of fields.now) }
+    ensures range { IfSome result (λ version. IsWithin 1 2 version) }
+{
+    if !is_titled(fields) {
+        return None;
+    }
+    if fields.len() == 4 {
+        return Some(1);
+    }
+    if fields.len() != 5 {
+        return None;
+    }
+    match fields.get(4) {
+        Some(field) if field == b"2".as_slice() => Some(2),
+        _ => None,
+    }
+}

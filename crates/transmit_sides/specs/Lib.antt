@@ -1,0 +1,4 @@
+pub mod Counter
+pub mod Sides
+pub mod Transmit
+pub mod Transmits

@@ -1,0 +1,293 @@
+/*
+ * Fintaqush for C: the packet polling core of Linux 6.6 (NAPI) and byte queue limits, in user space. docs/C.md is the guide.
+ *
+ * Every call answers one number of enum fq_status, no number twice. A call that the object's state doesn't have answers
+ * FQ_NOT_ALLOWED and changes nothing.
+ *
+ * What the caller owes, since nothing here can test it:
+ * - A pointer leads to a whole object of its type, or to as many as its count says; none is null (also for a count of 0), and
+ *   no two parameters of one call lead to the same memory.
+ * - One call at a time on one object. It may go from thread to thread where a lock, a thread's start or join, or a
+ *   sequentially consistent atomic orders that. The ring's input, each seat and the controller of one shared instance are
+ *   objects of their own, and are used at once, each in its thread.
+ * - A struct fq_handle or fq_dql isn't copied, and only calls write its fields. A handle that isn't set is all zero.
+ * - No call from a signal handler, nor from the forked child of a process with threads.
+ *
+ * No call waits, locks or starts a thread. Only those named .._new, and fq_free, take or give memory.
+ *
+ * Memory order: what a thread wrote before it put a packet is seen by the thread whose poll gives that packet; and what was
+ * done with a packet before the next poll is seen by the put that finds its place free.
+ */
+#ifndef FINTAQUSH_H
+#define FINTAQUSH_H
+
+#include <stdbool.h>
+#include <stddef.h>
+#include <stdint.h>
+
+#define FQ_VERSION "1.0.0"
+
+#if defined(__GNUC__)
+#define FQ_NONNULL __attribute__((nonnull))
+#define FQ_CHECKED __attribute__((nonnull, warn_unused_result))
+#define FQ_RESTRICT __restrict__
+#else
+#define FQ_NONNULL
+#define FQ_CHECKED
+#define FQ_RESTRICT
+#endif
+
+#ifdef __cplusplus
+extern "C" {
+#endif
+
+/* What calls answer: 0 to 15 made, and the faults of a queue limit; 16 to 99 made, with what was found; from 100 on not made. */
+enum fq_status {
+    FQ_OK = 0,
+    FQ_BAD_BOUNDS = 1,         /* limit: min above max, or max above 1879048192 */
+    FQ_TOO_LARGE = 2,          /* limit: an object above 268435455 */
+    FQ_TOO_MUCH_IN_FLIGHT = 3, /* limit: more than it can count would be in flight */
+    FQ_MORE_THAN_QUEUED = 4,   /* limit: more completed than is in flight */
+
+    FQ_GRANTED = 16,   /* schedule: the instance is this caller's, who has to hand it over */
+    FQ_MISSED = 17,    /* schedule: a poll is asked for already, and one more follows; none while the controller has it */
+    FQ_DISABLED = 18,  /* schedule: a disable is pending, nothing is asked for */
+    FQ_TAKEN = 19,     /* take, busy take, take disable: it is this caller's */
+    FQ_NOT_THERE = 20, /* take: the instance wasn't handed over so */
+    FQ_RELEASED = 21,  /* complete: nobody has the instance any more */
+    FQ_AGAIN = 22,     /* complete: a request was missed; it is this caller's, who has to hand it over again */
+    FQ_HELD = 23,      /* complete: it is busy polled, and the caller polls on */
+    FQ_BUSY = 24,      /* busy take, take disable: someone has the instance */
+    FQ_CHANGED = 25,   /* shared instances: another thread came between, nothing is decided; call again */
+    FQ_FULL = 26,      /* put, push: there is no room */
+    FQ_DONE = 27,      /* run: no poll is left in it */
+
+    FQ_NOT_ALLOWED = 100,   /* the object's state doesn't have this call */
+    FQ_BAD_KIND = 101,      /* no number of enum fq_kind */
+    FQ_BAD_HANDLE = 110,    /* the handle leads to nothing, or to another kind */
+    FQ_IN_USE = 111,        /* the handle is set already */
+    FQ_OUT_OF_MEMORY = 112,
+    FQ_BAD_CAPACITY = 113,  /* ring: 1 to 65536 */
+    FQ_BAD_WEIGHT = 114,    /* 1 to 64 */
+    FQ_NO_ROOM = 115,       /* poll: the array is shorter than the weight */
+    FQ_BAD_BUDGET = 116,    /* run: budget and window are 1 to 65535 */
+    FQ_BAD_COUNT = 117,     /* shared instance: 2 to 8 seats */
+    FQ_BAD_NEXT = 118,      /* no number of enum fq_next */
+    FQ_BAD_WORK = 119       /* run: more packets than the weight */
+};
+
+/* The name of a status, as "FQ_GRANTED"; "?" of a number that is none. */
+static inline const char *fq_status_name(uint32_t status) {
+    switch (status) {
+    case FQ_OK: return "FQ_OK";
+    case FQ_BAD_BOUNDS: return "FQ_BAD_BOUNDS";
+    case FQ_TOO_LARGE: return "FQ_TOO_LARGE";
+    case FQ_TOO_MUCH_IN_FLIGHT: return "FQ_TOO_MUCH_IN_FLIGHT";
+    case FQ_MORE_THAN_QUEUED: return "FQ_MORE_THAN_QUEUED";
+    case FQ_GRANTED: return "FQ_GRANTED";
+    case FQ_MISSED: return "FQ_MISSED";
+    case FQ_DISABLED: return "FQ_DISABLED";
+    case FQ_TAKEN: return "FQ_TAKEN";
+    case FQ_NOT_THERE: return "FQ_NOT_THERE";
+    case FQ_RELEASED: return "FQ_RELEASED";
+    case FQ_AGAIN: return "FQ_AGAIN";
+    case FQ_HELD: return "FQ_HELD";
+    case FQ_BUSY: return "FQ_BUSY";
+    case FQ_CHANGED: return "FQ_CHANGED";
+    case FQ_FULL: return "FQ_FULL";
+    case FQ_DONE: return "FQ_DONE";
+    case FQ_NOT_ALLOWED: return "FQ_NOT_ALLOWED";
+    case FQ_BAD_KIND: return "FQ_BAD_KIND";
+    case FQ_BAD_HANDLE: return "FQ_BAD_HANDLE";
+    case FQ_IN_USE: return "FQ_IN_USE";
+    case FQ_OUT_OF_MEMORY: return "FQ_OUT_OF_MEMORY";
+    case FQ_BAD_CAPACITY: return "FQ_BAD_CAPACITY";
+    case FQ_BAD_WEIGHT: return "FQ_BAD_WEIGHT";
+    case FQ_NO_ROOM: return "FQ_NO_ROOM";
+    case FQ_BAD_BUDGET: return "FQ_BAD_BUDGET";
+    case FQ_BAD_COUNT: return "FQ_BAD_COUNT";
+    case FQ_BAD_NEXT: return "FQ_BAD_NEXT";
+    case FQ_BAD_WORK: return "FQ_BAD_WORK";
+    }
+    return "?";
+}
+
+/* To whom an instance is handed: a poll list, or a thread of its own. */
+enum fq_kind { FQ_LIST = 0, FQ_THREAD = 1 };
+
+/* The bits of a state word: those of the kernel's NAPI_STATE_.., and whether it lies on a list or with its thread, untaken. */
+#define FQ_BIT_SCHED (UINT64_C(1) << 0)
+#define FQ_BIT_MISSED (UINT64_C(1) << 1)
+#define FQ_BIT_DISABLE (UINT64_C(1) << 2)
+#define FQ_BIT_NPSVC (UINT64_C(1) << 3)
+#define FQ_BIT_IN_BUSY_POLL (UINT64_C(1) << 6)
+#define FQ_BIT_THREADED (UINT64_C(1) << 8)
+#define FQ_BIT_SCHED_THREADED (UINT64_C(1) << 9)
+#define FQ_BIT_LISTED (UINT64_C(1) << 32)
+#define FQ_BIT_WITH_THREAD (UINT64_C(1) << 33)
+
+/* ---- Byte queue limits (lib/dynamic_queue_limits.c), in the caller's memory. Moments are milliseconds of the caller's clock. */
+
+struct fq_dql {
+    uint32_t private_a[8];
+    uint64_t private_b;
+    uint32_t private_c[2];
+    uint64_t private_d;
+};
+
+struct fq_dql_new {
+    struct fq_dql dql;
+    uint32_t status;
+};
+
+/* A new limit between min and max, which keeps slack for hold_ms (dql_init). FQ_BAD_BOUNDS: the answer is a limit of 0. */
+struct fq_dql_new fq_dql_new(uint32_t min, uint32_t max, uint64_t hold_ms, uint64_t now_ms);
+
+/* The same, into the caller's struct. */
+FQ_CHECKED static inline uint32_t fq_dql_init(struct fq_dql *dql, uint32_t min, uint32_t max, uint64_t hold_ms, uint64_t now_ms) {
+    struct fq_dql_new made = fq_dql_new(min, max, hold_ms, now_ms);
+    *dql = made.dql;
+    return made.status;
+}
+
+/* An object was given to the device (dql_queued): FQ_OK, FQ_TOO_LARGE, FQ_TOO_MUCH_IN_FLIGHT. */
+FQ_CHECKED uint32_t fq_dql_queued(struct fq_dql *dql, uint32_t count);
+/* The device is done with so many (dql_completed), and the limit adapts: FQ_OK, FQ_MORE_THAN_QUEUED. */
+FQ_CHECKED uint32_t fq_dql_completed(struct fq_dql *dql, uint32_t count, uint64_t now_ms);
+/* Forgets what is in flight, and starts over (dql_reset). */
+FQ_NONNULL void fq_dql_reset(struct fq_dql *dql, uint64_t now_ms);
+FQ_NONNULL uint32_t fq_dql_limit(const struct fq_dql *dql);
+/* What may still be given to the device (dql_avail); negative: the queue is to be stopped. */
+FQ_NONNULL int64_t fq_dql_avail(const struct fq_dql *dql);
+FQ_NONNULL uint32_t fq_dql_in_flight(const struct fq_dql *dql);
+
+/* ---- An instance of one thread (struct napi_struct), in the caller's memory. Who calls is a number; the controller's is named
+ * when it is made. Whatever its bytes are, each is a state. */
+
+struct fq_napi {
+    bool sched, missed, disable, npsvc, in_busy_poll, threaded, sched_threaded;
+    uint8_t place; /* 0 nobody, 1 granted, 2 listed, 3 to its thread, 4 polled, 5 the controller */
+    uint32_t owner, controller;
+};
+
+/* A new instance (netif_napi_add): disabled. */
+struct fq_napi fq_napi_new(uint32_t controller);
+/* Asks for a poll (napi_schedule_prep): FQ_GRANTED, FQ_MISSED, FQ_DISABLED. */
+FQ_CHECKED uint32_t fq_napi_schedule(struct fq_napi *napi, uint32_t who);
+/* Hands a granted or polled instance over (____napi_schedule): FQ_OK, FQ_NOT_ALLOWED, FQ_BAD_KIND. */
+FQ_CHECKED uint32_t fq_napi_hand(struct fq_napi *napi, uint32_t who, uint32_t kind);
+/* Takes it from the list or as its thread: FQ_TAKEN, FQ_NOT_THERE, FQ_BAD_KIND. */
+FQ_CHECKED uint32_t fq_napi_take(struct fq_napi *napi, uint32_t who, uint32_t kind);
+/* Ends a poll (napi_complete_done): FQ_RELEASED, FQ_AGAIN, FQ_HELD, FQ_NOT_ALLOWED. */
+FQ_CHECKED uint32_t fq_napi_complete(struct fq_napi *napi, uint32_t who);
+/* Takes an idle instance to busy poll it (napi_busy_loop): FQ_TAKEN, FQ_BUSY. */
+FQ_CHECKED uint32_t fq_napi_busy_take(struct fq_napi *napi, uint32_t who);
+/* Stops that (busy_poll_stop), and one poll has to follow: FQ_OK, FQ_NOT_ALLOWED. */
+FQ_CHECKED uint32_t fq_napi_busy_stop(struct fq_napi *napi, uint32_t who);
+/* Whether polls are handed to the instance's own thread (dev_set_threaded). */
+FQ_NONNULL void fq_napi_set_threaded(struct fq_napi *napi, uint32_t who, bool threaded);
+/* The controller's: napi_disable is mark, take until FQ_TAKEN, unmark; napi_enable. FQ_NOT_ALLOWED by anyone else. */
+FQ_CHECKED uint32_t fq_napi_mark_disable(struct fq_napi *napi, uint32_t who);
+FQ_CHECKED uint32_t fq_napi_take_disable(struct fq_napi *napi, uint32_t who);
+FQ_CHECKED uint32_t fq_napi_unmark(struct fq_napi *napi, uint32_t who);
+FQ_CHECKED uint32_t fq_napi_enable(struct fq_napi *napi, uint32_t who, bool threaded);
+/* The state word, of the FQ_BIT_.. that are set. */
+FQ_NONNULL uint64_t fq_napi_word(const struct fq_napi *napi);
+
+/* ---- What the library has on the heap. */
+
+struct fq_handle {
+    bool private_set;
+    void *private_at;
+};
+
+/* A handle that leads to nothing. */
+#define FQ_NONE {false, NULL}
+
+/* Frees what a handle leads to, which then leads to nothing: FQ_OK, FQ_BAD_HANDLE; FQ_NOT_ALLOWED, and all stays, of a seat that
+ * doesn't rest, of a controller that isn't off, and of a list in a run. Packets that lie in a ring are the caller's loss: poll
+ * them out before. */
+FQ_CHECKED uint32_t fq_free(struct fq_handle *handle);
+/* Frees it whatever its state is: FQ_OK, FQ_BAD_HANDLE. An instance whose poller was given up is polled no more. */
+FQ_CHECKED uint32_t fq_abandon(struct fq_handle *handle);
+
+/* ---- Receive rings. A packet's number is the caller's own: an index, a pointer. */
+
+struct fq_packet {
+    uint64_t number;
+    uint32_t bytes;
+};
+
+/* A ring of 1 to 65536 places: FQ_OK, FQ_BAD_CAPACITY, FQ_OUT_OF_MEMORY, FQ_IN_USE. */
+FQ_CHECKED uint32_t fq_ring_new(struct fq_handle *ring, size_t capacity);
+/* Puts a packet in, behind all others: FQ_OK, FQ_FULL, FQ_BAD_HANDLE. */
+FQ_CHECKED uint32_t fq_ring_put(struct fq_handle *ring, uint64_t number, uint32_t bytes);
+/* Takes the first packets out, at most weight (1 to 64), into an array of len places, at least the weight: FQ_OK and their
+ * count, else a count of 0. Not of a ring whose other end an instance has (FQ_BAD_HANDLE). */
+FQ_CHECKED uint32_t fq_ring_poll(struct fq_handle *FQ_RESTRICT ring, size_t weight, struct fq_packet *FQ_RESTRICT out, size_t len, size_t *FQ_RESTRICT count);
+
+/* ---- Instances that threads share. */
+
+/* An instance over the ring's poll end, with its controller and 2 to 8 seats, its callers: FQ_OK, FQ_IN_USE, FQ_BAD_COUNT,
+ * FQ_BAD_HANDLE, FQ_OUT_OF_MEMORY. It is disabled. `ring` is its input from then on. Where memory is out, what is set by then is
+ * to be given up. */
+FQ_CHECKED uint32_t fq_shared_new(struct fq_handle *FQ_RESTRICT ring, struct fq_handle *FQ_RESTRICT control, struct fq_handle *FQ_RESTRICT seats, size_t count);
+
+/* The calls of a seat. Each makes one try. One that rests may schedule, take, busy take and set threaded; */
+FQ_CHECKED uint32_t fq_seat_schedule(struct fq_handle *seat); /* FQ_GRANTED, FQ_MISSED, FQ_DISABLED, FQ_CHANGED */
+FQ_CHECKED uint32_t fq_seat_take(struct fq_handle *seat, uint32_t kind); /* FQ_TAKEN, FQ_NOT_THERE */
+FQ_CHECKED uint32_t fq_seat_busy_take(struct fq_handle *seat); /* FQ_TAKEN, FQ_BUSY, FQ_CHANGED */
+FQ_CHECKED uint32_t fq_seat_set_threaded(struct fq_handle *seat, bool threaded); /* FQ_OK */
+/* one that was granted the instance has to hand it over; */
+FQ_CHECKED uint32_t fq_seat_hand(struct fq_handle *seat, uint32_t kind); /* FQ_OK */
+/* one that polls may poll, and then completes or requeues. */
+FQ_CHECKED uint32_t fq_seat_poll(struct fq_handle *FQ_RESTRICT seat, size_t weight, struct fq_packet *FQ_RESTRICT out, size_t len, size_t *FQ_RESTRICT count);
+FQ_CHECKED uint32_t fq_seat_requeue(struct fq_handle *seat);  /* FQ_OK: it is on the list again */
+FQ_CHECKED uint32_t fq_seat_complete(struct fq_handle *seat); /* FQ_RELEASED, FQ_AGAIN, FQ_CHANGED; FQ_HELD of a busy poller */
+/* One that busy polls may poll and complete, and stops: it then polls once more. */
+FQ_CHECKED uint32_t fq_seat_busy_stop(struct fq_handle *seat); /* FQ_OK, FQ_CHANGED */
+
+/* An interrupt: schedules, try after try until one decides, and hands over where it was granted. FQ_GRANTED (and it was handed over),
+ * FQ_MISSED, FQ_DISABLED; FQ_BAD_KIND, FQ_BAD_HANDLE, FQ_NOT_ALLOWED. */
+FQ_CHECKED static inline uint32_t fq_seat_interrupt(struct fq_handle *seat, uint32_t kind) {
+    uint32_t said;
+    if (kind > FQ_THREAD) return FQ_BAD_KIND;
+    do said = fq_seat_schedule(seat);
+    while (said == FQ_CHANGED);
+    if (said != FQ_GRANTED) return said;
+    const uint32_t handed = fq_seat_hand(seat, kind);
+    return handed == FQ_OK ? said : handed;
+}
+
+/* The controller's. Off: enable. On: mark. Marked: try to take, until FQ_TAKEN, which is off again (napi_disable). */
+FQ_CHECKED uint32_t fq_control_enable(struct fq_handle *control, bool threaded); /* FQ_OK, FQ_CHANGED */
+FQ_CHECKED uint32_t fq_control_mark(struct fq_handle *control);                  /* FQ_OK */
+FQ_CHECKED uint32_t fq_control_try_take(struct fq_handle *control);              /* FQ_TAKEN, FQ_BUSY, FQ_CHANGED */
+
+/* ---- Polling runs (net_rx_action), which the caller drives: begin; while next is FQ_OK, poll that device and tell; end. */
+
+struct fq_run_report {
+    uint32_t polls, work;
+    bool squeezed; /* the budget or the window was spent */
+};
+
+/* How a poll ended: its device isn't on the list any more, is to be listed again, or handed to its thread; gave its whole weight,
+ * and is polled again behind all others; wasn't there. */
+enum fq_next { FQ_NEXT_GONE = 0, FQ_NEXT_AGAIN = 1, FQ_NEXT_AGAIN_THREAD = 2, FQ_NEXT_REPOLL = 3, FQ_NEXT_ABSENT = 4 };
+
+FQ_CHECKED uint32_t fq_list_new(struct fq_handle *list);
+/* Puts a number at the list's tail: FQ_OK, FQ_FULL where list and run hold 64. */
+FQ_CHECKED uint32_t fq_list_push(struct fq_handle *list, uint32_t id);
+/* Begins a run: FQ_OK, FQ_BAD_WEIGHT, FQ_BAD_BUDGET, FQ_NOT_ALLOWED where one is under way. */
+FQ_CHECKED uint32_t fq_run_begin(struct fq_handle *list, uint32_t budget, uint32_t weight, uint32_t window);
+/* The number to be polled next: FQ_OK, FQ_DONE, FQ_NOT_ALLOWED. */
+FQ_CHECKED uint32_t fq_run_next(struct fq_handle *FQ_RESTRICT list, uint32_t *FQ_RESTRICT id);
+/* What its poll did: FQ_OK, FQ_BAD_WORK above the weight, FQ_BAD_NEXT, FQ_NOT_ALLOWED. */
+FQ_CHECKED uint32_t fq_run_polled(struct fq_handle *list, uint32_t work, uint32_t next);
+/* Ends it; what wasn't polled, and what is to be polled again, is on the list: FQ_OK, FQ_NOT_ALLOWED. */
+FQ_CHECKED uint32_t fq_run_end(struct fq_handle *FQ_RESTRICT list, struct fq_run_report *FQ_RESTRICT report);
+
+#ifdef __cplusplus
+}
+#endif
+#endif

@@ -1,0 +1,119 @@
+#!/usr/bin/env bash
+# scripts/install.sh [--library] [--uninstall] PREFIX: installs the C library, static and shared, with its headers, its pkg-config
+# and CMake files and its manual page, and the replay tool with the tools that stand alone. What isn't built yet is proved and built
+# first. --library leaves the replay and its tools out, which take most of the time. With DESTDIR set, all goes below that folder,
+# for PREFIX. --uninstall removes what an install put there, and nothing else.
+# Exit status: 0 done; 64 the words are wrong; 69 a program is missing; 70 something couldn't be built; 73 it can't be written there.
+set -euo pipefail
+unset CDPATH
+top=$(dirname "$(dirname "$(readlink -f "${BASH_SOURCE[0]}")")")
+prefix=
+is_library=
+is_uninstall=
+
+stop() {
+    local status=$1
+    shift
+    echo "install: $*" >&2
+    exit "$status"
+}
+
+for word in "$@"; do
+    case $word in
+        --library) is_library=yes ;;
+        --uninstall) is_uninstall=yes ;;
+        /*) [ -z "$prefix" ] || stop 64 'one PREFIX only'
+            prefix=${word%/} ;;
+        *) stop 64 "usage: scripts/install.sh [--library] [--uninstall] PREFIX, which begins with /" ;;
+    esac
+done
+[ -n "$prefix" ] || stop 64 'usage: scripts/install.sh [--library] [--uninstall] PREFIX'
+to=${DESTDIR:-}$prefix
+version=$(sed -n 's/^#define FQ_VERSION "\([0-9.]*\)"$/\1/p' "$top/include/fintaqush.h")
+major=${version%%.*}
+
+library_files=(lib/libfintaqush.a "lib/libfintaqush.so.$version" "lib/libfintaqush.so.$major" lib/libfintaqush.so
+    include/fintaqush.h include/fintaqush.hpp lib/pkgconfig/fintaqush.pc lib/cmake/Fintaqush/FintaqushConfig.cmake
+    lib/cmake/Fintaqush/FintaqushConfigVersion.cmake share/man/man3/fintaqush.3)
+tool_files=(bin/napi_replay bin/report2json bin/from-ftrace share/man/man1/napi_replay.1)
+
+if [ -n "$is_uninstall" ]; then
+    for file in "${library_files[@]}" "${tool_files[@]}"; do
+        rm -f "$to/$file"
+    done
+    rmdir "$to/lib/cmake/Fintaqush" 2> /dev/null || true
+    exit 0
+fi
+
+scratch=$(mktemp -d)
+trap 'rm -rf "$scratch"' EXIT
+cc=${CC:-cc}
+command -v "$cc" > /dev/null || stop 69 "there is no $cc, which makes the shared library"
+"$top/scripts/c_library.sh" "$scratch" || stop 70 "the C library couldn't be built"
+# the exports alone, of all that the archive has
+echo '{ global: fq_*; local: *; };' > "$scratch/exports"
+"$cc" -shared -Wl,-soname,"libfintaqush.so.$major" -Wl,--version-script="$scratch/exports" -Wl,--whole-archive \
+    "$scratch/libfintaqush.a" -Wl,--no-whole-archive -o "$scratch/libfintaqush.so.$version" || stop 70 "the shared library couldn't be made"
+[ -n "$is_library" ] || "$top/scripts/build.sh" napi_replay || stop 70 "napi_replay couldn't be built"
+
+sed -e "s|@PREFIX@|$prefix|" -e "s|@VERSION@|$version|" > "$scratch/fintaqush.pc" << 'END'
+prefix=@PREFIX@
+libdir=${prefix}/lib
+includedir=${prefix}/include
+
+Name: fintaqush
+Description: The packet polling core of Linux (NAPI) with byte queue limits, in user space
+Version: @VERSION@
+Libs: -L${libdir} -lfintaqush
+Cflags: -I${includedir}
+END
+
+cat > "$scratch/FintaqushConfig.cmake" << 'END'
+# Fintaqush::fintaqush, the shared library, and Fintaqush::static. Paths are told from where this file lies.
+get_filename_component(fintaqush_prefix "${CMAKE_CURRENT_LIST_DIR}/../../.." ABSOLUTE)
+if(NOT TARGET Fintaqush::fintaqush)
+  add_library(Fintaqush::fintaqush SHARED IMPORTED)
+  set_target_properties(Fintaqush::fintaqush PROPERTIES
+    IMPORTED_LOCATION "${fintaqush_prefix}/lib/libfintaqush.so"
+    INTERFACE_INCLUDE_DIRECTORIES "${fintaqush_prefix}/include")
+  add_library(Fintaqush::static STATIC IMPORTED)
+  set_target_properties(Fintaqush::static PROPERTIES
+    IMPORTED_LOCATION "${fintaqush_prefix}/lib/libfintaqush.a"
+    INTERFACE_INCLUDE_DIRECTORIES "${fintaqush_prefix}/include")
+endif()
+unset(fintaqush_prefix)
+END
+
+sed -e "s|@VERSION@|$version|g" -e "s|@MAJOR@|$major|g" > "$scratch/FintaqushConfigVersion.cmake" << 'END'
+set(PACKAGE_VERSION "@VERSION@")
+if(PACKAGE_FIND_VERSION VERSION_GREATER PACKAGE_VERSION OR NOT PACKAGE_FIND_VERSION_MAJOR EQUAL @MAJOR@)
+  set(PACKAGE_VERSION_COMPATIBLE FALSE)
+else()
+  set(PACKAGE_VERSION_COMPATIBLE TRUE)
+  if(PACKAGE_FIND_VERSION VERSION_EQUAL PACKAGE_VERSION)
+    set(PACKAGE_VERSION_EXACT TRUE)
+  endif()
+endif()
+END
+
+# put MODE FILE PLACE
+put() {
+    install -D -m "$1" "$2" "$to/$3" || stop 73 "$to/$3 can't be written"
+}
+
+put 644 "$scratch/libfintaqush.a" lib/libfintaqush.a
+put 755 "$scratch/libfintaqush.so.$version" "lib/libfintaqush.so.$version"
+ln -sf "libfintaqush.so.$version" "$to/lib/libfintaqush.so.$major"
+ln -sf "libfintaqush.so.$major" "$to/lib/libfintaqush.so"
+put 644 "$top/include/fintaqush.h" include/fintaqush.h
+put 644 "$top/include/fintaqush.hpp" include/fintaqush.hpp
+put 644 "$scratch/fintaqush.pc" lib/pkgconfig/fintaqush.pc
+put 644 "$scratch/FintaqushConfig.cmake" lib/cmake/Fintaqush/FintaqushConfig.cmake
+put 644 "$scratch/FintaqushConfigVersion.cmake" lib/cmake/Fintaqush/FintaqushConfigVersion.cmake
+put 644 "$top/docs/man/fintaqush.3" share/man/man3/fintaqush.3
+if [ -z "$is_library" ]; then
+    put 755 "$top/crates/napi_replay/out/napi_replay" bin/napi_replay
+    put 755 "$top/tools/report2json" bin/report2json
+    put 755 "$top/tools/from-ftrace" bin/from-ftrace
+    put 644 "$top/docs/man/napi_replay.1" share/man/man1/napi_replay.1
+fi

@@ -1,0 +1,228 @@
+/* A million random calls, with arguments in and out of range, on every kind of handle: each is answered as the one-thread instance
+ * answers it, which goes through the same calls, or as fintaqush.h says, and changes nothing else. What is wrong ends it with the
+ * call's number. hammer [CALLS [SEED]] */
+#include <fintaqush.h>
+#include <inttypes.h>
+#include <stdio.h>
+#include <stdlib.h>
+
+enum { SEATS = 3, CONTROLLER = SEATS, CAPACITY = 100, LISTED = 64 };
+
+static uint64_t seed = 1;
+static unsigned long call;
+static bool seen[128]; /* the numbers that were answered */
+
+static uint32_t random_below(uint32_t bound) {
+    seed = seed * UINT64_C(6364136223846793005) + UINT64_C(1442695040888963407);
+    return (uint32_t)((seed >> 33) % bound);
+}
+
+static void want(const char *what, uint32_t said, uint32_t wanted) {
+    if (said < 128) seen[said] = true;
+    if (said == wanted) return;
+    printf("call %lu: %s: %s, wanted %s\n", call, what, fq_status_name(said), fq_status_name(wanted));
+    exit(1);
+}
+
+static struct fq_handle ring = FQ_NONE, control = FQ_NONE, seats[SEATS] = {FQ_NONE, FQ_NONE, FQ_NONE};
+static struct fq_napi peer;      /* goes through the same calls */
+static bool is_marked;           /* the controller has marked a disable, and not taken the instance */
+static uint64_t put_next, given; /* packets put and given so far */
+
+/* What the seat is, as the peer has it. */
+static bool owns(uint32_t who, uint8_t place) { return peer.place == place && peer.owner == who; }
+static bool is_granted(uint32_t who) { return owns(who, 1); }
+static bool polls(uint32_t who) { return owns(who, 4) && !peer.in_busy_poll; }
+static bool busy_polls(uint32_t who) { return owns(who, 4) && peer.in_busy_poll; }
+static bool rests(uint32_t who) { return !owns(who, 1) && !owns(who, 4); }
+
+static void schedule(uint32_t who) {
+    const uint32_t wanted = rests(who) ? fq_napi_schedule(&peer, who) : (uint32_t)FQ_NOT_ALLOWED;
+    want("schedule", fq_seat_schedule(&seats[who]), wanted);
+}
+
+static void hand(uint32_t who) {
+    const uint32_t kind = random_below(3);
+    uint32_t wanted = FQ_NOT_ALLOWED;
+    if (kind > 1) wanted = FQ_BAD_KIND;
+    else if (is_granted(who)) wanted = fq_napi_hand(&peer, who, kind);
+    want("hand", fq_seat_hand(&seats[who], kind), wanted);
+}
+
+static void take(uint32_t who) {
+    const uint32_t kind = random_below(3);
+    uint32_t wanted = FQ_NOT_ALLOWED;
+    if (kind > 1) wanted = FQ_BAD_KIND;
+    else if (rests(who)) wanted = fq_napi_take(&peer, who, kind);
+    want("take", fq_seat_take(&seats[who], kind), wanted);
+}
+
+static void requeue(uint32_t who) {
+    const uint32_t wanted = polls(who) ? fq_napi_hand(&peer, who, FQ_LIST) : (uint32_t)FQ_NOT_ALLOWED;
+    want("requeue", fq_seat_requeue(&seats[who]), wanted);
+}
+
+static void complete(uint32_t who) {
+    const uint32_t wanted = polls(who) || busy_polls(who) ? fq_napi_complete(&peer, who) : (uint32_t)FQ_NOT_ALLOWED;
+    want("complete", fq_seat_complete(&seats[who]), wanted);
+}
+
+static void busy_take(uint32_t who) {
+    const uint32_t wanted = rests(who) ? fq_napi_busy_take(&peer, who) : (uint32_t)FQ_NOT_ALLOWED;
+    want("busy take", fq_seat_busy_take(&seats[who]), wanted);
+}
+
+static void busy_stop(uint32_t who) {
+    const uint32_t wanted = busy_polls(who) ? fq_napi_busy_stop(&peer, who) : (uint32_t)FQ_NOT_ALLOWED;
+    want("busy stop", fq_seat_busy_stop(&seats[who]), wanted);
+}
+
+static void set_threaded(uint32_t who) {
+    const bool threaded = random_below(2);
+    if (rests(who)) fq_napi_set_threaded(&peer, who, threaded);
+    want("set threaded", fq_seat_set_threaded(&seats[who], threaded), rests(who) ? FQ_OK : FQ_NOT_ALLOWED);
+}
+
+static void poll(uint32_t who) {
+    struct fq_packet out[64];
+    size_t count = 99;
+    const size_t weight = random_below(67), len = random_below(8) ? 64 : random_below(64);
+    uint32_t wanted = polls(who) || busy_polls(who) ? FQ_OK : FQ_NOT_ALLOWED;
+    if (weight == 0 || weight > 64) wanted = FQ_BAD_WEIGHT;
+    else if (len < weight) wanted = FQ_NO_ROOM;
+    want("poll", fq_seat_poll(&seats[who], weight, out, len, &count), wanted);
+    if (wanted != FQ_OK) want("poll's count", (uint32_t)count, 0);
+    if (count > weight && wanted == FQ_OK) want("poll's count", 1, 0);
+    for (size_t i = 0; i < count; i++, given++) want("the packet's number", out[i].number == given && out[i].bytes == given % 1500, 1);
+}
+
+static void put(void) {
+    const uint32_t wanted = put_next - given < CAPACITY ? FQ_OK : FQ_FULL;
+    want("put", fq_ring_put(&ring, put_next, (uint32_t)(put_next % 1500)), wanted);
+    if (wanted == FQ_OK) put_next++;
+}
+
+static void enable(void) {
+    const bool threaded = random_below(2);
+    const bool off = peer.place == 5 && !peer.disable;
+    const uint32_t wanted = off ? fq_napi_enable(&peer, CONTROLLER, threaded) : (uint32_t)FQ_NOT_ALLOWED;
+    want("enable", fq_control_enable(&control, threaded), wanted);
+}
+
+static void mark(void) {
+    const bool on = peer.place != 5 && !is_marked;
+    const uint32_t wanted = on ? fq_napi_mark_disable(&peer, CONTROLLER) : (uint32_t)FQ_NOT_ALLOWED;
+    is_marked |= on;
+    want("mark", fq_control_mark(&control), wanted);
+}
+
+static void try_take(void) {
+    uint32_t wanted = FQ_NOT_ALLOWED;
+    if (is_marked) wanted = fq_napi_take_disable(&peer, CONTROLLER);
+    if (wanted == FQ_TAKEN) {
+        want("unmark", fq_napi_unmark(&peer, CONTROLLER), FQ_OK);
+        is_marked = false;
+    }
+    want("try to take", fq_control_try_take(&control), wanted);
+}
+
+/* Handles of other kinds, none at all, and what may not be freed. */
+static void wrong(uint32_t who) {
+    struct fq_handle none = FQ_NONE;
+    struct fq_packet out[64];
+    uint32_t id;
+    size_t count;
+    want("schedule by the controller", fq_seat_schedule(&control), FQ_BAD_HANDLE);
+    want("schedule by the ring", fq_seat_schedule(&ring), FQ_BAD_HANDLE);
+    want("schedule by nothing", fq_seat_schedule(&none), FQ_BAD_HANDLE);
+    want("mark by a seat", fq_control_mark(&seats[who]), FQ_BAD_HANDLE);
+    want("put into a seat", fq_ring_put(&seats[who], 1, 1), FQ_BAD_HANDLE);
+    want("poll of the input", fq_ring_poll(&ring, 64, out, 64, &count), FQ_BAD_HANDLE);
+    want("next of a seat", fq_run_next(&seats[who], &id), FQ_BAD_HANDLE);
+    want("push to nothing", fq_list_push(&none, 1), FQ_BAD_HANDLE);
+    want("free of nothing", fq_free(&none), FQ_BAD_HANDLE);
+    want("a ring in a seat", fq_ring_new(&seats[who], 4), FQ_IN_USE);
+    want("a list in a seat", fq_list_new(&seats[who]), FQ_IN_USE);
+    if (!rests(who)) want("free of a seat that doesn't rest", fq_free(&seats[who]), FQ_NOT_ALLOWED);
+    if (peer.place != 5) want("free of an enabled controller", fq_free(&control), FQ_NOT_ALLOWED);
+}
+
+static void one_call(void) {
+    static void (*const of_seat[])(uint32_t) = {schedule, hand, take, requeue, complete, busy_take, busy_stop, set_threaded, poll, wrong};
+    static void (*const others[])(void) = {put, enable, mark, try_take};
+    const uint32_t which = random_below(18);
+    if (which < 14) of_seat[which % 10](random_below(SEATS));
+    else others[which - 14]();
+}
+
+/* A list and its runs, beside numbers that are counted here. */
+static struct fq_handle list = FQ_NONE;
+static uint32_t listed, asked, weight, budget, window, run_polls, run_work;
+static bool runs;
+
+static void call_of_list(void) {
+    struct fq_run_report report;
+    uint32_t id, work, next, wanted;
+    switch (random_below(5)) {
+    case 0:
+        wanted = listed < LISTED ? FQ_OK : FQ_FULL;
+        want("push", fq_list_push(&list, random_below(1000)), wanted);
+        listed += wanted == FQ_OK;
+        break;
+    case 1: {
+        const uint32_t b = random_below(200), w = random_below(66), o = random_below(20);
+        wanted = runs ? FQ_NOT_ALLOWED : w == 0 || w > 64 ? FQ_BAD_WEIGHT : b == 0 || o == 0 ? FQ_BAD_BUDGET : FQ_OK;
+        want("begin", fq_run_begin(&list, b, w, o), wanted);
+        if (wanted == FQ_OK) runs = true, budget = b, weight = w, window = o, run_polls = run_work = asked = 0;
+        break;
+    }
+    case 2:
+        wanted = fq_run_next(&list, &id);
+        if (!runs || asked) want("next", wanted, FQ_NOT_ALLOWED);
+        else if (run_work >= budget || run_polls >= window || listed == 0) want("next", wanted, FQ_DONE);
+        else if (wanted != FQ_DONE) want("next", wanted, FQ_OK), asked = 1; /* done too where all is to be polled again */
+        break;
+    case 3:
+        work = random_below(66), next = random_below(6);
+        wanted = !asked ? FQ_NOT_ALLOWED : work > weight ? FQ_BAD_WORK : next > FQ_NEXT_ABSENT ? FQ_BAD_NEXT : FQ_OK;
+        want("polled", fq_run_polled(&list, work, next), wanted);
+        if (wanted != FQ_OK) break;
+        asked = 0, run_polls++, run_work += work;
+        listed -= next != FQ_NEXT_AGAIN && next != FQ_NEXT_REPOLL;
+        break;
+    default:
+        wanted = runs && !asked ? FQ_OK : FQ_NOT_ALLOWED;
+        if (runs) want("free of a list in a run", fq_free(&list), FQ_NOT_ALLOWED);
+        want("end", fq_run_end(&list, &report), wanted);
+        if (wanted != FQ_OK) break;
+        want("polls", report.polls == run_polls && report.work == run_work, 1);
+        want("squeezed", report.squeezed, run_work >= budget || run_polls >= window);
+        runs = false;
+    }
+}
+
+int main(int count, char **words) {
+    const unsigned long calls = count > 1 ? strtoul(words[1], NULL, 10) : 1000000;
+    if (count > 2) seed = strtoull(words[2], NULL, 10);
+    peer = fq_napi_new(CONTROLLER);
+    want("a ring of no places", fq_ring_new(&ring, 0), FQ_BAD_CAPACITY);
+    want("a ring of too many", fq_ring_new(&ring, 65537), FQ_BAD_CAPACITY);
+    want("a ring", fq_ring_new(&ring, CAPACITY), FQ_OK);
+    want("one seat", fq_shared_new(&ring, &control, seats, 1), FQ_BAD_COUNT);
+    want("a shared instance", fq_shared_new(&ring, &control, seats, SEATS), FQ_OK);
+    want("a list", fq_list_new(&list), FQ_OK);
+    for (call = 0; call < calls; call++) {
+        if (random_below(4)) one_call();
+        else call_of_list();
+    }
+    for (uint32_t i = 0; i < SEATS; i++) want("the end of a seat", fq_abandon(&seats[i]), FQ_OK);
+    want("the end of the controller", fq_abandon(&control), FQ_OK);
+    want("the end of the list", fq_abandon(&list), FQ_OK);
+    want("the end of the ring", fq_free(&ring), FQ_OK);
+    for (uint32_t i = FQ_GRANTED; i <= FQ_DONE; i++) {
+        if (i != FQ_CHANGED && !seen[i]) return printf("never answered: %s\n", fq_status_name(i)), 1;
+    }
+    if (!seen[FQ_NOT_ALLOWED] || given < calls / 100) return printf("too few packets: %" PRIu64 "\n", given), 1;
+    printf("%lu calls, each answered as it has to be\n", calls);
+    return 0;
+}

@@ -1,0 +1,190 @@
+#!/usr/bin/env bash
+# The C library: its header against what the archive exports and against the numbers that are proved; the examples and the hammer,
+# compiled with warnings as errors by each compiler there is, run and compared, also under sanitizers and valgrind; and what has to
+# be refused by compilers. The last line is `N passed, M failed`.
+set -uo pipefail
+unset CDPATH
+top=$(dirname "$(dirname "$(readlink -f "$0")")")
+examples=$top/examples/c
+header=$top/include/fintaqush.h
+scratch=$(mktemp -d)
+trap 'rm -rf "$scratch"' EXIT
+passed=0
+failed=0
+
+# check NAME COMMAND ..: counts its status. What it wrote is shown where it fails.
+check() {
+    local name=$1
+    shift
+    if "$@" > "$scratch/log" 2>&1; then
+        passed=$((passed + 1))
+    else
+        failed=$((failed + 1))
+        echo "c_library: $name"
+        tail -n 20 "$scratch/log" | sed 's/^/    /'
+    fi
+}
+
+# compile COMPILER SOURCE PROGRAM FLAG ..: with all warnings as errors.
+compile() {
+    local compiler=$1 source=$2 program=$3 standard=-std=c11
+    shift 3
+    case $source in *.cpp) standard=-std=c++17 ;; esac
+    "$compiler" "$standard" -Wall -Wextra -Werror -pthread -I "$top/include" "$@" "$source" "$scratch/libfintaqush.a" -o "$program"
+}
+
+# compared STDOUT COMMAND ..: it ends well, and prints just this.
+compared() {
+    local wanted=$1
+    shift
+    timeout 120 "$@" > "$scratch/printed" && diff "$scratch/printed" "$wanted"
+}
+
+refused() {
+    local why=$1
+    shift
+    ! "$@" > "$scratch/refusal" 2>&1 && grep -q -e "$why" "$scratch/refusal" || { cat "$scratch/refusal"; false; }
+}
+
+# ---- the archive and the header
+
+header_calls() {
+    awk '/^static inline|^FQ_CHECKED static inline/ { next } match($0, /fq_[a-z_]+\(/) && /^(FQ_|struct |uint)/ {
+        print substr($0, RSTART, RLENGTH - 1) }' "$header" | sort
+}
+
+exports() { nm -g --defined-only "$scratch/libfintaqush.a" | awk 'NF == 3 { print $3 }' | sort; }
+
+same_calls() { diff <(header_calls) <(exports | grep '^fq_'); }
+
+no_other_exports() { ! exports | grep -v -e '^fq_' -e '^rattle_'; }
+
+asks_for_libc_alone() {
+    ! nm -u "$scratch/libfintaqush.a" | awk 'NF == 2 { print $2 }' | grep -v -x -e 'rattle_.*' -e memcpy -e memset -e memmove -e malloc \
+        -e realloc -e free -e _GLOBAL_OFFSET_TABLE_
+}
+
+# `NAME NUMBER` of each status: in the header's enum, and as they are proved.
+header_numbers() {
+    awk '/^enum fq_status/ { on = 1 } on && match($0, /FQ_[A-Z_]+ = [0-9]+/) { split(substr($0, RSTART + 3, RLENGTH - 3), w, " = ")
+        print w[1], w[2] } /^};/ { on = 0 }' "$header" | sort
+}
+
+proved_numbers() { awk '/^[A-Z_]+ = [0-9]+$/ { print $1, $3 }' "$top/crates/napi_c/specs/Status.antt" | sort; }
+
+code_numbers() {
+    sed -n 's/^pub const \([A-Z_]*\): u32 = \([0-9]*\);$/\1 \2/p' "$top/crates/napi_c/src/status.rt" | sort
+}
+
+each_number_once() { ! header_numbers | awk '{ print $2 }' | sort | uniq -d | grep .; }
+
+# of the faults of a queue limit the header alone has the names, and dql_core the numbers
+numbers_agree() { [ -s "$header" ] && [ -z "$(comm -13 <(header_numbers) <({ proved_numbers; code_numbers; } | sort))" ] &&
+    diff <(header_numbers | awk '$2 == 0 || $2 > 15') <(code_numbers); }
+
+each_has_a_name() {
+    local name
+    for name in $(header_numbers | awk '{ print $1 }'); do
+        grep -q "case FQ_$name: return \"FQ_$name\";" "$header" || { echo "$name"; return 1; }
+    done
+}
+
+if ! "$top/scripts/c_library.sh" "$scratch"; then
+    echo 'c_library: the library is not built'
+    echo '0 passed, 1 failed'
+    exit 1
+fi
+check 'the header declares what is exported' same_calls
+check 'nothing else is exported' no_other_exports
+check 'nothing is asked for but the C library' asks_for_libc_alone
+check 'no number twice' each_number_once
+check "the header's numbers are those that are proved" numbers_agree
+check 'each number has its name' each_has_a_name
+
+# ---- the examples
+
+compilers=(gcc g++)
+for compiler in clang clang++; do
+    command -v "$compiler" > /dev/null && compilers+=("$compiler")
+done
+for compiler in "${compilers[@]}"; do
+    case $compiler in *++) language=cpp ;; *) language=c ;; esac
+    for source in "$examples"/*."$language"; do
+        name=$(basename "$source" ".$language")
+        check "$compiler compiles $name.$language" compile "$compiler" "$source" "$scratch/$name" -O2
+        check "$compiler: $name.$language" compared "$examples/$name.stdout" "$scratch/$name"
+    done
+done
+
+echo '1000000 calls, each answered as it has to be' > "$scratch/hammered"
+check 'the hammer compiles' compile gcc "$top/tests/c/hammer.c" "$scratch/hammer" -O2
+check 'the hammer' compared "$scratch/hammered" "$scratch/hammer"
+check 'the hammer, another seed' compared "$scratch/hammered" "$scratch/hammer" 1000000 4711
+
+# The fold of bench/limits.cc was written from the rules, apart from the library.
+as_the_fold() {
+    compile gcc "$top/bench/c_library.c" "$scratch/counts" -O2 && g++ -O2 "$top/bench/limits.cc" -o "$scratch/fold" &&
+        "$scratch/fold" 1000000 > "$scratch/folded" && compared "$scratch/folded" "$scratch/counts" limits 1000000
+}
+check 'a million pairs on a queue limit, as a plain fold counts them' as_the_fold
+
+# sanitized NAME FLAG: the examples and the hammer under a sanitizer.
+sanitized() {
+    local name=$1 flag=$2 source program language
+    for source in "$examples"/*.c "$examples"/*.cpp; do
+        program=$(basename "$source")
+        language=${program##*.}
+        [ "$language" = c ] && compiler=gcc || compiler=g++
+        check "$name: $program compiles" compile "$compiler" "$source" "$scratch/sanitized" -O1 -g "$flag" -fno-sanitize-recover=all
+        check "$name: $program" compared "$examples/${program%.*}.stdout" "$scratch/sanitized"
+    done
+    check "$name: the hammer compiles" compile gcc "$top/tests/c/hammer.c" "$scratch/sanitized" -O1 -g "$flag" -fno-sanitize-recover=all
+    check "$name: the hammer" compared "$scratch/hammered" "$scratch/sanitized"
+}
+
+export ASAN_OPTIONS=detect_leaks=1
+sanitized 'addresses, leaks and undefined behaviour' -fsanitize=address,undefined
+sanitized 'threads' -fsanitize=thread
+
+if command -v valgrind > /dev/null; then
+    check 'compiles for valgrind' compile gcc "$examples/threads.c" "$scratch/threads" -O1 -g
+    check 'valgrind: threads' compared "$examples/threads.stdout" \
+        valgrind -q --fair-sched=yes --leak-check=full --show-leak-kinds=all --error-exitcode=9 "$scratch/threads"
+    check 'compiles for valgrind' compile gcc "$top/tests/c/hammer.c" "$scratch/hammer" -O1 -g
+    check 'valgrind: the hammer' compared "$scratch/hammered" \
+        valgrind -q --leak-check=full --show-leak-kinds=all --error-exitcode=9 "$scratch/hammer"
+fi
+
+# ---- what compilers refuse
+
+cat > "$scratch/null.c" << 'END'
+#include <fintaqush.h>
+int main(void) { return (int)fq_free(NULL); }
+END
+cat > "$scratch/ignored.c" << 'END'
+#include <fintaqush.h>
+int main(void) { struct fq_napi napi = fq_napi_new(0); fq_napi_schedule(&napi, 1); return 0; }
+END
+cat > "$scratch/polls.cpp" << 'END'
+#include <fintaqush.hpp>
+void poll(fintaqush::Caller &caller, fintaqush::Packets &out) { caller.poll(out); }
+int main() {}
+END
+cat > "$scratch/copies.cpp" << 'END'
+#include <fintaqush.hpp>
+fintaqush::Caller twice(fintaqush::Caller &caller) { return caller; }
+int main() {}
+END
+cat > "$scratch/enables.cpp" << 'END'
+#include <fintaqush.hpp>
+auto enable(fintaqush::Control<fintaqush::On> control) { return std::move(control).enable(false); }
+int main() {}
+END
+check 'a null handle is refused' refused nonnull compile gcc "$scratch/null.c" "$scratch/refused"
+check 'an answer that nobody reads is refused' refused unused-result compile gcc "$scratch/ignored.c" "$scratch/refused"
+check 'a poll by a Caller is refused' refused "has no member named .poll" compile g++ "$scratch/polls.cpp" "$scratch/refused"
+check 'a copy of a Caller is refused' refused 'deleted' compile g++ "$scratch/copies.cpp" "$scratch/refused"
+check 'a second enable is refused' refused "has no member named .enable" compile g++ "$scratch/enables.cpp" "$scratch/refused"
+
+echo "$passed passed, $failed failed"
+[ "$failed" = 0 ]

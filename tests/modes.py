@@ -1,0 +1,180 @@
+#!/usr/bin/env python3
+"""modes.py PROGRAM: the three modes of the replay beside one another. The last line is `N passed, M failed`.
+
+Serial mode is the judge of shared mode: the runs of runs.txt, and random traces of both versions by several settings. Of a
+trace that is cut anywhere, the rules of docs/FORMATS.md, written down here anew, say whether it has a fault, and which."""
+import itertools
+import os
+import re
+import subprocess
+import sys
+
+TESTS = os.path.dirname(os.path.abspath(__file__))
+PROGRAM = sys.argv[1]
+RANGES = {
+    "open": (1, 16, 1, 65536), "rx": (1, 16, 1, 65535), "tx": (1, 16, 1, 65535), "done": (1, 16, 0, 65536),
+    "softirq": (0, 0, 0, 0), "kthread": (1, 16, 0, 0), "disable": (1, 16, 0, 0), "enable": (1, 16, 0, 0),
+    "threaded": (1, 16, 0, 1), "busy": (1, 16, 1, 65535),
+}
+# Six devices, each event, both ways of polling, a disable that waits and one that doesn't.
+SIX_DEVICES = "\n".join(
+    ["moment,device,event,value"]
+    + ["0,%d,open,%d" % (device, 64 * device) for device in range(1, 7)]
+    + ["1,2,threaded,1", "1,1,rx,100", "1,2,rx,60", "2,3,rx,1500", "2,3,tx,1500", "3,0,softirq,0", "4,2,kthread,0"]
+    + ["5,4,rx,65535", "6,4,disable,0", "7,0,softirq,0", "8,5,disable,0", "9,5,rx,1", "10,5,enable,0", "11,3,done,1"]
+    + ["12,6,rx,%d" % size for size in (1, 2, 3)]
+    + ["13,0,softirq,0", "14,4,enable,0", "15,4,rx,9", "16,0,softirq,0", ""]
+)
+ONE_PACKET = "moment,device,event,value\n0,1,open,4\n1,1,rx,100\n"
+# What a trace that ends so is answered.
+NAMED_CUTS = [
+    (ONE_PACKET + "2,0,softi", "trace fault 2 BadFields row 3"),
+    (ONE_PACKET + "2,0", "trace fault 2 BadFields row 3"),
+    (ONE_PACKET + "2,0,softirq,", "trace fault 3 BadNumber row 3"),
+    ("moment,dev", "trace fault 1 BadHeader row 0"),
+    (ONE_PACKET + "2,0,softi,0\n", "trace fault 4 BadEvent row 3"),
+]
+
+passed = failed = 0
+
+
+def judge(name, holds, why=""):
+    global passed, failed
+    if holds:
+        passed += 1
+    else:
+        failed += 1
+        print("%s: other than wanted%s" % (name, why and ": " + why))
+
+
+def play(text, words):
+    run = subprocess.run([PROGRAM] + words, input=text, capture_output=True, timeout=60)
+    return run.returncode, run.stdout, run.stderr
+
+
+def row_fault(fields, states):
+    """The number and the name of a row's first fault, or None. `states` tells of each device whether it is on."""
+    if len(fields) != 4:
+        return 2, "BadFields"
+    numbers = [fields[0], fields[1], fields[3]]
+    if not all(re.fullmatch("[0-9]{1,20}", field) for field in numbers):
+        return 3, "BadNumber"
+    event = fields[2]
+    if event not in RANGES or event == "busy":
+        return 4, "BadEvent"
+    moment, device, value = map(int, numbers)
+    low, high, least, most = RANGES[event]
+    if moment >= 2 ** 64 or not low <= device <= high or not least <= value <= most:
+        return 5, "OutOfRange"
+    if event not in ("open", "softirq") and device not in states:
+        return 6, "UnknownDevice"
+    if event == "open" and device in states:
+        return 7, "OpenTwice"
+    if event in ("disable", "enable") and states[device] != (event == "disable"):
+        return 8, "WrongState"
+    if event in ("open", "enable", "disable"):
+        states[device] = event != "disable"
+    return None
+
+
+def first_fault(text):
+    """The line of the first fault of a version 1 trace without quotes, or None."""
+    records = [line.split(",") for line in text.split("\n") if line]
+    if not records or records[0] != ["moment", "device", "event", "value"]:
+        return "trace fault 1 BadHeader row 0"
+    states = {}
+    for number, fields in enumerate(records[1:], 1):
+        fault = row_fault(fields, states)
+        if fault:
+            return "trace fault %d %s row %d" % (fault + (number,))
+    return None
+
+
+def cut_traces():
+    """Each prefix of the trace of six devices, in each mode: its fault, or a whole report, and nothing of both."""
+    last = {"serial": b"total devices ", "shared": b"total devices ", "threads": b"total devices "}
+    for mode in ("serial", "shared", "threads"):
+        wrong = []
+        for end in range(len(SIX_DEVICES) + 1):
+            text = SIX_DEVICES[:end]
+            fault = first_fault(text)
+            status, out, err = play(text.encode(), ["--mode", mode])
+            if fault:
+                fits = (status, out, err) == (2, b"", (fault + "\n").encode())
+            else:
+                fits = status == 0 and not err and out.endswith(b"\n") and out.split(b"\n")[-2].startswith(last[mode])
+            if not fits:
+                wrong.append(end)
+        judge("cut traces, %s mode" % mode, not wrong, "cut behind byte %s" % wrong[:8])
+        for text, line in NAMED_CUTS:
+            judge("%r, %s mode" % (text[-12:], mode), play(text.encode(), ["--mode", mode]) == (2, b"", (line + "\n").encode()))
+
+
+def runs():
+    """The runs of runs.txt: name, words, input."""
+    name, words, text = None, [], []
+    for line in itertools.chain(open(os.path.join(TESTS, "runs.txt"), errors="surrogateescape"), ["run"]):
+        kind, _, rest = line.rstrip("\n").partition(" ")
+        if kind == "run":
+            if name:
+                yield name, words, "".join(text).encode(errors="surrogateescape")
+            name, words, text = rest, [], []
+        elif kind == "word":
+            words.append(rest)
+        elif kind == "in" or kind.startswith("in*"):
+            text.append((rest + "\n") * int(kind[3:] or 1))
+
+
+def worked_runs():
+    """Each run without a mode of its own also in shared mode; each with threads also with 1, 2 and 8 pollers."""
+    for name, words, text in runs():
+        if not any(word.startswith("--mode") or word in ("--help", "--version") for word in words):
+            judge("%s in shared mode" % name, play(text, words) == play(text, words + ["--mode", "shared"]))
+        if ("threads" in words or "--mode=threads" in words) and not any("pollers" in word for word in words):
+            answers = [play(text, words + ["--pollers", pollers]) for pollers in ("1", "2", "8")]
+            judge("%s with 1, 2 and 8 pollers" % name, answers[0] == answers[1] == answers[2] == play(text, words))
+
+
+def random_traces(count):
+    """Random traces of both versions, by settings in turn: shared mode's bytes, line and status are serial mode's."""
+    settings = [[], ["--budget", "1"], ["--budget", "64", "--weight", "1"], ["--weight", "63", "--window", "2"], ["--window", "1"]]
+    for version in ("1", "2"):
+        reports = 0
+        for seed in range(1, count + 1):
+            written = subprocess.run([sys.executable, "-B", os.path.join(TESTS, "../bench/random_trace.py"), str(seed), version], capture_output=True)
+            words = settings[seed % len(settings)]
+            serial = play(written.stdout, words)
+            reports += serial[0] == 0
+            judge("random trace %d of version %s %s" % (seed, version, words), serial == play(written.stdout, words + ["--mode", "shared"]))
+        judge("random traces of version %s have reports" % version, reports > count // 2)
+
+
+def version_2():
+    """A device that is disabled, receives, is enabled and busy polled; a disable of device 16 that waits; packets of the greatest
+    size; a threaded setting that outlives a disable. By hand, from the rules."""
+    header = "moment,device,event,value,2\n"
+    for name, rows, wanted in [
+        ("disabled, receives, enabled, busy polled",
+         "0,1,open,4\n1,1,disable,0\n2,1,rx,100\n3,1,enable,0\n4,1,busy,1\n",
+         "busy 5 device 1 polls 2 work 1\ndevice 1 on arrived 1 dropped 0 polled 1 bytes 100 left 0 polls 2\n"),
+        ("the greatest packet",
+         "0,1,open,4\n1,1,rx,65535\n2,0,softirq,0\n",
+         "softirq 3 polls 1 work 1 squeezed 0\ndevice 1 on arrived 1 dropped 0 polled 1 bytes 65535 left 0 polls 1\n"),
+        ("a disable of device 16 that waits",
+         "0,16,open,4\n1,16,rx,9\n2,16,disable,0\n3,0,softirq,0\n4,16,rx,9\n5,16,enable,0\n",
+         "softirq 4 polls 1 work 1 squeezed 0\ndevice 16 on arrived 2 dropped 0 polled 1 bytes 9 left 1 polls 1\n"),
+        ("a threaded setting kept over disable and enable",
+         "0,1,open,4\n1,1,threaded,1\n2,1,disable,0\n3,1,enable,0\n4,1,rx,7\n5,0,softirq,0\n6,1,kthread,0\n",
+         "softirq 6 polls 0 work 0 squeezed 0\nkthread 7 device 1 polls 1 work 1\ndevice 1 on arrived 1 dropped 0 polled 1 bytes 7 left 0 polls 1\n"),
+    ]:
+        for mode in ("serial", "shared"):
+            status, out, err = play((header + rows).encode(), ["--mode", mode])
+            judge("%s, %s mode" % (name, mode), status == 0 and out.decode().startswith(wanted), (out + err).decode())
+
+
+cut_traces()
+worked_runs()
+version_2()
+random_traces(150)
+print("%d passed, %d failed" % (passed, failed))
+sys.exit(1 if failed else 0)
