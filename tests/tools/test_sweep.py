@@ -17,6 +17,11 @@ def slurm_block():
     return "".join(f"{line[4:]}\n" for line in lines[first:last])
 
 
+def has_slurm():
+    """Whether a job can be given to a slurmd."""
+    return bool(shutil.which("sbatch")) and subprocess.run(["sinfo", "-h"], capture_output=True, check=False).returncode == 0
+
+
 class Sweep(InFolder):
     FAULTY = HEADER + "0,1,rx,60\n"
     BURST = HEADER + "0,1,open,8\n" + "0,1,rx,60\n" * 9 + "1,0,softirq,0\n0,1,tx,100\n0,1,done,1\n"
@@ -139,9 +144,7 @@ class Sweep(InFolder):
             self.assertIn(b"/\xff;touch x,\x1b.csv", self.out.read_bytes())
             self.out.unlink()
 
-    @unittest.skipUnless(shutil.which("slurmd") and shutil.which("sbatch") and subprocess.run(
-        ["sinfo", "-h"], capture_output=True, check=False).returncode == 0 if shutil.which("sinfo") else False,
-        "no slurmd answers here")
+    @unittest.skipUnless(has_slurm(), "no slurmd answers here")
     def test_the_block_for_slurm(self):
         script = self.write("job.sh", slurm_block().replace("traces", str(self.folder)).replace("rows-", f"{self.folder}/rows-"))
         done = subprocess.run(["sbatch", "--wait", script], cwd=TOP, capture_output=True, text=True, check=False)
