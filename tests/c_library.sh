@@ -79,7 +79,7 @@ code_numbers() {
 each_number_once() { ! header_numbers | awk '{ print $2 }' | sort | uniq -d | grep .; }
 
 # of the faults of a queue limit the header alone has the names, and dql_core the numbers
-numbers_agree() { [ -s "$header" ] && [ -z "$(comm -13 <(header_numbers) <({ proved_numbers; code_numbers; } | sort))" ] &&
+numbers_agree() { [ -s "$header" ] && [ -z "$(comm -13 <(header_numbers) <({ proved_numbers; code_numbers; } | sort -u))" ] &&
     diff <(header_numbers | awk '$2 == 0 || $2 > 15') <(code_numbers); }
 
 each_has_a_name() {
