@@ -1,7 +1,16 @@
 -- What is dealt in two and put together again.
-use Rattle.std.proofs.Common.{◌≡◌, zero, suc, ◌+◌, Bool, true, false, List, [], ◌∷◌, ◌++◌, length, refl, ap, arith, All}
+use Rattle.std.proofs.Common.{◌≡◌, ℕ, zero, suc, ◌+◌, Bool, true, false, List, [], ◌∷◌, ◌++◌, length, refl, sym, ap, ◌∙◌, arith, All}
 use Rattle.std.specs.List.{AllZip}
-use Rattle.interrupt_workers.specs.Deals.{merged, others, picked}
+use Rattle.std.specs.Prelude.{map}
+use Rattle.std.proofs.lemmas.List.{map-append}
+use Rattle.interrupt_workers.specs.declared.station.Station.{Station}
+use Rattle.interrupt_workers.specs.Deals.{is_dealt, merged, others, picked}
+
+-- one more is looked at
+pub dealt_more : {D : Type 0} (number pollers : ℕ) (order : List Bool) (stations : List (Station D)) {b : Bool} (x : Station D)
+    → order ≡ map (is_dealt number pollers) stations → is_dealt number pollers x ≡ b → order ++ b ∷ [] ≡ map (is_dealt number pollers) (stations ++ x ∷ [])
+dealt_more number pollers order stations {b} x e is =
+    ap (λ l. l ++ b ∷ []) e ∙ ap (λ d. map (is_dealt number pollers) stations ++ d ∷ []) (sym is) ∙ sym (map-append (is_dealt number pollers) stations (x ∷ []))
 
 -- one more is dealt
 pub picked_yes : {A : Type 0} (bs : List Bool) (xs : List A) (x : A) → length bs ≡ length xs → picked (bs ++ true ∷ []) (xs ++ x ∷ []) ≡ picked bs xs ++ x ∷ []

@@ -1,5 +1,10 @@
 -- How a list is dealt in two, and put together again.
-use Rattle.std.specs.Prelude.{◌≡◌, length, Bool, true, false, List, [], ◌∷◌}
+use Rattle.std.specs.Prelude.{◌≡◌, ◌==◌, ◌-◌, ◌%◌, ℕ, length, Bool, true, false, List, [], ◌∷◌}
+use Rattle.interrupt_workers.specs.declared.station.Station.{Station}
+
+-- a poller's own stations: numbered from 0, they leave its number when divided by the count of pollers
+abbrev pub is_dealt : {D : Type 0} → ℕ → ℕ → Station D → Bool
+is_dealt number pollers station = (station.number - 1) % pollers == number
 
 -- those that are marked, in order
 abbrev pub picked : {A : Type 0} → List Bool → List A → List A

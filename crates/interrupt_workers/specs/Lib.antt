@@ -4,3 +4,4 @@ pub mod Works
 pub mod Opens
 pub mod Deals
 pub mod Ends
+pub mod Calls

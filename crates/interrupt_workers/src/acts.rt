@@ -7,7 +7,7 @@ use rx_ring::Packet;
 /// One act of a device.
 #[derive(Clone, Copy, Debug, PartialEq, Eq)]
 pub enum Act {
-    /// A packet arrives and interrupts (`napi_schedule`). A full ring drops it, and interrupts all the same.
+    /// A packet arrives and interrupts (`napi_schedule`). A full ring drops it, and then nothing is asked for.
     Arrive(Packet),
     /// The device is disabled, once its polls have ended (`napi_disable`). One that is disabled stays so.
     Disable,

@@ -1,7 +1,7 @@
 //! How stations are dealt to pollers, and how what they gave comes back into order.
 
-ghost use Rattle.std.specs.Prelude.{◌≡◌, ◌≤◌, true, false, vec_items, vec_len, vec_capacity, IfOk, length};
-ghost use Rattle.interrupt_workers.specs.Deals.{merged, others, picked};
+ghost use Rattle.std.specs.Prelude.{◌≡◌, ◌≤◌, true, false, vec_items, vec_len, vec_capacity, IfOk, length, map};
+ghost use Rattle.interrupt_workers.specs.Deals.{is_dealt, merged, others, picked};
 
 use crate::station::{Finished, Station};
 use std::alloc::{AllocError, Global};
@@ -23,6 +23,7 @@ pub fn deal<D: Drop>(
     pollers: u32,
 ) -> Result<Dealt<D>, AllocError>
     requires { 1 ≤ pollers }
+    ensures order { IfOk result (λ d. vec_items d.order ≡ map (is_dealt number pollers) (vec_items stations)) }
     ensures mine { IfOk result (λ d. vec_items d.mine ≡ picked (vec_items d.order) (vec_items stations)) }
     ensures others { IfOk result (λ d. vec_items d.others ≡ others (vec_items d.order) (vec_items stations)) }
     ensures len { IfOk result (λ d. vec_len d.order ≡ vec_len stations) }
@@ -31,7 +32,7 @@ pub fn deal<D: Drop>(
     let mut others = Vec::with_capacity(alloc, stations.len())?;
     let mut order = Vec::with_capacity(alloc, stations.len())?;
     for station in stations {
-        if station.number.wrapping_sub(1) % pollers == number {
+        if station.number.saturating_sub(1) % pollers == number {
             mine.push_reserved(station);
             order.push_reserved(true);
         } else {

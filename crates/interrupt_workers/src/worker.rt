@@ -1,9 +1,10 @@
 //! An interrupt worker: it makes its device's acts, and hands the instance to its poller.
 
-ghost use Rattle.std.specs.Prelude.{◌≡◌, ℕ, ◌+◌, ◌≤◌, ◌<◌, ◌++◌, true, length};
+ghost use Rattle.std.specs.Prelude.{◌≡◌, ℕ, ◌+◌, ◌≤◌, ◌<◌, ◌++◌, true, false, is_some, length};
 ghost use Rattle.rx_ring.specs.Ends.{SameIn, capacity_of, put_list};
 ghost use Rattle.napi_calls.specs.Instance.{IsSeatOf};
 ghost use Rattle.interrupt_workers.specs.Acts.{after_acts, arrivals, brings};
+ghost use Rattle.interrupt_workers.specs.Calls.{Acts, AllActs, HandsOver, Interrupts, IsPutLast, Leaves, TurnsOff, TurnsOn};
 ghost use Rattle.interrupt_workers.specs.Seats.{AreSeatsOf, IsHoldOf};
 ghost use Rattle.interrupt_workers.specs.Works.{IsDoneBy};
 
@@ -11,7 +12,7 @@ use crate::acts::{Act, Device};
 use crew_tasks::{Bell, Gate, Signals};
 use napi_calls::{Between, Caller, Control, Granted, Kept, Napi, Off, On, Sched};
 use napi_model::Kind;
-use rx_ring::RxIn;
+use rx_ring::{Packet, RxIn};
 use shared_list::ListIn;
 use std::sync::Wait;
 use std::thread;
@@ -82,29 +83,43 @@ pub struct Desk<'s, 'p, 'n, R> {
 }
 
 impl<'s, 'p, 'n, R: Wait> Desk<'s, 'p, 'n, R> {
-    // Hands the instance to its thread, where it has one and THREADED is set, else to the list, and wakes who polls it
-    // (`____napi_schedule`).
-    fn hand_over(&self, list: &mut ListIn<R>, mut granted: Granted) -> Caller
+    // Hands the instance to the list, and wakes who polls it.
+    fn hand_to_list(&self, list: &mut ListIn<R>, granted: Granted) -> Caller
         requires { IsSeatOf self.now.napi.now granted.pass }
-        ensures { IsSeatOf self.now.napi.now result.pass }
+        ensures of { IsSeatOf self.now.napi.now result.pass }
+        ensures handed { HandsOver false granted.pass result.pass }
     {
-        if let Some(bell) = self.thread
-            && granted.look(self.napi).flags.threaded
-        {
-            let caller = granted.hand(self.napi, Kind::Thread);
-            bell.wake();
-            return caller;
-        }
         let caller = granted.hand(self.napi, Kind::List);
         list.push(self.number);
         self.poller.wake();
         caller
     }
 
-    // An interrupt: it asks for a poll, and where that is granted it hands the instance over (`napi_schedule`).
-    fn interrupt(&self, list: &mut ListIn<R>, caller: Caller) -> Caller
-        requires { IsSeatOf self.now.napi.now caller.pass }
-        ensures { IsSeatOf self.now.napi.now result.pass }
+    // Hands the instance to its thread, where it has one and THREADED is set, else to the list, and wakes who polls it
+    // (`____napi_schedule`).
+    fn hand_over(&self, list: &mut ListIn<R>, mut granted: Granted) -> Caller
+        requires { IsSeatOf self.now.napi.now granted.pass }
+        ensures of { IsSeatOf self.now.napi.now result.pass }
+        ensures handed { HandsOver (is_some self.now.thread) granted.pass result.pass }
+    {
+        let Some(bell) = self.thread else {
+            return self.hand_to_list(list, granted);
+        };
+        if !granted.look(self.napi).flags.threaded {
+            return self.hand_to_list(list, granted);
+        }
+        let caller = granted.hand(self.napi, Kind::Thread);
+        bell.wake();
+        caller
+    }
+
+    // The interrupt of a packet that was put: it asks for a poll, and where that is granted it hands the instance over
+    // (`napi_schedule`).
+    fn interrupt(&self, list: &mut ListIn<R>, caller: Caller, rx: &RxIn, packet: Packet) -> Caller
+        requires of { IsSeatOf self.now.napi.now caller.pass }
+        requires put { IsPutLast packet rx.now }
+        ensures of { IsSeatOf self.now.napi.now result.pass }
+        ensures interrupts { Interrupts (is_some self.now.thread) caller.pass result.pass }
     {
         match caller.schedule(&self.rt, self.napi) {
             Sched::Granted(granted) => self.hand_over(list, granted),
@@ -115,7 +130,10 @@ impl<'s, 'p, 'n, R: Wait> Desk<'s, 'p, 'n, R> {
     // Enables an instance that is off.
     fn turn_on(&self, hold: Hold) -> Hold
         requires { IsHoldOf self.now.napi.now hold }
-        ensures { IsHoldOf self.now.napi.now result }
+        ensures of { IsHoldOf self.now.napi.now result }
+        ensures caller { result.caller ≡ hold.caller }
+        ensures power { TurnsOn hold.threaded hold.power result.power }
+        ensures threaded { result.threaded ≡ hold.threaded }
     {
         let Hold {
             caller,
@@ -136,7 +154,10 @@ impl<'s, 'p, 'n, R: Wait> Desk<'s, 'p, 'n, R> {
     // Disables an instance that is on, which waits until its polls have ended.
     fn turn_off(&self, hold: Hold) -> Hold
         requires { IsHoldOf self.now.napi.now hold }
-        ensures { IsHoldOf self.now.napi.now result }
+        ensures of { IsHoldOf self.now.napi.now result }
+        ensures caller { result.caller ≡ hold.caller }
+        ensures power { TurnsOff hold.power result.power }
+        ensures threaded { result.threaded ≡ hold.threaded }
     {
         let threaded = hold.threaded;
         let Seats { caller, control } = self.leave(hold);
@@ -150,7 +171,9 @@ impl<'s, 'p, 'n, R: Wait> Desk<'s, 'p, 'n, R> {
     // The seats of an instance, which is disabled for that.
     fn leave(&self, hold: Hold) -> Seats
         requires { IsHoldOf self.now.napi.now hold }
-        ensures { AreSeatsOf self.now.napi.now result }
+        ensures of { AreSeatsOf self.now.napi.now result }
+        ensures caller { result.caller ≡ hold.caller }
+        ensures power { Leaves hold.power result.control.pass }
     {
         let Hold {
             caller,
@@ -176,6 +199,7 @@ impl<'s, 'p, 'n, R: Wait> Desk<'s, 'p, 'n, R> {
         requires below { k < D.acts device.old }
         requires of { IsHoldOf self.now.napi.now hold }
         ensures of { IsHoldOf self.now.napi.now result }
+        ensures made { Acts (is_some self.now.thread) (D.answer device.old k) hold result rx.old rx.new }
         ensures device { device.new ≡ D.after device.old k }
         ensures acts { D.acts device.new ≡ D.acts device.old }
         ensures ring { SameIn rx.old rx.new }
@@ -183,20 +207,22 @@ impl<'s, 'p, 'n, R: Wait> Desk<'s, 'p, 'n, R> {
         ensures put { length (put_list rx.old) + length (brings (D.answer device.old k)) ≤ capacity_of rx.old → put_list rx.new ≡ put_list rx.old ++ brings (D.answer device.old k) }
     {
         match device.act(k) {
-            Act::Arrive(packet) => {
-                let _dropped = rx.put(packet);
-                let Hold {
-                    caller,
-                    power,
-                    threaded,
-                } = hold;
-                let caller = self.interrupt(list, caller);
-                Hold {
-                    caller,
-                    power,
-                    threaded,
+            Act::Arrive(packet) => match rx.put(packet) {
+                Ok(()) => {
+                    let Hold {
+                        caller,
+                        power,
+                        threaded,
+                    } = hold;
+                    let caller = self.interrupt(list, caller, rx, packet);
+                    Hold {
+                        caller,
+                        power,
+                        threaded,
+                    }
                 }
-            }
+                Err(_dropped) => hold,
+            },
             Act::Disable => self.turn_off(hold),
             Act::Enable => self.turn_on(hold),
             Act::SetThreaded(threaded) => {
@@ -240,6 +266,7 @@ impl<'s, 'p, 'n, R: Wait> Desk<'s, 'p, 'n, R> {
     ) -> (Hold, bool)
         requires { IsHoldOf self.now.napi.now hold }
         ensures of { IsHoldOf self.now.napi.now result.0 }
+        ensures made { result.1 ≡ true → AllActs (is_some self.now.thread) D.answer D.after device.old (D.acts device.old) hold result.0 rx.old rx.new }
         ensures device { result.1 ≡ true → device.new ≡ after_acts D.after device.old (D.acts device.old) }
         ensures ring { SameIn rx.old rx.new }
         ensures few { length (put_list rx.new) ≤ length (put_list rx.old) + 4294967295 }

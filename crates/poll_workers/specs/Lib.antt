@@ -1,3 +1,4 @@
+pub mod Faults
 pub mod Spreads
 pub mod Finishes
 pub use Rattle.interrupt_workers.specs.Acts

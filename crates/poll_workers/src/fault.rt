@@ -1,5 +1,8 @@
 //! Why a run gave nothing.
 
+ghost use Rattle.std.specs.Prelude.{◌≡◌};
+ghost use Rattle.poll_workers.specs.Faults.{number_of};
+
 use thiserror::Error;
 
 /// Why a run gave nothing. All threads that were started have ended.
@@ -14,4 +17,17 @@ pub enum WorkFault {
     /// A thread could not be started.
     #[error("work fault 3 SpawnFailed")]
     SpawnFailed,
+}
+
+impl WorkFault {
+    /// Its number: 1 `OutOfMemory`, 2 `GateShut`, 3 `SpawnFailed`.
+    pub fn number(&self) -> u32
+        ensures { result ≡ number_of self.now }
+    {
+        match self {
+            WorkFault::OutOfMemory => 1,
+            WorkFault::GateShut => 2,
+            WorkFault::SpawnFailed => 3,
+        }
+    }
 }

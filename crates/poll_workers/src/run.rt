@@ -1,10 +1,11 @@
 //! A run of all stations.
 
-ghost use Rattle.std.specs.Prelude.{◌≡◌, ◌≤◌, ◌<◌, ◌+◌, IfOk, Ok, vec_items, vec_len, vec_capacity};
+ghost use Rattle.std.specs.Prelude.{◌≡◌, ◌≤◌, ◌<◌, ◌+◌, IfErr, IfOk, Ok, vec_items, vec_len, vec_capacity};
 ghost use Rattle.std.specs.List.{All, AllZip};
 ghost use Rattle.std.specs.Thread.{IsSend, IsSync};
 ghost use Rattle.interrupt_workers.specs.Deals.{IsDealt};
 ghost use Rattle.poll_workers.specs.Finishes.{IsFinished};
+ghost use Rattle.poll_workers.specs.declared.fault.WorkFault.TheVariants.{OutOfMemory};
 ghost use Rattle.interrupt_workers.specs.Opens.{IsStation};
 ghost use Rattle.crew_tasks.specs.Paces.{IsLawful};
 
@@ -18,7 +19,8 @@ use std::thread::Threads;
 
 // What was begun. Where memory was refused for it no further act is made.
 fn begun<R, G, T>(setting: &Setting<R, G>, begun: Result<T, AllocError>) -> Result<T, WorkFault>
-    ensures { IfOk result (λ x. begun ≡ Ok x) }
+    ensures made { IfOk result (λ x. begun ≡ Ok x) }
+    ensures fault { IfErr result (λ fault. fault ≡ OutOfMemory) }
 {
     match begun {
         Ok(begun) => Ok(begun),

@@ -1,2 +1,3 @@
 pub mod SeatKeeping
 pub mod Crowds
+pub mod Polled

@@ -1,6 +1,10 @@
 //! A poller: its seats are a bench, over which it runs while there is something on its list.
 
-ghost use Rattle.std.specs.Prelude.{◌≡◌, ◌≤◌, ◌<◌, length, vec_items, IfSome};
+ghost use Rattle.std.specs.Prelude.{◌≡◌, ◌≤◌, ◌<◌, List, length, vec_items, IfSome};
+ghost use Rattle.poll_engine.specs.Polls.{At, Chain, Poll};
+ghost use Rattle.poll_engine.specs.Run.{IsRun};
+ghost use Rattle.shared_list.specs.SharedList.{IsAllPopped, PopsCame, in_hand};
+ghost use Rattle.seat_pollers.specs.Crowds.{KeepsSeats};
 ghost use Rattle.seat_pollers.specs.SeatKeeping.{AreSameSeats};
 ghost use Rattle.crew_tasks.specs.Paces.{IsLawful};
 
@@ -8,7 +12,7 @@ use crate::seat::Seat;
 use crate::serving::{Serves, serve};
 use crew_tasks::{Gate, Pace, Pause, Post, Setting, Task};
 use napi_calls::Kept;
-use poll_engine::{Bench, BusyReport, Next, Once, ThreadReport, run_softirq};
+use poll_engine::{Bench, BusyReport, Next, Once, RunReport, ThreadReport, run_softirq};
 use rx_ring::Batch;
 use shared_list::SharedList;
 use std::sync::Wait;
@@ -72,6 +76,23 @@ struct Poller<'n, R> {
     ghost lawful: { IsLawful pace },
 }
 
+impl<'n, R: Wait> Poller<'n, R> {
+    // A run over what is on the list, by the budget, the weight and the window of the pace (`net_rx_action`).
+    fn run(&mut self) -> RunReport
+        ensures pace { self.new.pace ≡ self.old.pace }
+        ensures run { (polls : List Poll)
+            × Chain (At KeepsSeats self.old.pace.weight) self.old.crowd polls self.new.crowd
+            × IsRun in_hand PopsCame IsAllPopped self.old.pace.budget self.old.pace.window self.old.list polls self.new.list result }
+    {
+        let Pace {
+            budget,
+            weight,
+            window,
+        } = self.pace;
+        run_softirq(&mut self.list, &mut self.crowd, budget, weight, window)
+    }
+}
+
 impl<'n, R: Drop> Poller<'n, R> {
     // Gives the seats back.
     fn leave(self) -> Vec<Seat<'n>>
@@ -100,12 +121,7 @@ impl<'n, R: Wait> Serves for Poller<'n, R> {
 
     #[tactic(auto, using(crate::proofs::SeatFacts::run_keeps))]
     fn turn(&mut self) -> bool {
-        let Pace {
-            budget,
-            weight,
-            window,
-        } = self.pace;
-        run_softirq(&mut self.list, &mut self.crowd, budget, weight, window).polls > 0
+        self.run().polls > 0
     }
 
     ghost stays = { λ poller. seats_stay (vec_items poller.crowd.seats) };

@@ -25,7 +25,8 @@ pub struct Seat<'n> {
 }
 
 impl<'n> Seat<'n> {
-    ghost use Rattle.std.specs.Prelude.{◌≡◌, ◌≤◌, IsSome};
+    ghost use Rattle.std.specs.Prelude.{◌≡◌, ◌≤◌, IsSome, Some, is_some};
+    ghost use Rattle.seat_pollers.specs.Polled.{Polls, PollsByThread};
     ghost use Rattle.seat_pollers.specs.SeatKeeping.{IsSameSeat};
 
     // Puts the caller back.
@@ -34,7 +35,8 @@ impl<'n> Seat<'n> {
         requires away { self.old.caller ≡ None }
         ensures number { self.new.number ≡ self.old.number }
         ensures napi { self.new.napi ≡ self.old.napi }
-        ensures caller { IsSome self.new.caller }
+        ensures thread { self.new.thread ≡ self.old.thread }
+        ensures caller { self.new.caller ≡ Some caller }
     {
         match mem::replace(&mut self.caller, Some(caller)) {
             None => {}
@@ -61,6 +63,7 @@ impl<'n> Seat<'n> {
     pub(crate) fn poll<R: Wait>(&mut self, rt: &R, weight: u32, batch: &mut Batch) -> Once
         requires weight { (1 ≤ weight) × (weight ≤ 64) }
         ensures same { IsSameSeat self.old self.new }
+        ensures polls { Polls (is_some self.old.thread) weight self.old.caller result batch.new.items self.new.caller }
         ensures work { result.work ≤ weight }
     {
         let Some(caller) = mem::replace(&mut self.caller, None) else {
@@ -97,6 +100,7 @@ impl<'n> Seat<'n> {
         requires weight { (1 ≤ weight) × (weight ≤ 64) }
         requires most { (1 ≤ most) × (most ≤ 131072) }
         ensures same { IsSameSeat self.old self.new }
+        ensures polls { PollsByThread weight most self.old.caller result batch.new.items self.new.caller }
     {
         let Some(caller) = mem::replace(&mut self.caller, None) else {
             return ThreadReport {

@@ -1,6 +1,7 @@
 use Rattle.std.proofs.Common.{◌≡◌, ◌+◌, ◌≤◌, ◌++◌, vec_len, vec_capacity, vec_items, length}
+use Rattle.std.specs.Prelude.{map}
 use Rattle.std.specs.Vec.Iter.{into_iter_items, into_iter_len}
-use Rattle.interrupt_workers.specs.Deals.{others, picked}
+use Rattle.interrupt_workers.specs.Deals.{is_dealt, others, picked}
 use Rattle.interrupt_workers.proofs.dealing.deal.Given as goal
 
 abbrev pub invariant-loop-station : goal.invariant-loop-station
@@ -11,6 +12,7 @@ invariant-loop-station g l = record {
   left : length l.yielded + into_iter_len l.station-iterator ≡ length (vec_items l.fn.stations);
   count : vec_len l.order ≡ length l.yielded;
   parts : vec_len l.mine + vec_len l.others ≡ length l.yielded;
+  dealt : vec_items l.order ≡ map (is_dealt l.fn.number l.fn.pollers) l.yielded;
   mine : vec_items l.mine ≡ picked (vec_items l.order) l.yielded;
   others : vec_items l.others ≡ others (vec_items l.order) l.yielded;
   room : (vec_len l.fn.stations ≤ vec_capacity l.mine) × (vec_len l.fn.stations ≤ vec_capacity l.others) × (vec_len l.fn.stations ≤ vec_capacity l.order);

@@ -1,8 +1,8 @@
-use Rattle.std.proofs.Common.{◌≡◌, ◌+◌, ◌≤◌, ◌++◌, length, ap, sym, ◌∙◌, rules, arith}
+use Rattle.std.proofs.Common.{◌≡◌, ◌+◌, ◌≤◌, ◌++◌, is_some, length, ap, sym, ◌∙◌, rules, arith}
 use Rattle.std.proofs.lemmas.Grind.{common_steps}
 use Rattle.rx_ring.specs.Ends.{capacity_of, put_list}
 use Rattle.interrupt_workers.specs.Acts.{after_acts, brings}
-use Rattle.interrupt_workers.proofs.ActSteps.{after_acts-more, arrivals-more, put_more}
+use Rattle.interrupt_workers.proofs.ActSteps.{acts-more, after_acts-more, arrivals-more, put_more}
 use Rattle.interrupt_workers.proofs.worker.Desk.make_acts.Goals as goal
 
 pub loop-k-preserved : goal.loop-k-preserved
@@ -15,6 +15,7 @@ loop-k-preserved g c =
     let places : capacity_of c.loop-k.rx ≡ capacity_of c.args.rx.now = search rules in
     let then : length (put_list c.loop-k.rx) + length brought ≤ capacity_of c.args.rx.now → put_list c.make_act-hold.new.rx ≡ put_list c.loop-k.rx ++ brought = rw (← i.made, ← places) e.put in record {
       of = e.of;
+      acted = acts-more (is_some c.args.self.now.thread) g.D.Device.answer after d c.loop-k.k c.args.hold c.loop-k.hold c.make_act-hold.result c.args.rx.now c.loop-k.rx c.make_act-hold.new.rx i.acted (rw (← i.made) e.made);
       made = e.device ∙ ap (λ x. after x c.loop-k.k) i.made ∙ sym (after_acts-more after d c.loop-k.k);
       acts = e.acts ∙ i.acts;
       ring = search rules;

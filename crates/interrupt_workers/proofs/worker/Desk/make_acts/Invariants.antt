@@ -1,6 +1,7 @@
-use Rattle.std.proofs.Common.{◌≡◌, ◌+◌, ◌≤◌, ◌++◌, length}
+use Rattle.std.proofs.Common.{◌≡◌, ◌+◌, ◌≤◌, ◌++◌, is_some, length}
 use Rattle.rx_ring.specs.Ends.{SameIn, capacity_of, put_list}
 use Rattle.interrupt_workers.specs.Acts.{after_acts, arrivals}
+use Rattle.interrupt_workers.specs.Calls.{AllActs}
 use Rattle.interrupt_workers.specs.Seats.{IsHoldOf}
 use Rattle.interrupt_workers.proofs.worker.Desk.make_acts.Given as goal
 
@@ -10,6 +11,7 @@ invariant-loop-k g l =
     let after = g.D.Device.after in
     let brought = arrivals g.D.Device.answer after d l.k in record {
       of : IsHoldOf l.self.napi.now l.hold;
+      acted : AllActs (is_some l.self.thread) g.D.Device.answer after d l.k l.fn.hold l.hold l.initial.rx l.rx;
       made : l.device ≡ after_acts after d l.k;
       acts : g.D.Device.acts l.device ≡ g.D.Device.acts d;
       ring : SameIn l.initial.rx l.rx;
