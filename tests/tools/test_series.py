@@ -56,7 +56,7 @@ class Series(unittest.TestCase):
     def test_a_trace_of_version_2_agrees_with_the_reports_of_its_prefixes(self):
         header, *rows = (TOP / "examples/busy-poll.csv").read_text().splitlines()
         self.assertEqual(header, "moment,device,event,value,2")
-        for words in ([], ["--budget", "2"], ["--weight=2"]):
+        for words in ([], ["--budget", "2"]):
             self.check_prefixes(rows, words, 1, f"{header}\n")
 
     def test_small_traces_agree_with_the_reports_of_their_prefixes(self):

@@ -88,8 +88,6 @@ class Surroundings(InFolder):
             if tool in ("traffic", "sweep", "compare-recording"):
                 continue
             for name in ("folder.csv", "none.csv", b"\xff.csv", "bytes", "/dev/zero"):
-                if (tool, name) == ("from-ftrace", "/dev/zero"):
-                    continue
                 done = run(tool, name, *words.get(tool, []), folder=self.folder)
                 self.assertEqual(done.returncode, 1, (tool, name, done.stderr))
                 self.check_line(tool, os.fsencode(done.stderr))

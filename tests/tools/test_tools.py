@@ -1,6 +1,7 @@
 """Tests of tools/. Expected traces and work are another converter's, expected values are written by hand."""
 
 import json
+import os
 import re
 import struct
 import subprocess
@@ -117,6 +118,27 @@ class FromFtrace(InFolder):
             self.assertIn(f"made.{end} is there, and isn't overwritten", done.stderr)
             self.assertEqual((done.returncode, self.names(), path.read_text()), (1, [f"made.{end}"], "mine\n"))
             path.unlink()
+
+    def recipe(self):
+        """The shell lines of docs/TOOLS.md that record."""
+        lines = (TOP / "docs/TOOLS.md").read_text().splitlines()
+        first = lines.index("    set -u")
+        last = next(place for place in range(first, len(lines)) if not lines[place].startswith("    "))
+        return self.write("recipe", "".join(f"{line[4:]}\n" for line in lines[first:last]))
+
+    def test_the_recipe_is_bash(self):
+        done = subprocess.run(["bash", "-n", self.recipe()], capture_output=True, text=True, check=False)
+        self.assertEqual((done.stderr, done.returncode), ("", 0))
+
+    @unittest.skipUnless(os.environ.get("RECORD"), "RECORD=yes records on this machine, as root")
+    def test_the_recipe_records(self):
+        done = subprocess.run(["unshare", "-m", "bash", self.recipe()], cwd=self.folder, capture_output=True, text=True, check=False)
+        self.assertEqual((done.stderr, done.returncode), ("", 0))
+        done = run("from-ftrace", "recording.txt", "made", "--pair", "va1:vb1", folder=self.folder)
+        self.assertEqual((done.stderr, done.returncode), ("", 0))
+        self.assertTrue(max(int(line.split()[3]) for line in (self.folder / "made.work").read_text().splitlines()) > 30)
+        done = run("compare-recording", "made", folder=self.folder)
+        self.assertEqual(done.returncode, 0, done.stdout)
 
     def test_some_rows(self):
         whole = (HERE / "soft-gso-23.csv").read_text().splitlines()
