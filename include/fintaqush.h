@@ -247,6 +247,18 @@ FQ_CHECKED uint32_t fq_seat_complete(struct fq_handle *seat); /* FQ_RELEASED, FQ
 /* One that busy polls may poll and complete, and stops: it then polls once more. */
 FQ_CHECKED uint32_t fq_seat_busy_stop(struct fq_handle *seat); /* FQ_OK, FQ_CHANGED */
 
+/* An interrupt: schedules, try after try until one decides, and hands over where it was granted. FQ_GRANTED (and it was handed over),
+ * FQ_MISSED, FQ_DISABLED; FQ_BAD_KIND, FQ_BAD_HANDLE, FQ_NOT_ALLOWED. */
+FQ_CHECKED static inline uint32_t fq_seat_interrupt(struct fq_handle *seat, uint32_t kind) {
+    uint32_t said;
+    if (kind > FQ_THREAD) return FQ_BAD_KIND;
+    do said = fq_seat_schedule(seat);
+    while (said == FQ_CHANGED);
+    if (said != FQ_GRANTED) return said;
+    const uint32_t handed = fq_seat_hand(seat, kind);
+    return handed == FQ_OK ? said : handed;
+}
+
 /* The controller's. Off: enable. On: mark. Marked: try to take, until FQ_TAKEN, which is off again (napi_disable). */
 FQ_CHECKED uint32_t fq_control_enable(struct fq_handle *control, bool threaded); /* FQ_OK, FQ_CHANGED */
 FQ_CHECKED uint32_t fq_control_mark(struct fq_handle *control);                  /* FQ_OK */

@@ -251,7 +251,7 @@ functions() {
         }' "$@" < /dev/null 2> /dev/null || true
 }
 
-# Leaves in `line` where the build stands, as `crate 3 of 6 (poll_engine tx_ring), 158 of 205 functions checked, 1:12`.
+# Leaves in `line` where the build stands, as `crate 3 of 6 (low side), 158 of 205 functions checked, 1:12`.
 progress() {
     local name at_work=() logs=() spent=$((SECONDS - since)) waits=
     for name in "${names[@]}"; do

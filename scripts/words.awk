@@ -7,7 +7,7 @@ BEGIN {
     range["--budget"] = "a whole number, 1..=65535"
     range["--weight"] = "a whole number, 1..=64"
     range["--window"] = "a whole number, 1..=65535"
-    options = "--mode --pollers --budget --weight --window --unproved --build --version --help"
+    options = "--mode --pollers --budget --weight --window --unproved --json --build --version --help"
     most["--pollers"] = 8
     most["--weight"] = 64
     most["--budget"] = most["--window"] = 65535

@@ -79,7 +79,7 @@ code_numbers() {
 each_number_once() { ! header_numbers | awk '{ print $2 }' | sort | uniq -d | grep .; }
 
 # of the faults of a queue limit the header alone has the names, and dql_core the numbers
-numbers_agree() { [ -s "$header" ] && [ -z "$(comm -13 <(header_numbers) <({ proved_numbers; code_numbers; } | sort))" ] &&
+numbers_agree() { [ -s "$header" ] && [ -z "$(comm -13 <(header_numbers) <({ proved_numbers; code_numbers; } | sort -u))" ] &&
     diff <(header_numbers | awk '$2 == 0 || $2 > 15') <(code_numbers); }
 
 each_has_a_name() {
@@ -120,6 +120,13 @@ echo '1000000 calls, each answered as it has to be' > "$scratch/hammered"
 check 'the hammer compiles' compile gcc "$top/tests/c/hammer.c" "$scratch/hammer" -O2
 check 'the hammer' compared "$scratch/hammered" "$scratch/hammer"
 check 'the hammer, another seed' compared "$scratch/hammered" "$scratch/hammer" 1000000 4711
+
+# The fold of bench/limits.cc was written from the rules, apart from the library.
+as_the_fold() {
+    compile gcc "$top/bench/c_library.c" "$scratch/counts" -O2 && g++ -O2 "$top/bench/limits.cc" -o "$scratch/fold" &&
+        "$scratch/fold" 1000000 > "$scratch/folded" && compared "$scratch/folded" "$scratch/counts" limits 1000000
+}
+check 'a million pairs on a queue limit, as a plain fold counts them' as_the_fold
 
 # sanitized NAME FLAG: the examples and the hammer under a sanitizer.
 sanitized() {

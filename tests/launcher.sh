@@ -92,7 +92,7 @@ END
 #!/bin/sh
 [ "\$1" != version ] || { echo stand-in; exit; }
 name=\$(basename "\$PWD")
-[ "\$1" != try ] || { shift 6; sh "$scratch/small/program" "\$@" \$RT_TRIES; status=\$?; echo "run=ended status=\$status" >&2; exit \$status; }
+[ "\$1" != try ] || { shift 6; sh "$scratch/small/program" "\$@" \$RT_TRIES; status=\$?; printf 'races: not looked for\\nrt: a hint\\nrun=ended status=%s\\n' "\$status" >&2; exit \$status; }
 echo "begin \$name" >> "$scratch/rt.log"
 seen() { echo "\$name \$*" >> "$scratch/rt.seen"; }
 seen in "\$PWD" beside \$(ls ..)
@@ -383,7 +383,7 @@ words() {
     check 'whatever they look like' prints '^words  -x --$'
     small --usage < /dev/null
     check 'what it refuses is named' is "$status $(cat "$scratch/err")" "64 usage fault 64
-replay: '--usage' is no option: they are --mode --pollers --budget --weight --window --unproved --build --version --help (see ./replay --help)"
+replay: '--usage' is no option: they are --mode --pollers --budget --weight --window --unproved --json --build --version --help (see ./replay --help)"
     small --buget 7 "$scratch/trace.csv"
     check 'a mistyped option is told of before its value is taken for a file' is "$status $(cat "$scratch/err")" \
         "64 replay: '--buget' is no option: is --budget meant, a whole number, 1..=65535? (see ./replay --help)"
@@ -420,7 +420,16 @@ replay: '--usage' is no option: they are --mode --pollers --budget --weight --wi
     small --unproved "$scratch/trace.csv" --weight 9
     check 'an unproved run replays' is "$status $(head -n 1 "$scratch/out")" '0 words --weight 9'
     check 'and says what it is' says '^replay: this was an UNPROVED run$'
-    check "without rt's own lines" is "$(grep run= "$scratch/err")" ''
+    check "without rt's own lines" is "$(grep -e run= -e races: "$scratch/err")" ''
+    mkdir -p "$scratch/small/tools"
+    printf '#!/bin/sh\nsed "s/^/json /" "$1"\n' > "$scratch/small/tools/report2json"
+    chmod +x "$scratch/small/tools/report2json"
+    for how in '' --unproved; do
+        small --json $how "$scratch/trace.csv"
+        check "the report as JSON $how" is "$status $(head -n 1 "$scratch/out")" '0 json words '
+        small --json $how --fault "$scratch/trace.csv"
+        check "but no fault $how" is "$status $(cat "$scratch/out")" '2 '
+    done
     small --version
     check 'the version tells of the program' is "$status $(grep -c -e 'version 1 and 2' -e '^program: proved and built' -e '^kit: stand-in' "$scratch/out")" '0 3'
     small --build
@@ -501,7 +510,7 @@ first_answers() {
     small_checkout
     PATH=$PATH_WITH_RT on_terminal "$scratch/small/replay" "$scratch/trace.csv" --weight 4
     tr -d '\r' < "$scratch/out" > "$scratch/terminal"
-    check 'on a terminal an unproved answer comes first' is "$status $(grep -n -e '^words --weight 4' -e 'an UNPROVED run; now it is proved' "$scratch/terminal" | cut -d: -f1 | tr '\n' ' ')" '0 2 4 '
+    check 'on a terminal an unproved answer comes first' is "$status $(grep -n -e '^words --weight 4' -e 'an UNPROVED run; now it is proved' "$scratch/terminal" | cut -d: -f1 | tr '\n' ' ')" '0 2 5 '
     check 'then the proof of it' is "$(tail -n 1 "$scratch/terminal")" 'replay: the proved program gives the same bytes'
     check 'and the answer stands there once' is "$(grep -c '^words' "$scratch/terminal")" 1
     PATH=$PATH_WITH_RT on_terminal "$scratch/small/replay" "$scratch/trace.csv"
@@ -581,6 +590,11 @@ $at 5, '1,1,enable,0': the disable is pending still: a softirq or kthread row ha
 replay: --budget '0': its value is a whole number, 1..=65535 (see ./replay --help)"
     closed 1 "$top/replay" "$top/examples/two-packets.csv"
     check 'a closed output' is "$status $(cat "$scratch/err")" '4 output fault 15 OutputFailed'
+    if command -v python3 > /dev/null; then
+        "$top/replay" "$top/examples/two-packets.csv" | "$top/tools/report2json" > "$scratch/wanted"
+        run "$top/replay" --json "$top/examples/two-packets.csv"
+        check 'a report as JSON' is "$status $(wc -l < "$scratch/out") $(cmp "$scratch/out" "$scratch/wanted")" '0 5 '
+    fi
     run "$top/replay" "$top/examples/two-packets.csv"
     check 'a trace without a fault' is "$status $(cat "$scratch/err") $(wc -l < "$scratch/out")" '0  5'
 }

@@ -1,6 +1,7 @@
 #!/usr/bin/env bash
-# tests/tools.sh: tries the tools of tools/ (tests/tools/test_tools.py), and napi_series on whole runs (test_series.py). What
-# needs gnuplot or GNU parallel is skipped where they aren't installed, and says so. The last line is `N passed, M failed`.
+# tests/tools.sh: tries the tools of tools/, and napi_series on whole runs, by tests/tools/test_*.py. What needs gnuplot, GNU
+# parallel, tcpdump or a slurmd is skipped where they aren't there, and says so. PROGRAM=FILE and SERIES=FILE name other builds
+# of napi_replay and napi_series. The last line is `N passed, M failed`.
 set -u
 tests=$(cd "$(dirname "$(readlink -f "$0")")" && pwd)
 if ! command -v python3 > /dev/null; then
@@ -9,7 +10,8 @@ if ! command -v python3 > /dev/null; then
     exit 1
 fi
 for program in napi_replay napi_series; do
-    if ! "$tests/../scripts/build.sh" "$program"; then
+    [ "$program" = napi_replay ] && named=${PROGRAM:-} || named=${SERIES:-}
+    if [ -z "$named" ] && ! "$tests/../scripts/build.sh" "$program"; then
         echo "0 passed, 1 failed"
         exit 1
     fi

@@ -22,10 +22,16 @@ class Raising:
             if not PENDING.match(str(error)):  # told of a trace that was read whole; with its runs raised it may be none
                 raise
         self.header, self.rows = records_of(text)
-        self.runs = [place for place, row in enumerate(self.rows) if is_softirq(row)]
+        # The places of the runs. One that is followed by a run at the same moment is raised anew already.
+        self.runs = [place for place, row in enumerate(self.rows) if is_softirq(row) and self.rows[place + 1 : place + 2] != [row]]
+        self.number_at = {place: number for number, place in enumerate(self.runs)}
+        self.own = [number for number, place in enumerate(self.softirq_rows()) if place in self.number_at]  # each among all runs
         self.raised = [0] * len(self.runs)
         self.settled = 0  # these runs, from the first on, have all that they need
         self.emptied = -1  # how many were settled when what stood behind the others was last taken out
+
+    def softirq_rows(self):
+        return [place for place, row in enumerate(self.rows) if is_softirq(row)]
 
     def probes(self):
         """How many rows are tried behind each run that isn't settled: as many as behind it already, while there is room."""
@@ -47,15 +53,13 @@ class Raising:
     def rows_with(self, counts, end):
         """The rows before place `end`, with so many runs behind each softirq row; and behind them the place of each among
         the trace's own rows."""
-        rows, places, number = [], [], 0
+        rows, places = [], []
         for place, row in enumerate(self.rows[:end]):
             rows.append(row)
             places.append(place)
-            if is_softirq(row):
-                for _ in range(counts[number]):
-                    rows.append([row[0], "0", "softirq", "0"])
-                    places.append(place)
-                number += 1
+            for _ in range(counts[self.number_at[place]] if place in self.number_at else 0):
+                rows.append(row)
+                places.append(place)
         return rows, places
 
     def replay(self, rows):
@@ -69,7 +73,7 @@ class Raising:
         except Refusal as error:
             pending = PENDING.match(str(error))
             rows = rows[: int(pending[1]) - 1] if pending else []
-            if sum(map(is_softirq, rows)) <= self.settled + sum(self.raised[: self.settled]):
+            if sum(map(is_softirq, rows)) <= self.own[self.settled] + sum(self.raised[: self.settled]):
                 raise
             report = self.replay(rows)
         return [run[0] for _, run in sorted(runs_of(report).items())]
@@ -90,13 +94,14 @@ class Raising:
         end = self.runs[last - 1] + 1
         rows, _ = self.rows_with(self.raised[: self.settled] + counts, end)
         polls = self.polls_of(rows)
-        place = self.settled + sum(self.raised[: self.settled])
+        added = sum(self.raised[: self.settled])
         is_exact = True  # whether every run so far has all that it needs, so that what stands behind it is as it will be
         for number, count in enumerate(counts, self.settled):
-            if place == len(polls):
+            place = self.own[number] + added
+            if place >= len(polls):
                 break
             filled = sum(1 for told in polls[place + 1 : place + 1 + count] if told)
-            place += 1 + count
+            added += count
             self.raised[number] = filled
             is_exact = is_exact and (filled < count or filled == self.restarts)
             if is_exact:
@@ -118,6 +123,7 @@ class Raising:
         rows, places = self.rows_with(self.raised, len(self.rows))
         if len(rows) > MOST_ROWS:
             raise Refusal(f"with the runs that are raised there are {len(rows)} rows, and a trace has at most {MOST_ROWS}")
+        self.replay(rows)  # an enable row behind the last run may still meet a pending disable
         return rows, places
 
 

@@ -15,10 +15,8 @@ static void *interrupt(void *at) {
     struct interrupts *irq = at;
     for (uint64_t i = 0; i < PACKETS; i++) {
         while (fq_ring_put(irq->ring, i, 60) == FQ_FULL) sched_yield();
-        uint32_t said;
-        do said = fq_seat_schedule(irq->seat);
-        while (said == FQ_CHANGED);
-        if (said == FQ_GRANTED && fq_seat_hand(irq->seat, FQ_LIST) != FQ_OK) irq->failed = true;
+        const uint32_t said = fq_seat_interrupt(irq->seat, FQ_LIST);
+        irq->failed |= said != FQ_GRANTED && said != FQ_MISSED;
     }
     return NULL;
 }

@@ -7,9 +7,9 @@ import subprocess
 COLUMNS = "row,moment,device,state,waiting,arrived,dropped,polled,in_flight,limit,avail,stopped,polls,work,squeezed".split(",")
 
 
-def report_of(program, rows, words):
+def report_of(program, rows, words, header):
     """The report of a trace of these lines, each as its words."""
-    text = "".join(f"{row}\n" for row in ["moment,device,event,value", *rows])
+    text = header + "".join(f"{row}\n" for row in rows)
     done = subprocess.run([program, *words], input=text, capture_output=True, text=True, check=True)
     return [line.split() for line in done.stdout.splitlines()]
 
@@ -27,17 +27,17 @@ def values_of(number, row, report):
             names = dict(zip(line[2::2], line[3::2]))
             told.update({name: names[name] for name in ("limit", "avail", "stopped")})
             told["in_flight"] = int(names["limit"]) - int(names["avail"])
-        elif line[:2] in (["softirq", str(number)], ["kthread", str(number)]):
+        elif line[:2] in (["softirq", str(number)], ["kthread", str(number)], ["busy", str(number)]):
             names = dict(zip(line[2::2], line[3::2]))
             told.update({name: names[name] for name in ("polls", "work", "squeezed") if name in names})
     return told
 
 
-def series_by_reports(program, rows, words, every=1):
+def series_by_reports(program, rows, words, every=1, header="moment,device,event,value\n"):
     """The text of the series: a replay for each row that it has."""
     text = io.StringIO()
     writer = csv.DictWriter(text, COLUMNS, lineterminator="\n")
     writer.writeheader()
     for number in range(every, len(rows) + 1, every):
-        writer.writerow(values_of(number, rows[number - 1], report_of(program, rows[:number], words)))
+        writer.writerow(values_of(number, rows[number - 1], report_of(program, rows[:number], words, header)))
     return text.getvalue()

@@ -2,14 +2,10 @@
 
 import subprocess
 import unittest
-from pathlib import Path
 
 from prefixes import series_by_reports
+from tooltest import HEADER, REPLAY, SERIES, TOP
 
-TOP = Path(__file__).resolve().parent.parent.parent
-REPLAY = TOP / "crates/napi_replay/out/napi_replay"
-SERIES = TOP / "crates/napi_series/out/napi_series"
-HEADER = "moment,device,event,value\n"
 NAMES = "row,moment,device,state,waiting,arrived,dropped,polled,in_flight,limit,avail,stopped,polls,work,squeezed\n"
 
 # Every event, a full ring, a pending disable, a thread, a queue that is over its limit, a completion that is refused.
@@ -51,11 +47,17 @@ def run(program, words, text):
 
 
 class Series(unittest.TestCase):
-    def check_prefixes(self, rows, words, every=1):
+    def check_prefixes(self, rows, words, every=1, header=HEADER):
         """The series has to be what a replay of each prefix reports."""
-        done = run(SERIES, [*(["--every", str(every)] if every > 1 else []), *words], HEADER + "".join(f"{row}\n" for row in rows))
+        done = run(SERIES, [*(["--every", str(every)] if every > 1 else []), *words], header + "".join(f"{row}\n" for row in rows))
         self.assertEqual((done.stderr, done.returncode), ("", 0))
-        self.assertEqual(done.stdout, series_by_reports(REPLAY, rows, words, every))
+        self.assertEqual(done.stdout, series_by_reports(REPLAY, rows, words, every, header))
+
+    def test_a_trace_of_version_2_agrees_with_the_reports_of_its_prefixes(self):
+        header, *rows = (TOP / "examples/busy-poll.csv").read_text().splitlines()
+        self.assertEqual(header, "moment,device,event,value,2")
+        for words in ([], ["--budget", "2"]):
+            self.check_prefixes(rows, words, 1, f"{header}\n")
 
     def test_small_traces_agree_with_the_reports_of_their_prefixes(self):
         traces = [MIXED.split()] + [(TOP / f"examples/{name}.csv").read_text().split()[1:]

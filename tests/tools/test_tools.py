@@ -1,44 +1,23 @@
 """Tests of tools/. Expected traces and work are another converter's, expected values are written by hand."""
 
-import csv
 import json
 import os
-import shutil
+import re
+import struct
 import subprocess
 import sys
-import tempfile
 import unittest
-from pathlib import Path
 
-HERE = Path(__file__).resolve().parent
-TOP = HERE.parent.parent
-REPLAY = TOP / "crates/napi_replay/out/napi_replay"
+from tooltest import HEADER, HERE, REPLAY, TOP, InFolder, run
+
 PAIRS = [word for number in range(1, 7) for word in ("--pair", f"va{number}:vb{number}")]
-
-
-def run(tool, *words, text=None, path=None):
-    """Runs a tool. The path is that of its commands, where another one is wanted."""
-    environment = {**os.environ, "PATH": path} if path else None
-    return subprocess.run([sys.executable, TOP / "tools" / tool, *map(str, words)], input=text, capture_output=True,
-                          text=True, check=False, env=environment)
-
-
-class InFolder(unittest.TestCase):
-    """A test with a folder of its own."""
-
-    def setUp(self):
-        self.folder = Path(tempfile.mkdtemp())
-        self.addCleanup(shutil.rmtree, self.folder)
-
-    def write(self, name, text):
-        path = self.folder / name
-        path.write_text(text, encoding="utf-8")
-        return path
 
 
 class FromFtrace(InFolder):
     def convert(self, text, *words):
         """The rows, the work and the notes of a recording."""
+        for end in ("csv", "work", "notes"):
+            (self.folder / f"made.{end}").unlink(missing_ok=True)
         done = run("from-ftrace", "-", self.folder / "made", *words, text=text)
         self.assertEqual((done.stderr, done.returncode), ("", 0))
         rows, work, notes = [(self.folder / f"made.{end}").read_text().splitlines() for end in ("csv", "work", "notes")]
@@ -125,6 +104,190 @@ class FromFtrace(InFolder):
    napi/vb1-8-9  [001] ..s1.  5.002000: napi_poll: napi poll on napi struct 0 for device vb1 work 3 budget 64
 """))
 
+    def test_where_nothing_polls_it_says_why(self):
+        text = "\n".join(line for line in (HERE / "soft-tcp.txt").read_text().splitlines() if "napi_poll" not in line)
+        self.assertIn("nothing polls in it. A veth polls only where packets are handed to NAPI: `ethtool -K END tso off gro on`",
+                      self.refused(text, *PAIRS))
+        self.assertIn("nothing polls in it but devices that are in no pair: xa1",
+                      self.refused((HERE / "soft-tcp.txt").read_text().replace("for device v", "for device x"), *PAIRS))
+
+    def test_nothing_is_overwritten(self):
+        for end in ("csv", "work", "notes"):
+            path = self.write(f"made.{end}", "mine\n")
+            done = run("from-ftrace", HERE / "soft-tcp.txt", self.folder / "made", *PAIRS)
+            self.assertIn(f"made.{end} is there, and isn't overwritten", done.stderr)
+            self.assertEqual((done.returncode, self.names(), path.read_text()), (1, [f"made.{end}"], "mine\n"))
+            path.unlink()
+
+    def recipe(self):
+        """The shell lines of docs/TOOLS.md that record."""
+        lines = (TOP / "docs/TOOLS.md").read_text().splitlines()
+        first = lines.index("    set -u")
+        last = next(place for place in range(first, len(lines)) if not lines[place].startswith("    "))
+        return self.write("recipe", "".join(f"{line[4:]}\n" for line in lines[first:last]))
+
+    def test_the_recipe_is_bash(self):
+        done = subprocess.run(["bash", "-n", self.recipe()], capture_output=True, text=True, check=False)
+        self.assertEqual((done.stderr, done.returncode), ("", 0))
+
+    @unittest.skipUnless(os.environ.get("RECORD"), "RECORD=yes records on this machine, as root")
+    def test_the_recipe_records(self):
+        done = subprocess.run(["unshare", "-m", "bash", self.recipe()], cwd=self.folder, capture_output=True, text=True, check=False)
+        self.assertEqual((done.stderr, done.returncode), ("", 0))
+        done = run("from-ftrace", "recording.txt", "made", "--pair", "va1:vb1", folder=self.folder)
+        self.assertEqual((done.stderr, done.returncode), ("", 0))
+        self.assertTrue(max(int(line.split()[3]) for line in (self.folder / "made.work").read_text().splitlines()) > 30)
+        done = run("compare-recording", "made", folder=self.folder)
+        self.assertEqual(done.returncode, 0, done.stdout)
+
+    def test_some_rows(self):
+        whole = (HERE / "soft-gso-23.csv").read_text().splitlines()
+        rows, work, notes = self.convert((HERE / "soft-gso-23.txt").read_text(), *PAIRS, "--rows", "70:150")
+        self.assertEqual(rows, whole[1:13] + whole[70:151])
+        polls = [number for number, row in enumerate(whole) if ",softirq," in row]
+        theirs = (HERE / "soft-gso-23.work").read_text().splitlines()
+        self.assertEqual(work, [line for number, line in zip(polls, theirs) if 70 <= number <= 150])
+        self.assertTrue(any(note.startswith("rows that aren't in 70:150: ") for note in notes))
+        self.assertIn("nothing polls in these rows", run("from-ftrace", HERE / "soft-gso-23.txt", self.folder / "none", *PAIRS,
+                                                         "--rows", "70:80").stderr)
+
+    def test_a_replay_is_compared_with_the_recording(self):
+        """Six packets arrive while each of three runs is under way; the replay gives them to that run, the kernel to the next."""
+        run("from-ftrace", HERE / "soft-gso-23.txt", self.folder / "made", *PAIRS)
+        done = run("compare-recording", self.folder / "made")
+        self.assertEqual(done.returncode, 0)
+        self.assertIn("row 67: work 48, the kernel 42: noted\nrow 68: work 0, the kernel 6: carries on the difference of row 67",
+                      done.stdout)
+        self.assertTrue(done.stdout.endswith("6 other rows are accounted for by notes: as the kernel\n"))
+        notes = (self.folder / "made.notes").read_text()
+        self.assertIn("rows behind it carry the difference on", notes)
+        self.write("made.notes", "".join(line for line in notes.splitlines(True) if not line.startswith("row 138:")))
+        done = run("compare-recording", self.folder / "made")
+        self.assertEqual(done.returncode, 1)
+        self.assertIn("row 138: work 69, the kernel 63: OTHER THAN THE KERNEL", done.stdout)
+        self.write("made.work", "polls 1\n")
+        self.assertIn(".work: line 1 isn't as", run("compare-recording", self.folder / "made").stderr)
+        done = run("compare-recording", TOP / "examples/linux-veth-small-budget", "--budget", "64")
+        self.assertEqual((done.returncode, done.stdout), (0, "544 rows, 15647 packets; the kernel 15647; 0 other rows are accounted "
+                                                          "for by notes: as the kernel\n"))
+
+
+class FromPcap(InFolder):
+    @staticmethod
+    def capture():
+        """A capture of three packets by its format's description: 24 bytes in front, 16 before each packet."""
+        text = struct.pack("<IHHiIII", 0xA1B2C3D4, 2, 4, 0, 0, 65535, 1)
+        for fraction, to, size in ((0, 2, 60), (500, 2, 100), (3000, 3, 1514)):
+            frame = bytes([2, 0, 0, 0, 0, to, 2, 0, 0, 0, 0, 1, 0x88, 0xB5]).ljust(size, b"\0")
+            text += struct.pack("<IIII", 100, fraction, size, size) + frame
+        return text
+
+    ROWS = HEADER + "0,1,open,256\n0,2,open,256\n0,1,rx,60\n0,1,rx,100\n1,0,softirq,0\n3,2,rx,1514\n4,0,softirq,0\n"
+
+    @unittest.skipUnless(subprocess.run(["sh", "-c", "command -v tcpdump"], capture_output=True, check=False).stdout,
+                         "tcpdump isn't installed")
+    def test_a_capture(self):
+        (self.folder / "'; touch x;.pcap").write_bytes(self.capture())
+        done = run("from-pcap", "'; touch x;.pcap", "made", folder=self.folder)
+        self.assertEqual((done.stderr, done.returncode), ("", 0))
+        self.assertEqual((self.folder / "made.csv").read_text(), self.ROWS)
+        self.assertEqual(self.names(), ["'; touch x;.pcap", "made.csv", "made.notes"])
+        self.assertIn("isn't overwritten", run("from-pcap", "'; touch x;.pcap", "made", folder=self.folder).stderr)
+        (self.folder / "cut.pcap").write_bytes(self.capture()[:-3])
+        self.assertIn("cut.pcap: tcpdump: ", run("from-pcap", "cut.pcap", "cut", folder=self.folder).stderr)
+
+    TEXT = """100.000000 eth0  In  ifindex 2 02:00:00:00:00:01 ethertype IPv4 (0x0800), length 60: 10.0.0.1 > 10.0.0.2: UDP
+\tmore of it
+100.000200 eth0  Out ifindex 2 02:00:00:00:00:02 ethertype IPv4 (0x0800), length 61: 10.0.0.2 > 10.0.0.1: UDP
+100.000300 eth1  In  ifindex 3 02:00:00:00:00:01 ethertype IPv4 (0x0800), length 62: 10.0.0.1 > 10.0.0.2: UDP
+"""
+
+    def test_text_by_interfaces_in_microseconds(self):
+        done = run("from-pcap", "-", self.folder / "made", "--unit", "us", "--delay", "250", text=self.TEXT)
+        self.assertEqual((done.stderr, done.returncode), ("", 0))
+        self.assertEqual((self.folder / "made.csv").read_text(), HEADER + "0,1,open,256\n0,2,open,256\n0,1,rx,60\n250,0,softirq,0\n"
+                         "300,2,rx,62\n550,0,softirq,0\n")
+        self.assertIn("no row: packets that don't come in, 1\n", (self.folder / "made.notes").read_text())
+
+    def test_refusals(self):
+        for text, why in (("", "no packet arrives"), ("what\n", "line 1: not as `tcpdump -tt -n -e`"), (self.TEXT * 60000, "more than")):
+            done = run("from-pcap", "-", self.folder / "made", text=text)
+            self.assertEqual((done.returncode, self.names()), (1, []), done.stderr)
+            self.assertIn(why if why != "more than" else "and a trace has at most 100000", done.stderr)
+
+
+class Traffic(InFolder):
+    def rows(self, *words):
+        done = run("traffic", *words)
+        self.assertEqual((done.stderr, done.returncode), ("", 0))
+        return [line.split(",") for line in done.stdout.splitlines()[1:]]
+
+    def test_kinds(self):
+        """A constant rate of 1000 gives a packet each ms; bursts of 5 ms in 50 give a tenth of it; a Poisson process has about
+        as many, within five times its deviation of 71, and not evenly."""
+        arrivals = [int(row[0]) for row in self.rows("--rate", "1000") if row[2] == "rx"]
+        self.assertEqual(arrivals, list(range(1000)))
+        arrivals = [int(row[0]) for row in self.rows("--kind", "bursts", "--rate", "1000", "--seconds", "5") if row[2] == "rx"]
+        self.assertTrue(490 <= len(arrivals) <= 510)
+        gaps = [after - before for before, after in zip(arrivals, arrivals[1:])]
+        self.assertTrue(90 <= sum(gap > 40 for gap in gaps) <= 101)
+        arrivals = [int(row[0]) for row in self.rows("--kind", "poisson", "--rate", "1000", "--seconds", "5") if row[2] == "rx"]
+        self.assertTrue(4645 <= len(arrivals) <= 5355)
+        self.assertTrue(len({arrivals.count(moment) for moment in range(50)}) > 2)
+
+    def test_a_run_follows_the_first_packet_that_waits(self):
+        rows = self.rows("--rate", "100", "--delay", "3", "--seconds", "0.05", "--unit", "ms")
+        self.assertEqual([int(after[0]) - int(before[0]) for before, after in zip(rows, rows[1:]) if after[2] == "softirq"], [3] * 5)
+
+    def test_the_seed_decides(self):
+        words = ["--kind", "poisson", "--devices", "3", "--mix", "tx=20,done=20,disable=5"]
+        self.assertEqual(self.rows(*words, "--seed", "1"), self.rows(*words, "--seed", "1"))
+        self.assertNotEqual(self.rows(*words, "--seed", "1"), self.rows(*words, "--seed", "2"))
+
+    def test_any_mix_is_a_trace_that_is_taken(self):
+        for version, busy in (("1", ""), ("2", ",busy=20")):
+            for seed in range(4):
+                text = run("traffic", "--rate", "2000", "--devices", "5", "--seed", seed, "--version", version, "--seconds", "0.3",
+                           "--mix", f"tx=50,done=40,disable=10,threaded=10,kthread=30{busy}").stdout
+                self.assertEqual({line.split(",")[2] for line in text.splitlines()[1:]} - {"busy"},
+                                 {"open", "rx", "tx", "done", "softirq", "kthread", "disable", "enable", "threaded"})
+                self.assertEqual(",busy," in text, version == "2")
+                for words in ([], ["--budget", "1", "--weight", "1"]):
+                    done = subprocess.run([REPLAY, *words], input=text, capture_output=True, text=True, check=False)
+                    self.assertEqual((done.stderr, done.returncode), ("", 0))
+
+    def test_words_that_it_refuses(self):
+        for words in (["--mix", "busy=1"], ["--mix", "rx=1"], ["--bytes", "9:1"], ["--devices", "17"], ["--rate", "0"]):
+            self.assertEqual(run("traffic", *words).returncode, 2)
+        self.assertIn("more than 100000 packets", run("traffic", "--rate", "9999999", "--seconds", "99999").stderr)
+
+
+class CompareRuns(InFolder):
+    BURST = HEADER + "0,1,open,8\n0,2,open,8\n" + "0,1,rx,60\n" * 3 + "1,0,softirq,0\n2,2,rx,60\n3,0,softirq,0\n"
+
+    def test_what_two_settings_change(self):
+        """A budget of 1 gives one packet a run, by the usual one all three come at once; device 2 has one packet either way."""
+        trace = self.write("burst.csv", self.BURST)
+        done = run("compare-runs", trace, "--budget", "1", "--weight", "1", "--", "--weight", "1")
+        self.assertEqual((done.stderr, done.returncode), ("", 0))
+        lines = [re.split(r" {2,}", line) for line in done.stdout.splitlines()]
+        self.assertEqual(lines[0], ["", "budget 1 weight 1", "weight 1", "change"])
+        self.assertIn(["total", "squeezed", "2", "0", "-2"], lines)
+
+    def test_with_runs_raised(self):
+        trace = TOP / "examples/linux-veth-bursts.csv"
+        words = ["--budget", "16", "--weight", "8", "--", "--budget", "300"]
+        self.assertRegex(run("compare-runs", trace, *words).stdout, r"total +work +8441 +15245 +\+6804\n")
+        raised = run("compare-runs", trace, "--raise", *words).stdout
+        self.assertNotIn("dropped", raised)
+        self.assertNotIn("total      work", raised)
+
+    def test_refusals(self):
+        trace = self.write("burst.csv", self.BURST)
+        self.assertEqual(run("compare-runs", trace, "--budget", "1").returncode, 2)
+        self.assertEqual(run("compare-runs", trace, "--", "--budget", "0").returncode, 2)
+        self.assertIn("trace fault 1 BadHeader row 0", run("compare-runs", "-", "--", text="x\n").stderr)
+
 
 class Report2Json(unittest.TestCase):
     def test_every_line_of_a_report(self):
@@ -132,11 +295,12 @@ class Report2Json(unittest.TestCase):
 kthread 5 device 16 polls 6 work 7
 device 1 pending arrived 1 dropped 2 polled 3 bytes 4 left 5 polls 6
 napi 1 granted 1 missed 2 disabled 3 again 4 released 5 word 8589935361
-napi 2 granted 0 missed 0 disabled 0 again 0 released 0 word 15
-napi 3 granted 0 missed 0 disabled 0 again 0 released 0 word 4294967297
 tx 1 sent 1 held 2 done 3 denied 4 limit 5 avail -6 stopped 0
+device 2 on arrived 1 dropped 2 polled 3 bytes 4 left 5 polls 6
+napi 2 granted 0 missed 0 disabled 0 again 0 released 0 word 15
+device 3 off arrived 1 dropped 2 polled 3 bytes 4 left 5 polls 6
+napi 3 granted 0 missed 0 disabled 0 again 0 released 0 word 4294967297
 list 3 1
-list
 total devices 3 runs 1 polls 2 work 3 squeezed 1
 """)
         self.assertEqual(done.stderr, "")
@@ -148,13 +312,58 @@ total devices 3 runs 1 polls 2 work 3 squeezed 1
              "polls": 6},
             {"line": "napi", "device": 1, "granted": 1, "missed": 2, "disabled": 3, "again": 4, "released": 5,
              "word": 8589935361, "flags": ["SCHED", "THREADED", "SCHED_THREADED", "TO_THREAD"]},
-            {**napi, "device": 2, "word": 15, "flags": ["SCHED", "MISSED", "DISABLE", "NPSVC"]},
-            {**napi, "device": 3, "word": 4294967297, "flags": ["SCHED", "QUEUED"]},
             {"line": "tx", "device": 1, "sent": 1, "held": 2, "done": 3, "denied": 4, "limit": 5, "avail": -6, "stopped": False},
+            {"line": "device", "device": 2, "state": "on", "arrived": 1, "dropped": 2, "polled": 3, "bytes": 4, "left": 5, "polls": 6},
+            {**napi, "device": 2, "word": 15, "flags": ["SCHED", "MISSED", "DISABLE", "NPSVC"]},
+            {"line": "device", "device": 3, "state": "off", "arrived": 1, "dropped": 2, "polled": 3, "bytes": 4, "left": 5, "polls": 6},
+            {**napi, "device": 3, "word": 4294967297, "flags": ["SCHED", "QUEUED"]},
             {"line": "list", "devices": [3, 1]},
-            {"line": "list", "devices": []},
             {"line": "total", "devices": 3, "runs": 1, "polls": 2, "work": 3, "squeezed": 1},
         ])
+
+    def test_version_2(self):
+        done = run("report2json", text="""busy 7 device 1 polls 4 work 2
+device 1 on arrived 2 dropped 0 polled 2 bytes 120 left 0 polls 4
+napi 1 granted 0 missed 0 disabled 0 again 0 released 1 word 65 held 3
+list
+total devices 1 runs 0 polls 0 work 0 squeezed 0
+""")
+        told = list(map(json.loads, done.stdout.splitlines()))
+        self.assertEqual(told[0], {"line": "busy", "row": 7, "device": 1, "polls": 4, "work": 2})
+        self.assertEqual((told[2]["held"], told[2]["flags"]), (3, ["SCHED", "IN_BUSY_POLL"]))
+
+    def test_threads_mode(self):
+        done = run("report2json", text="""device 1 arrived 3 bytes 1620
+device 2 arrived 2 bytes 160
+tx 2 sent 1 held 0 done 1 denied 0 limit 100 avail 100 stopped 1
+total devices 2
+""")
+        self.assertEqual(list(map(json.loads, done.stdout.splitlines())), [
+            {"line": "device", "device": 1, "arrived": 3, "bytes": 1620}, {"line": "device", "device": 2, "arrived": 2, "bytes": 160},
+            {"line": "tx", "device": 2, "sent": 1, "held": 0, "done": 1, "denied": 0, "limit": 100, "avail": 100, "stopped": True},
+            {"line": "total", "devices": 2}])
+
+    def test_reports_that_are_cut_are_refused(self):
+        trace = (TOP / "examples/bursts.csv").read_text()
+        whole = subprocess.run([REPLAY], input=trace, capture_output=True, text=True, check=True).stdout
+        lines = whole.splitlines(keepends=True)
+        cuts = [whole[:length] for length in range(len(whole))] + ["".join(lines[:place] + lines[place + 1 :]) for place in range(len(lines))]
+        sys.path.insert(0, str(TOP / "tools"))
+        import reports
+        import toolbox
+        for cut in cuts:
+            with self.assertRaises(toolbox.Refusal, msg=cut[-60:]):
+                reports.objects_of(cut)
+        for cut, why in (("", "the report is empty"), (whole[:-1], "the report is cut"), (whole + whole, "there are two reports in it")):
+            done = run("report2json", text=cut)
+            self.assertEqual((done.stdout, done.returncode), ("", 1))
+            self.assertIn(why, done.stderr)
+
+    def test_every_example_passes(self):
+        for trace in sorted((TOP / "examples").glob("*.csv")):
+            report = subprocess.run([REPLAY], input=trace.read_bytes(), capture_output=True, check=True).stdout.decode()
+            done = run("report2json", text=report)
+            self.assertEqual((done.stderr, len(done.stdout.splitlines())), ("", len(report.splitlines())))
 
     def test_what_is_no_report_is_refused(self):
         for line in ("", "napi", "softirq 4 polls 2 work 3", "softirq 4 polls 2 work 3 squeezed 2", "list x",
@@ -163,128 +372,3 @@ total devices 3 runs 1 polls 2 work 3 squeezed 1
             done = run("report2json", text=f"list\n{line}\n")
             self.assertEqual(done.returncode, 1)
             self.assertIn("report2json: line 2: ", done.stderr)
-
-
-class Sweep(InFolder):
-    FAULTY = "moment,device,event,value\n0,1,rx,60\n"
-    BURST = "moment,device,event,value\n0,1,open,8\n" + "0,1,rx,60\n" * 9 + "1,0,softirq,0\n0,1,tx,100\n0,1,done,1\n"
-
-    def setUp(self):
-        super().setUp()
-        self.write("burst.csv", self.BURST)
-        self.write("faulty.csv", self.FAULTY)
-        self.out = self.folder / "rows"
-
-    def sweep(self, *words, path=None):
-        return run("sweep", self.folder, "--budget", "2,300", "--weight", "2,64", "--out", self.out, "--program", REPLAY,
-                   *words, path=path)
-
-    def rows(self):
-        with open(self.out, newline="", encoding="utf-8") as file:
-            return list(csv.DictReader(file))
-
-    def check_rows(self):
-        """Nine packets come to eight places, so one is dropped. A budget of 2 squeezes the run after its first poll. A poll
-        that is full has its next turn in the next run; one that isn't is made again, for the requests that were missed. The
-        queue's limit of 0 grows by the 100 bytes that were complete while nothing else was queued."""
-        rows = self.rows()
-        self.assertEqual([(row["budget"], row["weight"]) for row in rows], [("2", "2"), ("2", "64"), ("300", "2"), ("300", "64")] * 2)
-        names = ["status", "fault", "polls", "work", "squeezed", "dropped", "left", "greatest_limit"]
-        self.assertEqual([[row[name] for name in names] for row in rows[:4]], [
-            ["0", "", "1", "2", "1", "1", "6", "100"], ["0", "", "1", "8", "1", "1", "0", "100"],
-            ["0", "", "1", "2", "0", "1", "6", "100"], ["0", "", "2", "8", "0", "1", "0", "100"]])
-        for row in rows[4:]:
-            self.assertEqual([row[name] for name in names], ["2", "trace fault 6 UnknownDevice row 1", "", "", "", "", "", ""])
-
-    def test_every_trace_with_every_combination(self):
-        done = self.sweep("--without-parallel")
-        self.assertEqual(done.returncode, 0)
-        self.assertIn("8 rows in", done.stderr)
-        self.check_rows()
-
-    @unittest.skipUnless(shutil.which("parallel"), "GNU parallel isn't installed")
-    def test_by_parallel(self):
-        self.assertEqual(self.sweep().returncode, 0)
-        self.check_rows()
-
-    def test_where_parallel_is_missing_it_says_so(self):
-        done = self.sweep(path=str(self.folder))
-        self.assertEqual(done.returncode, 0)
-        self.assertIn("GNU parallel isn't on PATH", done.stderr)
-        self.check_rows()
-        self.assertIn("needs GNU parallel", self.sweep("--resume", "--sshloginfile", "x", "--window", "7", path=str(self.folder)).stderr)
-
-    def test_it_goes_on_where_it_was(self):
-        self.sweep("--without-parallel")
-        lines = self.out.read_text().splitlines(keepends=True)
-        # Three rows and a part of one are there. What is there isn't made again: a row of it is told apart by its polls.
-        kept = [lines[0], lines[1].replace(",1,2,1,", ",7,2,1,"), *lines[2:4], lines[4][:-5]]
-        self.assertNotEqual(kept[1], lines[1])
-        self.out.write_text("".join(kept))
-        done = self.sweep("--without-parallel", "--resume")
-        self.assertIn("8 rows, of which 3 are there", done.stderr)
-        self.assertEqual(self.out.read_text().splitlines(keepends=True), [kept[0], kept[1], *lines[2:]])
-
-    def test_a_file_is_not_overwritten(self):
-        self.out.write_text("mine\n")
-        self.assertIn("is there: --resume goes on with it", self.sweep().stderr)
-        self.assertIn("this is no file of sweep's", self.sweep("--resume").stderr)
-        self.assertEqual(self.out.read_text(), "mine\n")
-
-    def test_parts_are_all_of_it(self):
-        self.sweep("--without-parallel")
-        whole = self.rows()
-        parts = []
-        for part in ("1/3", "2/3", "3/3"):
-            self.out = self.folder / part.replace("/", "-")
-            self.assertEqual(self.sweep("--without-parallel", "--part", part).returncode, 0)
-            parts.append(self.rows())
-        self.assertEqual([len(rows) for rows in parts], [3, 3, 2])
-        self.assertCountEqual([tuple(row.values()) for rows in parts for row in rows], [tuple(row.values()) for row in whole])
-
-    def test_words_that_it_refuses(self):
-        for words in (["--budget", "64,x"], ["--part", "4/3"], []):
-            self.assertEqual(run("sweep", *words).returncode, 2)
-        self.assertIn("there is no such trace", run("sweep", self.folder / "none", "--program", REPLAY).stderr)
-
-
-class Plot(InFolder):
-    HEAD = "row,moment,device,state,waiting,arrived,dropped,polled,in_flight,limit,avail,stopped,polls,work,squeezed\n"
-    ROWS = HEAD + ("1,0,1,on,0,0,0,0,,,,,,,\n2,0,1,on,1,1,0,0,,,,,,,\n3,0,1,on,2,2,0,0,,,,,,,\n4,1,0,,,,,,,,,,1,1,1\n"
-                   "5,1,0,,,,,,,,,,2,1,0\n6,2,1,on,0,2,0,2,500,0,-500,1,,,\n7,3,1,on,0,2,0,2,0,1000,1000,0,,,\n")
-
-    def plot(self, text, *words):
-        return run("plot", "--series", self.write("series", text), "--out", self.folder / "picture.svg", *words)
-
-    def test_the_curves(self):
-        """Two packets wait until run 4 takes one and is squeezed, and run 5 takes the other."""
-        script = self.plot(self.ROWS, "--script").stdout
-        self.assertIn("<< END\n6 0 500\n7 1000 0\nEND", script)
-        self.assertIn("<< END\n1 0\n2 1\n3 2\n4 1\n5 0\n6 0\n7 0\nEND", script)
-        self.assertIn("<< END\n5 1\nEND", script)
-        self.assertIn("<< END\n4 1\nEND", script)
-
-    def test_rows_alone(self):
-        script = self.plot(self.ROWS, "--script", "--rows", "2:4").stdout
-        self.assertIn("<< END\n2 1\n3 2\n4 1\nEND", script)
-        self.assertNotIn("bytes in flight", script)
-
-    def test_refusals(self):
-        self.assertIn("no series of napi_series", self.plot("a,b\n1,2\n").stderr)
-        self.assertIn("a series without rows", self.plot(self.HEAD).stderr)
-        self.assertIn("nothing to draw", self.plot(self.HEAD + "1,0,1,on,0,0,0,0,,,,,,,\n").stderr)
-        self.assertEqual(self.plot(self.ROWS, "--out", "picture.jpg").returncode, 2)
-        self.assertEqual(run("plot").returncode, 2)
-
-    @unittest.skipUnless(shutil.which("gnuplot"), "gnuplot isn't installed")
-    def test_a_picture(self):
-        done = self.plot(self.ROWS)
-        self.assertEqual((done.stderr, done.returncode), ("", 0))
-        picture = (self.folder / "picture.svg").read_text()
-        self.assertIn("bytes in flight (grey)", picture)
-        self.assertIn("packets waiting", picture)
-
-    def test_where_gnuplot_is_missing_it_says_so(self):
-        done = subprocess.run([sys.executable, TOP / "tools/plot", "--series", self.write("series", self.ROWS)],
-                              env={"PATH": str(self.folder)}, capture_output=True, text=True, check=False, cwd=self.folder)
-        self.assertIn("needs gnuplot, which isn't on PATH", done.stderr)

@@ -16,8 +16,12 @@ pub struct Pace {
 /// What all threads of a run have.
 #[derive(Drop)]
 pub struct Setting<'t, R, G> {
+    /// What waits and starts threads.
     pub rt: R,
+    /// What is asked before each act.
     pub gate: &'t G,
+    /// Why no further acts are made.
     pub signals: &'t Signals,
+    /// How pollers poll.
     pub pace: Pace,
 }

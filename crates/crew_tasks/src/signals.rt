@@ -16,6 +16,7 @@ pub struct Signals {
 }
 
 impl Signals {
+    /// Signals of a run that goes on.
     pub fn new() -> Signals {
         Signals {
             refused: AtomicBool::new(false),
@@ -23,18 +24,22 @@ impl Signals {
         }
     }
 
+    /// A thread could not be started: no further acts are made.
     pub fn refuse(&self) {
         self.refused.store(true, Ordering::SeqCst);
     }
 
+    /// Whether a thread could not be started.
     pub fn is_refused(&self) -> bool {
         self.refused.load(Ordering::SeqCst)
     }
 
+    /// Memory was refused, or the gate answered false: no further acts are made.
     pub fn stop(&self) {
         self.stopped.store(true, Ordering::SeqCst);
     }
 
+    /// Whether memory was refused, or the gate answered false.
     pub fn is_stopped(&self) -> bool {
         self.stopped.load(Ordering::SeqCst)
     }
@@ -72,6 +77,7 @@ impl Bell {
         self.unparker.unpark();
     }
 
+    /// Whether the poller was told that nothing is handed over any more.
     pub fn is_told(&self) -> bool {
         self.told.load(Ordering::SeqCst)
     }
@@ -80,12 +86,14 @@ impl Bell {
 /// The bell of a poller whose instances' threads are started with it, before any of its workers.
 #[derive(Drop)]
 pub struct Post {
+    /// The poller's bell.
     pub bell: Bell,
     /// One of these threads could not be started, so that no worker of the poller's begins.
     pub refused: AtomicBool,
 }
 
 impl Post {
+    /// The post of a poller with this bell, none of whose threads was refused.
     pub fn new(bell: Bell) -> Post {
         Post {
             bell,
@@ -93,6 +101,7 @@ impl Post {
         }
     }
 
+    /// Whether one of these threads could not be started.
     pub fn is_refused(&self) -> bool {
         self.refused.load(Ordering::SeqCst)
     }
@@ -107,6 +116,7 @@ pub struct Pause {
 }
 
 impl Pause {
+    /// A pause of a poller that sleeps on this parker.
     pub fn new(parker: Parker) -> Pause {
         Pause {
             parker,

@@ -17,6 +17,7 @@ pub trait Task<O> {
     /// Whether it needs no thread, since it waits for nobody.
     fn is_idle(&self) -> bool;
 
+    /// Does what the task is for, and gives what came of it.
     fn run(self) -> O
         requires { can_run self }
         ensures { gives self result };

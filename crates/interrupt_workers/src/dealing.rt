@@ -9,8 +9,11 @@ use std::alloc::{AllocError, Global};
 /// The stations of one poller, those of all others, and which were whose, each in order.
 #[derive(Drop)]
 pub struct Dealt<D> {
+    /// The stations of this poller.
     pub mine: Vec<Station<D>>,
+    /// The stations of all others.
     pub others: Vec<Station<D>>,
+    /// For each station, in the order before, whether it is one of this poller's.
     pub order: Vec<bool>,
 }
 

@@ -8,15 +8,20 @@ use std::sync::Wait;
 /// What a worker does: it makes its device's acts, and disables the instance at the end, also where the run was stopped.
 #[derive(Drop)]
 pub struct Job<'t, 'p, 'n, R: Wait + Drop, D, G> {
+    /// What is asked before each act.
     pub gate: &'t G,
+    /// Where the worker's interrupts go.
     pub desk: Desk<'t, 'p, 'n, R>,
+    /// What the worker begins with.
     pub work: Work<R, D>,
 }
 
 /// What a worker gives back.
 #[derive(Drop)]
 pub struct Worked<R: Wait + Drop, D> {
+    /// The device's number.
     pub number: u32,
+    /// What the worker ended with.
     pub done: Done<R, D>,
 }
 

@@ -19,18 +19,27 @@ use std::sync::Wait;
 /// What stays where it is of an instance while its threads run: the instance, the bell of its own thread, where it has one,
 /// and room for its three callers. It must be spent.
 pub struct Placed {
+    /// The instance.
     pub napi: Napi,
+    /// The bell of its own thread, where it has one.
     pub bell: Option<Bell>,
+    /// Room for its three callers.
     pub room: Vec<Caller>,
 }
 
 /// What goes to the threads of an instance. It must be spent.
 pub struct Loose<D> {
+    /// The device's number.
     pub number: u32,
+    /// The device, before its acts.
     pub device: D,
+    /// The input of its receive ring.
     pub rx: RxIn,
+    /// The worker's seats at the instance.
     pub seats: Seats,
+    /// The caller of the poller of its list.
     pub poller: Caller,
+    /// The caller of its own thread.
     pub thread: Caller,
     /// What its own thread sleeps on, where it has one.
     pub pause: Option<Pause>,

@@ -45,24 +45,33 @@ pub(crate) struct Hold {
 
 /// The worker's seats at its instance, which is off. They must be spent.
 pub struct Seats {
+    /// The caller that asks for polls.
     pub caller: Caller,
+    /// The controller of the instance.
     pub control: Control<Off>,
 }
 
 /// What a worker begins with.
 #[derive(Drop)]
 pub struct Work<R: Wait + Drop, D> {
+    /// The worker's end of its poller's list.
     pub list: ListIn<R>,
+    /// The device, before its acts.
     pub device: D,
+    /// The input of its receive ring.
     pub rx: RxIn,
+    /// The worker's seats at the instance.
     pub seats: Kept<R, Seats>,
 }
 
 /// What a worker ends with.
 #[derive(Drop)]
 pub struct Done<R: Wait + Drop, D> {
+    /// The device, after its acts.
     pub device: D,
+    /// The input of its receive ring.
     pub rx: RxIn,
+    /// The worker's seats at the instance, which is off again.
     pub seats: Kept<R, Seats>,
     /// Whether all acts were made.
     pub whole: bool,
@@ -71,14 +80,17 @@ pub struct Done<R: Wait + Drop, D> {
 /// Where a worker's interrupts go.
 #[derive(Drop)]
 pub struct Desk<'s, 'p, 'n, R> {
+    /// What waits.
     pub rt: R,
     /// The device's number.
     pub number: u32,
+    /// The instance.
     pub napi: &'n Napi,
     /// The bell of its thread, where it has one.
     pub thread: Option<&'n Bell>,
     /// The bell of the poller of its list.
     pub poller: &'p Bell,
+    /// Why no further acts are made.
     pub signals: &'s Signals,
 }
 

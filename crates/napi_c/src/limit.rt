@@ -1,8 +1,8 @@
 //! Byte queue limits for C.
 
-ghost use Rattle.std.specs.Prelude.{◌≡◌, ◌≢◌, ℕ, ◌<◌, ◌⊎◌, ◌↔◌};
-ghost use Rattle.dql_core.specs.Bounds.{DQL_MAX_LIMIT, most_in_flight};
-ghost use Rattle.dql_core.specs.Dql.{Shows, IsNew};
+ghost use Rattle.std.specs.Prelude.{◌≡◌, ◌≢◌, ◌<◌, ◌⊎◌, ◌↔◌};
+ghost use Rattle.dql_core.specs.Bounds.{DQL_MAX_LIMIT};
+ghost use Rattle.dql_core.specs.Dql.{Shows};
 ghost use Rattle.dql_core.specs.Limit.{opening, in_flight_of, avail_of, after_reset, after_queued, after_completed, queued_fault, completed_fault};
 ghost use Rattle.dql_core.specs.declared.whole.Limit.{Limit};
 ghost use Rattle.napi_c.specs.Status.{OK, dql_status};

@@ -1,5 +1,5 @@
 //! Receive rings for C, both ends in one handle.
-ghost use Rattle.std.specs.Prelude.{◌≡◌, ◌≢◌, ◌<◌, ◌≤◌, ◌++◌, length, take, Some, None};
+ghost use Rattle.std.specs.Prelude.{◌≡◌, ◌≢◌, ◌<◌, ◌≤◌, length, take};
 ghost use Rattle.rx_ring.specs.Ends.{put_list, capacity_of};
 ghost use Rattle.napi_c.specs.declared.body.Ring.{Ring};
 ghost use Rattle.napi_c.specs.declared.body.Body.TheVariants as variant;

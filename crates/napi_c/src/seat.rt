@@ -1,7 +1,6 @@
 //! A caller and the controller of a shared instance, each with the instance, as handles lead to them.
 ghost use Rattle.std.specs.Prelude.{◌≡◌, ◌≤◌, length};
 ghost use Rattle.std.specs.Arc.{arc_value};
-ghost use Rattle.rx_ring.specs.Ends.{GivesNext};
 ghost use Rattle.napi_c.specs.Status.{OK};
 ghost use Rattle.napi_c.specs.SeatCalls.{SeatAnswers, ControlAnswers, SeatPolls};
 ghost use Rattle.napi_c.specs.Seats.{SitsAt, ControlsAt, sits_prop, controls_prop};

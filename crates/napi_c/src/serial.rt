@@ -1,5 +1,5 @@
 //! The instance of one thread, in memory of the caller's.
-ghost use Rattle.std.specs.Prelude.{◌≡◌, ◌↔◌, ℕ, IsNone, IfSome};
+ghost use Rattle.std.specs.Prelude.{◌≡◌, ◌↔◌, IsNone, IfSome};
 ghost use Rattle.napi_model.specs.Step.{opening, MayCall, answer_of, seen_of};
 ghost use Rattle.napi_model.specs.Word.{word_of};
 ghost use Rattle.napi_c.specs.Serial.{place_in, state_in, Steps};

@@ -132,12 +132,17 @@ impl<'n, R: Wait> Serves for Poller<'n, R> {
 /// A poller's thread.
 #[derive(Drop)]
 pub struct PollTask<'t, 'p, 'n, R: Wait + Drop, G> {
+    /// What all threads of the run have.
     pub setting: &'t Setting<'t, R, G>,
+    /// The poller's bell, and whether its threads were started.
     pub post: &'p Post,
     /// The poller's number, from 0.
     pub number: u32,
+    /// The list of instances that the poller polls.
     pub list: SharedList<R>,
+    /// How the poller waits.
     pub pause: Pause,
+    /// The poller's seats at its instances.
     pub seats: Kept<R, Vec<Seat<'n>>>,
 }
 

@@ -15,7 +15,9 @@ use std::sync::Wait;
 
 /// A poller's seat at one instance. It must be spent.
 pub struct Seat<'n> {
+    /// The device's number.
     pub number: u32,
+    /// The instance.
     pub napi: &'n Napi,
     /// The bell of the instance's own thread, where it has one.
     pub thread: Option<&'n Bell>,

@@ -75,19 +75,28 @@ impl<'p, 'n, R: Wait> Serves for Alone<'p, 'n, R> {
 /// What the thread of an instance needs, where the instance has one.
 #[derive(Drop)]
 pub struct Own<'n, R> {
+    /// The thread's bell.
     pub bell: &'n Bell,
+    /// How the thread waits.
     pub pause: Pause,
+    /// The thread's end of the poller's list.
     pub list: ListIn<R>,
 }
 
 /// The thread's side of one instance. Where it has no thread, its caller is given back at once.
 #[derive(Drop)]
 pub struct ThreadSide<'t, 'p, 'n, R: Wait + Drop, G> {
+    /// What all threads of the run have.
     pub setting: &'t Setting<'t, R, G>,
+    /// The bell of the poller of its list, and whether that one's threads were started.
     pub poller: &'p Post,
+    /// The instance.
     pub napi: &'n Napi,
+    /// The device's number.
     pub number: u32,
+    /// What its thread needs, where it has one.
     pub own: Option<Own<'n, R>>,
+    /// The caller that polls as the instance's thread.
     pub caller: Kept<R, Caller>,
 }
 

@@ -1,0 +1,72 @@
+/* Times calls of the C library: c_library WHAT TIMES. What was counted goes to standard output, the time to standard error.
+ * limits: the calls of limits.cc, which prints the same. turns: schedule, hand, take and complete on a shared instance, by one
+ * thread. packets: puts, and polls of weight 64. */
+#include <fintaqush.h>
+#include <inttypes.h>
+#include <stdio.h>
+#include <stdlib.h>
+#include <string.h>
+#include <time.h>
+
+static uint64_t now(void) {
+    struct timespec at;
+    timespec_get(&at, TIME_UTC);
+    return (uint64_t)at.tv_sec * 1000000000 + (uint64_t)at.tv_nsec;
+}
+
+static bool limits(uint64_t pairs) {
+    struct fq_dql dql;
+    uint64_t sum = 0, over = 0;
+    uint32_t queued = 0;
+    if (fq_dql_init(&dql, 0, 1879048192u, 4, 0) != FQ_OK) return false;
+    for (uint64_t pair = 0; pair < pairs; pair++) {
+        const bool starves = pair / 64 % 2 == 0;
+        const uint32_t count = starves ? 1500u << (pair % 64 / 4) : 1500u;
+        if (fq_dql_queued(&dql, count) != FQ_OK) return false;
+        queued += count;
+        over += fq_dql_avail(&dql) < 0;
+        if (fq_dql_completed(&dql, starves ? fq_dql_in_flight(&dql) : fq_dql_in_flight(&dql) / 4, pair) != FQ_OK) return false;
+        sum += fq_dql_limit(&dql);
+    }
+    printf("pairs %" PRIu64 " limits %" PRIu64 " over %" PRIu64 " queued %" PRIu32 " limit %" PRIu32 "\n", pairs, sum, over, queued,
+           fq_dql_limit(&dql));
+    return true;
+}
+
+static bool turns(uint64_t count) {
+    struct fq_handle ring = FQ_NONE, control = FQ_NONE, seats[2] = {FQ_NONE, FQ_NONE};
+    if (fq_ring_new(&ring, 64) != FQ_OK || fq_shared_new(&ring, &control, seats, 2) != FQ_OK) return false;
+    if (fq_control_enable(&control, false) != FQ_OK) return false;
+    for (uint64_t i = 0; i < count; i++) {
+        if (fq_seat_schedule(&seats[0]) != FQ_GRANTED || fq_seat_hand(&seats[0], FQ_LIST) != FQ_OK) return false;
+        if (fq_seat_take(&seats[1], FQ_LIST) != FQ_TAKEN || fq_seat_complete(&seats[1]) != FQ_RELEASED) return false;
+    }
+    printf("turns %" PRIu64 "\n", count);
+    return true;
+}
+
+static bool packets(uint64_t count) {
+    struct fq_handle ring = FQ_NONE;
+    struct fq_packet out[64];
+    uint64_t put = 0, given = 0;
+    if (fq_ring_new(&ring, 64) != FQ_OK) return false;
+    while (given < count) {
+        size_t polled;
+        for (int i = 0; i < 64; i++) {
+            if (fq_ring_put(&ring, put++, 60) != FQ_OK) return false;
+        }
+        if (fq_ring_poll(&ring, 64, out, 64, &polled) != FQ_OK || polled != 64) return false;
+        if (out[63].number != put - 1) return false;
+        given += polled;
+    }
+    printf("packets %" PRIu64 "\n", given);
+    return true;
+}
+
+int main(int words, char **word) {
+    if (words != 3) return 64;
+    const uint64_t times = strtoull(word[2], NULL, 10), start = now();
+    const bool good = strcmp(word[1], "limits") == 0 ? limits(times) : strcmp(word[1], "turns") == 0 ? turns(times) : packets(times);
+    fprintf(stderr, "%" PRIu64 " ns\n", now() - start);
+    return good ? 0 : 1;
+}

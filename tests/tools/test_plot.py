@@ -1,0 +1,115 @@
+"""Tests of tools/plot."""
+
+import re
+import shutil
+import unittest
+
+from tooltest import HEADER, TOP, InFolder, run
+
+
+class Plot(InFolder):
+    HEAD = "row,moment,device,state,waiting,arrived,dropped,polled,in_flight,limit,avail,stopped,polls,work,squeezed\n"
+    ROWS = HEAD + ("1,0,1,on,0,0,0,0,,,,,,,\n2,0,1,on,1,1,0,0,,,,,,,\n3,0,1,on,2,2,0,0,,,,,,,\n4,1,0,,,,,,,,,,1,1,1\n"
+                   "5,1,0,,,,,,,,,,2,1,0\n6,2,1,on,0,2,0,2,500,0,-500,1,,,\n7,3,1,on,0,2,0,2,0,1000,1000,0,,,\n")
+
+    def plot(self, text, *words):
+        return run("plot", "--series", self.write("series", text), "--out", self.folder / "picture.svg", *words)
+
+    def test_the_curves(self):
+        """Two packets wait until run 4 takes one and is squeezed, and run 5 takes the other."""
+        script = self.plot(self.ROWS, "--script").stdout
+        self.assertIn("<< END\n6 500\n7 0\nEND\n$panel0_1 << END\n6 0\n7 1000\nEND", script)
+        self.assertIn("<< END\n1 0\n2 1\n3 2\n4 1\n5 0\n6 0\n7 0\nEND", script)
+        self.assertIn("<< END\n4 1 1\n5 1 0\nEND", script)
+        self.assertIn("<< END\n4 1 1\nEND", script)
+        for title in ("limit", "bytes in flight", "packets that wait", "work of a run", "squeezed"):
+            self.assertIn(f"title '{title}'", script)
+
+    def test_moments_on_the_axis(self):
+        script = self.plot(self.ROWS, "--script", "--time").stdout
+        self.assertIn("<< END\n2 500\n3 0\nEND\n$panel0_1 << END\n2 0\n3 1000\nEND", script)
+        self.assertIn("set xlabel 'ms'", script)
+
+    def test_ticks_are_whole_and_tell_all_digits(self):
+        script = self.plot(self.ROWS, "--script").stdout
+        self.assertIn("set format y '%.0f'", script)
+        self.assertEqual(re.findall(r"set ytics (.*)", script), ["200", "1", "1"])
+        self.assertTrue(all(step.isdigit() for step in re.findall(r"set [xy]tics (\S+)\n", script)))
+
+    def test_more_rows_than_the_width_has(self):
+        """Of 10000 rows a panel of 300 pixels has a least and a greatest level at each; the work of runs is summed."""
+        rows = [f"{2 * n + 1},{n},1,on,{n % 7},{n + n % 7},0,{n},,,,,,,\n{2 * n + 2},{n},0,,,,,,,,,,1,1,0\n" for n in range(5000)]
+        script = self.plot(self.HEAD + "".join(rows), "--script", "--size", "300x100").stdout
+        blocks = re.findall(r"<< END\n(.*?)\nEND", script, re.S)
+        self.assertTrue(all(len(block.splitlines()) <= 300 for block in blocks))
+        self.assertEqual(sum(int(line.split()[1]) for line in blocks[-1].splitlines()), 5000)
+        self.assertIn("title 'packets that wait at most'", script)
+
+    def test_runs_raised_anew_keep_the_rows_numbers(self):
+        trace = self.write("trace.csv", HEADER + "0,1,open,8\n" + "1,1,rx,60\n" * 2 + "2,0,softirq,0\n3,0,softirq,0\n")
+        script = run("plot", trace, "--raise", "--budget", "1", "--weight", "1", "--script").stdout
+        # Row 4 has one of two packets, and two runs are raised behind it.
+        self.assertIn("<< END\n4 1 1\n4.333333333 1 1\n4.666666667 0 0\n5 0 0\nEND", script)
+
+    def test_rows_alone(self):
+        script = self.plot(self.ROWS, "--script", "--rows", "2:4").stdout
+        self.assertIn("<< END\n2 1\n3 2\n4 1\nEND", script)
+        self.assertNotIn("bytes in flight", script)
+        self.assertIn("none of the rows 20:30 is there", self.plot(self.ROWS, "--rows", "20:30").stderr)
+
+    def test_refusals(self):
+        self.assertIn("no series of napi_series", self.plot("a,b\n1,2\n").stderr)
+        self.assertIn("a series without rows", self.plot(self.HEAD).stderr)
+        self.assertIn("nothing to draw", self.plot(self.HEAD + "1,0,1,on,0,0,0,0,,,,,,,\n").stderr)
+        self.assertIn("there is no device 3; these are: 1", self.plot(self.ROWS, "--device", "3").stderr)
+        self.assertIn("line 2: no line of a series", self.plot(self.HEAD + "a,b\n").stderr)
+        self.assertEqual(self.plot(self.ROWS, "--out", "picture.jpg").returncode, 2)
+        self.assertEqual(self.plot(self.ROWS, "--budget", "3").returncode, 2)
+        self.assertIn("usage fault 64", run("plot", TOP / "examples/bursts.csv", "--buget", "3").stderr)
+        self.assertIn("--beside: No closing quotation", run("plot", TOP / "examples/bursts.csv", "--beside", "'").stderr)
+        self.assertEqual(run("plot").returncode, 2)
+
+    @unittest.skipUnless(shutil.which("gnuplot"), "gnuplot isn't installed")
+    def test_pictures(self):
+        trace = self.write("my_{trace}.csv", (TOP / "examples/bursts.csv").read_text())
+        for end, first in ((".svg", b"<?xml"), (".png", b"\x89PNG"), (".html", b"<!DOCTYPE html>")):
+            out = self.folder / f"picture{end}"
+            done = run("plot", trace, "--budget", "64", "--raise", "--out", out)
+            self.assertEqual((done.stderr, done.returncode), ("", 0))
+            self.assertTrue(out.read_bytes().startswith(first))
+        picture = (self.folder / "picture.svg").read_text()
+        self.assertIn("my_{trace}.csv: --budget 64, runs raised anew", picture)
+        self.assertIn("packets that wait", picture)
+        page = (self.folder / "picture.html").read_text()
+        self.assertIn("my_{trace}.csv", page)
+        self.assertTrue("gnuplot.mouse_update" in page)
+        self.assertFalse("src=&quot;/" in page, "a page that can't be moved")
+        self.assertEqual(self.names(), ["my_{trace}.csv", "picture.html", "picture.png", "picture.svg"])
+
+    @unittest.skipUnless(shutil.which("gnuplot"), "gnuplot isn't installed")
+    def test_names_are_no_commands(self):
+        name = "`touch a`'; system 'touch b'; <script>'\".csv"
+        self.write(name, (TOP / "examples/bursts.csv").read_text())
+        for out in ("|touch x .png", "'; system('touch x') ; '.svg", "`touch y`.html"):
+            done = run("plot", name, "--out", out, folder=self.folder)
+            self.assertEqual((done.stderr, done.returncode), ("", 0))
+            self.assertEqual(self.names(), sorted([name, out]))
+            self.assertNotIn(b"<script>'\"", (self.folder / out).read_bytes())
+            (self.folder / out).unlink()
+        self.assertIn("none: there is no such folder", run("plot", name, "--out", "none/x.png", folder=self.folder).stderr)
+
+    @unittest.skipUnless(shutil.which("gnuplot"), "gnuplot isn't installed")
+    def test_every_example(self):
+        for trace in sorted((TOP / "examples").glob("*.csv")):
+            done = run("plot", trace, "--out", self.folder / "picture.png")
+            self.assertEqual((done.stderr, done.returncode), ("", 0), trace)
+
+    def test_where_gnuplot_is_missing_it_says_so(self):
+        old = self.write("picture.svg", "old")
+        done = self.plot(self.ROWS)
+        if not shutil.which("gnuplot"):
+            self.assertIn("needs gnuplot, which isn't on PATH", done.stderr)
+        old.write_text("old")
+        done = run("plot", "--series", self.write("series", self.ROWS), "--out", old, path=str(self.folder))
+        self.assertIn("needs gnuplot, which isn't on PATH", done.stderr)
+        self.assertEqual((done.returncode, old.read_text(), self.names()), (1, "old", ["picture.svg", "series"]))

@@ -1,0 +1,76 @@
+"""Tests of tools/raise: expected numbers are the kernel's own, or of traces that are small enough to be played by hand."""
+
+import subprocess
+
+from tooltest import HEADER, REPLAY, TOP, InFolder, run
+
+
+class Raise(InFolder):
+    def raised(self, text, *words):
+        """The rows of the trace that it writes."""
+        done = run("raise", "-", *words, text=text)
+        self.assertEqual(done.returncode, 0, done.stderr)
+        return done.stdout.splitlines()[1:]
+
+    def replay(self, text, *words):
+        done = subprocess.run([REPLAY, *words], input=text, capture_output=True, text=True, check=True)
+        return [line.split() for line in done.stdout.splitlines()]
+
+    def test_recorded_bursts_lose_no_packet(self):
+        """15245 packets came to the kernel's polls. By a small budget 8441 of them are polled in the recorded runs, 5582 are
+        dropped; with the runs that the kernel would add, all are polled."""
+        words = ["--budget", "16", "--weight", "8"]
+        path = TOP / "examples/linux-veth-bursts.csv"
+        def sums(report):
+            return (int(report[-1][8]), sum(int(line[6]) for line in report if line[0] == "device"), report[-2])
+        self.assertEqual(sums(self.replay(path.read_text(), *words))[:2], (8441, 5582))
+        done = run("raise", path, *words, "--out", self.folder / "raised.csv")
+        self.assertRegex(done.stderr, r"^raise: \d+ runs raised anew, \d+ rows\n$")
+        text = (self.folder / "raised.csv").read_text()
+        self.assertEqual(sums(self.replay(text, *words)), (15245, 0, ["list"]))
+        # Only softirq rows are added, and another call adds none.
+        kept = iter(text.splitlines())
+        self.assertTrue(all(row in kept for row in path.read_text().splitlines()))
+        self.assertEqual(run("raise", self.folder / "raised.csv", *words).stdout, text)
+
+    BURST = HEADER + "0,1,open,8\n" + "1,1,rx,60\n" * 3 + "2,0,softirq,0\n3,0,softirq,0\n"
+
+    def test_by_hand(self):
+        """One packet a run: three runs have a packet each, and as each poll was full a fourth one polls: for nothing, and as a
+        request was missed once more. The row at 3 ms finds the list empty, and stays."""
+        words = ["--budget", "1", "--weight", "1"]
+        rows = self.BURST.splitlines()[1:]
+        self.assertEqual(self.raised(self.BURST, *words), [*rows[:5], *["2,0,softirq,0"] * 3, rows[5]])
+        self.assertEqual(self.raised(self.BURST, *words, "--restarts", "0"), rows)
+        self.assertEqual(self.raised(self.BURST, *words, "--restarts", "1"), [*rows[:5], "2,0,softirq,0", rows[5], "3,0,softirq,0"])
+        self.assertEqual(self.raised(self.BURST), rows)
+
+    def test_every_form_of_a_record(self):
+        text = '\ufeff"moment","device",event,value\r\n\r\n"0",01,open,8\r1,1,rx,60\n\n1,1,rx,60\n"2",0,"softirq","0'
+        self.assertEqual(self.raised(text, "--weight", "1", "--budget", "1"),
+                         ["0,01,open,8", "1,1,rx,60", "1,1,rx,60", "2,0,softirq,0", *["2,0,softirq,0"] * 2])
+
+    def test_a_disable_that_waits_for_the_runs(self):
+        """Of the rows as they are the enable row meets a pending disable; with the runs raised there is none."""
+        two = HEADER + "0,1,open,8\n0,2,open,8\n0,1,rx,60\n0,2,rx,60\n1,2,disable,0\n2,0,softirq,0\n3,2,enable,0\n"
+        self.assertEqual(self.raised(two, "--budget", "1", "--weight", "1")[5:-1].count("2,0,softirq,0") > 1, True)
+        self.assertIn("trace fault 12 Pending row 7", run("raise", "-", "--budget", "1", "--weight", "1", "--restarts", "0", text=two).stderr)
+        self.assertIn("trace fault 12 Pending row 6", run("raise", "-", text=two.replace("2,0,softirq,0\n", "")).stderr)
+
+    def test_as_many_rows_as_a_trace_has(self):
+        """With a packet a run 49990 packets take 49991 runs, the last for nothing."""
+        words = ["--budget", "1", "--weight", "1"]
+        text = HEADER + "0,1,open,65536\n" + "0,1,rx,60\n" * 49990 + "1,0,softirq,0\n"
+        self.assertEqual(len(self.raised(text, *words)), 49991 + 49991)
+        full = HEADER + "0,1,open,65536\n" + "0,1,tx,60\n" * 99997 + "0,1,rx,60\n1,0,softirq,0\n"
+        self.assertEqual(len(self.raised(full)), 100000)
+        for more in (full.replace("tx", "rx"), text + "1,1,rx,60\n" * 20 + "2,0,softirq,0\n"):
+            done = run("raise", "-", *words, text=more)
+            self.assertEqual((done.stdout, done.returncode), ("", 1))
+            self.assertIn("raised there are", done.stderr)
+
+    def test_refusals(self):
+        self.assertIn("trace fault 6 UnknownDevice row 1", run("raise", "-", text=HEADER + "0,1,rx,60\n").stderr)
+        for words in (["--weight", "65"], ["--budget", "0"], ["--restarts", "-1"], ["--restarts", "x"]):
+            self.assertEqual(run("raise", "-", *words, text=HEADER).returncode, 2)
+        self.assertEqual(run("raise", "-", text=HEADER).stdout, HEADER)

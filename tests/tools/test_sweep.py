@@ -1,0 +1,193 @@
+"""Tests of tools/sweep."""
+
+import csv
+import os
+import shutil
+import subprocess
+import unittest
+
+from tooltest import HEADER, REPLAY, TOP, InFolder, run
+
+
+def slurm_block():
+    """The job array of docs/TOOLS.md."""
+    lines = (TOP / "docs/TOOLS.md").read_text().splitlines()
+    first = lines.index("    #!/bin/bash")
+    last = next(place for place in range(first, len(lines)) if not lines[place].startswith("    "))
+    return "".join(f"{line[4:]}\n" for line in lines[first:last])
+
+
+def has_slurm():
+    """Whether a job can be given to a slurmd."""
+    return bool(shutil.which("sbatch")) and subprocess.run(["sinfo", "-h"], capture_output=True, check=False).returncode == 0
+
+
+class Sweep(InFolder):
+    FAULTY = HEADER + "0,1,rx,60\n"
+    BURST = HEADER + "0,1,open,8\n" + "0,1,rx,60\n" * 9 + "1,0,softirq,0\n0,1,tx,100\n0,1,done,1\n"
+
+    def setUp(self):
+        super().setUp()
+        self.write("burst.csv", self.BURST)
+        self.write("faulty.csv", self.FAULTY)
+        self.out = self.folder / "rows"
+
+    def sweep(self, *words, path=None):
+        return run("sweep", self.folder, "--budget", "2,300", "--weight", "2,64", "--out", self.out, "--program", REPLAY,
+                   *words, path=path)
+
+    def rows(self):
+        with open(self.out, newline="", encoding="utf-8") as file:
+            return list(csv.DictReader(file))
+
+    def check_rows(self):
+        """Nine packets come to eight places, so one is dropped. A budget of 2 squeezes the run after its first poll. A poll
+        that is full has its next turn in the next run; one that isn't is made again, for the requests that were missed. The
+        queue's limit of 0 grows by the 100 bytes that were complete while nothing else was queued."""
+        rows = self.rows()
+        self.assertEqual([(row["budget"], row["weight"]) for row in rows], [("2", "2"), ("2", "64"), ("300", "2"), ("300", "64")] * 2)
+        names = ["status", "fault", "polls", "work", "squeezed", "dropped", "left", "greatest_limit"]
+        self.assertEqual([[row[name] for name in names] for row in rows[:4]], [
+            ["0", "", "1", "2", "1", "1", "6", "100"], ["0", "", "1", "8", "1", "1", "0", "100"],
+            ["0", "", "1", "2", "0", "1", "6", "100"], ["0", "", "2", "8", "0", "1", "0", "100"]])
+        for row in rows[4:]:
+            self.assertEqual([row[name] for name in names], ["2", "trace fault 6 UnknownDevice row 1", "", "", "", "", "", ""])
+
+    def test_every_trace_with_every_combination(self):
+        done = self.sweep("--without-parallel")
+        self.assertEqual(done.returncode, 0)
+        self.assertIn("8 rows in", done.stderr)
+        self.check_rows()
+
+    @unittest.skipUnless(shutil.which("parallel"), "GNU parallel isn't installed")
+    def test_by_parallel(self):
+        self.assertEqual(self.sweep().returncode, 0)
+        self.check_rows()
+
+    def test_where_parallel_is_missing_it_says_so(self):
+        done = self.sweep(path=str(self.folder))
+        self.assertEqual(done.returncode, 0)
+        self.assertIn("GNU parallel isn't on PATH", done.stderr)
+        self.check_rows()
+        self.assertIn("needs GNU parallel", self.sweep("--resume", "--sshloginfile", self.write("machines", ":"), "--window", "7", path=str(self.folder)).stderr)
+
+    def test_it_goes_on_where_it_was(self):
+        self.sweep("--without-parallel")
+        lines = self.out.read_text().splitlines(keepends=True)
+        # Three rows and a part of one are there. What is there isn't made again: a row of it is told apart by its polls.
+        kept = [lines[0], lines[1].replace(",1,2,1,", ",7,2,1,"), *lines[2:4], lines[4][:-5]]
+        self.assertNotEqual(kept[1], lines[1])
+        self.out.write_text("".join(kept))
+        done = self.sweep("--without-parallel", "--resume")
+        self.assertIn("8 rows, of which 3 are there", done.stderr)
+        self.assertEqual(self.out.read_text().splitlines(keepends=True), [kept[0], kept[1], *lines[2:]])
+
+    def test_rows_of_other_settings_stay(self):
+        self.sweep("--without-parallel")
+        before = self.out.read_text()
+        done = self.sweep("--without-parallel", "--resume", "--window", "7", "--budget", "5")
+        self.assertEqual(done.returncode, 0)
+        self.assertIn("8 others of", done.stderr)
+        self.assertTrue(self.out.read_text().startswith(before))
+        self.assertEqual(len(self.rows()), 12)
+
+    def test_what_fails_is_no_row_and_is_tried_again(self):
+        """A program that ends by a signal, one that isn't the replay, one that reads nothing, and one that fails twice."""
+        for body in ("kill -9 $$", "exit 0", "echo hello", "echo 'memory fault 11 OutOfMemory' >&2; exit 4",
+                     "echo 'trace fault 10 ReadFailed' >&2; exit 2", "exit 64"):
+            program = self.write("program", f"#!/bin/sh\n{body}\n")
+            program.chmod(0o755)
+            for words in (["--without-parallel"], []):
+                done = self.sweep(*words, "--resume", "--program", program)
+                self.assertEqual(done.returncode, 1)
+                self.assertIn("8 rows are missing: --resume tries them again", done.stderr)
+                self.assertEqual(self.rows(), [])
+        program.write_text(f"#!/bin/sh\necho >> '{self.folder}/calls'\nexec '{REPLAY}' \"$@\"\n")
+        self.assertEqual(self.sweep("--resume", "--without-parallel", "--program", program).returncode, 0)
+        self.check_rows()
+        # Twice no luck, and then there is.
+        self.out.unlink()
+        program.write_text(f"#!/bin/sh\nd='{self.folder}/'$2-$4; if mkdir \"$d\" 2> /dev/null || mkdir \"$d\"b 2> /dev/null; then exit 7; fi\n"
+                           f"exec '{REPLAY}' \"$@\"\n")
+        self.assertEqual(self.sweep("--without-parallel", "--program", program).returncode, 0)
+        self.check_rows()
+
+    def test_runs_raised_anew(self):
+        """By the recorded runs alone 5582 packets are dropped; Linux would have raised more."""
+        trace = TOP / "examples/linux-veth-bursts.csv"
+        for words in ([], ["--raise"]):
+            done = run("sweep", trace, "--budget", "16", "--weight", "8", "--out", self.out, "--resume", "--without-parallel", *words)
+            self.assertEqual(done.returncode, 0, done.stderr)
+        names = ["raise", "work", "dropped"]
+        self.assertEqual([[row[name] for name in names] for row in self.rows()],
+                         [["no", "8441", "5582"], ["all", "15245", "0"]])
+
+    def test_progress_is_told(self):
+        self.assertRegex(self.sweep("--without-parallel").stderr, r"sweep: 4 of 8 rows, \d+ s\n")
+
+    def test_what_it_finds_in_a_folder(self):
+        (self.folder / "folder.csv").mkdir()
+        os.mkfifo(self.folder / "fifo.csv")
+        done = self.sweep("--without-parallel")
+        self.assertIn("folder.csv: passed over, as it is no regular file", done.stderr)
+        self.assertIn("fifo.csv: passed over", done.stderr)
+        self.check_rows()
+        self.assertIn("as a regular file", run("sweep", self.folder / "fifo.csv", "--out", self.out).stderr)
+
+    def test_a_name_that_is_no_text(self):
+        name = os.fsencode(self.folder) + b"/\xff;touch x,\x1b.csv"
+        os.rename(self.folder / "burst.csv", name)
+        os.unlink(self.folder / "faulty.csv")
+        for words in ([], ["--without-parallel"]):
+            done = run("sweep", self.folder, "--out", self.out, *words)
+            self.assertEqual((done.returncode, "\x1b" in done.stderr), (0, False), done.stderr)
+            self.assertIn(b"/\xff;touch x,\x1b.csv", self.out.read_bytes())
+            self.out.unlink()
+
+    @unittest.skipUnless(has_slurm(), "no slurmd answers here")
+    def test_the_block_for_slurm(self):
+        script = self.write("job.sh", slurm_block().replace("traces", str(self.folder)).replace("rows-", f"{self.folder}/rows-"))
+        done = subprocess.run(["sbatch", "--wait", "--output", self.folder / "%a.out", script], cwd=TOP, capture_output=True, text=True, check=False)
+        self.assertEqual(done.returncode, 0, done.stderr)
+        self.assertEqual(len([row for path in self.folder.glob("rows-*.csv") for row in path.read_text().splitlines()[1:]]), 12)
+
+    def test_the_block_for_slurm_as_a_script(self):
+        """Without a slurmd: each job of the array, as Slurm would start it."""
+        script = self.write("job.sh", slurm_block())
+        self.assertTrue(slurm_block().startswith("#!/bin/bash\n"))
+        (self.folder / "traces").mkdir()
+        for name in ("burst.csv", "faulty.csv"):
+            os.rename(self.folder / name, self.folder / "traces" / name)
+        os.symlink(TOP / "tools", self.folder / "tools")
+        for job in range(1, 17):
+            done = subprocess.run(["bash", script], cwd=self.folder, capture_output=True, text=True, check=False, env={
+                **os.environ, "PROGRAM": REPLAY, "SLURM_ARRAY_TASK_ID": str(job), "SLURM_CPUS_PER_TASK": "2"})
+            self.assertEqual(done.returncode, 0, done.stderr)
+        rows = [row for path in self.folder.glob("rows-*.csv") for row in path.read_text().splitlines()[1:]]
+        self.assertEqual(len(rows), 12)
+
+    def test_a_file_is_not_overwritten(self):
+        self.out.write_text("mine\n")
+        self.assertIn("is there: --resume goes on with it", self.sweep().stderr)
+        self.assertIn("this is no file of sweep's", self.sweep("--resume").stderr)
+        self.assertEqual(self.out.read_text(), "mine\n")
+
+    def test_parts_are_all_of_it(self):
+        self.sweep("--without-parallel")
+        whole = self.rows()
+        parts = []
+        for part in ("1/3", "2/3", "3/3"):
+            self.out = self.folder / part.replace("/", "-")
+            self.assertEqual(self.sweep("--without-parallel", "--part", part).returncode, 0)
+            parts.append(self.rows())
+        self.assertEqual([len(rows) for rows in parts], [3, 3, 2])
+        self.assertCountEqual([tuple(row.values()) for rows in parts for row in rows], [tuple(row.values()) for row in whole])
+
+    def test_words_that_it_refuses(self):
+        for words in (["--budget", "64,x"], ["--part", "4/3"], [], ["--budget", "0"], ["--weight", "65"], ["--jobs", "0"],
+                      ["--restarts", "3"], ["--window", "65536"]):
+            done = run("sweep", *(words and [self.folder]), *words, "--out", self.out)
+            self.assertEqual((done.returncode, self.out.exists()), (2, False), words)
+        self.assertIn("there is no such trace", run("sweep", self.folder / "none", "--program", REPLAY).stderr)
+        self.assertIn("this is no program", run("sweep", self.folder, "--program", "/dev/null", "--out", self.out).stderr)
+        self.assertIn("no such folder", run("sweep", self.folder, "--out", self.folder / "none/rows").stderr)
