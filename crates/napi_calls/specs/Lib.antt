@@ -1,5 +1,6 @@
 pub mod Calls
 pub mod Closed
+pub mod Dealt
 pub mod Fault
 pub mod Instance
 pub mod Knows

@@ -4,6 +4,7 @@
 mod bed;
 mod busy;
 mod contention;
+mod dealing;
 mod events;
 mod refusals;
 mod threads;

@@ -1,5 +1,5 @@
 -- Deliveries that grow at their end, and who may add one.
-use Rattle.std.proofs.Common.{◌≡◌, ◌≢◌, ℕ, List, [], ◌∷◌, ◌++◌, Bool, true, false, not, ◌&&◌, nat_eq, ne_eqb, refl, sym, ap, ◌∙◌, append_assoc, length, drop, subst, Option, Some, unwrap_or, true≢false}
+use Rattle.std.proofs.Common.{◌≡◌, ◌≢◌, ℕ, List, [], ◌∷◌, ◌++◌, Bool, true, false, not, ◌&&◌, nat_eq, eq-eqb, ne_eqb, refl, sym, ap, ◌∙◌, append_assoc, length, drop, subst, Option, Some, unwrap_or, true≢false}
 use mathlib.Core.List.{IsPrefix}
 use Rattle.atomic_table.specs.Table.{Me}
 use Rattle.std.proofs.lemmas.List.{append-nil}
@@ -38,7 +38,7 @@ to_prefix before after e = (drop (length before) after, sym e)
 pub of_prefix : (before after : List Packet) → IsPrefix before after → Continues before after
 of_prefix before after p = subst (λ (l : List Packet). Continues before l) p.1 (ap (λ (l : List Packet). before ++ l) (sym (drop_front before p.0)))
 
-packets_snoc : (ds : List Delivery) (d : Delivery) → packets_of (ds ++ d ∷ []) ≡ packets_of ds ++ d.packets
+pub packets_snoc : (ds : List Delivery) (d : Delivery) → packets_of (ds ++ d ∷ []) ≡ packets_of ds ++ d.packets
 packets_snoc [] d = append-nil d.packets
 packets_snoc (e ∷ ds) d = ap (λ (l : List Packet). e.packets ++ l) (packets_snoc ds d) ∙ sym (append_assoc e.packets (packets_of ds) d.packets)
 
@@ -49,11 +49,15 @@ pub last_snoc : (ring : RxCtx) (ds : List Delivery) (d : Delivery) → last_of r
 last_snoc ring [] d = refl
 last_snoc ring (e ∷ ds) d = last_snoc e.ctx ds d
 
+pub own_one_yes : (n : ℕ) (packets : List Packet) (x : RxCtx) → own_deliveries n (delivery n packets x ∷ []) ≡ delivery n packets x ∷ []
+unfolding own_deliveries
+own_one_yes n packets x = rw (eq-eqb n n refl) refl
+
 own_one_no : (n c : ℕ) (packets : List Packet) (x : RxCtx) → c ≢ n → own_deliveries n (delivery c packets x ∷ []) ≡ []
 unfolding own_deliveries
 own_one_no n c packets x apart = rw (ne_eqb c n apart) refl
 
-own_both : (n : ℕ) (g h : List Delivery) → own_deliveries n (g ++ h) ≡ own_deliveries n g ++ own_deliveries n h
+pub own_both : (n : ℕ) (g h : List Delivery) → own_deliveries n (g ++ h) ≡ own_deliveries n g ++ own_deliveries n h
 unfolding own_deliveries
 own_both n g h = filter-append (λ (d : Delivery). nat_eq d.by n) g h
 

@@ -1,14 +1,14 @@
 //! An instance of two callers, and the answers that the runs want; another answer ends the test.
 
 ghost use Rattle.std.specs.Prelude.{◌≡◌, ℕ, [], ◌∷◌, length, slice_get, Some, true, false};
-ghost use Rattle.rx_ring.specs.Ends.{IsOneRing};
+ghost use Rattle.rx_ring.specs.Ends.{IsOneRing, received_list};
 ghost use Rattle.napi_model.specs.declared.state.Seen.{Seen};
 ghost use Rattle.napi_model.specs.declared.state.Kind.TheVariants as kind;
 ghost use Rattle.napi_model.specs.declared.event.Prep.TheVariants as prep;
 ghost use Rattle.napi_model.specs.declared.event.Done.TheVariants as done;
 ghost use Rattle.napi_model.specs.declared.event.Operation.TheVariants.{Look, Schedule, Hand, Take, Complete, MarkDisable, TakeDisable, Unmark};
 ghost use Rattle.napi_calls.specs.declared.types.Caller.{Caller};
-ghost use Rattle.napi_calls.specs.Instance.{IsSeatOf, IsNewSeat, callers_of};
+ghost use Rattle.napi_calls.specs.Instance.{IsSeatOf, IsNewSeat, callers_of, first_of_instance};
 ghost use Rattle.napi_calls.specs.Seats.{IsInputOf};
 ghost use Rattle.napi_calls.specs.Made.{Made};
 ghost use Rattle.napi_calls.specs.Calls.{EnablesAt};
@@ -78,6 +78,7 @@ pub fn make_bed(rt: &impl Abort, alloc: Global) -> Bed
     ensures second { IsNewSeat result.napi 1 result.second.pass }
     ensures control { IsNewSeat result.napi 2 result.control.pass }
     ensures input { IsInputOf result.input result.first.pass }
+    ensures nothing { received_list (first_of_instance result.napi) ≡ [] }
 {
     let made = ring(alloc, 4);
     let Ok((input, ctx)) = made else {

@@ -1,0 +1,20 @@
+-- What two pollers received of one ring, of which they are the callers 0 and 1.
+use Rattle.std.specs.Prelude.{◌≡◌, ℕ, ◌<◌, List, [], ◌++◌}
+use Rattle.rx_ring.specs.declared.packet.Packet.{Packet}
+use Rattle.napi_word.specs.declared.table.Pass.{Pass}
+use Rattle.napi_word.specs.declared.view.Delivery.{Delivery}
+use Rattle.napi_word.specs.View.{own_deliveries, packets_of}
+use Rattle.napi_calls.specs.Packets.{own_delivered}
+
+-- between p and q its caller delivered these packets
+abbrev pub Delivers : Pass → List Packet → Pass → Type 0
+Delivers p packets q = packets_of (own_delivered q) ≡ packets_of (own_delivered p) ++ packets
+
+-- all packets put are those of some deliveries, joined, and then those that are left; the first poller's are its own deliveries,
+-- joined, the second one's too, and nobody else has one
+pub record IsDealt (put first second left : List Packet) : Type 0 where
+  pub deliveries : List Delivery
+  pub whole : put ≡ packets_of deliveries ++ left
+  pub first_is : packets_of (own_deliveries 0 deliveries) ≡ first
+  pub second_is : packets_of (own_deliveries 1 deliveries) ≡ second
+  pub others : (c : ℕ) → 1 < c → packets_of (own_deliveries c deliveries) ≡ []
