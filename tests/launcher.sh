@@ -4,6 +4,10 @@
 # examples/ are given arguments that they have to refuse. The last line is `N passed, M failed`.
 set -uo pipefail
 unset CDPATH
+# A signal that whoever called this ignores can't be tried, and a shell can't take it back by itself.
+if [ -z "${SIGNALS_AS_USUAL:-}" ]; then
+    SIGNALS_AS_USUAL=yes exec env --default-signal=INT,TERM,HUP,PIPE bash "$0" "$@"
+fi
 top=$(dirname "$(dirname "$(readlink -f "$0")")")
 scratch=$(mktemp -d)
 trap 'rm -rf "$scratch"' EXIT
@@ -604,7 +608,7 @@ times_of_the_gate() {
     mkdir -p "$scratch/rt-edit-x"
     cat > "$scratch/gate" << 'END'
 #!/usr/bin/env bash
-prove() { bash -c 'exec -a /x/rattle bash -c "for ((i = 0; i < 300000; i++)); do :; done; sleep 1.2" "$@"' '' "$@"; }
+prove() { bash -c 'exec -a /x/rattle bash -c "for ((i = 0; i < 300000; i++)); do :; done; sleep 1.2; :" "$@"' '' "$@"; }
 prove check --crate-name low && echo 'rt: low proved'
 prove check --crate-name low --test && echo 'rt: low: its tests are proved'
 echo 'rt: low: trying its must-fail edits (2)'
