@@ -1,9 +1,10 @@
 #!/bin/sh
 # Times calls of the C library from C: pairs on a queue limit beside the plain C++ fold of bench/limits.cc, which is inlined, and
-# which has to count the same; turns of a shared instance by one thread (schedule, hand, take, complete); and packets, put one by one
-# and polled 64 at a time. Three rounds of all in turn; the best time of each is shown.
+# which has to count the same; turns of a shared instance by one thread (schedule, hand, take, complete) beside the same turns by
+# the typed calls (crates/bench_word); and packets, put one by one and polled 64 at a time. Three rounds of all in turn; the best
+# time of each is shown, and how C's compares with what stands beside it.
 #
-# usage: bench/c_library.sh [TIMES]     (10000000 where none are given)
+# usage: bench/c_library.sh [TIMES]     (10000000 where none are given; of the turns a tenth)
 set -eu
 
 unset CDPATH
@@ -12,12 +13,14 @@ bench=$(cd "$(dirname "$0")" && pwd)
 at_most 1 "$@"
 times=${1:-10000000}
 is_count TIMES "$times"
+turns=$(((times + 9) / 10))
 is_tool g++
 is_tool gcc
 work=$(mktemp -d)
 trap 'rm -rf "$work"' EXIT
 
 "$bench/../scripts/c_library.sh" "$work"
+"$bench/../scripts/build.sh" bench_word
 gcc -std=c11 -O2 -I "$bench/../include" "$bench/c_library.c" "$work/libfintaqush.a" -o "$work/c_library"
 g++ -O2 -o "$work/fold" "$bench/limits.cc"
 
@@ -25,9 +28,13 @@ for round in 1 2 3; do
     "$work/fold" "$times" > "$work/fold.line" 2> "$work/spent"
     cut -d ' ' -f 1 "$work/spent" >> "$work/fold.times"
     for what in limits turns packets; do
-        "$work/c_library" "$what" "$times" > "$work/$what.line" 2> "$work/spent"
+        count=$times
+        [ "$what" != turns ] || count=$turns
+        "$work/c_library" "$what" "$count" > "$work/$what.line" 2> "$work/spent"
         cut -d ' ' -f 1 "$work/spent" >> "$work/$what.times"
     done
+    "$bench/../crates/bench_word/out/bench_word" "$turns" > "$work/typed.line" 2> "$work/spent"
+    awk '$1 == "typed" { print $2 }' "$work/spent" >> "$work/typed.times"
     if ! cmp -s "$work/limits.line" "$work/fold.line"; then
         echo 'the library counts otherwise than the fold:' >&2
         cat "$work/fold.line" "$work/limits.line" >&2
@@ -36,8 +43,15 @@ for round in 1 2 3; do
 done
 
 least() { sort -n "$work/$1.times" | head -n 1; }
-show() { awk -v spent="$(least "$2")" -v times="$times" -v name="$1" 'BEGIN { printf "%-28s %6.2f ns\n", name, spent / times }'; }
-show 'a pair on a limit, from C' limits
-show 'the same pair by the fold' fold
-show 'a turn of a shared instance' turns
-show 'a packet, weight 64' packets
+# show NAME WHAT TIMES [BESIDE NAME]
+show() {
+    awk -v name="$1" -v spent="$(least "$2")" -v times="$3" -v beside="${4:+$(least "$4")}" -v other="${5:-}" 'BEGIN {
+        printf "%-32s %6.2f ns", name, spent / times
+        if (beside) printf ", %4.2f of %s", spent / beside, other
+        print "" }'
+}
+show 'a pair on a limit by the fold' fold "$times"
+show 'the same pair from C' limits "$times" fold 'the fold'
+show 'a turn by the typed calls' typed "$turns"
+show 'the same turn from C' turns "$turns" typed 'the typed calls'
+show 'a packet from C, weight 64' packets "$times"

@@ -1,5 +1,5 @@
 #!/usr/bin/env bash
-# Whole runs of the replay, reading and writing included, in turn with another program that reads the same traces (PEER), on
+# Whole runs of the serial replay, reading and writing included, in turn with another program that reads the same traces (PEER), on
 # one machine: on the traces of traces.sh, on each .csv file of the folder TRACES where one is named, and, to see the growth
 # in rows, on the trace of sixteen devices at 10000, 30000 and 100000 rows. Prints for each the least time and the greatest
 # size in memory of both, the ratio of the times, and whether the bytes and the exit status agree. The exit status is 1 where
@@ -13,12 +13,12 @@ bench=$(cd "$(dirname "$0")" && pwd)
 at_most 2 "$@"
 peer=${1:-}
 turns=${2:-15}
-program=${PROGRAM:-$bench/../crates/napi_replay/out/napi_replay}
+program=${PROGRAM:-$bench/../crates/napi_serial/out/napi_serial}
 [ -z "$peer" ] || is_program PEER "$peer"
 is_count TURNS "$turns"
 [ -z "${TRACES:-}" ] || [ -d "$TRACES" ] || refuse "TRACES is '$TRACES', which is no folder"
 is_tool cc
-[ -n "${PROGRAM:-}" ] || "$bench/../scripts/build.sh" napi_replay
+[ -n "${PROGRAM:-}" ] || "$bench/../scripts/build.sh" napi_serial
 is_program PROGRAM "$program"
 scratch=$(mktemp -d)
 trap 'rm -rf "$scratch"' EXIT

@@ -2,14 +2,14 @@
 # Replays the traces that were recorded from a running Linux, and compares with what the kernel did there: the work of each
 # softirq and kthread row, the squeezes that it counted, its answers to all requests, its queue limits. Each difference is
 # shown. The exit status is 0 only where all agree.
-# examples/compare.sh [PROGRAM [SERIES]]   other builds of napi_replay and napi_series
+# examples/compare.sh [PROGRAM [SERIES]]   other builds of napi_serial and napi_series
 set -eu
 unset CDPATH
 examples=$(cd "$(dirname "$0")" && pwd)
 . "$examples/../scripts/arguments.sh"
 at_most 2 "$@"
-[ $# -gt 0 ] || "$examples/../scripts/build.sh" napi_replay
-program=${1:-$examples/../crates/napi_replay/out/napi_replay}
+[ $# -gt 0 ] || "$examples/../scripts/build.sh" napi_serial
+program=${1:-$examples/../crates/napi_serial/out/napi_serial}
 is_program PROGRAM "$program"
 [ $# -gt 1 ] || "$examples/../scripts/build.sh" napi_series
 series=${2:-$examples/../crates/napi_series/out/napi_series}

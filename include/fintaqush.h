@@ -13,10 +13,11 @@
  * - A struct fq_handle or fq_dql isn't copied, and only calls write its fields. A handle that isn't set is all zero.
  * - No call from a signal handler, nor from the forked child of a process with threads.
  *
- * No call waits, locks or starts a thread. Only those named .._new, and fq_free, take or give memory.
+ * No call waits, locks or starts a thread. Only those named .._new, fq_free, fq_abandon and fq_replay take or give memory.
  *
- * Memory order: what a thread wrote before it put a packet is seen by the thread whose poll gives that packet; and what was
- * done with a packet before the next poll is seen by the put that finds its place free.
+ * Memory order: what a thread wrote before it put a packet is seen by the thread whose poll gives that packet. A poll empties the
+ * places of the packets that it gives, at once: what was done before that poll is seen by the put that finds one of them free. What
+ * was done by who had the instance is seen by who has it next. fintaqush_tsan.h shows all this to ThreadSanitizer.
  */
 #ifndef FINTAQUSH_H
 #define FINTAQUSH_H
@@ -45,8 +46,8 @@ extern "C" {
 enum fq_status {
     FQ_OK = 0,
     FQ_BAD_BOUNDS = 1,         /* limit: min above max, or max above 1879048192 */
-    FQ_TOO_LARGE = 2,          /* limit: an object above 268435455 */
-    FQ_TOO_MUCH_IN_FLIGHT = 3, /* limit: more than it can count would be in flight */
+    FQ_TOO_LARGE = 2,          /* limit, send: an object above 268435455 */
+    FQ_TOO_MUCH_IN_FLIGHT = 3, /* limit, send: more than it can count would be in flight */
     FQ_MORE_THAN_QUEUED = 4,   /* limit: more completed than is in flight */
 
     FQ_GRANTED = 16,   /* schedule: the instance is this caller's, who has to hand it over */
@@ -59,21 +60,24 @@ enum fq_status {
     FQ_HELD = 23,      /* complete: it is busy polled, and the caller polls on */
     FQ_BUSY = 24,      /* busy take, take disable: someone has the instance */
     FQ_CHANGED = 25,   /* shared instances: another thread came between, nothing is decided; call again */
-    FQ_FULL = 26,      /* put, push: there is no room */
+    FQ_FULL = 26,      /* put, push, send: there is no room */
     FQ_DONE = 27,      /* run: no poll is left in it */
+    FQ_STOPPED = 28,   /* send: the limit has stopped the queue */
+    FQ_MORE_THAN_SENT = 29, /* done: more packets than the transmit ring holds */
 
     FQ_NOT_ALLOWED = 100,   /* the object's state doesn't have this call */
     FQ_BAD_KIND = 101,      /* no number of enum fq_kind */
     FQ_BAD_HANDLE = 110,    /* the handle leads to nothing, or to another kind */
     FQ_IN_USE = 111,        /* the handle is set already */
     FQ_OUT_OF_MEMORY = 112,
-    FQ_BAD_CAPACITY = 113,  /* ring: 1 to 65536 */
+    FQ_BAD_CAPACITY = 113,  /* rings: 1 to 65536 */
     FQ_BAD_WEIGHT = 114,    /* 1 to 64 */
-    FQ_NO_ROOM = 115,       /* poll: the array is shorter than the weight */
-    FQ_BAD_BUDGET = 116,    /* run: budget and window are 1 to 65535 */
+    FQ_NO_ROOM = 115,       /* poll: the array is shorter than the weight; replay: than the report */
+    FQ_BAD_BUDGET = 116,    /* run, replay: budget and window are 1 to 65535 */
     FQ_BAD_COUNT = 117,     /* shared instance: 2 to 8 seats */
     FQ_BAD_NEXT = 118,      /* no number of enum fq_next */
-    FQ_BAD_WORK = 119       /* run: more packets than the weight */
+    FQ_BAD_WORK = 119,      /* run: more packets than the weight */
+    FQ_BAD_TRACE = 120      /* replay: the bytes are no trace, or a row of it can't be played */
 };
 
 /* The name of a status, as "FQ_GRANTED"; "?" of a number that is none. */
@@ -96,6 +100,8 @@ static inline const char *fq_status_name(uint32_t status) {
     case FQ_CHANGED: return "FQ_CHANGED";
     case FQ_FULL: return "FQ_FULL";
     case FQ_DONE: return "FQ_DONE";
+    case FQ_STOPPED: return "FQ_STOPPED";
+    case FQ_MORE_THAN_SENT: return "FQ_MORE_THAN_SENT";
     case FQ_NOT_ALLOWED: return "FQ_NOT_ALLOWED";
     case FQ_BAD_KIND: return "FQ_BAD_KIND";
     case FQ_BAD_HANDLE: return "FQ_BAD_HANDLE";
@@ -108,6 +114,7 @@ static inline const char *fq_status_name(uint32_t status) {
     case FQ_BAD_COUNT: return "FQ_BAD_COUNT";
     case FQ_BAD_NEXT: return "FQ_BAD_NEXT";
     case FQ_BAD_WORK: return "FQ_BAD_WORK";
+    case FQ_BAD_TRACE: return "FQ_BAD_TRACE";
     }
     return "?";
 }
@@ -226,6 +233,29 @@ FQ_CHECKED uint32_t fq_ring_put(struct fq_handle *ring, uint64_t number, uint32_
  * count, else a count of 0. Not of a ring whose other end an instance has (FQ_BAD_HANDLE). */
 FQ_CHECKED uint32_t fq_ring_poll(struct fq_handle *FQ_RESTRICT ring, size_t weight, struct fq_packet *FQ_RESTRICT out, size_t len, size_t *FQ_RESTRICT count);
 
+/* ---- Transmit rings under a byte queue limit (netdev_tx_sent_queue, netdev_tx_completed_queue). The ring keeps the sizes of the
+ * packets that were sent and aren't complete, in order; the packets themselves are the caller's. Moments are milliseconds. */
+
+struct fq_tx_state {
+    uint32_t queued;    /* the bytes of all packets ever sent, modulo 2^32 */
+    uint32_t completed; /* the bytes of all that are complete, modulo 2^32: queued - completed are in flight */
+    uint32_t limit;     /* in bytes */
+    int64_t avail;      /* the bytes that may still be sent; negative: the queue is over its limit */
+    bool stopped;       /* the limit has stopped the queue, and no completion has started it since */
+};
+
+/* A ring of 1 to 65536 packets, not stopped, over a new limit between min and max, which keeps slack for hold_ms (dql_init):
+ * FQ_OK, FQ_IN_USE, FQ_BAD_BOUNDS, FQ_BAD_CAPACITY, FQ_OUT_OF_MEMORY. fq_free frees it, whatever it holds. */
+FQ_CHECKED uint32_t fq_tx_new(struct fq_handle *tx, size_t capacity, uint32_t min, uint32_t max, uint64_t hold_ms, uint64_t now_ms);
+/* A packet of so many bytes is given to the device; the queue is stopped where less than nothing is available then: FQ_OK;
+ * nothing is sent: FQ_STOPPED, else FQ_FULL, else FQ_TOO_LARGE, else FQ_TOO_MUCH_IN_FLIGHT; FQ_BAD_HANDLE. */
+FQ_CHECKED uint32_t fq_tx_send(struct fq_handle *tx, uint32_t bytes);
+/* The device is done with the count oldest packets. If these have any bytes the limit adapts, and where it has room again the
+ * queue is started: FQ_OK, FQ_MORE_THAN_SENT (nothing is done), FQ_BAD_HANDLE. */
+FQ_CHECKED uint32_t fq_tx_done(struct fq_handle *tx, uint32_t count, uint64_t now_ms);
+/* What the ring shows: FQ_OK; FQ_BAD_HANDLE, and *state stays. */
+FQ_CHECKED uint32_t fq_tx_state(struct fq_handle *FQ_RESTRICT tx, struct fq_tx_state *FQ_RESTRICT state);
+
 /* ---- Instances that threads share. */
 
 /* An instance over the ring's poll end, with its controller and 2 to 8 seats, its callers: FQ_OK, FQ_IN_USE, FQ_BAD_COUNT,
@@ -286,6 +316,37 @@ FQ_CHECKED uint32_t fq_run_next(struct fq_handle *FQ_RESTRICT list, uint32_t *FQ
 FQ_CHECKED uint32_t fq_run_polled(struct fq_handle *list, uint32_t work, uint32_t next);
 /* Ends it; what wasn't polled, and what is to be polled again, is on the list: FQ_OK, FQ_NOT_ALLOWED. */
 FQ_CHECKED uint32_t fq_run_end(struct fq_handle *FQ_RESTRICT list, struct fq_run_report *FQ_RESTRICT report);
+
+/* ---- The whole replay on one thread (napi_replay --mode=serial): the bytes of a trace in, the bytes of its report out. Formats and
+ * faults are those of docs/FORMATS.md. */
+
+struct fq_settings {
+    uint32_t budget; /* packets that a run polls before it is squeezed, 1 to 65535 (netdev_budget) */
+    uint32_t weight; /* packets that one poll gives at most, 1 to 64 (NAPI_POLL_WEIGHT) */
+    uint32_t window; /* polls that a run makes before it is squeezed, 1 to 65535 (for netdev_budget_usecs) */
+};
+
+/* The settings where napi_replay is given none. */
+#define FQ_USUAL_SETTINGS {300, 64, 1024}
+
+struct fq_replayed {
+    size_t length;  /* the bytes of the report, also where there is no room for it; 0 where there is none */
+    uint32_t fault; /* the number of the trace's fault, 1 to 12; 0 where it has none */
+    uint32_t row;   /* the row that the fault names, counted from 1; 0 where it names none */
+};
+
+/* Replays a trace of len bytes into an array of room bytes: FQ_OK, and its first replayed->length bytes are the report, with no 0
+ * behind them. FQ_NO_ROOM: replayed->length is the room that it takes. FQ_BAD_TRACE: replayed->fault and replayed->row tell why.
+ * FQ_BAD_WEIGHT, else FQ_BAD_BUDGET of the settings; FQ_OUT_OF_MEMORY. The array is as it was on all but FQ_OK. Of an empty trace or
+ * array the pointer leads to some byte. */
+FQ_CHECKED uint32_t fq_replay(const struct fq_settings *FQ_RESTRICT settings, const uint8_t *FQ_RESTRICT trace, size_t len, uint8_t *FQ_RESTRICT report, size_t room, struct fq_replayed *FQ_RESTRICT replayed);
+
+/* The name of a trace's fault, as "BadHeader"; "?" of a number that is none. */
+static inline const char *fq_fault_name(uint32_t fault) {
+    static const char *const names[] = {"?", "BadHeader", "BadFields", "BadNumber", "BadEvent", "OutOfRange", "UnknownDevice",
+        "OpenTwice", "WrongState", "TooManyRows", "ReadFailed", "OutOfMemory", "Pending"};
+    return fault < sizeof names / sizeof names[0] ? names[fault] : "?";
+}
 
 #ifdef __cplusplus
 }

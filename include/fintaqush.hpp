@@ -11,6 +11,8 @@
 #include <cstddef>
 #include <cstdint>
 #include <optional>
+#include <string>
+#include <string_view>
 #include <thread>
 #include <utility>
 #include <variant>
@@ -21,6 +23,7 @@ namespace fintaqush {
 using Status = fq_status;
 using Kind = fq_kind;
 using Packets = std::array<fq_packet, 64>;
+using TxState = struct ::fq_tx_state;
 
 namespace detail {
 // A call that the type allows is made: its number has nothing else to say.
@@ -79,6 +82,30 @@ public:
 private:
     Limit() = default;
     fq_dql raw_{};
+};
+
+// A transmit ring under a byte queue limit: it keeps the sizes of the packets that were sent and aren't complete.
+class TxRing {
+public:
+    // None where the places aren't 1 to 65536, min is above max, max above 1879048192, or memory is out.
+    static std::optional<TxRing> make(std::size_t capacity, std::uint32_t min, std::uint32_t max, std::uint64_t hold_ms,
+                                      std::uint64_t now_ms) {
+        Handle at;
+        if (fq_tx_new(at.raw(), capacity, min, max, hold_ms, now_ms) != FQ_OK) return std::nullopt;
+        return std::optional<TxRing>(TxRing(std::move(at)));
+    }
+
+    [[nodiscard]] Status send(std::uint32_t bytes) { return Status(fq_tx_send(at_.raw(), bytes)); }
+    [[nodiscard]] Status done(std::uint32_t count, std::uint64_t now_ms) { return Status(fq_tx_done(at_.raw(), count, now_ms)); }
+    TxState state() {
+        TxState shown{};
+        detail::made(fq_tx_state(at_.raw(), &shown));
+        return shown;
+    }
+
+private:
+    explicit TxRing(Handle &&at) : at_(std::move(at)) {}
+    Handle at_;
 };
 
 // An instance of one thread, whose calls are told at run time.
@@ -333,6 +360,30 @@ private:
     explicit List(Handle &&at) : at_(std::move(at)) {}
     Handle at_;
 };
+
+// Why a replay gave no report: its status, and of FQ_BAD_TRACE the number of the trace's fault (fq_fault_name) and its row.
+struct NoReport {
+    std::uint32_t status, fault, row;
+};
+
+// The whole replay of a trace on one thread (napi_replay --mode=serial): the report.
+[[nodiscard]] inline std::variant<std::string, NoReport> replay(std::string_view trace, const fq_settings &settings = FQ_USUAL_SETTINGS) {
+    const std::uint8_t none = 0;
+    const std::uint8_t *bytes = trace.empty() ? &none : reinterpret_cast<const std::uint8_t *>(trace.data());
+    std::string report(4096, '\0');
+    fq_replayed replayed{};
+    const auto play = [&] {
+        return fq_replay(&settings, bytes, trace.size(), reinterpret_cast<std::uint8_t *>(report.data()), report.size(), &replayed);
+    };
+    std::uint32_t said = play();
+    if (said == FQ_NO_ROOM) {
+        report.resize(replayed.length);
+        said = play();
+    }
+    if (said != FQ_OK) return NoReport{said, replayed.fault, replayed.row};
+    report.resize(replayed.length);
+    return report;
+}
 
 } // namespace fintaqush
 

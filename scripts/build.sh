@@ -1,9 +1,9 @@
 #!/usr/bin/env bash
-# scripts/build.sh PROGRAM: proves and builds the program of crates/PROGRAM and the libraries that it stands on, where that
-# isn't done yet or a source has changed since. Standard error shows how far it is; standard output stays empty. It can be
-# interrupted and begun again: what was proved is kept.
-# scripts/build.sh --stands PROGRAM: builds nothing; status 0 where there is nothing to build, else 1.
-# Exit status: 0 the program stands; 64 there is no such program; 69 there is no `rt`; 70 the build failed; 73 the checkout
+# scripts/build.sh PROGRAM ..: proves and builds each program of crates/PROGRAM and the libraries that it stands on, where
+# that isn't done yet or a source has changed since. Standard error shows how far it is; standard output stays empty. It can
+# be interrupted and begun again: what was proved is kept.
+# scripts/build.sh --stands PROGRAM ..: builds nothing; status 0 where there is nothing to build, else 1.
+# Exit status: 0 the programs stand; 64 there is no such program; 69 there is no `rt`; 70 the build failed; 73 the checkout
 # can't be written to; 130 or 143 interrupted.
 set -euo pipefail
 unset CDPATH
@@ -15,12 +15,12 @@ if [ "${1:-}" = --stands ]; then
     only=yes
     shift
 fi
-program=${1:-}
 crates=$top/crates
-out=$crates/$program/out
-made=$out/$program
+turn=$crates/napi_replay/out # has what keeps builds apart
+mark=$turn/build.begun # is as old as the build
 
-names=()          # the program and the libraries of this checkout below it, lowest first
+programs=("$@")   # those that are asked for, and then those of them that don't stand
+names=()          # the programs and the libraries of this checkout below them, lowest first
 order=()          # the same, the longest chain of others above it first
 declare -A needs=() # of each crate: those of `names` that it names in crates.txt
 declare -A rows=()  # of each crate: its line of crates.txt
@@ -40,9 +40,10 @@ no_rt() {
     stop 69 "there is no rt on PATH, which proves and builds the program: see 'What it needs' in README.md"
 }
 
-# The crates of crates.txt that the program is made of: for each, lowest first, its line there and then `NAME DEP ..`.
+# crates_below PROGRAM ..: the crates of crates.txt that the programs are made of: for each, lowest first, its line there and
+# then `NAME DEP ..`.
 crates_below() {
-    awk -v program="$program" '
+    awk -v programs="$*" '
         function visit(name,    count, i, deps, own) {
             if (name in seen || !(name in named)) return
             seen[name]
@@ -61,7 +62,7 @@ crates_below() {
             named[words[1]] = substr($0, colon + 1)
             lines[words[1]] = line
         }
-        END { visit(program) }' "$top/crates.txt"
+        END { count = split(programs, asked, " "); for (i = 1; i <= count; i++) visit(asked[i]) }' "$top/crates.txt"
 }
 
 read_crates() {
@@ -70,7 +71,7 @@ read_crates() {
         names+=("$name")
         rows[$name]=$row
         needs[$name]=$deps
-    done < <(crates_below)
+    done < <(crates_below "${programs[@]}")
 }
 
 # The longest chain above a crate, by the bytes of the texts, is what the build takes at least.
@@ -88,23 +89,41 @@ order_crates() {
     mapfile -t order < <(for name in "${names[@]}"; do echo "${above[$name]} $name"; done | sort -srn -k 1,1 | cut -d ' ' -f 2)
 }
 
-# Whether the program stands, and nothing that it is made of is newer. Folders count too: a file that is gone leaves its
-# folder newer.
+# is_built PROGRAM: whether it stands, and nothing that it is made of is newer. Folders count too: a file that is gone leaves
+# its folder newer.
 is_built() {
+    local made=$crates/$1/out/$1 parts=() name
     [ -x "$made" ] && [ ! "$top/crates.txt" -nt "$made" ] || return 1
-    local parts=() name
-    for name in "${names[@]}"; do
+    while IFS= read -r _ && read -r name _; do
         parts+=("$crates/$name"/{src,specs,proofs})
-    done
+    done < <(crates_below "$1")
     [ -z "$(find "${parts[@]}" -newer "$made" -print -quit 2> /dev/null)" ]
+}
+
+# Leaves in `programs` those that don't stand.
+drop_built() {
+    local asked=("${programs[@]}") name
+    programs=()
+    for name in "${asked[@]}"; do is_built "$name" || programs+=("$name"); done
+}
+
+is_program() { [[ " ${programs[*]} " == *" $1 "* ]]; }
+
+# The programs in words, as `napi_serial and napi_replay`.
+listed() {
+    local all=${programs[*]}
+    echo "${all// / and }"
 }
 
 # One build at a time in a checkout, whatever the program; a second one waits, and mostly finds the program built then.
 take_turn() {
-    local turn=$crates/napi_replay/out
-    if ! { mkdir -p "$out" "$turn" && : >> "$turn/build.lock" && : >> "$out/build.begun"; } 2> /dev/null; then
-        stop 73 "the program is to be built, and $out can't be written to: build in a checkout of your own"
-    fi
+    local name out
+    for name in napi_replay "${programs[@]}"; do
+        out=$crates/$name/out
+        if ! { mkdir -p "$out" && [ -w "$out" ] && : >> "$turn/build.lock"; } 2> /dev/null; then
+            stop 73 "the program is to be built, and $out can't be written to: build in a checkout of your own"
+        fi
+    done
     exec 9>> "$turn/build.lock"
     if ! flock -n 9; then
         say 'another build is at work in this checkout: waiting for it'
@@ -121,31 +140,44 @@ unproved() {
     echo "$count"
 }
 
-# What it takes, by what was measured: some 40 s and 250 MB a crate.
+# What it takes, by what was measured: some 25 s and 250 MB a crate.
 announce() {
-    local count
+    local count below=it
     count=$(unproved)
-    say "proving and building $program and the libraries below it, ${#names[@]} crates"
+    [ "${#programs[@]}" = 1 ] || below=them
+    say "proving and building $(listed) and the libraries below $below, ${#names[@]} crates"
     if [ "$count" != 0 ]; then
-        say "$count of them for the first time: on 4 cores some $(((count * 2 + 2) / 3)) minutes, $((count * 250)) MB of disk and up to 7 GB of memory"
+        say "$count of them for the first time: on 4 cores some $(((count * 25 + 59) / 60)) minutes, $((count * 250)) MB of disk and up to 7 GB of memory"
     fi
 }
 
+# How far the crate gives way to others: the more, the more crates with longer chains above them don't stand yet.
+niceness() {
+    local name steps=0
+    for name in "${order[@]}"; do
+        [ "$name" != "$1" ] || break
+        [ "${state[$name]:-}" = proved ] || steps=$((steps + 1))
+    done
+    echo $((steps < 6 ? 3 * steps : 19))
+}
+
 # begin CRATE: in its lane, as its own group of processes, so that Ctrl-C leaves it to `interrupted`; it ends with this call.
+# It gives way by its niceness and its session's, since Linux shares processors by session (sched(7), "The autogroup feature").
 # A program is run too, since `rt` makes none without a run: on what the gate runs it on.
 begin() {
-    local lane=$lanes/$1 folder=$crates/$1 input=/dev/null words=() command=(rt lib) ends=()
+    local lane=$lanes/$1 folder=$crates/$1 input=/dev/null words=() command=(rt lib) ends=() pace=()
     lay "$1" || failed "$1" "no scratch folder could be made for it in $lanes: is the disk full?"
-    if [ "$1" = "$program" ]; then
+    if is_program "$1"; then
         [ ! -e "$folder/args" ] || mapfile -t words < "$folder/args"
         [ ! -e "$folder/stdin" ] || input=$folder/stdin
         command=(rt run -- "${words[@]}")
     fi
     ! command -v setpriv > /dev/null || ends=(setpriv --pdeathsig TERM)
+    pace=(bash -c '{ echo "$0" > /proc/self/autogroup; } 2> /dev/null; exec nice -n "$0" "$@"' "$(niceness "$1")")
     : > "$lane/log"
     (
         let_all_go
-        cd "$lane/crates/$1" && exec setsid "${ends[@]}" "${command[@]}"
+        cd "$lane/crates/$1" && exec setsid "${ends[@]}" "${pace[@]}" "${command[@]}"
     ) < "$input" > "$lane/log" 2>&1 9>&- &
     pids[$1]=$!
     state[$1]=begun
@@ -164,7 +196,7 @@ is_ready() {
 has_passed() {
     local status=0
     wait "${pids[$1]}" || status=$?
-    if [ "$1" = "$program" ]; then
+    if is_program "$1"; then
         grep -q '^rt: running ' "$lanes/$1/log"
     else
         [ "$status" = 0 ]
@@ -191,7 +223,7 @@ end_all() {
     for name in "${!held[@]}"; do leave "$name" 2> /dev/null || is_whole=; done
     let_all_go
     [ -z "$is_whole" ] || remove_lanes
-    rm -f "$made"
+    for name in "${programs[@]}"; do [ "${state[$name]:-}" = proved ] || rm -f "$crates/$name/out/$name"; done
 }
 
 interrupted() {
@@ -224,6 +256,8 @@ ended() {
     fi
     leave "$1" || failed "$1" "what was proved couldn't be moved from $lanes/$1 to $crates/$1/out: is the disk full?"
     state[$1]=${well:+proved}
+    # What was changed while a program was built is newer than it, so that the next call sees it.
+    if [ -n "$well" ] && is_program "$1"; then touch -r "$mark" "$crates/$1/out/$1"; fi
     unset "entered[$1]"
     let_go "$1"
 }
@@ -279,8 +313,14 @@ show() {
     fi
 }
 
+# Whether all programs are proved and built.
+is_done() {
+    local name
+    for name in "${programs[@]}"; do [ "${state[$name]:-}" = proved ] || return 1; done
+}
+
 build() {
-    local mark=$out/build.begun
+    local are=is
     since=$SECONDS
     shown=
     # Nobody reads any more: the build goes on.
@@ -290,28 +330,31 @@ build() {
     order_crates
     : > "$mark"
     step
-    while [ "${state[$program]:-}" != proved ]; do
+    until is_done; do
         show
         sleep 0.2
         step
     done
     clear_line
-    # What was changed while it was built is newer than the program, so that the next call sees it.
-    touch -r "$mark" "$made"
     remove_lanes
-    say "$program is proved and built, in $((SECONDS - since)) s"
+    [ "${#programs[@]}" = 1 ] || are=are
+    say "$(listed) $are proved and built, in $((SECONDS - since)) s"
 }
 
-[ "$program" != --no-rt ] || no_rt
-read_crates
-if [ "${#names[@]}" = 0 ] || [ ! -e "$crates/$program/src/main.rt" ]; then
-    stop 64 "there is no program '${program//[^[:print:]]/?}' in crates.txt"
-fi
-if is_built; then exit 0; fi
+[ "${1:-}" != --no-rt ] || no_rt
+for name in "${programs[@]:-}"; do
+    if [ ! -e "$crates/$name/src/main.rt" ] || [ -z "$(crates_below "$name")" ]; then
+        stop 64 "there is no program '${name//[^[:print:]]/?}' in crates.txt"
+    fi
+done
+drop_built
+[ "${#programs[@]}" != 0 ] || exit 0
 [ -z "$only" ] || exit 1
 command -v rt > /dev/null || no_rt
 take_turn
-if ! is_built; then
+drop_built
+if [ "${#programs[@]}" != 0 ]; then
+    read_crates
     # shellcheck source=scripts/lanes.sh
     . "$top/scripts/lanes.sh"
     find_lanes

@@ -24,8 +24,8 @@ packed_by() {
     esac
 }
 
-# Whether lines end by CR alone: then these are the lines.
-is_by_cr() { [ "$(LC_ALL=C tr -cd '\n' < "$file" | head -c 1 | wc -c)" = 0 ] && LC_ALL=C grep -q $'\r' "$file"; }
+# Whether lines end by CR alone: then these are the lines. Behind a CR at the end an LF may have been still to come.
+is_by_cr() { [ "$(LC_ALL=C tr -cd '\n' < "$file" | head -c 1 | wc -c)" = 0 ] && LC_ALL=C grep -q -a $'\r[^\r]' "$file"; }
 
 lines() {
     if [ -n "$by_cr" ]; then tr '\r' '\n' < "$file"; else cat "$file"; fi

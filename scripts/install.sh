@@ -33,8 +33,8 @@ version=$(sed -n 's/^#define FQ_VERSION "\([0-9.]*\)"$/\1/p' "$top/include/finta
 major=${version%%.*}
 
 library_files=(lib/libfintaqush.a "lib/libfintaqush.so.$version" "lib/libfintaqush.so.$major" lib/libfintaqush.so
-    include/fintaqush.h include/fintaqush.hpp lib/pkgconfig/fintaqush.pc lib/cmake/Fintaqush/FintaqushConfig.cmake
-    lib/cmake/Fintaqush/FintaqushConfigVersion.cmake share/man/man3/fintaqush.3)
+    include/fintaqush.h include/fintaqush.hpp include/fintaqush_tsan.h lib/pkgconfig/fintaqush.pc
+    lib/cmake/Fintaqush/FintaqushConfig.cmake lib/cmake/Fintaqush/FintaqushConfigVersion.cmake share/man/man3/fintaqush.3)
 tool_files=(bin/napi_replay bin/report2json bin/from-ftrace share/man/man1/napi_replay.1)
 
 if [ -n "$is_uninstall" ]; then
@@ -107,6 +107,7 @@ ln -sf "libfintaqush.so.$version" "$to/lib/libfintaqush.so.$major"
 ln -sf "libfintaqush.so.$major" "$to/lib/libfintaqush.so"
 put 644 "$top/include/fintaqush.h" include/fintaqush.h
 put 644 "$top/include/fintaqush.hpp" include/fintaqush.hpp
+put 644 "$top/include/fintaqush_tsan.h" include/fintaqush_tsan.h
 put 644 "$scratch/fintaqush.pc" lib/pkgconfig/fintaqush.pc
 put 644 "$scratch/FintaqushConfig.cmake" lib/cmake/Fintaqush/FintaqushConfig.cmake
 put 644 "$scratch/FintaqushConfigVersion.cmake" lib/cmake/Fintaqush/FintaqushConfigVersion.cmake

@@ -37,7 +37,7 @@ compile() {
 compared() {
     local wanted=$1
     shift
-    timeout 120 "$@" > "$scratch/printed" && diff "$scratch/printed" "$wanted"
+    timeout 600 "$@" > "$scratch/printed" && diff "$scratch/printed" "$wanted"
 }
 
 refused() {
@@ -70,10 +70,10 @@ header_numbers() {
         print w[1], w[2] } /^};/ { on = 0 }' "$header" | sort
 }
 
-proved_numbers() { awk '/^[A-Z_]+ = [0-9]+$/ { print $1, $3 }' "$top/crates/napi_c/specs/Status.antt" | sort; }
+proved_numbers() { awk '/^[A-Z_]+ = [0-9]+$/ { print $1, $3 }' "$top"/crates/{c_handles,replay_c}/specs/Status.antt | sort; }
 
 code_numbers() {
-    sed -n 's/^pub const \([A-Z_]*\): u32 = \([0-9]*\);$/\1 \2/p' "$top/crates/napi_c/src/status.rt" | sort
+    sed -n 's/^pub\((crate)\)\{0,1\} const \([A-Z_]*\): u32 = \([0-9]*\);$/\2 \3/p' "$top"/crates/{c_handles,replay_c}/src/status.rt | sort -u
 }
 
 each_number_once() { ! header_numbers | awk '{ print $2 }' | sort | uniq -d | grep .; }
@@ -128,6 +128,68 @@ as_the_fold() {
 }
 check 'a million pairs on a queue limit, as a plain fold counts them' as_the_fold
 
+# ---- the replay, beside the tool
+
+serial=$top/crates/napi_serial/out/napi_serial
+
+# as_the_tool PROGRAM TRACE BUDGET WEIGHT WINDOW: the same report, line and status as napi_serial's.
+as_the_tool() {
+    local program=$1 trace=$2 wanted=0 status=0
+    shift 2
+    timeout 600 "$serial" --budget="$1" --weight="$2" --window="$3" < "$trace" > "$scratch/wanted" 2> "$scratch/wanted.line" || wanted=$?
+    timeout 600 "$program" "$@" < "$trace" > "$scratch/printed" 2> "$scratch/line" || status=$?
+    [ "$status" = "$wanted" ] && cmp "$scratch/printed" "$scratch/wanted" && diff "$scratch/line" "$scratch/wanted.line"
+}
+
+# the example's trace, cut behind each byte
+each_cut_as_the_tool() {
+    local bytes
+    for bytes in $(seq 0 "$(wc -c < "$top/examples/two-packets.csv")"); do
+        head -c "$bytes" "$top/examples/two-packets.csv" > "$scratch/cut.csv"
+        as_the_tool "$scratch/replay" "$scratch/cut.csv" 300 64 1024 || { echo "cut behind byte $bytes"; return 1; }
+    done
+}
+
+# of these words the settings are refused, each by its number
+refuses_settings() {
+    local budget weight window wanted
+    while read -r budget weight window wanted; do
+        "$scratch/replay" "$budget" "$weight" "$window" < "$top/examples/two-packets.csv" > "$scratch/printed" 2> "$scratch/line"
+        [ $? = 1 ] && [ ! -s "$scratch/printed" ] && [ "$(cat "$scratch/line")" = "$wanted" ] || { echo "$budget $weight $window"; return 1; }
+    done << 'END'
+0 64 1024 FQ_BAD_BUDGET
+65536 64 1024 FQ_BAD_BUDGET
+300 64 0 FQ_BAD_BUDGET
+300 64 65536 FQ_BAD_BUDGET
+300 0 1024 FQ_BAD_WEIGHT
+300 65 1024 FQ_BAD_WEIGHT
+0 0 0 FQ_BAD_WEIGHT
+END
+}
+
+# the most rows that a trace has, and one more
+awk 'BEGIN { print "moment,device,event,value"; for (i = 1; i < 17; i++) print "0," i ",open,64"
+    for (i = 17; i <= 100000; i++) print int(i / 10) "," (i % 9 ? i % 16 + 1 ",rx," i % 1500 + 1 : "0,softirq,0") }' > "$scratch/long.csv"
+{ cat "$scratch/long.csv"; echo '1,0,softirq,0'; } > "$scratch/longer.csv"
+printf 'moment,device,event,value\n0,1,open,4\n1,1,rx,10\n1,1,disable,0\n1,1,enable,0\n' > "$scratch/pending.csv"
+printf 'moment,device,event,value\n0,1,open,4\n0,1,open,4\n' > "$scratch/twice.csv"
+if "$top/scripts/build.sh" napi_serial > "$scratch/log" 2>&1; then
+    check 'the replay compiles' compile gcc "$top/tests/c/replay.c" "$scratch/replay" -O2
+    for trace in "$top"/examples/*.csv "$scratch"/{long,longer,pending,twice}.csv; do
+        check "the replay of $(basename "$trace")" as_the_tool "$scratch/replay" "$trace" 300 64 1024
+        check "the replay of $(basename "$trace"), other settings" as_the_tool "$scratch/replay" "$trace" 7 3 5
+    done
+    check 'the replay of what is cut' each_cut_as_the_tool
+    check 'the replay in C++ compiles' compile g++ "$top/tests/c/replay.cpp" "$scratch/replay_cpp" -O2
+    for trace in "$top/examples/two-packets.csv" "$scratch"/{long,pending}.csv /dev/null; do
+        check "the replay of $(basename "$trace") in C++" as_the_tool "$scratch/replay_cpp" "$trace" 300 64 1024
+    done
+    check 'settings out of range' refuses_settings
+else
+    cp "$scratch/log" "$scratch/build.log"
+    check 'napi_serial, which the replay is compared with' eval 'cat "$scratch/build.log"; false'
+fi
+
 # sanitized NAME FLAG: the examples and the hammer under a sanitizer.
 sanitized() {
     local name=$1 flag=$2 source program language
@@ -140,6 +202,9 @@ sanitized() {
     done
     check "$name: the hammer compiles" compile gcc "$top/tests/c/hammer.c" "$scratch/sanitized" -O1 -g "$flag" -fno-sanitize-recover=all
     check "$name: the hammer" compared "$scratch/hammered" "$scratch/sanitized"
+    check "$name: the replay compiles" compile gcc "$top/tests/c/replay.c" "$scratch/sanitized" -O1 -g "$flag" -fno-sanitize-recover=all
+    check "$name: the replay" as_the_tool "$scratch/sanitized" "$scratch/long.csv" 300 64 1024
+    check "$name: the replay of a fault" as_the_tool "$scratch/sanitized" "$scratch/pending.csv" 300 64 1024
 }
 
 export ASAN_OPTIONS=detect_leaks=1

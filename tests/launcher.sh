@@ -67,27 +67,29 @@ as_nobody() {
     if [ "$(id -u)" = 0 ]; then setpriv --reuid=65534 --regid=65534 --clear-groups "$@"; else "$@"; fi
 }
 
-# A checkout of seven crates, of which `apart` and two programs are none of the replay's, and an `rt` that writes down when each begins and
-# ends.
+# A checkout of nine crates, of which `wide` is only below the program of all modes, and `apart` and two programs are none of
+# the replay's; and an `rt` that writes down when each begins and ends.
 small_checkout() {
     rm -rf "$scratch/small"
     mkdir -p "$scratch/small" "$scratch/bin"
     cp -r "$top/replay" "$top/scripts" "$top/bench" "$top/examples" "$scratch/small/"
-    printf 'low:\nside:\nhigh: low  # a note\napart: low\nnapi_replay: high side thiserror\nbench_limits: low\nbench_receive: low\n' > "$scratch/small/crates.txt"
-    for name in low side high apart; do
+    printf 'low:\nside:\nhigh: low  # a note\nwide: low\napart: low\nnapi_serial: high side thiserror\nnapi_replay: high side wide thiserror\nbench_limits: low\nbench_receive: low\n' > "$scratch/small/crates.txt"
+    for name in low side high wide apart; do
         mkdir -p "$scratch/small/crates/$name/src"
         echo > "$scratch/small/crates/$name/src/lib.rt"
     done
-    for name in napi_replay bench_limits bench_receive; do
+    for name in napi_serial napi_replay bench_limits bench_receive; do
         mkdir -p "$scratch/small/crates/$name/src"
         echo > "$scratch/small/crates/$name/src/main.rt"
     done
     cat > "$scratch/small/program" << 'END'
 #!/bin/sh
 [ -z "${SLOW:-}" ] || exec "$SLOW" 20
+[ -z "${RAN:-}" ] || basename "$0" >> "$RAN"
 case ${FAULTS:-$1} in
     --fault) cat > /dev/null; echo 'trace fault 4 BadEvent row 1' >&2; exit 2 ;;
     --usage) echo 'usage fault 64' >&2; exit 64 ;;
+    --killed) kill -9 $$ ;;
 esac
 echo "words $*"
 cat
@@ -96,7 +98,7 @@ END
 #!/bin/sh
 [ "\$1" != version ] || { echo stand-in; exit; }
 name=\$(basename "\$PWD")
-[ "\$1" != try ] || { shift 6; sh "$scratch/small/program" "\$@" \$RT_TRIES; status=\$?; printf 'races: not looked for\\nrt: a hint\\nrun=ended status=%s\\n' "\$status" >&2; exit \$status; }
+[ "\$1" != try ] || { echo "\$name tried" >> "$scratch/rt.seen"; shift 6; sh "$scratch/small/program" "\$@" \$RT_TRIES; status=\$?; printf 'races: not looked for\\nrt: a hint\\nrun=ended status=%s\\n' "\$status" >&2; exit \$status; }
 echo "begin \$name" >> "$scratch/rt.log"
 seen() { echo "\$name \$*" >> "$scratch/rt.seen"; }
 seen in "\$PWD" beside \$(ls ..)
@@ -110,6 +112,7 @@ echo 'so far: 3 of 4 functions checked'
     echo 'rt: the check was killed, most likely for memory: once more with --jobs 1'
     exit 9
 }
+[ "\$name" != "\${RT_SLOW:-}" ] || sleep 300
 sleep "\${RT_SECONDS:-0.05}"
 [ "\$name" != "\${RT_FAILS:-}" ] || { echo 'error: not proved'; exit 1; }
 echo > out/rlib/stamp
@@ -131,7 +134,7 @@ crates() {
     for row in "$@"; do
         name=${row%%:*}
         mkdir -p "$scratch/small/crates/$name/src"
-        [ "$name" = napi_replay ] || echo > "$scratch/small/crates/$name/src/lib.rt"
+        [ "$name" = napi_serial ] || echo > "$scratch/small/crates/$name/src/lib.rt"
         echo "$row"
     done > "$scratch/small/crates.txt"
 }
@@ -140,9 +143,9 @@ crates() {
 most_at_once() { awk '/^begin/ { now++ } /^end/ { now-- } now > most { most = now } END { print most }' "$scratch/rt.log"; }
 seen() { grep -q -e "$1" "$scratch/rt.seen"; }
 no_lanes() { [ ! -e "$scratch/.small.lanes" ] && [ ! -e "$scratch/small/.git/lanes" ]; }
-# until COMMAND ..: waits for it, 10 s at most.
+# comes COMMAND ..: waits for it, 5 minutes at most.
 comes() {
-    local turns=500
+    local turns=15000
     until "$@"; do
         turns=$((turns - 1))
         [ "$turns" != 0 ] || return 1
@@ -173,15 +176,15 @@ building() {
     check 'a first call by a symlink, from another folder and with CDPATH, builds and replays' ended 0
     check 'the report is all that standard output has' is "$(cat "$scratch/out")" "words --budget 7
 moment,device,event,value"
-    check 'it says what it is doing' says 'proving and building napi_replay and the libraries below it, 4 crates'
-    check 'and what the first time takes' says '4 of them for the first time: on 4 cores some 3 minutes, 1000 MB of disk and up to 7 GB of memory'
-    check 'and which crate is at work' says 'crate 4 of 4 (napi_replay), [0-9]* of [0-9]* functions checked, 0:0'
-    check 'and that it is done' says 'napi_replay is proved and built'
+    check 'it says what it is doing' says 'proving and building napi_serial and the libraries below it, 4 crates'
+    check 'and what the first time takes' says '4 of them for the first time: on 4 cores some 2 minutes, 1000 MB of disk and up to 7 GB of memory'
+    check 'and which crate is at work' says 'crate 4 of 4 (napi_serial), [0-9]* of [0-9]* functions checked, 0:0'
+    check 'and that it is done' says 'napi_serial is proved and built'
     check 'libraries that need nothing begin side by side' is "$(head -n 2 "$scratch/rt.log" | sort)" "begin low
 begin side"
     check 'one that needs another begins behind it' is "$(grep -n -e 'end low' -e 'begin high' "$scratch/rt.log" | cut -d: -f2)" "end low
 begin high"
-    check 'the program comes last' is "$(tail -n 1 "$scratch/rt.log")" 'end napi_replay'
+    check 'the program comes last' is "$(tail -n 1 "$scratch/rt.log")" 'end napi_serial'
     cd "$scratch" || exit
     small trace.csv
     check 'a second call builds nothing' is "$status $(lines) $(cat "$scratch/err")" '0 8 '
@@ -203,6 +206,67 @@ begin high"
     run as_nobody "$scratch/small/replay" trace.csv
     check 'nor a checkout that can be written to' ended 0
     chmod -R u+w "$scratch/small"
+}
+
+# began: the crates that were begun since it was last asked.
+began() {
+    awk '/^begin/ { print $2 }' "$scratch/rt.log" | sort | paste -s -d ' '
+    : > "$scratch/rt.log"
+}
+
+# The last thing that a build makes of a program.
+is_as_old_as_its_build() {
+    local made=$scratch/small/crates/$1/out/$1 mark=$scratch/small/crates/napi_replay/out/build.begun
+    [ -x "$made" ] && [ ! "$made" -nt "$mark" ] && [ ! "$mark" -nt "$made" ]
+}
+
+# Serial mode has a program of its own, which is built without the crates that the other modes need.
+programs() {
+    local mode
+    small_checkout
+    small "$scratch/trace.csv"
+    check 'words without a mode build what serial mode needs' is "$status $(began)" '0 high low napi_serial side'
+    for mode in '--mode serial' --mode=serial '--budget 9'; do
+        rm -f "$scratch/ran"
+        RAN=$scratch/ran small "$scratch/trace.csv" $mode
+        check "so do the words $mode" is "$status $(began) $(cat "$scratch/ran")" '0  napi_serial'
+    done
+    small --version
+    check 'the version tells which program stands' is "$(grep '^program' "$scratch/out")" 'program of serial mode: proved and built
+program of every mode: not built here yet'
+    RAN=$scratch/ran small --mode shared "$scratch/trace.csv"
+    check 'another mode builds the rest' is "$status $(tail -n 1 "$scratch/ran")" '0 napi_replay'
+    check 'over what is proved' seen '^low kept$'
+    touch "$scratch/small/crates/wide/src/lib.rt"
+    : > "$scratch/rt.log"
+    small "$scratch/trace.csv"
+    check 'what other modes alone need builds nothing for serial mode' is "$status $(began)" '0 '
+    for mode in '--mode threads' --mode=threads '--mode shared' --mode=shared; do
+        small_checkout
+        rm -f "$scratch/ran"
+        RAN=$scratch/ran small "$scratch/trace.csv" $mode
+        check "the words $mode build the program of every mode" is "$status $(began) $(tail -n 1 "$scratch/ran")" \
+            '0 high low napi_replay side wide napi_replay'
+        small --unproved "$scratch/trace.csv" $mode
+        check "which is the one that is tried unproved, $mode" is "$status $(grep tried "$scratch/rt.seen")" '0 napi_replay tried'
+    done
+    small --unproved "$scratch/trace.csv"
+    check "for serial mode it is serial mode's" is "$status $(grep tried "$scratch/rt.seen" | tail -n 1)" '0 napi_serial tried'
+    small_checkout
+    RT_SLOW=wide PATH=$PATH_WITH_RT env --default-signal=INT "$scratch/small/replay" --build > "$scratch/out" 2> "$scratch/err" &
+    comes is_as_old_as_its_build napi_serial
+    comes begun wide
+    kill -INT $!
+    status=0
+    wait $! || status=$?
+    check 'both are built in one call, which can be interrupted' is "$status $(head -n 1 "$scratch/err")" \
+        '130 replay: proving and building napi_serial and napi_replay and the libraries below them, 6 crates'
+    began > "$scratch/begun"
+    check 'the one that stood by then stays' "$scratch/small/scripts/build.sh" --stands napi_serial
+    small "$scratch/trace.csv"
+    check 'and replays' is "$status $(began)" '0 '
+    small --build
+    check 'the next call builds the other one' is "$status $(tail -n 1 "$scratch/rt.log")" '0 end napi_replay'
 }
 
 refusals_of_a_build() {
@@ -230,7 +294,7 @@ refusals_of_a_build() {
     touch "$scratch/small/crates/low/src/lib.rt"
     small "$scratch/trace.csv"
     unset RT_FAILS
-    check 'no old program is left where a build fails' [ ! -e "$scratch/small/crates/napi_replay/out/napi_replay" ]
+    check 'no old program is left where a build fails' [ ! -e "$scratch/small/crates/napi_serial/out/napi_serial" ]
 }
 
 two_builds() {
@@ -298,7 +362,7 @@ is_quick() { ! is_slow; }
 # A build that is killed leaves its lanes to the next one.
 killed() {
     small_checkout
-    RT_SECONDS=3 PATH=$PATH_WITH_RT "$scratch/small/scripts/build.sh" napi_replay 2> "$scratch/err" &
+    RT_SECONDS=3 PATH=$PATH_WITH_RT "$scratch/small/scripts/build.sh" napi_serial 2> "$scratch/err" &
     comes seen '^low in'
     comes seen '^side in'
     kill -9 $!
@@ -313,12 +377,12 @@ killed() {
 
 lanes() {
     small_checkout
-    crates a: b: c: d: e: 'napi_replay: a b c d e'
+    crates a: b: c: d: e: 'napi_serial: a b c d e'
     RT_SECONDS=1 small "$scratch/trace.csv"
     check 'three crates at a time, and no more' is "$status $(most_at_once)" '0 3'
     check 'beside the checkout, where it is no clone' seen "^a in $scratch/.small.lanes/a/crates/a beside a$"
     check 'over the same files' is "$(grep -c ' linked$' "$scratch/rt.seen")" 5
-    check 'the program beside all that it stands on' seen '^napi_replay in .* beside a b c d e napi_replay$'
+    check 'the program beside all that it stands on' seen '^napi_serial in .* beside a b c d e napi_serial$'
     check 'each with its library' is "$(grep -c lacks "$scratch/rt.seen")" 0
     check 'the work moves back' [ -e "$scratch/small/crates/a/out/incremental" ]
     check 'the library too' [ -e "$scratch/small/crates/a/out/rlib/stamp" ]
@@ -326,7 +390,7 @@ lanes() {
     check 'and no lane stays' no_lanes
 
     small_checkout
-    crates short: one: 'two: one' 'three: two' 'napi_replay: short three'
+    crates short: one: 'two: one' 'three: two' 'napi_serial: short three'
     mkdir "$scratch/small/.git"
     echo 'MemAvailable: 3000000 kB' > "$scratch/meminfo"
     MEMINFO=$scratch/meminfo small "$scratch/trace.csv"
@@ -418,7 +482,7 @@ replay: '--usage' is no option: they are --mode --pollers --budget --weight --wi
         "66 replay: $scratch/secret.csv: it can't be read: permission denied"
     for word in -h --help; do
         small "$word"
-        check "$word: words, an example and statuses" is "$status $(grep -c -e '^usage:' -e '--budget N' -e '^example:' -e '^  66 ' "$scratch/out")" '0 4'
+        check "$word: words, versions, an example and statuses" is "$status $(grep -c -e '^usage:' -e ',2 for version 2' -e 'version 2, which has busy rows' -e '--budget N' -e '^example:' -e '^  66 ' "$scratch/out")" '0 5'
         check "$word: nothing else" is_silent
     done
     small --unproved "$scratch/trace.csv" --weight 9
@@ -435,15 +499,17 @@ replay: '--usage' is no option: they are --mode --pollers --budget --weight --wi
         check "but no fault $how" is "$status $(cat "$scratch/out")" '2 '
     done
     small --version
-    check 'the version tells of the program' is "$status $(grep -c -e 'version 1 and 2' -e '^program: proved and built' -e '^kit: stand-in' "$scratch/out")" '0 3'
+    check 'the version tells of the program' is "$status $(grep -c -e 'version 1 and 2' -e '^program of serial mode: proved and built' -e '^program of every mode: not built here yet' -e '^kit: stand-in' "$scratch/out")" '0 4'
     small --build
-    check 'there may be nothing to build' is "$status $(cat "$scratch/err" "$scratch/out")" '0 replay: napi_replay is proved and built already'
+    check 'it builds what other modes need too' is "$status $(head -n 1 "$scratch/err")" '0 replay: proving and building napi_replay and the libraries below it, 5 crates'
+    small --build
+    check 'there may be nothing to build' is "$status $(cat "$scratch/err" "$scratch/out")" '0 replay: napi_serial and napi_replay are proved and built already'
     small --build "$scratch/trace.csv"
     check 'a build replays nothing' is "$status $(cat "$scratch/err")" '64 replay: --build replays nothing, and stands alone (see ./replay --help)'
     for how in '' --unproved; do
         at="line 1, 'moment,device,event,value'"
         for row in 0 1; do
-            sed -i "s/BadEvent row ./BadEvent row $row/" "$scratch/small/program" "$scratch/small/crates/napi_replay/out/napi_replay"
+            sed -i "s/BadEvent row ./BadEvent row $row/" "$scratch/small/program" "$scratch/small/crates/napi_serial/out/napi_serial"
             printf 'moment,device,event,value\n0,1,Rx,9\n' > "$scratch/bad.csv"
             [ "$row" = 0 ] || at="line 2, '0,1,Rx,9'"
             small $how --fault "$scratch/bad.csv"
@@ -454,10 +520,30 @@ replay: '--usage' is no option: they are --mode --pollers --budget --weight --wi
             check "for a FIFO, row $row $how" says "^replay: /dev/fd/[0-9]* $at: "
         done
     done
+    broken_surroundings
     TMPDIR=$scratch/none small "$scratch/trace.csv"
     check 'without a scratch folder it replays' is "$status $(cat "$scratch/err")" '0 '
     TMPDIR=$scratch/none small --unproved "$scratch/trace.csv"
     check 'but has none for an unproved run' ended 70
+}
+
+# On a disk that is full, which files that may not grow stand for; by somebody whose files may not grow far; and of a program
+# that is killed.
+broken_surroundings() {
+    local how
+    for how in '--fault "$1"' '--fault < "$1"' '--fault <(cat "$1")'; do
+        run bash -c "(ulimit -S -f 0; exec '$scratch/small/replay' $how) 2>&1 | cat; exit \${PIPESTATUS[0]}" '' "$scratch/bad.csv"
+        check "the program's line isn't lost on a full disk, $how" is "$status $(cat "$scratch/out")" '2 trace fault 4 BadEvent row 1'
+    done
+    for how in '< "$1"' '<(cat "$1")'; do
+        run as_nobody timeout 300 bash -c "ulimit -f 100; exec '$scratch/small/replay' --fault $how" '' "$scratch/bad.csv"
+        check "a file that may not grow far keeps nothing up, $how" is "$status $(grep -c "line 2, '0,1,Rx,9'" "$scratch/err")" '2 1'
+    done
+    small --killed "$scratch/trace.csv"
+    check 'a program that is killed has a line' is "$status $(cat "$scratch/err")" \
+        '137 replay: napi_serial ended with status 137, and no line of it is there'
+    small < "$scratch"
+    check 'a folder as standard input' is "$status $(cat "$scratch/err")" '66 replay: standard input: this is a folder, not a trace'
 }
 
 # closed ENDS COMMAND ..: without these ends, 5 s at most.
@@ -467,7 +553,7 @@ closed() {
         for end in $1; do
             case $end in 0) exec 0<&- ;; 1) exec 1>&- ;; 2) exec 2>&- ;; esac
         done
-        PATH=$PATH_WITH_RT exec timeout 5 "${@:2}"
+        PATH=$PATH_WITH_RT exec timeout 300 "${@:2}"
     ) > "$scratch/out" 2> "$scratch/err" || status=$?
 }
 
@@ -507,7 +593,7 @@ first_answers() {
     small --buget 7 "$scratch/trace.csv"
     check 'words that would be refused build nothing' is "$status $(lines)" '64 0'
     small --build
-    check 'a build alone' is "$status $(cat "$scratch/out") $(lines)" '0  8'
+    check 'a build alone, of the programs of all modes' is "$status $(cat "$scratch/out") $(lines)" '0  12'
     small_checkout
     small "$scratch/trace.csv"
     check 'where no terminal is, only proved bytes' is "$status $(grep -c -i unproved "$scratch/err") $(wc -l < "$scratch/out")" '0 0 2'
@@ -525,6 +611,10 @@ moment,device,event,value'
         PATH=$PATH_WITH_RT on_terminal bash -c "'$scratch/small/replay' $from" '' "$scratch/trace.csv"
         check "so it does for a trace from $from" is "$status $(grep -c -e '^moment' -e 'the same bytes' "$scratch/out")" '0 2'
     done
+    small_checkout
+    PATH=$PATH_WITH_RT on_terminal bash -c "'$scratch/small/replay' <&9" 9< "/proc/$$/mem"
+    check 'nor is half of a trace answered, where a read fails' is "$status $(tr -d '\r' < "$scratch/out" | grep -v '^head: ') $(lines)" \
+        "66 replay: standard input: a read of it failed, or ${TMPDIR:-/tmp} has no room for it 0"
     small_checkout
     PATH=$PATH_WITH_RT RT_TRIES=more on_terminal "$scratch/small/replay" "$scratch/trace.csv"
     tr -d '\r' < "$scratch/out" > "$scratch/terminal"
@@ -640,16 +730,16 @@ refuses() {
 # builds PROGRAM SCRIPT ARGUMENT ..: the script says so. What it makes of the stand-in's program is no matter here.
 builds() {
     rm -rf "$scratch/small/crates/$1/out"
-    RT_SECONDS=0.1 PATH=$PATH_WITH_RT run timeout 30 "$scratch/small/$2" "${@:3}"
+    RT_SECONDS=0.1 PATH=$PATH_WITH_RT run timeout 600 "$scratch/small/$2" "${@:3}"
     check "$2 builds $1 and says so" says "^replay: proving and building $1 "
     check "$2 has the program then" says "^replay: $1 is proved and built"
 }
 
 scripts() {
     cd "$scratch" || exit
-    builds napi_replay examples/compare.sh
+    builds napi_serial examples/compare.sh
     builds napi_replay bench/refusals.sh
-    builds napi_replay bench/replay.sh '' 1
+    builds napi_serial bench/replay.sh '' 1
     builds bench_limits bench/limits.sh 1
     builds bench_receive bench/receive.sh 1
     refuses bench/limits.sh many
@@ -666,6 +756,7 @@ scripts() {
 }
 
 building
+programs
 lanes
 refusals_of_a_build
 two_builds
@@ -677,7 +768,7 @@ terminals
 first_answers
 times_of_the_gate
 scripts
-run "$top/scripts/build.sh" napi_replay
+run "$top/scripts/build.sh" napi_serial
 check 'the real program stands, or is built' ended 0
 faults
 echo "$passed passed, $failed failed"

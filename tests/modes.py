@@ -1,8 +1,8 @@
 #!/usr/bin/env python3
-"""modes.py PROGRAM: the three modes of the replay beside one another. The last line is `N passed, M failed`.
+"""modes.py PROGRAM SERIAL: the three modes of the replay beside one another. The last line is `N passed, M failed`.
 
-Serial mode is the judge of shared mode: the runs of runs.txt, and random traces of both versions by several settings. Of a
-trace that is cut anywhere, the rules of docs/FORMATS.md, written down here anew, say whether it has a fault, and which."""
+Serial mode is the judge of shared mode, and of SERIAL, which has serial mode alone: the runs of runs.txt, and random traces of
+both versions by several settings. Of a trace that is cut anywhere, the rules of docs/FORMATS.md, written down here anew, say whether it has a fault, and which."""
 import itertools
 import os
 import re
@@ -10,7 +10,7 @@ import subprocess
 import sys
 
 TESTS = os.path.dirname(os.path.abspath(__file__))
-PROGRAM = sys.argv[1]
+PROGRAM, SERIAL = sys.argv[1:]
 RANGES = {
     "open": (1, 16, 1, 65536), "rx": (1, 16, 1, 65535), "tx": (1, 16, 1, 65535), "done": (1, 16, 0, 65536),
     "softirq": (0, 0, 0, 0), "kthread": (1, 16, 0, 0), "disable": (1, 16, 0, 0), "enable": (1, 16, 0, 0),
@@ -47,8 +47,8 @@ def judge(name, holds, why=""):
         print("%s: other than wanted%s" % (name, why and ": " + why))
 
 
-def play(text, words):
-    run = subprocess.run([PROGRAM] + words, input=text, capture_output=True, timeout=60)
+def play(text, words, program=PROGRAM):
+    run = subprocess.run([program] + words, input=text, capture_output=True, timeout=300)
     return run.returncode, run.stdout, run.stderr
 
 
@@ -126,8 +126,11 @@ def runs():
 
 
 def worked_runs():
-    """Each run without a mode of its own also in shared mode; each with threads also with 1, 2 and 8 pollers."""
+    """Each run without a mode of its own also in shared mode; each with threads also with 1, 2 and 8 pollers; each that names
+    no other mode also by the program of serial mode."""
     for name, words, text in runs():
+        if not {"shared", "threads", "--mode=shared", "--mode=threads"} & set(words):
+            judge("%s by serial mode's program" % name, play(text, words) == play(text, words, SERIAL))
         if not any(word.startswith("--mode") or word in ("--help", "--version") for word in words):
             judge("%s in shared mode" % name, play(text, words) == play(text, words + ["--mode", "shared"]))
         if ("threads" in words or "--mode=threads" in words) and not any("pollers" in word for word in words):
@@ -146,6 +149,7 @@ def random_traces(count):
             serial = play(written.stdout, words)
             reports += serial[0] == 0
             judge("random trace %d of version %s %s" % (seed, version, words), serial == play(written.stdout, words + ["--mode", "shared"]))
+            judge("random trace %d of version %s %s by serial mode's program" % (seed, version, words), serial == play(written.stdout, words, SERIAL))
         judge("random traces of version %s have reports" % version, reports > count // 2)
 
 

@@ -1,9 +1,10 @@
 #!/usr/bin/env bash
-# tests/modes.sh: the built program's three modes beside one another (modes.py). The last line is `N passed, M failed`.
+# tests/modes.sh: the three modes of the built programs beside one another (modes.py). The last line is `N passed, M failed`.
 set -u
 tests=$(cd "$(dirname "$(readlink -f "$0")")" && pwd)
-if ! "$tests/../scripts/build.sh" napi_replay || ! command -v python3 > /dev/null; then
+crates=$tests/../crates
+if ! "$tests/../scripts/build.sh" napi_serial napi_replay || ! command -v python3 > /dev/null; then
     echo "0 passed, 1 failed"
     exit 1
 fi
-exec python3 -B "$tests/modes.py" "$tests/../crates/napi_replay/out/napi_replay"
+exec python3 -B "$tests/modes.py" "$crates/napi_replay/out/napi_replay" "$crates/napi_serial/out/napi_serial"

@@ -1,22 +1,21 @@
 #!/usr/bin/env bash
 # What must not compile: each edit of a crate's must-not-compile/ is applied to a copy of the crate, and the check has to stop
 # at the error that its first line names, before any proof. An edit has lines 'error: NAME', 'file: PATH', 'old: TEXT' (which
-# stands once in that file) and 'new: TEXT'. It works on the libraries that the gate or `rt lib` left.
+# stands once in that file) and 'new: TEXT'. It works on the libraries that the gate or `rt lib` left, on up to four edits at
+# a time. The last line is `N passed, M failed`.
 set -uo pipefail
 cd "$(dirname "$(readlink -f "$0")")/.." || exit 1
-copy=$(mktemp -d)
-trap 'rm -rf "$copy"' EXIT
-passed=0
-failed=0
+scratch=$(mktemp -d)
+trap 'rm -rf "$scratch"' EXIT
 
 # field NAME EDIT: the text behind `NAME: `
 field() {
     sed -n "s/^$1: //p" "$2"
 }
 
-# try EDIT: whether the copy with this edit is refused by its error and by nothing later
-try() {
-    python3 - "$crate" "$(field file "$1")" "$(field old "$1")" "$(field new "$1")" <<'PY' || return 1
+# apply EDIT CRATE: changes the file that the edit names
+apply() {
+    python3 - "$2" "$(field file "$1")" "$(field old "$1")" "$(field new "$1")" <<'PY'
 import pathlib, sys
 crate, path, old, new = sys.argv[1:]
 file = pathlib.Path(crate, path)
@@ -25,23 +24,36 @@ if text.count(old) != 1:
     sys.exit(f"'{old}' stands {text.count(old)} times in {path}")
 file.write_text(text.replace(old, new))
 PY
-    said=$(cd "$crate" && rt check 2>&1)
-    grep -q "error\[$(field error "$1")\]" <<<"$said" && ! grep -q '^logic=' <<<"$said"
 }
 
-tar -cf - --exclude=out/incremental crates.txt HANDLES crates | tar -xf - -C "$copy"
-for edit in crates/*/must-not-compile/*.edit; do
-    name=$(basename "$(dirname "$(dirname "$edit")")")
-    crate=$copy/crates/$name
-    rm -rf "$crate/src"
-    cp -r "crates/$name/src" "$crate"
-    if try "$edit"; then
-        passed=$((passed + 1))
-    else
-        failed=$((failed + 1))
-        echo "$edit: not refused by error[$(field error "$edit")]"
-        grep -m 3 'error' <<<"${said:-}"
+# try EDIT: whether a copy with this edit is refused by its error and by nothing later. A file of the copy is a hard link, but
+# those of the crate's src/.
+try() {
+    local copy name said
+    name=$(basename "$(dirname "$(dirname "$1")")")
+    copy=$(mktemp -d -p "$scratch") && cp -al "$scratch/all/." "$copy" && rm -rf "$copy/crates/$name/src" || return 1
+    if ! cp -r "crates/$name/src" "$copy/crates/$name" || ! apply "$1" "$copy/crates/$name"; then
+        echo "$1: it can't be applied"
+        return 1
     fi
-done
+    said=$(cd "$copy/crates/$name" && rt check 2>&1)
+    rm -rf "$copy"
+    if grep -q "error\[$(field error "$1")\]" <<< "$said" && ! grep -q '^logic=' <<< "$said"; then
+        echo "$1" >> "$scratch/passed"
+    else
+        echo "$1: not refused by error[$(field error "$1")]"
+        grep -m 3 'error' <<< "$said"
+    fi
+}
+
+mkdir "$scratch/all" && : > "$scratch/passed"
+tar -cf - --exclude=out/incremental crates.txt HANDLES crates | tar -xf - -C "$scratch/all"
+edits=(crates/*/must-not-compile/*.edit)
+lanes=$(nproc)
+export -f field apply try
+export scratch
+printf '%s\0' "${edits[@]}" | xargs -0 -n 1 -P $((lanes < 4 ? lanes : 4)) bash -c 'try "$0"'
+passed=$(wc -l < "$scratch/passed")
+failed=$((${#edits[@]} - passed))
 echo "$passed passed, $failed failed"
 [ "$failed" = 0 ]

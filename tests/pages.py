@@ -1,17 +1,21 @@
-"""The pages: links and named files are there, pictures are drawn from their texts, and runs print what the pages say.
-
-A run is a line `    $ COMMAND` in a page, with what it prints below it; what stands behind three spaces in such a line is a
-remark. Commands run from the repository's top.
+"""The pages beside the repository: files that they name are there, each script is told of, and commands do what the pages say
+(page_commands.py). Links and pictures are for reading.py.
 """
+import functools
 import pathlib
 import re
 import subprocess
 import sys
 
+import page_commands
+import snippets
+
 TOP = pathlib.Path(__file__).resolve().parent.parent
-LONGEST_README = 120
 # What is made, or stands in somebody else's folder.
-MADE = re.compile(r"(^|/)out/|include/linux/|crates/first|NAME|FOLDER|FILE|PROGRAM|TRACE|\.\.\./|^\.\.?/\.\./|[*<>{}$]|^/")
+MADE = re.compile(r"(^|/)out(/|$)|include/linux/|crates/first|NAME|FOLDER|FILE|PROGRAM|TRACE|\.\.\./|^\.\.?/\.\./|[*<>{}$]|^/")
+
+# Words in code that are others': the kernel's, a file format's, an instruction's, and what stands for a file.
+OUTSIDE = {"time_after", "softnet_stat", "virtio_net", "sysexits", "btr", "mb", "MACHINES"}
 
 
 def page_files():
@@ -24,19 +28,104 @@ def is_there(page, name):
     return (page.parent / name).exists() or (TOP / name).exists()
 
 
-def links(page):
-    for name in re.findall(r"\]\(([^)#\s]+)(?:#[^)]*)?\)", page.read_text()):
-        if not name.startswith("http") and not (page.parent / name).exists():
-            yield f"there is no {name}"
-
-
 def named_files(page):
     """Names in code that begin with a folder of the top: each is a file or a folder."""
-    folders = "bench|crates|docs|examples|include|scripts|tests|tools"
+    folders = "bench|bindings|crates|docs|examples|include|scripts|tests|tools"
     for code in re.findall(r"`([^`\n]+)`", page.read_text()):
         for name in re.findall(rf"(?:^|\s)(?:\./)?((?:{folders})/[\w./-]*)", code):
             if not MADE.search(code) and not is_there(page, name.rstrip(".")):
                 yield f"there is no {name}"
+
+
+@functools.cache
+def source_words():
+    """All words of the sources, pages left out, and of the files' names."""
+    listed = subprocess.run(["git", "ls-files"], cwd=TOP, capture_output=True, text=True, check=True).stdout
+    found = set(re.findall(r"\w+", listed))
+    for name in listed.split():
+        if not name.endswith((".md", ".png", ".gz")) and (TOP / name).is_file():
+            found.update(re.findall(r"\w+", (TOP / name).read_text(errors="replace")))
+    return found
+
+
+def names(page):
+    """Words in code that no source has, nor the kernel or a program outside: a name that was changed there, or never was."""
+    known = source_words() | OUTSIDE
+    for code in re.findall(r"`([^`\n]+)`", page.read_text()):
+        for word in re.findall(r"[A-Za-z_]\w+", code):
+            if word not in known and not (word.endswith("_") and any(name.startswith(word) for name in known)):
+                yield f"no source has {word}"
+
+
+def needs_of_crates():
+    """What each crate stands on, by crates.txt."""
+    found = {}
+    for line in (TOP / "crates.txt").read_text().splitlines():
+        if row := re.match(r"(\w+)(?: staticlib)?:(.*)", line):
+            found[row[1]] = row[2].split()
+    return found
+
+
+def crate_rows(page):
+    """Each crate has its row in this page, and each row is a crate's."""
+    table = page.read_text().split("## All crates")[1].split("\n## ")[0]
+    rows = re.findall(r"^\| `(\w+)` \|", table, re.M)
+    for name in sorted(set(needs_of_crates()) ^ set(rows)):
+        yield f"{name} is in one of crates.txt and its table, and not in the other"
+
+
+def cited_lemmas(page):
+    """The table of lemmas has each file of `proofs/` that another crate cites, and no other."""
+    crates, cited = needs_of_crates(), set()
+    listed = subprocess.run(["git", "ls-files", "crates"], cwd=TOP, capture_output=True, text=True, check=True).stdout.split()
+    for name in listed:
+        if name.endswith((".antt", ".rt")) and (TOP / name).is_file():
+            for crate, file in re.findall(r"Rattle\.(\w+)\.proofs\.(\w+)", (TOP / name).read_text()):
+                if crate in crates and crate != name.split("/")[1]:
+                    cited.add((crate, file))
+    table = page.read_text().split("## All crates")[0]
+    told = {(crate, file) for crate, files in re.findall(r"^\| `(\w+)` \| (.*)$", table, re.M) for file in re.findall(r"`(\w+)`", files)}
+    for crate, file in sorted(cited ^ told):
+        yield f"{file} of {crate} is in one of the sources and its table, and not in the other"
+
+
+def crate_files(page):
+    """The files that a crate's part names stand in that crate, in one that it stands on, or in one that the line names."""
+    needs, crate = needs_of_crates(), None
+    for line in page.read_text().splitlines():
+        if part := re.match(r"## `(\w+)`", line):
+            crate = part[1]
+        near = [crate, *needs.get(crate, []), *re.findall(r"`(\w+)`", line)]
+        for name in re.findall(r"`((?:specs|src|proofs)/[\w./]+)`", line):
+            if crate and not any((TOP / "crates" / one / name).exists() for one in near):
+                yield f"{crate} has no {name}"
+
+
+def crate_picture(picture):
+    """Each crate of the library and each program stands in the picture, and each arrow is from what a crate stands on."""
+    needs = needs_of_crates()
+    text = picture.read_text()
+    for name in needs:
+        if not name.startswith(("bench_", "example_", "replay_tests")) and not re.search(rf"\b{name}\b", text):
+            yield f"{name} isn't in it"
+    arrows = re.findall(r"(\w+) -> (\w+)", text)
+    for low, high in arrows:
+        if low not in needs.get(high, []):
+            yield f"{high} doesn't stand on {low}"
+    if not arrows:
+        yield "it has no arrow"
+
+
+def longest_chain(page):
+    """The chain of crates that the page for contributors names goes from the lowest to a program, each on the one before."""
+    needs = needs_of_crates()
+    chain = re.findall(r"`(\w+)`", re.search(r"longest chain: (.*?)\.", page.read_text())[1])
+    for low, high in zip(chain, chain[1:]):
+        if low not in needs.get(high, []):
+            yield f"{high} doesn't stand on {low}"
+        yield from (f"{name} is between {low} and {high}" for name in needs if low in needs[name] and name in needs.get(high, []))
+    if any(name in needs for name in needs[chain[0]]) or any(chain[-1] in needs[name] for name in needs):
+        yield f"the chain goes on beyond {chain[0]} or {chain[-1]}"
 
 
 def leftovers(page):
@@ -69,56 +158,46 @@ def places(page):
                 yield f"there is no {name}"
 
 
-def runs(page):
-    """Each run of a page with the lines below it."""
-    command = None
-    for line in page.read_text().splitlines() + [""]:
-        if start := re.match(r" {4}\$ (.*)", line):
-            if command:
-                yield command, wanted
-            command, wanted = re.split(r" {3,}", start[1])[0], []
-        elif command and line.startswith("    "):
-            wanted.append(re.split(r" {3,}", line[4:])[0].rstrip())
-        elif command:
-            yield command, wanted
-            command = None
+def commands(pages):
+    """Checks of the commands of all pages, in their order, in one copy of the repository; then of the list of them."""
+    copy = page_commands.Copy()
+    entries, wrong = page_commands.read_list()
+    try:
+        for page in pages:
+            yield page, page_commands.judge_page(copy, entries, page)
+        yield page_commands.LIST, page_commands.judge_list(entries, wrong)
+        for name in ("first_program", "first_trace", "first_edit"):
+            page = TOP / {"first_program": "docs/LIBRARY.md", "first_trace": "docs/FORMATS.md"}.get(name, "docs/WORKING.md")
+            yield page, getattr(page_commands, name)(copy, page)
+    finally:
+        copy.remove()
 
 
-def played(page):
-    for command, wanted in runs(page):
-        ended = subprocess.run(["bash", "-c", command], cwd=TOP, capture_output=True, text=True, stdin=subprocess.DEVNULL)
-        printed = [line.rstrip() for line in ended.stdout.splitlines()]
-        if ended.returncode != 0:
-            yield f"{command}: status {ended.returncode}: {ended.stderr.strip()}"
-        elif wanted and printed != wanted:
-            yield f"{command} prints {printed}"
-
-
-def pictures(_page):
-    ended = subprocess.run(["scripts/pictures.sh", "--check"], cwd=TOP, capture_output=True, text=True)
-    if ended.returncode != 0:
-        yield ended.stdout + ended.stderr
-
-
-def length(page):
-    lines = page.read_text().count("\n")
-    if lines > LONGEST_README:
-        yield f"{lines} lines, of at most {LONGEST_README}"
+def checks(pages):
+    """Pairs of a page and what is wrong with it."""
+    for page in pages:
+        for check in (named_files, leftovers, snippets.snippets):
+            yield page, check(page)
+    yield TOP / "docs/LIBRARY.md", snippets.first_program(TOP / "docs/LIBRARY.md")
+    for page in pages:
+        # This page names the kernel's functions, rule by rule.
+        if page.name != "RULES.md":
+            yield page, names(page)
+    for check, name in ((places, "docs/WORKING.md"), (longest_chain, "docs/WORKING.md"), (scripts_told, "docs/TESTS.md"),
+                        (crate_rows, "docs/CRATES.md"), (cited_lemmas, "docs/CRATES.md"), (crate_files, "docs/CRATES.md"),
+                        (crate_picture, "docs/pictures/crates.dot")):
+        yield TOP / name, check(TOP / name)
+    yield from commands(pages + sorted((TOP / "docs/man").iterdir()))
 
 
 def main():
-    pages = page_files()
-    readme = TOP / "README.md"
-    checks = [(check, page) for page in pages for check in (links, named_files, leftovers, played)]
-    checks += [(pictures, TOP / "docs/pictures"), (places, TOP / "docs/WORKING.md"), (length, readme)]
-    checks.append((scripts_told, TOP / "docs/TESTS.md"))
-    failed = 0
-    for check, page in checks:
-        wrong = list(check(page))
-        failed += bool(wrong)
-        for line in wrong:
-            print(f"{page.relative_to(TOP)}: {line}")
-    print(f"{len(checks) - failed} passed, {failed} failed")
+    passed, failed = 0, 0
+    for page, wrong in checks(page_files()):
+        lines = list(wrong)
+        passed, failed = passed + (not lines), failed + bool(lines)
+        for line in lines:
+            print(f"{page.relative_to(TOP)}: {line}", flush=True)
+    print(f"{passed} passed, {failed} failed")
     return failed != 0
 
 

@@ -19,6 +19,7 @@ try() {
 for mode in serial shared threads; do
     try napi_replay "$mode"
 done
+try napi_serial serial
 try napi_series serial
 echo "$passed passed, $failed failed"
 [ "$failed" = 0 ]

@@ -9,8 +9,8 @@ if ! command -v python3 > /dev/null; then
     echo "0 passed, 1 failed"
     exit 1
 fi
-for program in napi_replay napi_series; do
-    [ "$program" = napi_replay ] && named=${PROGRAM:-} || named=${SERIES:-}
+for program in napi_replay napi_serial napi_series; do
+    [ "$program" = napi_series ] && named=${SERIES:-} || named=${PROGRAM:-}
     if [ -z "$named" ] && ! "$tests/../scripts/build.sh" "$program"; then
         echo "0 passed, 1 failed"
         exit 1

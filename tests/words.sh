@@ -1,11 +1,13 @@
 #!/usr/bin/env bash
-# tests/words.sh: runs the built program with the words and the inputs of runs.txt, and compares what it wrote and how it
-# ended; then with real ends that fail, and a word that is no text. Each run that differs is shown. The last line is
-# `N passed, M failed`. It asks ./replay for the program, which builds it only where neither the gate nor an earlier call did.
+# tests/words.sh: runs the built programs with the words and the inputs of runs.txt, and compares what they wrote and how they
+# ended; then with real ends that fail, and a word that is no text. napi_serial has to answer as napi_replay, and refuses the
+# words that name another mode. Each run that differs is shown. The last line is `N passed, M failed`. It asks ./replay for the
+# programs, which builds them only where neither the gate nor an earlier call did.
 set -u
 tests=$(cd "$(dirname "$0")" && pwd)
 replay=$tests/../replay
-program=$tests/../crates/napi_replay/out/napi_replay
+crates=$tests/../crates
+programs=(napi_replay napi_serial)
 folder=$(mktemp -d)
 trap 'rm -rf "$folder"' EXIT
 passed=0
@@ -31,21 +33,37 @@ want() {
     echo "$1" > "$folder/wanted.status"
 }
 
-# play NAME: runs the program on the words and the input of the folder.
+# answer NAME INPUT OUTPUT WORD ..: each program, as it is called and on these ends.
+answer() {
+    local name=$1 input=$2 output=$3 program
+    shift 3
+    for program in "${programs[@]}"; do
+        : > "$folder/out"
+        "$crates/$program/out/$program" "$@" < "$input" > "$output" 2> "$folder/err"
+        echo $? > "$folder/status"
+        judge "$name, $program"
+    done
+}
+
+# play NAME: runs the programs on the words and the input of the folder.
 play() {
     words=()
     while IFS= read -r word; do words+=("$word"); done < "$folder/words"
-    "$program" ${words[@]+"${words[@]}"} < "$folder/in" > "$folder/out" 2> "$folder/err"
-    echo $? > "$folder/status"
-    judge "$1"
+    case ${words[*]-} in *shared* | *threads*) programs=(napi_replay) ;; esac
+    answer "$1" "$folder/in" "$folder/out" ${words[@]+"${words[@]}"}
+    if [ "${#programs[@]}" = 1 ]; then
+        programs=(napi_serial)
+        want 64 'usage fault 64'
+        answer "$1" "$folder/in" "$folder/out" "${words[@]}"
+    fi
+    programs=(napi_replay napi_serial)
 }
 
 begin() {
     for part in words in wanted.out wanted.err wanted.status; do : > "$folder/$part"; done
 }
 
-# An empty run, so that the program is there.
-if ! printf 'moment,device,event,value\n' | "$replay" > "$folder/out" 2> "$folder/err" || [ ! -x "$program" ]; then
+if ! "$replay" --build > "$folder/out" 2> "$folder/err"; then
     cat "$folder/err"
     echo "0 passed, 1 failed"
     exit 1
@@ -80,22 +98,47 @@ done < "$tests/runs.txt"
 
 # A word that is no text, an input that can't be read, and an output that is full.
 printf 'moment,device,event,value\n' > "$folder/in"
-: > "$folder/out"
-"$program" $'--budget=\xff' < "$folder/in" > "$folder/out" 2> "$folder/err"
-echo $? > "$folder/status"
 want 64 'usage fault 64'
-judge 'a word that is no text'
-
-"$program" < "$folder" > "$folder/out" 2> "$folder/err"
-echo $? > "$folder/status"
-want 2 'trace fault 10 ReadFailed'
-judge 'a folder as input'
-
-: > "$folder/out"
-"$program" < "$folder/in" > /dev/full 2> "$folder/err"
-echo $? > "$folder/status"
+answer 'a word that is no text' "$folder/in" "$folder/out" $'--budget=\xff'
 want 4 'output fault 15 OutputFailed'
-judge 'a full output'
+answer 'a full output' "$folder/in" /dev/full
+
+# broken NAME COMMAND ..: what comes in that way, in each mode, to each program that has it.
+broken() {
+    local name=$1 program mode
+    shift
+    for program in 'napi_replay serial' 'napi_replay shared' 'napi_replay threads' 'napi_serial serial'; do
+        mode=${program#* }
+        program=${program% *}
+        "$@" "$crates/$program/out/$program" --mode "$mode" > "$folder/out" 2> "$folder/err"
+        echo $? > "$folder/status"
+        judge "$name, $program, mode $mode"
+    done
+}
+
+from_folder() { "$@" < "$folder"; }
+exec 9< "/proc/$$/mem"
+from_memory() { "$@" <&9; }
+# Memory is bounded, since a record without end is read no further than any trace goes.
+from_zeros() { (ulimit -v 1500000 && exec "$@" < /dev/zero); }
+from_half() { python3 "$tests/half_read.py" "$@"; }
+from_half_of_the_rows() { python3 "$tests/half_read.py" --rows "$@"; }
+from_pipe() { printf 'moment,device,event,value\n0,1,open,4\n1,1,rx,100\n2,0,sof' | "$@"; }
+from_short_pipe() { printf 'moment,dev' | "$@"; }
+
+want 2 'trace fault 10 ReadFailed'
+broken 'a folder as input' from_folder
+broken 'memory that nobody may read' from_memory
+broken 'zeros without end' from_zeros
+if command -v python3 > /dev/null; then
+    broken 'a read that fails within a row' from_half
+    broken 'a read that fails behind a row' from_half_of_the_rows
+fi
+# What a pipe that is closed in the middle of a row has of it is a row of too few fields.
+want 2 'trace fault 2 BadFields row 3'
+broken 'a pipe that is closed in the middle of a row' from_pipe
+want 2 'trace fault 1 BadHeader row 0'
+broken 'a pipe that is closed in the middle of the header' from_short_pipe
 
 echo "$passed passed, $failed failed"
 [ "$failed" = 0 ]

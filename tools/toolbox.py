@@ -35,17 +35,40 @@ def say(tool, text):
         print(f"{tool}: {text}", file=sys.stderr, flush=True)
 
 
+def ended_by(main):
+    """The status that a tool ends with; argparse ends by an exception of its own."""
+    try:
+        return main() or 0
+    except SystemExit as ended:
+        return ended.code or 0
+
+
+def let_go():
+    """What can't be written now goes nowhere: the interpreter tries once more as it ends, and would complain."""
+    for stream in (sys.stdout, sys.stderr):
+        try:
+            if stream is not None:
+                stream.flush()
+        except (OSError, ValueError):
+            with contextlib.suppress(OSError, ValueError):
+                os.dup2(os.open(os.devnull, os.O_WRONLY), stream.fileno())
+
+
 def run_tool(tool, main):
     """Runs a tool: what it refuses and what the system refuses is a line, with status 1; an interruption has status 130."""
     status = 1
     try:
-        for stream in (sys.stdout, sys.stderr):
-            if stream is not None:
-                stream.reconfigure(errors="surrogateescape" if stream is sys.stdout else "backslashreplace")
+        if signal.getsignal(signal.SIGINT) is signal.SIG_DFL:  # as early.py left it
+            signal.signal(signal.SIGINT, signal.default_int_handler)
+        if sys.stderr is not None:
+            sys.stderr.reconfigure(errors="backslashreplace")
         if sys.stdout is None:
             raise Refusal("standard output is closed")
-        status = main() or 0
+        # A text of argparse's has to fail at the flush, as argparse passes over a write that fails.
+        sys.stdout.reconfigure(errors="surrogateescape", write_through=False)
+        ended = ended_by(main)
         sys.stdout.flush()
+        status = ended  # only now, as what is still to be written may fail
     except Refusal as error:
         say(tool, error)
     except KeyboardInterrupt:
@@ -59,10 +82,8 @@ def run_tool(tool, main):
         say(tool, "what it reads is nested too deep")
     except OSError as error:
         say(tool, f"{shown(error.filename)}: {error.strerror}" if error.filename is not None else error.strerror or error)
-    if status:
-        # What is still to be written can't be, and the interpreter would complain of that when it ends.
-        with contextlib.suppress(OSError, ValueError, AttributeError):
-            os.dup2(os.open(os.devnull, os.O_WRONLY), sys.stdout.fileno())
+    signal.signal(signal.SIGINT, signal.SIG_IGN)  # all is said
+    let_go()
     sys.exit(status)
 
 
@@ -134,7 +155,7 @@ def read_bytes(path):
 def program(name, named=None):
     """A program of this checkout, built where that is needed; or the one that is named, or that PROGRAM names (SERIES, for
     napi_series)."""
-    named = named or os.environ.get({"napi_replay": "PROGRAM", "napi_series": "SERIES"}[name])
+    named = named or os.environ.get({"napi_serial": "PROGRAM", "napi_series": "SERIES"}[name])
     if named:
         if not (os.path.isfile(named) and os.access(named, os.X_OK)):
             raise Refusal(f"{shown(named)}: this is no program")
@@ -145,9 +166,17 @@ def program(name, named=None):
     return str(made)
 
 
+def played(made, words, text):
+    """A program of ours with these words and this input, as it ended. Ctrl-C goes to it too, and ends both."""
+    done = subprocess.run([made, *words], input=text, capture_output=True, check=False)
+    if done.returncode == -signal.SIGINT:
+        raise KeyboardInterrupt
+    return done
+
+
 def run_program(made, words, text):
     """What a program of ours writes for these words and this input; a fault of it is a refusal."""
-    done = subprocess.run([made, *words], input=text, capture_output=True, check=False)
+    done = played(made, words, text)
     if done.returncode != 0:
         told = done.stderr.decode("utf-8", "replace").strip().splitlines()
         raise Refusal(shown(told[-1]) if told else f"{shown(made)} ended with status {done.returncode}")

@@ -155,6 +155,68 @@ static void one_call(void) {
     else others[which - 14]();
 }
 
+/* A transmit ring, beside a queue limit and the sizes that are kept here. */
+enum { PLACES = 40 };
+static struct fq_handle tx = FQ_NONE;
+static struct fq_dql limit;
+static uint32_t sizes[PLACES], first_size, waiting, all_sent, all_done;
+static uint64_t now;
+static bool is_stopped;
+
+static void send(void) {
+    const uint32_t bytes = random_below(50) ? random_below(1500) : UINT32_C(268435456) - random_below(2);
+    uint32_t wanted = is_stopped ? FQ_STOPPED : waiting == PLACES ? FQ_FULL : FQ_OK;
+    if (wanted == FQ_OK) wanted = fq_dql_queued(&limit, bytes);
+    want("send", fq_tx_send(&tx, bytes), wanted);
+    if (wanted != FQ_OK) return;
+    sizes[(first_size + waiting++) % PLACES] = bytes;
+    all_sent += bytes;
+    is_stopped = fq_dql_avail(&limit) < 0;
+}
+
+static void done(void) {
+    const uint32_t count = random_below(6);
+    uint32_t bytes = 0;
+    const uint32_t wanted = count <= waiting ? FQ_OK : FQ_MORE_THAN_SENT;
+    now += random_below(300);
+    want("done", fq_tx_done(&tx, count, now), wanted);
+    if (wanted != FQ_OK) return;
+    for (uint32_t i = 0; i < count; i++) bytes += sizes[(first_size + i) % PLACES];
+    first_size = (first_size + count) % PLACES, waiting -= count, all_done += bytes;
+    if (bytes == 0) return;
+    want("completed", fq_dql_completed(&limit, bytes, now), FQ_OK);
+    is_stopped = is_stopped && fq_dql_avail(&limit) < 0;
+}
+
+static void show(void) {
+    struct fq_tx_state state;
+    want("state", fq_tx_state(&tx, &state), FQ_OK);
+    want("queued", state.queued == all_sent && state.completed == all_done, 1);
+    want("limit", state.limit == fq_dql_limit(&limit) && state.avail == fq_dql_avail(&limit), 1);
+    want("stopped", state.stopped == is_stopped, 1);
+}
+
+static void wrong_for_tx(void) {
+    struct fq_handle none = FQ_NONE;
+    struct fq_tx_state state = {1, 2, 3, 4, true};
+    want("send by nothing", fq_tx_send(&none, 1), FQ_BAD_HANDLE);
+    want("send by a ring", fq_tx_send(&ring, 1), FQ_BAD_HANDLE);
+    want("done by a seat", fq_tx_done(&seats[0], 0, now), FQ_BAD_HANDLE);
+    want("state of the controller", fq_tx_state(&control, &state), FQ_BAD_HANDLE);
+    want("a state that stays", state.queued == 1 && state.completed == 2 && state.limit == 3 && state.avail == 4 && state.stopped, 1);
+    want("put into a transmit ring", fq_ring_put(&tx, 1, 1), FQ_BAD_HANDLE);
+    want("a second transmit ring", fq_tx_new(&tx, 4, 0, 1, 1, now), FQ_IN_USE);
+    want("a transmit ring of no places", fq_tx_new(&none, 0, 0, 1, 1, now), FQ_BAD_CAPACITY);
+    want("a transmit ring of too many", fq_tx_new(&none, 65537, 0, 1, 1, now), FQ_BAD_CAPACITY);
+    want("bad bounds", fq_tx_new(&none, 4, 2, 1, 1, now), FQ_BAD_BOUNDS);
+    want("nothing set", none.private_set, 0);
+}
+
+static void call_of_tx(void) {
+    static void (*const calls[])(void) = {send, send, send, done, show, wrong_for_tx};
+    calls[random_below(6)]();
+}
+
 /* A list and its runs, beside numbers that are counted here. */
 static struct fq_handle list = FQ_NONE;
 static uint32_t listed, asked, weight, budget, window, run_polls, run_work;
@@ -211,15 +273,20 @@ int main(int count, char **words) {
     want("one seat", fq_shared_new(&ring, &control, seats, 1), FQ_BAD_COUNT);
     want("a shared instance", fq_shared_new(&ring, &control, seats, SEATS), FQ_OK);
     want("a list", fq_list_new(&list), FQ_OK);
+    want("a limit", fq_dql_init(&limit, 0, UINT32_C(1879048192), 1000, 0), FQ_OK);
+    want("a transmit ring", fq_tx_new(&tx, PLACES, 0, UINT32_C(1879048192), 1000, 0), FQ_OK);
     for (call = 0; call < calls; call++) {
-        if (random_below(4)) one_call();
-        else call_of_list();
+        const uint32_t which = random_below(8);
+        if (which < 5) one_call();
+        else if (which < 7) call_of_list();
+        else call_of_tx();
     }
     for (uint32_t i = 0; i < SEATS; i++) want("the end of a seat", fq_abandon(&seats[i]), FQ_OK);
     want("the end of the controller", fq_abandon(&control), FQ_OK);
     want("the end of the list", fq_abandon(&list), FQ_OK);
     want("the end of the ring", fq_free(&ring), FQ_OK);
-    for (uint32_t i = FQ_GRANTED; i <= FQ_DONE; i++) {
+    want("the end of the transmit ring", fq_free(&tx), FQ_OK);
+    for (uint32_t i = FQ_GRANTED; i <= FQ_MORE_THAN_SENT; i++) {
         if (i != FQ_CHANGED && !seen[i]) return printf("never answered: %s\n", fq_status_name(i)), 1;
     }
     if (!seen[FQ_NOT_ALLOWED] || given < calls / 100) return printf("too few packets: %" PRIu64 "\n", given), 1;

@@ -1,5 +1,6 @@
 """Tests of tools/raise: expected numbers are the kernel's own, or of traces that are small enough to be played by hand."""
 
+import re
 import subprocess
 
 from tooltest import HEADER, REPLAY, TOP, InFolder, run
@@ -32,6 +33,17 @@ class Raise(InFolder):
         kept = iter(text.splitlines())
         self.assertTrue(all(row in kept for row in path.read_text().splitlines()))
         self.assertEqual(run("raise", self.folder / "raised.csv", *words).stdout, text)
+
+    def test_what_the_pages_show_of_a_budget_is_true_to_the_kernel(self):
+        """A command of a page with another budget or weight has its runs raised; or it plays a recording by the recorded one, or
+        says what it drops."""
+        pages = [TOP / "README.md", TOP / "examples/README.md", *sorted((TOP / "docs").glob("*.md")), TOP / "replay"]
+        commands = [line for page in pages for line in page.read_text().splitlines()
+                    if re.search(r"(^|[ `])(\./replay|tools/[a-z-]+) [^\[]*--(budget|weight) ", line)]
+        true = (r"--raise\b|tools/raise |raised\.csv|compare-recording |linux-(veth-small-budget|napi-disable)\.csv --budget 64\b"
+                r"|and \d+ packets dropped$")
+        self.assertEqual([command for command in commands if not re.search(true, command)], [])
+        self.assertGreater(len(commands), 8)
 
     BURST = HEADER + "0,1,open,8\n" + "1,1,rx,60\n" * 3 + "2,0,softirq,0\n3,0,softirq,0\n"
 

@@ -1,63 +1,177 @@
 """Tests of tools/ where what is around them is broken or hostile: each ends by a line and a status, and never by a traceback."""
 
 import os
+import select
 import signal
 import subprocess
 import sys
 import time
 
-from tooltest import HEADER, REPLAY, SERIES, TOP, InFolder, run
+from tooltest import HEADER, HERE, REPLAY, SERIES, TOP, InFolder, run
+
+sys.path.insert(0, str(TOP / "tools"))
+import toolbox  # noqa: E402
 
 TRACE = TOP / "examples/bursts.csv"
 REPORT = "list\ntotal devices 0 runs 0 polls 0 work 0 squeezed 0\n"
 # Each tool with words by which it writes to standard output, and its input.
 WRITERS = {"raise": [TRACE], "report2json": ["-"], "traffic": [], "compare-runs": [TRACE, "--budget", "1", "--"],
-           "plot": [TRACE, "--script"]}
-READERS = {"raise": [], "report2json": [], "compare-runs": [], "plot": ["--script"]}
+           "plot": [TRACE, "--script"], "compare-recording": [TOP / "examples/linux-veth-small-budget", "--budget", "64"],
+           "from-ftrace": [HERE / "soft-tcp.txt", "made", *(f"--pair=va{number}:vb{number}" for number in range(1, 7))],
+           "from-pcap": ["captured", "made"]}
+CAPTURED = "100.000000 eth0  In  ifindex 2 02:00:00:00:00:01 ethertype IPv4 (0x0800), length 60: 10.0.0.1 > 10.0.0.2: UDP\n"
 ALL = ["raise", "report2json", "traffic", "compare-runs", "compare-recording", "plot", "from-ftrace", "from-pcap", "sweep"]
+# As somebody has it, and as a machine has it that tells no locale.
+USUAL = dict(os.environ)
+BARE = {"PATH": os.environ["PATH"], "HOME": os.environ.get("HOME", "/"), "CI": "true"}
+MOST_SECONDS = 300
 
 
 class Surroundings(InFolder):
-    def start(self, tool, words, **ends):
-        return subprocess.Popen([sys.executable, TOP / "tools" / tool, *words], stderr=subprocess.PIPE,
-                                env={**os.environ, "PROGRAM": REPLAY, "SERIES": SERIES}, cwd=self.folder, **ends)
+    def start(self, tool, words, environment=USUAL, **ends):
+        """A tool at work, for which Ctrl-C isn't ignored."""
+        return subprocess.Popen([sys.executable, TOP / "tools" / tool, *words], stderr=subprocess.PIPE, cwd=self.folder,
+                                env={**environment, "PROGRAM": REPLAY, "SERIES": SERIES, **ends.pop("variables", {})},
+                                preexec_fn=lambda: signal.signal(signal.SIGINT, signal.SIG_DFL), **ends)
 
     def check_line(self, tool, said):
         """One line of the tool's own."""
-        self.assertNotIn(b"Traceback", said, tool)
+        self.assertEqual(said.count(b"\n"), 1, (tool, said))
         self.assertTrue(said.startswith(f"{tool}: ".encode()), (tool, said))
 
-    def test_an_output_that_is_full(self):
-        for tool, words in WRITERS.items():
-            with open("/dev/full", "wb") as full:
-                process = self.start(tool, words, stdout=full, stdin=subprocess.PIPE)
-                _, said = process.communicate(REPORT.encode())
-            self.check_line(tool, said)
-            self.assertIn(b"No space left on device", said)
-            self.assertEqual(process.returncode, 1)
+    def writes(self):
+        """Every way to write to standard output, and a folder without what was made beside it, as nothing is overwritten."""
+        self.write("captured", CAPTURED)
+        for environment in (USUAL, BARE):
+            for tool, words in [*WRITERS.items(), *((tool, ["--help"]) for tool in ALL)]:
+                yield environment, tool, words
+                for path in self.folder.glob("made.*"):
+                    path.unlink()
 
-    def test_an_output_that_is_closed(self):
-        for tool, words in WRITERS.items():
+    def test_an_output_that_is_full(self):
+        for environment, tool, words in self.writes():
+            with open("/dev/full", "wb") as full:
+                process = self.start(tool, words, environment, stdout=full, stdin=subprocess.PIPE)
+                _, said = process.communicate(REPORT.encode())
+            self.assertEqual((said, process.returncode), (f"{tool}: No space left on device\n".encode(), 1))
+
+    def test_an_output_that_nobody_reads(self):
+        for environment, tool, words in self.writes():
             end, other = os.pipe()
             os.close(end)
-            process = self.start(tool, words, stdout=other, stdin=subprocess.PIPE)
-            _, said = process.communicate(REPORT.encode())
+            process = self.start(tool, words, environment, stdout=other, stdin=subprocess.PIPE)
             os.close(other)
-            self.assertNotIn(b"Traceback", said, tool)
-            self.assertNotIn(b"Exception", said, tool)
-            done = subprocess.run(["sh", "-c", 'exec "$0" "$@" >&-', sys.executable, TOP / "tools" / tool, *words], input=REPORT.encode(),
-                                  capture_output=True, check=False, env={**os.environ, "PROGRAM": REPLAY, "SERIES": SERIES})
-            self.check_line(tool, done.stderr)
-            self.assertEqual(done.returncode, 1)
+            _, said = process.communicate(REPORT.encode())
+            self.assertEqual((said, process.returncode), (b"", 1), tool)
 
-    def test_an_interruption(self):
-        for tool, words in READERS.items():
-            words = ["-", *words, "--"] if tool == "compare-runs" else ["-", *words]
-            process = self.start(tool, words, stdin=subprocess.PIPE, stdout=subprocess.PIPE)
-            time.sleep(0.7)
-            process.send_signal(signal.SIGINT)
-            _, said = process.communicate()
+    def test_an_output_that_is_closed(self):
+        for environment, tool, words in self.writes():
+            done = subprocess.run(["sh", "-c", 'exec "$0" "$@" >&-', sys.executable, TOP / "tools" / tool, *words], input=REPORT.encode(),
+                                  stderr=subprocess.PIPE, check=False, cwd=self.folder,
+                                  env={**environment, "PROGRAM": REPLAY, "SERIES": SERIES})
+            self.assertEqual((done.stderr, done.returncode), (f"{tool}: standard output is closed\n".encode(), 1))
+            self.assertEqual(self.names(), ["captured"])
+
+    def test_a_standard_error_that_takes_nothing(self):
+        """The status tells what it would tell."""
+        for environment in (USUAL, BARE):
+            for tool in ALL:
+                for words, status in ((["--no-such-word"], 2), (["--help"], 0)):
+                    with open("/dev/full", "wb") as full:
+                        done = subprocess.run([sys.executable, TOP / "tools" / tool, *words], stdout=subprocess.DEVNULL, stderr=full,
+                                              env=environment, check=False)
+                    self.assertEqual(done.returncode, status, (tool, words))
+
+    def held(self, name):
+        """A program that tells when it has begun, and then waits for ever; and where it tells that."""
+        for fifo in ("begun", "never"):
+            if not (self.folder / fifo).exists():
+                os.mkfifo(self.folder / fifo)
+        program = self.write(name, f"#!/bin/sh\necho begun > '{self.folder}/begun'\nexec cat '{self.folder}/never'\n")
+        program.chmod(0o755)
+        return program
+
+    def interrupt(self, process, begun, is_ready=lambda: True):
+        """Ctrl-C on its terminal, where all that is at work has it, once the held program has begun."""
+        until = time.monotonic() + MOST_SECONDS
+        while not (select.select([begun], [], [], 0.1)[0] and is_ready()):
+            self.assertIsNone(process.poll())
+            self.assertLess(time.monotonic(), until)
+        os.read(begun, 100)
+        names = self.names()
+        os.killpg(process.pid, signal.SIGINT)
+        _, said = process.communicate(timeout=MOST_SECONDS)
+        return names, said
+
+    def test_an_interruption_of_tools_that_write(self):
+        """In the middle of a replay, or of drawing: the old file stays, and nothing beside it."""
+        held = self.held("gnuplot")
+        old = self.write("old.svg", "old\n")
+        by_path = {"PATH": f"{self.folder}:{os.environ['PATH']}"}
+        before = self.names()
+        for tool, words, variables in (("raise", [TRACE, "--out", old], {"PROGRAM": held}),
+                                       ("compare-runs", [TRACE, "--out", old, "--"], {"PROGRAM": held}),
+                                       ("plot", [TRACE, "--out", old], {"SERIES": held}), ("plot", [TRACE, "--out", old], by_path)):
+            begun = os.open(self.folder / "begun", os.O_RDONLY | os.O_NONBLOCK)
+            process = self.start(tool, words, variables=variables, stdout=subprocess.PIPE, start_new_session=True)
+            names, said = self.interrupt(process, begun)
+            os.close(begun)
+            self.assertEqual(len(names) > len(before), variables is by_path)  # gnuplot is to fill a new file
             self.assertEqual((said, process.returncode), (f"{tool}: interrupted\n".encode(), 130))
+            self.assertEqual((old.read_text(), self.names()), ("old\n", before))
+
+    def test_an_interruption_of_a_sweep(self):
+        """What was played is there, line by line, and the next call goes on with it."""
+        held, out = self.held("held"), self.folder / "rows"
+        held.write_text(held.read_text().replace("#!/bin/sh\n", f"#!/bin/sh\n[ \"$2\" = 300 ] || exec '{REPLAY}' \"$@\"\n"))
+        words = [TRACE, "--budget", "64,300", "--without-parallel", "--jobs", "1", "--out", out]
+        begun = os.open(self.folder / "begun", os.O_RDONLY | os.O_NONBLOCK)
+        process = self.start("sweep", [*words, "--program", held], stdout=subprocess.PIPE, start_new_session=True)
+        _, said = self.interrupt(process, begun, lambda: out.read_text().count("\n") == 2)
+        os.close(begun)
+        self.assertEqual((said.splitlines()[-1], process.returncode), (b"sweep: interrupted", 130))
+        self.assertNotIn(b"Traceback", said)
+        self.assertEqual([line.split(",")[1:6] for line in out.read_text().splitlines()[1:]], [["64", "64", "1024", "no", "0"]])
+        self.assertTrue(out.read_text().endswith("\n"))
+        self.assertEqual(run("sweep", *words, "--resume").returncode, 0)
+        self.assertEqual(len(out.read_text().splitlines()), 3)
+
+    def test_an_interruption_before_it_has_begun(self):
+        """While it imports what it needs: it ends by the signal, and says nothing."""
+        self.write("argparse.py", "import os, signal\nos.kill(os.getpid(), signal.SIGINT)\n")
+        for tool in ALL:
+            process = self.start(tool, ["--help"], variables={"PYTHONPATH": str(self.folder)}, stdout=subprocess.PIPE)
+            out, said = process.communicate(timeout=MOST_SECONDS)
+            self.assertEqual((out, said, process.returncode), (b"", b"", -signal.SIGINT), tool)
+
+    def test_an_interruption_of_tools_that_read(self):
+        """On a FIFO that somebody has open and writes nothing to."""
+        os.mkfifo(self.folder / "fifo.csv")
+        words = {"compare-runs": ["--"], "plot": ["--script"], "from-pcap": ["made"], "from-ftrace": ["made"]}
+        for tool in ALL:
+            if tool in ("traffic", "sweep"):
+                continue
+            process = self.start(tool, ["fifo.csv", *words.get(tool, [])], stdout=subprocess.PIPE)
+            until, end = time.monotonic() + MOST_SECONDS, None
+            while end is None:
+                self.assertIsNone(process.poll(), tool)
+                self.assertLess(time.monotonic(), until)
+                try:
+                    end = os.open(self.folder / "fifo.csv", os.O_WRONLY | os.O_NONBLOCK)
+                except OSError:
+                    time.sleep(0.02)
+            process.send_signal(signal.SIGINT)
+            _, said = process.communicate(timeout=MOST_SECONDS)
+            os.close(end)
+            self.assertEqual((said, process.returncode, self.names()), (f"{tool}: interrupted\n".encode(), 130, ["fifo.csv"]))
+
+    def test_an_interruption_while_a_file_is_written(self):
+        old = self.write("old.csv", "old\n")
+        with self.assertRaises(KeyboardInterrupt), toolbox.whole_file(old) as new:
+            new.write_text("half of it")
+            self.assertEqual(len(self.names()), 2)
+            raise KeyboardInterrupt
+        self.assertEqual((old.read_text(), self.names()), ("old\n", ["old.csv"]))
 
     def test_files_that_cannot_be_written_leave_the_old_ones(self):
         """A file beside the target takes the text, so that nothing is cut: here it may have no more than 1 kB."""
@@ -69,6 +183,25 @@ class Surroundings(InFolder):
                                   capture_output=True, check=False, input=report, env={**os.environ, "PROGRAM": REPLAY})
             self.assertEqual((done.returncode, old.read_text(), self.names()), (1, "old\n", ["old.csv"]), (tool, done.stderr))
             self.check_line(tool, done.stderr)
+
+    def test_a_disk_that_is_full(self):
+        """For which files stand that may not grow at all: each tool that writes some says so, and what was there stays."""
+        old, rows = self.write("old.svg", "old\n"), self.folder / "rows"
+        self.assertEqual(run("sweep", TRACE, "--budget", "64", "--without-parallel", "--out", rows).returncode, 0)
+        before = rows.read_text()
+        self.write("captured", CAPTURED)
+        names = self.names()
+        words = {tool: WRITERS[tool] for tool in ("from-ftrace", "from-pcap")}
+        words.update({"raise": [TRACE, "--out", old], "traffic": ["--out", old], "report2json": ["-", "--out", old],
+                      "compare-runs": [TRACE, "--out", old, "--budget", "1", "--"], "plot": [TRACE, "--out", old],
+                      "sweep": [TRACE, "--without-parallel", "--resume", "--out", rows]})
+        for tool, each in words.items():
+            done = subprocess.run(["bash", "-c", 'ulimit -f 0; trap "" XFSZ; exec "$0" "$@"', sys.executable, TOP / "tools" / tool, *each],
+                                  capture_output=True, check=False, input=REPORT.encode(), cwd=self.folder,
+                                  env={**USUAL, "PROGRAM": REPLAY, "SERIES": SERIES})
+            self.check_line(tool, done.stderr)
+            self.assertEqual((done.returncode, done.stdout), (1, b""), tool)
+            self.assertEqual((old.read_text(), rows.read_text(), self.names()), ("old\n", before, names), tool)
 
     def test_places_that_take_no_file(self):
         (self.folder / "folder.csv").mkdir()
@@ -103,7 +236,7 @@ class Surroundings(InFolder):
         for tool, words in (("raise", []), ("compare-runs", ["--"]), ("plot", ["--raise", "--script"])):
             process = self.start(tool, ["fifo", *words], stdout=subprocess.PIPE)
             (self.folder / "fifo").write_bytes(TRACE.read_bytes())
-            process.communicate(timeout=60)
+            process.communicate(timeout=300)
             self.assertEqual(process.returncode, 0)
 
     def test_each_tells_its_words(self):

@@ -144,6 +144,57 @@ class Sweep(InFolder):
             self.assertIn(b"/\xff;touch x,\x1b.csv", self.out.read_bytes())
             self.out.unlink()
 
+    # In place of ssh: it runs here what it is to run on a host, and no host called dead answers.
+    SSH = """#!/bin/bash
+while [[ $1 = -* ]]; do
+    case $1 in -[olpiF]) shift ;; esac
+    shift
+done
+echo "$1" >> "$HOSTS"
+[ "$1" != dead ] || { echo 'ssh: connect to host dead port 22: Connection refused' >&2; exit 255; }
+shift
+[ "$1" != -- ] || shift
+SHELL=/bin/bash exec bash -c "$*"  # as sshd does
+"""
+
+    def by_ssh(self, *hosts, words=()):
+        """A sweep over these machines, and the hosts that were asked for something."""
+        (self.folder / "bin").mkdir(exist_ok=True)
+        ssh = self.write("bin/ssh", self.SSH)
+        ssh.chmod(0o755)
+        asked = self.write("hosts", "")
+        machines = self.write("machines", "".join(f"2/{host}\n" for host in hosts))
+        done = run("sweep", self.folder, "--budget", "2,300", "--weight", "2,64", "--out", self.out, "--program", REPLAY,
+                   "--sshloginfile", machines, *words, path=f"{self.folder}/bin:{os.environ['PATH']}", HOSTS=str(asked))
+        return done, asked.read_text().split()
+
+    @unittest.skipUnless(shutil.which("parallel"), "GNU parallel isn't installed")
+    def test_two_machines(self):
+        done, asked = self.by_ssh("one", "two")
+        self.assertEqual(done.returncode, 0, done.stderr)
+        self.assertEqual(set(asked), {"one", "two"})
+        self.check_rows()
+
+    @unittest.skipUnless(shutil.which("parallel"), "GNU parallel isn't installed")
+    def test_a_machine_that_is_dead(self):
+        """What it was given is played by the other one, and no row is lost."""
+        done, asked = self.by_ssh("dead", "two")
+        self.assertEqual(done.returncode, 0, done.stderr)
+        self.assertEqual(set(asked), {"dead", "two"})
+        self.assertIn("8 rows in", done.stderr)
+        self.check_rows()
+
+    @unittest.skipUnless(shutil.which("parallel"), "GNU parallel isn't installed")
+    def test_machines_that_are_all_dead(self):
+        """No row, a status that says so, and the next call plays them."""
+        done, asked = self.by_ssh("dead")
+        self.assertEqual((done.returncode, self.rows()), (1, []))
+        self.assertIn("8 rows are missing: --resume tries them again", done.stderr)
+        self.assertGreaterEqual(asked.count("dead"), 3 * 8)  # each row three times
+        done, _ = self.by_ssh("dead", "two", words=["--resume"])
+        self.assertEqual(done.returncode, 0, done.stderr)
+        self.check_rows()
+
     @unittest.skipUnless(has_slurm(), "no slurmd answers here")
     def test_the_block_for_slurm(self):
         script = self.write("job.sh", slurm_block().replace("traces", str(self.folder)).replace("rows-", f"{self.folder}/rows-"))
@@ -151,20 +202,42 @@ class Sweep(InFolder):
         self.assertEqual(done.returncode, 0, done.stderr)
         self.assertEqual(len([row for path in self.folder.glob("rows-*.csv") for row in path.read_text().splitlines()[1:]]), 12)
 
-    def test_the_block_for_slurm_as_a_script(self):
-        """Without a slurmd: each job of the array, as Slurm would start it."""
-        script = self.write("job.sh", slurm_block())
-        self.assertTrue(slurm_block().startswith("#!/bin/bash\n"))
+    # In place of sbatch: it reads the lines for it at the head of the file, and runs each job of the array after the other, with
+    # what Slurm tells a job.
+    SBATCH = """#!/usr/bin/env python3
+import os, re, subprocess, sys
+words = dict(re.findall(r"^#SBATCH --([a-z-]+)=(\\S+)$", open(sys.argv[1]).read(), re.M))
+first, last = map(int, words.pop("array").split("-"))
+told = {"SLURM_CPUS_PER_TASK": words.pop("cpus-per-task"), "SLURM_ARRAY_TASK_COUNT": str(last - first + 1)}
+assert not words, words
+assert open(sys.argv[1]).readline().startswith("#!/")
+os.chmod(sys.argv[1], 0o755)
+for job in range(first, last + 1):
+    subprocess.run([os.path.abspath(sys.argv[1])], check=True, env={**os.environ, **told, "SLURM_ARRAY_TASK_ID": str(job)})
+"""
+
+    def test_the_block_for_slurm_by_a_stand_in(self):
+        """The block as it stands, given to what reads it as sbatch would; its parts together are the rows of one sweep."""
         (self.folder / "traces").mkdir()
         for name in ("burst.csv", "faulty.csv"):
             os.rename(self.folder / name, self.folder / "traces" / name)
         os.symlink(TOP / "tools", self.folder / "tools")
-        for job in range(1, 17):
-            done = subprocess.run(["bash", script], cwd=self.folder, capture_output=True, text=True, check=False, env={
-                **os.environ, "PROGRAM": REPLAY, "SLURM_ARRAY_TASK_ID": str(job), "SLURM_CPUS_PER_TASK": "2"})
-            self.assertEqual(done.returncode, 0, done.stderr)
-        rows = [row for path in self.folder.glob("rows-*.csv") for row in path.read_text().splitlines()[1:]]
-        self.assertEqual(len(rows), 12)
+        sbatch = self.write("sbatch", self.SBATCH)
+        sbatch.chmod(0o755)
+        environment = {**os.environ, "PROGRAM": REPLAY, "PATH": f"{self.folder}:{os.environ['PATH']}"}
+        done = subprocess.run(["sbatch", self.write("job.sh", slurm_block())], cwd=self.folder, capture_output=True, text=True,
+                              check=False, env=environment)
+        self.assertEqual(done.returncode, 0, done.stderr)
+        self.assertEqual(len(list(self.folder.glob("rows-*.csv"))), 16)
+        together = "awk 'FNR > 1 || NR == 1' rows-*.csv"
+        self.assertIn(f"`{together}` puts the parts together", (TOP / "docs/TOOLS.md").read_text())
+        parts = subprocess.run(["bash", "-c", together], cwd=self.folder, capture_output=True, text=True, check=True).stdout.splitlines()
+        done = run("sweep", "traces", "--budget", "64,300,1000", "--weight", "16,64", "--raise", "--out", self.out, "--without-parallel",
+                   folder=self.folder)
+        self.assertEqual(done.returncode, 0, done.stderr)
+        whole = self.out.read_text().splitlines()
+        self.assertEqual((parts[0], sorted(parts[1:])), (whole[0], sorted(whole[1:])))
+        self.assertEqual(len(whole), 13)
 
     def test_a_file_is_not_overwritten(self):
         self.out.write_text("mine\n")

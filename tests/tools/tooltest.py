@@ -22,7 +22,7 @@ def run(tool, *words, text=None, path=None, folder=None, **variables):
         environment["PATH"] = path
     words = [word if isinstance(word, bytes) else str(word) for word in words]
     return subprocess.run([sys.executable, TOP / "tools" / tool, *words], input=text, capture_output=True, text=True, check=False,
-                          env=environment, cwd=folder, errors="surrogateescape", timeout=120)
+                          env=environment, cwd=folder, errors="surrogateescape", timeout=600)
 
 
 class InFolder(unittest.TestCase):

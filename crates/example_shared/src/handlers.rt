@@ -1,8 +1,8 @@
-//! What the interrupts and the poller do. Each call takes the caller, a seat of the instance, and gives it back.
+//! What the interrupts, the poller and the controller do. Each call takes a seat of the instance, and gives it back.
 ghost use Rattle.rx_ring.specs.Ends.{SameIn};
 ghost use Rattle.napi_calls.specs.Instance.{IsSeatOf};
 
-use napi_calls::{Caller, Completed, Napi, Polling, Sched};
+use napi_calls::{Caller, Completed, Control, Napi, Off, On, Polling, Sched};
 use napi_model::Kind;
 use rx_ring::{Batch, Packet, RxIn};
 use std::sync::Wait;
@@ -22,6 +22,22 @@ fn ask(rt: &impl Wait, napi: &Napi, caller: Caller) -> Caller
         Sched::Granted(granted) => granted.hand(napi, Kind::List),
         Sched::Missed(caller) | Sched::Disabled(caller) => caller,
     }
+}
+
+/// The controller enables the instance, and asks once behind that, by a caller of its own: what came while the instance was
+/// off was refused a poll, and would lie in the ring until the next request.
+pub(crate) fn open(
+    rt: &impl Wait,
+    napi: &Napi,
+    control: Control<Off>,
+    own: Caller,
+) -> (Control<On>, Caller)
+    requires { IsSeatOf napi.now control.pass × IsSeatOf napi.now own.pass }
+    ensures { IsSeatOf napi.now result.0.pass × IsSeatOf napi.now result.1.pass }
+{
+    let control = control.enable(rt, napi, false);
+    let own = ask(rt, napi, own);
+    (control, own)
 }
 
 /// The first interrupt: a packet comes in, and a poll is asked for. A full ring drops the packet.

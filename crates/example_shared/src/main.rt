@@ -1,6 +1,7 @@
 //! A network card whose interrupts and poller are threads of their own, over one shared instance with a receive ring. Its
 //! interrupt line is one that another device shares: the first interrupt puts a packet into the ring and asks for a poll, the
-//! second only asks. Whatever the threads' schedule, every packet is polled before the program ends.
+//! second only asks. Then the card is reset: as many packets come while the controller has the instance, so that all their
+//! requests are refused. Whatever the threads' schedule, every packet is polled before the program ends.
 //!
 //! `handlers.rt` is what each thread does; here the instance is made, served and closed. A seat of the instance (`Caller`,
 //! `Control`) must be spent: it goes to its thread in a `Kept`, comes back as what the thread answers, and goes to `close`.
@@ -15,8 +16,8 @@ ghost use Rattle.napi_calls.specs.declared.types.Caller.{Caller};
 mod handlers;
 
 use anyhow::Result;
-use handlers::{poll_all, receive, request};
-use napi_calls::{Caller, Kept, Napi, NewBack};
+use handlers::{open, poll_all, receive, request};
+use napi_calls::{Caller, Control, Kept, Napi, NewBack, On};
 use rx_ring::{RxIn, Totals, finish, ring};
 use std::sync::Wait;
 use std::sync::atomic::AtomicU64;
@@ -84,21 +85,55 @@ fn serve<R: Threads + Wait + Copy + Drop + Send>(
     (first, second, poller)
 }
 
+// Resets the card: packets come while the controller has the instance, and each request of theirs is refused. `open` asks for
+// all of them, or none would be polled.
+fn reset(
+    rt: &impl Wait,
+    napi: &Napi,
+    control: Control<On>,
+    seats: (Caller, Caller, Caller),
+    input: RxIn,
+) -> (Control<On>, (Caller, Caller, Caller), RxIn)
+    requires control { IsSeatOf napi.now control.pass }
+    requires seats { IsSeatOf napi.now seats.0.pass × IsSeatOf napi.now seats.1.pass × IsSeatOf napi.now seats.2.pass }
+    ensures control { IsSeatOf napi.now result.0.pass }
+    ensures seats { IsSeatOf napi.now result.1.0.pass × IsSeatOf napi.now result.1.1.pass × IsSeatOf napi.now result.1.2.pass }
+    ensures input { SameIn input result.2 }
+{
+    let (first, poller, own) = seats;
+    // The second interrupt has nothing to do.
+    let ended = AtomicU64::new(1);
+    let control = control.disable(rt, napi);
+    let (first, input) = receive(rt, napi, first, input, &ended);
+    let (control, own) = open(rt, napi, control, own);
+    let poller = poll_all(rt, napi, poller, &ended);
+    (control, (first, poller, own), input)
+}
+
 fn main(rt: HostRuntime) -> Result<()> {
     let (input, ctx) = ring(rt.alloc(), PLACES)?;
-    let (napi, mut callers, control) = match Napi::new(rt.alloc(), ctx, 3) {
+    let (napi, mut callers, control) = match Napi::new(rt.alloc(), ctx, 4) {
         Ok(made) => made,
         Err(NewBack { fault, ctx: _ }) => return Err(fault.into()),
     };
     let poller = pop(&napi, &mut callers);
     let second = pop(&napi, &mut callers);
     let first = pop(&napi, &mut callers);
-    let control = control.enable(&rt, &napi, false);
+    let own = pop(&napi, &mut callers);
+    let (control, own) = open(&rt, &napi, control, own);
     let ((first, input), second, poller) = serve(rt, &napi, (first, second, poller), input);
+    let (control, (first, poller, own), input) = reset(
+        &rt,
+        &napi,
+        control,
+        (first, poller, own),
+        input,
+    );
     let control = control.disable(&rt, &napi);
     callers.push_reserved(first);
     callers.push_reserved(second);
     callers.push_reserved(poller);
+    callers.push_reserved(own);
     let closed = napi.close(callers, control);
     let Ok(ctx) = closed else { unreachable!() };
     let Totals {

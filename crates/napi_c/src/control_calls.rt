@@ -1,16 +1,13 @@
 //! The calls of the controller of a shared instance.
 ghost use Rattle.std.specs.Prelude.{◌≡◌, None};
-ghost use Rattle.napi_c.specs.declared.seat.Controller.{Controller};
-ghost use Rattle.napi_c.specs.declared.body.Body.TheVariants as body;
-ghost use Rattle.napi_c.specs.declared.mode.ControlCall.TheVariants as control_call;
-ghost use Rattle.napi_c.specs.Status.{BAD_HANDLE};
-ghost use Rattle.napi_c.specs.SeatCalls.{ControlAnswers};
-ghost use Rattle.napi_c.specs.Handles.{IsControllerWith, ControlMakes};
+ghost use Rattle.c_handles.specs.declared.seat.Controller.{Controller};
+ghost use Rattle.c_handles.specs.declared.body.Body.TheVariants as body;
+ghost use Rattle.c_handles.specs.declared.mode.ControlCall.TheVariants as control_call;
+ghost use Rattle.c_handles.specs.Status.{BAD_HANDLE};
+ghost use Rattle.c_handles.specs.SeatCalls.{ControlAnswers};
+ghost use Rattle.c_handles.specs.Handles.{IsControllerWith, ControlMakes};
 
-use crate::body::Body;
-use crate::handle::FqHandle;
-use crate::mode::ControlCall;
-use crate::status;
+use c_handles::{Body, ControlCall, FqHandle, status};
 use std::alloc::Global;
 
 fn step_in(at: &mut Body, call: ControlCall) -> u32

@@ -1,13 +1,9 @@
 //! What a handle leads to is freed.
 ghost use Rattle.std.specs.Prelude.{◌≡◌, ◌≢◌, None};
-ghost use Rattle.napi_c.specs.Freeing.{is_freeable, free_status, abandon_status};
-ghost use Rattle.napi_c.specs.Status.{OK};
+ghost use Rattle.c_handles.specs.Freeing.{is_freeable, free_status, abandon_status};
+ghost use Rattle.c_handles.specs.Status.{OK};
 
-use crate::body::Body;
-use crate::handle::FqHandle;
-use crate::hold::Hold;
-use crate::mode::Mode;
-use crate::status;
+use c_handles::{Body, FqHandle, Hold, Mode, status};
 use std::alloc::Global;
 
 // Whether nothing is lost with it but what it holds: nobody waits for it.

@@ -5,9 +5,9 @@ ghost use Rattle.dql_core.specs.Bounds.{DQL_MAX_LIMIT};
 ghost use Rattle.dql_core.specs.Dql.{Shows};
 ghost use Rattle.dql_core.specs.Limit.{opening, in_flight_of, avail_of, after_reset, after_queued, after_completed, queued_fault, completed_fault};
 ghost use Rattle.dql_core.specs.declared.whole.Limit.{Limit};
-ghost use Rattle.napi_c.specs.Status.{OK, dql_status};
+ghost use Rattle.c_handles.specs.Status.{OK, dql_status};
 
-use crate::status;
+use c_handles::status;
 use dql_core::Dql;
 
 /// A byte queue limit in the caller's own memory: `struct fq_dql`. C never writes its fields.

@@ -1,8 +1,5 @@
 //! Poll lists and runs for C.
-use crate::body::Body;
-use crate::handle::FqHandle;
-use crate::run::{FqRunReport, Lister};
-use crate::status;
+use c_handles::{Body, FqHandle, FqRunReport, Lister, status};
 use std::alloc::Global;
 
 /// A new poll list of one thread.

@@ -1,14 +1,12 @@
 //! Receive rings for C, both ends in one handle.
 ghost use Rattle.std.specs.Prelude.{◌≡◌, ◌≢◌, ◌<◌, ◌≤◌, length, take};
 ghost use Rattle.rx_ring.specs.Ends.{put_list, capacity_of};
-ghost use Rattle.napi_c.specs.declared.body.Ring.{Ring};
-ghost use Rattle.napi_c.specs.declared.body.Body.TheVariants as variant;
-ghost use Rattle.napi_c.specs.Status.{OK};
-ghost use Rattle.napi_c.specs.Rings.{LeadsTo, LeadsToRing, IsRingWith, IsNewRing, IsAfterPut, IsAfterPoll};
+ghost use Rattle.c_handles.specs.declared.body.Ring.{Ring};
+ghost use Rattle.c_handles.specs.declared.body.Body.TheVariants as variant;
+ghost use Rattle.c_handles.specs.Status.{OK};
+ghost use Rattle.c_handles.specs.Rings.{LeadsTo, LeadsToRing, IsRingWith, IsNewRing, IsAfterPut, IsAfterPoll};
 
-use crate::body::{Body, Ring};
-use crate::handle::FqHandle;
-use crate::status;
+use c_handles::{Body, FqHandle, Ring, status};
 use rx_ring::{Batch, MAX_WEIGHT, Packet, ring};
 use std::alloc::Global;
 

@@ -1,19 +1,15 @@
 //! The calls of the callers of a shared instance. Each makes one try, and answers changed where another thread came between.
 ghost use Rattle.std.specs.Prelude.{◌≡◌, ◌≤◌, length, take, Some, None};
 ghost use Rattle.napi_model.specs.declared.state.Kind.{Kind};
-ghost use Rattle.napi_c.specs.declared.seat.Seat.{Seat};
-ghost use Rattle.napi_c.specs.declared.body.Body.TheVariants as body;
-ghost use Rattle.napi_c.specs.declared.hold.SeatCall.TheVariants as seat_call;
-ghost use Rattle.napi_c.specs.Serial.{kind_in};
-ghost use Rattle.napi_c.specs.Status.{OK, BAD_HANDLE};
-ghost use Rattle.napi_c.specs.SeatCalls.{SeatAnswers, SeatPolls};
-ghost use Rattle.napi_c.specs.Handles.{IsSeatWith, SeatMakes, SeatGives};
+ghost use Rattle.c_handles.specs.declared.seat.Seat.{Seat};
+ghost use Rattle.c_handles.specs.declared.body.Body.TheVariants as body;
+ghost use Rattle.c_handles.specs.declared.hold.SeatCall.TheVariants as seat_call;
+ghost use Rattle.c_handles.specs.Kinds.{kind_in};
+ghost use Rattle.c_handles.specs.Status.{OK, BAD_HANDLE};
+ghost use Rattle.c_handles.specs.SeatCalls.{SeatAnswers, SeatPolls};
+ghost use Rattle.c_handles.specs.Handles.{IsSeatWith, SeatMakes, SeatGives};
 
-use crate::body::Body;
-use crate::handle::FqHandle;
-use crate::hold::SeatCall;
-use crate::kind::kind_of;
-use crate::status;
+use c_handles::{Body, FqHandle, SeatCall, kind_of, status};
 use rx_ring::{Batch, MAX_WEIGHT, Packet};
 use std::alloc::Global;
 

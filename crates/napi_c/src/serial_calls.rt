@@ -6,12 +6,12 @@ ghost use Rattle.napi_model.specs.declared.event.Done.TheVariants as done;
 ghost use Rattle.napi_model.specs.declared.event.Call.TheVariants as call;
 ghost use Rattle.napi_model.specs.declared.state.Kind.{Kind};
 ghost use Rattle.napi_model.specs.Step.{MayCall};
-ghost use Rattle.napi_c.specs.Serial.{state_in, kind_in, Steps};
-ghost use Rattle.napi_c.specs.Status.{OK, GRANTED, MISSED, DISABLED, TAKEN, NOT_THERE, RELEASED, AGAIN, HELD, BUSY, NOT_ALLOWED, BAD_KIND};
+ghost use Rattle.napi_c.specs.Serial.{state_in, Steps};
+ghost use Rattle.c_handles.specs.Kinds.{kind_in};
+ghost use Rattle.c_handles.specs.Status.{OK, GRANTED, MISSED, DISABLED, TAKEN, NOT_THERE, RELEASED, AGAIN, HELD, BUSY, NOT_ALLOWED, BAD_KIND};
 
-use crate::kind::kind_of;
 use crate::serial::{FqNapi, step};
-use crate::status;
+use c_handles::{kind_of, status};
 use napi_model::{Call, Done, Operation, Prep};
 
 /// As `SerialNapi::schedule`: granted, missed or disabled.

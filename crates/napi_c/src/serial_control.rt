@@ -4,10 +4,10 @@ ghost use Rattle.napi_model.specs.declared.event.Operation.TheVariants as operat
 ghost use Rattle.napi_model.specs.declared.event.Call.TheVariants as call;
 ghost use Rattle.napi_model.specs.Step.{MayCall, answer_of};
 ghost use Rattle.napi_c.specs.Serial.{state_in, Steps};
-ghost use Rattle.napi_c.specs.Status.{OK, TAKEN, BUSY, NOT_ALLOWED};
+ghost use Rattle.c_handles.specs.Status.{OK, TAKEN, BUSY, NOT_ALLOWED};
 
 use crate::serial::{FqNapi, step};
-use crate::status;
+use c_handles::status;
 use napi_model::{Call, Operation};
 
 // A call of the controller's.

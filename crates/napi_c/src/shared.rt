@@ -4,12 +4,7 @@ ghost use Rattle.std.specs.Arc.{arc_value};
 ghost use Rattle.napi_calls.specs.declared.types.Caller.{Caller};
 ghost use Rattle.napi_calls.specs.Instance.{IsSeatOf};
 
-use crate::body::{Body, Ring};
-use crate::handle::FqHandle;
-use crate::hold::Hold;
-use crate::mode::Mode;
-use crate::seat::{Controller, Seat, Shared};
-use crate::status;
+use c_handles::{Body, Controller, FqHandle, Hold, Mode, Ring, Seat, Shared, status};
 use napi_calls::{Caller, Control, Napi, NewBack, NewFault, Off};
 use std::alloc::Global;
 use std::mem;

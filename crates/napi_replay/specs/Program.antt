@@ -1,6 +1,5 @@
 -- The whole program: what it writes and how it ends, of the words after its name and the bytes of its input.
-use Rattle.std.specs.Prelude.{◌≡◌, ◌≢◌, ◌⊎◌, ℕ, List, Option, Some, None, Ok, Err}
-use Rattle.std.specs.Io.KnownBytes.{Keeps}
+use Rattle.std.specs.Prelude.{◌≡◌, ◌⊎◌, ℕ, List, Option, Some, None, Ok, Err}
 use Rattle.trace_rows.specs.Trace.{records_of, trace_of}
 use Rattle.trace_rows.specs.declared.row.Row.{Row}
 use Rattle.shared_replay.specs.Replay.{IsFaultOf}
@@ -8,10 +7,7 @@ use Rattle.threads_replay.specs.Answer.{threads_of}
 use Rattle.threads_replay.specs.Answer.{IsOutside as IsOutsideThreads}
 use Rattle.report_text.specs.Outside.{IsOutside}
 use Rattle.trace_replay.specs.Answer.{replay_of}
-use Rattle.report_text.specs.Program.{EndsBy}
 use Rattle.report_text.specs.declared.fault.ReplayFault.{ReplayFault}
-use Rattle.report_text.specs.declared.fault.ReplayFault.TheVariants.{OutputFailed}
-use Rattle.report_text.specs.declared.program.Ending.{Ending}
 use Rattle.report_text.specs.declared.program.ProgramFault.{ProgramFault}
 use Rattle.report_text.specs.declared.program.ProgramFault.TheVariants.{Words, Replay}
 use Rattle.replay_words.specs.Words.{Text, asked_for, asked_of}
@@ -53,10 +49,3 @@ IsFault words input (Words Usage) = asked_for words ≡ None
 IsFault words input (Words OutOfMemory) = Unit {0}
 IsFault words input (Replay fault) =
     (asked : Mode × Settings) × AskFor words asked × ((bytes : List ℕ) → input ≡ Some bytes → IsOutsideIn asked.0 fault ⊎ IsFaultIn asked.0 asked.1 bytes fault)
-
--- the program failed by some fault; on each but a failed output nothing was written
-pub record Failed (words : List Text) (input output_old output_new errors_old errors_new : Option (List ℕ)) (ending : Ending) : Type 0 where
-  pub fault : ProgramFault
-  pub why : IsFault words input fault
-  pub untouched : fault ≢ Replay OutputFailed → Keeps output_old output_new
-  pub ends : EndsBy fault errors_old errors_new ending

@@ -2,7 +2,8 @@
 
 ghost use Rattle.std.specs.Prelude.{◌≡◌, ◌≢◌, ◌⊎◌, ℕ, List, Some, IfErr, OnOk, map, string_bytes};
 ghost use Rattle.std.specs.Io.KnownBytes.{Appends, Keeps};
-ghost use Rattle.napi_replay.specs.Program.{Failed, IsFault, IsFaultIn, IsOutsideIn, IsReport, IsReportIn};
+ghost use Rattle.napi_replay.specs.Program.{IsFault, IsFaultIn, IsOutsideIn, IsReport, IsReportIn};
+ghost use Rattle.report_text.specs.Program.{FailedBy};
 ghost use Rattle.report_text.specs.declared.fault.ReplayFault.TheVariants.{OutputFailed};
 ghost use Rattle.report_text.specs.declared.program.ProgramFault.TheVariants.{Replay};
 
@@ -86,7 +87,7 @@ pub fn run_program<H: Threads + Wait + Sync, R: Read + Drop, W: Write, E: Write>
         → (text : List ℕ) × IsReport (map string_bytes words.now) bytes text × Appends (W.contents output.old) (W.contents output.new) text }
     ensures quiet { result.status ≡ 0 → Keeps (E.contents errors.old) (E.contents errors.new) }
     ensures failed { result.status ≢ 0
-        → Failed (map string_bytes words.now) (R.remaining input) (W.contents output.old) (W.contents output.new) (E.contents errors.old) (E.contents errors.new) result }
+        → FailedBy (IsFault (map string_bytes words.now) (R.remaining input)) (W.contents output.old) (W.contents output.new) (E.contents errors.old) (E.contents errors.new) result }
 {
     match replay_asked(rt, alloc, words, input, output) {
         Ok(()) => Ending {

@@ -1,6 +1,5 @@
 -- The whole program: what it writes and how it ends, of the words after its name and the bytes of its input.
-use Rattle.std.specs.Prelude.{◌≡◌, ◌≢◌, ◌⊎◌, ℕ, List, Option, Some, None, Ok, Err}
-use Rattle.std.specs.Io.KnownBytes.{Keeps}
+use Rattle.std.specs.Prelude.{◌≡◌, ◌⊎◌, ℕ, List, Option, Some, None, Ok, Err}
 use Rattle.napi_series.specs.Series.{series_by}
 use Rattle.napi_series.specs.Words.{series_asked_for}
 use Rattle.replay_words.specs.Words.{Text, asked_of}
@@ -8,9 +7,6 @@ use Rattle.replay_words.specs.declared.mode.Mode.TheVariants.{Serial}
 use Rattle.replay_words.specs.declared.settings.Settings.{Settings}
 use Rattle.replay_words.specs.declared.words.WordFault.TheVariants.{Usage, OutOfMemory}
 use Rattle.report_text.specs.Outside.{IsOutside}
-use Rattle.report_text.specs.Program.{EndsBy}
-use Rattle.report_text.specs.declared.fault.ReplayFault.TheVariants.{OutputFailed}
-use Rattle.report_text.specs.declared.program.Ending.{Ending}
 use Rattle.report_text.specs.declared.program.ProgramFault.{ProgramFault}
 use Rattle.report_text.specs.declared.program.ProgramFault.TheVariants.{Words, Replay}
 
@@ -37,10 +33,3 @@ abbrev pub IsFault : List Text → Option (List ℕ) → ProgramFault → Type 0
 IsFault words input (Words Usage) = series_asked_for words ≡ None
 IsFault words input (Words OutOfMemory) = Unit {0}
 IsFault words input (Replay fault) = IsReplayFault words input fault
-
--- the program failed by some fault; on each but a failed output nothing was written
-pub record Failed (words : List Text) (input output_old output_new errors_old errors_new : Option (List ℕ)) (ending : Ending) : Type 0 where
-  pub fault : ProgramFault
-  pub why : IsFault words input fault
-  pub untouched : fault ≢ Replay OutputFailed → Keeps output_old output_new
-  pub ends : EndsBy fault errors_old errors_new ending

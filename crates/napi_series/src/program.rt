@@ -2,7 +2,8 @@
 
 ghost use Rattle.std.specs.Prelude.{◌≡◌, ◌≢◌, ℕ, List, Some, IfErr, OnOk, map, string_bytes};
 ghost use Rattle.std.specs.Io.KnownBytes.{Appends, Keeps};
-ghost use Rattle.napi_series.specs.Program.{Failed, IsFault, IsSeries};
+ghost use Rattle.napi_series.specs.Program.{IsFault, IsSeries};
+ghost use Rattle.report_text.specs.Program.{FailedBy};
 ghost use Rattle.report_text.specs.declared.fault.ReplayFault.TheVariants.{OutputFailed};
 ghost use Rattle.report_text.specs.declared.program.ProgramFault.TheVariants.{Replay};
 
@@ -49,7 +50,7 @@ pub(crate) fn run_program<R: Read + Drop, W: Write, E: Write>(
         → (text : List ℕ) × IsSeries (map string_bytes words.now) bytes text × Appends (W.contents output.old) (W.contents output.new) text }
     ensures quiet { result.status ≡ 0 → Keeps (E.contents errors.old) (E.contents errors.new) }
     ensures failed { result.status ≢ 0
-        → Failed (map string_bytes words.now) (R.remaining input) (W.contents output.old) (W.contents output.new) (E.contents errors.old) (E.contents errors.new) result }
+        → FailedBy (IsFault (map string_bytes words.now) (R.remaining input)) (W.contents output.old) (W.contents output.new) (E.contents errors.old) (E.contents errors.new) result }
 {
     match write_asked(alloc, words, input, output) {
         Ok(()) => Ending {

@@ -5,7 +5,7 @@ ghost use Rattle.napi_series.specs.Program.{AskFor};
 ghost use Rattle.napi_series.specs.Words.{every_of, series_asked_for};
 ghost use Rattle.replay_words.specs.declared.words.WordFault.TheVariants.{Usage};
 
-use replay_words::{Mode, Settings, WordFault, number_of, parse_words};
+use replay_words::{Settings, WordFault, number_of, parse_serial_words};
 use std::alloc::Global;
 
 // How many rows make one line, and the other words.
@@ -38,9 +38,5 @@ pub(crate) fn parse_series_words(
     let Some((every, rest)) = split_every(words) else {
         return Err(WordFault::Usage);
     };
-    match parse_words(alloc, rest) {
-        Ok((Mode::Serial, settings)) => Ok((every, settings)),
-        Ok(_) => Err(WordFault::Usage),
-        Err(fault) => Err(fault),
-    }
+    Ok((every, parse_serial_words(alloc, rest)?))
 }

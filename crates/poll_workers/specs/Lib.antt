@@ -1,4 +1,5 @@
 pub mod Faults
+pub mod Numbers
 pub mod Spreads
 pub mod Finishes
 pub use Rattle.interrupt_workers.specs.Acts

@@ -17,10 +17,13 @@ pub enum WorkFault {
     /// A thread could not be started.
     #[error("work fault 3 SpawnFailed")]
     SpawnFailed,
+    /// Two stations have one number.
+    #[error("work fault 4 SameNumber")]
+    SameNumber,
 }
 
 impl WorkFault {
-    /// Its number: 1 `OutOfMemory`, 2 `GateShut`, 3 `SpawnFailed`.
+    /// Its number: 1 `OutOfMemory`, 2 `GateShut`, 3 `SpawnFailed`, 4 `SameNumber`.
     pub fn number(&self) -> u32
         ensures { result ≡ number_of self.now }
     {
@@ -28,6 +31,7 @@ impl WorkFault {
             WorkFault::OutOfMemory => 1,
             WorkFault::GateShut => 2,
             WorkFault::SpawnFailed => 3,
+            WorkFault::SameNumber => 4,
         }
     }
 }

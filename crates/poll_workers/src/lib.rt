@@ -3,6 +3,7 @@
 
 mod crew;
 mod fault;
+mod numbers;
 mod run;
 mod spreading;
 

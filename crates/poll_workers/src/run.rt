@@ -1,16 +1,18 @@
 //! A run of all stations.
 
-ghost use Rattle.std.specs.Prelude.{◌≡◌, ◌≤◌, ◌<◌, ◌+◌, IfErr, IfOk, Ok, vec_items, vec_len, vec_capacity};
+ghost use Rattle.std.specs.Prelude.{◌≡◌, ◌≤◌, ◌<◌, ◌+◌, ◌↔◌, IfErr, IfOk, IsErrOf, Ok, false, vec_items, vec_len, vec_capacity};
 ghost use Rattle.std.specs.List.{All, AllZip};
 ghost use Rattle.std.specs.Thread.{IsSend, IsSync};
 ghost use Rattle.interrupt_workers.specs.Deals.{IsDealt};
 ghost use Rattle.poll_workers.specs.Finishes.{IsFinished};
-ghost use Rattle.poll_workers.specs.declared.fault.WorkFault.TheVariants.{OutOfMemory};
+ghost use Rattle.poll_workers.specs.declared.fault.WorkFault.TheVariants.{OutOfMemory, SameNumber};
+ghost use Rattle.poll_workers.specs.Numbers.{own_numbers};
 ghost use Rattle.interrupt_workers.specs.Opens.{IsStation};
 ghost use Rattle.crew_tasks.specs.Paces.{IsLawful};
 
 use crate::crew::run_crew;
 use crate::fault::WorkFault;
+use crate::numbers::have_own_numbers;
 use crew_tasks::{Gate, Pace, Setting, Signals};
 use interrupt_workers::{Dealt, Device, Finished, Station, deal, merge};
 use std::alloc::{AllocError, Global};
@@ -95,10 +97,11 @@ where
 /// instance, with so many pollers, 1 to 8, and with the threads of those stations that have one. At the end each device is
 /// disabled, its instance closed, and its ring read off. The answer has the devices in the order of the stations.
 ///
-/// The numbers of the stations are all different. Station `number` is polled by poller `(number - 1) mod pollers`.
+/// Station `number` is polled by poller `(number - 1) mod pollers`.
 ///
-/// Refused by `OutOfMemory` (1) where memory is, by `SpawnFailed` (3) where a thread can't be started, and by `GateShut` (2)
-/// where the gate answers false. All threads that were started have ended then, and all instances are closed.
+/// Refused by `SameNumber` (4) exactly where two stations have one number: nothing is begun then. Refused by `OutOfMemory`
+/// (1) where memory is, by `SpawnFailed` (3) where a thread can't be started, and by `GateShut` (2) where the gate answers
+/// false. All threads that were started have ended then, and all instances are closed.
 pub fn run_workers<R, D, G>(
     rt: &R,
     alloc: Global,
@@ -117,7 +120,11 @@ where
     requires pace { IsLawful pace }
     // Each device made all its acts, each once and in order; what was put was polled or is left.
     ensures finished { IfOk result (λ all. AllZip (IsFinished D.acts D.answer D.after) (vec_items stations) (vec_items all)) }
+    ensures numbers { IsErrOf result SameNumber ↔ (own_numbers (vec_items stations) ≡ false) }
 {
+    if !have_own_numbers(stations.as_slice()) {
+        return Err(WorkFault::SameNumber);
+    }
     let signals = Signals::new();
     let setting = Setting {
         rt,
@@ -129,6 +136,7 @@ where
         Err(WorkFault::OutOfMemory) => Err(WorkFault::OutOfMemory),
         _ if signals.is_refused() => Err(WorkFault::SpawnFailed),
         _ if signals.is_stopped() => Err(WorkFault::GateShut),
-        finished => finished,
+        Ok(finished) => Ok(finished),
+        Err(_not_whole) => Err(WorkFault::GateShut),
     }
 }

@@ -266,6 +266,22 @@ fn a_gate_shuts_the_run(rt: HostRuntime) -> Result<(), Fail> {
     Ok(())
 }
 
+// Two stations of one number are refused at once, by a fault with its number and its text.
+#[test]
+fn stations_of_one_number_are_refused(rt: HostRuntime) -> Result<(), Fail> {
+    let stations = two(rt.alloc(), 10, true)?;
+    let stations = with(stations, 2, 1000, false, Vec::new(rt.alloc()))?;
+    let Err(fault) = run_workers(&rt, rt.alloc(), stations, 2, PACE, &OpenGate) else {
+        panic!(rt; "ran two stations of one number");
+    };
+    assert_eq!(rt; fault.number(), 4);
+    assert_eq!(rt;
+        format!(in rt.alloc(); "{fault}")?.as_str(),
+        "work fault 4 SameNumber"
+    );
+    Ok(())
+}
+
 // A packet comes and the device is disabled while whoever polls it waits at the gate: the disable waits for the poll.
 #[test]
 fn a_disable_waits_for_a_poller_at_the_gate(rt: HostRuntime) -> Result<(), Fail> {

@@ -47,6 +47,20 @@ fn only(id: u32) -> SoftList
     soft
 }
 
+// An end fills the queue of 64 places. A push of the poller's own goes on: it takes the first entry into the poller's hands.
+#[test]
+fn a_poller_never_waits_for_itself(rt: HostRuntime) -> Result<(), Fail> {
+    let (mut list, mut first, _second) = two_ended(&rt, rt.alloc())?;
+    for id in 0..64u32 {
+        first.push(id);
+    }
+    list.push(64);
+    assert!(rt; spliced(&mut list).ids().iter().copied().eq(0..64u32));
+    assert_eq!(rt; spliced(&mut list).ids(), [64].as_slice());
+    assert!(rt; spliced(&mut list).is_empty());
+    Ok(())
+}
+
 // With each allocation refused in turn (`rt try --test --fail-alloc N`) the answer is the fault, and nothing else changes.
 #[test]
 fn memory_is_there_or_refused(rt: HostRuntime) -> Result<(), Fail> {

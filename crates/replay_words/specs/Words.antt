@@ -130,3 +130,14 @@ asked_with value = do
 -- what the words ask for, or None where they are refused
 abbrev pub asked_for : List Text → Option Asked
 asked_for words = given_by words >>= (λ given. asked_with (λ name. value_of name given))
+
+-- ---- serial mode alone
+
+abbrev pub serial_only : Asked → Mode → Option Asked
+serial_only asked Serial = Some asked
+serial_only asked Shared = None
+serial_only asked Threads = None
+
+-- what the words ask for of a program that has serial mode alone, or None where they are refused
+abbrev pub serial_asked_for : List Text → Option Asked
+serial_asked_for words = asked_for words >>= (λ asked. serial_only asked asked.mode)

@@ -1,7 +1,7 @@
 //! The words after the program's name: which replay they ask for, and how it polls.
 //!
-//! [`parse_words`] gives the mode and the [`Settings`] that the words name, by clap; `specs/Words.antt` says what they ask
-//! for without it.
+//! [`parse_words`] gives the mode and the [`Settings`] that the words name, by clap, and [`parse_serial_words`] the settings
+//! for a program that has serial mode alone; `specs/Words.antt` says what they ask for without clap.
 #![tactic(auto)]
 
 mod mode;
@@ -10,7 +10,7 @@ mod words;
 
 pub use mode::Mode;
 pub use settings::{MOST_BUDGET, MOST_POLLERS, MOST_WEIGHT, MOST_WINDOW, Settings};
-pub use words::{WordFault, number_of, parse_words, word_line, word_status};
+pub use words::{WordFault, number_of, parse_serial_words, parse_words, word_line, word_status};
 
 #[cfg(test)]
 mod tests;

@@ -4,7 +4,8 @@ ghost use Rattle.std.specs.Prelude.{◌≡◌, ◌≤◌, ◌∷◌, Some, None,
 ghost use Rattle.std.specs.List.{list_any};
 ghost use Rattle.clap.specs.Words.{app_of, found_of, rows_of, rule_of};
 ghost use Rattle.replay_words.specs.Options.{asked_by, mode_in, number_in, option, read_by_clap, tool};
-ghost use Rattle.replay_words.specs.Words.{asked_for, asked_of, is_stray, line_of, mode_of, number_of, status_of};
+ghost use Rattle.replay_words.specs.Words.{asked_for, asked_of, is_stray, line_of, mode_of, number_of, serial_asked_for, status_of};
+ghost use Rattle.replay_words.specs.declared.mode.Mode.TheVariants.{Serial};
 ghost use Rattle.replay_words.specs.declared.words.WordFault.TheVariants.{Usage};
 
 use crate::mode::Mode;
@@ -208,4 +209,22 @@ pub fn parse_words(alloc: Global, words: &[String]) -> Result<(Mode, Settings), 
         return Err(WordFault::Usage);
     }
     read_words(alloc, words)
+}
+
+/// The settings that the words name, for a program that has serial mode alone: as [`parse_words`], with every other mode
+/// refused.
+///
+/// # Errors
+///
+/// [`WordFault::Usage`] where the words aren't so, or name another mode. [`WordFault::OutOfMemory`] where memory was refused,
+/// whatever the words are.
+pub fn parse_serial_words(alloc: Global, words: &[String]) -> Result<Settings, WordFault>
+    ensures asked { IfOk result (λ settings. serial_asked_for (map string_bytes words.now) ≡ Some (asked_of (Serial, settings))) }
+    ensures usage { result ≡ Err Usage → serial_asked_for (map string_bytes words.now) ≡ None }
+{
+    match parse_words(alloc, words) {
+        Ok((Mode::Serial, settings)) => Ok(settings),
+        Ok(_) => Err(WordFault::Usage),
+        Err(fault) => Err(fault),
+    }
 }

@@ -1,7 +1,8 @@
 -- How a program that replays ends.
-use Rattle.std.specs.Prelude.{◌≡◌, ℕ, true, List, ◌++◌, Option, codes}
-use Rattle.std.specs.Io.KnownBytes.{Appends}
+use Rattle.std.specs.Prelude.{◌≡◌, ◌≢◌, ℕ, true, List, ◌++◌, Option, codes}
+use Rattle.std.specs.Io.KnownBytes.{Appends, Keeps}
 use Rattle.report_text.specs.Fault.{line_of as replay_line, status_of as replay_status}
+use Rattle.report_text.specs.declared.fault.ReplayFault.TheVariants.{OutputFailed}
 use Rattle.report_text.specs.declared.program.Ending.{Ending}
 use Rattle.report_text.specs.declared.program.ProgramFault.{ProgramFault}
 use Rattle.report_text.specs.declared.program.ProgramFault.TheVariants.{Words, Replay}
@@ -20,3 +21,10 @@ status_of (Replay fault) = replay_status fault
 pub record EndsBy (fault : ProgramFault) (errors_old errors_new : Option (List ℕ)) (ending : Ending) : Type 0 where
   pub status : ending.status ≡ status_of fault
   pub line : ending.told ≡ true → Appends errors_old errors_new (line_of fault)
+
+-- the program failed by some fault that it can have; on each but a failed output nothing was written
+pub record FailedBy (can_be : ProgramFault → Type 0) (output_old output_new errors_old errors_new : Option (List ℕ)) (ending : Ending) : Type 0 where
+  pub fault : ProgramFault
+  pub why : can_be fault
+  pub untouched : fault ≢ Replay OutputFailed → Keeps output_old output_new
+  pub ends : EndsBy fault errors_old errors_new ending

@@ -3,25 +3,29 @@ use Rattle.std.specs.Prelude.{◌≡◌, ◌==◌, ℕ, Bool, false, List, [], O
 use Rattle.rx_ring.specs.declared.packet.Packet.{Packet}
 use Rattle.napi_model.specs.declared.event.Operation.{Operation}
 use Rattle.napi_calls.specs.declared.types.Caller.{Caller}
+use Rattle.napi_calls.specs.Dealt.{Delivers}
 use Rattle.napi_calls.specs.Made.{Made}
 use Rattle.poll_engine.specs.Thread.{IsThreadPolling}
 use Rattle.poll_engine.specs.declared.bench.Next.TheVariants.{Absent}
 use Rattle.poll_engine.specs.declared.bench.Once.{Once}
 use Rattle.poll_engine.specs.declared.bench.ThreadReport.{ThreadReport}
-use Rattle.shared_polling.specs.SharedPolling.{GivesBatch, GivesEach, PollsOnceBy, ThreadPollsBy}
+use Rattle.shared_polling.specs.SharedPolling.{GivesEach, PollsOnceBy, ThreadPollsBy}
 
--- the poll of a caller that is there, with this weight, of an instance that has a thread of its own or has none
+-- The poll of a caller that is there, with this weight, of an instance that has a thread of its own or has none. Its caller
+-- delivers just the packets of the batch.
 abbrev pub Polls : Bool → ℕ → Option Caller → Once → List Packet → Option Caller → Type 0
 Polls thread weight None once packets after = (once.work ≡ 0) × (once.next ≡ Absent)
 Polls thread weight (Some before) once packets None = ⊥
 Polls thread weight (Some before) once packets (Some after) =
     (os : List Operation) × Made before.pass os after.pass × PollsOnceBy thread (once.work == weight) once.next os
-    × GivesBatch weight before.pass once.next packets × (once.work ≡ length packets)
+    × Delivers before.pass packets after.pass × (once.work ≡ length packets) × (once.next ≡ Absent → packets ≡ [])
 
--- the polling by the instance's thread, at most so many times
+-- The polling by the instance's thread, at most so many times. Its caller delivers just what the polls gave; the batch has the
+-- packets of the last one.
 abbrev pub PollsByThread : ℕ → ℕ → Option Caller → ThreadReport → List Packet → Option Caller → Type 0
 PollsByThread weight most None report packets after = (report.polls ≡ 0) × (report.next ≡ Absent)
 PollsByThread weight most (Some before) report packets None = ⊥
 PollsByThread weight most (Some before) report packets (Some after) =
-    (polls : List Once) × (os : List Operation) × Made before.pass os after.pass × ThreadPollsBy weight most false polls os
-    × GivesEach weight before.pass [] polls packets × IsThreadPolling weight most polls report
+    (polls : List Once) × (os : List Operation) × (all : List Packet) × Made before.pass os after.pass
+    × ThreadPollsBy weight most false polls os × Delivers before.pass all after.pass × GivesEach [] polls all packets
+    × IsThreadPolling weight most polls report

@@ -1,3 +1,4 @@
 pub mod PushOrder
+pub mod EmptyPops
 pub mod SharedList
 pub mod ListFaults

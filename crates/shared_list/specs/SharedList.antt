@@ -5,6 +5,7 @@ use Rattle.crossbeam_queue.specs.Passes.{view}
 use Rattle.shared_list.specs.declared.list_in.ListIn.{ListIn}
 use Rattle.shared_list.specs.declared.shared.SharedList.{SharedList}
 use Rattle.shared_list.specs.declared.list_rule.Returned.{Returned}
+use Rattle.shared_list.specs.EmptyPops.{CountsOne}
 use Rattle.shared_list.specs.PushOrder.{Push, returned_end, ids_of, pushes_by, IsReturned, WasEmpty, returned_pushes}
 
 module _ {R : Type 0} where
@@ -64,13 +65,17 @@ module _ {R : Type 0} where
   abbrev pub IsAllPopped : List ℕ → SharedList R → Type 0
   IsAllPopped taken list = length taken < 64 → WasEmpty (view list.pass)
 
-  -- the poller's hands are empty, and so many fit into them
-  abbrev pub HandsHaveRoom : SharedList R → ℕ → Type 0
-  HandsHaveRoom list n = (in_hand list ≡ []) × (n ≤ 64)
+  -- between these moments one pop found the queue empty: at one of them, all that had been pushed was popped
+  abbrev pub FindsEmpty : SharedList R → SharedList R → Type 0
+  FindsEmpty before after = CountsOne before.pops after.pops
 
-  -- a push waits for room
-  abbrev pub WaitsForRoom : SharedList R → Type 0
-  WaitsForRoom list = Unit
+  -- so many fit into the poller's hands, beside what they hold
+  abbrev pub HandsHaveRoom : SharedList R → ℕ → Type 0
+  HandsHaveRoom list n = length (in_hand list) + n ≤ 64
+
+  -- one more fits into them: a push into a full queue takes its first entry there
+  abbrev pub HandsHavePlace : SharedList R → Type 0
+  HandsHavePlace list = length (in_hand list) < 64
 
   -- what is known of an end once it comes back
   abbrev pub as_returned : ListIn R → Returned

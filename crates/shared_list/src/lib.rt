@@ -5,6 +5,7 @@ mod list_ends;
 mod list_fault;
 mod list_in;
 mod list_rule;
+mod pops;
 mod shared;
 
 pub use list_ends::{ListBack, end_list, shared_list};

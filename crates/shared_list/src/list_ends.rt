@@ -9,6 +9,7 @@ ghost use Rattle.shared_list.specs.declared.list_fault.ListFault.TheVariants.{Ba
 use crate::list_fault::ListFault;
 use crate::list_in::ListIn;
 use crate::list_rule::{EndPass, PoppedLast, PushQueue, PusherEnd};
+use crate::pops::Pops;
 use crate::shared::{SharedList, fill};
 use poll_engine::SoftList;
 use std::alloc::{AllocError, Global};
@@ -42,6 +43,7 @@ fn with_ends<R: Wait + Copy>(
         rt,
         queue,
         pass,
+        pops: Pops::none(),
         hand: SoftList::new(),
         pushers,
     };
@@ -105,7 +107,13 @@ fn take_back<R: Drop>(queue: &PushQueue, pass: &mut EndPass, ins: Vec<ListIn<R>>
 }
 
 // Pops all that is left, where all ends came back and there is room for it.
-fn drain<R: Wait>(rt: &R, queue: &PushQueue, pass: &mut EndPass, into: &mut SoftList)
+fn drain<R: Wait>(
+    rt: &R,
+    queue: &PushQueue,
+    pass: &mut EndPass,
+    pops: &mut Pops,
+    into: &mut SoftList,
+)
     requires pass { IsPassOf queue.now pass.old × ((view pass.old).polls ≡ true) }
     requires returned { (view pass.old).made ≤ length (view pass.old).returned + 1 }
     requires few { length into.old + (length (view pass.old).pushed + returned_pushes (view pass.old).returned) ≤ 64 + length (view pass.old).popped }
@@ -113,7 +121,7 @@ fn drain<R: Wait>(rt: &R, queue: &PushQueue, pass: &mut EndPass, into: &mut Soft
     ensures popped { (fresh : List ℕ) × (into.new ≡ into.old ++ fresh) × PopsMore (view pass.old) fresh (view pass.new) }
     ensures empty { WasEmpty (view pass.new) }
 {
-    fill(rt, queue, pass, into, 64);
+    fill(rt, queue, pass, pops, into, 64);
     queue.learn_as::<PoppedLast>(pass);
 }
 
@@ -144,10 +152,11 @@ pub fn end_list<R: Wait + Drop>(
         rt,
         queue,
         mut pass,
+        mut pops,
         mut hand,
         pushers: _,
     } = list;
     take_back(&queue, &mut pass, ins);
-    drain(&rt, &queue, &mut pass, &mut hand);
+    drain(&rt, &queue, &mut pass, &mut pops, &mut hand);
     Ok(hand)
 }

@@ -2,7 +2,7 @@
 
 ghost use Rattle.std.specs.Prelude.{◌≡◌, true, [], ◌∷◌, ◌++◌};
 ghost use Rattle.std.specs.Arc.{arc_value};
-ghost use Rattle.crossbeam_queue.specs.Passes.{view, IsPassOf};
+ghost use Rattle.crossbeam_queue.specs.Passes.{view, IsPassOf, ruled_capacity};
 
 use crate::list_rule::{EndPass, PushQueue, PushedLast};
 use std::sync::{Arc, Wait};
@@ -18,6 +18,7 @@ pub struct ListIn<R> {
     pub(crate) queue: Arc<PushQueue>,
     pub(crate) pass: EndPass,
     ghost fits: { IsPassOf (arc_value queue) pass },
+    ghost places: { ruled_capacity (arc_value queue) ≡ 64 },
     ghost live: { (view pass).live ≡ true },
 }
 

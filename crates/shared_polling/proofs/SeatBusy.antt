@@ -1,9 +1,9 @@
 -- Busy polling of a shared instance through its caller's seat, told by the operations of the caller.
-use Rattle.std.proofs.Common.{◌≡◌, ◌≢◌, ◌∙◌, ℕ, ◌+◌, Bool, true, false, List, [], ◌∷◌, ◌++◌, append_assoc, append-nil, Some, MatchBool, ap, arith, flat_map, length, length-append, map, refl, sym, subst}
+use Rattle.std.proofs.Common.{◌≡◌, ◌≢◌, ◌∙◌, ℕ, ◌+◌, ◌≤◌, Bool, true, false, List, [], ◌∷◌, ◌++◌, append_assoc, append-nil, MatchBool, ap, arith, flat_map, length, length-append, map, refl, sym, subst}
 use Rattle.std.specs.Prelude.{filter, if◌then◌else◌, nat_lt, sum_by}
 use Rattle.std.specs.List.{AllByRecursion}
 use Rattle.std.proofs.lemmas.List.Elements.{filter-append}
-use Rattle.std.proofs.lemmas.List.Sums.{sum_by-cons}
+use Rattle.std.proofs.lemmas.List.Sums.{sum-map, sum_by-append, sum_by-cons}
 use Rattle.rx_ring.specs.declared.packet.Packet.{Packet}
 use Rattle.rx_ring.specs.ReceiveRing.{bytes_of}
 use Rattle.napi_model.specs.declared.state.Kind.{Kind}
@@ -13,21 +13,20 @@ use Rattle.napi_model.specs.declared.event.Done.TheVariants as done
 use Rattle.napi_model.specs.declared.event.Operation.{Operation}
 use Rattle.napi_model.specs.declared.event.Operation.TheVariants.{Look, Hand, Complete, BusyTake, BusyStop}
 use Rattle.napi_word.specs.declared.table.Pass.{Pass}
-use Rattle.napi_calls.specs.Seats.{ring_of}
 use Rattle.napi_calls.specs.Made.{Lost, Made, looks}
 use Rattle.poll_engine.specs.BusyPolling as busy
 use Rattle.poll_engine.specs.BusyPolling.{Given, busy_report, is_below, no_report}
 use Rattle.poll_engine.specs.Polling.{is_absent}
 use Rattle.poll_engine.specs.Polls.{Chain}
-use Rattle.shared_polling.specs.Seat.{SeatBusyTakes, SeatCompletes, SeatGives, SeatHolds, SeatMade, SeatRequeues, SeatStops, pass_of}
+use Rattle.shared_polling.specs.Seat.{SeatBusyTakes, SeatCompletes, SeatGives, SeatHolds, SeatMade, SeatRequeues, SeatStops, packets_by}
 use Rattle.shared_polling.specs.SharedBusy.{BusyPollsBy, BusyTakesBy, LeavesBy, PollsBusilyBy, StopsBy, held_by, held_in, is_held}
-use Rattle.shared_polling.specs.SharedPolling.{CompletesBy, EndsBy, GivesOf, HandsTo}
+use Rattle.shared_polling.specs.SharedPolling.{CompletesBy, EndsBy, HandsTo}
 use Rattle.poll_engine.specs.declared.bench.BusyReport.{BusyReport}
 use Rattle.poll_engine.specs.declared.bench.Next.{Next}
 use Rattle.poll_engine.specs.declared.bench.Next.TheVariants.{Absent, Gone, Again, Repoll}
 use Rattle.shared_polling.specs.declared.seat.Seat.{Seat}
 use Rattle.shared_polling.proofs.Joined.{end_made, filled}
-use Rattle.shared_polling.proofs.SeatPolling.{gives_same, same_pass, seat_joined}
+use Rattle.shared_polling.proofs.SeatPolling.{same_pass, seat_behind}
 
 -- ---- the completions that were held
 
@@ -69,28 +68,27 @@ held-leaves below (Again k) os l = held-ends (Again k) os l.1
 abbrev lists : {P : Type 0} → (P → List Packet) → List (Given P) → List (List Packet)
 lists {P} items rounds = map (λ (poll : Given P). items poll.packets) rounds
 
+-- all of them, joined
+abbrev joined_lists : List (List Packet) → List Packet
+joined_lists rounds = flat_map (λ (round : List Packet). round) rounds
+
+bytes-append : (a b : List Packet) → bytes_of (a ++ b) ≡ bytes_of a + bytes_of b
+bytes-append a b = sum-map (λ (p : Packet). p.bytes) (a ++ b) ∙ sum_by-append (λ (p : Packet). p.bytes) a b
+    ∙ (λ i. sym (sum-map (λ (p : Packet). p.bytes) a) i + sym (sum-map (λ (p : Packet). p.bytes) b) i)
+
 module _ {R : Type 0} where
   -- a poll makes no operation
-  then_given : (s : Seat R) (os : List Operation) (t : Seat R) (weight : ℕ) (packets : List Packet) (work : ℕ) (u : Seat R) → SeatMade s os t → SeatGives t weight packets work u → SeatMade s os u
-  then_given s os t weight packets work u m g = record {
+  then_given : (s : Seat R) (os : List Operation) (before : List Packet) (t : Seat R) (weight : ℕ) (packets : List Packet) (work : ℕ) (u : Seat R)
+      → SeatMade s os before t → SeatGives t weight packets work u → SeatMade s os (before ++ packets) u
+  then_given s os before t weight packets work u m g = record {
     from = m.from;
     to = g.pass;
     was = m.was;
     is = g.is;
     thread = g.thread ∙ m.thread;
     made = subst (λ (p : Pass). Made m.from os p) (same_pass t m.to g.pass m.is g.was) m.made;
+    gave = g.gave ∙ ap (λ (l : List Packet). l ++ packets) m.gave ∙ append_assoc (packets_by s.hold) before packets;
   }
-
-  -- the seat is one of the ring of this one
-  abbrev OfRing : Pass → Seat R → Type 0
-  OfRing p s = (q : Pass) × (pass_of s.hold ≡ Some q) × (ring_of q ≡ ring_of p)
-
-  made_of : (p : Pass) (s : Seat R) (os : List Operation) (t : Seat R) → OfRing p s → SeatMade s os t → OfRing p t
-  made_of p s os t o m = (m.to, m.is, m.made.seat.ring ∙ ap ring_of (same_pass s m.from o.0 m.was o.1) ∙ o.2)
-
-  given_of : (p : Pass) (s : Seat R) (weight : ℕ) (packets : List Packet) (work : ℕ) (t : Seat R) → OfRing p s → SeatGives s weight packets work t → OfRing p t × GivesOf weight p packets
-  given_of p s weight packets work t o g =
-      let ring : ring_of g.pass ≡ ring_of p = ap ring_of (same_pass s g.pass o.0 g.was o.1) ∙ o.2 in ((g.pass, g.is, ring), gives_same weight p g.pass packets ring g.gives)
 
   module _ {P : Type 0} (items : P → List Packet) where
     abbrev Gives : Seat R → ℕ → P → ℕ → Seat R → Type 0
@@ -102,45 +100,41 @@ module _ {R : Type 0} where
     abbrev Rounds : ℕ → Seat R → List (Given P) → Seat R → Type 0
     Rounds weight = Chain (busy.Round SeatBusyTakes Gives SeatHolds SeatStops SeatRequeues SeatCompletes weight)
 
-    held_made : (below : Bool) (s : Seat R) (os : List Operation) (t u : Seat R) → SeatMade s os t → HoldsIf below t u → SeatMade s (os ++ (if below then Complete done.Held ∷ [] else [])) u
-    held_made true s os t u m h = seat_joined s t u os (Complete done.Held ∷ []) (λ none. cc none) m h
-    held_made false s os t u m h = rw (append-nil os) (rw h m)
+    held_made : (below : Bool) (s : Seat R) (os : List Operation) (packets : List Packet) (t u : Seat R) → SeatMade s os packets t → HoldsIf below t u
+        → SeatMade s (os ++ (if below then Complete done.Held ∷ [] else [])) packets u
+    held_made true s os packets t u m h = seat_behind s t u os (Complete done.Held ∷ []) packets (λ none. cc none) m h
+    held_made false s os packets t u m h = rw (append-nil os) (rw h m)
 
-    -- the rounds, behind other operations
-    rounds_made : (weight : ℕ) (s : Seat R) (os : List Operation) (t : Seat R) (rounds : List (Given P)) (u : Seat R) → SeatMade s os t → Rounds weight t rounds u
-        → SeatMade s (os ++ flat_map (held_by weight) (lists items rounds)) u
-    rounds_made weight s os t [] u m c = rw (append-nil os) (rw c m)
-    rounds_made weight s os t (poll ∷ rounds) u m c =
+    -- the rounds, behind other operations and packets
+    rounds_made : (weight : ℕ) (s : Seat R) (os : List Operation) (before : List Packet) (t : Seat R) (rounds : List (Given P)) (u : Seat R) → SeatMade s os before t → Rounds weight t rounds u
+        → SeatMade s (os ++ flat_map (held_by weight) (lists items rounds)) (before ++ joined_lists (lists items rounds)) u
+    rounds_made weight s os before t [] u m c = rw (append-nil os, append-nil before) (rw c m)
+    rounds_made weight s os before t (poll ∷ rounds) u m c =
         let r = c.1 in
-        let given = then_given s os t weight (items poll.packets) poll.work r.0 m r.1 in
-        let held = held_made (is_below weight poll) s os r.0 c.0 given r.2 in
-        let same = subst (λ (n : ℕ). SeatMade s (os ++ (if nat_lt n weight then Complete done.Held ∷ [] else [])) c.0) r.1.counts held in
-        rw (← append_assoc os (held_by weight (items poll.packets)) (flat_map (held_by weight) (lists items rounds))) (rounds_made weight s (os ++ held_by weight (items poll.packets)) c.0 rounds u same c.2)
+        let batch = items poll.packets in
+        let given = then_given s os before t weight batch poll.work r.0 m r.1 in
+        let held = held_made (is_below weight poll) s os (before ++ batch) r.0 c.0 given r.2 in
+        let same = subst (λ (n : ℕ). SeatMade s (os ++ (if nat_lt n weight then Complete done.Held ∷ [] else [])) (before ++ batch) c.0) r.1.counts held in
+        rw (← append_assoc os (held_by weight batch) (flat_map (held_by weight) (lists items rounds)), ← append_assoc before batch (joined_lists (lists items rounds)))
+        (rounds_made weight s (os ++ held_by weight batch) (before ++ batch) c.0 rounds u same c.2)
 
-    held_of : (p : Pass) (below : Bool) (s t : Seat R) → OfRing p s → HoldsIf below s t → OfRing p t
-    held_of p true s t o h = made_of p s (Complete done.Held ∷ []) t o h
-    held_of p false s t o h = rw h o
-
-    -- their packets
-    rounds_of : (weight : ℕ) (p : Pass) (s : Seat R) (rounds : List (Given P)) (t : Seat R) → OfRing p s → Rounds weight s rounds t → OfRing p t × AllByRecursion (GivesOf weight p) (lists items rounds)
-    rounds_of weight p s [] t o c = (rw c o, tt)
-    rounds_of weight p s (poll ∷ rounds) t o c =
-        let g = given_of p s weight (items poll.packets) poll.work c.1.0 o c.1.1 in
-        let more = rounds_of weight p c.0 rounds t (held_of p (is_below weight poll) c.1.0 c.0 g.0 c.1.2) c.2 in
-        (more.0, (g.1, more.1))
+    -- none gave more than its weight
+    rounds_fit : (weight : ℕ) (s : Seat R) (rounds : List (Given P)) (t : Seat R) → Rounds weight s rounds t → AllByRecursion (λ (round : List Packet). length round ≤ weight) (lists items rounds)
+    rounds_fit weight s [] t c = tt
+    rounds_fit weight s (poll ∷ rounds) t c = (c.1.1.gives.poll.0, rounds_fit weight c.0 rounds t c.2)
 
     -- what is told of them
     rounds_told : (weight : ℕ) (s : Seat R) (rounds : List (Given P)) (t : Seat R) → Rounds weight s rounds t
-        → (length (lists items rounds) ≡ length rounds) × (sum_by length (lists items rounds) ≡ sum_by (λ poll. poll.work) rounds)
-        × (sum_by bytes_of (lists items rounds) ≡ sum_by (λ poll. bytes_of (items poll.packets)) rounds)
+        → (length (lists items rounds) ≡ length rounds) × (length (joined_lists (lists items rounds)) ≡ sum_by (λ poll. poll.work) rounds)
+        × (bytes_of (joined_lists (lists items rounds)) ≡ sum_by (λ poll. bytes_of (items poll.packets)) rounds)
         × (held_in (flat_map (held_by weight) (lists items rounds)) ≡ length (filter (is_below weight) rounds))
     rounds_told weight s [] t c = (refl, refl, refl, refl)
     rounds_told weight s (poll ∷ rounds) t c =
         let more = rounds_told weight c.0 rounds t c.2 in
         let work : length (items poll.packets) ≡ poll.work = sym c.1.1.counts in (
           omega (arith, more.0),
-          sum_by-cons length (items poll.packets) (lists items rounds) ∙ omega (arith, more.1, work) ∙ sym (sum_by-cons (λ (g : Given P). g.work) poll rounds),
-          sum_by-cons bytes_of (items poll.packets) (lists items rounds) ∙ omega (arith, more.2) ∙ sym (sum_by-cons (λ (g : Given P). bytes_of (items g.packets)) poll rounds),
+          length-append (items poll.packets) (joined_lists (lists items rounds)) ∙ omega (arith, more.1, work) ∙ sym (sum_by-cons (λ (g : Given P). g.work) poll rounds),
+          bytes-append (items poll.packets) (joined_lists (lists items rounds)) ∙ omega (arith, more.2) ∙ sym (sum_by-cons (λ (g : Given P). bytes_of (items g.packets)) poll rounds),
           held-append (held_by weight (items poll.packets)) (flat_map (held_by weight) (lists items rounds)) ∙ one poll work more.3,
         )
       where
@@ -153,7 +147,7 @@ module _ {R : Type 0} where
             by false = omega (arith, more)
 
     leaves_made : (below : Bool) (s : Seat R) (next : Next) (t : Seat R) → s.thread ≡ true → busy.Leaves SeatBusyTakes Gives SeatHolds SeatStops SeatRequeues SeatCompletes below s next t
-        → (os : List Operation) × (os ≢ []) × SeatMade s os t × LeavesBy below next os
+        → (os : List Operation) × (os ≢ []) × SeatMade s os [] t × LeavesBy below next os
     leaves_made below s Absent t thread l = absurd l
     leaves_made below s Repoll t thread l = (Hand kind.List ∷ [], (λ none. cc none), l.1, (l.0, refl))
     leaves_made below s Gone t thread l =
@@ -162,26 +156,26 @@ module _ {R : Type 0} where
         let e = subst (λ (b : Bool). EndsBy b (Again k) l.1.0) thread l.1.2 in (l.1.0, end_made true (Again k) l.1.0 e, l.1.1, (l.0, e))
 
     -- what is told of the rounds, the stop and the last poll
-    busy_made : (weight count : ℕ) (s : Seat R) (report : BusyReport) (rounds : List (Given P)) (last : Given P) (t : Seat R) (p : Pass) → s.thread ≡ true → OfRing p s
+    busy_made : (weight count : ℕ) (s : Seat R) (report : BusyReport) (rounds : List (Given P)) (last : Given P) (t : Seat R) → s.thread ≡ true
         → busy.BusyPolls SeatBusyTakes Gives SeatHolds SeatStops SeatRequeues SeatCompletes weight count s rounds last report.next t
         → report ≡ busy_report (λ x. bytes_of (items x)) weight rounds last report.next
-        → (os : List Operation) × SeatMade s os t × BusyPollsBy weight count (lists items rounds) (items last.packets) report.next os
-        × AllByRecursion (GivesOf weight p) (lists items rounds) × GivesOf weight p (items last.packets)
+        → (os : List Operation) × SeatMade s os (joined_lists (lists items rounds) ++ items last.packets) t
+        × BusyPollsBy weight count (lists items rounds) (items last.packets) report.next os
+        × AllByRecursion (λ (round : List Packet). length round ≤ weight) (lists items rounds) × (length (items last.packets) ≤ weight)
         × (report.polls ≡ length (lists items rounds) + 1)
-        × (report.work ≡ sum_by length (lists items rounds) + length (items last.packets))
-        × (report.bytes ≡ sum_by bytes_of (lists items rounds) + bytes_of (items last.packets))
+        × (report.work ≡ length (joined_lists (lists items rounds) ++ items last.packets))
+        × (report.bytes ≡ bytes_of (joined_lists (lists items rounds) ++ items last.packets))
         × (report.held ≡ held_in os)
-    busy_made weight count s report rounds last t p thread o b e =
+    busy_made weight count s report rounds last t thread b e =
         let taken = b.takes.1 in
-        let each = rounds_made weight s b.takes.0 b.taken rounds b.polled taken b.each in
+        let all = joined_lists (lists items rounds) in
+        let each = rounds_made weight s b.takes.0 [] b.taken rounds b.polled taken b.each in
         let told = rounds_told weight b.taken rounds b.polled b.each in
         let stop = b.stops_is in
         let some : stop.0 ≢ [] = (λ none. filled (flat_map looks stop.2.0) (Look stop.2.1) (BusyStop ∷ []) (sym stop.2.2 ∙ none)) in
-        let stopped = seat_joined s b.polled b.stopped _ stop.0 some each stop.1 in
-        let given = then_given s _ b.stopped weight (items last.packets) last.work b.given stopped b.gives_last in
+        let stopped = seat_behind s b.polled b.stopped _ stop.0 all some each stop.1 in
+        let given = then_given s _ all b.stopped weight (items last.packets) last.work b.given stopped b.gives_last in
         let left = leaves_made (is_below weight last) b.given report.next t (given.thread ∙ thread) b.leaves in
-        let ring = rounds_of weight p b.taken rounds b.polled (made_of p s b.takes.0 b.taken o taken) b.each in
-        let gives = given_of p b.stopped weight (items last.packets) last.work b.given (made_of p b.polled stop.0 b.stopped ring.0 stop.1) b.gives_last in
         let size : last.work ≡ length (items last.packets) = b.gives_last.counts in
         let held = ap (λ (r : BusyReport). r.held) e in
         let split = held-append ((b.takes.0 ++ flat_map (held_by weight) (lists items rounds)) ++ stop.0) left.0 in
@@ -191,7 +185,7 @@ module _ {R : Type 0} where
         let none' = held-stops stop.0 stop.2 in
         let none'' = held-leaves (is_below weight last) report.next left.0 left.3 in (
           ((b.takes.0 ++ flat_map (held_by weight) (lists items rounds)) ++ stop.0) ++ left.0,
-          seat_joined s b.given t _ left.0 left.1 given left.2,
+          seat_behind s b.given t _ left.0 (all ++ items last.packets) left.1 given left.2,
           record {
             taken = b.takes.0;
             stopped = stop.0;
@@ -202,27 +196,27 @@ module _ {R : Type 0} where
             count_is = told.0 ∙ b.count_is;
             all = refl;
           },
-          ring.1,
-          gives.1,
+          rounds_fit weight b.taken rounds b.polled b.each,
+          b.gives_last.gives.poll.0,
           ap (λ (r : BusyReport). r.polls) e ∙ omega (arith, told.0),
-          ap (λ (r : BusyReport). r.work) e ∙ omega (arith, told.1, size),
-          ap (λ (r : BusyReport). r.bytes) e ∙ omega (arith, told.2),
+          ap (λ (r : BusyReport). r.work) e ∙ omega (arith, told.1, size) ∙ sym (length-append all (items last.packets)),
+          ap (λ (r : BusyReport). r.bytes) e ∙ omega (arith, told.2) ∙ sym (bytes-append all (items last.packets)),
           held ∙ omega (arith, told.3, split, split', split'', none, none', none''),
         )
 
-    pub busily_made : (weight count : ℕ) (s : Seat R) (packets : P) (report : BusyReport) (packets' : P) (t : Seat R) (p : Pass) → s.thread ≡ true → pass_of s.hold ≡ Some p → items packets ≡ []
+    pub busily_made : (weight count : ℕ) (s : Seat R) (packets : P) (report : BusyReport) (packets' : P) (t : Seat R) → s.thread ≡ true → items packets ≡ []
         → busy.PollsBusily SeatBusyTakes Gives SeatHolds SeatStops SeatRequeues SeatCompletes (λ x. bytes_of (items x)) weight count s packets report packets' t
-        → (os : List Operation) × SeatMade s os t × PollsBusilyBy weight count p report (items packets') os
-    busily_made weight count s packets report packets' t p thread was empty b = by (is_absent report.next) refl b
+        → (os : List Operation) × (all : List Packet) × SeatMade s os all t × PollsBusilyBy weight count report all (items packets') os
+    busily_made weight count s packets report packets' t thread empty b = by (is_absent report.next) refl b
       where
         by : (absent : Bool) → is_absent report.next ≡ absent
             → MatchBool absent
             (SeatBusyTakes s false t × (packets' ≡ packets) × (report ≡ no_report))
             ((rounds : List (Given P)) × (last : Given P) × busy.BusyPolls SeatBusyTakes Gives SeatHolds SeatStops SeatRequeues SeatCompletes weight count s rounds last report.next t
             × (packets' ≡ last.packets) × (report ≡ busy_report (λ x. bytes_of (items x)) weight rounds last report.next))
-            → (os : List Operation) × SeatMade s os t × PollsBusilyBy weight count p report (items packets') os
-        by true e b = (b.0.0, b.0.1, rw e (b.0.2, ap items b.1 ∙ empty, b.2))
+            → (os : List Operation) × (all : List Packet) × SeatMade s os all t × PollsBusilyBy weight count report all (items packets') os
+        by true e b = (b.0.0, [], b.0.1, rw e (b.0.2, refl, ap items b.1 ∙ empty, b.2))
         by false e b =
-            let m = busy_made weight count s report b.0 b.1 t p thread (p, was, refl) b.2 b.4 in
+            let m = busy_made weight count s report b.0 b.1 t thread b.2 b.4 in
             let same : items packets' ≡ items b.1.packets = ap items b.3 in
-            (m.0, m.1, rw (e, same) (lists items b.0, m.2, m.3, m.4, m.5, m.6, m.7, m.8))
+            (m.0, joined_lists (lists items b.0) ++ items b.1.packets, m.1, rw (e, same) (lists items b.0, m.2, m.3, m.4, refl, m.5, m.6, m.7, m.8))

@@ -1,5 +1,5 @@
 -- Busy polling of a shared instance, told by the operations of the caller that polls it.
-use Rattle.std.specs.Prelude.{◌≡◌, ◌+◌, ℕ, nat_lt, Bool, true, false, List, [], ◌∷◌, ◌++◌, length, filter, flat_map, sum_by, if◌then◌else◌, MatchBool}
+use Rattle.std.specs.Prelude.{◌≡◌, ◌+◌, ◌≤◌, ℕ, nat_lt, Bool, true, false, List, [], ◌∷◌, ◌++◌, length, filter, flat_map, if◌then◌else◌, MatchBool}
 use Rattle.std.specs.List.{AllByRecursion}
 use Rattle.rx_ring.specs.declared.packet.Packet.{Packet}
 use Rattle.rx_ring.specs.ReceiveRing.{bytes_of}
@@ -9,11 +9,10 @@ use Rattle.napi_model.specs.declared.state.Seen.{Seen}
 use Rattle.napi_model.specs.declared.event.Done.TheVariants.{Released, Again, Held}
 use Rattle.napi_model.specs.declared.event.Operation.{Operation}
 use Rattle.napi_model.specs.declared.event.Operation.TheVariants.{Look, Hand, Complete, BusyTake, BusyStop}
-use Rattle.napi_word.specs.declared.table.Pass.{Pass}
 use Rattle.napi_calls.specs.Made.{Lost, looks}
 use Rattle.poll_engine.specs.BusyPolling.{no_report}
 use Rattle.poll_engine.specs.Polling.{is_absent}
-use Rattle.shared_polling.specs.SharedPolling.{EndsBy, GivesOf}
+use Rattle.shared_polling.specs.SharedPolling.{EndsBy}
 use Rattle.poll_engine.specs.declared.bench.BusyReport.{BusyReport}
 use Rattle.poll_engine.specs.declared.bench.Next.{Next}
 use Rattle.poll_engine.specs.declared.bench.Next.TheVariants as next
@@ -59,15 +58,16 @@ is_held _ = false
 abbrev pub held_in : List Operation → ℕ
 held_in os = length (filter is_held os)
 
--- Busy polling of the instance of this seat, and what is told of it: packets of the ring, a list for each poll, of which the
--- batch has the last one. An instance that isn't idle is refused, and nothing is polled.
-abbrev pub PollsBusilyBy : ℕ → ℕ → Pass → BusyReport → List Packet → List Operation → Type 0
-PollsBusilyBy weight count p report batch os =
+-- Busy polling, and what is told of it: the packets of all polls, joined, of which the batch has those of the last one. An
+-- instance that isn't idle is refused, and nothing is polled.
+abbrev pub PollsBusilyBy : ℕ → ℕ → BusyReport → List Packet → List Packet → List Operation → Type 0
+PollsBusilyBy weight count report packets batch os =
     MatchBool (is_absent report.next)
-    (BusyTakesBy false os × (batch ≡ []) × (report ≡ no_report))
+    (BusyTakesBy false os × (packets ≡ []) × (batch ≡ []) × (report ≡ no_report))
     ((rounds : List (List Packet)) × BusyPollsBy weight count rounds batch report.next os
-    × AllByRecursion (GivesOf weight p) rounds × GivesOf weight p batch
+    × AllByRecursion (λ round. length round ≤ weight) rounds × (length batch ≤ weight)
+    × (packets ≡ flat_map (λ round. round) rounds ++ batch)
     × (report.polls ≡ length rounds + 1)
-    × (report.work ≡ sum_by length rounds + length batch)
-    × (report.bytes ≡ sum_by bytes_of rounds + bytes_of batch)
+    × (report.work ≡ length packets)
+    × (report.bytes ≡ bytes_of packets)
     × (report.held ≡ held_in os))

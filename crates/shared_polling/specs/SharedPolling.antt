@@ -1,8 +1,6 @@
 -- The polling of a shared instance, told by the operations of the caller that polls it.
-use Rattle.std.specs.Prelude.{◌≡◌, ◌==◌, ◌-◌, ℕ, Bool, true, false, List, [], ◌∷◌, ◌++◌, length, flat_map, if◌then◌else◌, Some, MatchBool}
-use Rattle.rx_ring.specs.declared.ends.RxCtx.{RxCtx}
+use Rattle.std.specs.Prelude.{◌≡◌, ◌==◌, ◌-◌, ℕ, Bool, true, false, List, [], ◌∷◌, ◌++◌, length, flat_map, if◌then◌else◌, MatchBool}
 use Rattle.rx_ring.specs.declared.packet.Packet.{Packet}
-use Rattle.rx_ring.specs.Ends.{ring_name, GivesNext}
 use Rattle.napi_model.specs.declared.state.Flags.{Flags}
 use Rattle.napi_model.specs.declared.state.Kind.{Kind}
 use Rattle.napi_model.specs.declared.state.Kind.TheVariants as kind
@@ -11,8 +9,6 @@ use Rattle.napi_model.specs.declared.event.Done.{Done}
 use Rattle.napi_model.specs.declared.event.Done.TheVariants as done
 use Rattle.napi_model.specs.declared.event.Operation.{Operation}
 use Rattle.napi_model.specs.declared.event.Operation.TheVariants.{Look, Hand, Take, Complete}
-use Rattle.napi_word.specs.declared.table.Pass.{Pass}
-use Rattle.napi_calls.specs.Seats.{ring_of}
 use Rattle.napi_calls.specs.Made.{Lost, looks}
 use Rattle.poll_engine.specs.Polls.{is_repoll}
 use Rattle.poll_engine.specs.Polling.{goes_on}
@@ -83,17 +79,6 @@ PollsOnceBy thread full Gone os = FoundBy thread full Gone os
 PollsOnceBy thread full (Again k) os = FoundBy thread full (Again k) os
 PollsOnceBy thread full Repoll os = FoundBy thread full Repoll os
 
--- a poll of the ring of this seat's instance gave these packets
-abbrev pub GivesOf : ℕ → Pass → List Packet → Type 0
-GivesOf weight p packets = (before : RxCtx) × (after : RxCtx) × (ring_of p ≡ Some (ring_name before)) × GivesNext weight before after packets
-
--- the packets of a poll: none where nothing was polled
-abbrev pub GivesBatch : ℕ → Pass → Next → List Packet → Type 0
-GivesBatch weight p Absent packets = packets ≡ []
-GivesBatch weight p Gone packets = GivesOf weight p packets
-GivesBatch weight p (Again k) packets = GivesOf weight p packets
-GivesBatch weight p Repoll packets = GivesOf weight p packets
-
 -- ---- the polling by the instance's thread (`napi_threaded_poll`)
 
 -- it takes the instance that was handed to it, unless it has it still
@@ -113,9 +98,10 @@ ThreadPollsBy weight most held (once ∷ more) os =
     ((more ≡ []) × (rest ≡ let_go once.next))
     × (os ≡ retaken held ++ polled ++ rest)
 
--- each of these polls gave packets of the ring, as many as its work, and those of the last one are in the batch; before them
--- the batch had the first ones
-abbrev pub GivesEach : ℕ → Pass → List Packet → List Once → List Packet → Type 0
-GivesEach weight p before [] packets = packets ≡ before
-GivesEach weight p before (once ∷ more) packets =
-    (given : List Packet) × (once.work ≡ length given) × GivesOf weight p given × GivesEach weight p given more packets
+-- Each of these polls gave as many packets as its work, which are these, joined. Those of the last one are in the batch; before
+-- them it had the first ones.
+abbrev pub GivesEach : List Packet → List Once → List Packet → List Packet → Type 0
+GivesEach before [] packets batch = (packets ≡ []) × (batch ≡ before)
+GivesEach before (once ∷ more) packets batch =
+    (given : List Packet) × (rest : List Packet)
+    × (once.work ≡ length given) × (packets ≡ given ++ rest) × GivesEach given more rest batch

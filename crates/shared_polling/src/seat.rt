@@ -3,8 +3,10 @@
 ghost use Rattle.std.specs.Prelude.{◌≡◌, ◌<◌, ◌^◌, List};
 ghost use Rattle.rx_ring.specs.ReceiveRing.{bytes_of};
 ghost use Rattle.napi_model.specs.declared.event.Operation.{Operation};
+ghost use Rattle.napi_calls.specs.Dealt.{Delivers};
 ghost use Rattle.napi_calls.specs.Instance.{IsSeatOf};
 ghost use Rattle.napi_calls.specs.Made.{Made};
+ghost use Rattle.napi_calls.specs.Packets.{Quiet, polled};
 ghost use Rattle.poll_engine.specs.Polling.{next_of};
 ghost use Rattle.shared_polling.specs.SharedPolling.{EndsBy, HandsTo, kind_for};
 
@@ -46,7 +48,8 @@ fn kind_for(flags: Flags) -> Kind
 /// if THREADED is seen, and else to the list. Answers to whom; handed to the list, its number is still to be pushed.
 pub fn hand_over(napi: &Napi, mut granted: Granted, thread: bool) -> (Caller, Kind)
     requires { IsSeatOf napi.now granted.pass }
-    ensures { (os : List Operation) × Made granted.pass os result.0.pass × HandsTo thread result.1 os }
+    ensures made { (os : List Operation) × Made granted.pass os result.0.pass × HandsTo thread result.1 os }
+    ensures packets { Quiet granted.pass result.0.pass }
 {
     if !thread {
         return (granted.hand(napi, Kind::List), Kind::List);
@@ -59,7 +62,8 @@ pub fn hand_over(napi: &Napi, mut granted: Granted, thread: bool) -> (Caller, Ki
 // Completes the instance, and hands it over where it is granted again; to whom.
 fn complete<R: Wait>(rt: &R, napi: &Napi, polling: Polling, thread: bool) -> (Caller, Option<Kind>)
     requires { IsSeatOf napi.now polling.pass }
-    ensures { (os : List Operation) × Made polling.pass os result.0.pass × EndsBy thread (next_of result.1) os }
+    ensures made { (os : List Operation) × Made polling.pass os result.0.pass × EndsBy thread (next_of result.1) os }
+    ensures packets { Delivers polling.pass (polled polling.pass polling.ctx) result.0.pass }
 {
     match polling.complete(rt, napi) {
         Completed::Released(caller) => (caller, None),

@@ -4,11 +4,14 @@ ghost use Rattle.std.specs.Prelude.{◌≡◌, ◌==◌, ◌≤◌, [], false, L
 ghost use Rattle.napi_model.specs.declared.event.Operation.{Operation};
 ghost use Rattle.poll_engine.specs.Thread.{IsThreadPolling};
 ghost use Rattle.poll_engine.specs.declared.bench.Once.{Once};
+ghost use Rattle.poll_engine.specs.declared.bench.Next.TheVariants.{Absent};
+ghost use Rattle.rx_ring.specs.declared.packet.Packet.{Packet};
+ghost use Rattle.napi_calls.specs.Dealt.{Delivers};
 ghost use Rattle.napi_calls.specs.Instance.{IsSeatOf};
 ghost use Rattle.napi_calls.specs.Made.{Made};
 ghost use Rattle.napi_calls.specs.Seats.{SameSeat};
 ghost use Rattle.shared_polling.specs.SharedBusy.{PollsBusilyBy};
-ghost use Rattle.shared_polling.specs.SharedPolling.{GivesBatch, GivesEach, PollsOnceBy, ThreadPollsBy};
+ghost use Rattle.shared_polling.specs.SharedPolling.{GivesEach, PollsOnceBy, ThreadPollsBy};
 
 use crate::seat::{Hold, Seat};
 use napi_calls::{Caller, Napi};
@@ -22,7 +25,8 @@ use std::sync::Wait;
 /// `thread` is true the instance has a thread of its own, to which it is handed after `Again` where THREADED is seen; else
 /// every handing is to the list. After [`Next::Again`] of the list and [`Next::Repoll`] its number is still to be pushed.
 ///
-/// The batch then has the packets that the poll gave, and none where the instance wasn't there.
+/// The batch then has the packets that the poll gave, which are all that the caller delivers by it, and none where the instance
+/// wasn't there.
 pub fn poll_instance<R: Wait>(
     rt: &R,
     napi: &Napi,
@@ -35,7 +39,8 @@ pub fn poll_instance<R: Wait>(
     requires weight { (1 ≤ weight) × (weight ≤ 64) }
     ensures seat { SameSeat caller.pass result.0.pass }
     ensures made { (os : List Operation) × Made caller.pass os result.0.pass × PollsOnceBy thread (result.1.work == weight) result.1.next os }
-    ensures batch { GivesBatch weight caller.pass result.1.next batch.new.items }
+    ensures packets { Delivers caller.pass batch.new.items result.0.pass }
+    ensures absent { result.1.next ≡ Absent → batch.new.items ≡ [] }
     ensures work { result.1.work ≡ length batch.new.items }
     ensures bound { result.1.work ≤ weight }
 {
@@ -68,10 +73,11 @@ pub fn poll_instance_by_thread<R: Wait>(
     requires weight { (1 ≤ weight) × (weight ≤ 64) }
     requires most { (1 ≤ most) × (most ≤ 131072) }
     ensures seat { SameSeat caller.pass result.0.pass }
-    ensures polls { (polls : List Once) × (os : List Operation)
+    ensures polls { (polls : List Once) × (os : List Operation) × (packets : List Packet)
         × Made caller.pass os result.0.pass
         × ThreadPollsBy weight most false polls os
-        × GivesEach weight caller.pass [] polls batch.new.items
+        × Delivers caller.pass packets result.0.pass
+        × GivesEach [] polls packets batch.new.items
         × IsThreadPolling weight most polls result.1 }
 {
     batch.clear();
@@ -104,7 +110,10 @@ pub fn busy_instance<R: Wait>(
     requires rounds { (1 ≤ rounds) × (rounds ≤ 65535) }
     requires weight { (1 ≤ weight) × (weight ≤ 64) }
     ensures seat { SameSeat caller.pass result.0.pass }
-    ensures polls { (os : List Operation) × Made caller.pass os result.0.pass × PollsBusilyBy weight rounds caller.pass result.1 batch.new.items os }
+    ensures polls { (os : List Operation) × (packets : List Packet)
+        × Made caller.pass os result.0.pass
+        × Delivers caller.pass packets result.0.pass
+        × PollsBusilyBy weight rounds result.1 packets batch.new.items os }
 {
     batch.clear();
     let mut seat = Seat {

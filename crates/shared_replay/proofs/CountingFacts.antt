@@ -1,5 +1,5 @@
 -- What is polled from a seat that counts is polled from its seat.
-use Rattle.std.proofs.Common.{rules, ◌≡◌, ◌==◌, ℕ, Bool, true, false, List, [], Option, Some, ap, refl, subst}
+use Rattle.std.proofs.Common.{rules, ◌≡◌, ◌==◌, ℕ, Bool, true, false, List, [], Option, Some, ap, subst}
 use Rattle.rx_ring.specs.declared.packet.Packet.{Packet}
 use Rattle.napi_model.specs.declared.state.Kind.{Kind}
 use Rattle.napi_model.specs.declared.event.Operation.{Operation}
@@ -14,7 +14,7 @@ use Rattle.poll_engine.specs.declared.bench.Once.{Once}
 use Rattle.shared_polling.specs.declared.seat.Hold.TheVariants.{Rests}
 use Rattle.shared_polling.specs.declared.seat.Seat.{Seat}
 use Rattle.poll_engine.proofs.PollingParts.{once_of_part, thread_of_part}
-use Rattle.shared_polling.proofs.SeatPolling.{once_gives, once_made, rises, thread_gives, thread_made}
+use Rattle.shared_polling.proofs.SeatPolling.{delivers, once_made, rises, thread_made}
 use Rattle.shared_replay.specs.Polls.{ArePollsOf, IsPollOf}
 use Rattle.shared_replay.specs.SharedDevice.{IsCallerAt}
 use Rattle.shared_replay.specs.declared.counting_seat.CountingSeat.{CountingSeat}
@@ -57,15 +57,17 @@ module _ {R P : Type 0} (items : P → List Packet) where
   poll-is weight s packets once last t from to before after polls held thread rests empty was is =
       let p = once_of_part part Takes Counts Looks Requeues Completes SeatTakes Gives SeatLooks SeatRequeues SeatCompletes
       (λ a b k taken h. h) (λ a b w q work h. h) (λ a b d h. h) (λ a b h. h) (λ a b again h. h) weight s packets once last t polls in
-      let m = once_made items weight s.seat packets once last t.seat p in record {
+      let m = once_made items weight s.seat packets once last t.seat p empty in record {
         from = from;
         to = to;
         was = was;
         is = is;
         operations = m.0;
-        made = rises s.seat t.seat from.pass to.pass m.0 (ap pass_of held) (ap pass_of rests) m.1;
+        made = rises s.seat t.seat from.pass to.pass m.0 (items last) (ap pass_of held) (ap pass_of rests) m.1;
         polls = subst (λ (b : Bool). PollsOnceBy b (once.work == weight) once.next m.0) thread m.2;
-        gives = once_gives items weight s.seat packets once last t.seat from.pass p (ap pass_of held) empty;
+        delivers = delivers s.seat t.seat from to m.0 (items last) held rests m.1;
+        counts = m.3;
+        absent = m.4;
       }
 
   pub polls-are : (weight most : ℕ) (s : CountingSeat R) (packets : P) (polls : List Once) (last : P) (t : CountingSeat R) (from to : Caller) (before after : Option Caller)
@@ -81,8 +83,10 @@ module _ {R P : Type 0} (items : P → List Packet) where
         to = to;
         was = was;
         is = is;
-        operations = m.os;
-        made = rises s.seat t.seat from.pass to.pass m.os (ap pass_of held) (ap pass_of rests) m.made;
-        polled = m.are;
-        gives = rw (← empty) (thread_gives items weight most false s.seat packets polls last t.seat from.pass from.pass p (ap pass_of held) refl);
+        operations = m.1.os;
+        made = rises s.seat t.seat from.pass to.pass m.1.os m.0 (ap pass_of held) (ap pass_of rests) m.1.made;
+        polled = m.1.are;
+        all = m.0;
+        delivers = delivers s.seat t.seat from to m.1.os m.0 held rests m.1.made;
+        gives = rw (← empty) m.2;
       }

@@ -1,2 +1,3 @@
+pub mod ActFacts
 pub mod CountingFacts
 pub mod SharedFacts

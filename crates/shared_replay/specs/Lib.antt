@@ -1,3 +1,5 @@
+pub mod Acts
+pub mod Arrivals
 pub mod Polls
 pub mod Replay
 pub mod SharedBench

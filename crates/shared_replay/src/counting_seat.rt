@@ -1,6 +1,7 @@
 //! A caller's seat at a device's instance, which counts what is polled there.
 
 ghost use Rattle.std.specs.Prelude.{◌≡◌, true};
+ghost use Rattle.shared_replay.specs.Acts.{completed_told};
 
 use devices::DeviceCounts;
 use napi_calls::{Caller, Napi};
@@ -17,7 +18,9 @@ pub(crate) struct CountingSeat<'a, R> {
 }
 
 /// Counts a completion.
-pub(crate) fn count_completion(told: &mut DeviceCounts, again: bool) {
+pub(crate) fn count_completion(told: &mut DeviceCounts, again: bool)
+    ensures { told.new ≡ completed_told again told.old }
+{
     if again {
         told.again = told.again.saturating_add(1);
     } else {

@@ -1,11 +1,23 @@
 //! One device over an instance that threads could share: its receive ring, its instance with all that make calls on it, and
 //! what was counted.
 
-ghost use Rattle.std.specs.Prelude.{◌≡◌, ◌≤◌, ◌+◌, ℕ, List, IfOk, Some, length, slice_get, vec_capacity};
+ghost use Rattle.std.specs.Prelude.{◌≡◌, ◌≤◌, ◌+◌, ℕ, List, [], ◌∷◌, IfOk, Some, length, slice_get, vec_capacity};
 ghost use Rattle.trace_rows.specs.Range.{IsWithin};
+ghost use Rattle.shared_replay.specs.Acts.{AsksBy, ControlsAt, EnablesBy, IsBusyPollOf, MakesAt, MarksBy, Puts, TriesBy, busy_told, but_word, packet_told, requested, state_at};
+ghost use Rattle.shared_replay.specs.Arrivals.{Arrives};
+ghost use Rattle.shared_replay.specs.Acts.{is_pending};
+ghost use Rattle.shared_replay.specs.declared.shared_device.Controlled.TheVariants as controlled;
 ghost use Rattle.shared_replay.specs.Polls.{ArePollsOf, IsPollOf};
 ghost use Rattle.shared_replay.specs.SharedDevice.{HasNoControl, IsAtRest, IsControlAt, IsEndOf, IsInputTo};
+ghost use Rattle.rx_ring.specs.Ends.{put_list};
+ghost use Rattle.rx_ring.specs.declared.packet.Packet.{Packet};
+ghost use Rattle.napi_model.specs.Word.{word_of};
+ghost use Rattle.napi_model.specs.declared.event.Operation.{Operation};
+ghost use Rattle.napi_model.specs.declared.event.Operation.TheVariants.{Look, SetThreaded};
+ghost use Rattle.napi_model.specs.declared.event.Prep.{Prep};
+ghost use Rattle.napi_model.specs.declared.state.Seen.{Seen};
 ghost use Rattle.napi_calls.specs.Instance.{IsSeatOf};
+ghost use Rattle.napi_calls.specs.Made.{Made};
 ghost use Rattle.napi_calls.specs.declared.types.Caller.{Caller};
 ghost use Rattle.poll_engine.specs.Thread.{IsThreadPolling};
 ghost use Rattle.poll_engine.specs.declared.bench.Once.{Once};
@@ -81,7 +93,8 @@ fn pop(napi: &Napi, callers: &mut Vec<Caller>) -> Caller
 // The interrupt asks for a poll; granted, it hands the instance over.
 fn ask<R: Wait>(rt: &R, napi: &Napi, caller: Caller) -> (Caller, Prep, Option<Kind>)
     requires { IsSeatOf napi.now caller.pass }
-    ensures { IsSeatOf napi.now result.0.pass }
+    ensures seat { IsSeatOf napi.now result.0.pass }
+    ensures asks { (os : List Operation) × Made caller.pass os result.0.pass × AsksBy result.1 result.2 os }
 {
     match caller.schedule(rt, napi) {
         Sched::Granted(granted) => {
@@ -96,12 +109,18 @@ fn ask<R: Wait>(rt: &R, napi: &Napi, caller: Caller) -> (Caller, Prep, Option<Ki
 // Puts a packet into the instance's ring, and says whether there was room.
 fn put_into(_napi: &Napi, input: &mut RxIn, packet: Packet) -> bool
     requires { IsInputTo _napi.now input.old }
-    ensures { IsInputTo _napi.now input.new }
+    ensures input { IsInputTo _napi.now input.new }
+    ensures puts { Puts packet (put_list input.old) result (put_list input.new) }
 {
-    input.put(packet).is_ok()
+    match input.put(packet) {
+        Ok(()) => true,
+        Err(_) => false,
+    }
 }
 
-fn count_request(told: &mut DeviceCounts, prep: Prep) {
+fn count_request(told: &mut DeviceCounts, prep: Prep)
+    ensures { told.new ≡ requested prep told.old }
+{
     match prep {
         Prep::Granted => told.granted = told.granted.saturating_add(1),
         Prep::Missed => told.missed = told.missed.saturating_add(1),
@@ -109,7 +128,9 @@ fn count_request(told: &mut DeviceCounts, prep: Prep) {
     }
 }
 
-fn count_busy_polls(told: &mut DeviceCounts, report: &BusyReport) {
+fn count_busy_polls(told: &mut DeviceCounts, report: &BusyReport)
+    ensures { told.new ≡ busy_told report.now told.old }
+{
     told.polls = told.polls.saturating_add(u64::from(report.polls));
     told.polled = told.polled.saturating_add(u64::from(report.work));
     told.bytes = told.bytes.saturating_add(report.bytes);
@@ -161,6 +182,8 @@ impl<R: Wait + Copy + Drop> SharedDevice<R> {
         ensures rest { IsAtRest self.new }
         ensures polls { (self.new.poller ≡ self.old.poller) × (self.new.thread ≡ self.old.thread) }
         ensures input { self.new.input ≡ self.old.input }
+        ensures looks { (x : Seen) × MakesAt self.old.interrupt (Look x ∷ []) self.new.interrupt × (self.new.told ≡ record self.old.told { word = word_of x }) }
+        ensures setting { (self.new.threaded ≡ self.old.threaded) × (self.new.control ≡ self.old.control) }
     {
         let mut caller = take_out(&mut self.interrupt);
         self.told.word = encode(caller.look(&self.napi));
@@ -170,7 +193,11 @@ impl<R: Wait + Copy + Drop> SharedDevice<R> {
     // Puts a packet into the ring, and says whether there was room.
     fn put(&mut self, bytes: u32) -> bool
         requires { IsAtRest self.old }
-        ensures { IsAtRest self.new }
+        ensures rest { IsAtRest self.new }
+        ensures puts { (p : Packet) × (p.bytes ≡ bytes) × Puts p (put_list self.old.input) result (put_list self.new.input) }
+        ensures told { self.new.told ≡ packet_told result self.old.told }
+        ensures callers { self.new.interrupt ≡ self.old.interrupt }
+        ensures setting { (self.new.threaded ≡ self.old.threaded) × (self.new.control ≡ self.old.control) }
     {
         self.told.arrived = self.told.arrived.saturating_add(1);
         let packet = Packet {
@@ -189,7 +216,10 @@ impl<R: Wait + Copy + Drop> SharedDevice<R> {
     // The interrupt asks for a poll; granted, it hands the instance over.
     fn schedule(&mut self) -> Option<Kind>
         requires { IsAtRest self.old }
-        ensures { IsAtRest self.new }
+        ensures rest { IsAtRest self.new }
+        ensures asks { (prep : Prep) × (os : List Operation) × MakesAt self.old.interrupt os self.new.interrupt × AsksBy prep result os × (self.new.told ≡ requested prep self.old.told) }
+        ensures input { self.new.input ≡ self.old.input }
+        ensures setting { (self.new.threaded ≡ self.old.threaded) × (self.new.control ≡ self.old.control) }
     {
         let caller = take_out(&mut self.interrupt);
         let (caller, prep, kind) = ask(&self.rt, &self.napi, caller);
@@ -201,7 +231,9 @@ impl<R: Wait + Copy + Drop> SharedDevice<R> {
     /// A packet is put into the ring, and the interrupt asks for a poll; where there is no room it is dropped.
     pub(crate) fn arrive(&mut self, bytes: u32) -> Option<Kind>
         requires { IsAtRest self.old }
-        ensures { IsAtRest self.new }
+        ensures rest { IsAtRest self.new }
+        ensures packet { Arrives bytes self.old result self.new }
+        ensures setting { (self.new.threaded ≡ self.old.threaded) × (self.new.control ≡ self.old.control) }
     {
         if !self.put(bytes) {
             return None;
@@ -215,18 +247,21 @@ impl<R: Wait + Copy + Drop> SharedDevice<R> {
 // A try to take an instance for a disable that is pending.
 fn try_take(napi: &Napi, control: Control<Marked>) -> Controlled
     requires { IsSeatOf napi.now control.pass }
-    ensures { IsControlAt napi.now (Some result) }
+    ensures seat { IsControlAt napi.now (Some result) }
+    ensures tries { TriesBy (controlled.Marked control) result }
 {
     match control.try_take(napi) {
         TryTake::Taken(control) => Controlled::Off(control),
-        TryTake::Busy(control) | TryTake::Changed(control) => Controlled::Marked(control),
+        TryTake::Busy(control) => Controlled::Marked(control),
+        TryTake::Changed(control) => Controlled::Marked(control),
     }
 }
 
 // Each of these turns from one state of the controller to another one, where it is in the first.
 fn marked(napi: &Napi, control: Controlled) -> Controlled
     requires { IsControlAt napi.now (Some control) }
-    ensures { IsControlAt napi.now (Some result) }
+    ensures seat { IsControlAt napi.now (Some result) }
+    ensures marks { MarksBy control result }
 {
     match control {
         Controlled::On(control) => Controlled::Marked(control.mark(napi)),
@@ -236,7 +271,8 @@ fn marked(napi: &Napi, control: Controlled) -> Controlled
 
 fn tried(napi: &Napi, control: Controlled) -> Controlled
     requires { IsControlAt napi.now (Some control) }
-    ensures { IsControlAt napi.now (Some result) }
+    ensures seat { IsControlAt napi.now (Some result) }
+    ensures tries { TriesBy control result }
 {
     match control {
         Controlled::Marked(control) => try_take(napi, control),
@@ -246,7 +282,8 @@ fn tried(napi: &Napi, control: Controlled) -> Controlled
 
 fn enabled<R: Wait>(rt: &R, napi: &Napi, control: Controlled, threaded: bool) -> Controlled
     requires { IsControlAt napi.now (Some control) }
-    ensures { IsControlAt napi.now (Some result) }
+    ensures seat { IsControlAt napi.now (Some result) }
+    ensures enables { EnablesBy threaded control result }
 {
     match control {
         Controlled::Off(control) => Controlled::On(control.enable(rt, napi, threaded)),
@@ -254,7 +291,9 @@ fn enabled<R: Wait>(rt: &R, napi: &Napi, control: Controlled, threaded: bool) ->
     }
 }
 
-fn state_of(control: &Controlled) -> DeviceState {
+fn state_of(control: &Controlled) -> DeviceState
+    ensures { result ≡ state_at control.now }
+{
     match control {
         Controlled::On(_) => DeviceState::On,
         Controlled::Marked(_) => DeviceState::Pending,
@@ -266,7 +305,10 @@ impl<R: Wait + Copy + Drop> SharedDevice<R> {
     // The controller comes back to its place.
     fn put_control(&mut self, control: Controlled)
         requires { HasNoControl self.old control }
-        ensures { IsAtRest self.new }
+        ensures rest { IsAtRest self.new }
+        ensures control { self.new.control ≡ Some control }
+        ensures told { but_word self.new.told ≡ but_word (record self.old.told { state = state_at control }) }
+        ensures others { (self.new.threaded ≡ self.old.threaded) × (self.new.input ≡ self.old.input) }
     {
         self.told.state = state_of(&control);
         put_back(&mut self.control, control);
@@ -276,7 +318,9 @@ impl<R: Wait + Copy + Drop> SharedDevice<R> {
     /// Marks a device that is on for disabling (`napi_disable`).
     pub(crate) fn disable(&mut self)
         requires { IsAtRest self.old }
-        ensures { IsAtRest self.new }
+        ensures rest { IsAtRest self.new }
+        ensures disables { ControlsAt MarksBy self.old.control self.old.told self.new.control self.new.told }
+        ensures others { (self.new.threaded ≡ self.old.threaded) × (self.new.input ≡ self.old.input) }
     {
         let control = marked(&self.napi, take_out(&mut self.control));
         self.put_control(control);
@@ -285,7 +329,10 @@ impl<R: Wait + Copy + Drop> SharedDevice<R> {
     /// Tries a disable that is pending once. The answer is whether it still is.
     pub(crate) fn settle(&mut self) -> bool
         requires { IsAtRest self.old }
-        ensures { IsAtRest self.new }
+        ensures rest { IsAtRest self.new }
+        ensures tries { ControlsAt TriesBy self.old.control self.old.told self.new.control self.new.told }
+        ensures pending { result ≡ is_pending self.new.told.state }
+        ensures others { (self.new.threaded ≡ self.old.threaded) × (self.new.input ≡ self.old.input) }
     {
         let control = tried(&self.napi, take_out(&mut self.control));
         self.put_control(control);
@@ -293,14 +340,18 @@ impl<R: Wait + Copy + Drop> SharedDevice<R> {
     }
 
     /// Whether a disable is pending.
-    pub(crate) fn is_pending(&self) -> bool {
+    pub(crate) fn is_pending(&self) -> bool
+        ensures { result ≡ is_pending self.now.told.state }
+    {
         self.told.state == DeviceState::Pending
     }
 
     /// Enables a device that is off with its threaded setting (`napi_enable`).
     pub(crate) fn enable(&mut self)
         requires { IsAtRest self.old }
-        ensures { IsAtRest self.new }
+        ensures rest { IsAtRest self.new }
+        ensures enables { ControlsAt (EnablesBy self.old.threaded) self.old.control self.old.told self.new.control self.new.told }
+        ensures others { (self.new.threaded ≡ self.old.threaded) × (self.new.input ≡ self.old.input) }
     {
         let control = enabled(
             &self.rt,
@@ -314,7 +365,10 @@ impl<R: Wait + Copy + Drop> SharedDevice<R> {
     /// Sets the threaded setting of a device, and THREADED at once (`dev_set_threaded`).
     pub(crate) fn set_threaded(&mut self, threaded: bool)
         requires { IsAtRest self.old }
-        ensures { IsAtRest self.new }
+        ensures rest { IsAtRest self.new }
+        ensures kept { self.new.threaded ≡ threaded }
+        ensures written { (x : Seen) × MakesAt self.old.interrupt (SetThreaded threaded ∷ Look x ∷ []) self.new.interrupt }
+        ensures others { (self.new.control ≡ self.old.control) × (self.new.input ≡ self.old.input) × (but_word self.new.told ≡ but_word self.old.told) }
     {
         self.threaded = threaded;
         let mut caller = take_out(&mut self.interrupt);
@@ -370,6 +424,9 @@ impl<R: Wait + Copy + Drop> SharedDevice<R> {
         requires rounds { IsWithin 1 65535 rounds }
         ensures rest { IsAtRest self.new }
         ensures input { self.new.input ≡ self.old.input }
+        ensures polls { IsBusyPollOf weight rounds self.old.poller result batch.new.items self.new.poller }
+        ensures told { but_word self.new.told ≡ but_word (busy_told result self.old.told) }
+        ensures setting { (self.new.threaded ≡ self.old.threaded) × (self.new.control ≡ self.old.control) }
     {
         let caller = take_out(&mut self.poller);
         let (caller, report) = busy_instance(&self.rt, &self.napi, caller, rounds, weight, batch);
@@ -381,13 +438,11 @@ impl<R: Wait + Copy + Drop> SharedDevice<R> {
 
     /// What the report tells of the device, with its transmit side.
     pub(crate) fn counts(&self, tx: Option<TxCounts>) -> DeviceCounts
-        ensures { result.tx ≡ tx }
+        ensures { result ≡ record self.now.told { tx = tx } }
     {
         DeviceCounts { tx, ..self.told }
     }
 }
-
-ghost use Rattle.shared_replay.specs.declared.shared_device.Controlled.TheVariants as controlled;
 
 impl<R: Wait + Copy + Drop> SharedDevice<R> {
     /// Ends the device: polls until nobody has its instance, which is disabled then, and closed. What was polled of what was

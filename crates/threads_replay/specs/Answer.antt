@@ -7,6 +7,9 @@ use Rattle.trace_rows.specs.declared.row.Row.{Row}
 use Rattle.report_text.specs.Outside.{IsOutside as IsSerialOutside}
 use Rattle.report_text.specs.declared.fault.ReplayFault.{ReplayFault}
 use Rattle.report_text.specs.declared.fault.ReplayFault.TheVariants.{GateShut, RingTooSmall, SpawnFailed, Trace}
+use Rattle.trace_rows.specs.declared.fault.TraceFault.TheVariants.{OutOfMemory}
+use Rattle.poll_workers.specs.declared.fault.WorkFault.{WorkFault}
+use Rattle.poll_workers.specs.declared.fault.WorkFault.TheVariants as work
 use Rattle.threads_replay.specs.Script.{opening_of}
 use Rattle.threads_replay.specs.ThreadsReport.{arrived, opened, threads_report}
 use Rattle.threads_replay.specs.declared.polled.Polled.{Polled}
@@ -40,6 +43,13 @@ abbrev pub IsOutside : ReplayFault → Type 0
 IsOutside GateShut = Unit {0}
 IsOutside SpawnFailed = Unit {0}
 IsOutside fault = IsSerialOutside fault
+
+-- the fault of a run as the replay tells it; the numbers of devices are all different
+abbrev pub IsToldAs : WorkFault → ReplayFault → Type 0
+IsToldAs work.OutOfMemory told = told ≡ Trace OutOfMemory
+IsToldAs work.GateShut told = told ≡ GateShut
+IsToldAs work.SpawnFailed told = told ≡ SpawnFailed
+IsToldAs work.SameNumber told = ⊥
 
 -- what was polled of a device, and what is left, are the packets that arrived there
 pub record IsPolled (rows : List Row) (device : ℕ) (polled : Polled) : Type 0 where

@@ -1,13 +1,15 @@
 //! The stations of a trace, and their run.
 
-ghost use Rattle.std.specs.Prelude.{◌≡◌, ◌≤◌, ◌⊎◌, ◌+◌, ◌++◌, ◌∷◌, ℕ, [], List, None, Some, filter, IfErr, IfOk, IsSome, OnOk, length, vec_items, vec_len};
+ghost use Rattle.std.specs.Prelude.{◌≡◌, ◌≢◌, ◌≤◌, ◌⊎◌, ◌+◌, ◌++◌, ◌∷◌, ℕ, [], List, None, Some, true, filter, IfErr, IfOk, IsSome, OnOk, length, vec_items, vec_len};
 ghost use Rattle.std.specs.List.{All, AllZip};
 ghost use Rattle.trace_rows.specs.Range.{IsWithin};
 ghost use Rattle.trace_rows.specs.Trace.{AcceptedAfter};
 ghost use Rattle.trace_rows.specs.declared.row.Row.{Row};
 ghost use Rattle.poll_workers.specs.Finishes.{IsFinished};
+ghost use Rattle.poll_workers.specs.Numbers.{own_numbers};
+ghost use Rattle.poll_workers.specs.declared.fault.WorkFault.TheVariants.{SameNumber};
 ghost use Rattle.interrupt_workers.specs.Opens.{IsStation};
-ghost use Rattle.threads_replay.specs.Answer.{IsOutside, ring_fault};
+ghost use Rattle.threads_replay.specs.Answer.{IsOutside, IsToldAs, ring_fault};
 ghost use Rattle.threads_replay.specs.Script.{opening_of, rx_of, script_of};
 ghost use Rattle.threads_replay.specs.ScriptShown.{acts, after, answer};
 ghost use Rattle.threads_replay.specs.Stations.{IsEndOf, IsStationOf, is_small, small_fault};
@@ -107,14 +109,17 @@ fn ring_fault(stations: &[Station<ScriptDevice>]) -> Option<ReplayFault>
     None
 }
 
-// Why a run of workers was refused.
+// Why a run of workers was refused. The numbers of devices are all different.
 fn work_fault(fault: WorkFault) -> ReplayFault
-    ensures { IsOutside result }
+    requires { fault ≢ SameNumber }
+    ensures outside { IsOutside result }
+    ensures told { IsToldAs fault result }
 {
     match fault {
         WorkFault::OutOfMemory => AllocError.into(),
         WorkFault::GateShut => ReplayFault::GateShut,
         WorkFault::SpawnFailed => ReplayFault::SpawnFailed,
+        WorkFault::SameNumber => unreachable!(),
     }
 }
 
@@ -130,6 +135,7 @@ where
     P: Threads + Wait + Sync,
     G: Gate + Sync,
     requires stations { All IsStation (vec_items stations) }
+    requires numbers { own_numbers (vec_items stations) ≡ true }
     requires count { vec_len stations ≤ 16 }
     ensures ends { IfOk result (λ all. AllZip (IsFinished acts answer after) (vec_items stations) (vec_items all)) }
     ensures fault { IfErr result (λ fault. IsOutside fault) }

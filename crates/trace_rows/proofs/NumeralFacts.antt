@@ -44,9 +44,9 @@ pow-grows n (suc k) =
     let more = pow-grows n k in
     rw (add-suc n k, pow-suc 10 (n + k)) (omega (arith, more))
 
--- a number of fewer than nineteen digits, with one more of them, fits 64 bits
-pub fits : (n count digit : ℕ) → count < 19 → n < 10 ^ count → digit < 10 → n * 10 + digit < 2 ^ 64
-fits n count digit few small d =
+-- ten times a number of fewer than nineteen digits, with a byte, fits 64 bits
+pub fits : (n count byte : ℕ) → count < 19 → n < 10 ^ count → byte < 256 → n * 10 + byte < 2 ^ 64
+fits n count byte few small d =
     let grows = pow-grows count (18 - count) in
     let most : count + (18 - count) ≡ 18 = omega arith in
     let below = rw most at grows in

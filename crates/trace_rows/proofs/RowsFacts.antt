@@ -87,25 +87,17 @@ module _ (version : ℕ) where
   unfolding with_row
   with_row-bad rows fields why e = rw (sym e) refl
 
-  refused-err : {A B : Type 0} (o : Option TraceFault) (x : A) (y : B) (why : TraceFault) → Err why ≡ unless_refused o x → unless_refused o y ≡ Err why
-  refused-err None x y why e = cc e
-  refused-err (Some f) x y why e = cc e
-
-  refused-ok : {A B : Type 0} (o : Option TraceFault) (x z : A) (y : B) → Ok z ≡ unless_refused o x → (z ≡ x) × (unless_refused o y ≡ Ok y)
-  refused-ok None x z y e = (cc e, refl)
-  refused-ok (Some f) x z y e = cc e
-
   -- a row that the earlier ones do not allow
   pub with_row-refused : (rows : List Row) (fields : List (List ℕ)) (row : Row) (why : TraceFault) → Ok row ≡ row_of version (length rows + 1) fields
-      → Err why ≡ unless_refused (refusal (length rows + 1) row.event (switch_of row.device rows)) row → with_row version rows fields ≡ Err why
+      → refusal (length rows + 1) row.event (switch_of row.device rows) ≡ Some why → with_row version rows fields ≡ Err why
   unfolding with_row
-  with_row-refused rows fields row why e h = rw (sym e) (refused-err _ row (rows ++ row ∷ []) why h)
+  with_row-refused rows fields row why e h = rw (sym e, h) refl
 
   -- a row that they allow
-  pub with_row-good : (rows : List Row) (fields : List (List ℕ)) (row taken : Row) → Ok row ≡ row_of version (length rows + 1) fields
-      → Ok taken ≡ unless_refused (refusal (length rows + 1) row.event (switch_of row.device rows)) row → (taken ≡ row) × (with_row version rows fields ≡ Ok (rows ++ row ∷ []))
+  pub with_row-good : (rows : List Row) (fields : List (List ℕ)) (row : Row) → Ok row ≡ row_of version (length rows + 1) fields
+      → refusal (length rows + 1) row.event (switch_of row.device rows) ≡ None → with_row version rows fields ≡ Ok (rows ++ row ∷ [])
   unfolding with_row
-  with_row-good rows fields row taken e h = rw (sym e) (refused-ok _ row taken (rows ++ row ∷ []) h)
+  with_row-good rows fields row e h = rw (sym e, h) refl
 
 -- no first record
 pub trace-none : (records : List (List (List ℕ))) → records ≡ [] → trace_of records ≡ Err fault.BadHeader

@@ -30,6 +30,7 @@ pub enum Event {
 }
 
 /// The event that a word names in a trace of this version, if it names one.
+#[inline(always)]
 #[tactic(auto, unfolding(crate::specs::Record::event_of))]
 pub(crate) fn event_of(version: u32, word: &[u8]) -> Option<Event>
     ensures { result ≡ event_of version word.now }

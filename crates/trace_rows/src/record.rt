@@ -1,6 +1,6 @@
 //! What the fields of one record say by themselves.
 
-ghost use Rattle.std.specs.Prelude.{◌≡◌, ◌≤◌, length, true, option_map, if◌then◌else◌, Some, None, IfOk, IfSome};
+ghost use Rattle.std.specs.Prelude.{◌≡◌, ◌≤◌, length, true, option_map, if◌then◌else◌, ℕ, ◌&&◌, Some, None, Ok, IfOk, IfSome};
 ghost use Rattle.std.specs.Str.{all_ascii_digits};
 ghost use Rattle.csv.specs.Records.{fields_of};
 ghost use Rattle.trace_rows.specs.Range.{IsWithin};
@@ -12,17 +12,21 @@ use crate::fault::TraceFault;
 use crate::row::Row;
 use csv::ByteRecord;
 
-// The number that at most nineteen digits write, 0 where there are none. A u64 holds it.
-fn number_below_20(digits: &[u8]) -> Option<u64>
-    requires { length digits.now ≤ 19 }
+// The number that the first `count` bytes of a field write, 0 where these are none, if all of them are digits. A u64 holds
+// it. Inlined for its callers' sake: one that tells `count` gets a row of steps in place of a loop.
+#[inline(always)]
+fn number_below_20(digits: &[u8], count: usize) -> Option<u64>
+    requires count { count ≡ length digits.now }
+    requires few { count ≤ 19 }
     ensures { result ≡ (if all_ascii_digits digits.now then Some (numeral digits.now) else None) }
 {
     let mut number = 0;
-    for byte in digits {
+    for place in 0..count {
+        let byte = digits[place];
         if !byte.is_ascii_digit() {
             return None;
         }
-        number = number * 10 + u64::from(*byte - b'0');
+        number = number * 10 + u64::from(byte) - 48;
     }
     Some(number)
 }
@@ -35,44 +39,46 @@ fn number_below_21(field: &[u8]) -> Option<u128>
     if front.len() > 19 {
         return None;
     }
-    let number = number_below_20(front)?;
+    let number = number_below_20(front, front.len())?;
     if !last.is_ascii_digit() {
         return None;
     }
     Some(u128::from(number) * 10 + u128::from(*last - b'0'))
 }
 
-// The number that one to twenty digits write. All but the longest are read in a u64: a u128 takes twice the time.
-fn number_of(field: &[u8]) -> Option<u128>
-    ensures { result ≡ (if is_numeral field.now then Some (numeral field.now) else None) }
+// The number that one to nineteen digits write. Those of a row have eight at most, and are read without a loop.
+#[inline(always)]
+fn short_number(field: &[u8]) -> Option<u64>
+    ensures { IfSome result (λ number. (is_numeral field.now ≡ true) × (number ≡ numeral field.now)) }
 {
-    if field.is_empty() || field.len() > 19 {
-        return number_below_21(field);
-    }
-    match number_below_20(field) {
-        Some(number) => Some(u128::from(number)),
-        None => None,
-    }
-}
-
-fn device_fits(event: Event, device: u128) -> bool
-    ensures { result ≡ device_fits event device }
-{
-    match event {
-        Event::Softirq => device == 0,
-        _ => 1 <= device && device <= 16,
+    match field.len() {
+        1 => number_below_20(field, 1),
+        2 => number_below_20(field, 2),
+        3 => number_below_20(field, 3),
+        4 => number_below_20(field, 4),
+        5 => number_below_20(field, 5),
+        6 => number_below_20(field, 6),
+        7 => number_below_20(field, 7),
+        8 => number_below_20(field, 8),
+        9..=19 => number_below_20(field, field.len()),
+        _ => None,
     }
 }
 
-fn value_fits(event: Event, value: u128) -> bool
-    ensures { result ≡ value_fits event value }
+// Whether a row of this event may name this device, and bear this value. Inlined, so that of what was read as a u64 no u128 is
+// left.
+#[inline(always)]
+fn fits(event: Event, device: u128, value: u128) -> bool
+    ensures { result ≡ (device_fits event device && value_fits event value) }
 {
+    let is_device = 1 <= device && device <= 16;
     match event {
-        Event::Opened => 1 <= value && value <= 65536,
-        Event::Rx | Event::Tx | Event::Busy => 1 <= value && value <= 65535,
-        Event::Finish => value <= 65536,
-        Event::Threaded => value <= 1,
-        Event::Softirq | Event::Kthread | Event::Disable | Event::Enable => value == 0,
+        Event::Opened => is_device && 1 <= value && value <= 65536,
+        Event::Rx | Event::Tx | Event::Busy => is_device && 1 <= value && value <= 65535,
+        Event::Finish => is_device && value <= 65536,
+        Event::Threaded => is_device && value <= 1,
+        Event::Kthread | Event::Disable | Event::Enable => is_device && value == 0,
+        Event::Softirq => device == 0 && value == 0,
     }
 }
 
@@ -89,7 +95,7 @@ fn ranged(
     ensures device { IfOk result (λ row. device_fits row.event row.device ≡ true) }
     ensures value { IfOk result (λ row. value_fits row.event row.value ≡ true) }
 {
-    if moment < 1 << 64 && device_fits(event, device) && value_fits(event, value) {
+    if moment < 1 << 64 && fits(event, device, value) {
         Ok(Row {
             moment: moment as u64,
             device: device as u32,
@@ -99,6 +105,47 @@ fn ranged(
     } else {
         Err(TraceFault::OutOfRange { row: number })
     }
+}
+
+// The row of these numbers, where they are in their ranges.
+#[inline(always)]
+#[tactic(auto, unfolding(crate::specs::Record::ranged))]
+fn short_ranged(moment: u64, device: u64, event: Event, value: u64) -> Option<Row>
+    ensures row { IfSome result (λ row. (number : ℕ) → ranged number moment device event value ≡ Ok row) }
+    ensures device { IfSome result (λ row. device_fits row.event row.device ≡ true) }
+    ensures value { IfSome result (λ row. value_fits row.event row.value ≡ true) }
+{
+    if fits(event, u128::from(device), u128::from(value)) {
+        Some(Row {
+            moment,
+            device: device as u32,
+            event,
+            value: value as u32,
+        })
+    } else {
+        None
+    }
+}
+
+// The row of these fields, where it has no fault and its numbers at most nineteen digits.
+#[inline(always)]
+#[tactic(auto, unfolding(crate::specs::Record::of_fields))]
+fn of_short_fields(
+    version: u32,
+    moment: &[u8],
+    device: &[u8],
+    event: &[u8],
+    value: &[u8],
+) -> Option<Row>
+    ensures row { IfSome result (λ row. (number : ℕ) → of_fields version number moment.now device.now event.now value.now ≡ Ok row) }
+    ensures device { IfSome result (λ row. device_fits row.event row.device ≡ true) }
+    ensures value { IfSome result (λ row. value_fits row.event row.value ≡ true) }
+{
+    let moment = short_number(moment)?;
+    let device = short_number(device)?;
+    let value = short_number(value)?;
+    let event = event_of(version, event)?;
+    short_ranged(moment, device, event, value)
 }
 
 // Row `number` of these fields.
@@ -116,9 +163,9 @@ fn of_fields(
     ensures value { IfOk result (λ row. value_fits row.event row.value ≡ true) }
 {
     let (Some(moment), Some(device), Some(value)) = (
-        number_of(moment),
-        number_of(device),
-        number_of(value),
+        number_below_21(moment),
+        number_below_21(device),
+        number_below_21(value),
     ) else {
         return Err(TraceFault::BadNumber { row: number });
     };
@@ -129,6 +176,7 @@ fn of_fields(
 }
 
 // The four fields of a record that has four.
+#[inline(always)]
 #[tactic(auto, unfolding(crate::specs::Record::four_of))]
 fn four_of(fields: &ByteRecord) -> Option<(&[u8], &[u8], &[u8], &[u8])>
     ensures { option_map (λ four. (four.0.now, four.1.now, four.2.now, four.3.now)) result ≡ four_of (fields_of fields.now) }
@@ -150,7 +198,20 @@ fn first_four(fields: &ByteRecord) -> Option<(&[u8], &[u8], &[u8], &[u8])>
     Some((moment, device, event, value))
 }
 
+/// The row that a record of a trace of this version tells, where it has no fault and its numbers at most nineteen digits.
+#[inline(always)]
+pub(crate) fn short_row_of(version: u32, fields: &ByteRecord) -> Option<Row>
+    ensures row { IfSome result (λ row. (number : ℕ) → row_of version number (fields_of fields.now) ≡ Ok row) }
+    ensures device { IfSome result (λ row. device_fits row.event row.device ≡ true) }
+    ensures value { IfSome result (λ row. value_fits row.event row.value ≡ true) }
+{
+    let (moment, device, event, value) = four_of(fields)?;
+    of_short_fields(version, moment, device, event, value)
+}
+
 /// The row that a record of a trace of this version tells, whose number it is, or the first of the faults 2 to 5 that it has.
+#[cold]
+#[inline(never)]
 pub(crate) fn row_of(version: u32, number: u32, fields: &ByteRecord) -> Result<Row, TraceFault>
     ensures row { result ≡ row_of version number (fields_of fields.now) }
     ensures device { IfOk result (λ row. device_fits row.event row.device ≡ true) }

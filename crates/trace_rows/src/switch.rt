@@ -1,8 +1,8 @@
 //! What the rows so far leave each device: unopened, on or off.
 
-ghost use Rattle.std.specs.Prelude.{◌≡◌, ◌∷◌, ◌++◌, List, [], true, OnErr, OnOk};
+ghost use Rattle.std.specs.Prelude.{◌≡◌, ◌∷◌, ◌++◌, List, [], Some, None, true, MatchResult, OnErr, OnOk};
 ghost use Rattle.trace_rows.specs.Row.{device_fits};
-ghost use Rattle.trace_rows.specs.Switch.{Tracks, refusal, set_by, switch_of, unless_refused};
+ghost use Rattle.trace_rows.specs.Switch.{Tracks, refusal, set_by, switch_of};
 ghost use Rattle.trace_rows.specs.declared.row.Row.{Row};
 
 use crate::event::Event;
@@ -66,14 +66,16 @@ impl Switches {
     }
 
     /// Takes the next row, whose number it is, or says why it is refused; a refusal changes nothing.
-    pub(crate) fn admit(&mut self, number: u32, row: Row) -> Result<Row, TraceFault>
+    #[inline(always)]
+    pub(crate) fn admit(&mut self, number: u32, row: Row) -> Result<(), TraceFault>
         requires { device_fits row.event row.device ≡ true }
-        ensures admits { (earlier : List Row) → Tracks self.old.of earlier → result ≡ unless_refused (refusal number row.event (switch_of row.device earlier)) row }
+        ensures admits { (earlier : List Row) → Tracks self.old.of earlier → MatchResult result (λ _. refusal number row.event (switch_of row.device earlier) ≡ None)
+            (λ fault. refusal number row.event (switch_of row.device earlier) ≡ Some fault) }
         ensures tracks { OnOk result ((earlier : List Row) → Tracks self.old.of earlier → Tracks self.new.of (earlier ++ row ∷ [])) }
         ensures refused { OnErr result (self.new.of ≡ self.old.of) }
     {
         if row.event == Event::Softirq {
-            return Ok(row);
+            return Ok(());
         }
         let place = (row.device - 1) as usize;
         if let Some(fault) = refusal(number, row.event, self.of[place]) {
@@ -82,6 +84,6 @@ impl Switches {
         if let Some(switch) = set_by(row.event) {
             self.of[place] = switch;
         }
-        Ok(row)
+        Ok(())
     }
 }

@@ -1,18 +1,20 @@
 //! Reading a trace.
 
-ghost use Rattle.std.specs.Prelude.{◌≡◌, ◌≤◌, length, ◌⊎◌, ℕ, List, [], Option, Some, Ok, Err, IfOk, OnOk, IfErr};
+ghost use Rattle.std.specs.Prelude.{◌≡◌, ◌≤◌, length, ◌⊎◌, ℕ, List, [], Option, Some, Ok, Err, IfOk, OnOk, IfErr, true};
 ghost use Rattle.csv.specs.Machine.{next_record};
 ghost use Rattle.csv.specs.Reading.{default_config, reader_state, records_from, strip_bom};
 ghost use Rattle.csv.specs.Records.{fields_of};
 ghost use Rattle.csv.specs.declared.parser.State.TheVariants as state;
 ghost use Rattle.trace_rows.specs.Range.{IsWithin};
+ghost use Rattle.trace_rows.specs.Record.{row_of};
+ghost use Rattle.trace_rows.specs.Row.{device_fits, value_fits};
 ghost use Rattle.trace_rows.specs.Source.{IsOpen, IsReadFailure, StandsAt, TakesNext};
 ghost use Rattle.trace_rows.specs.Trace.{AcceptedAfter, TraceView, records_of, rows_after, trace_of, version_in};
 ghost use Rattle.trace_rows.specs.declared.row.Row.{Row};
 
 use crate::bounded::Bounded;
 use crate::fault::TraceFault;
-use crate::record::{row_of, version_of};
+use crate::record::{row_of, short_row_of, version_of};
 use crate::row::Row;
 use crate::switch::Switches;
 use csv::{ByteRecord, ErrorKind, Reader, ReaderBuilder};
@@ -91,6 +93,23 @@ fn next_record<R: Read>(reader: &mut Reader<R>, fields: &mut ByteRecord) -> Resu
     }
 }
 
+// Row `number` of a trace of this version, or the first of the faults 2 to 5 that it has. A row of usual numbers is in no
+// memory: that is why the other's result is taken apart.
+#[inline(always)]
+fn next_row(version: u32, number: u32, fields: &ByteRecord) -> Result<Row, TraceFault>
+    ensures row { result ≡ row_of version number (fields_of fields.now) }
+    ensures device { IfOk result (λ row. device_fits row.event row.device ≡ true) }
+    ensures value { IfOk result (λ row. value_fits row.event row.value ≡ true) }
+{
+    match short_row_of(version, fields) {
+        Some(row) => Ok(row),
+        None => match row_of(version, number, fields) {
+            Ok(row) => Ok(row),
+            Err(fault) => Err(fault),
+        },
+    }
+}
+
 /// Reads the rows of a trace, or its first fault. It asks for at most 100002 records, so it ends, and for no more once the
 /// source has given over [`MOST_BYTES`](crate::MOST_BYTES): that is `ReadFailed`. The reader is read ahead of the row that
 /// decides, and a failure met there is the answer. On a fault nothing is kept.
@@ -116,7 +135,8 @@ pub fn read_trace<R: Read + Drop>(alloc: Global, source: R) -> Result<Trace, Tra
     read_rows(alloc, version, &mut reader, &mut fields)
 }
 
-// Reads the rows that the reader has left, or the first fault of them.
+// Reads the rows that the reader has left, or the first fault of them. By itself, so that its loop has the registers.
+#[inline(never)]
 fn read_rows<R: Read>(
     alloc: Global,
     version: u32,
@@ -144,11 +164,9 @@ fn read_rows<R: Read>(
         if before == MOST_ROWS {
             return Err(TraceFault::TooManyRows);
         }
-        let row = row_of(version, before + 1, fields)?;
-        let row = switches.admit(before + 1, row)?;
-        if rows.push(row).is_err() {
-            return Err(TraceFault::OutOfMemory);
-        }
+        let row = next_row(version, before + 1, fields)?;
+        switches.admit(before + 1, row)?;
+        rows.push_reserved(row);
     }
     Ok(Trace { version, rows })
 }

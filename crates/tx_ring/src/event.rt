@@ -50,6 +50,7 @@ impl TxFault {
 }
 
 /// What a transmit ring shows.
+#[repr(C)]
 #[derive(Clone, Copy, Debug, PartialEq, Eq)]
 pub struct TxState {
     /// The bytes of all packets ever sent, modulo 2^32.

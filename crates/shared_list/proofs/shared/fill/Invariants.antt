@@ -8,4 +8,5 @@ invariant-loop g l = record {
   pass : IsPassOf l.queue l.pass × (l.pass.table_id ≡ l.initial.pass.table_id);
   popped : (fresh : List ℕ) × (l.into ≡ l.initial.into ++ fresh) × PopsMore (view l.initial.pass) fresh (view l.pass);
   size : length l.into ≡ l.counter;
+  none_empty : l.pops ≡ l.initial.pops;
 }

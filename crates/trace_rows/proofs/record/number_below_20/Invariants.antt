@@ -4,9 +4,9 @@ use Rattle.std.specs.Str.Parse.{digits_value_after}
 use Rattle.trace_rows.specs.Record.{numeral}
 use Rattle.trace_rows.proofs.record.number_below_20.Given as goal
 
-abbrev pub invariant-loop-byte : goal.invariant-loop-byte
-invariant-loop-byte l = record {
-  small : l.number < 10 ^ l.byte-index;
-  tested : all_ascii_digits l.digits ≡ all_ascii_digits (drop l.byte-index l.digits);
-  value : numeral l.digits ≡ digits_value_after 10 l.number (drop l.byte-index l.digits);
+abbrev pub invariant-loop-place : goal.invariant-loop-place
+invariant-loop-place l = record {
+  small : l.number < 10 ^ l.place;
+  tested : all_ascii_digits l.digits ≡ all_ascii_digits (drop l.place l.digits);
+  value : numeral l.digits ≡ digits_value_after 10 l.number (drop l.place l.digits);
 }

@@ -1,4 +1,4 @@
-use Rattle.std.proofs.Common.{◌≡◌, ℕ, ◌-◌, ◌≤◌, List, [], length}
+use Rattle.std.proofs.Common.{◌≡◌, ℕ, ◌-◌, ◌≤◌, List, [], length, vec_capacity, vec_len}
 use Rattle.csv.specs.Reading.{default_config, reader_state, records_from}
 use Rattle.trace_rows.specs.Source.{IsOpen, StandsAt}
 use Rattle.trace_rows.specs.Switch.{Tracks}
@@ -9,6 +9,8 @@ abbrev pub invariant-loop-before : goal.invariant-loop-before
 invariant-loop-before g l = record {
   reader : IsOpen l.reader;
   small : l.before ≤ 100000;
+  room : 100000 ≤ vec_capacity l.rows;
+  filled : vec_len l.rows ≡ l.before;
   count : length l.rows.items ≡ l.before;
   accepted : AcceptedAfter [] l.rows.items;
   tracks : Tracks l.switches.of l.rows.items;

@@ -1,7 +1,8 @@
-use Rattle.std.proofs.Common.{refl, ap, subst, Bool}
+use Rattle.std.proofs.Common.{refl, ap, subst, sym, ◌∙◌, append-nil, Bool}
 use Rattle.shared_polling.specs.declared.seat.Hold.TheVariants.{Rests, Polls}
 use Rattle.shared_polling.specs.declared.seat.Seat.{Seat}
 use Rattle.poll_engine.specs.Polling.{next_of}
+use Rattle.shared_polling.specs.Seat.{packets_by}
 use Rattle.shared_polling.specs.SharedPolling.{EndsBy}
 use Rattle.shared_polling.proofs.SeatFacts.{seat_made}
 use Rattle.shared_polling.proofs.seat.SeatInstance.complete.Goals as goal
@@ -9,8 +10,8 @@ use Rattle.shared_polling.proofs.seat.SeatInstance.complete.Goals as goal
 pub returns-clause-leads : goal.returns-clause-leads
 returns-clause-leads g c =
     let e = c.polling-polling.ensures in
-    let m = c.complete-caller.ensures in (
+    let m = c.complete-caller.ensures.made in (
       m.0,
-      seat_made _ (Polls c.polling-polling.result) _ (Rests c.complete-caller.result.0) _ _ _ _ (e.was, e.gone, c.put.ensures) refl refl m.1,
+      seat_made _ (Polls c.polling-polling.result) _ (Rests c.complete-caller.result.0) _ _ _ _ (e.was, e.gone, c.put.ensures) refl refl m.1 (c.complete-caller.ensures.packets ∙ sym (append-nil (packets_by (Polls c.polling-polling.result)))),
       subst (λ (b : Bool). EndsBy b (next_of c.complete-caller.result.1) m.0) (ap (λ (s : Seat _). s.thread) e.gone) m.2,
     )

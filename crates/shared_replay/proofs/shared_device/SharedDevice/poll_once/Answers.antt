@@ -1,6 +1,23 @@
 use Rattle.std.proofs.Common.{◌∙◌}
-use Rattle.shared_replay.proofs.CountingFacts.{poll-is}
+use Rattle.shared_replay.proofs.CountingFacts.{caller-back, poll-is}
 use Rattle.shared_replay.proofs.shared_device.SharedDevice.poll_once.Goals as goal
+
+pub look-requires : goal.look-requires
+look-requires g c =
+    let e = c.sit-seat.ensures in
+    let r = c.requires.rest in
+    let poll = poll-is (λ b. b.items) _ _ _ _ _ _ _ _ _ _ c.poll_once_of-once.ensures.polls e.hold e.thread c.rise-caller.ensures c.clear.ensures
+    c.take_out-caller.ensures.was c.put_back.ensures in
+    record {
+      interrupt = r.interrupt;
+      poller = caller-back c.args.self.now.napi _ _ poll.from poll.to poll.operations poll.was poll.is poll.made r.poller;
+      thread = r.thread;
+      control = r.control;
+      input = r.input;
+      callers = r.callers;
+      none = r.none;
+      room = r.room;
+    }
 
 pub returns-clause-polls : goal.returns-clause-polls
 returns-clause-polls g c =

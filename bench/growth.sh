@@ -1,0 +1,63 @@
+#!/usr/bin/env bash
+# Instructions a row of the serial replay, counted by valgrind's callgrind, for 1000, 10000 and 100000 rows and 1, 4 and 16
+# devices: bursts of 63 packets, each of one device, the devices in turn, and behind each burst a run. All rows have the same length
+# (moments of seven digits, devices of two, values of four), and each run polls one device: so the counts show what rows and
+# devices cost that are merely there. What the program does for a trace that only opens the devices is taken off. Prints a row of
+# the table for each number of devices, and how far the counts lie apart. The exit status is 1 where that is over 3 %, or where a run fails.
+# [PROGRAM=PROGRAM] bench/growth.sh
+set -euo pipefail
+unset CDPATH
+bench=$(cd "$(dirname "$0")" && pwd)
+. "$bench/../scripts/arguments.sh"
+at_most 0 "$@"
+program=${PROGRAM:-$bench/../crates/napi_serial/out/napi_serial}
+is_tool valgrind
+[ -n "${PROGRAM:-}" ] || "$bench/../scripts/build.sh" napi_serial
+is_program PROGRAM "$program"
+scratch=$(mktemp -d)
+trap 'rm -rf "$scratch"' EXIT
+
+# trace DEVICES ROWS: this many opens, and then this many rows.
+trace() {
+    awk -v devices="$1" -v rows="$2" 'BEGIN {
+        print "moment,device,event,value"
+        for (device = 1; device <= devices; device++) printf "1000000,%02d,open,4096\n", device
+        for (row = 1; row <= rows; row++)
+            if (row % 64 == 0) printf "%d,00,softirq,0000\n", 1000000 + row
+            else printf "%d,%02d,rx,%d\n", 1000000 + row, 1 + int(row / 64) % devices, 1000 + row * 37 % 500
+    }'
+}
+
+# count DEVICES ROWS: the instructions of a run.
+count() {
+    trace "$1" "$2" > "$scratch/trace"
+    if ! valgrind --tool=callgrind --callgrind-out-file=/dev/null "$program" < "$scratch/trace" > "$scratch/out" 2> "$scratch/err"; then
+        tail -n 1 "$scratch/err" >&2
+        exit 1
+    fi
+    awk '/Collected *:/ { count = $NF } END { print count }' "$scratch/err"
+}
+
+echo "devices   1000 rows   10000 rows   100000 rows"
+: > "$scratch/all"
+for devices in 1 4 16; do
+    none=$(count "$devices" 0)
+    line=$(printf '%7d' "$devices")
+    width=12
+    for rows in 1000 10000 100000; do
+        all=$(count "$devices" $((rows - devices)))
+        each=$(awk -v all="$all" -v none="$none" -v rows=$((rows - devices)) 'BEGIN { printf "%.1f", (all - none) / rows }')
+        echo "$each" >> "$scratch/all"
+        line+=$(printf "%${width}s" "$each")
+        width=$((width + 1))
+    done
+    echo "$line"
+done
+sort -n "$scratch/all" | awk '
+    NR == 1 { least = $1 }
+    { most = $1 }
+    END {
+        apart = 100 * (most / least - 1)
+        printf "%.1f %% apart\n", apart
+        exit !(apart <= 3)
+    }'

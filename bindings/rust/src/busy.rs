@@ -1,0 +1,53 @@
+//! A caller that busy polls.
+use crate::answers::TryStop;
+use crate::fault::unexpected;
+use crate::handle::Handle;
+use crate::packets::{Batch, Packet, Weight};
+use crate::polling::{self, Polling};
+use crate::sys;
+
+/// A caller that busy polls the instance. Whoever schedules meanwhile is answered by one more poll
+/// of its, as [`Polling`], behind the stop.
+#[derive(Debug)]
+#[must_use = "an instance whose poller is dropped is polled by nobody"]
+pub struct Busy {
+    pub(crate) at: Handle,
+}
+
+impl Busy {
+    /// Polls once: the ring's next packets, at most the weight.
+    pub fn poll<'b>(&mut self, weight: Weight, batch: &'b mut Batch) -> &'b [Packet] {
+        polling::poll(&mut self.at, weight, batch)
+    }
+
+    /// Completes a poll below its weight (`napi_complete_done`, which does nothing under
+    /// `IN_BUSY_POLL`): the caller busy polls on.
+    pub fn complete_held(&mut self) {
+        // SAFETY: the handle is this poller's alone.
+        match unsafe { sys::fq_seat_complete(self.at.raw()) } {
+            sys::FQ_HELD => {}
+            said => unexpected("seat_complete", said),
+        }
+    }
+
+    /// Stops busy polling, in one try (`busy_poll_stop`). It doesn't wait.
+    pub fn try_stop(mut self) -> TryStop {
+        // SAFETY: the handle is this poller's alone.
+        match unsafe { sys::fq_seat_busy_stop(self.at.raw()) } {
+            sys::FQ_OK => TryStop::Stopped(Polling { at: self.at }),
+            sys::FQ_CHANGED => TryStop::Changed(self),
+            said => unexpected("seat_busy_stop", said),
+        }
+    }
+
+    /// Stops busy polling, try after try until one decides (`busy_poll_stop`).
+    pub fn stop(self) -> Polling {
+        let mut busy = self;
+        loop {
+            match busy.try_stop() {
+                TryStop::Stopped(polling) => return polling,
+                TryStop::Changed(changed) => busy = changed,
+            }
+        }
+    }
+}

@@ -1,0 +1,160 @@
+//! A caller of a shared instance at rest, and one to whom the instance was granted.
+use crate::answers::{Sched, TryBusy, TryPrep};
+use crate::busy::Busy;
+use crate::fault::unexpected;
+use crate::handle::Handle;
+use crate::polling::Polling;
+use crate::sys;
+use crate::words::{Kind, Prep};
+
+/// A caller that owns nothing: an interrupt, a poller or a thread poller at rest.
+///
+/// A caller has no poll context, so it can't poll:
+///
+/// ```compile_fail,E0599
+/// use fintaqush::{Batch, Caller, Weight};
+/// fn poll(mut caller: Caller, batch: &mut Batch) {
+///     caller.poll(Weight::MAX, batch);
+/// }
+/// ```
+///
+/// What was spent on a call is gone, so nobody is two callers at a time:
+///
+/// ```compile_fail,E0382
+/// use fintaqush::{Caller, Kind, Sched};
+/// fn schedule_twice(caller: Caller) -> (Sched, Sched) {
+///     (caller.schedule(), caller.schedule())
+/// }
+/// ```
+///
+/// For the same reason it can't be copied:
+///
+/// ```compile_fail,E0599
+/// use fintaqush::Caller;
+/// fn twice(caller: Caller) -> (Caller, Caller) {
+///     (caller.clone(), caller)
+/// }
+/// ```
+///
+/// It goes to a thread of its own, and isn't used by two:
+///
+/// ```
+/// fn goes_to_a_thread<T: Send>() {}
+/// goes_to_a_thread::<fintaqush::Caller>();
+/// ```
+///
+/// ```compile_fail,E0277
+/// fn is_used_by_two<T: Sync>() {}
+/// fn caller() {
+///     is_used_by_two::<fintaqush::Caller>();
+/// }
+/// ```
+#[derive(Debug)]
+#[must_use = "a caller that is dropped never calls again"]
+pub struct Caller {
+    pub(crate) at: Handle,
+}
+
+impl Caller {
+    /// Asks for a poll, once (`napi_schedule_prep`). It doesn't wait.
+    pub fn try_schedule(mut self) -> TryPrep {
+        // SAFETY: the handle is this caller's alone.
+        let said = unsafe { sys::fq_seat_schedule(self.at.raw()) };
+        match Prep::of("seat_schedule", said) {
+            Some(Prep::Granted) => TryPrep::Granted(Granted { at: self.at }),
+            Some(Prep::Missed) => TryPrep::Missed(self),
+            Some(Prep::Disabled) => TryPrep::Disabled(self),
+            None => TryPrep::Changed(self),
+        }
+    }
+
+    /// Asks for a poll, try after try until one decides (`napi_schedule_prep`).
+    ///
+    /// While a disable is pending nothing is asked for, and while the instance is disabled no poll
+    /// follows: schedule once behind each [`enable`](crate::Control::enable).
+    pub fn schedule(self) -> Sched {
+        let mut caller = self;
+        loop {
+            match caller.try_schedule() {
+                TryPrep::Granted(granted) => return Sched::Granted(granted),
+                TryPrep::Missed(missed) => return Sched::Missed(missed),
+                TryPrep::Disabled(disabled) => return Sched::Disabled(disabled),
+                TryPrep::Changed(changed) => caller = changed,
+            }
+        }
+    }
+
+    /// An interrupt: schedules, and hands over where it was granted.
+    pub fn interrupt(&mut self, kind: Kind) -> Prep {
+        // SAFETY: the handle is this caller's alone.
+        let said = unsafe { sys::fq_seat_interrupt(self.at.raw(), kind.number()) };
+        match Prep::of("seat_interrupt", said) {
+            Some(prep) => prep,
+            None => unexpected("seat_interrupt", said),
+        }
+    }
+
+    /// Takes the instance from the list or the thread to which it was handed, with its poll context
+    /// (`net_rx_action`, `napi_thread_wait`). `Err`: it wasn't there, and nothing changed.
+    pub fn take(mut self, kind: Kind) -> Result<Polling, Caller> {
+        // SAFETY: the handle is this caller's alone.
+        match unsafe { sys::fq_seat_take(self.at.raw(), kind.number()) } {
+            sys::FQ_TAKEN => Ok(Polling { at: self.at }),
+            sys::FQ_NOT_THERE => Err(self),
+            said => unexpected("seat_take", said),
+        }
+    }
+
+    /// Takes an idle instance to busy poll it, once (`napi_busy_loop`). It doesn't wait.
+    pub fn try_busy(mut self) -> TryBusy {
+        // SAFETY: the handle is this caller's alone.
+        match unsafe { sys::fq_seat_busy_take(self.at.raw()) } {
+            sys::FQ_TAKEN => TryBusy::Taken(Busy { at: self.at }),
+            sys::FQ_BUSY => TryBusy::Refused(self),
+            sys::FQ_CHANGED => TryBusy::Changed(self),
+            said => unexpected("seat_busy_take", said),
+        }
+    }
+
+    /// Takes an idle instance to busy poll it, try after try until one decides (`napi_busy_loop`).
+    /// `Err`: it was refused.
+    pub fn busy(self) -> Result<Busy, Caller> {
+        let mut caller = self;
+        loop {
+            match caller.try_busy() {
+                TryBusy::Taken(busy) => return Ok(busy),
+                TryBusy::Refused(refused) => return Err(refused),
+                TryBusy::Changed(changed) => caller = changed,
+            }
+        }
+    }
+
+    /// Says whether polls are from now on handed to the instance's own thread
+    /// (`dev_set_threaded`). Allowed in any state.
+    pub fn set_threaded(&mut self, threaded: bool) {
+        // SAFETY: the handle is this caller's alone.
+        match unsafe { sys::fq_seat_set_threaded(self.at.raw(), threaded) } {
+            sys::FQ_OK => {}
+            said => unexpected("seat_set_threaded", said),
+        }
+    }
+}
+
+/// A caller to whom the instance was granted, and who has to hand it over: without that nobody
+/// polls it again.
+#[derive(Debug)]
+#[must_use = "an instance that is granted and not handed over is polled by nobody"]
+pub struct Granted {
+    pub(crate) at: Handle,
+}
+
+impl Granted {
+    /// Hands the instance over to the list or to its thread (`____napi_schedule`).
+    pub fn hand(mut self, kind: Kind) -> Caller {
+        // SAFETY: the handle is this caller's alone.
+        match unsafe { sys::fq_seat_hand(self.at.raw(), kind.number()) } {
+            sys::FQ_OK => Caller { at: self.at },
+            said => unexpected("seat_hand", said),
+        }
+    }
+}

@@ -1,0 +1,90 @@
+//! Byte queue limits.
+use crate::fault::Fault;
+use crate::sys;
+use std::cell::Cell;
+use std::marker::PhantomData;
+
+/// A byte queue limit (`lib/dynamic_queue_limits.c`). Moments are milliseconds of the user's clock.
+///
+/// ```
+/// use fintaqush::{Dql, Fault};
+///
+/// # fn main() -> Result<(), Fault> {
+/// let mut limit = Dql::new(0, 1879048192, 1000, 0)?;
+/// limit.queued(1500)?;
+/// assert_eq!((limit.in_flight(), limit.avail()), (1500, -1500));
+/// // the card ran out of work below the limit, so this grows
+/// limit.completed(1500, 6)?;
+/// assert_eq!(limit.limit(), 1500);
+/// # Ok(())
+/// # }
+/// ```
+///
+/// It is used by one thread at a time:
+///
+/// ```compile_fail,E0277
+/// fn is_used_by_two<T: Sync>(_: &T) {}
+/// fn limit(limit: &fintaqush::Dql) {
+///     is_used_by_two(limit);
+/// }
+/// ```
+#[derive(Debug)]
+pub struct Dql {
+    raw: sys::fq_dql,
+    // one call at a time
+    by_one: PhantomData<Cell<()>>,
+}
+
+impl Dql {
+    /// A new limit between `min` and `max`, which keeps slack for `hold_ms` (`dql_init`).
+    /// [`BAD_BOUNDS`](Fault::BAD_BOUNDS).
+    pub fn new(min: u32, max: u32, hold_ms: u64, now_ms: u64) -> Result<Dql, Fault> {
+        // SAFETY: it takes numbers alone.
+        let made = unsafe { sys::fq_dql_new(min, max, hold_ms, now_ms) };
+        Fault::unless_made(made.status)?;
+        Ok(Dql {
+            raw: made.dql,
+            by_one: PhantomData,
+        })
+    }
+
+    /// An object of so many bytes was given to the device (`dql_queued`).
+    /// [`TOO_LARGE`](Fault::TOO_LARGE), [`TOO_MUCH_IN_FLIGHT`](Fault::TOO_MUCH_IN_FLIGHT).
+    pub fn queued(&mut self, count: u32) -> Result<(), Fault> {
+        // SAFETY: the limit was made by the library, and is borrowed by this call alone.
+        Fault::unless_made(unsafe { sys::fq_dql_queued(&mut self.raw, count) })
+    }
+
+    /// The device is done with so many bytes, and the limit adapts (`dql_completed`).
+    /// [`MORE_THAN_QUEUED`](Fault::MORE_THAN_QUEUED).
+    pub fn completed(&mut self, count: u32, now_ms: u64) -> Result<(), Fault> {
+        // SAFETY: as in `queued`.
+        Fault::unless_made(unsafe { sys::fq_dql_completed(&mut self.raw, count, now_ms) })
+    }
+
+    /// Forgets what is in flight, and starts over (`dql_reset`).
+    pub fn reset(&mut self, now_ms: u64) {
+        // SAFETY: as in `queued`.
+        unsafe { sys::fq_dql_reset(&mut self.raw, now_ms) }
+    }
+
+    /// The limit in bytes.
+    pub fn limit(&self) -> u32 {
+        // SAFETY: the limit was made by the library, which reads it; no other thread does, as it
+        // isn't `Sync`.
+        unsafe { sys::fq_dql_limit(&self.raw) }
+    }
+
+    /// The bytes that may still be given to the device (`dql_avail`); negative: the queue is to be
+    /// stopped.
+    pub fn avail(&self) -> i64 {
+        // SAFETY: as in `limit`.
+        unsafe { sys::fq_dql_avail(&self.raw) }
+    }
+
+    /// The bytes that the device has.
+    pub fn in_flight(&self) -> u32 {
+        // SAFETY: as in `limit`.
+        unsafe { sys::fq_dql_in_flight(&self.raw) }
+    }
+}

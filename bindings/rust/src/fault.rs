@@ -1,0 +1,88 @@
+//! Why a call was not made.
+use crate::sys;
+use std::error::Error;
+use std::fmt;
+
+/// Why a call was not made, by its number in `enum fq_status`. Such a call changes nothing.
+///
+/// ```
+/// use fintaqush::{Dql, Fault};
+///
+/// let refused = Dql::new(2, 1, 1000, 0).unwrap_err();
+/// assert_eq!(refused, Fault::BAD_BOUNDS);
+/// assert_eq!(refused.to_string(), "FQ_BAD_BOUNDS");
+/// ```
+#[derive(Clone, Copy, PartialEq, Eq, Hash)]
+pub struct Fault(u32);
+
+impl Fault {
+    /// Limit: the least is above the greatest, or that one above 1879048192.
+    pub const BAD_BOUNDS: Fault = Fault(sys::FQ_BAD_BOUNDS);
+    /// Limit: an object above 268435455 bytes.
+    pub const TOO_LARGE: Fault = Fault(sys::FQ_TOO_LARGE);
+    /// Limit: more than it can count would be in flight.
+    pub const TOO_MUCH_IN_FLIGHT: Fault = Fault(sys::FQ_TOO_MUCH_IN_FLIGHT);
+    /// Limit: more completed than is in flight.
+    pub const MORE_THAN_QUEUED: Fault = Fault(sys::FQ_MORE_THAN_QUEUED);
+    /// There is no room.
+    pub const FULL: Fault = Fault(sys::FQ_FULL);
+    /// Transmit ring: the limit has stopped the queue.
+    pub const STOPPED: Fault = Fault(sys::FQ_STOPPED);
+    /// Transmit ring: more packets are done than it holds.
+    pub const MORE_THAN_SENT: Fault = Fault(sys::FQ_MORE_THAN_SENT);
+    /// The object's state doesn't have this call.
+    pub const NOT_ALLOWED: Fault = Fault(sys::FQ_NOT_ALLOWED);
+    /// Memory is out.
+    pub const OUT_OF_MEMORY: Fault = Fault(sys::FQ_OUT_OF_MEMORY);
+    /// A receive or a transmit ring has 1 to 65536 places.
+    pub const BAD_CAPACITY: Fault = Fault(sys::FQ_BAD_CAPACITY);
+    /// A weight is 1 to 64.
+    pub const BAD_WEIGHT: Fault = Fault(sys::FQ_BAD_WEIGHT);
+    /// A run's budget and window are 1 to 65535.
+    pub const BAD_BUDGET: Fault = Fault(sys::FQ_BAD_BUDGET);
+    /// A shared instance has 2 to 8 callers.
+    pub const BAD_COUNT: Fault = Fault(sys::FQ_BAD_COUNT);
+    /// Run: a poll told of more packets than the weight.
+    pub const BAD_WORK: Fault = Fault(sys::FQ_BAD_WORK);
+
+    /// Its number.
+    pub fn number(self) -> u32 {
+        self.0
+    }
+
+    /// Its name, as `"FQ_FULL"`.
+    pub fn name(self) -> &'static str {
+        sys::fq_status_name(self.0)
+    }
+
+    // The answer of a call that is made if it says `FQ_OK`.
+    pub(crate) fn unless_made(status: u32) -> Result<(), Fault> {
+        match status {
+            sys::FQ_OK => Ok(()),
+            fault => Err(Fault(fault)),
+        }
+    }
+}
+
+impl fmt::Display for Fault {
+    fn fmt(&self, f: &mut fmt::Formatter<'_>) -> fmt::Result {
+        f.write_str(self.name())
+    }
+}
+
+impl fmt::Debug for Fault {
+    fn fmt(&self, f: &mut fmt::Formatter<'_>) -> fmt::Result {
+        f.write_str(self.name())
+    }
+}
+
+impl Error for Fault {}
+
+// A number that the header doesn't name for this call: library and header aren't of one version.
+#[cold]
+pub(crate) fn unexpected(call: &str, status: u32) -> ! {
+    panic!(
+        "fq_{call} answered {status}: {}",
+        sys::fq_status_name(status)
+    )
+}

@@ -1,0 +1,31 @@
+//! What the library has on the heap.
+use crate::sys;
+
+// One owner of a value of the library's; dropped, it gives the value up.
+#[derive(Debug)]
+#[repr(transparent)]
+pub(crate) struct Handle(sys::fq_handle);
+
+// SAFETY: a handle may go from thread to thread where one call is ordered before the next. Whatever
+// sends a value in safe Rust orders that by a release and its acquire; on x86-64, for which alone
+// the library is built, these order its words as a lock or a thread's start and join do.
+unsafe impl Send for Handle {}
+
+impl Handle {
+    // One that leads to nothing.
+    pub(crate) const NONE: Handle = Handle(sys::FQ_NONE);
+
+    // For a call, which has it alone, as nothing here is copied.
+    pub(crate) fn raw(&mut self) -> *mut sys::fq_handle {
+        &mut self.0
+    }
+}
+
+impl Drop for Handle {
+    fn drop(&mut self) {
+        if self.0.private_set {
+            // SAFETY: it leads to a value of the library's, which nothing else leads to.
+            unsafe { sys::fq_abandon(&mut self.0) };
+        }
+    }
+}

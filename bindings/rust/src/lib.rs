@@ -1,0 +1,77 @@
+//! The packet polling core of Linux 6.6 (NAPI) and byte queue limits, over `libfintaqush.a`, whose
+//! functions are proved; `docs/C.md` of the repository says what of them.
+//!
+//! - [`Dql`]: a byte queue limit.
+//! - [`SerialNapi`]: an instance of one thread.
+//! - [`Shared`]: an instance that threads share, with its input, its controller and its callers.
+//!   Which call is allowed is shown by types: a call takes the value on which it is made, and gives
+//!   the next one.
+//! - [`Ring`]: a receive ring, without an instance.
+//! - [`TxRing`]: a transmit ring under a byte queue limit.
+//! - [`List`]: a poll list, and runs over it.
+//! - [`replay`]: the whole replay of a trace, on one thread.
+//!
+//! Every value may be sent to another thread, and none may be used by two at a time (`Send`, not
+//! `Sync`): the library wants one call at a time on an object.
+//!
+//! One instance, a request for a poll that is granted, one that is missed, and two polls:
+//!
+//! ```
+//! use fintaqush::{Done, Kind, Prep, SerialNapi};
+//!
+//! // Whoever calls an instance bears a number; the controller's is named when it is made.
+//! const INTERRUPT: u32 = 0;
+//! const POLLER: u32 = 1;
+//! const CONTROLLER: u32 = 2;
+//!
+//! # fn main() -> Result<(), fintaqush::Fault> {
+//! let mut napi = SerialNapi::new(CONTROLLER);
+//! napi.enable(CONTROLLER, false)?;
+//! assert_eq!(napi.schedule(INTERRUPT), Prep::Granted);
+//! napi.hand(INTERRUPT, Kind::List)?;
+//! assert_eq!(napi.schedule(INTERRUPT), Prep::Missed);
+//!
+//! assert!(napi.take(POLLER, Kind::List));
+//! // .. the device is polled ..
+//! assert_eq!(napi.complete(POLLER)?, Done::Again);
+//! napi.hand(POLLER, Kind::List)?;
+//! assert!(napi.take(POLLER, Kind::List));
+//! assert_eq!(napi.complete(POLLER)?, Done::Released);
+//! # Ok(())
+//! # }
+//! ```
+#![deny(missing_docs, unsafe_op_in_unsafe_fn)]
+
+mod answers;
+mod busy;
+mod caller;
+mod control;
+mod dql;
+mod fault;
+mod handle;
+mod list;
+mod packets;
+mod polling;
+mod replay;
+mod ring;
+mod serial;
+mod shared;
+pub mod sys;
+mod transmit;
+mod words;
+
+pub use answers::{Completed, Sched, TryBusy, TryDone, TryPrep, TryStop, TryTake};
+pub use busy::Busy;
+pub use caller::{Caller, Granted};
+pub use control::{Control, Marked, Mode, Off, On};
+pub use dql::Dql;
+pub use fault::Fault;
+pub use list::{List, Polled, Pushes, RunReport};
+pub use packets::{Batch, Packet, Weight};
+pub use polling::Polling;
+pub use replay::{replay, NoReport, Settings};
+pub use ring::{Input, Ring};
+pub use serial::SerialNapi;
+pub use shared::Shared;
+pub use transmit::{TxRing, TxState};
+pub use words::{Done, Kind, Next, Prep};

@@ -1,0 +1,75 @@
+//! Packets, and what a poll asks for and gives.
+use crate::fault::{unexpected, Fault};
+use crate::sys;
+use std::fmt;
+
+/// A packet: a number of the user's own, as an index of a buffer, and its bytes.
+pub use crate::sys::fq_packet as Packet;
+
+/// The most packets that one poll gives, 1 to 64.
+#[derive(Clone, Copy, Debug, PartialEq, Eq, PartialOrd, Ord)]
+pub struct Weight(usize);
+
+impl Weight {
+    /// The greatest, which is the kernel's usual one (`NAPI_POLL_WEIGHT`): 64.
+    pub const MAX: Weight = Weight(64);
+
+    /// Of a number from 1 to 64, else [`BAD_WEIGHT`](Fault::BAD_WEIGHT).
+    pub fn new(packets: usize) -> Result<Weight, Fault> {
+        match packets {
+            1..=64 => Ok(Weight(packets)),
+            _ => Err(Fault::BAD_WEIGHT),
+        }
+    }
+
+    /// The number.
+    pub fn get(self) -> usize {
+        self.0
+    }
+}
+
+/// Room for the packets of one poll.
+#[derive(Clone)]
+pub struct Batch {
+    packets: [Packet; 64],
+    count: usize,
+}
+
+impl Batch {
+    /// An empty one.
+    pub fn new() -> Batch {
+        Batch {
+            packets: [Packet::default(); 64],
+            count: 0,
+        }
+    }
+
+    /// What the last poll into it gave.
+    pub fn as_slice(&self) -> &[Packet] {
+        &self.packets[..self.count]
+    }
+
+    // Lets a poll write at most 64 packets to the place that it is given, and their count.
+    pub(crate) fn filled_by<F>(&mut self, poll: F) -> &[Packet]
+    where
+        F: FnOnce(*mut Packet, usize, *mut usize) -> u32,
+    {
+        let room = self.packets.len();
+        match poll(self.packets.as_mut_ptr(), room, &mut self.count) {
+            sys::FQ_OK => self.as_slice(),
+            said => unexpected("poll", said),
+        }
+    }
+}
+
+impl Default for Batch {
+    fn default() -> Batch {
+        Batch::new()
+    }
+}
+
+impl fmt::Debug for Batch {
+    fn fmt(&self, f: &mut fmt::Formatter<'_>) -> fmt::Result {
+        f.debug_list().entries(self.as_slice()).finish()
+    }
+}

@@ -1,0 +1,77 @@
+//! Receive rings.
+use crate::fault::{unexpected, Fault};
+use crate::handle::Handle;
+use crate::packets::{Batch, Packet, Weight};
+use crate::sys;
+
+/// A receive ring without an instance. Packets that lie in it when it is dropped are the user's
+/// loss.
+///
+/// ```
+/// use fintaqush::{Batch, Fault, Packet, Ring, Weight};
+///
+/// # fn main() -> Result<(), Fault> {
+/// let mut ring = Ring::new(2)?;
+/// ring.put(Packet { number: 7, bytes: 60 })?;
+/// ring.put(Packet { number: 8, bytes: 1500 })?;
+/// assert_eq!(ring.put(Packet { number: 9, bytes: 60 }), Err(Fault::FULL));
+///
+/// let mut batch = Batch::new();
+/// assert_eq!(ring.poll(Weight::new(1)?, &mut batch), [Packet { number: 7, bytes: 60 }]);
+/// assert_eq!(ring.poll(Weight::MAX, &mut batch), [Packet { number: 8, bytes: 1500 }]);
+/// # Ok(())
+/// # }
+/// ```
+#[derive(Debug)]
+pub struct Ring {
+    pub(crate) at: Handle,
+}
+
+impl Ring {
+    /// A ring of 1 to 65536 places. [`BAD_CAPACITY`](Fault::BAD_CAPACITY),
+    /// [`OUT_OF_MEMORY`](Fault::OUT_OF_MEMORY).
+    pub fn new(capacity: usize) -> Result<Ring, Fault> {
+        let mut at = Handle::NONE;
+        // SAFETY: the handle is this call's alone.
+        Fault::unless_made(unsafe { sys::fq_ring_new(at.raw(), capacity) })?;
+        Ok(Ring { at })
+    }
+
+    /// Puts a packet in, behind all others. [`FULL`](Fault::FULL).
+    pub fn put(&mut self, packet: Packet) -> Result<(), Fault> {
+        put(&mut self.at, packet)
+    }
+
+    /// Takes the first packets out, at most the weight.
+    pub fn poll<'b>(&mut self, weight: Weight, batch: &'b mut Batch) -> &'b [Packet] {
+        let at = self.at.raw();
+        batch.filled_by(|out, len, count| {
+            // SAFETY: handle, packets and count are this call's alone, each in a place of its own.
+            unsafe { sys::fq_ring_poll(at, weight.get(), out, len, count) }
+        })
+    }
+}
+
+/// The input end of an instance's ring.
+#[derive(Debug)]
+pub struct Input {
+    pub(crate) at: Handle,
+}
+
+impl Input {
+    /// Puts a packet in, behind all others. [`FULL`](Fault::FULL).
+    ///
+    /// What this thread wrote before, the thread sees whose poll gives the packet. What was done
+    /// before a poll, the put sees that finds a place free which that poll emptied.
+    pub fn put(&mut self, packet: Packet) -> Result<(), Fault> {
+        put(&mut self.at, packet)
+    }
+}
+
+fn put(ring: &mut Handle, packet: Packet) -> Result<(), Fault> {
+    // SAFETY: the handle is this call's alone.
+    match unsafe { sys::fq_ring_put(ring.raw(), packet.number, packet.bytes) } {
+        said @ (sys::FQ_OK | sys::FQ_FULL) => Fault::unless_made(said),
+        said => unexpected("ring_put", said),
+    }
+}

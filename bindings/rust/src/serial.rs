@@ -1,0 +1,116 @@
+//! Instances of one thread.
+use crate::fault::{unexpected, Fault};
+use crate::sys;
+use crate::words::{Done, Kind, Prep};
+use std::cell::Cell;
+use std::marker::PhantomData;
+
+/// An instance of one thread (`struct napi_struct`). Whoever calls bears a number, and the
+/// controller's is named when it is made. A call that the state doesn't have answers
+/// [`NOT_ALLOWED`](Fault::NOT_ALLOWED) and changes nothing.
+#[derive(Clone, Debug)]
+pub struct SerialNapi {
+    raw: sys::fq_napi,
+    // one call at a time
+    by_one: PhantomData<Cell<()>>,
+}
+
+impl SerialNapi {
+    /// A new instance (`netif_napi_add`): disabled.
+    pub fn new(controller: u32) -> SerialNapi {
+        SerialNapi {
+            // SAFETY: it takes a number alone.
+            raw: unsafe { sys::fq_napi_new(controller) },
+            by_one: PhantomData,
+        }
+    }
+
+    /// Asks for a poll (`napi_schedule_prep`).
+    pub fn schedule(&mut self, who: u32) -> Prep {
+        // SAFETY: the instance is borrowed by this call alone.
+        let said = unsafe { sys::fq_napi_schedule(&mut self.raw, who) };
+        match Prep::of("napi_schedule", said) {
+            Some(prep) => prep,
+            None => unexpected("napi_schedule", said),
+        }
+    }
+
+    /// Hands a granted or polled instance over (`____napi_schedule`).
+    pub fn hand(&mut self, who: u32, kind: Kind) -> Result<(), Fault> {
+        // SAFETY: the instance is borrowed by this call alone.
+        Fault::unless_made(unsafe { sys::fq_napi_hand(&mut self.raw, who, kind.number()) })
+    }
+
+    /// Takes it from the list or as its thread; false: it wasn't there.
+    pub fn take(&mut self, who: u32, kind: Kind) -> bool {
+        // SAFETY: the instance is borrowed by this call alone.
+        let said = unsafe { sys::fq_napi_take(&mut self.raw, who, kind.number()) };
+        said == sys::FQ_TAKEN
+    }
+
+    /// Ends a poll (`napi_complete_done`).
+    pub fn complete(&mut self, who: u32) -> Result<Done, Fault> {
+        // SAFETY: the instance is borrowed by this call alone.
+        match unsafe { sys::fq_napi_complete(&mut self.raw, who) } {
+            sys::FQ_RELEASED => Ok(Done::Released),
+            sys::FQ_AGAIN => Ok(Done::Again),
+            sys::FQ_HELD => Ok(Done::Held),
+            sys::FQ_NOT_ALLOWED => Err(Fault::NOT_ALLOWED),
+            said => unexpected("napi_complete", said),
+        }
+    }
+
+    /// Takes an idle instance to busy poll it (`napi_busy_loop`); false: it isn't idle.
+    pub fn busy_take(&mut self, who: u32) -> bool {
+        // SAFETY: the instance is borrowed by this call alone.
+        let said = unsafe { sys::fq_napi_busy_take(&mut self.raw, who) };
+        said == sys::FQ_TAKEN
+    }
+
+    /// Stops busy polling (`busy_poll_stop`): one poll has to follow.
+    pub fn busy_stop(&mut self, who: u32) -> Result<(), Fault> {
+        // SAFETY: the instance is borrowed by this call alone.
+        Fault::unless_made(unsafe { sys::fq_napi_busy_stop(&mut self.raw, who) })
+    }
+
+    /// Whether polls are handed to the instance's own thread (`dev_set_threaded`).
+    pub fn set_threaded(&mut self, who: u32, threaded: bool) {
+        // SAFETY: the instance is borrowed by this call alone.
+        unsafe { sys::fq_napi_set_threaded(&mut self.raw, who, threaded) }
+    }
+
+    /// The controller's: a disable is pending from now on (the first step of `napi_disable`).
+    pub fn mark_disable(&mut self, who: u32) -> Result<(), Fault> {
+        // SAFETY: the instance is borrowed by this call alone.
+        Fault::unless_made(unsafe { sys::fq_napi_mark_disable(&mut self.raw, who) })
+    }
+
+    /// The controller's: takes a marked instance (the second step); false: somebody has it.
+    pub fn take_disable(&mut self, who: u32) -> Result<bool, Fault> {
+        // SAFETY: the instance is borrowed by this call alone.
+        match unsafe { sys::fq_napi_take_disable(&mut self.raw, who) } {
+            sys::FQ_TAKEN => Ok(true),
+            sys::FQ_BUSY => Ok(false),
+            sys::FQ_NOT_ALLOWED => Err(Fault::NOT_ALLOWED),
+            said => unexpected("napi_take_disable", said),
+        }
+    }
+
+    /// The controller's: the disable is pending no more (the third step).
+    pub fn unmark(&mut self, who: u32) -> Result<(), Fault> {
+        // SAFETY: the instance is borrowed by this call alone.
+        Fault::unless_made(unsafe { sys::fq_napi_unmark(&mut self.raw, who) })
+    }
+
+    /// The controller's: enables it (`napi_enable`).
+    pub fn enable(&mut self, who: u32, threaded: bool) -> Result<(), Fault> {
+        // SAFETY: the instance is borrowed by this call alone.
+        Fault::unless_made(unsafe { sys::fq_napi_enable(&mut self.raw, who, threaded) })
+    }
+
+    /// The state word, of the [`sys`] constants `FQ_BIT_..` that are set.
+    pub fn word(&self) -> u64 {
+        // SAFETY: the library reads it; no other thread does, as it isn't `Sync`.
+        unsafe { sys::fq_napi_word(&self.raw) }
+    }
+}

@@ -1,0 +1,59 @@
+//! Instances that threads share.
+use crate::caller::Caller;
+use crate::control::{Control, Off};
+use crate::fault::Fault;
+use crate::handle::Handle;
+use crate::ring::{Input, Ring};
+use crate::sys;
+
+/// A new instance that threads share: the input of its ring, its controller, and its callers, 2 to
+/// 8. Each goes to a thread of its own; a caller that isn't needed may be dropped.
+///
+/// ```
+/// use fintaqush::{Batch, Completed, Fault, Kind, Packet, Prep, Shared, Weight};
+///
+/// # fn main() -> Result<(), Fault> {
+/// let Shared { mut input, control, callers: [mut interrupts, poller] } = Shared::new(256)?;
+/// let on = control.enable(false);
+/// input.put(Packet { number: 1, bytes: 60 })?;
+/// assert_eq!(interrupts.interrupt(Kind::List), Prep::Granted);
+///
+/// let mut batch = Batch::new();
+/// let mut polling = poller.take(Kind::List).expect("it was handed to the list");
+/// assert_eq!(polling.poll(Weight::MAX, &mut batch), [Packet { number: 1, bytes: 60 }]);
+/// assert!(matches!(polling.complete(), Completed::Released(_)));
+/// let off = on.disable();
+/// # drop(off);
+/// # Ok(())
+/// # }
+/// ```
+#[derive(Debug)]
+pub struct Shared<const CALLERS: usize> {
+    /// The input end of its ring.
+    pub input: Input,
+    /// Its controller. The instance is disabled.
+    pub control: Control<Off>,
+    /// Its callers, all at rest.
+    pub callers: [Caller; CALLERS],
+}
+
+impl<const CALLERS: usize> Shared<CALLERS> {
+    /// Over a ring of 1 to 65536 places, with 2 to 8 callers. [`BAD_CAPACITY`](Fault::BAD_CAPACITY),
+    /// [`BAD_COUNT`](Fault::BAD_COUNT), [`OUT_OF_MEMORY`](Fault::OUT_OF_MEMORY).
+    pub fn new(capacity: usize) -> Result<Shared<CALLERS>, Fault> {
+        let mut ring = Ring::new(capacity)?;
+        let mut control = Handle::NONE;
+        let mut seats = [Handle::NONE; CALLERS];
+        let first = seats.as_mut_ptr().cast::<sys::fq_handle>();
+        // SAFETY: all handles are this call's alone, each in a place of its own; a `Handle` is a
+        // `fq_handle` and nothing else, and there are so many.
+        Fault::unless_made(unsafe {
+            sys::fq_shared_new(ring.at.raw(), control.raw(), first, CALLERS)
+        })?;
+        Ok(Shared {
+            input: Input { at: ring.at },
+            control: Control::of(control),
+            callers: seats.map(|at| Caller { at }),
+        })
+    }
+}

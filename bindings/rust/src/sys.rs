@@ -1,0 +1,361 @@
+//! `include/fintaqush.h` word for word: its numbers, structs and functions. The header says what
+//! each does, and what it wants of its caller; the modules beside this one keep to it.
+#![allow(non_camel_case_types)]
+
+use std::os::raw::c_void;
+
+macro_rules! statuses {
+    ($($name:ident = $number:literal,)*) => {
+        $(
+            #[doc = concat!("`", stringify!($name), "` of `enum fq_status`.")]
+            pub const $name: u32 = $number;
+        )*
+
+        /// The name of a status, as "FQ_GRANTED"; "?" of a number that is none.
+        pub fn fq_status_name(status: u32) -> &'static str {
+            match status {
+                $($number => stringify!($name),)*
+                _ => "?",
+            }
+        }
+    };
+}
+
+statuses! {
+    FQ_OK = 0,
+    FQ_BAD_BOUNDS = 1,
+    FQ_TOO_LARGE = 2,
+    FQ_TOO_MUCH_IN_FLIGHT = 3,
+    FQ_MORE_THAN_QUEUED = 4,
+    FQ_GRANTED = 16,
+    FQ_MISSED = 17,
+    FQ_DISABLED = 18,
+    FQ_TAKEN = 19,
+    FQ_NOT_THERE = 20,
+    FQ_RELEASED = 21,
+    FQ_AGAIN = 22,
+    FQ_HELD = 23,
+    FQ_BUSY = 24,
+    FQ_CHANGED = 25,
+    FQ_FULL = 26,
+    FQ_DONE = 27,
+    FQ_STOPPED = 28,
+    FQ_MORE_THAN_SENT = 29,
+    FQ_NOT_ALLOWED = 100,
+    FQ_BAD_KIND = 101,
+    FQ_BAD_HANDLE = 110,
+    FQ_IN_USE = 111,
+    FQ_OUT_OF_MEMORY = 112,
+    FQ_BAD_CAPACITY = 113,
+    FQ_BAD_WEIGHT = 114,
+    FQ_NO_ROOM = 115,
+    FQ_BAD_BUDGET = 116,
+    FQ_BAD_COUNT = 117,
+    FQ_BAD_NEXT = 118,
+    FQ_BAD_WORK = 119,
+    FQ_BAD_TRACE = 120,
+}
+
+/// `FQ_LIST` of `enum fq_kind`: handed to a poll list.
+pub const FQ_LIST: u32 = 0;
+/// `FQ_THREAD` of `enum fq_kind`: handed to the instance's own thread.
+pub const FQ_THREAD: u32 = 1;
+
+/// `FQ_NEXT_GONE` of `enum fq_next`.
+pub const FQ_NEXT_GONE: u32 = 0;
+/// `FQ_NEXT_AGAIN` of `enum fq_next`.
+pub const FQ_NEXT_AGAIN: u32 = 1;
+/// `FQ_NEXT_AGAIN_THREAD` of `enum fq_next`.
+pub const FQ_NEXT_AGAIN_THREAD: u32 = 2;
+/// `FQ_NEXT_REPOLL` of `enum fq_next`.
+pub const FQ_NEXT_REPOLL: u32 = 3;
+/// `FQ_NEXT_ABSENT` of `enum fq_next`.
+pub const FQ_NEXT_ABSENT: u32 = 4;
+
+/// `NAPI_STATE_SCHED` in a state word.
+pub const FQ_BIT_SCHED: u64 = 1 << 0;
+/// `NAPI_STATE_MISSED`.
+pub const FQ_BIT_MISSED: u64 = 1 << 1;
+/// `NAPI_STATE_DISABLE`.
+pub const FQ_BIT_DISABLE: u64 = 1 << 2;
+/// `NAPI_STATE_NPSVC`.
+pub const FQ_BIT_NPSVC: u64 = 1 << 3;
+/// `NAPI_STATE_IN_BUSY_POLL`.
+pub const FQ_BIT_IN_BUSY_POLL: u64 = 1 << 6;
+/// `NAPI_STATE_THREADED`.
+pub const FQ_BIT_THREADED: u64 = 1 << 8;
+/// `NAPI_STATE_SCHED_THREADED`.
+pub const FQ_BIT_SCHED_THREADED: u64 = 1 << 9;
+/// It lies on a list, and nobody has taken it.
+pub const FQ_BIT_LISTED: u64 = 1 << 32;
+/// It was handed to its thread, which hasn't taken it.
+pub const FQ_BIT_WITH_THREAD: u64 = 1 << 33;
+
+/// A byte queue limit. It isn't copied, and only calls write its fields.
+#[repr(C)]
+#[derive(Debug)]
+pub struct fq_dql {
+    private_a: [u32; 8],
+    private_b: u64,
+    private_c: [u32; 2],
+    private_d: u64,
+}
+
+/// What [`fq_dql_new`](fn@fq_dql_new) answers.
+#[repr(C)]
+#[derive(Debug)]
+pub struct fq_dql_new {
+    /// The limit; one of 0 where it is refused.
+    pub dql: fq_dql,
+    /// `FQ_OK` or `FQ_BAD_BOUNDS`.
+    pub status: u32,
+}
+
+/// An instance of one thread. Whatever its bytes are, each is a state.
+#[repr(C)]
+#[derive(Clone, Debug, PartialEq, Eq)]
+pub struct fq_napi {
+    /// `NAPI_STATE_SCHED`.
+    pub sched: bool,
+    /// `NAPI_STATE_MISSED`.
+    pub missed: bool,
+    /// `NAPI_STATE_DISABLE`.
+    pub disable: bool,
+    /// `NAPI_STATE_NPSVC`.
+    pub npsvc: bool,
+    /// `NAPI_STATE_IN_BUSY_POLL`.
+    pub in_busy_poll: bool,
+    /// `NAPI_STATE_THREADED`.
+    pub threaded: bool,
+    /// `NAPI_STATE_SCHED_THREADED`.
+    pub sched_threaded: bool,
+    /// 0 nobody, 1 granted, 2 listed, 3 to its thread, 4 polled, 5 the controller.
+    pub place: u8,
+    /// Who owns it there.
+    pub owner: u32,
+    /// Who may enable and disable it.
+    pub controller: u32,
+}
+
+/// What leads to a value of the library's on the heap. It isn't copied, and only calls write its
+/// fields.
+#[repr(C)]
+#[derive(Debug)]
+pub struct fq_handle {
+    pub(crate) private_set: bool,
+    pub(crate) private_at: *mut c_void,
+}
+
+/// A handle that leads to nothing.
+pub const FQ_NONE: fq_handle = fq_handle {
+    private_set: false,
+    private_at: std::ptr::null_mut(),
+};
+
+/// A packet.
+#[repr(C)]
+#[derive(Clone, Copy, Debug, Default, PartialEq, Eq)]
+pub struct fq_packet {
+    /// The user's own: an index, a pointer.
+    pub number: u64,
+    /// Its bytes.
+    pub bytes: u32,
+}
+
+/// What a transmit ring shows.
+#[repr(C)]
+#[derive(Clone, Copy, Debug, Default, PartialEq, Eq)]
+pub struct fq_tx_state {
+    /// The bytes of all packets ever sent, modulo 2^32.
+    pub queued: u32,
+    /// The bytes of all that are complete, modulo 2^32.
+    pub completed: u32,
+    /// The limit in bytes.
+    pub limit: u32,
+    /// The bytes that may still be sent, negative where the queue is over its limit.
+    pub avail: i64,
+    /// Whether the queue is stopped.
+    pub stopped: bool,
+}
+
+/// What a polling run did.
+#[repr(C)]
+#[derive(Clone, Copy, Debug, Default, PartialEq, Eq)]
+pub struct fq_run_report {
+    /// The polls that were made, at most the window.
+    pub polls: u32,
+    /// The packets that they gave together.
+    pub work: u32,
+    /// Whether budget or window was spent.
+    pub squeezed: bool,
+}
+
+/// How a replay polls.
+#[repr(C)]
+#[derive(Clone, Copy, Debug, PartialEq, Eq)]
+pub struct fq_settings {
+    /// The packets that a run polls before it is squeezed, 1 to 65535.
+    pub budget: u32,
+    /// The packets that one poll gives at most, 1 to 64.
+    pub weight: u32,
+    /// The polls that a run makes before it is squeezed, 1 to 65535.
+    pub window: u32,
+}
+
+/// What a replay tells beside its status.
+#[repr(C)]
+#[derive(Clone, Copy, Debug, Default, PartialEq, Eq)]
+pub struct fq_replayed {
+    /// The bytes of the report, also where there is no room for it; 0 where there is none.
+    pub length: usize,
+    /// The number of the trace's fault; 0 where it has none.
+    pub fault: u32,
+    /// The row that the fault names; 0 where it names none.
+    pub row: u32,
+}
+
+#[allow(missing_docs)] // include/fintaqush.h is the reference
+extern "C" {
+    pub fn fq_dql_new(min: u32, max: u32, hold_ms: u64, now_ms: u64) -> fq_dql_new;
+    pub fn fq_dql_queued(dql: *mut fq_dql, count: u32) -> u32;
+    pub fn fq_dql_completed(dql: *mut fq_dql, count: u32, now_ms: u64) -> u32;
+    pub fn fq_dql_reset(dql: *mut fq_dql, now_ms: u64);
+    pub fn fq_dql_limit(dql: *const fq_dql) -> u32;
+    pub fn fq_dql_avail(dql: *const fq_dql) -> i64;
+    pub fn fq_dql_in_flight(dql: *const fq_dql) -> u32;
+
+    pub fn fq_napi_new(controller: u32) -> fq_napi;
+    pub fn fq_napi_schedule(napi: *mut fq_napi, who: u32) -> u32;
+    pub fn fq_napi_hand(napi: *mut fq_napi, who: u32, kind: u32) -> u32;
+    pub fn fq_napi_take(napi: *mut fq_napi, who: u32, kind: u32) -> u32;
+    pub fn fq_napi_complete(napi: *mut fq_napi, who: u32) -> u32;
+    pub fn fq_napi_busy_take(napi: *mut fq_napi, who: u32) -> u32;
+    pub fn fq_napi_busy_stop(napi: *mut fq_napi, who: u32) -> u32;
+    pub fn fq_napi_set_threaded(napi: *mut fq_napi, who: u32, threaded: bool);
+    pub fn fq_napi_mark_disable(napi: *mut fq_napi, who: u32) -> u32;
+    pub fn fq_napi_take_disable(napi: *mut fq_napi, who: u32) -> u32;
+    pub fn fq_napi_unmark(napi: *mut fq_napi, who: u32) -> u32;
+    pub fn fq_napi_enable(napi: *mut fq_napi, who: u32, threaded: bool) -> u32;
+    pub fn fq_napi_word(napi: *const fq_napi) -> u64;
+
+    pub fn fq_free(handle: *mut fq_handle) -> u32;
+    pub fn fq_abandon(handle: *mut fq_handle) -> u32;
+
+    pub fn fq_ring_new(ring: *mut fq_handle, capacity: usize) -> u32;
+    pub fn fq_ring_put(ring: *mut fq_handle, number: u64, bytes: u32) -> u32;
+    pub fn fq_ring_poll(
+        ring: *mut fq_handle,
+        weight: usize,
+        out: *mut fq_packet,
+        len: usize,
+        count: *mut usize,
+    ) -> u32;
+
+    pub fn fq_tx_new(
+        tx: *mut fq_handle,
+        capacity: usize,
+        min: u32,
+        max: u32,
+        hold_ms: u64,
+        now_ms: u64,
+    ) -> u32;
+    pub fn fq_tx_send(tx: *mut fq_handle, bytes: u32) -> u32;
+    pub fn fq_tx_done(tx: *mut fq_handle, count: u32, now_ms: u64) -> u32;
+    pub fn fq_tx_state(tx: *mut fq_handle, state: *mut fq_tx_state) -> u32;
+
+    pub fn fq_shared_new(
+        ring: *mut fq_handle,
+        control: *mut fq_handle,
+        seats: *mut fq_handle,
+        count: usize,
+    ) -> u32;
+    pub fn fq_seat_schedule(seat: *mut fq_handle) -> u32;
+    pub fn fq_seat_take(seat: *mut fq_handle, kind: u32) -> u32;
+    pub fn fq_seat_busy_take(seat: *mut fq_handle) -> u32;
+    pub fn fq_seat_set_threaded(seat: *mut fq_handle, threaded: bool) -> u32;
+    pub fn fq_seat_hand(seat: *mut fq_handle, kind: u32) -> u32;
+    pub fn fq_seat_poll(
+        seat: *mut fq_handle,
+        weight: usize,
+        out: *mut fq_packet,
+        len: usize,
+        count: *mut usize,
+    ) -> u32;
+    pub fn fq_seat_requeue(seat: *mut fq_handle) -> u32;
+    pub fn fq_seat_complete(seat: *mut fq_handle) -> u32;
+    pub fn fq_seat_busy_stop(seat: *mut fq_handle) -> u32;
+    pub fn fq_control_enable(control: *mut fq_handle, threaded: bool) -> u32;
+    pub fn fq_control_mark(control: *mut fq_handle) -> u32;
+    pub fn fq_control_try_take(control: *mut fq_handle) -> u32;
+
+    pub fn fq_list_new(list: *mut fq_handle) -> u32;
+    pub fn fq_list_push(list: *mut fq_handle, id: u32) -> u32;
+    pub fn fq_run_begin(list: *mut fq_handle, budget: u32, weight: u32, window: u32) -> u32;
+    pub fn fq_run_next(list: *mut fq_handle, id: *mut u32) -> u32;
+    pub fn fq_run_polled(list: *mut fq_handle, work: u32, next: u32) -> u32;
+    pub fn fq_run_end(list: *mut fq_handle, report: *mut fq_run_report) -> u32;
+
+    pub fn fq_replay(
+        settings: *const fq_settings,
+        trace: *const u8,
+        len: usize,
+        report: *mut u8,
+        room: usize,
+        replayed: *mut fq_replayed,
+    ) -> u32;
+}
+
+// What the header defines inline.
+
+/// The name of a trace's fault, as "BadHeader"; "?" of a number that is none.
+pub fn fq_fault_name(fault: u32) -> &'static str {
+    match fault {
+        1 => "BadHeader",
+        2 => "BadFields",
+        3 => "BadNumber",
+        4 => "BadEvent",
+        5 => "OutOfRange",
+        6 => "UnknownDevice",
+        7 => "OpenTwice",
+        8 => "WrongState",
+        9 => "TooManyRows",
+        10 => "ReadFailed",
+        11 => "OutOfMemory",
+        12 => "Pending",
+        _ => "?",
+    }
+}
+
+/// A new limit, into the caller's struct.
+///
+/// # Safety
+/// `dql` leads to memory of its type.
+pub unsafe fn fq_dql_init(dql: *mut fq_dql, min: u32, max: u32, hold_ms: u64, now_ms: u64) -> u32 {
+    // SAFETY: it takes numbers alone.
+    let made = unsafe { fq_dql_new(min, max, hold_ms, now_ms) };
+    // SAFETY: the caller says where it leads; what lay there has nothing to be dropped.
+    unsafe { dql.write(made.dql) };
+    made.status
+}
+
+/// An interrupt: schedules, try after try until one decides, and hands over where it was granted.
+///
+/// # Safety
+/// As for [`fq_seat_schedule`] and [`fq_seat_hand`].
+pub unsafe fn fq_seat_interrupt(seat: *mut fq_handle, kind: u32) -> u32 {
+    if kind > FQ_THREAD {
+        return FQ_BAD_KIND;
+    }
+    loop {
+        // SAFETY: as the caller says.
+        let said = unsafe { fq_seat_schedule(seat) };
+        if said == FQ_GRANTED {
+            // SAFETY: as the caller says.
+            let handed = unsafe { fq_seat_hand(seat, kind) };
+            return if handed == FQ_OK { said } else { handed };
+        }
+        if said != FQ_CHANGED {
+            return said;
+        }
+    }
+}

@@ -1,0 +1,77 @@
+//! Transmit rings under a byte queue limit.
+use crate::fault::{unexpected, Fault};
+use crate::handle::Handle;
+use crate::sys;
+
+/// What a transmit ring shows: bytes queued and completed (modulo 2^32), the limit, what may still
+/// be sent, and whether the queue is stopped.
+pub use crate::sys::fq_tx_state as TxState;
+
+/// A transmit ring (`netdev_tx_sent_queue`, `netdev_tx_completed_queue`): the sizes of the packets
+/// that were sent and aren't complete, in order, under a byte queue limit that stops the queue and
+/// starts it again. Moments are milliseconds of the user's clock.
+///
+/// ```
+/// use fintaqush::{Fault, TxRing};
+///
+/// # fn main() -> Result<(), Fault> {
+/// let mut ring = TxRing::new(256, 0, 1879048192, 1000, 0)?;
+/// // nothing may be in flight at first, so one packet stops the queue
+/// ring.send(1500)?;
+/// assert_eq!(ring.send(60), Err(Fault::STOPPED));
+/// // the card is done with it, having run out of work: the limit grows, and the queue starts
+/// ring.done(1, 6)?;
+/// let state = ring.state();
+/// assert_eq!((state.limit, state.avail, state.stopped), (1500, 1500, false));
+/// # Ok(())
+/// # }
+/// ```
+#[derive(Debug)]
+pub struct TxRing {
+    at: Handle,
+}
+
+impl TxRing {
+    /// A ring of 1 to 65536 packets, not stopped, over a new limit between `min` and `max`, which
+    /// keeps slack for `hold_ms` (`dql_init`). [`BAD_CAPACITY`](Fault::BAD_CAPACITY),
+    /// [`BAD_BOUNDS`](Fault::BAD_BOUNDS), [`OUT_OF_MEMORY`](Fault::OUT_OF_MEMORY).
+    pub fn new(
+        capacity: usize,
+        min: u32,
+        max: u32,
+        hold_ms: u64,
+        now_ms: u64,
+    ) -> Result<TxRing, Fault> {
+        let mut at = Handle::NONE;
+        // SAFETY: the handle is this call's alone.
+        let said = unsafe { sys::fq_tx_new(at.raw(), capacity, min, max, hold_ms, now_ms) };
+        Fault::unless_made(said)?;
+        Ok(TxRing { at })
+    }
+
+    /// Gives a packet of so many bytes to the device, and stops the queue where less than nothing
+    /// is available then. Nothing is sent: [`STOPPED`](Fault::STOPPED), else
+    /// [`FULL`](Fault::FULL), else [`TOO_LARGE`](Fault::TOO_LARGE), else
+    /// [`TOO_MUCH_IN_FLIGHT`](Fault::TOO_MUCH_IN_FLIGHT).
+    pub fn send(&mut self, bytes: u32) -> Result<(), Fault> {
+        // SAFETY: the handle is this ring's alone.
+        Fault::unless_made(unsafe { sys::fq_tx_send(self.at.raw(), bytes) })
+    }
+
+    /// The device is done with so many packets, the oldest ones: the limit adapts, and where it has
+    /// room again the queue is started. [`MORE_THAN_SENT`](Fault::MORE_THAN_SENT): nothing is done.
+    pub fn done(&mut self, count: u32, now_ms: u64) -> Result<(), Fault> {
+        // SAFETY: the handle is this ring's alone.
+        Fault::unless_made(unsafe { sys::fq_tx_done(self.at.raw(), count, now_ms) })
+    }
+
+    /// What it shows.
+    pub fn state(&mut self) -> TxState {
+        let mut state = TxState::default();
+        // SAFETY: the handle is this ring's alone, and the state lies elsewhere.
+        match unsafe { sys::fq_tx_state(self.at.raw(), &mut state) } {
+            sys::FQ_OK => state,
+            said => unexpected("tx_state", said),
+        }
+    }
+}

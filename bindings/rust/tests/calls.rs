@@ -1,0 +1,460 @@
+//! The safe calls, on worked cases: what each kind of value does, and what is refused.
+use fintaqush::sys::{FQ_BIT_DISABLE, FQ_BIT_LISTED, FQ_BIT_NPSVC, FQ_BIT_SCHED, FQ_BIT_THREADED};
+use fintaqush::*;
+use std::fmt::Write;
+use std::panic::{catch_unwind, AssertUnwindSafe};
+
+const INTERRUPT: u32 = 0;
+const POLLER: u32 = 1;
+const CONTROLLER: u32 = 2;
+
+fn packet(number: u64) -> Packet {
+    Packet { number, bytes: 60 }
+}
+
+fn numbers(packets: &[Packet]) -> Vec<u64> {
+    packets.iter().map(|packet| packet.number).collect()
+}
+
+// An instance of two callers, enabled.
+fn enabled(capacity: usize) -> (Input, Control<On>, Caller, Caller) {
+    let Shared {
+        input,
+        control,
+        callers: [interrupts, poller],
+    } = Shared::new(capacity).unwrap();
+    (input, control.enable(false), interrupts, poller)
+}
+
+fn take(poller: Caller) -> Polling {
+    poller.take(Kind::List).expect("it is on the list")
+}
+
+// ---- queue limits
+
+#[test]
+fn a_limit_grows_while_the_card_runs_out_of_work() {
+    let mut limit = Dql::new(0, 1_879_048_192, 1000, 0).unwrap();
+    let mut told = String::new();
+    for now in [6, 12, 18] {
+        let mut frames = 0;
+        while limit.avail() >= 0 {
+            limit.queued(1500).unwrap();
+            frames += 1;
+        }
+        let in_flight = limit.in_flight();
+        limit.completed(in_flight, now).unwrap();
+        let grown = limit.limit();
+        writeln!(
+            told,
+            "{frames} frames, {in_flight} bytes in flight, then a limit of {grown}"
+        )
+        .unwrap();
+    }
+    assert_eq!(told, include_str!("../../../examples/c/limit.stdout"));
+}
+
+#[test]
+fn a_limit_refuses_and_stays() {
+    assert_eq!(Dql::new(2, 1, 0, 0).unwrap_err(), Fault::BAD_BOUNDS);
+    assert_eq!(
+        Dql::new(0, 1_879_048_193, 0, 0).unwrap_err(),
+        Fault::BAD_BOUNDS
+    );
+    let mut limit = Dql::new(0, 1000, 0, 0).unwrap();
+    assert_eq!(limit.queued(268_435_456), Err(Fault::TOO_LARGE));
+    for _ in 0..4 {
+        limit.queued(268_435_455).unwrap();
+    }
+    // 1073741823 bytes may be in flight: three more than these four
+    limit.queued(3).unwrap();
+    assert_eq!(limit.queued(1), Err(Fault::TOO_MUCH_IN_FLIGHT));
+    assert_eq!(
+        limit.completed(1_073_741_824, 1),
+        Err(Fault::MORE_THAN_QUEUED)
+    );
+    assert_eq!(limit.in_flight(), 1_073_741_823);
+    limit.reset(2);
+    assert_eq!((limit.in_flight(), limit.limit()), (0, 0));
+}
+
+// ---- transmit rings
+
+#[test]
+fn a_transmit_ring_is_stopped_by_its_limit_and_started_again() {
+    let mut ring = TxRing::new(2, 1000, 1000, 1000, 0).unwrap();
+    ring.send(600).unwrap();
+    assert_eq!((ring.state().avail, ring.state().stopped), (400, false));
+    ring.send(600).unwrap();
+    let over = TxState {
+        queued: 1200,
+        completed: 0,
+        limit: 1000,
+        avail: -200,
+        stopped: true,
+    };
+    assert_eq!(ring.state(), over);
+    assert_eq!(ring.send(1), Err(Fault::STOPPED));
+    assert_eq!(ring.done(3, 1), Err(Fault::MORE_THAN_SENT));
+    assert_eq!(ring.state(), over);
+    ring.done(1, 1).unwrap();
+    assert_eq!((ring.state().avail, ring.state().stopped), (400, false));
+    ring.send(100).unwrap();
+    assert_eq!(ring.send(100), Err(Fault::FULL));
+    ring.done(2, 2).unwrap();
+    assert_eq!(ring.send(268_435_456), Err(Fault::TOO_LARGE));
+    assert_eq!((ring.state().queued, ring.state().completed), (1300, 1300));
+}
+
+#[test]
+fn a_transmit_ring_out_of_range_is_refused() {
+    let made = |capacity, min, max| TxRing::new(capacity, min, max, 0, 0).map(drop);
+    assert_eq!(made(0, 0, 1), Err(Fault::BAD_CAPACITY));
+    assert_eq!(made(65537, 0, 1), Err(Fault::BAD_CAPACITY));
+    assert_eq!(made(1, 2, 1), Err(Fault::BAD_BOUNDS));
+    assert_eq!(made(1, 0, 1_879_048_193), Err(Fault::BAD_BOUNDS));
+    assert_eq!(made(65536, 0, 1_879_048_192), Ok(()));
+}
+
+// ---- instances of one thread
+
+#[test]
+fn a_request_that_is_missed_brings_one_more_poll() {
+    let mut napi = SerialNapi::new(CONTROLLER);
+    assert_eq!(napi.word(), FQ_BIT_SCHED | FQ_BIT_NPSVC);
+    napi.enable(CONTROLLER, true).unwrap();
+    assert_eq!(napi.word(), FQ_BIT_THREADED);
+    napi.set_threaded(POLLER, false);
+    assert_eq!(napi.schedule(INTERRUPT), Prep::Granted);
+    napi.hand(INTERRUPT, Kind::List).unwrap();
+    assert_eq!(napi.word(), FQ_BIT_SCHED | FQ_BIT_LISTED);
+    assert_eq!(napi.schedule(INTERRUPT), Prep::Missed);
+    assert!(!napi.take(POLLER, Kind::Thread));
+    assert!(napi.take(POLLER, Kind::List));
+    assert_eq!(napi.complete(POLLER), Ok(Done::Again));
+    napi.hand(POLLER, Kind::List).unwrap();
+    assert!(napi.take(POLLER, Kind::List));
+    assert_eq!(napi.complete(POLLER), Ok(Done::Released));
+    assert_eq!(napi.word(), 0);
+}
+
+#[test]
+fn calls_out_of_turn_are_refused() {
+    let mut napi = SerialNapi::new(CONTROLLER);
+    assert_eq!(napi.enable(POLLER, false), Err(Fault::NOT_ALLOWED));
+    assert_eq!(napi.mark_disable(CONTROLLER), Err(Fault::NOT_ALLOWED));
+    napi.enable(CONTROLLER, false).unwrap();
+    assert_eq!(napi.hand(INTERRUPT, Kind::List), Err(Fault::NOT_ALLOWED));
+    assert_eq!(napi.complete(POLLER), Err(Fault::NOT_ALLOWED));
+    assert_eq!(napi.busy_stop(POLLER), Err(Fault::NOT_ALLOWED));
+    assert_eq!(napi.take_disable(POLLER), Err(Fault::NOT_ALLOWED));
+    assert_eq!(napi.word(), 0);
+}
+
+#[test]
+fn a_disable_waits_for_a_busy_poller() {
+    let mut napi = SerialNapi::new(CONTROLLER);
+    napi.enable(CONTROLLER, false).unwrap();
+    assert!(napi.busy_take(POLLER));
+    assert!(!napi.busy_take(INTERRUPT));
+    assert_eq!(napi.complete(POLLER), Ok(Done::Held));
+    napi.mark_disable(CONTROLLER).unwrap();
+    assert_eq!(napi.schedule(INTERRUPT), Prep::Disabled);
+    assert_eq!(napi.take_disable(CONTROLLER), Ok(false));
+    napi.busy_stop(POLLER).unwrap();
+    assert_eq!(napi.word(), FQ_BIT_SCHED | FQ_BIT_DISABLE);
+    assert_eq!(napi.complete(POLLER), Ok(Done::Released));
+    assert_eq!(napi.take_disable(CONTROLLER), Ok(true));
+    napi.unmark(CONTROLLER).unwrap();
+    assert_eq!(napi.word(), FQ_BIT_SCHED | FQ_BIT_NPSVC);
+}
+
+// ---- rings and instances that threads share
+
+#[test]
+fn sizes_out_of_range_are_refused() {
+    assert_eq!(Ring::new(0).unwrap_err(), Fault::BAD_CAPACITY);
+    assert_eq!(Ring::new(65537).unwrap_err(), Fault::BAD_CAPACITY);
+    assert_eq!(Shared::<2>::new(0).unwrap_err(), Fault::BAD_CAPACITY);
+    assert_eq!(Shared::<0>::new(4).unwrap_err(), Fault::BAD_COUNT);
+    assert_eq!(Shared::<1>::new(4).unwrap_err(), Fault::BAD_COUNT);
+    assert_eq!(Shared::<9>::new(4).unwrap_err(), Fault::BAD_COUNT);
+    assert!(Shared::<8>::new(65536).is_ok());
+    assert_eq!(Weight::new(0), Err(Fault::BAD_WEIGHT));
+    assert_eq!(Weight::new(65), Err(Fault::BAD_WEIGHT));
+    assert_eq!(Weight::new(64), Ok(Weight::MAX));
+}
+
+#[test]
+fn polls_give_the_next_packets_at_most_the_weight() {
+    let (mut input, on, mut interrupts, poller) = enabled(100);
+    for number in 0..100 {
+        input.put(packet(number)).unwrap();
+    }
+    assert_eq!(input.put(packet(100)), Err(Fault::FULL));
+    assert_eq!(interrupts.interrupt(Kind::List), Prep::Granted);
+
+    let mut batch = Batch::new();
+    let mut polling = take(poller);
+    let first = polling.poll(Weight::MAX, &mut batch);
+    assert_eq!(numbers(first), (0..64).collect::<Vec<_>>());
+    let poller = polling.requeue();
+    assert_eq!(interrupts.interrupt(Kind::List), Prep::Missed);
+
+    let mut polling = take(poller);
+    let rest = polling.poll(Weight::MAX, &mut batch);
+    assert_eq!(numbers(rest), (64..100).collect::<Vec<_>>());
+    assert_eq!(batch.as_slice().len(), 36);
+    let poller = match polling.complete() {
+        Completed::Again(granted) => granted.hand(Kind::List),
+        Completed::Released(_) => panic!("a request was missed"),
+    };
+    let mut polling = take(poller);
+    assert!(polling.poll(Weight::MAX, &mut batch).is_empty());
+    assert!(matches!(polling.try_complete(), TryDone::Released(_)));
+    drop(on.disable());
+}
+
+#[test]
+fn a_disable_waits_for_the_poller_and_refuses_requests() {
+    let (_input, on, interrupts, poller) = enabled(4);
+    let granted = match interrupts.schedule() {
+        Sched::Granted(granted) => granted,
+        other => panic!("{other:?}"),
+    };
+    let interrupts = granted.hand(Kind::Thread);
+    let poller = poller.take(Kind::List).expect_err("its thread has it");
+    let marked = on.mark();
+    let marked = match marked.try_take() {
+        TryTake::Busy(marked) => marked,
+        other => panic!("{other:?}"),
+    };
+    let interrupts = match interrupts.schedule() {
+        Sched::Disabled(caller) => caller,
+        other => panic!("{other:?}"),
+    };
+    let polling = poller.take(Kind::Thread).expect("it was handed to it");
+    assert!(matches!(polling.complete(), Completed::Released(_)));
+    let off = match marked.try_take() {
+        TryTake::Taken(off) => off,
+        other => panic!("{other:?}"),
+    };
+    // while it is off a request is missed, and no poll follows
+    assert!(matches!(interrupts.schedule(), Sched::Missed(_)));
+    drop(off.enable(false));
+}
+
+#[test]
+fn what_comes_under_busy_polling_is_polled_behind_the_stop() {
+    let (mut input, on, mut interrupts, mut poller) = enabled(4);
+    poller.set_threaded(false);
+    let mut batch = Batch::new();
+    let mut busy = poller.busy().expect("it is idle");
+    assert!(busy.poll(Weight::MAX, &mut batch).is_empty());
+    busy.complete_held();
+    input.put(packet(7)).unwrap();
+    assert_eq!(interrupts.interrupt(Kind::List), Prep::Missed);
+    let interrupts = match interrupts.try_busy() {
+        TryBusy::Refused(caller) => caller,
+        other => panic!("{other:?}"),
+    };
+    let mut polling = busy.stop();
+    assert_eq!(numbers(polling.poll(Weight::MAX, &mut batch)), [7]);
+    // that poll was the request's (busy_poll_stop clears MISSED)
+    assert!(matches!(polling.complete(), Completed::Released(_)));
+    drop((on.disable(), interrupts));
+}
+
+#[test]
+fn what_is_dropped_is_given_up() {
+    let (mut input, on, mut interrupts, poller) = enabled(4);
+    input.put(packet(1)).unwrap();
+    assert_eq!(interrupts.interrupt(Kind::List), Prep::Granted);
+    drop(take(poller));
+    // its poller is gone, so nobody polls it again
+    assert_eq!(interrupts.interrupt(Kind::List), Prep::Missed);
+    assert!(interrupts.take(Kind::List).is_err());
+    assert!(matches!(on.mark().try_take(), TryTake::Busy(_)));
+}
+
+#[test]
+fn values_go_to_threads() {
+    fn goes_to_a_thread<T: Send>() {}
+    goes_to_a_thread::<Dql>();
+    goes_to_a_thread::<SerialNapi>();
+    goes_to_a_thread::<Ring>();
+    goes_to_a_thread::<List>();
+    goes_to_a_thread::<TxRing>();
+    goes_to_a_thread::<Shared<2>>();
+    goes_to_a_thread::<Granted>();
+    goes_to_a_thread::<Polling>();
+    goes_to_a_thread::<Busy>();
+    goes_to_a_thread::<Control<On>>();
+    goes_to_a_thread::<Control<Marked>>();
+}
+
+// ---- lists and runs
+
+struct Device {
+    napi: SerialNapi,
+    // packets in its ring
+    left: u32,
+}
+
+impl Device {
+    fn with(packets: u32) -> Device {
+        let mut napi = SerialNapi::new(CONTROLLER);
+        napi.enable(CONTROLLER, false).unwrap();
+        assert_eq!(napi.schedule(INTERRUPT), Prep::Granted);
+        napi.hand(INTERRUPT, Kind::List).unwrap();
+        Device {
+            napi,
+            left: packets,
+        }
+    }
+
+    fn poll_once(&mut self) -> Polled {
+        assert!(self.napi.take(POLLER, Kind::List));
+        let work = self.left.min(64);
+        self.left -= work;
+        let next = if work == 64 {
+            self.napi.hand(POLLER, Kind::List).unwrap();
+            Next::Repoll
+        } else {
+            assert_eq!(self.napi.complete(POLLER), Ok(Done::Released));
+            Next::Gone
+        };
+        Polled { work, next }
+    }
+}
+
+#[test]
+fn runs_poll_four_devices_in_turn() {
+    let mut devices = [150, 3, 64, 0].map(Device::with);
+    let mut list = List::new().unwrap();
+    for id in 0..4 {
+        list.push(id).unwrap();
+    }
+    let mut told = String::new();
+    loop {
+        told += "run:";
+        let report = list.run(100, Weight::MAX, 1024, |_, id| {
+            let polled = devices[id as usize].poll_once();
+            write!(told, " {id}({})", polled.work).unwrap();
+            polled
+        });
+        let RunReport {
+            polls,
+            work,
+            squeezed,
+        } = report.unwrap();
+        let squeezed = if squeezed { ", squeezed" } else { "" };
+        writeln!(told, " - {polls} polls, {work} packets{squeezed}").unwrap();
+        if polls == 0 {
+            break;
+        }
+    }
+    assert_eq!(told, include_str!("../../../examples/c/run.stdout"));
+}
+
+const GONE: Polled = Polled {
+    work: 0,
+    next: Next::Gone,
+};
+
+// The numbers that the list holds.
+fn listed(list: &mut List) -> Vec<u32> {
+    let mut ids = Vec::new();
+    let report = list.run(1, Weight::MAX, 65535, |_, id| {
+        ids.push(id);
+        GONE
+    });
+    assert_eq!(report.unwrap().polls as usize, ids.len());
+    ids
+}
+
+#[test]
+fn a_poll_may_list_others() {
+    let mut list = List::new().unwrap();
+    list.push(1).unwrap();
+    let report = list.run(300, Weight::MAX, 65535, |list, id| {
+        if id < 5 {
+            list.push(id + 1).unwrap();
+        }
+        GONE
+    });
+    assert_eq!(report.unwrap().polls, 5);
+}
+
+#[test]
+fn what_is_handed_over_again_is_polled_where_it_was_handed_to() {
+    let mut list = List::new().unwrap();
+    for (kind, polls) in [(Kind::List, 2), (Kind::Thread, 1)] {
+        list.push(1).unwrap();
+        let mut nexts = [Next::Again(kind), Next::Gone].into_iter();
+        let report = list.run(300, Weight::MAX, 65535, |_, _| Polled {
+            work: 1,
+            next: nexts.next().unwrap(),
+        });
+        assert_eq!(report.unwrap().polls, polls);
+        assert!(listed(&mut list).is_empty());
+    }
+}
+
+#[test]
+fn a_list_holds_64() {
+    let mut list = List::new().unwrap();
+    for id in 0..64 {
+        list.push(id).unwrap();
+    }
+    assert_eq!(list.push(64), Err(Fault::FULL));
+    assert_eq!(listed(&mut list), (0..64).collect::<Vec<_>>());
+}
+
+#[test]
+fn a_run_that_is_refused_leaves_the_list() {
+    let mut list = List::new().unwrap();
+    list.push(3).unwrap();
+    for (budget, window) in [(0, 1), (65536, 1), (1, 0), (1, 65536)] {
+        let run = list.run(budget, Weight::MAX, window, |_, _| unreachable!());
+        assert_eq!(run, Err(Fault::BAD_BUDGET));
+    }
+    assert_eq!(listed(&mut list), [3]);
+}
+
+#[test]
+fn more_work_than_the_weight_ends_the_run() {
+    let mut list = List::new().unwrap();
+    for id in [1, 2] {
+        list.push(id).unwrap();
+    }
+    let weight = Weight::new(8).unwrap();
+    let run = list.run(300, weight, 100, |_, _| Polled {
+        work: 9,
+        next: Next::Repoll,
+    });
+    assert_eq!(run, Err(Fault::BAD_WORK));
+    assert_eq!(listed(&mut list), [2]);
+}
+
+#[test]
+fn a_poll_that_panics_ends_the_run() {
+    let mut list = List::new().unwrap();
+    for id in [1, 2] {
+        list.push(id).unwrap();
+    }
+    let run = AssertUnwindSafe(|| list.run(300, Weight::MAX, 100, |_, _| panic!("a poll")));
+    assert!(catch_unwind(run).is_err());
+    assert_eq!(listed(&mut list), [2]);
+}
+
+// ---- faults
+
+#[test]
+fn faults_have_numbers_and_names() {
+    assert_eq!(Fault::NOT_ALLOWED.number(), 100);
+    assert_eq!(Fault::NOT_ALLOWED.name(), "FQ_NOT_ALLOWED");
+    let fault: Box<dyn std::error::Error> = Fault::OUT_OF_MEMORY.into();
+    assert_eq!(fault.to_string(), "FQ_OUT_OF_MEMORY");
+    assert_eq!(sys::fq_status_name(5), "?");
+}

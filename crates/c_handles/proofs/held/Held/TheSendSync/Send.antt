@@ -1,0 +1,27 @@
+-- A held value may cross threads, as what it leads to may.
+use mir.Raw.{raw}
+use base.Shift.{Keyless}
+use denote.Memory.{lone}
+use denote.RawPtr.{Ptr}
+use denote.Struct.Struct.{exits_of}
+use denote.Struct.Owning.{shape, fields, to}
+use denote.Param.Send.{IsSend, AllSend, owning_send, struct_send, sendable}
+use Rattle.std.specs.Prelude.{Option, Some, None}
+use Rattle.std.specs.Global.{Global}
+use Rattle.std.proofs.Crossing as heap
+use Rattle.std_alloc.proofs.SendSync.{quiet, lies}
+use Rattle.std_heap.proofs.Global.TheSendSync as handle
+use Rattle.c_handles.specs.contracts.body.Body as Body
+use Rattle.c_handles.proofs.body.Body.TheSendSync.{the_send as body}
+use Rattle.c_handles.specs.Held.{held_owns}
+use Rattle.c_handles.specs.contracts.held.Held.{the_row, the_type}
+
+keyless : (alloc : Global) (p : Ptr) (o : Option Body.the_row.Denot) → Keyless (held_owns alloc p o)
+keyless alloc p None = tt
+keyless alloc p (Some x) = (lies Body.the_row body p x, heap.frees.frees alloc (raw (lone Body.the_row.mir)) p)
+
+pub send : IsSend the_row
+send =
+    let all : AllSend (fields the_type) = (search sendable, (handle.the_field_send, tt)) in
+    owning_send the_type all (λ d. keyless d.alloc d.ptr d.body)
+    (λ k. quiet (to the_type) (exits_of k (fields the_type)) ((struct_send (shape the_type) all).leaving k))

@@ -1,0 +1,11 @@
+pub mod Status
+pub mod Kinds
+pub mod Held
+pub mod Rings
+pub mod Transmits
+pub mod Seats
+pub mod Runs
+pub mod Tries
+pub mod SeatCalls
+pub mod Handles
+pub mod Freeing

@@ -1,0 +1,36 @@
+-- The callers and the controller of a shared instance, as handles of C's lead to them.
+use Rattle.std.proofs.Props.{props}
+use Rattle.napi_calls.specs.declared.types.Napi.{Napi}
+use Rattle.napi_calls.specs.Instance.{IsSeatOf}
+use Rattle.c_handles.specs.declared.hold.Hold.{Hold}
+use Rattle.c_handles.specs.declared.hold.Hold.TheVariants as hold
+use Rattle.c_handles.specs.declared.mode.Mode.{Mode}
+use Rattle.c_handles.specs.declared.mode.Mode.TheVariants as mode
+
+-- the caller is one of the instance's, or in a call
+abbrev pub SitsAt : Napi → Hold → Type 0
+SitsAt n (hold.Rests c) = IsSeatOf n c.pass
+SitsAt n (hold.Granted g) = IsSeatOf n g.pass
+SitsAt n (hold.Polls w) = IsSeatOf n w.pass
+SitsAt n (hold.Busy b) = IsSeatOf n b.pass
+SitsAt n hold.Gone = Unit {0}
+
+pub sits_prop : (n : Napi) (h : Hold) → IsProp (SitsAt n h)
+sits_prop n (hold.Rests c) = Prim.hlevel props
+sits_prop n (hold.Granted g) = Prim.hlevel props
+sits_prop n (hold.Polls w) = Prim.hlevel props
+sits_prop n (hold.Busy b) = Prim.hlevel props
+sits_prop n hold.Gone = Prim.hlevel props
+
+-- the controller is the instance's, or in a call
+abbrev pub ControlsAt : Napi → Mode → Type 0
+ControlsAt n (mode.Off c) = IsSeatOf n c.pass
+ControlsAt n (mode.On c) = IsSeatOf n c.pass
+ControlsAt n (mode.Marked c) = IsSeatOf n c.pass
+ControlsAt n mode.Gone = Unit {0}
+
+pub controls_prop : (n : Napi) (m : Mode) → IsProp (ControlsAt n m)
+controls_prop n (mode.Off c) = Prim.hlevel props
+controls_prop n (mode.On c) = Prim.hlevel props
+controls_prop n (mode.Marked c) = Prim.hlevel props
+controls_prop n mode.Gone = Prim.hlevel props

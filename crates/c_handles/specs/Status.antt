@@ -1,0 +1,79 @@
+-- The numbers that calls answer C, no number twice: 0 where a call was made that has nothing else to say; 1 to 15 the faults
+-- of a queue limit, as `DqlFault::number` has them; 16 to 99 what a call found that was made; from 100 on why none was made.
+use Rattle.std.specs.Prelude.{ℕ, Option, Some, None}
+use Rattle.dql_core.specs.declared.event.DqlFault.{DqlFault}
+use Rattle.dql_core.specs.Fault.{number_of}
+
+abbrev pub OK : ℕ
+OK = 0
+
+abbrev pub GRANTED : ℕ
+GRANTED = 16
+
+abbrev pub MISSED : ℕ
+MISSED = 17
+
+abbrev pub DISABLED : ℕ
+DISABLED = 18
+
+abbrev pub TAKEN : ℕ
+TAKEN = 19
+
+abbrev pub NOT_THERE : ℕ
+NOT_THERE = 20
+
+abbrev pub RELEASED : ℕ
+RELEASED = 21
+
+abbrev pub AGAIN : ℕ
+AGAIN = 22
+
+abbrev pub HELD : ℕ
+HELD = 23
+
+abbrev pub BUSY : ℕ
+BUSY = 24
+
+abbrev pub CHANGED : ℕ
+CHANGED = 25
+
+abbrev pub FULL : ℕ
+FULL = 26
+
+abbrev pub DONE : ℕ
+DONE = 27
+
+abbrev pub STOPPED : ℕ
+STOPPED = 28
+
+abbrev pub MORE_THAN_SENT : ℕ
+MORE_THAN_SENT = 29
+
+abbrev pub NOT_ALLOWED : ℕ
+NOT_ALLOWED = 100
+
+abbrev pub BAD_KIND : ℕ
+BAD_KIND = 101
+
+abbrev pub BAD_HANDLE : ℕ
+BAD_HANDLE = 110
+
+abbrev pub IN_USE : ℕ
+IN_USE = 111
+
+abbrev pub OUT_OF_MEMORY : ℕ
+OUT_OF_MEMORY = 112
+
+abbrev pub BAD_CAPACITY : ℕ
+BAD_CAPACITY = 113
+
+abbrev pub BAD_WEIGHT : ℕ
+BAD_WEIGHT = 114
+
+abbrev pub NO_ROOM : ℕ
+NO_ROOM = 115
+
+-- the number of a queue limit's fault, or that there is none
+abbrev pub dql_status : Option DqlFault → ℕ
+dql_status None = OK
+dql_status (Some fault) = number_of fault

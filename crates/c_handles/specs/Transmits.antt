@@ -1,0 +1,42 @@
+-- Transmit rings behind handles, and the numbers of what their calls answer.
+use Rattle.std.specs.Prelude.{ℕ, Option, Some, None}
+use Rattle.dql_core.specs.declared.event.DqlFault.TheVariants as limit_fault
+use Rattle.dql_core.specs.Fault.{number_of}
+use Rattle.tx_ring.specs.Queue.{TransmitQueue}
+use Rattle.tx_ring.specs.Ring.{ShowsQueue}
+use Rattle.tx_ring.specs.declared.event.TxFault.{TxFault}
+use Rattle.tx_ring.specs.declared.event.TxFault.TheVariants as tx_fault
+use Rattle.tx_ring.specs.declared.ring.TxRing.{TxRing}
+use Rattle.c_handles.specs.declared.body.Body.{Body}
+use Rattle.c_handles.specs.declared.body.Body.TheVariants as body
+use Rattle.c_handles.specs.declared.handle.FqHandle.{FqHandle}
+use Rattle.c_handles.specs.Status.{OK, FULL, STOPPED, MORE_THAN_SENT, OUT_OF_MEMORY, BAD_CAPACITY}
+
+-- it is a transmit ring with this
+abbrev pub IsTxWith : (TxRing → Type 0) → Body → Type 0
+IsTxWith P (body.Tx r) = P r
+IsTxWith P (body.Ring r) = ⊥
+IsTxWith P (body.In i) = ⊥
+IsTxWith P (body.List l) = ⊥
+IsTxWith P (body.Seat s) = ⊥
+IsTxWith P (body.Controller c) = ⊥
+IsTxWith P body.Gone = ⊥
+
+abbrev pub LeadsToTx : (TxRing → Type 0) → Option Body → Type 0
+LeadsToTx P None = ⊥
+LeadsToTx P (Some x) = IsTxWith P x
+
+-- the handle leads to a transmit ring that shows this queue
+abbrev pub TxShows : FqHandle → TransmitQueue → Type 0
+TxShows handle queue = LeadsToTx (λ r. ShowsQueue r queue) handle.held.body
+
+-- the number of a transmit ring's fault, or that there is none
+abbrev pub tx_status : Option TxFault → ℕ
+tx_status None = OK
+tx_status (Some tx_fault.Stopped) = STOPPED
+tx_status (Some tx_fault.Full) = FULL
+tx_status (Some tx_fault.TooLarge) = number_of limit_fault.TooLarge
+tx_status (Some tx_fault.TooMuchInFlight) = number_of limit_fault.TooMuchInFlight
+tx_status (Some tx_fault.MoreThanSent) = MORE_THAN_SENT
+tx_status (Some tx_fault.BadCapacity) = BAD_CAPACITY
+tx_status (Some tx_fault.OutOfMemory) = OUT_OF_MEMORY

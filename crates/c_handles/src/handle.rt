@@ -1,0 +1,76 @@
+//! C's handles.
+ghost use Rattle.std.specs.Prelude.{◌≡◌, Option, None, Some, is_some, IfSome, IsNone};
+ghost use Rattle.c_handles.specs.declared.body.Body.{Body};
+
+use crate::body::Body;
+use crate::held::Held;
+use crate::parts::Parts;
+use std::alloc::Global;
+use std::mem;
+
+/// A handle in C's memory: `struct fq_handle`. Bytes that are all 0 are a handle that leads to nothing.
+#[repr(C)]
+#[derive(Drop)]
+pub struct FqHandle {
+    set: bool,
+    /// What it leads to.
+    pub held: Held,
+    ghost is_set: { is_some held.body ≡ set },
+}
+
+impl FqHandle {
+    /// One that leads to nothing.
+    fn none(alloc: Global) -> FqHandle
+        ensures { result.held.body ≡ None }
+    {
+        FqHandle {
+            set: false,
+            held: Held::none(alloc),
+        }
+    }
+
+    /// One that leads to this.
+    fn of(body: Box<Body, Global>) -> FqHandle
+        ensures { result.held.body ≡ Some body.value }
+    {
+        FqHandle {
+            set: true,
+            held: Held::of_parts(Parts::of(body)),
+        }
+    }
+
+    /// Whether it leads to something.
+    pub fn is_set(&self) -> bool
+        ensures { result ≡ is_some self.now.held.body }
+    {
+        self.set
+    }
+
+    fn open(self) -> Option<Box<Body, Global>>
+        ensures some { IfSome result (λ b. self.held.body ≡ Some b.value) }
+        ensures none { IsNone result → self.held.body ≡ None }
+    {
+        let FqHandle { set, held } = self;
+        if set {
+            Some(held.into_parts().into_box())
+        } else {
+            None
+        }
+    }
+
+    /// Takes out what it leads to.
+    pub fn take(&mut self, alloc: Global) -> Option<Box<Body, Global>>
+        ensures some { IfSome result (λ b. self.old.held.body ≡ Some b.value) }
+        ensures none { IsNone result → self.old.held.body ≡ None }
+        ensures left { self.new.held.body ≡ None }
+    {
+        mem::replace(self, FqHandle::none(alloc)).open()
+    }
+
+    /// Lets a handle that leads to nothing lead to this.
+    pub fn put(&mut self, body: Box<Body, Global>)
+        ensures { self.new.held.body ≡ Some body.value }
+    {
+        *self = FqHandle::of(body);
+    }
+}

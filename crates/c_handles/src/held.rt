@@ -1,0 +1,61 @@
+//! A place in C's memory that owns a value on the heap, or nothing.
+ghost use Rattle.std.specs.Prelude.{◌≡◌, Option, None, Some};
+ghost use Rattle.c_handles.specs.Held.{held_owns, body_coded};
+ghost use Rattle.c_handles.specs.declared.body.Body.{Body};
+
+use crate::body::Body;
+use crate::parts::Parts;
+use std::alloc::Global;
+use std::marker::Model;
+use std::ptr;
+
+/// Owns the value at the pointer, or nothing. One that is dropped leaves its value in memory: it is opened first.
+#[repr(C)]
+#[derive(Drop)]
+pub struct Held {
+    ptr: *mut u8,
+    alloc: Global,
+    /// The value, if there is one.
+    pub ghost body: { Option Body } by { body_coded },
+}
+
+impl Model for Held {
+    ghost also_owns = { λ h. held_owns h.alloc h.ptr h.body };
+}
+
+unsafe impl Send for Held {}
+
+impl Held {
+    /// Of a box's parts.
+    pub fn of_parts(parts: Parts<Body, Global>) -> Held
+        ensures { result.body ≡ Some parts.value }
+    {
+        let Parts { ptr, alloc } = parts;
+        Held {
+            ptr: ptr as *mut u8,
+            alloc,
+        }
+    }
+
+    /// The parts of the box, where there is one.
+    pub fn into_parts(self) -> Parts<Body, Global>
+        requires { (x : Body) × (self.body ≡ Some x) }
+        ensures { self.body ≡ Some result.value }
+    {
+        let Held { ptr, alloc } = self;
+        Parts {
+            ptr: ptr as *mut Body,
+            alloc,
+        }
+    }
+
+    /// One that owns nothing.
+    pub fn none(alloc: Global) -> Held
+        ensures { result.body ≡ None }
+    {
+        Held {
+            ptr: ptr::null_mut(),
+            alloc,
+        }
+    }
+}

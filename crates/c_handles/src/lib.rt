@@ -1,0 +1,24 @@
+//! What stands behind the handles of C: what a handle leads to, how it is taken out for a call and put back, and what a seat,
+//! a controller and a poll list do with a call in whatever state they are. The exports are those of `napi_c`.
+#![tactic(auto)]
+
+mod body;
+mod handle;
+mod held;
+mod hold;
+mod kind;
+mod mode;
+mod parts;
+mod run;
+mod seat;
+mod sharing;
+pub mod status;
+
+pub use body::{Body, Ring};
+pub use handle::FqHandle;
+pub use hold::{Hold, SeatCall};
+pub use kind::kind_of;
+pub use mode::{ControlCall, Mode};
+pub use run::{FqRunReport, Lister};
+pub use seat::{Controller, Seat, Shared};
+pub use sharing::is_sent;

@@ -1,0 +1,96 @@
+//! What the controller of a shared instance has done last: its type, told at run time.
+ghost use Rattle.c_handles.specs.SeatCalls.{ControlAnswers};
+ghost use Rattle.c_handles.specs.Seats.{ControlsAt};
+ghost use Rattle.c_handles.specs.declared.mode.ControlCall.TheVariants as control_call;
+
+use crate::status;
+use napi_calls::{Control, Marked, Napi, Off, On, TryTake};
+
+/// What the controller is asked to do. Each is one try, which doesn't wait.
+#[derive(Clone, Copy)]
+pub enum ControlCall {
+    /// `Control::try_enable`.
+    Enable(bool),
+    /// `Control::mark`.
+    Mark,
+    /// `Control::try_take`.
+    TryTake,
+}
+
+/// What the controller has done last.
+pub enum Mode {
+    /// Disabled.
+    Off(Control<Off>),
+    /// Enabled.
+    On(Control<On>),
+    /// A disable is pending.
+    Marked(Control<Marked>),
+    /// It is taken out for a call.
+    Gone,
+}
+
+impl Drop for Mode {
+    fn drop(self) {
+        match self {
+            Mode::Off(control) => control.abandon(),
+            Mode::On(control) => control.abandon(),
+            Mode::Marked(control) => control.abandon(),
+            Mode::Gone => {}
+        }
+    }
+}
+
+impl Mode {
+    /// Makes a call, where the instance's mode has it, and answers its number.
+    pub(crate) fn step(self, napi: &Napi, call: ControlCall) -> (Mode, u32)
+        requires { ControlsAt napi.now self }
+        ensures sits { ControlsAt napi.now result.0 }
+        ensures answers { ControlAnswers call self result.1 result.0 }
+    {
+        match call {
+            ControlCall::Enable(threaded) => self.enable(napi, threaded),
+            ControlCall::Mark => self.mark(napi),
+            ControlCall::TryTake => self.try_take(napi),
+        }
+    }
+
+    fn enable(self, napi: &Napi, threaded: bool) -> (Mode, u32)
+        requires { ControlsAt napi.now self }
+        ensures sits { ControlsAt napi.now result.0 }
+        ensures answers { ControlAnswers (control_call.Enable threaded) self result.1 result.0 }
+    {
+        match self {
+            Mode::Off(control) => match control.try_enable(napi, threaded) {
+                Ok(control) => (Mode::On(control), status::OK),
+                Err(control) => (Mode::Off(control), status::CHANGED),
+            },
+            mode => (mode, status::NOT_ALLOWED),
+        }
+    }
+
+    fn mark(self, napi: &Napi) -> (Mode, u32)
+        requires { ControlsAt napi.now self }
+        ensures sits { ControlsAt napi.now result.0 }
+        ensures answers { ControlAnswers control_call.Mark self result.1 result.0 }
+    {
+        match self {
+            Mode::On(control) => (Mode::Marked(control.mark(napi)), status::OK),
+            mode => (mode, status::NOT_ALLOWED),
+        }
+    }
+
+    fn try_take(self, napi: &Napi) -> (Mode, u32)
+        requires { ControlsAt napi.now self }
+        ensures sits { ControlsAt napi.now result.0 }
+        ensures answers { ControlAnswers control_call.TryTake self result.1 result.0 }
+    {
+        match self {
+            Mode::Marked(control) => match control.try_take(napi) {
+                TryTake::Taken(control) => (Mode::Off(control), status::TAKEN),
+                TryTake::Busy(control) => (Mode::Marked(control), status::BUSY),
+                TryTake::Changed(control) => (Mode::Marked(control), status::CHANGED),
+            },
+            mode => (mode, status::NOT_ALLOWED),
+        }
+    }
+}

@@ -1,0 +1,91 @@
+//! A caller and the controller of a shared instance, each with the instance, as handles lead to them.
+ghost use Rattle.std.specs.Prelude.{◌≡◌, ◌≤◌, length};
+ghost use Rattle.std.specs.Arc.{arc_value};
+ghost use Rattle.c_handles.specs.Status.{OK};
+ghost use Rattle.c_handles.specs.SeatCalls.{SeatAnswers, ControlAnswers, SeatPolls};
+ghost use Rattle.c_handles.specs.Seats.{SitsAt, ControlsAt, sits_prop, controls_prop};
+
+use crate::hold::{Hold, SeatCall};
+use crate::mode::{ControlCall, Mode};
+use crate::status;
+use napi_calls::Napi;
+use rx_ring::Batch;
+use std::alloc::Global;
+use std::mem;
+use std::sync::Arc;
+
+/// An instance that is shared.
+pub struct Shared {
+    /// The instance.
+    pub napi: Napi,
+}
+
+impl Drop for Shared {
+    fn drop(self) {
+        let Shared { napi } = self;
+        napi.abandon();
+    }
+}
+
+/// A caller with its instance.
+#[derive(Drop)]
+pub struct Seat {
+    /// Its instance.
+    pub napi: Arc<Shared, Global>,
+    /// What it is.
+    pub hold: Hold,
+    /// It is of that instance.
+    pub ghost seat: { SitsAt (arc_value napi).napi hold } by { sits_prop (arc_value napi).napi hold },
+}
+
+impl Seat {
+    /// Makes a call, and answers its number.
+    pub fn step(&mut self, call: SeatCall) -> u32
+        ensures { SeatAnswers call self.old.hold result self.new.hold }
+    {
+        let (hold, status) = mem::replace(&mut self.hold, Hold::Gone).step(&self.napi.napi, call);
+        self.hold = hold;
+        status
+    }
+
+    /// As `Polling::poll` and `Busy::poll`.
+    pub fn poll(&mut self, weight: usize, batch: &mut Batch) -> u32
+        requires { (1 ≤ weight) × (weight ≤ 64) }
+        ensures polls { SeatPolls weight batch.new.items self.old.hold result self.new.hold }
+        ensures room { result ≡ OK → length batch.new.items ≤ weight }
+    {
+        match &mut self.hold {
+            Hold::Polls(polling) => {
+                polling.poll(weight, batch);
+                status::OK
+            }
+            Hold::Busy(busy) => {
+                busy.poll(weight, batch);
+                status::OK
+            }
+            _ => status::NOT_ALLOWED,
+        }
+    }
+}
+
+/// The controller with its instance.
+#[derive(Drop)]
+pub struct Controller {
+    /// Its instance.
+    pub napi: Arc<Shared, Global>,
+    /// What it has done last.
+    pub mode: Mode,
+    /// It is of that instance.
+    pub ghost seat: { ControlsAt (arc_value napi).napi mode } by { controls_prop (arc_value napi).napi mode },
+}
+
+impl Controller {
+    /// Makes a call, and answers its number.
+    pub fn step(&mut self, call: ControlCall) -> u32
+        ensures { ControlAnswers call self.old.mode result self.new.mode }
+    {
+        let (mode, status) = mem::replace(&mut self.mode, Mode::Gone).step(&self.napi.napi, call);
+        self.mode = mode;
+        status
+    }
+}

@@ -1,0 +1,148 @@
+//! Transmit rings for C, under a byte queue limit each.
+ghost use Rattle.std.specs.Prelude.{◌≡◌, ◌≢◌, ◌<◌, ◌⊎◌, ◌↔◌, None};
+ghost use Rattle.dql_core.specs.Bounds.{DQL_MAX_LIMIT};
+ghost use Rattle.dql_core.specs.Limit.{opening};
+ghost use Rattle.tx_ring.specs.Queue.{TransmitQueue, opening_queue, state_of, after_send, after_done, send_fault, done_fault};
+ghost use Rattle.tx_ring.specs.Ring.{ShowsQueue};
+ghost use Rattle.tx_ring.specs.declared.event.TxFault.{TxFault};
+ghost use Rattle.c_handles.specs.Status.{OK};
+ghost use Rattle.c_handles.specs.Transmits.{IsTxWith, TxShows, tx_status};
+
+use c_handles::{Body, FqHandle, status};
+use dql_core::{Dql, DqlFault};
+use std::alloc::Global;
+use tx_ring::{TxFault, TxRing, TxState};
+
+fn status_of(fault: TxFault) -> u32
+    ensures { result ≡ tx_status (Some fault) }
+{
+    match fault {
+        TxFault::Stopped => status::STOPPED,
+        TxFault::Full => status::FULL,
+        TxFault::TooLarge => u32::from(DqlFault::TooLarge.number()),
+        TxFault::TooMuchInFlight => u32::from(DqlFault::TooMuchInFlight.number()),
+        TxFault::MoreThanSent => status::MORE_THAN_SENT,
+        TxFault::BadCapacity => status::BAD_CAPACITY,
+        TxFault::OutOfMemory => status::OUT_OF_MEMORY,
+    }
+}
+
+/// As `Dql::new`, and `TxRing::new` over that limit.
+#[unsafe(no_mangle)]
+pub extern "C" fn fq_tx_new(
+    alloc: Global,
+    handle: &mut FqHandle,
+    capacity: usize,
+    min: u32,
+    max: u32,
+    hold: u64,
+    now: u64,
+) -> u32
+    ensures made { result ≡ OK → TxShows handle.new (opening_queue capacity (opening min max hold now)) }
+    ensures kept { result ≢ OK → handle.new ≡ handle.old }
+    ensures bounds { result ≡ OK → ¬ ((max < min) ⊎ (DQL_MAX_LIMIT < max)) }
+{
+    if handle.is_set() {
+        return status::IN_USE;
+    }
+    let limit = match Dql::new(min, max, hold, now) {
+        Ok(limit) => limit,
+        Err(fault) => return u32::from(fault.number()),
+    };
+    match TxRing::new(alloc, capacity, limit) {
+        Ok(ring) => match Box::new(alloc, Body::Tx(ring)) {
+            Ok(body) => {
+                handle.put(body);
+                status::OK
+            }
+            Err(_) => status::OUT_OF_MEMORY,
+        },
+        Err(fault) => status_of(fault),
+    }
+}
+
+/// As `TxRing::send`.
+#[unsafe(no_mangle)]
+pub extern "C" fn fq_tx_send(alloc: Global, handle: &mut FqHandle, bytes: u32) -> u32
+    ensures ok { (t : TransmitQueue) → TxShows handle.old t → result ≡ OK → TxShows handle.new (after_send t bytes) }
+    ensures status { (t : TransmitQueue) → TxShows handle.old t → result ≡ tx_status (send_fault t bytes) }
+    ensures kept { result ≢ OK → handle.new.held.body ≡ handle.old.held.body }
+{
+    let Some(mut body) = handle.take(alloc) else {
+        return status::BAD_HANDLE;
+    };
+    let status = send_in(&mut *body, bytes);
+    handle.put(body);
+    status
+}
+
+fn send_in(body: &mut Body, bytes: u32) -> u32
+    ensures ok { (t : TransmitQueue) → IsTxWith (λ r. ShowsQueue r t) body.old → result ≡ OK → IsTxWith (λ r. ShowsQueue r (after_send t bytes)) body.new }
+    ensures status { (t : TransmitQueue) → IsTxWith (λ r. ShowsQueue r t) body.old → result ≡ tx_status (send_fault t bytes) }
+    ensures kept { result ≢ OK → body.new ≡ body.old }
+{
+    match body {
+        Body::Tx(ring) => match ring.send(bytes) {
+            Ok(()) => status::OK,
+            Err(fault) => status_of(fault),
+        },
+        _ => status::BAD_HANDLE,
+    }
+}
+
+/// As `TxRing::done`.
+#[unsafe(no_mangle)]
+pub extern "C" fn fq_tx_done(alloc: Global, handle: &mut FqHandle, count: u32, now: u64) -> u32
+    ensures ok { (t : TransmitQueue) → TxShows handle.old t → result ≡ OK → TxShows handle.new (after_done t count now) }
+    ensures status { (t : TransmitQueue) → TxShows handle.old t → result ≡ tx_status (done_fault t count) }
+    ensures kept { result ≢ OK → handle.new.held.body ≡ handle.old.held.body }
+{
+    let Some(mut body) = handle.take(alloc) else {
+        return status::BAD_HANDLE;
+    };
+    let status = done_in(&mut *body, count, now);
+    handle.put(body);
+    status
+}
+
+fn done_in(body: &mut Body, count: u32, now: u64) -> u32
+    ensures ok { (t : TransmitQueue) → IsTxWith (λ r. ShowsQueue r t) body.old → result ≡ OK → IsTxWith (λ r. ShowsQueue r (after_done t count now)) body.new }
+    ensures status { (t : TransmitQueue) → IsTxWith (λ r. ShowsQueue r t) body.old → result ≡ tx_status (done_fault t count) }
+    ensures kept { result ≢ OK → body.new ≡ body.old }
+{
+    match body {
+        Body::Tx(ring) => match ring.done(count, now) {
+            Ok(()) => status::OK,
+            Err(fault) => status_of(fault),
+        },
+        _ => status::BAD_HANDLE,
+    }
+}
+
+/// As `TxRing::state`, into the caller's struct.
+#[unsafe(no_mangle)]
+pub extern "C" fn fq_tx_state(alloc: Global, handle: &mut FqHandle, state: &mut TxState) -> u32
+    ensures shown { (t : TransmitQueue) → TxShows handle.old t → (result ≡ OK) × (state.new ≡ state_of t) }
+    ensures kept { result ≢ OK → state.new ≡ state.old }
+    ensures same { handle.new.held.body ≡ handle.old.held.body }
+{
+    let Some(body) = handle.take(alloc) else {
+        return status::BAD_HANDLE;
+    };
+    let status = state_in(&*body, state);
+    handle.put(body);
+    status
+}
+
+fn state_in(body: &Body, state: &mut TxState) -> u32
+    ensures shown { (t : TransmitQueue) → IsTxWith (λ r. ShowsQueue r t) body.now → (result ≡ OK) × (state.new ≡ state_of t) }
+    ensures kept { result ≢ OK → state.new ≡ state.old }
+{
+    match body {
+        Body::Tx(ring) => {
+            *state = ring.state();
+            status::OK
+        }
+        _ => status::BAD_HANDLE,
+    }
+}

@@ -1,0 +1,62 @@
+//! The whole program, but for its real ends: from the words, the input and the two outputs to the exit status.
+
+ghost use Rattle.std.specs.Prelude.{◌≡◌, ◌≢◌, ℕ, List, Some, IfErr, OnOk, map, string_bytes};
+ghost use Rattle.std.specs.Io.KnownBytes.{Appends, Keeps};
+ghost use Rattle.napi_serial.specs.Program.{IsFault, IsReport};
+ghost use Rattle.report_text.specs.Program.{FailedBy};
+ghost use Rattle.report_text.specs.declared.fault.ReplayFault.TheVariants.{OutputFailed};
+ghost use Rattle.report_text.specs.declared.program.ProgramFault.TheVariants.{Replay};
+
+use replay_words::parse_serial_words;
+use report_text::{Ending, ProgramFault, end_by};
+use std::alloc::Global;
+use std::io::{Read, Write};
+use trace_replay::replay_serial;
+
+// Replays the input as the words ask for, and writes the report.
+fn replay_asked<R: Read + Drop, W: Write>(
+    alloc: Global,
+    words: &[String],
+    input: R,
+    output: &mut W,
+) -> Result<(), ProgramFault>
+    ensures written { OnOk result ((bytes : List ℕ) → R.remaining input ≡ Some bytes
+        → (text : List ℕ) × IsReport (map string_bytes words.now) bytes text × Appends (W.contents output.old) (W.contents output.new) text) }
+    ensures fault { IfErr result (IsFault (map string_bytes words.now) (R.remaining input)) }
+    ensures untouched { IfErr result (λ fault. fault ≢ Replay OutputFailed → Keeps (W.contents output.old) (W.contents output.new)) }
+{
+    match parse_serial_words(alloc, words) {
+        Ok(settings) => match replay_serial(alloc, input, output, &settings) {
+            Ok(()) => Ok(()),
+            Err(fault) => Err(ProgramFault::Replay(fault)),
+        },
+        Err(fault) => Err(ProgramFault::Words(fault)),
+    }
+}
+
+/// Runs the program: replays `input` on one thread as the words after its name ask for, writes the report to `output` or the
+/// line of the fault to `errors`, and says how it ended.
+///
+/// The status is 0 exactly where the report was written.
+pub(crate) fn run_program<R: Read + Drop, W: Write, E: Write>(
+    alloc: Global,
+    words: &[String],
+    input: R,
+    output: &mut W,
+    errors: &mut E,
+) -> Ending
+    // What is written is the report of the bytes read, by the settings that the words ask for, and nothing else.
+    ensures written { result.status ≡ 0 → (bytes : List ℕ) → R.remaining input ≡ Some bytes
+        → (text : List ℕ) × IsReport (map string_bytes words.now) bytes text × Appends (W.contents output.old) (W.contents output.new) text }
+    ensures quiet { result.status ≡ 0 → Keeps (E.contents errors.old) (E.contents errors.new) }
+    ensures failed { result.status ≢ 0
+        → FailedBy (IsFault (map string_bytes words.now) (R.remaining input)) (W.contents output.old) (W.contents output.new) (E.contents errors.old) (E.contents errors.new) result }
+{
+    match replay_asked(alloc, words, input, output) {
+        Ok(()) => Ending {
+            status: 0,
+            told: false,
+        },
+        Err(fault) => end_by(alloc, &fault, errors),
+    }
+}

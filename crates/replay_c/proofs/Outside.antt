@@ -1,0 +1,24 @@
+-- A fault whose status is that of a bad trace is no fault from outside.
+use Rattle.std.proofs.Common.{◌≡◌, ◌⊎◌, inl, inr, subst, arith}
+use Rattle.trace_rows.specs.declared.fault.TraceFault.{TraceFault}
+use Rattle.report_text.specs.Outside.{IsOutside}
+use Rattle.report_text.specs.declared.fault.ReplayFault.{ReplayFault}
+use Rattle.report_text.specs.declared.fault.ReplayFault.TheVariants.{Trace, Pending, RingTooSmall, GateShut, OutputFailed, SpawnFailed}
+use Rattle.replay_c.specs.Faults.{fault_status, trace_status}
+
+never : (fault : ReplayFault) → IsOutside fault → fault_status fault ≡ 120 → ⊥
+never (Trace fault) (inl failed) bad =
+    let read : 112 ≡ 120 = subst (λ (f : TraceFault). trace_status f ≡ 120) failed bad in
+    omega (arith, read)
+never (Trace fault) (inr failed) bad =
+    let memory : 112 ≡ 120 = subst (λ (f : TraceFault). trace_status f ≡ 120) failed bad in
+    omega (arith, memory)
+never (Pending row) outside bad = outside
+never (RingTooSmall device needs) outside bad = outside
+never GateShut outside bad = outside
+never OutputFailed outside bad = let output : 112 ≡ 120 = bad in omega (arith, output)
+never SpawnFailed outside bad = outside
+
+pub theirs : (fault : ReplayFault) (Is : Type 0) → IsOutside fault ⊎ Is → fault_status fault ≡ 120 → Is
+theirs fault Is (inl outside) bad = absurd (never fault outside bad)
+theirs fault Is (inr is) bad = is

@@ -1,0 +1,25 @@
+use Rattle.std.proofs.Common.{◌≡◌, ◌<◌, ℕ, List, Ok, length, sym, ap, subst, arith, ◌∙◌}
+use Rattle.trace_replay.specs.Answer.{replay_of}
+use Rattle.replay_c.proofs.Outside.{theirs}
+use Rattle.replay_c.proofs.replay.fq_replay.Goals as goal
+
+pub returns-in-Ok-report_of-clause-written : goal.returns-in-Ok-report_of-clause-written
+returns-in-Ok-report_of-clause-written c = λ ok.
+    let whole = c.put_report.ensures.ok ok ∙ c.as_slice.ensures.value in (
+      c.in-Ok.asked,
+      c.in-Ok.ensures.asked.0,
+      subst (λ (text : List ℕ). replay_of c.in-Ok.asked c.args.trace.now ≡ Ok text) (sym whole) c.in-Ok-report_of.ensures.report,
+    )
+
+pub returns-in-Ok-report_of-clause-no_room : goal.returns-in-Ok-report_of-clause-no_room
+returns-in-Ok-report_of-clause-no_room c = λ no.
+    let short = c.put_report.ensures.no_room (λ ok. let both : 115 ≡ 0 = sym no ∙ ok in omega (arith, both)) in (
+      c.in-Ok-report_of.text.items,
+      (c.in-Ok.asked, c.in-Ok.ensures.asked.0, c.in-Ok-report_of.ensures.report),
+      c.put_report.ensures.length ∙ ap (λ (text : List ℕ). length text) c.as_slice.ensures.value,
+      subst (λ (text : List ℕ). length c.args.report.now < length text) c.as_slice.ensures.value short.1,
+    )
+
+pub returns-in-Err-report_of-clause-fault : goal.returns-in-Err-report_of-clause-fault
+returns-in-Err-report_of-clause-fault c = λ bad.
+    (c.in-Err-report_of.fault, (c.in-Ok.asked, c.in-Ok.ensures.asked.0, theirs c.in-Err-report_of.fault _ c.in-Err-report_of.ensures.fault (sym c.tell.ensures.status ∙ bad)), c.tell.ensures.told bad)

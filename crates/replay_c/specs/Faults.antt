@@ -1,0 +1,37 @@
+-- The faults of a replay as numbers.
+use Rattle.std.specs.Prelude.{ℕ}
+use Rattle.replay_c.specs.Status.{BAD_TRACE, OUT_OF_MEMORY}
+use Rattle.report_text.specs.declared.fault.ReplayFault.{ReplayFault}
+use Rattle.report_text.specs.declared.fault.ReplayFault.TheVariants.{Trace, Pending, OutputFailed}
+use Rattle.trace_rows.specs.declared.fault.TraceFault.{TraceFault}
+use Rattle.trace_rows.specs.declared.fault.TraceFault.TheVariants.{BadHeader, BadFields, BadNumber, BadEvent, OutOfRange, UnknownDevice, OpenTwice, WrongState, TooManyRows, ReadFailed, OutOfMemory}
+
+-- a fault that no trace has is for want of memory
+abbrev pub trace_status : TraceFault → ℕ
+trace_status ReadFailed = OUT_OF_MEMORY
+trace_status OutOfMemory = OUT_OF_MEMORY
+trace_status _ = BAD_TRACE
+
+abbrev pub fault_status : ReplayFault → ℕ
+fault_status (Trace fault) = trace_status fault
+fault_status OutputFailed = OUT_OF_MEMORY
+fault_status _ = BAD_TRACE
+
+-- the row that a fault names, or 0
+abbrev pub trace_row : TraceFault → ℕ
+trace_row BadHeader = 0
+trace_row (BadFields row) = row
+trace_row (BadNumber row) = row
+trace_row (BadEvent row) = row
+trace_row (OutOfRange row) = row
+trace_row (UnknownDevice row) = row
+trace_row (OpenTwice row) = row
+trace_row (WrongState row) = row
+trace_row TooManyRows = 100001
+trace_row ReadFailed = 0
+trace_row OutOfMemory = 0
+
+abbrev pub row_of : ReplayFault → ℕ
+row_of (Trace fault) = trace_row fault
+row_of (Pending row) = row
+row_of _ = 0

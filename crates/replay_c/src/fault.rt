@@ -1,0 +1,48 @@
+//! Faults of a trace, as numbers.
+
+ghost use Rattle.std.specs.Prelude.{◌≡◌};
+ghost use Rattle.replay_c.specs.Status.{BAD_TRACE};
+ghost use Rattle.replay_c.specs.Faults.{fault_status, row_of, trace_row};
+
+use crate::status;
+use report_text::ReplayFault;
+use trace_rows::TraceFault;
+
+// The status of a fault. A trace in memory is read without fail, so where a reader or a writer fails it is for want of memory.
+pub(crate) fn fault_status(fault: &ReplayFault) -> u32
+    ensures { result ≡ fault_status fault.now }
+{
+    match fault {
+        ReplayFault::Trace(TraceFault::ReadFailed)
+        | ReplayFault::Trace(TraceFault::OutOfMemory)
+        | ReplayFault::OutputFailed => status::OUT_OF_MEMORY,
+        _ => status::BAD_TRACE,
+    }
+}
+
+fn trace_row(fault: &TraceFault) -> u32
+    ensures { result ≡ trace_row fault.now }
+{
+    match fault {
+        TraceFault::BadFields { row }
+        | TraceFault::BadNumber { row }
+        | TraceFault::BadEvent { row }
+        | TraceFault::OutOfRange { row }
+        | TraceFault::UnknownDevice { row }
+        | TraceFault::OpenTwice { row }
+        | TraceFault::WrongState { row } => *row,
+        TraceFault::TooManyRows => 100001,
+        TraceFault::BadHeader | TraceFault::ReadFailed | TraceFault::OutOfMemory => 0,
+    }
+}
+
+// The row that a fault names, or 0.
+pub(crate) fn row_of(fault: &ReplayFault) -> u32
+    ensures { result ≡ row_of fault.now }
+{
+    match fault {
+        ReplayFault::Trace(fault) => trace_row(fault),
+        ReplayFault::Pending { row } => *row,
+        _ => 0,
+    }
+}

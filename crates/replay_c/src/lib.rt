@@ -1,0 +1,6 @@
+//! The whole replay for C, in serial mode: from the bytes of a trace to the bytes of its report, or the numbers of a fault.
+#![tactic(auto)]
+
+mod fault;
+mod replay;
+mod status;

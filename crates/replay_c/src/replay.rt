@@ -1,0 +1,130 @@
+//! A whole replay on one thread, from the caller's bytes into the caller's bytes.
+
+ghost use Rattle.std.specs.Prelude.{◌≡◌, ◌≢◌, ◌<◌, ◌≤◌, ◌⊎◌, ◌↔◌, ℕ, List, Ok, Err, IfOk, IfErr, length, take};
+ghost use Rattle.report_text.specs.Outside.{IsOutside};
+ghost use Rattle.trace_replay.specs.Answer.{replay_of};
+ghost use Rattle.replay_c.specs.Status.{OK, BAD_WEIGHT, NO_ROOM, BAD_BUDGET, BAD_TRACE};
+ghost use Rattle.replay_c.specs.Faults.{fault_status};
+ghost use Rattle.replay_c.specs.Replay.{Asks, HasWeight, HasBudget, IsReport, IsFault, Lacks, Tells};
+
+use crate::fault::{fault_status, row_of};
+use crate::status;
+use replay_words::Settings;
+use report_text::ReplayFault;
+use std::alloc::Global;
+use trace_replay::replay_serial;
+
+/// How a replay polls: `struct fq_settings`.
+#[repr(C)]
+#[derive(Clone, Copy)]
+pub struct FqSettings {
+    /// Packets that a run polls before it is squeezed, 1 to 65535 (`netdev_budget`).
+    pub budget: u32,
+    /// Packets that one poll gives at most, 1 to 64 (`NAPI_POLL_WEIGHT`).
+    pub weight: u32,
+    /// Polls that a run makes before it is squeezed, 1 to 65535; it stands in for the kernel's `netdev_budget_usecs`.
+    pub window: u32,
+}
+
+/// What a replay tells beside its status: `struct fq_replayed`.
+#[repr(C)]
+#[derive(Clone, Copy)]
+pub struct FqReplayed {
+    /// The bytes of the report, also where there is no room for it; 0 where there is none.
+    pub length: usize,
+    /// The number of the trace's fault, 1 to 12; 0 where it has none.
+    pub fault: u32,
+    /// The row that the fault names; 0 where it names none.
+    pub row: u32,
+}
+
+// The settings of these numbers, or the status of the first that is out of its range.
+fn asked_by(settings: &FqSettings) -> Result<Settings, u32>
+    ensures asked { IfOk result (λ s. Asks settings.now s × HasWeight settings.now × HasBudget settings.now) }
+    ensures refused { IfErr result (λ status. Lacks settings.now status) }
+{
+    if settings.weight == 0 || settings.weight > 64 {
+        return Err(status::BAD_WEIGHT);
+    }
+    match Settings::new(1, settings.budget, settings.weight, settings.window) {
+        Some(asked) => Ok(asked),
+        None => Err(status::BAD_BUDGET),
+    }
+}
+
+// The report of a trace.
+fn report_of(alloc: Global, settings: &Settings, trace: &[u8]) -> Result<Vec<u8>, ReplayFault>
+    ensures report { IfOk result (λ text. replay_of settings.now trace.now ≡ Ok text.items) }
+    ensures fault { IfErr result (λ fault. IsOutside fault ⊎ (replay_of settings.now trace.now ≡ Err fault)) }
+{
+    let mut text = Vec::new(alloc);
+    match replay_serial(alloc, trace, &mut text, settings) {
+        Ok(()) => Ok(text),
+        Err(fault) => Err(fault),
+    }
+}
+
+// Puts a report into the caller's array, where that has room for all of it.
+fn put_report(text: &[u8], report: &mut [u8], replayed: &mut FqReplayed) -> u32
+    ensures ok { result ≡ OK → take replayed.new.length report.new ≡ text.now }
+    ensures no_room { result ≢ OK → (result ≡ NO_ROOM) × (length report.old < length text.now) }
+    ensures length { replayed.new.length ≡ length text.now }
+    ensures kept { result ≢ OK → report.new ≡ report.old }
+{
+    replayed.length = text.len();
+    if report.len() < text.len() {
+        return status::NO_ROOM;
+    }
+    report[..text.len()].copy_from_slice(text);
+    status::OK
+}
+
+// Tells a fault of the trace by its numbers.
+fn tell(fault: &ReplayFault, replayed: &mut FqReplayed) -> u32
+    ensures status { result ≡ fault_status fault.now }
+    ensures told { result ≡ BAD_TRACE → Tells fault.now replayed.new }
+{
+    let status = fault_status(fault);
+    if status == status::BAD_TRACE {
+        *replayed = FqReplayed {
+            length: 0,
+            fault: u32::from(fault.number()),
+            row: row_of(fault),
+        };
+    }
+    status
+}
+
+/// As `replay_serial`, from the bytes of a trace into an array, of which the report is the first `length` bytes: ok; no room, and
+/// nothing is written; bad weight, bad budget (or window); bad trace, with the numbers of its fault; out of memory.
+#[unsafe(no_mangle)]
+pub extern "C" fn fq_replay(
+    alloc: Global,
+    settings: &FqSettings,
+    trace: &[u8],
+    report: &mut [u8],
+    replayed: &mut FqReplayed,
+) -> u32
+    // What is written is the report of the bytes of the trace by these settings, and a fault is theirs.
+    ensures written { result ≡ OK → IsReport settings.now trace.now (take replayed.new.length report.new) }
+    ensures no_room { result ≡ NO_ROOM → (text : List ℕ) × IsReport settings.now trace.now text × (replayed.new.length ≡ length text) × (length report.old < length text) }
+    ensures fault { result ≡ BAD_TRACE → (fault : ReplayFault) × IsFault settings.now trace.now fault × Tells fault replayed.new }
+
+    // Settings are refused exactly where they are out of their ranges, and then and by every fault nothing is written.
+    ensures weight { (result ≡ BAD_WEIGHT) ↔ ¬ HasWeight settings.now }
+    ensures budget { (result ≡ BAD_BUDGET) ↔ (HasWeight settings.now × ¬ HasBudget settings.now) }
+    ensures kept { result ≢ OK → report.new ≡ report.old }
+{
+    *replayed = FqReplayed {
+        length: 0,
+        fault: 0,
+        row: 0,
+    };
+    match asked_by(settings) {
+        Ok(asked) => match report_of(alloc, &asked, trace) {
+            Ok(text) => put_report(text.as_slice(), report, replayed),
+            Err(fault) => tell(&fault, replayed),
+        },
+        Err(status) => status,
+    }
+}

@@ -1,0 +1,103 @@
+/* Buffers used in turn, with no list of free ones: as many as the ring has places, 64 for a poll, and one in the interrupt's hands.
+ * An interrupt thread writes 200000 packets into them, and a poller reads each as it was written. A packet's number is its buffer's
+ * address. The calls of fintaqush_tsan.h are for ThreadSanitizer alone. */
+#include <fintaqush_tsan.h>
+#include <pthread.h>
+#include <sched.h>
+#include <stdio.h>
+
+enum { PACKETS = 200000, WEIGHT = 64, PLACES = 256, BUFFERS = PLACES + WEIGHT + 1, BYTES = 60 };
+
+static unsigned char buffers[BUFFERS][BYTES];
+
+/* What is written into the packet, in each of its bytes. */
+static unsigned char written(uint64_t packet) { return (unsigned char)(packet % 251); }
+
+struct interrupts {
+    struct fq_handle *ring, *seat;
+    bool failed;
+};
+
+static void *interrupt(void *at) {
+    struct interrupts *irq = at;
+    for (uint64_t i = 0; i < PACKETS; i++) {
+        unsigned char *buffer = buffers[i % BUFFERS];
+        /* the last put found a place free that a later poll emptied than the one that gave this buffer's last packet */
+        fq_tsan_acquire(buffer);
+        for (int k = 0; k < BYTES; k++) buffer[k] = written(i);
+        fq_tsan_release(buffer);
+        while (fq_ring_put(irq->ring, (uintptr_t)buffer, BYTES) == FQ_FULL) sched_yield();
+        const uint32_t said = fq_seat_interrupt(irq->seat, FQ_LIST);
+        irq->failed |= said != FQ_GRANTED && said != FQ_MISSED;
+    }
+    return NULL;
+}
+
+struct poller {
+    struct fq_handle *seat;
+    uint64_t next;
+    bool failed;
+};
+
+/* Ends a poll: one of the whole weight is requeued, any other completed. */
+static bool end_poll(struct fq_handle *seat, size_t count) {
+    if (count == WEIGHT) return fq_seat_requeue(seat) == FQ_OK;
+    uint32_t said;
+    do said = fq_seat_complete(seat);
+    while (said == FQ_CHANGED);
+    return said == FQ_RELEASED || (said == FQ_AGAIN && fq_seat_hand(seat, FQ_LIST) == FQ_OK);
+}
+
+/* Reads the next packet, and answers whether it is there as it was written. */
+static bool is_next(struct fq_packet packet, uint64_t next) {
+    unsigned char *buffer = (unsigned char *)(uintptr_t)packet.number;
+    bool good = buffer == buffers[next % BUFFERS] && packet.bytes == BYTES;
+    fq_tsan_acquire(buffer);
+    for (int i = 0; i < BYTES; i++) good = good && buffer[i] == written(next);
+    fq_tsan_release(buffer);
+    return good;
+}
+
+static void *poll_all(void *at) {
+    struct poller *poller = at;
+    struct fq_packet out[WEIGHT];
+    while (poller->next < PACKETS && !poller->failed) {
+        if (fq_seat_take(poller->seat, FQ_LIST) != FQ_TAKEN) {
+            sched_yield();
+            continue;
+        }
+        size_t count;
+        if (fq_seat_poll(poller->seat, WEIGHT, out, WEIGHT, &count) != FQ_OK) poller->failed = true;
+        for (size_t i = 0; i < count; i++) poller->failed |= !is_next(out[i], poller->next++);
+        poller->failed |= !end_poll(poller->seat, count);
+    }
+    return NULL;
+}
+
+/* napi_disable. What lies on the list when it is asked for is taken and completed by the poller's seat. */
+static bool disable(struct fq_handle *control, struct fq_handle *seat) {
+    if (fq_control_mark(control) != FQ_OK) return false;
+    for (;;) {
+        const uint32_t said = fq_control_try_take(control);
+        if (said == FQ_TAKEN) return true;
+        if (said != FQ_BUSY && said != FQ_CHANGED) return false;
+        if (fq_seat_take(seat, FQ_LIST) == FQ_TAKEN && !end_poll(seat, 0)) return false;
+    }
+}
+
+int main(void) {
+    struct fq_handle ring = FQ_NONE, control = FQ_NONE, seats[2] = {FQ_NONE, FQ_NONE};
+    if (fq_ring_new(&ring, PLACES) != FQ_OK || fq_shared_new(&ring, &control, seats, 2) != FQ_OK) return 1;
+    if (fq_control_enable(&control, false) != FQ_OK) return 1;
+    struct interrupts irq = {&ring, &seats[0], false};
+    struct poller poller = {&seats[1], 0, false};
+    pthread_t threads[2];
+    if (pthread_create(&threads[0], NULL, interrupt, &irq) != 0) return 1;
+    if (pthread_create(&threads[1], NULL, poll_all, &poller) != 0) return 1;
+    for (int i = 0; i < 2; i++) pthread_join(threads[i], NULL);
+    if (irq.failed || poller.failed || poller.next != PACKETS || !disable(&control, &seats[1])) return 1;
+    printf("%d packets in %d buffers, each as it was written\n", PACKETS, BUFFERS);
+    if (fq_free(&control) != FQ_OK || fq_free(&ring) != FQ_OK) return 1;
+    for (int i = 0; i < 2; i++) if (fq_free(&seats[i]) != FQ_OK) return 1;
+    return 0;
+}

@@ -1,0 +1,57 @@
+#!/usr/bin/env bash
+# examples/tap/table.sh: the driver in five ways under the same loads, one after the other: of a flood of UDP the packets a second
+# that it read and its processor time for each; of pings of 64 bytes the median and the 99th percentile of the time to the answer, in
+# microseconds, at 100, 2000 and 20000 a second and with 32 always under way. The last line tells how busy the machine was. Status
+# 69 as run.sh. BUILT=FOLDER: there build.sh has built it.
+set -uo pipefail
+unset CDPATH
+here=$(dirname "$(readlink -f "${BASH_SOURCE[0]}")")
+. "$here/device.sh"
+make_device || exit 69
+scratch=$(mktemp -d)
+trap 'remove_device; rm -rf "$scratch"' EXIT
+built=${BUILT:-$scratch}
+[ -n "${BUILT:-}" ] || "$here/build.sh" "$built" || exit
+
+load() { inside timeout 60 "$built/load" "$@"; }
+
+# The processor time of the driver's threads, in ns.
+spent() { cat "/proc/$driver/task/"*/schedstat | awk '{ sum += $1 } END { printf "%d\n", sum }'; }
+
+# flood BYTES: packets a second and ns a packet, over one second
+flood() {
+    local packets time
+    packets=$(counter tx_packets) time=$(spent)
+    load udp 9 1 "$1" > "$scratch/flood"
+    packets=$(($(counter tx_packets) - packets)) time=$(($(spent) - time))
+    echo "$packets $((time / (packets + 1)))"
+}
+
+pinged() { load "$@" | awk '{ for (i = 1; i < NF; i++) { if ($i == "p50_us") half = $(i + 1); if ($i == "p99_us") most = $(i + 1) } print half "/" most }'; }
+
+row() {
+    local name=$1
+    shift
+    ip netns exec "$space" "$built/tap" "$@" > "$scratch/out" 2> "$scratch/err" &
+    driver=$!
+    wait_for said on 1 || exit 1
+    ip -n "$space" link set fq0 up
+    load ping 100 64 4 > "$scratch/first"
+    # shellcheck disable=SC2046
+    printf '%-12s %8s %6s %8s %6s %15s %15s %15s %15s\n' "$name" $(flood 64) $(flood 1400) "$(pinged rate 100 100 64)" "$(pinged rate 2000 2000 64)" \
+        "$(pinged rate 20000 20000 64)" "$(pinged ping 20000 64 32)"
+    kill -INT "$driver"
+    wait "$driver"
+}
+
+before=$(awk '/^cpu / { print $2 + $3 + $4 + $7 + $8, $2 + $3 + $4 + $5 + $6 + $7 + $8 }' /proc/stat)
+printf '%-12s %15s %15s %15s %15s %15s %15s\n' '' '64 B: /s, ns' '1400 B: /s, ns' 'ping 100/s' '2000/s' '20000/s' '32 under way'
+row plain --plain
+row 'one thread' --one
+row 'two threads'
+row masked --mask
+row direct --direct
+# shellcheck disable=SC2086
+awk -v processors="$(nproc)" 'NR == 1 { busy = $1; all = $2 } NR == 2 { printf "%d processors, busy for %.0f %% of the time; load average ",
+    processors, 100 * ($1 - busy) / ($2 - all) } NR == 3 { print $1 }' <(echo $before) \
+    <(awk '/^cpu / { print $2 + $3 + $4 + $7 + $8, $2 + $3 + $4 + $5 + $6 + $7 + $8 }' /proc/stat) /proc/loadavg

@@ -1,0 +1,61 @@
+/* replay BUDGET WEIGHT WINDOW < TRACE: what napi_serial does of it, by fq_replay: the report on standard output, or the line of the
+ * fault on standard error and its status. On the way each array that is too short has to stay as it was, with the room told that the
+ * report takes, and no byte behind a report may be written. Where one of this isn't so it ends by 9. */
+#include <fintaqush.h>
+#include <stdio.h>
+#include <stdlib.h>
+#include <string.h>
+
+enum { MOST_BYTES = 1 << 26, GUARD = 0xA5 };
+
+static void want(bool holds, const char *what) {
+    if (holds) return;
+    fprintf(stderr, "replay: %s\n", what);
+    exit(9);
+}
+
+static bool is_untouched(const uint8_t *bytes, size_t from, size_t to) {
+    for (size_t i = from; i < to; i++)
+        if (bytes[i] != GUARD) return false;
+    return true;
+}
+
+/* Tells a fault as napi_serial does. */
+static int tell(uint32_t said, const struct fq_replayed *replayed) {
+    if (said != FQ_BAD_TRACE) {
+        fprintf(stderr, "%s\n", fq_status_name(said));
+        return 1;
+    }
+    fprintf(stderr, "trace fault %u %s row %u\n", replayed->fault, fq_fault_name(replayed->fault), replayed->row);
+    return 2;
+}
+
+int main(int count, char **words) {
+    static uint8_t trace[MOST_BYTES];
+    want(count == 4, "three numbers");
+    const struct fq_settings settings = {(uint32_t)strtoul(words[1], NULL, 10), (uint32_t)strtoul(words[2], NULL, 10),
+                                         (uint32_t)strtoul(words[3], NULL, 10)};
+    const size_t len = fread(trace, 1, sizeof trace, stdin);
+    struct fq_replayed replayed = {1, 2, 3};
+    uint8_t none = GUARD;
+    uint32_t said = fq_replay(&settings, trace, len, &none, 0, &replayed);
+    want(none == GUARD, "an array of no bytes was written to");
+    want(said != FQ_OK, "a report of no bytes");
+    if (said != FQ_NO_ROOM) {
+        want(replayed.length == 0, "no report has a length");
+        return tell(said, &replayed);
+    }
+    const size_t length = replayed.length;
+    want(replayed.fault == 0 && replayed.row == 0, "a report has a fault");
+    uint8_t *report = malloc(length + 1);
+    want(report != NULL, "no memory");
+    memset(report, GUARD, length + 1);
+    want(fq_replay(&settings, trace, len, report, length - 1, &replayed) == FQ_NO_ROOM, "a byte too short");
+    want(replayed.length == length && is_untouched(report, 0, length + 1), "an array that is too short was written to");
+    said = fq_replay(&settings, trace, len, report, length, &replayed);
+    want(said == FQ_OK && replayed.length == length, "the room that was told isn't enough");
+    want(is_untouched(report, length, length + 1), "a byte behind the report was written");
+    want(fwrite(report, 1, length, stdout) == length && fflush(stdout) == 0, "the report can't be written");
+    free(report);
+    return 0;
+}

@@ -1,0 +1,25 @@
+// replay.cpp BUDGET WEIGHT WINDOW < TRACE: what napi_serial does of it, by fintaqush::replay: the report on standard output, or the
+// line of the fault on standard error and its status.
+#include <fintaqush.hpp>
+
+#include <cstdlib>
+#include <iostream>
+#include <iterator>
+
+int main(int count, char **words) {
+    if (count != 4) return 9;
+    const auto number = [&](int at) { return static_cast<std::uint32_t>(std::strtoul(words[at], nullptr, 10)); };
+    const std::string trace(std::istreambuf_iterator<char>(std::cin), {});
+    const auto answer = fintaqush::replay(trace, {number(1), number(2), number(3)});
+    if (const auto *report = std::get_if<std::string>(&answer)) {
+        std::cout << *report << std::flush;
+        return std::cout ? 0 : 9;
+    }
+    const auto &why = std::get<fintaqush::NoReport>(answer);
+    if (why.status != FQ_BAD_TRACE) {
+        std::cerr << fq_status_name(why.status) << '\n';
+        return 1;
+    }
+    std::cerr << "trace fault " << why.fault << ' ' << fq_fault_name(why.fault) << " row " << why.row << '\n';
+    return 2;
+}

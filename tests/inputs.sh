@@ -1,0 +1,120 @@
+#!/usr/bin/env bash
+# Tries the launcher, over the real program, on inputs that nobody ends, that fail, or that have no end. The last line is
+# `N passed, M failed`.
+set -uo pipefail
+unset CDPATH
+# A signal that whoever called this ignores can't be tried, and a shell can't take it back by itself.
+if [ -z "${SIGNALS_AS_USUAL:-}" ]; then
+    SIGNALS_AS_USUAL=yes exec env --default-signal=INT,TERM,HUP,PIPE bash "$0" "$@"
+fi
+top=$(dirname "$(dirname "$(readlink -f "$0")")")
+scratch=$(mktemp -d)
+trap 'rm -rf "$scratch"' EXIT
+passed=0
+failed=0
+
+# check NAME CONDITION ..: counts the condition's status.
+check() {
+    local name=$1
+    shift
+    if "$@"; then
+        passed=$((passed + 1))
+    else
+        failed=$((failed + 1))
+        echo "inputs: $name"
+        sed 's/^/    /' "$scratch/out" "$scratch/err"
+    fi
+}
+
+# run COMMAND ..: leaves its output in out and err, its status in `status`.
+run() {
+    status=0
+    "$@" > "$scratch/out" 2> "$scratch/err" || status=$?
+}
+
+is() { [ "$1" = "$2" ]; }
+
+# comes COMMAND ..: waits for it, 5 minutes at most.
+comes() {
+    local turns=15000
+    until "$@"; do
+        turns=$((turns - 1))
+        [ "$turns" != 0 ] || return 1
+        sleep 0.02
+    done
+}
+
+# still WRITER: a FIFO that this command writes to, after which it stays open for an hour.
+still() {
+    rm -f "$scratch/fifo" && mkfifo "$scratch/fifo"
+    (eval "$1" && exec sleep 3600) > "$scratch/fifo" &
+    writer=$!
+}
+
+# fails FAULT CAUSE: the real program on the FIFO, whose writer doesn't end.
+fails() {
+    run timeout -s KILL 300 "${as[@]}" "$top/replay" "$scratch/fifo"
+    kill "$writer" 2> /dev/null
+    wait "$writer" 2> /dev/null
+    check "a writer that goes on: $2" is "$status $(sed "s,$scratch/,,g" "$scratch/err")" "2 trace fault $1
+replay: fifo line $2"
+}
+
+is_kept() { grep -q moment "$scratch"/room/*/trace 2> /dev/null; }
+
+# ends_by SIGNAL STATUS: to this process alone, while a writer doesn't end.
+ends_by() {
+    still "echo 'moment,device,event,value'"
+    TMPDIR=$scratch/room env --default-signal=INT "$top/replay" "$scratch/fifo" > "$scratch/out" 2> "$scratch/err" &
+    comes is_kept
+    kill -"$1" $!
+    status=0
+    wait $! || status=$?
+    check "$1 ends a replay whose trace is still to come" is "$status $(cat "$scratch/err") $(ls "$scratch/room")$(pgrep -f "$scratch/room")" \
+        "$2 replay: interrupted "
+    kill "$writer"
+    wait "$writer" 2> /dev/null
+}
+
+# Traces that nobody ends, and reads that fail.
+inputs() {
+    local as=() writer rows="printf 'moment,device,event,value\n0,1,open,4\n'" semicolons="'moment;device': the fields have semicolons between them, and need commas"
+    still "echo 'moment;device'"
+    fails '1 BadHeader row 0' "1, $semicolons"
+    # Behind the CR an LF is to come.
+    still "printf 'moment;device\r'"
+    fails '1 BadHeader row 0' "1, $semicolons"
+    still "$rows; yes 0,1,rx,9 | head -n 70000; printf '0,1,Rx,9\n0,1,rx'"
+    fails '4 BadEvent row 70002' "70003, '0,1,Rx,9': an event is written in lower case and without spaces: rx"
+    still "$rows; yes 0,1,rx,9"
+    fails '9 TooManyRows row 100001' "100002, '0,1,rx,9': a trace has at most 100000 rows: replay the first ones alone"
+    as=(env --ignore-signal=TERM)
+    still "$rows; echo 1,1"
+    fails '2 BadFields row 2' "3, '1,1': a row has four fields, and this one has 2"
+    mkdir "$scratch/room"
+    ends_by INT 130
+    ends_by TERM 143
+    printf 'moment,device,event,value\n0,1' > "$scratch/bad.csv"
+    for how in '< "$1"' '<(cat "$1")' '< <(cat "$1")' '"$1"'; do
+        run bash -c "'$top/replay' $how" '' "$scratch/bad.csv"
+        check "a last line without its end, $how" is "$status $(grep -c "line 2, '0,1': a row has four fields" "$scratch/err")" '2 1'
+    done
+    for how in '< /dev/zero' '/dev/zero' '< <(tr "\0" x < /dev/zero)'; do
+        # The program and what tells of it together, as one that keeps all would end.
+        run bash -c "ulimit -v 1500000; '$top/replay' $how"
+        check "an input without end, $how" is "$status $(sed 's,^replay: [^:]*,replay: it,' "$scratch/err")" '2 trace fault 10 ReadFailed
+replay: it: a read of it failed, or it has over 64 MiB'
+    done
+    command -v python3 > /dev/null || return 0
+    for how in '' --rows; do
+        run python3 "$top/tests/half_read.py" $how "$top/replay"
+        check "half of a trace is no trace $how" is "$status $(cat "$scratch/out" "$scratch/err")" '2 trace fault 10 ReadFailed
+replay: standard input: a read of it failed, or it has over 64 MiB'
+    done
+}
+
+run "$top/scripts/build.sh" napi_serial
+check 'the real program stands, or is built' is "$status" 0
+inputs
+echo "$passed passed, $failed failed"
+[ "$failed" = 0 ]

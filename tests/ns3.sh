@@ -1,0 +1,105 @@
+#!/usr/bin/env bash
+# tests/ns3.sh: the simulation of examples/ns3. This library's queue limit gives the numbers of ns-3's own, call by call; each packet
+# is counted once; runs keep their budget. Where ns-3 isn't installed it says so, and passes over it. The last line is
+# `N passed, M failed`.
+set -uo pipefail
+unset CDPATH
+top=$(dirname "$(dirname "$(readlink -f "$0")")")
+scratch=$(mktemp -d)
+trap 'rm -rf "$scratch"' EXIT
+passed=0
+failed=0
+
+# check NAME COMMAND ..: counts its status. What it wrote is shown where it fails.
+check() {
+    local name=$1
+    shift
+    if "$@" > "$scratch/log" 2>&1; then
+        passed=$((passed + 1))
+    else
+        failed=$((failed + 1))
+        echo "ns3: $name"
+        tail -n 20 "$scratch/log" | sed 's/^/    /'
+    fi
+}
+
+timeout 1200 "$top/examples/ns3/run.sh" "$scratch" 100000 250000 400000 > "$scratch/table" 2> "$scratch/errors"
+status=$?
+if [ "$status" = 69 ]; then
+    cat "$scratch/errors"
+    echo 'ns3: passed over: there is no ns-3'
+    echo '0 passed, 0 failed'
+    exit 0
+fi
+check 'the example is built and run' [ "$status" = 0 ]
+if [ "$status" != 0 ]; then
+    tail -n 20 "$scratch/errors"
+    echo "$passed passed, $failed failed"
+    exit 1
+fi
+
+prints() {
+    local wanted=$1
+    shift
+    timeout 300 "$@" > "$scratch/printed" && grep -x -E -q -e "$wanted" "$scratch/printed" || { cat "$scratch/printed"; false; }
+}
+
+refused() {
+    local wanted=$1 status=0
+    shift
+    timeout 300 "$@" || status=$?
+    [ "$status" = "$wanted" ]
+}
+
+# ---- the queue limits
+
+check 'random calls answer as those on the limit of ns-3' prints \
+    '100000 calls, the limit grew [1-9][0-9]* times and shrank [1-9][0-9]*, the same at each' "$scratch/limits" 100000 0
+check 'with a minimum they differ' prints 'call [0-9]+ has them differ' "$scratch/limits" 100000 3000
+check 'behind a reset they differ' prints 'call [0-9]+ has them differ' "$scratch/limits" 100000 0 reset
+
+simulate() { timeout 300 "$scratch/bottleneck" --budget="$1" --load="$2" --limits="$3" --calls="$scratch/$3.calls" > "$scratch/$3.line"; }
+both_limits() {
+    simulate "$1" "$2" fintaqush && simulate "$1" "$2" ns3 && [ "$(wc -l < "$scratch/ns3.calls")" -gt "$((2 * $2 / 10))" ] &&
+        cmp "$scratch/fintaqush.calls" "$scratch/ns3.calls" && cmp "$scratch/fintaqush.line" "$scratch/ns3.line"
+}
+for load in 100000 250000 400000; do
+    check "at $load packets a second the simulation is the same with both limits" both_limits 64 "$load"
+done
+
+# ---- what was simulated, by the names of its columns
+
+# rows CONDITION: there are twelve rows, of four budgets and three loads, and it holds of each.
+rows() {
+    awk "NR == 1 { for (i = 1; i <= NF; i++) at[\$i] = i; next } function of(name) { return \$at[name] } { n++; if (!($1)) { print; wrong = 1 } }
+        END { exit wrong || n != 12 }" "$scratch/bottleneck.txt"
+}
+check 'what was sent came or was dropped by the queue disc' rows 'of("sent") > 0 && of("sent") == of("arrived") + of("disc_full")'
+check 'what came was used or dropped once' rows 'of("used") > 0 && of("arrived") == of("ring_full") + of("socket_full") + of("used")'
+check 'no run gave more than budget and weight' rows 'of("budget") == 0 ? of("most") == 0 : of("most") < of("budget") + 64'
+check 'a squeezed run is a run' rows 'of("squeezed") + of("late") <= of("runs") && of("runs") <= of("polls") && (of("budget") == 0) == (of("runs") == 0)'
+check 'shares of the processor are at most all of it' rows 'of("interrupt%") + of("poll%") + of("use%") <= 100.2'
+check 'the table has a row for each' [ "$(awk 'NR > 1 && NF == 12' "$scratch/table" | wc -l)" = 12 ]
+
+used() { awk -v budget="$1" 'NR == 1 { for (i = 1; i <= NF; i++) at[$i] = i; next } $1 == budget && $2 == 400000 { print $at["used"] }' "$scratch/bottleneck.txt"; }
+check 'at 400000 packets a second a smaller budget leaves more to the application' \
+    [ "$(used 16)" -gt "$(used 64)" -a "$(used 64)" -gt "$(used 300)" -a "$(used 300)" -gt "$(used 0)" ]
+
+# ---- words and files
+
+again() {
+    "$scratch/bottleneck" --budget=16 --load=250000 > "$scratch/again" && grep -x -F -q -f "$scratch/again" "$scratch/bottleneck.txt"
+}
+check 'a second run prints the same' again
+check 'other limits are refused' refused 64 "$scratch/bottleneck" --limits=other
+check 'a budget that is too large is refused' refused 64 "$scratch/bottleneck" --budget=65536
+check 'calls that can not be written are told' refused 74 "$scratch/bottleneck" --load=1000 --calls=/dev/full
+check 'limits without words are refused' refused 64 "$scratch/limits"
+if command -v gnuplot > /dev/null; then
+    check 'the picture is drawn' [ "$(head -c 4 "$scratch/bottleneck.png" | tail -c 3)" = PNG ]
+else
+    echo 'ns3: passed over: there is no gnuplot, so no picture'
+fi
+
+echo "$passed passed, $failed failed"
+[ "$failed" = 0 ]

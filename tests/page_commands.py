@@ -1,0 +1,316 @@
+"""The commands of the pages: each is run in a copy of the repository, or commands.txt says who runs it or why nobody does.
+
+A command of a page is a line of a block that begins with a program's name, a line `$ COMMAND` with what it prints below it, or
+text in code of two words and more, of which the first one is a program's name. What stands behind three spaces, or behind `#`,
+is a remark. A synopsis, as `tools/raise TRACE WORD ..`, is held against the program's usage text.
+"""
+import os
+import pathlib
+import re
+import shutil
+import subprocess
+import tempfile
+
+TOP = pathlib.Path(__file__).resolve().parent.parent
+LIST = TOP / "tests/commands.txt"
+LONGEST = 900  # seconds; nothing is judged by its time
+PROGRAMS = {"rt", "cc", "gcc", "g++", "clang", "clang++", "c++", "make", "cmake", "ctest", "cargo", "rustc", "python3", "bash", "sh", "awk",
+            "sbatch", "trace-cmd", "apt", "apt-get", "git", "cp", "mv", "rm", "mkdir", "cd", "printf", "echo", "cat", "pkg-config", "valgrind",
+            "gnuplot", "man", "ip", "ethtool", "taskset", "tcpdump", "parallel", "perf", "sudo", "export", "curl", "ns3", "tar", "diff",
+            "napi_replay", "napi_series", "napi_serial"}
+FOLDERS = r"(?:\./|\.\./)*(?:bench|crates|bindings|examples|scripts|tests|tools)/[\w./-]+"
+SYNOPSIS = re.compile(r"\[[A-Z-]| \.\.(?: |$)|\.\.\]| \| -|[A-Z]\|[A-Z]")
+
+
+def begins_a_command(text):
+    """Whether the first word is a program's; settings of variables may stand before it."""
+    words = text.split()
+    while words and re.match(r"[A-Z_]+=\S*$", words[0]):
+        words.pop(0)
+    if not words:
+        return False
+    first = words[0]
+    if first in PROGRAMS or re.match(r"\./(replay|test)$", first):
+        return True
+    return bool(re.fullmatch(FOLDERS, first)) and (len(words) > 1 or first.endswith(".sh")) and not first.endswith((".py", ".rt", ".md"))
+
+
+def plain(line):
+    """A command without the remark behind it, each gap one space."""
+    return " ".join(re.split(r" {3,}|\s+# ", line.strip())[0].split())
+
+
+def blocks(text):
+    """The blocks of a page, each the list of its lines: those between fences, and those that stand in by four spaces."""
+    block, fence, before = [], False, ""
+    for line in text.splitlines() + [""]:
+        if line.startswith("```"):
+            if fence:
+                yield block
+            block, fence = [], not fence
+        elif fence:
+            block.append(line)
+        elif line.startswith("    ") and (block or not before.strip()):
+            block.append(line[4:])
+        elif not line.strip() and block:
+            block.append("")
+        elif block:
+            yield block
+            block = []
+        before = line
+    if block:
+        yield block
+
+
+def joined(lines):
+    """The lines of a block as commands: one goes on behind a backslash, in quotes, and to the end of a text behind `<<`."""
+    held = ""
+    for line in lines:
+        held = f"{held}\n{line}" if held else line
+        text = re.search(r"<<-?\s*'?(\w+)'?", held)
+        is_open = held.count("'") % 2 or held.endswith("\\") or (text and held.rsplit("\n", 1)[-1].strip() != text[1])
+        if not is_open and held.strip():
+            yield held
+            held = ""
+    if held.strip():
+        yield held
+
+
+def commands_of_block(block):
+    """Pairs of a command as it is listed, and what it prints by the page; nothing where the page doesn't show it."""
+    lines = [line.rstrip() for line in block]
+    while lines and not lines[-1]:
+        lines.pop()
+    if not lines:
+        return
+    if any(line.startswith("$ ") for line in lines):
+        command = None
+        for line in lines:
+            if line.startswith("$ "):
+                if command:
+                    yield command, wanted
+                command, wanted = plain(line[2:]), []
+            elif command:
+                wanted.append(line)
+        yield command, wanted
+    elif lines[0].startswith(("#!", "set -")):
+        yield f"{lines[0]}; {lines[1]} ..", None
+    elif begins_a_command(lines[0]):
+        for command in joined(lines):
+            if not command.lstrip().startswith("#"):
+                yield plain(command), None
+
+
+def commands_of_page(path):
+    """The commands of a page, or of a manual page, in order."""
+    text = path.read_text()
+    if path.suffix != ".md":
+        text = text.replace("\\-", "-").replace("\\(aq", "'").replace("\\e", "\\")
+        for block in re.findall(r"^\.EX\n(.*?)^\.EE$", text, re.M | re.S):
+            yield from commands_of_block(block.splitlines())
+        for line in re.findall(r"^\.B (.*)$", text, re.M):
+            if begins_a_command(line) and " " in line:
+                yield plain(line), None
+        return
+    shown = set()
+    for block in blocks(text):
+        shown.update(block)
+        yield from commands_of_block(block)
+    for line in text.splitlines():
+        if line[4:] not in shown or not line.startswith("    "):
+            for code in re.findall(r"`([^`]+)`", line):
+                code = plain(code.replace("\\|", "|"))
+                if begins_a_command(code) and (" " in code or code == "./test"):
+                    yield code, None
+
+
+class Entry:
+    """An entry of the list: a command, and below it what is to be done with it."""
+
+    def __init__(self, command):
+        self.command = command
+        self.keys = {}
+        self.is_used = False
+
+    def __getattr__(self, key):
+        return self.keys.get(key)
+
+
+KEYS = {"run", "first", "into", "needs", "prints", "in", "by", "not"}
+
+
+def read_list():
+    """The entries by their commands, and what is wrong with the list itself."""
+    entries, wrong = {}, []
+    for line in LIST.read_text().splitlines():
+        if not line.strip() or line.startswith("# ") or line == "#":
+            continue
+        if not line.startswith(" "):
+            entry = Entry(line.strip())
+            if entry.command in entries:
+                wrong.append(f"{entry.command} stands twice")
+            entries[entry.command] = entry
+            continue
+        key, _, value = line.strip().partition(":")
+        if key not in KEYS or key in entry.keys:
+            wrong.append(f"{entry.command}: {key} is no key of an entry, or stands twice")
+        entry.keys[key] = value.strip()
+    for entry in entries.values():
+        if len({"run", "by", "not"} & set(entry.keys)) != 1 or entry.keys.get("not") == "":
+            wrong.append(f"{entry.command}: it is either run, or by another test, or not with a reason")
+        if entry.by:
+            name, _, word = entry.by.partition(" ")
+            if not (TOP / name).is_file() or not word or word not in (TOP / name).read_text():
+                wrong.append(f"{entry.command}: {name} has no {word or 'word that is named'}")
+    return entries, wrong
+
+
+def usage_text(program):
+    """What a program tells of its words: its text, and for a built one that of the launcher."""
+    name = re.sub(r"^(\./|\.\./)+", "", program)
+    if name.startswith("napi_"):
+        name = "replay"
+    path = TOP / name
+    return path.read_text() if path.is_file() else ""
+
+
+def synopsis(command):
+    """What is wrong with a synopsis: each of its options stands in the program's usage text."""
+    words = [word for word in command.split() if not re.match(r"\[?[A-Z]+=", word)]
+    if words[0] == "rt":
+        return
+    text = usage_text(words[0])
+    if not text:
+        yield f"{command}: there is no {words[0]}"
+    for option in re.findall(r"--[\w-]+", command):
+        if option not in text:
+            yield f"{command}: {words[0]} tells nothing of {option}"
+
+
+class Copy:
+    """A copy of the repository, with the programs that the checkout has built, in which commands run and leave what they write."""
+
+    def __init__(self):
+        self.room = pathlib.Path(tempfile.mkdtemp())
+        self.top = self.room / "fintaqush"
+        listed = subprocess.run(["git", "ls-files", "-z"], cwd=TOP, capture_output=True, text=True, check=True)
+        for name in filter(None, listed.stdout.split("\0")):
+            if (TOP / name).exists():
+                (self.top / name).parent.mkdir(parents=True, exist_ok=True)
+                shutil.copy2(TOP / name, self.top / name, follow_symlinks=False)
+        for program in programs():
+            built = f"crates/{program}/out/{program}"
+            (self.top / built).parent.mkdir(parents=True, exist_ok=True)
+            shutil.copy(TOP / built, self.top / built)
+            (self.room / "bin").mkdir(exist_ok=True)
+            (self.room / "bin" / program).symlink_to(self.top / built)
+
+    def run(self, command, folder=""):
+        """Runs a command at the top of the copy, or in a folder of it."""
+        known = {key: value for key, value in os.environ.items() if key not in ("PROGRAM", "SERIES", "CDPATH")}
+        known["PATH"] = f"{self.room}/bin:{known['PATH']}"
+        return subprocess.run(["bash", "-c", command], cwd=self.top / folder, env=known, capture_output=True, text=True,
+                              stdin=subprocess.DEVNULL, timeout=LONGEST, errors="replace")
+
+    def remove(self):
+        shutil.rmtree(self.room)
+
+
+def programs():
+    """The programs of the replay that stand here, by their crates."""
+    return [name for name in ("napi_replay", "napi_series", "napi_serial") if (TOP / "crates" / name / "src/main.rt").exists()]
+
+
+def missing(entry):
+    """The programs that a command needs and that aren't installed."""
+    return [name for name in (entry.needs or "").split() if not shutil.which(name)]
+
+
+def is_shown(wanted, printed):
+    """Whether what was printed is what a page shows, where a remark may stand behind three spaces."""
+    return len(wanted) == len(printed) and all(line == one or re.split(r" {3,}", line)[0] == one for line, one in zip(wanted, printed))
+
+
+def play(copy, command, wanted, entry):
+    """What is wrong with a run: its status, what it prints where a page shows it, and what the list says of its output."""
+    text = command
+    for name, _, value in (one.partition("=") for one in ((entry and entry.run) or "").split()):
+        if name not in text:
+            yield f"{command} has no {name}"
+        text = text.replace(name, value)
+    if entry and entry.first:
+        text = f"set -e; {entry.first}\n{text}"
+    if entry and entry.into:
+        text = f"{text} | {entry.into}"
+    ended = copy.run(text, (entry and entry.keys.get("in")) or "")
+    printed = [line.rstrip() for line in ended.stdout.splitlines()]
+    if ended.returncode != 0:
+        yield f"{command}: status {ended.returncode}: {ended.stderr.strip()[-2000:]}"
+    elif wanted and not is_shown(wanted, printed):
+        yield f"{command} prints {printed}"
+    elif entry and entry.prints and not re.search(entry.prints, ended.stdout):
+        yield f"{command} prints nothing like {entry.prints}: {printed[-5:]}"
+
+
+def judge_page(copy, entries, path):
+    """What is wrong with the commands of a page."""
+    for command, wanted in commands_of_page(path):
+        entry = entries.get(command)
+        if entry:
+            entry.is_used = True
+        if entry and (entry.by or entry.keys.get("not")):
+            continue
+        if entry and missing(entry):
+            print(f"passed over: {command}: there is no {' and no '.join(missing(entry))}")
+        elif entry or wanted is not None:
+            yield from play(copy, command, wanted, entry)
+        elif SYNOPSIS.search(command):
+            yield from synopsis(command)
+        else:
+            yield f"{command} is neither run nor listed in tests/commands.txt"
+
+
+def judge_list(entries, wrong):
+    """What is wrong with the list, once all pages were judged."""
+    yield from wrong
+    for entry in entries.values():
+        if not entry.is_used:
+            yield f"no page has {entry.command}"
+
+
+def first_program(copy, path):
+    """What is wrong with the first program of docs/LIBRARY.md: its lines of shell, its text, and what it prints."""
+    page = list(blocks(path.read_text()))
+    place = next(at for at, block in enumerate(page) if block[0] == "git init .")
+    shell, text, printed = page[place : place + 3]
+    mine = copy.room / "mine"
+    mine.mkdir()
+    script = "set -e\n" + "\n".join(shell)
+    made = copy.run(script, mine)
+    if made.returncode != 0:
+        yield f"{shell}: {made.stderr.strip()}"
+        return
+    (mine / "crates/first/src/main.rt").write_text("\n".join(text).rstrip() + "\n")
+    if not shutil.which("rt"):
+        print("passed over: the first program of docs/LIBRARY.md: there is no rt")
+        return
+    ended = copy.run("rt try", mine / "crates/first")
+    if ended.returncode != 0 or ended.stdout.split() != " ".join(printed).split():
+        yield f"its first program prints {ended.stdout}, status {ended.returncode}: {ended.stderr.strip()[-2000:]}"
+
+
+def first_trace(copy, path):
+    """What is wrong with the trace and the report at the head of docs/FORMATS.md: they are an example's."""
+    page = ["\n".join(block).strip() + "\n" for block in blocks(path.read_text())]
+    trace, report = page[0], page[1]
+    if trace != (TOP / "examples/two-packets.csv").read_text():
+        yield "its first trace isn't examples/two-packets.csv"
+    if copy.run("./replay examples/two-packets.csv").stdout != report:
+        yield "its first report isn't that of examples/two-packets.csv"
+
+
+def first_edit(_copy, path):
+    """What is wrong with the edit that docs/WORKING.md shows: it is one of a crate."""
+    shown = next("\n".join(block).strip() for block in blocks(path.read_text()) if block[0].startswith("file: "))
+    if not any(edit.read_text().strip().startswith(shown) for edit in TOP.glob("crates/*/must-fail/*.edit")):
+        yield "the edit that it shows is no crate's"

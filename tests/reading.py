@@ -1,0 +1,263 @@
+"""The pages as they are read: their sentences (plain.py), the shape of the first page, links and headings, pictures, the site of all
+pages, and the manual pages.
+
+What needs pandoc, dot or man is passed over where these aren't installed, and says so.
+"""
+import html
+import html.parser
+import os
+import pathlib
+import re
+import shutil
+import subprocess
+import sys
+import tempfile
+import urllib.parse
+
+import plain
+
+TOP = pathlib.Path(__file__).resolve().parent.parent
+MANUALS = sorted((TOP / "docs/man").iterdir())
+README_LINES, README_WORDS = 120, 1050
+PARAGRAPH = 290  # characters: two lines of a wide window
+
+
+def run(*words, **others):
+    return subprocess.run(words, cwd=TOP, capture_output=True, text=True, stdin=subprocess.DEVNULL, timeout=300, check=False, **others)
+
+
+def is_missing(program, what):
+    """Whether a program isn't installed; what is passed over for it is told."""
+    if shutil.which(program):
+        return False
+    print(f"passed over: {what}: there is no {program}")
+    return True
+
+
+def pages():
+    return [TOP / name for name in run("git", "ls-files", "*.md").stdout.split()]
+
+
+def headings(page):
+    """The anchors of a page's headings, as they are made of their words."""
+    found = []
+    for words in re.findall(r"^#+ (.*)$", page.read_text(), re.M):
+        anchor = re.sub(r"[^\w\- ]", "", words.lower()).replace(" ", "-")
+        count = sum(1 for name in found if re.fullmatch(re.escape(anchor) + r"(-\d+)?", name))
+        found.append(f"{anchor}-{count}" if count else anchor)
+    return found
+
+
+def links(page):
+    """Links of a page whose file or heading isn't there."""
+    for name, anchor in re.findall(r"\]\(([^)#\s]*)(?:#([^)\s]*))?\)", plain.without_code(page.read_text())):
+        if re.match(r"[a-z]+:", name):
+            continue
+        there = page.parent / name if name else page
+        if not there.exists():
+            yield f"there is no {name}"
+        elif anchor and anchor not in headings(there):
+            yield f"{name} has no heading #{anchor}"
+
+
+def first_page(page):
+    """The first page is short: in lines, in words beside its commands, in what it says of proofs. Its pictures are first that of the
+    crates, then one of an example that docs/EXAMPLES.md has."""
+    text = page.read_text()
+    lines, words = text.count("\n"), len(re.sub(r"^    .*$", "", text, flags=re.M).split())
+    if lines > README_LINES or words > README_WORDS:
+        yield f"{lines} lines and {words} words, of at most {README_LINES} and {README_WORDS}"
+    proved = text.split("## What is proved")[1].split("\n## ")[0]
+    bullets = re.findall(r"^- (.*)$", proved, re.M)
+    if len(bullets) != 8:
+        yield f"{len(bullets)} bullets of what is proved"
+    for bullet in bullets:
+        if len(list(plain.sentences(bullet))) != 1 or "](docs/PROVED.md#" not in bullet:
+            yield f"no sentence with its link: {bullet}"
+    for name in ("Only tested", "Neither", "Trusted"):
+        found = [one for one in re.sub(r"\]\([^)]*\)", "]", proved).split("\n\n") if re.match(rf"\*\*\[?{name}", one)]
+        if len(found) != 1 or len(found[0]) > PARAGRAPH:
+            yield f"{name}: {[len(one) for one in found]} characters, of at most {PARAGRAPH}"
+    pictures = re.findall(r"!\[[^]]*\]\(([^)]+)\)", text)
+    if pictures[0] != "docs/pictures/crates.svg" or f"](../{pictures[1]})" not in (TOP / "docs/EXAMPLES.md").read_text():
+        yield f"its first pictures are {pictures[:2]}"
+
+
+def marks(_folder):
+    """Pictures that aren't drawn from their texts as they are, by the checksums that they keep."""
+    ended = run("scripts/pictures.sh", "--check")
+    if ended.returncode != 0:
+        yield ended.stdout + ended.stderr
+
+
+def labels(picture):
+    return sorted(map(html.unescape, re.findall(r"<text[^>]*>([^<]*)</text>", picture)))
+
+
+def drawings(folder):
+    """Pictures that other words stand in than dot draws now."""
+    if is_missing("dot", "whether dot draws the pictures"):
+        return
+    for text in sorted(folder.glob("*.dot")):
+        drawn = run("dot", "-Tsvg", str(text))
+        if drawn.returncode != 0:
+            yield f"{text.name}: {drawn.stderr}"
+        elif labels(drawn.stdout) != labels(text.with_suffix(".svg").read_text()):
+            yield f"{text.name}: other words than in its picture"
+
+
+class Reader(html.parser.HTMLParser):
+    """What a page of the site leads to, and the anchors that it has."""
+
+    def __init__(self, path):
+        super().__init__()
+        self.leads, self.anchors, self.words = [], set(), 0
+        self.feed(path.read_text())
+
+    def handle_starttag(self, tag, attributes):
+        for name, value in attributes:
+            if name in ("href", "src") and value:
+                self.leads.append(value)
+            if name == "id":
+                self.anchors.add(value)
+
+    def handle_data(self, data):
+        self.words += len(data.split())
+
+
+def dead_ends(site, path, readers):
+    """Links and pictures of a page of the site that lead nowhere."""
+    for lead in readers[path].leads:
+        name, _, anchor = urllib.parse.unquote(lead).partition("#")
+        if re.match(r"[a-z]+:", name):
+            continue
+        there = (path.parent / name).resolve() if name else path
+        if not there.exists() or not there.is_relative_to(site):
+            yield f"{path.relative_to(site)} leads to {lead}, which isn't there"
+        elif anchor and there in readers and anchor not in readers[there].anchors:
+            yield f"{path.relative_to(site)} leads to {lead}, where there is no such heading"
+
+
+def site(script):
+    """What is wrong with the site: pages that it lacks, and links and pictures in it that lead nowhere."""
+    if is_missing("pandoc", "whether the site of all pages is whole"):
+        return
+    with tempfile.TemporaryDirectory() as room:
+        made = pathlib.Path(room).resolve() / "made" / "site"
+        ended = run(script, str(made))
+        if ended.returncode != 0:
+            yield f"status {ended.returncode}: {ended.stderr}"
+            return
+        readers = {path: Reader(path) for path in made.rglob("*.html")}
+        if len(readers) != len(pages()) + len(MANUALS):
+            yield f"{len(readers)} pages, of {len(pages()) + len(MANUALS)}"
+        for page in pages():
+            name = page.relative_to(TOP).with_suffix(".html")
+            path = made / (name.with_name("index.html") if page.name == "README.md" else name)
+            if path not in readers or readers[path].words < len(plain.prose(page.read_text()).split()) / 2:
+                yield f"{path.relative_to(made)} isn't there, or has lost its text"
+        for path in readers:
+            yield from dead_ends(made, path, readers)
+        again = run(script, str(made))
+        if again.returncode != 73 or "isn't empty" not in again.stderr:
+            yield f"a folder that is filled is overwritten: status {again.returncode}"
+
+
+def site_refusals(script):
+    """What is wrong with what the script of the site refuses: its words, a file in the way, and a machine without pandoc."""
+    with tempfile.TemporaryDirectory() as room:
+        for program in ("bash", "dirname", "readlink"):
+            os.symlink(shutil.which(program), f"{room}/{program}")
+        file = pathlib.Path(room, "file")
+        file.write_text("mine\n")
+        for words, path, status, line in (((), None, 64, "usage"), (("a", "b"), None, 64, "usage"), (("",), None, 64, "usage"),
+                                          ((f"{room}/site",), room, 69, "there is no pandoc")):
+            ended = run(script, *words, env={**os.environ, "PATH": path or os.environ["PATH"]})
+            if ended.returncode != status or line not in ended.stderr:
+                yield f"{words}: status {ended.returncode}: {ended.stderr}"
+        if shutil.which("pandoc"):
+            ended = run(script, str(file))
+            if ended.returncode != 73 or file.read_text() != "mine\n":
+                yield f"a file in its place: status {ended.returncode}: {ended.stderr}"
+        if pathlib.Path(room, "site").exists():
+            yield "it left something where it had no pandoc"
+
+
+def manual_warnings(manual):
+    """What man says of a manual page as it shows it."""
+    if is_missing("man", f"whether {manual.name} has warnings") or is_missing("groff", f"whether {manual.name} has warnings"):
+        return
+    ended = run("man", "--warnings", "-l", str(manual), env={**os.environ, "MANWIDTH": "100", "LC_ALL": "C.UTF-8", "PAGER": "cat"})
+    if ended.returncode != 0 or ended.stderr:
+        yield f"status {ended.returncode}: {ended.stderr}"
+    elif "NAME" not in ended.stdout or "SEE ALSO" not in ended.stdout:
+        yield "it shows no NAME or no SEE ALSO"
+
+
+def plain_manual(manual):
+    """A manual page's words, without its requests."""
+    text = re.sub(r"^\.\\\".*$", "", manual.read_text(), flags=re.M)
+    text = re.sub(r"^\.[A-Z]+ ?", "", text, flags=re.M).replace("\\-", "-").replace("\\&", "").replace('"', "")
+    return re.sub(r" ([,;.])", r"\1", " ".join(text.split()))
+
+
+def whole_manual(manual):
+    """What napi_replay(1) lacks of the usage text of ./replay: words, ranges, usual values, modes, statuses; and words that are in
+    none of both. Faults are those of docs/FORMATS.md."""
+    usage = run("./replay", "--help").stdout
+    words = plain_manual(manual)
+    rows = re.findall(r"^  ((?:-h, )?--\w+)(?: N| M)?  +(.*)$", usage, re.M)
+    if len(rows) < 10:
+        yield f"the usage text has {len(rows)} words"
+    for word, what in rows:
+        if word not in words:
+            yield f"it lacks {word}"
+        if (limits := re.search(r"\d+\.\.=\d+ \(\d+\)", what)) and not re.search(rf"{word} N [^()]*{re.escape(limits[0])}", words):
+            yield f"it lacks {limits[0]} of {word}"
+    for word in set(re.findall(r"--[a-z]+", words)) - set(re.findall(r"--[a-z]+", usage)):
+        yield f"the usage text lacks {word}"
+    for mode in re.findall(r"(\w+): (?:the same report|each device's rows)|M {8}(\w+);", usage):
+        name = "".join(mode)
+        if not re.search(rf"MODES .*\b{name} (plays|gives)", words):
+            yield f"it lacks the mode {name}"
+    statuses = re.findall(r"^  (\d+(?:, \d+)*)  ", usage.split("exit status:")[1], re.M)
+    for status in ", ".join(statuses).split(", "):
+        if not re.search(rf"EXIT STATUS .*\b{status}\b", words):
+            yield f"it lacks the status {status}"
+    for line in re.findall(r"^\| \d+ \| `(\w+ fault \d+ \w+)", (TOP / "docs/FORMATS.md").read_text(), re.M):
+        if line not in words:
+            yield f"it lacks {line}"
+    for event in re.findall(r"^\| `(\w+)` \| (?:1\.\.=16|0) \|", (TOP / "docs/FORMATS.md").read_text(), re.M):
+        if not re.search(rf"TRACE .*\b{event}\b.*EXIT", words):
+            yield f"it lacks the event {event}"
+
+
+def checks():
+    """Pairs of a file and what is wrong with it."""
+    for page in pages():
+        yield page, links(page)
+        yield page, plain.plain(page.read_text())
+    yield TOP / "tests/plain.py", plain.samples()
+    yield TOP / "README.md", first_page(TOP / "README.md")
+    for check in (marks, drawings):
+        yield TOP / "docs/pictures", check(TOP / "docs/pictures")
+    for check in (site, site_refusals):
+        yield TOP / "scripts/site.sh", check(TOP / "scripts/site.sh")
+    for manual in MANUALS:
+        yield manual, manual_warnings(manual)
+    yield TOP / "docs/man/napi_replay.1", whole_manual(TOP / "docs/man/napi_replay.1")
+
+
+def main():
+    passed, failed = 0, 0
+    for path, wrong in checks():
+        lines = list(wrong)
+        passed, failed = passed + (not lines), failed + bool(lines)
+        for line in lines:
+            print(f"{path.relative_to(TOP)}: {line}", flush=True)
+    print(f"{passed} passed, {failed} failed")
+    return failed != 0
+
+
+if __name__ == "__main__":
+    sys.exit(main())

@@ -1,0 +1,131 @@
+#!/usr/bin/env bash
+# bindings/rust: what it declares of the C library beside its header; that it builds without a network, its tests and examples,
+# what the compiler has to refuse, for the reason that its doc test names, and all of it under valgrind where that is installed.
+# Where there is no cargo it says so and passes over what needs one. The last line is `N passed, M failed`.
+set -uo pipefail
+unset CDPATH
+top=$(dirname "$(dirname "$(readlink -f "$0")")")
+crate=$top/bindings/rust
+scratch=$(mktemp -d)
+trap 'rm -rf "$scratch"' EXIT
+passed=0
+failed=0
+
+# check NAME COMMAND ..: counts its status. What it wrote is shown where it fails.
+check() {
+    local name=$1
+    shift
+    if "$@" > "$scratch/log" 2>&1; then
+        passed=$((passed + 1))
+    else
+        failed=$((failed + 1))
+        echo "rust: $name"
+        tail -n 20 "$scratch/log" | sed 's/^/    /'
+    fi
+}
+
+ends() {
+    echo "$passed passed, $failed failed"
+    [ "$failed" = 0 ]
+    exit
+}
+
+# ---- the declarations
+
+types_agree() {
+    python3 "$top/tests/rust.py" types > "$scratch/types.c" &&
+        gcc -std=c11 -Wall -Wextra -Werror -I "$top/include" -fsyntax-only "$scratch/types.c"
+}
+
+# Each `unsafe` has a line above it that says why it is sound; src/sys.rs alone declares what isn't safe to call.
+each_unsafe_has_its_reason() {
+    awk '/^ *\/\// { if (/SAFETY: /) told = 1; next } /unsafe \{|unsafe impl/ && !told { print FILENAME ":" FNR ": " $0; bad = 1 }
+        { told = 0 } END { exit bad }' "$crate"/src/*.rs
+}
+
+unsafe_calls_are_declared_in_sys_alone() { ! grep -l 'unsafe fn\|extern "C"' "$crate"/src/*.rs | grep -v '/sys\.rs$'; }
+
+check 'it declares what the header does' python3 "$top/tests/rust.py" names
+check 'in the types of the header' types_agree
+check 'each unsafe says why it is sound' each_unsafe_has_its_reason
+check 'what is not safe is declared in sys.rs alone' unsafe_calls_are_declared_in_sys_alone
+
+if ! cargo --version > "$scratch/log" 2>&1; then
+    echo 'rust: passed over: there is no cargo, which builds and tests the crate'
+    ends
+fi
+
+# ---- the crate
+
+if ! "$top/scripts/c_library.sh" "$scratch"; then
+    echo 'rust: the C library is not built'
+    failed=$((failed + 1))
+    ends
+fi
+export CARGO_HOME=$scratch/home CARGO_TARGET_DIR=$scratch/target FINTAQUSH_LIB=$scratch CARGO_TERM_COLOR=never
+files() { find "$crate" | sort; }
+files > "$scratch/before"
+
+# of CARGO-COMMAND WORD ..: without a network, and with the lock file as it is
+of() {
+    local command=$1
+    shift
+    (cd "$crate" && timeout 600 cargo "$command" --offline --locked --quiet "$@")
+}
+
+# compared COMMAND ..: it ends well, and prints what the same example in C prints.
+compared() { timeout 300 "$@" > "$scratch/printed" && diff "$scratch/printed" "$top/examples/c/threads.stdout"; }
+
+nothing_is_left() { files | diff "$scratch/before" -; }
+
+# Without the library the build says what to run.
+asks_for_the_library() {
+    ! FINTAQUSH_LIB=$1 CARGO_TARGET_DIR=$scratch/none of build > "$scratch/refusal" 2>&1 &&
+        grep -q 'there is no .*libfintaqush.a: FINTAQUSH_LIB has to be the whole path' "$scratch/refusal" ||
+        { cat "$scratch/refusal"; false; }
+}
+
+check 'it builds' of build --all-targets
+check 'without the library it says what is missing' asks_for_the_library "$scratch/elsewhere"
+check 'the path of the library has to be whole' asks_for_the_library elsewhere
+check 'its tests' of test --tests
+check 'its doc tests' of test --doc
+check 'the example threads' compared "$scratch/target/debug/examples/threads"
+check 'it builds as a release' of build --release --example threads
+check 'the example threads as a release' compared "$scratch/target/release/examples/threads"
+
+# ---- what the compiler refuses
+
+# The doc tests show that these don't compile; here, that nothing else is wrong with them than they name.
+awk -v to="$scratch" '/^\/\/\/ ```compile_fail,/ { split($0, w, ","); name = FILENAME; sub(/.*\//, "", name)
+        file = to "/" sprintf("%02d", ++n) "." w[2] "." name; next }
+    file && /^\/\/\/ ```/ { close(file); file = "" } file { sub(/^\/\/\/ ?/, ""); print > file }' "$crate"/src/*.rs
+
+refused_for() {
+    local why=$1 source=$2
+    ! rustc --edition 2021 --crate-name refused --crate-type lib --emit metadata -o "$scratch/refused.rmeta" \
+        --extern fintaqush="$scratch/target/debug/libfintaqush.rlib" "$source" > "$scratch/refusal" 2>&1 &&
+        [ "$(grep -o '^error\[E[0-9]*\]' "$scratch/refusal")" = "error[$why]" ] || { cat "$source" "$scratch/refusal"; false; }
+}
+
+for source in "$scratch"/[0-9][0-9].E*.rs; do
+    name=${source##*/}
+    why=$(cut -d . -f 2 <<< "$name")
+    check "refused for $why, of $(cut -d . -f 3 <<< "$name").rs" refused_for "$why" "$source"
+done
+
+# ---- under valgrind, where a thread runs at a time
+
+if command -v valgrind > /dev/null; then
+    watched() {
+        timeout 300 valgrind -q --fair-sched=yes --leak-check=full --errors-for-leak-kinds=definite --error-exitcode=9 "$@"
+    }
+    watched_tests() { watched "$(find "$scratch/target/debug/deps" -name 'calls-*' ! -name '*.*')" --test-threads=1; }
+    watched_threads() { watched "$scratch/target/debug/examples/threads" 2000 | grep -x '2000 packets, each once and in order'; }
+    check 'valgrind: its tests' watched_tests
+    check 'valgrind: the example threads' watched_threads
+else
+    echo 'rust: passed over: there is no valgrind'
+fi
+check 'nothing is left in the checkout' nothing_is_left
+ends
