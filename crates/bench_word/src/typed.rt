@@ -116,10 +116,12 @@ fn make_turns(
 // The next caller, of an instance's callers.
 fn pop(napi: &Napi, callers: &mut Vec<Caller>) -> Caller
     requires some { 1 ≤ length callers.old.items }
-    requires seats { (k : ℕ) (c : Caller) → slice_get callers.old.items k ≡ Some c → IsSeatOf napi.now c.pass }
+    requires seats { (k : ℕ) (c : Caller) → slice_get callers.old.items k ≡ Some c
+        → IsSeatOf napi.now c.pass }
     ensures caller { IsSeatOf napi.now result.pass }
     ensures left { length callers.new.items + 1 ≡ length callers.old.items }
-    ensures seats { (k : ℕ) (c : Caller) → slice_get callers.new.items k ≡ Some c → IsSeatOf napi.now c.pass }
+    ensures seats { (k : ℕ) (c : Caller) → slice_get callers.new.items k ≡ Some c
+        → IsSeatOf napi.now c.pass }
     ensures room { vec_capacity callers.new ≡ vec_capacity callers.old }
 {
     let popped = callers.pop();

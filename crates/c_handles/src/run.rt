@@ -92,7 +92,8 @@ impl Lister {
     }
 
     fn is_spent(&self) -> bool
-        ensures { result ≡ false → (self.now.work < self.now.budget) × (self.now.polls < self.now.window) }
+        ensures { result ≡ false → (self.now.work < self.now.budget)
+            × (self.now.polls < self.now.window) }
     {
         self.budget <= self.work || self.window <= self.polls
     }

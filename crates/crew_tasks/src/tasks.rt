@@ -105,7 +105,8 @@ pub fn end_all<R: Threads, J: Task<O>, O: Drop>(
 ) -> Vec<O>
     requires empty { vec_len room ≡ 0 }
     requires room { vec_len begun ≤ vec_capacity room }
-    ensures { (tasks : List J) → AllZip (IsBegun J.gives) tasks begun.items → AllZip J.gives tasks result.items }
+    ensures { (tasks : List J) → AllZip (IsBegun J.gives) tasks begun.items
+        → AllZip J.gives tasks result.items }
 {
     let mut given = room;
     for one in begun {

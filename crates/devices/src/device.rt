@@ -304,7 +304,8 @@ impl Device {
         requires weight { IsWithin 1 64 weight }
         requires most { IsWithin 1 131072 most }
         ensures device { self.new ≡ (polled_by_thread most weight self.old).1 }
-        ensures report { IsThreadPolling weight most (polled_by_thread most weight self.old).0 result }
+        ensures report { IsThreadPolling weight most
+            (polled_by_thread most weight self.old).0 result }
     {
         poll_thread_of(self, weight, most, &mut Load::NONE)
     }

@@ -53,8 +53,10 @@ pub trait ReplayBench: Bench {
     ) -> Result<(), AllocError>
         requires device { IsWithin 1 16 device }
         requires capacity { IsWithin 1 65536 capacity }
-        ensures devices { Exact → OnOk result (devices self.new ≡ added device (opened capacity) (devices self.old)) }
-        ensures transmits { OnOk result (Changes shows (added device (opened_transmit capacity moment)) self.old self.new) }
+        ensures devices { Exact → OnOk result
+            (devices self.new ≡ added device (opened capacity) (devices self.old)) }
+        ensures transmits { OnOk result
+            (Changes shows (added device (opened_transmit capacity moment)) self.old self.new) }
         ensures waiting { waiting self.old ≤ waiting self.new }
         ensures refused { OnErr result (self.new ≡ self.old) };
 
@@ -67,26 +69,30 @@ pub trait ReplayBench: Bench {
     /// That many packets are complete, or too many and counted (`netdev_tx_completed_queue`).
     fn done(&mut self, device: u32, count: u32, moment: u64)
         ensures devices { Exact → devices self.new ≡ devices self.old }
-        ensures transmits { Changes shows (changed (after_finish count moment) device) self.old self.new }
+        ensures transmits { Changes shows
+            (changed (after_finish count moment) device) self.old self.new }
         ensures waiting { waiting self.new ≡ waiting self.old };
 
     /// Marks a device that is on for disabling; `settle` tries it (`napi_disable`).
     fn disable(&mut self, device: u32)
-        ensures devices { Exact → devices self.new ≡ changed after_disable device (devices self.old) }
+        ensures devices { Exact → devices self.new
+            ≡ changed after_disable device (devices self.old) }
         ensures transmits { Keeps shows self.old self.new }
         ensures waiting { waiting self.new ≡ waiting self.old };
 
     /// Enables a device that is off with its threaded setting (`napi_enable`). The answer is false where its disable is
     /// pending still.
     fn enable(&mut self, device: u32) -> bool
-        ensures devices { Exact → devices self.new ≡ changed after_enable device (devices self.old) }
+        ensures devices { Exact → devices self.new
+            ≡ changed after_enable device (devices self.old) }
         ensures transmits { Keeps shows self.old self.new }
         ensures answer { Exact → result ≡ not (is_pending_at (at device (devices self.old))) }
         ensures waiting { waiting self.new ≡ waiting self.old };
 
     /// Sets the threaded setting of a device, and THREADED at once (`dev_set_threaded`).
     fn set_threaded(&mut self, device: u32, threaded: bool)
-        ensures devices { Exact → devices self.new ≡ changed (after_threaded threaded) device (devices self.old) }
+        ensures devices { Exact → devices self.new
+            ≡ changed (after_threaded threaded) device (devices self.old) }
         ensures transmits { Keeps shows self.old self.new }
         ensures waiting { waiting self.new ≡ waiting self.old };
 
@@ -102,8 +108,10 @@ pub trait ReplayBench: Bench {
 
     /// What the report tells of a device, or `None` where there is no such device.
     fn counts(&self, device: u32) -> Option<DeviceCounts>
-        ensures devices { Exact → (all : Transmits) → shows self.now all → result ≡ counts_at (at device (devices self.now)) (tx_counts_of (at device all)) }
-        ensures transmits { (all : Transmits) → shows self.now all → IfSome result (λ counts. counts.tx ≡ tx_counts_of (at device all)) };
+        ensures devices { Exact → (all : Transmits) → shows self.now all
+            → result ≡ counts_at (at device (devices self.now)) (tx_counts_of (at device all)) }
+        ensures transmits { (all : Transmits) → shows self.now all
+            → IfSome result (λ counts. counts.tx ≡ tx_counts_of (at device all)) };
 
     /// What a poll from the list is.
     ghost polled: { ArePolls Exact devices shows waiting Self.polls };

@@ -33,7 +33,8 @@ pub(crate) fn signed_difference(a: u32, b: u32) -> i64
 /// How far `a` is ahead of `b`, which it is known not to be behind.
 pub(crate) fn distance(a: u32, b: u32) -> u32
     ensures counter { result ≡ distance_of a b }
-    ensures whole { (x y : ℕ) → IsWrapped a x → IsWrapped b y → y ≤ x → x < y + 2 ^ 32 → result ≡ x - y }
+    ensures whole { (x y : ℕ) → IsWrapped a x → IsWrapped b y → y ≤ x → x < y + 2 ^ 32
+        → result ≡ x - y }
 {
     a.wrapping_sub(b)
 }

@@ -177,10 +177,12 @@ impl Dql {
     /// [`TooMuchInFlight`](DqlFault::TooMuchInFlight) where more than [`MAX_IN_FLIGHT`](crate::MAX_IN_FLIGHT) bytes
     /// would be in flight; nothing is queued then.
     pub fn queued(&mut self, count: u32) -> Result<(), DqlFault>
-        ensures ok { (s : Limit) → Shows self.old s → OnOk result (Shows self.new (after_queued s count)) }
+        ensures ok { (s : Limit) → Shows self.old s
+            → OnOk result (Shows self.new (after_queued s count)) }
         ensures err { OnErr result (self.new ≡ self.old) }
         ensures fault { (s : Limit) → Shows self.old s → result_err result ≡ queued_fault s count }
-        ensures in_flight { OnOk result (bytes_in_flight self.new ≡ bytes_in_flight self.old + count) }
+        ensures in_flight { OnOk result
+            (bytes_in_flight self.new ≡ bytes_in_flight self.old + count) }
     {
         if count > MAX_OBJECT {
             return Err(DqlFault::TooLarge);
@@ -200,10 +202,13 @@ impl Dql {
     /// Refused by [`MoreThanQueued`](DqlFault::MoreThanQueued) where fewer than `count` bytes are in flight; nothing is
     /// completed then.
     pub fn completed(&mut self, count: u32, now: u64) -> Result<(), DqlFault>
-        ensures ok { (s : Limit) → Shows self.old s → OnOk result (Shows self.new (after_completed s count now)) }
+        ensures ok { (s : Limit) → Shows self.old s
+            → OnOk result (Shows self.new (after_completed s count now)) }
         ensures err { OnErr result (self.new ≡ self.old) }
-        ensures fault { (s : Limit) → Shows self.old s → result_err result ≡ completed_fault s count }
-        ensures in_flight { OnOk result (bytes_in_flight self.new + count ≡ bytes_in_flight self.old) }
+        ensures fault { (s : Limit) → Shows self.old s
+            → result_err result ≡ completed_fault s count }
+        ensures in_flight { OnOk result
+            (bytes_in_flight self.new + count ≡ bytes_in_flight self.old) }
         ensures room { IsOk result ↔ (count ≤ bytes_in_flight self.old) }
     {
         if count > self.in_flight() {
@@ -216,8 +221,10 @@ impl Dql {
 
     /// Makes each of these calls in turn, and gives how many were refused.
     pub fn run(&mut self, events: &[LimitEvent]) -> u64
-        ensures state { (s : Limit) → Shows self.old s → Shows self.new (after_all fault_of after s events.now) }
-        ensures refused { (s : Limit) → Shows self.old s → result + length (accepted fault_of after s events.now) ≡ length events.now }
+        ensures state { (s : Limit) → Shows self.old s
+            → Shows self.new (after_all fault_of after s events.now) }
+        ensures refused { (s : Limit) → Shows self.old s
+            → result + length (accepted fault_of after s events.now) ≡ length events.now }
     {
         let mut refused = 0u64;
         for i in 0..events.len() {
@@ -252,7 +259,8 @@ impl Dql {
     }
 
     fn completed_after(&self, count: u32) -> u32
-        ensures counter { (result ≡ (self.now.completed + count) % 2 ^ 32) × (self.now.completed < 2 ^ 32) }
+        ensures counter { (result ≡ (self.now.completed + count) % 2 ^ 32)
+            × (self.now.completed < 2 ^ 32) }
         ensures whole { (s : Limit) → Shows self.now s → IsWrapped result (s.completed + count) }
     {
         advance(self.completed, count)
@@ -301,7 +309,8 @@ impl Dql {
     fn completed_beyond_previous(&self, count: u32) -> u32
         requires { count ≤ bytes_in_flight self.now }
         ensures most { result ≤ count }
-        ensures whole { (s : Limit) → Shows self.now s → result ≡ (s.completed + count) - s.previous_queued }
+        ensures whole { (s : Limit) → Shows self.now s
+            → result ≡ (s.completed + count) - s.previous_queued }
     {
         positive_difference(self.completed_after(count), self.previous_queued)
     }
@@ -329,7 +338,8 @@ impl Dql {
 
     fn slackened(&self, lowest: u32, now: u64) -> Adjustment
         requires { lowest ≤ DQL_MAX_LIMIT }
-        ensures { (s : Limit) → Shows self.now s → with_adjustment s result ≡ slackened s lowest now }
+        ensures { (s : Limit) → Shows self.now s
+            → with_adjustment s result ≡ slackened s lowest now }
     {
         if now.saturating_sub(self.slack_start) > self.hold {
             return Adjustment {
@@ -349,7 +359,8 @@ impl Dql {
     fn settle(&mut self, count: u32, adjustment: Adjustment)
         requires { count ≤ bytes_in_flight self.old }
         ensures in_flight { bytes_in_flight self.new + count ≡ bytes_in_flight self.old }
-        ensures whole { (s : Limit) → Shows self.old s → Shows self.new (settled s count (with_adjustment s adjustment)) }
+        ensures whole { (s : Limit) → Shows self.old s
+            → Shows self.new (settled s count (with_adjustment s adjustment)) }
     {
         let limit = adjustment.limit.min(self.max_limit).max(self.min_limit);
         let over = if limit == self.limit { self.over() } else { 0 };

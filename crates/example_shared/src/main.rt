@@ -29,10 +29,12 @@ const PLACES: usize = 1024;
 // The next caller, of an instance's callers.
 fn pop(napi: &Napi, callers: &mut Vec<Caller>) -> Caller
     requires some { 1 ≤ length callers.old.items }
-    requires seats { (k : ℕ) (c : Caller) → slice_get callers.old.items k ≡ Some c → IsSeatOf napi.now c.pass }
+    requires seats { (k : ℕ) (c : Caller) → slice_get callers.old.items k ≡ Some c
+        → IsSeatOf napi.now c.pass }
     ensures caller { IsSeatOf napi.now result.pass }
     ensures left { length callers.new.items + 1 ≡ length callers.old.items }
-    ensures seats { (k : ℕ) (c : Caller) → slice_get callers.new.items k ≡ Some c → IsSeatOf napi.now c.pass }
+    ensures seats { (k : ℕ) (c : Caller) → slice_get callers.new.items k ≡ Some c
+        → IsSeatOf napi.now c.pass }
     ensures room { vec_capacity callers.new ≡ vec_capacity callers.old }
 {
     let popped = callers.pop();
@@ -47,8 +49,10 @@ fn serve<R: Threads + Wait + Copy + Drop + Send>(
     seats: (Caller, Caller, Caller),
     input: RxIn,
 ) -> ((Caller, RxIn), Caller, Caller)
-    requires { IsSeatOf napi.now seats.0.pass × IsSeatOf napi.now seats.1.pass × IsSeatOf napi.now seats.2.pass }
-    ensures seats { IsSeatOf napi.now result.0.0.pass × IsSeatOf napi.now result.1.pass × IsSeatOf napi.now result.2.pass }
+    requires { IsSeatOf napi.now seats.0.pass × IsSeatOf napi.now seats.1.pass
+        × IsSeatOf napi.now seats.2.pass }
+    ensures seats { IsSeatOf napi.now result.0.0.pass × IsSeatOf napi.now result.1.pass
+        × IsSeatOf napi.now result.2.pass }
     ensures input { SameIn input result.0.1 }
 {
     let (first, second, poller) = seats;
@@ -66,7 +70,8 @@ fn serve<R: Threads + Wait + Copy + Drop + Send>(
         { poll_all(&rt, napi, poller.open(), end) },
         move || -> ((Caller, RxIn), Caller)
             requires { IsSeatOf napi.now first.value.pass × IsSeatOf napi.now second.value.pass }
-            ensures seats { SameTable first.value.pass result.0.0.pass × SameTable second.value.pass result.1.pass }
+            ensures seats { SameTable first.value.pass result.0.0.pass
+                × SameTable second.value.pass result.1.pass }
             ensures input { SameIn input result.0.1 }
         {
             join(
@@ -95,9 +100,11 @@ fn reset(
     input: RxIn,
 ) -> (Control<On>, (Caller, Caller, Caller), RxIn)
     requires control { IsSeatOf napi.now control.pass }
-    requires seats { IsSeatOf napi.now seats.0.pass × IsSeatOf napi.now seats.1.pass × IsSeatOf napi.now seats.2.pass }
+    requires seats { IsSeatOf napi.now seats.0.pass × IsSeatOf napi.now seats.1.pass
+        × IsSeatOf napi.now seats.2.pass }
     ensures control { IsSeatOf napi.now result.0.pass }
-    ensures seats { IsSeatOf napi.now result.1.0.pass × IsSeatOf napi.now result.1.1.pass × IsSeatOf napi.now result.1.2.pass }
+    ensures seats { IsSeatOf napi.now result.1.0.pass × IsSeatOf napi.now result.1.1.pass
+        × IsSeatOf napi.now result.1.2.pass }
     ensures input { SameIn input result.2 }
 {
     let (first, poller, own) = seats;

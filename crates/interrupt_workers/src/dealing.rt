@@ -26,9 +26,12 @@ pub fn deal<D: Drop>(
     pollers: u32,
 ) -> Result<Dealt<D>, AllocError>
     requires { 1 ≤ pollers }
-    ensures order { IfOk result (λ d. vec_items d.order ≡ map (is_dealt number pollers) (vec_items stations)) }
-    ensures mine { IfOk result (λ d. vec_items d.mine ≡ picked (vec_items d.order) (vec_items stations)) }
-    ensures others { IfOk result (λ d. vec_items d.others ≡ others (vec_items d.order) (vec_items stations)) }
+    ensures order { IfOk result
+        (λ d. vec_items d.order ≡ map (is_dealt number pollers) (vec_items stations)) }
+    ensures mine { IfOk result
+        (λ d. vec_items d.mine ≡ picked (vec_items d.order) (vec_items stations)) }
+    ensures others { IfOk result
+        (λ d. vec_items d.others ≡ others (vec_items d.order) (vec_items stations)) }
     ensures len { IfOk result (λ d. vec_len d.order ≡ vec_len stations) }
 {
     let mut mine = Vec::with_capacity(alloc, stations.len())?;

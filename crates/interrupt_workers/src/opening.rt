@@ -72,10 +72,12 @@ impl Placed {
 // The next caller, of an instance's callers.
 fn next(napi: &Napi, callers: &mut Vec<Caller>) -> Caller
     requires some { 1 ≤ length callers.old.items }
-    requires seats { (k : ℕ) (c : Caller) → slice_get callers.old.items k ≡ Some c → IsSeatOf napi.now c.pass }
+    requires seats { (k : ℕ) (c : Caller) → slice_get callers.old.items k ≡ Some c
+        → IsSeatOf napi.now c.pass }
     ensures caller { IsSeatOf napi.now result.pass }
     ensures left { length callers.new.items + 1 ≡ length callers.old.items }
-    ensures seats { (k : ℕ) (c : Caller) → slice_get callers.new.items k ≡ Some c → IsSeatOf napi.now c.pass }
+    ensures seats { (k : ℕ) (c : Caller) → slice_get callers.new.items k ≡ Some c
+        → IsSeatOf napi.now c.pass }
     ensures room { vec_capacity callers.new ≡ vec_capacity callers.old }
 {
     let popped = callers.pop();
@@ -174,7 +176,8 @@ pub fn open_all<R: Wait + Drop + Copy, D: Drop>(
     requires stations { All IsStation (vec_items stations) }
     ensures loose { IfOk result (λ r. AllZip IsKeptLoose (vec_items stations) (vec_items r.1)) }
     ensures sides { IfOk result (λ r. AllZip IsKeptSideOf (vec_items r.1) (vec_items r.0)) }
-    ensures len { IfOk result (λ r. (vec_len r.0 ≡ vec_len stations) × (vec_len r.1 ≡ vec_len stations)) }
+    ensures len { IfOk result
+        (λ r. (vec_len r.0 ≡ vec_len stations) × (vec_len r.1 ≡ vec_len stations)) }
 {
     let mut placed = Vec::with_capacity(alloc, stations.len())?;
     let mut loose = Vec::with_capacity(alloc, stations.len())?;

@@ -211,12 +211,15 @@ impl<'s, 'p, 'n, R: Wait> Desk<'s, 'p, 'n, R> {
         requires below { k < D.acts device.old }
         requires of { IsHoldOf self.now.napi.now hold }
         ensures of { IsHoldOf self.now.napi.now result }
-        ensures made { Acts (is_some self.now.thread) (D.answer device.old k) hold result rx.old rx.new }
+        ensures made { Acts (is_some self.now.thread)
+            (D.answer device.old k) hold result rx.old rx.new }
         ensures device { device.new ≡ D.after device.old k }
         ensures acts { D.acts device.new ≡ D.acts device.old }
         ensures ring { SameIn rx.old rx.new }
         ensures few { length (put_list rx.new) ≤ length (put_list rx.old) + 1 }
-        ensures put { length (put_list rx.old) + length (brings (D.answer device.old k)) ≤ capacity_of rx.old → put_list rx.new ≡ put_list rx.old ++ brings (D.answer device.old k) }
+        ensures put { length (put_list rx.old) + length (brings (D.answer device.old k))
+            ≤ capacity_of rx.old
+            → put_list rx.new ≡ put_list rx.old ++ brings (D.answer device.old k) }
     {
         match device.act(k) {
             Act::Arrive(packet) => match rx.put(packet) {
@@ -278,11 +281,16 @@ impl<'s, 'p, 'n, R: Wait> Desk<'s, 'p, 'n, R> {
     ) -> (Hold, bool)
         requires { IsHoldOf self.now.napi.now hold }
         ensures of { IsHoldOf self.now.napi.now result.0 }
-        ensures made { result.1 ≡ true → AllActs (is_some self.now.thread) D.answer D.after device.old (D.acts device.old) hold result.0 rx.old rx.new }
-        ensures device { result.1 ≡ true → device.new ≡ after_acts D.after device.old (D.acts device.old) }
+        ensures made { result.1 ≡ true
+            → AllActs (is_some self.now.thread) D.answer D.after device.old
+            (D.acts device.old) hold result.0 rx.old rx.new }
+        ensures device { result.1 ≡ true
+            → device.new ≡ after_acts D.after device.old (D.acts device.old) }
         ensures ring { SameIn rx.old rx.new }
         ensures few { length (put_list rx.new) ≤ length (put_list rx.old) + 4294967295 }
-        ensures put { result.1 ≡ true → length (put_list rx.old) + length (arrivals D.answer D.after device.old (D.acts device.old)) ≤ capacity_of rx.old
+        ensures put { result.1 ≡ true
+            → length (put_list rx.old)
+            + length (arrivals D.answer D.after device.old (D.acts device.old)) ≤ capacity_of rx.old
             → put_list rx.new ≡ put_list rx.old ++ arrivals D.answer D.after device.old (D.acts device.old) }
     {
         let mut hold = hold;

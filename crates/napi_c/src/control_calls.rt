@@ -11,7 +11,8 @@ use c_handles::{Body, ControlCall, FqHandle, status};
 use std::alloc::Global;
 
 fn step_in(at: &mut Body, call: ControlCall) -> u32
-    ensures { (c : Controller) → at.old ≡ body.Controller c → IsControllerWith (λ d. ControlAnswers call c.mode result d.mode) at.new }
+    ensures { (c : Controller) → at.old ≡ body.Controller c
+        → IsControllerWith (λ d. ControlAnswers call c.mode result d.mode) at.new }
 {
     match at {
         Body::Controller(control) => control.step(call),

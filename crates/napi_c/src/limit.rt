@@ -54,8 +54,10 @@ pub extern "C" fn fq_dql_new(min: u32, max: u32, hold: u64, now: u64) -> FqDqlNe
 /// As `Dql::queued`.
 #[unsafe(no_mangle)]
 pub extern "C" fn fq_dql_queued(dql: &mut FqDql, count: u32) -> u32
-    ensures ok { (s : Limit) → Shows dql.old.dql s → result ≡ OK → Shows dql.new.dql (after_queued s count) }
-    ensures status { (s : Limit) → Shows dql.old.dql s → result ≡ dql_status (queued_fault s count) }
+    ensures ok { (s : Limit) → Shows dql.old.dql s → result ≡ OK
+        → Shows dql.new.dql (after_queued s count) }
+    ensures status { (s : Limit) → Shows dql.old.dql s
+        → result ≡ dql_status (queued_fault s count) }
     ensures refused { result ≢ OK → dql.new ≡ dql.old }
 {
     match dql.dql.queued(count) {
@@ -67,8 +69,10 @@ pub extern "C" fn fq_dql_queued(dql: &mut FqDql, count: u32) -> u32
 /// As `Dql::completed`.
 #[unsafe(no_mangle)]
 pub extern "C" fn fq_dql_completed(dql: &mut FqDql, count: u32, now: u64) -> u32
-    ensures ok { (s : Limit) → Shows dql.old.dql s → result ≡ OK → Shows dql.new.dql (after_completed s count now) }
-    ensures status { (s : Limit) → Shows dql.old.dql s → result ≡ dql_status (completed_fault s count) }
+    ensures ok { (s : Limit) → Shows dql.old.dql s → result ≡ OK
+        → Shows dql.new.dql (after_completed s count now) }
+    ensures status { (s : Limit) → Shows dql.old.dql s
+        → result ≡ dql_status (completed_fault s count) }
     ensures refused { result ≢ OK → dql.new ≡ dql.old }
 {
     match dql.dql.completed(count, now) {

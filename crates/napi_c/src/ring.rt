@@ -37,8 +37,11 @@ pub extern "C" fn fq_ring_new(alloc: Global, handle: &mut FqHandle, capacity: us
 /// As `RxIn::put`.
 #[unsafe(no_mangle)]
 pub extern "C" fn fq_ring_put(alloc: Global, handle: &mut FqHandle, number: u64, bytes: u32) -> u32
-    ensures ok { (r : Ring) → LeadsTo handle.old r → result ≡ OK → LeadsToRing (IsAfterPut r (record { number = number; bytes = bytes })) handle.new.held.body }
-    ensures first { (r : Ring) → LeadsTo handle.old r → length (put_list r.input) < capacity_of r.input → result ≡ OK }
+    ensures ok { (r : Ring) → LeadsTo handle.old r → result ≡ OK
+        → LeadsToRing
+        (IsAfterPut r (record { number = number; bytes = bytes })) handle.new.held.body }
+    ensures first { (r : Ring) → LeadsTo handle.old r
+        → length (put_list r.input) < capacity_of r.input → result ≡ OK }
 {
     let Some(mut body) = handle.take(alloc) else {
         return status::BAD_HANDLE;
@@ -49,8 +52,10 @@ pub extern "C" fn fq_ring_put(alloc: Global, handle: &mut FqHandle, number: u64,
 }
 
 fn put_into(body: &mut Body, packet: Packet) -> u32
-    ensures ok { (r : Ring) → body.old ≡ variant.Ring r → result ≡ OK → IsRingWith (IsAfterPut r packet) body.new }
-    ensures first { (r : Ring) → body.old ≡ variant.Ring r → length (put_list r.input) < capacity_of r.input → result ≡ OK }
+    ensures ok { (r : Ring) → body.old ≡ variant.Ring r → result ≡ OK
+        → IsRingWith (IsAfterPut r packet) body.new }
+    ensures first { (r : Ring) → body.old ≡ variant.Ring r
+        → length (put_list r.input) < capacity_of r.input → result ≡ OK }
 {
     match body {
         Body::Ring(ring) => match ring.input.put(packet) {
@@ -74,7 +79,8 @@ pub extern "C" fn fq_ring_poll(
     out: &mut [Packet],
     count: &mut usize,
 ) -> u32
-    ensures ok { (r : Ring) → LeadsTo handle.old r → result ≡ OK → LeadsToRing (IsAfterPoll weight r (take count.new out.new)) handle.new.held.body }
+    ensures ok { (r : Ring) → LeadsTo handle.old r → result ≡ OK
+        → LeadsToRing (IsAfterPoll weight r (take count.new out.new)) handle.new.held.body }
     ensures work { (count.new ≤ weight) × (count.new ≤ length out.new) }
 {
     *count = 0;
@@ -100,7 +106,8 @@ pub extern "C" fn fq_ring_poll(
 
 fn poll_into(body: &mut Body, weight: usize, batch: &mut Batch) -> u32
     requires { (1 ≤ weight) × (weight ≤ 64) }
-    ensures ok { (r : Ring) → body.old ≡ variant.Ring r → result ≡ OK → IsRingWith (IsAfterPoll weight r batch.new.items) body.new }
+    ensures ok { (r : Ring) → body.old ≡ variant.Ring r → result ≡ OK
+        → IsRingWith (IsAfterPoll weight r batch.new.items) body.new }
     ensures room { result ≡ OK → length batch.new.items ≤ weight }
 {
     match body {

@@ -14,7 +14,8 @@ use rx_ring::{Batch, MAX_WEIGHT, Packet};
 use std::alloc::Global;
 
 fn step_in(at: &mut Body, call: SeatCall) -> u32
-    ensures { (s : Seat) → at.old ≡ body.Seat s → IsSeatWith (λ t. SeatAnswers call s.hold result t.hold) at.new }
+    ensures { (s : Seat) → at.old ≡ body.Seat s
+        → IsSeatWith (λ t. SeatAnswers call s.hold result t.hold) at.new }
 {
     match at {
         Body::Seat(seat) => seat.step(call),
@@ -46,7 +47,8 @@ pub extern "C" fn fq_seat_schedule(alloc: Global, handle: &mut FqHandle) -> u32
 /// As `Granted::hand`: ok; bad kind; not allowed where the instance isn't granted to the caller.
 #[unsafe(no_mangle)]
 pub extern "C" fn fq_seat_hand(alloc: Global, handle: &mut FqHandle, kind: u32) -> u32
-    ensures { (k : Kind) → kind_in kind ≡ Some k → SeatMakes (seat_call.Hand k) handle.old result handle.new }
+    ensures { (k : Kind) → kind_in kind ≡ Some k
+        → SeatMakes (seat_call.Hand k) handle.old result handle.new }
 {
     let Some(kind) = kind_of(kind) else {
         return status::BAD_KIND;
@@ -57,7 +59,8 @@ pub extern "C" fn fq_seat_hand(alloc: Global, handle: &mut FqHandle, kind: u32) 
 /// As `Caller::take`: taken or not there; bad kind; not allowed where the caller doesn't rest.
 #[unsafe(no_mangle)]
 pub extern "C" fn fq_seat_take(alloc: Global, handle: &mut FqHandle, kind: u32) -> u32
-    ensures { (k : Kind) → kind_in kind ≡ Some k → SeatMakes (seat_call.Take k) handle.old result handle.new }
+    ensures { (k : Kind) → kind_in kind ≡ Some k
+        → SeatMakes (seat_call.Take k) handle.old result handle.new }
 {
     let Some(kind) = kind_of(kind) else {
         return status::BAD_KIND;
@@ -108,7 +111,8 @@ pub extern "C" fn fq_seat_set_threaded(alloc: Global, handle: &mut FqHandle, thr
 
 fn poll_in(at: &mut Body, weight: usize, batch: &mut Batch) -> u32
     requires { (1 ≤ weight) × (weight ≤ 64) }
-    ensures polls { (s : Seat) → at.old ≡ body.Seat s → IsSeatWith (λ t. SeatPolls weight batch.new.items s.hold result t.hold) at.new }
+    ensures polls { (s : Seat) → at.old ≡ body.Seat s
+        → IsSeatWith (λ t. SeatPolls weight batch.new.items s.hold result t.hold) at.new }
     ensures room { result ≡ OK → length batch.new.items ≤ weight }
 {
     match at {
@@ -127,7 +131,8 @@ pub extern "C" fn fq_seat_poll(
     out: &mut [Packet],
     count: &mut usize,
 ) -> u32
-    ensures polls { result ≡ OK → SeatGives weight (take count.new out.new) handle.old result handle.new }
+    ensures polls { result ≡ OK
+        → SeatGives weight (take count.new out.new) handle.old result handle.new }
     ensures most { (count.new ≤ weight) × (count.new ≤ length out.new) }
 {
     *count = 0;

@@ -17,9 +17,12 @@ use napi_model::{Call, Done, Operation, Prep};
 /// As `SerialNapi::schedule`: granted, missed or disabled.
 #[unsafe(no_mangle)]
 pub extern "C" fn fq_napi_schedule(napi: &mut FqNapi, who: u32) -> u32
-    ensures granted { result ≡ GRANTED → Steps napi.old who (operation.Schedule prep.Granted) napi.new }
-    ensures missed { result ≡ MISSED → Steps napi.old who (operation.Schedule prep.Missed) napi.new }
-    ensures disabled { result ≡ DISABLED → Steps napi.old who (operation.Schedule prep.Disabled) napi.new }
+    ensures granted { result ≡ GRANTED
+        → Steps napi.old who (operation.Schedule prep.Granted) napi.new }
+    ensures missed { result ≡ MISSED
+        → Steps napi.old who (operation.Schedule prep.Missed) napi.new }
+    ensures disabled { result ≡ DISABLED
+        → Steps napi.old who (operation.Schedule prep.Disabled) napi.new }
     ensures only { (result ≡ GRANTED) ⊎ (result ≡ MISSED) ⊎ (result ≡ DISABLED) }
 {
     let Some(Operation::Schedule(reply)) = step(napi, who, Call::Schedule) else {
@@ -35,8 +38,10 @@ pub extern "C" fn fq_napi_schedule(napi: &mut FqNapi, who: u32) -> u32
 /// As `SerialNapi::hand`: ok, not allowed where the caller doesn't own it, or bad kind.
 #[unsafe(no_mangle)]
 pub extern "C" fn fq_napi_hand(napi: &mut FqNapi, who: u32, kind: u32) -> u32
-    ensures made { result ≡ OK → (k : Kind) → kind_in kind ≡ Some k → Steps napi.old who (operation.Hand k) napi.new }
-    ensures refused { (result ≡ NOT_ALLOWED) → (k : Kind) → kind_in kind ≡ Some k → ¬ MayCall who (call.Hand k) (state_in napi.old) }
+    ensures made { result ≡ OK → (k : Kind) → kind_in kind ≡ Some k
+        → Steps napi.old who (operation.Hand k) napi.new }
+    ensures refused { (result ≡ NOT_ALLOWED) → (k : Kind) → kind_in kind ≡ Some k
+        → ¬ MayCall who (call.Hand k) (state_in napi.old) }
     ensures kept { result ≢ OK → napi.new ≡ napi.old }
     ensures only { (result ≡ OK) ⊎ (result ≡ NOT_ALLOWED) ⊎ (result ≡ BAD_KIND) }
 {
@@ -52,8 +57,10 @@ pub extern "C" fn fq_napi_hand(napi: &mut FqNapi, who: u32, kind: u32) -> u32
 /// As `SerialNapi::take`: taken, not there, or bad kind.
 #[unsafe(no_mangle)]
 pub extern "C" fn fq_napi_take(napi: &mut FqNapi, who: u32, kind: u32) -> u32
-    ensures taken { result ≡ TAKEN → (k : Kind) → kind_in kind ≡ Some k → Steps napi.old who (operation.Take k true) napi.new }
-    ensures absent { result ≡ NOT_THERE → (k : Kind) → kind_in kind ≡ Some k → Steps napi.old who (operation.Take k false) napi.new }
+    ensures taken { result ≡ TAKEN → (k : Kind) → kind_in kind ≡ Some k
+        → Steps napi.old who (operation.Take k true) napi.new }
+    ensures absent { result ≡ NOT_THERE → (k : Kind) → kind_in kind ≡ Some k
+        → Steps napi.old who (operation.Take k false) napi.new }
     ensures only { (result ≡ TAKEN) ⊎ (result ≡ NOT_THERE) ⊎ (result ≡ BAD_KIND) }
 {
     let Some(kind) = kind_of(kind) else {
@@ -72,12 +79,14 @@ pub extern "C" fn fq_napi_take(napi: &mut FqNapi, who: u32, kind: u32) -> u32
 /// As `SerialNapi::complete`: released, again, held, or not allowed where the caller doesn't poll it.
 #[unsafe(no_mangle)]
 pub extern "C" fn fq_napi_complete(napi: &mut FqNapi, who: u32) -> u32
-    ensures released { result ≡ RELEASED → Steps napi.old who (operation.Complete done.Released) napi.new }
+    ensures released { result ≡ RELEASED
+        → Steps napi.old who (operation.Complete done.Released) napi.new }
     ensures again { result ≡ AGAIN → Steps napi.old who (operation.Complete done.Again) napi.new }
     ensures held { result ≡ HELD → Steps napi.old who (operation.Complete done.Held) napi.new }
     ensures refused { result ≡ NOT_ALLOWED ↔ ¬ MayCall who call.Complete (state_in napi.old) }
     ensures kept { result ≡ NOT_ALLOWED → napi.new ≡ napi.old }
-    ensures only { (result ≡ RELEASED) ⊎ (result ≡ AGAIN) ⊎ (result ≡ HELD) ⊎ (result ≡ NOT_ALLOWED) }
+    ensures only { (result ≡ RELEASED) ⊎ (result ≡ AGAIN) ⊎ (result ≡ HELD)
+        ⊎ (result ≡ NOT_ALLOWED) }
 {
     match step(napi, who, Call::Complete) {
         Some(Operation::Complete(Done::Released)) => status::RELEASED,

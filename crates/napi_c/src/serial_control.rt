@@ -12,7 +12,8 @@ use napi_model::{Call, Operation};
 
 // A call of the controller's.
 fn control(napi: &mut FqNapi, who: u32, call: Call) -> Option<Operation>
-    ensures refused { IsNone result ↔ ¬ ((who ≡ napi.old.controller) × MayCall who call (state_in napi.old)) }
+    ensures refused { IsNone result
+        ↔ ¬ ((who ≡ napi.old.controller) × MayCall who call (state_in napi.old)) }
     ensures answer { IfSome result (λ o. o ≡ answer_of call (state_in napi.old)) }
     ensures step { IfSome result (λ o. Steps napi.old who o napi.new) }
     ensures kept { IsNone result → napi.new ≡ napi.old }
@@ -27,7 +28,8 @@ fn control(napi: &mut FqNapi, who: u32, call: Call) -> Option<Operation>
 #[unsafe(no_mangle)]
 pub extern "C" fn fq_napi_mark_disable(napi: &mut FqNapi, who: u32) -> u32
     ensures made { result ≡ OK → Steps napi.old who operation.MarkDisable napi.new }
-    ensures refused { result ≡ NOT_ALLOWED ↔ ¬ ((who ≡ napi.old.controller) × MayCall who call.MarkDisable (state_in napi.old)) }
+    ensures refused { result ≡ NOT_ALLOWED
+        ↔ ¬ ((who ≡ napi.old.controller) × MayCall who call.MarkDisable (state_in napi.old)) }
     ensures kept { result ≡ NOT_ALLOWED → napi.new ≡ napi.old }
     ensures only { (result ≡ OK) ⊎ (result ≡ NOT_ALLOWED) }
 {
@@ -42,7 +44,8 @@ pub extern "C" fn fq_napi_mark_disable(napi: &mut FqNapi, who: u32) -> u32
 pub extern "C" fn fq_napi_take_disable(napi: &mut FqNapi, who: u32) -> u32
     ensures taken { result ≡ TAKEN → Steps napi.old who (operation.TakeDisable true) napi.new }
     ensures busy { result ≡ BUSY → Steps napi.old who (operation.TakeDisable false) napi.new }
-    ensures refused { result ≡ NOT_ALLOWED ↔ ¬ ((who ≡ napi.old.controller) × MayCall who call.TakeDisable (state_in napi.old)) }
+    ensures refused { result ≡ NOT_ALLOWED
+        ↔ ¬ ((who ≡ napi.old.controller) × MayCall who call.TakeDisable (state_in napi.old)) }
     ensures kept { result ≡ NOT_ALLOWED → napi.new ≡ napi.old }
     ensures only { (result ≡ TAKEN) ⊎ (result ≡ BUSY) ⊎ (result ≡ NOT_ALLOWED) }
 {
@@ -57,7 +60,8 @@ pub extern "C" fn fq_napi_take_disable(napi: &mut FqNapi, who: u32) -> u32
 #[unsafe(no_mangle)]
 pub extern "C" fn fq_napi_unmark(napi: &mut FqNapi, who: u32) -> u32
     ensures made { result ≡ OK → Steps napi.old who operation.Unmark napi.new }
-    ensures refused { result ≡ NOT_ALLOWED ↔ ¬ ((who ≡ napi.old.controller) × MayCall who call.Unmark (state_in napi.old)) }
+    ensures refused { result ≡ NOT_ALLOWED
+        ↔ ¬ ((who ≡ napi.old.controller) × MayCall who call.Unmark (state_in napi.old)) }
     ensures kept { result ≡ NOT_ALLOWED → napi.new ≡ napi.old }
     ensures only { (result ≡ OK) ⊎ (result ≡ NOT_ALLOWED) }
 {
@@ -71,7 +75,8 @@ pub extern "C" fn fq_napi_unmark(napi: &mut FqNapi, who: u32) -> u32
 #[unsafe(no_mangle)]
 pub extern "C" fn fq_napi_enable(napi: &mut FqNapi, who: u32, threaded: bool) -> u32
     ensures made { result ≡ OK → Steps napi.old who (operation.Enable threaded) napi.new }
-    ensures refused { result ≡ NOT_ALLOWED ↔ ¬ ((who ≡ napi.old.controller) × MayCall who (call.Enable threaded) (state_in napi.old)) }
+    ensures refused { result ≡ NOT_ALLOWED
+        ↔ ¬ ((who ≡ napi.old.controller) × MayCall who (call.Enable threaded) (state_in napi.old)) }
     ensures kept { result ≡ NOT_ALLOWED → napi.new ≡ napi.old }
     ensures only { (result ≡ OK) ⊎ (result ≡ NOT_ALLOWED) }
 {

@@ -86,7 +86,8 @@ fn give_seats(
     mut callers: Vec<Caller>,
     handles: &mut [FqHandle],
 ) -> bool
-    requires { (k : ℕ) (c : Caller) → slice_get callers.items k ≡ Some c → IsSeatOf (arc_value shared.now).napi c.pass }
+    requires { (k : ℕ) (c : Caller) → slice_get callers.items k ≡ Some c
+        → IsSeatOf (arc_value shared.now).napi c.pass }
 {
     let mut given = true;
     for i in 0..handles.len() {

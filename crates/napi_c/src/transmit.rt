@@ -38,7 +38,8 @@ pub extern "C" fn fq_tx_new(
     hold: u64,
     now: u64,
 ) -> u32
-    ensures made { result ≡ OK → TxShows handle.new (opening_queue capacity (opening min max hold now)) }
+    ensures made { result ≡ OK
+        → TxShows handle.new (opening_queue capacity (opening min max hold now)) }
     ensures kept { result ≢ OK → handle.new ≡ handle.old }
     ensures bounds { result ≡ OK → ¬ ((max < min) ⊎ (DQL_MAX_LIMIT < max)) }
 {
@@ -64,8 +65,10 @@ pub extern "C" fn fq_tx_new(
 /// As `TxRing::send`.
 #[unsafe(no_mangle)]
 pub extern "C" fn fq_tx_send(alloc: Global, handle: &mut FqHandle, bytes: u32) -> u32
-    ensures ok { (t : TransmitQueue) → TxShows handle.old t → result ≡ OK → TxShows handle.new (after_send t bytes) }
-    ensures status { (t : TransmitQueue) → TxShows handle.old t → result ≡ tx_status (send_fault t bytes) }
+    ensures ok { (t : TransmitQueue) → TxShows handle.old t → result ≡ OK
+        → TxShows handle.new (after_send t bytes) }
+    ensures status { (t : TransmitQueue) → TxShows handle.old t
+        → result ≡ tx_status (send_fault t bytes) }
     ensures kept { result ≢ OK → handle.new.held.body ≡ handle.old.held.body }
 {
     let Some(mut body) = handle.take(alloc) else {
@@ -77,8 +80,10 @@ pub extern "C" fn fq_tx_send(alloc: Global, handle: &mut FqHandle, bytes: u32) -
 }
 
 fn send_in(body: &mut Body, bytes: u32) -> u32
-    ensures ok { (t : TransmitQueue) → IsTxWith (λ r. ShowsQueue r t) body.old → result ≡ OK → IsTxWith (λ r. ShowsQueue r (after_send t bytes)) body.new }
-    ensures status { (t : TransmitQueue) → IsTxWith (λ r. ShowsQueue r t) body.old → result ≡ tx_status (send_fault t bytes) }
+    ensures ok { (t : TransmitQueue) → IsTxWith (λ r. ShowsQueue r t) body.old → result ≡ OK
+        → IsTxWith (λ r. ShowsQueue r (after_send t bytes)) body.new }
+    ensures status { (t : TransmitQueue) → IsTxWith (λ r. ShowsQueue r t) body.old
+        → result ≡ tx_status (send_fault t bytes) }
     ensures kept { result ≢ OK → body.new ≡ body.old }
 {
     match body {
@@ -93,8 +98,10 @@ fn send_in(body: &mut Body, bytes: u32) -> u32
 /// As `TxRing::done`.
 #[unsafe(no_mangle)]
 pub extern "C" fn fq_tx_done(alloc: Global, handle: &mut FqHandle, count: u32, now: u64) -> u32
-    ensures ok { (t : TransmitQueue) → TxShows handle.old t → result ≡ OK → TxShows handle.new (after_done t count now) }
-    ensures status { (t : TransmitQueue) → TxShows handle.old t → result ≡ tx_status (done_fault t count) }
+    ensures ok { (t : TransmitQueue) → TxShows handle.old t → result ≡ OK
+        → TxShows handle.new (after_done t count now) }
+    ensures status { (t : TransmitQueue) → TxShows handle.old t
+        → result ≡ tx_status (done_fault t count) }
     ensures kept { result ≢ OK → handle.new.held.body ≡ handle.old.held.body }
 {
     let Some(mut body) = handle.take(alloc) else {
@@ -106,8 +113,10 @@ pub extern "C" fn fq_tx_done(alloc: Global, handle: &mut FqHandle, count: u32, n
 }
 
 fn done_in(body: &mut Body, count: u32, now: u64) -> u32
-    ensures ok { (t : TransmitQueue) → IsTxWith (λ r. ShowsQueue r t) body.old → result ≡ OK → IsTxWith (λ r. ShowsQueue r (after_done t count now)) body.new }
-    ensures status { (t : TransmitQueue) → IsTxWith (λ r. ShowsQueue r t) body.old → result ≡ tx_status (done_fault t count) }
+    ensures ok { (t : TransmitQueue) → IsTxWith (λ r. ShowsQueue r t) body.old → result ≡ OK
+        → IsTxWith (λ r. ShowsQueue r (after_done t count now)) body.new }
+    ensures status { (t : TransmitQueue) → IsTxWith (λ r. ShowsQueue r t) body.old
+        → result ≡ tx_status (done_fault t count) }
     ensures kept { result ≢ OK → body.new ≡ body.old }
 {
     match body {
@@ -122,7 +131,8 @@ fn done_in(body: &mut Body, count: u32, now: u64) -> u32
 /// As `TxRing::state`, into the caller's struct.
 #[unsafe(no_mangle)]
 pub extern "C" fn fq_tx_state(alloc: Global, handle: &mut FqHandle, state: &mut TxState) -> u32
-    ensures shown { (t : TransmitQueue) → TxShows handle.old t → (result ≡ OK) × (state.new ≡ state_of t) }
+    ensures shown { (t : TransmitQueue) → TxShows handle.old t → (result ≡ OK)
+        × (state.new ≡ state_of t) }
     ensures kept { result ≢ OK → state.new ≡ state.old }
     ensures same { handle.new.held.body ≡ handle.old.held.body }
 {
@@ -135,7 +145,8 @@ pub extern "C" fn fq_tx_state(alloc: Global, handle: &mut FqHandle, state: &mut 
 }
 
 fn state_in(body: &Body, state: &mut TxState) -> u32
-    ensures shown { (t : TransmitQueue) → IsTxWith (λ r. ShowsQueue r t) body.now → (result ≡ OK) × (state.new ≡ state_of t) }
+    ensures shown { (t : TransmitQueue) → IsTxWith (λ r. ShowsQueue r t) body.now → (result ≡ OK)
+        × (state.new ≡ state_of t) }
     ensures kept { result ≢ OK → state.new ≡ state.old }
 {
     match body {

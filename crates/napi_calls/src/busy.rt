@@ -34,7 +34,8 @@ impl Caller {
         requires { IsSeatOf napi.now self.pass }
         ensures events { TriesToBusyPoll self.pass result }
         ensures packets { TriesToBusyPollFresh self.pass result }
-        ensures run { RunsUnlessRefused result (between.new ≡ between.old) (B.ran between.old between.new) }
+        ensures run { RunsUnlessRefused result (between.new ≡ between.old)
+            (B.ran between.old between.new) }
     {
         let Caller { mut pass, number } = self;
         let seen = napi.table.look(&mut pass);
@@ -101,7 +102,8 @@ impl Busy {
         ensures next { GivesNext weight self.old.ctx self.new.ctx batch.new.items }
         ensures work { result ≡ length batch.new.items }
         ensures pass { self.new.pass ≡ self.old.pass }
-        ensures polled { polled self.new.pass self.new.ctx ≡ polled self.old.pass self.old.ctx ++ batch.new.items }
+        ensures polled { polled self.new.pass self.new.ctx ≡ polled self.old.pass self.old.ctx
+            ++ batch.new.items }
     {
         self.ctx.poll(weight, batch)
     }

@@ -62,7 +62,8 @@ impl Caller {
         requires { IsSeatOf napi.now self.pass }
         ensures events { Prepares self.pass result }
         ensures packets { PreparesQuietly self.pass result }
-        ensures run { RunsUnlessDisabled result (between.new ≡ between.old) (B.ran between.old between.new) }
+        ensures run { RunsUnlessDisabled result (between.new ≡ between.old)
+            (B.ran between.old between.new) }
     {
         let Caller { mut pass, number } = self;
         let Some(seen) = napi.table.schedule_load(&mut pass) else {

@@ -103,7 +103,8 @@ impl Control<Marked> {
         requires { IsSeatOf napi.now self.pass }
         ensures events { TriesToTake self.pass result }
         ensures packets { TriesToTakeFresh self.pass result }
-        ensures run { RunsUnlessBusy result (between.new ≡ between.old) (B.ran between.old between.new) }
+        ensures run { RunsUnlessBusy result (between.new ≡ between.old)
+            (B.ran between.old between.new) }
     {
         let Control {
             mut pass,
@@ -147,7 +148,8 @@ impl Control<Off> {
 
     /// What is counted of the ring's polls so far.
     pub fn counts(&self) -> RxCounts
-        ensures { result ≡ counts_of (polls_of self.now.state.ctx) (received_list self.now.state.ctx) }
+        ensures { result ≡ counts_of (polls_of self.now.state.ctx)
+            (received_list self.now.state.ctx) }
     {
         self.state.ctx.counts()
     }
@@ -166,8 +168,10 @@ impl Control<Off> {
     /// nothing is decided.
     pub fn try_enable(self, napi: &Napi, threaded: bool) -> Result<Control<On>, Control<Off>>
         requires { IsSeatOf napi.now self.pass }
-        ensures events { MatchResult result (λ r. EnablesAt threaded self.pass r.pass) (λ r. WasLost self.pass r.pass) }
-        ensures packets { MatchResult result (λ r. GivesBack self.pass self.state.ctx r.pass) (λ r. HoldsOn self.pass r.pass × IsSame self.state.ctx r.state.ctx) }
+        ensures events { MatchResult result (λ r. EnablesAt threaded self.pass r.pass)
+            (λ r. WasLost self.pass r.pass) }
+        ensures packets { MatchResult result (λ r. GivesBack self.pass self.state.ctx r.pass)
+            (λ r. HoldsOn self.pass r.pass × IsSame self.state.ctx r.state.ctx) }
     {
         self.try_enable_between(napi, threaded, &mut Nothing)
     }
@@ -180,8 +184,10 @@ impl Control<Off> {
         between: &mut B,
     ) -> Result<Control<On>, Control<Off>>
         requires { IsSeatOf napi.now self.pass }
-        ensures events { MatchResult result (λ r. EnablesAt threaded self.pass r.pass) (λ r. WasLost self.pass r.pass) }
-        ensures packets { MatchResult result (λ r. GivesBack self.pass self.state.ctx r.pass) (λ r. HoldsOn self.pass r.pass × IsSame self.state.ctx r.state.ctx) }
+        ensures events { MatchResult result (λ r. EnablesAt threaded self.pass r.pass)
+            (λ r. WasLost self.pass r.pass) }
+        ensures packets { MatchResult result (λ r. GivesBack self.pass self.state.ctx r.pass)
+            (λ r. HoldsOn self.pass r.pass × IsSame self.state.ctx r.state.ctx) }
         ensures run { B.ran between.old between.new }
     {
         let Control {

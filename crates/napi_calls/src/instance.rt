@@ -52,7 +52,8 @@ fn control_of(table: &StateTable, mut pass: Pass, last: u32) -> Control<Off>
 
 // A caller's new pass.
 fn caller_of(pass: Pass, number: u32) -> Caller
-    requires { (t : StateTable) × (last : ℕ) × (ctx : RxCtx) × (number < last) × IsNew t last ctx number pass }
+    requires { (t : StateTable) × (last : ℕ) × (ctx : RxCtx) × (number < last)
+        × IsNew t last ctx number pass }
     ensures { result.pass ≡ pass }
 {
     Caller { pass, number }
@@ -67,7 +68,9 @@ fn is_bad(callers: u32) -> bool
 
 // The callers of new passes, in their order.
 fn seat_callers(passes: Vec<Pass>, mut callers: Vec<Caller>) -> Vec<Caller>
-    requires new { (t : StateTable) × (last : ℕ) × (ctx : RxCtx) × (length passes.items ≤ last) × (last ≤ 8) × ((k : ℕ) (p : Pass) → slice_get passes.items k ≡ Some p → IsNew t last ctx k p) }
+    requires new { (t : StateTable) × (last : ℕ) × (ctx : RxCtx) × (length passes.items ≤ last)
+        × (last ≤ 8)
+        × ((k : ℕ) (p : Pass) → slice_get passes.items k ≡ Some p → IsNew t last ctx k p) }
     requires empty { callers.items ≡ [] }
     requires room { length passes.items ≤ vec_capacity callers }
     ensures { seats_of result.items ≡ passes.items }
@@ -96,10 +99,13 @@ impl Napi {
     ) -> Result<(Napi, Vec<Caller>, Control<Off>), NewBack>
         ensures fault { IfErr result (λ b. b.fault ≡ fault_of (is_bad_count callers)) }
         ensures back { IfErr result (λ b. b.ctx ≡ ctx) }
-        ensures count { IfOk result (λ r. (is_bad_count callers ≡ false) × (callers_of r.0 ≡ callers) × (length r.1.items ≡ callers)) }
+        ensures count { IfOk result
+            (λ r. (is_bad_count callers ≡ false) × (callers_of r.0 ≡ callers)
+            × (length r.1.items ≡ callers)) }
         ensures ring { IfOk result (λ r. ring_of_instance r.0 ≡ ring_name ctx) }
         ensures first { IfOk result (λ r. first_of_instance r.0 ≡ ctx) }
-        ensures callers { IfOk result (λ r. (k : ℕ) (c : Caller) → slice_get r.1.items k ≡ Some c → IsNewSeat r.0 k c.pass) }
+        ensures callers { IfOk result
+            (λ r. (k : ℕ) (c : Caller) → slice_get r.1.items k ≡ Some c → IsNewSeat r.0 k c.pass) }
         ensures control { IfOk result (λ r. IsNewSeat r.0 callers r.2.pass) }
     {
         if is_bad(callers) {
@@ -136,10 +142,13 @@ impl Napi {
     ///
     /// Here the one history is read off.
     pub fn close(self, mut callers: Vec<Caller>, control: Control<Off>) -> Result<RxCtx, CloseBack>
-        requires callers { (k : ℕ) (c : Caller) → slice_get callers.items k ≡ Some c → IsSeatOf self c.pass }
+        requires callers { (k : ℕ) (c : Caller) → slice_get callers.items k ≡ Some c
+            → IsSeatOf self c.pass }
         requires control { IsSeatOf self control.pass }
-        ensures fault { IfErr result (λ b. (b.fault ≡ NotAll) × (length callers.items < callers_of self)) }
-        ensures back { IfErr result (λ b. (b.napi ≡ self) × (b.callers ≡ callers) × (b.control ≡ control)) }
+        ensures fault { IfErr result
+            (λ b. (b.fault ≡ NotAll) × (length callers.items < callers_of self)) }
+        ensures back { IfErr result
+            (λ b. (b.napi ≡ self) × (b.callers ≡ callers) × (b.control ≡ control)) }
         ensures closed { IfOk result (λ ctx. IsClosed self callers.items control.pass ctx) }
         ensures ctx { IfOk result (λ ctx. ctx ≡ control.state.ctx) }
     {

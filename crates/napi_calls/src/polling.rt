@@ -51,7 +51,8 @@ impl Polling {
         ensures next { GivesNext weight self.old.ctx self.new.ctx batch.new.items }
         ensures work { result ≡ length batch.new.items }
         ensures pass { self.new.pass ≡ self.old.pass }
-        ensures polled { polled self.new.pass self.new.ctx ≡ polled self.old.pass self.old.ctx ++ batch.new.items }
+        ensures polled { polled self.new.pass self.new.ctx ≡ polled self.old.pass self.old.ctx
+            ++ batch.new.items }
     {
         self.ctx.poll(weight, batch)
     }

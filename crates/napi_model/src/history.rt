@@ -69,7 +69,9 @@ fn is_legal_for(controller: u32, state: State, event: Event) -> bool
 pub fn first_illegal(controller: u32, start: State, history: &[Event]) -> Option<usize>
     ensures legal { IsNone result ↔ LegalHistory controller start history.now }
     ensures before { IfSome result (λ i. LegalHistory controller start (take i history.now)) }
-    ensures first { IfSome result (λ i. (i < length history.now) × ¬ LegalHistory controller start (take (i + 1) history.now)) }
+    ensures first { IfSome result
+        (λ i. (i < length history.now)
+        × ¬ LegalHistory controller start (take (i + 1) history.now)) }
 {
     let mut reached = start;
     for (i, event) in history.iter().enumerate() {

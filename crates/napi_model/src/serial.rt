@@ -113,7 +113,8 @@ impl SerialNapi {
     /// `cmpxchg` of `napi_busy_loop`). False says that DISABLE, SCHED or IN_BUSY_POLL is set, and this was a look.
     pub fn busy_take(&mut self, who: u32) -> bool
         ensures taken { IsTrue result → Steps self.old who operation.BusyTake self.new }
-        ensures refused { IsFalse result → Steps self.old who (operation.Look (seen_of (state_of self.old))) self.new }
+        ensures refused { IsFalse result
+            → Steps self.old who (operation.Look (seen_of (state_of self.old))) self.new }
         ensures when { IsTrue result ↔ MayBusyTake (state_of self.old).flags }
     {
         if !self.state.may_call(who, Call::BusyTake) {

@@ -242,7 +242,8 @@ impl State {
     /// Whether a caller may make this call here. Where it may not, no reply to the call is legal.
     pub fn may_call(self, caller: u32, call: Call) -> bool
         ensures may { IsTrue result ↔ MayCall caller call self }
-        ensures none { IsFalse result → (o : Operation) → call_of o ≡ call → ¬ IsLegalBy caller o self }
+        ensures none { IsFalse result → (o : Operation) → call_of o ≡ call
+            → ¬ IsLegalBy caller o self }
     {
         let flags = self.flags;
         match call {

@@ -35,7 +35,8 @@ where
         → (text : List ℕ) × IsReportIn mode settings.now bytes text × Appends (W.contents output.old) (W.contents output.new) text) }
     ensures fault { IfErr result (λ fault. (bytes : List ℕ) → R.remaining input ≡ Some bytes
         → IsOutsideIn mode fault ⊎ IsFaultIn mode settings.now bytes fault) }
-    ensures untouched { IfErr result (λ fault. fault ≢ OutputFailed → Keeps (W.contents output.old) (W.contents output.new)) }
+    ensures untouched { IfErr result
+        (λ fault. fault ≢ OutputFailed → Keeps (W.contents output.old) (W.contents output.new)) }
 {
     match mode {
         Mode::Serial => replay_serial(alloc, input, output, settings),
@@ -58,7 +59,9 @@ fn replay_asked<H: Threads + Wait + Sync, R: Read + Drop, W: Write>(
     ensures written { OnOk result ((bytes : List ℕ) → R.remaining input ≡ Some bytes
         → (text : List ℕ) × IsReport (map string_bytes words.now) bytes text × Appends (W.contents output.old) (W.contents output.new) text) }
     ensures fault { IfErr result (IsFault (map string_bytes words.now) (R.remaining input)) }
-    ensures untouched { IfErr result (λ fault. fault ≢ Replay OutputFailed → Keeps (W.contents output.old) (W.contents output.new)) }
+    ensures untouched { IfErr result
+        (λ fault. fault ≢ Replay OutputFailed
+        → Keeps (W.contents output.old) (W.contents output.new)) }
 {
     match parse_words(alloc, words) {
         Ok((mode, settings)) => match replay_in(rt, alloc, mode, input, output, &settings) {

@@ -23,7 +23,9 @@ fn replay_asked<R: Read + Drop, W: Write>(
     ensures written { OnOk result ((bytes : List ℕ) → R.remaining input ≡ Some bytes
         → (text : List ℕ) × IsReport (map string_bytes words.now) bytes text × Appends (W.contents output.old) (W.contents output.new) text) }
     ensures fault { IfErr result (IsFault (map string_bytes words.now) (R.remaining input)) }
-    ensures untouched { IfErr result (λ fault. fault ≢ Replay OutputFailed → Keeps (W.contents output.old) (W.contents output.new)) }
+    ensures untouched { IfErr result
+        (λ fault. fault ≢ Replay OutputFailed
+        → Keeps (W.contents output.old) (W.contents output.new)) }
 {
     match parse_serial_words(alloc, words) {
         Ok(settings) => match replay_serial(alloc, input, output, &settings) {

@@ -10,7 +10,8 @@ use trace_rows::Row;
 use transmit_sides::TxCounts;
 
 fn add_row(text: &mut String, number: u32, row: &Row) -> Result<(), AllocError>
-    ensures { OnOk result (string_bytes text.new ≡ string_bytes text.old ++ row_fields number row.now) }
+    ensures { OnOk result
+        (string_bytes text.new ≡ string_bytes text.old ++ row_fields number row.now) }
 {
     write!(text, "{},{},{}", number, row.moment, row.device)?;
     Ok(())
@@ -80,7 +81,8 @@ pub(crate) fn add_line(
     counts: Option<DeviceCounts>,
     polled: Option<Line>,
 ) -> Result<(), AllocError>
-    ensures { OnOk result (string_bytes text.new ≡ string_bytes text.old ++ line_of number row.now counts polled) }
+    ensures { OnOk result
+        (string_bytes text.new ≡ string_bytes text.old ++ line_of number row.now counts polled) }
 {
     add_row(text, number, row)?;
     add_device(text, counts)?;

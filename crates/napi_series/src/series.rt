@@ -34,7 +34,9 @@ fn add_part(
     requires count { length rows.now ≤ 100000 }
     requires index { index < length rows.now }
     requires after { IsAfter settings.now rows.now (index + 1) replay.now }
-    ensures { OnOk result (string_bytes text.new ≡ string_bytes text.old ++ part_after settings.now every rows.now (index + 1) (slice_get rows.now index)) }
+    ensures { OnOk result
+        (string_bytes text.new ≡ string_bytes text.old
+        ++ part_after settings.now every rows.now (index + 1) (slice_get rows.now index)) }
 {
     let number = index as u32 + 1;
     if number % every != 0 {
@@ -60,8 +62,10 @@ fn series_of(
     requires every { 0 < every }
     requires accepted { AcceptedAfter [] rows.now }
     requires count { length rows.now ≤ 100000 }
-    ensures text { IfOk result (λ text. series_of settings.now every rows.now ≡ Ok (string_bytes text)) }
-    ensures fault { IfErr result (λ fault. (fault ≡ Trace OutOfMemory) ⊎ (world_of settings.now rows.now ≡ Err fault)) }
+    ensures text { IfOk result
+        (λ text. series_of settings.now every rows.now ≡ Ok (string_bytes text)) }
+    ensures fault { IfErr result
+        (λ fault. (fault ≡ Trace OutOfMemory) ⊎ (world_of settings.now rows.now ≡ Err fault)) }
 {
     let mut text = String::from_str(alloc, HEADER)?;
     let mut replay = SerialReplay::new(alloc, rows)?;
@@ -83,9 +87,13 @@ fn write_rows<W: Write>(
     requires every { 0 < every }
     requires accepted { AcceptedAfter [] rows.now }
     requires count { length rows.now ≤ 100000 }
-    ensures written { OnOk result ((text : List ℕ) × (series_of settings.now every rows.now ≡ Ok text) × Appends (W.contents writer.old) (W.contents writer.new) text) }
-    ensures fault { IfErr result (λ fault. IsOutside fault ⊎ (series_of settings.now every rows.now ≡ Err fault)) }
-    ensures untouched { IfErr result (λ fault. fault ≢ OutputFailed → Keeps (W.contents writer.old) (W.contents writer.new)) }
+    ensures written { OnOk result
+        ((text : List ℕ) × (series_of settings.now every rows.now ≡ Ok text)
+        × Appends (W.contents writer.old) (W.contents writer.new) text) }
+    ensures fault { IfErr result
+        (λ fault. IsOutside fault ⊎ (series_of settings.now every rows.now ≡ Err fault)) }
+    ensures untouched { IfErr result
+        (λ fault. fault ≢ OutputFailed → Keeps (W.contents writer.old) (W.contents writer.new)) }
 {
     let text = series_of(alloc, settings, every, rows)?;
     match writer.write_all(text.as_bytes()) {
@@ -113,7 +121,8 @@ pub(crate) fn write_series<R: Read + Drop, W: Write>(
     // A fault is that of the bytes read, unless the reader, the memory or the writer failed.
     ensures fault { IfErr result (λ fault. (bytes : List ℕ) → R.remaining reader ≡ Some bytes
         → IsOutside fault ⊎ (series_by settings.now every bytes ≡ Err fault)) }
-    ensures untouched { IfErr result (λ fault. fault ≢ OutputFailed → Keeps (W.contents writer.old) (W.contents writer.new)) }
+    ensures untouched { IfErr result
+        (λ fault. fault ≢ OutputFailed → Keeps (W.contents writer.old) (W.contents writer.new)) }
 {
     let trace = read_trace(alloc, reader)?;
     write_rows(alloc, trace.rows(), writer, settings, every)

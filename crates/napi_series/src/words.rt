@@ -10,7 +10,8 @@ use std::alloc::Global;
 
 // How many rows make one line, and the other words.
 fn split_every(words: &[String]) -> Option<(u32, &[String])>
-    ensures split { option_map (λ s. (s.0, map string_bytes s.1.now)) result ≡ every_of (map string_bytes words.now) }
+    ensures split { option_map (λ s. (s.0, map string_bytes s.1.now)) result
+        ≡ every_of (map string_bytes words.now) }
     ensures range { IfSome result (λ s. 1 ≤ s.0) }
 {
     match words {

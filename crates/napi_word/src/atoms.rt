@@ -61,7 +61,8 @@ impl StateTable {
         requires may { MayExchange self.now seat.old seen next K.operation K.moves }
         ensures table { seat.new.table_id ≡ seat.old.table_id }
         ensures won { OnOk result (Did (K.operation seen) (K.moves seen) seat.old.me seat.new.me) }
-        ensures lost { IfErr result (λ found. Did (Look found) stays seat.old.me seat.new.me × (found ≢ seen)) }
+        ensures lost { IfErr result
+            (λ found. Did (Look found) stays seat.old.me seat.new.me × (found ≢ seen)) }
     {
         let old = encode(seen);
         let word = self

@@ -39,7 +39,8 @@ impl StateTable {
     pub fn busy_swap(&self, pass: &mut Pass, seen: Seen) -> Result<(), Seen>
         requires table { IsPassOf self.now pass.old }
         requires idle { MayBusyTake seen.flags }
-        ensures step { Makes pass.old (by_swap BusyTake result) (when (is_ok result) taken) pass.new }
+        ensures step { Makes pass.old (by_swap BusyTake result)
+            (when (is_ok result) taken) pass.new }
         ensures other { IfErr result (λ found. found ≢ seen) }
     {
         self.exchange::<TakesBusy>(&mut pass.seat, seen, taken_busy(seen))?;

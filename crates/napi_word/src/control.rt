@@ -59,7 +59,9 @@ impl StateTable {
         requires controller { IsController pass.old }
         requires marked { Disable true pass.old }
         ensures step { Makes pass.old (by_take_load result) stays pass.new }
-        ensures idle { IfSome result (λ seen. (seen.flags.disable ≡ true) × (seen.flags.sched ≡ false) × (seen.flags.npsvc ≡ false)) }
+        ensures idle { IfSome result
+            (λ seen. (seen.flags.disable ≡ true) × (seen.flags.sched ≡ false)
+            × (seen.flags.npsvc ≡ false)) }
     {
         let seen = self.load::<Asks>(&mut pass.seat);
         if is_busy(seen) { None } else { Some(seen) }
@@ -71,8 +73,10 @@ impl StateTable {
     pub fn take_swap(&self, pass: &mut Pass, seen: Seen) -> Result<(), Seen>
         requires table { IsPassOf self.now pass.old }
         requires controller { IsController pass.old }
-        requires idle { (seen.flags.disable ≡ true) × (seen.flags.sched ≡ false) × (seen.flags.npsvc ≡ false) }
-        ensures step { Makes pass.old (by_swap (TakeDisable true) result) (when (is_ok result) taken) pass.new }
+        requires idle { (seen.flags.disable ≡ true) × (seen.flags.sched ≡ false)
+            × (seen.flags.npsvc ≡ false) }
+        ensures step { Makes pass.old (by_swap (TakeDisable true) result)
+            (when (is_ok result) taken) pass.new }
         ensures other { IfErr result (λ found. found ≢ seen) }
     {
         self.exchange::<Disables>(&mut pass.seat, seen, disabled(seen))?;
@@ -100,7 +104,8 @@ impl StateTable {
         requires owner { Controls pass.old }
         requires unmarked { Disable false pass.old }
         requires within { IsWithin pass.old }
-        ensures step { Makes pass.old (by_swap (Enable threaded) result) (when (is_ok result) given) pass.new }
+        ensures step { Makes pass.old (by_swap (Enable threaded) result)
+            (when (is_ok result) given) pass.new }
         ensures other { IfErr result (λ found. found ≢ seen) }
     {
         let next = enabled(seen, threaded);

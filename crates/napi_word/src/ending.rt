@@ -90,7 +90,9 @@ impl StateTable {
         requires table { IsGatheredOf self.now gathering.old }
         requires pass { IsPassOf self.now pass }
         ensures table { IsGatheredOf self.now gathering.new }
-        ensures has { (taken : List Pass) → Gathered taken gathering.old.seat.me.0 gathering.old.found → Gathered (pass ∷ taken) gathering.new.seat.me.0 gathering.new.found }
+        ensures has { (taken : List Pass)
+            → Gathered taken gathering.old.seat.me.0 gathering.old.found
+            → Gathered (pass ∷ taken) gathering.new.seat.me.0 gathering.new.found }
     {
         let seat = self.give_up(pass, &mut gathering.found);
         self.table
@@ -101,7 +103,8 @@ impl StateTable {
     /// Closes the table. Where as many passes were gathered as it has, this reads off its one history; there can't be more.
     pub fn finish(self, gathering: Gathering) -> Ended
         requires table { IsGatheredOf self gathering }
-        ensures { (taken : List Pass) → Gathered taken gathering.seat.me.0 gathering.found → controller_of_table self + 1 ≤ length taken → IsEnded self taken result.ctx }
+        ensures { (taken : List Pass) → Gathered taken gathering.seat.me.0 gathering.found
+            → controller_of_table self + 1 ≤ length taken → IsEnded self taken result.ctx }
     {
         let StateTable { table } = self;
         let Gathering { seat, found } = gathering;

@@ -53,7 +53,8 @@ fn begin(table: &StateTable, mut seat: Seat<Option<RxCtx>, View>) -> Pass
     requires table { seat.table_id ≡ table.now.table.shared.table_id }
     requires first { seat.me ≡ (first_view table.now.table.shared.key, []) }
     ensures table { IsPassOf table.now result }
-    ensures view { view_of result ≡ maker_at table.now.table.shared.key.controller table.now.table.shared.key.ring.value 0 }
+    ensures view { view_of result
+        ≡ maker_at table.now.table.shared.key.controller table.now.table.shared.key.ring.value 0 }
     ensures holds { result.holds ≡ holds.Within }
     ensures laid { IsLaid table.now.table.shared.key.ring.value result }
 {
@@ -75,12 +76,17 @@ fn begin(table: &StateTable, mut seat: Seat<Option<RxCtx>, View>) -> Pass
 fn next_pass(table: &StateTable, maker: &mut Pass, number: u32) -> Pass
     requires table { IsPassOf table.now maker.old }
     requires number { number < table.now.table.shared.key.controller }
-    requires view { view_of maker.old ≡ maker_at table.now.table.shared.key.controller table.now.table.shared.key.ring.value number }
+    requires view { view_of maker.old
+        ≡ maker_at table.now.table.shared.key.controller table.now.table.shared.key.ring.value
+        number }
     ensures table { SameTable maker.old maker.new }
-    ensures view { view_of maker.new ≡ maker_at table.now.table.shared.key.controller table.now.table.shared.key.ring.value (number + 1) }
+    ensures view { view_of maker.new
+        ≡ maker_at table.now.table.shared.key.controller table.now.table.shared.key.ring.value
+        (number + 1) }
     ensures holds { maker.new.holds ≡ maker.old.holds }
     ensures slot { ctx_of maker.new ≡ ctx_of maker.old }
-    ensures made { IsNew table.now table.now.table.shared.key.controller table.now.table.shared.key.ring.value number result }
+    ensures made { IsNew table.now table.now.table.shared.key.controller
+        table.now.table.shared.key.ring.value number result }
 {
     Pass {
         seat: table
@@ -102,7 +108,9 @@ impl StateTable {
         ensures controller { IfOk result (λ r. controller_of_table r.0 ≡ seats - 1) }
         ensures ring { IfOk result (λ r. ring_of_table r.0 ≡ ring_name ctx) }
         ensures first { IfOk result (λ r. first_of_table r.0 ≡ ctx) }
-        ensures new { IfOk result (λ r. (k : ℕ) (p : Pass) → slice_get r.1.items k ≡ Some p → IsNew r.0 (seats - 1) ctx k p) }
+        ensures new { IfOk result
+            (λ r. (k : ℕ) (p : Pass) → slice_get r.1.items k ≡ Some p
+            → IsNew r.0 (seats - 1) ctx k p) }
         ensures back { IfErr result (λ b. b.ctx ≡ ctx) }
     {
         let Ok(mut passes) = Vec::with_capacity(alloc, seats as usize) else {

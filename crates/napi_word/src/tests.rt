@@ -74,9 +74,16 @@ fn enable(table: &StateTable, control: &mut Pass) -> bool
 fn swaps(table: &StateTable, first: &mut Pass, second: &mut Pass) -> Option<(Seen, Seen)>
     requires table { IsPassOf table.now first.old × IsPassOf table.now second.old }
     ensures table { SameTable first.old first.new × SameTable second.old second.new }
-    ensures numbers { (number_of (view_of first.new) ≡ number_of (view_of first.old)) × (number_of (view_of second.new) ≡ number_of (view_of second.old)) }
-    ensures first { IfSome result (λ r. mine (view_of first.new) ≡ mine (view_of first.old) ++ event (number_of (view_of first.old)) (Look r.0) ∷ event (number_of (view_of first.old)) (Schedule prep.Granted) ∷ []) }
-    ensures second { IfSome result (λ r. mine (view_of second.new) ≡ mine (view_of second.old) ++ event (number_of (view_of second.old)) (Look r.1) ∷ event (number_of (view_of second.old)) (Schedule prep.Missed) ∷ []) }
+    ensures numbers { (number_of (view_of first.new) ≡ number_of (view_of first.old))
+        × (number_of (view_of second.new) ≡ number_of (view_of second.old)) }
+    ensures first { IfSome result
+        (λ r. mine (view_of first.new) ≡ mine (view_of first.old)
+        ++ event (number_of (view_of first.old)) (Look r.0)
+        ∷ event (number_of (view_of first.old)) (Schedule prep.Granted) ∷ []) }
+    ensures second { IfSome result
+        (λ r. mine (view_of second.new) ≡ mine (view_of second.old)
+        ++ event (number_of (view_of second.old)) (Look r.1)
+        ∷ event (number_of (view_of second.old)) (Schedule prep.Missed) ∷ []) }
 {
     let idle = table.look(first);
     if idle.flags.disable {
@@ -104,7 +111,8 @@ fn end_of_three(opened: Opened) -> Option<Ended>
     requires control { IsPassOf opened.table opened.control }
     requires room { opened.room.items ≡ [] }
     requires controller { controller_of_table opened.table ≡ 2 }
-    ensures { IfSome result (λ e. IsEnded opened.table (opened.first ∷ opened.second ∷ opened.control ∷ []) e.ctx) }
+    ensures { IfSome result
+        (λ e. IsEnded opened.table (opened.first ∷ opened.second ∷ opened.control ∷ []) e.ctx) }
 {
     let Opened {
         table,
@@ -129,7 +137,10 @@ struct Lost {
 }
 
 fn lost_exchange(alloc: Global, ctx: RxCtx) -> Option<Lost>
-    ensures { IfSome result (λ l. HasOwnLists (event 0 (Look l.idle) ∷ event 0 (Schedule prep.Granted) ∷ []) (event 1 (Look l.found) ∷ event 1 (Schedule prep.Missed) ∷ []) (event 2 (Enable false) ∷ event 2 (Look l.last) ∷ [])) }
+    ensures { IfSome result
+        (λ l. HasOwnLists (event 0 (Look l.idle) ∷ event 0 (Schedule prep.Granted) ∷ [])
+        (event 1 (Look l.found) ∷ event 1 (Schedule prep.Missed) ∷ [])
+        (event 2 (Enable false) ∷ event 2 (Look l.last) ∷ [])) }
 {
     let mut opened = table_of_two(alloc, ctx)?;
     if !enable(&opened.table, &mut opened.control) {
@@ -195,7 +206,8 @@ fn schedule_once(table: &StateTable, turned: &mut Turned)
     requires room { turned.old.steps + 2 < 2 ^ 64 }
     requires granted { turned.old.granted ≤ turned.old.steps }
     ensures table { SameTable turned.old.pass turned.new.pass }
-    ensures steps { length (mine (view_of turned.new.pass)) + turned.old.steps ≡ length (mine (view_of turned.old.pass)) + turned.new.steps }
+    ensures steps { length (mine (view_of turned.new.pass)) + turned.old.steps
+        ≡ length (mine (view_of turned.old.pass)) + turned.new.steps }
     ensures few { turned.new.steps ≤ turned.old.steps + 2 }
     ensures granted { turned.new.granted ≤ turned.new.steps }
 {
@@ -214,7 +226,8 @@ fn schedule_once(table: &StateTable, turned: &mut Turned)
 fn schedule_often(table: &StateTable, pass: Pass, turns: u32) -> Turned
     requires table { IsPassOf table.now pass }
     ensures table { IsPassOf table.now result.pass }
-    ensures steps { length (mine (view_of result.pass)) ≡ length (mine (view_of pass)) + result.steps }
+    ensures steps { length (mine (view_of result.pass)) ≡ length (mine (view_of pass))
+        + result.steps }
 {
     let mut turned = Turned {
         pass,

@@ -12,7 +12,11 @@ impl BusyReport {
         requires polls { self.polls + 1 < 2 ^ 32 }
         requires work { self.work + work < 2 ^ 32 }
         requires bytes { self.bytes + bytes < 2 ^ 64 }
-        ensures { result ≡ record self { polls = self.polls + 1; work = self.work + work; bytes = self.bytes + bytes } }
+        ensures { result ≡ record self {
+          polls = self.polls + 1;
+          work = self.work + work;
+          bytes = self.bytes + bytes;
+        } }
     {
         BusyReport {
             polls: self.polls + 1,
@@ -27,7 +31,8 @@ impl BusyReport {
 fn round<I: BusyInstance>(instance: &mut I, weight: u32, packets: &mut I::Packets) -> u32
     requires busy { I.in_busy instance.old }
     requires weight { (1 ≤ weight) × (weight ≤ 64) }
-    ensures round { Round I.busy_takes I.gives I.holds I.stops I.requeues I.completes weight instance.old (record { packets = packets.new; work = result }) instance.new }
+    ensures round { Round I.busy_takes I.gives I.holds I.stops I.requeues I.completes weight
+        instance.old (record { packets = packets.new; work = result }) instance.new }
     ensures busy { I.in_busy instance.new }
     ensures bound { result ≤ weight }
 {
@@ -41,7 +46,8 @@ fn round<I: BusyInstance>(instance: &mut I, weight: u32, packets: &mut I::Packet
 // Ends the poll behind the stop, with work below the weight or equal to it.
 fn leave<I: BusyInstance>(instance: &mut I, below: bool) -> Next
     requires { I.in_hand instance.old }
-    ensures leaves { Leaves I.busy_takes I.gives I.holds I.stops I.requeues I.completes below instance.old result instance.new }
+    ensures leaves { Leaves I.busy_takes I.gives I.holds I.stops I.requeues I.completes below
+        instance.old result instance.new }
     ensures rests { I.rests instance.new }
 {
     if !below {
@@ -68,7 +74,8 @@ pub fn poll_busy_of<I: BusyInstance>(
     requires rests { I.rests instance.old }
     requires rounds { (1 ≤ rounds) × (rounds ≤ 65535) }
     requires weight { (1 ≤ weight) × (weight ≤ 64) }
-    ensures polls { PollsBusily I.busy_takes I.gives I.holds I.stops I.requeues I.completes I.bytes_in weight rounds instance.old packets.old result packets.new instance.new }
+    ensures polls { PollsBusily I.busy_takes I.gives I.holds I.stops I.requeues I.completes
+        I.bytes_in weight rounds instance.old packets.old result packets.new instance.new }
     ensures rests { I.rests instance.new }
 {
     let mut report = BusyReport::NONE;

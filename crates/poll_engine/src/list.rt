@@ -28,14 +28,16 @@ pub trait PollList {
     /// Puts a number at the list's tail (`list_add_tail` in `____napi_schedule`).
     fn push(&mut self, id: u32)
         requires { can_push self.old }
-        ensures pushed { (came : List ℕ) × moves self.old (id ∷ []) came self.new × (entries self.new ≡ entries self.old ++ came) }
+        ensures pushed { (came : List ℕ) × moves self.old (id ∷ []) came self.new
+            × (entries self.new ≡ entries self.old ++ came) }
         ensures room { (n : ℕ) → has_room self.old (n + 1) → has_room self.new n };
 
     /// Moves all that the list holds, or the first 64 entries, into an empty list, and answers how many there were
     /// (`list_splice_init`).
     fn splice(&mut self, to: &mut SoftList) -> usize
         requires { to.old ≡ [] }
-        ensures given { (came : List ℕ) × moves self.old [] came self.new × (to.new ≡ entries self.old ++ came) }
+        ensures given { (came : List ℕ) × moves self.old [] came self.new
+            × (to.new ≡ entries self.old ++ came) }
         ensures nothing_kept { entries self.new ≡ [] }
         ensures all { is_all to.new self.new }
         ensures count { result ≡ length to.new }
@@ -46,7 +48,8 @@ pub trait PollList {
     /// `list_splice_tail` and `list_splice` at the end of `net_rx_action`).
     fn put_back(&mut self, rest: SoftList, repoll: SoftList)
         requires { has_room self.old (length rest + length repoll) }
-        ensures back { (came : List ℕ) × moves self.old [] came self.new × (entries self.new ≡ rest ++ (entries self.old ++ came) ++ repoll) }
+        ensures back { (came : List ℕ) × moves self.old [] came self.new
+            × (entries self.new ≡ rest ++ (entries self.old ++ came) ++ repoll) }
         ensures all { is_all (entries self.new) self.new };
 
     /// A list that stays as it is: nothing was pushed, and nothing came.

@@ -13,7 +13,8 @@ use napi_model::Kind;
 // Ends a poll that gave its whole weight, or less.
 fn end<I: Instance>(instance: &mut I, full: bool) -> Next
     requires { I.in_hand instance.old }
-    ensures ends { Ends I.takes I.gives I.looks I.requeues I.completes full instance.old result instance.new }
+    ensures ends { Ends I.takes I.gives I.looks I.requeues I.completes full instance.old result
+        instance.new }
     ensures hands { MatchBool (is_repoll result) (I.in_hand instance.new) (I.rests instance.new) }
 {
     if full && !instance.is_disabling() {
@@ -29,8 +30,10 @@ fn end<I: Instance>(instance: &mut I, full: bool) -> Next
 fn poll_held<I: Instance>(instance: &mut I, weight: u32, packets: &mut I::Packets) -> Once
     requires hand { I.in_hand instance.old }
     requires weight { (1 ≤ weight) × (weight ≤ 64) }
-    ensures polls { PollsHeld I.takes I.gives I.looks I.requeues I.completes weight instance.old packets.new result instance.new }
-    ensures hands { MatchBool (is_repoll result.next) (I.in_hand instance.new) (I.rests instance.new) }
+    ensures polls { PollsHeld I.takes I.gives I.looks I.requeues I.completes weight instance.old
+        packets.new result instance.new }
+    ensures hands { MatchBool (is_repoll result.next) (I.in_hand instance.new)
+        (I.rests instance.new) }
     ensures bound { result.work ≤ weight }
 {
     let work = instance.poll(weight, packets);
@@ -44,7 +47,8 @@ fn poll_held<I: Instance>(instance: &mut I, weight: u32, packets: &mut I::Packet
 pub fn poll_once_of<I: Instance>(instance: &mut I, weight: u32, packets: &mut I::Packets) -> Once
     requires rests { I.rests instance.old }
     requires weight { (1 ≤ weight) × (weight ≤ 64) }
-    ensures polls { PollsOnce I.takes I.gives I.looks I.requeues I.completes weight instance.old packets.old result packets.new instance.new }
+    ensures polls { PollsOnce I.takes I.gives I.looks I.requeues I.completes weight instance.old
+        packets.old result packets.new instance.new }
     ensures rests { I.rests instance.new }
     ensures bound { result.work ≤ weight }
 {
@@ -65,7 +69,8 @@ pub fn poll_once_of<I: Instance>(instance: &mut I, weight: u32, packets: &mut I:
 // poll that it may make. One that it may not poll again goes to the list.
 fn follow<I: Instance>(instance: &mut I, next: Next, is_last: bool) -> bool
     requires { MatchBool (is_repoll next) (I.in_hand instance.old) (I.rests instance.old) }
-    ensures follows { Follows I.takes I.gives I.looks I.requeues I.completes is_last next instance.old result instance.new }
+    ensures follows { Follows I.takes I.gives I.looks I.requeues I.completes is_last next
+        instance.old result instance.new }
     ensures hands { MatchBool result (I.in_hand instance.new) (I.rests instance.new) }
 {
     match next {

@@ -31,7 +31,8 @@ fn is_spent(budget: u32, window: u32, polls: u32, work: u32) -> bool
 
 // Where all that was taken is polled, and nothing is to be repolled, takes what the list holds.
 fn refill<L: PollList>(own: &mut SoftList, list: &mut L, repoll: &SoftList)
-    ensures { Refills L.entries L.moves L.is_all L.has_room own.old list.old repoll.now own.new list.new }
+    ensures { Refills L.entries L.moves L.is_all L.has_room own.old list.old repoll.now own.new
+        list.new }
 {
     if own.is_empty() && repoll.is_empty() {
         list.splice(own);

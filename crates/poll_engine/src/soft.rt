@@ -39,7 +39,8 @@ impl SoftList {
 
     /// Takes the first number, None where there is none.
     pub fn pop_front(&mut self) -> Option<u32>
-        ensures { MatchOption result ((self.old ≡ []) × (self.new ≡ [])) (λ id. self.old ≡ id ∷ self.new) }
+        ensures { MatchOption result ((self.old ≡ []) × (self.new ≡ []))
+            (λ id. self.old ≡ id ∷ self.new) }
     {
         if self.ids.is_empty() {
             None

@@ -35,9 +35,12 @@ fn crew_rooms<'n, J: Task<B> + Drop, B: Drop, S: Task<C> + Drop, C: Drop>(
     alloc: Global,
     count: usize,
 ) -> Result<(Parts<'n, J, S>, Rooms<J, B, S, C>), AllocError>
-    ensures parts { IfOk result (λ r. HasRoom count r.0.jobs × HasRoom count r.0.seats × HasRoom count r.0.sides) }
-    ensures working { IfOk result (λ r. HasRoom count r.1.working.begun × HasRoom count r.1.working.given) }
-    ensures siding { IfOk result (λ r. HasRoom count r.1.siding.begun × HasRoom count r.1.siding.given) }
+    ensures parts { IfOk result
+        (λ r. HasRoom count r.0.jobs × HasRoom count r.0.seats × HasRoom count r.0.sides) }
+    ensures working { IfOk result
+        (λ r. HasRoom count r.1.working.begun × HasRoom count r.1.working.given) }
+    ensures siding { IfOk result
+        (λ r. HasRoom count r.1.siding.begun × HasRoom count r.1.siding.given) }
     ensures callers { IfOk result (λ r. HasRoom count r.1.callers) }
 {
     let rooms = Rooms {
@@ -84,7 +87,8 @@ where
     requires sides { AllZip IsKeptSideOf (vec_items loose) placed.now }
     requires ins { vec_len loose + vec_len loose ≤ vec_len ins }
     requires beside { F.pre beside }
-    ensures worked { IfOk result (λ e. AllZip (IsWorkedOf D.acts D.answer D.after) (vec_items loose) (vec_items e.worked)) }
+    ensures worked { IfOk result
+        (λ e. AllZip (IsWorkedOf D.acts D.answer D.after) (vec_items loose) (vec_items e.worked)) }
     ensures dones { IfOk result (λ e. AllZip IsDoneAt (vec_items e.worked) placed.now) }
     ensures pollers { IfOk result (λ e. AllZip IsCallerAt (vec_items e.pollers) placed.now) }
     ensures threads { IfOk result (λ e. AllZip IsCallerAt (vec_items e.threads) placed.now) }
@@ -134,7 +138,8 @@ fn end_crew<R: Wait + Drop, D: Drop, E>(
     requires threads { AllZip IsCallerAt (vec_items ended.threads) (vec_items placed) }
     requires empty { vec_len room ≡ 0 }
     requires room { vec_len ended.worked ≤ vec_capacity room }
-    ensures finished { IfOk result.0 (λ all. AllZip IsFinishOf (vec_items ended.worked) (vec_items all)) }
+    ensures finished { IfOk result.0
+        (λ all. AllZip IsFinishOf (vec_items ended.worked) (vec_items all)) }
     ensures whole { IfOk result.0 (λ all. All (λ w. w.done.whole ≡ true) (vec_items ended.worked)) }
     ensures beside { result.1 ≡ ended.beside }
 {
@@ -175,7 +180,9 @@ where
     requires stations { All IsStation (vec_items stations) }
     requires count { (1 ≤ vec_len stations) × (vec_len stations ≤ 16) }
     requires beside { F.pre beside }
-    ensures finished { IfOk result (λ r. IfOk r.0 (λ all. AllZip (IsFinished D.acts D.answer D.after) (vec_items stations) (vec_items all))) }
+    ensures finished { IfOk result
+        (λ r. IfOk r.0
+        (λ all. AllZip (IsFinished D.acts D.answer D.after) (vec_items stations) (vec_items all))) }
     ensures beside { IfOk result (λ r. F.post beside r.1) }
 {
     let count = stations.len();

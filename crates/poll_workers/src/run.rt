@@ -41,7 +41,9 @@ fn deal_all<D: Drop>(
     pollers: u32,
 ) -> Result<(Dealt<D>, Vec<Finished<D>>), AllocError>
     requires { 1 ≤ pollers }
-    ensures dealt { IfOk result (λ r. IsDealt (vec_items stations) (vec_items r.0.order) (vec_items r.0.mine) (vec_items r.0.others)) }
+    ensures dealt { IfOk result
+        (λ r. IsDealt (vec_items stations) (vec_items r.0.order) (vec_items r.0.mine)
+        (vec_items r.0.others)) }
     ensures room { IfOk result (λ r. (vec_len r.1 ≡ 0) × (vec_len r.0.order ≤ vec_capacity r.1)) }
 {
     let room = Vec::with_capacity(alloc, stations.len())?;
@@ -65,7 +67,8 @@ where
     requires pace { IsLawful setting.now.pace }
     requires stations { All IsStation (vec_items stations) }
     requires count { vec_len stations ≤ 16 }
-    ensures { IfOk result (λ all. AllZip (IsFinished D.acts D.answer D.after) (vec_items stations) (vec_items all)) }
+    ensures { IfOk result
+        (λ all. AllZip (IsFinished D.acts D.answer D.after) (vec_items stations) (vec_items all)) }
 {
     if stations.is_empty() {
         return Ok(Vec::new(alloc));
@@ -85,8 +88,12 @@ where
         return Ok(merge(order, Vec::new(alloc), others, room));
     }
     let later = || -> Result<Vec<Finished<D>>, WorkFault>
-        requires { IsSend R.row × IsSync R.row × IsSend D.row × IsSync G.row × (number + 1 < pollers) × (pollers ≤ 8) × IsLawful setting.now.pace × All IsStation (vec_items others) × (vec_len others ≤ 16) }
-        ensures { IfOk result (λ all. AllZip (IsFinished D.acts D.answer D.after) (vec_items others) (vec_items all)) }
+        requires { IsSend R.row × IsSync R.row × IsSend D.row × IsSync G.row
+            × (number + 1 < pollers) × (pollers ≤ 8) × IsLawful setting.now.pace
+            × All IsStation (vec_items others) × (vec_len others ≤ 16) }
+        ensures { IfOk result
+            (λ all. AllZip (IsFinished D.acts D.answer D.after) (vec_items others)
+            (vec_items all)) }
     { run_crews(setting, alloc, number + 1, pollers, others) };
     let (finished, others) = begun(setting, run_crew(setting, alloc, number, mine, later))?;
     let others = others?;
@@ -119,7 +126,8 @@ where
     requires pollers { (1 ≤ pollers) × (pollers ≤ 8) }
     requires pace { IsLawful pace }
     // Each device made all its acts, each once and in order; what was put was polled or is left.
-    ensures finished { IfOk result (λ all. AllZip (IsFinished D.acts D.answer D.after) (vec_items stations) (vec_items all)) }
+    ensures finished { IfOk result
+        (λ all. AllZip (IsFinished D.acts D.answer D.after) (vec_items stations) (vec_items all)) }
     ensures numbers { IsErrOf result SameNumber ↔ (own_numbers (vec_items stations) ≡ false) }
 {
     if !have_own_numbers(stations.as_slice()) {

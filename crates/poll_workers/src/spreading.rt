@@ -124,7 +124,8 @@ pub(crate) fn spread<'t, 'p, 'n, R: Wait + Drop + Copy, D: Drop, G>(
     requires sides { AllZip IsKeptSideOf (vec_items loose) placed.now }
     requires pace { IsLawful setting.now.pace }
     requires ins { vec_len loose + vec_len loose ≤ vec_len ins }
-    requires room { HasRoom (vec_len loose) room.jobs × HasRoom (vec_len loose) room.seats × HasRoom (vec_len loose) room.sides }
+    requires room { HasRoom (vec_len loose) room.jobs × HasRoom (vec_len loose) room.seats
+        × HasRoom (vec_len loose) room.sides }
     ensures jobs { AllZip IsKeptJobOf (vec_items loose) (vec_items result.jobs) }
     ensures job_places { AllZip IsJobAt placed.now (vec_items result.jobs) }
     ensures seats { AllZip IsSeatAt placed.now (vec_items result.seats) }

@@ -40,7 +40,8 @@ pub struct FqReplayed {
 
 // The settings of these numbers, or the status of the first that is out of its range.
 fn asked_by(settings: &FqSettings) -> Result<Settings, u32>
-    ensures asked { IfOk result (λ s. Asks settings.now s × HasWeight settings.now × HasBudget settings.now) }
+    ensures asked { IfOk result
+        (λ s. Asks settings.now s × HasWeight settings.now × HasBudget settings.now) }
     ensures refused { IfErr result (λ status. Lacks settings.now status) }
 {
     if settings.weight == 0 || settings.weight > 64 {
@@ -55,7 +56,8 @@ fn asked_by(settings: &FqSettings) -> Result<Settings, u32>
 // The report of a trace.
 fn report_of(alloc: Global, settings: &Settings, trace: &[u8]) -> Result<Vec<u8>, ReplayFault>
     ensures report { IfOk result (λ text. replay_of settings.now trace.now ≡ Ok text.items) }
-    ensures fault { IfErr result (λ fault. IsOutside fault ⊎ (replay_of settings.now trace.now ≡ Err fault)) }
+    ensures fault { IfErr result
+        (λ fault. IsOutside fault ⊎ (replay_of settings.now trace.now ≡ Err fault)) }
 {
     let mut text = Vec::new(alloc);
     match replay_serial(alloc, trace, &mut text, settings) {
@@ -106,9 +108,12 @@ pub extern "C" fn fq_replay(
     replayed: &mut FqReplayed,
 ) -> u32
     // What is written is the report of the bytes of the trace by these settings, and a fault is theirs.
-    ensures written { result ≡ OK → IsReport settings.now trace.now (take replayed.new.length report.new) }
-    ensures no_room { result ≡ NO_ROOM → (text : List ℕ) × IsReport settings.now trace.now text × (replayed.new.length ≡ length text) × (length report.old < length text) }
-    ensures fault { result ≡ BAD_TRACE → (fault : ReplayFault) × IsFault settings.now trace.now fault × Tells fault replayed.new }
+    ensures written { result ≡ OK
+        → IsReport settings.now trace.now (take replayed.new.length report.new) }
+    ensures no_room { result ≡ NO_ROOM → (text : List ℕ) × IsReport settings.now trace.now text
+        × (replayed.new.length ≡ length text) × (length report.old < length text) }
+    ensures fault { result ≡ BAD_TRACE → (fault : ReplayFault)
+        × IsFault settings.now trace.now fault × Tells fault replayed.new }
 
     // Settings are refused exactly where they are out of their ranges, and then and by every fault nothing is written.
     ensures weight { (result ≡ BAD_WEIGHT) ↔ ¬ HasWeight settings.now }

@@ -37,9 +37,11 @@ struct Bed {
 }
 
 fn pop(rt: &impl Abort, napi: &Napi, callers: &mut Vec<Caller>) -> Caller
-    requires { (k : ℕ) (c : Caller) → slice_get callers.old.items k ≡ Some c → IsSeatOf napi.now c.pass }
+    requires { (k : ℕ) (c : Caller) → slice_get callers.old.items k ≡ Some c
+        → IsSeatOf napi.now c.pass }
     ensures caller { IsSeatOf napi.now result.pass }
-    ensures left { (k : ℕ) (c : Caller) → slice_get callers.new.items k ≡ Some c → IsSeatOf napi.now c.pass }
+    ensures left { (k : ℕ) (c : Caller) → slice_get callers.new.items k ≡ Some c
+        → IsSeatOf napi.now c.pass }
 {
     let popped = callers.pop();
     let Some(caller) = popped else {
@@ -49,7 +51,8 @@ fn pop(rt: &impl Abort, napi: &Napi, callers: &mut Vec<Caller>) -> Caller
 }
 
 fn make_bed(rt: &impl Abort, alloc: Global, bytes: &[u32]) -> Bed
-    ensures { (ctx : RxCtx) × (ring_of_instance result.napi ≡ ring_name ctx) × IsOneRing result.input ctx }
+    ensures { (ctx : RxCtx) × (ring_of_instance result.napi ≡ ring_name ctx)
+        × IsOneRing result.input ctx }
 {
     let made = ring(alloc, 8);
     let Ok((mut input, ctx)) = made else {

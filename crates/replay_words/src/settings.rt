@@ -36,7 +36,9 @@ impl Settings {
 
     /// The settings of these numbers, or `None` exactly where one is out of its range.
     pub fn new(pollers: u32, budget: u32, weight: u32, window: u32) -> Option<Settings>
-        ensures lawful { IsSome result ↔ (((1 ≤ pollers) × (pollers ≤ 8)) × ((1 ≤ budget) × (budget ≤ 65535)) × ((1 ≤ weight) × (weight ≤ 64)) × ((1 ≤ window) × (window ≤ 65535))) }
+        ensures lawful { IsSome result
+            ↔ (((1 ≤ pollers) × (pollers ≤ 8)) × ((1 ≤ budget) × (budget ≤ 65535))
+            × ((1 ≤ weight) × (weight ≤ 64)) × ((1 ≤ window) × (window ≤ 65535))) }
         ensures pollers { IfSome result (λ s. s.pollers ≡ pollers) }
         ensures budget { IfSome result (λ s. s.budget ≡ budget) }
         ensures weight { IfSome result (λ s. s.weight ≡ weight) }

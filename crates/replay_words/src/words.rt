@@ -162,7 +162,8 @@ fn has_stray(words: &[String]) -> bool
 
 // The program's name, and then the words.
 fn with_name<'a>(alloc: Global, words: &'a [String]) -> Result<Vec<&'a str>, AllocError>
-    ensures { IfOk result (λ v. map (λ s. s.now) v.items ≡ codes "napi_replay" ∷ map string_bytes words.now) }
+    ensures { IfOk result
+        (λ v. map (λ s. s.now) v.items ≡ codes "napi_replay" ∷ map string_bytes words.now) }
 {
     let mut all = Vec::new(alloc);
     all.push("napi_replay")?;
@@ -174,7 +175,8 @@ fn with_name<'a>(alloc: Global, words: &'a [String]) -> Result<Vec<&'a str>, All
 
 // What the words ask for, by clap.
 fn read_words(alloc: Global, words: &[String]) -> Result<(Mode, Settings), WordFault>
-    ensures asked { IfOk result (λ asked. read_by_clap (map string_bytes words.now) ≡ Some (asked_of asked)) }
+    ensures asked { IfOk result
+        (λ asked. read_by_clap (map string_bytes words.now) ≡ Some (asked_of asked)) }
     ensures usage { result ≡ Err Usage → read_by_clap (map string_bytes words.now) ≡ None }
 {
     let Ok(all) = with_name(alloc, words) else {
@@ -202,7 +204,8 @@ fn read_words(alloc: Global, words: &[String]) -> Result<(Mode, Settings), WordF
 /// [`WordFault::Usage`] where the words aren't so, `--help` among them. [`WordFault::OutOfMemory`] where memory was
 /// refused, whatever the words are.
 pub fn parse_words(alloc: Global, words: &[String]) -> Result<(Mode, Settings), WordFault>
-    ensures asked { IfOk result (λ asked. asked_for (map string_bytes words.now) ≡ Some (asked_of asked)) }
+    ensures asked { IfOk result
+        (λ asked. asked_for (map string_bytes words.now) ≡ Some (asked_of asked)) }
     ensures usage { result ≡ Err Usage → asked_for (map string_bytes words.now) ≡ None }
 {
     if has_stray(words) {
@@ -219,7 +222,9 @@ pub fn parse_words(alloc: Global, words: &[String]) -> Result<(Mode, Settings), 
 /// [`WordFault::Usage`] where the words aren't so, or name another mode. [`WordFault::OutOfMemory`] where memory was refused,
 /// whatever the words are.
 pub fn parse_serial_words(alloc: Global, words: &[String]) -> Result<Settings, WordFault>
-    ensures asked { IfOk result (λ settings. serial_asked_for (map string_bytes words.now) ≡ Some (asked_of (Serial, settings))) }
+    ensures asked { IfOk result
+        (λ settings. serial_asked_for (map string_bytes words.now)
+        ≡ Some (asked_of (Serial, settings))) }
     ensures usage { result ≡ Err Usage → serial_asked_for (map string_bytes words.now) ≡ None }
 {
     match parse_words(alloc, words) {

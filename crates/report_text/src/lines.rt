@@ -16,7 +16,8 @@ pub fn add_transmit(
     number: u32,
     counts: Option<TxCounts>,
 ) -> Result<(), AllocError>
-    ensures { OnOk result (string_bytes text.new ≡ string_bytes text.old ++ tx_lines number counts) }
+    ensures { OnOk result
+        (string_bytes text.new ≡ string_bytes text.old ++ tx_lines number counts) }
 {
     match counts {
         Some(counts) => add_tx_line(text, number, &counts),
@@ -25,7 +26,8 @@ pub fn add_transmit(
 }
 
 fn add_tx_line(text: &mut String, number: u32, counts: &TxCounts) -> Result<(), AllocError>
-    ensures { OnOk result (string_bytes text.new ≡ string_bytes text.old ++ ended (tx_line number counts.now)) }
+    ensures { OnOk result
+        (string_bytes text.new ≡ string_bytes text.old ++ ended (tx_line number counts.now)) }
 {
     writeln!(
         text,
@@ -45,7 +47,8 @@ fn add_tx_line(text: &mut String, number: u32, counts: &TxCounts) -> Result<(), 
 /// Writes the text of a report, all of it at once. The only fault is [`OutputFailed`](ReplayFault::OutputFailed), after which
 /// it isn't known how much went out.
 pub fn write_text<W: Write>(writer: &mut W, text: &String) -> Result<(), ReplayFault>
-    ensures written { OnOk result (Appends (W.contents writer.old) (W.contents writer.new) (string_bytes text.now)) }
+    ensures written { OnOk result
+        (Appends (W.contents writer.old) (W.contents writer.new) (string_bytes text.now)) }
     ensures fault { IfErr result (λ fault. fault ≡ OutputFailed) }
 {
     match writer.write_all(text.as_bytes()) {

@@ -59,7 +59,8 @@ pub fn given_words(rt: &HostRuntime) -> Result<Vec<String>, ProgramFault> {
 
 // Writes the line of a fault, and says whether it went out.
 fn tell<E: Write>(alloc: Global, fault: &ProgramFault, errors: &mut E) -> bool
-    ensures { result ≡ true → Appends (E.contents errors.old) (E.contents errors.new) (line_of fault.now) }
+    ensures { result ≡ true
+        → Appends (E.contents errors.old) (E.contents errors.new) (line_of fault.now) }
 {
     match fault {
         ProgramFault::Words(fault) => errors.write_all(word_line(fault).as_bytes()).is_ok(),

@@ -119,7 +119,8 @@ fn take_known(consumer: &mut Consumer<Packet>, count: usize, bytes: u64, batch: 
     ensures ring { SameConsumer consumer.old consumer.new }
     ensures batch { batch.new.items ≡ take count (known_items consumer.old) }
     ensures received { received consumer.new ≡ received consumer.old ++ batch.new.items }
-    ensures known { IsPrefix (known_items consumer.old) (batch.new.items ++ known_items consumer.new) }
+    ensures known { IsPrefix (known_items consumer.old)
+        (batch.new.items ++ known_items consumer.new) }
     ensures bytes { result ≡ capped (bytes_of (received consumer.new)) }
 {
     resize(batch, count);

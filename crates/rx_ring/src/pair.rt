@@ -23,7 +23,8 @@ pub const MAX_CAPACITY: usize = 65_536;
 pub fn ring(alloc: Global, capacity: usize) -> Result<(RxIn, RxCtx), RingFault>
     ensures one { IfOk result (λ r. IsOneRing r.0 r.1) }
     ensures capacity { IfOk result (λ r. capacity_of r.0 ≡ capacity) }
-    ensures empty { IfOk result (λ r. (put_list r.0 ≡ []) × (received_list r.1 ≡ []) × (known_list r.1 ≡ [])) }
+    ensures empty { IfOk result
+        (λ r. (put_list r.0 ≡ []) × (received_list r.1 ≡ []) × (known_list r.1 ≡ [])) }
     ensures unpolled { IfOk result (λ r. (polls_of r.1 ≡ 0) × (is_beside r.1 ≡ false)) }
     ensures bad { IsErrOf result BadCapacity ↔ ((capacity ≡ 0) ⊎ (most_places < capacity)) }
     ensures memory { IfErr result (λ e. e ≢ BadCapacity → e ≡ OutOfMemory) }

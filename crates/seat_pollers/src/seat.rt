@@ -65,7 +65,8 @@ impl<'n> Seat<'n> {
     pub(crate) fn poll<R: Wait>(&mut self, rt: &R, weight: u32, batch: &mut Batch) -> Once
         requires weight { (1 ≤ weight) × (weight ≤ 64) }
         ensures same { IsSameSeat self.old self.new }
-        ensures polls { Polls (is_some self.old.thread) weight self.old.caller result batch.new.items self.new.caller }
+        ensures polls { Polls (is_some self.old.thread) weight self.old.caller result
+            batch.new.items self.new.caller }
         ensures work { result.work ≤ weight }
     {
         let Some(caller) = mem::replace(&mut self.caller, None) else {
@@ -102,7 +103,8 @@ impl<'n> Seat<'n> {
         requires weight { (1 ≤ weight) × (weight ≤ 64) }
         requires most { (1 ≤ most) × (most ≤ 131072) }
         ensures same { IsSameSeat self.old self.new }
-        ensures polls { PollsByThread weight most self.old.caller result batch.new.items self.new.caller }
+        ensures polls { PollsByThread weight most self.old.caller result batch.new.items
+            self.new.caller }
     {
         let Some(caller) = mem::replace(&mut self.caller, None) else {
             return ThreadReport {

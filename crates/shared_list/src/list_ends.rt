@@ -91,10 +91,15 @@ pub struct ListBack<R> {
 
 // Takes the ends back, one after the other.
 fn take_back<R: Drop>(queue: &PushQueue, pass: &mut EndPass, ins: Vec<ListIn<R>>)
-    requires pass { IsPassOf queue.now pass.old × ((view pass.old).polls ≡ true) × (view pass.old ≡ poller (view pass.old).made (view pass.old).pushed (view pass.old).popped (view pass.old).returned) }
+    requires pass { IsPassOf queue.now pass.old × ((view pass.old).polls ≡ true)
+        × (view pass.old
+        ≡ poller (view pass.old).made (view pass.old).pushed (view pass.old).popped
+        (view pass.old).returned) }
     requires ins { All (λ i. i.pass.table_id ≡ queue.now.table.shared.table_id) ins.items }
     ensures pass { IsPassOf queue.now pass.new }
-    ensures returned { view pass.new ≡ poller (view pass.old).made (view pass.old).pushed (view pass.old).popped ((view pass.old).returned ++ map as_returned ins.items) }
+    ensures returned { view pass.new
+        ≡ poller (view pass.old).made (view pass.old).pushed (view pass.old).popped
+        ((view pass.old).returned ++ map as_returned ins.items) }
 {
     for end in ins {
         let ListIn {
@@ -116,9 +121,12 @@ fn drain<R: Wait>(
 )
     requires pass { IsPassOf queue.now pass.old × ((view pass.old).polls ≡ true) }
     requires returned { (view pass.old).made ≤ length (view pass.old).returned + 1 }
-    requires few { length into.old + (length (view pass.old).pushed + returned_pushes (view pass.old).returned) ≤ 64 + length (view pass.old).popped }
+    requires few { length into.old
+        + (length (view pass.old).pushed + returned_pushes (view pass.old).returned) ≤ 64
+        + length (view pass.old).popped }
     ensures pass { IsPassOf queue.now pass.new }
-    ensures popped { (fresh : List ℕ) × (into.new ≡ into.old ++ fresh) × PopsMore (view pass.old) fresh (view pass.new) }
+    ensures popped { (fresh : List ℕ) × (into.new ≡ into.old ++ fresh)
+        × PopsMore (view pass.old) fresh (view pass.new) }
     ensures empty { WasEmpty (view pass.new) }
 {
     fill(rt, queue, pass, pops, into, 64);
@@ -137,8 +145,11 @@ pub fn end_list<R: Wait + Drop>(
 ) -> Result<SoftList, ListBack<R>>
     requires ins { All (λ i. IsInOf list i) ins.items }
     requires few { AreFew list ins.items }
-    ensures ok { IfOk result (λ soft. (left : List ℕ) × (order : List Push) × (soft ≡ in_hand list ++ left) × IsOneOrder list ins.items left order) }
-    ensures back { IfErr result (λ b. (b.list ≡ list) × (b.ins.items ≡ ins.items) × (b.fault ≡ NotAll)) }
+    ensures ok { IfOk result
+        (λ soft. (left : List ℕ) × (order : List Push) × (soft ≡ in_hand list ++ left)
+        × IsOneOrder list ins.items left order) }
+    ensures back { IfErr result
+        (λ b. (b.list ≡ list) × (b.ins.items ≡ ins.items) × (b.fault ≡ NotAll)) }
     ensures when { IsErr result ↔ (length ins.items < pushers_of list) }
 {
     if ins.len() < list.pushers as usize {

@@ -40,7 +40,8 @@ impl<R: Wait> ListIn<R> {
 pub(crate) fn push_waiting<R: Wait>(rt: &R, queue: &PushQueue, pass: &mut EndPass, id: u32)
     requires pass { IsPassOf queue.now pass.old × ((view pass.old).live ≡ true) }
     ensures pass { IsPassOf queue.now pass.new × (pass.new.table_id ≡ pass.old.table_id) }
-    ensures pushed { view pass.new ≡ record (view pass.old) { pushed = (view pass.old).pushed ++ id ∷ [] } }
+    ensures pushed { view pass.new
+        ≡ record (view pass.old) { pushed = (view pass.old).pushed ++ id ∷ [] } }
 {
     for _ in rt.forever() {
         if queue.push_as::<PushedLast, R>(rt, pass, id).is_ok() {

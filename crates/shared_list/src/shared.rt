@@ -42,7 +42,8 @@ pub(crate) fn fill<R: Wait>(
     requires pass { IsPassOf queue.now pass.old × ((view pass.old).polls ≡ true) }
     requires most { most ≤ 64 }
     ensures pass { IsPassOf queue.now pass.new × (pass.new.table_id ≡ pass.old.table_id) }
-    ensures popped { (fresh : List ℕ) × (into.new ≡ into.old ++ fresh) × PopsMore (view pass.old) fresh (view pass.new) }
+    ensures popped { (fresh : List ℕ) × (into.new ≡ into.old ++ fresh)
+        × PopsMore (view pass.old) fresh (view pass.new) }
     ensures most { length into.old ≤ most → length into.new ≤ most }
     ensures all { length into.new < most → WasEmpty (view pass.new) }
     ensures empty { length into.new < most → CountsOne pops.old pops.new }
@@ -58,7 +59,8 @@ pub(crate) fn fill<R: Wait>(
 // Pushes a number of the poller's own. Where the queue is full its first number goes into the poller's hands: nobody else
 // makes room, so a push that waited would wait for itself.
 fn push_own<R: Wait>(rt: &R, queue: &PushQueue, pass: &mut EndPass, hand: &mut SoftList, id: u32)
-    requires pass { IsPassOf queue.now pass.old × ((view pass.old).live ≡ true) × ((view pass.old).polls ≡ true) }
+    requires pass { IsPassOf queue.now pass.old × ((view pass.old).live ≡ true)
+        × ((view pass.old).polls ≡ true) }
     requires place { length hand.old < 64 }
     ensures pass { IsPassOf queue.now pass.new × (pass.new.table_id ≡ pass.old.table_id) }
     ensures pushed { (came : List ℕ) × (length came ≤ 1) × (hand.new ≡ hand.old ++ came)
@@ -93,7 +95,8 @@ impl<R: Wait> PollList for SharedList<R> {
     /// Takes what is in the poller's hands, and then pops until the queue is empty or 64 are taken.
     fn splice(&mut self, to: &mut SoftList) -> usize
         requires { to.old ≡ [] }
-        ensures given { (came : List ℕ) × PopsCame self.old [] came self.new × (to.new ≡ in_hand self.old ++ came) }
+        ensures given { (came : List ℕ) × PopsCame self.old [] came self.new
+            × (to.new ≡ in_hand self.old ++ came) }
         ensures nothing_kept { in_hand self.new ≡ [] }
         ensures all { IsAllPopped to.new self.new }
         ensures count { result ≡ length to.new }
@@ -117,7 +120,8 @@ impl<R: Wait> PollList for SharedList<R> {
     /// be repolled, and these last.
     fn put_back(&mut self, mut rest: SoftList, repoll: SoftList)
         requires { HandsHaveRoom self.old (length rest + length repoll) }
-        ensures back { (came : List ℕ) × PopsCame self.old [] came self.new × (in_hand self.new ≡ rest ++ (in_hand self.old ++ came) ++ repoll) }
+        ensures back { (came : List ℕ) × PopsCame self.old [] came self.new
+            × (in_hand self.new ≡ rest ++ (in_hand self.old ++ came) ++ repoll) }
         ensures all { IsAllPopped (in_hand self.new) self.new }
         ensures empty { length (in_hand self.new) < 64 → FindsEmpty self.old self.new }
     {

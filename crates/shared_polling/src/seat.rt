@@ -48,7 +48,8 @@ fn kind_for(flags: Flags) -> Kind
 /// if THREADED is seen, and else to the list. Answers to whom; handed to the list, its number is still to be pushed.
 pub fn hand_over(napi: &Napi, mut granted: Granted, thread: bool) -> (Caller, Kind)
     requires { IsSeatOf napi.now granted.pass }
-    ensures made { (os : List Operation) × Made granted.pass os result.0.pass × HandsTo thread result.1 os }
+    ensures made { (os : List Operation) × Made granted.pass os result.0.pass
+        × HandsTo thread result.1 os }
     ensures packets { Quiet granted.pass result.0.pass }
 {
     if !thread {
@@ -62,7 +63,8 @@ pub fn hand_over(napi: &Napi, mut granted: Granted, thread: bool) -> (Caller, Ki
 // Completes the instance, and hands it over where it is granted again; to whom.
 fn complete<R: Wait>(rt: &R, napi: &Napi, polling: Polling, thread: bool) -> (Caller, Option<Kind>)
     requires { IsSeatOf napi.now polling.pass }
-    ensures made { (os : List Operation) × Made polling.pass os result.0.pass × EndsBy thread (next_of result.1) os }
+    ensures made { (os : List Operation) × Made polling.pass os result.0.pass
+        × EndsBy thread (next_of result.1) os }
     ensures packets { Delivers polling.pass (polled polling.pass polling.ctx) result.0.pass }
 {
     match polling.complete(rt, napi) {
@@ -100,7 +102,8 @@ impl<'a, R: Wait> Seat<'a, R> {
     /// What is counted of the polls of the instance so far.
     pub fn counts(&self) -> RxCounts
         requires { seat_in_hand self.now }
-        ensures { (polling : Polling) → self.now.hold ≡ Polls polling → result ≡ counts_of (polls_of polling.ctx) (received_list polling.ctx) }
+        ensures { (polling : Polling) → self.now.hold ≡ Polls polling
+            → result ≡ counts_of (polls_of polling.ctx) (received_list polling.ctx) }
     {
         match &self.hold {
             Hold::Polls(polling) => polling.counts(),

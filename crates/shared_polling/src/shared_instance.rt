@@ -38,7 +38,8 @@ pub fn poll_instance<R: Wait>(
     requires seat { IsSeatOf napi.now caller.pass }
     requires weight { (1 ≤ weight) × (weight ≤ 64) }
     ensures seat { SameSeat caller.pass result.0.pass }
-    ensures made { (os : List Operation) × Made caller.pass os result.0.pass × PollsOnceBy thread (result.1.work == weight) result.1.next os }
+    ensures made { (os : List Operation) × Made caller.pass os result.0.pass
+        × PollsOnceBy thread (result.1.work == weight) result.1.next os }
     ensures packets { Delivers caller.pass batch.new.items result.0.pass }
     ensures absent { result.1.next ≡ Absent → batch.new.items ≡ [] }
     ensures work { result.1.work ≡ length batch.new.items }

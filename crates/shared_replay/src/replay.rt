@@ -55,7 +55,8 @@ pub fn replay_shared<H: Wait + Copy + Drop, R: Read + Drop, W: Write>(
     // A fault is that of the bytes read, unless the reader, the memory or the writer failed.
     ensures fault { IfErr result (λ fault. (bytes : List ℕ) → R.remaining reader ≡ Some bytes
         → IsOutside fault ⊎ IsFaultOf (trace_of (records_of bytes)) fault) }
-    ensures untouched { IfErr result (λ fault. fault ≢ OutputFailed → Keeps (W.contents writer.old) (W.contents writer.new)) }
+    ensures untouched { IfErr result
+        (λ fault. fault ≢ OutputFailed → Keeps (W.contents writer.old) (W.contents writer.new)) }
 {
     let trace = read_trace(alloc, reader)?;
     let text = report_rows(rt, alloc, settings, trace.version(), trace.rows())?;

@@ -79,10 +79,12 @@ const OPENED: DeviceCounts = DeviceCounts {
 // The next caller, of an instance's callers.
 fn pop(napi: &Napi, callers: &mut Vec<Caller>) -> Caller
     requires some { 1 ≤ length callers.old.items }
-    requires seats { (k : ℕ) (c : Caller) → slice_get callers.old.items k ≡ Some c → IsSeatOf napi.now c.pass }
+    requires seats { (k : ℕ) (c : Caller) → slice_get callers.old.items k ≡ Some c
+        → IsSeatOf napi.now c.pass }
     ensures caller { IsSeatOf napi.now result.pass }
     ensures left { length callers.new.items + 1 ≡ length callers.old.items }
-    ensures seats { (k : ℕ) (c : Caller) → slice_get callers.new.items k ≡ Some c → IsSeatOf napi.now c.pass }
+    ensures seats { (k : ℕ) (c : Caller) → slice_get callers.new.items k ≡ Some c
+        → IsSeatOf napi.now c.pass }
     ensures room { vec_capacity callers.new ≡ vec_capacity callers.old }
 {
     let popped = callers.pop();
@@ -94,7 +96,8 @@ fn pop(napi: &Napi, callers: &mut Vec<Caller>) -> Caller
 fn ask<R: Wait>(rt: &R, napi: &Napi, caller: Caller) -> (Caller, Prep, Option<Kind>)
     requires { IsSeatOf napi.now caller.pass }
     ensures seat { IsSeatOf napi.now result.0.pass }
-    ensures asks { (os : List Operation) × Made caller.pass os result.0.pass × AsksBy result.1 result.2 os }
+    ensures asks { (os : List Operation) × Made caller.pass os result.0.pass
+        × AsksBy result.1 result.2 os }
 {
     match caller.schedule(rt, napi) {
         Sched::Granted(granted) => {
@@ -182,8 +185,10 @@ impl<R: Wait + Copy + Drop> SharedDevice<R> {
         ensures rest { IsAtRest self.new }
         ensures polls { (self.new.poller ≡ self.old.poller) × (self.new.thread ≡ self.old.thread) }
         ensures input { self.new.input ≡ self.old.input }
-        ensures looks { (x : Seen) × MakesAt self.old.interrupt (Look x ∷ []) self.new.interrupt × (self.new.told ≡ record self.old.told { word = word_of x }) }
-        ensures setting { (self.new.threaded ≡ self.old.threaded) × (self.new.control ≡ self.old.control) }
+        ensures looks { (x : Seen) × MakesAt self.old.interrupt (Look x ∷ []) self.new.interrupt
+            × (self.new.told ≡ record self.old.told { word = word_of x }) }
+        ensures setting { (self.new.threaded ≡ self.old.threaded)
+            × (self.new.control ≡ self.old.control) }
     {
         let mut caller = take_out(&mut self.interrupt);
         self.told.word = encode(caller.look(&self.napi));
@@ -194,10 +199,12 @@ impl<R: Wait + Copy + Drop> SharedDevice<R> {
     fn put(&mut self, bytes: u32) -> bool
         requires { IsAtRest self.old }
         ensures rest { IsAtRest self.new }
-        ensures puts { (p : Packet) × (p.bytes ≡ bytes) × Puts p (put_list self.old.input) result (put_list self.new.input) }
+        ensures puts { (p : Packet) × (p.bytes ≡ bytes)
+            × Puts p (put_list self.old.input) result (put_list self.new.input) }
         ensures told { self.new.told ≡ packet_told result self.old.told }
         ensures callers { self.new.interrupt ≡ self.old.interrupt }
-        ensures setting { (self.new.threaded ≡ self.old.threaded) × (self.new.control ≡ self.old.control) }
+        ensures setting { (self.new.threaded ≡ self.old.threaded)
+            × (self.new.control ≡ self.old.control) }
     {
         self.told.arrived = self.told.arrived.saturating_add(1);
         let packet = Packet {
@@ -217,9 +224,12 @@ impl<R: Wait + Copy + Drop> SharedDevice<R> {
     fn schedule(&mut self) -> Option<Kind>
         requires { IsAtRest self.old }
         ensures rest { IsAtRest self.new }
-        ensures asks { (prep : Prep) × (os : List Operation) × MakesAt self.old.interrupt os self.new.interrupt × AsksBy prep result os × (self.new.told ≡ requested prep self.old.told) }
+        ensures asks { (prep : Prep) × (os : List Operation)
+            × MakesAt self.old.interrupt os self.new.interrupt × AsksBy prep result os
+            × (self.new.told ≡ requested prep self.old.told) }
         ensures input { self.new.input ≡ self.old.input }
-        ensures setting { (self.new.threaded ≡ self.old.threaded) × (self.new.control ≡ self.old.control) }
+        ensures setting { (self.new.threaded ≡ self.old.threaded)
+            × (self.new.control ≡ self.old.control) }
     {
         let caller = take_out(&mut self.interrupt);
         let (caller, prep, kind) = ask(&self.rt, &self.napi, caller);
@@ -233,7 +243,8 @@ impl<R: Wait + Copy + Drop> SharedDevice<R> {
         requires { IsAtRest self.old }
         ensures rest { IsAtRest self.new }
         ensures packet { Arrives bytes self.old result self.new }
-        ensures setting { (self.new.threaded ≡ self.old.threaded) × (self.new.control ≡ self.old.control) }
+        ensures setting { (self.new.threaded ≡ self.old.threaded)
+            × (self.new.control ≡ self.old.control) }
     {
         if !self.put(bytes) {
             return None;
@@ -307,8 +318,10 @@ impl<R: Wait + Copy + Drop> SharedDevice<R> {
         requires { HasNoControl self.old control }
         ensures rest { IsAtRest self.new }
         ensures control { self.new.control ≡ Some control }
-        ensures told { but_word self.new.told ≡ but_word (record self.old.told { state = state_at control }) }
-        ensures others { (self.new.threaded ≡ self.old.threaded) × (self.new.input ≡ self.old.input) }
+        ensures told { but_word self.new.told
+            ≡ but_word (record self.old.told { state = state_at control }) }
+        ensures others { (self.new.threaded ≡ self.old.threaded)
+            × (self.new.input ≡ self.old.input) }
     {
         self.told.state = state_of(&control);
         put_back(&mut self.control, control);
@@ -319,8 +332,10 @@ impl<R: Wait + Copy + Drop> SharedDevice<R> {
     pub(crate) fn disable(&mut self)
         requires { IsAtRest self.old }
         ensures rest { IsAtRest self.new }
-        ensures disables { ControlsAt MarksBy self.old.control self.old.told self.new.control self.new.told }
-        ensures others { (self.new.threaded ≡ self.old.threaded) × (self.new.input ≡ self.old.input) }
+        ensures disables { ControlsAt MarksBy self.old.control self.old.told self.new.control
+            self.new.told }
+        ensures others { (self.new.threaded ≡ self.old.threaded)
+            × (self.new.input ≡ self.old.input) }
     {
         let control = marked(&self.napi, take_out(&mut self.control));
         self.put_control(control);
@@ -330,9 +345,11 @@ impl<R: Wait + Copy + Drop> SharedDevice<R> {
     pub(crate) fn settle(&mut self) -> bool
         requires { IsAtRest self.old }
         ensures rest { IsAtRest self.new }
-        ensures tries { ControlsAt TriesBy self.old.control self.old.told self.new.control self.new.told }
+        ensures tries { ControlsAt TriesBy self.old.control self.old.told self.new.control
+            self.new.told }
         ensures pending { result ≡ is_pending self.new.told.state }
-        ensures others { (self.new.threaded ≡ self.old.threaded) × (self.new.input ≡ self.old.input) }
+        ensures others { (self.new.threaded ≡ self.old.threaded)
+            × (self.new.input ≡ self.old.input) }
     {
         let control = tried(&self.napi, take_out(&mut self.control));
         self.put_control(control);
@@ -350,8 +367,11 @@ impl<R: Wait + Copy + Drop> SharedDevice<R> {
     pub(crate) fn enable(&mut self)
         requires { IsAtRest self.old }
         ensures rest { IsAtRest self.new }
-        ensures enables { ControlsAt (EnablesBy self.old.threaded) self.old.control self.old.told self.new.control self.new.told }
-        ensures others { (self.new.threaded ≡ self.old.threaded) × (self.new.input ≡ self.old.input) }
+        ensures enables { ControlsAt
+            (EnablesBy self.old.threaded) self.old.control self.old.told self.new.control
+            self.new.told }
+        ensures others { (self.new.threaded ≡ self.old.threaded)
+            × (self.new.input ≡ self.old.input) }
     {
         let control = enabled(
             &self.rt,
@@ -367,8 +387,10 @@ impl<R: Wait + Copy + Drop> SharedDevice<R> {
         requires { IsAtRest self.old }
         ensures rest { IsAtRest self.new }
         ensures kept { self.new.threaded ≡ threaded }
-        ensures written { (x : Seen) × MakesAt self.old.interrupt (SetThreaded threaded ∷ Look x ∷ []) self.new.interrupt }
-        ensures others { (self.new.control ≡ self.old.control) × (self.new.input ≡ self.old.input) × (but_word self.new.told ≡ but_word self.old.told) }
+        ensures written { (x : Seen)
+            × MakesAt self.old.interrupt (SetThreaded threaded ∷ Look x ∷ []) self.new.interrupt }
+        ensures others { (self.new.control ≡ self.old.control) × (self.new.input ≡ self.old.input)
+            × (but_word self.new.told ≡ but_word self.old.told) }
     {
         self.threaded = threaded;
         let mut caller = take_out(&mut self.interrupt);
@@ -404,7 +426,9 @@ impl<R: Wait + Copy + Drop> SharedDevice<R> {
         requires most { IsWithin 1 131072 most }
         ensures rest { IsAtRest self.new }
         ensures input { self.new.input ≡ self.old.input }
-        ensures report { (polls : List Once) × ArePollsOf weight most self.old.thread polls batch.new.items self.new.thread × IsThreadPolling weight most polls result }
+        ensures report { (polls : List Once)
+            × ArePollsOf weight most self.old.thread polls batch.new.items self.new.thread
+            × IsThreadPolling weight most polls result }
     {
         batch.clear();
         let caller = take_out(&mut self.thread);
@@ -424,9 +448,11 @@ impl<R: Wait + Copy + Drop> SharedDevice<R> {
         requires rounds { IsWithin 1 65535 rounds }
         ensures rest { IsAtRest self.new }
         ensures input { self.new.input ≡ self.old.input }
-        ensures polls { IsBusyPollOf weight rounds self.old.poller result batch.new.items self.new.poller }
+        ensures polls { IsBusyPollOf weight rounds self.old.poller result batch.new.items
+            self.new.poller }
         ensures told { but_word self.new.told ≡ but_word (busy_told result self.old.told) }
-        ensures setting { (self.new.threaded ≡ self.old.threaded) × (self.new.control ≡ self.old.control) }
+        ensures setting { (self.new.threaded ≡ self.old.threaded)
+            × (self.new.control ≡ self.old.control) }
     {
         let caller = take_out(&mut self.poller);
         let (caller, report) = busy_instance(&self.rt, &self.napi, caller, rounds, weight, batch);

@@ -89,7 +89,9 @@ impl<R: Wait + Copy + Drop> Station<R> {
         requires weight { IsWithin 1 64 weight }
         requires most { IsWithin 1 131072 most }
         ensures rest { IsAtRest self.new.device }
-        ensures report { (polls : List Once) × IsThreadPolling weight most polls result × (count self.new.listed ≡ count self.old.listed + count (is_left_to_list (last_next polls))) }
+        ensures report { (polls : List Once) × IsThreadPolling weight most polls result
+            × (count self.new.listed ≡ count self.old.listed
+            + count (is_left_to_list (last_next polls))) }
     {
         if self.listed {
             return NOT_THERE;
@@ -105,7 +107,8 @@ impl<R: Wait + Copy + Drop> Station<R> {
         requires weight { IsWithin 1 64 weight }
         requires rounds { IsWithin 1 65535 rounds }
         ensures rest { IsAtRest self.new.device }
-        ensures listed { count self.new.listed ≡ count self.old.listed + count (is_left_to_list result.next) }
+        ensures listed { count self.new.listed ≡ count self.old.listed
+            + count (is_left_to_list result.next) }
     {
         if self.listed {
             return BusyReport::NONE;

@@ -57,7 +57,9 @@ fn no_scripts(alloc: Global) -> Result<Vec<Vec<Row>>, AllocError>
 // Adds a row to the script of its device, unless it opens that.
 fn deal(row: &Row, scripts: &mut Vec<Vec<Row>>) -> Result<(), AllocError>
     requires { vec_len scripts.old ≡ 16 }
-    ensures scripts { OnOk result ((rows : List Row) → AreScripts (lists scripts.old) rows → AreScripts (lists scripts.new) (rows ++ row.now ∷ [])) }
+    ensures scripts { OnOk result
+        ((rows : List Row) → AreScripts (lists scripts.old) rows
+        → AreScripts (lists scripts.new) (rows ++ row.now ∷ [])) }
     ensures count { vec_len scripts.new ≡ 16 }
 {
     if is_open(row) || row.device == 0 || row.device >= PLACES {

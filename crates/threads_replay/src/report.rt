@@ -25,7 +25,8 @@ fn add_end(text: &mut String, end: &Finished<ScriptDevice>) -> Result<(), AllocE
 }
 
 fn add_ends(text: &mut String, ends: &[Finished<ScriptDevice>]) -> Result<(), AllocError>
-    ensures { OnOk result (string_bytes text.new ≡ string_bytes text.old ++ flat_map end_lines ends.now) }
+    ensures { OnOk result
+        (string_bytes text.new ≡ string_bytes text.old ++ flat_map end_lines ends.now) }
 {
     for end in ends {
         add_end(text, end)?;
@@ -34,7 +35,8 @@ fn add_ends(text: &mut String, ends: &[Finished<ScriptDevice>]) -> Result<(), Al
 }
 
 fn add_total(text: &mut String, devices: usize) -> Result<(), AllocError>
-    ensures { OnOk result (string_bytes text.new ≡ string_bytes text.old ++ ended (total_line devices)) }
+    ensures { OnOk result
+        (string_bytes text.new ≡ string_bytes text.old ++ ended (total_line devices)) }
 {
     writeln!(text, "total devices {devices}")?;
     Ok(())
@@ -45,7 +47,8 @@ pub(crate) fn report_of(
     alloc: Global,
     ends: &[Finished<ScriptDevice>],
 ) -> Result<String, AllocError>
-    ensures { (rows : List Row) → AllZip (IsEndOf rows) (opened rows) ends.now → IfOk result (λ text. string_bytes text ≡ threads_report rows) }
+    ensures { (rows : List Row) → AllZip (IsEndOf rows) (opened rows) ends.now
+        → IfOk result (λ text. string_bytes text ≡ threads_report rows) }
 {
     let mut text = String::new(alloc);
     add_ends(&mut text, ends)?;

@@ -104,7 +104,8 @@ fn play(row: Row, packets: &mut u64, transmit: &mut Transmit) -> Act
     requires { packets.old < 2 ^ 63 }
     ensures act { result ≡ act_of (packets.old + 1) row.event row.value }
     ensures packets { packets.new ≡ packets.old + length (rx_of (row ∷ [])) }
-    ensures transmit { (view : TransmitView) → ShowsTransmit transmit.old view → ShowsTransmit transmit.new (transmit_by row.event row view) }
+    ensures transmit { (view : TransmitView) → ShowsTransmit transmit.old view
+        → ShowsTransmit transmit.new (transmit_by row.event row view) }
 {
     match row.event {
         Event::Rx => {

@@ -35,7 +35,9 @@ fn station_of(
     requires places { IsWithin 1 65536 opening.value }
     requires count { length script.items ≤ 100000 }
     requires number { IsWithin 1 16 number }
-    ensures station { (rows : List Row) → opening_of number rows ≡ Some opening → script.items ≡ script_of number rows → IfOk result (λ station. IsStationOf rows number station) }
+    ensures station { (rows : List Row) → opening_of number rows ≡ Some opening
+        → script.items ≡ script_of number rows
+        → IfOk result (λ station. IsStationOf rows number station) }
     ensures lawful { IfOk result (λ station. IsStation station) }
 {
     let device = ScriptDevice::of(alloc, opening, script)?;
@@ -55,13 +57,17 @@ fn add_station(
     script: Vec<Row>,
     stations: &mut Vec<Station<ScriptDevice>>,
 ) -> Result<(), AllocError>
-    requires places { (opening : Row) → opening_of number openings.now ≡ Some opening → IsWithin 1 65536 opening.value }
+    requires places { (opening : Row) → opening_of number openings.now ≡ Some opening
+        → IsWithin 1 65536 opening.value }
     requires count { length script.items ≤ 100000 }
     requires number { IsWithin 1 16 number }
-    ensures stations { OnOk result ((rows : List Row) → opening_of number openings.now ≡ opening_of number rows → script.items ≡ script_of number rows
+    ensures stations { OnOk result
+        ((rows : List Row) → opening_of number openings.now ≡ opening_of number rows
+        → script.items ≡ script_of number rows
         → (devices : List ℕ) → AllZip (IsStationOf rows) devices (vec_items stations.old)
         → AllZip (IsStationOf rows) (devices ++ filter (is_opened rows) (number ∷ [])) (vec_items stations.new)) }
-    ensures lawful { OnOk result (All IsStation (vec_items stations.old) → All IsStation (vec_items stations.new)) }
+    ensures lawful { OnOk result
+        (All IsStation (vec_items stations.old) → All IsStation (vec_items stations.new)) }
     ensures count { OnOk result (vec_len stations.new ≤ vec_len stations.old + 1) }
 {
     if let Some(opening) = opening_of(openings, number) {
@@ -74,7 +80,8 @@ fn add_station(
 fn stations_of(alloc: Global, rows: &[Row]) -> Result<Vec<Station<ScriptDevice>>, AllocError>
     requires accepted { AcceptedAfter [] rows.now }
     requires count { length rows.now ≤ 100000 }
-    ensures stations { IfOk result (λ stations. AllZip (IsStationOf rows.now) (opened rows.now) (vec_items stations)) }
+    ensures stations { IfOk result
+        (λ stations. AllZip (IsStationOf rows.now) (opened rows.now) (vec_items stations)) }
     ensures lawful { IfOk result (λ stations. All IsStation (vec_items stations)) }
     ensures count { IfOk result (λ stations. vec_len stations ≤ 16) }
 {
@@ -137,7 +144,8 @@ where
     requires stations { All IsStation (vec_items stations) }
     requires numbers { own_numbers (vec_items stations) ≡ true }
     requires count { vec_len stations ≤ 16 }
-    ensures ends { IfOk result (λ all. AllZip (IsFinished acts answer after) (vec_items stations) (vec_items all)) }
+    ensures ends { IfOk result
+        (λ all. AllZip (IsFinished acts answer after) (vec_items stations) (vec_items all)) }
     ensures fault { IfErr result (λ fault. IsOutside fault) }
 {
     let pace = Pace {
@@ -164,7 +172,8 @@ where
     G: Gate + Sync,
     requires accepted { AcceptedAfter [] rows.now }
     requires count { length rows.now ≤ 100000 }
-    ensures ends { IfOk result (λ all. AllZip (IsEndOf rows.now) (opened rows.now) (vec_items all)) }
+    ensures ends { IfOk result
+        (λ all. AllZip (IsEndOf rows.now) (opened rows.now) (vec_items all)) }
     ensures rings { OnOk result (ring_fault rows.now ≡ None) }
     ensures fault { IfErr result (λ fault. IsOutside fault ⊎ (ring_fault rows.now ≡ Some fault)) }
 {

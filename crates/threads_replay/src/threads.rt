@@ -53,10 +53,15 @@ where
     G: Gate + Sync,
     requires accepted { AcceptedAfter [] rows.now }
     requires count { length rows.now ≤ 100000 }
-    ensures written { OnOk result ((text : List ℕ) × (answer_of (Ok rows.now) ≡ Ok text) × Appends (W.contents writer.old) (W.contents writer.new) text) }
-    ensures polled { IfOk result (λ all. AllZip (IsPolled rows.now) (opened rows.now) (vec_items all)) }
-    ensures fault { IfErr result (λ fault. IsOutside fault ⊎ (answer_of (Ok rows.now) ≡ Err fault)) }
-    ensures untouched { IfErr result (λ fault. fault ≢ OutputFailed → Keeps (W.contents writer.old) (W.contents writer.new)) }
+    ensures written { OnOk result
+        ((text : List ℕ) × (answer_of (Ok rows.now) ≡ Ok text)
+        × Appends (W.contents writer.old) (W.contents writer.new) text) }
+    ensures polled { IfOk result
+        (λ all. AllZip (IsPolled rows.now) (opened rows.now) (vec_items all)) }
+    ensures fault { IfErr result
+        (λ fault. IsOutside fault ⊎ (answer_of (Ok rows.now) ≡ Err fault)) }
+    ensures untouched { IfErr result
+        (λ fault. fault ≢ OutputFailed → Keeps (W.contents writer.old) (W.contents writer.new)) }
 {
     let ends = run_rows(rt, alloc, rows, settings, gate)?;
     let text = report_of(alloc, ends.as_slice())?;
@@ -98,7 +103,8 @@ where
     // A fault is that of the bytes read, unless the reader, the memory, the writer, the gate or a thread failed.
     ensures fault { IfErr result (λ fault. (bytes : List ℕ) → R.remaining reader ≡ Some bytes
         → IsOutside fault ⊎ (threads_of bytes ≡ Err fault)) }
-    ensures untouched { IfErr result (λ fault. fault ≢ OutputFailed → Keeps (W.contents writer.old) (W.contents writer.new)) }
+    ensures untouched { IfErr result
+        (λ fault. fault ≢ OutputFailed → Keeps (W.contents writer.old) (W.contents writer.new)) }
 {
     let trace = read_trace(alloc, reader)?;
     write_report(rt, alloc, trace.rows(), writer, settings, gate)

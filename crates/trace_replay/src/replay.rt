@@ -58,7 +58,8 @@ impl<B: ReplayBench> Replay<B> {
 
     // A packet; where that hands the device to the list, its number is put there.
     fn rx(&mut self, device: u32, bytes: u32)
-        ensures world { B.Exact → world_in B.devices self.new ≡ with_packet device bytes (world_in B.devices self.old) }
+        ensures world { B.Exact → world_in B.devices self.new
+            ≡ with_packet device bytes (world_in B.devices self.old) }
         ensures transmits { Keeps B.shows self.old.bench self.new.bench }
         ensures lines { self.new.lines ≡ self.old.lines }
     {
@@ -69,7 +70,11 @@ impl<B: ReplayBench> Replay<B> {
 
     // One run over the poll list, whatever the number of its row.
     fn run(&mut self, settings: &Settings) -> RunReport
-        ensures world { B.Exact → (row : ℕ) → record (world_in B.devices self.new) { lines = self.old.lines.items ++ Softirq row result ∷ [] } ≡ with_run settings.now row (world_in B.devices self.old) }
+        ensures world { B.Exact → (row : ℕ)
+            → record (world_in B.devices self.new) {
+              lines = self.old.lines.items
+                  ++ Softirq row result ∷ [];
+            } ≡ with_run settings.now row (world_in B.devices self.old) }
         ensures lines { self.new.lines ≡ self.old.lines }
         ensures transmits { Keeps B.shows self.old.bench self.new.bench }
     {
@@ -96,7 +101,12 @@ impl<B: ReplayBench> Replay<B> {
 
     // The device's thread polls it; where that leaves the device to the list, its number is put there.
     fn poll_thread(&mut self, settings: &Settings, device: u32) -> ThreadReport
-        ensures world { B.Exact → (row : ℕ) → record (world_in B.devices self.new) { lines = self.old.lines.items ++ Kthread row device result ∷ [] } ≡ with_thread settings.now row device (world_in B.devices self.old) }
+        ensures world { B.Exact → (row : ℕ)
+            → record (world_in B.devices self.new) {
+              lines = self.old.lines.items
+                  ++ Kthread row device result ∷ [];
+            }
+            ≡ with_thread settings.now row device (world_in B.devices self.old) }
         ensures lines { self.new.lines ≡ self.old.lines }
         ensures transmits { Keeps B.shows self.old.bench self.new.bench }
     {
@@ -108,8 +118,11 @@ impl<B: ReplayBench> Replay<B> {
     }
 
     fn softirq(&mut self, settings: &Settings, row: u32) -> Result<(), AllocError>
-        ensures lines { OnOk result (length self.new.lines.items ≤ length self.old.lines.items + 1) }
-        ensures world { B.Exact → OnOk result (world_in B.devices self.new ≡ with_run settings.now row (world_in B.devices self.old)) }
+        ensures lines { OnOk result
+            (length self.new.lines.items ≤ length self.old.lines.items + 1) }
+        ensures world { B.Exact → OnOk result
+            (world_in B.devices self.new
+            ≡ with_run settings.now row (world_in B.devices self.old)) }
         ensures transmits { Keeps B.shows self.old.bench self.new.bench }
     {
         let run = self.run(settings);
@@ -118,8 +131,11 @@ impl<B: ReplayBench> Replay<B> {
     }
 
     fn kthread(&mut self, settings: &Settings, row: u32, device: u32) -> Result<(), AllocError>
-        ensures lines { OnOk result (length self.new.lines.items ≤ length self.old.lines.items + 1) }
-        ensures world { B.Exact → OnOk result (world_in B.devices self.new ≡ with_thread settings.now row device (world_in B.devices self.old)) }
+        ensures lines { OnOk result
+            (length self.new.lines.items ≤ length self.old.lines.items + 1) }
+        ensures world { B.Exact → OnOk result
+            (world_in B.devices self.new
+            ≡ with_thread settings.now row device (world_in B.devices self.old)) }
         ensures transmits { Keeps B.shows self.old.bench self.new.bench }
     {
         let report = self.poll_thread(settings, device);
@@ -134,7 +150,12 @@ impl<B: ReplayBench> Replay<B> {
     // The device is busy polled; where that leaves the device to the list, its number is put there.
     fn poll_busily(&mut self, settings: &Settings, device: u32, rounds: u32) -> BusyReport
         requires { IsWithin 1 65535 rounds }
-        ensures world { B.Exact → (row : ℕ) → record (world_in B.devices self.new) { lines = self.old.lines.items ++ Busy row device result ∷ [] } ≡ with_busy settings.now row device rounds (world_in B.devices self.old) }
+        ensures world { B.Exact → (row : ℕ)
+            → record (world_in B.devices self.new) {
+              lines = self.old.lines.items
+                  ++ Busy row device result ∷ [];
+            }
+            ≡ with_busy settings.now row device rounds (world_in B.devices self.old) }
         ensures lines { self.new.lines ≡ self.old.lines }
         ensures transmits { Keeps B.shows self.old.bench self.new.bench }
     {
@@ -151,8 +172,11 @@ impl<B: ReplayBench> Replay<B> {
         rounds: u32,
     ) -> Result<(), AllocError>
         requires { IsWithin 1 65535 rounds }
-        ensures lines { OnOk result (length self.new.lines.items ≤ length self.old.lines.items + 1) }
-        ensures world { B.Exact → OnOk result (world_in B.devices self.new ≡ with_busy settings.now row device rounds (world_in B.devices self.old)) }
+        ensures lines { OnOk result
+            (length self.new.lines.items ≤ length self.old.lines.items + 1) }
+        ensures world { B.Exact → OnOk result
+            (world_in B.devices self.new
+            ≡ with_busy settings.now row device rounds (world_in B.devices self.old)) }
         ensures transmits { Keeps B.shows self.old.bench self.new.bench }
     {
         let report = self.poll_busily(settings, device, rounds);
@@ -174,12 +198,15 @@ impl<B: ReplayBench> Replay<B> {
     ) -> Result<(), ReplayFault>
         requires device { device_fits row.now.event row.now.device ≡ true }
         requires value { value_fits row.now.event row.now.value ≡ true }
-        ensures world { B.Exact → OnOk result ((is_early row.now.event row.now.device (world_in B.devices self.old) ≡ false)
+        ensures world { B.Exact → OnOk result
+            ((is_early row.now.event row.now.device (world_in B.devices self.old) ≡ false)
             × (world_in B.devices self.new ≡ after_event settings.now number row.now.event row.now (world_in B.devices self.old))) }
         ensures fault { IfErr result (λ fault. (fault ≡ Trace OutOfMemory)
             ⊎ ((row.now.event ≡ Enable) × (fault ≡ Pending number) × (B.Exact → is_early row.now.event row.now.device (world_in B.devices self.old) ≡ true))) }
-        ensures transmits { OnOk result (Changes B.shows (after_transmit row.now) self.old.bench self.new.bench) }
-        ensures lines { OnOk result (length self.new.lines.items ≤ length self.old.lines.items + 1) }
+        ensures transmits { OnOk result
+            (Changes B.shows (after_transmit row.now) self.old.bench self.new.bench) }
+        ensures lines { OnOk result
+            (length self.new.lines.items ≤ length self.old.lines.items + 1) }
     {
         match row.event {
             Event::Opened => self.bench.attach(alloc, row.device, row.value, row.moment)?,
@@ -210,12 +237,15 @@ impl<B: ReplayBench> Replay<B> {
     ) -> Result<(), ReplayFault>
         requires device { device_fits row.now.event row.now.device ≡ true }
         requires value { value_fits row.now.event row.now.value ≡ true }
-        ensures world { B.Exact → OnOk result ((is_early row.now.event row.now.device (world_in B.devices self.old) ≡ false)
+        ensures world { B.Exact → OnOk result
+            ((is_early row.now.event row.now.device (world_in B.devices self.old) ≡ false)
             × (world_in B.devices self.new ≡ after_row settings.now number row.now (world_in B.devices self.old))) }
         ensures fault { IfErr result (λ fault. (fault ≡ Trace OutOfMemory)
             ⊎ ((row.now.event ≡ Enable) × (fault ≡ Pending number) × (B.Exact → is_early row.now.event row.now.device (world_in B.devices self.old) ≡ true))) }
-        ensures transmits { OnOk result (Changes B.shows (after_transmit row.now) self.old.bench self.new.bench) }
-        ensures lines { OnOk result (length self.new.lines.items ≤ length self.old.lines.items + 1) }
+        ensures transmits { OnOk result
+            (Changes B.shows (after_transmit row.now) self.old.bench self.new.bench) }
+        ensures lines { OnOk result
+            (length self.new.lines.items ≤ length self.old.lines.items + 1) }
     {
         self.play_event(alloc, settings, number, row)?;
         self.bench.settle();
@@ -244,7 +274,9 @@ impl<B: ReplayBench> Replay<B> {
     #[tactic(auto, unfolding(crate::specs::Report::text_of))]
     pub(crate) fn report(&self, alloc: Global, version: u32) -> Result<String, AllocError>
         requires { length self.now.lines.items ≤ 100000 }
-        ensures { B.Exact → (all : Transmits) → B.shows self.now.bench all → IfOk result (λ text. string_bytes text ≡ text_of version (world_in B.devices self.now) all) }
+        ensures { B.Exact → (all : Transmits) → B.shows self.now.bench all
+            → IfOk result
+            (λ text. string_bytes text ≡ text_of version (world_in B.devices self.now) all) }
     {
         let mut text = String::new(alloc);
         add_lines(&mut text, self.lines.as_slice())?;

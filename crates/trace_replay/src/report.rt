@@ -13,7 +13,9 @@ use transmit_sides::TxCounts;
 
 /// Adds the line of each row that polled.
 pub(crate) fn add_lines(text: &mut String, lines: &[Line]) -> Result<(), AllocError>
-    ensures { OnOk result (string_bytes text.new ≡ string_bytes text.old ++ flat_map (λ line. ended (poll_line line)) lines.now) }
+    ensures { OnOk result
+        (string_bytes text.new ≡ string_bytes text.old
+        ++ flat_map (λ line. ended (poll_line line)) lines.now) }
 {
     for line in lines {
         add_line(text, line)?;
@@ -22,7 +24,8 @@ pub(crate) fn add_lines(text: &mut String, lines: &[Line]) -> Result<(), AllocEr
 }
 
 fn add_line(text: &mut String, line: &Line) -> Result<(), AllocError>
-    ensures { OnOk result (string_bytes text.new ≡ string_bytes text.old ++ ended (poll_line line.now)) }
+    ensures { OnOk result
+        (string_bytes text.new ≡ string_bytes text.old ++ ended (poll_line line.now)) }
 {
     match line {
         Line::Softirq { row, run } => writeln!(
@@ -62,7 +65,8 @@ pub(crate) fn add_device(
     number: u32,
     counts: Option<DeviceCounts>,
 ) -> Result<(), AllocError>
-    ensures { OnOk result (string_bytes text.new ≡ string_bytes text.old ++ device_lines version number counts) }
+    ensures { OnOk result
+        (string_bytes text.new ≡ string_bytes text.old ++ device_lines version number counts) }
 {
     let Some(counts) = counts else {
         return Ok(());
@@ -84,7 +88,8 @@ pub fn state_word(state: DeviceState) -> &'static str
 }
 
 fn add_device_line(text: &mut String, number: u32, counts: &DeviceCounts) -> Result<(), AllocError>
-    ensures { OnOk result (string_bytes text.new ≡ string_bytes text.old ++ ended (device_line number counts.now)) }
+    ensures { OnOk result
+        (string_bytes text.new ≡ string_bytes text.old ++ ended (device_line number counts.now)) }
 {
     writeln!(
         text,
@@ -103,7 +108,8 @@ fn add_device_line(text: &mut String, number: u32, counts: &DeviceCounts) -> Res
 
 // In version 2 it ends with the completions that were held.
 fn add_held(text: &mut String, version: u32, held: u64) -> Result<(), AllocError>
-    ensures { OnOk result (string_bytes text.new ≡ string_bytes text.old ++ held_part version held) }
+    ensures { OnOk result
+        (string_bytes text.new ≡ string_bytes text.old ++ held_part version held) }
 {
     if version == 2 {
         write!(text, " held {held}")?;
@@ -117,7 +123,9 @@ fn add_napi_line(
     number: u32,
     counts: &DeviceCounts,
 ) -> Result<(), AllocError>
-    ensures { OnOk result (string_bytes text.new ≡ string_bytes text.old ++ ended (napi_line version number counts.now)) }
+    ensures { OnOk result
+        (string_bytes text.new ≡ string_bytes text.old
+        ++ ended (napi_line version number counts.now)) }
 {
     write!(
         text,
@@ -137,7 +145,8 @@ fn add_napi_line(
 
 /// Adds the line of the poll list.
 pub(crate) fn add_list(text: &mut String, list: &[u32]) -> Result<(), AllocError>
-    ensures { OnOk result (string_bytes text.new ≡ string_bytes text.old ++ ended (list_line list.now)) }
+    ensures { OnOk result
+        (string_bytes text.new ≡ string_bytes text.old ++ ended (list_line list.now)) }
 {
     text.push_str("list")?;
     add_numbers(text, list)?;
@@ -189,14 +198,18 @@ impl fmt::Display for Totals {
 impl Totals {
     // Adds the run of a softirq row; a thread's polling is no run, and busy polling is none.
     fn add(&mut self, line: &Line)
-        requires { (self.old.runs < 2 ^ 63) × (self.old.polls < 2 ^ 63) × (self.old.work < 2 ^ 63) × (self.old.squeezed < 2 ^ 63) }
+        requires { (self.old.runs < 2 ^ 63) × (self.old.polls < 2 ^ 63) × (self.old.work < 2 ^ 63)
+            × (self.old.squeezed < 2 ^ 63) }
         ensures devices { self.new.devices ≡ self.old.devices }
         ensures runs { self.new.runs ≡ self.old.runs + of_run (λ run. 1) line.now }
         ensures polls { self.new.polls ≡ self.old.polls + of_run (λ run. run.polls) line.now }
         ensures work { self.new.work ≡ self.old.work + of_run (λ run. run.work) line.now }
-        ensures squeezed { self.new.squeezed ≡ self.old.squeezed + of_run (λ run. flag run.squeezed) line.now }
-        ensures few { (self.new.runs ≤ self.old.runs + 1) × (self.new.squeezed ≤ self.old.squeezed + 1) }
-        ensures most { (self.new.polls ≤ self.old.polls + 4294967295) × (self.new.work ≤ self.old.work + 4294967295) }
+        ensures squeezed { self.new.squeezed ≡ self.old.squeezed
+            + of_run (λ run. flag run.squeezed) line.now }
+        ensures few { (self.new.runs ≤ self.old.runs + 1)
+            × (self.new.squeezed ≤ self.old.squeezed + 1) }
+        ensures most { (self.new.polls ≤ self.old.polls + 4294967295)
+            × (self.new.work ≤ self.old.work + 4294967295) }
     {
         if let Line::Softirq { run, .. } = line {
             self.runs += 1;
@@ -227,7 +240,8 @@ impl Totals {
 
 /// Adds the last line.
 pub(crate) fn add_totals(text: &mut String, totals: &Totals) -> Result<(), AllocError>
-    ensures { OnOk result (string_bytes text.new ≡ string_bytes text.old ++ ended (total_line totals.now)) }
+    ensures { OnOk result
+        (string_bytes text.new ≡ string_bytes text.old ++ ended (total_line totals.now)) }
 {
     writeln!(text, "{totals}")?;
     Ok(())

@@ -45,8 +45,10 @@ impl<B: ReplayBench> Replay<B> {
         requires count { length rows.now ≤ 100000 }
         requires start { B.Exact → world_in B.devices self.old ≡ start }
         requires lines { self.old.lines.items ≡ [] }
-        ensures world { B.Exact → OnOk result (world_of settings.now rows.now ≡ Ok (world_in B.devices self.new)) }
-        ensures transmits { OnOk result (Changes B.shows (after_transmits rows.now) self.old.bench self.new.bench) }
+        ensures world { B.Exact → OnOk result
+            (world_of settings.now rows.now ≡ Ok (world_in B.devices self.new)) }
+        ensures transmits { OnOk result
+            (Changes B.shows (after_transmits rows.now) self.old.bench self.new.bench) }
         ensures lines { OnOk result (length self.new.lines.items ≤ 100000) }
         ensures fault { IfErr result (IsRefused B.Exact settings.now rows.now) }
     {
@@ -69,7 +71,8 @@ impl<B: ReplayBench> Replay<B> {
         requires start { B.Exact → world_in B.devices self.old ≡ start }
         requires transmits { B.shows self.old.bench empty }
         requires lines { self.old.lines.items ≡ [] }
-        ensures report { B.Exact → IfOk result (λ text. serial_report settings.now version rows.now ≡ Ok (string_bytes text)) }
+        ensures report { B.Exact → IfOk result
+            (λ text. serial_report settings.now version rows.now ≡ Ok (string_bytes text)) }
         ensures transmits { OnOk result (B.shows self.new.bench (transmits_of rows.now)) }
         ensures fault { IfErr result (IsRefused B.Exact settings.now rows.now) }
     {
@@ -95,7 +98,8 @@ pub fn report_on<B: ReplayBench>(
     requires transmits { B.shows bench empty }
 
     // On an exact bench text and fault are those of the serial report.
-    ensures report { B.Exact → IfOk result.1 (λ text. serial_report settings.now version rows.now ≡ Ok (string_bytes text)) }
+    ensures report { B.Exact → IfOk result.1
+        (λ text. serial_report settings.now version rows.now ≡ Ok (string_bytes text)) }
     ensures fault { IfErr result.1 (IsRefused B.Exact settings.now rows.now) }
     ensures transmits { OnOk result.1 (B.shows result.0 (transmits_of rows.now)) }
 {

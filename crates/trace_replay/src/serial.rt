@@ -26,9 +26,13 @@ fn write_report<W: Write>(
 ) -> Result<(), ReplayFault>
     requires accepted { AcceptedAfter [] rows.now }
     requires count { length rows.now ≤ 100000 }
-    ensures written { OnOk result ((text : List ℕ) × (serial_report settings.now version rows.now ≡ Ok text) × Appends (W.contents writer.old) (W.contents writer.new) text) }
-    ensures fault { IfErr result (λ fault. IsOutside fault ⊎ (serial_report settings.now version rows.now ≡ Err fault)) }
-    ensures untouched { IfErr result (λ fault. fault ≢ OutputFailed → Keeps (W.contents writer.old) (W.contents writer.new)) }
+    ensures written { OnOk result
+        ((text : List ℕ) × (serial_report settings.now version rows.now ≡ Ok text)
+        × Appends (W.contents writer.old) (W.contents writer.new) text) }
+    ensures fault { IfErr result
+        (λ fault. IsOutside fault ⊎ (serial_report settings.now version rows.now ≡ Err fault)) }
+    ensures untouched { IfErr result
+        (λ fault. fault ≢ OutputFailed → Keeps (W.contents writer.old) (W.contents writer.new)) }
 {
     let (_bench, report) = report_on(alloc, SerialBench::new(alloc)?, settings, version, rows);
     write_text(writer, &report?)
@@ -51,7 +55,8 @@ pub fn replay_serial<R: Read + Drop, W: Write>(
     // A fault is that of the bytes read, unless the reader, the memory or the writer failed.
     ensures fault { IfErr result (λ fault. (bytes : List ℕ) → R.remaining reader ≡ Some bytes
         → IsOutside fault ⊎ (replay_of settings.now bytes ≡ Err fault)) }
-    ensures untouched { IfErr result (λ fault. fault ≢ OutputFailed → Keeps (W.contents writer.old) (W.contents writer.new)) }
+    ensures untouched { IfErr result
+        (λ fault. fault ≢ OutputFailed → Keeps (W.contents writer.old) (W.contents writer.new)) }
 {
     let trace = read_trace(alloc, reader)?;
     write_report(alloc, trace.version(), trace.rows(), writer, settings)

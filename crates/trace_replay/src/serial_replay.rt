@@ -27,7 +27,8 @@ impl SerialReplay {
 
     /// A replay of which no row was played, with room for what these rows will have polled.
     pub fn new(alloc: Global, rows: &[Row]) -> Result<SerialReplay, AllocError>
-        ensures { IfOk result (λ replay. (s : Settings) (rows : List Row) → IsAfter s rows 0 replay) }
+        ensures { IfOk result
+            (λ replay. (s : Settings) (rows : List Row) → IsAfter s rows 0 replay) }
     {
         Ok(SerialReplay {
             replay: Replay::new(SerialBench::new(alloc)?, room_for_lines(alloc, rows)?),
@@ -47,7 +48,8 @@ impl SerialReplay {
         requires index { index < length rows.now }
         requires after { IsAfter settings.now rows.now index self.old }
         ensures after { OnOk result (IsAfter settings.now rows.now (index + 1) self.new) }
-        ensures fault { IfErr result (λ fault. (fault ≡ Trace OutOfMemory) ⊎ (world_of settings.now rows.now ≡ Err fault)) }
+        ensures fault { IfErr result
+            (λ fault. (fault ≡ Trace OutOfMemory) ⊎ (world_of settings.now rows.now ≡ Err fault)) }
     {
         self.replay
             .play(alloc, settings, index as u32 + 1, &rows[index])?;
@@ -56,14 +58,16 @@ impl SerialReplay {
 
     /// What the report of the rows so far tells of a device, or `None` where there is no such device.
     pub fn counts(&self, device: u32) -> Option<DeviceCounts>
-        ensures { (s : Settings) (rows : List Row) (n : ℕ) → IsAfter s rows n self.now → result ≡ counts_after s rows n device }
+        ensures { (s : Settings) (rows : List Row) (n : ℕ) → IsAfter s rows n self.now
+            → result ≡ counts_after s rows n device }
     {
         self.replay.bench.counts(device)
     }
 
     /// What the row of that number did, where it is the last one that was played, and polled.
     pub fn polled(&self, number: u32) -> Option<Line>
-        ensures { (s : Settings) (rows : List Row) → IsAfter s rows number self.now → result ≡ polled_after s rows number }
+        ensures { (s : Settings) (rows : List Row) → IsAfter s rows number self.now
+            → result ≡ polled_after s rows number }
     {
         match self.replay.lines.last() {
             Some(line) if line.row() == number => Some(*line),

@@ -49,7 +49,8 @@ fn number_below_21(field: &[u8]) -> Option<u128>
 // The number that one to nineteen digits write. Those of a row have eight at most, and are read without a loop.
 #[inline(always)]
 fn short_number(field: &[u8]) -> Option<u64>
-    ensures { IfSome result (λ number. (is_numeral field.now ≡ true) × (number ≡ numeral field.now)) }
+    ensures { IfSome result
+        (λ number. (is_numeral field.now ≡ true) × (number ≡ numeral field.now)) }
 {
     match field.len() {
         1 => number_below_20(field, 1),
@@ -111,7 +112,8 @@ fn ranged(
 #[inline(always)]
 #[tactic(auto, unfolding(crate::specs::Record::ranged))]
 fn short_ranged(moment: u64, device: u64, event: Event, value: u64) -> Option<Row>
-    ensures row { IfSome result (λ row. (number : ℕ) → ranged number moment device event value ≡ Ok row) }
+    ensures row { IfSome result
+        (λ row. (number : ℕ) → ranged number moment device event value ≡ Ok row) }
     ensures device { IfSome result (λ row. device_fits row.event row.device ≡ true) }
     ensures value { IfSome result (λ row. value_fits row.event row.value ≡ true) }
 {
@@ -137,7 +139,9 @@ fn of_short_fields(
     event: &[u8],
     value: &[u8],
 ) -> Option<Row>
-    ensures row { IfSome result (λ row. (number : ℕ) → of_fields version number moment.now device.now event.now value.now ≡ Ok row) }
+    ensures row { IfSome result
+        (λ row. (number : ℕ)
+        → of_fields version number moment.now device.now event.now value.now ≡ Ok row) }
     ensures device { IfSome result (λ row. device_fits row.event row.device ≡ true) }
     ensures value { IfSome result (λ row. value_fits row.event row.value ≡ true) }
 {
@@ -179,7 +183,8 @@ fn of_fields(
 #[inline(always)]
 #[tactic(auto, unfolding(crate::specs::Record::four_of))]
 fn four_of(fields: &ByteRecord) -> Option<(&[u8], &[u8], &[u8], &[u8])>
-    ensures { option_map (λ four. (four.0.now, four.1.now, four.2.now, four.3.now)) result ≡ four_of (fields_of fields.now) }
+    ensures { option_map (λ four. (four.0.now, four.1.now, four.2.now, four.3.now)) result
+        ≡ four_of (fields_of fields.now) }
 {
     if fields.len() != 4 {
         return None;
@@ -189,7 +194,8 @@ fn four_of(fields: &ByteRecord) -> Option<(&[u8], &[u8], &[u8], &[u8])>
 
 // The first four fields of a record that has so many.
 fn first_four(fields: &ByteRecord) -> Option<(&[u8], &[u8], &[u8], &[u8])>
-    ensures { option_map (λ four. (four.0.now, four.1.now, four.2.now, four.3.now)) result ≡ first_four (fields_of fields.now) }
+    ensures { option_map (λ four. (four.0.now, four.1.now, four.2.now, four.3.now)) result
+        ≡ first_four (fields_of fields.now) }
 {
     let moment = fields.get(0)?;
     let device = fields.get(1)?;
@@ -201,7 +207,8 @@ fn first_four(fields: &ByteRecord) -> Option<(&[u8], &[u8], &[u8], &[u8])>
 /// The row that a record of a trace of this version tells, where it has no fault and its numbers at most nineteen digits.
 #[inline(always)]
 pub(crate) fn short_row_of(version: u32, fields: &ByteRecord) -> Option<Row>
-    ensures row { IfSome result (λ row. (number : ℕ) → row_of version number (fields_of fields.now) ≡ Ok row) }
+    ensures row { IfSome result
+        (λ row. (number : ℕ) → row_of version number (fields_of fields.now) ≡ Ok row) }
     ensures device { IfSome result (λ row. device_fits row.event row.device ≡ true) }
     ensures value { IfSome result (λ row. value_fits row.event row.value ≡ true) }
 {

@@ -69,9 +69,13 @@ impl Switches {
     #[inline(always)]
     pub(crate) fn admit(&mut self, number: u32, row: Row) -> Result<(), TraceFault>
         requires { device_fits row.event row.device ≡ true }
-        ensures admits { (earlier : List Row) → Tracks self.old.of earlier → MatchResult result (λ _. refusal number row.event (switch_of row.device earlier) ≡ None)
+        ensures admits { (earlier : List Row) → Tracks self.old.of earlier
+            → MatchResult result
+            (λ _. refusal number row.event (switch_of row.device earlier) ≡ None)
             (λ fault. refusal number row.event (switch_of row.device earlier) ≡ Some fault) }
-        ensures tracks { OnOk result ((earlier : List Row) → Tracks self.old.of earlier → Tracks self.new.of (earlier ++ row ∷ [])) }
+        ensures tracks { OnOk result
+            ((earlier : List Row) → Tracks self.old.of earlier
+            → Tracks self.new.of (earlier ++ row ∷ [])) }
         ensures refused { OnErr result (self.new.of ≡ self.old.of) }
     {
         if row.event == Event::Softirq {

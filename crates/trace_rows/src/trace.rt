@@ -66,7 +66,8 @@ impl Trace {
 // A reader of records of any length, with no header row of its own.
 fn reader_of<R: Read>(alloc: Global, source: R) -> Reader<R>
     ensures opened { IsOpen result }
-    ensures start { (bytes : List ℕ) → R.remaining source ≡ Some bytes → StandsAt R.remaining result (strip_bom bytes) }
+    ensures start { (bytes : List ℕ) → R.remaining source ≡ Some bytes
+        → StandsAt R.remaining result (strip_bom bytes) }
     ensures state { reader_state result ≡ state.StartRecord }
 {
     ReaderBuilder::new()
@@ -115,8 +116,12 @@ fn next_row(version: u32, number: u32, fields: &ByteRecord) -> Result<Row, Trace
 /// decides, and a failure met there is the answer. On a fault nothing is kept.
 pub fn read_trace<R: Read + Drop>(alloc: Global, source: R) -> Result<Trace, TraceFault>
     // The rows are those of the bytes read, where these are known.
-    ensures rows { IfOk result (λ trace. (bytes : List ℕ) → R.remaining source ≡ Some bytes → trace_of (records_of bytes) ≡ Ok trace.rows) }
-    ensures version { IfOk result (λ trace. (bytes : List ℕ) → R.remaining source ≡ Some bytes → trace.version ≡ version_in (records_of bytes)) }
+    ensures rows { IfOk result
+        (λ trace. (bytes : List ℕ) → R.remaining source ≡ Some bytes
+        → trace_of (records_of bytes) ≡ Ok trace.rows) }
+    ensures version { IfOk result
+        (λ trace. (bytes : List ℕ) → R.remaining source ≡ Some bytes
+        → trace.version ≡ version_in (records_of bytes)) }
     // A fault is the first one of the bytes read, unless the reader or the memory failed.
     ensures fault { IfErr result (λ fault. (bytes : List ℕ) → R.remaining source ≡ Some bytes
         → IsReadFailure fault ⊎ (trace_of (records_of bytes) ≡ Err fault)) }

@@ -36,7 +36,8 @@ impl TransmitSides {
     /// The side of a device, unless that has one.
     pub fn attach(&mut self, device: u32, transmit: Transmit)
         requires { IsWithin 1 16 device }
-        ensures { (view : TransmitView) → ShowsTransmit transmit view → Changes ShowsSides (added device view) self.old self.new }
+        ensures { (view : TransmitView) → ShowsTransmit transmit view
+            → Changes ShowsSides (added device view) self.old self.new }
     {
         let place = device as usize;
         if self.of[place].is_none() {
@@ -57,7 +58,8 @@ impl TransmitSides {
 
     /// A done row.
     pub fn finish(&mut self, device: u32, count: u32, moment: u64)
-        ensures { Changes ShowsSides (changed (after_finish count moment) device) self.old self.new }
+        ensures { Changes ShowsSides
+            (changed (after_finish count moment) device) self.old self.new }
     {
         if device < PLACES {
             if let Some(transmit) = &mut self.of[device as usize] {
@@ -68,7 +70,8 @@ impl TransmitSides {
 
     /// What the report tells of a side, where it had a row.
     pub fn counts(&self, device: u32) -> Option<TxCounts>
-        ensures { (all : Transmits) → ShowsSides self.now all → result ≡ tx_counts_of (at device all) }
+        ensures { (all : Transmits) → ShowsSides self.now all
+            → result ≡ tx_counts_of (at device all) }
     {
         if device >= PLACES {
             return None;

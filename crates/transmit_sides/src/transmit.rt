@@ -41,7 +41,8 @@ impl Transmit {
     /// A new ring of that many places, under a limit of the kernel's bounds that starts at that moment.
     pub fn open(alloc: Global, capacity: u32, moment: u64) -> Result<Transmit, AllocError>
         requires { IsWithin 1 65536 capacity }
-        ensures { IfOk result (λ transmit. ShowsTransmit transmit (opened_transmit capacity moment)) }
+        ensures { IfOk result
+            (λ transmit. ShowsTransmit transmit (opened_transmit capacity moment)) }
     {
         let Ok(limit) = Dql::new(0, MAX_LIMIT, HOLD, moment) else {
             unreachable!();
@@ -62,7 +63,8 @@ impl Transmit {
 
     /// A tx row: a packet of that many bytes is sent, or held back and counted (`netdev_tx_sent_queue`).
     pub fn send(&mut self, bytes: u32)
-        ensures { (view : TransmitView) → ShowsTransmit self.old view → ShowsTransmit self.new (after_tx bytes view) }
+        ensures { (view : TransmitView) → ShowsTransmit self.old view
+            → ShowsTransmit self.new (after_tx bytes view) }
     {
         self.used = true;
         match self.ring.send(bytes) {
@@ -73,7 +75,8 @@ impl Transmit {
 
     /// A done row: that many packets are complete, or too many and counted (`netdev_tx_completed_queue`).
     pub fn finish(&mut self, count: u32, moment: u64)
-        ensures { (view : TransmitView) → ShowsTransmit self.old view → ShowsTransmit self.new (after_finish count moment view) }
+        ensures { (view : TransmitView) → ShowsTransmit self.old view
+            → ShowsTransmit self.new (after_finish count moment view) }
     {
         self.used = true;
         match self.ring.done(count, moment) {

@@ -44,7 +44,8 @@ impl TxRing {
     /// [`OutOfMemory`](TxFault::OutOfMemory) where there is no memory for the ring. The limit is dropped then.
     pub fn new(alloc: Global, capacity: usize, limit: Dql) -> Result<TxRing, TxFault>
         requires { IsNew limit }
-        ensures ok { (min max hold now : ℕ) → Shows limit (opening min max hold now) → IfOk result (λ r. ShowsQueue r (opening_queue capacity (opening min max hold now))) }
+        ensures ok { (min max hold now : ℕ) → Shows limit (opening min max hold now)
+            → IfOk result (λ r. ShowsQueue r (opening_queue capacity (opening min max hold now))) }
         ensures bad { IsErrOf result BadCapacity ↔ ((capacity ≡ 0) ⊎ (most_places < capacity)) }
         ensures memory { IfErr result (λ e. e ≢ BadCapacity → e ≡ OutOfMemory) }
     {
@@ -81,9 +82,11 @@ impl TxRing {
     /// [`dql_core::MAX_OBJECT`], else by [`TooMuchInFlight`](TxFault::TooMuchInFlight) where more than
     /// [`dql_core::MAX_IN_FLIGHT`] bytes would be in flight. The packet isn't sent then, and nothing changes.
     pub fn send(&mut self, bytes: u32) -> Result<(), TxFault>
-        ensures ok { (t : TransmitQueue) → ShowsQueue self.old t → OnOk result (ShowsQueue self.new (after_send t bytes)) }
+        ensures ok { (t : TransmitQueue) → ShowsQueue self.old t
+            → OnOk result (ShowsQueue self.new (after_send t bytes)) }
         ensures err { OnErr result (self.new ≡ self.old) }
-        ensures fault { (t : TransmitQueue) → ShowsQueue self.old t → result_err result ≡ send_fault t bytes }
+        ensures fault { (t : TransmitQueue) → ShowsQueue self.old t
+            → result_err result ≡ send_fault t bytes }
     {
         if self.stopped {
             return Err(TxFault::Stopped);
@@ -108,9 +111,11 @@ impl TxRing {
     ///
     /// Refused by [`MoreThanSent`](TxFault::MoreThanSent) where the ring holds fewer packets; nothing changes then.
     pub fn done(&mut self, count: u32, now: u64) -> Result<(), TxFault>
-        ensures ok { (t : TransmitQueue) → ShowsQueue self.old t → OnOk result (ShowsQueue self.new (after_done t count now)) }
+        ensures ok { (t : TransmitQueue) → ShowsQueue self.old t
+            → OnOk result (ShowsQueue self.new (after_done t count now)) }
         ensures err { OnErr result (self.new ≡ self.old) }
-        ensures fault { (t : TransmitQueue) → ShowsQueue self.old t → result_err result ≡ done_fault t count }
+        ensures fault { (t : TransmitQueue) → ShowsQueue self.old t
+            → result_err result ≡ done_fault t count }
     {
         if count as usize > self.sizes.len() {
             return Err(TxFault::MoreThanSent);
@@ -127,8 +132,10 @@ impl TxRing {
 
     /// Makes each of these calls in turn, and gives how many were refused.
     pub fn run(&mut self, events: &[TxEvent]) -> u64
-        ensures state { (t : TransmitQueue) → ShowsQueue self.old t → ShowsQueue self.new (after_all fault_of after t events.now) }
-        ensures refused { (t : TransmitQueue) → ShowsQueue self.old t → result + length (accepted fault_of after t events.now) ≡ length events.now }
+        ensures state { (t : TransmitQueue) → ShowsQueue self.old t
+            → ShowsQueue self.new (after_all fault_of after t events.now) }
+        ensures refused { (t : TransmitQueue) → ShowsQueue self.old t
+            → result + length (accepted fault_of after t events.now) ≡ length events.now }
     {
         let mut refused = 0u64;
         for i in 0..events.len() {
@@ -140,9 +147,11 @@ impl TxRing {
 
     // Makes the call that the event stands for.
     fn apply(&mut self, event: TxEvent) -> Result<(), TxFault>
-        ensures ok { (t : TransmitQueue) → ShowsQueue self.old t → OnOk result (ShowsQueue self.new (after t event)) }
+        ensures ok { (t : TransmitQueue) → ShowsQueue self.old t
+            → OnOk result (ShowsQueue self.new (after t event)) }
         ensures err { OnErr result (self.new ≡ self.old) }
-        ensures fault { (t : TransmitQueue) → ShowsQueue self.old t → result_err result ≡ fault_of t event }
+        ensures fault { (t : TransmitQueue) → ShowsQueue self.old t
+            → result_err result ≡ fault_of t event }
     {
         match event {
             TxEvent::Send(bytes) => self.send(bytes),
@@ -167,7 +176,8 @@ fn stays_stopped(stopped: bool, limit: &Dql) -> bool
 #[tactic(auto, using(crate::proofs::Sums::sums))]
 fn take_front(sizes: &mut HeapCircularBuffer<u32>, count: usize) -> u32
     requires { (count ≤ length sizes.old.items) × (sum sizes.old.items < 2 ^ 32) }
-    ensures rest { (sizes.new.items ≡ drop count sizes.old.items) × (sizes.new.capacity ≡ sizes.old.capacity) }
+    ensures rest { (sizes.new.items ≡ drop count sizes.old.items)
+        × (sizes.new.capacity ≡ sizes.old.capacity) }
     ensures parts { result + sum sizes.new.items ≡ sum sizes.old.items }
     ensures taken { result ≡ sum (take count sizes.old.items) }
 {

@@ -47,7 +47,8 @@ pub fn seat_two(
     control: Control<Off>,
 ) -> Bed
     requires two { (callers_of napi ≡ 2) × (length callers.items ≡ 2) }
-    requires callers { (k : ℕ) (c : Caller) → slice_get callers.items k ≡ Some c → IsNewSeat napi k c.pass }
+    requires callers { (k : ℕ) (c : Caller) → slice_get callers.items k ≡ Some c
+        → IsNewSeat napi k c.pass }
     requires control { IsNewSeat napi 2 control.pass }
     ensures bed { (result.napi ≡ napi) × (result.input ≡ input) }
     ensures first { IsNewSeat napi 0 result.first.pass }
@@ -190,7 +191,8 @@ pub fn again(rt: &impl Abort, napi: &Napi, polling: Polling) -> Granted
 pub fn released(rt: &impl Abort, napi: &Napi, polling: Polling) -> Caller
     requires { IsSeatOf napi.now polling.pass }
     ensures seat { IsSeatOf napi.now result.pass }
-    ensures made { (x : Seen) × Made polling.pass (Look x ∷ Complete done.Released ∷ []) result.pass }
+    ensures made { (x : Seen)
+        × Made polling.pass (Look x ∷ Complete done.Released ∷ []) result.pass }
 {
     let answer = polling.try_complete(napi);
     let TryDone::Released(caller) = answer else {
@@ -203,7 +205,8 @@ pub fn released(rt: &impl Abort, napi: &Napi, polling: Polling) -> Caller
 pub fn disabled(rt: &impl Abort, napi: &Napi, control: Control<On>) -> Control<Off>
     requires { IsSeatOf napi.now control.pass }
     ensures seat { IsSeatOf napi.now result.pass }
-    ensures made { (x : Seen) × Made control.pass (MarkDisable ∷ Look x ∷ TakeDisable true ∷ Unmark ∷ []) result.pass }
+    ensures made { (x : Seen)
+        × Made control.pass (MarkDisable ∷ Look x ∷ TakeDisable true ∷ Unmark ∷ []) result.pass }
 {
     let answer = control.mark(napi).try_take(napi);
     let TryTake::Taken(control) = answer else {

@@ -77,8 +77,10 @@ fn both<R: Threads + Wait + Copy + Drop + Send>(
     second: Caller,
 ) -> ((Caller, Batch), (Caller, Batch))
     requires { IsSeatOf napi.now first.pass × IsSeatOf napi.now second.pass }
-    ensures first { SameSeat first.pass result.0.0.pass × Delivers first.pass result.0.1.items result.0.0.pass }
-    ensures second { SameSeat second.pass result.1.0.pass × Delivers second.pass result.1.1.items result.1.0.pass }
+    ensures first { SameSeat first.pass result.0.0.pass
+        × Delivers first.pass result.0.1.items result.0.0.pass }
+    ensures second { SameSeat second.pass result.1.0.pass
+        × Delivers second.pass result.1.1.items result.1.0.pass }
 {
     let first = Kept::new(rt, first);
     let second = Kept::new(rt, second);
@@ -86,7 +88,8 @@ fn both<R: Threads + Wait + Copy + Drop + Send>(
         &rt,
         move || -> (Caller, Batch)
             requires { IsSeatOf napi.now first.value.pass }
-            ensures { SameSeat first.value.pass result.0.pass × Delivers first.value.pass result.1.items result.0.pass }
+            ensures { SameSeat first.value.pass result.0.pass
+                × Delivers first.value.pass result.1.items result.0.pass }
         {
             let mut batch = Batch::new();
             let caller = poll_two(&rt, napi, first.open(), &mut batch);
@@ -94,7 +97,8 @@ fn both<R: Threads + Wait + Copy + Drop + Send>(
         },
         move || -> (Caller, Batch)
             requires { IsSeatOf napi.now second.value.pass }
-            ensures { SameSeat second.value.pass result.0.pass × Delivers second.value.pass result.1.items result.0.pass }
+            ensures { SameSeat second.value.pass result.0.pass
+                × Delivers second.value.pass result.1.items result.0.pass }
         {
             let mut batch = Batch::new();
             let caller = poll_two(&rt, napi, second.open(), &mut batch);
@@ -114,7 +118,8 @@ fn deal<R: Threads + Wait + Abort + Copy + Drop + Send>(
     requires control { IsNewSeat bed.napi 2 bed.control.pass }
     requires input { IsInputOf bed.input bed.first.pass }
     requires nothing { received_list (first_of_instance bed.napi) ≡ [] }
-    ensures { (left : List Packet) × IsDealt (put_list bed.input) result.0.items result.1.items left × (result.2.left ≡ capped (length left)) }
+    ensures { (left : List Packet) × IsDealt (put_list bed.input) result.0.items result.1.items left
+        × (result.2.left ≡ capped (length left)) }
 {
     let Bed {
         input,

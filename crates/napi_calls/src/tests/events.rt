@@ -28,9 +28,11 @@ fn take_turns(
     requires first { IsSeatOf napi.now first.pass }
     requires second { IsSeatOf napi.now second.pass }
     requires control { IsSeatOf napi.now control.pass }
-    ensures first { (w : Seen) × (x : Seen) × (y : Seen) × (z : Seen) × Made first.pass (by_first w x y z) result.0.pass }
+    ensures first { (w : Seen) × (x : Seen) × (y : Seen) × (z : Seen)
+        × Made first.pass (by_first w x y z) result.0.pass }
     ensures second { (x : Seen) × (y : Seen) × Made second.pass (by_second x y) result.1.pass }
-    ensures control { (x : Seen) × (y : Seen) × Made control.pass (by_controller x y) result.2.pass }
+    ensures control { (x : Seen) × (y : Seen)
+        × Made control.pass (by_controller x y) result.2.pass }
 {
     let control = enabled(rt, napi, control, false);
     meet(napi, &mut first, &mut second);

@@ -21,9 +21,11 @@ const SCHEDULES: u64 = 1000;
 const TURNS: u64 = 1_000_000;
 
 fn pop_caller(rt: &impl Abort, napi: &Napi, callers: &mut Vec<Caller>) -> Caller
-    requires { (k : ℕ) (c : Caller) → slice_get callers.old.items k ≡ Some c → IsSeatOf napi.now c.pass }
+    requires { (k : ℕ) (c : Caller) → slice_get callers.old.items k ≡ Some c
+        → IsSeatOf napi.now c.pass }
     ensures caller { IsSeatOf napi.now result.pass }
-    ensures left { (k : ℕ) (c : Caller) → slice_get callers.new.items k ≡ Some c → IsSeatOf napi.now c.pass }
+    ensures left { (k : ℕ) (c : Caller) → slice_get callers.new.items k ≡ Some c
+        → IsSeatOf napi.now c.pass }
 {
     let popped = callers.pop();
     let Some(caller) = popped else {
@@ -160,8 +162,10 @@ fn two_interrupts_and_a_poller(rt: HostRuntime) -> Result<(), Fail> {
     let ((first, second), (poller, control)) = thread::join(
         &rt,
         move || -> ((Caller, Option<RxIn>), (Caller, Option<RxIn>))
-            requires { IsSeatOf shared.now first.value.pass × IsSeatOf shared.now second.value.pass }
-            ensures { SameTable first.value.pass result.0.0.pass × SameTable second.value.pass result.1.0.pass }
+            requires { IsSeatOf shared.now first.value.pass
+                × IsSeatOf shared.now second.value.pass }
+            ensures { SameTable first.value.pass result.0.0.pass
+                × SameTable second.value.pass result.1.0.pass }
         {
             thread::join(
                 &rt,
@@ -176,8 +180,10 @@ fn two_interrupts_and_a_poller(rt: HostRuntime) -> Result<(), Fail> {
             )
         },
         move || -> ((Caller, u64), Control<On>)
-            requires { IsSeatOf shared.now poller.value.pass × IsSeatOf shared.now control.value.pass }
-            ensures { SameTable poller.value.pass result.0.0.pass × SameTable control.value.pass result.1.pass }
+            requires { IsSeatOf shared.now poller.value.pass
+                × IsSeatOf shared.now control.value.pass }
+            ensures { SameTable poller.value.pass result.0.0.pass
+                × SameTable control.value.pass result.1.pass }
         {
             thread::join(
                 &rt,
