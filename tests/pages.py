@@ -4,6 +4,7 @@
 import functools
 import pathlib
 import re
+import shutil
 import subprocess
 import sys
 
@@ -134,6 +135,22 @@ def leftovers(page):
             yield f"a merge left {line}"
 
 
+@functools.cache
+def kit():
+    """The kit that proves here; nothing if there is no rt."""
+    if not shutil.which("rt"):
+        print("passed over: whether the pages name the kit that proves here: there is no rt")
+        return ""
+    return subprocess.run(["rt", "version"], capture_output=True, text=True, check=True).stdout.split()[0]
+
+
+def kits(page):
+    """Each kit that a page names is the one that proves here."""
+    for name in re.findall(r"rattle-kit-\w+", page.read_text()):
+        if kit() not in ("", name):
+            yield f"it names {name}, and {kit()} proves here"
+
+
 def scripts_told(page):
     """Each script has a row or a sentence in this page or in the one for contributors."""
     text = page.read_text() + (TOP / "docs/WORKING.md").read_text()
@@ -176,7 +193,7 @@ def commands(pages):
 def checks(pages):
     """Pairs of a page and what is wrong with it."""
     for page in pages:
-        for check in (named_files, leftovers, snippets.snippets):
+        for check in (named_files, kits, leftovers, snippets.snippets):
             yield page, check(page)
     yield TOP / "docs/LIBRARY.md", snippets.first_program(TOP / "docs/LIBRARY.md")
     for page in pages:

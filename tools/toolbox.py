@@ -174,12 +174,20 @@ def played(made, words, text):
     return done
 
 
+def why_refused(words):
+    """What is wrong with words that the replay refused, as the launcher tells it, without its own options."""
+    done = subprocess.run(["awk", "-f", TOP / "scripts/words.awk", "--", *words], stdin=subprocess.DEVNULL, capture_output=True,
+                          text=True, check=False, env={**os.environ, "LC_ALL": "C"}, errors="surrogateescape")
+    return done.stdout.strip().split(": they are --")[0]
+
+
 def run_program(made, words, text):
     """What a program of ours writes for these words and this input; a fault of it is a refusal."""
     done = played(made, words, text)
     if done.returncode != 0:
         told = done.stderr.decode("utf-8", "replace").strip().splitlines()
-        raise Refusal(shown(told[-1]) if told else f"{shown(made)} ended with status {done.returncode}")
+        why = why_refused(words) if done.returncode == 64 else ""
+        raise Refusal(shown(told[-1] + (why and f": {why}")) if told else f"{shown(made)} ended with status {done.returncode}")
     return done.stdout.decode("ascii")
 
 

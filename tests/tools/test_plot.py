@@ -65,7 +65,10 @@ class Plot(InFolder):
         self.assertIn("line 2: no line of a series", self.plot(self.HEAD + "a,b\n").stderr)
         self.assertEqual(self.plot(self.ROWS, "--out", "picture.jpg").returncode, 2)
         self.assertEqual(self.plot(self.ROWS, "--budget", "3").returncode, 2)
-        self.assertIn("usage fault 64", run("plot", TOP / "examples/bursts.csv", "--buget", "3").stderr)
+        for wrong, why in (("--buget", "'--buget' is no option: is --budget meant, a whole number, 1..=65535?\n"),
+                           ("--unit", "'--unit' is no option\n")):
+            done = run("plot", TOP / "examples/bursts.csv", wrong, "3")
+            self.assertEqual((done.stderr, done.returncode), (f"plot: usage fault 64: {why}", 1))
         self.assertIn("--beside: No closing quotation", run("plot", TOP / "examples/bursts.csv", "--beside", "'").stderr)
         self.assertEqual(run("plot").returncode, 2)
 

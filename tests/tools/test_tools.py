@@ -143,13 +143,26 @@ class FromFtrace(InFolder):
     def test_some_rows(self):
         whole = (HERE / "soft-gso-23.csv").read_text().splitlines()
         rows, work, notes = self.convert((HERE / "soft-gso-23.txt").read_text(), *PAIRS, "--rows", "70:150")
-        self.assertEqual(rows, whole[1:13] + whole[70:151])
+        # The packet of row 69 waits when row 70 comes, so it stands in front.
+        self.assertEqual(rows, whole[1:13] + whole[69:151])
         polls = [number for number, row in enumerate(whole) if ",softirq," in row]
         theirs = (HERE / "soft-gso-23.work").read_text().splitlines()
         self.assertEqual(work, [line for number, line in zip(polls, theirs) if 70 <= number <= 150])
         self.assertTrue(any(note.startswith("rows that aren't in 70:150: ") for note in notes))
         self.assertIn("nothing polls in these rows", run("from-ftrace", HERE / "soft-gso-23.txt", self.folder / "none", *PAIRS,
                                                          "--rows", "70:80").stderr)
+
+    def test_some_rows_begin_with_the_packets_that_wait(self):
+        """Six packets came before row 68 and weren't polled in row 67; so the replay has the kernel's work from there on too."""
+        rows, _, notes = self.convert((HERE / "soft-gso-23.txt").read_text(), *PAIRS, "--rows", "68:150")
+        self.assertEqual(rows[12:19], ["128,10,rx,590"] * 6 + ["128,0,softirq,0"])
+        self.assertTrue(any(note.endswith("; of their packets 6 waited when the first of these rows came, and stand in front")
+                            for note in notes))
+        for first in (20, 68, 69, 100, 139):
+            done = run("from-ftrace", HERE / "soft-gso-23.txt", self.folder / f"from{first}", *PAIRS, "--rows", f"{first}:100000")
+            self.assertEqual((done.stderr, done.returncode), ("", 0))
+            done = run("compare-recording", self.folder / f"from{first}")
+            self.assertEqual(done.returncode, 0, done.stdout)
 
     def test_a_replay_is_compared_with_the_recording(self):
         """Six packets arrive while each of three runs is under way; the replay gives them to that run, the kernel to the next."""

@@ -8,7 +8,7 @@ use Rattle.std.specs.Result.{result_ok}
 use Rattle.std.specs.Str.{bytes_eq}
 use Rattle.std.proofs.lemmas.Slice.Eq.{bytes_eq-Decides}
 use Rattle.clap.specs.Lexer.{long_of, long_of_rest, short_of, short_of_rest, strip_byte}
-use Rattle.clap.specs.Walk.{option_word as value_word, used_by_id, Held, Row, Rule, Step, Waiting, Walk, after_flag, after_step, arg_by_id, arg_by_long, at_row, first_of, finished, has_row, idle, is_empty, long_met, long_or_other, more_values, next, nothing_held, option as waits_for, reading_by, settled, settled_rows, short_or_plain, trailing, used, walk, walked, rule_of, with_default, with_values}
+use Rattle.clap.specs.Walk.{option_word as value_word, used_by_id, Held, Row, Rule, Step, Waiting, Walk, after_flag, after_step, arg_by_id, arg_by_long, at_row, first_of, finished, has_long, has_row, idle, is_empty, long_met, long_or_other, more_values, next, nothing_held, option as waits_for, reading_by, settled, settled_rows, short_or_plain, trailing, used, walk, walked, rule_of, with_default, with_values}
 use Rattle.clap.specs.Simple.{App, Shape, app_of, built, entered, filled, is_simple, matches_of, with_rule}
 use Rattle.clap.specs.Built.{AddsArg}
 use Rattle.clap.specs.Kinds.{Kinds, or_else}
@@ -21,25 +21,12 @@ use Rattle.clap.proofs.WalkLemmas.{list_any-map}
 use Rattle.replay_words.specs.Options.{asked_by, option, read_by_clap, tool, with_name}
 use Rattle.replay_words.specs.declared.mode.Mode.{Mode}
 use Rattle.replay_words.specs.declared.settings.Settings.{Settings}
-use Rattle.replay_words.specs.Words.{Asked, asked_for, asked_of, asked_with, Given, Reading, Text, complete, is_hyphened, is_option, is_stray, option_names, option_word, read_on, value_of, with_option}
+use Rattle.replay_words.specs.Words.{Asked, asked_for, asked_of, asked_with, Given, Reading, Text, complete, is_hyphened, is_option, is_stray, next_word, option_names, option_word, read_on, value_of, with_option}
+use Rattle.std.proofs.Math.Bool.{or-false}
+use Rattle.std.proofs.lemmas.Bool.{or_parts}
+use Rattle.std.proofs.lemmas.Option.{none-some}
 
 -- ---- the words, read from the front
-
--- the definition again, as a recursion on the words
-
-abbrev added : Given → Text → Text → Option Given
-added given name value = if list_any (λ g. bytes_eq g.0 name) given then None else Some (given ++ (name, value) ∷ [])
-
-abbrev option_then : Given → (Given → Option Text → Option Given) → Option (Text × Option Text) → Option Given
-option_then given after None = None
-option_then given after (Some (name, Some value)) = if is_option name then option_and_then (λ more. after more None) (added given name value) else None
-option_then given after (Some (name, None)) = if is_option name then after given (Some name) else None
-
-given_after : Given → Option Text → List Text → Option Given
-given_after given None [] = Some given
-given_after given (Some name) [] = None
-given_after given None (word ∷ words) = option_then given (λ more waiting. given_after more waiting words) (long_of word)
-given_after given (Some name) (word ∷ words) = if is_hyphened word then None else option_and_then (λ more. given_after more None words) (added given name word)
 
 -- what the words after a reading come to
 abbrev read_after : Option Reading → List Text → Option Given
@@ -48,44 +35,6 @@ read_after reading words = option_and_then complete (fold read_on reading words)
 none-stays : (words : List Text) → read_after None words ≡ None
 none-stays [] = refl
 none-stays (word ∷ words) = none-stays words
-
--- after one more option
-added-as : (words : List Text) → ((more : Given) → read_after (Some (more, None)) words ≡ given_after more None words) → (given : Given) (name value : Text) (b : Bool)
-    → read_after (if b then None else Some (given ++ (name, value) ∷ [], None)) words
-    ≡ option_and_then (λ more. given_after more None words) (if b then None else Some (given ++ (name, value) ∷ []))
-added-as words rest given name value true = none-stays words
-added-as words rest given name value false = rest (given ++ (name, value) ∷ [])
-
-reads-as : (words : List Text) (given : Given) (waiting : Option Text) → read_after (Some (given, waiting)) words ≡ given_after given waiting words
-unfolding given_after
-reads-as [] given None = refl
-reads-as [] given (Some name) = refl
-reads-as (word ∷ words) given None = go (long_of word) (reads-as words)
-  where
-    valued : (b : Bool) (name value : Text) → ((more : Given) (waiting : Option Text) → read_after (Some (more, waiting)) words ≡ given_after more waiting words)
-        → read_after (if b then with_option given name value else None) words
-        ≡ (if b then option_and_then (λ more. given_after more None words) (added given name value) else None)
-    valued true name value rest = added-as words (λ more. rest more None) given name value (list_any (λ g. bytes_eq g.0 name) given)
-    valued false name value rest = none-stays words
-
-    waits : (b : Bool) (name : Text) → ((more : Given) (waiting : Option Text) → read_after (Some (more, waiting)) words ≡ given_after more waiting words)
-        → read_after (if b then Some (given, Some name) else None) words ≡ (if b then given_after given (Some name) words else None)
-    waits true name rest = rest given (Some name)
-    waits false name rest = none-stays words
-
-    go : (l : Option (Text × Option Text)) → ((more : Given) (waiting : Option Text) → read_after (Some (more, waiting)) words ≡ given_after more waiting words)
-        → read_after (option_and_then (λ option. if is_option option.0 then option_word given option else None) l) words
-        ≡ option_then given (λ more waiting. given_after more waiting words) l
-    go None rest = none-stays words
-    go (Some (name, None)) rest = waits (is_option name) name rest
-    go (Some (name, Some value)) rest = valued (is_option name) name value rest
-reads-as (word ∷ words) given (Some name) = go (is_hyphened word) (λ more. reads-as words more None)
-  where
-    go : (b : Bool) → ((more : Given) → read_after (Some (more, None)) words ≡ given_after more None words)
-        → read_after (if b then None else with_option given name word) words
-        ≡ (if b then None else option_and_then (λ more. given_after more None words) (added given name word))
-    go true rest = none-stays words
-    go false rest = added-as words rest given name word (list_any (λ g. bytes_eq g.0 name) given)
 
 -- ---- the options, as a parse sees them
 
@@ -98,31 +47,21 @@ named name = filled (option name)
 abbrev rules : List Rule
 rules = map named option_names
 
-by_long : (names : List Text) (name : Text)
-    → arg_by_long (map named names) name ≡ (if list_any (λ o. bytes_eq o name) names then Some (named name) else None)
-by_long [] name = refl
-by_long (o ∷ os) name = go (bytes_eq o name) ((bytes_eq-Decides o name).0) (by_long os name)
+found : (test : Rule → Bool) (name : Text) → ((o : Text) → test (named o) ≡ bytes_eq o name) → (names : List Text)
+    → find test (map named names) ≡ (if list_any (λ o. bytes_eq o name) names then Some (named name) else None)
+found test name same [] = refl
+found test name same (o ∷ os) = go (test (named o)) (bytes_eq o name) (same o) ((bytes_eq-Decides o name).0) (found test name same os)
   where
-    go : (b : Bool) → (b ≡ true → o ≡ name) → arg_by_long (map named os) name ≡ (if list_any (λ o. bytes_eq o name) os then Some (named name) else None)
-        → cond (b || false) (Some (named o)) (arg_by_long (map named os) name) ≡ cond (b || list_any (λ o. bytes_eq o name) os) (Some (named name)) None
-    go true same rest = ap (λ t. Some (named t)) (same refl)
-    go false same rest = rest
-
-by_id : (names : List Text) (name : Text)
-    → arg_by_id (map named names) name ≡ (if list_any (λ o. bytes_eq o name) names then Some (named name) else None)
-by_id [] name = refl
-by_id (o ∷ os) name = go (bytes_eq o name) ((bytes_eq-Decides o name).0) (by_id os name)
-  where
-    go : (b : Bool) → (b ≡ true → o ≡ name) → arg_by_id (map named os) name ≡ (if list_any (λ o. bytes_eq o name) os then Some (named name) else None)
-        → cond b (Some (named o)) (arg_by_id (map named os) name) ≡ cond (b || list_any (λ o. bytes_eq o name) os) (Some (named name)) None
-    go true same rest = ap (λ t. Some (named t)) (same refl)
-    go false same rest = rest
+    go : (t b : Bool) → t ≡ b → (b ≡ true → o ≡ name) → find test (map named os) ≡ (if list_any (λ o. bytes_eq o name) os then Some (named name) else None)
+        → cond t (Some (named o)) (find test (map named os)) ≡ cond (b || list_any (λ o. bytes_eq o name) os) (Some (named name)) None
+    go t true e is rest = rw e (ap (λ t. Some (named t)) (is refl))
+    go t false e is rest = rw e rest
 
 long_as : (name : Text) (b : Bool) → is_option name ≡ b → arg_by_long rules name ≡ (if b then Some (named name) else None)
-long_as name b known = by_long option_names name ∙ ap (λ x. if x then Some (named name) else None) known
+long_as name b known = found (λ a. not (is_some a.index) && has_long a name) name (λ o. or-false (bytes_eq o name)) option_names ∙ ap (λ x. if x then Some (named name) else None) known
 
 id_as : (name : Text) → is_option name ≡ true → arg_by_id rules name ≡ Some (named name)
-id_as name known = by_id option_names name ∙ ap (λ x. if x then Some (named name) else None) known
+id_as name known = found (λ a. bytes_eq a.id name) name (λ o. refl) option_names ∙ ap (λ x. if x then Some (named name) else None) known
 
 -- ---- the matches of what is given
 
@@ -214,14 +153,15 @@ stops w word words faulty =
 abbrev dashes : Text
 dashes = 45 ∷ 45 ∷ []
 
-not_dashes : (word : Text) (l : Text × Option Text) → long_of word ≡ Some l → bytes_eq word dashes ≡ false
-not_dashes word l e = go (bytes_eq word dashes) refl
+no_dashes : (word : Text) → (word ≡ dashes → ⊥) → bytes_eq word dashes ≡ false
+no_dashes word other = go (bytes_eq word dashes) ((bytes_eq-Decides word dashes).0)
   where
-    go : (b : Bool) → bytes_eq word dashes ≡ b → bytes_eq word dashes ≡ false
-    go true is =
-        let none : None ≡ Some l = sym (ap long_of ((bytes_eq-Decides word dashes).0 is)) ∙ e in
-        absurd (true≢false (sym (ap is_some none)))
-    go false is = is
+    go : (b : Bool) → (b ≡ true → word ≡ dashes) → b ≡ false
+    go true same = absurd (other (same refl))
+    go false same = refl
+
+not_dashes : (word : Text) (l : Text × Option Text) → long_of word ≡ Some l → bytes_eq word dashes ≡ false
+not_dashes word l e = no_dashes word (λ is. none-some l (sym (ap long_of is) ∙ e))
 
 abbrev met_at : Bool → Option (Text × Option Text) → Waiting → Text → Held → Held × Step
 met_at b l waiting word h = if b then (h, trailing 1) else long_or_other rules waiting word l h
@@ -284,11 +224,7 @@ unstripped None e = refl
 unstripped (Some rest) e = absurd (true≢false e)
 
 not_dashes_plain : (word : Text) → is_hyphened word ≡ false → bytes_eq word dashes ≡ false
-not_dashes_plain word plain = go (bytes_eq word dashes) refl
-  where
-    go : (b : Bool) → bytes_eq word dashes ≡ b → bytes_eq word dashes ≡ false
-    go true is = absurd (true≢false (sym (ap is_hyphened ((bytes_eq-Decides word dashes).0 is)) ∙ plain))
-    go false is = is
+not_dashes_plain word plain = no_dashes word (λ is. true≢false (sym (ap is_hyphened is) ∙ plain))
 
 short-none : (word : Text) → is_hyphened word ≡ false → short_of word ≡ None
 short-none word plain = ap (option_and_then short_of_rest) (unstripped (strip_byte 45 word) plain)
@@ -334,10 +270,6 @@ settled-once : (name value : Text) (given : Given) → is_option name ≡ true �
     → settled_rows rules (Some (name, value ∷ [])) (rows_for given) ≡ rows_for (given ++ (name, value) ∷ [])
 settled-once name value given known once = ap (λ a. used_by_id a (value ∷ []) (rows_for given)) (id_as name known) ∙ used-once name value given once
 
-neither : (a b : Bool) → (a || b) ≡ false → (a ≡ false) × (b ≡ false)
-neither true b e = absurd (true≢false e)
-neither false b e = (refl, e)
-
 -- a second use of an option is refused, whatever comes after it
 refused-later : (words : List Text) → list_any is_stray words ≡ false → (rows : List Row) (p : Option (Text × List Text))
     → is_empty (settle_fault rules false (held_at rows p)) ≡ false → reads (walk_at rows p idle) words ≡ None
@@ -346,7 +278,7 @@ refused-later [] plain rows p faulty = ap (λ b. if b then Some (settled rules (
 refused-later (word ∷ words) plain rows p faulty = stops (walk_at rows p idle) word words (go (long_of word) refl)
   where
     go : (l : Option (Text × Option Text)) → long_of word ≡ l → is_empty (turn_fault shape [] (walk_at rows p idle) word) ≡ false
-    go None e = ap is_empty (idle-plain rows p word e (unhyphened word (neither (is_stray word) (list_any is_stray words) plain).0 e))
+    go None e = ap is_empty (idle-plain rows p word e (unhyphened word (or_parts (is_stray word) (list_any is_stray words) plain).0 e))
     go (Some l) e = ap is_empty (idle_turn rows p word l.0 l.1 e) ∙ long-faulty l.0 l.1 idle word (held_at rows p) faulty
 
 -- ---- the words, one by one
@@ -354,29 +286,28 @@ refused-later (word ∷ words) plain rows p faulty = stops (walk_at rows p idle)
 -- from a walk at which no option waits, clap reads what the words give
 abbrev IdleReads : List Text → Type 0
 IdleReads words = (given : Given) (rows : List Row) (p : Option (Text × List Text)) → settled_rows rules p rows ≡ rows_for given
-    → settle_fault rules false (held_at rows p) ≡ [] → reads (walk_at rows p idle) words ≡ option_map rows_for (given_after given None words)
+    → settle_fault rules false (held_at rows p) ≡ [] → reads (walk_at rows p idle) words ≡ option_map rows_for (read_after (Some (given, None)) words)
 
 -- from one at which an option waits for its value, too
 abbrev WaitingReads : List Text → Type 0
 WaitingReads words = (given : Given) (name : Text) → is_option name ≡ true
-    → reads (walk_at (rows_for given) (Some (name, [])) (waits_for name)) words ≡ option_map rows_for (given_after given (Some name) words)
+    → reads (walk_at (rows_for given) (Some (name, [])) (waits_for name)) words ≡ option_map rows_for (read_after (Some (given, Some name)) words)
+
+-- a word that clap refuses, where the reading ends too
+ends : (w : Walk) (word : Text) (words : List Text) → is_empty (turn_fault shape [] w word) ≡ false → reads w (word ∷ words) ≡ option_map rows_for (read_after None words)
+ends w word words faulty = stops w word words faulty ∙ sym (ap (option_map rows_for) (none-stays words))
 
 idle-step : (word : Text) (words : List Text) → is_stray word ≡ false → IdleReads words → WaitingReads words → IdleReads (word ∷ words)
-unfolding given_after
 idle-step word words plain idle_reads waiting_reads given rows p same passes = go (long_of word) refl
   where
-    after : Given → Option Text → Option Given
-    after more waiting = given_after more waiting words
-
     one : (name value : Text) → is_option name ≡ true → long_of word ≡ Some (name, Some value)
         → turn_fault shape [] (walk_at rows p idle) word ≡ or_else (if has name given then ArgumentConflict ∷ [] else []) []
     one name value is e = idle_turn rows p word name (Some value) e ∙ ap (λ a. long_at a (Some value) idle word (held_at rows p)) (long_as name true is)
         ∙ (λ i. or_else (or_else (passes i) (use_fault false (named name) (value ∷ []) (same i))) []) ∙ ap (λ k. or_else k []) (use-as name value given)
 
     valued : (name value : Text) → is_option name ≡ true → long_of word ≡ Some (name, Some value) → (h : Bool) → has name given ≡ h
-        → reads (walk_at rows p idle) (word ∷ words)
-        ≡ option_map rows_for (option_and_then (λ more. given_after more None words) (if h then None else Some (given ++ (name, value) ∷ [])))
-    valued name value is e true twice = stops (walk_at rows p idle) word words
+        → reads (walk_at rows p idle) (word ∷ words) ≡ option_map rows_for (read_after (if h then None else Some (given ++ (name, value) ∷ [], None)) words)
+    valued name value is e true twice = ends (walk_at rows p idle) word words
         (ap is_empty (one name value is e ∙ ap (λ h. or_else (if h then ArgumentConflict ∷ [] else []) []) twice))
     valued name value is e false once =
         steps (walk_at rows p idle) (walk_at (used (named name) (value ∷ []) (rows_for given)) None idle) word words
@@ -386,63 +317,54 @@ idle-step word words plain idle_reads waiting_reads given rows p same passes = g
         ∙ idle_reads (given ++ (name, value) ∷ []) (used (named name) (value ∷ []) (rows_for given)) None (used-once name value given once) refl
 
     named-as : (name : Text) (b : Bool) → is_option name ≡ b → (v : Option Text) → long_of word ≡ Some (name, v)
-        → reads (walk_at rows p idle) (word ∷ words) ≡ option_map rows_for (option_then given (λ more waiting. given_after more waiting words) (Some (name, v)))
+        → reads (walk_at rows p idle) (word ∷ words) ≡ option_map rows_for (read_after (if b then option_word given (name, v) else None) words)
     named-as name true is None e =
         steps (walk_at rows p idle) (walk_at (rows_for given) (Some (name, [])) (waits_for name)) word words
         (idle_turn rows p word name None e ∙ ap (λ a. long_at a None idle word (held_at rows p)) (long_as name true is) ∙ ap (λ k. or_else k []) passes)
         (idle_next rows p word name None e ∙ ap (λ a. long_next a None word (walk_at rows p idle)) (long_as name true is)
         ∙ ap (λ rs. walk_at rs (Some (name, [])) (waits_for name)) same)
-        ∙ waiting_reads given name is ∙ sym (ap (λ b. option_map rows_for (if b then given_after given (Some name) words else None)) is)
+        ∙ waiting_reads given name is
     named-as name true is (Some value) e = valued name value is e (has name given) refl
-        ∙ sym (ap (λ b. option_map rows_for (if b then option_and_then (λ more. given_after more None words) (added given name value) else None)) is)
-    named-as name false is None e = stops (walk_at rows p idle) word words
-        (ap is_empty (idle_turn rows p word name None e ∙ ap (λ a. long_at a None idle word (held_at rows p)) (long_as name false is)))
-        ∙ sym (ap (λ b. option_map rows_for (if b then given_after given (Some name) words else None)) is)
-    named-as name false is (Some value) e = stops (walk_at rows p idle) word words
-        (ap is_empty (idle_turn rows p word name (Some value) e ∙ ap (λ a. long_at a (Some value) idle word (held_at rows p)) (long_as name false is)))
-        ∙ sym (ap (λ b. option_map rows_for (if b then option_and_then (λ more. given_after more None words) (added given name value) else None)) is)
+    named-as name false is v e = ends (walk_at rows p idle) word words
+        (ap is_empty (idle_turn rows p word name v e ∙ ap (λ a. long_at a v idle word (held_at rows p)) (long_as name false is)))
 
-    go : (l : Option (Text × Option Text)) → long_of word ≡ l
-        → reads (walk_at rows p idle) (word ∷ words) ≡ option_map rows_for (option_then given (λ more waiting. given_after more waiting words) l)
-    go None e = stops (walk_at rows p idle) word words (ap is_empty (idle-plain rows p word e (unhyphened word plain e)))
+    go : (l : Option (Text × Option Text)) → long_of word ≡ l → reads (walk_at rows p idle) (word ∷ words)
+        ≡ option_map rows_for (read_after (option_and_then (λ o. if is_option o.0 then option_word given o else None) l) words)
+    go None e = ends (walk_at rows p idle) word words (ap is_empty (idle-plain rows p word e (unhyphened word plain e)))
     go (Some (name, v)) e = named-as name (is_option name) refl v e
 
 waiting-step : (word : Text) (words : List Text) → is_stray word ≡ false → list_any is_stray words ≡ false → IdleReads words → WaitingReads (word ∷ words)
-unfolding given_after
 waiting-step word words plain plain_rest idle_reads given name known = go (long_of word) refl
   where
-    w : Walk
-    w = walk_at (rows_for given) (Some (name, [])) (waits_for name)
-
     valued : (h : Bool) → has name given ≡ h → reads (walk_at (rows_for given) (Some (name, word ∷ [])) idle) words
-        ≡ option_map rows_for (option_and_then (λ more. given_after more None words) (if h then None else Some (given ++ (name, word) ∷ [])))
+        ≡ option_map rows_for (read_after (if h then None else Some (given ++ (name, word) ∷ [], None)) words)
     valued true twice = refused-later words plain_rest (rows_for given) (Some (name, word ∷ []))
-        (ap is_empty (settle-as name word given known ∙ ap (λ h. if h then ArgumentConflict ∷ [] else []) twice))
+        (ap is_empty (settle-as name word given known ∙ ap (λ h. if h then ArgumentConflict ∷ [] else []) twice)) ∙ sym (ap (option_map rows_for) (none-stays words))
     valued false once = idle_reads (given ++ (name, word) ∷ []) (rows_for given) (Some (name, word ∷ [])) (settled-once name word given known once)
         (settle-as name word given known ∙ ap (λ h. if h then ArgumentConflict ∷ [] else []) once)
 
-    go : (l : Option (Text × Option Text)) → long_of word ≡ l
-        → reads (walk_at (rows_for given) (Some (name, [])) (waits_for name)) (word ∷ words)
-        ≡ option_map rows_for (if is_hyphened word then None else option_and_then (λ more. given_after more None words) (added given name word))
+    Rest : Bool → Option (List Row)
+    Rest b = option_map rows_for (read_after (if b then None else with_option given name word) words)
+
+    go : (l : Option (Text × Option Text)) → long_of word ≡ l → reads (walk_at (rows_for given) (Some (name, [])) (waits_for name)) (word ∷ words) ≡ Rest (is_hyphened word)
     go None e =
         let bare = unhyphened word plain e in
         steps (walk_at (rows_for given) (Some (name, [])) (waits_for name)) (walk_at (rows_for given) (Some (name, word ∷ [])) idle) word words
         (waiting-plain (rows_for given) (Some (name, [])) name word e bare) (waiting-next (rows_for given) name word known e bare)
-        ∙ valued (has name given) refl
-        ∙ sym (ap (λ b. option_map rows_for (if b then None else option_and_then (λ more. given_after more None words) (added given name word))) bare)
-    go (Some (other, v)) e = stops (walk_at (rows_for given) (Some (name, [])) (waits_for name)) word words
+        ∙ valued (has name given) refl ∙ sym (ap Rest bare)
+    go (Some (other, v)) e = ends (walk_at (rows_for given) (Some (name, [])) (waits_for name)) word words
         (ap is_empty (waiting_turn (rows_for given) (Some (name, [])) word name other v e)
         ∙ long-faulty other v (waits_for name) word (held_at (rows_for given) (Some (name, []))) (settle-none (rows_for given) name known))
-        ∙ sym (ap (λ b. option_map rows_for (if b then None else option_and_then (λ more. given_after more None words) (added given name word))) (hyphened word (other, v) e))
+        ∙ sym (ap Rest (hyphened word (other, v) e))
 
 walks : (words : List Text) → list_any is_stray words ≡ false → IdleReads words × WaitingReads words
-unfolding walk_fault given_after
+unfolding walk_fault
 walks [] plain = (
   λ given rows p same passes i. if is_empty (passes i) then Some (same i) else None,
   λ given name known. ap (λ b. if b then Some (settled rules (held_at (rows_for given) (Some (name, [])))).rows else None) (settle-none (rows_for given) name known),
 )
 walks (word ∷ words) plain =
-    let parts = neither (is_stray word) (list_any is_stray words) plain in
+    let parts = or_parts (is_stray word) (list_any is_stray words) plain in
     let rest = walks words parts.1 in
     (idle-step word words parts.0 rest.0 rest.1, waiting-step word words parts.0 parts.1 rest.0)
 
@@ -506,59 +428,33 @@ read_is_asked words plain =
     (λ i. if is_empty (faults-whole words i) then asked_by (rows-whole words i) else None)
     ∙ when_read (is_empty (faults first_walk words)) (settled rules (end_of first_walk words)).rows
     ∙ ap (option_and_then asked_by) ((walks words plain).0 [] [] None refl refl)
-    ∙ asked-as (given_after [] None words)
-    ∙ ap (option_and_then (λ given. asked_with (λ name. value_of name given))) (sym (reads-as words [] None))
+    ∙ asked-as (read_after (Some ([], None)) words)
 
 -- ---- stray words
-
-no_more : (given : Given) (after : Given → Option Text → Option Given) → ((more : Given) (waiting : Option Text) → after more waiting ≡ None)
-    → (l : Option (Text × Option Text)) → option_then given after l ≡ None
-no_more given after none None = refl
-no_more given after none (Some (name, None)) = go (is_option name)
-  where
-    go : (b : Bool) → (if b then after given (Some name) else None) ≡ None
-    go true = none given (Some name)
-    go false = refl
-no_more given after none (Some (name, Some value)) = go (is_option name) (added given name value)
-  where
-    go : (b : Bool) (o : Option Given) → (if b then option_and_then (λ more. after more None) o else None) ≡ None
-    go true None = refl
-    go true (Some more) = none more None
-    go false o = refl
 
 stray_parts : (h : Bool) (l : Option (Text × Option Text)) → (h && not (is_some l)) ≡ true → (h ≡ true) × (l ≡ None)
 stray_parts true None e = (refl, refl)
 stray_parts true (Some l) e = absurd (true≢false (sym e))
 stray_parts false l e = absurd (true≢false (sym e))
 
-stray_gives_none : (words : List Text) → list_any is_stray words ≡ true → (given : Given) (waiting : Option Text) → given_after given waiting words ≡ None
-unfolding given_after
-stray_gives_none [] e given waiting = absurd (true≢false (sym e))
-stray_gives_none (word ∷ words) e given None = go (is_stray word) refl e (stray_gives_none words)
-  where
-    go : (b : Bool) → is_stray word ≡ b → (b || list_any is_stray words) ≡ true
-        → (list_any is_stray words ≡ true → (more : Given) (waiting : Option Text) → given_after more waiting words ≡ None)
-        → option_then given (λ more waiting. given_after more waiting words) (long_of word) ≡ None
-    go true is e rest = ap (option_then given (λ more waiting. given_after more waiting words)) (stray_parts (is_hyphened word) (long_of word) is).1
-    go false is e rest = no_more given (λ more waiting. given_after more waiting words) (rest e) (long_of word)
-stray_gives_none (word ∷ words) e given (Some name) = go (is_stray word) refl e (stray_gives_none words)
-  where
-    last : (b : Bool) (o : Option Given) → ((more : Given) → given_after more None words ≡ None)
-        → (if b then None else option_and_then (λ more. given_after more None words) o) ≡ None
-    last true o rest = refl
-    last false None rest = refl
-    last false (Some more) rest = rest more
+stray-next : (reading : Reading) (word : Text) → is_stray word ≡ true → next_word reading word ≡ None
+stray-next (given, None) word is =
+    ap (option_and_then (λ o. if is_option o.0 then option_word given o else None)) (stray_parts (is_hyphened word) (long_of word) is).1
+stray-next (given, Some name) word is = ap (λ b. if b then None else with_option given name word) (stray_parts (is_hyphened word) (long_of word) is).0
 
+stray_gives_none : (words : List Text) → list_any is_stray words ≡ true → (reading : Option Reading) → read_after reading words ≡ None
+stray_gives_none words e None = none-stays words
+stray_gives_none [] e (Some reading) = absurd (true≢false (sym e))
+stray_gives_none (word ∷ words) e (Some reading) = go (is_stray word) refl e (stray_gives_none words)
+  where
     go : (b : Bool) → is_stray word ≡ b → (b || list_any is_stray words) ≡ true
-        → (list_any is_stray words ≡ true → (more : Given) (waiting : Option Text) → given_after more waiting words ≡ None)
-        → (if is_hyphened word then None else option_and_then (λ more. given_after more None words) (added given name word)) ≡ None
-    go true is e rest = ap (λ b. if b then None else option_and_then (λ more. given_after more None words) (added given name word))
-        (stray_parts (is_hyphened word) (long_of word) is).0
-    go false is e rest = last (is_hyphened word) (added given name word) (λ more. rest e more None)
+        → (list_any is_stray words ≡ true → (reading : Option Reading) → read_after reading words ≡ None) → read_after (next_word reading word) words ≡ None
+    go true is e rest = ap (λ r. read_after r words) (stray-next reading word is) ∙ none-stays words
+    go false is e rest = rest e (next_word reading word)
 
 -- words with a stray one ask for nothing
 pub stray_is_refused : (words : List Text) → list_any is_stray words ≡ true → asked_for words ≡ None
-stray_is_refused words e = ap (option_and_then (λ given. asked_with (λ name. value_of name given))) (reads-as words [] None ∙ stray_gives_none words e [] None)
+stray_is_refused words e = ap (option_and_then (λ given. asked_with (λ name. value_of name given))) (stray_gives_none words e (Some ([], None)))
 
 -- ---- what the calls of clap give
 

@@ -1,0 +1,190 @@
+"""The crates in numbers, and whether they keep the house's measures.
+
+Every line that isn't blank counts once: of a crate's `src` as code, contract (a clause, or another ghost item) or test, a
+comment as none of them; of its `specs`, `proofs` and `must-fail` as they are. A function is as long as its code.
+"""
+import pathlib
+import re
+import sys
+
+WIDEST_CLAUSE = 100
+LONGEST_FUNCTION = 40
+LONGEST_FILE = 800
+ALL_TESTS = ("replay_tests",)
+COLUMNS = ("code", "contracts", "tests", "specs", "proofs", "edits", "functions", "clause", "function")
+FUNCTION = re.compile(r'(?:pub(?:\([\w:]+\))? )?(?:const )?(?:unsafe )?(?:extern "C" )?fn (\w+)')
+CLAUSE = re.compile(r"(requires|ensures)\b ?\*?(\w+)?")
+GHOST = re.compile(r"(?:pub(?:\([\w:]+\))? )?ghost\b")
+LITERAL = re.compile(r"""//.*|b?"(?:[^"\\]|\\.)*"|b?'(?:[^'\\]|\\.[^']*)'""")
+
+
+class Crate:
+    """The numbers of a crate, and each place that is over a measure."""
+
+    def __init__(self, name):
+        self.name = name
+        self.numbers = dict.fromkeys(COLUMNS, 0)
+        self.over = []
+
+    def count(self, column, number=1):
+        self.numbers[column] += number
+
+    def reach(self, column, number):
+        self.numbers[column] = max(self.numbers[column], number)
+
+    def proofs_to_the_rest(self):
+        return ratio(self.numbers)
+
+
+class Function:
+    """A function that is being read: where it begins, how deep, and what of it was counted."""
+
+    def __init__(self, name, place, depth):
+        self.name = name
+        self.place = place
+        self.depth = depth
+        self.has_body = False
+        self.lines = 0
+        self.clauses = {"requires": [], "ensures": []}
+
+
+def ratio(numbers):
+    rest = numbers["code"] + numbers["contracts"] + numbers["specs"]
+    return numbers["proofs"] / rest if rest else 0
+
+
+def lines_of(path):
+    return path.read_text(encoding="utf-8").splitlines()
+
+
+def bare(line):
+    """The line without texts, characters and comments."""
+    return LITERAL.sub("", line)
+
+
+def balance(line):
+    return sum(line.count(c) for c in "({[") - sum(line.count(c) for c in ")}]")
+
+
+class Source:
+    """A file of a crate's `src`, read line by line."""
+
+    def __init__(self, crate, path):
+        self.crate = crate
+        self.path = path
+        self.is_test = crate.name in ALL_TESTS or any(part.endswith("tests") for part in (path.stem, path.parent.name))
+        self.depth = 0
+        self.functions = []
+        self.ghost = 0       # how many brackets of a clause or of a ghost item are open
+        self.in_clause = False
+
+    def read(self):
+        for number, line in enumerate(lines_of(self.path), 1):
+            text = line.strip()
+            if text and not text.startswith("//"):
+                self.take(number, line, text)
+
+    def take(self, number, line, text):
+        code = bare(text)
+        clause = None if self.ghost else CLAUSE.match(text)
+        if clause or self.ghost or GHOST.match(text):
+            self.take_ghost(number, line, code, clause)
+        else:
+            self.take_code(number, text, code)
+
+    def take_ghost(self, number, line, code, clause):
+        self.crate.count("tests" if self.is_test else "contracts")
+        if clause:
+            self.in_clause = True
+            # A closure's clauses stand within the body.
+            if self.functions and not self.functions[-1].has_body:
+                self.functions[-1].clauses[clause[1]].append(clause[2])
+        if self.in_clause:
+            self.crate.reach("clause", len(line))
+            if len(line) > WIDEST_CLAUSE:
+                self.tell(number, f"a clause has {len(line)} columns")
+        self.ghost += balance(code)
+        if self.ghost == 0:
+            self.in_clause = False
+
+    def take_code(self, number, text, code):
+        if found := FUNCTION.match(text):
+            self.functions.append(Function(found[1], number, self.depth))
+        self.crate.count("tests" if self.is_test else "code")
+        for function in self.functions:
+            function.lines += 1
+        before = self.depth
+        self.depth += balance(code)
+        while self.functions and self.ends(self.functions[-1], before, code):
+            self.close(self.functions.pop())
+
+    def ends(self, function, before, code):
+        function.has_body = function.has_body or "{" in code
+        if function.has_body:
+            return self.depth == function.depth and code.endswith(("}", "},", "});", "};"))
+        return self.depth == function.depth and code.endswith(";") and before >= function.depth
+
+    def close(self, function):
+        if self.is_test:
+            return
+        self.crate.count("functions")
+        self.crate.reach("function", function.lines)
+        if function.lines >= LONGEST_FUNCTION:
+            self.tell(function.place, f"{function.name} has {function.lines} lines")
+        for kind, names in function.clauses.items():
+            if len(names) > 1 and None in names:
+                self.tell(function.place, f"{function.name} has several `{kind}`, and one without a name")
+
+    def tell(self, number, what):
+        self.crate.over.append(f"{self.path}:{number}: {what}")
+
+
+def crate_of(folder):
+    crate = Crate(folder.name)
+    for path in sorted(folder.rglob("*")):
+        part = path.relative_to(folder).parts[0]
+        if not path.is_file() or part in ("out", "data"):
+            continue
+        if part in ("src", "specs", "proofs") and len(lines_of(path)) > LONGEST_FILE:
+            crate.over.append(f"{path}: it has {len(lines_of(path))} lines")
+        if path.suffix == ".rt" and part == "src":
+            Source(crate, path).read()
+        elif path.suffix == ".antt":
+            crate.count(part, sum(1 for line in lines_of(path) if line.strip()))
+        elif path.suffix == ".edit":
+            crate.count("edits")
+    return crate
+
+
+def crates():
+    listed = [line.split(":")[0].split()[0] for line in lines_of(pathlib.Path("crates.txt")) if line.strip() and not line.startswith("#")]
+    return [crate_of(pathlib.Path("crates") / name) for name in listed]
+
+
+def show(all_crates):
+    """The table, and what the proofs come to beside what they prove."""
+    whole = Crate("all")
+    for crate in all_crates:
+        for column in COLUMNS[:-2]:
+            whole.count(column, crate.numbers[column])
+        for column in COLUMNS[-2:]:
+            whole.reach(column, crate.numbers[column])
+    print(f"{'':<18}" + "".join(f"{column:>10}" for column in COLUMNS) + "    proofs to the rest")
+    for crate in all_crates + [whole]:
+        print(f"{crate.name:<18}" + "".join(f"{crate.numbers[column]:>10}" for column in COLUMNS) + f"    {crate.proofs_to_the_rest():.2f}")
+
+
+def check(all_crates):
+    """Each crate is a test."""
+    for crate in all_crates:
+        for line in crate.over:
+            print(line)
+    failed = sum(1 for crate in all_crates if crate.over)
+    print(f"{len(all_crates) - failed} passed, {failed} failed")
+    return 1 if failed else 0
+
+
+if __name__ == "__main__":
+    if sys.argv[1:] == ["--check"]:
+        sys.exit(check(crates()))
+    show(crates())
