@@ -1,7 +1,7 @@
 """The crates in numbers, and whether they keep the house's measures.
 
 Every line that isn't blank counts once: of a crate's `src` as code, contract (a clause, or another ghost item) or test, a
-comment as none of them; of its `specs`, `proofs` and `must-fail` as they are. A function is as long as its code.
+comment as none of them; of its `specs`, `proofs` and `must-fail` as they are. A function is as long as the code of its body.
 """
 import pathlib
 import re
@@ -112,7 +112,7 @@ class Source:
             self.functions.append(Function(found[1], number, self.depth))
         self.crate.count("tests" if self.is_test else "code")
         for function in self.functions:
-            function.lines += 1
+            function.lines += function.has_body
         before = self.depth
         self.depth += balance(code)
         while self.functions and self.ends(self.functions[-1], before, code):
@@ -128,6 +128,8 @@ class Source:
         if self.is_test:
             return
         self.crate.count("functions")
+        # The line that closes the body is none of it.
+        function.lines = max(function.lines - 1, 0)
         self.crate.reach("function", function.lines)
         if function.lines >= LONGEST_FUNCTION:
             self.tell(function.place, f"{function.name} has {function.lines} lines")

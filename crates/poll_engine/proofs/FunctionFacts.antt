@@ -9,10 +9,11 @@ use Rattle.poll_engine.specs.Laws.{HasOneOutcome, IsPlainRun}
 use Rattle.poll_engine.specs.Plain.{NothingBehind, OwnPushes, all_held}
 use Rattle.poll_engine.specs.Polls.{At, Chain, Poll, arrivals, is_arrival, is_repoll, repolled, work_of}
 use Rattle.poll_engine.specs.Run.{is_spent}
+use Rattle.poll_engine.specs.Driven.{Going}
 use Rattle.poll_engine.specs.Turn.{HandsOn}
 use Rattle.poll_engine.proofs.PlainFacts.{IsPlainBatch, handed-most, runs-agree}
-use Rattle.poll_engine.proofs.PollFacts.{arrivals-append, arrivals-one, repolled-append, repolled-one, work-push}
-use Rattle.poll_engine.proofs.RunFacts.{Going, going-ends, going-poll, going-spliced, going-start}
+use Rattle.poll_engine.proofs.PollFacts.{arrivals-append, arrivals-one, chain-push, repolled-append, repolled-one, work-push}
+use Rattle.poll_engine.proofs.RunFacts.{going-ends, going-poll, going-spliced, going-start}
 use Rattle.poll_engine.specs.declared.bench.Once.{Once}
 
 -- budget and window are left
@@ -40,8 +41,8 @@ Roomy list n = Unit
 
 -- where a run over a list of one thread stands, with the polls of a progress
 record Stands {B : Type 0} (relation : B → ℕ → ℕ → Once → B → Type 0) (budget weight window : ℕ) (start : List ℕ) (bench : B) (p : Progress B) (own held back : List ℕ) : Type 0 where
-  going : Going all_held OwnPushes NothingBehind (At relation weight) budget window start held bench p.bench own back (length p.polls) (work_of p.polls)
-  same : going.polls ≡ p.polls
+  going : Going all_held OwnPushes NothingBehind budget window start p.polls held own back (length p.polls) (work_of p.polls)
+  chain : Chain (At relation weight) bench p.polls p.bench
 
 hands : (list : List ℕ) (arrival : Bool) (id : ℕ) → HandsOn all_held OwnPushes Roomy list arrival id (list ++ cond arrival (id ∷ []) [])
 hands list true id = record { came = id ∷ []; moved = refl; entries_after = refl; room = λ n h. tt }
@@ -49,48 +50,30 @@ hands list false id = append-nil list
 
 stands-start : {B : Type 0} (relation : B → ℕ → ℕ → Once → B → Type 0) (budget weight window : ℕ) (start : List ℕ) (bench : B) → 1 ≤ budget → 1 ≤ window
     → Stands relation budget weight window start bench (record { bench = bench; polls = [] }) start [] []
-unfolding going-start
 stands-start relation budget weight window start bench money room = record {
-  going = going-start all_held OwnPushes NothingBehind (At relation weight) budget window start [] bench start money room
+  going = going-start all_held OwnPushes NothingBehind budget window start [] start money room
       (record { came = []; moved = refl; gives = sym (append-nil start); nothing_kept = refl; all = tt });
-  same = refl;
+  chain = refl;
 }
 
 -- counts that are equal serve as well
-recount : {B : Type 0} (leads : B → Poll → B → Type 0) (budget window : ℕ) (start held : List ℕ) (bench now : B) (own back : List ℕ) (count sum more total : ℕ)
-    → (g : Going all_held OwnPushes NothingBehind leads budget window start held bench now own back count sum) → more ≡ count → total ≡ sum
-    → (h : Going all_held OwnPushes NothingBehind leads budget window start held bench now own back more total) × (h.polls ≡ g.polls)
-recount leads budget window start held bench now own back count sum more total g c s = (
-  record {
-    polls = g.polls;
-    first = g.first;
-    further = g.further;
-    came = g.came;
-    chain = g.chain;
-    batches = g.batches;
-    not_empty = g.not_empty;
-    front = g.front;
-    moved = g.moved;
-    joined = g.joined;
-    again = g.again;
-    goes_on = g.goes_on;
-    counted = c ∙ g.counted;
-    summed = s ∙ g.summed;
-  },
-  refl,
-)
-
-pushed : {B : Type 0} (relation : B → ℕ → ℕ → Once → B → Type 0) (budget weight window : ℕ) (start : List ℕ) (bench now polled : B) (own held back : List ℕ) (count sum : ℕ) (poll : Poll)
-    → sum < budget → count < window → At relation weight now poll polled
-    → (g : Going all_held OwnPushes NothingBehind (At relation weight) budget window start held bench now (poll.id ∷ own) back count sum)
-    → (h : Going all_held OwnPushes NothingBehind (At relation weight) budget window start (held ++ cond (is_arrival poll.once.next) (poll.id ∷ []) []) bench polled own
-    (back ++ cond (is_repoll poll.once.next) (poll.id ∷ []) []) (count + 1) (sum + poll.once.work)) × (h.polls ≡ g.polls ++ poll ∷ [])
-unfolding going-poll
-pushed relation budget weight window start bench now polled own held back count sum poll money room l g = (
-  going-poll all_held OwnPushes NothingBehind Roomy (At relation weight) budget window start held (held ++ cond (is_arrival poll.once.next) (poll.id ∷ []) []) bench now polled own back count sum poll
-      own-stays own-joins money room (hands held (is_arrival poll.once.next) poll.id) l g,
-  refl,
-)
+recount : (budget window : ℕ) (start held : List ℕ) (polls : List Poll) (own back : List ℕ) (count sum more total : ℕ)
+    → (g : Going all_held OwnPushes NothingBehind budget window start polls held own back count sum) → more ≡ count → total ≡ sum
+    → Going all_held OwnPushes NothingBehind budget window start polls held own back more total
+recount budget window start held polls own back count sum more total g c s = record {
+  first = g.first;
+  further = g.further;
+  came = g.came;
+  batches = g.batches;
+  not_empty = g.not_empty;
+  front = g.front;
+  moved = g.moved;
+  joined = g.joined;
+  again = g.again;
+  goes_on = g.goes_on;
+  counted = c ∙ g.counted;
+  summed = s ∙ g.summed;
+}
 
 -- one more poll of the progress
 stands-poll : {B : Type 0} (relation : B → ℕ → ℕ → Once → B → Type 0) (poll : B → ℕ → ℕ → Once × B) → IsGivenBy relation poll
@@ -102,12 +85,15 @@ stands-poll : {B : Type 0} (relation : B → ℕ → ℕ → Once → B → Type
 stands-poll relation poll given budget weight window start bench p id own held back left s =
     let more = unspent budget window p.polls left in
     let one : Poll = record { id = id; once = (poll p.bench id weight).0 } in
-    let next = pushed relation budget weight window start bench p.bench (poll p.bench id weight).1 own held back (length p.polls) (work_of p.polls) one more.0 more.1
-    ((given p.bench (poll p.bench id weight).1 id weight (poll p.bench id weight).0).1 (refl, refl)) s.going in
-    let counted = recount (At relation weight) budget window start (held ++ cond (is_arrival one.once.next) (id ∷ []) []) bench (poll p.bench id weight).1 own
-    (back ++ cond (is_repoll one.once.next) (id ∷ []) []) (length p.polls + 1) (work_of p.polls + one.once.work) (length (p.polls ++ one ∷ [])) (work_of (p.polls ++ one ∷ []))
-    next.0 (length-append p.polls (one ∷ [])) (work-push p.polls one) in
-    record { going = counted.0; same = counted.1 ∙ next.1 ∙ ap (λ (ps : List Poll). ps ++ one ∷ []) s.same }
+    let next = going-poll all_held OwnPushes NothingBehind Roomy budget window start p.polls held (held ++ cond (is_arrival one.once.next) (one.id ∷ []) []) own back
+    (length p.polls) (work_of p.polls) one own-stays own-joins more.0 more.1 (hands held (is_arrival one.once.next) one.id) s.going in
+    record {
+      going = recount budget window start (held ++ cond (is_arrival one.once.next) (id ∷ []) []) (p.polls ++ one ∷ []) own
+          (back ++ cond (is_repoll one.once.next) (id ∷ []) []) (length p.polls + 1) (work_of p.polls + one.once.work) (length (p.polls ++ one ∷ [])) (work_of (p.polls ++ one ∷ []))
+          next (length-append p.polls (one ∷ [])) (work-push p.polls one);
+      chain = chain-push (At relation weight) bench p.polls p.bench (poll p.bench id weight).1 one s.chain
+          ((given p.bench (poll p.bench id weight).1 id weight (poll p.bench id weight).0).1 (refl, refl));
+    }
 
 arrivals-cons : (one : Poll) (polls : List Poll) → arrivals (one ∷ polls) ≡ cond (is_arrival one.once.next) (one.id ∷ []) [] ++ arrivals polls
 arrivals-cons one polls = arrivals-append (one ∷ []) polls ∙ ap (λ (l : List ℕ). l ++ arrivals polls) (arrivals-one one)
@@ -179,9 +165,9 @@ ended : {B : Type 0} (relation : B → ℕ → ℕ → Once → B → Type 0) (b
     → (is_spent budget window p.polls ≡ false → (own ≡ []) × ((back ≢ []) ⊎ IsPlainBatch budget window start p.polls []))
     → Outcome relation budget weight window start bench (p, (own ++ held) ++ back)
 ended relation budget weight window start bench p own held back s ends = (
-  rw s.same at s.going.chain,
-  rw s.same at (going-ends all_held OwnPushes NothingBehind (At relation weight) budget window start held ((own ++ held) ++ back) bench p.bench own back (length p.polls) (work_of p.polls)
-      (run_report budget window p.polls) own-joins ([], refl, rw (append-nil held) refl) tt refl refl refl (record { going = s.going; ends = λ e. subst (λ (ps : List Poll). (own ≡ []) × ((back ≢ []) ⊎ IsPlainBatch budget window start ps [])) (sym s.same) (ends e) })),
+  s.chain,
+  going-ends all_held OwnPushes NothingBehind budget window start p.polls held ((own ++ held) ++ back) own back (length p.polls) (work_of p.polls)
+      (run_report budget window p.polls) own-joins ([], refl, rw (append-nil held) refl) tt refl refl refl s.going (λ e. rw (← s.going.again) (ends e)),
 )
 
 -- where nothing is to be repolled and the own list is empty, what the list holds is the next batch, or shows that there is none
@@ -189,19 +175,16 @@ next-batch : {B : Type 0} (relation : B → ℕ → ℕ → Once → B → Type 
     → is_spent budget window p.polls ≡ false
     → Stands relation budget weight window start bench p [] held []
     → Stands relation budget weight window start bench p held [] [] × (held ≡ [] → IsPlainBatch budget window start p.polls [])
-unfolding going-spliced
 next-batch relation budget weight window start bench p [] left s =
     let more = unspent budget window p.polls left in
-    let filled = going-spliced all_held OwnPushes NothingBehind (At relation weight) budget window start [] [] bench p.bench [] (length p.polls) (work_of p.polls) own-joins more.0 more.1
-    (record { came = []; moved = refl; gives = refl; nothing_kept = refl; all = tt }) s.going in (
-      record { going = filled.going; same = s.same },
-      λ e. elim (filled.none refl) [ inl again ↦ absurd (again refl) | inr batch ↦ subst (λ (ps : List Poll). IsPlainBatch budget window start ps []) s.same batch ],
-    )
+    let filled = going-spliced all_held OwnPushes NothingBehind budget window start p.polls [] [] [] (length p.polls) (work_of p.polls) own-joins more.0 more.1
+    (record { came = []; moved = refl; gives = refl; nothing_kept = refl; all = tt }) s.going in
+    (record { going = filled.going; chain = s.chain }, λ e. elim (filled.none refl) [ inl again ↦ absurd (again refl) | inr batch ↦ batch ])
 next-batch relation budget weight window start bench p (id ∷ held) left s =
     let more = unspent budget window p.polls left in
-    let filled = going-spliced all_held OwnPushes NothingBehind (At relation weight) budget window start (id ∷ held) [] bench p.bench (id ∷ held) (length p.polls) (work_of p.polls) own-joins more.0 more.1
+    let filled = going-spliced all_held OwnPushes NothingBehind budget window start p.polls (id ∷ held) [] (id ∷ held) (length p.polls) (work_of p.polls) own-joins more.0 more.1
     (record { came = []; moved = refl; gives = sym (append-nil (id ∷ held)); nothing_kept = refl; all = tt }) s.going in
-    (record { going = filled.going; same = s.same }, λ e. cc e)
+    (record { going = filled.going; chain = s.chain }, λ e. cc e)
 
 empty-if : (xs : List ℕ) → (length xs == 0) ≡ true → xs ≡ []
 empty-if [] h = refl

@@ -1,15 +1,16 @@
 -- A run on its way, and how each turn of the loop carries it on.
 use Rattle.std.proofs.Common.{◌≡◌, ◌≢◌, ◌∙◌, ◌⊎◌, inl, inr, ℕ, ◌+◌, ◌<◌, ◌≤◌, Bool, true, false, cond, List, [], ◌∷◌, ◌++◌, length, length-append, take, refl, sym, ap, subst, arith, append_assoc}
-use Rattle.std.specs.Prelude.{nat_le, ◌||◌}
+use Rattle.std.specs.Prelude.{nat_le, ◌||◌, Option, Some, None, MatchOption}
 use Rattle.std.specs.List.{AllByRecursion, concat}
 use Rattle.std.proofs.lemmas.Bool.{lt-leb}
 use Rattle.std.proofs.lemmas.List.{append-nil, take-append-le, take_all}
 use Rattle.std.proofs.lemmas.List.Folds.{concat-append}
 use Rattle.std.proofs.Math.Nat.{eq-or-lt_of_le}
-use Rattle.poll_engine.specs.Polls.{Chain, Poll, arrivals, ids, is_arrival, is_repoll, repolled, work_of}
+use Rattle.poll_engine.specs.Polls.{Poll, arrivals, ids, is_arrival, is_repoll, repolled, work_of}
 use Rattle.poll_engine.specs.Run.{AreBatches, IsBatch, IsRun, is_spent}
-use Rattle.poll_engine.specs.Turn.{HandsOn, Refills, Takes}
-use Rattle.poll_engine.proofs.PollFacts.{arrivals-append, arrivals-one, chain-push, ids-append, length-ids, repolled-append, repolled-one, taken-le, work-push}
+use Rattle.poll_engine.specs.Driven.{Going}
+use Rattle.poll_engine.specs.Turn.{HandsOn, Refills, Takes, asked_for}
+use Rattle.poll_engine.proofs.PollFacts.{arrivals-append, arrivals-one, ids-append, length-ids, repolled-append, repolled-one, taken-le, work-push}
 use Rattle.napi_model.specs.declared.state.Kind.TheVariants as kind
 use Rattle.poll_engine.specs.declared.bench.Next.{Next}
 use Rattle.poll_engine.specs.declared.bench.Next.TheVariants.{Absent, Gone, Again, Repoll}
@@ -44,36 +45,16 @@ not-empty-push (first ∷ batches) batch h n = (h.0, not-empty-push batches batc
 pub not-spent : (budget window : ℕ) (polls : List Poll) → work_of polls < budget → length polls < window → is_spent budget window polls ≡ false
 not-spent budget window polls money room = rw (lt-leb budget (work_of polls) money, lt-leb window (length polls) room) refl
 
--- where a run stands: its polls, the batches that it took, and what came until now
-pub record Going {L B : Type 0} (entries : L → List ℕ) (moves : L → List ℕ → List ℕ → L → Type 0) (is_all : List ℕ → L → Type 0)
-    (leads : B → Poll → B → Type 0) (budget window : ℕ) (start list : L) (first_bench bench : B) (own repoll : List ℕ) (count sum : ℕ) : Type 0 where
-  pub polls : List Poll
-  pub first : List ℕ
-  pub further : List (List ℕ)
-  pub came : List ℕ
-  pub chain : Chain leads first_bench polls bench
-  pub batches : AreBatches (IsBatch entries moves is_all budget window start) polls [] (first ∷ further)
-  pub not_empty : AllByRecursion (λ batch. batch ≢ []) further
-  pub front : ids polls ++ own ≡ first ++ concat further
-  pub moved : moves start (arrivals polls) came list
-  pub joined : (first ++ concat further) ++ entries list ≡ entries start ++ came
-  pub again : repoll ≡ repolled polls
-  pub goes_on : (n : ℕ) → n < length polls → is_spent budget window (take n polls) ≡ false
-  pub counted : count ≡ length polls
-  pub summed : sum ≡ work_of polls
-
 -- the first splice
-unfoldable pub going-start : {L B : Type 0} (entries : L → List ℕ) (moves : L → List ℕ → List ℕ → L → Type 0) (is_all : List ℕ → L → Type 0)
-    (leads : B → Poll → B → Type 0) (budget window : ℕ) (start list : L) (bench : B) (own : List ℕ)
+pub going-start : {L : Type 0} (entries : L → List ℕ) (moves : L → List ℕ → List ℕ → L → Type 0) (is_all : List ℕ → L → Type 0)
+    (budget window : ℕ) (start list : L) (own : List ℕ)
     → 0 < budget → 0 < window
     → Takes entries moves is_all start own list
-    → Going entries moves is_all leads budget window start list bench bench own [] 0 0
-going-start entries moves is_all leads budget window start list bench own money room s = record {
-  polls = [];
+    → Going entries moves is_all budget window start [] list own [] 0 0
+going-start entries moves is_all budget window start list own money room s = record {
   first = own;
   further = [];
   came = s.came;
-  chain = refl;
   batches = (refl, record { when = list; came = s.came; moved = s.moved; whole = s.gives; all = s.all; no_repoll = refl; left = (money, room) }, tt);
   not_empty = tt;
   front = sym (append-nil own);
@@ -86,31 +67,31 @@ going-start entries moves is_all leads budget window start list bench own money 
 }
 
 -- a run whose own list was filled, as far as there was something
-pub record Filled {L B : Type 0} (entries : L → List ℕ) (moves : L → List ℕ → List ℕ → L → Type 0) (is_all : List ℕ → L → Type 0)
-    (leads : B → Poll → B → Type 0) (budget window : ℕ) (start list : L) (first_bench bench : B) (own repoll : List ℕ) (count sum : ℕ) : Type 0 where
-  pub going : Going entries moves is_all leads budget window start list first_bench bench own repoll count sum
-  pub none : own ≡ [] → (repoll ≢ []) ⊎ IsBatch entries moves is_all budget window start going.polls []
+pub record Filled {L : Type 0} (entries : L → List ℕ) (moves : L → List ℕ → List ℕ → L → Type 0) (is_all : List ℕ → L → Type 0)
+    (budget window : ℕ) (start : L) (polls : List Poll) (list : L) (own repoll : List ℕ) (count sum : ℕ) : Type 0 where
+  pub going : Going entries moves is_all budget window start polls list own repoll count sum
+  pub none : own ≡ [] → (repoll ≢ []) ⊎ IsBatch entries moves is_all budget window start polls []
 
 -- a further batch, or none
-unfoldable pub going-spliced : {L B : Type 0} (entries : L → List ℕ) (moves : L → List ℕ → List ℕ → L → Type 0) (is_all : List ℕ → L → Type 0)
-    (leads : B → Poll → B → Type 0) (budget window : ℕ) (start list after : L) (first_bench bench : B) (given : List ℕ) (count sum : ℕ)
+pub going-spliced : {L : Type 0} (entries : L → List ℕ) (moves : L → List ℕ → List ℕ → L → Type 0) (is_all : List ℕ → L → Type 0)
+    (budget window : ℕ) (start : L) (polls : List Poll) (list after : L) (given : List ℕ) (count sum : ℕ)
     → ((a b c : L) (pushed more came later : List ℕ) → moves a pushed came b → moves b more later c → moves a (pushed ++ more) (came ++ later) c)
     → sum < budget → count < window
     → Takes entries moves is_all list given after
-    → Going entries moves is_all leads budget window start list first_bench bench [] [] count sum
-    → Filled entries moves is_all leads budget window start after first_bench bench given [] count sum
-going-spliced {L} {B} entries moves is_all leads budget window start list after first_bench bench given count sum joins money room s g = by given refl
+    → Going entries moves is_all budget window start polls list [] [] count sum
+    → Filled entries moves is_all budget window start polls after given [] count sum
+going-spliced {L} entries moves is_all budget window start polls list after given count sum joins money room s g = by given refl
   where
-    taken : ids g.polls ≡ g.first ++ concat g.further
-    taken = sym (append-nil (ids g.polls)) ∙ g.front
+    taken : ids polls ≡ g.first ++ concat g.further
+    taken = sym (append-nil (ids polls)) ∙ g.front
 
-    moved : moves start (arrivals g.polls) (g.came ++ s.came) after
-    moved = rw (append-nil (arrivals g.polls)) at (joins start list after (arrivals g.polls) [] g.came s.came g.moved s.moved)
+    moved : moves start (arrivals polls) (g.came ++ s.came) after
+    moved = rw (append-nil (arrivals polls)) at (joins start list after (arrivals polls) [] g.came s.came g.moved s.moved)
 
     whole : (g.first ++ concat g.further) ++ given ≡ entries start ++ (g.came ++ s.came)
     whole = rw (s.gives, ← append_assoc (g.first ++ concat g.further) (entries list) s.came, g.joined) (append_assoc (entries start) g.came s.came)
 
-    batch : IsBatch entries moves is_all budget window start g.polls given
+    batch : IsBatch entries moves is_all budget window start polls given
     batch = record {
       when = after;
       came = g.came ++ s.came;
@@ -121,14 +102,12 @@ going-spliced {L} {B} entries moves is_all leads budget window start list after 
       left = (omega (arith, g.summed), omega (arith, g.counted));
     }
 
-    by : (own : List ℕ) → own ≡ given → Filled entries moves is_all leads budget window start after first_bench bench own [] count sum
+    by : (own : List ℕ) → own ≡ given → Filled entries moves is_all budget window start polls after own [] count sum
     by [] e = record {
       going = record {
-        polls = g.polls;
         first = g.first;
         further = g.further;
         came = g.came ++ s.came;
-        chain = g.chain;
         batches = g.batches;
         not_empty = g.not_empty;
         front = g.front;
@@ -143,12 +122,10 @@ going-spliced {L} {B} entries moves is_all leads budget window start list after 
     }
     by (id ∷ own) e = record {
       going = record {
-        polls = g.polls;
         first = g.first;
         further = g.further ++ given ∷ [];
         came = g.came ++ s.came;
-        chain = g.chain;
-        batches = batches-more (IsBatch entries moves is_all budget window start) g.polls [] (g.first ∷ g.further) given g.batches taken batch;
+        batches = batches-more (IsBatch entries moves is_all budget window start) polls [] (g.first ∷ g.further) given g.batches taken batch;
         not_empty = not-empty-push g.further given g.not_empty (λ h. let bad : id ∷ own ≡ [] = e ∙ h in cc bad);
         front = rw (taken, e, concat-append g.further (given ∷ []), append-nil given) (append_assoc g.first (concat g.further) given);
         moved = moved;
@@ -161,19 +138,19 @@ going-spliced {L} {B} entries moves is_all leads budget window start list after 
       none = λ h. cc h;
     }
 
-pub going-filled : {L B : Type 0} (entries : L → List ℕ) (moves : L → List ℕ → List ℕ → L → Type 0) (is_all : List ℕ → L → Type 0) (has_room : L → ℕ → Type 0)
-    (leads : B → Poll → B → Type 0) (budget window : ℕ) (start list after : L) (first_bench bench : B) (own repoll filled : List ℕ) (count sum : ℕ)
+pub going-filled : {L : Type 0} (entries : L → List ℕ) (moves : L → List ℕ → List ℕ → L → Type 0) (is_all : List ℕ → L → Type 0) (has_room : L → ℕ → Type 0)
+    (budget window : ℕ) (start : L) (polls : List Poll) (list after : L) (own repoll filled : List ℕ) (count sum : ℕ)
     → ((a b c : L) (pushed more came later : List ℕ) → moves a pushed came b → moves b more later c → moves a (pushed ++ more) (came ++ later) c)
     → sum < budget → count < window
     → Refills entries moves is_all has_room own list repoll filled after
-    → Going entries moves is_all leads budget window start list first_bench bench own repoll count sum
-    → Filled entries moves is_all leads budget window start after first_bench bench filled repoll count sum
-going-filled entries moves is_all has_room leads budget window start list after first_bench bench (id ∷ own) repoll filled count sum joins money room r g =
+    → Going entries moves is_all budget window start polls list own repoll count sum
+    → Filled entries moves is_all budget window start polls after filled repoll count sum
+going-filled entries moves is_all has_room budget window start polls list after (id ∷ own) repoll filled count sum joins money room r g =
     rw (r.0, r.1) (record { going = g; none = λ h. cc h })
-going-filled entries moves is_all has_room leads budget window start list after first_bench bench [] (id ∷ repoll) filled count sum joins money room r g =
+going-filled entries moves is_all has_room budget window start polls list after [] (id ∷ repoll) filled count sum joins money room r g =
     rw (r.0, r.1) (record { going = g; none = λ h. inl (λ e. cc e) })
-going-filled entries moves is_all has_room leads budget window start list after first_bench bench [] [] filled count sum joins money room r g =
-    going-spliced entries moves is_all leads budget window start list after first_bench bench filled count sum joins money room r.takes g
+going-filled entries moves is_all has_room budget window start polls list after [] [] filled count sum joins money room r g =
+    going-spliced entries moves is_all budget window start polls list after filled count sum joins money room r.takes g
 
 -- what one poll pushed, and what came by it
 pub pushed-by : {L : Type 0} (entries : L → List ℕ) (moves : L → List ℕ → List ℕ → L → Type 0) (has_room : L → ℕ → Type 0)
@@ -184,62 +161,76 @@ pushed-by entries moves has_room list after true id stays h = (h.came, h.moved, 
 pushed-by entries moves has_room list after false id stays h = ([], rw h (stays list), rw h (sym (append-nil (entries list))))
 
 -- one more poll
-unfoldable pub going-poll : {L B : Type 0} (entries : L → List ℕ) (moves : L → List ℕ → List ℕ → L → Type 0) (is_all : List ℕ → L → Type 0) (has_room : L → ℕ → Type 0)
-    (leads : B → Poll → B → Type 0) (budget window : ℕ) (start list after : L) (first_bench bench polled : B) (own repoll : List ℕ) (count sum : ℕ) (poll : Poll)
+pub going-poll : {L : Type 0} (entries : L → List ℕ) (moves : L → List ℕ → List ℕ → L → Type 0) (is_all : List ℕ → L → Type 0) (has_room : L → ℕ → Type 0)
+    (budget window : ℕ) (start : L) (polls : List Poll) (list after : L) (own repoll : List ℕ) (count sum : ℕ) (poll : Poll)
     → ((at : L) → moves at [] [] at)
     → ((a b c : L) (pushed more came later : List ℕ) → moves a pushed came b → moves b more later c → moves a (pushed ++ more) (came ++ later) c)
     → sum < budget → count < window
-    → HandsOn entries moves has_room list (is_arrival poll.once.next) poll.id after → leads bench poll polled
-    → Going entries moves is_all leads budget window start list first_bench bench (poll.id ∷ own) repoll count sum
-    → Going entries moves is_all leads budget window start after first_bench polled own (repoll ++ cond (is_repoll poll.once.next) (poll.id ∷ []) [])
+    → HandsOn entries moves has_room list (is_arrival poll.once.next) poll.id after
+    → Going entries moves is_all budget window start polls list (poll.id ∷ own) repoll count sum
+    → Going entries moves is_all budget window start (polls ++ poll ∷ []) after own (repoll ++ cond (is_repoll poll.once.next) (poll.id ∷ []) [])
     (count + 1) (sum + poll.once.work)
-going-poll entries moves is_all has_room leads budget window start list after first_bench bench polled own repoll count sum poll stays joins money room h l g =
+going-poll entries moves is_all has_room budget window start polls list after own repoll count sum poll stays joins money room h g =
     let pushed = pushed-by entries moves has_room list after (is_arrival poll.once.next) poll.id stays h in
     record {
-      polls = g.polls ++ poll ∷ [];
       first = g.first;
       further = g.further;
       came = g.came ++ pushed.0;
-      chain = chain-push leads first_bench g.polls bench polled poll g.chain l;
-      batches = batches-push (IsBatch entries moves is_all budget window start) g.polls poll [] (g.first ∷ g.further) g.batches;
+      batches = batches-push (IsBatch entries moves is_all budget window start) polls poll [] (g.first ∷ g.further) g.batches;
       not_empty = g.not_empty;
-      front = rw (ids-append g.polls (poll ∷ [])) (append_assoc (ids g.polls) (poll.id ∷ []) own ∙ g.front);
-      moved = rw (arrivals-append g.polls (poll ∷ []), arrivals-one poll) (joins start list after (arrivals g.polls) (cond (is_arrival poll.once.next) (poll.id ∷ []) []) g.came pushed.0 g.moved pushed.1);
+      front = rw (ids-append polls (poll ∷ [])) (append_assoc (ids polls) (poll.id ∷ []) own ∙ g.front);
+      moved = rw (arrivals-append polls (poll ∷ []), arrivals-one poll) (joins start list after (arrivals polls) (cond (is_arrival poll.once.next) (poll.id ∷ []) []) g.came pushed.0 g.moved pushed.1);
       joined = rw (pushed.2, ← append_assoc (g.first ++ concat g.further) (entries list) pushed.0, g.joined) (append_assoc (entries start) g.came pushed.0);
-      again = rw (repolled-append g.polls (poll ∷ []), repolled-one poll, g.again) refl;
+      again = rw (repolled-append polls (poll ∷ []), repolled-one poll, g.again) refl;
       goes_on = goes_on;
-      counted = rw (length-append g.polls (poll ∷ []), g.counted) refl;
-      summed = rw (work-push g.polls poll, g.summed) refl;
+      counted = rw (length-append polls (poll ∷ []), g.counted) refl;
+      summed = rw (work-push polls poll, g.summed) refl;
     }
   where
-    early : (n : ℕ) → n < length g.polls → is_spent budget window (take n (g.polls ++ poll ∷ [])) ≡ false
-    early n e = rw (take-append-le n g.polls (poll ∷ []) (omega arith)) (g.goes_on n e)
+    early : (n : ℕ) → n < length polls → is_spent budget window (take n (polls ++ poll ∷ [])) ≡ false
+    early n e = rw (take-append-le n polls (poll ∷ []) (omega arith)) (g.goes_on n e)
 
-    late : (n : ℕ) → n ≡ length g.polls → is_spent budget window (take n (g.polls ++ poll ∷ [])) ≡ false
+    late : (n : ℕ) → n ≡ length polls → is_spent budget window (take n (polls ++ poll ∷ [])) ≡ false
     late n e =
-        rw (e, take-append-le (length g.polls) g.polls (poll ∷ []) (omega arith), take_all (length g.polls) g.polls (omega arith))
-        (not-spent budget window g.polls (omega (arith, g.summed)) (omega (arith, g.counted)))
+        rw (e, take-append-le (length polls) polls (poll ∷ []) (omega arith), take_all (length polls) polls (omega arith))
+        (not-spent budget window polls (omega (arith, g.summed)) (omega (arith, g.counted)))
 
-    goes_on : (n : ℕ) → n < length (g.polls ++ poll ∷ []) → is_spent budget window (take n (g.polls ++ poll ∷ [])) ≡ false
-    goes_on n e = elim (eq-or-lt_of_le {n = n} {m = length g.polls} (omega (arith, length-append g.polls (poll ∷ []), e))) [ inl same ↦ late n same | inr less ↦ early n less ]
+    goes_on : (n : ℕ) → n < length (polls ++ poll ∷ []) → is_spent budget window (take n (polls ++ poll ∷ [])) ≡ false
+    goes_on n e = elim (eq-or-lt_of_le {n = n} {m = length polls} (omega (arith, length-append polls (poll ∷ []), e))) [ inl same ↦ late n same | inr less ↦ early n less ]
 
--- a run that polls no more
-pub record Stopped {L B : Type 0} (entries : L → List ℕ) (moves : L → List ℕ → List ℕ → L → Type 0) (is_all : List ℕ → L → Type 0)
-    (leads : B → Poll → B → Type 0) (budget window : ℕ) (start list : L) (first_bench bench : B) (own repoll : List ℕ) (count sum : ℕ) (squeezed : Bool) : Type 0 where
-  pub going : Going entries moves is_all leads budget window start list first_bench bench own repoll count sum
-  pub ends : squeezed ≡ false → (own ≡ []) × ((repoll ≢ []) ⊎ IsBatch entries moves is_all budget window start going.polls [])
+-- between polls more came to the list
+pub going-came : {L : Type 0} (entries : L → List ℕ) (moves : L → List ℕ → List ℕ → L → Type 0) (is_all : List ℕ → L → Type 0)
+    (budget window : ℕ) (start : L) (polls : List Poll) (list after : L) (ahead repoll : List ℕ) (count sum : ℕ) (came : List ℕ)
+    → ((a b c : L) (pushed more came later : List ℕ) → moves a pushed came b → moves b more later c → moves a (pushed ++ more) (came ++ later) c)
+    → moves list [] came after → entries after ≡ entries list ++ came
+    → Going entries moves is_all budget window start polls list ahead repoll count sum
+    → Going entries moves is_all budget window start polls after ahead repoll count sum
+going-came entries moves is_all budget window start polls list after ahead repoll count sum came joins moved held g = record {
+  first = g.first;
+  further = g.further;
+  came = g.came ++ came;
+  batches = g.batches;
+  not_empty = g.not_empty;
+  front = g.front;
+  moved = rw (append-nil (arrivals polls)) at (joins start list after (arrivals polls) [] g.came came g.moved moved);
+  joined = rw (held, ← append_assoc (g.first ++ concat g.further) (entries list) came, g.joined) (append_assoc (entries start) g.came came);
+  again = g.again;
+  goes_on = g.goes_on;
+  counted = g.counted;
+  summed = g.summed;
+}
 
 -- what the run leaves
-pub going-ends : {L B : Type 0} (entries : L → List ℕ) (moves : L → List ℕ → List ℕ → L → Type 0) (is_all : List ℕ → L → Type 0)
-    (leads : B → Poll → B → Type 0) (budget window : ℕ) (start list after : L) (first_bench bench : B) (own repoll : List ℕ) (count sum : ℕ) (report : RunReport)
+pub going-ends : {L : Type 0} (entries : L → List ℕ) (moves : L → List ℕ → List ℕ → L → Type 0) (is_all : List ℕ → L → Type 0)
+    (budget window : ℕ) (start : L) (polls : List Poll) (list after : L) (own repoll : List ℕ) (count sum : ℕ) (report : RunReport)
     → ((a b c : L) (pushed more came later : List ℕ) → moves a pushed came b → moves b more later c → moves a (pushed ++ more) (came ++ later) c)
     → ((came : List ℕ) × moves list [] came after × (entries after ≡ own ++ (entries list ++ came) ++ repoll))
     → is_all (entries after) after
     → report.polls ≡ count → report.work ≡ sum → report.squeezed ≡ (nat_le budget sum || nat_le window count)
-    → (stopped : Stopped entries moves is_all leads budget window start list first_bench bench own repoll count sum report.squeezed)
-    → IsRun entries moves is_all budget window start stopped.going.polls after report
-going-ends entries moves is_all leads budget window start list after first_bench bench own repoll count sum report joins back all polls work squeezed stopped =
-    let g = stopped.going in
+    → Going entries moves is_all budget window start polls list own repoll count sum
+    → (is_spent budget window polls ≡ false → (own ≡ []) × ((repolled polls ≢ []) ⊎ IsBatch entries moves is_all budget window start polls []))
+    → IsRun entries moves is_all budget window start polls after report
+going-ends entries moves is_all budget window start polls list after own repoll count sum report joins back all told work squeezed g over =
     record {
       first = g.first;
       further = g.further;
@@ -249,14 +240,14 @@ going-ends entries moves is_all leads budget window start list after first_bench
       batches = g.batches;
       not_empty = g.not_empty;
       front = g.front;
-      moved = rw (append-nil (arrivals g.polls)) at (joins start list after (arrivals g.polls) [] g.came back.0 g.moved back.1);
+      moved = rw (append-nil (arrivals polls)) at (joins start list after (arrivals polls) [] g.came back.0 g.moved back.1);
       joined = rw (← append_assoc (g.first ++ concat g.further) (entries list) back.0, g.joined) (append_assoc (entries start) g.came back.0);
       left = rw (← g.again) back.2;
       all = all;
       goes_on = g.goes_on;
       squeezed = rw (← g.counted, ← g.summed) squeezed;
-      ends = λ e. rw (← g.again) (stopped.ends e);
-      count = polls ∙ g.counted;
+      ends = λ e. over (sym (rw (← g.counted, ← g.summed) squeezed) ∙ e);
+      count = told ∙ g.counted;
       sum = work ∙ g.summed;
     }
 
@@ -294,3 +285,17 @@ handed-room {L} entries moves has_room list after next id own repoll again less 
     by Repoll p a =
         let size : length again ≡ length repoll + 1 = ap length a ∙ length-append repoll (id ∷ []) in
         (omega (arith, size), rw p (sized (length own + length again) (omega (arith, size))))
+
+-- the first number is taken out, to be polled
+pub ahead-popped : (popped : Option ℕ) (before after : List ℕ) → MatchOption popped ((before ≡ []) × (after ≡ [])) (λ id. before ≡ id ∷ after)
+    → asked_for popped ++ after ≡ before
+ahead-popped None before after h = h.1 ∙ sym h.0
+ahead-popped (Some id) before after h = sym h
+
+pub none-popped : (popped : Option ℕ) (before after : List ℕ) → popped ≡ None
+    → MatchOption popped ((before ≡ []) × (after ≡ [])) (λ id. before ≡ id ∷ after) → before ≡ []
+none-popped None before after e h = h.0
+none-popped (Some id) before after e h = cc e
+
+pub same-some : (a b : ℕ) (asked : Option ℕ) → asked ≡ Some a → asked ≡ Some b → a ≡ b
+same-some a b asked h k = let both : Some a ≡ Some b = sym h ∙ k in cc both

@@ -3,6 +3,7 @@ pub mod Thread
 pub mod Plain
 pub mod Run
 pub mod Turn
+pub mod Driven
 pub mod Polling
 pub mod BusyPolling
 pub mod Laws

@@ -1,5 +1,10 @@
 -- The parts of one turn of a polling run, which its proof joins.
-use Rattle.std.specs.Prelude.{◌≡◌, ℕ, ◌+◌, ◌≤◌, Bool, true, false, List, [], ◌∷◌, ◌++◌, length}
+use Rattle.std.specs.Prelude.{◌≡◌, ℕ, ◌+◌, ◌≤◌, Bool, true, false, List, [], ◌∷◌, ◌++◌, length, Option, None, Some}
+
+-- the number that is being polled, if one is
+abbrev pub asked_for : Option ℕ → List ℕ
+asked_for None = []
+asked_for (Some id) = id ∷ []
 
 -- what one splice gives, and how it leaves the list
 pub record Takes {L : Type 0} (entries : L → List ℕ) (moves : L → List ℕ → List ℕ → L → Type 0) (is_all : List ℕ → L → Type 0)

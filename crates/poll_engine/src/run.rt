@@ -1,14 +1,12 @@
 //! A polling run.
 
-ghost use Rattle.std.specs.Prelude.{◌≡◌, ◌+◌, ◌<◌, ◌≤◌, ◌||◌, false, nat_le, List, [], ◌∷◌, ◌++◌, length, if◌then◌else◌};
-ghost use Rattle.poll_engine.specs.Polls.{At, Chain, Poll, is_arrival, is_repoll};
+ghost use Rattle.std.specs.Prelude.{◌≡◌, ◌+◌, ◌<◌, ◌≤◌, List};
+ghost use Rattle.poll_engine.specs.Polls.{At, Chain, Poll};
 ghost use Rattle.poll_engine.specs.Run.{IsRun};
-ghost use Rattle.poll_engine.specs.Turn.{HandsOn, Refills};
 
-use crate::bench::{Bench, Next};
+use crate::bench::Bench;
 use crate::list::PollList;
-use crate::soft::SoftList;
-use napi_model::Kind;
+use crate::polling_run::PollingRun;
 
 /// What a polling run did (`net_rx_action`).
 #[derive(Clone, Copy, Debug, PartialEq, Eq)]
@@ -19,38 +17,6 @@ pub struct RunReport {
     pub work: u32,
     /// Whether the budget or the window was spent, which stopped the run (`time_squeeze`).
     pub squeezed: bool,
-}
-
-// Whether the work meets the budget or the polls meet the window.
-fn is_spent(budget: u32, window: u32, polls: u32, work: u32) -> bool
-    ensures spent { result ≡ (nat_le budget work || nat_le window polls) }
-    ensures left { result ≡ false → (work < budget) × (polls < window) }
-{
-    budget <= work || window <= polls
-}
-
-// Where all that was taken is polled, and nothing is to be repolled, takes what the list holds.
-fn refill<L: PollList>(own: &mut SoftList, list: &mut L, repoll: &SoftList)
-    ensures { Refills L.entries L.moves L.is_all L.has_room own.old list.old repoll.now own.new
-        list.new }
-{
-    if own.is_empty() && repoll.is_empty() {
-        list.splice(own);
-    }
-}
-
-// Puts a number that was polled where its answer says.
-fn hand_on<L: PollList>(next: Next, id: u32, list: &mut L, repoll: &mut SoftList)
-    requires list { L.can_push list.old }
-    requires repoll { length repoll.old < 64 }
-    ensures list { HandsOn L.entries L.moves L.has_room list.old (is_arrival next) id list.new }
-    ensures repoll { repoll.new ≡ repoll.old ++ (if is_repoll next then id ∷ [] else []) }
-{
-    match next {
-        Next::Again(Kind::List) => list.push(id),
-        Next::Repoll => repoll.append(id),
-        _ => {}
-    }
 }
 
 /// A polling run: takes all that the list holds and polls one entry after the other, with this weight. It stops once the
@@ -75,25 +41,10 @@ pub fn run_softirq<L: PollList, B: Bench>(
     ensures polls { result.polls ≤ window }
     ensures work { result.work < budget + weight }
 {
-    let mut own = SoftList::new();
-    let mut repoll = SoftList::new();
-    list.splice(&mut own);
-    let mut polls = 0;
-    let mut work = 0;
-    while !is_spent(budget, window, polls, work) {
-        refill(&mut own, list, &repoll);
-        let Some(id) = own.pop_front() else {
-            break;
-        };
+    let mut run = PollingRun::begin(list, budget, weight, window);
+    while let Some(id) = run.next(list) {
         let once = bench.poll_once(id, weight);
-        polls += 1;
-        work += once.work;
-        hand_on(once.next, id, list, &mut repoll);
+        run.polled(list, once);
     }
-    list.put_back(own, repoll);
-    RunReport {
-        polls,
-        work,
-        squeezed: is_spent(budget, window, polls, work),
-    }
+    run.end(list)
 }
