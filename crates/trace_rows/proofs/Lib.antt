@@ -5,4 +5,5 @@ pub mod NumeralFacts
 pub mod PlaceFacts
 pub mod RecordsFacts
 pub mod RowsFacts
+pub mod ShortFacts
 pub mod SwitchFacts

@@ -1,5 +1,5 @@
 -- What the earlier rows of a device say of the next one: faults 6 to 8. See docs/FORMATS.md, "The trace".
-use Rattle.std.specs.Prelude.{◌≡◌, ℕ, ◌+◌, ◌<◌, ◌==◌, true, List, [], ◌∷◌, map, filter, Option, Some, None, unwrap_or, slice_index_or, Result, Ok, Err}
+use Rattle.std.specs.Prelude.{◌≡◌, ℕ, ◌+◌, ◌<◌, ◌==◌, true, List, [], ◌∷◌, ◌++◌, map, filter, Option, Some, None, unwrap_or, slice_index_or, Result, Ok, Err}
 use Rattle.trace_rows.specs.Row.{device_fits, value_fits}
 use Rattle.trace_rows.specs.declared.event.Event.{Event}
 use Rattle.trace_rows.specs.declared.event.Event.TheVariants.{Opened, Rx, Tx, Finish, Softirq, Kthread, Disable, Enable, Threaded, Busy}
@@ -74,3 +74,10 @@ pub record Passes (table : List Switch) (row : Row) : Type 0 where
   pub value : value_fits row.event row.value ≡ true
   pub sets : set_by row.event ≡ None
   pub in_turn : (earlier : List Row) → Tracks table earlier → (n : ℕ) → refusal n row.event (switch_of row.device earlier) ≡ None
+
+-- the row that a record tells as whatever number was added, one that passes
+pub record AddsShort (table : List Switch) (tells : ℕ → Result Row TraceFault) (before after : List Row) : Type 0 where
+  pub row : Row
+  pub told : (number : ℕ) → tells number ≡ Ok row
+  pub passes : Passes table row
+  pub added : after ≡ before ++ row ∷ []

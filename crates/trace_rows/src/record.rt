@@ -1,12 +1,12 @@
 //! What the fields of one record say by themselves.
 
-ghost use Rattle.std.specs.Prelude.{◌≡◌, ◌≤◌, length, true, option_map, if◌then◌else◌, ℕ, ◌&&◌, Some, None, Ok, IfOk, IfSome};
+ghost use Rattle.std.specs.Prelude.{◌≡◌, ◌≤◌, length, true, option_map, if◌then◌else◌, ℕ, ◌&&◌, ◌<◌, ◌+◌, false, Some, None, Ok, IfOk, IfSome, vec_capacity, vec_items, vec_len};
 ghost use Rattle.std.specs.Str.{all_ascii_digits};
 ghost use Rattle.csv.specs.Records.{fields_of};
 ghost use Rattle.trace_rows.specs.Range.{IsWithin};
 ghost use Rattle.trace_rows.specs.Record.{first_four, four_of, is_numeral, is_title, numeral, of_fields, ranged, row_of, version_of};
 ghost use Rattle.trace_rows.specs.Row.{device_fits, value_fits};
-ghost use Rattle.trace_rows.specs.Switch.{Passes};
+ghost use Rattle.trace_rows.specs.Switch.{AddsShort};
 
 use crate::digits::{DigitTable, NO_NUMBER};
 use crate::event::{Event, event_of};
@@ -61,20 +61,6 @@ fn long_number(field: &[u8]) -> Option<u64>
     }
 }
 
-// The same; nearly all have eight at most, and are read by the table.
-#[inline(always)]
-fn moment_of(table: &DigitTable, field: &[u8]) -> Option<u64>
-    ensures { IfSome result
-        (λ number. (is_numeral field.now ≡ true) × (number ≡ numeral field.now)) }
-{
-    let number = table.number(field);
-    if number < NO_NUMBER {
-        Some(u64::from(number))
-    } else {
-        long_number(field)
-    }
-}
-
 // Whether a row of this event may name this device, and bear this value.
 fn fits(event: Event, device: u128, value: u128) -> bool
     ensures { result ≡ (device_fits event device && value_fits event value) }
@@ -115,57 +101,70 @@ fn ranged(
     }
 }
 
-// The row of these numbers, where it changes no switch, nothing refuses it and they are in their ranges.
+// Adds the row of these fields, the first of which writes this moment, where it has no fault, changes no switch, and its numbers
+// have few digits. It answers whether it did. The row is written straight to its place: an option of it would be moved in pieces.
 #[inline(always)]
-#[tactic(auto, unfolding(crate::specs::Record::ranged))]
-fn passing_row(
-    switches: &Switches,
-    moment: u64,
-    device: u32,
-    event: Event,
-    value: u32,
-) -> Option<Row>
-    ensures row { IfSome result
-        (λ row. (number : ℕ) → ranged number moment device event value ≡ Ok row) }
-    ensures passes { IfSome result (λ row. Passes switches.now.of row) }
-{
-    if switches.pass(event, device, value) {
-        Some(Row {
-            moment,
-            device,
-            event,
-            value,
-        })
-    } else {
-        None
-    }
-}
-
-// The row of these fields, where it has no fault, changes no switch, and its numbers have few digits.
-#[inline(always)]
-#[tactic(auto, unfolding(crate::specs::Record::of_fields))]
-fn of_short_fields(
+fn add_at(
     table: &DigitTable,
     switches: &Switches,
     version: u32,
-    moment: &[u8],
-    device: &[u8],
-    event: &[u8],
-    value: &[u8],
-) -> Option<Row>
-    ensures row { IfSome result
-        (λ row. (number : ℕ)
-        → of_fields version number moment.now device.now event.now value.now ≡ Ok row) }
-    ensures passes { IfSome result (λ row. Passes switches.now.of row) }
+    moment: u64,
+    fields: (&[u8], &[u8], &[u8], &[u8]),
+    rows: &mut Vec<Row>,
+) -> bool
+    requires room { vec_len rows.old < vec_capacity rows.old }
+    requires numeral { is_numeral fields.0.now ≡ true }
+    requires moment { moment ≡ numeral fields.0.now }
+    ensures added { result ≡ true → AddsShort switches.now.of
+        (λ number. of_fields version number fields.entry.0.now fields.entry.1.now
+        fields.entry.2.now fields.entry.3.now)
+        (vec_items rows.old) (vec_items rows.new) }
+    ensures count { result ≡ true → vec_len rows.new ≡ vec_len rows.old + 1 }
+    ensures capacity { vec_capacity rows.new ≡ vec_capacity rows.old }
+    ensures kept { result ≡ false → rows.new ≡ rows.old }
 {
-    let moment = moment_of(table, moment)?;
-    let device = table.short_number(device);
-    let value = table.number(value);
+    let device = table.short_number(fields.1);
+    let value = table.number(fields.3);
     if device >= NO_NUMBER || value >= NO_NUMBER {
-        return None;
+        return false;
     }
-    let event = event_of(version, event)?;
-    passing_row(switches, moment, device, event, value)
+    let Some(event) = event_of(version, fields.2) else {
+        return false;
+    };
+    if !switches.pass(event, device, value) {
+        return false;
+    }
+    rows.push_reserved(Row {
+        moment,
+        device,
+        event,
+        value,
+    });
+    true
+}
+
+// The same where the moment has nine to nineteen digits.
+#[inline(never)]
+fn add_long(
+    table: &DigitTable,
+    switches: &Switches,
+    version: u32,
+    fields: (&[u8], &[u8], &[u8], &[u8]),
+    rows: &mut Vec<Row>,
+) -> bool
+    requires room { vec_len rows.old < vec_capacity rows.old }
+    ensures added { result ≡ true → AddsShort switches.now.of
+        (λ number. of_fields version number fields.entry.0.now fields.entry.1.now
+        fields.entry.2.now fields.entry.3.now)
+        (vec_items rows.old) (vec_items rows.new) }
+    ensures count { result ≡ true → vec_len rows.new ≡ vec_len rows.old + 1 }
+    ensures capacity { vec_capacity rows.new ≡ vec_capacity rows.old }
+    ensures kept { result ≡ false → rows.new ≡ rows.old }
+{
+    match long_number(fields.0) {
+        Some(moment) => add_at(table, switches, version, moment, fields, rows),
+        None => false,
+    }
 }
 
 // Row `number` of these fields.
@@ -220,21 +219,32 @@ fn first_four(fields: &ByteRecord) -> Option<(&[u8], &[u8], &[u8], &[u8])>
     Some((moment, device, event, value))
 }
 
-/// The row that a record of a trace of this version tells, where neither the record nor the switches have a fault of it, it
-/// changes no switch, and its numbers have few digits: so are nearly all.
+/// Adds the row that a record of a trace of this version tells, where neither the record nor the switches have a fault of it, it
+/// changes no switch, and its numbers have few digits: so are nearly all. It answers whether it did.
 #[inline(always)]
-pub(crate) fn short_row_of(
+pub(crate) fn add_short_row(
     table: &DigitTable,
     switches: &Switches,
     version: u32,
     fields: &ByteRecord,
-) -> Option<Row>
-    ensures row { IfSome result
-        (λ row. (number : ℕ) → row_of version number (fields_of fields.now) ≡ Ok row) }
-    ensures passes { IfSome result (λ row. Passes switches.now.of row) }
+    rows: &mut Vec<Row>,
+) -> bool
+    requires room { vec_len rows.old < vec_capacity rows.old }
+    ensures added { result ≡ true → AddsShort switches.now.of
+        (λ number. row_of version number (fields_of fields.now)) (vec_items rows.old) (vec_items rows.new) }
+    ensures count { result ≡ true → vec_len rows.new ≡ vec_len rows.old + 1 }
+    ensures capacity { vec_capacity rows.new ≡ vec_capacity rows.old }
+    ensures kept { result ≡ false → rows.new ≡ rows.old }
 {
-    let (moment, device, event, value) = four_of(fields)?;
-    of_short_fields(table, switches, version, moment, device, event, value)
+    let Some(fields) = four_of(fields) else {
+        return false;
+    };
+    let moment = table.number(fields.0);
+    if moment < NO_NUMBER {
+        add_at(table, switches, version, u64::from(moment), fields, rows)
+    } else {
+        add_long(table, switches, version, fields, rows)
+    }
 }
 
 /// The row that a record of a trace of this version tells, whose number it is, or the first of the faults 2 to 5 that it has.

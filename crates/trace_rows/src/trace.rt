@@ -15,7 +15,7 @@ ghost use Rattle.trace_rows.specs.declared.row.Row.{Row};
 use crate::bounded::Bounded;
 use crate::digits::DigitTable;
 use crate::fault::TraceFault;
-use crate::record::{row_of, short_row_of, version_of};
+use crate::record::{add_short_row, row_of, version_of};
 use crate::row::Row;
 use crate::switch::Switches;
 use csv::{ByteRecord, ErrorKind, Reader, ReaderBuilder};
@@ -160,13 +160,10 @@ fn add_next(
         (length (vec_items rows.new) ≡ length (vec_items rows.old) + 1) }
     ensures capacity { OnOk result (vec_capacity rows.new ≡ vec_capacity rows.old) }
 {
-    match short_row_of(table, switches, version, fields) {
-        Some(row) => {
-            rows.push_reserved(row);
-            Ok(())
-        }
-        None => add_row(version, number, fields, switches, rows),
+    if add_short_row(table, switches, version, fields, rows) {
+        return Ok(());
     }
+    add_row(version, number, fields, switches, rows)
 }
 
 /// Reads the rows of a trace, or its first fault. It asks for at most 100002 records, so it ends, and for no more once the

@@ -4,21 +4,22 @@ use Rattle.trace_rows.proofs.RowsFacts.{with_row-good}
 use Rattle.trace_rows.proofs.SwitchFacts.{tracks-same}
 use Rattle.trace_rows.proofs.trace.add_next.Goals as goal
 
-pub returns-in-Some-clause-rows : goal.returns-in-Some-clause-rows
-returns-in-Some-clause-rows c =
+pub returns-then-add_short_row-clause-rows : goal.returns-then-add_short_row-clause-rows
+returns-then-add_short_row-clause-rows c =
+    let adds = c.add_short_row.ensures.added c.if-add_short_row.true in
     let number = length (vec_items c.args.rows.now) + 1 in
-    let row = c.in-Some.ensures.row number in
-    let admits = c.in-Some.ensures.passes.in_turn (vec_items c.args.rows.now) c.requires.tracks number in
-    rw c.push_reserved.ensures.items (with_row-good _ _ _ _ (sym row) admits)
+    let admits = adds.passes.in_turn (vec_items c.args.rows.now) c.requires.tracks number in
+    rw adds.added (with_row-good _ _ _ _ (sym (adds.told number)) admits)
 
-pub returns-in-Some-clause-tracks : goal.returns-in-Some-clause-tracks
-returns-in-Some-clause-tracks c =
-    rw c.push_reserved.ensures.items
-    (tracks-same c.args.switches.now.of (vec_items c.args.rows.now) c.in-Some.row c.in-Some.ensures.passes.sets c.requires.tracks)
+pub returns-then-add_short_row-clause-tracks : goal.returns-then-add_short_row-clause-tracks
+returns-then-add_short_row-clause-tracks c =
+    let adds = c.add_short_row.ensures.added c.if-add_short_row.true in
+    rw adds.added (tracks-same c.args.switches.now.of (vec_items c.args.rows.now) adds.row adds.passes.sets c.requires.tracks)
 
-pub returns-in-Some-clause-accepted : goal.returns-in-Some-clause-accepted
-returns-in-Some-clause-accepted c accepted =
-    let passes = c.in-Some.ensures.passes in
+pub returns-then-add_short_row-clause-accepted : goal.returns-then-add_short_row-clause-accepted
+returns-then-add_short_row-clause-accepted c accepted =
+    let adds = c.add_short_row.ensures.added c.if-add_short_row.true in
+    let passes = adds.passes in
     let admits = passes.in_turn (vec_items c.args.rows.now) c.requires.tracks (length (vec_items c.args.rows.now) + 1) in
-    rw c.push_reserved.ensures.items (accepted-push [] (vec_items c.args.rows.now) c.in-Some.row accepted
+    rw adds.added (accepted-push [] (vec_items c.args.rows.now) adds.row accepted
     (record { device = passes.device; value = passes.value; in_turn = admits }))
