@@ -143,26 +143,27 @@ fn add_at(
     true
 }
 
-// The same where the moment has nine to nineteen digits.
+// Adds the row of a record as `add_short_row` does, if its moment has up to nineteen digits.
 #[inline(never)]
 fn add_long(
     table: &DigitTable,
     switches: &Switches,
     version: u32,
-    fields: (&[u8], &[u8], &[u8], &[u8]),
+    fields: &ByteRecord,
     rows: &mut Vec<Row>,
 ) -> bool
     requires room { vec_len rows.old < vec_capacity rows.old }
     ensures added { result ≡ true → AddsShort switches.now.of
-        (λ number. of_fields version number fields.entry.0.now fields.entry.1.now
-        fields.entry.2.now fields.entry.3.now)
-        (vec_items rows.old) (vec_items rows.new) }
+        (λ number. row_of version number (fields_of fields.now)) (vec_items rows.old) (vec_items rows.new) }
     ensures count { result ≡ true → vec_len rows.new ≡ vec_len rows.old + 1 }
     ensures capacity { vec_capacity rows.new ≡ vec_capacity rows.old }
     ensures kept { result ≡ false → rows.new ≡ rows.old }
 {
-    match long_number(fields.0) {
-        Some(moment) => add_at(table, switches, version, moment, fields, rows),
+    let Some(four) = four_of(fields) else {
+        return false;
+    };
+    match long_number(four.0) {
+        Some(moment) => add_at(table, switches, version, moment, four, rows),
         None => false,
     }
 }
@@ -236,12 +237,12 @@ pub(crate) fn add_short_row(
     ensures capacity { vec_capacity rows.new ≡ vec_capacity rows.old }
     ensures kept { result ≡ false → rows.new ≡ rows.old }
 {
-    let Some(fields) = four_of(fields) else {
+    let Some(four) = four_of(fields) else {
         return false;
     };
-    let moment = table.number(fields.0);
+    let moment = table.number(four.0);
     if moment < NO_NUMBER {
-        add_at(table, switches, version, u64::from(moment), fields, rows)
+        add_at(table, switches, version, u64::from(moment), four, rows)
     } else {
         add_long(table, switches, version, fields, rows)
     }
