@@ -1,5 +1,6 @@
 pub mod Accepted
 pub mod DecidingFacts
+pub mod DigitFacts
 pub mod NumeralFacts
 pub mod PlaceFacts
 pub mod RecordsFacts

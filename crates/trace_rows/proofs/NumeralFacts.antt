@@ -38,7 +38,7 @@ is_numeral-push field front last h = rw (h.0, length-append front (last ∷ []),
 pub numeral-push : (field front : List ℕ) (last : ℕ) → IsLastAndRest field last front → numeral field ≡ numeral front * 10 + digit_value last
 numeral-push field front last h = rw h.0 (digits_value_push 10 front last)
 
-pow-grows : (n k : ℕ) → 10 ^ n ≤ 10 ^ (n + k)
+pub pow-grows : (n k : ℕ) → 10 ^ n ≤ 10 ^ (n + k)
 pow-grows n zero = rw (add-zero n) (omega arith)
 pow-grows n (suc k) =
     let more = pow-grows n k in

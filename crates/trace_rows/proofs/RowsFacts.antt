@@ -7,7 +7,7 @@ use Rattle.csv.specs.declared.reader.Reader.{Reader}
 use Rattle.csv.specs.declared.parser.State.{State}
 use Rattle.trace_rows.specs.Source.{StandsAt, TakesNext}
 use Rattle.trace_rows.specs.Record.{row_of, version_of}
-use Rattle.trace_rows.specs.Switch.{refusal, switch_of, unless_refused}
+use Rattle.trace_rows.specs.Switch.{refusal, switch_of}
 use Rattle.trace_rows.specs.Trace.{rows_after, trace_of, version_in, with_row}
 use Rattle.trace_rows.specs.declared.fault.TraceFault.{TraceFault}
 use Rattle.trace_rows.specs.declared.fault.TraceFault.TheVariants as fault

@@ -1,5 +1,6 @@
 -- What the earlier rows of a device say of the next one: faults 6 to 8. See docs/FORMATS.md, "The trace".
-use Rattle.std.specs.Prelude.{◌≡◌, ℕ, ◌+◌, ◌<◌, ◌==◌, List, [], ◌∷◌, map, filter, Option, Some, None, unwrap_or, slice_index_or, Result, Ok, Err}
+use Rattle.std.specs.Prelude.{◌≡◌, ℕ, ◌+◌, ◌<◌, ◌==◌, true, List, [], ◌∷◌, map, filter, Option, Some, None, unwrap_or, slice_index_or, Result, Ok, Err}
+use Rattle.trace_rows.specs.Row.{device_fits, value_fits}
 use Rattle.trace_rows.specs.declared.event.Event.{Event}
 use Rattle.trace_rows.specs.declared.event.Event.TheVariants.{Opened, Rx, Tx, Finish, Softirq, Kthread, Disable, Enable, Threaded, Busy}
 use Rattle.trace_rows.specs.declared.fault.TraceFault.{TraceFault}
@@ -66,3 +67,10 @@ unless_refused (Some fault) x = Err fault
 -- a table has the switch of each device after these rows
 abbrev pub Tracks : List Switch → List Row → Type 0
 Tracks table rows = (place : ℕ) → place < 16 → slice_index_or table place Unopened ≡ switch_of (place + 1) rows
+
+-- a row in its ranges that nothing refuses behind rows whose switches the table has, and that changes none of them
+pub record Passes (table : List Switch) (row : Row) : Type 0 where
+  pub device : device_fits row.event row.device ≡ true
+  pub value : value_fits row.event row.value ≡ true
+  pub sets : set_by row.event ≡ None
+  pub in_turn : (earlier : List Row) → Tracks table earlier → (n : ℕ) → refusal n row.event (switch_of row.device earlier) ≡ None

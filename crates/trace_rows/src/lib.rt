@@ -5,6 +5,7 @@
 #![tactic(auto)]
 
 mod bounded;
+mod digits;
 mod event;
 mod fault;
 mod laws;

@@ -6,10 +6,13 @@ ghost use Rattle.csv.specs.Records.{fields_of};
 ghost use Rattle.trace_rows.specs.Range.{IsWithin};
 ghost use Rattle.trace_rows.specs.Record.{first_four, four_of, is_numeral, is_title, numeral, of_fields, ranged, row_of, version_of};
 ghost use Rattle.trace_rows.specs.Row.{device_fits, value_fits};
+ghost use Rattle.trace_rows.specs.Switch.{Passes};
 
+use crate::digits::{DigitTable, NO_NUMBER};
 use crate::event::{Event, event_of};
 use crate::fault::TraceFault;
 use crate::row::Row;
+use crate::switch::Switches;
 use csv::ByteRecord;
 
 // The number that the first `count` bytes of a field write, 0 where these are none, if all of them are digits. A u64 holds
@@ -46,29 +49,33 @@ fn number_below_21(field: &[u8]) -> Option<u128>
     Some(u128::from(number) * 10 + u128::from(*last - b'0'))
 }
 
-// The number that one to nineteen digits write. Those of a row have eight at most, and are read without a loop.
-#[inline(always)]
-fn short_number(field: &[u8]) -> Option<u64>
+// The number that one to nineteen digits write.
+#[inline(never)]
+fn long_number(field: &[u8]) -> Option<u64>
     ensures { IfSome result
         (λ number. (is_numeral field.now ≡ true) × (number ≡ numeral field.now)) }
 {
     match field.len() {
-        1 => number_below_20(field, 1),
-        2 => number_below_20(field, 2),
-        3 => number_below_20(field, 3),
-        4 => number_below_20(field, 4),
-        5 => number_below_20(field, 5),
-        6 => number_below_20(field, 6),
-        7 => number_below_20(field, 7),
-        8 => number_below_20(field, 8),
-        9..=19 => number_below_20(field, field.len()),
+        1..=19 => number_below_20(field, field.len()),
         _ => None,
     }
 }
 
-// Whether a row of this event may name this device, and bear this value. Inlined, so that of what was read as a u64 no u128 is
-// left.
+// The same; nearly all have eight at most, and are read by the table.
 #[inline(always)]
+fn moment_of(table: &DigitTable, field: &[u8]) -> Option<u64>
+    ensures { IfSome result
+        (λ number. (is_numeral field.now ≡ true) × (number ≡ numeral field.now)) }
+{
+    let number = table.number(field);
+    if number < NO_NUMBER {
+        Some(u64::from(number))
+    } else {
+        long_number(field)
+    }
+}
+
+// Whether a row of this event may name this device, and bear this value.
 fn fits(event: Event, device: u128, value: u128) -> bool
     ensures { result ≡ (device_fits event device && value_fits event value) }
 {
@@ -108,31 +115,38 @@ fn ranged(
     }
 }
 
-// The row of these numbers, where they are in their ranges.
+// The row of these numbers, where it changes no switch, nothing refuses it and they are in their ranges.
 #[inline(always)]
 #[tactic(auto, unfolding(crate::specs::Record::ranged))]
-fn short_ranged(moment: u64, device: u64, event: Event, value: u64) -> Option<Row>
+fn passing_row(
+    switches: &Switches,
+    moment: u64,
+    device: u32,
+    event: Event,
+    value: u32,
+) -> Option<Row>
     ensures row { IfSome result
         (λ row. (number : ℕ) → ranged number moment device event value ≡ Ok row) }
-    ensures device { IfSome result (λ row. device_fits row.event row.device ≡ true) }
-    ensures value { IfSome result (λ row. value_fits row.event row.value ≡ true) }
+    ensures passes { IfSome result (λ row. Passes switches.now.of row) }
 {
-    if fits(event, u128::from(device), u128::from(value)) {
+    if switches.pass(event, device, value) {
         Some(Row {
             moment,
-            device: device as u32,
+            device,
             event,
-            value: value as u32,
+            value,
         })
     } else {
         None
     }
 }
 
-// The row of these fields, where it has no fault and its numbers at most nineteen digits.
+// The row of these fields, where it has no fault, changes no switch, and its numbers have few digits.
 #[inline(always)]
 #[tactic(auto, unfolding(crate::specs::Record::of_fields))]
 fn of_short_fields(
+    table: &DigitTable,
+    switches: &Switches,
     version: u32,
     moment: &[u8],
     device: &[u8],
@@ -142,14 +156,16 @@ fn of_short_fields(
     ensures row { IfSome result
         (λ row. (number : ℕ)
         → of_fields version number moment.now device.now event.now value.now ≡ Ok row) }
-    ensures device { IfSome result (λ row. device_fits row.event row.device ≡ true) }
-    ensures value { IfSome result (λ row. value_fits row.event row.value ≡ true) }
+    ensures passes { IfSome result (λ row. Passes switches.now.of row) }
 {
-    let moment = short_number(moment)?;
-    let device = short_number(device)?;
-    let value = short_number(value)?;
+    let moment = moment_of(table, moment)?;
+    let device = table.short_number(device);
+    let value = table.number(value);
+    if device >= NO_NUMBER || value >= NO_NUMBER {
+        return None;
+    }
     let event = event_of(version, event)?;
-    short_ranged(moment, device, event, value)
+    passing_row(switches, moment, device, event, value)
 }
 
 // Row `number` of these fields.
@@ -204,16 +220,21 @@ fn first_four(fields: &ByteRecord) -> Option<(&[u8], &[u8], &[u8], &[u8])>
     Some((moment, device, event, value))
 }
 
-/// The row that a record of a trace of this version tells, where it has no fault and its numbers at most nineteen digits.
+/// The row that a record of a trace of this version tells, where neither the record nor the switches have a fault of it, it
+/// changes no switch, and its numbers have few digits: so are nearly all.
 #[inline(always)]
-pub(crate) fn short_row_of(version: u32, fields: &ByteRecord) -> Option<Row>
+pub(crate) fn short_row_of(
+    table: &DigitTable,
+    switches: &Switches,
+    version: u32,
+    fields: &ByteRecord,
+) -> Option<Row>
     ensures row { IfSome result
         (λ row. (number : ℕ) → row_of version number (fields_of fields.now) ≡ Ok row) }
-    ensures device { IfSome result (λ row. device_fits row.event row.device ≡ true) }
-    ensures value { IfSome result (λ row. value_fits row.event row.value ≡ true) }
+    ensures passes { IfSome result (λ row. Passes switches.now.of row) }
 {
     let (moment, device, event, value) = four_of(fields)?;
-    of_short_fields(version, moment, device, event, value)
+    of_short_fields(table, switches, version, moment, device, event, value)
 }
 
 /// The row that a record of a trace of this version tells, whose number it is, or the first of the faults 2 to 5 that it has.

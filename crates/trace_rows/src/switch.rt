@@ -1,9 +1,10 @@
 //! What the rows so far leave each device: unopened, on or off.
 
-ghost use Rattle.std.specs.Prelude.{◌≡◌, ◌∷◌, ◌++◌, List, [], Some, None, true, MatchResult, OnErr, OnOk};
-ghost use Rattle.trace_rows.specs.Row.{device_fits};
-ghost use Rattle.trace_rows.specs.Switch.{Tracks, refusal, set_by, switch_of};
+ghost use Rattle.std.specs.Prelude.{◌≡◌, ◌≢◌, ◌∷◌, ◌++◌, ℕ, List, [], Some, None, true, MatchResult, OnErr, OnOk};
+ghost use Rattle.trace_rows.specs.Row.{device_fits, is_device};
+ghost use Rattle.trace_rows.specs.Switch.{Passes, Tracks, refusal, set_by, switch_of};
 ghost use Rattle.trace_rows.specs.declared.row.Row.{Row};
+ghost use Rattle.trace_rows.specs.declared.switch.Switch.TheVariants.{Unopened};
 
 use crate::event::Event;
 use crate::fault::TraceFault;
@@ -65,8 +66,36 @@ impl Switches {
         }
     }
 
-    /// Takes the next row, whose number it is, or says why it is refused; a refusal changes nothing.
+    // Whether this is a device that was opened.
     #[inline(always)]
+    fn has(&self, device: u32) -> bool
+        ensures device { result ≡ true → is_device device ≡ true }
+        ensures opened { result ≡ true
+            → (earlier : List Row) → Tracks self.now.of earlier → switch_of device earlier ≢ Unopened }
+    {
+        1 <= device && device <= 16 && self.of[device as usize - 1] != Switch::Unopened
+    }
+
+    /// Whether a row of this event changes no switch, isn't refused, and may name this device and bear this value: one look at
+    /// the event for all of it.
+    #[inline(always)]
+    pub(crate) fn pass(&self, event: Event, device: u32, value: u32) -> bool
+        ensures { result ≡ true → (moment : ℕ)
+            → Passes self.now.of (record { moment = moment; device = device; event = event; value = value }) }
+    {
+        match event {
+            Event::Rx | Event::Tx | Event::Busy => {
+                self.has(device) && 1 <= value && value <= 65535
+            }
+            Event::Finish => self.has(device) && value <= 65536,
+            Event::Softirq => device == 0 && value == 0,
+            Event::Kthread => self.has(device) && value == 0,
+            Event::Threaded => self.has(device) && value <= 1,
+            Event::Opened | Event::Disable | Event::Enable => false,
+        }
+    }
+
+    /// Takes the next row, whose number it is, or says why it is refused; a refusal changes nothing.
     pub(crate) fn admit(&mut self, number: u32, row: Row) -> Result<(), TraceFault>
         requires { device_fits row.event row.device ≡ true }
         ensures admits { (earlier : List Row) → Tracks self.old.of earlier

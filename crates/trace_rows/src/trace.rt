@@ -1,18 +1,19 @@
 //! Reading a trace.
 
-ghost use Rattle.std.specs.Prelude.{◌≡◌, ◌≤◌, length, ◌⊎◌, ℕ, List, [], Option, Some, Ok, Err, IfOk, OnOk, IfErr, true};
+ghost use Rattle.std.specs.Prelude.{◌≡◌, ◌≤◌, ◌<◌, ◌+◌, length, ◌⊎◌, ℕ, List, [], Option, Some, Ok, Err, IfOk, OnOk, IfErr, MatchResult, true, false, vec_capacity, vec_items, vec_len};
 ghost use Rattle.csv.specs.Machine.{next_record};
 ghost use Rattle.csv.specs.Reading.{default_config, reader_state, records_from, strip_bom};
 ghost use Rattle.csv.specs.Records.{fields_of};
 ghost use Rattle.csv.specs.declared.parser.State.TheVariants as state;
 ghost use Rattle.trace_rows.specs.Range.{IsWithin};
-ghost use Rattle.trace_rows.specs.Record.{row_of};
-ghost use Rattle.trace_rows.specs.Row.{device_fits, value_fits};
 ghost use Rattle.trace_rows.specs.Source.{IsOpen, IsReadFailure, StandsAt, TakesNext};
-ghost use Rattle.trace_rows.specs.Trace.{AcceptedAfter, TraceView, records_of, rows_after, trace_of, version_in};
+ghost use Rattle.trace_rows.specs.Switch.{Tracks};
+ghost use Rattle.trace_rows.specs.Trace.{AcceptedAfter, TraceView, records_of, rows_after, trace_of, version_in, with_row};
+ghost use Rattle.trace_rows.specs.declared.trace.Next.TheVariants as next;
 ghost use Rattle.trace_rows.specs.declared.row.Row.{Row};
 
 use crate::bounded::Bounded;
+use crate::digits::DigitTable;
 use crate::fault::TraceFault;
 use crate::record::{row_of, short_row_of, version_of};
 use crate::row::Row;
@@ -76,38 +77,95 @@ fn reader_of<R: Read>(alloc: Global, source: R) -> Reader<R>
         .from_reader(alloc, source)
 }
 
-// Reads the next record, and answers whether there was one. A record of any length and any bytes is one.
-fn next_record<R: Read>(reader: &mut Reader<R>, fields: &mut ByteRecord) -> Result<bool, TraceFault>
+// What a read came to.
+#[derive(Clone, Copy)]
+enum Next {
+    Record,
+    End,
+    ReadFailed,
+    OutOfMemory,
+}
+
+// Reads the next record. A record of any length and any bytes is one. It answers by a plain enum, which is in a register.
+fn next_record<R: Read>(reader: &mut Reader<R>, fields: &mut ByteRecord) -> Next
     requires { IsOpen reader.old }
-    ensures opened { OnOk result (IsOpen reader.new) }
-    ensures next { IfOk result (λ found. (bytes : List ℕ) → StandsAt R.remaining reader.old bytes
-        → TakesNext R.remaining (next_record default_config (reader_state reader.old) [] [] bytes) found (fields_of fields.new) reader.new) }
-    ensures failure { IfErr result (λ fault. IsReadFailure fault) }
+    ensures opened { result ≡ next.Record → IsOpen reader.new }
+    ensures record { result ≡ next.Record → (bytes : List ℕ) → StandsAt R.remaining reader.old bytes
+        → TakesNext R.remaining (next_record default_config (reader_state reader.old) [] [] bytes) true (fields_of fields.new) reader.new }
+    ensures end { result ≡ next.End → (bytes : List ℕ) → StandsAt R.remaining reader.old bytes
+        → TakesNext R.remaining (next_record default_config (reader_state reader.old) [] [] bytes) false (fields_of fields.new) reader.new }
 {
     match reader.read_byte_record(fields) {
-        Ok(found) => Ok(found),
+        Ok(true) => Next::Record,
+        Ok(false) => Next::End,
         Err(error) => match error.kind() {
-            ErrorKind::OutOfMemory => Err(TraceFault::OutOfMemory),
-            ErrorKind::Io(_) => Err(TraceFault::ReadFailed),
+            ErrorKind::OutOfMemory => Next::OutOfMemory,
+            ErrorKind::Io(_) => Next::ReadFailed,
             _ => unreachable!(),
         },
     }
 }
 
-// Row `number` of a trace of this version, or the first of the faults 2 to 5 that it has. A row of usual numbers is in no
-// memory: that is why the other's result is taken apart.
-#[inline(always)]
-fn next_row(version: u32, number: u32, fields: &ByteRecord) -> Result<Row, TraceFault>
-    ensures row { result ≡ row_of version number (fields_of fields.now) }
-    ensures device { IfOk result (λ row. device_fits row.event row.device ≡ true) }
-    ensures value { IfOk result (λ row. value_fits row.event row.value ≡ true) }
+// Adds the row of a record in full: any row, or the first of the faults 2 to 8 that it has.
+#[cold]
+#[inline(never)]
+fn add_row(
+    version: u32,
+    number: u32,
+    fields: &ByteRecord,
+    switches: &mut Switches,
+    rows: &mut Vec<Row>,
+) -> Result<(), TraceFault>
+    requires number { number ≡ length (vec_items rows.old) + 1 }
+    requires room { vec_len rows.old < vec_capacity rows.old }
+    requires tracks { Tracks switches.old.of (vec_items rows.old) }
+    ensures rows { MatchResult result
+        (λ _. with_row version (vec_items rows.old) (fields_of fields.now) ≡ Ok (vec_items rows.new))
+        (λ fault. with_row version (vec_items rows.old) (fields_of fields.now) ≡ Err fault) }
+    ensures tracks { OnOk result (Tracks switches.new.of (vec_items rows.new)) }
+    ensures accepted { OnOk result
+        (AcceptedAfter [] (vec_items rows.old) → AcceptedAfter [] (vec_items rows.new)) }
+    ensures count { OnOk result (vec_len rows.new ≡ vec_len rows.old + 1) }
+    ensures length { OnOk result
+        (length (vec_items rows.new) ≡ length (vec_items rows.old) + 1) }
+    ensures capacity { OnOk result (vec_capacity rows.new ≡ vec_capacity rows.old) }
 {
-    match short_row_of(version, fields) {
-        Some(row) => Ok(row),
-        None => match row_of(version, number, fields) {
-            Ok(row) => Ok(row),
-            Err(fault) => Err(fault),
-        },
+    let row = row_of(version, number, fields)?;
+    switches.admit(number, row)?;
+    rows.push_reserved(row);
+    Ok(())
+}
+
+// The same, without a call for nearly all rows.
+#[inline(always)]
+fn add_next(
+    table: &DigitTable,
+    version: u32,
+    number: u32,
+    fields: &ByteRecord,
+    switches: &mut Switches,
+    rows: &mut Vec<Row>,
+) -> Result<(), TraceFault>
+    requires number { number ≡ length (vec_items rows.old) + 1 }
+    requires room { vec_len rows.old < vec_capacity rows.old }
+    requires tracks { Tracks switches.old.of (vec_items rows.old) }
+    ensures rows { MatchResult result
+        (λ _. with_row version (vec_items rows.old) (fields_of fields.now) ≡ Ok (vec_items rows.new))
+        (λ fault. with_row version (vec_items rows.old) (fields_of fields.now) ≡ Err fault) }
+    ensures tracks { OnOk result (Tracks switches.new.of (vec_items rows.new)) }
+    ensures accepted { OnOk result
+        (AcceptedAfter [] (vec_items rows.old) → AcceptedAfter [] (vec_items rows.new)) }
+    ensures count { OnOk result (vec_len rows.new ≡ vec_len rows.old + 1) }
+    ensures length { OnOk result
+        (length (vec_items rows.new) ≡ length (vec_items rows.old) + 1) }
+    ensures capacity { OnOk result (vec_capacity rows.new ≡ vec_capacity rows.old) }
+{
+    match short_row_of(table, switches, version, fields) {
+        Some(row) => {
+            rows.push_reserved(row);
+            Ok(())
+        }
+        None => add_row(version, number, fields, switches, rows),
     }
 }
 
@@ -130,20 +188,23 @@ pub fn read_trace<R: Read + Drop>(alloc: Global, source: R) -> Result<Trace, Tra
     let Ok(mut fields) = ByteRecord::with_capacity(alloc, RECORD_BYTES, 4) else {
         return Err(TraceFault::OutOfMemory);
     };
-    let found = next_record(&mut reader, &mut fields)?;
-    if !found {
-        return Err(TraceFault::BadHeader);
+    match next_record(&mut reader, &mut fields) {
+        Next::Record => {}
+        Next::End => return Err(TraceFault::BadHeader),
+        Next::ReadFailed => return Err(TraceFault::ReadFailed),
+        Next::OutOfMemory => return Err(TraceFault::OutOfMemory),
     }
     let Some(version) = version_of(&fields) else {
         return Err(TraceFault::BadHeader);
     };
-    read_rows(alloc, version, &mut reader, &mut fields)
+    read_rows(alloc, &DigitTable::new(), version, &mut reader, &mut fields)
 }
 
 // Reads the rows that the reader has left, or the first fault of them. By itself, so that its loop has the registers.
 #[inline(never)]
 fn read_rows<R: Read>(
     alloc: Global,
+    table: &DigitTable,
     version: u32,
     reader: &mut Reader<R>,
     fields: &mut ByteRecord,
@@ -162,16 +223,16 @@ fn read_rows<R: Read>(
     };
     let mut switches = Switches::new();
     for before in 0..MOST_ROWS + 1 {
-        let found = next_record(reader, fields)?;
-        if !found {
-            break;
+        match next_record(reader, fields) {
+            Next::Record => {}
+            Next::End => break,
+            Next::ReadFailed => return Err(TraceFault::ReadFailed),
+            Next::OutOfMemory => return Err(TraceFault::OutOfMemory),
         }
         if before == MOST_ROWS {
             return Err(TraceFault::TooManyRows);
         }
-        let row = next_row(version, before + 1, fields)?;
-        switches.admit(before + 1, row)?;
-        rows.push_reserved(row);
+        add_next(table, version, before + 1, fields, &mut switches, &mut rows)?;
     }
     Ok(Trace { version, rows })
 }
