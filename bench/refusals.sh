@@ -81,13 +81,14 @@ cc -O1 -shared -fPIC -o "$folder/refuse.so" "$folder/refuse.c" -ldl
 } > "$folder/trace.csv"
 
 fail() { echo "refusals: $*" >&2; exit 1; }
+pollers=1
 
 # One run with the call of that number refused: refuse KIND NUMBER. Leaves its status in `status`.
 refuse() {
     status=0
     rm -f "$folder/refused"
     env "$1=$2" REFUSED="$folder/refused" LD_PRELOAD="$folder/refuse.so" \
-        "$program" --mode "$mode" < "$folder/trace.csv" > "$folder/out" 2> "$folder/err" || status=$?
+        "$program" --mode "$mode" --pollers "$pollers" < "$folder/trace.csv" > "$folder/out" 2> "$folder/err" || status=$?
 }
 
 # Whether the run was as one without a refusal.
@@ -120,6 +121,14 @@ refuse_each() {
 # some_refused WHAT: at least one call was refused that ended the program.
 some_refused() { [ "$count" -gt "$idle" ] || fail "$mode: no $1 was refused"; }
 
+# Devices 1, 3 and 16 have one poller, or two of three: one thread more is started then.
+each_poller_is_started() {
+    pollers=3
+    refuse_each REFUSE_THREAD 4 'worker fault 16 SpawnFailed'
+    pollers=1
+    [ $((count - threads)) = 1 ] || fail "$threads starts of threads with one poller, and $count with 3"
+}
+
 refuse_all() {
     "$program" --mode "$mode" < "$folder/trace.csv" > "$folder/report"
     refuse_each REFUSE_MEMORY 4 'memory fault 11 OutOfMemory'
@@ -133,7 +142,9 @@ refuse_all() {
     writes=$count
     refuse_each REFUSE_THREAD 4 'worker fault 16 SpawnFailed'
     [ "$mode" != threads ] || some_refused thread
-    echo "$mode: $memory, $reads reads, $writes writes and $count starts of threads refused"
+    threads=$count
+    [ "$mode" != threads ] || each_poller_is_started
+    echo "$mode: $memory, $reads reads, $writes writes and $threads starts of threads refused"
 }
 
 refuse_ends() {

@@ -195,12 +195,30 @@ SHELL=/bin/bash exec bash -c "$*"  # as sshd does
         self.assertEqual(done.returncode, 0, done.stderr)
         self.check_rows()
 
+    def by_slurm(self, *words, path=None):
+        """The block of docs/TOOLS.md as it stands, given to sbatch; its parts together are the rows of one sweep."""
+        (self.folder / "traces").mkdir()
+        for name in ("burst.csv", "faulty.csv"):
+            os.rename(self.folder / name, self.folder / "traces" / name)
+        os.symlink(TOP / "tools", self.folder / "tools")
+        environment = {**os.environ, "PROGRAM": REPLAY, "PATH": path or os.environ["PATH"]}
+        done = subprocess.run(["sbatch", *words, self.write("job.sh", slurm_block())], cwd=self.folder, capture_output=True, text=True,
+                              check=False, env=environment)
+        self.assertEqual(done.returncode, 0, (done.stderr, [log.read_text() for log in self.folder.glob("slurm-*.out")]))
+        self.assertEqual(len(list(self.folder.glob("rows-*.csv"))), 16)
+        together = "awk 'FNR > 1 || NR == 1' rows-*.csv"
+        self.assertIn(f"`{together}` puts the parts together", (TOP / "docs/TOOLS.md").read_text())
+        parts = subprocess.run(["bash", "-c", together], cwd=self.folder, capture_output=True, text=True, check=True).stdout.splitlines()
+        done = run("sweep", "traces", "--budget", "64,300,1000", "--weight", "16,64", "--raise", "--out", self.out, "--without-parallel",
+                   folder=self.folder)
+        self.assertEqual(done.returncode, 0, done.stderr)
+        whole = self.out.read_text().splitlines()
+        self.assertEqual((parts[0], sorted(parts[1:])), (whole[0], sorted(whole[1:])))
+        self.assertEqual(len(whole), 13)
+
     @unittest.skipUnless(has_slurm(), "no slurmd answers here")
     def test_the_block_for_slurm(self):
-        script = self.write("job.sh", slurm_block().replace("traces", str(self.folder)).replace("rows-", f"{self.folder}/rows-"))
-        done = subprocess.run(["sbatch", "--wait", "--output", self.folder / "%a.out", script], cwd=TOP, capture_output=True, text=True, check=False)
-        self.assertEqual(done.returncode, 0, done.stderr)
-        self.assertEqual(len([row for path in self.folder.glob("rows-*.csv") for row in path.read_text().splitlines()[1:]]), 12)
+        self.by_slurm("--wait")
 
     # In place of sbatch: it reads the lines for it at the head of the file, and runs each job of the array after the other, with
     # what Slurm tells a job.
@@ -217,27 +235,8 @@ for job in range(first, last + 1):
 """
 
     def test_the_block_for_slurm_by_a_stand_in(self):
-        """The block as it stands, given to what reads it as sbatch would; its parts together are the rows of one sweep."""
-        (self.folder / "traces").mkdir()
-        for name in ("burst.csv", "faulty.csv"):
-            os.rename(self.folder / name, self.folder / "traces" / name)
-        os.symlink(TOP / "tools", self.folder / "tools")
-        sbatch = self.write("sbatch", self.SBATCH)
-        sbatch.chmod(0o755)
-        environment = {**os.environ, "PROGRAM": REPLAY, "PATH": f"{self.folder}:{os.environ['PATH']}"}
-        done = subprocess.run(["sbatch", self.write("job.sh", slurm_block())], cwd=self.folder, capture_output=True, text=True,
-                              check=False, env=environment)
-        self.assertEqual(done.returncode, 0, done.stderr)
-        self.assertEqual(len(list(self.folder.glob("rows-*.csv"))), 16)
-        together = "awk 'FNR > 1 || NR == 1' rows-*.csv"
-        self.assertIn(f"`{together}` puts the parts together", (TOP / "docs/TOOLS.md").read_text())
-        parts = subprocess.run(["bash", "-c", together], cwd=self.folder, capture_output=True, text=True, check=True).stdout.splitlines()
-        done = run("sweep", "traces", "--budget", "64,300,1000", "--weight", "16,64", "--raise", "--out", self.out, "--without-parallel",
-                   folder=self.folder)
-        self.assertEqual(done.returncode, 0, done.stderr)
-        whole = self.out.read_text().splitlines()
-        self.assertEqual((parts[0], sorted(parts[1:])), (whole[0], sorted(whole[1:])))
-        self.assertEqual(len(whole), 13)
+        self.write("sbatch", self.SBATCH).chmod(0o755)
+        self.by_slurm(path=f"{self.folder}:{os.environ['PATH']}")
 
     def test_a_file_is_not_overwritten(self):
         self.out.write_text("mine\n")

@@ -8,3 +8,4 @@ pub mod Serving
 pub mod Standing
 pub mod Steps
 pub mod Whole
+pub mod Surveyed

@@ -32,7 +32,7 @@ use Rattle.napi_calls.proofs.Whole.{whole}
 
 -- ---- places as a number has them
 
-is_kept : (c : ℕ) (p q : Place) (b : Bool) → is_owner c p ≡ b → is_owner c q ≡ is_owner c p → (is_owner c p ≡ true → q ≡ p) → own_place c q ≡ own_place c p
+pub is_kept : (c : ℕ) (p q : Place) (b : Bool) → is_owner c p ≡ b → is_owner c q ≡ is_owner c p → (is_owner c p ≡ true → q ≡ p) → own_place c q ≡ own_place c p
 is_kept c p q true is same stays = ap (own_place c) (stays is)
 is_kept c p q false is same stays = ap (λ (b : Bool). cond b q Nobody) (same ∙ is) ∙ sym (ap (λ (b : Bool). cond b p Nobody) is)
 

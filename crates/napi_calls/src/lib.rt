@@ -26,6 +26,7 @@ mod instance;
 mod kept;
 mod polling;
 mod sharing;
+mod surveying;
 #[cfg(test)]
 mod tests;
 mod types;
@@ -37,4 +38,5 @@ pub use fault::{CloseFault, NewFault};
 pub use instance::{CloseBack, NewBack};
 pub use kept::Kept;
 pub use sharing::{is_sent, is_shared};
+pub use surveying::survey;
 pub use types::{Busy, Caller, Control, Granted, Marked, Mode, Napi, Off, On, Polling};

@@ -69,12 +69,12 @@ within Nothing e n = absurd (true≢false (sym e))
 within Within e n = refl
 within Out e n = absurd (n refl)
 
-ring_kept : (l : Carried) (v w : View) → ring_in l v ≡ ring_of v → ring_of v ≡ ring_of w → ring_in l w ≡ ring_of w
+pub ring_kept : (l : Carried) (v w : View) → ring_in l v ≡ ring_of v → ring_of v ≡ ring_of w → ring_in l w ≡ ring_of w
 ring_kept [] v w e f = refl
 ring_kept ((k, Some y) ∷ l) v w e f = e ∙ f
 ring_kept ((k, None) ∷ l) v w e f = refl
 
-some_held : {h : Holds} (k : ℕ) (x : RxCtx) (l : Carried) → hold_of ((k, Some x) ∷ l) ≡ Some h → has_slot h ≡ true
+pub some_held : {h : Holds} (k : ℕ) (x : RxCtx) (l : Carried) → hold_of ((k, Some x) ∷ l) ≡ Some h → has_slot h ≡ true
 some_held zero x [] e = ap has_slot (sym (hold_same e))
 some_held zero x (y ∷ l) e = absurd (cc)
 some_held (suc k) x l e = absurd (cc)

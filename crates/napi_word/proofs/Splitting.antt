@@ -3,13 +3,14 @@ use Rattle.std.proofs.Common.{◌≡◌, ◌≢◌, ◌⊎◌, ℕ, zero, suc, �
 use mathlib.Core.Option as maybe
 use lib.ListN.{get_elem?}
 use Rattle.atomic_table.specs.Table.{Splits, Joins}
-use Rattle.atomic_table.proofs.Lists.{at_set, at_snoc, set_again}
+use Rattle.atomic_table.proofs.Lists.{at_longer, at_set, at_snoc, set_again}
 use Rattle.napi_model.specs.declared.event.Event.{Event}
 use Rattle.napi_word.specs.declared.view.Key.{Key}
 use Rattle.napi_word.specs.declared.view.Strand.{Strand}
 use Rattle.napi_word.specs.declared.view.Delivery.{Delivery}
 use Rattle.napi_word.specs.View.{View, is_pass}
 use Rattle.napi_word.specs.Rule.{Fits, Kept, Holding, left_of, right_of, note, note_of, joined, spent}
+use Rattle.napi_word.specs.Surveys.{front, with_front, but_last, last_alone}
 use Rattle.napi_word.proofs.Keeps.{St, opened, running}
 
 -- ---- lists
@@ -123,14 +124,14 @@ notes key id v p s holding at =
     one r x f j zero z e = subst (Fits key r.history r.deliveries r.seat (j, 0)) (maybe.some-injective _ _ e) record { begins = f.begins; delivered = f.delivered; owned = λ c none. absurd (cc); controller = f.controller; ring = f.ring; begun = f.begun }
     one r x f j (suc k) z e = absurd (maybe.some-ne-none z (sym e))
 
--- ---- a seat is taken in
-module _ (key : Key) (id : ℕ) (v : View) (other : ℕ) (w : View) (s : St) (r : Kept key s) (at : get_elem? s.views id ≡ maybe.some v) (apart : other ≢ id)
-    (beside : get_elem? (set s.views id (joined v w)) other ≡ maybe.some w) where
+-- ---- a seat is taken in, or the front of it
+module _ (key : Key) (id : ℕ) (v : View) (other : ℕ) (w u : View) (from : (i : ℕ) (z : Strand) → get_elem? u i ≡ maybe.some z → get_elem? w i ≡ maybe.some z) (s : St) (r : Kept key s)
+    (at : get_elem? s.views id ≡ maybe.some v) (apart : other ≢ id) (beside : get_elem? (set s.views id (joined v u)) other ≡ maybe.some w) where
   abbrev shifted : ℕ × ℕ → ℕ × ℕ
   shifted p = cond (eqb p.0 other) (id, length v + p.1) p
 
   stood : get_elem? s.views other ≡ maybe.some w
-  stood = ⊎_elim (λ (t : (other ≡ id) × (joined v w ≡ w)). absurd (apart t.0)) (λ (t : (other ≢ id) × (get_elem? s.views other ≡ maybe.some w)). t.1) (at_set s.views id other (joined v w) w beside)
+  stood = ⊎_elim (λ (t : (other ≡ id) × (joined v u ≡ w)). absurd (apart t.0)) (λ (t : (other ≢ id) × (get_elem? s.views other ≡ maybe.some w)). t.1) (at_set s.views id other (joined v u) w beside)
 
   comes : (k c : ℕ) → r.seat c ≡ (other, k) → shifted (r.seat c) ≡ (id, length v + k)
   comes k c e = ap shifted e ∙ ap (λ (b : Bool). cond b (id, length v + k) (other, k)) (eq-eqb other other refl)
@@ -138,15 +139,15 @@ module _ (key : Key) (id : ℕ) (v : View) (other : ℕ) (w : View) (s : St) (r 
   stays : (j k c : ℕ) → j ≢ other → r.seat c ≡ (j, k) → shifted (r.seat c) ≡ (j, k)
   stays j k c n e = ap shifted e ∙ ap (λ (b : Bool). cond b (id, length v + k) (j, k)) (ne_eqb j other n)
 
-  both_fit : (k : ℕ) (z : Strand) → get_elem? (joined v w) k ≡ maybe.some z → Fits key r.history r.deliveries (λ c. shifted (r.seat c)) (id, k) z
+  both_fit : (k : ℕ) (z : Strand) → get_elem? (joined v u) k ≡ maybe.some z → Fits key r.history r.deliveries (λ c. shifted (r.seat c)) (id, k) z
   both_fit k z e = ⊎_elim
       (λ (t : get_elem? v k ≡ maybe.some z). refit key r.history r.deliveries r.seat (λ c. shifted (r.seat c)) (id, k) (id, k) z (λ c. stays id k c (λ n. apart (sym n))) (r.strands id v at k z t))
-      (λ (t : (i : ℕ) × (length v + i ≡ k) × (get_elem? w i ≡ maybe.some z)).
+      (λ (t : (i : ℕ) × (length v + i ≡ k) × (get_elem? u i ≡ maybe.some z)).
       subst (λ (i : ℕ). Fits key r.history r.deliveries (λ c. shifted (r.seat c)) (id, i) z) t.1
-      (refit key r.history r.deliveries r.seat (λ c. shifted (r.seat c)) (other, t.0) (id, length v + t.0) z (comes t.0) (r.strands other w stood t.0 z t.2)))
-      (at_join v w z k e)
+      (refit key r.history r.deliveries r.seat (λ c. shifted (r.seat c)) (other, t.0) (id, length v + t.0) z (comes t.0) (r.strands other w stood t.0 z (from t.0 z t.2))))
+      (at_join v u z k e)
 
-  merged : Kept key record { words = s.words; homes = s.homes; views = set (set s.views id (joined v w)) other spent }
+  merged : Kept key record { words = s.words; homes = s.homes; views = set (set s.views id (joined v u)) other spent }
   merged = record {
     history = r.history;
     deliveries = r.deliveries;
@@ -154,17 +155,93 @@ module _ (key : Key) (id : ℕ) (v : View) (other : ℕ) (w : View) (s : St) (r 
     legal = r.legal;
     word = r.word;
     slot = r.slot;
-    strands = λ j u is k z e. ⊎_elim
-        (λ (t : (j ≡ other) × (spent ≡ u)). absurd (maybe.some-ne-none z (sym (ap (λ (l : View). get_elem? l k) t.1 ∙ e))))
-        (λ (t : (j ≢ other) × (get_elem? (set s.views id (joined v w)) j ≡ maybe.some u)). ⊎_elim
-        (λ (d : (j ≡ id) × (joined v w ≡ u)). subst (λ (i : ℕ). Fits key r.history r.deliveries (λ c. shifted (r.seat c)) (i, k) z) (sym d.0) (both_fit k z (ap (λ (l : View). get_elem? l k) d.1 ∙ e)))
-        (λ (d : (j ≢ id) × (get_elem? s.views j ≡ maybe.some u)). refit key r.history r.deliveries r.seat (λ c. shifted (r.seat c)) (j, k) (j, k) z (λ c. stays j k c t.0) (r.strands j u d.1 k z e))
-        (at_set s.views id j (joined v w) u t.1))
-        (at_set (set s.views id (joined v w)) other j spent u is);
+    strands = λ j y is k z e. ⊎_elim
+        (λ (t : (j ≡ other) × (spent ≡ y)). absurd (maybe.some-ne-none z (sym (ap (λ (l : View). get_elem? l k) t.1 ∙ e))))
+        (λ (t : (j ≢ other) × (get_elem? (set s.views id (joined v u)) j ≡ maybe.some y)). ⊎_elim
+        (λ (d : (j ≡ id) × (joined v u ≡ y)). subst (λ (i : ℕ). Fits key r.history r.deliveries (λ c. shifted (r.seat c)) (i, k) z) (sym d.0) (both_fit k z (ap (λ (l : View). get_elem? l k) d.1 ∙ e)))
+        (λ (d : (j ≢ id) × (get_elem? s.views j ≡ maybe.some y)). refit key r.history r.deliveries r.seat (λ c. shifted (r.seat c)) (j, k) (j, k) z (λ c. stays j k c t.0) (r.strands j y d.1 k z e))
+        (at_set s.views id j (joined v u) y t.1))
+        (at_set (set s.views id (joined v u)) other j spent y is);
     few = r.few;
     order = r.order;
     few_deliver = r.few_deliver;
   }
 
 pub joins : (key : Key) (id : ℕ) (v : View) (other : ℕ) (w : View) → is_pass v ≡ true → Joins (Holding key) id v other w (joined v w) spent
-joins key id v other w p s holding at apart beside = inr (merged key id v other w s (running key s holding id v at p) at apart beside)
+joins key id v other w p s holding at apart beside = inr (merged key id v other w w (λ i z e. e) s (running key s holding id v at p) at apart beside)
+
+front_from : (w : View) (i : ℕ) (z : Strand) → get_elem? (front w) i ≡ maybe.some z → get_elem? w i ≡ maybe.some z
+front_from [] i z e = e
+front_from (x ∷ xs) zero z e = e
+front_from (x ∷ xs) (suc i) z e = absurd (maybe.some-ne-none z (sym e))
+
+pub joins_front : (key : Key) (id : ℕ) (v : View) (other : ℕ) (w : View) → is_pass v ≡ true → Joins (Holding key) id v other w (with_front v w) spent
+joins_front key id v other w p s holding at apart beside = inr (merged key id v other w (front w) (front_from w) s (running key s holding id v at p) at apart beside)
+
+-- ---- the last strand becomes a seat of its own
+module _ (key : Key) (id : ℕ) (xs : View) (y : Strand) (s : St) (r : Kept key s) (at : get_elem? s.views id ≡ maybe.some (xs ++ y ∷ [])) where
+  abbrev M : ℕ
+  M = length (set s.views id xs)
+
+  abbrev parted : ℕ × ℕ → ℕ × ℕ
+  parted p = cond (eqb p.0 id) (cond (eqb p.1 (length xs)) (M, 0) p) p
+
+  parts_from : (k c : ℕ) → k < length xs → r.seat c ≡ (id, k) → parted (r.seat c) ≡ (id, k)
+  parts_from k c low e = ap parted e ∙ ap (λ (b : Bool). cond b (cond (eqb k (length xs)) (M, 0) (id, k)) (id, k)) (eq-eqb id id refl)
+      ∙ ap (λ (b : Bool). cond b (M, 0) (id, k)) (ne_eqb k (length xs) (λ same. omega (arith, low, same)))
+
+  parts_last : (c : ℕ) → r.seat c ≡ (id, length xs) → parted (r.seat c) ≡ (M, 0)
+  parts_last c e = ap parted e ∙ ap (λ (b : Bool). cond b (cond (eqb (length xs) (length xs)) (M, 0) (id, length xs)) (id, length xs)) (eq-eqb id id refl)
+      ∙ ap (λ (b : Bool). cond b (M, 0) (id, length xs)) (eq-eqb (length xs) (length xs) refl)
+
+  parts_not : (j k c : ℕ) → j ≢ id → r.seat c ≡ (j, k) → parted (r.seat c) ≡ (j, k)
+  parts_not j k c apart e = ap parted e ∙ ap (λ (b : Bool). cond b (cond (eqb k (length xs)) (M, 0) (j, k)) (j, k)) (ne_eqb j id apart)
+
+  at_length : (l : View) → get_elem? (l ++ y ∷ []) (length l) ≡ maybe.some y
+  at_length [] = refl
+  at_length (x ∷ l) = at_length l
+
+  stay_fit : (k : ℕ) (z : Strand) → get_elem? xs k ≡ maybe.some z → Fits key r.history r.deliveries (λ c. parted (r.seat c)) (id, k) z
+  stay_fit k z e = refit key r.history r.deliveries r.seat (λ c. parted (r.seat c)) (id, k) (id, k) z (λ c. parts_from k c (within_length xs z k e))
+      (r.strands id (xs ++ y ∷ []) at k z (at_longer xs (y ∷ []) k z e))
+
+  last_fit : (k : ℕ) (z : Strand) → get_elem? (y ∷ []) k ≡ maybe.some z → Fits key r.history r.deliveries (λ c. parted (r.seat c)) (M, k) z
+  last_fit zero z e = refit key r.history r.deliveries r.seat (λ c. parted (r.seat c)) (id, length xs) (M, 0) z parts_last
+      (r.strands id (xs ++ y ∷ []) at (length xs) z (at_length xs ∙ e))
+  last_fit (suc k) z e = absurd (maybe.some-ne-none z (sym e))
+
+  cut : Kept key record { words = s.words; homes = s.homes; views = set s.views id xs ++ (y ∷ []) ∷ [] }
+  cut = record {
+    history = r.history;
+    deliveries = r.deliveries;
+    seat = λ c. parted (r.seat c);
+    legal = r.legal;
+    word = r.word;
+    slot = r.slot;
+    strands = λ j u is k z e. ⊎_elim
+        (λ (t : get_elem? (set s.views id xs) j ≡ maybe.some u). ⊎_elim
+        (λ (d : (j ≡ id) × (xs ≡ u)). subst (λ (i : ℕ). Fits key r.history r.deliveries (λ c. parted (r.seat c)) (i, k) z) (sym d.0) (stay_fit k z (ap (λ (v : View). get_elem? v k) d.1 ∙ e)))
+        (λ (d : (j ≢ id) × (get_elem? s.views j ≡ maybe.some u)). refit key r.history r.deliveries r.seat (λ c. parted (r.seat c)) (j, k) (j, k) z (λ c. parts_not j k c d.0) (r.strands j u d.1 k z e))
+        (at_set s.views id j xs u t))
+        (λ (t : (j ≡ M) × (y ∷ [] ≡ u)). subst (λ (i : ℕ). Fits key r.history r.deliveries (λ c. parted (r.seat c)) (i, k) z) (sym t.0) (last_fit k z (ap (λ (v : View). get_elem? v k) t.1 ∙ e)))
+        (at_end (set s.views id xs) (y ∷ []) u j is);
+    few = r.few;
+    order = r.order;
+    few_deliver = r.few_deliver;
+  }
+
+pub but_last_is : (xs : View) (y : Strand) → but_last (xs ++ y ∷ []) ≡ xs
+but_last_is [] y = refl
+but_last_is (x ∷ []) y = refl
+but_last_is (x ∷ z ∷ zs) y = ap (λ (l : View). x ∷ l) (but_last_is (z ∷ zs) y)
+
+pub last_alone_is : (xs : View) (y : Strand) → last_alone (xs ++ y ∷ []) ≡ y ∷ []
+last_alone_is [] y = refl
+last_alone_is (x ∷ []) y = refl
+last_alone_is (x ∷ z ∷ zs) y = last_alone_is (z ∷ zs) y
+
+pub parts_last_of : (key : Key) (id : ℕ) (xs : View) (y : Strand) (v : View) → v ≡ xs ++ y ∷ [] → is_pass v ≡ true → Splits (Holding key) id v (but_last v) (last_alone v)
+parts_last_of key id xs y v is p = subst (λ (u : View). Splits (Holding key) id u (but_last u) (last_alone u)) (sym is)
+    (λ s holding at. inr (subst (λ (l : View). Kept key record { words = s.words; homes = s.homes; views = set s.views id l ++ last_alone (xs ++ y ∷ []) ∷ [] }) (sym (but_last_is xs y))
+    (subst (λ (l : View). Kept key record { words = s.words; homes = s.homes; views = set s.views id xs ++ l ∷ [] }) (sym (last_alone_is xs y))
+    (cut key id xs y s (running key s holding id (xs ++ y ∷ []) at (ap is_pass (sym is) ∙ p)) at))))

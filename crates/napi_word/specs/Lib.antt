@@ -7,3 +7,4 @@ pub mod Atoms
 pub mod Passes
 pub mod Ends
 pub mod Runs
+pub mod Surveys

@@ -20,6 +20,7 @@ mod plays;
 mod rule;
 mod slot;
 mod steps;
+mod surveying;
 mod table;
 #[cfg(test)]
 mod tests;

@@ -1,6 +1,7 @@
 //! What each step tells: its operation and its move of the slot, by the word that it finds.
 ghost use Rattle.napi_word.specs.Rule.{left_of, right_of, note_of, joined, spent};
 ghost use Rattle.napi_word.specs.Told.{told, exchanged, begun, laid_down};
+ghost use Rattle.napi_word.specs.Surveys.{surveyed, with_front, but_last, last_alone};
 
 use crate::view::View;
 use atomic_table::{Join, Play, Split};
@@ -295,4 +296,29 @@ impl Join<View> for TakesIn {
     ghost both = { joined };
 
     ghost spent = { spent };
+}
+
+/// One pass takes in the own strand of another.
+pub(crate) struct TakesFront;
+
+impl Join<View> for TakesFront {
+    ghost both = { with_front };
+
+    ghost spent = { spent };
+}
+
+/// The strand that was taken in last becomes a seat of its own again.
+pub(crate) struct PartsLast;
+
+impl Split<View> for PartsLast {
+    ghost left = { but_last };
+
+    ghost right = { last_alone };
+}
+
+/// All strands of a seat see the whole history. No event.
+pub(crate) struct Surveying;
+
+impl Play<Option<RxCtx>, View> for Surveying {
+    ghost then = { λ s. surveyed };
 }

@@ -5,6 +5,8 @@
 #[cfg(test)]
 mod attaching;
 #[cfg(test)]
+mod counts;
+#[cfg(test)]
 mod ends;
 #[cfg(test)]
 mod failing;

@@ -1,0 +1,90 @@
+-- What a value knows after a survey.
+use Rattle.std.proofs.Common.{◌≡◌, ℕ, Bool, true, false, List, [], ◌∷◌, Option, Some, None, unwrap_or, true≢false, refl, sym, ap, ◌∙◌, subst}
+use Rattle.rx_ring.specs.declared.ends.RxCtx.{RxCtx}
+use Rattle.rx_ring.specs.Ends.{ring_name, received_list}
+use Rattle.rx_ring.specs.declared.packet.Packet.{Packet}
+use Rattle.napi_model.specs.declared.event.Event.{Event}
+use Rattle.napi_model.specs.declared.state.State.{State}
+use Rattle.napi_model.specs.declared.state.Place.{Place}
+use Rattle.napi_model.specs.Step.{opening}
+use Rattle.napi_model.specs.History.{LegalHistory, state_after, own}
+use Rattle.napi_model.specs.Laws.{is_owner}
+use Rattle.napi_word.specs.declared.table.Pass.{Pass}
+use Rattle.napi_word.specs.declared.view.Delivery.{Delivery}
+use Rattle.napi_word.specs.declared.view.Holds.{Holds}
+use Rattle.napi_word.specs.declared.view.Holds.TheVariants.{Nothing}
+use Rattle.napi_word.specs.View as view
+use Rattle.napi_word.specs.View.{View, Continues}
+use Rattle.napi_word.specs.Slot.{has_at, has_slot}
+use Rattle.napi_word.specs.Passes.{view_of}
+use Rattle.napi_word.specs.Surveys.{IsWhole, CatchesUp, IsSurveyed}
+use Rattle.napi_word.proofs.Allowed.{nothing}
+use Rattle.napi_word.proofs.Places.{has_owner, is_false}
+use Rattle.napi_word.proofs.Deliveries.{of_prefix, prefix_self}
+use Rattle.napi_calls.specs.Seats.{number_of, controller_of, shown, state_of, ring_of}
+use Rattle.napi_calls.specs.Knows.{own_place, Free, Stands, Controls, Has, held, ring_held, received_held}
+use Rattle.napi_calls.proofs.Standing.{is_kept, is_free}
+
+-- who owns nothing holds nothing
+pub holds_nothing : {c : ℕ} {p : Pass} → Stands Free c p → p.holds ≡ Nothing
+holds_nothing {c} {p} st = nothing p.holds
+    (sym p.right ∙ is_false (has_at (number_of p) (state_of p).place) (λ e. true≢false (sym (has_owner (number_of p) (state_of p).place e) ∙ is_free st)))
+
+module _ (k : ℕ) (h : List Event) (ds : List Delivery) (w : IsWhole k h ds) (p q : Pass) (s : IsSurveyed h ds p q) (led : controller_of p ≡ k) where
+  abbrev u : CatchesUp h ds (view_of p) (view_of q)
+  u = s.view
+
+  state_is : state_of q ≡ state_after (opening (controller_of p)) h
+  state_is = λ i. state_after (opening (u.controller i)) (u.shown i)
+
+  pub stands_up : {r : ℕ → Place} {c : ℕ} → Stands r c p → Stands r c q
+  stands_up {r} {c} st =
+      let e = st.number in
+      let had = (state_of p).place in
+      let now = (state_after (opening (controller_of p)) h).place in
+      let owner : is_owner c now ≡ is_owner c had = subst (λ (n : ℕ). is_owner n now ≡ is_owner n had) e u.owner in
+      let place : is_owner c had ≡ true → now ≡ had = λ t. u.place (ap (λ (n : ℕ). is_owner n had) e ∙ t) in record {
+        number = u.number ∙ e;
+        legal = ∣ subst (λ (l : List Event). LegalHistory (controller_of q) (opening (controller_of q)) l) (sym u.shown)
+            (subst (λ (n : ℕ). LegalHistory n (opening n) h) (sym (u.controller ∙ led)) w.legal) ∣₁;
+        exact = ap (own c) u.shown ∙ ap (λ (n : ℕ). own n h) (sym e) ∙ u.exact ∙ sym u.mine;
+        place = ap (λ (t : State). own_place c t.place) state_is ∙ is_kept c had now (is_owner c had) refl owner place ∙ st.place;
+      }
+
+  pub controls_up : {r : ℕ → Place} {b : Bool} → Controls r b p → Controls r b q
+  controls_up {r} {b} c = record {
+    stands = subst (λ (n : ℕ). Stands r n q) (sym u.controller) (stands_up c.stands);
+    flag = ap (λ (t : State). t.flags.disable) state_is ∙ u.disable c.stands.number ∙ c.flag;
+  }
+
+  ring_by : (v w : View) → view.first_in w ≡ view.first_in v → view.ring_of w ≡ view.ring_of v
+  ring_by [] [] e = refl
+  ring_by [] (y ∷ ys) e = absurd (cc)
+  ring_by (x ∷ xs) [] e = absurd (cc)
+  ring_by (x ∷ xs) (y ∷ ys) e = ap (λ (r : Option RxCtx). Some (ring_name (unwrap_or r x.ring))) e
+
+  received_same : (v w : View) → view.first_in w ≡ view.first_in v → view.delivered w ≡ view.delivered v → view.received_in w ≡ view.received_in v
+  received_same [] [] e d = refl
+  received_same [] (y ∷ ys) e d = absurd (cc)
+  received_same (x ∷ xs) [] e d = absurd (cc)
+  received_same (x ∷ xs) (y ∷ ys) e d = λ i. view.received_by (unwrap_or (e i) x.ring) (d i)
+
+  pub ring_stays : ring_of q ≡ ring_of p
+  ring_stays = ring_by (view_of p) (view_of q) u.ring
+
+  -- who has the slot had seen all deliveries
+  kept_received : has_slot p.holds ≡ true → view.received_in (view_of q) ≡ view.received_in (view_of p)
+  kept_received has = received_same (view_of p) (view_of q) u.ring (u.delivered ∙ sym (u.held (p.right ∙ has)))
+
+  pub has_up : (ctx : Option RxCtx) → Has p ctx → Has q ctx
+  has_up None has = record { holds = s.holds ∙ has.holds; ring = refl; received = of_prefix _ _ (prefix_self _) }
+  has_up (Some x) has = record {
+    holds = s.holds ∙ has.holds;
+    ring = ring_stays ∙ has.ring;
+    received = subst (λ (l : List Packet). Continues l (received_list x)) (sym (kept_received (ap has_slot has.holds))) has.received;
+  }
+
+  pub exact_up : (ctx : Option RxCtx) → Has p ctx → received_held ctx (view.received_in (view_of p)) ≡ view.received_in (view_of p)
+      → received_held ctx (view.received_in (view_of q)) ≡ view.received_in (view_of q)
+  exact_up None has e = refl
+  exact_up (Some x) has e = e ∙ sym (kept_received (ap has_slot has.holds))

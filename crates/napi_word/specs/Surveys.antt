@@ -1,0 +1,110 @@
+-- A survey: all passes of a table meet at once. Then each shows the whole history and all deliveries.
+use Rattle.std.specs.Prelude.{◌≡◌, ℕ, ◌<◌, true, List, [], ◌∷◌, ◌++◌, slice_get, Some}
+use mathlib.Core.Option as maybe
+use mathlib.Core.List.{IsPrefix}
+use lib.ListN.{get_elem?}
+use Rattle.atomic_table.specs.Table.{Me}
+use Rattle.napi_model.specs.declared.event.Event.{Event}
+use Rattle.napi_model.specs.Step.{opening}
+use Rattle.napi_model.specs.History.{LegalHistory, state_after, own}
+use Rattle.napi_model.specs.Laws.{is_owner}
+use Rattle.napi_word.specs.declared.view.Strand.{Strand}
+use Rattle.napi_word.specs.declared.view.Delivery.{Delivery}
+use Rattle.napi_word.specs.declared.table.Pass.{Pass}
+use Rattle.napi_word.specs.View as view
+use Rattle.napi_word.specs.View.{View, is_pass, number_of, controller_of, first_in, own_deliveries, deliverers, place_in, busy_in, disable_in, state_at}
+use Rattle.napi_word.specs.Slot.{Content, givers, has_at, owns_slot}
+use Rattle.napi_word.specs.Passes.{view_of, SameTable}
+
+-- the whole history, and all deliveries, where the controller has this number
+pub record IsWhole (k : ℕ) (h : List Event) (ds : List Delivery) : Type 0 where
+  pub legal : LegalHistory k (opening k) h
+  -- behind the controller's number nobody has an event, or a delivery
+  pub others : (c : ℕ) → k < c → own c h ≡ []
+  pub few : (c : ℕ) → k < c → own_deliveries c ds ≡ []
+  -- there is one delivery for each event that gave the context away
+  pub order : deliverers ds ≡ givers (opening k) h
+
+-- a view before and after it: it has caught up with the whole, in which there was no more of its own
+pub record CatchesUp (h : List Event) (ds : List Delivery) (v w : View) : Type 0 where
+  pub shown : view.shown w ≡ h
+  pub begins : IsPrefix (view.shown v) h
+  pub mine : view.mine w ≡ view.mine v
+  pub exact : own (number_of v) h ≡ view.mine v
+  pub delivered : view.delivered w ≡ ds
+  pub delivered_begins : IsPrefix (view.delivered v) ds
+  pub delivered_exact : own_deliveries (number_of v) ds ≡ own_deliveries (number_of v) (view.delivered v)
+  -- who has the slot had seen all deliveries
+  pub held : owns_slot v ≡ true → view.delivered v ≡ ds
+  -- number, controller and ring stay
+  pub pass : is_pass w ≡ true
+  pub number : number_of w ≡ number_of v
+  pub controller : controller_of w ≡ controller_of v
+  pub ring : first_in w ≡ first_in v
+  -- and so does what others can't change
+  pub owner : is_owner (number_of v) (state_at v h).place ≡ is_owner (number_of v) (place_in v)
+  pub place : is_owner (number_of v) (place_in v) ≡ true → (state_at v h).place ≡ place_in v
+  pub busy : is_owner (number_of v) (place_in v) ≡ true → (state_at v h).flags.in_busy_poll ≡ busy_in v
+  pub disable : number_of v ≡ controller_of v → (state_at v h).flags.disable ≡ disable_in v
+
+-- a pass before and after it: it is the same one, and holds what it held
+pub record IsSurveyed (h : List Event) (ds : List Delivery) (p q : Pass) : Type 0 where
+  pub table : SameTable p q
+  pub holds : q.holds ≡ p.holds
+  pub slot : q.seat.me.1 ≡ p.seat.me.1
+  pub view : CatchesUp h ds (view_of p) (view_of q)
+
+-- these passes of the table whose controller has this number were surveyed
+pub record Surveys (k : ℕ) (before after : List Pass) : Type 0 where
+  pub history : List Event
+  pub deliveries : List Delivery
+  pub whole : IsWhole k history deliveries
+  pub controllers : (i : ℕ) (p : Pass) → slice_get before i ≡ Some p → controller_of (view_of p) ≡ k
+  pub each : (i : ℕ) (p q : Pass) → slice_get before i ≡ Some p → slice_get after i ≡ Some q → IsSurveyed history deliveries p q
+
+-- ---- how it is made: the strands come together, catch up by one load, and part again
+
+-- a pass's own strand alone
+abbrev pub front : View → View
+front [] = []
+front (x ∷ xs) = x ∷ []
+
+abbrev pub with_front : View → View → View
+with_front v w = v ++ front w
+
+abbrev pub but_last : View → View
+but_last [] = []
+but_last (x ∷ []) = []
+but_last (x ∷ y ∷ ys) = x ∷ but_last (y ∷ ys)
+
+abbrev pub last_alone : View → View
+last_alone [] = []
+last_alone (x ∷ []) = x ∷ []
+last_alone (x ∷ y ∷ ys) = last_alone (y ∷ ys)
+
+abbrev pub caught_up : List Event → List Delivery → Strand → Strand
+caught_up h ds x = record x { seen = h; delivered = ds }
+
+abbrev pub all_caught_up : List Event → List Delivery → View → View
+all_caught_up h ds [] = []
+all_caught_up h ds (x ∷ xs) = caught_up h ds x ∷ all_caught_up h ds xs
+
+-- what the whole is to a strand with this number
+pub record Knew (k : ℕ) (h : List Event) (ds : List Delivery) (x : Strand) (c : ℕ) : Type 0 where
+  pub controller : x.controller ≡ k
+  pub begins : IsPrefix x.seen h
+  pub exact : own c h ≡ x.mine
+  pub delivered : IsPrefix x.delivered ds
+  pub delivers : own_deliveries c ds ≡ own_deliveries c x.delivered
+  pub has : has_at c (state_after (opening k) h).place ≡ true → x.delivered ≡ ds
+  pub owner : is_owner c (state_after (opening k) h).place ≡ is_owner c (state_after (opening k) x.seen).place
+  pub place : is_owner c (state_after (opening k) x.seen).place ≡ true → (state_after (opening k) h).place ≡ (state_after (opening k) x.seen).place
+  pub busy : is_owner c (state_after (opening k) x.seen).place ≡ true → (state_after (opening k) h).flags.in_busy_poll ≡ (state_after (opening k) x.seen).flags.in_busy_poll
+  pub disable : c ≡ k → (state_after (opening k) h).flags.disable ≡ (state_after (opening k) x.seen).flags.disable
+
+-- a load that is no event, by which all strands of a seat catch up
+abbrev pub surveyed : Me Content View → ℕ → Me Content View → Type 0
+surveyed me n me' =
+    (h : List Event) × (ds : List Delivery) × IsWhole (controller_of me.0) h ds
+    × (me'.0 ≡ all_caught_up h ds me.0) × (me'.1 ≡ me.1)
+    × ((k : ℕ) (x : Strand) (c : ℕ) → get_elem? me.0 k ≡ maybe.some x → x.number ≡ Some c → Knew (controller_of me.0) h ds x c)

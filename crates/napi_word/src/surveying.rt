@@ -1,0 +1,63 @@
+//! All passes of a table meet at once.
+ghost use Rattle.std.specs.Prelude.{◌≡◌, [], ◌∷◌};
+ghost use Rattle.napi_word.specs.declared.view.Holds.TheVariants.{Nothing};
+ghost use Rattle.napi_word.specs.View.{controller_of};
+ghost use Rattle.napi_word.specs.Passes.{view_of, IsPassOf};
+ghost use Rattle.napi_word.specs.Surveys.{Surveys};
+
+use crate::plays::{PartsLast, Surveying, TakesFront};
+use crate::table::{Pass, StateTable};
+use crate::view::Holds;
+
+impl StateTable {
+    /// Three callers and the controller of a table meet at once. Then each shows the whole history, in which its own list is
+    /// exact, and all deliveries. It is no event, and writes nothing.
+    #[inline]
+    pub fn survey(
+        &self,
+        first: Pass,
+        second: Pass,
+        third: Pass,
+        last: &mut Pass,
+    ) -> (Pass, Pass, Pass)
+        requires first { IsPassOf self.now first }
+        requires second { IsPassOf self.now second }
+        requires third { IsPassOf self.now third }
+        requires last { IsPassOf self.now last.old }
+        requires rest { (first.holds ≡ Nothing) × (second.holds ≡ Nothing)
+            × (third.holds ≡ Nothing) }
+        ensures { Surveys (controller_of (view_of last.old))
+            (first ∷ second ∷ third ∷ last.old ∷ [])
+            (result.0 ∷ result.1 ∷ result.2 ∷ last.new ∷ []) }
+    {
+        let table = &self.table.shared;
+        let Pass {
+            seat: first,
+            holds: _,
+        } = first;
+        let Pass {
+            seat: second,
+            holds: _,
+        } = second;
+        let Pass {
+            seat: third,
+            holds: _,
+        } = third;
+        table.join_seat::<TakesFront>(&mut last.seat, first);
+        table.join_seat::<TakesFront>(&mut last.seat, second);
+        table.join_seat::<TakesFront>(&mut last.seat, third);
+        table.load::<Surveying>(&mut last.seat, 0);
+        let third = table.split_seat::<PartsLast>(&mut last.seat);
+        let second = table.split_seat::<PartsLast>(&mut last.seat);
+        let first = table.split_seat::<PartsLast>(&mut last.seat);
+        let holds = Holds::Nothing;
+        (
+            Pass { seat: first, holds },
+            Pass {
+                seat: second,
+                holds,
+            },
+            Pass { seat: third, holds },
+        )
+    }
+}
