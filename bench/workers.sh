@@ -1,17 +1,21 @@
 #!/usr/bin/env bash
 # Runs packets through sixteen devices with 1, 2, 4 and 8 pollers, each a thread of its own beside the devices' workers: the
-# program of crates/bench_workers, three runs each. None may be lost or doubled; the best time of each is shown. Then the
-# processor time of a run in which everybody waits for a worker that is held at its gate for a second: at most 50 ms.
+# program of crates/bench_workers, three runs each, or RUNS. None may be lost or doubled; the best time of each is shown. Then
+# the processor time of a run in which everybody waits for a worker that is held at its gate for a second: at most 50 ms.
 #
-# usage: bench/workers.sh [PACKETS]     (1000000 where none are given, at most 1048576)
+# usage: bench/workers.sh [PACKETS [RUNS]]     (1000000 where none are given, at most 1048576)
+#
+# A billion packets go through by `bench/workers.sh 1000000 250`.
 set -euo pipefail
 
 unset CDPATH
 top=$(cd "$(dirname "$0")/.." && pwd)
 . "$top/scripts/arguments.sh"
-at_most 1 "$@"
+at_most 2 "$@"
 packets=${1:-1000000}
+runs=${2:-3}
 is_count PACKETS "$packets"
+is_count RUNS "$runs"
 [ "$packets" -le 1048576 ] || refuse "PACKETS is $packets, and has to be at most 1048576"
 work=$(mktemp -d)
 trap 'rm -rf "$work"' EXIT
@@ -30,7 +34,7 @@ run() {
 
 for pollers in 1 2 4 8; do
     : > "$work/times"
-    for _ in 1 2 3; do run 16 "$pollers" "$packets"; done
+    for _ in $(seq "$runs"); do run 16 "$pollers" "$packets"; done
     awk -v pollers="$pollers" -v packets="$packets" '!least || $1 < least { least = $1 }
         END { printf "%d pollers: %.0f ms, %.1f ns a packet\n", pollers, least / 1e6, least / packets }' "$work/times"
 done

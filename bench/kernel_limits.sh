@@ -1,0 +1,69 @@
+#!/usr/bin/env bash
+# Times pairs of `queued` and `completed` beside Linux's own text of them: `lib/dynamic_queue_limits.c` with its header, taken
+# into a scratch folder out of Debian's package linux-source-6.12, or out of the folder LINUX of sources, and compiled there
+# by cc -O2 with kernel_limits.c, which stands in for the kernel's headers. Nothing of it is kept. crates/bench_limits makes the
+# same calls; both print the same counts, which are compared. Three rounds in turn; the best time of each is shown. Where
+# neither the package nor a folder is at hand it says so, with status 0: then nothing was compared.
+#
+# usage: [LINUX=FOLDER] bench/kernel_limits.sh [PAIRS]     (100000000 where none are given)
+set -euo pipefail
+
+unset CDPATH
+bench=$(cd "$(dirname "$0")" && pwd)
+. "$bench/../scripts/arguments.sh"
+at_most 1 "$@"
+pairs=${1:-100000000}
+is_count PAIRS "$pairs"
+is_tool cc
+work=$(mktemp -d)
+trap 'rm -rf "$work"' EXIT
+files=(lib/dynamic_queue_limits.c include/linux/dynamic_queue_limits.h)
+
+# fetch: the two files of Debian's package, in the scratch folder.
+fetch() {
+    command -v apt-get > /dev/null && command -v dpkg-deb > /dev/null || return 1
+    (cd "$work" && apt-get download linux-source-6.12 > fetch.log 2>&1) || return 1
+    dpkg-deb --fsys-tarfile "$work"/linux-source-6.12_*.deb | tar -x -C "$work" ./usr/src/linux-source-6.12.tar.xz
+    tar -x -J -f "$work/usr/src/linux-source-6.12.tar.xz" -C "$work" --strip-components=1 "${files[@]/#/linux-source-6.12/}"
+}
+
+if [ -n "${LINUX:-}" ]; then
+    for file in "${files[@]}"; do
+        [ -f "$LINUX/$file" ] || refuse "LINUX is '$LINUX', which has no $file"
+        mkdir -p "$work/$(dirname "$file")"
+        cp "$LINUX/$file" "$work/$file"
+    done
+elif ! fetch; then
+    echo 'linux-source-6.12 is not at hand, and LINUX names no sources: nothing was compared'
+    exit 0
+fi
+
+"$bench/../scripts/build.sh" bench_limits
+cp "$bench/../crates/bench_limits/out/bench_limits" "$work/dql_core"
+# The headers that the two files name are kernel_limits.h, each under its name.
+sed -n 's/^#include <\(.*\)>.*/\1/p' "$work/${files[0]}" "$work/${files[1]}" | sort -u | while read -r header; do
+    [ "$header" != linux/dynamic_queue_limits.h ] || continue
+    mkdir -p "$work/stand_in/$(dirname "$header")"
+    cp "$bench/kernel_limits.h" "$work/stand_in/$header"
+done
+cc -O2 -w -I "$work/stand_in" -I "$work/include" -include "$bench/kernel_limits.h" -o "$work/linux" \
+    "$bench/kernel_limits.c" "$work/${files[0]}"
+
+for _ in 1 2 3; do
+    for program in dql_core linux; do
+        "$work/$program" "$pairs" > "$work/$program.line" 2> "$work/spent"
+        cut -d ' ' -f 1 "$work/spent" >> "$work/$program.times"
+        if ! cmp -s "$work/$program.line" "$work/dql_core.line"; then
+            echo 'Linux counts otherwise than dql_core:' >&2
+            cat "$work/dql_core.line" "$work/linux.line" >&2
+            exit 1
+        fi
+    done
+done
+
+cat "$work/dql_core.line"
+least() { sort -n "$work/$1.times" | head -n 1; }
+for program in dql_core linux; do
+    awk -v name="$program" -v spent="$(least "$program")" -v pairs="$pairs" -v ours="$(least dql_core)" \
+        'BEGIN { printf "%-9s %5.2f ns a pair, %4.2f of dql_core\n", name, spent / pairs, spent / ours }'
+done

@@ -1,0 +1,41 @@
+#!/usr/bin/env bash
+# Whole runs in shared mode, reading and writing included, in turn with serial mode of the same program, on the traces of
+# traces.sh with 100000 rows. Prints for each the least time of both modes and their ratio. The exit status is 1 where the bytes
+# differ.
+# [PROGRAM=PROGRAM] bench/shared.sh [TURNS]
+set -euo pipefail
+unset CDPATH
+bench=$(cd "$(dirname "$0")" && pwd)
+. "$bench/../scripts/arguments.sh"
+. "$bench/../scripts/best.sh"
+at_most 1 "$@"
+turns=${1:-15}
+program=${PROGRAM:-$bench/../crates/napi_replay/out/napi_replay}
+is_count TURNS "$turns"
+is_tool cc
+[ -n "${PROGRAM:-}" ] || "$bench/../scripts/build.sh" napi_replay
+is_program PROGRAM "$program"
+scratch=$(mktemp -d)
+trap 'rm -rf "$scratch"' EXIT
+
+cc -O2 -o "$scratch/measure" "$bench/measure.c"
+"$bench/traces.sh" "$scratch/traces"
+
+differs=0
+for name in bursts sends sixteen; do
+    for _ in $(seq "$turns"); do
+        for mode in serial shared; do
+            "$scratch/measure" "$scratch/traces/$name.csv" "$scratch/$mode.out" "$program" --mode "$mode" >> "$scratch/$name.$mode"
+        done
+    done
+    read -r serial _ status <<< "$(best "$scratch/$name.serial")"
+    read -r shared _ shared_status <<< "$(best "$scratch/$name.shared")"
+    same='the same bytes'
+    if [ "$status $shared_status" != '0 0' ] || ! cmp -s "$scratch/serial.out" "$scratch/shared.out"; then
+        same='OTHER BYTES'
+        differs=1
+    fi
+    awk -v name="$name" -v serial="$serial" -v shared="$shared" -v same="$same" 'BEGIN {
+        printf "%-8s shared %7.2f ms, serial %7.2f ms, ratio %4.2f, %s\n", name, shared / 1000, serial / 1000, shared / serial, same }'
+done
+exit "$differs"
