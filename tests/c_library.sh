@@ -9,21 +9,7 @@ examples=$top/examples/c
 header=$top/include/fintaqush.h
 scratch=$(mktemp -d)
 trap 'rm -rf "$scratch"' EXIT
-passed=0
-failed=0
-
-# check NAME COMMAND ..: counts its status. What it wrote is shown where it fails.
-check() {
-    local name=$1
-    shift
-    if "$@" > "$scratch/log" 2>&1; then
-        passed=$((passed + 1))
-    else
-        failed=$((failed + 1))
-        echo "c_library: $name"
-        tail -n 20 "$scratch/log" | sed 's/^/    /'
-    fi
-}
+. "$top/scripts/checks.sh"
 
 # compile COMPILER SOURCE PROGRAM FLAG ..: with all warnings as errors.
 compile() {
@@ -251,5 +237,4 @@ check 'a poll by a Caller is refused' refused "has no member named .poll" compil
 check 'a copy of a Caller is refused' refused 'deleted' compile g++ "$scratch/copies.cpp" "$scratch/refused"
 check 'a second enable is refused' refused "has no member named .enable" compile g++ "$scratch/enables.cpp" "$scratch/refused"
 
-echo "$passed passed, $failed failed"
-[ "$failed" = 0 ]
+sum_up

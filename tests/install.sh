@@ -7,21 +7,7 @@ top=$(dirname "$(dirname "$(readlink -f "$0")")")
 scratch=$(mktemp -d)
 trap 'rm -rf "$scratch"' EXIT
 prefix=$scratch/prefix
-passed=0
-failed=0
-
-# check NAME COMMAND ..: counts its status. What it wrote is shown where it fails.
-check() {
-    local name=$1
-    shift
-    if "$@" > "$scratch/log" 2>&1; then
-        passed=$((passed + 1))
-    else
-        failed=$((failed + 1))
-        echo "install: $name"
-        tail -n 10 "$scratch/log" | sed 's/^/    /'
-    fi
-}
+. "$top/scripts/checks.sh"
 
 install() { "$top/scripts/install.sh" "$@"; }
 
@@ -96,5 +82,4 @@ check 'with paths of the prefix' grep -q '^prefix=/usr$' "$scratch/stage/usr/lib
 check 'uninstalls below DESTDIR' env DESTDIR="$scratch/stage" "$top/scripts/install.sh" --uninstall /usr
 check 'nothing is left there' is_empty_of_files "$scratch/stage"
 
-echo "$passed passed, $failed failed"
-[ "$failed" = 0 ]
+sum_up

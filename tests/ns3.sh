@@ -7,21 +7,7 @@ unset CDPATH
 top=$(dirname "$(dirname "$(readlink -f "$0")")")
 scratch=$(mktemp -d)
 trap 'rm -rf "$scratch"' EXIT
-passed=0
-failed=0
-
-# check NAME COMMAND ..: counts its status. What it wrote is shown where it fails.
-check() {
-    local name=$1
-    shift
-    if "$@" > "$scratch/log" 2>&1; then
-        passed=$((passed + 1))
-    else
-        failed=$((failed + 1))
-        echo "ns3: $name"
-        tail -n 20 "$scratch/log" | sed 's/^/    /'
-    fi
-}
+. "$top/scripts/checks.sh"
 
 timeout 1200 "$top/examples/ns3/run.sh" "$scratch" 100000 250000 400000 > "$scratch/table" 2> "$scratch/errors"
 status=$?
@@ -34,7 +20,7 @@ fi
 check 'the example is built and run' [ "$status" = 0 ]
 if [ "$status" != 0 ]; then
     tail -n 20 "$scratch/errors"
-    echo "$passed passed, $failed failed"
+    sum_up
     exit 1
 fi
 
@@ -101,5 +87,4 @@ else
     echo 'ns3: passed over: there is no gnuplot, so no picture'
 fi
 
-echo "$passed passed, $failed failed"
-[ "$failed" = 0 ]
+sum_up

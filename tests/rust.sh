@@ -8,25 +8,10 @@ top=$(dirname "$(dirname "$(readlink -f "$0")")")
 crate=$top/bindings/rust
 scratch=$(mktemp -d)
 trap 'rm -rf "$scratch"' EXIT
-passed=0
-failed=0
-
-# check NAME COMMAND ..: counts its status. What it wrote is shown where it fails.
-check() {
-    local name=$1
-    shift
-    if "$@" > "$scratch/log" 2>&1; then
-        passed=$((passed + 1))
-    else
-        failed=$((failed + 1))
-        echo "rust: $name"
-        tail -n 20 "$scratch/log" | sed 's/^/    /'
-    fi
-}
+. "$top/scripts/checks.sh"
 
 ends() {
-    echo "$passed passed, $failed failed"
-    [ "$failed" = 0 ]
+    sum_up
     exit
 }
 

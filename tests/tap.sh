@@ -7,21 +7,8 @@ unset CDPATH
 top=$(dirname "$(dirname "$(readlink -f "$0")")")
 scratch=$(mktemp -d)
 trap 'rm -rf "$scratch"' EXIT
-passed=0
-failed=0
+. "$top/scripts/checks.sh"
 over=0
-
-check() {
-    local name=$1
-    shift
-    if "$@" > "$scratch/log" 2>&1; then
-        passed=$((passed + 1))
-    else
-        failed=$((failed + 1))
-        echo "tap: $name"
-        tail -n 20 "$scratch/log" | sed 's/^/    /'
-    fi
-}
 
 refused() {
     local status=0
@@ -67,5 +54,4 @@ if [ "$failed" = 0 ]; then
     way --trace "$scratch/slow.csv" --rate 20000000
 fi
 
-echo "$passed passed, $failed failed"
-[ "$failed" = 0 ]
+sum_up

@@ -82,7 +82,7 @@ request-keeps d sound = by d.napi.flags.disable d.napi.flags.sched refl
     by true sched e = record { sound = sound; pending = refl; listed = omega arith }
     by false true e = record { sound = sound; pending = refl; listed = omega arith }
     by false false e =
-        hands d.napi.flags.threaded INTERRUPT d (record (made INTERRUPT (operation.Schedule Granted) d) { granted = raised d.granted 1 }) refl refl
+        hands d.napi.flags.threaded INTERRUPT d (record (made INTERRUPT (operation.Schedule Granted) d) { told = record d.told { granted = raised d.told.granted 1 } }) refl refl
         (unheld d.napi.place d.napi.flags.sched sound e)
 
 pub packet-keeps : (bytes : ℕ) (d : DeviceView) → is_sound d ≡ true → Keeps d (after_packet bytes d).1 (entries (after_packet bytes d).0)
@@ -90,9 +90,9 @@ unfolding after_packet
 packet-keeps bytes d sound = by (has_room d)
   where
     put : DeviceView
-    put = record (record d { arrived = raised d.arrived 1 }) { packets = d.packets ++ bytes ∷ [] }
+    put = record d { packets = d.packets ++ bytes ∷ []; told = record d.told { arrived = raised d.told.arrived 1 } }
 
-    by : (b : Bool) → let after = if◌then◌else◌ {A = Option Kind × DeviceView} b (after_request put) (None, record (record d { arrived = raised d.arrived 1 }) { dropped = raised d.dropped 1 }) in
+    by : (b : Bool) → let after = if◌then◌else◌ {A = Option Kind × DeviceView} b (after_request put) (None, record d { told = record d.told { arrived = raised d.told.arrived 1; dropped = raised d.told.dropped 1 } }) in
         Keeps d after.1 (entries after.0)
     by true = let kept = request-keeps put sound in record { sound = kept.sound; pending = kept.pending; listed = kept.listed }
     by false = record { sound = sound; pending = refl; listed = omega arith }
@@ -133,7 +133,7 @@ completed-leaves poller d hand = by d.napi.flags.in_busy_poll d.napi.flags.misse
   where
     by : (busy missed : Bool) → let end = after_done poller (if busy then done.Held else (if missed then done.Again else done.Released)) d in Leaves d end.1 end.0
     by true missed = kept-in-hand d hand
-    by false true = handed-on d.napi.flags.threaded poller d (record (made poller (operation.Complete done.Again) d) { again = raised d.again 1 }) hand.sched refl
+    by false true = handed-on d.napi.flags.threaded poller d (record (made poller (operation.Complete done.Again) d) { told = record d.told { again = raised d.told.again 1 } }) hand.sched refl
     by false false = record { sound = refl; pending = refl; listed = refl; sched = λ e. cc e }
 
 ended-leaves : (poller work weight : ℕ) (d : DeviceView) → IsInHand d → Leaves d (ended poller work weight d).1 (ended poller work weight d).0

@@ -22,7 +22,7 @@ gives weight d = record { packets = bytes_given weight d; work = given weight d 
 
 -- a completion that is held
 abbrev pub held : DeviceView → DeviceView
-held d = record (made POLLER (operation.Complete Held) d) { held = raised d.held 1 }
+held d = record (made POLLER (operation.Complete Held) d) { told = record d.told { held = raised d.told.held 1 } }
 
 abbrev pub held_if : Bool → DeviceView → DeviceView
 held_if true d = held d

@@ -9,20 +9,9 @@ use Rattle.transmit_sides.specs.declared.transmit.TxCounts.{TxCounts}
 
 -- what a device counted, what its ring holds, its state word, and its transmit side
 abbrev pub counts_of : DeviceView → Option TxCounts → DeviceCounts
-counts_of d tx = record {
+counts_of d tx = record d.told {
   state = state_of d;
-  arrived = d.arrived;
-  dropped = d.dropped;
-  polled = d.polled;
-  bytes = d.bytes;
   left = length d.packets;
-  polls = d.polls;
-  granted = d.granted;
-  missed = d.missed;
-  disabled = d.disabled;
-  again = d.again;
-  released = d.released;
-  held = d.held;
   word = word_of (seen_of d.napi);
   tx = tx;
 }

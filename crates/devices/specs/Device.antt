@@ -19,6 +19,7 @@ use Rattle.poll_engine.specs.declared.bench.Once.{Once}
 use Rattle.transmit_sides.specs.Counter.{raised}
 use Rattle.devices.specs.DeviceView.{DeviceView}
 use Rattle.devices.specs.declared.counts.DeviceState.{DeviceState}
+use Rattle.devices.specs.declared.counts.TheConstants.DeviceCounts.{OPENED}
 use Rattle.devices.specs.declared.counts.DeviceState.TheVariants as state
 use Rattle.devices.specs.declared.device.TheConstants.{CONTROLLER, INTERRUPT, POLLER, THREAD}
 
@@ -33,17 +34,7 @@ opened capacity = record {
   threaded = false;
   packets = [];
   capacity = capacity;
-  arrived = 0;
-  dropped = 0;
-  polled = 0;
-  bytes = 0;
-  polls = 0;
-  granted = 0;
-  missed = 0;
-  disabled = 0;
-  again = 0;
-  released = 0;
-  held = 0;
+  told = OPENED;
 }
 
 -- ---- the hand-over: to the thread where THREADED is set, else to the poll list (`____napi_schedule`)
@@ -59,10 +50,10 @@ handed_over caller d = made caller (operation.Hand (kind_for d.napi)) d
 -- the interrupt asks for a poll (`napi_schedule_prep`); granted, it hands the instance over
 abbrev pub after_reply : Prep → DeviceView → Option Kind × DeviceView
 after_reply Granted d =
-    let granted = record (made INTERRUPT (operation.Schedule Granted) d) { granted = raised d.granted 1 } in
+    let granted = record (made INTERRUPT (operation.Schedule Granted) d) { told = record d.told { granted = raised d.told.granted 1 } } in
     (Some (kind_for granted.napi), handed_over INTERRUPT granted)
-after_reply Missed d = (None, record (made INTERRUPT (operation.Schedule Missed) d) { missed = raised d.missed 1 })
-after_reply Disabled d = (None, record (made INTERRUPT (operation.Schedule Disabled) d) { disabled = raised d.disabled 1 })
+after_reply Missed d = (None, record (made INTERRUPT (operation.Schedule Missed) d) { told = record d.told { missed = raised d.told.missed 1 } })
+after_reply Disabled d = (None, record (made INTERRUPT (operation.Schedule Disabled) d) { told = record d.told { disabled = raised d.told.disabled 1 } })
 
 unfoldable pub after_request : DeviceView → Option Kind × DeviceView
 after_request d = after_reply (schedule_reply d.napi) d
@@ -74,9 +65,9 @@ has_room d = nat_lt (length d.packets) d.capacity
 -- instance was handed by that, and the device afterwards.
 unfoldable pub after_packet : ℕ → DeviceView → Option Kind × DeviceView
 after_packet bytes d =
-    let counted = record d { arrived = raised d.arrived 1 } in
+    let counted = record d { told = record d.told { arrived = raised d.told.arrived 1 } } in
     if has_room d then after_request (record counted { packets = d.packets ++ bytes ∷ [] })
-    else (None, record counted { dropped = raised d.dropped 1 })
+    else (None, record counted { told = record counted.told { dropped = raised d.told.dropped 1 } })
 
 -- ---- a poll of an instance that is in its poller's hands
 
@@ -91,17 +82,19 @@ bytes_given weight d = sum (take (given weight d) d.packets)
 unfoldable pub polled : ℕ → DeviceView → DeviceView
 polled weight d = record d {
   packets = drop (given weight d) d.packets;
-  polled = raised d.polled (given weight d);
-  bytes = raised d.bytes (bytes_given weight d);
-  polls = raised d.polls 1;
+  told = record d.told {
+    polled = raised d.told.polled (given weight d);
+    bytes = raised d.told.bytes (bytes_given weight d);
+    polls = raised d.told.polls 1;
+  };
 }
 
 -- a completion (`napi_complete_done`); where a request was missed, the poller owns the instance again and hands it over;
 -- what is busy polled stays in its hands
 abbrev pub after_done : ℕ → Done → DeviceView → Next × DeviceView
-after_done poller Released d = (next.Gone, record (made poller (operation.Complete Released) d) { released = raised d.released 1 })
+after_done poller Released d = (next.Gone, record (made poller (operation.Complete Released) d) { told = record d.told { released = raised d.told.released 1 } })
 after_done poller Again d =
-    let again = record (made poller (operation.Complete Again) d) { again = raised d.again 1 } in
+    let again = record (made poller (operation.Complete Again) d) { told = record d.told { again = raised d.told.again 1 } } in
     (next.Again (kind_for again.napi), handed_over poller again)
 after_done poller Held d = (next.Repoll, d)
 

@@ -47,3 +47,24 @@ pub struct DeviceCounts {
     /// The transmit side, where the device had a tx or done row.
     pub tx: Option<TxCounts>,
 }
+
+impl DeviceCounts {
+    /// What is told of a device without packets, to which nothing has happened and whose state word is 0.
+    pub const OPENED: DeviceCounts = DeviceCounts {
+        state: DeviceState::On,
+        arrived: 0,
+        dropped: 0,
+        polled: 0,
+        bytes: 0,
+        left: 0,
+        polls: 0,
+        granted: 0,
+        missed: 0,
+        disabled: 0,
+        again: 0,
+        released: 0,
+        held: 0,
+        word: 0,
+        tx: None,
+    };
+}

@@ -39,23 +39,14 @@ pub(crate) const CONTROLLER: u32 = 3;
 /// The most packets that one poll gives (`NAPI_POLL_WEIGHT`).
 const MOST_WEIGHT: usize = 64;
 
-/// A device's receive ring, the state of its instance, and its counts, each of which stays at its greatest value.
+/// A device's receive ring, the state of its instance, and its counts.
 #[derive(Drop)]
 pub(crate) struct Device {
     napi: SerialNapi,
     threaded: bool,
     ring: HeapCircularBuffer<u32>,
-    arrived: u64,
-    dropped: u64,
-    polled: u64,
-    bytes: u64,
-    polls: u64,
-    granted: u64,
-    missed: u64,
-    disabled: u64,
-    again: u64,
-    released: u64,
-    held: u64,
+    // What was counted; the other values are found when they are asked for.
+    told: DeviceCounts,
 }
 
 impl Model for Device {
@@ -72,17 +63,7 @@ impl Model for Device {
       threaded = d.threaded;
       packets = d.ring.items;
       capacity = d.ring.capacity;
-      arrived = d.arrived;
-      dropped = d.dropped;
-      polled = d.polled;
-      bytes = d.bytes;
-      polls = d.polls;
-      granted = d.granted;
-      missed = d.missed;
-      disabled = d.disabled;
-      again = d.again;
-      released = d.released;
-      held = d.held;
+      told = d.told;
     } };
 
     ghost invariant = { λ d. (controller_of d.napi ≡ CONTROLLER) × IsOurs (state_of d.napi) };
@@ -100,17 +81,7 @@ impl Device {
             napi,
             threaded: false,
             ring,
-            arrived: 0,
-            dropped: 0,
-            polled: 0,
-            bytes: 0,
-            polls: 0,
-            granted: 0,
-            missed: 0,
-            disabled: 0,
-            again: 0,
-            released: 0,
-            held: 0,
+            told: DeviceCounts::OPENED,
         })
     }
 
@@ -120,20 +91,10 @@ impl Device {
     {
         DeviceCounts {
             state: self.state(),
-            arrived: self.arrived,
-            dropped: self.dropped,
-            polled: self.polled,
-            bytes: self.bytes,
             left: self.ring.len() as u64,
-            polls: self.polls,
-            granted: self.granted,
-            missed: self.missed,
-            disabled: self.disabled,
-            again: self.again,
-            released: self.released,
-            held: self.held,
             word: encode(self.napi.look()),
             tx,
+            ..self.told
         }
     }
 
@@ -162,15 +123,15 @@ impl Device {
     {
         match self.napi.schedule(INTERRUPT) {
             Prep::Granted => {
-                self.granted = self.granted.saturating_add(1);
+                self.told.granted = self.told.granted.saturating_add(1);
                 Some(self.hand_over(INTERRUPT))
             }
             Prep::Missed => {
-                self.missed = self.missed.saturating_add(1);
+                self.told.missed = self.told.missed.saturating_add(1);
                 None
             }
             Prep::Disabled => {
-                self.disabled = self.disabled.saturating_add(1);
+                self.told.disabled = self.told.disabled.saturating_add(1);
                 None
             }
         }
@@ -183,9 +144,9 @@ impl Device {
         ensures device { self.new ≡ (after_packet bytes self.old).1 }
         ensures kind { result ≡ (after_packet bytes self.old).0 }
     {
-        self.arrived = self.arrived.saturating_add(1);
+        self.told.arrived = self.told.arrived.saturating_add(1);
         if self.ring.try_push_back(bytes).is_err() {
-            self.dropped = self.dropped.saturating_add(1);
+            self.told.dropped = self.told.dropped.saturating_add(1);
             return None;
         }
         self.request()
@@ -272,9 +233,9 @@ impl Device {
         let count = self.ring.read_into(&mut batch[..weight as usize]);
         let bytes = byte_sum(&batch[..count]);
         load.bytes = bytes;
-        self.polled = self.polled.saturating_add(count as u64);
-        self.bytes = self.bytes.saturating_add(bytes);
-        self.polls = self.polls.saturating_add(1);
+        self.told.polled = self.told.polled.saturating_add(count as u64);
+        self.told.bytes = self.told.bytes.saturating_add(bytes);
+        self.told.polls = self.told.polls.saturating_add(1);
         count as u32
     }
 
@@ -366,12 +327,12 @@ impl Instance for Device {
         let poller = self.poller();
         match self.napi.complete(poller) {
             Done::Released => {
-                self.released = self.released.saturating_add(1);
+                self.told.released = self.told.released.saturating_add(1);
                 None
             }
             Done::Held => unreachable!(),
             Done::Again => {
-                self.again = self.again.saturating_add(1);
+                self.told.again = self.told.again.saturating_add(1);
                 Some(self.hand_over(poller))
             }
         }
@@ -402,7 +363,7 @@ impl BusyInstance for Device {
 
     fn hold(&mut self) {
         match self.napi.complete(POLLER) {
-            Done::Held => self.held = self.held.saturating_add(1),
+            Done::Held => self.told.held = self.told.held.saturating_add(1),
             _ => unreachable!(),
         }
     }
