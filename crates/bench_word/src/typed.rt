@@ -1,10 +1,8 @@
 //! The same turns by the typed calls, which stand on the steps, and turns of busy polling.
-ghost use Rattle.std.specs.Prelude.{◌≡◌, ◌≤◌, ◌+◌, ℕ, length, slice_get, Some, vec_capacity};
 ghost use Rattle.napi_calls.specs.Instance.{IsSeatOf};
-ghost use Rattle.napi_calls.specs.declared.types.Caller.{Caller};
 
 use crate::turns::Tally;
-use napi_calls::{Caller, Napi, NewBack, NewFault, Polling, TryBusy, TryDone, TryPrep};
+use napi_calls::{Caller, Napi, NewBack, NewFault, Polling, TryBusy, TryDone, TryPrep, next_caller};
 use napi_model::Kind;
 use rx_ring::RxCtx;
 use std::alloc::Global;
@@ -113,22 +111,6 @@ fn make_turns(
     (caller, tally)
 }
 
-// The next caller, of an instance's callers.
-fn pop(napi: &Napi, callers: &mut Vec<Caller>) -> Caller
-    requires some { 1 ≤ length callers.old.items }
-    requires seats { (k : ℕ) (c : Caller) → slice_get callers.old.items k ≡ Some c
-        → IsSeatOf napi.now c.pass }
-    ensures caller { IsSeatOf napi.now result.pass }
-    ensures left { length callers.new.items + 1 ≡ length callers.old.items }
-    ensures seats { (k : ℕ) (c : Caller) → slice_get callers.new.items k ≡ Some c
-        → IsSeatOf napi.now c.pass }
-    ensures room { vec_capacity callers.new ≡ vec_capacity callers.old }
-{
-    let popped = callers.pop();
-    let Some(caller) = popped else { unreachable!() };
-    caller
-}
-
 /// Makes an instance over this context, so many turns of this kind by one caller, and closes it.
 pub fn make_typed_turns(
     rt: &impl Wait,
@@ -142,8 +124,8 @@ pub fn make_typed_turns(
         Err(NewBack { fault, ctx: _ }) => return Err(fault),
     };
     let control = control.enable(rt, &napi, false);
-    let other = pop(&napi, &mut callers);
-    let caller = pop(&napi, &mut callers);
+    let other = next_caller(&napi, &mut callers);
+    let caller = next_caller(&napi, &mut callers);
     let (caller, tally) = make_turns(rt, &napi, caller, kind, turns);
     callers.push_reserved(caller);
     callers.push_reserved(other);

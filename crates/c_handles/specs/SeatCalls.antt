@@ -3,6 +3,7 @@
 use Rattle.std.specs.Prelude.{◌≡◌, ℕ, Bool, List, [], ◌∷◌}
 use Rattle.napi_model.specs.declared.state.Kind.TheVariants as kind
 use Rattle.napi_model.specs.declared.event.Done.TheVariants as done
+use Rattle.napi_model.specs.declared.event.Call.TheVariants as call
 use Rattle.napi_model.specs.declared.event.Operation.TheVariants as operation
 use Rattle.rx_ring.specs.declared.packet.Packet.{Packet}
 use Rattle.rx_ring.specs.Ends.{GivesNext}
@@ -114,7 +115,7 @@ MarkedWith P mode.Gone = ⊥
 -- `napi_enable`, in one try
 abbrev pub EnablesIn : Pass → Bool → ℕ → Mode → Type 0
 EnablesIn p threaded n (mode.On c) = (n ≡ OK) × EnablesAt threaded p c.pass
-EnablesIn p threaded n (mode.Off c) = (n ≡ CHANGED) × WasLost p c.pass
+EnablesIn p threaded n (mode.Off c) = (n ≡ CHANGED) × WasLost (call.Enable threaded) p c.pass
 EnablesIn p threaded n (mode.Marked c) = ⊥
 EnablesIn p threaded n mode.Gone = ⊥
 

@@ -7,17 +7,15 @@
 //! `Control`) must be spent: it goes to its thread in a `Kept`, comes back as what the thread answers, and goes to `close`.
 #![tactic(auto)]
 
-ghost use Rattle.std.specs.Prelude.{◌≡◌, ◌≤◌, ◌+◌, ℕ, length, slice_get, Some, vec_capacity};
 ghost use Rattle.rx_ring.specs.Ends.{SameIn};
 ghost use Rattle.napi_word.specs.Passes.{SameTable};
 ghost use Rattle.napi_calls.specs.Instance.{IsSeatOf};
-ghost use Rattle.napi_calls.specs.declared.types.Caller.{Caller};
 
 mod handlers;
 
 use anyhow::Result;
 use handlers::{open, poll_all, receive, request};
-use napi_calls::{Caller, Control, Kept, Napi, NewBack, On};
+use napi_calls::{Caller, Control, Kept, Napi, NewBack, On, next_caller};
 use rx_ring::{RxIn, Totals, finish, ring};
 use std::sync::Wait;
 use std::sync::atomic::AtomicU64;
@@ -25,22 +23,6 @@ use std::thread::{Threads, join};
 
 // The places of the ring: no packet is dropped.
 const PLACES: usize = 1024;
-
-// The next caller, of an instance's callers.
-fn pop(napi: &Napi, callers: &mut Vec<Caller>) -> Caller
-    requires some { 1 ≤ length callers.old.items }
-    requires seats { (k : ℕ) (c : Caller) → slice_get callers.old.items k ≡ Some c
-        → IsSeatOf napi.now c.pass }
-    ensures caller { IsSeatOf napi.now result.pass }
-    ensures left { length callers.new.items + 1 ≡ length callers.old.items }
-    ensures seats { (k : ℕ) (c : Caller) → slice_get callers.new.items k ≡ Some c
-        → IsSeatOf napi.now c.pass }
-    ensures room { vec_capacity callers.new ≡ vec_capacity callers.old }
-{
-    let popped = callers.pop();
-    let Some(caller) = popped else { unreachable!() };
-    caller
-}
 
 // Runs both interrupts and the poller, each in a thread of its own, until all packets are polled.
 fn serve<R: Threads + Wait + Copy + Drop + Send>(
@@ -123,10 +105,10 @@ fn main(rt: HostRuntime) -> Result<()> {
         Ok(made) => made,
         Err(NewBack { fault, ctx: _ }) => return Err(fault.into()),
     };
-    let poller = pop(&napi, &mut callers);
-    let second = pop(&napi, &mut callers);
-    let first = pop(&napi, &mut callers);
-    let own = pop(&napi, &mut callers);
+    let poller = next_caller(&napi, &mut callers);
+    let second = next_caller(&napi, &mut callers);
+    let first = next_caller(&napi, &mut callers);
+    let own = next_caller(&napi, &mut callers);
     let (control, own) = open(&rt, &napi, control, own);
     let ((first, input), second, poller) = serve(rt, &napi, (first, second, poller), input);
     let (control, (first, poller, own), input) = reset(

@@ -6,6 +6,8 @@ use mathlib.Core.List.{IsPrefix}
 use Rattle.napi_model.specs.declared.event.Event.{Event}
 use Rattle.napi_model.specs.declared.state.Seen.{Seen}
 use Rattle.napi_model.specs.declared.state.Place.{Place}
+use Rattle.napi_model.specs.declared.event.Call.{Call}
+use Rattle.napi_model.specs.declared.event.Call.TheVariants as call
 use Rattle.napi_model.specs.declared.event.Operation.{Operation}
 use Rattle.napi_model.specs.declared.event.Operation.TheVariants.{Look, MarkDisable, TakeDisable}
 use Rattle.napi_model.specs.Step.{event, opening}
@@ -17,7 +19,7 @@ use Rattle.napi_word.specs.Events.{Steps}
 use Rattle.napi_word.specs.Passes.{view_of, SameTable}
 use Rattle.napi_calls.specs.Seats.{SameSeat, number_of, shown, own_list}
 use Rattle.napi_calls.specs.Knows.{Stands}
-use Rattle.napi_calls.specs.Made.{EndsWith, Made, Lost, WasLost, looks, waits, events}
+use Rattle.napi_calls.specs.Made.{EndsWith, Made, GoesOn, Lost, WasLost, looks, waits, events}
 use Rattle.napi_calls.proofs.Steps.{shows_more, shows_legal, prefix_trans}
 use Rattle.napi_calls.proofs.Standing.{shows_of}
 
@@ -84,19 +86,19 @@ more {p} {q} {r} {os} o ps m n =
 
 -- ---- tries that were lost
 
-pub lost : {p q : Pass} (x y : Seen) → y ≢ x → Made p (Look x ∷ Look y ∷ []) q → WasLost p q
-lost x y differ m = (record { first = x; second = y; differ = differ }, m)
+pub lost : {p q : Pass} (c : Call) (x y : Seen) → GoesOn c x.flags → y ≢ x → Made p (Look x ∷ Look y ∷ []) q → WasLost c p q
+lost c x y on differ m = (record { first = x; goes_on = on; second = y; differ = differ }, m)
 
-pub more_lost : {p q r : Pass} (ts : List Lost) → Made p (flat_map looks ts) q → WasLost q r → (us : List Lost) × Made p (flat_map looks us) r
-more_lost {p} {q} {r} ts m w =
+pub more_lost : {p q r : Pass} {c : Call} (ts : List (Lost c)) → Made p (flat_map looks ts) q → WasLost c q r → (us : List (Lost c)) × Made p (flat_map looks us) r
+more_lost {p} {q} {r} {c} ts m w =
     let t = w.0 in
     (ts ++ t ∷ [], subst (λ (os : List Operation). Made p os r) (sym (flat_map-append looks ts (t ∷ []))) (more (Look t.first) (Look t.second ∷ []) m w.1))
 
 -- the mark, and then the tries that decided nothing
 abbrev pub Waited : Pass → Pass → Type 0
-Waited p q = (ts : List (Option Lost)) × Made p (MarkDisable ∷ flat_map waits ts) q
+Waited p q = (ts : List (Option (Lost call.TakeDisable))) × Made p (MarkDisable ∷ flat_map waits ts) q
 
-pub more_waits : {p q r : Pass} → Waited p q → WasLost q r → Waited p r
+pub more_waits : {p q r : Pass} → Waited p q → WasLost call.TakeDisable q r → Waited p r
 more_waits {p} {q} {r} m w =
     let ts = m.0 in
     let t = w.0 in

@@ -25,7 +25,7 @@ use Rattle.napi_word.specs.View.{View}
 use Rattle.napi_word.specs.Events.{Steps}
 use Rattle.napi_word.specs.Passes.{view_of, received_of}
 use Rattle.napi_calls.specs.Seats.{number_of, controller_of, shown, state_of, ring_of, ShowsLegal, IsInputOf}
-use Rattle.napi_word.proofs.Knowing.{unbusy, take_polls, quiet_polls}
+use Rattle.napi_word.proofs.Knowing.{unbusy, take_polls, quiet_polls, step_of}
 use Rattle.napi_calls.specs.Knows.{own_place, Free, Stands, BusyPolls, Controls, Has}
 use Rattle.napi_calls.proofs.Steps.{found, state_stepped, shows_legal}
 use Rattle.napi_calls.proofs.Whole.{whole}
@@ -119,6 +119,10 @@ moved {r} {c} {p} q st e = record {
   exact = subst (λ (v : View). own c (view.shown v) ≡ view.mine v) (sym e) st.exact;
   place = ap (λ (v : View). own_place c (view.state_in v).place) e ∙ st.place;
 }
+
+-- a look tells the flags of the state that it leaves
+pub looked_flags : {x : Seen} (p q : Pass) → Steps (view_of p) (Look x) (view_of q) → x.flags ≡ (state_of q).flags
+looked_flags {x} p q g = ap (λ (y : Seen). y.flags) (step_of (view_of p) (Look x) (view_of q) g).0 ∙ ap (λ (s : State). s.flags) (sym (state_stepped p (Look x) q g))
 
 -- ---- who polls
 

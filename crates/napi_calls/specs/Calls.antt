@@ -4,6 +4,7 @@ use Rattle.napi_model.specs.declared.state.Seen.{Seen}
 use Rattle.napi_model.specs.declared.state.Kind.{Kind}
 use Rattle.napi_model.specs.declared.event.Prep.TheVariants as prep
 use Rattle.napi_model.specs.declared.event.Done.TheVariants as done
+use Rattle.napi_model.specs.declared.event.Call.TheVariants as call
 use Rattle.napi_model.specs.declared.event.Operation.TheVariants.{Look, Schedule, Take, Complete, BusyTake, BusyStop, MarkDisable, TakeDisable, Unmark, Enable}
 use Rattle.napi_model.specs.Step.{MayBusyTake}
 use Rattle.napi_word.specs.declared.table.Pass.{Pass}
@@ -40,7 +41,7 @@ abbrev pub Prepares : Pass → TryPrep → Type 0
 Prepares p (try_prep.Granted g) = (x : Seen) × Made p (Look x ∷ Schedule prep.Granted ∷ []) g.pass
 Prepares p (try_prep.Missed c) = (x : Seen) × Made p (Look x ∷ Schedule prep.Missed ∷ []) c.pass
 Prepares p (try_prep.Disabled c) = Made p (Schedule prep.Disabled ∷ []) c.pass
-Prepares p (try_prep.Changed c) = WasLost p c.pass
+Prepares p (try_prep.Changed c) = WasLost call.Schedule p c.pass
 
 -- between its two steps something is run, where there are two: it left itself the same, or it ran
 abbrev pub RunsUnlessDisabled : TryPrep → Type 0 → Type 0 → Type 0
@@ -68,24 +69,24 @@ Takes k p (Err c) = Made p (Take k false ∷ []) c.pass
 abbrev pub TriesToComplete : Pass → TryDone → Type 0
 TriesToComplete p (try_done.Released c) = (x : Seen) × Made p (Look x ∷ Complete done.Released ∷ []) c.pass
 TriesToComplete p (try_done.Again g) = (x : Seen) × Made p (Look x ∷ Complete done.Again ∷ []) g.pass
-TriesToComplete p (try_done.Changed w) = WasLost p w.pass
+TriesToComplete p (try_done.Changed w) = WasLost call.Complete p w.pass
 
 -- `napi_busy_loop`: refused exactly where the look says that the instance may not be taken
 abbrev pub TriesToBusyPoll : Pass → TryBusy → Type 0
 TriesToBusyPoll p (try_busy.Taken b) = (x : Seen) × MayBusyTake x.flags × Made p (Look x ∷ BusyTake ∷ []) b.pass
 TriesToBusyPoll p (try_busy.Refused c) = (x : Seen) × ¬ MayBusyTake x.flags × Made p (Look x ∷ []) c.pass
-TriesToBusyPoll p (try_busy.Changed c) = (t : Lost) × MayBusyTake t.first.flags × Made p (looks t) c.pass
+TriesToBusyPoll p (try_busy.Changed c) = WasLost call.BusyTake p c.pass
 
 -- `busy_poll_stop`
 abbrev pub TriesToStop : Pass → TryStop → Type 0
 TriesToStop p (try_stop.Stopped w) = (x : Seen) × Made p (Look x ∷ BusyStop ∷ []) w.pass
-TriesToStop p (try_stop.Changed b) = WasLost p b.pass
+TriesToStop p (try_stop.Changed b) = WasLost call.BusyStop p b.pass
 
 -- `napi_disable`, behind its mark
 abbrev pub TriesToTake : Pass → TryTake → Type 0
 TriesToTake p (try_take.Taken c) = (x : Seen) × Made p (Look x ∷ TakeDisable true ∷ Unmark ∷ []) c.pass
 TriesToTake p (try_take.Busy c) = Made p (TakeDisable false ∷ []) c.pass
-TriesToTake p (try_take.Changed c) = WasLost p c.pass
+TriesToTake p (try_take.Changed c) = WasLost call.TakeDisable p c.pass
 
 -- `napi_enable`
 abbrev pub EnablesAt : Bool → Pass → Pass → Type 0
@@ -94,24 +95,24 @@ EnablesAt threaded p q = (x : Seen) × Made p (Look x ∷ Enable threaded ∷ []
 -- ---- try after try: those that were lost, and the one that decided
 
 abbrev pub Schedules : Pass → Sched → Type 0
-Schedules p (sched.Granted g) = (ts : List Lost) × (x : Seen) × Made p (flat_map looks ts ++ Look x ∷ Schedule prep.Granted ∷ []) g.pass
-Schedules p (sched.Missed c) = (ts : List Lost) × (x : Seen) × Made p (flat_map looks ts ++ Look x ∷ Schedule prep.Missed ∷ []) c.pass
-Schedules p (sched.Disabled c) = (ts : List Lost) × Made p (flat_map looks ts ++ Schedule prep.Disabled ∷ []) c.pass
+Schedules p (sched.Granted g) = (ts : List (Lost call.Schedule)) × (x : Seen) × Made p (flat_map looks ts ++ Look x ∷ Schedule prep.Granted ∷ []) g.pass
+Schedules p (sched.Missed c) = (ts : List (Lost call.Schedule)) × (x : Seen) × Made p (flat_map looks ts ++ Look x ∷ Schedule prep.Missed ∷ []) c.pass
+Schedules p (sched.Disabled c) = (ts : List (Lost call.Schedule)) × Made p (flat_map looks ts ++ Schedule prep.Disabled ∷ []) c.pass
 
 abbrev pub Completes : Pass → Completed → Type 0
-Completes p (completed.Released c) = (ts : List Lost) × (x : Seen) × Made p (flat_map looks ts ++ Look x ∷ Complete done.Released ∷ []) c.pass
-Completes p (completed.Again g) = (ts : List Lost) × (x : Seen) × Made p (flat_map looks ts ++ Look x ∷ Complete done.Again ∷ []) g.pass
+Completes p (completed.Released c) = (ts : List (Lost call.Complete)) × (x : Seen) × Made p (flat_map looks ts ++ Look x ∷ Complete done.Released ∷ []) c.pass
+Completes p (completed.Again g) = (ts : List (Lost call.Complete)) × (x : Seen) × Made p (flat_map looks ts ++ Look x ∷ Complete done.Again ∷ []) g.pass
 
 abbrev pub BusyPolling : Pass → Result Busy Caller → Type 0
-BusyPolling p (Ok b) = (ts : List Lost) × (x : Seen) × MayBusyTake x.flags × Made p (flat_map looks ts ++ Look x ∷ BusyTake ∷ []) b.pass
-BusyPolling p (Err c) = (ts : List Lost) × (x : Seen) × ¬ MayBusyTake x.flags × Made p (flat_map looks ts ++ Look x ∷ []) c.pass
+BusyPolling p (Ok b) = (ts : List (Lost call.BusyTake)) × (x : Seen) × MayBusyTake x.flags × Made p (flat_map looks ts ++ Look x ∷ BusyTake ∷ []) b.pass
+BusyPolling p (Err c) = (ts : List (Lost call.BusyTake)) × (x : Seen) × ¬ MayBusyTake x.flags × Made p (flat_map looks ts ++ Look x ∷ []) c.pass
 
 abbrev pub Stops : Pass → Pass → Type 0
-Stops p q = (ts : List Lost) × (x : Seen) × Made p (flat_map looks ts ++ Look x ∷ BusyStop ∷ []) q
+Stops p q = (ts : List (Lost call.BusyStop)) × (x : Seen) × Made p (flat_map looks ts ++ Look x ∷ BusyStop ∷ []) q
 
 -- the mark, and then the tries
 abbrev pub Disables : Pass → Pass → Type 0
-Disables p q = (ts : List (Option Lost)) × (x : Seen) × Made p ((MarkDisable ∷ flat_map waits ts) ++ Look x ∷ TakeDisable true ∷ Unmark ∷ []) q
+Disables p q = (ts : List (Option (Lost call.TakeDisable))) × (x : Seen) × Made p ((MarkDisable ∷ flat_map waits ts) ++ Look x ∷ TakeDisable true ∷ Unmark ∷ []) q
 
 abbrev pub Enables : Bool → Pass → Pass → Type 0
-Enables threaded p q = (ts : List Lost) × (x : Seen) × Made p (flat_map looks ts ++ Look x ∷ Enable threaded ∷ []) q
+Enables threaded p q = (ts : List (Lost (call.Enable threaded))) × (x : Seen) × Made p (flat_map looks ts ++ Look x ∷ Enable threaded ∷ []) q

@@ -1,11 +1,14 @@
 -- What a call adds to the history and to its caller's own list.
-use Rattle.std.specs.Prelude.{◌≡◌, ◌≢◌, ℕ, false, List, [], ◌∷◌, ◌++◌, map, Option, Some, None}
+use Rattle.std.specs.Prelude.{◌≡◌, ◌≢◌, ℕ, true, false, List, [], ◌∷◌, ◌++◌, map, Option, Some, None}
 use mathlib.Core.List.{IsPrefix}
+use Rattle.napi_model.specs.declared.state.Flags.{Flags}
 use Rattle.napi_model.specs.declared.state.Seen.{Seen}
+use Rattle.napi_model.specs.declared.event.Call.{Call}
+use Rattle.napi_model.specs.declared.event.Call.TheVariants as call
 use Rattle.napi_model.specs.declared.event.Event.{Event}
 use Rattle.napi_model.specs.declared.event.Operation.{Operation}
 use Rattle.napi_model.specs.declared.event.Operation.TheVariants.{Look, TakeDisable}
-use Rattle.napi_model.specs.Step.{event}
+use Rattle.napi_model.specs.Step.{event, MayBusyTake}
 use Rattle.napi_word.specs.declared.table.Pass.{Pass}
 use Rattle.napi_calls.specs.Seats.{SameSeat, ShowsLegal, number_of, shown, own_list}
 
@@ -30,20 +33,31 @@ pub record Made (p : Pass) (os : List Operation) (q : Pass) : Type 0 where
   pub ends : EndsWith (events (number_of p) os) (shown q)
   pub shows : ShowsLegal q
 
--- a look at the state, and then one more that shows another: what was decided by the first was lost
-pub record Lost : Type 0 where
+-- with these flags a call goes on to its exchange
+abbrev pub GoesOn : Call → Flags → Type 0
+GoesOn call.Schedule f = f.disable ≡ false
+GoesOn call.Complete f = f.in_busy_poll ≡ false
+GoesOn call.BusyTake f = MayBusyTake f
+GoesOn call.BusyStop f = f.in_busy_poll ≡ true
+GoesOn call.TakeDisable f = (f.disable ≡ true) × (f.sched ≡ false) × (f.npsvc ≡ false)
+GoesOn (call.Enable threaded) f = f.disable ≡ false
+GoesOn _ f = Unit {0}
+
+-- a look by which the call goes on, and then one more that shows another state: what was decided by the first was lost
+pub record Lost (c : Call) : Type 0 where
   pub first : Seen
+  pub goes_on : GoesOn c first.flags
   pub second : Seen
   pub differ : second ≢ first
 
-abbrev pub looks : Lost → List Operation
+abbrev pub looks : {c : Call} → Lost c → List Operation
 looks t = Look t.first ∷ Look t.second ∷ []
 
 -- a try to take the instance for a disable was lost, or found it busy
-abbrev pub waits : Option Lost → List Operation
+abbrev pub waits : Option (Lost call.TakeDisable) → List Operation
 waits (Some t) = looks t
 waits None = TakeDisable false ∷ []
 
 -- the call was lost: its two looks are all that it made
-abbrev pub WasLost : Pass → Pass → Type 0
-WasLost p q = (t : Lost) × Made p (looks t) q
+abbrev pub WasLost : Call → Pass → Pass → Type 0
+WasLost c p q = (t : Lost c) × Made p (looks t) q

@@ -21,6 +21,7 @@ use std::sync::Wait;
 impl Caller {
     /// Takes an idle instance to busy poll it, once (`napi_busy_loop`): a look, and an exchange. It doesn't wait. `Refused`
     /// exactly where the look shows DISABLE, SCHED or IN_BUSY_POLL.
+    #[inline]
     pub fn try_busy(self, napi: &Napi) -> TryBusy
         requires { IsSeatOf napi.now self.pass }
         ensures events { TriesToBusyPoll self.pass result }
@@ -30,6 +31,7 @@ impl Caller {
     }
 
     /// As [`try_busy`](Caller::try_busy), and runs `between` after the look, unless that answers `Refused`.
+    #[inline]
     pub fn try_busy_between<B: Between>(self, napi: &Napi, between: &mut B) -> TryBusy
         requires { IsSeatOf napi.now self.pass }
         ensures events { TriesToBusyPoll self.pass result }
@@ -78,7 +80,7 @@ impl Busy {
         self.number
     }
 
-    /// What any caller knows that busy polls, and that its context is that of the instance's ring. It does nothing.
+    /// What any caller knows that busy polls, and that its context is that of the instance's ring.
     pub fn knows(&self)
         ensures shows { ShowsLegal self.now.pass }
         ensures place { (state_of self.now.pass).place ≡ place.Polling (number_of self.now.pass) }
@@ -97,6 +99,7 @@ impl Busy {
     }
 
     /// Polls once, as [`Polling::poll`].
+    #[inline]
     pub fn poll(&mut self, weight: usize, batch: &mut Batch) -> usize
         requires { (1 ≤ weight) × (weight ≤ MAX_WEIGHT) }
         ensures next { GivesNext weight self.old.ctx self.new.ctx batch.new.items }
@@ -126,6 +129,7 @@ impl Busy {
 
     /// Completes a poll whose work is below its weight (`napi_complete_done`, which does nothing under IN_BUSY_POLL): the
     /// caller busy polls on.
+    #[inline]
     pub fn complete_held(&mut self, napi: &Napi)
         requires { IsSeatOf napi.now self.old.pass }
         ensures event { Made self.old.pass (Complete Held ∷ []) self.new.pass }
@@ -137,6 +141,7 @@ impl Busy {
 
     /// Stops busy polling, in one try (`busy_poll_stop`): a look, and an exchange. It doesn't wait. What was scheduled
     /// meanwhile is answered by the poll that has to follow.
+    #[inline]
     pub fn try_stop(self, napi: &Napi) -> TryStop
         requires { IsSeatOf napi.now self.pass }
         ensures events { TriesToStop self.pass result }
@@ -146,6 +151,7 @@ impl Busy {
     }
 
     /// As [`try_stop`](Busy::try_stop), and runs `between` after the look.
+    #[inline]
     pub fn try_stop_between<B: Between>(self, napi: &Napi, between: &mut B) -> TryStop
         requires { IsSeatOf napi.now self.pass }
         ensures events { TriesToStop self.pass result }

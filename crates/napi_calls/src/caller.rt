@@ -24,13 +24,14 @@ impl Caller {
         self.number
     }
 
-    /// What any caller knows, wherever it comes from. It does nothing.
+    /// What any caller knows, wherever it comes from.
     pub fn knows(&self)
         ensures shows { ShowsLegal self.now.pass }
         ensures place { ¬ IsOwnedBy (number_of self.now.pass) (state_of self.now.pass).place }
     {}
 
     /// What the state word tells: the flags, and to whom the instance was handed while nobody has taken it.
+    #[inline]
     pub fn look(&mut self, napi: &Napi) -> Seen
         requires { IsSeatOf napi.now self.old.pass }
         ensures event { Made self.old.pass (Look result ∷ []) self.new.pass }
@@ -49,6 +50,7 @@ impl Caller {
     }
 
     /// Asks for a poll, once (`napi_schedule_prep`): a look, and an exchange. It doesn't wait; at most two steps are made.
+    #[inline]
     pub fn try_schedule(self, napi: &Napi) -> TryPrep
         requires { IsSeatOf napi.now self.pass }
         ensures events { Prepares self.pass result }
@@ -58,6 +60,7 @@ impl Caller {
     }
 
     /// As [`try_schedule`](Caller::try_schedule), and runs `between` after the look, unless that answers `Disabled`.
+    #[inline]
     pub fn try_schedule_between<B: Between>(self, napi: &Napi, between: &mut B) -> TryPrep
         requires { IsSeatOf napi.now self.pass }
         ensures events { Prepares self.pass result }
@@ -98,6 +101,7 @@ impl Caller {
 
     /// Takes the instance from the list or the thread to which it was handed, and its poll context out of the slot
     /// (`net_rx_action`, `napi_thread_wait`). `Err`: it wasn't there, and nothing changed.
+    #[inline]
     pub fn take(self, napi: &Napi, kind: Kind) -> Result<Polling, Caller>
         requires { IsSeatOf napi.now self.pass }
         ensures event { Takes kind self.pass result }

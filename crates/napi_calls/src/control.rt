@@ -1,6 +1,7 @@
 //! The calls of the controller, who enables and disables the instance.
 ghost use Rattle.std.specs.Prelude.{◌≡◌, [], ◌∷◌, MatchResult, Some, true, false};
 ghost use Rattle.napi_model.specs.declared.state.Place.TheVariants as place;
+ghost use Rattle.napi_model.specs.declared.event.Call.TheVariants.{Enable};
 ghost use Rattle.napi_model.specs.declared.event.Operation.TheVariants.{MarkDisable};
 ghost use Rattle.napi_model.specs.Laws.{IsOwnedBy};
 ghost use Rattle.rx_ring.specs.ReceiveRing.{counts_of};
@@ -18,7 +19,7 @@ use rx_ring::{RxCounts, RxIn};
 use std::sync::Wait;
 
 impl Control<On> {
-    /// What the controller of an enabled instance knows. It does nothing.
+    /// What the controller of an enabled instance knows.
     pub fn knows(&self)
         ensures shows { ShowsLegal self.now.pass }
         ensures number { number_of self.now.pass ≡ controller_of self.now.pass }
@@ -80,7 +81,7 @@ impl Control<On> {
 }
 
 impl Control<Marked> {
-    /// What the controller of an instance knows that it marked. It does nothing.
+    /// What the controller of an instance knows that it marked.
     pub fn knows(&self)
         ensures shows { ShowsLegal self.now.pass }
         ensures number { number_of self.now.pass ≡ controller_of self.now.pass }
@@ -136,7 +137,7 @@ impl Control<Marked> {
 
 impl Control<Off> {
     /// What the controller of a disabled instance knows, and that its context is that of the instance's ring, which has
-    /// received just what was delivered. It does nothing.
+    /// received just what was delivered.
     pub fn knows(&self)
         ensures shows { ShowsLegal self.now.pass }
         ensures number { number_of self.now.pass ≡ controller_of self.now.pass }
@@ -169,7 +170,7 @@ impl Control<Off> {
     pub fn try_enable(self, napi: &Napi, threaded: bool) -> Result<Control<On>, Control<Off>>
         requires { IsSeatOf napi.now self.pass }
         ensures events { MatchResult result (λ r. EnablesAt threaded self.pass r.pass)
-            (λ r. WasLost self.pass r.pass) }
+            (λ r. WasLost (Enable threaded) self.pass r.pass) }
         ensures packets { MatchResult result (λ r. GivesBack self.pass self.state.ctx r.pass)
             (λ r. HoldsOn self.pass r.pass × IsSame self.state.ctx r.state.ctx) }
     {
@@ -185,7 +186,7 @@ impl Control<Off> {
     ) -> Result<Control<On>, Control<Off>>
         requires { IsSeatOf napi.now self.pass }
         ensures events { MatchResult result (λ r. EnablesAt threaded self.pass r.pass)
-            (λ r. WasLost self.pass r.pass) }
+            (λ r. WasLost (Enable threaded) self.pass r.pass) }
         ensures packets { MatchResult result (λ r. GivesBack self.pass self.state.ctx r.pass)
             (λ r. HoldsOn self.pass r.pass × IsSame self.state.ctx r.state.ctx) }
         ensures run { B.ran between.old between.new }

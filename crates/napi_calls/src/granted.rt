@@ -18,7 +18,7 @@ impl Granted {
         self.number
     }
 
-    /// What any caller knows to whom the instance was granted. It does nothing.
+    /// What any caller knows to whom the instance was granted.
     pub fn knows(&self)
         ensures shows { ShowsLegal self.now.pass }
         ensures place { (state_of self.now.pass).place ≡ place.Granted (number_of self.now.pass) }
@@ -26,6 +26,7 @@ impl Granted {
     {}
 
     /// What the state word tells: the flags, and to whom the instance was handed while nobody has taken it.
+    #[inline]
     pub fn look(&mut self, napi: &Napi) -> Seen
         requires { IsSeatOf napi.now self.old.pass }
         ensures event { Made self.old.pass (Look result ∷ []) self.new.pass }
@@ -35,6 +36,7 @@ impl Granted {
     }
 
     /// Hands the instance over to the list or to its thread (`____napi_schedule`).
+    #[inline]
     pub fn hand(self, napi: &Napi, kind: Kind) -> Caller
         requires { IsSeatOf napi.now self.pass }
         ensures event { Made self.pass (Hand kind ∷ []) result.pass }

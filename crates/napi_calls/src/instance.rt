@@ -37,6 +37,22 @@ pub struct CloseBack {
     pub control: Control<Off>,
 }
 
+/// The next of an instance's callers, from the list that [`Napi::new`] gave: the last that is left there.
+pub fn next_caller(napi: &Napi, callers: &mut Vec<Caller>) -> Caller
+    requires some { 1 ≤ length callers.old.items }
+    requires seats { (k : ℕ) (c : Caller) → slice_get callers.old.items k ≡ Some c
+        → IsSeatOf napi.now c.pass }
+    ensures caller { IsSeatOf napi.now result.pass }
+    ensures left { length callers.new.items + 1 ≡ length callers.old.items }
+    ensures seats { (k : ℕ) (c : Caller) → slice_get callers.new.items k ≡ Some c
+        → IsSeatOf napi.now c.pass }
+    ensures room { vec_capacity callers.new ≡ vec_capacity callers.old }
+{
+    let popped = callers.pop();
+    let Some(caller) = popped else { unreachable!() };
+    caller
+}
+
 // The controller's new pass, with the context taken out of the slot.
 fn control_of(table: &StateTable, mut pass: Pass, last: u32) -> Control<Off>
     requires { (ctx : RxCtx) × IsNew table.now last ctx last pass }

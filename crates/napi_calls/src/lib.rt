@@ -35,7 +35,7 @@ pub use answers::{Completed, Sched, TryBusy, TryDone, TryPrep, TryStop, TryTake}
 pub use between::{Between, Nothing};
 pub use caller::meet;
 pub use fault::{CloseFault, NewFault};
-pub use instance::{CloseBack, NewBack};
+pub use instance::{CloseBack, NewBack, next_caller};
 pub use kept::Kept;
 pub use sharing::{is_sent, is_shared};
 pub use surveying::survey;

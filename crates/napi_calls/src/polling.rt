@@ -26,7 +26,7 @@ impl Polling {
         self.number
     }
 
-    /// What any poller knows, and that its context is that of the instance's ring. It does nothing.
+    /// What any poller knows, and that its context is that of the instance's ring.
     pub fn knows(&self)
         ensures shows { ShowsLegal self.now.pass }
         ensures place { (state_of self.now.pass).place ≡ place.Polling (number_of self.now.pass) }
@@ -35,6 +35,7 @@ impl Polling {
     {}
 
     /// What the state word tells: the flags, and to whom the instance was handed while nobody has taken it.
+    #[inline]
     pub fn look(&mut self, napi: &Napi) -> Seen
         requires { IsSeatOf napi.now self.old.pass }
         ensures event { Made self.old.pass (Look result ∷ []) self.new.pass }
@@ -46,6 +47,7 @@ impl Polling {
 
     /// Polls once, as a driver's `poll` (`__napi_poll` calls it): the batch is emptied, and then has the ring's next
     /// packets, at most `weight`, which is 1 to 64. Answers how many these are. The history stays as it was.
+    #[inline]
     pub fn poll(&mut self, weight: usize, batch: &mut Batch) -> usize
         requires { (1 ≤ weight) × (weight ≤ MAX_WEIGHT) }
         ensures next { GivesNext weight self.old.ctx self.new.ctx batch.new.items }
@@ -74,6 +76,7 @@ impl Polling {
     }
 
     /// Hands the instance to the list again, to be polled once more (the repoll of `napi_poll`). The context goes back.
+    #[inline]
     pub fn requeue(self, napi: &Napi) -> Caller
         requires { IsSeatOf napi.now self.pass }
         ensures event { Made self.pass (Hand kind.List ∷ []) result.pass }
@@ -90,6 +93,7 @@ impl Polling {
     }
 
     /// Ends the poll, in one try (`napi_complete_done`): a look, and an exchange. It doesn't wait.
+    #[inline]
     pub fn try_complete(self, napi: &Napi) -> TryDone
         requires { IsSeatOf napi.now self.pass }
         ensures events { TriesToComplete self.pass result }
@@ -99,6 +103,7 @@ impl Polling {
     }
 
     /// As [`try_complete`](Polling::try_complete), and runs `between` after the look.
+    #[inline]
     pub fn try_complete_between<B: Between>(self, napi: &Napi, between: &mut B) -> TryDone
         requires { IsSeatOf napi.now self.pass }
         ensures events { TriesToComplete self.pass result }

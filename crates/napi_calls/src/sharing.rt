@@ -5,12 +5,12 @@ fn shared<T: Sync>() {}
 
 fn sent<T: Send>() {}
 
-/// An instance is shared by its threads. It does nothing.
+/// An instance is shared by its threads.
 pub fn is_shared() {
     shared::<Napi>();
 }
 
-/// Each value on which calls are made may be sent to another thread. It does nothing.
+/// Each value on which calls are made may be sent to another thread.
 pub fn is_sent() {
     sent::<Napi>();
     sent::<Caller>();

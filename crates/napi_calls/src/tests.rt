@@ -7,5 +7,6 @@ mod contention;
 mod dealing;
 mod events;
 mod refusals;
+mod switching;
 mod threads;
 mod turns;

@@ -11,7 +11,7 @@ use Rattle.napi_model.specs.declared.event.Operation.TheVariants.{Look, Schedule
 use Rattle.napi_model.specs.declared.event.Event.{Event}
 use Rattle.napi_model.specs.Step.{after, after_by, opening, IsLegalBy, Polls, MayHand}
 use Rattle.napi_model.specs.History.{LegalHistory, IsBy, state_after, own}
-use Rattle.napi_model.specs.Laws.{IsSound, is_owner, IsOwnedBy, stand_of, IsPolled, BusyIsPolled, IsControlled, SchedClearIsNobody, BusyPollIsPolling, OthersLeaveOwner, OthersLeaveOwnership, ControlIsTheControllers, OthersLeaveDisable}
+use Rattle.napi_model.specs.Laws.{IsSound, is_owner, IsOwnedBy, stand_of, IsPolled, BusyIsPolled, IsHandedOrPolled, ThreadsIsHanded, IsControlled, SchedClearIsNobody, BusyPollIsPolling, SchedThreadedIsHanded, OthersLeaveOwner, OthersLeaveOwnership, ControlIsTheControllers, OthersLeaveDisable}
 use Rattle.napi_model.proofs.Histories.{state_after-append, legal_front, legal_back, own_first}
 
 -- ---- SCHED clear, and nobody has the instance
@@ -77,6 +77,35 @@ unfolding LegalHistory state_after
 busy_after k s [] sound busy l = busy
 busy_after k s (e ∷ h) sound busy l =
     busy_after k (after s e) h (sound_by e.caller e.operation s l.0.0 sound) (busy_by e.caller e.operation s l.0.0 sound busy) l.1
+
+-- ---- SCHED_THREADED, and the instance is handed over or polled
+
+pub threads_by : (c : ℕ) (o : Operation) (s : State) → IsLegalBy c o s → IsSound s → ThreadsIsHanded s → ThreadsIsHanded (after_by c o s)
+threads_by c (Look seen) s l sound handed = handed
+threads_by c (Schedule prep.Granted) s l sound handed = λ e. absurd (subst IsHandedOrPolled (sound l.1) (handed e))
+threads_by c (Schedule prep.Missed) s l sound handed = handed
+threads_by c (Schedule prep.Disabled) s l sound handed = handed
+threads_by c (Hand kind.List) s l sound handed = λ e. tt
+threads_by c (Hand kind.Thread) s l sound handed = λ e. tt
+threads_by c (Take k true) s l sound handed = λ e. tt
+threads_by c (Take k false) s l sound handed = handed
+threads_by c (Complete Again) s l sound handed = λ e. absurd (true≢false (sym e))
+threads_by c (Complete Released) s l sound handed = λ e. absurd (true≢false (sym e))
+threads_by c (Complete Held) s l sound handed = handed
+threads_by c BusyTake s l sound handed = λ e. tt
+threads_by c BusyStop s l sound handed = handed
+threads_by c MarkDisable s l sound handed = handed
+threads_by c (TakeDisable true) s l sound handed = λ e. absurd (subst IsHandedOrPolled (sound l.1) (handed e))
+threads_by c (TakeDisable false) s l sound handed = handed
+threads_by c Unmark s l sound handed = handed
+threads_by c (Enable b) s l sound handed = λ e. absurd (subst IsHandedOrPolled l.0 (handed e))
+threads_by c (SetThreaded b) s l sound handed = handed
+
+pub threads_after : SchedThreadedIsHanded
+unfolding LegalHistory state_after
+threads_after k s [] sound handed l = handed
+threads_after k s (e ∷ h) sound handed l =
+    threads_after k (after s e) h (sound_by e.caller e.operation s l.0.0 sound) (threads_by e.caller e.operation s l.0.0 sound handed) l.1
 
 -- ---- whether a caller owns the instance
 
@@ -237,6 +266,9 @@ opens_controlled k = λ d e. cc
 
 pub opens_unbusy : (k : ℕ) → BusyIsPolled (opening k)
 opens_unbusy k = λ e. absurd (true≢false (sym e))
+
+pub opens_unthreaded : (k : ℕ) → ThreadsIsHanded (opening k)
+opens_unthreaded k = λ e. absurd (true≢false (sym e))
 
 pub opens_sound : (k : ℕ) → IsSound (opening k)
 opens_sound k = λ e. absurd (true≢false e)

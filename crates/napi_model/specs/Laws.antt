@@ -34,6 +34,16 @@ IsPolled _ = ⊥
 abbrev pub BusyIsPolled : State → Type 0
 BusyIsPolled s = s.flags.in_busy_poll ≡ true → IsPolled s.place
 
+-- only an instance that was handed over or is polled is its thread's
+abbrev pub IsHandedOrPolled : Place → Type 0
+IsHandedOrPolled Listed = Unit {0}
+IsHandedOrPolled ToThread = Unit {0}
+IsHandedOrPolled (Polling c) = Unit {0}
+IsHandedOrPolled _ = ⊥
+
+abbrev pub ThreadsIsHanded : State → Type 0
+ThreadsIsHanded s = s.flags.sched_threaded ≡ true → IsHandedOrPolled s.place
+
 -- only the controller controls the instance
 abbrev pub IsControlled : ℕ → State → Type 0
 IsControlled controller s = (c : ℕ) → s.place ≡ Control c → c ≡ controller
@@ -49,6 +59,12 @@ abbrev pub BusyPollIsPolling : Type 0
 BusyPollIsPolling =
     (controller : ℕ) (start : State) (h : List Event)
     → IsSound start → BusyIsPolled start → LegalHistory controller start h → BusyIsPolled (state_after start h)
+
+-- law: SCHED_THREADED stands only while the instance is handed over or polled, in every state that a legal history leads to
+abbrev pub SchedThreadedIsHanded : Type 0
+SchedThreadedIsHanded =
+    (controller : ℕ) (start : State) (h : List Event)
+    → IsSound start → ThreadsIsHanded start → LegalHistory controller start h → ThreadsIsHanded (state_after start h)
 
 -- law: whatever others do, an owner stays where it is, and busy polls or doesn't as before
 abbrev pub OthersLeaveOwner : Type 0

@@ -96,27 +96,45 @@ IsLegalBy c (Enable threaded) s = (s.place ≡ Control c) × (s.flags.disable �
 -- `dev_set_threaded`
 IsLegalBy c (SetThreaded threaded) s = Unit {0}
 
--- flags that aren't named stay
+-- what an operation does to the flags; those that it doesn't name stay
+abbrev pub flags_after : Operation → Flags → Flags
+flags_after (Schedule prep.Granted) f = record f { sched = true }
+flags_after (Schedule prep.Missed) f = record f { missed = true }
+flags_after (Hand Thread) f = record f { sched_threaded = true }
+flags_after (Complete Again) f = record f { missed = false; sched_threaded = false }
+flags_after (Complete Released) f = record f { sched = false; sched_threaded = false }
+flags_after BusyTake f = record f { sched = true; in_busy_poll = true }
+flags_after BusyStop f = record f { in_busy_poll = false; missed = false }
+flags_after MarkDisable f = record f { disable = true }
+flags_after (TakeDisable true) f = record f { sched = true; npsvc = true; threaded = false }
+flags_after Unmark f = record f { disable = false }
+flags_after (Enable threaded) f = record f { sched = false; npsvc = false; threaded = f.threaded || threaded }
+flags_after (SetThreaded threaded) f = record f { threaded = threaded }
+flags_after _ f = f
+
+-- where caller c's operation leaves the instance
+abbrev pub place_after : ℕ → Operation → Place → Place
+place_after c (Schedule prep.Granted) p = Granted c
+place_after c (Hand kind) p = place_of kind
+place_after c (Take kind true) p = Polling c
+place_after c (Complete Again) p = Granted c
+place_after c (Complete Released) p = Nobody
+place_after c BusyTake p = Polling c
+place_after c (TakeDisable true) p = Control c
+place_after c (Enable threaded) p = Nobody
+place_after c _ p = p
+
 abbrev pub after_by : ℕ → Operation → State → State
-after_by c (Look seen) s = s
-after_by c (Schedule prep.Disabled) s = s
-after_by c (Schedule prep.Granted) s = record { flags = record s.flags { sched = true }; place = Granted c }
-after_by c (Schedule prep.Missed) s = record s { flags = record s.flags { missed = true } }
-after_by c (Hand List) s = record s { place = Listed }
-after_by c (Hand Thread) s = record { flags = record s.flags { sched_threaded = true }; place = ToThread }
-after_by c (Take kind true) s = record s { place = Polling c }
-after_by c (Take kind false) s = s
-after_by c (Complete Again) s = record { flags = record s.flags { missed = false; sched_threaded = false }; place = Granted c }
-after_by c (Complete Released) s = record { flags = record s.flags { sched = false; sched_threaded = false }; place = Nobody }
-after_by c (Complete Held) s = s
-after_by c BusyTake s = record { flags = record s.flags { sched = true; in_busy_poll = true }; place = Polling c }
-after_by c BusyStop s = record s { flags = record s.flags { in_busy_poll = false; missed = false } }
-after_by c MarkDisable s = record s { flags = record s.flags { disable = true } }
-after_by c (TakeDisable false) s = s
-after_by c (TakeDisable true) s = record { flags = record s.flags { sched = true; npsvc = true; threaded = false }; place = Control c }
-after_by c Unmark s = record s { flags = record s.flags { disable = false } }
-after_by c (Enable threaded) s = record { flags = record s.flags { sched = false; npsvc = false; threaded = s.flags.threaded || threaded }; place = Nobody }
-after_by c (SetThreaded threaded) s = record s { flags = record s.flags { threaded = threaded } }
+after_by c o s = record { flags = flags_after o s.flags; place = place_after c o s.place }
+
+-- what the word tells after an operation, by what it told before
+abbrev pub handed_after : Operation → Option Kind → Option Kind
+handed_after (Hand kind) handed = Some kind
+handed_after (Take kind true) handed = None
+handed_after _ handed = handed
+
+abbrev pub seen_after : Operation → Seen → Seen
+seen_after o x = record { flags = flags_after o x.flags; handed = handed_after o x.handed }
 
 abbrev pub event : ℕ → Operation → Event
 event c o = record { caller = c; operation = o }

@@ -1,7 +1,7 @@
 //! Laws of legal histories. Each is the contract of a function that does nothing.
 ghost use Rattle.std.specs.Prelude.{ℕ};
 ghost use Rattle.napi_model.specs.Step.{opening, idle};
-ghost use Rattle.napi_model.specs.Laws.{IsSound, IsControlled, BusyIsPolled, SchedClearIsNobody, BusyPollIsPolling, OthersLeaveOwner, OthersLeaveOwnership, ControlIsTheControllers, OthersLeaveDisable, OwnOfJoined};
+ghost use Rattle.napi_model.specs.Laws.{IsSound, IsControlled, BusyIsPolled, ThreadsIsHanded, SchedClearIsNobody, BusyPollIsPolling, SchedThreadedIsHanded, OthersLeaveOwner, OthersLeaveOwnership, ControlIsTheControllers, OthersLeaveDisable, OwnOfJoined};
 
 /// In every state that a legal history leads to from the opening state or from the idle one, SCHED clear says that the
 /// place is `Nobody`.
@@ -17,6 +17,14 @@ pub fn busy_poll_is_polling()
     ensures after { BusyPollIsPolling }
     ensures opening { (controller : ℕ) → BusyIsPolled (opening controller) }
     ensures idle { BusyIsPolled idle }
+{}
+
+/// In every state that a legal history leads to from the opening state or from the idle one, SCHED_THREADED says that the
+/// instance was handed over or is polled.
+pub fn sched_threaded_is_handed()
+    ensures after { SchedThreadedIsHanded }
+    ensures opening { (controller : ℕ) → ThreadsIsHanded (opening controller) }
+    ensures idle { ThreadsIsHanded idle }
 {}
 
 /// The events of others leave a caller's `Granted`, `Polling` or `Control` where it is, and whether it busy polls.

@@ -6,6 +6,7 @@
 //! events leaves, `Word` the bits.
 #![tactic(auto)]
 
+pub mod bits;
 mod event;
 mod history;
 mod laws;
@@ -19,7 +20,7 @@ pub use event::{Call, Done, Event, Operation, Prep};
 pub use history::{first_illegal, is_accepted_schedule, is_poll_start, own, state_after};
 pub use laws::{
     busy_poll_is_polling, control_is_the_controllers, others_leave_disable, others_leave_owner,
-    others_leave_ownership, own_of_joined, sched_clear_is_nobody,
+    others_leave_ownership, own_of_joined, sched_clear_is_nobody, sched_threaded_is_handed,
 };
 pub use serial::SerialNapi;
 pub use state::{Flags, Kind, Place, Seen, State};

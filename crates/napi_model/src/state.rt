@@ -22,8 +22,8 @@ pub struct Flags {
 }
 
 impl Flags {
-    ghost use Rattle.std.specs.Prelude.{◌↔◌, IsTrue};
-    ghost use Rattle.napi_model.specs.Step.{MayBusyTake};
+    ghost use Rattle.std.specs.Prelude.{◌≡◌, ◌↔◌, IsTrue};
+    ghost use Rattle.napi_model.specs.Step.{MayBusyTake, flags_after};
 
     /// No flag is set.
     pub const NONE: Flags = Flags {
@@ -42,6 +42,50 @@ impl Flags {
         ensures { IsTrue result ↔ MayBusyTake self }
     {
         !self.disable && !self.sched && !self.in_busy_poll
+    }
+
+    /// The flags after an operation: those that it doesn't name stay.
+    #[inline]
+    pub fn after(self, operation: Operation) -> Flags
+        ensures { result ≡ flags_after operation self }
+    {
+        let mut flags = self;
+        match operation {
+            Operation::Schedule(Prep::Granted) => flags.sched = true,
+            Operation::Schedule(Prep::Missed) => flags.missed = true,
+            Operation::Hand(Kind::Thread) => flags.sched_threaded = true,
+            Operation::Complete(Done::Again) => {
+                flags.missed = false;
+                flags.sched_threaded = false;
+            }
+            Operation::Complete(Done::Released) => {
+                flags.sched = false;
+                flags.sched_threaded = false;
+            }
+            Operation::BusyTake => {
+                flags.sched = true;
+                flags.in_busy_poll = true;
+            }
+            Operation::BusyStop => {
+                flags.in_busy_poll = false;
+                flags.missed = false;
+            }
+            Operation::MarkDisable => flags.disable = true,
+            Operation::TakeDisable(true) => {
+                flags.sched = true;
+                flags.npsvc = true;
+                flags.threaded = false;
+            }
+            Operation::Unmark => flags.disable = false,
+            Operation::Enable(threaded) => {
+                flags.sched = false;
+                flags.npsvc = false;
+                flags.threaded |= threaded;
+            }
+            Operation::SetThreaded(threaded) => flags.threaded = threaded,
+            _ => {}
+        }
+        flags
     }
 }
 
@@ -63,6 +107,27 @@ pub struct Seen {
     pub handed: Option<Kind>,
 }
 
+impl Seen {
+    ghost use Rattle.std.specs.Prelude.{◌≡◌};
+    ghost use Rattle.napi_model.specs.Step.{handed_after, seen_after};
+
+    /// What the word tells after an operation, by what it told before.
+    #[inline]
+    pub fn after(self, operation: Operation) -> Seen
+        ensures { result ≡ seen_after operation self }
+    {
+        let handed = match operation {
+            Operation::Hand(kind) => Some(kind),
+            Operation::Take(_, true) => None,
+            _ => self.handed,
+        };
+        Seen {
+            flags: self.flags.after(operation),
+            handed,
+        }
+    }
+}
+
 /// Where an instance stands, with the number of the caller that owns it there. The word doesn't tell the number.
 #[derive(Clone, Copy, PartialEq, Eq, Debug)]
 pub enum Place {
@@ -80,6 +145,28 @@ pub enum Place {
     Control(u32),
 }
 
+impl Place {
+    ghost use Rattle.std.specs.Prelude.{◌≡◌};
+    ghost use Rattle.napi_model.specs.Step.{place_after};
+
+    // Where a caller's operation leaves an instance that stands here.
+    fn after(self, caller: u32, operation: Operation) -> Place
+        ensures { result ≡ place_after caller operation self }
+    {
+        match operation {
+            Operation::Schedule(Prep::Granted) | Operation::Complete(Done::Again) => {
+                Place::Granted(caller)
+            }
+            Operation::Hand(Kind::List) => Place::Listed,
+            Operation::Hand(Kind::Thread) => Place::ToThread,
+            Operation::Take(_, true) | Operation::BusyTake => Place::Polling(caller),
+            Operation::Complete(Done::Released) | Operation::Enable(_) => Place::Nobody,
+            Operation::TakeDisable(true) => Place::Control(caller),
+            _ => self,
+        }
+    }
+}
+
 /// The whole state of an instance.
 #[derive(Clone, Copy, PartialEq, Eq, Debug)]
 pub struct State {
@@ -93,7 +180,8 @@ impl State {
     ghost use Rattle.std.specs.Prelude.{◌≡◌, ◌↔◌, IsTrue, IsFalse};
     ghost use Rattle.napi_model.specs.declared.event.Operation.{Operation};
     ghost use Rattle.napi_model.specs.declared.state.State.{State};
-    ghost use Rattle.napi_model.specs.Step.{opening, idle, seen_of, IsLegal, IsLegalBy, after, LegalStep, MayCall, call_of, answer_of};
+    ghost use Rattle.napi_model.specs.Step.{opening, idle, seen_of, seen_after, IsLegal, IsLegalBy, after, LegalStep, MayCall, call_of, answer_of};
+    ghost use Rattle.napi_model.specs.Laws.{IsSound};
 
     /// A new instance: disabled, in its controller's hands.
     pub fn opening(controller: u32) -> State
@@ -178,65 +266,15 @@ impl State {
         // From a legal event there is this one next state and no other.
         ensures next { IsLegal self event → LegalStep self event result }
         ensures only { (other : State) → LegalStep self event other → other ≡ result }
+
+        // The word tells the next word, though it doesn't tell who has the instance.
+        ensures seen { IsSound self → IsLegal self event
+            → seen_of result ≡ seen_after event.operation (seen_of self) }
     {
-        let caller = event.caller;
-        let State {
-            mut flags,
-            mut place,
-        } = self;
-        match event.operation {
-            Operation::Schedule(Prep::Granted) => {
-                flags.sched = true;
-                place = Place::Granted(caller);
-            }
-            Operation::Schedule(Prep::Missed) => flags.missed = true,
-            Operation::Hand(Kind::List) => place = Place::Listed,
-            Operation::Hand(Kind::Thread) => {
-                flags.sched_threaded = true;
-                place = Place::ToThread;
-            }
-            Operation::Take(_, true) => place = Place::Polling(caller),
-            Operation::Complete(Done::Again) => {
-                flags.missed = false;
-                flags.sched_threaded = false;
-                place = Place::Granted(caller);
-            }
-            Operation::Complete(Done::Released) => {
-                flags.sched = false;
-                flags.sched_threaded = false;
-                place = Place::Nobody;
-            }
-            Operation::BusyTake => {
-                flags.sched = true;
-                flags.in_busy_poll = true;
-                place = Place::Polling(caller);
-            }
-            Operation::BusyStop => {
-                flags.in_busy_poll = false;
-                flags.missed = false;
-            }
-            Operation::MarkDisable => flags.disable = true,
-            Operation::TakeDisable(true) => {
-                flags.sched = true;
-                flags.npsvc = true;
-                flags.threaded = false;
-                place = Place::Control(caller);
-            }
-            Operation::Unmark => flags.disable = false,
-            Operation::Enable(threaded) => {
-                flags.sched = false;
-                flags.npsvc = false;
-                flags.threaded |= threaded;
-                place = Place::Nobody;
-            }
-            Operation::SetThreaded(threaded) => flags.threaded = threaded,
-            Operation::Look(_)
-            | Operation::Schedule(Prep::Disabled)
-            | Operation::Take(_, false)
-            | Operation::Complete(Done::Held)
-            | Operation::TakeDisable(false) => {}
+        State {
+            flags: self.flags.after(event.operation),
+            place: self.place.after(event.caller, event.operation),
         }
-        State { flags, place }
     }
 
     /// Whether a caller may make this call here. Where it may not, no reply to the call is legal.

@@ -5,25 +5,10 @@ ghost use Rattle.std.specs.Prelude.{◌≡◌, ◌↔◌, IsTrue, IsNone, IfSome
 ghost use Rattle.napi_model.specs.declared.state.Seen.{Seen};
 ghost use Rattle.napi_model.specs.Word.{bit_if, mark_word, word_of, mark_in, seen_in, IsMalformed};
 
+use crate::bits::{
+    DISABLE, IN_BUSY_POLL, MISSED, NPSVC, QUEUED, SCHED, SCHED_THREADED, THREADED, TO_THREAD,
+};
 use crate::{Flags, Kind, Seen};
-
-const SCHED: u64 = 1;
-
-const MISSED: u64 = 1 << 1;
-
-const DISABLE: u64 = 1 << 2;
-
-const NPSVC: u64 = 1 << 3;
-
-const IN_BUSY_POLL: u64 = 1 << 6;
-
-const THREADED: u64 = 1 << 8;
-
-const SCHED_THREADED: u64 = 1 << 9;
-
-const QUEUED: u64 = 1 << 32;
-
-const TO_THREAD: u64 = 1 << 33;
 
 const BOTH_MARKS: u64 = QUEUED | TO_THREAD;
 

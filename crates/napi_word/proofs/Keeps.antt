@@ -10,10 +10,10 @@ use Rattle.napi_model.specs.declared.state.State.{State as Napi}
 use Rattle.napi_model.specs.Step.{event, opening, seen_of, after}
 use Rattle.napi_model.specs.History.{LegalHistory, IsLegalFor, state_after, own}
 use Rattle.napi_model.specs.declared.state.Place.{Place}
-use Rattle.napi_model.specs.Laws.{IsSound, IsControlled, is_owner, stand_of}
+use Rattle.napi_model.specs.Laws.{IsSound, ThreadsIsHanded, IsControlled, is_owner, stand_of}
 use Rattle.napi_model.specs.Word.{word_of}
 use Rattle.napi_model.proofs.Histories.{state_after-snoc, state_after-append, legal_snoc, legal_front, legal_back}
-use Rattle.napi_model.proofs.Owners.{sound_after, opens_sound, ownership_kept, owner_kept, disable_kept, controlled_after, opens_controlled}
+use Rattle.napi_model.proofs.Owners.{sound_after, opens_sound, ownership_kept, owner_kept, disable_kept, threads_after, opens_unthreaded, controlled_after, opens_controlled}
 use Rattle.napi_word.specs.declared.view.Key.{Key}
 use Rattle.napi_word.specs.declared.view.Strand.{Strand}
 use Rattle.napi_word.specs.declared.view.Delivery.{Delivery}
@@ -65,6 +65,7 @@ pub record Knows (k : ℕ) (v : View) (c : ℕ) (now : Napi) : Type 0 where
   pub number : number_of v ≡ c
   pub controller : controller_of v ≡ k
   pub sound : IsSound now
+  pub threads : ThreadsIsHanded now
   pub controlled : IsControlled k now
   pub owner : is_owner c now.place ≡ is_owner c (place_in v)
   pub place : is_owner c (place_in v) ≡ true → now.place ≡ place_in v
@@ -152,6 +153,7 @@ module _ (key : Key) (s : St) (r : Kept key s) (id : ℕ) (v : View) (at : get_e
     number = refl;
     controller = ap controller_of o.is ∙ own_fits.controller;
     sound = sound_after key.controller (opening key.controller) h (opens_sound key.controller) r.legal;
+    threads = threads_after key.controller (opening key.controller) h (opens_sound key.controller) (opens_unthreaded key.controller) r.legal;
     controlled = controlled_after key.controller (opening key.controller) h (opens_controlled key.controller) r.legal;
     owner = owner_now ∙ ap (λ (u : Napi). is_owner c u.place) (sym viewed);
     place = λ y. ap (λ (t : Place × Bool). t.0) (stand_now (ap (λ (u : Napi). is_owner c u.place) (sym viewed) ∙ y)) ∙ ap (λ (u : Napi). u.place) (sym viewed);

@@ -12,9 +12,10 @@ use Rattle.napi_model.specs.declared.state.Place.TheVariants.{Nobody, Granted, L
 use Rattle.napi_model.specs.declared.event.Operation.{Operation}
 use Rattle.napi_model.specs.declared.event.Operation.TheVariants.{Look, Schedule, Hand, Take, Complete, BusyTake, BusyStop, MarkDisable, TakeDisable, Unmark, Enable, SetThreaded}
 use Rattle.napi_model.specs.declared.event.Done.TheVariants.{Held}
-use Rattle.napi_model.specs.Step.{seen_of, handed_at, place_of, MayHand, IsControl}
+use Rattle.napi_model.specs.Step.{event, seen_of, seen_after, after_by, handed_at, place_of, MayHand, IsControl}
+use Rattle.napi_model.specs.History.{IsLegalFor}
 use Rattle.napi_model.specs.Step as step
-use Rattle.napi_model.specs.Laws.{is_owner}
+use Rattle.napi_model.specs.Laws.{is_owner, ThreadsIsHanded, IsHandedOrPolled}
 use Rattle.napi_model.specs.Word.{word_of}
 use Rattle.napi_model.proofs.Words.{word_of-injective}
 use Rattle.napi_word.specs.declared.table.Pass.{Pass}
@@ -24,11 +25,12 @@ use Rattle.napi_word.specs.View.{View, number_of, controller_of, place_in}
 use Rattle.napi_word.specs.Slot.{Content, has_at, is_out, owns_slot, Tied, Moves, stays, taken, given, Gives, Delivers}
 use Rattle.napi_word.specs.Passes.{tie_of, IsWithin, HandsOver, HasPoll, Polls, IsController, Controls, IsNoOwner, Disable}
 use Rattle.napi_word.specs.Atoms.{MayMake, MayExchange}
-use Rattle.napi_word.specs.Events.{schedule_to, complete_to, busy_to, stop_to, disable_to, enable_to}
 use Rattle.napi_word.specs.Told.{Did, when, either_op, no_move, load_op, prep_of, done_of, is_marked, is_busy, busy_op}
 use Rattle.napi_word.proofs.Keeps.{Knows}
 use Rattle.napi_word.proofs.Allowed.{nothing, Fitting, Turn, allowed}
-use Rattle.napi_word.proofs.Bits.{hand_bits, take_mask, with_mark, unhand, hand_word, take_word, threaded_word, unthreaded_word, mark_word, unmark_word}
+use Rattle.napi_model.proofs.Tells.{tells_next}
+use Rattle.napi_word.proofs.Places.{is_false}
+use Rattle.napi_word.proofs.Bits.{hand_bits, take_mask, added, subtracted, hand_list, hand_thread, take_word, threaded_word, unthreaded_word, mark_word, unmark_word}
 
 -- ---- places and marks
 
@@ -50,21 +52,9 @@ place_marked : (k : Kind) → is_marked k (handed_at (place_of k)) ≡ true
 place_marked kind.List = refl
 place_marked kind.Thread = refl
 
-unhand_marked : (k : Kind) (m : Option Kind) → is_marked k m ≡ true → unhand k m ≡ None
-unhand_marked kind.List None e = refl
-unhand_marked kind.List (Some kind.List) e = refl
-unhand_marked kind.List (Some kind.Thread) e = absurd (true≢false (sym e))
-unhand_marked kind.Thread None e = refl
-unhand_marked kind.Thread (Some kind.List) e = absurd (true≢false (sym e))
-unhand_marked kind.Thread (Some kind.Thread) e = refl
-
-unhand_other : (k : Kind) (m : Option Kind) → is_marked k m ≡ false → unhand k m ≡ m
-unhand_other kind.List None e = refl
-unhand_other kind.List (Some kind.List) e = absurd (true≢false e)
-unhand_other kind.List (Some kind.Thread) e = refl
-unhand_other kind.Thread None e = refl
-unhand_other kind.Thread (Some kind.List) e = refl
-unhand_other kind.Thread (Some kind.Thread) e = absurd (true≢false e)
+-- what a take leaves, by whether the mark was there
+take_said : (k : Kind) (now : Napi) (b : Bool) → is_marked k (handed_at now.place) ≡ b → bit_and (word_of (seen_of now)) (take_mask k) ≡ word_of (seen_after (Take k b) (seen_of now))
+take_said k now b is = take_word k (seen_of now) ∙ ap (λ (v : Bool). word_of (seen_after (Take k v) (seen_of now))) is
 
 home_at : (k : Kind) → is_out (place_of k) ≡ false
 home_at kind.List = refl
@@ -125,6 +115,11 @@ module _ (t : StateTable) (p : Pass) where
       → MayMake t p.seat g f m
   makes g f m ready turn = allowed t.table.shared.key t.table.shared.table_id.slots p.seat.id me t.one_slot p.is_pass p.holds (tie_of p) g f m ready turn
 
+  -- the word that a legal step leaves is told by the word that it finds
+  turn : (now : Napi) (c : ℕ) (o : Operation) (m : Moves) (g : ℕ → ℕ) → Knows last me.0 c now → IsLegalFor last now (event c o)
+      → g (word_of (seen_of now)) ≡ word_of (seen_after o (seen_of now)) → Fitting m c now.place (after_by c o now).place → Turn last now c o m g
+  turn now c o m g kn legal word slot = record { legal = legal; word = word ∙ ap word_of (sym (tells_next c o now legal.0 kn.sound)); slot = slot }
+
   -- ---- loads
   pub looks : MayMake t p.seat (λ n. n) (λ x. Look x) no_move
   looks = makes (λ n. n) (λ x. Look x) no_move (λ x e. absurd (cc))
@@ -147,104 +142,79 @@ module _ (t : StateTable) (p : Pass) where
       (λ now c kn. let top = is_last last me.0 c now kn is in ask_turn now c top (kn.disable top ∙ off) (is_busy (seen_of now)) refl)
 
   -- ---- exchanges
-  exchanges : (seen next : Seen) (f : Seen → Operation) (m : Seen → Moves) → ((x : Seen) → m x ≡ given → IsWithin p)
-      → ((now : Napi) (c : ℕ) → Knows last me.0 c now → seen_of now ≡ seen → Turn last now c (f (seen_of now)) (m (seen_of now)) (λ n. word_of next))
-      → MayExchange t p.seat seen next f m
-  exchanges seen next f m ready hit = makes (λ n. either (eqb n (word_of seen)) (word_of next) n)
+
+  -- the operation is legal, and moves the slot so
+  abbrev Hit : Napi → ℕ → Operation → Moves → Type 0
+  Hit now c o m = IsLegalFor last now (event c o) × Fitting m c now.place (after_by c o now).place
+
+  exchanges : (seen : Seen) (f : Seen → Operation) (m : Seen → Moves) → ((x : Seen) → m x ≡ given → IsWithin p)
+      → ((now : Napi) (c : ℕ) → Knows last me.0 c now → seen_of now ≡ seen → Hit now c (f (seen_of now)) (m (seen_of now)))
+      → MayExchange t p.seat seen f m
+  exchanges seen f m ready hit = makes (λ n. either (eqb n (word_of seen)) (word_of (seen_after (f seen) seen)) n)
       (λ x. either_op (eqb (word_of x) (word_of seen)) (f x) x) (λ x. when (eqb (word_of x) (word_of seen)) (m x))
       (λ x e. gift (eqb (word_of x) (word_of seen)) (m x) (ready x) e)
-      (λ now c kn. exchange_turn last now c seen (word_of next) (f (seen_of now)) (m (seen_of now)) (hit now c kn) (eqb (word_of (seen_of now)) (word_of seen)) refl)
+      (λ now c kn. exchange_turn last now c seen (word_of (seen_after (f seen) seen)) (f (seen_of now)) (m (seen_of now))
+      (λ same. let h = hit now c kn same in
+      turn now c (f (seen_of now)) (m (seen_of now)) (λ n. word_of (seen_after (f seen) seen)) kn h.0 (ap (λ (x : Seen). word_of (seen_after (f x) x)) (sym same)) h.1)
+      (eqb (word_of (seen_of now)) (word_of seen)) refl)
 
-  schedule_hit : (seen : Seen) → seen.flags.disable ≡ false → (now : Napi) (c : ℕ) → Knows last me.0 c now → seen_of now ≡ seen → (b : Bool) → now.flags.sched ≡ b
-      → Turn last now c (Schedule (prep_of b)) stays (λ n. word_of (schedule_to seen.flags.sched seen))
-  schedule_hit seen on now c kn same true is = record {
-    legal = ((ap (λ (x : Seen). x.flags.disable) same ∙ on, is), tt);
-    word = ap (λ (x : Seen). word_of (schedule_to x.flags.sched x)) (sym same) ∙ ap (λ (v : Bool). word_of (schedule_to v (seen_of now))) is;
-    slot = (refl, refl);
-  }
-  schedule_hit seen on now c kn same false is = let nobody = kn.sound is in record {
-    legal = ((ap (λ (x : Seen). x.flags.disable) same ∙ on, is), tt);
-    word = ap (λ (x : Seen). word_of (schedule_to x.flags.sched x)) (sym same) ∙ ap (λ (v : Bool). word_of (schedule_to v (seen_of now))) is
-        ∙ ap (λ (q : Place). word_of (schedule_to false (record { flags = now.flags; handed = handed_at q }))) nobody;
-    slot = (sym (ap is_out nobody), sym (ap (has_at c) nobody));
-  }
+  schedule_hit : (now : Napi) (c : ℕ) → Knows last me.0 c now → now.flags.disable ≡ false → (b : Bool) → now.flags.sched ≡ b → Hit now c (Schedule (prep_of b)) stays
+  schedule_hit now c kn on true is = (((on, is), tt), (refl, refl))
+  schedule_hit now c kn on false is = let nobody = kn.sound is in (((on, is), tt), (sym (ap is_out nobody), sym (ap (has_at c) nobody)))
 
-  pub schedules : (seen : Seen) → seen.flags.disable ≡ false → MayExchange t p.seat seen (schedule_to seen.flags.sched seen) (λ x. Schedule (prep_of x.flags.sched)) no_move
-  schedules seen on = exchanges seen (schedule_to seen.flags.sched seen) (λ x. Schedule (prep_of x.flags.sched)) no_move (λ x e. absurd (cc))
-      (λ now c kn same. schedule_hit seen on now c kn same now.flags.sched refl)
+  pub schedules : (seen : Seen) → seen.flags.disable ≡ false → MayExchange t p.seat seen (λ x. Schedule (prep_of x.flags.sched)) no_move
+  schedules seen on = exchanges seen (λ x. Schedule (prep_of x.flags.sched)) no_move (λ x e. absurd (cc))
+      (λ now c kn same. schedule_hit now c kn (ap (λ (x : Seen). x.flags.disable) same ∙ on) now.flags.sched refl)
 
-  complete_hit : (seen : Seen) (now : Napi) (c : ℕ) → step.Polls c false now → seen_of now ≡ seen → (b : Bool) → now.flags.missed ≡ b
-      → Turn last now c (Complete (done_of b)) given (λ n. word_of (complete_to seen.flags.missed seen))
-  complete_hit seen now c polls same true is = record {
-    legal = ((polls.0, is, polls.1), tt);
-    word = ap (λ (x : Seen). word_of (complete_to x.flags.missed x)) (sym same) ∙ ap (λ (v : Bool). word_of (complete_to v (seen_of now))) is
-        ∙ ap (λ (q : Place). word_of (complete_to true (record { flags = now.flags; handed = handed_at q }))) polls.0;
-    slot = (ap (has_at c) polls.0 ∙ eq-eqb c c refl, refl);
-  }
-  complete_hit seen now c polls same false is = record {
-    legal = ((polls.0, is, polls.1), tt);
-    word = ap (λ (x : Seen). word_of (complete_to x.flags.missed x)) (sym same) ∙ ap (λ (v : Bool). word_of (complete_to v (seen_of now))) is
-        ∙ ap (λ (q : Place). word_of (complete_to false (record { flags = now.flags; handed = handed_at q }))) polls.0;
-    slot = (ap (has_at c) polls.0 ∙ eq-eqb c c refl, refl);
-  }
+  complete_hit : (now : Napi) (c : ℕ) → step.Polls c false now → (b : Bool) → now.flags.missed ≡ b → Hit now c (Complete (done_of b)) given
+  complete_hit now c polls true is = (((polls.0, is, polls.1), tt), (ap (has_at c) polls.0 ∙ eq-eqb c c refl, refl))
+  complete_hit now c polls false is = (((polls.0, is, polls.1), tt), (ap (has_at c) polls.0 ∙ eq-eqb c c refl, refl))
 
-  pub completes : (seen : Seen) → Polls false p → IsWithin p
-      → MayExchange t p.seat seen (complete_to seen.flags.missed seen) (λ x. Complete (done_of x.flags.missed)) (λ x. given)
-  completes seen polls within = exchanges seen (complete_to seen.flags.missed seen) (λ x. Complete (done_of x.flags.missed)) (λ x. given) (λ x e. within)
-      (λ now c kn same. complete_hit seen now c (is_polling last me.0 c now false kn polls) same now.flags.missed refl)
+  pub completes : (seen : Seen) → Polls false p → IsWithin p → MayExchange t p.seat seen (λ x. Complete (done_of x.flags.missed)) (λ x. given)
+  completes seen polls within = exchanges seen (λ x. Complete (done_of x.flags.missed)) (λ x. given) (λ x e. within)
+      (λ now c kn same. complete_hit now c (is_polling last me.0 c now false kn polls) now.flags.missed refl)
 
-  pub takes_busy : (seen : Seen) → step.MayBusyTake seen.flags → MayExchange t p.seat seen (busy_to seen) (λ x. BusyTake) (λ x. taken)
-  takes_busy seen free = exchanges seen (busy_to seen) (λ x. BusyTake) (λ x. taken) (λ x e. absurd (cc))
+  pub takes_busy : (seen : Seen) → step.MayBusyTake seen.flags → MayExchange t p.seat seen (λ x. BusyTake) (λ x. taken)
+  takes_busy seen free = exchanges seen (λ x. BusyTake) (λ x. taken) (λ x e. absurd (cc))
       (λ now c kn same.
       let may = subst (λ (x : Seen). step.MayBusyTake x.flags) (sym same) free in
-      let nobody = kn.sound may.1 in record {
-        legal = (may, tt);
-        word = ap (λ (x : Seen). word_of (busy_to x)) (sym same) ∙ ap (λ (q : Place). word_of (busy_to (record { flags = now.flags; handed = handed_at q }))) nobody;
-        slot = (ap is_out nobody, eq-eqb c c refl);
-      })
+      ((may, tt), (ap is_out (kn.sound may.1), eq-eqb c c refl)))
 
-  pub stops_busy : (seen : Seen) → Polls true p → MayExchange t p.seat seen (stop_to seen) (λ x. BusyStop) no_move
-  stops_busy seen polls = exchanges seen (stop_to seen) (λ x. BusyStop) no_move (λ x e. absurd (cc))
-      (λ now c kn same. record {
-        legal = (is_polling last me.0 c now true kn polls, tt);
-        word = ap (λ (x : Seen). word_of (stop_to x)) (sym same);
-        slot = (refl, refl);
-      })
+  pub stops_busy : (seen : Seen) → Polls true p → MayExchange t p.seat seen (λ x. BusyStop) no_move
+  stops_busy seen polls = exchanges seen (λ x. BusyStop) no_move (λ x e. absurd (cc))
+      (λ now c kn same. ((is_polling last me.0 c now true kn polls, tt), (refl, refl)))
 
   pub completes_held : Polls true p → MayMake t p.seat (λ n. n) (λ x. Complete Held) no_move
   completes_held polls = makes (λ n. n) (λ x. Complete Held) no_move (λ x e. absurd (cc))
       (λ now c kn. record { legal = (is_polling last me.0 c now true kn polls, tt); word = refl; slot = (refl, refl) })
 
   pub disables : (seen : Seen) → IsController p → seen.flags.disable ≡ true → seen.flags.sched ≡ false → seen.flags.npsvc ≡ false
-      → MayExchange t p.seat seen (disable_to seen) (λ x. TakeDisable true) (λ x. taken)
-  disables seen top off sched npsvc = exchanges seen (disable_to seen) (λ x. TakeDisable true) (λ x. taken) (λ x e. absurd (cc))
+      → MayExchange t p.seat seen (λ x. TakeDisable true) (λ x. taken)
+  disables seen top off sched npsvc = exchanges seen (λ x. TakeDisable true) (λ x. taken) (λ x e. absurd (cc))
       (λ now c kn same.
       let clear : now.flags.sched ≡ false = ap (λ (x : Seen). x.flags.sched) same ∙ sched in
-      let nobody = kn.sound clear in record {
-        legal = ((ap (λ (x : Seen). x.flags.disable) same ∙ off, clear, ap (λ (x : Seen). x.flags.npsvc) same ∙ npsvc), is_last last me.0 c now kn top);
-        word = ap (λ (x : Seen). word_of (disable_to x)) (sym same) ∙ ap (λ (q : Place). word_of (disable_to (record { flags = now.flags; handed = handed_at q }))) nobody;
-        slot = (ap is_out nobody, eq-eqb c c refl);
-      })
+      (((ap (λ (x : Seen). x.flags.disable) same ∙ off, clear, ap (λ (x : Seen). x.flags.npsvc) same ∙ npsvc), is_last last me.0 c now kn top), (ap is_out (kn.sound clear), eq-eqb c c refl)))
 
-  pub enables : (b : Bool) (seen : Seen) → IsController p → Controls p → Disable false p → IsWithin p
-      → MayExchange t p.seat seen (enable_to b seen) (λ x. Enable b) (λ x. given)
-  enables b seen is control on within = exchanges seen (enable_to b seen) (λ x. Enable b) (λ x. given) (λ x e. within)
+  pub enables : (b : Bool) (seen : Seen) → IsController p → Controls p → Disable false p → IsWithin p → MayExchange t p.seat seen (λ x. Enable b) (λ x. given)
+  enables b seen is control on within = exchanges seen (λ x. Enable b) (λ x. given) (λ x e. within)
       (λ now c kn same.
       let place = is_control last me.0 c now kn control in
-      let top = is_last last me.0 c now kn is in record {
-        legal = ((place, kn.disable top ∙ on), top);
-        word = ap (λ (x : Seen). word_of (enable_to b x)) (sym same) ∙ ap (λ (q : Place). word_of (enable_to b (record { flags = now.flags; handed = handed_at q }))) place;
-        slot = (ap (has_at c) place ∙ eq-eqb c c refl, refl);
-      })
+      let top = is_last last me.0 c now kn is in
+      (((place, kn.disable top ∙ on), top), (ap (has_at c) place ∙ eq-eqb c c refl, refl)))
 
   -- ---- single bits
-  hand_turn : (k : Kind) (m : Moves) (now : Napi) (c : ℕ) → MayHand c k now → handed_at now.place ≡ None → Fitting m c now.place (place_of k) → Turn last now c (Hand k) m (λ n. bit_or n (hand_bits k))
-  hand_turn kind.List m now c may none slot = record { legal = (may, tt); word = hand_word kind.List (seen_of now) none; slot = slot }
-  hand_turn kind.Thread m now c may none slot = record { legal = (may, tt); word = hand_word kind.Thread (seen_of now) none; slot = slot }
+  list_turn : (m : Moves) (now : Napi) (c : ℕ) → Knows last me.0 c now → MayHand c kind.List now → handed_at now.place ≡ None → Fitting m c now.place Listed
+      → Turn last now c (Hand kind.List) m (added (hand_bits kind.List))
+  list_turn m now c kn may none slot = turn now c (Hand kind.List) m (added (hand_bits kind.List)) kn (may, tt) (hand_list (seen_of now) none) slot
 
-  granted_turn : (k : Kind) (now : Napi) (c : ℕ) → now.place ≡ Granted c → Turn last now c (Hand k) stays (λ n. bit_or n (hand_bits k))
-  granted_turn kind.List now c is = hand_turn kind.List stays now c (inl is) (ap handed_at is) (sym (ap is_out is), sym (ap (has_at c) is))
-  granted_turn kind.Thread now c is = hand_turn kind.Thread stays now c is (ap handed_at is) (sym (ap is_out is), sym (ap (has_at c) is))
+  -- what was granted isn't its thread's
+  unthreaded_at : (now : Napi) (c : ℕ) → ThreadsIsHanded now → now.place ≡ Granted c → now.flags.sched_threaded ≡ false
+  unthreaded_at now c threads is = is_false now.flags.sched_threaded (λ e. subst IsHandedOrPolled is (threads e))
+
+  granted_turn : (k : Kind) (now : Napi) (c : ℕ) → Knows last me.0 c now → now.place ≡ Granted c → Turn last now c (Hand k) stays (added (hand_bits k))
+  granted_turn kind.List now c kn is = list_turn stays now c kn (inl is) (ap handed_at is) (sym (ap is_out is), sym (ap (has_at c) is))
+  granted_turn kind.Thread now c kn is =
+      turn now c (Hand kind.Thread) stays (added (hand_bits kind.Thread)) kn (is, tt) (hand_thread (seen_of now) (ap handed_at is) (unthreaded_at now c kn.threads is)) (sym (ap is_out is), sym (ap (has_at c) is))
 
   gives_nothing : (x y : Me Content View) → owns_slot x.0 ≡ false → Delivers stays x y → Delivers given x y
   gives_nothing x y none g = record {
@@ -262,44 +232,38 @@ module _ (t : StateTable) (p : Pass) where
       let none : owns_slot me.0 ≡ false = ap (has_at (number_of me.0)) is in
       (d.0, λ h' tie'. subst (λ (y : Holds). Tied y me') (nothing h' (sym tie'.right ∙ none)) (d.1 h' tie'), gives_nothing me me' none d.2)
 
-  hands_granted : (k : Kind) → place_in me.0 ≡ Granted (number_of me.0) → MayMake t p.seat (λ n. bit_or n (hand_bits k)) (λ x. Hand k) (λ x. given)
+  hands_granted : (k : Kind) → place_in me.0 ≡ Granted (number_of me.0) → MayMake t p.seat (added (hand_bits k)) (λ x. Hand k) (λ x. given)
   hands_granted k is s holding len at fits =
-      let a = makes (λ n. bit_or n (hand_bits k)) (λ x. Hand k) no_move (λ x e. absurd (cc))
-      (λ now c kn. granted_turn k now c (is_granted last me.0 c now kn is)) s holding len at fits in
+      let a = makes (added (hand_bits k)) (λ x. Hand k) no_move (λ x e. absurd (cc))
+      (λ now c kn. granted_turn k now c kn (is_granted last me.0 c now kn is)) s holding len at fits in
       (a.0, a.1, a.2, a.3, (a.4.0, a.4.1, nothing_given (Hand k) _ is a.4.2))
 
-  hands_polled : Polls false p → IsWithin p → MayMake t p.seat (λ n. bit_or n (hand_bits kind.List)) (λ x. Hand kind.List) (λ x. given)
-  hands_polled is within = makes (λ n. bit_or n (hand_bits kind.List)) (λ x. Hand kind.List) (λ x. given) (λ x e. within)
-      (λ now c kn. let q = is_polling last me.0 c now false kn is in hand_turn kind.List given now c (inr q) (ap handed_at q.0) (ap (has_at c) q.0 ∙ eq-eqb c c refl, refl))
+  hands_polled : Polls false p → IsWithin p → MayMake t p.seat (added (hand_bits kind.List)) (λ x. Hand kind.List) (λ x. given)
+  hands_polled is within = makes (added (hand_bits kind.List)) (λ x. Hand kind.List) (λ x. given) (λ x e. within)
+      (λ now c kn. let q = is_polling last me.0 c now false kn is in list_turn given now c kn (inr q) (ap handed_at q.0) (ap (has_at c) q.0 ∙ eq-eqb c c refl, refl))
 
-  pub hands : (k : Kind) → HandsOver k p → IsWithin p → MayMake t p.seat (λ n. bit_or n (hand_bits k)) (λ x. Hand k) (λ x. given)
+  pub hands : (k : Kind) → HandsOver k p → IsWithin p → MayMake t p.seat (added (hand_bits k)) (λ x. Hand k) (λ x. given)
   hands kind.List may within = ⊎_elim (λ (q : place_in me.0 ≡ Granted (number_of me.0)). hands_granted kind.List q) (λ (q : Polls false p). hands_polled q within) may
   hands kind.Thread may within = hands_granted kind.Thread may
 
-  take_turn : (k : Kind) (now : Napi) (c : ℕ) (b : Bool) → is_marked k (handed_at now.place) ≡ b → Turn last now c (Take k b) (when b taken) (λ n. bit_and n (take_mask k))
-  take_turn k now c true is =
-      let place = marked_place k now.place is in record {
-        legal = (place, tt);
-        word = take_word k (seen_of now) ∙ ap (λ (m : Option Kind). word_of (with_mark m (seen_of now))) (unhand_marked k (handed_at now.place) is);
-        slot = (ap is_out place ∙ home_at k, eq-eqb c c refl);
-      }
-  take_turn k now c false is = record {
-    legal = ((λ e. true≢false (sym (place_marked k) ∙ ap (λ (q : Place). is_marked k (handed_at q)) (sym e) ∙ is)), tt);
-    word = take_word k (seen_of now) ∙ ap (λ (m : Option Kind). word_of (with_mark m (seen_of now))) (unhand_other k (handed_at now.place) is);
-    slot = (refl, refl);
-  }
+  take_turn : (k : Kind) (now : Napi) (c : ℕ) → Knows last me.0 c now → (b : Bool) → is_marked k (handed_at now.place) ≡ b → Turn last now c (Take k b) (when b taken) (λ n. bit_and n (take_mask k))
+  take_turn k now c kn true is =
+      let place = marked_place k now.place is in
+      turn now c (Take k true) taken (λ n. bit_and n (take_mask k)) kn (place, tt) (take_said k now true is) (ap is_out place ∙ home_at k, eq-eqb c c refl)
+  take_turn k now c kn false is =
+      turn now c (Take k false) stays (λ n. bit_and n (take_mask k)) kn ((λ e. true≢false (sym (place_marked k) ∙ ap (λ (q : Place). is_marked k (handed_at q)) (sym e) ∙ is)), tt) (take_said k now false is) (refl, refl)
 
   pub takes_over : (k : Kind) → MayMake t p.seat (λ n. bit_and n (take_mask k)) (λ x. Take k (is_marked k x.handed)) (λ x. when (is_marked k x.handed) taken)
   takes_over k = makes (λ n. bit_and n (take_mask k)) (λ x. Take k (is_marked k x.handed)) (λ x. when (is_marked k x.handed) taken)
-      (λ x e. gift (is_marked k x.handed) taken (λ t. absurd (cc)) e) (λ now c kn. take_turn k now c (is_marked k (handed_at now.place)) refl)
+      (λ x e. gift (is_marked k x.handed) taken (λ t. absurd (cc)) e) (λ now c kn. take_turn k now c kn (is_marked k (handed_at now.place)) refl)
 
   pub sets_threaded : MayMake t p.seat (λ n. bit_or n 256) (λ x. SetThreaded true) no_move
   sets_threaded = makes (λ n. bit_or n 256) (λ x. SetThreaded true) no_move (λ x e. absurd (cc))
-      (λ now c kn. record { legal = (tt, tt); word = threaded_word (seen_of now); slot = (refl, refl) })
+      (λ now c kn. turn now c (SetThreaded true) stays (λ n. bit_or n 256) kn (tt, tt) (threaded_word (seen_of now)) (refl, refl))
 
   pub clears_threaded : MayMake t p.seat (λ n. bit_and n 18446744073709551359) (λ x. SetThreaded false) no_move
   clears_threaded = makes (λ n. bit_and n 18446744073709551359) (λ x. SetThreaded false) no_move (λ x e. absurd (cc))
-      (λ now c kn. record { legal = (tt, tt); word = unthreaded_word (seen_of now); slot = (refl, refl) })
+      (λ now c kn. turn now c (SetThreaded false) stays (λ n. bit_and n 18446744073709551359) kn (tt, tt) (unthreaded_word (seen_of now)) (refl, refl))
 
   not_control : (now : Napi) (c : ℕ) → Knows last me.0 c now → c ≡ last → IsNoOwner p → ¬ IsControl now.place
   not_control now c kn top free h =
@@ -308,13 +272,13 @@ module _ (t : StateTable) (p : Pass) where
       true≢false (sym mine ∙ kn.owner ∙ ap (λ (n : ℕ). is_owner n (place_in me.0)) (sym kn.number) ∙ free)
 
   pub marks : IsController p → IsNoOwner p → Disable false p
-      → MayMake t p.seat (λ n. bit_or n 4) (λ x. MarkDisable) no_move
-  marks is free on = makes (λ n. bit_or n 4) (λ x. MarkDisable) no_move (λ x e. absurd (cc))
+      → MayMake t p.seat (added 4) (λ x. MarkDisable) no_move
+  marks is free on = makes (added 4) (λ x. MarkDisable) no_move (λ x e. absurd (cc))
       (λ now c kn. let top = is_last last me.0 c now kn is in
-      record { legal = ((kn.disable top ∙ on, not_control now c kn top free), top); word = mark_word (seen_of now); slot = (refl, refl) })
+      turn now c MarkDisable stays (added 4) kn ((kn.disable top ∙ on, not_control now c kn top free), top) (mark_word (seen_of now) (kn.disable top ∙ on)) (refl, refl))
 
   pub unmarks : IsController p → Controls p → Disable true p
-      → MayMake t p.seat (λ n. bit_and n 18446744073709551611) (λ x. Unmark) no_move
-  unmarks is control off = makes (λ n. bit_and n 18446744073709551611) (λ x. Unmark) no_move (λ x e. absurd (cc))
+      → MayMake t p.seat (subtracted 4) (λ x. Unmark) no_move
+  unmarks is control off = makes (subtracted 4) (λ x. Unmark) no_move (λ x e. absurd (cc))
       (λ now c kn. let top = is_last last me.0 c now kn is in
-      record { legal = ((is_control last me.0 c now kn control, kn.disable top ∙ off), top); word = unmark_word (seen_of now); slot = (refl, refl) })
+      turn now c Unmark stays (subtracted 4) kn ((is_control last me.0 c now kn control, kn.disable top ∙ off), top) (unmark_word (seen_of now) (kn.disable top ∙ off)) (refl, refl))

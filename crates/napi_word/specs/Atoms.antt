@@ -6,6 +6,7 @@ use Rattle.atomic_table.specs.Table.{Allows}
 use Rattle.atomic_table.specs.declared.shared.Seat.{Seat}
 use Rattle.napi_model.specs.declared.state.Seen.{Seen}
 use Rattle.napi_model.specs.declared.event.Operation.{Operation}
+use Rattle.napi_model.specs.Step.{seen_after}
 use Rattle.napi_model.specs.Word.{word_of}
 use Rattle.napi_word.specs.declared.table.StateTable.{StateTable}
 use Rattle.napi_word.specs.View.{View}
@@ -13,12 +14,12 @@ use Rattle.napi_word.specs.Slot.{Content, Moves}
 use Rattle.napi_word.specs.Rule.{Holding}
 use Rattle.napi_word.specs.Told.{told, exchanged}
 
--- a load, or, or and that makes g of the word
+-- a step that makes g of the word
 abbrev pub MayMake : StateTable → Seat Content View → (ℕ → ℕ) → (Seen → Operation) → (Seen → Moves) → Type 0
 MayMake t seat g f m = Allows (Holding t.table.shared.key) t.table.shared.table_id.slots seat.id seat.me 0 g (told f m seat.me)
 
--- a compare-exchange from one word to another
-abbrev pub MayExchange : StateTable → Seat Content View → Seen → Seen → (Seen → Operation) → (Seen → Moves) → Type 0
-MayExchange t seat seen next f m =
+-- a compare-exchange from the word that tells this to the one that its operation leaves
+abbrev pub MayExchange : StateTable → Seat Content View → Seen → (Seen → Operation) → (Seen → Moves) → Type 0
+MayExchange t seat seen f m =
     Allows (Holding t.table.shared.key) t.table.shared.table_id.slots seat.id seat.me 0
-    (λ n. either (n == word_of seen) (word_of next) n) (exchanged f m (word_of seen) seat.me)
+    (λ n. either (n == word_of seen) (word_of (seen_after (f seen) seen)) n) (exchanged f m (word_of seen) seat.me)

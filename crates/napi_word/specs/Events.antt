@@ -1,5 +1,5 @@
 -- The contract of every step: one event more.
-use Rattle.std.specs.Prelude.{◌≡◌, ℕ, Bool, true, false, ◌||◌, List, [], ◌∷◌, ◌++◌, Option, Some, None, Result, Ok, Err}
+use Rattle.std.specs.Prelude.{◌≡◌, ℕ, Bool, true, false, List, [], ◌∷◌, ◌++◌, Option, Some, None, Result, Ok, Err}
 use mathlib.Core.Option as maybe
 use mathlib.Core.List.{IsPrefix}
 use lib.ListN.{get_elem?}
@@ -63,25 +63,3 @@ by_take_load (Some x) = Look x
 abbrev pub by_swap : Operation → Result (Unit {0}) Seen → Operation
 by_swap o (Ok u) = o
 by_swap o (Err x) = Look x
-
--- ---- what the exchanges write
-
-abbrev pub schedule_to : Bool → Seen → Seen
-schedule_to true x = record x { flags = record x.flags { missed = true } }
-schedule_to false x = record x { flags = record x.flags { sched = true } }
-
-abbrev pub complete_to : Bool → Seen → Seen
-complete_to true x = record x { flags = record x.flags { missed = false; sched_threaded = false } }
-complete_to false x = record x { flags = record x.flags { sched = false; sched_threaded = false } }
-
-abbrev pub busy_to : Seen → Seen
-busy_to x = record x { flags = record x.flags { sched = true; in_busy_poll = true } }
-
-abbrev pub stop_to : Seen → Seen
-stop_to x = record x { flags = record x.flags { in_busy_poll = false; missed = false } }
-
-abbrev pub disable_to : Seen → Seen
-disable_to x = record x { flags = record x.flags { sched = true; npsvc = true; threaded = false } }
-
-abbrev pub enable_to : Bool → Seen → Seen
-enable_to threaded x = record x { flags = record x.flags { sched = false; npsvc = false; threaded = x.flags.threaded || threaded } }

@@ -1,5 +1,5 @@
-//! The four atomic steps of the word, each once for every kind of step.
-ghost use Rattle.std.specs.Prelude.{◌≡◌, ◌≢◌, OnOk, IfErr, bit_and, bit_or};
+//! The atomic steps of the word, each once for every kind of step.
+ghost use Rattle.std.specs.Prelude.{◌≡◌, ◌≢◌, ◌+◌, ◌-◌, ◌%◌, ◌^◌, OnOk, IfErr, bit_and, bit_or};
 ghost use Rattle.napi_model.specs.declared.event.Operation.TheVariants.{Look};
 ghost use Rattle.napi_word.specs.Slot.{stays};
 ghost use Rattle.napi_word.specs.Told.{Did};
@@ -9,7 +9,7 @@ use crate::plays::{Exchanged, Step, Told};
 use crate::table::StateTable;
 use crate::view::View;
 use atomic_table::Seat;
-use napi_model::{Seen, decode_known, encode};
+use napi_model::{Operation, Seen, decode_known, encode};
 use rx_ring::RxCtx;
 
 impl StateTable {
@@ -37,6 +37,32 @@ impl StateTable {
         decode_known(word)
     }
 
+    // Sets these bits, which are clear, and answers what the word said before: a sum, which the processor makes by one
+    // instruction.
+    #[inline]
+    pub(crate) fn add<K: Step>(&self, seat: &mut Seat<Option<RxCtx>, View>, bits: u64) -> Seen
+        requires table { seat.old.table_id ≡ self.now.table.shared.table_id }
+        requires may { MayMake self.now seat.old (λ n. (n + bits) % 2 ^ 64) K.operation K.moves }
+        ensures table { seat.new.table_id ≡ seat.old.table_id }
+        ensures did { Did (K.operation result) (K.moves result) seat.old.me seat.new.me }
+    {
+        let word = self.table.shared.fetch_add::<Told<K>>(seat, 0, bits);
+        decode_known(word)
+    }
+
+    // Clears these bits, which are set, and answers what the word said before.
+    #[inline]
+    pub(crate) fn subtract<K: Step>(&self, seat: &mut Seat<Option<RxCtx>, View>, bits: u64) -> Seen
+        requires table { seat.old.table_id ≡ self.now.table.shared.table_id }
+        requires may { MayMake self.now seat.old (λ n. (n + (2 ^ 64 - bits)) % 2 ^ 64) K.operation
+            K.moves }
+        ensures table { seat.new.table_id ≡ seat.old.table_id }
+        ensures did { Did (K.operation result) (K.moves result) seat.old.me seat.new.me }
+    {
+        let word = self.table.shared.fetch_sub::<Told<K>>(seat, 0, bits);
+        decode_known(word)
+    }
+
     // Leaves these bits alone as they are, and answers what the word said before.
     #[inline]
     pub(crate) fn keep<K: Step>(&self, seat: &mut Seat<Option<RxCtx>, View>, bits: u64) -> Seen
@@ -49,26 +75,28 @@ impl StateTable {
         decode_known(word)
     }
 
-    // Writes what is next where the word still says what was seen. Else nothing is written, and what it says is handed back.
+    // Makes the operation where the word still says what was seen, and answers so. Else nothing is written, and what it says is handed back.
     #[inline]
     pub(crate) fn exchange<K: Step>(
         &self,
         seat: &mut Seat<Option<RxCtx>, View>,
         seen: Seen,
-        next: Seen,
+        operation: Operation,
     ) -> Result<(), Seen>
         requires table { seat.old.table_id ≡ self.now.table.shared.table_id }
-        requires may { MayExchange self.now seat.old seen next K.operation K.moves }
+        requires operation { operation ≡ K.operation seen }
+        requires may { MayExchange self.now seat.old seen K.operation K.moves }
         ensures table { seat.new.table_id ≡ seat.old.table_id }
         ensures won { OnOk result (Did (K.operation seen) (K.moves seen) seat.old.me seat.new.me) }
         ensures lost { IfErr result
             (λ found. Did (Look found) stays seat.old.me seat.new.me × (found ≢ seen)) }
     {
         let old = encode(seen);
+        let next = encode(seen.after(operation));
         let word = self
             .table
             .shared
-            .compare_exchange::<Exchanged<K>>(seat, 0, old, encode(next));
+            .compare_exchange::<Exchanged<K>>(seat, 0, old, next);
         let found = decode_known(word);
         if word == old { Ok(()) } else { Err(found) }
     }

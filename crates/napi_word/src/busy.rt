@@ -4,32 +4,14 @@ ghost use Rattle.napi_model.specs.declared.event.Done.TheVariants.{Held};
 ghost use Rattle.napi_model.specs.declared.event.Operation.TheVariants.{Complete, BusyTake, BusyStop};
 ghost use Rattle.napi_model.specs.Step.{MayBusyTake};
 ghost use Rattle.napi_word.specs.Slot.{stays, taken};
-ghost use Rattle.napi_word.specs.Events.{by_swap, busy_to, stop_to};
+ghost use Rattle.napi_word.specs.Events.{by_swap};
 ghost use Rattle.napi_word.specs.Told.{when};
 ghost use Rattle.napi_word.specs.Passes.{IsPassOf, Makes, Polls};
 
 use crate::plays::{CompletesHeld, StopsBusy, TakesBusy};
 use crate::table::{Pass, StateTable};
 use crate::view::Holds;
-use napi_model::Seen;
-
-fn taken_busy(seen: Seen) -> Seen
-    ensures { result ≡ busy_to seen }
-{
-    let mut next = seen;
-    next.flags.sched = true;
-    next.flags.in_busy_poll = true;
-    next
-}
-
-fn stopped(seen: Seen) -> Seen
-    ensures { result ≡ stop_to seen }
-{
-    let mut next = seen;
-    next.flags.in_busy_poll = false;
-    next.flags.missed = false;
-    next
-}
+use napi_model::{Operation, Seen};
 
 impl StateTable {
     /// Takes an idle instance to busy poll it, if the word still says what was seen (`napi_busy_loop`, its `cmpxchg` on
@@ -43,7 +25,7 @@ impl StateTable {
             (when (is_ok result) taken) pass.new }
         ensures other { IfErr result (λ found. found ≢ seen) }
     {
-        self.exchange::<TakesBusy>(&mut pass.seat, seen, taken_busy(seen))?;
+        self.exchange::<TakesBusy>(&mut pass.seat, seen, Operation::BusyTake)?;
         pass.holds = Holds::Within;
         Ok(())
     }
@@ -58,7 +40,7 @@ impl StateTable {
         ensures step { Makes pass.old (by_swap BusyStop result) stays pass.new }
         ensures other { IfErr result (λ found. found ≢ seen) }
     {
-        self.exchange::<StopsBusy>(&mut pass.seat, seen, stopped(seen))
+        self.exchange::<StopsBusy>(&mut pass.seat, seen, Operation::BusyStop)
     }
 
     /// Completes a poll while busy polling (`napi_complete_done`, which finds IN_BUSY_POLL and does nothing): a load.

@@ -2,7 +2,7 @@
 ghost use Rattle.std.specs.Prelude.{◌≡◌, ◌≢◌, true, false, IfSome, IfErr, is_ok};
 ghost use Rattle.napi_model.specs.declared.event.Operation.TheVariants.{MarkDisable, TakeDisable, Unmark, Enable};
 ghost use Rattle.napi_word.specs.Slot.{stays, taken, given};
-ghost use Rattle.napi_word.specs.Events.{by_take_load, by_swap, disable_to, enable_to};
+ghost use Rattle.napi_word.specs.Events.{by_take_load, by_swap};
 ghost use Rattle.napi_word.specs.Told as told;
 ghost use Rattle.napi_word.specs.Told.{when};
 ghost use Rattle.napi_word.specs.Passes.{IsPassOf, Makes, IsWithin, IsController, Controls, IsNoOwner, Disable};
@@ -10,29 +10,8 @@ ghost use Rattle.napi_word.specs.Passes.{IsPassOf, Makes, IsWithin, IsController
 use crate::plays::{Asks, Disables, Enables, EnablesThreaded, Marks, Unmarks};
 use crate::table::{Pass, StateTable};
 use crate::view::Holds;
-use napi_model::Seen;
-
-const DISABLE: u64 = 1 << 2;
-
-fn disabled(seen: Seen) -> Seen
-    ensures { result ≡ disable_to seen }
-{
-    let mut next = seen;
-    next.flags.sched = true;
-    next.flags.npsvc = true;
-    next.flags.threaded = false;
-    next
-}
-
-fn enabled(seen: Seen, threaded: bool) -> Seen
-    ensures { result ≡ enable_to threaded seen }
-{
-    let mut next = seen;
-    next.flags.sched = false;
-    next.flags.npsvc = false;
-    next.flags.threaded |= threaded;
-    next
-}
+use napi_model::bits::DISABLE;
+use napi_model::{Operation, Seen};
 
 fn is_busy(seen: Seen) -> bool
     ensures { result ≡ told.is_busy seen }
@@ -49,7 +28,7 @@ impl StateTable {
         requires unmarked { Disable false pass.old }
         ensures step { Makes pass.old MarkDisable stays pass.new }
     {
-        self.set::<Marks>(&mut pass.seat, DISABLE);
+        self.add::<Marks>(&mut pass.seat, DISABLE);
     }
 
     /// Whether a marked instance can be taken (`napi_disable`, its wait while SCHED or NPSVC is set). `None`: it is busy,
@@ -79,7 +58,7 @@ impl StateTable {
             (when (is_ok result) taken) pass.new }
         ensures other { IfErr result (λ found. found ≢ seen) }
     {
-        self.exchange::<Disables>(&mut pass.seat, seen, disabled(seen))?;
+        self.exchange::<Disables>(&mut pass.seat, seen, Operation::TakeDisable(true))?;
         pass.holds = Holds::Within;
         Ok(())
     }
@@ -92,7 +71,7 @@ impl StateTable {
         requires marked { Disable true pass.old }
         ensures step { Makes pass.old Unmark stays pass.new }
     {
-        self.keep::<Unmarks>(&mut pass.seat, !DISABLE);
+        self.subtract::<Unmarks>(&mut pass.seat, DISABLE);
     }
 
     /// Gives a disabled instance free if the word still says what was seen (`napi_enable`, its `try_cmpxchg`): clears SCHED
@@ -108,11 +87,10 @@ impl StateTable {
             (when (is_ok result) given) pass.new }
         ensures other { IfErr result (λ found. found ≢ seen) }
     {
-        let next = enabled(seen, threaded);
         if threaded {
-            self.exchange::<EnablesThreaded>(&mut pass.seat, seen, next)?;
+            self.exchange::<EnablesThreaded>(&mut pass.seat, seen, Operation::Enable(true))?;
         } else {
-            self.exchange::<Enables>(&mut pass.seat, seen, next)?;
+            self.exchange::<Enables>(&mut pass.seat, seen, Operation::Enable(false))?;
         }
         pass.holds = Holds::Nothing;
         Ok(())

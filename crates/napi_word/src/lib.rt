@@ -2,7 +2,7 @@
 //! one legal history of the one-thread NAPI object, whatever the threads' schedule.
 //!
 //! A [`StateTable`] has the word and the slot. A thread steps with a [`Pass`], which has a caller's number and, in
-//! contracts alone, the list of events that it has seen. Each step is one atomic load, or, and, or compare-exchange of the
+//! contracts alone, the list of events that it has seen. Each step is one atomic load, or, and, sum or compare-exchange of the
 //! word (`napi_schedule_prep`, `napi_complete_done` and the like of `net/core/dev.c` of Linux 6.6, `napi->state`); none
 //! locks, loops or takes memory. `specs/Rule.antt` has the one rule that every step keeps, and `specs/Events.antt` the
 //! contract of every step.

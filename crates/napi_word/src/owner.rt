@@ -2,37 +2,25 @@
 ghost use Rattle.std.specs.Prelude.{◌≡◌, ◌≢◌, false, IfOk, IfErr, is_ok};
 ghost use Rattle.napi_model.specs.declared.event.Operation.TheVariants.{Hand, Take};
 ghost use Rattle.napi_word.specs.Slot.{taken, given};
-ghost use Rattle.napi_word.specs.Events.{by_complete, complete_to};
+ghost use Rattle.napi_word.specs.Events.{by_complete};
 ghost use Rattle.napi_word.specs.Told.{when, is_marked, done_of};
 ghost use Rattle.napi_word.specs.Passes.{IsPassOf, Makes, IsWithin, HandsOver, Polls};
 
 use crate::plays::{Completes, HandsToList, HandsToThread, TakesFromList, TakesFromThread};
 use crate::table::{Pass, StateTable};
 use crate::view::Holds;
-use napi_model::{Done, Kind, Seen};
+use napi_model::bits::{QUEUED, SCHED_THREADED, TO_THREAD};
+use napi_model::{Done, Kind, Operation, Seen};
 
-const SCHED_THREADED: u64 = 1 << 9;
-
-const QUEUED: u64 = 1 << 32;
-
-const TO_THREAD: u64 = 1 << 33;
-
-// What a completion answers where the word says this, and what it writes.
-fn completed(seen: Seen) -> (Done, Seen)
-    ensures reply { result.0 ≡ done_of seen.flags.missed }
-    ensures next { result.1 ≡ complete_to seen.flags.missed seen }
+// What a completion answers.
+#[inline]
+fn completed(missed: bool) -> Done
+    ensures { result ≡ done_of missed }
 {
-    let mut next = seen;
-    next.flags.sched_threaded = false;
-    if seen.flags.missed {
-        next.flags.missed = false;
-        (Done::Again, next)
-    } else {
-        next.flags.sched = false;
-        (Done::Released, next)
-    }
+    if missed { Done::Again } else { Done::Released }
 }
 
+#[inline]
 fn is_handed(handed: Option<Kind>, kind: Kind) -> bool
     ensures { result ≡ is_marked kind handed }
 {
@@ -53,8 +41,8 @@ impl StateTable {
         ensures step { Makes pass.old (Hand kind) given pass.new }
     {
         match kind {
-            Kind::List => self.set::<HandsToList>(&mut pass.seat, QUEUED),
-            Kind::Thread => self.set::<HandsToThread>(&mut pass.seat, TO_THREAD | SCHED_THREADED),
+            Kind::List => self.add::<HandsToList>(&mut pass.seat, QUEUED),
+            Kind::Thread => self.add::<HandsToThread>(&mut pass.seat, TO_THREAD | SCHED_THREADED),
         };
         pass.holds = Holds::Nothing;
     }
@@ -89,8 +77,8 @@ impl StateTable {
         ensures reply { IfOk result (λ reply. reply ≡ done_of seen.flags.missed) }
         ensures other { IfErr result (λ found. found ≢ seen) }
     {
-        let (reply, next) = completed(seen);
-        self.exchange::<Completes>(&mut pass.seat, seen, next)?;
+        let reply = completed(seen.flags.missed);
+        self.exchange::<Completes>(&mut pass.seat, seen, Operation::Complete(reply))?;
         pass.holds = Holds::Nothing;
         Ok(reply)
     }

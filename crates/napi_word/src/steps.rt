@@ -3,29 +3,21 @@ ghost use Rattle.std.specs.Prelude.{◌≡◌, ◌≢◌, IfSome, IfOk, IfErr, t
 ghost use Rattle.napi_model.specs.declared.event.Operation.TheVariants.{Look, SetThreaded};
 ghost use Rattle.napi_model.specs.declared.event.Prep.TheVariants as prep;
 ghost use Rattle.napi_word.specs.Slot.{stays};
-ghost use Rattle.napi_word.specs.Events.{by_load, by_schedule, schedule_to};
+ghost use Rattle.napi_word.specs.Events.{by_load, by_schedule};
 ghost use Rattle.napi_word.specs.Told.{prep_of};
 ghost use Rattle.napi_word.specs.Passes.{IsPassOf, Makes};
 
 use crate::plays::{ClearsThreaded, Looks, Schedules, SetsThreaded, Tries};
 use crate::table::{Pass, StateTable};
-use napi_model::{Prep, Seen};
+use napi_model::bits::THREADED;
+use napi_model::{Operation, Prep, Seen};
 
-const THREADED: u64 = 1 << 8;
-
-// What a schedule answers where the word says this, and what it writes.
-fn scheduled(seen: Seen) -> (Prep, Seen)
-    ensures reply { result.0 ≡ prep_of seen.flags.sched }
-    ensures next { result.1 ≡ schedule_to seen.flags.sched seen }
+// What a schedule answers where no disable is pending.
+#[inline]
+fn scheduled(sched: bool) -> Prep
+    ensures { result ≡ prep_of sched }
 {
-    let mut next = seen;
-    if seen.flags.sched {
-        next.flags.missed = true;
-        (Prep::Missed, next)
-    } else {
-        next.flags.sched = true;
-        (Prep::Granted, next)
-    }
+    if sched { Prep::Missed } else { Prep::Granted }
 }
 
 impl StateTable {
@@ -62,8 +54,8 @@ impl StateTable {
         ensures reply { IfOk result (λ reply. reply ≡ prep_of seen.flags.sched) }
         ensures other { IfErr result (λ found. found ≢ seen) }
     {
-        let (reply, next) = scheduled(seen);
-        self.exchange::<Schedules>(&mut pass.seat, seen, next)?;
+        let reply = scheduled(seen.flags.sched);
+        self.exchange::<Schedules>(&mut pass.seat, seen, Operation::Schedule(reply))?;
         Ok(reply)
     }
 

@@ -180,6 +180,19 @@ fn memory_is_there_or_refused(rt: HostRuntime) -> Result<(), Fail> {
 }
 
 #[test]
+fn there_is_memory_for_every_number_of_passes(rt: HostRuntime) -> Result<(), Fail> {
+    for seats in 1..=9u32 {
+        let (_input, ctx) = ring(rt.alloc(), 4)?;
+        let made = StateTable::new(rt.alloc(), ctx, seats);
+        let Ok((_table, passes)) = made else {
+            panic!(rt; "no memory for {seats} passes")
+        };
+        assert_eq!(rt; passes.len(), seats as usize);
+    }
+    Ok(())
+}
+
+#[test]
 fn a_lost_exchange_is_a_look(rt: HostRuntime) -> Result<(), Fail> {
     let (_input, ctx) = ring(rt.alloc(), 4)?;
     let Some(lost) = lost_exchange(rt.alloc(), ctx) else {

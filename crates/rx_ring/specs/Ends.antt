@@ -4,7 +4,7 @@ use Rattle.std.specs.Global.{Global}
 use denote.RawPtr.{Ptr}
 use mathlib.Core.List.{IsPrefix}
 use Rattle.rtrb.specs.Shared.{Names}
-use Rattle.rtrb.specs.Ring.{sent, received, known_items, producer_capacity, IsPair, SameProducer, SameConsumer}
+use Rattle.rtrb.specs.Ring.{sent, received, known_items, known_free, producer_capacity, IsPair, SameProducer, SameConsumer}
 use Rattle.rx_ring.specs.ReceiveRing.{ReceiveRing, IsInOrder, held_of, IsPoll, capped}
 use Rattle.rx_ring.specs.declared.packet.Packet.{Packet}
 use Rattle.rx_ring.specs.declared.ends.RxIn.{RxIn}
@@ -17,6 +17,10 @@ put_list input = sent input.producer
 -- how many packets the ring can hold
 abbrev pub capacity_of : RxIn → ℕ
 capacity_of input = producer_capacity input.producer
+
+-- how many places the end knows to be free
+abbrev pub free_of : RxIn → ℕ
+free_of input = known_free input.producer
 
 -- every packet that polls gave so far
 abbrev pub received_list : RxCtx → List Packet
@@ -81,5 +85,7 @@ pub record Meets (input : RxIn) (ctx : RxCtx) (input_after : RxIn) (ctx_after : 
   pub same_lists : ring_of input_after ctx_after ≡ ring_of input ctx
   pub order : IsInOrder (ring_of input ctx)
   pub known : known_list ctx_after ≡ held_of (ring_of input ctx)
+  -- the other end sees that each place is free that holds no packet
+  pub free : capacity_of input ≤ free_of input_after + length (held_of (ring_of input ctx))
   pub polls : polls_of ctx_after ≡ polls_of ctx
   pub marked : is_beside ctx_after ≡ true

@@ -30,19 +30,22 @@ pub struct RxCtx {
 }
 
 impl RxIn {
-    ghost use Rattle.std.specs.Prelude.{◌≡◌, ◌<◌, [], ◌∷◌, ◌++◌, length, IsOk, OnOk, IfErr, OnErr};
-    ghost use Rattle.rx_ring.specs.Ends.{put_list, capacity_of, SameIn};
+    ghost use Rattle.std.specs.Prelude.{◌≡◌, ◌<◌, ◌≤◌, ◌+◌, [], ◌∷◌, ◌++◌, length, IsOk, OnOk, IfErr, OnErr};
+    ghost use Rattle.rx_ring.specs.Ends.{put_list, capacity_of, free_of, SameIn};
 
     /// Puts a packet in, behind all others, or hands it back where the ring is full; nothing changes then.
     ///
     /// The first packets that are put, as many as the ring can hold, are never handed back. Later ones fit where polls
-    /// have made room; this end sees the room that was made before the call.
+    /// have made room; this end sees the room that was made before the call. With both ends in one hand
+    /// [`beside`](crate::beside) tells it all free places, each put uses one, and while some are known none is handed back.
     pub fn put(&mut self, packet: Packet) -> Result<(), Packet>
         ensures ring { SameIn self.old self.new }
         ensures ok { OnOk result (put_list self.new ≡ put_list self.old ++ packet ∷ []) }
         ensures full { OnErr result (put_list self.new ≡ put_list self.old) }
         ensures back { IfErr result (λ p. p ≡ packet) }
         ensures first { length (put_list self.old) < capacity_of self.old → IsOk result }
+        ensures fits { 0 < free_of self.old → IsOk result }
+        ensures used { OnOk result (free_of self.old ≤ free_of self.new + 1) }
     {
         match self.producer.push(packet) {
             Ok(()) => Ok(()),

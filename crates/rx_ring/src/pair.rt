@@ -47,7 +47,8 @@ pub fn ring(alloc: Global, capacity: usize) -> Result<(RxIn, RxCtx), RingFault>
     }
 }
 
-/// The two ends of one ring meet: the context sees all that the ring holds, and is marked. Nothing is put or received.
+/// The two ends of one ring meet: the context sees all that the ring holds, and is marked; the other end sees all places
+/// that are free. Nothing is put or received.
 ///
 /// A poll right after it gives exactly the lesser of the weight and what the ring holds. The mark ends with that poll, or
 /// by [`RxCtx::apart`].
@@ -56,6 +57,7 @@ pub fn beside(input: &mut RxIn, ctx: &mut RxCtx)
     requires { IsOneRing input.old ctx.old }
     ensures { Meets input.old ctx.old input.new ctx.new }
 {
+    input.producer.slots_beside(&mut ctx.consumer);
     ctx.consumer.slots_beside(&mut input.producer);
     ctx.mark = 1;
 }

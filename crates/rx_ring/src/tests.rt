@@ -1,8 +1,8 @@
 //! Worked runs, and what no clause says: that later puts find room, that polls find what was put, and two threads.
 
-ghost use Rattle.std.specs.Prelude.{◌≡◌, ◌≤◌, length, min, take};
+ghost use Rattle.std.specs.Prelude.{◌≡◌, ◌≤◌, ◌<◌, length, min, take, IsOk};
 ghost use Rattle.rx_ring.specs.ReceiveRing.{NAPI_POLL_WEIGHT, held_of};
-ghost use Rattle.rx_ring.specs.Ends.{IsOneRing, SameIn, SameCtx, ring_of};
+ghost use Rattle.rx_ring.specs.Ends.{IsOneRing, SameIn, SameCtx, capacity_of, ring_of};
 
 use crate::{Batch, Packet, RingFault, RxCounts, RxCtx, RxIn, Totals, beside, finish, ring};
 use std::sync::Wait;
@@ -25,6 +25,16 @@ fn poll_beside(input: &mut RxIn, ctx: &mut RxCtx, weight: usize, batch: &mut Bat
     ctx.poll(weight, batch)
 }
 
+// A put right after `beside` is Ok where the ring has room.
+fn put_beside(input: &mut RxIn, ctx: &mut RxCtx, packet: Packet) -> Result<(), Packet>
+    requires ring { IsOneRing input.old ctx.old }
+    ensures ring { IsOneRing input.new ctx.new }
+    ensures room { length (held_of (ring_of input.old ctx.old)) < capacity_of input.old → IsOk result }
+{
+    beside(input, ctx);
+    input.put(packet)
+}
+
 #[test]
 fn receive_ring_of_two(rt: HostRuntime) -> Result<(), Fail> {
     let (mut input, mut ctx) = ring(rt.alloc(), 2)?;
@@ -43,8 +53,7 @@ fn receive_ring_of_two(rt: HostRuntime) -> Result<(), Fail> {
         bytes: 30,
     };
     assert_eq!(rt; ctx.counts(), counts);
-    beside(&mut input, &mut ctx);
-    assert_eq!(rt; input.put(packet(4, 40)), Ok(()));
+    assert_eq!(rt; put_beside(&mut input, &mut ctx, packet(4, 40)), Ok(()));
     let totals = Totals {
         put: 3,
         polled: 2,
@@ -102,6 +111,21 @@ fn put_after_beside_waits_for_the_next_poll(rt: HostRuntime) -> Result<(), Fail>
     assert_eq!(rt; batch.as_slice(), [packet(2, 20)].as_slice());
     assert_eq!(rt; ctx.poll(64, &mut batch), 0);
     assert!(rt; batch.is_empty());
+    Ok(())
+}
+
+// That a poll looks at the ring is said by no clause: each of many finds what was put before it.
+#[test]
+fn a_poll_finds_what_was_put_after_a_million_packets(rt: HostRuntime) -> Result<(), Fail> {
+    let (mut input, mut ctx) = ring(rt.alloc(), 64)?;
+    let mut batch = Batch::new();
+    for _ in 0..16_000u64 {
+        for number in 0..64 {
+            assert_eq!(rt; input.put(packet(number, 60)), Ok(()));
+        }
+        assert_eq!(rt; ctx.poll(64, &mut batch), 64);
+    }
+    assert_eq!(rt; ctx.counts().packets, 1_024_000);
     Ok(())
 }
 

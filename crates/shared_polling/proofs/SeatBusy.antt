@@ -13,6 +13,7 @@ use Rattle.napi_model.specs.declared.event.Done.TheVariants as done
 use Rattle.napi_model.specs.declared.event.Operation.{Operation}
 use Rattle.napi_model.specs.declared.event.Operation.TheVariants.{Look, Hand, Complete, BusyTake, BusyStop}
 use Rattle.napi_word.specs.declared.table.Pass.{Pass}
+use Rattle.napi_model.specs.declared.event.Call.{Call}
 use Rattle.napi_calls.specs.Made.{Lost, Made, looks}
 use Rattle.poll_engine.specs.BusyPolling as busy
 use Rattle.poll_engine.specs.BusyPolling.{Given, busy_report, is_below, no_report}
@@ -33,7 +34,7 @@ use Rattle.shared_polling.proofs.SeatPolling.{same_pass, seat_behind}
 held-append : (os ps : List Operation) → held_in (os ++ ps) ≡ held_in os + held_in ps
 held-append os ps = ap length (filter-append is_held os ps) ∙ length-append (filter is_held os) (filter is_held ps)
 
-held-looks : (ts : List Lost) (os : List Operation) → held_in (flat_map looks ts ++ os) ≡ held_in os
+held-looks : {c : Call} (ts : List (Lost c)) (os : List Operation) → held_in (flat_map looks ts ++ os) ≡ held_in os
 held-looks [] os = refl
 held-looks (t ∷ ts) os = held-looks ts os
 

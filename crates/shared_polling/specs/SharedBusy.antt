@@ -9,6 +9,7 @@ use Rattle.napi_model.specs.declared.state.Seen.{Seen}
 use Rattle.napi_model.specs.declared.event.Done.TheVariants.{Released, Again, Held}
 use Rattle.napi_model.specs.declared.event.Operation.{Operation}
 use Rattle.napi_model.specs.declared.event.Operation.TheVariants.{Look, Hand, Complete, BusyTake, BusyStop}
+use Rattle.napi_model.specs.declared.event.Call.TheVariants as call
 use Rattle.napi_calls.specs.Made.{Lost, looks}
 use Rattle.poll_engine.specs.BusyPolling.{no_report}
 use Rattle.poll_engine.specs.Polling.{is_absent}
@@ -19,12 +20,12 @@ use Rattle.poll_engine.specs.declared.bench.Next.TheVariants as next
 
 -- it takes the instance, try after try until one decides, or is refused it (`napi_busy_loop`)
 abbrev pub BusyTakesBy : Bool → List Operation → Type 0
-BusyTakesBy true os = (ts : List Lost) × (x : Seen) × MayBusyTake x.flags × (os ≡ flat_map looks ts ++ Look x ∷ BusyTake ∷ [])
-BusyTakesBy false os = (ts : List Lost) × (x : Seen) × ¬ MayBusyTake x.flags × (os ≡ flat_map looks ts ++ Look x ∷ [])
+BusyTakesBy true os = (ts : List (Lost call.BusyTake)) × (x : Seen) × MayBusyTake x.flags × (os ≡ flat_map looks ts ++ Look x ∷ BusyTake ∷ [])
+BusyTakesBy false os = (ts : List (Lost call.BusyTake)) × (x : Seen) × ¬ MayBusyTake x.flags × (os ≡ flat_map looks ts ++ Look x ∷ [])
 
 -- it stops (`busy_poll_stop`)
 abbrev pub StopsBy : List Operation → Type 0
-StopsBy os = (ts : List Lost) × (x : Seen) × (os ≡ flat_map looks ts ++ Look x ∷ BusyStop ∷ [])
+StopsBy os = (ts : List (Lost call.BusyStop)) × (x : Seen) × (os ≡ flat_map looks ts ++ Look x ∷ BusyStop ∷ [])
 
 -- a round that gave less than the weight completes, and is held
 abbrev pub held_by : ℕ → List Packet → List Operation

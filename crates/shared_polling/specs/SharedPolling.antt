@@ -9,6 +9,7 @@ use Rattle.napi_model.specs.declared.event.Done.{Done}
 use Rattle.napi_model.specs.declared.event.Done.TheVariants as done
 use Rattle.napi_model.specs.declared.event.Operation.{Operation}
 use Rattle.napi_model.specs.declared.event.Operation.TheVariants.{Look, Hand, Take, Complete}
+use Rattle.napi_model.specs.declared.event.Call.TheVariants as call
 use Rattle.napi_calls.specs.Made.{Lost, looks}
 use Rattle.poll_engine.specs.Polls.{is_repoll}
 use Rattle.poll_engine.specs.Polling.{goes_on}
@@ -25,7 +26,7 @@ LooksAfter true disabling os = (x : Seen) × (x.flags.disable ≡ disabling) × 
 
 -- it completes, try after try until one decides (`napi_complete_done`)
 abbrev pub CompletesBy : Done → List Operation → Type 0
-CompletesBy done os = (ts : List Lost) × (x : Seen) × (os ≡ flat_map looks ts ++ Look x ∷ Complete done ∷ [])
+CompletesBy done os = (ts : List (Lost call.Complete)) × (x : Seen) × (os ≡ flat_map looks ts ++ Look x ∷ Complete done ∷ [])
 
 -- to the instance's own thread where THREADED is set, else to the list
 abbrev pub kind_for : Flags → Kind

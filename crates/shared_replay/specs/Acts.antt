@@ -8,6 +8,7 @@ use Rattle.napi_model.specs.declared.event.Operation.TheVariants.{Look, Schedule
 use Rattle.napi_model.specs.declared.event.Prep.{Prep}
 use Rattle.napi_model.specs.declared.event.Prep.TheVariants.{Granted, Missed, Disabled}
 use Rattle.napi_calls.specs.Dealt.{Delivers}
+use Rattle.napi_model.specs.declared.event.Call.TheVariants as call
 use Rattle.napi_calls.specs.Made.{Lost, Made, WasLost, looks}
 use Rattle.napi_calls.specs.declared.types.Caller.{Caller}
 use Rattle.poll_engine.specs.declared.bench.BusyReport.{BusyReport}
@@ -50,10 +51,10 @@ requested Disabled t = record t { disabled = raised t.disabled 1 }
 abbrev pub AsksBy : Prep → Option Kind → List Operation → Type 0
 AsksBy Granted None os = ⊥
 AsksBy Granted (Some k) os =
-    (ts : List Lost) × (x : Seen) × (handed : List Operation) × HandsTo true k handed
+    (ts : List (Lost call.Schedule)) × (x : Seen) × (handed : List Operation) × HandsTo true k handed
     × (os ≡ (flat_map looks ts ++ Look x ∷ Schedule Granted ∷ []) ++ handed)
-AsksBy Missed kind os = (kind ≡ None) × (ts : List Lost) × (x : Seen) × (os ≡ flat_map looks ts ++ Look x ∷ Schedule Missed ∷ [])
-AsksBy Disabled kind os = (kind ≡ None) × (ts : List Lost) × (os ≡ flat_map looks ts ++ Schedule Disabled ∷ [])
+AsksBy Missed kind os = (kind ≡ None) × (ts : List (Lost call.Schedule)) × (x : Seen) × (os ≡ flat_map looks ts ++ Look x ∷ Schedule Missed ∷ [])
+AsksBy Disabled kind os = (kind ≡ None) × (ts : List (Lost call.Schedule)) × (os ≡ flat_map looks ts ++ Schedule Disabled ∷ [])
 
 -- ---- the controller
 
@@ -79,7 +80,7 @@ MarksBy (Off c) after = after ≡ Off c
 abbrev pub TriesBy : Controlled → Controlled → Type 0
 TriesBy (On c) after = after ≡ On c
 TriesBy (Marked c) (On d) = ⊥
-TriesBy (Marked c) (Marked d) = (lost : Bool) × MatchBool lost (WasLost c.pass d.pass) (Made c.pass (TakeDisable false ∷ []) d.pass)
+TriesBy (Marked c) (Marked d) = (lost : Bool) × MatchBool lost (WasLost call.TakeDisable c.pass d.pass) (Made c.pass (TakeDisable false ∷ []) d.pass)
 TriesBy (Marked c) (Off d) = (x : Seen) × Made c.pass (Look x ∷ TakeDisable true ∷ Unmark ∷ []) d.pass
 TriesBy (Off c) after = after ≡ Off c
 
@@ -87,7 +88,7 @@ TriesBy (Off c) after = after ≡ Off c
 abbrev pub EnablesBy : Bool → Controlled → Controlled → Type 0
 EnablesBy threaded (On c) after = after ≡ On c
 EnablesBy threaded (Marked c) after = after ≡ Marked c
-EnablesBy threaded (Off c) (On d) = (ts : List Lost) × (x : Seen) × Made c.pass (flat_map looks ts ++ Look x ∷ Enable threaded ∷ []) d.pass
+EnablesBy threaded (Off c) (On d) = (ts : List (Lost (call.Enable threaded))) × (x : Seen) × Made c.pass (flat_map looks ts ++ Look x ∷ Enable threaded ∷ []) d.pass
 EnablesBy threaded (Off c) (Marked d) = ⊥
 EnablesBy threaded (Off c) (Off d) = ⊥
 

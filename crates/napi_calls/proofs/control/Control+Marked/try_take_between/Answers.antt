@@ -1,5 +1,6 @@
 use Rattle.std.proofs.Common.{refl, sym, ◌∙◌, ap}
 use Rattle.napi_word.specs.View.{ring_of}
+use Rattle.napi_model.specs.declared.event.Call.TheVariants as call
 use Rattle.napi_calls.proofs.Standing.{control_looked, control_busy, control_taken, control_unmarked, controls_moved, is_control, outside, stays_has, has_none, fresh}
 use Rattle.napi_word.specs.declared.view.Holds.TheVariants.{Out}
 use Rattle.napi_calls.proofs.Packets.{owns, quiet_step, quiet_more, held_step, taken, fresh_behind, fresh_held}
@@ -62,7 +63,7 @@ returns-in-Ok-clause-events g c =
 pub returns-in-Err-clause-events : goal.returns-in-Err-clause-events
 returns-in-Err-clause-events g c =
     let one = step c.take_load.new.pass (nothing c.args.self.controls.stands) c.take_load.ensures.step.table c.in-Some.ensures.step.event in
-    lost _ _ c.in-Err.ensures.other (step c.take_swap.new.pass one c.take_swap.ensures.step.table c.in-Err.ensures.step.event)
+    lost call.TakeDisable _ _ c.in-Some.ensures.idle c.in-Err.ensures.other (step c.take_swap.new.pass one c.take_swap.ensures.step.table c.in-Err.ensures.step.event)
 
 pub returns-in_default-clause-packets : goal.returns-in_default-clause-packets
 returns-in_default-clause-packets g c = quiet_step c.args.self.pass c.take_load.new.pass c.in_default.ensures.step.event c.in_default.ensures.step.packets

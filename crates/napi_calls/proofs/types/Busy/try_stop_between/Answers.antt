@@ -1,5 +1,7 @@
-use Rattle.std.proofs.Common.{◌∙◌, refl}
-use Rattle.napi_calls.proofs.Standing.{looked, kept, busy_looked, busy_made, is_polling, stays_has}
+use Rattle.std.proofs.Common.{◌∙◌, ap, refl}
+use Rattle.napi_model.specs.declared.state.Flags.{Flags}
+use Rattle.napi_model.specs.declared.event.Call.TheVariants as call
+use Rattle.napi_calls.proofs.Standing.{looked, looked_flags, kept, busy_looked, busy_made, is_polling, stays_has}
 use Rattle.napi_word.specs.declared.view.Holds.TheVariants.{Out}
 use Rattle.napi_calls.proofs.Packets.{owns, held_step, held_more}
 use Rattle.napi_calls.proofs.Making.{nothing, step, lost}
@@ -40,7 +42,9 @@ returns-in-Ok-clause-events g c =
 pub returns-in-Err-clause-events : goal.returns-in-Err-clause-events
 returns-in-Err-clause-events g c =
     let one = step c.look-seen.new.pass (nothing c.args.self.stands) c.look-seen.ensures.step.table c.look-seen.ensures.step.event in
-    lost _ _ c.in-Err.ensures.other (step c.stop_swap.new.pass one c.stop_swap.ensures.step.table c.in-Err.ensures.step.event)
+    let busy = busy_looked c.look-seen.new.pass c.args.self.stands c.args.self.busy c.look-seen.ensures.step.event in
+    let on = ap (λ (f : Flags). f.in_busy_poll) (looked_flags c.args.self.pass c.look-seen.new.pass c.look-seen.ensures.step.event) ∙ busy in
+    lost call.BusyStop _ _ on c.in-Err.ensures.other (step c.stop_swap.new.pass one c.stop_swap.ensures.step.table c.in-Err.ensures.step.event)
 
 pub returns-in-Ok-clause-packets : goal.returns-in-Ok-clause-packets
 returns-in-Ok-clause-packets g c =

@@ -11,7 +11,7 @@ pub try_busy-requires : goal.try_busy-requires
 try_busy-requires g c = c.loop.invariant.1.1.seat.table ∙ c.requires
 
 pub loop-preserved : goal.loop-preserved
-loop-preserved g c = let e = c.in-Changed.ensures.events in (c.in-Changed.ensures.packets ∙ c.loop.invariant.0, more_lost c.loop.invariant.1.0 c.loop.invariant.1.1 (e.0, e.2))
+loop-preserved g c = (c.in-Changed.ensures.packets ∙ c.loop.invariant.0, more_lost c.loop.invariant.1.0 c.loop.invariant.1.1 c.in-Changed.ensures.events)
 
 pub returns-in-Taken-clause-events : goal.returns-in-Taken-clause-events
 returns-in-Taken-clause-events g c =

@@ -1,8 +1,9 @@
 use Rattle.std.proofs.Common.{refl, sym, ◌∙◌, true≢false}
 use Rattle.napi_model.specs.declared.state.Place.TheVariants as place
+use Rattle.napi_model.specs.declared.event.Call.TheVariants as call
 use Rattle.napi_calls.proofs.Standing.{looked, made, self_polling, moved, busy_made, busy_moved, outside}
 use Rattle.napi_calls.proofs.Packets.{quiet_step, quiet_more, taken, fresh_behind}
-use Rattle.napi_calls.proofs.Making.{nothing, step, still}
+use Rattle.napi_calls.proofs.Making.{nothing, step, still, lost}
 use Rattle.napi_calls.proofs.types.Caller.try_busy_between.Goals as goal
 
 pub invariant_of-result : goal.invariant_of-result
@@ -42,7 +43,7 @@ pub returns-in-Err-clause-events : goal.returns-in-Err-clause-events
 returns-in-Err-clause-events g c =
     let one = step c.look-seen.new.pass (nothing c.args.self.stands) c.look-seen.ensures.step.table c.look-seen.ensures.step.event in
     let two = step c.busy_swap.new.pass one c.busy_swap.ensures.step.table c.in-Err.ensures.step.event in
-    (record { first = c.look-seen.result; second = _; differ = c.in-Err.ensures.other }, c.may_busy_take.ensures.0 c.if-not-may_busy_take.false, two)
+    lost call.BusyTake _ _ (c.may_busy_take.ensures.0 c.if-not-may_busy_take.false) c.in-Err.ensures.other two
 
 pub returns-then-not-may_busy_take-clause-packets : goal.returns-then-not-may_busy_take-clause-packets
 returns-then-not-may_busy_take-clause-packets g c = quiet_step c.args.self.pass c.look-seen.new.pass c.look-seen.ensures.step.event c.look-seen.ensures.step.packets

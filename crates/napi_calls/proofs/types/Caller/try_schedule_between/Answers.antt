@@ -2,6 +2,7 @@ use Rattle.std.proofs.Common.{◌≡◌, Bool, true, false, refl}
 use Rattle.napi_model.specs.declared.event.Prep.TheVariants as prep
 use Rattle.napi_word.specs.Told.{prep_of}
 use Rattle.napi_model.specs.declared.state.Place.TheVariants as place
+use Rattle.napi_model.specs.declared.event.Call.TheVariants as call
 use Rattle.napi_calls.proofs.Standing.{kept, looked, made, self_granted}
 use Rattle.napi_calls.proofs.Packets.{quiet_step, quiet_more}
 use Rattle.napi_calls.proofs.Making.{nothing, step, lost}
@@ -48,7 +49,7 @@ returns-in-Ok-Missed-clause-events g c =
 pub returns-in-Err-clause-events : goal.returns-in-Err-clause-events
 returns-in-Err-clause-events g c =
     let one = step c.schedule_load.new.pass (nothing c.args.self.stands) c.schedule_load.ensures.step.table c.in-Some.ensures.step.event in
-    lost _ _ c.in-Err.ensures.other (step c.schedule_swap.new.pass one c.schedule_swap.ensures.step.table c.in-Err.ensures.step.event)
+    lost call.Schedule _ _ c.in-Some.ensures.enabled c.in-Err.ensures.other (step c.schedule_swap.new.pass one c.schedule_swap.ensures.step.table c.in-Err.ensures.step.event)
 
 pub returns-in_default-clause-packets : goal.returns-in_default-clause-packets
 returns-in_default-clause-packets g c = quiet_step c.args.self.pass c.schedule_load.new.pass c.in_default.ensures.step.event c.in_default.ensures.step.packets

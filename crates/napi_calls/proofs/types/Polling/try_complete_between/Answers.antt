@@ -4,7 +4,9 @@ use Rattle.napi_word.specs.View.{number_of}
 use Rattle.napi_model.specs.declared.state.Place.TheVariants as place
 use Rattle.napi_word.proofs.Knowing.{never_held}
 use Rattle.napi_calls.specs.Knows.{Free}
-use Rattle.napi_calls.proofs.Standing.{looked, made, self_granted, moved, is_polling, busy_looked, busy_moved, outside}
+use Rattle.napi_model.specs.declared.state.Flags.{Flags}
+use Rattle.napi_model.specs.declared.event.Call.TheVariants as call
+use Rattle.napi_calls.proofs.Standing.{looked, looked_flags, made, self_granted, moved, is_polling, busy_looked, busy_moved, outside}
 use Rattle.napi_calls.proofs.Packets.{owns, held_step, held_still, gives_back, got_back}
 use Rattle.napi_calls.proofs.Making.{nothing, step, still, lost}
 use Rattle.napi_calls.proofs.types.Polling.try_complete_between.Goals as goal
@@ -57,7 +59,9 @@ returns-in-Err-clause-events g c =
     let one = step c.look-seen.new.pass (nothing c.args.self.stands) c.look-seen.ensures.step.table c.look-seen.ensures.step.event in
     let in_slot = still c.slot_in.new.pass one c.slot_in.ensures.keeps.table c.slot_in.ensures.keeps.view in
     let e = c.slot_out-ctx.ensures in
-    lost _ _ c.in-Err.ensures.other (still c.slot_out-ctx.new.pass (step c.complete_swap.new.pass in_slot c.complete_swap.ensures.step.table c.in-Err.ensures.step.event) e.keeps.table e.keeps.view)
+    let busy = busy_looked c.look-seen.new.pass c.args.self.stands c.args.self.busy c.look-seen.ensures.step.event in
+    let on = ap (λ (f : Flags). f.in_busy_poll) (looked_flags c.args.self.pass c.look-seen.new.pass c.look-seen.ensures.step.event) ∙ busy in
+    lost call.Complete _ _ on c.in-Err.ensures.other (still c.slot_out-ctx.new.pass (step c.complete_swap.new.pass in_slot c.complete_swap.ensures.step.table c.in-Err.ensures.step.event) e.keeps.table e.keeps.view)
 
 pub returns-in-Ok-Released-clause-packets : goal.returns-in-Ok-Released-clause-packets
 returns-in-Ok-Released-clause-packets g c =

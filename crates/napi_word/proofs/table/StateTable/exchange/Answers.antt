@@ -1,5 +1,12 @@
+use Rattle.std.proofs.Common.{ap, ◌∙◌}
+use Rattle.napi_model.specs.declared.event.Operation.{Operation}
+use Rattle.napi_model.specs.declared.state.Seen.{Seen}
+use Rattle.napi_model.specs.Step.{seen_after}
+use Rattle.napi_model.specs.Word.{word_of}
 use Rattle.napi_word.proofs.Said.{one_there}
 use Rattle.napi_word.proofs.table.StateTable.exchange.Goals as goal
 
 pub compare_exchange-word-requires : goal.compare_exchange-word-requires
-compare_exchange-word-requires g c = (c.requires.table, one_there c.args.self.now, rw (c.encode-old.ensures, c.encode.ensures) c.requires.may)
+compare_exchange-word-requires g c =
+    let next = c.encode-next.ensures ∙ ap word_of (c.after.ensures ∙ ap (λ (o : Operation). seen_after o c.args.seen) c.requires.operation) in
+    (c.requires.table, one_there c.args.self.now, rw (c.encode-old.ensures, next) c.requires.may)

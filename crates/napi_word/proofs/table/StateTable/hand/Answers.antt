@@ -5,8 +5,8 @@ use Rattle.napi_word.specs.Passes.{HandsOver}
 use Rattle.napi_word.proofs.Turns.{hands}
 use Rattle.napi_word.proofs.table.StateTable.hand.Goals as goal
 
-pub set-requires-clause-may : goal.set-requires-clause-may
-set-requires-clause-may c = hands c.args.self.now c.args.pass.now kind.List (subst (λ (k : Kind). HandsOver k c.args.pass.now) c.in-List.is c.requires.owner) c.requires.within
+pub add-requires-clause-may : goal.add-requires-clause-may
+add-requires-clause-may c = hands c.args.self.now c.args.pass.now kind.List (subst (λ (k : Kind). HandsOver k c.args.pass.now) c.in-List.is c.requires.owner) c.requires.within
 
-pub set-requires-in-Thread-clause-may : goal.set-requires-in-Thread-clause-may
-set-requires-in-Thread-clause-may c = hands c.args.self.now c.args.pass.now kind.Thread (subst (λ (k : Kind). HandsOver k c.args.pass.now) c.in-Thread.is c.requires.owner) c.requires.within
+pub add-requires-in-Thread-clause-may : goal.add-requires-in-Thread-clause-may
+add-requires-in-Thread-clause-may c = hands c.args.self.now c.args.pass.now kind.Thread (subst (λ (k : Kind). HandsOver k c.args.pass.now) c.in-Thread.is c.requires.owner) c.requires.within

@@ -1,5 +1,5 @@
 use Rattle.napi_word.proofs.Turns.{unmarks}
 use Rattle.napi_word.proofs.table.StateTable.unmark.Goals as goal
 
-pub keep-requires-clause-may : goal.keep-requires-clause-may
-keep-requires-clause-may c = unmarks c.args.self.now c.args.pass.now c.requires.controller c.requires.owner c.requires.marked
+pub subtract-requires-clause-may : goal.subtract-requires-clause-may
+subtract-requires-clause-may c = unmarks c.args.self.now c.args.pass.now c.requires.controller c.requires.owner c.requires.marked
