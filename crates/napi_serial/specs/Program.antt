@@ -1,6 +1,7 @@
 -- The serial tool: what it writes and how it ends, of the words after its name and the bytes of its input.
 use Rattle.std.specs.Prelude.{◌≡◌, ◌⊎◌, ℕ, List, Option, Some, None, Ok, Err}
 use Rattle.report_text.specs.Outside.{IsOutside}
+use Rattle.report_text.specs.Written.{IsFaultBy}
 use Rattle.report_text.specs.declared.program.ProgramFault.{ProgramFault}
 use Rattle.report_text.specs.declared.program.ProgramFault.TheVariants.{Words, Replay}
 use Rattle.replay_words.specs.Words.{Text, asked_of, serial_asked_for}
@@ -23,4 +24,4 @@ abbrev pub IsFault : List Text → Option (List ℕ) → ProgramFault → Type 0
 IsFault words input (Words Usage) = serial_asked_for words ≡ None
 IsFault words input (Words OutOfMemory) = Unit {0}
 IsFault words input (Replay fault) =
-    (settings : Settings) × AskFor words settings × ((bytes : List ℕ) → input ≡ Some bytes → IsOutside fault ⊎ (replay_of settings bytes ≡ Err fault))
+    (settings : Settings) × AskFor words settings × IsFaultBy IsOutside (λ bytes fault. replay_of settings bytes ≡ Err fault) input fault

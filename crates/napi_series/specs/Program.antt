@@ -7,6 +7,7 @@ use Rattle.replay_words.specs.declared.mode.Mode.TheVariants.{Serial}
 use Rattle.replay_words.specs.declared.settings.Settings.{Settings}
 use Rattle.replay_words.specs.declared.words.WordFault.TheVariants.{Usage, OutOfMemory}
 use Rattle.report_text.specs.Outside.{IsOutside}
+use Rattle.report_text.specs.Written.{IsFaultBy}
 use Rattle.report_text.specs.declared.program.ProgramFault.{ProgramFault}
 use Rattle.report_text.specs.declared.program.ProgramFault.TheVariants.{Words, Replay}
 
@@ -26,7 +27,7 @@ pub record IsReplayFault (words : List Text) (input : Option (List ℕ)) (fault 
   pub every : ℕ
   pub settings : Settings
   pub asked : AskFor words every settings
-  pub why : (bytes : List ℕ) → input ≡ Some bytes → IsOutside fault ⊎ (series_by settings every bytes ≡ Err fault)
+  pub why : IsFaultBy IsOutside (λ bytes fault. series_by settings every bytes ≡ Err fault) input fault
 
 -- the fault is that of the words or of the bytes
 abbrev pub IsFault : List Text → Option (List ℕ) → ProgramFault → Type 0

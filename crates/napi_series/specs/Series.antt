@@ -11,10 +11,10 @@ use Rattle.transmit_sides.specs.declared.transmit.TxCounts.{TxCounts}
 use Rattle.dql_core.specs.Counter.{distance_of}
 use Rattle.replay_words.specs.declared.settings.Settings.{Settings}
 use Rattle.trace_replay.specs.After.{counts_after, polled_after}
-use Rattle.trace_replay.specs.Replay.{world_of}
+use Rattle.trace_replay.specs.Replay.{after_all}
 use Rattle.report_text.specs.Lines.{flag}
 use Rattle.trace_replay.specs.Report.{state_word}
-use Rattle.trace_replay.specs.World.{World}
+use Rattle.trace_replay.specs.ReplayState.{ReplayState}
 use Rattle.report_text.specs.declared.fault.ReplayFault.{ReplayFault}
 use Rattle.report_text.specs.declared.fault.ReplayFault.TheVariants.{Trace}
 use Rattle.trace_replay.specs.declared.line.Line.{Line}
@@ -76,12 +76,12 @@ abbrev pub text_of : Settings → ℕ → List Row → List ℕ
 text_of s every rows = header ++ lines_to s every rows (length rows)
 
 -- the series of a trace's rows, or the fault that their report has
-abbrev pub series_in : Result World ReplayFault → List ℕ → Result (List ℕ) ReplayFault
+abbrev pub series_in : Result ReplayState ReplayFault → List ℕ → Result (List ℕ) ReplayFault
 series_in (Ok w) text = Ok text
 series_in (Err fault) text = Err fault
 
 abbrev pub series_of : Settings → ℕ → List Row → Result (List ℕ) ReplayFault
-series_of s every rows = series_in (world_of s rows) (text_of s every rows)
+series_of s every rows = series_in (after_all s rows) (text_of s every rows)
 
 -- that of a text: of its rows, or the first fault of the trace
 abbrev pub answer_of : Settings → ℕ → Result (List Row) TraceFault → Result (List ℕ) ReplayFault

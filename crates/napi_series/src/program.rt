@@ -1,11 +1,10 @@
 //! The whole program, but for its real ends: from the words, the input and the two outputs to the exit status.
 
-ghost use Rattle.std.specs.Prelude.{◌≡◌, ◌≢◌, ℕ, List, Some, IfErr, OnOk, map, string_bytes};
-ghost use Rattle.std.specs.Io.KnownBytes.{Appends, Keeps};
+ghost use Rattle.std.specs.Prelude.{◌≡◌, ◌≢◌, IfErr, OnOk, map, string_bytes};
+ghost use Rattle.std.specs.Io.KnownBytes.{Keeps};
 ghost use Rattle.napi_series.specs.Program.{IsFault, IsSeries};
-ghost use Rattle.report_text.specs.Program.{FailedBy};
-ghost use Rattle.report_text.specs.declared.fault.ReplayFault.TheVariants.{OutputFailed};
-ghost use Rattle.report_text.specs.declared.program.ProgramFault.TheVariants.{Replay};
+ghost use Rattle.report_text.specs.Program.{FailedBy, KeepsOutput};
+ghost use Rattle.report_text.specs.Written.{Writes};
 
 use crate::series::write_series;
 use crate::words::parse_series_words;
@@ -20,12 +19,11 @@ fn write_asked<R: Read + Drop, W: Write>(
     input: R,
     output: &mut W,
 ) -> Result<(), ProgramFault>
-    ensures written { OnOk result ((bytes : List ℕ) → R.remaining input ≡ Some bytes
-        → (text : List ℕ) × IsSeries (map string_bytes words.now) bytes text × Appends (W.contents output.old) (W.contents output.new) text) }
+    ensures written { OnOk result (Writes (IsSeries (map string_bytes words.now))
+        (R.remaining input) (W.contents output.old) (W.contents output.new)) }
     ensures fault { IfErr result (IsFault (map string_bytes words.now) (R.remaining input)) }
     ensures untouched { IfErr result
-        (λ fault. fault ≢ Replay OutputFailed
-        → Keeps (W.contents output.old) (W.contents output.new)) }
+        (KeepsOutput (W.contents output.old) (W.contents output.new)) }
 {
     match parse_series_words(alloc, words) {
         Ok((every, settings)) => match write_series(alloc, input, output, &settings, every) {
@@ -48,11 +46,13 @@ pub(crate) fn run_program<R: Read + Drop, W: Write, E: Write>(
     errors: &mut E,
 ) -> Ending
     // What is written is the series of the bytes read that the words ask for, and nothing else.
-    ensures written { result.status ≡ 0 → (bytes : List ℕ) → R.remaining input ≡ Some bytes
-        → (text : List ℕ) × IsSeries (map string_bytes words.now) bytes text × Appends (W.contents output.old) (W.contents output.new) text }
+    ensures written { result.status ≡ 0 → Writes (IsSeries (map string_bytes words.now))
+        (R.remaining input) (W.contents output.old) (W.contents output.new) }
     ensures quiet { result.status ≡ 0 → Keeps (E.contents errors.old) (E.contents errors.new) }
     ensures failed { result.status ≢ 0
-        → FailedBy (IsFault (map string_bytes words.now) (R.remaining input)) (W.contents output.old) (W.contents output.new) (E.contents errors.old) (E.contents errors.new) result }
+        → FailedBy (IsFault (map string_bytes words.now) (R.remaining input))
+        (W.contents output.old) (W.contents output.new)
+        (E.contents errors.old) (E.contents errors.new) result }
 {
     match write_asked(alloc, words, input, output) {
         Ok(()) => Ending {

@@ -1,18 +1,18 @@
 //! The series of a trace: from the bytes of the trace to the bytes of the series.
 
 ghost use Rattle.std.specs.Prelude.{◌≡◌, ◌≢◌, ◌⊎◌, ◌≤◌, ◌<◌, ◌+◌, ◌++◌, [], ℕ, List, Ok, Err, Some, IfOk, IfErr, OnOk, length, slice_get, string_bytes};
-ghost use Rattle.std.specs.Io.KnownBytes.{Appends, Keeps};
 ghost use Rattle.trace_rows.specs.Trace.{AcceptedAfter};
 ghost use Rattle.trace_rows.specs.declared.fault.TraceFault.TheVariants.{OutOfMemory};
 ghost use Rattle.napi_series.specs.Series.{part_after, series_by, series_of};
 ghost use Rattle.report_text.specs.Outside.{IsOutside};
+ghost use Rattle.report_text.specs.Written.{IsFaultBy, LeavesAsItWas, Writes};
 ghost use Rattle.trace_replay.specs.After.{IsAfter};
-ghost use Rattle.trace_replay.specs.Replay.{world_of};
-ghost use Rattle.report_text.specs.declared.fault.ReplayFault.TheVariants.{OutputFailed, Trace};
+ghost use Rattle.trace_replay.specs.Replay.{after_all};
+ghost use Rattle.report_text.specs.declared.fault.ReplayFault.TheVariants.{Trace};
 
 use crate::line::add_line;
 use replay_words::Settings;
-use report_text::ReplayFault;
+use report_text::{ReplayFault, write_text};
 use std::alloc::{AllocError, Global};
 use std::io::{Read, Write};
 use trace_replay::SerialReplay;
@@ -65,7 +65,7 @@ fn series_of(
     ensures text { IfOk result
         (λ text. series_of settings.now every rows.now ≡ Ok (string_bytes text)) }
     ensures fault { IfErr result
-        (λ fault. (fault ≡ Trace OutOfMemory) ⊎ (world_of settings.now rows.now ≡ Err fault)) }
+        (λ fault. (fault ≡ Trace OutOfMemory) ⊎ (after_all settings.now rows.now ≡ Err fault)) }
 {
     let mut text = String::from_str(alloc, HEADER)?;
     let mut replay = SerialReplay::new(alloc, rows)?;
@@ -74,32 +74,6 @@ fn series_of(
         add_part(&mut text, settings, every, rows, index, &replay)?;
     }
     Ok(text)
-}
-
-// Plays the rows, and writes the series of them, all of it at once.
-fn write_rows<W: Write>(
-    alloc: Global,
-    rows: &[Row],
-    writer: &mut W,
-    settings: &Settings,
-    every: u32,
-) -> Result<(), ReplayFault>
-    requires every { 0 < every }
-    requires accepted { AcceptedAfter [] rows.now }
-    requires count { length rows.now ≤ 100000 }
-    ensures written { OnOk result
-        ((text : List ℕ) × (series_of settings.now every rows.now ≡ Ok text)
-        × Appends (W.contents writer.old) (W.contents writer.new) text) }
-    ensures fault { IfErr result
-        (λ fault. IsOutside fault ⊎ (series_of settings.now every rows.now ≡ Err fault)) }
-    ensures untouched { IfErr result
-        (λ fault. fault ≢ OutputFailed → Keeps (W.contents writer.old) (W.contents writer.new)) }
-{
-    let text = series_of(alloc, settings, every, rows)?;
-    match writer.write_all(text.as_bytes()) {
-        Ok(()) => Ok(()),
-        Err(_) => Err(ReplayFault::OutputFailed),
-    }
 }
 
 /// Plays a trace on one thread, and writes its series: a line behind each row whose number is a multiple of `every`.
@@ -115,15 +89,17 @@ pub(crate) fn write_series<R: Read + Drop, W: Write>(
 ) -> Result<(), ReplayFault>
     requires every { 0 < every }
     // What is written is the series of the rows of the bytes read, and nothing else.
-    ensures written { OnOk result ((bytes : List ℕ) → R.remaining reader ≡ Some bytes
-        → (text : List ℕ) × (series_by settings.now every bytes ≡ Ok text) × Appends (W.contents writer.old) (W.contents writer.new) text) }
+    ensures written { OnOk result
+        (Writes (λ bytes text. series_by settings.now every bytes ≡ Ok text)
+        (R.remaining reader) (W.contents writer.old) (W.contents writer.new)) }
 
     // A fault is that of the bytes read, unless the reader, the memory or the writer failed.
-    ensures fault { IfErr result (λ fault. (bytes : List ℕ) → R.remaining reader ≡ Some bytes
-        → IsOutside fault ⊎ (series_by settings.now every bytes ≡ Err fault)) }
+    ensures fault { IfErr result (IsFaultBy IsOutside
+        (λ bytes fault. series_by settings.now every bytes ≡ Err fault) (R.remaining reader)) }
     ensures untouched { IfErr result
-        (λ fault. fault ≢ OutputFailed → Keeps (W.contents writer.old) (W.contents writer.new)) }
+        (LeavesAsItWas (W.contents writer.old) (W.contents writer.new)) }
 {
     let trace = read_trace(alloc, reader)?;
-    write_rows(alloc, trace.rows(), writer, settings, every)
+    let text = series_of(alloc, settings, every, trace.rows())?;
+    write_text(writer, &text)
 }

@@ -2,3 +2,4 @@ pub mod Fault
 pub mod Lines
 pub mod Outside
 pub mod Program
+pub mod Written

@@ -22,9 +22,13 @@ pub record EndsBy (fault : ProgramFault) (errors_old errors_new : Option (List �
   pub status : ending.status ≡ status_of fault
   pub line : ending.told ≡ true → Appends errors_old errors_new (line_of fault)
 
+-- on each fault but a failed output nothing was written
+abbrev pub KeepsOutput : Option (List ℕ) → Option (List ℕ) → ProgramFault → Type 0
+KeepsOutput old new fault = fault ≢ Replay OutputFailed → Keeps old new
+
 -- the program failed by some fault that it can have; on each but a failed output nothing was written
 pub record FailedBy (can_be : ProgramFault → Type 0) (output_old output_new errors_old errors_new : Option (List ℕ)) (ending : Ending) : Type 0 where
   pub fault : ProgramFault
   pub why : can_be fault
-  pub untouched : fault ≢ Replay OutputFailed → Keeps output_old output_new
+  pub untouched : KeepsOutput output_old output_new fault
   pub ends : EndsBy fault errors_old errors_new ending

@@ -4,20 +4,20 @@ use Rattle.std.specs.Prelude.{Result, if◌then◌else◌}
 use Rattle.std.proofs.lemmas.List.{length-take, take_more}
 use Rattle.transmit_sides.specs.Transmits.{Transmits}
 use Rattle.trace_rows.specs.declared.row.Row.{Row}
-use Rattle.trace_replay.specs.Replay.{after_row, after_rows, is_early, start, world_of}
+use Rattle.trace_replay.specs.Replay.{after_row, after_rows, is_early, start, after_all}
 use Rattle.trace_replay.specs.Report.{report_of, serial_report}
 use Rattle.trace_replay.specs.Transmits.{after_transmit, after_transmits, transmits_of}
-use Rattle.trace_replay.specs.World.{World}
+use Rattle.trace_replay.specs.ReplayState.{ReplayState}
 use Rattle.report_text.specs.declared.fault.ReplayFault.{ReplayFault}
 use Rattle.report_text.specs.declared.fault.ReplayFault.TheVariants.{Pending}
 use Rattle.replay_words.specs.declared.settings.Settings.{Settings}
 
 -- the rest of the rows, where those before it were played
-then_rows : Settings → ℕ → List Row → Result World ReplayFault → Result World ReplayFault
+then_rows : Settings → ℕ → List Row → Result ReplayState ReplayFault → Result ReplayState ReplayFault
 then_rows s n rows (Ok w) = after_rows s n rows w
 then_rows s n rows (Err fault) = Err fault
 
-after_rows-append : (s : Settings) (n m : ℕ) (xs ys : List Row) (w : World) → m ≡ n + length xs → after_rows s n (xs ++ ys) w ≡ then_rows s m ys (after_rows s n xs w)
+after_rows-append : (s : Settings) (n m : ℕ) (xs ys : List Row) (w : ReplayState) → m ≡ n + length xs → after_rows s n (xs ++ ys) w ≡ then_rows s m ys (after_rows s n xs w)
 unfolding then_rows
 after_rows-append s n m [] ys w e = let at : m ≡ n = omega arith in rw at refl
 after_rows-append s n m (x ∷ xs) ys w e = by (is_early x.event x.device w) (after_rows-append s (n + 1) m xs ys (after_row s n x w) (omega arith))
@@ -35,7 +35,7 @@ split-at (row ∷ rows) (suc i) d below =
     rw next (ap (λ (l : List Row). row ∷ l) (split-at rows i d (omega (arith, below))))
 
 -- one more row that isn't early
-pub played-more : (s : Settings) (rows : List Row) (i : ℕ) (d : Row) (old new : World) → i < length rows → after_rows s 1 (take i rows) start ≡ Ok old
+pub played-more : (s : Settings) (rows : List Row) (i : ℕ) (d : Row) (old new : ReplayState) → i < length rows → after_rows s 1 (take i rows) start ≡ Ok old
     → is_early (get_or rows i d).event (get_or rows i d).device old ≡ false → new ≡ after_row s (i + 1) (get_or rows i d) old → after_rows s 1 (take (i + 1) rows) start ≡ Ok new
 unfolding then_rows
 played-more s rows i d old new below before on_time step =
@@ -44,8 +44,8 @@ played-more s rows i d old new below before on_time step =
     ap (λ (l : List Row). after_rows s 1 l start) (take_more rows i d below) ∙ appended ∙ rw (before, on_time, step) refl
 
 -- a row that is early ends all
-pub played-early : (s : Settings) (rows : List Row) (i : ℕ) (d : Row) (old : World) → i < length rows → after_rows s 1 (take i rows) start ≡ Ok old
-    → is_early (get_or rows i d).event (get_or rows i d).device old ≡ true → world_of s rows ≡ Err (Pending (i + 1))
+pub played-early : (s : Settings) (rows : List Row) (i : ℕ) (d : Row) (old : ReplayState) → i < length rows → after_rows s 1 (take i rows) start ≡ Ok old
+    → is_early (get_or rows i d).event (get_or rows i d).device old ≡ true → after_all s rows ≡ Err (Pending (i + 1))
 unfolding then_rows
 played-early s rows i d old below before early =
     let row : Row = get_or rows i d in
@@ -63,7 +63,7 @@ pub after_transmits-more : (rows : List Row) (all : Transmits) (i : ℕ) (d : Ro
 after_transmits-more rows all i d below = rw (take_more rows i d below) (after_transmits-push (take i rows) (get_or rows i d) all)
 
 -- where the rows have a fault, so has their report
-pub report-early : (s : Settings) (rows : List Row) (fault : ReplayFault) → world_of s rows ≡ Err fault → (version : ℕ) → serial_report s version rows ≡ Err fault
+pub report-early : (s : Settings) (rows : List Row) (fault : ReplayFault) → after_all s rows ≡ Err fault → (version : ℕ) → serial_report s version rows ≡ Err fault
 report-early s rows fault early version = ap (report_of version (transmits_of rows)) early
 
 -- four parts of a text, in whatever order they were joined

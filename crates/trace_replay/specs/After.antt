@@ -4,32 +4,32 @@ use Rattle.transmit_sides.specs.Transmits.{Transmits}
 use Rattle.devices.specs.SerialBench.{ShowsTransmits, devices_of}
 use Rattle.devices.specs.declared.counts.DeviceCounts.{DeviceCounts}
 use Rattle.trace_rows.specs.declared.row.Row.{Row}
-use Rattle.trace_replay.specs.Played.{world_in}
-use Rattle.trace_replay.specs.Replay.{world_of}
+use Rattle.trace_replay.specs.Played.{state_in}
+use Rattle.trace_replay.specs.Replay.{after_all}
 use Rattle.trace_replay.specs.Report.{counts_of, polled_by}
 use Rattle.trace_replay.specs.Transmits.{transmits_of}
-use Rattle.trace_replay.specs.World.{World}
+use Rattle.trace_replay.specs.ReplayState.{ReplayState}
 use Rattle.report_text.specs.declared.fault.ReplayFault.{ReplayFault}
 use Rattle.trace_replay.specs.declared.line.Line.{Line}
 use Rattle.trace_replay.specs.declared.serial_replay.SerialReplay.{SerialReplay}
 use Rattle.replay_words.specs.declared.settings.Settings.{Settings}
 
 pub record IsAfter (s : Settings) (rows : List Row) (n : ℕ) (r : SerialReplay) : Type 0 where
-  pub world : world_of s (take n rows) ≡ Ok (world_in devices_of r.replay)
+  pub state : after_all s (take n rows) ≡ Ok (state_in devices_of r.replay)
   pub transmits : ShowsTransmits r.replay.bench (transmits_of (take n rows))
 
 -- what the report of the first n rows tells of a device
-abbrev pub counts_in : Result World ReplayFault → Transmits → ℕ → Option DeviceCounts
+abbrev pub counts_in : Result ReplayState ReplayFault → Transmits → ℕ → Option DeviceCounts
 counts_in (Ok w) transmits device = counts_of w transmits device
 counts_in (Err fault) transmits device = None
 
 abbrev pub counts_after : Settings → List Row → ℕ → ℕ → Option DeviceCounts
-counts_after s rows n device = counts_in (world_of s (take n rows)) (transmits_of (take n rows)) device
+counts_after s rows n device = counts_in (after_all s (take n rows)) (transmits_of (take n rows)) device
 
 -- what row n did by the report of the first n rows, where it polled
-abbrev pub polled_in : Result World ReplayFault → ℕ → Option Line
+abbrev pub polled_in : Result ReplayState ReplayFault → ℕ → Option Line
 polled_in (Ok w) n = polled_by n w
 polled_in (Err fault) n = None
 
 abbrev pub polled_after : Settings → List Row → ℕ → Option Line
-polled_after s rows n = polled_in (world_of s (take n rows)) n
+polled_after s rows n = polled_in (after_all s (take n rows)) n

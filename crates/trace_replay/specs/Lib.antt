@@ -3,7 +3,7 @@ pub mod Answer
 pub mod Played
 pub mod Refused
 pub mod Replay
+pub mod ReplayState
 pub mod Report
 pub mod Run
 pub mod Transmits
-pub mod World

@@ -3,9 +3,9 @@ use Rattle.std.specs.Prelude.{ℕ, zero, suc, ◌-◌, ◌==◌, length, slice_g
 use Rattle.transmit_sides.specs.Transmits.{Transmits, tx_counts_of}
 use Rattle.devices.specs.Bench.{attached, counts_at}
 use Rattle.trace_rows.specs.Places.{at}
-use Rattle.trace_replay.specs.Replay.{world_of}
+use Rattle.trace_replay.specs.Replay.{after_all}
 use Rattle.trace_replay.specs.Transmits.{transmits_of}
-use Rattle.trace_replay.specs.World.{World}
+use Rattle.trace_replay.specs.ReplayState.{ReplayState}
 use Rattle.devices.specs.declared.counts.DeviceCounts.{DeviceCounts}
 use Rattle.devices.specs.declared.counts.DeviceState.{DeviceState}
 use Rattle.devices.specs.declared.counts.DeviceState.TheVariants.{On, Off, Pending}
@@ -78,7 +78,7 @@ total_line totals = words (codes "total" ∷ codes "devices" ∷ decimal totals.
     ∷ codes "polls" ∷ decimal totals.polls ∷ codes "work" ∷ decimal totals.work ∷ codes "squeezed" ∷ decimal totals.squeezed ∷ [])
 
 -- what the report tells of device n
-abbrev pub counts_of : World → Transmits → ℕ → Option DeviceCounts
+abbrev pub counts_of : ReplayState → Transmits → ℕ → Option DeviceCounts
 counts_of w transmits n = counts_at (at n w.devices) (tx_counts_of (at n transmits))
 
 -- what row n did, where it is the last one that polled
@@ -91,26 +91,26 @@ abbrev pub if_of_row : ℕ → Option Line → Option Line
 if_of_row n None = None
 if_of_row n (Some line) = if row_of line == n then Some line else None
 
-abbrev pub polled_by : ℕ → World → Option Line
+abbrev pub polled_by : ℕ → ReplayState → Option Line
 polled_by n w = if_of_row n (slice_get w.lines (length w.lines - 1))
 
 -- the lines of the devices whose numbers are below n, in rising order
-unfoldable pub lines_below : ℕ → World → Transmits → ℕ → List ℕ
+unfoldable pub lines_below : ℕ → ReplayState → Transmits → ℕ → List ℕ
 lines_below version w transmits zero = []
 lines_below version w transmits (suc n) = lines_below version w transmits n ++ device_lines version n (counts_of w transmits n)
 
 -- The line of each row that polls in order, the lines of each device in rising order of their numbers, the poll list, the
 -- totals.
-unfoldable pub text_of : ℕ → World → Transmits → List ℕ
+unfoldable pub text_of : ℕ → ReplayState → Transmits → List ℕ
 text_of version w transmits = flat_map (λ line. ended (poll_line line)) w.lines
     ++ (lines_below version w transmits 17
     ++ (ended (list_line w.list)
     ++ ended (total_line (totals_of (attached w.devices) w.lines))))
 
 -- the serial report: the text of what the rows of a trace of this version make, or the fault of the first enable row that is early
-abbrev pub report_of : ℕ → Transmits → Result World ReplayFault → Result (List ℕ) ReplayFault
+abbrev pub report_of : ℕ → Transmits → Result ReplayState ReplayFault → Result (List ℕ) ReplayFault
 report_of version transmits (Ok w) = Ok (text_of version w transmits)
 report_of version transmits (Err fault) = Err fault
 
 abbrev pub serial_report : Settings → ℕ → List Row → Result (List ℕ) ReplayFault
-serial_report s version rows = report_of version (transmits_of rows) (world_of s rows)
+serial_report s version rows = report_of version (transmits_of rows) (after_all s rows)

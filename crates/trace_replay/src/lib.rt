@@ -8,12 +8,10 @@
 mod line;
 mod replay;
 mod report;
-mod rows;
 mod serial;
 mod serial_replay;
 
 pub use line::Line;
-pub use report::state_word;
-pub use rows::report_on;
+pub use report::{report_on, state_word};
 pub use serial::replay_serial;
 pub use serial_replay::SerialReplay;

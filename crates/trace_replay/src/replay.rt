@@ -1,16 +1,15 @@
-//! Playing the rows of a trace.
+//! Playing the rows of a trace, over whatever bench: every mode that plays rows plays them here.
 
-ghost use Rattle.std.specs.Prelude.{◌≤◌, length};
+ghost use Rattle.std.specs.Prelude.{◌≡◌, ◌≤◌, [], IfOk, length};
 
 use crate::line::Line;
-use crate::report::{Totals, add_device, add_lines, add_list, add_totals};
 use devices::ReplayBench;
 use napi_model::Kind;
-use poll_engine::{BusyReport, Next, PlainList, PollList, RunReport, ThreadReport, run_softirq};
+use poll_engine::{Next, PlainList, PollList, run_softirq};
 use replay_words::Settings;
 use report_text::ReplayFault;
 use std::alloc::{AllocError, Global};
-use trace_rows::{Event, PLACES, Row};
+use trace_rows::{Event, Row};
 
 /// The most polls that a kthread row makes. A trace has too few packets to meet it.
 pub(crate) const MOST_THREAD_POLLS: u32 = 131072;
@@ -25,21 +24,29 @@ pub(crate) struct Replay<B: ReplayBench> {
     ghost room: { length list ≤ B.waiting bench },
 }
 
+/// No lines yet, and room for that of each row that polls.
+pub(crate) fn room_for_lines(alloc: Global, rows: &[Row]) -> Result<Vec<Line>, AllocError>
+    ensures { IfOk result (λ lines. lines.items ≡ []) }
+{
+    let polling = rows
+        .iter()
+        .filter(|row| matches!(row.event, Event::Softirq | Event::Kthread | Event::Busy))
+        .count();
+    Vec::with_capacity(alloc, polling)
+}
+
 impl<B: ReplayBench> Replay<B> {
-    ghost use Rattle.std.specs.Prelude.{◌≡◌, ◌⊎◌, ℕ, ◌+◌, ◌∷◌, [], ◌++◌, true, false, OnOk, IfErr};
-    ghost use Rattle.transmit_sides.specs.Transmits.{Changes, Keeps, Transmits};
+    ghost use Rattle.std.specs.Prelude.{◌≡◌, ℕ, ◌+◌, ◌++◌, [], ◌∷◌, true, false, Ok, OnOk, IfErr};
+    ghost use Rattle.transmit_sides.specs.Transmits.{Changes, Keeps};
     ghost use Rattle.trace_rows.specs.Places.{empty};
     ghost use Rattle.trace_rows.specs.Range.{IsWithin};
     ghost use Rattle.trace_rows.specs.Row.{device_fits, value_fits};
+    ghost use Rattle.trace_rows.specs.Trace.{AcceptedAfter};
     ghost use Rattle.devices.specs.Waiting.{count, is_left_to_list};
-    ghost use Rattle.trace_rows.specs.declared.event.Event.TheVariants.{Enable};
-    ghost use Rattle.trace_rows.specs.declared.fault.TraceFault.TheVariants.{OutOfMemory};
-    ghost use Rattle.trace_replay.specs.Played.{world_in};
-    ghost use Rattle.trace_replay.specs.Replay.{after_event, after_row, entry, is_early, start, with_busy, with_packet, with_run, with_thread};
-    ghost use Rattle.trace_replay.specs.Transmits.{after_transmit};
-    ghost use Rattle.trace_replay.specs.World.{World};
-    ghost use Rattle.report_text.specs.declared.fault.ReplayFault.TheVariants.{Pending, Trace};
-    ghost use Rattle.trace_replay.specs.declared.line.Line.TheVariants.{Busy, Kthread, Softirq};
+    ghost use Rattle.trace_replay.specs.Played.{state_in};
+    ghost use Rattle.trace_replay.specs.Refused.{IsRefused, IsRefusedAt};
+    ghost use Rattle.trace_replay.specs.Replay.{after_event, after_row, entry, is_early, start, with_busy, with_line, with_packet, with_run, with_thread, after_all};
+    ghost use Rattle.trace_replay.specs.Transmits.{after_transmit, after_transmits};
 
     /// A replay over a bench without devices. Where there is room for a line of each row that polls, none of these takes
     /// memory.
@@ -47,7 +54,7 @@ impl<B: ReplayBench> Replay<B> {
         requires { lines.items ≡ [] }
         ensures bench { result.bench ≡ bench }
         ensures lines { result.lines.items ≡ [] }
-        ensures world { B.devices bench ≡ empty → world_in B.devices result ≡ start }
+        ensures state { B.devices bench ≡ empty → state_in B.devices result ≡ start }
     {
         Replay {
             bench,
@@ -56,35 +63,16 @@ impl<B: ReplayBench> Replay<B> {
         }
     }
 
-    // A packet; where that hands the device to the list, its number is put there.
+    // A packet. Where that hands the device to the list, its number is put there.
     fn rx(&mut self, device: u32, bytes: u32)
-        ensures world { B.Exact → world_in B.devices self.new
-            ≡ with_packet device bytes (world_in B.devices self.old) }
+        ensures state { B.Exact → state_in B.devices self.new
+            ≡ with_packet device bytes (state_in B.devices self.old) }
         ensures transmits { Keeps B.shows self.old.bench self.new.bench }
         ensures lines { self.new.lines ≡ self.old.lines }
     {
         if self.bench.arrive(device, bytes) == Some(Kind::List) {
             self.list.push(device);
         }
-    }
-
-    // One run over the poll list, whatever the number of its row.
-    fn run(&mut self, settings: &Settings) -> RunReport
-        ensures world { B.Exact → (row : ℕ)
-            → record (world_in B.devices self.new) {
-              lines = self.old.lines.items
-                  ++ Softirq row result ∷ [];
-            } ≡ with_run settings.now row (world_in B.devices self.old) }
-        ensures lines { self.new.lines ≡ self.old.lines }
-        ensures transmits { Keeps B.shows self.old.bench self.new.bench }
-    {
-        run_softirq(
-            &mut self.list,
-            &mut self.bench,
-            settings.budget,
-            settings.weight,
-            settings.window,
-        )
     }
 
     // Where a poll that ended so left the device to the list, its number is put there.
@@ -99,14 +87,27 @@ impl<B: ReplayBench> Replay<B> {
         }
     }
 
-    // The device's thread polls it; where that leaves the device to the list, its number is put there.
-    fn poll_thread(&mut self, settings: &Settings, device: u32) -> ThreadReport
-        ensures world { B.Exact → (row : ℕ)
-            → record (world_in B.devices self.new) {
-              lines = self.old.lines.items
-                  ++ Kthread row device result ∷ [];
-            }
-            ≡ with_thread settings.now row device (world_in B.devices self.old) }
+    // One run over the poll list.
+    fn run(&mut self, settings: &Settings, row: u32) -> Line
+        ensures state { B.Exact → with_line result (state_in B.devices self.new)
+            ≡ with_run settings.now row (state_in B.devices self.old) }
+        ensures lines { self.new.lines ≡ self.old.lines }
+        ensures transmits { Keeps B.shows self.old.bench self.new.bench }
+    {
+        let run = run_softirq(
+            &mut self.list,
+            &mut self.bench,
+            settings.budget,
+            settings.weight,
+            settings.window,
+        );
+        Line::Softirq { row, run }
+    }
+
+    // The device's thread polls it.
+    fn poll_thread(&mut self, settings: &Settings, row: u32, device: u32) -> Line
+        ensures state { B.Exact → with_line result (state_in B.devices self.new)
+            ≡ with_thread settings.now row device (state_in B.devices self.old) }
         ensures lines { self.new.lines ≡ self.old.lines }
         ensures transmits { Keeps B.shows self.old.bench self.new.bench }
     {
@@ -114,77 +115,39 @@ impl<B: ReplayBench> Replay<B> {
             .bench
             .poll_thread(device, settings.weight, MOST_THREAD_POLLS);
         self.list_left(device, report.next);
-        report
-    }
-
-    fn softirq(&mut self, settings: &Settings, row: u32) -> Result<(), AllocError>
-        ensures lines { OnOk result
-            (length self.new.lines.items ≤ length self.old.lines.items + 1) }
-        ensures world { B.Exact → OnOk result
-            (world_in B.devices self.new
-            ≡ with_run settings.now row (world_in B.devices self.old)) }
-        ensures transmits { Keeps B.shows self.old.bench self.new.bench }
-    {
-        let run = self.run(settings);
-        self.lines.push(Line::Softirq { row, run })?;
-        Ok(())
-    }
-
-    fn kthread(&mut self, settings: &Settings, row: u32, device: u32) -> Result<(), AllocError>
-        ensures lines { OnOk result
-            (length self.new.lines.items ≤ length self.old.lines.items + 1) }
-        ensures world { B.Exact → OnOk result
-            (world_in B.devices self.new
-            ≡ with_thread settings.now row device (world_in B.devices self.old)) }
-        ensures transmits { Keeps B.shows self.old.bench self.new.bench }
-    {
-        let report = self.poll_thread(settings, device);
-        self.lines.push(Line::Kthread {
+        Line::Kthread {
             row,
             device,
             report,
-        })?;
-        Ok(())
+        }
     }
 
-    // The device is busy polled; where that leaves the device to the list, its number is put there.
-    fn poll_busily(&mut self, settings: &Settings, device: u32, rounds: u32) -> BusyReport
+    // The device is busy polled.
+    fn busy_poll(&mut self, settings: &Settings, row: u32, device: u32, rounds: u32) -> Line
         requires { IsWithin 1 65535 rounds }
-        ensures world { B.Exact → (row : ℕ)
-            → record (world_in B.devices self.new) {
-              lines = self.old.lines.items
-                  ++ Busy row device result ∷ [];
-            }
-            ≡ with_busy settings.now row device rounds (world_in B.devices self.old) }
+        ensures state { B.Exact → with_line result (state_in B.devices self.new)
+            ≡ with_busy settings.now row device rounds (state_in B.devices self.old) }
         ensures lines { self.new.lines ≡ self.old.lines }
         ensures transmits { Keeps B.shows self.old.bench self.new.bench }
     {
         let report = self.bench.busy_poll(device, settings.weight, rounds);
         self.list_left(device, report.next);
-        report
-    }
-
-    fn busy(
-        &mut self,
-        settings: &Settings,
-        row: u32,
-        device: u32,
-        rounds: u32,
-    ) -> Result<(), AllocError>
-        requires { IsWithin 1 65535 rounds }
-        ensures lines { OnOk result
-            (length self.new.lines.items ≤ length self.old.lines.items + 1) }
-        ensures world { B.Exact → OnOk result
-            (world_in B.devices self.new
-            ≡ with_busy settings.now row device rounds (world_in B.devices self.old)) }
-        ensures transmits { Keeps B.shows self.old.bench self.new.bench }
-    {
-        let report = self.poll_busily(settings, device, rounds);
-        self.lines.push(Line::Busy {
+        Line::Busy {
             row,
             device,
             report,
-        })?;
+        }
+    }
+
+    // What a row that polled did, for the report.
+    fn keep(&mut self, line: Line) -> Result<(), AllocError>
+        ensures state { OnOk result
+            (state_in B.devices self.new ≡ with_line line (state_in B.devices self.old)) }
+        ensures bench { self.new.bench ≡ self.old.bench }
+        ensures lines { OnOk result
+            (length self.new.lines.items ≡ length self.old.lines.items + 1) }
+    {
+        self.lines.push(line)?;
         Ok(())
     }
 
@@ -198,11 +161,13 @@ impl<B: ReplayBench> Replay<B> {
     ) -> Result<(), ReplayFault>
         requires device { device_fits row.now.event row.now.device ≡ true }
         requires value { value_fits row.now.event row.now.value ≡ true }
-        ensures world { B.Exact → OnOk result
-            ((is_early row.now.event row.now.device (world_in B.devices self.old) ≡ false)
-            × (world_in B.devices self.new ≡ after_event settings.now number row.now.event row.now (world_in B.devices self.old))) }
-        ensures fault { IfErr result (λ fault. (fault ≡ Trace OutOfMemory)
-            ⊎ ((row.now.event ≡ Enable) × (fault ≡ Pending number) × (B.Exact → is_early row.now.event row.now.device (world_in B.devices self.old) ≡ true))) }
+        ensures on_time { B.Exact → OnOk result
+            (is_early row.now.event row.now.device (state_in B.devices self.old) ≡ false) }
+        ensures state { B.Exact → OnOk result (state_in B.devices self.new
+            ≡ after_event settings.now number row.now.event row.now
+            (state_in B.devices self.old)) }
+        ensures fault { IfErr result
+            (IsRefusedAt B.Exact number row.now (state_in B.devices self.old)) }
         ensures transmits { OnOk result
             (Changes B.shows (after_transmit row.now) self.old.bench self.new.bench) }
         ensures lines { OnOk result
@@ -213,15 +178,24 @@ impl<B: ReplayBench> Replay<B> {
             Event::Rx => self.rx(row.device, row.value),
             Event::Tx => self.bench.send(row.device, row.value),
             Event::Finish => self.bench.done(row.device, row.value, row.moment),
-            Event::Softirq => self.softirq(settings, number)?,
-            Event::Kthread => self.kthread(settings, number, row.device)?,
+            Event::Softirq => {
+                let line = self.run(settings, number);
+                self.keep(line)?;
+            }
+            Event::Kthread => {
+                let line = self.poll_thread(settings, number, row.device);
+                self.keep(line)?;
+            }
             Event::Disable => self.bench.disable(row.device),
             Event::Enable => {
                 if !self.bench.enable(row.device) {
                     return Err(ReplayFault::Pending { row: number });
                 }
             }
-            Event::Busy => self.busy(settings, number, row.device, row.value)?,
+            Event::Busy => {
+                let line = self.busy_poll(settings, number, row.device, row.value);
+                self.keep(line)?;
+            }
             Event::Threaded => self.bench.set_threaded(row.device, row.value == 1),
         }
         Ok(())
@@ -237,11 +211,12 @@ impl<B: ReplayBench> Replay<B> {
     ) -> Result<(), ReplayFault>
         requires device { device_fits row.now.event row.now.device ≡ true }
         requires value { value_fits row.now.event row.now.value ≡ true }
-        ensures world { B.Exact → OnOk result
-            ((is_early row.now.event row.now.device (world_in B.devices self.old) ≡ false)
-            × (world_in B.devices self.new ≡ after_row settings.now number row.now (world_in B.devices self.old))) }
-        ensures fault { IfErr result (λ fault. (fault ≡ Trace OutOfMemory)
-            ⊎ ((row.now.event ≡ Enable) × (fault ≡ Pending number) × (B.Exact → is_early row.now.event row.now.device (world_in B.devices self.old) ≡ true))) }
+        ensures on_time { B.Exact → OnOk result
+            (is_early row.now.event row.now.device (state_in B.devices self.old) ≡ false) }
+        ensures state { B.Exact → OnOk result (state_in B.devices self.new
+            ≡ after_row settings.now number row.now (state_in B.devices self.old)) }
+        ensures fault { IfErr result
+            (IsRefusedAt B.Exact number row.now (state_in B.devices self.old)) }
         ensures transmits { OnOk result
             (Changes B.shows (after_transmit row.now) self.old.bench self.new.bench) }
         ensures lines { OnOk result
@@ -251,39 +226,28 @@ impl<B: ReplayBench> Replay<B> {
         self.bench.settle();
         Ok(())
     }
-}
 
-impl<B: ReplayBench> Replay<B> {
-    ghost use Rattle.std.specs.Prelude.{◌≡◌, ◌++◌, IfOk, OnOk, string_bytes};
-    ghost use Rattle.transmit_sides.specs.Transmits.{Transmits};
-    ghost use Rattle.trace_replay.specs.Played.{world_in};
-    ghost use Rattle.trace_replay.specs.Report.{lines_below, text_of};
-
-    // Adds the lines of each device, in rising order of their numbers.
-    fn add_devices(&self, version: u32, text: &mut String) -> Result<(), AllocError>
-        ensures { B.Exact → (all : Transmits) → B.shows self.now.bench all
-            → OnOk result (string_bytes text.new ≡ string_bytes text.old ++ lines_below version (world_in B.devices self.now) all 17) }
+    /// Plays the rows of a trace in order, up to the first that is refused, on a bench that has no devices yet.
+    pub(crate) fn play_rows(
+        &mut self,
+        alloc: Global,
+        settings: &Settings,
+        rows: &[Row],
+    ) -> Result<(), ReplayFault>
+        requires accepted { AcceptedAfter [] rows.now }
+        requires count { length rows.now ≤ 100000 }
+        requires start { B.Exact → state_in B.devices self.old ≡ start }
+        requires lines { self.old.lines.items ≡ [] }
+        ensures state { B.Exact → OnOk result
+            (after_all settings.now rows.now ≡ Ok (state_in B.devices self.new)) }
+        ensures transmits { OnOk result
+            (Changes B.shows (after_transmits rows.now) self.old.bench self.new.bench) }
+        ensures lines { OnOk result (length self.new.lines.items ≤ 100000) }
+        ensures fault { IfErr result (IsRefused B.Exact settings.now rows.now) }
     {
-        for number in 0..PLACES {
-            add_device(text, version, number, self.bench.counts(number))?;
+        for (i, row) in rows.iter().enumerate() {
+            self.play(alloc, settings, i as u32 + 1, row)?;
         }
         Ok(())
-    }
-
-    /// The text of the report, as a trace of this version has it.
-    #[tactic(auto, unfolding(crate::specs::Report::text_of))]
-    pub(crate) fn report(&self, alloc: Global, version: u32) -> Result<String, AllocError>
-        requires { length self.now.lines.items ≤ 100000 }
-        ensures { B.Exact → (all : Transmits) → B.shows self.now.bench all
-            → IfOk result
-            (λ text. string_bytes text ≡ text_of version (world_in B.devices self.now) all) }
-    {
-        let mut text = String::new(alloc);
-        add_lines(&mut text, self.lines.as_slice())?;
-        self.add_devices(version, &mut text)?;
-        add_list(&mut text, self.list.ids())?;
-        let totals = Totals::of(self.bench.attached(), self.lines.as_slice());
-        add_totals(&mut text, &totals)?;
-        Ok(text)
     }
 }

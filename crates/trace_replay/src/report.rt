@@ -1,18 +1,27 @@
-//! The text of the report.
+//! The report: the rows are played, and what they did becomes its text, in every mode that plays rows.
 
-ghost use Rattle.std.specs.Prelude.{◌≡◌, ◌+◌, ◌^◌, ◌<◌, ◌≤◌, ◌++◌, IfOk, OnOk, flat_map, length, string_bytes};
-ghost use Rattle.trace_replay.specs.Report.{device_line, device_lines, held_part, list_line, napi_line, of_run, poll_line, state_word, total_line, totals_of};
+ghost use Rattle.std.specs.Prelude.{◌≡◌, ◌+◌, ◌^◌, ◌<◌, ◌≤◌, ◌++◌, [], Ok, IfErr, IfOk, OnOk, flat_map, length, string_bytes};
+ghost use Rattle.trace_rows.specs.Places.{empty};
+ghost use Rattle.trace_rows.specs.Trace.{AcceptedAfter};
+ghost use Rattle.trace_replay.specs.Played.{state_in};
+ghost use Rattle.trace_replay.specs.Refused.{IsRefused};
+ghost use Rattle.trace_replay.specs.Replay.{start};
+ghost use Rattle.trace_replay.specs.Report.{device_line, device_lines, held_part, list_line, napi_line, of_run, poll_line, serial_report, spaced, state_word, total_line, totals_of};
+ghost use Rattle.trace_replay.specs.Transmits.{transmits_of};
 ghost use Rattle.report_text.specs.Lines.{ended, flag, tx_line, tx_lines};
 
 use crate::line::Line;
-use devices::{DeviceCounts, DeviceState};
-use report_text::add_transmit;
-use std::alloc::AllocError;
+use crate::replay::{Replay, room_for_lines};
+use devices::{DeviceCounts, DeviceState, ReplayBench};
+use poll_engine::PollList;
+use replay_words::Settings;
+use report_text::{ReplayFault, add_transmit};
+use std::alloc::{AllocError, Global};
 use std::fmt;
-use transmit_sides::TxCounts;
+use trace_rows::{PLACES, Row};
 
-/// Adds the line of each row that polled.
-pub(crate) fn add_lines(text: &mut String, lines: &[Line]) -> Result<(), AllocError>
+// Adds the line of each row that polled.
+fn add_lines(text: &mut String, lines: &[Line]) -> Result<(), AllocError>
     ensures { OnOk result
         (string_bytes text.new ≡ string_bytes text.old
         ++ flat_map (λ line. ended (poll_line line)) lines.now) }
@@ -58,8 +67,8 @@ fn add_line(text: &mut String, line: &Line) -> Result<(), AllocError>
     Ok(())
 }
 
-/// Adds the lines of a device, where there is one: two, and a third one where its transmit side had a row.
-pub(crate) fn add_device(
+// Adds the lines of a device, where there is one: two, and a third one where its transmit side had a row.
+fn add_device(
     text: &mut String,
     version: u32,
     number: u32,
@@ -143,8 +152,8 @@ fn add_napi_line(
     Ok(())
 }
 
-/// Adds the line of the poll list.
-pub(crate) fn add_list(text: &mut String, list: &[u32]) -> Result<(), AllocError>
+// Adds the line of the poll list.
+fn add_list(text: &mut String, list: &[u32]) -> Result<(), AllocError>
     ensures { OnOk result
         (string_bytes text.new ≡ string_bytes text.old ++ ended (list_line list.now)) }
 {
@@ -153,8 +162,6 @@ pub(crate) fn add_list(text: &mut String, list: &[u32]) -> Result<(), AllocError
     text.push_str("\n")?;
     Ok(())
 }
-
-ghost use Rattle.trace_replay.specs.Report.{spaced};
 
 fn add_numbers(text: &mut String, numbers: &[u32]) -> Result<(), AllocError>
     ensures { OnOk result (string_bytes text.new ≡ string_bytes text.old ++ spaced numbers.now) }
@@ -238,11 +245,104 @@ impl Totals {
     }
 }
 
-/// Adds the last line.
-pub(crate) fn add_totals(text: &mut String, totals: &Totals) -> Result<(), AllocError>
+// Adds the last line.
+fn add_totals(text: &mut String, totals: &Totals) -> Result<(), AllocError>
     ensures { OnOk result
         (string_bytes text.new ≡ string_bytes text.old ++ ended (total_line totals.now)) }
 {
     writeln!(text, "{totals}")?;
     Ok(())
+}
+
+impl<B: ReplayBench> Replay<B> {
+    ghost use Rattle.std.specs.Prelude.{◌≡◌, ◌++◌, IfOk, OnOk, string_bytes};
+    ghost use Rattle.transmit_sides.specs.Transmits.{Transmits};
+    ghost use Rattle.trace_replay.specs.Played.{state_in};
+    ghost use Rattle.trace_replay.specs.Report.{lines_below, text_of};
+
+    // Adds the lines of each device, in rising order of their numbers.
+    fn add_devices(&self, version: u32, text: &mut String) -> Result<(), AllocError>
+        ensures { B.Exact → (all : Transmits) → B.shows self.now.bench all
+            → OnOk result (string_bytes text.new ≡ string_bytes text.old
+            ++ lines_below version (state_in B.devices self.now) all 17) }
+    {
+        for number in 0..PLACES {
+            add_device(text, version, number, self.bench.counts(number))?;
+        }
+        Ok(())
+    }
+
+    // The text of the report, as a trace of this version has it.
+    #[tactic(auto, unfolding(crate::specs::Report::text_of))]
+    fn report(&self, alloc: Global, version: u32) -> Result<String, AllocError>
+        requires { length self.now.lines.items ≤ 100000 }
+        ensures { B.Exact → (all : Transmits) → B.shows self.now.bench all → IfOk result
+            (λ text. string_bytes text ≡ text_of version (state_in B.devices self.now) all) }
+    {
+        let mut text = String::new(alloc);
+        add_lines(&mut text, self.lines.as_slice())?;
+        self.add_devices(version, &mut text)?;
+        add_list(&mut text, self.list.ids())?;
+        let totals = Totals::of(self.bench.attached(), self.lines.as_slice());
+        add_totals(&mut text, &totals)?;
+        Ok(text)
+    }
+}
+
+// Plays the rows, and forms the text of their report.
+fn report_rows<B: ReplayBench>(
+    replay: &mut Replay<B>,
+    alloc: Global,
+    settings: &Settings,
+    version: u32,
+    rows: &[Row],
+) -> Result<String, ReplayFault>
+    requires accepted { AcceptedAfter [] rows.now }
+    requires count { length rows.now ≤ 100000 }
+    requires start { B.Exact → state_in B.devices replay.old ≡ start }
+    requires transmits { B.shows replay.old.bench empty }
+    requires lines { replay.old.lines.items ≡ [] }
+    ensures report { B.Exact → IfOk result
+        (λ text. serial_report settings.now version rows.now ≡ Ok (string_bytes text)) }
+    ensures transmits { OnOk result (B.shows replay.new.bench (transmits_of rows.now)) }
+    ensures fault { IfErr result (IsRefused B.Exact settings.now rows.now) }
+{
+    replay.play_rows(alloc, settings, rows)?;
+    Ok(replay.report(alloc, version)?)
+}
+
+/// Plays the rows of a trace on a bench that has no devices yet, and gives the text of their report, as a trace of this version
+/// has it. The bench comes back, after a fault too.
+///
+/// The faults are want of memory, and an enable row whose disable is pending still.
+pub fn report_on<B: ReplayBench>(
+    alloc: Global,
+    bench: B,
+    settings: &Settings,
+    version: u32,
+    rows: &[Row],
+) -> (B, Result<String, ReplayFault>)
+    requires accepted { AcceptedAfter [] rows.now }
+    requires count { length rows.now ≤ 100000 }
+    requires devices { B.Exact → B.devices bench ≡ empty }
+    requires transmits { B.shows bench empty }
+
+    // On an exact bench text and fault are those of the serial report.
+    ensures report { B.Exact → IfOk result.1
+        (λ text. serial_report settings.now version rows.now ≡ Ok (string_bytes text)) }
+    ensures fault { IfErr result.1 (IsRefused B.Exact settings.now rows.now) }
+    ensures transmits { OnOk result.1 (B.shows result.0 (transmits_of rows.now)) }
+{
+    let lines = match room_for_lines(alloc, rows) {
+        Ok(lines) => lines,
+        Err(error) => return (bench, Err(ReplayFault::from(error))),
+    };
+    let mut replay = Replay::new(bench, lines);
+    let report = report_rows(&mut replay, alloc, settings, version, rows);
+    let Replay {
+        bench,
+        list: _,
+        lines: _,
+    } = replay;
+    (bench, report)
 }

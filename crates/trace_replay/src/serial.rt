@@ -1,14 +1,13 @@
 //! A whole replay on one thread: from the bytes of a trace to the bytes of a report.
 
-ghost use Rattle.std.specs.Prelude.{◌≡◌, ◌≢◌, ◌⊎◌, ◌≤◌, [], ℕ, List, Ok, Err, Some, IfErr, OnOk, length};
-ghost use Rattle.std.specs.Io.KnownBytes.{Appends, Keeps};
+ghost use Rattle.std.specs.Prelude.{◌≡◌, ◌⊎◌, ◌≤◌, [], Ok, Err, IfErr, IfOk, OnOk, length, string_bytes};
 ghost use Rattle.trace_rows.specs.Trace.{AcceptedAfter};
 ghost use Rattle.report_text.specs.Outside.{IsOutside};
+ghost use Rattle.report_text.specs.Written.{IsFaultBy, LeavesAsItWas, Writes};
 ghost use Rattle.trace_replay.specs.Answer.{replay_of};
 ghost use Rattle.trace_replay.specs.Report.{serial_report};
-ghost use Rattle.report_text.specs.declared.fault.ReplayFault.TheVariants.{OutputFailed};
 
-use crate::rows::report_on;
+use crate::report::report_on;
 use devices::SerialBench;
 use replay_words::Settings;
 use report_text::{ReplayFault, write_text};
@@ -16,26 +15,22 @@ use std::alloc::Global;
 use std::io::{Read, Write};
 use trace_rows::{Row, read_trace};
 
-// Plays the rows, and writes the report of them, all of it at once.
-fn write_report<W: Write>(
+// Plays the rows on one thread, and gives the text of their report.
+fn report_rows(
     alloc: Global,
+    settings: &Settings,
     version: u32,
     rows: &[Row],
-    writer: &mut W,
-    settings: &Settings,
-) -> Result<(), ReplayFault>
+) -> Result<String, ReplayFault>
     requires accepted { AcceptedAfter [] rows.now }
     requires count { length rows.now ≤ 100000 }
-    ensures written { OnOk result
-        ((text : List ℕ) × (serial_report settings.now version rows.now ≡ Ok text)
-        × Appends (W.contents writer.old) (W.contents writer.new) text) }
+    ensures report { IfOk result
+        (λ text. serial_report settings.now version rows.now ≡ Ok (string_bytes text)) }
     ensures fault { IfErr result
         (λ fault. IsOutside fault ⊎ (serial_report settings.now version rows.now ≡ Err fault)) }
-    ensures untouched { IfErr result
-        (λ fault. fault ≢ OutputFailed → Keeps (W.contents writer.old) (W.contents writer.new)) }
 {
     let (_bench, report) = report_on(alloc, SerialBench::new(alloc)?, settings, version, rows);
-    write_text(writer, &report?)
+    report
 }
 
 /// Plays a trace on one thread, and writes the report of it.
@@ -49,15 +44,16 @@ pub fn replay_serial<R: Read + Drop, W: Write>(
     settings: &Settings,
 ) -> Result<(), ReplayFault>
     // What is written is the report of the rows of the bytes read, and nothing else.
-    ensures written { OnOk result ((bytes : List ℕ) → R.remaining reader ≡ Some bytes
-        → (text : List ℕ) × (replay_of settings.now bytes ≡ Ok text) × Appends (W.contents writer.old) (W.contents writer.new) text) }
+    ensures written { OnOk result (Writes (λ bytes text. replay_of settings.now bytes ≡ Ok text)
+        (R.remaining reader) (W.contents writer.old) (W.contents writer.new)) }
 
     // A fault is that of the bytes read, unless the reader, the memory or the writer failed.
-    ensures fault { IfErr result (λ fault. (bytes : List ℕ) → R.remaining reader ≡ Some bytes
-        → IsOutside fault ⊎ (replay_of settings.now bytes ≡ Err fault)) }
+    ensures fault { IfErr result (IsFaultBy IsOutside
+        (λ bytes fault. replay_of settings.now bytes ≡ Err fault) (R.remaining reader)) }
     ensures untouched { IfErr result
-        (λ fault. fault ≢ OutputFailed → Keeps (W.contents writer.old) (W.contents writer.new)) }
+        (LeavesAsItWas (W.contents writer.old) (W.contents writer.new)) }
 {
     let trace = read_trace(alloc, reader)?;
-    write_report(alloc, trace.version(), trace.rows(), writer, settings)
+    let text = report_rows(alloc, settings, trace.version(), trace.rows())?;
+    write_text(writer, &text)
 }

@@ -1,8 +1,7 @@
 //! A replay on one thread, row by row.
 
 use crate::line::Line;
-use crate::replay::Replay;
-use crate::rows::room_for_lines;
+use crate::replay::{Replay, room_for_lines};
 use devices::{DeviceCounts, ReplayBench, SerialBench};
 use replay_words::Settings;
 use report_text::ReplayFault;
@@ -22,7 +21,7 @@ impl SerialReplay {
     ghost use Rattle.trace_rows.specs.declared.row.Row.{Row};
     ghost use Rattle.replay_words.specs.declared.settings.Settings.{Settings};
     ghost use Rattle.trace_replay.specs.After.{IsAfter, counts_after, polled_after};
-    ghost use Rattle.trace_replay.specs.Replay.{world_of};
+    ghost use Rattle.trace_replay.specs.Replay.{after_all};
     ghost use Rattle.report_text.specs.declared.fault.ReplayFault.TheVariants.{Trace};
 
     /// A replay of which no row was played, with room for what these rows will have polled.
@@ -49,7 +48,7 @@ impl SerialReplay {
         requires after { IsAfter settings.now rows.now index self.old }
         ensures after { OnOk result (IsAfter settings.now rows.now (index + 1) self.new) }
         ensures fault { IfErr result
-            (λ fault. (fault ≡ Trace OutOfMemory) ⊎ (world_of settings.now rows.now ≡ Err fault)) }
+            (λ fault. (fault ≡ Trace OutOfMemory) ⊎ (after_all settings.now rows.now ≡ Err fault)) }
     {
         self.replay
             .play(alloc, settings, index as u32 + 1, &rows[index])?;

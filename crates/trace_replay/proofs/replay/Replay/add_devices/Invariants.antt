@@ -1,9 +1,9 @@
 use Rattle.std.proofs.Common.{◌≡◌, ◌++◌, string_bytes}
 use Rattle.transmit_sides.specs.Transmits.{Transmits}
-use Rattle.trace_replay.specs.Played.{world_in}
+use Rattle.trace_replay.specs.Played.{state_in}
 use Rattle.trace_replay.specs.Report.{lines_below}
 use Rattle.trace_replay.proofs.replay.Replay.add_devices.Given as goal
 
 abbrev pub invariant-loop-number : goal.invariant-loop-number
 invariant-loop-number g l = g.B.ReplayBench.Exact → (all : Transmits) → g.B.ReplayBench.shows l.self.bench all
-    → string_bytes l.text ≡ string_bytes l.initial.text ++ lines_below l.version (world_in g.B.ReplayBench.devices l.self) all l.number
+    → string_bytes l.text ≡ string_bytes l.initial.text ++ lines_below l.version (state_in g.B.ReplayBench.devices l.self) all l.number

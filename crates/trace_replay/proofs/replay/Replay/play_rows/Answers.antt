@@ -22,8 +22,7 @@ loop-i-preserved g c =
     let below : c.loop-i.i < length c.args.rows.now = omega arith in
     record {
       played = λ stated.
-          let world = c.in_ok-play.ensures.world stated in
-          played-more c.args.settings.now c.args.rows.now c.loop-i.i none _ _ below (c.loop-i.invariant.played stated) world.0 world.1;
+          played-more c.args.settings.now c.args.rows.now c.loop-i.i none _ _ below (c.loop-i.invariant.played stated) (c.in_ok-play.ensures.on_time stated) (c.in_ok-play.ensures.state stated);
       transmits = λ all shown. subst (g.B.ReplayBench.shows c.play.new.self.bench) (sym (after_transmits-more c.args.rows.now all c.loop-i.i none below))
           (c.in_ok-play.ensures.transmits (after_transmits (take c.loop-i.i c.args.rows.now) all) (c.loop-i.invariant.transmits all shown));
       lines = omega (arith, c.in_ok-play.ensures.lines, c.loop-i.invariant.lines);

@@ -1,6 +1,6 @@
 use Rattle.std.specs.Prelude.{flat_map}
 use Rattle.devices.specs.Bench.{attached}
-use Rattle.trace_replay.specs.Played.{world_in}
+use Rattle.trace_replay.specs.Played.{state_in}
 use Rattle.report_text.specs.Lines.{ended}
 use Rattle.trace_replay.specs.Report.{lines_below, list_line, poll_line, text_of, total_line, totals_of}
 use Rattle.trace_replay.proofs.PlayFacts.{four-parts}
@@ -23,6 +23,6 @@ returns g c stated all shows =
     )
     (four-parts
     (flat_map (λ line. ended (poll_line line)) c.args.self.now.lines.items)
-    (lines_below c.args.version (world_in g.B.ReplayBench.devices c.args.self.now) all 17)
+    (lines_below c.args.version (state_in g.B.ReplayBench.devices c.args.self.now) all 17)
     (ended (list_line c.args.self.now.list))
     (ended (total_line (totals_of (attached (g.B.ReplayBench.devices c.args.self.now.bench)) c.args.self.now.lines.items))))

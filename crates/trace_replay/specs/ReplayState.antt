@@ -3,10 +3,10 @@ use Rattle.std.specs.Prelude.{ℕ, List}
 use Rattle.devices.specs.Bench.{Devices}
 use Rattle.trace_replay.specs.declared.line.Line.{Line}
 
-pub record World : Type 0 where
+pub record ReplayState : Type 0 where
   -- the devices that were opened
   pub devices : Devices
   -- the numbers on the poll list, the next one first
   pub list : List ℕ
-  -- a line for each softirq and kthread row, in order
+  -- a line for each row that polled, in order
   pub lines : List Line
