@@ -2,7 +2,9 @@
 ghost use Rattle.napi_calls.specs.Instance.{IsSeatOf};
 
 use crate::turns::Tally;
-use napi_calls::{Caller, Napi, NewBack, NewFault, Polling, TryBusy, TryDone, TryPrep, next_caller};
+use napi_calls::{
+    Caller, Napi, NewBack, NewFault, Polling, TryBusy, TryDone, TryPrep, next_caller,
+};
 use napi_model::Kind;
 use rx_ring::RxCtx;
 use std::alloc::Global;

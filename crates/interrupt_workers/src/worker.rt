@@ -291,7 +291,8 @@ impl<'s, 'p, 'n, R: Wait> Desk<'s, 'p, 'n, R> {
         ensures put { result.1 ≡ true
             → length (put_list rx.old)
             + length (arrivals D.answer D.after device.old (D.acts device.old)) ≤ capacity_of rx.old
-            → put_list rx.new ≡ put_list rx.old ++ arrivals D.answer D.after device.old (D.acts device.old) }
+            → put_list rx.new ≡ put_list rx.old
+            ++ arrivals D.answer D.after device.old (D.acts device.old) }
     {
         let mut hold = hold;
         for k in 0..device.acts() {

@@ -32,7 +32,8 @@ where
     R: Read + Drop,
     W: Write,
     ensures written { OnOk result ((bytes : List ℕ) → R.remaining input ≡ Some bytes
-        → (text : List ℕ) × IsReportIn mode settings.now bytes text × Appends (W.contents output.old) (W.contents output.new) text) }
+        → (text : List ℕ) × IsReportIn mode settings.now bytes text
+        × Appends (W.contents output.old) (W.contents output.new) text) }
     ensures fault { IfErr result (λ fault. (bytes : List ℕ) → R.remaining input ≡ Some bytes
         → IsOutsideIn mode fault ⊎ IsFaultIn mode settings.now bytes fault) }
     ensures untouched { IfErr result
@@ -57,7 +58,8 @@ fn replay_asked<H: Threads + Wait + Sync, R: Read + Drop, W: Write>(
     output: &mut W,
 ) -> Result<(), ProgramFault>
     ensures written { OnOk result ((bytes : List ℕ) → R.remaining input ≡ Some bytes
-        → (text : List ℕ) × IsReport (map string_bytes words.now) bytes text × Appends (W.contents output.old) (W.contents output.new) text) }
+        → (text : List ℕ) × IsReport (map string_bytes words.now) bytes text
+        × Appends (W.contents output.old) (W.contents output.new) text) }
     ensures fault { IfErr result (IsFault (map string_bytes words.now) (R.remaining input)) }
     ensures untouched { IfErr result
         (λ fault. fault ≢ Replay OutputFailed
@@ -87,10 +89,13 @@ pub fn run_program<H: Threads + Wait + Sync, R: Read + Drop, W: Write, E: Write>
     // What is written is the report of the bytes read, in the mode and by the settings that the words ask for, and nothing
     // else.
     ensures written { result.status ≡ 0 → (bytes : List ℕ) → R.remaining input ≡ Some bytes
-        → (text : List ℕ) × IsReport (map string_bytes words.now) bytes text × Appends (W.contents output.old) (W.contents output.new) text }
+        → (text : List ℕ) × IsReport (map string_bytes words.now) bytes text
+        × Appends (W.contents output.old) (W.contents output.new) text }
     ensures quiet { result.status ≡ 0 → Keeps (E.contents errors.old) (E.contents errors.new) }
     ensures failed { result.status ≢ 0
-        → FailedBy (IsFault (map string_bytes words.now) (R.remaining input)) (W.contents output.old) (W.contents output.new) (E.contents errors.old) (E.contents errors.new) result }
+        → FailedBy (IsFault (map string_bytes words.now) (R.remaining input))
+        (W.contents output.old) (W.contents output.new) (E.contents errors.old)
+        (E.contents errors.new) result }
 {
     match replay_asked(rt, alloc, words, input, output) {
         Ok(()) => Ending {

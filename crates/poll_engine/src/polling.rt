@@ -99,7 +99,8 @@ pub fn poll_thread_of<I: Instance>(
     requires weight { (1 ≤ weight) × (weight ≤ 64) }
     requires most { (1 ≤ most) × (most ≤ 131072) }
     ensures polls { (polls : List Once)
-        × PollsByThread I.takes I.gives I.looks I.requeues I.completes weight most false instance.old packets.old polls packets.new instance.new
+        × PollsByThread I.takes I.gives I.looks I.requeues I.completes weight most false
+        instance.old packets.old polls packets.new instance.new
         × IsThreadPolling weight most polls result }
     ensures rests { I.rests instance.new }
 {

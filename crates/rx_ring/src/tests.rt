@@ -29,7 +29,8 @@ fn poll_beside(input: &mut RxIn, ctx: &mut RxCtx, weight: usize, batch: &mut Bat
 fn put_beside(input: &mut RxIn, ctx: &mut RxCtx, packet: Packet) -> Result<(), Packet>
     requires ring { IsOneRing input.old ctx.old }
     ensures ring { IsOneRing input.new ctx.new }
-    ensures room { length (held_of (ring_of input.old ctx.old)) < capacity_of input.old → IsOk result }
+    ensures room { length (held_of (ring_of input.old ctx.old)) < capacity_of input.old
+        → IsOk result }
 {
     beside(input, ctx);
     input.put(packet)

@@ -82,7 +82,8 @@ impl<'n, R: Wait> Poller<'n, R> {
         ensures pace { self.new.pace ≡ self.old.pace }
         ensures run { (polls : List Poll)
             × Chain (At KeepsSeats self.old.pace.weight) self.old.crowd polls self.new.crowd
-            × IsRun in_hand PopsCame IsAllPopped self.old.pace.budget self.old.pace.window self.old.list polls self.new.list result }
+            × IsRun in_hand PopsCame IsAllPopped self.old.pace.budget self.old.pace.window
+            self.old.list polls self.new.list result }
     {
         let Pace {
             budget,

@@ -64,7 +64,12 @@ fn push_own<R: Wait>(rt: &R, queue: &PushQueue, pass: &mut EndPass, hand: &mut S
     requires place { length hand.old < 64 }
     ensures pass { IsPassOf queue.now pass.new × (pass.new.table_id ≡ pass.old.table_id) }
     ensures pushed { (came : List ℕ) × (length came ≤ 1) × (hand.new ≡ hand.old ++ came)
-        × (view pass.new ≡ record (view pass.old) { pushed = (view pass.old).pushed ++ id ∷ []; popped = (view pass.old).popped ++ came }) }
+        × (view pass.new
+        ≡ record (view pass.old) {
+          pushed = (view pass.old).pushed ++ id
+              ∷ [];
+          popped = (view pass.old).popped ++ came;
+        }) }
 {
     if let Some(first) = queue.force_push_as::<PushedLast, PoppedLast, R>(rt, pass, id) {
         hand.append(first);

@@ -50,7 +50,8 @@ pub fn replay_shared<H: Wait + Copy + Drop, R: Read + Drop, W: Write>(
 ) -> Result<(), ReplayFault>
     // Only a trace that gives rows has a report.
     ensures written { OnOk result ((bytes : List ℕ) → R.remaining reader ≡ Some bytes
-        → (rows : List Row) × (text : List ℕ) × (trace_of (records_of bytes) ≡ Ok rows) × Appends (W.contents writer.old) (W.contents writer.new) text) }
+        → (rows : List Row) × (text : List ℕ) × (trace_of (records_of bytes) ≡ Ok rows)
+        × Appends (W.contents writer.old) (W.contents writer.new) text) }
 
     // A fault is that of the bytes read, unless the reader, the memory or the writer failed.
     ensures fault { IfErr result (λ fault. (bytes : List ℕ) → R.remaining reader ≡ Some bytes

@@ -65,7 +65,8 @@ fn add_station(
         ((rows : List Row) → opening_of number openings.now ≡ opening_of number rows
         → script.items ≡ script_of number rows
         → (devices : List ℕ) → AllZip (IsStationOf rows) devices (vec_items stations.old)
-        → AllZip (IsStationOf rows) (devices ++ filter (is_opened rows) (number ∷ [])) (vec_items stations.new)) }
+        → AllZip (IsStationOf rows) (devices ++ filter (is_opened rows) (number ∷ []))
+        (vec_items stations.new)) }
     ensures lawful { OnOk result
         (All IsStation (vec_items stations.old) → All IsStation (vec_items stations.new)) }
     ensures count { OnOk result (vec_len stations.new ≤ vec_len stations.old + 1) }

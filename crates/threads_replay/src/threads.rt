@@ -96,10 +96,12 @@ where
     G: Gate + Sync,
     // What is written is the threads report of the rows of the bytes read, and nothing else.
     ensures written { OnOk result ((bytes : List ℕ) → R.remaining reader ≡ Some bytes
-        → (text : List ℕ) × (threads_of bytes ≡ Ok text) × Appends (W.contents writer.old) (W.contents writer.new) text) }
+        → (text : List ℕ) × (threads_of bytes ≡ Ok text)
+        × Appends (W.contents writer.old) (W.contents writer.new) text) }
     // Of each device that they open, what was polled and what is left are the packets that arrived.
     ensures polled { IfOk result (λ all. (bytes : List ℕ) → R.remaining reader ≡ Some bytes
-        → (rows : List Row) × (trace_of (records_of bytes) ≡ Ok rows) × AllZip (IsPolled rows) (opened rows) (vec_items all)) }
+        → (rows : List Row) × (trace_of (records_of bytes) ≡ Ok rows)
+        × AllZip (IsPolled rows) (opened rows) (vec_items all)) }
     // A fault is that of the bytes read, unless the reader, the memory, the writer, the gate or a thread failed.
     ensures fault { IfErr result (λ fault. (bytes : List ℕ) → R.remaining reader ≡ Some bytes
         → IsOutside fault ⊎ (threads_of bytes ≡ Err fault)) }

@@ -154,7 +154,8 @@ fn add_long(
 ) -> bool
     requires room { vec_len rows.old < vec_capacity rows.old }
     ensures added { result ≡ true → AddsShort switches.now.of
-        (λ number. row_of version number (fields_of fields.now)) (vec_items rows.old) (vec_items rows.new) }
+        (λ number. row_of version number (fields_of fields.now)) (vec_items rows.old)
+        (vec_items rows.new) }
     ensures count { result ≡ true → vec_len rows.new ≡ vec_len rows.old + 1 }
     ensures capacity { vec_capacity rows.new ≡ vec_capacity rows.old }
     ensures kept { result ≡ false → rows.new ≡ rows.old }
@@ -232,7 +233,8 @@ pub(crate) fn add_short_row(
 ) -> bool
     requires room { vec_len rows.old < vec_capacity rows.old }
     ensures added { result ≡ true → AddsShort switches.now.of
-        (λ number. row_of version number (fields_of fields.now)) (vec_items rows.old) (vec_items rows.new) }
+        (λ number. row_of version number (fields_of fields.now)) (vec_items rows.old)
+        (vec_items rows.new) }
     ensures count { result ≡ true → vec_len rows.new ≡ vec_len rows.old + 1 }
     ensures capacity { vec_capacity rows.new ≡ vec_capacity rows.old }
     ensures kept { result ≡ false → rows.new ≡ rows.old }

@@ -71,7 +71,8 @@ impl Switches {
     fn has(&self, device: u32) -> bool
         ensures device { result ≡ true → is_device device ≡ true }
         ensures opened { result ≡ true
-            → (earlier : List Row) → Tracks self.now.of earlier → switch_of device earlier ≢ Unopened }
+            → (earlier : List Row) → Tracks self.now.of earlier
+            → switch_of device earlier ≢ Unopened }
     {
         1 <= device && device <= 16 && self.of[device as usize - 1] != Switch::Unopened
     }
@@ -81,7 +82,8 @@ impl Switches {
     #[inline(always)]
     pub(crate) fn pass(&self, event: Event, device: u32, value: u32) -> bool
         ensures { result ≡ true → (moment : ℕ)
-            → Passes self.now.of (record { moment = moment; device = device; event = event; value = value }) }
+            → Passes self.now.of
+            (record { moment = moment; device = device; event = event; value = value }) }
     {
         match event {
             Event::Rx | Event::Tx | Event::Busy => {

@@ -91,9 +91,13 @@ fn next_record<R: Read>(reader: &mut Reader<R>, fields: &mut ByteRecord) -> Next
     requires { IsOpen reader.old }
     ensures opened { result ≡ next.Record → IsOpen reader.new }
     ensures record { result ≡ next.Record → (bytes : List ℕ) → StandsAt R.remaining reader.old bytes
-        → TakesNext R.remaining (next_record default_config (reader_state reader.old) [] [] bytes) true (fields_of fields.new) reader.new }
+        → TakesNext R.remaining
+        (next_record default_config (reader_state reader.old) [] [] bytes) true
+        (fields_of fields.new) reader.new }
     ensures end { result ≡ next.End → (bytes : List ℕ) → StandsAt R.remaining reader.old bytes
-        → TakesNext R.remaining (next_record default_config (reader_state reader.old) [] [] bytes) false (fields_of fields.new) reader.new }
+        → TakesNext R.remaining
+        (next_record default_config (reader_state reader.old) [] [] bytes) false
+        (fields_of fields.new) reader.new }
 {
     match reader.read_byte_record(fields) {
         Ok(true) => Next::Record,
@@ -120,7 +124,8 @@ fn add_row(
     requires room { vec_len rows.old < vec_capacity rows.old }
     requires tracks { Tracks switches.old.of (vec_items rows.old) }
     ensures rows { MatchResult result
-        (λ _. with_row version (vec_items rows.old) (fields_of fields.now) ≡ Ok (vec_items rows.new))
+        (λ _. with_row version (vec_items rows.old) (fields_of fields.now)
+        ≡ Ok (vec_items rows.new))
         (λ fault. with_row version (vec_items rows.old) (fields_of fields.now) ≡ Err fault) }
     ensures tracks { OnOk result (Tracks switches.new.of (vec_items rows.new)) }
     ensures accepted { OnOk result
@@ -150,7 +155,8 @@ fn add_next(
     requires room { vec_len rows.old < vec_capacity rows.old }
     requires tracks { Tracks switches.old.of (vec_items rows.old) }
     ensures rows { MatchResult result
-        (λ _. with_row version (vec_items rows.old) (fields_of fields.now) ≡ Ok (vec_items rows.new))
+        (λ _. with_row version (vec_items rows.old) (fields_of fields.now)
+        ≡ Ok (vec_items rows.new))
         (λ fault. with_row version (vec_items rows.old) (fields_of fields.now) ≡ Err fault) }
     ensures tracks { OnOk result (Tracks switches.new.of (vec_items rows.new)) }
     ensures accepted { OnOk result
@@ -210,9 +216,12 @@ fn read_rows<R: Read>(
     requires version { IsWithin 1 2 version }
     ensures version { IfOk result (λ trace. trace.version ≡ version) }
     ensures rows { IfOk result (λ trace. (bytes : List ℕ) → StandsAt R.remaining reader.old bytes
-        → rows_after version [] (records_from default_config 100001 (reader_state reader.old) bytes) ≡ Ok trace.rows) }
+        → rows_after version [] (records_from default_config 100001 (reader_state reader.old) bytes)
+        ≡ Ok trace.rows) }
     ensures fault { IfErr result (λ fault. (bytes : List ℕ) → StandsAt R.remaining reader.old bytes
-        → IsReadFailure fault ⊎ (rows_after version [] (records_from default_config 100001 (reader_state reader.old) bytes) ≡ Err fault)) }
+        → IsReadFailure fault
+        ⊎ (rows_after version []
+        (records_from default_config 100001 (reader_state reader.old) bytes) ≡ Err fault)) }
 {
     // Room for all rows at once: what is never written costs nothing, and no row is moved.
     let Ok(mut rows) = Vec::with_capacity(alloc, MOST_ROWS as usize) else {
