@@ -98,25 +98,6 @@ fn memory_is_there_or_refused(rt: HostRuntime) -> Result<(), Fail> {
 }
 
 #[test]
-fn there_is_memory_for_every_number_of_callers(rt: HostRuntime) -> Result<(), Fail> {
-    for callers in 2..=8u32 {
-        let (_input, ctx) = ring(rt.alloc(), 4)?;
-        let made = Napi::new(rt.alloc(), ctx, callers);
-        let Ok((napi, mut seated, control)) = made else {
-            panic!(rt; "no memory for {callers} callers")
-        };
-        assert_eq!(rt; seated.len(), callers as usize);
-        while let Some(caller) = seated.pop() {
-            caller.abandon();
-        }
-        seated.destroy_empty();
-        control.abandon();
-        napi.abandon();
-    }
-    Ok(())
-}
-
-#[test]
 fn close_wants_all_callers(rt: HostRuntime) -> Result<(), Fail> {
     let Bed {
         input: _,
