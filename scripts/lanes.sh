@@ -12,13 +12,15 @@ links=yes          # whether hard links can be had
 declare -A held=()  # of each crate in a lane: what keeps other calls of `rt` out of its folder
 declare -A entered=() # of each crate in a lane: when it began
 
-# Lanes lie on the checkout's own file system where that can be had, and where neither git nor `rt ci` looks.
+# Lanes lie on the checkout's own file system where that can be had, and where git doesn't look. `rt` passes over a folder with
+# a MODULE.bazel, so `rt ci` takes no lane for a crate.
 find_lanes() {
     local place
     for place in "$top/.git/lanes" "$(dirname "$top")/.$(basename "$top").lanes" "${TMPDIR:-/tmp}/lanes-$UID-$(printf %s "$top" | cksum | tr ' ' -)"; do
         [ -d "$(dirname "$place")" ] || continue
         if mkdir -p -m 700 "$place" 2> /dev/null && [ -O "$place" ] && [ -w "$place" ] && [ ! -L "$place" ]; then
             lanes=$place
+            : > "$lanes/MODULE.bazel" || continue
             return
         fi
     done
@@ -149,7 +151,7 @@ leave() {
 # that began it, and holds its lane till then.
 clear_lanes() {
     local lane name
-    for lane in "$lanes"/*; do
+    for lane in "$lanes"/*/; do
         name=$(basename "$lane")
         if [ -d "$crates/$name" ] && [ -d "$lane/crates/$name/out" ]; then
             flock -w 20 "$lane/crates/$name" true 2> /dev/null || true

@@ -375,6 +375,19 @@ killed() {
     check 'which may be newer than the lanes' is "$(lines)" 8
 }
 
+# Such lanes are no crates of the gate: it goes on to the crate, which it refuses here for want of its layout.
+left_to_the_gate() {
+    local small=$scratch/left
+    mkdir -p "$small/crates/low/src"
+    git init -q "$small"
+    echo 'low:' > "$small/crates.txt"
+    echo > "$small/crates/low/src/lib.rt"
+    run bash -c 'top=$2; . "$1/scripts/lanes.sh"; find_lanes; mkdir "$lanes/low"; cp -r "$2/crates" "$2/crates.txt" "$lanes/low"' - "$top" "$small"
+    check 'lanes lie in .git' [ -d "$small/.git/lanes/low/crates/low" ]
+    run bash -c 'cd "$1" && rt ci' - "$small"
+    check 'the gate takes no lane for a crate' prints '^== low$'
+}
+
 lanes() {
     small_checkout
     crates a: b: c: d: e: 'napi_serial: a b c d e'
@@ -757,6 +770,7 @@ scripts() {
 
 building
 programs
+left_to_the_gate
 lanes
 refusals_of_a_build
 two_builds

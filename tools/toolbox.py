@@ -87,10 +87,8 @@ def run_tool(tool, main):
     sys.exit(status)
 
 
-@contextlib.contextmanager
-def whole_file(path, replaces=True):
-    """The name of a new file beside `path`, which takes its place once all of it is there. After a failure nothing has changed.
-    Unless it may replace one, a file that is there is kept, and is a refusal."""
+def check_target(path, replaces=True):
+    """Refuses a name that `whole_file` couldn't write to. A tool that works long asks before it does."""
     path = Path(path)
     if path.is_dir():
         raise Refusal(f"{shown(path)}: this is a folder")
@@ -100,6 +98,14 @@ def whole_file(path, replaces=True):
         raise Refusal(f"{shown(path.parent)}: there is no such folder")
     if path.exists() and not path.is_file():
         raise Refusal(f"{shown(path)}: this is no regular file")
+
+
+@contextlib.contextmanager
+def whole_file(path, replaces=True):
+    """The name of a new file beside `path`, which takes its place once all of it is there. After a failure nothing has changed.
+    Unless it may replace one, a file that is there is kept, and is a refusal."""
+    check_target(path, replaces)
+    path = Path(path)
     handle, new = tempfile.mkstemp(prefix=".new-", suffix=path.suffix, dir=path.parent)
     os.close(handle)
     try:

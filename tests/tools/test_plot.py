@@ -99,7 +99,12 @@ class Plot(InFolder):
             self.assertEqual(self.names(), sorted([name, out]))
             self.assertNotIn(b"<script>'\"", (self.folder / out).read_bytes())
             (self.folder / out).unlink()
-        self.assertIn("none: there is no such folder", run("plot", name, "--out", "none/x.png", folder=self.folder).stderr)
+
+    def test_a_missing_folder_is_refused_before_anything_runs(self):
+        trace = TOP / "examples/bursts.csv"
+        for tool, words in (("plot", []), ("raise", []), ("compare-runs", ["--"])):
+            done = run(tool, trace, "--out", "none/x.png", *words, folder=self.folder, PROGRAM="/none", SERIES="/none")
+            self.assertEqual((done.stderr, done.returncode), (f"{tool}: none: there is no such folder\n", 1))
 
     @unittest.skipUnless(shutil.which("gnuplot"), "gnuplot isn't installed")
     def test_every_example(self):

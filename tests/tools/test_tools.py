@@ -223,6 +223,8 @@ class FromPcap(InFolder):
         self.assertIn("no row: packets that don't come in, 1\n", (self.folder / "made.notes").read_text())
 
     def test_refusals(self):
+        done = run("from-pcap", "none.pcap", "made", folder=self.folder)
+        self.assertEqual((done.stderr, done.returncode), ("from-pcap: none.pcap: there is no such file\n", 1))
         for text, why in (("", "no packet arrives"), ("what\n", "line 1: not as `tcpdump -tt -n -e`"), (self.TEXT * 60000, "more than")):
             done = run("from-pcap", "-", self.folder / "made", text=text)
             self.assertEqual((done.returncode, self.names()), (1, []), done.stderr)
