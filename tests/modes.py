@@ -125,6 +125,14 @@ def runs():
             text.append((rest + "\n") * int(kind[3:] or 1))
 
 
+def without_pollers(words):
+    """The words without `--pollers N`, which stands in two words where a run has it."""
+    if "--pollers" not in words:
+        return words
+    at = words.index("--pollers")
+    return words[:at] + words[at + 2 :]
+
+
 def worked_runs():
     """Each run without a mode of its own also in shared mode; each with threads also with 1, 2 and 8 pollers; each that names
     no other mode also by the program of serial mode."""
@@ -133,8 +141,9 @@ def worked_runs():
             judge("%s by serial mode's program" % name, play(text, words) == play(text, words, SERIAL))
         if not any(word.startswith("--mode") or word in ("--help", "--version") for word in words):
             judge("%s in shared mode" % name, play(text, words) == play(text, words + ["--mode", "shared"]))
-        if ("threads" in words or "--mode=threads" in words) and not any("pollers" in word for word in words):
-            answers = [play(text, words + ["--pollers", pollers]) for pollers in ("1", "2", "8")]
+        if "threads" in words or "--mode=threads" in words:
+            others = without_pollers(words)
+            answers = [play(text, others + ["--pollers", pollers]) for pollers in ("1", "2", "8")]
             judge("%s with 1, 2 and 8 pollers" % name, answers[0] == answers[1] == answers[2] == play(text, words))
 
 

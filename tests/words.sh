@@ -121,6 +121,8 @@ exec 9< "/proc/$$/mem"
 from_memory() { "$@" <&9; }
 # Memory is bounded, since a record without end is read no further than any trace goes.
 from_zeros() { (ulimit -v 1500000 && exec "$@" < /dev/zero); }
+from_line() { tr '\0' x < /dev/zero 2> /dev/null | (ulimit -v 1500000 && exec "$@"); }
+from_row() { { printf 'moment,device,event,value\n' && tr '\0' 7 < /dev/zero; } 2> /dev/null | (ulimit -v 1500000 && exec "$@"); }
 from_half() { python3 "$tests/half_read.py" "$@"; }
 from_half_of_the_rows() { python3 "$tests/half_read.py" --rows "$@"; }
 from_pipe() { printf 'moment,device,event,value\n0,1,open,4\n1,1,rx,100\n2,0,sof' | "$@"; }
@@ -130,6 +132,8 @@ want 2 'trace fault 10 ReadFailed'
 broken 'a folder as input' from_folder
 broken 'memory that nobody may read' from_memory
 broken 'zeros without end' from_zeros
+broken 'a line without end' from_line
+broken 'a row without end' from_row
 if command -v python3 > /dev/null; then
     broken 'a read that fails within a row' from_half
     broken 'a read that fails behind a row' from_half_of_the_rows

@@ -42,24 +42,16 @@ fn main(rt: HostRuntime) -> Result<()> {
     println!(rt; "two threads: turns {turns}")?;
     eprintln!(rt; "two {spent} ns polls {polls} again {again} lost {lost}")?;
 
-    let (_input, ctx) = ring(rt.alloc(), 4)?;
-    let start = Instant::now(&rt)?;
-    let Tally { polls, again, lost } = make_typed_turns(
-        &rt,
-        rt.alloc(),
-        ctx,
-        Round::Listed,
-        turns,
-    )?;
-    let spent = start.elapsed(&rt)?.as_nanos();
-    println!(rt; "typed calls: turns {turns} polls {polls} again {again} lost {lost}")?;
-    eprintln!(rt; "typed {spent} ns")?;
-
-    let (_input, ctx) = ring(rt.alloc(), 4)?;
-    let start = Instant::now(&rt)?;
-    let Tally { polls, again, lost } = make_typed_turns(&rt, rt.alloc(), ctx, Round::Busy, turns)?;
-    let spent = start.elapsed(&rt)?.as_nanos();
-    println!(rt; "busy polling: turns {turns} polls {polls} again {again} lost {lost}")?;
-    eprintln!(rt; "busy {spent} ns")?;
+    for (name, short, round) in [
+        ("typed calls", "typed", Round::Listed),
+        ("busy polling", "busy", Round::Busy),
+    ] {
+        let (_input, ctx) = ring(rt.alloc(), 4)?;
+        let start = Instant::now(&rt)?;
+        let Tally { polls, again, lost } = make_typed_turns(&rt, rt.alloc(), ctx, round, turns)?;
+        let spent = start.elapsed(&rt)?.as_nanos();
+        println!(rt; "{name}: turns {turns} polls {polls} again {again} lost {lost}")?;
+        eprintln!(rt; "{short} {spent} ns")?;
+    }
     Ok(())
 }

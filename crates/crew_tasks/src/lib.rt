@@ -8,7 +8,7 @@ mod signals;
 mod tasks;
 
 pub use driving::{Driven, Room, drive, task_room};
-pub use gate::{Gate, OpenGate};
+pub use gate::{Gate, OpenGate, Watch};
 pub use pace::{Pace, Setting};
 pub use signals::{Bell, Pause, Post, Signals};
 pub use tasks::{Begun, Gives, Task, begin, begin_all, end, end_all};

@@ -2,6 +2,7 @@
 use Rattle.std.proofs.Common.{◌≡◌, ℕ, ◌+◌, ◌≤◌, length, List, ◌++◌, sym, arith, length-append, append_assoc, add-one, ap, subst, Bool, ◌∙◌}
 use Rattle.rx_ring.specs.declared.packet.Packet.{Packet}
 use Rattle.rx_ring.specs.declared.ends.RxIn.{RxIn}
+use Rattle.rx_ring.specs.Ends.{SameIn}
 use Rattle.interrupt_workers.specs.declared.acts.Act.{Act}
 use Rattle.interrupt_workers.specs.declared.worker.Hold.{Hold}
 use Rattle.interrupt_workers.specs.Acts.{after_acts, arrivals, brings}
@@ -15,8 +16,8 @@ pub arrivals-more : {D : Type 0} (answer : D → ℕ → Act) (after : D → ℕ
 arrivals-more answer after d n = ap (λ m. arrivals answer after d m) (add-one n)
 
 pub acts-more : {D : Type 0} (thread : Bool) (answer : D → ℕ → Act) (after : D → ℕ → D) (d : D) (n : ℕ) (a m b : Hold) (first rx last : RxIn)
-    → AllActs thread answer after d n a m first rx → Acts thread (answer (after_acts after d n) n) m b rx last → AllActs thread answer after d (n + 1) a b first last
-acts-more thread answer after d n a m b first rx last before one = subst (λ k. AllActs thread answer after d k a b first last) (sym (add-one n)) (m, rx, before, one)
+    → AllActs thread answer after d n a m first rx → SameIn rx last → Acts thread (answer (after_acts after d n) n) m b rx last → AllActs thread answer after d (n + 1) a b first last
+acts-more thread answer after d n a m b first rx last before same one = subst (λ k. AllActs thread answer after d k a b first last) (sym (add-one n)) (m, rx, before, same, one)
 
 pub ruleset steps = (after_acts-more, arrivals-more)
 

@@ -1,2 +1,4 @@
 pub mod ActSteps
 pub mod DealFacts
+pub mod LedgerSteps
+pub mod EndFacts

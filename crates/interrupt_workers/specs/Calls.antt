@@ -1,8 +1,8 @@
 -- What acts make of a worker's seats at its instance.
-use Rattle.std.specs.Prelude.{◌≡◌, ◌⊎◌, ℕ, zero, suc, Bool, true, false, List, [], ◌∷◌, ◌++◌, if◌then◌else◌}
+use Rattle.std.specs.Prelude.{◌≡◌, ◌⊎◌, ◌≤◌, ℕ, zero, suc, Bool, true, false, List, [], ◌∷◌, ◌++◌, length, if◌then◌else◌}
 use Rattle.rx_ring.specs.declared.ends.RxIn.{RxIn}
 use Rattle.rx_ring.specs.declared.packet.Packet.{Packet}
-use Rattle.rx_ring.specs.Ends.{put_list}
+use Rattle.rx_ring.specs.Ends.{SameIn, capacity_of, put_list}
 use Rattle.napi_model.specs.declared.state.Kind.TheVariants as kind
 use Rattle.napi_model.specs.declared.state.Seen.{Seen}
 use Rattle.napi_model.specs.declared.event.Operation.TheVariants as operation
@@ -11,6 +11,7 @@ use Rattle.napi_calls.specs.declared.answers.Sched.{Sched}
 use Rattle.napi_calls.specs.declared.answers.Sched.TheVariants as sched
 use Rattle.napi_calls.specs.Calls.{Disables, Enables, Schedules}
 use Rattle.napi_calls.specs.Made.{Made}
+use Rattle.napi_calls.specs.Seats.{number_of}
 use Rattle.interrupt_workers.specs.declared.acts.Act.{Act}
 use Rattle.interrupt_workers.specs.declared.acts.Act.TheVariants.{Arrive, Disable, Enable, SetThreaded, Nothing}
 use Rattle.interrupt_workers.specs.declared.worker.Hold.{Hold}
@@ -42,7 +43,7 @@ IsPutLast packet rx = (earlier : List Packet) × (put_list rx ≡ earlier ++ pac
 abbrev pub Arrives : Bool → Packet → Pass → Pass → RxIn → RxIn → Type 0
 Arrives thread packet p q before after =
     ((put_list after ≡ put_list before ++ packet ∷ []) × Interrupts thread p q)
-    ⊎ ((put_list after ≡ put_list before) × (q ≡ p))
+    ⊎ ((capacity_of before ≤ length (put_list before)) × (put_list after ≡ put_list before) × (q ≡ p))
 
 abbrev pub pass_of : Power → Pass
 pass_of (On control) = control.pass
@@ -51,6 +52,10 @@ pass_of (Off control) = control.pass
 abbrev pub is_on : Power → Bool
 is_on (On control) = true
 is_on (Off control) = false
+
+-- the same seats, by their numbers
+abbrev pub IsSameHold : Hold → Hold → Type 0
+IsSameHold a b = (number_of b.caller.pass ≡ number_of a.caller.pass) × (number_of (pass_of b.power) ≡ number_of (pass_of a.power))
 
 -- enabled with this threaded setting, unless it is on
 abbrev pub TurnsOn : Bool → Power → Power → Type 0
@@ -77,6 +82,6 @@ Acts thread Nothing a b before after = (b ≡ a) × (put_list after ≡ put_list
 
 -- the first n acts, each once and in order
 abbrev pub AllActs : {D : Type 0} → Bool → (D → ℕ → Act) → (D → ℕ → D) → D → ℕ → Hold → Hold → RxIn → RxIn → Type 0
-AllActs thread answer after d zero a b first last = (b ≡ a) × (put_list last ≡ put_list first)
+AllActs thread answer after d zero a b first last = (b ≡ a) × (last ≡ first)
 AllActs thread answer after d (suc n) a b first last =
-    (m : Hold) × (rx : RxIn) × AllActs thread answer after d n a m first rx × Acts thread (answer (after_acts after d n) n) m b rx last
+    (m : Hold) × (rx : RxIn) × AllActs thread answer after d n a m first rx × SameIn rx last × Acts thread (answer (after_acts after d n) n) m b rx last

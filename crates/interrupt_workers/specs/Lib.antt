@@ -5,3 +5,4 @@ pub mod Opens
 pub mod Deals
 pub mod Ends
 pub mod Calls
+pub mod Runs

@@ -27,12 +27,13 @@ pub struct Worked<R: Wait + Drop, D> {
 
 impl<'t, 'p, 'n, R: Wait + Copy + Drop, D: Device + Drop, G: Gate> Task<Worked<R, D>>
     for Job<'t, 'p, 'n, R, D, G> {
+    ghost use Rattle.std.specs.Prelude.{is_some};
     ghost use Rattle.interrupt_workers.specs.Seats.{AreSeatsOf};
     ghost use Rattle.interrupt_workers.specs.Works.{IsWorkOf};
 
     ghost can_run = { λ job. AreSeatsOf job.desk.napi.now job.work.seats.value };
 
-    ghost gives = { λ job worked. IsWorkOf D.acts D.answer D.after job.desk.napi.now job.desk.number job.work worked };
+    ghost gives = { λ job worked. IsWorkOf D.acts D.answer D.after job.desk.napi.now (is_some job.desk.thread) job.desk.number job.work worked };
 
     fn is_idle(&self) -> bool {
         false

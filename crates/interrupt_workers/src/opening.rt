@@ -1,12 +1,12 @@
 //! How the instances of stations are made and closed.
 
-ghost use Rattle.std.specs.Prelude.{◌≡◌, ◌≤◌, ◌+◌, ℕ, IfOk, length, slice_get, Some, vec_items, vec_len, vec_capacity};
+ghost use Rattle.std.specs.Prelude.{◌≡◌, ◌≤◌, ◌+◌, ℕ, [], ◌∷◌, IfOk, is_some, length, slice_get, Some, vec_items, vec_len, vec_capacity};
 ghost use Rattle.std.specs.List.{All, AllZip};
-ghost use Rattle.rx_ring.specs.Ends.{ring_name};
-ghost use Rattle.napi_calls.specs.Instance.{IsSeatOf, callers_of, ring_of_instance};
+ghost use Rattle.napi_calls.specs.Closed.{IsClosed};
+ghost use Rattle.napi_calls.specs.Instance.{IsSeatOf, callers_of};
 ghost use Rattle.napi_calls.specs.declared.types.Caller.{Caller};
 ghost use Rattle.interrupt_workers.specs.Opens.{IsHome, IsKeptLoose, IsKeptSideOf, IsLoose, IsSideOf, IsStation};
-ghost use Rattle.interrupt_workers.specs.Seats.{AreSeatsOf};
+ghost use Rattle.interrupt_workers.specs.Seats.{AreSeatsOf, IsNew};
 
 use crate::station::Station;
 use crate::worker::Seats;
@@ -51,7 +51,8 @@ impl Placed {
         requires home { IsHome self }
         requires seats { AreSeatsOf self.napi seats }
         requires callers { IsSeatOf self.napi poller.pass × IsSeatOf self.napi thread.pass }
-        ensures { ring_name result ≡ ring_of_instance self.napi }
+        ensures { IsClosed self.napi (seats.caller ∷ poller ∷ thread ∷ []) seats.control.pass
+            result }
     {
         let Placed {
             napi,
@@ -73,11 +74,11 @@ impl Placed {
 fn next(napi: &Napi, callers: &mut Vec<Caller>) -> Caller
     requires some { 1 ≤ length callers.old.items }
     requires seats { (k : ℕ) (c : Caller) → slice_get callers.old.items k ≡ Some c
-        → IsSeatOf napi.now c.pass }
-    ensures caller { IsSeatOf napi.now result.pass }
+        → IsNew napi.now c.pass }
+    ensures caller { IsNew napi.now result.pass }
     ensures left { length callers.new.items + 1 ≡ length callers.old.items }
     ensures seats { (k : ℕ) (c : Caller) → slice_get callers.new.items k ≡ Some c
-        → IsSeatOf napi.now c.pass }
+        → IsNew napi.now c.pass }
     ensures room { vec_capacity callers.new ≡ vec_capacity callers.old }
 {
     let popped = callers.pop();
@@ -86,7 +87,9 @@ fn next(napi: &Napi, callers: &mut Vec<Caller>) -> Caller
 }
 
 // The bell of an instance's own thread, and what that sleeps on, where it is to have one.
-fn thread_bell(alloc: Global, thread: bool) -> Result<(Option<Bell>, Option<Pause>), AllocError> {
+fn thread_bell(alloc: Global, thread: bool) -> Result<(Option<Bell>, Option<Pause>), AllocError>
+    ensures { IfOk result (λ r. (is_some r.0 ≡ thread) × (is_some r.1 ≡ thread)) }
+{
     if !thread {
         return Ok((None, None));
     }

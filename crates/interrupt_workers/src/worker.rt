@@ -4,7 +4,7 @@ ghost use Rattle.std.specs.Prelude.{◌≡◌, ℕ, ◌+◌, ◌≤◌, ◌<◌,
 ghost use Rattle.rx_ring.specs.Ends.{SameIn, capacity_of, put_list};
 ghost use Rattle.napi_calls.specs.Instance.{IsSeatOf};
 ghost use Rattle.interrupt_workers.specs.Acts.{after_acts, arrivals, brings};
-ghost use Rattle.interrupt_workers.specs.Calls.{Acts, AllActs, HandsOver, Interrupts, IsPutLast, Leaves, TurnsOff, TurnsOn};
+ghost use Rattle.interrupt_workers.specs.Calls.{Acts, AllActs, HandsOver, Interrupts, IsPutLast, IsSameHold, Leaves, TurnsOff, TurnsOn};
 ghost use Rattle.interrupt_workers.specs.Seats.{AreSeatsOf, IsHoldOf};
 ghost use Rattle.interrupt_workers.specs.Works.{IsDoneBy};
 
@@ -281,6 +281,7 @@ impl<'s, 'p, 'n, R: Wait> Desk<'s, 'p, 'n, R> {
     ) -> (Hold, bool)
         requires { IsHoldOf self.now.napi.now hold }
         ensures of { IsHoldOf self.now.napi.now result.0 }
+        ensures same { IsSameHold hold result.0 }
         ensures made { result.1 ≡ true
             → AllActs (is_some self.now.thread) D.answer D.after device.old
             (D.acts device.old) hold result.0 rx.old rx.new }
@@ -309,7 +310,8 @@ impl<'s, 'p, 'n, R: Wait + Drop + Copy> Desk<'s, 'p, 'n, R> {
     /// Makes the device's acts over an instance that is enabled before, and disabled after.
     pub(crate) fn work<D: Device, G: Gate>(&self, gate: &G, work: Work<R, D>) -> Done<R, D>
         requires { AreSeatsOf self.now.napi.now work.seats.value }
-        ensures { IsDoneBy D.acts D.answer D.after self.now.napi.now work result }
+        ensures { IsDoneBy D.acts D.answer D.after self.now.napi.now
+            (is_some self.now.thread) work result }
     {
         let Work {
             mut list,

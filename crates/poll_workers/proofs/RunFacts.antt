@@ -1,5 +1,5 @@
 -- What the parts of a crew come to for its stations.
-use Rattle.std.proofs.Common.{◌≡◌, ℕ, ◌≤◌, true, List, [], ◌++◌, length, sym, ap, ◌∙◌, subst, IsSome, All, arith, rules}
+use Rattle.std.proofs.Common.{◌≡◌, ℕ, ◌≤◌, true, false, is_some, List, [], ◌++◌, length, sym, ap, ◌∙◌, subst, IsSome, All, arith, rules}
 use Rattle.std.specs.Prelude.{IfOk, Ok, Err, Result, vec_items}
 use Rattle.std.specs.Global.{Vec}
 use Rattle.std.specs.List.{AllByRecursion, AllZip}
@@ -11,6 +11,7 @@ use Rattle.napi_calls.specs.declared.kept.Kept.{Kept}
 use Rattle.napi_calls.specs.declared.types.Caller.{Caller}
 use Rattle.napi_calls.specs.declared.types.Napi.{Napi}
 use Rattle.napi_calls.specs.Instance.{IsSeatOf}
+use Rattle.napi_calls.specs.Seats.{number_of, own_list}
 use Rattle.interrupt_workers.specs.declared.acts.Act.{Act}
 use Rattle.interrupt_workers.specs.declared.opening.Loose.{Loose}
 use Rattle.interrupt_workers.specs.declared.opening.Placed.{Placed}
@@ -18,6 +19,7 @@ use Rattle.interrupt_workers.specs.declared.station.Station.{Station}
 use Rattle.interrupt_workers.specs.declared.station.Finished.{Finished}
 use Rattle.seat_pollers.specs.declared.seat.Seat.{Seat}
 use Rattle.interrupt_workers.specs.declared.job.Job.{Job}
+use Rattle.interrupt_workers.specs.declared.worker.Seats.{Seats}
 use Rattle.interrupt_workers.specs.declared.job.Worked.{Worked}
 use Rattle.seat_pollers.specs.declared.thread_poller.ThreadSide.{ThreadSide}
 use Rattle.interrupt_workers.specs.Acts.{after_acts, arrivals}
@@ -25,11 +27,12 @@ use Rattle.poll_workers.specs.Finishes.{IsFinished, IsWorkedOf}
 use Rattle.seat_pollers.specs.SeatKeeping.{IsCallerOf}
 use Rattle.interrupt_workers.specs.Ends.{IsCallerAt, IsDoneAt, IsFinishOf}
 use Rattle.interrupt_workers.specs.Opens.{IsInputOf, IsKeptLoose, IsKeptSideOf, IsLoose}
+use Rattle.interrupt_workers.specs.Runs.{HasRun, IsEnded, Ledger, Whose, WorksBy, blank, controller_number}
 use Rattle.interrupt_workers.specs.Seats.{AreSeatsOf}
 use Rattle.seat_pollers.specs.SeatKeeping.{AreSameSeats, IsSameSeat}
 use Rattle.crew_tasks.specs.Paces.{IsLawful}
 use Rattle.poll_workers.specs.Spreads.{IsJobAt, IsKeptJobOf, IsSeatAt, IsThreadAt}
-use Rattle.interrupt_workers.specs.Works.{IsWorkOf}
+use Rattle.interrupt_workers.specs.Works.{IsWorkOf, ledger_of, whose}
 use Rattle.crew_tasks.proofs.ListFacts.{each_index, zip_all, zip_and, zip_both, zip_each, zip_flip, zip_same}
 
 same_ring : (a b c : RxIn) (napi : Napi) → b ≡ a → SameIn b c → IsInputOf a napi → IsInputOf c napi
@@ -38,13 +41,49 @@ same_ring a b c napi e s h = let whole : IsInputOf b napi = subst (λ (r : RxIn)
 capped_small : (n : ℕ) → n ≤ 4294967295 → capped n ≡ n
 capped_small n h = omega arith
 
+-- the acts of a station's worker were a run
+run_of : {R D : Type 0} (acts : D → ℕ) (answer : D → ℕ → Act) (after : D → ℕ → D) (station : Station D) (loose : Kept R (Loose D)) (worked : Worked R D) (end : Finished D)
+    → IsLoose station loose.value → IsWorkedOf acts answer after loose worked → worked.done.whole ≡ true → IsFinishOf worked end
+    → HasRun answer after station.capacity station.thread station.device (acts station.device) end.totals
+run_of {R} {D} acts answer after station loose worked end opened made whole ended =
+    let work = made.1 in
+    let done = made.5.done in
+    let new = opened.unused in
+    let was : work.seats.value ≡ loose.value.seats = made.4 in
+    let device : work.device ≡ station.device = made.2 ∙ opened.same_device in
+    let seats = worked.done.seats.value in
+    let left = ledger_of seats worked.done.rx (done.run whole).0 in
+    let w : Whose = record { caller = number_of loose.value.seats.caller.pass; controller = controller_number; places = station.capacity; thread = station.thread } in
+    let same_whose : whose work.seats.value work.rx (is_some loose.value.pause) ≡ w = λ i. record {
+      caller = number_of (was i).caller.pass;
+      controller = (ap (λ (s : Seats). number_of s.control.pass) was ∙ new.number) i;
+      places = (ap (λ (r : RxIn). capacity_of r) made.3 ∙ opened.places) i;
+      thread = opened.thread i;
+    } in
+    let nothing : ledger_of work.seats.value work.rx false ≡ blank = λ i. record {
+      calls = (ap (λ (s : Seats). own_list s.caller.pass) was ∙ new.caller) i;
+      controls = (ap (λ (s : Seats). own_list s.control.pass) was ∙ new.control) i;
+      put = (ap (λ (r : RxIn). put_list r) made.3 ∙ opened.nothing_put) i;
+      on = false;
+      threaded = false;
+    } in
+    let by_whose = subst (λ (v : Whose). WorksBy v answer after work.device (acts work.device) (ledger_of work.seats.value work.rx false) left) same_whose (done.run whole).1 in
+    let by_device = subst (λ (d : D). WorksBy w answer after d (acts d) (ledger_of work.seats.value work.rx false) left) device by_whose in
+    let caller : number_of seats.caller.pass ≡ w.caller = done.same.0 ∙ ap (λ (s : Seats). number_of s.caller.pass) was in
+    record {
+      caller = w.caller;
+      left = left;
+      works = subst (λ (l : Ledger). WorksBy w answer after station.device (acts station.device) l left) nothing by_device;
+      ended = subst (λ n. IsEnded n left.calls left.controls left.put end.totals) caller ended.ended;
+    }
+
 -- a station whose worker made all its acts, and which was ended, is finished
 finished_of : {R D : Type 0} (acts : D → ℕ) (answer : D → ℕ → Act) (after : D → ℕ → D) (station : Station D) (loose : Kept R (Loose D)) (worked : Worked R D) (end : Finished D)
     → IsLoose station loose.value → IsWorkedOf acts answer after loose worked → worked.done.whole ≡ true → IsFinishOf worked end
     → IsFinished acts answer after station end
 finished_of {R} {D} acts answer after station loose worked end opened made whole ended =
     let work = made.1 in
-    let is = made.4 in
+    let is = made.5 in
     let done = is.done in
     let device : work.device ≡ station.device = made.2 ∙ opened.same_device in
     let nothing : put_list work.rx ≡ [] = ap (λ (r : RxIn). put_list r) made.3 ∙ opened.nothing_put in
@@ -64,6 +103,7 @@ finished_of {R} {D} acts answer after station loose worked end opened made whole
             ended.put ∙ capped_small (length (put_list worked.done.rx)) (omega arith) ∙ count,
             ended.bytes ∙ ap (λ (l : List Packet). capped (bytes_of l)) all,
           );
+      run = run_of acts answer after station loose worked end opened made whole ended;
     }
 
 pub all_finished : {R D : Type 0} (acts : D → ℕ) (answer : D → ℕ → Act) (after : D → ℕ → D)
@@ -87,23 +127,24 @@ answer_finished acts answer after stations loose worked (Err fault) opened made 
 
 -- what the workers of the jobs gave back is of the stations
 worked_of : {R D G : Type 0} (acts : D → ℕ) (answer : D → ℕ → Act) (after : D → ℕ → D) (loose : Kept R (Loose D)) (job : Job R D G) (worked : Worked R D)
-    → IsKeptJobOf loose job → IsWorkOf acts answer after job.desk.napi.now job.desk.number job.work worked → IsWorkedOf acts answer after loose worked
+    → IsKeptJobOf loose job → IsWorkOf acts answer after job.desk.napi.now (is_some job.desk.thread) job.desk.number job.work worked → IsWorkedOf acts answer after loose worked
 worked_of {R} {D} acts answer after loose job worked given made =
-    (job.desk.napi.now, job.work, given.same_device, given.same_rx, rw (← given.same_number) made)
+    (job.desk.napi.now, job.work, given.same_device, given.same_rx, given.same_seats, rw (← given.same_number, ← given.thread) made)
 
 pub all_worked : {R D G : Type 0} (acts : D → ℕ) (answer : D → ℕ → Act) (after : D → ℕ → D)
     (loose : List (Kept R (Loose D))) (jobs : List (Job R D G)) (worked : List (Worked R D))
     → AllZip IsKeptJobOf loose jobs
-    → AllZip (λ (j : Job R D G) w. IsWorkOf acts answer after j.desk.napi.now j.desk.number j.work w) jobs worked
+    → AllZip (λ (j : Job R D G) w. IsWorkOf acts answer after j.desk.napi.now (is_some j.desk.thread) j.desk.number j.work w) jobs worked
     → AllZip (IsWorkedOf acts answer after) loose worked
 all_worked acts answer after loose jobs worked given made =
     zip_same _ _ _ _ (λ k w h. worked_of acts answer after k h.0 w h.1 h.2) (zip_both _ _ _ _ _ given made)
 
 done_at : {R D G : Type 0} (acts : D → ℕ) (answer : D → ℕ → Act) (after : D → ℕ → D) (placed : Kept R Placed) (loose : Kept R (Loose D)) (job : Job R D G) (worked : Worked R D)
-    → IsKeptSideOf loose placed → IsKeptJobOf loose job → IsJobAt placed job → IsWorkOf acts answer after job.desk.napi.now job.desk.number job.work worked
+    → IsKeptSideOf loose placed → IsKeptJobOf loose job → IsJobAt placed job → IsWorkOf acts answer after job.desk.napi.now (is_some job.desk.thread) job.desk.number job.work worked
     → IsDoneAt worked placed
 done_at acts answer after placed loose job worked side given at made = record {
   seats = subst (λ (n : Napi). AreSeatsOf n worked.done.seats.value) at made.done.seats;
+  controller = made.done.same.1 ∙ ap (λ (s : Seats). number_of s.control.pass) given.same_seats ∙ side.controller;
   ring = same_ring loose.value.rx job.work.rx worked.done.rx placed.value.napi given.same_rx made.done.ring side.ring;
   home = side.home;
 }
@@ -112,7 +153,7 @@ done_at acts answer after placed loose job worked side given at made = record {
 pub all_done_at : {R D G : Type 0} (acts : D → ℕ) (answer : D → ℕ → Act) (after : D → ℕ → D)
     (placed : List (Kept R Placed)) (loose : List (Kept R (Loose D))) (jobs : List (Job R D G)) (worked : List (Worked R D))
     → AllZip IsKeptSideOf loose placed → AllZip IsKeptJobOf loose jobs → AllZip IsJobAt placed jobs
-    → AllZip (λ (j : Job R D G) w. IsWorkOf acts answer after j.desk.napi.now j.desk.number j.work w) jobs worked
+    → AllZip (λ (j : Job R D G) w. IsWorkOf acts answer after j.desk.napi.now (is_some j.desk.thread) j.desk.number j.work w) jobs worked
     → AllZip IsDoneAt worked placed
 all_done_at acts answer after placed loose jobs worked sides given at made =
     let a = zip_both _ _ _ _ _ (zip_flip _ _ _ sides) given in

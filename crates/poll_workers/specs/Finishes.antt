@@ -1,5 +1,5 @@
 -- What a run comes to.
-use Rattle.std.specs.Prelude.{◌≡◌, ℕ, ◌+◌, ◌≤◌, length}
+use Rattle.std.specs.Prelude.{◌≡◌, ℕ, ◌+◌, ◌≤◌, is_some, length}
 use Rattle.rx_ring.specs.ReceiveRing.{bytes_of, capped}
 use Rattle.napi_calls.specs.declared.kept.Kept.{Kept}
 use Rattle.napi_calls.specs.declared.types.Napi.{Napi}
@@ -10,11 +10,12 @@ use Rattle.interrupt_workers.specs.declared.worker.Work.{Work}
 use Rattle.interrupt_workers.specs.declared.station.Finished.{Finished}
 use Rattle.interrupt_workers.specs.declared.station.Station.{Station}
 use Rattle.interrupt_workers.specs.Acts.{after_acts, arrivals}
+use Rattle.interrupt_workers.specs.Runs.{HasRun}
 use Rattle.interrupt_workers.specs.Works.{IsWorkOf}
 
 module _ {D : Type 0} (acts : D → ℕ) (answer : D → ℕ → Act) (after : D → ℕ → D) where
   -- The station's device made its acts, each once and in order. What was put was polled or is left. Where the ring has a
-  -- place for each of its packets, all were put.
+  -- place for each of its packets, all were put. Its acts were a run of its instance.
   pub record IsFinished (station : Station D) (end : Finished D) : Type 0 where
     pub same_number : end.number ≡ station.number
     pub made : end.device ≡ after_acts after station.device (acts station.device)
@@ -22,8 +23,10 @@ module _ {D : Type 0} (acts : D → ℕ) (answer : D → ℕ → Act) (after : D
     pub put : length (arrivals answer after station.device (acts station.device)) ≤ station.capacity
         → (end.totals.put ≡ length (arrivals answer after station.device (acts station.device)))
         × (end.totals.bytes ≡ capped (bytes_of (arrivals answer after station.device (acts station.device))))
+    pub run : HasRun answer after station.capacity station.thread station.device (acts station.device) end.totals
 
   -- the worker of a station, whose instance is this one, gave this back
   abbrev pub IsWorkedOf : {R : Type 0} → Kept R (Loose D) → Worked R D → Type 0
   IsWorkedOf {R} loose worked = (napi : Napi) × (work : Work R D)
-      × (work.device ≡ loose.value.device) × (work.rx ≡ loose.value.rx) × IsWorkOf acts answer after napi loose.value.number work worked
+      × (work.device ≡ loose.value.device) × (work.rx ≡ loose.value.rx) × (work.seats.value ≡ loose.value.seats)
+      × IsWorkOf acts answer after napi (is_some loose.value.pause) loose.value.number work worked

@@ -1,5 +1,5 @@
 -- What goes to the threads of stations.
-use Rattle.std.specs.Prelude.{◌≡◌, IsSome, ◌≤◌}
+use Rattle.std.specs.Prelude.{◌≡◌, IsSome, is_some, ◌≤◌}
 use Rattle.napi_calls.specs.declared.kept.Kept.{Kept}
 use Rattle.napi_calls.specs.Instance.{IsSeatOf}
 use Rattle.interrupt_workers.specs.declared.opening.Placed.{Placed}
@@ -11,11 +11,13 @@ use Rattle.interrupt_workers.specs.Seats.{AreSeatsOf}
 use Rattle.crew_tasks.specs.Paces.{IsLawful}
 
 module _ {R D G : Type 0} where
-  -- the job has the device, its number and its end of the ring, and may be done
+  -- the job has the device, its number, its end of the ring and its seats, knows of its thread, and may be done
   pub record IsJobOf (loose : Loose D) (job : Job R D G) : Type 0 where
     pub same_number : job.desk.number ≡ loose.number
     pub same_device : job.work.device ≡ loose.device
     pub same_rx : job.work.rx ≡ loose.rx
+    pub same_seats : job.work.seats.value ≡ loose.seats
+    pub thread : is_some job.desk.thread ≡ is_some loose.pause
     pub seats : AreSeatsOf job.desk.napi.now job.work.seats.value
 
   abbrev pub IsKeptJobOf : Kept R (Loose D) → Job R D G → Type 0

@@ -1,6 +1,6 @@
 //! What goes to the threads of a crew.
 
-ghost use Rattle.std.specs.Prelude.{◌≡◌, ◌+◌, ◌≤◌, length, vec_items, vec_len};
+ghost use Rattle.std.specs.Prelude.{◌≡◌, ◌+◌, ◌≤◌, is_some, length, vec_items, vec_len};
 ghost use Rattle.std.specs.List.{AllZip};
 ghost use Rattle.interrupt_workers.specs.Opens.{IsKeptSideOf, IsSideOf};
 ghost use Rattle.crew_tasks.specs.Paces.{IsLawful};
@@ -30,6 +30,7 @@ fn desk_at<'t, 'p, 'n, R: Copy, G>(
 ) -> Desk<'t, 'p, 'n, R>
     ensures number { result.number ≡ number }
     ensures napi { result.napi.now ≡ placed.now.napi }
+    ensures thread { is_some result.thread ≡ is_some placed.now.bell }
 {
     Desk {
         rt: setting.rt,
