@@ -16,12 +16,13 @@ use Rattle.trace_rows.specs.declared.event.Event.{Event}
 use Rattle.trace_rows.specs.declared.event.Event.TheVariants.{Opened, Rx, Tx, Finish, Softirq, Kthread, Disable, Enable, Threaded, Busy}
 use Rattle.trace_rows.specs.declared.row.Row.{Row}
 use Rattle.interrupt_workers.specs.Acts.{arrivals}
+use Rattle.interrupt_workers.specs.Runs.{HasRun}
 use Rattle.poll_workers.specs.Finishes.{IsFinished}
 use Rattle.interrupt_workers.specs.declared.station.Finished.{Finished}
 use Rattle.interrupt_workers.specs.declared.station.Station.{Station}
 use Rattle.rx_ring.specs.ReceiveRing.{bytes_of, capped}
 use Rattle.threads_replay.specs.Answer.{IsPolled, overflows}
-use Rattle.threads_replay.specs.Script.{is_act_of, is_open, is_rx, opening_of, openings_of, opens, rx_of, script_of}
+use Rattle.threads_replay.specs.Script.{has_thread, is_act_of, is_open, is_rx, opening_of, openings_of, opens, rx_of, script_of}
 use Rattle.threads_replay.specs.ScriptShown.{Script, acts, after, answer}
 use Rattle.threads_replay.specs.Stations.{IsEndOf, IsStationOf, end_lines, is_small, polled_of, small_fault}
 use Rattle.threads_replay.specs.ThreadsReport.{arrived, bytes, device_lines, is_opened, opened}
@@ -152,6 +153,23 @@ opened-more rows number one =
 capped-small : (n : ℕ) → n ≤ 6553600000 → capped n ≡ n
 capped-small n h = min-eq_left (omega (arith, h))
 
+-- its run, told of the device as it is afterwards
+run-of : {rows : List Row} {device : ℕ} (station : Station Script) (end : Finished Script) → IsStationOf rows device station
+    → end.device ≡ record station.device { made = length station.device.rows }
+    → HasRun answer after station.capacity station.thread station.device (acts station.device) end.totals
+    → HasRun answer after end.device.opening.value (has_thread end.device.rows) (record end.device { made = 0 }) (length end.device.rows) end.totals
+run-of station end of ended run =
+    let script : Script = station.device in
+    let opening : station.capacity ≡ end.device.opening.value = of.its_capacity ∙ sym (ap (λ (s : Script). s.opening.value) ended) in
+    let rows : script.rows ≡ end.device.rows = sym (ap (λ (s : Script). s.rows) ended) in
+    let thread : station.thread ≡ has_thread end.device.rows = of.its_thread ∙ ap (λ (l : List Row). has_thread l) (sym of.its_rows ∙ rows) in
+    let before : script ≡ record end.device { made = 0 } = λ i. record { opening = ap (λ (s : Script). s.opening) (sym ended) i; rows = rows i; made = of.its_made i } in
+    let count : acts script ≡ length end.device.rows = ap (λ (l : List Row). length l) rows in
+    let by_places = subst (λ (n : ℕ). HasRun answer after n station.thread script (acts script) end.totals) opening run in
+    let by_thread = subst (λ (b : Bool). HasRun answer after end.device.opening.value b script (acts script) end.totals) thread by_places in
+    let by_count = subst (λ (n : ℕ). HasRun answer after end.device.opening.value (has_thread end.device.rows) script n end.totals) count by_thread in
+    subst (λ (s : Script). HasRun answer after end.device.opening.value (has_thread end.device.rows) s (length end.device.rows) end.totals) before by_count
+
 end-of : (rows : List Row) (device : ℕ) (station : Station Script) (end : Finished Script) → AcceptedAfter [] rows → length rows ≤ 100000
     → IsStationOf rows device station → is_small station ≡ false → IsFinished acts answer after station end → IsEndOf rows device end
 end-of rows device station end accepted few of enough finished =
@@ -173,6 +191,7 @@ end-of rows device station end accepted few of enough finished =
       its_put = put.0 ∙ count ∙ ap (λ (l : List Row). length (rx_of l)) of.its_rows;
       its_bytes = put.1 ∙ ap (λ (n : ℕ). capped n) total ∙ capped-small (bytes device rows) (bytes-small rows device accepted few);
       sum = sym finished.sum;
+      its_run = run-of station end of ended finished.run;
     }
 
 pub ends-of : (rows : List Row) (devices : List ℕ) (stations : List (Station Script)) (ends : List (Finished Script)) → AcceptedAfter [] rows → length rows ≤ 100000
@@ -227,4 +246,15 @@ pub all-polled : (rows : List Row) (devices : List ℕ) (ends : List (Finished S
 all-polled rows [] [] h = tt
 all-polled rows [] (e ∷ es) h = absurd h
 all-polled rows (d ∷ ds) [] h = absurd h
-all-polled rows (d ∷ ds) (e ∷ es) h = (record { same_device = h.0.its_number; sum = h.0.sum ∙ h.0.its_put }, all-polled rows ds es h.1)
+all-polled rows (d ∷ ds) (e ∷ es) h = (
+  record {
+    same_device = h.0.its_number;
+    sum = h.0.sum ∙ h.0.its_put;
+    script = record e.device { made = 0 };
+    is = record { opening = h.0.its_opening; acts = h.0.its_rows; made = refl };
+    totals = e.totals;
+    run = h.0.its_run;
+    counts = (refl, refl);
+  },
+  all-polled rows ds es h.1,
+)

@@ -1,5 +1,5 @@
 -- What a run of a text with threads answers: the threads report of its rows, or its first fault.
-use Rattle.std.specs.Prelude.{◌≡◌, ℕ, ◌+◌, List, Bool, Option, Some, None, Result, Ok, Err, nat_lt, option_map}
+use Rattle.std.specs.Prelude.{◌≡◌, ℕ, ◌+◌, List, Bool, Option, Some, None, Result, Ok, Err, length, nat_lt, option_map}
 use Rattle.std.specs.List.{find}
 use Rattle.trace_rows.specs.Trace.{records_of, trace_of}
 use Rattle.trace_rows.specs.declared.TraceFault.{TraceFault}
@@ -10,7 +10,10 @@ use Rattle.report_text.specs.declared.fault.ReplayFault.TheVariants.{GateShut, R
 use Rattle.trace_rows.specs.declared.fault.TraceFault.TheVariants.{OutOfMemory}
 use Rattle.poll_workers.specs.declared.fault.WorkFault.{WorkFault}
 use Rattle.poll_workers.specs.declared.fault.WorkFault.TheVariants as work
-use Rattle.threads_replay.specs.Script.{opening_of}
+use Rattle.rx_ring.specs.declared.packet.Totals.{Totals}
+use Rattle.interrupt_workers.specs.Runs.{HasRun}
+use Rattle.threads_replay.specs.Script.{has_thread, opening_of, script_of}
+use Rattle.threads_replay.specs.ScriptShown.{Script, after, answer}
 use Rattle.threads_replay.specs.ThreadsReport.{arrived, opened, threads_report}
 use Rattle.threads_replay.specs.declared.polled.Polled.{Polled}
 
@@ -51,7 +54,18 @@ IsToldAs work.GateShut told = told ≡ GateShut
 IsToldAs work.SpawnFailed told = told ≡ SpawnFailed
 IsToldAs work.SameNumber told = ⊥
 
--- what was polled of a device, and what is left, are the packets that arrived there
+-- the device as the rows tell of it, before its acts
+pub record IsDeviceOf (rows : List Row) (device : ℕ) (script : Script) : Type 0 where
+  pub opening : opening_of device rows ≡ Some script.opening
+  pub acts : script.rows ≡ script_of device rows
+  pub made : script.made ≡ 0
+
+-- what was polled of a device, and what is left, are the packets that arrived there, as its own acts had them
 pub record IsPolled (rows : List Row) (device : ℕ) (polled : Polled) : Type 0 where
   pub same_device : polled.device ≡ device
   pub sum : polled.polled + polled.left ≡ arrived device rows
+  pub script : Script
+  pub is : IsDeviceOf rows device script
+  pub totals : Totals
+  pub run : HasRun answer after script.opening.value (has_thread script.rows) script (length script.rows) totals
+  pub counts : (polled.polled ≡ totals.polled) × (polled.left ≡ totals.left)

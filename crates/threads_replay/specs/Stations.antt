@@ -4,11 +4,14 @@ use Rattle.std.specs.List.{find}
 use Rattle.trace_rows.specs.declared.row.Row.{Row}
 use Rattle.interrupt_workers.specs.declared.station.Finished.{Finished}
 use Rattle.interrupt_workers.specs.declared.station.Station.{Station}
+use Rattle.interrupt_workers.specs.Runs.{HasRun}
 use Rattle.report_text.specs.declared.fault.ReplayFault.{ReplayFault}
 use Rattle.report_text.specs.declared.fault.ReplayFault.TheVariants.{RingTooSmall}
+use Rattle.replay_words.specs.declared.settings.Settings.{Settings}
+use Rattle.crew_tasks.specs.declared.pace.Pace.{Pace}
 use Rattle.report_text.specs.Lines.{ended, tx_lines}
 use Rattle.threads_replay.specs.Script.{has_thread, opening_of, rx_of, script_of, tx_after}
-use Rattle.threads_replay.specs.ScriptShown.{Script}
+use Rattle.threads_replay.specs.ScriptShown.{Script, after, answer}
 use Rattle.threads_replay.specs.declared.polled.Polled.{Polled}
 use Rattle.threads_replay.specs.ThreadsReport.{arrived, arrived_line, bytes}
 
@@ -30,6 +33,7 @@ pub record IsEndOf (rows : List Row) (device : ℕ) (end : Finished Script) : Ty
   pub its_put : end.totals.put ≡ arrived device rows
   pub its_bytes : end.totals.bytes ≡ bytes device rows
   pub sum : end.totals.polled + end.totals.left ≡ end.totals.put
+  pub its_run : HasRun answer after end.device.opening.value (has_thread end.device.rows) (record end.device { made = 0 }) (length end.device.rows) end.totals
 
 -- its lines of the report
 abbrev pub end_lines : Finished Script → List ℕ
@@ -46,3 +50,7 @@ small_fault stations = option_map (λ station. RingTooSmall station.number (leng
 -- what is told of its polls
 abbrev pub polled_of : Finished Script → Polled
 polled_of end = record { device = end.number; polled = end.totals.polled; left = end.totals.left }
+
+-- how pollers poll, by the settings
+abbrev pub pace_of : Settings → Pace
+pace_of settings = record { budget = settings.budget; weight = settings.weight; window = settings.window }

@@ -12,7 +12,7 @@ ghost use Rattle.interrupt_workers.specs.Opens.{IsStation};
 ghost use Rattle.threads_replay.specs.Answer.{IsOutside, IsToldAs, ring_fault};
 ghost use Rattle.threads_replay.specs.Script.{opening_of, rx_of, script_of};
 ghost use Rattle.threads_replay.specs.ScriptShown.{acts, after, answer};
-ghost use Rattle.threads_replay.specs.Stations.{IsEndOf, IsStationOf, is_small, small_fault};
+ghost use Rattle.threads_replay.specs.Stations.{IsEndOf, IsStationOf, is_small, pace_of, small_fault};
 ghost use Rattle.threads_replay.specs.ThreadsReport.{is_opened, opened};
 
 use crate::dealing::{openings_of, scripts_of, take_script};
@@ -131,6 +131,17 @@ fn work_fault(fault: WorkFault) -> ReplayFault
     }
 }
 
+// The settings' budget, weight and window.
+fn pace_of(settings: &Settings) -> Pace
+    ensures { result ≡ pace_of settings.now }
+{
+    Pace {
+        budget: settings.budget,
+        weight: settings.weight,
+        window: settings.window,
+    }
+}
+
 // Runs the stations, paced as the settings say.
 fn run_stations<P, G>(
     rt: &P,
@@ -149,11 +160,7 @@ where
         (λ all. AllZip (IsFinished acts answer after) (vec_items stations) (vec_items all)) }
     ensures fault { IfErr result (λ fault. IsOutside fault) }
 {
-    let pace = Pace {
-        budget: settings.budget,
-        weight: settings.weight,
-        window: settings.window,
-    };
+    let pace = pace_of(settings);
     match run_workers(rt, alloc, stations, settings.pollers, pace, gate) {
         Ok(finished) => Ok(finished),
         Err(fault) => Err(work_fault(fault)),
