@@ -30,6 +30,7 @@ use Rattle.interrupt_workers.specs.Opens.{IsInputOf, IsKeptLoose, IsKeptSideOf, 
 use Rattle.interrupt_workers.specs.Runs.{HasRun, IsEnded, Ledger, Whose, WorksBy, blank, controller_number}
 use Rattle.interrupt_workers.specs.Seats.{AreSeatsOf}
 use Rattle.seat_pollers.specs.SeatKeeping.{AreSameSeats, IsSameSeat}
+use Rattle.seat_pollers.specs.Gives.{GivesCaller}
 use Rattle.crew_tasks.specs.Paces.{IsLawful}
 use Rattle.poll_workers.specs.Spreads.{IsJobAt, IsKeptJobOf, IsSeatAt, IsThreadAt}
 use Rattle.interrupt_workers.specs.Works.{IsWorkOf, ledger_of, whose}
@@ -182,9 +183,9 @@ all_there placed seats afters at same =
 
 -- so are those of the instances' threads
 pub all_threads_at : {R G : Type 0} (placed : List (Kept R Placed)) (sides : List (ThreadSide R G)) (callers : List (Kept R Caller))
-    → AllZip IsThreadAt placed sides → AllZip (λ (side : ThreadSide R G) caller. IsSeatOf side.napi.now caller.value.pass) sides callers → AllZip IsCallerAt callers placed
+    → AllZip IsThreadAt placed sides → AllZip GivesCaller sides callers → AllZip IsCallerAt callers placed
 all_threads_at placed sides callers at of =
-    zip_flip _ _ _ (zip_same _ _ _ _ (λ p k h. subst (λ (n : Napi). IsSeatOf n k.value.pass) h.1.napi h.2) (zip_both _ _ _ _ _ at of))
+    zip_flip _ _ _ (zip_same _ _ _ _ (λ p k h. subst (λ (n : Napi). IsSeatOf n k.value.pass) h.1.napi h.2.of) (zip_both _ _ _ _ _ at of))
 
 -- all jobs may be done, and all sides may be run
 pub all_can_work : {R D G : Type 0} (loose : List (Kept R (Loose D))) (jobs : List (Job R D G)) → AllZip IsKeptJobOf loose jobs → All (λ (j : Job R D G). AreSeatsOf j.desk.napi.now j.work.seats.value) jobs

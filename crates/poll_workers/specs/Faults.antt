@@ -1,5 +1,5 @@
--- Why a run gave nothing, by number.
-use Rattle.std.specs.Prelude.{ℕ}
+-- Why a run gave nothing, by number, and which fault is told.
+use Rattle.std.specs.Prelude.{ℕ, Bool, true, false, Result, Ok, Err, if◌then◌else◌}
 use Rattle.poll_workers.specs.declared.fault.WorkFault.{WorkFault}
 use Rattle.poll_workers.specs.declared.fault.WorkFault.TheVariants.{OutOfMemory, GateShut, SpawnFailed, SameNumber}
 
@@ -8,3 +8,27 @@ number_of OutOfMemory = 1
 number_of GateShut = 2
 number_of SpawnFailed = 3
 number_of SameNumber = 4
+
+abbrev pub is_memory : WorkFault → Bool
+is_memory OutOfMemory = true
+is_memory GateShut = false
+is_memory SpawnFailed = false
+is_memory SameNumber = false
+
+-- memory was refused to some crew
+abbrev pub wants_memory : {A : Type 0} → Result A WorkFault → Bool
+wants_memory (Ok all) = false
+wants_memory (Err fault) = is_memory fault
+
+-- What is told of what the crews came to, by whether a thread could not be started and whether the gate was shut: want of memory
+-- before all else, then the thread, then the gate.
+abbrev pub told : {A : Type 0} → Result A WorkFault → Bool → Bool → Result A WorkFault
+told came refused shut =
+    if wants_memory came then came else if refused then Err SpawnFailed else if shut then Err GateShut else came
+
+-- A crew knows of no gate: where its acts were not all made, its fault is that of a thread.
+abbrev pub IsCrewFault : WorkFault → Type 0
+IsCrewFault OutOfMemory = Unit {0}
+IsCrewFault GateShut = ⊥
+IsCrewFault SpawnFailed = Unit {0}
+IsCrewFault SameNumber = ⊥

@@ -3,6 +3,7 @@
 ghost use Rattle.std.specs.Prelude.{◌≡◌, ◌≤◌, ◌<◌, ◌+◌, IfOk, IfErr, true, vec_items, vec_len, vec_capacity};
 ghost use Rattle.std.specs.List.{All, AllZip};
 ghost use Rattle.poll_workers.specs.Finishes.{IsFinished, IsWorkedOf};
+ghost use Rattle.poll_workers.specs.declared.fault.WorkFault.TheVariants.{SpawnFailed};
 ghost use Rattle.interrupt_workers.specs.Ends.{IsCallerAt, IsDoneAt, IsFinishOf};
 ghost use Rattle.interrupt_workers.specs.Opens.{IsKeptSideOf, IsStation};
 ghost use Rattle.crew_tasks.specs.Paces.{IsLawful};
@@ -127,7 +128,8 @@ where
     })
 }
 
-// Ends a crew's stations. There is room for them. Where not all acts were made the answer is `GateShut`.
+// Ends a crew's stations. There is room for them. Where not all acts were made the answer is `SpawnFailed`: whether the gate
+// was shut, who watches it says.
 fn end_crew<R: Wait + Drop, D: Drop, E>(
     ended: Ended<R, D, E>,
     placed: Vec<Kept<R, Placed>>,
@@ -141,6 +143,7 @@ fn end_crew<R: Wait + Drop, D: Drop, E>(
     ensures finished { IfOk result.0
         (λ all. AllZip IsFinishOf (vec_items ended.worked) (vec_items all)) }
     ensures whole { IfOk result.0 (λ all. All (λ w. w.done.whole ≡ true) (vec_items ended.worked)) }
+    ensures fault { IfErr result.0 (λ fault. fault ≡ SpawnFailed) }
     ensures beside { result.1 ≡ ended.beside }
 {
     let Ended {
@@ -152,7 +155,7 @@ fn end_crew<R: Wait + Drop, D: Drop, E>(
     let whole = are_whole(worked.as_slice());
     let finished = gather(worked, pollers, threads, placed, room);
     if !whole {
-        return (Err(WorkFault::GateShut), beside);
+        return (Err(WorkFault::SpawnFailed), beside);
     }
     (Ok(finished), beside)
 }
@@ -161,7 +164,7 @@ fn end_crew<R: Wait + Drop, D: Drop, E>(
 /// they are afterwards, in order. Meanwhile `beside` is called.
 ///
 /// Where memory is refused nothing is begun, and `beside` isn't called. Where not all acts were made the answer is
-/// `GateShut`, whatever stopped them.
+/// `SpawnFailed`, whatever stopped them.
 pub(crate) fn run_crew<'t, R, D, G, F, E>(
     setting: &'t Setting<'t, R, G>,
     alloc: Global,
@@ -183,6 +186,7 @@ where
     ensures finished { IfOk result
         (λ r. IfOk r.0
         (λ all. AllZip (IsFinished D.acts D.answer D.after) (vec_items stations) (vec_items all))) }
+    ensures fault { IfOk result (λ r. IfErr r.0 (λ fault. fault ≡ SpawnFailed)) }
     ensures beside { IfOk result (λ r. F.post beside r.1) }
 {
     let count = stations.len();

@@ -5,7 +5,8 @@ ghost use Rattle.std.specs.List.{All, AllZip};
 ghost use Rattle.std.specs.Thread.{IsSend, IsSync};
 ghost use Rattle.interrupt_workers.specs.Deals.{IsDealt};
 ghost use Rattle.poll_workers.specs.Finishes.{IsFinished};
-ghost use Rattle.poll_workers.specs.declared.fault.WorkFault.TheVariants.{OutOfMemory, SameNumber};
+ghost use Rattle.poll_workers.specs.declared.fault.WorkFault.TheVariants.{GateShut, OutOfMemory, SameNumber};
+ghost use Rattle.poll_workers.specs.Faults.{IsCrewFault, told};
 ghost use Rattle.poll_workers.specs.Numbers.{own_numbers};
 ghost use Rattle.interrupt_workers.specs.Opens.{IsStation};
 ghost use Rattle.crew_tasks.specs.Paces.{IsLawful};
@@ -13,7 +14,7 @@ ghost use Rattle.crew_tasks.specs.Paces.{IsLawful};
 use crate::crew::run_crew;
 use crate::fault::WorkFault;
 use crate::numbers::have_own_numbers;
-use crew_tasks::{Gate, Pace, Setting, Signals};
+use crew_tasks::{Gate, Pace, Setting, Signals, Watch};
 use interrupt_workers::{Dealt, Device, Finished, Station, deal, merge};
 use std::alloc::{AllocError, Global};
 use std::sync::Wait;
@@ -67,8 +68,9 @@ where
     requires pace { IsLawful setting.now.pace }
     requires stations { All IsStation (vec_items stations) }
     requires count { vec_len stations ≤ 16 }
-    ensures { IfOk result
+    ensures finished { IfOk result
         (λ all. AllZip (IsFinished D.acts D.answer D.after) (vec_items stations) (vec_items all)) }
+    ensures fault { IfErr result IsCrewFault }
 {
     if stations.is_empty() {
         return Ok(Vec::new(alloc));
@@ -91,13 +93,26 @@ where
         requires { IsSend R.row × IsSync R.row × IsSend D.row × IsSync G.row
             × (number + 1 < pollers) × (pollers ≤ 8) × IsLawful setting.now.pace
             × All IsStation (vec_items others) × (vec_len others ≤ 16) }
-        ensures { IfOk result
+        ensures finished { IfOk result
             (λ all. AllZip (IsFinished D.acts D.answer D.after) (vec_items others)
             (vec_items all)) }
+        ensures fault { IfErr result IsCrewFault }
     { run_crews(setting, alloc, number + 1, pollers, others) };
     let (finished, others) = begun(setting, run_crew(setting, alloc, number, mine, later))?;
     let others = others?;
     Ok(merge(order, finished?, others, room))
+}
+
+// What is told of a run.
+fn tell<T: Drop>(came: Result<T, WorkFault>, refused: bool, shut: bool) -> Result<T, WorkFault>
+    ensures { result ≡ told came refused shut }
+{
+    match came {
+        Err(WorkFault::OutOfMemory) => Err(WorkFault::OutOfMemory),
+        _ if refused => Err(WorkFault::SpawnFailed),
+        _ if shut => Err(WorkFault::GateShut),
+        came => came,
+    }
 }
 
 /// Runs the devices of the stations, each in a thread of its own that makes its acts in order, as interrupts of a shared
@@ -129,22 +144,20 @@ where
     ensures finished { IfOk result
         (λ all. AllZip (IsFinished D.acts D.answer D.after) (vec_items stations) (vec_items all)) }
     ensures numbers { IsErrOf result SameNumber ↔ (own_numbers (vec_items stations) ≡ false) }
+    // So never with a gate that is always open.
+    ensures gate { IsErrOf result GateShut → G.may_shut }
 {
     if !have_own_numbers(stations.as_slice()) {
         return Err(WorkFault::SameNumber);
     }
+    let watch = Watch::new(gate);
     let signals = Signals::new();
     let setting = Setting {
         rt,
-        gate,
+        gate: &watch,
         signals: &signals,
         pace,
     };
-    match run_crews(&setting, alloc, 0, pollers, stations) {
-        Err(WorkFault::OutOfMemory) => Err(WorkFault::OutOfMemory),
-        _ if signals.is_refused() => Err(WorkFault::SpawnFailed),
-        _ if signals.is_stopped() => Err(WorkFault::GateShut),
-        Ok(finished) => Ok(finished),
-        Err(_not_whole) => Err(WorkFault::GateShut),
-    }
+    let came = run_crews(&setting, alloc, 0, pollers, stations);
+    tell(came, signals.is_refused(), watch.is_shut())
 }

@@ -1,3 +1,6 @@
 pub mod SeatKeeping
-pub mod Crowds
 pub mod Polled
+pub mod Crowds
+pub mod Serving
+pub mod Turns
+pub mod Gives

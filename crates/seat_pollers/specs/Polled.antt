@@ -1,11 +1,13 @@
 -- What a seat's polls make of its caller.
-use Rattle.std.specs.Prelude.{◌≡◌, ◌==◌, ℕ, Bool, false, List, [], Option, Some, None, length}
+use Rattle.std.specs.Prelude.{◌≡◌, ◌==◌, ◌||◌, ℕ, Bool, false, List, [], ◌∷◌, Option, Some, None, length, if◌then◌else◌}
 use Rattle.rx_ring.specs.declared.packet.Packet.{Packet}
 use Rattle.napi_model.specs.declared.event.Operation.{Operation}
 use Rattle.napi_calls.specs.declared.types.Caller.{Caller}
 use Rattle.napi_calls.specs.Dealt.{Delivers}
 use Rattle.napi_calls.specs.Made.{Made}
+use Rattle.poll_engine.specs.Polls.{is_arrival, is_repoll}
 use Rattle.poll_engine.specs.Thread.{IsThreadPolling}
+use Rattle.poll_engine.specs.declared.bench.Next.{Next}
 use Rattle.poll_engine.specs.declared.bench.Next.TheVariants.{Absent}
 use Rattle.poll_engine.specs.declared.bench.Once.{Once}
 use Rattle.poll_engine.specs.declared.bench.ThreadReport.{ThreadReport}
@@ -29,3 +31,7 @@ PollsByThread weight most (Some before) report packets (Some after) =
     (polls : List Once) × (os : List Operation) × (all : List Packet) × Made before.pass os after.pass
     × ThreadPollsBy weight most false polls os × Delivers before.pass all after.pass × GivesEach [] polls all packets
     × IsThreadPolling weight most polls report
+
+-- the instance goes to the list: it was handed there, or is to be polled again
+abbrev pub handed_on : Next → ℕ → List ℕ
+handed_on next number = if is_arrival next || is_repoll next then number ∷ [] else []

@@ -6,10 +6,11 @@ use Rattle.napi_calls.specs.declared.types.Caller.{Caller}
 use Rattle.napi_calls.specs.Instance.{IsSeatOf}
 use Rattle.seat_pollers.specs.declared.seat.Seat.{Seat}
 
--- the seat is at the same instance, and its caller is there again
+-- the seat is at the same instance, with the same bell, and its caller is there again
 pub record IsSameSeat (a b : Seat) : Type 0 where
   pub number : b.number ≡ a.number
   pub napi : b.napi ≡ a.napi
+  pub thread : b.thread ≡ a.thread
   pub caller : IsSome a.caller → IsSome b.caller
 
 abbrev pub AreSameSeats : List Seat → List Seat → Type 0

@@ -1,11 +1,6 @@
 //! A poller: its seats are a bench, over which it runs while there is something on its list.
 
-ghost use Rattle.std.specs.Prelude.{◌≡◌, ◌≤◌, ◌<◌, List, length, vec_items, IfSome};
-ghost use Rattle.poll_engine.specs.Polls.{At, Chain, Poll};
-ghost use Rattle.poll_engine.specs.Run.{IsRun};
-ghost use Rattle.shared_list.specs.SharedList.{IsAllPopped, PopsCame, in_hand};
-ghost use Rattle.seat_pollers.specs.Crowds.{KeepsSeats};
-ghost use Rattle.seat_pollers.specs.SeatKeeping.{AreSameSeats};
+ghost use Rattle.std.specs.Prelude.{◌≡◌, ◌==◌, ◌<◌, position, vec_items};
 ghost use Rattle.crew_tasks.specs.Paces.{IsLawful};
 
 use crate::seat::Seat;
@@ -29,15 +24,15 @@ pub(crate) struct Crowd<'n, R> {
 
 // Where the instance of this number has its seat.
 fn find(seats: &[Seat], number: u32) -> Option<usize>
-    ensures { IfSome result (λ at. at < length seats.now) }
+    ensures { result ≡ position (λ seat. seat.number == number) seats.now }
 {
     seats.iter().position(|seat| seat.number == number)
 }
 
 impl<'n, R: Wait> Bench for Crowd<'n, R> {
-    ghost use Rattle.seat_pollers.specs.Crowds.{BusyKeepsSeats, KeepsSeats, ThreadKeepsSeats};
+    ghost use Rattle.seat_pollers.specs.Crowds.{BusyKeepsSeats, PollsSeat, ThreadKeepsSeats};
 
-    ghost polls = { KeepsSeats };
+    ghost polls = { PollsSeat };
 
     ghost thread_polls = { ThreadKeepsSeats };
 
@@ -77,13 +72,11 @@ struct Poller<'n, R> {
 }
 
 impl<'n, R: Wait> Poller<'n, R> {
+    ghost use Rattle.seat_pollers.specs.Turns.{RunsOnce};
+
     // A run over what is on the list, by the budget, the weight and the window of the pace (`net_rx_action`).
     fn run(&mut self) -> RunReport
-        ensures pace { self.new.pace ≡ self.old.pace }
-        ensures run { (polls : List Poll)
-            × Chain (At KeepsSeats self.old.pace.weight) self.old.crowd polls self.new.crowd
-            × IsRun in_hand PopsCame IsAllPopped self.old.pace.budget self.old.pace.window
-            self.old.list polls self.new.list result }
+        ensures { RunsOnce self.old result self.new }
     {
         let Pace {
             budget,
@@ -114,20 +107,13 @@ impl<'n, R: Drop> Poller<'n, R> {
 }
 
 impl<'n, R: Wait> Serves for Poller<'n, R> {
-    ghost use Rattle.std.specs.Prelude.{vec_items};
-    ghost use Rattle.seat_pollers.specs.Crowds.{seats_join, seats_stay};
-    ghost use Rattle.seat_pollers.specs.SeatKeeping.{AreSameSeats};
+    ghost use Rattle.seat_pollers.specs.Turns.{TurnsByRun};
 
-    ghost keeps = { λ before after. AreSameSeats (vec_items before.crowd.seats) (vec_items after.crowd.seats) };
+    ghost turns = { TurnsByRun };
 
-    #[tactic(auto, using(crate::proofs::SeatFacts::run_keeps))]
     fn turn(&mut self) -> bool {
         self.run().polls > 0
     }
-
-    ghost stays = { λ poller. seats_stay (vec_items poller.crowd.seats) };
-
-    ghost joins = { λ first second third. seats_join (vec_items first.crowd.seats) (vec_items second.crowd.seats) (vec_items third.crowd.seats) };
 }
 
 /// A poller's thread.
@@ -148,11 +134,13 @@ pub struct PollTask<'t, 'p, 'n, R: Wait + Drop, G> {
 }
 
 impl<'t, 'p, 'n, R: Wait + Drop + Copy, G: Gate> PollTask<'t, 'p, 'n, R, G> {
+    ghost use Rattle.seat_pollers.specs.Gives.{GivesSeats};
+
     // Polls until told.
     fn poll(self) -> Kept<R, Vec<Seat<'n>>>
         requires number { self.number < 8 }
         requires pace { IsLawful self.setting.now.pace }
-        ensures { AreSameSeats (vec_items self.entry.seats.value) (vec_items result.value) }
+        ensures { GivesSeats self.entry result }
     {
         let PollTask {
             setting,
@@ -183,13 +171,13 @@ impl<'t, 'p, 'n, R: Wait + Drop + Copy, G: Gate> PollTask<'t, 'p, 'n, R, G> {
 
 impl<'t, 'p, 'n, R: Wait + Drop + Copy, G: Gate> Task<Kept<R, Vec<Seat<'n>>>>
     for PollTask<'t, 'p, 'n, R, G> {
-    ghost use Rattle.std.specs.Prelude.{◌<◌, vec_items};
-    ghost use Rattle.seat_pollers.specs.SeatKeeping.{AreSameSeats};
+    ghost use Rattle.std.specs.Prelude.{◌<◌};
     ghost use Rattle.crew_tasks.specs.Paces.{IsLawful};
+    ghost use Rattle.seat_pollers.specs.Gives.{GivesSeats};
 
     ghost can_run = { λ task. (task.number < 8) × IsLawful task.setting.now.pace };
 
-    ghost gives = { λ task seats. AreSameSeats (vec_items task.seats.value) (vec_items seats.value) };
+    ghost gives = { GivesSeats };
 
     fn is_idle(&self) -> bool {
         false

@@ -49,7 +49,8 @@ impl<'n> Seat<'n> {
     /// Gives the caller back.
     pub(crate) fn leave(self) -> Caller
         requires { IsSome self.caller }
-        ensures { IsSeatOf self.entry.napi.now result.pass }
+        ensures of { IsSeatOf self.entry.napi.now result.pass }
+        ensures caller { self.entry.caller ≡ Some result }
     {
         let Seat {
             number: _,

@@ -1,8 +1,10 @@
 //! The thread of one instance, which polls that one alone.
 
-ghost use Rattle.std.specs.Prelude.{◌≤◌, IsSome};
+ghost use Rattle.std.specs.Prelude.{◌≡◌, ◌≤◌, ◌++◌, IsSome, Some};
+ghost use Rattle.shared_list.specs.SharedList.{pushed_by};
 ghost use Rattle.napi_calls.specs.Instance.{IsSeatOf};
 ghost use Rattle.crew_tasks.specs.Paces.{IsLawful};
+ghost use Rattle.seat_pollers.specs.Polled.{handed_on};
 
 use crate::seat::Seat;
 use crate::serving::{Serves, serve};
@@ -33,7 +35,8 @@ impl<'p, 'n, R: Drop> Alone<'p, 'n, R> {
     // Gives the caller back.
     fn leave(self) -> Caller
         requires { IsSome self.seat.caller }
-        ensures { IsSeatOf self.entry.seat.napi.now result.pass }
+        ensures of { IsSeatOf self.entry.seat.napi.now result.pass }
+        ensures caller { self.entry.seat.caller ≡ Some result }
     {
         let Alone {
             rt: _,
@@ -47,11 +50,20 @@ impl<'p, 'n, R: Drop> Alone<'p, 'n, R> {
     }
 }
 
-impl<'p, 'n, R: Wait> Serves for Alone<'p, 'n, R> {
-    ghost use Rattle.seat_pollers.specs.SeatKeeping.{IsSameSeat};
-    ghost use Rattle.std.proofs.Common.{rules};
+// Hands an instance on to the list, where a poll ended so that its thread may not poll it again, and wakes who polls it there.
+fn hand_on<R: Wait>(list: &mut ListIn<R>, poller: &Bell, number: u32, next: Next)
+    ensures { pushed_by list.new ≡ pushed_by list.old ++ handed_on next number }
+{
+    if matches!(next, Next::Repoll | Next::Again(Kind::List)) {
+        list.push(number);
+        poller.wake();
+    }
+}
 
-    ghost keeps = { λ before after. IsSameSeat before.seat after.seat };
+impl<'p, 'n, R: Wait> Serves for Alone<'p, 'n, R> {
+    ghost use Rattle.seat_pollers.specs.Turns.{TurnsAlone};
+
+    ghost turns = { TurnsAlone };
 
     fn turn(&mut self) -> bool {
         let report = self.seat.poll_thread(
@@ -60,16 +72,9 @@ impl<'p, 'n, R: Wait> Serves for Alone<'p, 'n, R> {
             self.pace.window,
             &mut self.batch,
         );
-        if matches!(report.next, Next::Repoll | Next::Again(Kind::List)) {
-            self.list.push(self.seat.number);
-            self.poller.wake();
-        }
+        hand_on(&mut self.list, self.poller, self.seat.number, report.next);
         report.polls > 0
     }
-
-    ghost stays = { Prim.search rules };
-
-    ghost joins = { Prim.search rules };
 }
 
 /// What the thread of an instance needs, where the instance has one.
@@ -101,12 +106,14 @@ pub struct ThreadSide<'t, 'p, 'n, R: Wait + Drop, G> {
 }
 
 impl<'t, 'p, 'n, R: Wait + Drop + Copy, G: Gate> ThreadSide<'t, 'p, 'n, R, G> {
+    ghost use Rattle.seat_pollers.specs.Gives.{GivesCaller};
+
     // Polls until told.
     fn poll(self) -> Kept<R, Caller>
         requires seat { IsSeatOf self.napi.now self.caller.value.pass }
         requires name { self.number ≤ 16 }
         requires pace { IsLawful self.setting.now.pace }
-        ensures { IsSeatOf self.entry.napi.now result.value.pass }
+        ensures { GivesCaller self.entry result }
     {
         let ThreadSide {
             setting,
@@ -146,10 +153,11 @@ impl<'t, 'p, 'n, R: Wait + Drop + Copy, G: Gate> Task<Kept<R, Caller>>
     ghost use Rattle.std.specs.Prelude.{◌≤◌};
     ghost use Rattle.napi_calls.specs.Instance.{IsSeatOf};
     ghost use Rattle.crew_tasks.specs.Paces.{IsLawful};
+    ghost use Rattle.seat_pollers.specs.Gives.{GivesCaller};
 
     ghost can_run = { λ side. IsSeatOf side.napi.now side.caller.value.pass × (side.number ≤ 16) × IsLawful side.setting.now.pace };
 
-    ghost gives = { λ side caller. IsSeatOf side.napi.now caller.value.pass };
+    ghost gives = { GivesCaller };
 
     fn is_idle(&self) -> bool {
         self.own.is_none()

@@ -26,11 +26,11 @@ drive-driven-requires-clause-threads g c κs within =
     }
 
 pub unseat-requires-clause-there : goal.unseat-requires-clause-there
-unseat-requires-clause-there g c = all_there _ _ _ c.spread-jobs.ensures.seats (rw (← c.open.ensures, c.new.ensures) at c.drive-driven.ensures.polled)
+unseat-requires-clause-there g c = all_there _ _ _ c.spread-jobs.ensures.seats (rw (← c.open.ensures, c.new.ensures) at c.drive-driven.ensures.polled.same)
 
 pub unseat-requires-clause-room : goal.unseat-requires-clause-room
 unseat-requires-clause-room g c =
-    let same = rw (← c.open.ensures, c.new.ensures) at c.drive-driven.ensures.polled in
+    let same = rw (← c.open.ensures, c.new.ensures) at c.drive-driven.ensures.polled.same in
     let a = zip_long _ _ _ c.spread-jobs.ensures.seats in
     let b = zip_long _ _ _ same in
     let d = zip_long _ _ _ c.requires.sides in
@@ -44,7 +44,7 @@ returns-clause-dones g c = all_done_at _ _ _ _ _ _ _ c.requires.sides c.spread-j
 
 pub returns-clause-pollers : goal.returns-clause-pollers
 returns-clause-pollers g c =
-    let same = rw (← c.open.ensures, c.new.ensures) at c.drive-driven.ensures.polled in
+    let same = rw (← c.open.ensures, c.new.ensures) at c.drive-driven.ensures.polled.same in
     all_pollers_at _ _ _ _ c.spread-jobs.ensures.seats same c.unseat.ensures
 
 pub returns-clause-threads : goal.returns-clause-threads

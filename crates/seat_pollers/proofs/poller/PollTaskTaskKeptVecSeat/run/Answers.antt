@@ -1,5 +1,6 @@
-use Rattle.seat_pollers.specs.Crowds.{seats_stay}
+use Rattle.std.proofs.Common.{refl, inl}
+use Rattle.seat_pollers.proofs.SeatFacts.{seats_stay}
 use Rattle.seat_pollers.proofs.poller.PollTaskTaskKeptVecSeat.run.Goals as goal
 
 pub returns-then-is_refused : goal.returns-then-is_refused
-returns-then-is_refused g c = seats_stay _
+returns-then-is_refused g c = record { same = seats_stay _; came = inl refl }
