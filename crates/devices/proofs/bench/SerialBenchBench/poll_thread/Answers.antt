@@ -37,9 +37,12 @@ pub returns-in_default : goal.returns-in_default
 returns-in_default c =
     let below : c.args.id < length c.args.self.now.devices.items = omega (arith, c.args.self.now.kept.places) in
     let here : at c.args.id c.args.self.now.devices.items ≡ c.index_mut.result.now = at-index _ c.args.id _ below (sym c.index_mut.ensures.value) in
-    let back : slice_set c.args.self.now.devices.items c.args.id c.index_mut.result.now ≡ c.args.self.now.devices.items = set-back _ c.args.id _ below here in
-    ([], record {
-      exact = λ stated. (search rules, search rules);
-      transmits = λ all shown. record { sides = shown.sides; each = rw back shown.each };
-      waits = search (rules, back);
-    }, search rules)
+    let back : slice_set c.args.self.now.devices.items c.args.id c.index_mut.result.now ≡ c.args.self.now.devices.items = set-back _ c.args.id _ below here in (
+      [],
+      record {
+        exact = λ stated. (search rules, search rules);
+        transmits = λ all shown. record { sides = shown.sides; each = rw back shown.each };
+        waits = search (rules, back);
+      },
+      search rules,
+    )
