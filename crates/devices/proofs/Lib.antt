@@ -2,5 +2,6 @@ pub mod BenchFacts
 pub mod BusyFacts
 pub mod DeviceFacts
 pub mod InstanceFacts
+pub mod SideFacts
 pub mod ThreadFacts
 pub mod Waiting

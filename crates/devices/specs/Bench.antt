@@ -102,9 +102,13 @@ all_settled devices = map settled_at devices
 
 -- ---- the report
 
--- how many devices there are
-abbrev pub attached : Devices → ℕ
-attached devices = length (filter is_some devices)
+-- how many places are taken
+abbrev pub attached : {A : Type 0} → Places A → ℕ
+attached places = length (filter is_some places)
+
+-- each device has a transmit side, and no other number has one
+abbrev pub HaveSides : {A : Type 0} → Places A → Transmits → Type 0
+HaveSides devices all = (number : ℕ) → is_some (at number all) ≡ is_some (at number devices)
 
 abbrev pub counts_at : Option DeviceView → Option TxCounts → Option DeviceCounts
 counts_at None tx = None

@@ -1,6 +1,6 @@
 -- What a bench on one thread shows.
 use Rattle.std.specs.Prelude.{ℕ}
-use Rattle.devices.specs.Bench.{Devices}
+use Rattle.devices.specs.Bench.{Devices, HaveSides}
 use Rattle.transmit_sides.specs.Transmits.{Transmits}
 use Rattle.transmit_sides.specs.Sides.{ShowsSides}
 use Rattle.devices.specs.Waiting.{waiting}
@@ -10,9 +10,10 @@ use Rattle.devices.specs.declared.bench.SerialBench.{SerialBench}
 abbrev pub devices_of : SerialBench → Devices
 devices_of bench = bench.devices.items
 
--- its transmit sides show these
-abbrev pub ShowsTransmits : SerialBench → Transmits → Type 0
-ShowsTransmits bench all = ShowsSides bench.transmits all
+-- its transmit sides show these, one for each of its devices
+pub record ShowsTransmits (bench : SerialBench) (all : Transmits) : Type 0 where
+  pub sides : ShowsSides bench.transmits all
+  pub each : HaveSides (devices_of bench) all
 
 -- how many of its devices wait on the poll list
 abbrev pub waiting_of : SerialBench → ℕ

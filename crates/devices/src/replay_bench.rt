@@ -1,6 +1,6 @@
 //! What the rows of a trace play on.
 
-ghost use Rattle.std.specs.Prelude.{◌≡◌, ◌≤◌, ◌+◌, ℕ, not, IfSome, OnErr, OnOk};
+ghost use Rattle.std.specs.Prelude.{◌≡◌, ◌≤◌, ◌+◌, ℕ, is_some, not, IfSome, OnErr, OnOk};
 ghost use Rattle.devices.specs.Bench.{AreBusyPolls, ArePolls, AreThreadPolls, Devices, all_settled, arrived, attached, counts_at, handed_by};
 ghost use Rattle.transmit_sides.specs.Transmits.{Changes, Keeps, Transmits, tx_counts_of};
 ghost use Rattle.devices.specs.Device.{after_disable, after_enable, after_threaded, opened};
@@ -104,12 +104,16 @@ pub trait ReplayBench: Bench {
 
     /// How many devices there are.
     fn attached(&self) -> usize
-        ensures { Exact → result ≡ attached (devices self.now) };
+        ensures devices { Exact → result ≡ attached (devices self.now) }
+        ensures transmits { (all : Transmits) → shows self.now all → result ≡ attached all };
 
-    /// What the report tells of a device, or `None` where there is no such device.
+    /// What the report tells of a device, or `None` where there is no such device. Each device has its transmit side from
+    /// `attach` on.
     fn counts(&self, device: u32) -> Option<DeviceCounts>
         ensures devices { Exact → (all : Transmits) → shows self.now all
             → result ≡ counts_at (at device (devices self.now)) (tx_counts_of (at device all)) }
+        ensures attached { (all : Transmits) → shows self.now all
+            → is_some result ≡ is_some (at device all) }
         ensures transmits { (all : Transmits) → shows self.now all
             → IfSome result (λ counts. counts.tx ≡ tx_counts_of (at device all)) };
 

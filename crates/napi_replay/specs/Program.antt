@@ -1,8 +1,7 @@
 -- The whole program: what it writes and how it ends, of the words after its name and the bytes of its input.
 use Rattle.std.specs.Prelude.{◌≡◌, ◌⊎◌, ℕ, List, Option, Some, None, Ok, Err}
 use Rattle.trace_rows.specs.Trace.{records_of, trace_of}
-use Rattle.trace_rows.specs.declared.row.Row.{Row}
-use Rattle.shared_replay.specs.Replay.{IsFaultOf}
+use Rattle.shared_replay.specs.Replay.{IsFaultOf, IsReportBy}
 use Rattle.threads_replay.specs.Answer.{threads_of}
 use Rattle.threads_replay.specs.Answer.{IsOutside as IsOutsideThreads}
 use Rattle.report_text.specs.Outside.{IsOutside}
@@ -20,10 +19,11 @@ use Rattle.replay_words.specs.declared.words.WordFault.TheVariants.{Usage, OutOf
 abbrev pub AskFor : List Text → Mode × Settings → Type 0
 AskFor words asked = asked_for words ≡ Some (asked_of asked)
 
--- the text is a mode's report of these bytes. Of shared mode it is said that they give rows; tests show that it is serial mode's
+-- The text is a mode's report of these bytes. Of shared mode's it is said which devices it tells, with their transmit sides; tests
+-- show that it is serial mode's.
 abbrev pub IsReportIn : Mode → Settings → List ℕ → List ℕ → Type 0
 IsReportIn Serial s bytes text = replay_of s bytes ≡ Ok text
-IsReportIn Shared s bytes text = (rows : List Row) × (trace_of (records_of bytes) ≡ Ok rows)
+IsReportIn Shared s bytes text = IsReportBy bytes text
 IsReportIn Threads s bytes text = threads_of bytes ≡ Ok text
 
 -- a mode's fault of these bytes

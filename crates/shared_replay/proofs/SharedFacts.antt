@@ -1,6 +1,6 @@
 -- How a change of one shared device keeps what is true of all.
 use Rattle.std.proofs.Common.{◌≡◌, ◌∙◌, ℕ, ◌+◌, ◌<◌, ◌≤◌, Bool, true, false, Option, Some, None, [], ◌∷◌, ◌++◌, length, length-set, get_or, slice_set, replicate, zero, suc, ap, subst, refl, sym, arith}
-use Rattle.std.specs.Prelude.{List, sum_by}
+use Rattle.std.specs.Prelude.{List, is_some, sum_by}
 use Rattle.std.specs.List.{AllByRecursion, AllZip}
 use Rattle.rx_ring.specs.declared.packet.Totals.{Totals}
 use Rattle.std.proofs.Math.Logic.{∥∥₁_elim}
@@ -11,7 +11,7 @@ use Rattle.shared_replay.specs.declared.shared_device.Controlled.{Controlled}
 use Rattle.shared_replay.specs.declared.shared_device.Controlled.TheVariants.{On, Marked, Off}
 use Rattle.shared_replay.specs.declared.shared_device.SharedDevice.{SharedDevice}
 use Rattle.std.proofs.lemmas.List.Sums.{sum_by-cons, sum_by-set}
-use Rattle.trace_rows.specs.Places.{Places, at}
+use Rattle.trace_rows.specs.Places.{Places, added, added_at, at}
 use Rattle.shared_replay.specs.Stations.{IsEndAt, IsRestAt, IsSharedKept, listed_of, waiting_in}
 use Rattle.shared_replay.specs.SharedDevice.{IsAtRest, IsCallerAt, IsControlAt}
 use Rattle.devices.specs.Waiting.{count}
@@ -120,3 +120,11 @@ module _ {R : Type 0} where
   end-more [] (e ∷ ends) x end zip is = absurd zip
   end-more (y ∷ xs) [] x end zip is = absurd zip
   end-more (y ∷ xs) (e ∷ ends) x end zip is = (zip.0, end-more xs ends x end zip.1 is)
+
+  -- what stands there already stays, and what doesn't is put there
+  pub added-there : (xs : Places (Station R)) (n : ℕ) (o : Option (Station R)) → at n xs ≡ o → is_some o ≡ true → (t : Station R) × (xs ≡ added n t xs)
+  added-there xs n None here on = cc on
+  added-there xs n (Some s) here on = (s, ap (λ (p : Option (Station R)). added_at n s p xs) (sym here))
+
+  pub added-new : (xs : Places (Station R)) (n : ℕ) (o : Option (Station R)) (t : Station R) → at n xs ≡ None → o ≡ Some t → (u : Station R) × (slice_set xs n o ≡ added n u xs)
+  added-new xs n o t here put = (t, rw put (ap (λ (p : Option (Station R)). added_at n t p xs) (sym here)))

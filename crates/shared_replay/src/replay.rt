@@ -1,13 +1,12 @@
 //! A whole replay in shared mode: from the bytes of a trace to the bytes of a report.
 
-ghost use Rattle.std.specs.Prelude.{◌≡◌, ◌≢◌, ◌⊎◌, ◌≤◌, [], ℕ, List, Ok, Some, IfErr, OnOk, length};
-ghost use Rattle.std.specs.Io.KnownBytes.{Appends, Keeps};
+ghost use Rattle.std.specs.Prelude.{◌≤◌, [], IfErr, IfOk, OnOk, length, string_bytes};
 ghost use Rattle.trace_rows.specs.Trace.{AcceptedAfter, records_of, trace_of};
-ghost use Rattle.trace_rows.specs.declared.row.Row.{Row};
-ghost use Rattle.shared_replay.specs.Replay.{IsFaultOf};
+ghost use Rattle.shared_replay.specs.Replay.{IsFaultOf, IsReportBy};
 ghost use Rattle.report_text.specs.Outside.{IsOutside};
+ghost use Rattle.report_text.specs.Written.{IsFaultBy, LeavesAsItWas, Writes};
 ghost use Rattle.trace_replay.specs.Refused.{IsRefused};
-ghost use Rattle.report_text.specs.declared.fault.ReplayFault.TheVariants.{OutputFailed};
+ghost use Rattle.trace_replay.specs.Told.{IsReportOf};
 
 use crate::shared_bench::SharedBench;
 use replay_words::Settings;
@@ -28,7 +27,8 @@ fn report_rows<H: Wait + Copy + Drop>(
 ) -> Result<String, ReplayFault>
     requires accepted { AcceptedAfter [] rows.now }
     requires count { length rows.now ≤ 100000 }
-    ensures { IfErr result (IsRefused ⊥ settings.now rows.now) }
+    ensures told { IfOk result (λ text. IsReportOf version rows.now (string_bytes text)) }
+    ensures fault { IfErr result (IsRefused ⊥ settings.now rows.now) }
 {
     let (bench, report) = report_on(alloc, SharedBench::new(rt, alloc)?, settings, version, rows);
     let _totals = bench.end();
@@ -48,16 +48,15 @@ pub fn replay_shared<H: Wait + Copy + Drop, R: Read + Drop, W: Write>(
     writer: &mut W,
     settings: &Settings,
 ) -> Result<(), ReplayFault>
-    // Only a trace that gives rows has a report.
-    ensures written { OnOk result ((bytes : List ℕ) → R.remaining reader ≡ Some bytes
-        → (rows : List Row) × (text : List ℕ) × (trace_of (records_of bytes) ≡ Ok rows)
-        × Appends (W.contents writer.old) (W.contents writer.new) text) }
+    // What is written is a report of the rows of the bytes read, and nothing else.
+    ensures written { OnOk result (Writes IsReportBy
+        (R.remaining reader) (W.contents writer.old) (W.contents writer.new)) }
 
     // A fault is that of the bytes read, unless the reader, the memory or the writer failed.
-    ensures fault { IfErr result (λ fault. (bytes : List ℕ) → R.remaining reader ≡ Some bytes
-        → IsOutside fault ⊎ IsFaultOf (trace_of (records_of bytes)) fault) }
+    ensures fault { IfErr result (IsFaultBy IsOutside
+        (λ bytes fault. IsFaultOf (trace_of (records_of bytes)) fault) (R.remaining reader)) }
     ensures untouched { IfErr result
-        (λ fault. fault ≢ OutputFailed → Keeps (W.contents writer.old) (W.contents writer.new)) }
+        (LeavesAsItWas (W.contents writer.old) (W.contents writer.new)) }
 {
     let trace = read_trace(alloc, reader)?;
     let text = report_rows(rt, alloc, settings, trace.version(), trace.rows())?;

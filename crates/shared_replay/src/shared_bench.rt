@@ -45,9 +45,12 @@ fn end_place<R: Wait + Copy + Drop>(place: Option<Station<R>>, batch: &mut Batch
 }
 
 impl<R: Wait + Copy + Drop> SharedBench<R> {
-    ghost use Rattle.std.specs.Prelude.{◌≡◌, ◌≤◌, IfOk, OnErr};
+    ghost use Rattle.std.specs.Prelude.{◌≡◌, ◌≤◌, IfOk, OnErr, OnOk};
     ghost use Rattle.std.specs.List.{AllZip};
-    ghost use Rattle.trace_rows.specs.Places.{empty};
+    ghost use Rattle.devices.specs.Bench.{attached};
+    ghost use Rattle.transmit_sides.specs.Transmits.{Keeps};
+    ghost use Rattle.shared_replay.specs.declared.station.Station.{Station};
+    ghost use Rattle.trace_rows.specs.Places.{added, empty};
     ghost use Rattle.trace_rows.specs.Range.{IsWithin};
     ghost use Rattle.shared_replay.specs.SharedBench.{ShowsTransmits, waiting_of};
 
@@ -92,11 +95,19 @@ impl<R: Wait + Copy + Drop> SharedBench<R> {
         ended
     }
 
+    fn taken_places(&self) -> usize
+        ensures { result ≡ attached self.now.devices.items }
+    {
+        self.devices.iter().filter(|place| place.is_some()).count()
+    }
+
     // Makes a device in its place, unless one is there.
     fn keep(&mut self, alloc: Global, device: u32, capacity: u32) -> Result<(), AllocError>
         requires device { IsWithin 1 16 device }
         requires capacity { IsWithin 1 65536 capacity }
         ensures transmits { self.new.transmits ≡ self.old.transmits }
+        ensures devices { OnOk result ((station : Station R)
+            × (self.new.devices.items ≡ added device station self.old.devices.items)) }
         ensures waiting { waiting_of self.new ≡ waiting_of self.old }
         ensures refused { OnErr result (self.new ≡ self.old) }
     {
@@ -114,7 +125,7 @@ impl<R: Wait + Copy + Drop> SharedBench<R> {
     // Does this with a device's controller. The answer is whether its disable is pending, before an enable, and else
     // afterwards.
     fn control(&mut self, device: u32, control: Control) -> bool
-        ensures transmits { self.new.transmits ≡ self.old.transmits }
+        ensures transmits { Keeps ShowsTransmits self.old self.new }
         ensures waiting { waiting_of self.new ≡ waiting_of self.old }
     {
         if device < PLACES {
@@ -235,7 +246,7 @@ impl<R: Wait + Copy + Drop> ReplayBench for SharedBench<R> {
     }
 
     fn attached(&self) -> usize {
-        self.devices.iter().filter(|place| place.is_some()).count()
+        self.taken_places()
     }
 
     fn counts(&self, device: u32) -> Option<DeviceCounts> {

@@ -1,2 +1,3 @@
 pub mod PlayFacts
 pub mod RunFacts
+pub mod ToldFacts

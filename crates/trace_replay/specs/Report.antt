@@ -94,18 +94,22 @@ if_of_row n (Some line) = if row_of line == n then Some line else None
 abbrev pub polled_by : ℕ → ReplayState → Option Line
 polled_by n w = if_of_row n (slice_get w.lines (length w.lines - 1))
 
--- the lines of the devices whose numbers are below n, in rising order
-unfoldable pub lines_below : ℕ → ReplayState → Transmits → ℕ → List ℕ
-lines_below version w transmits zero = []
-lines_below version w transmits (suc n) = lines_below version w transmits n ++ device_lines version n (counts_of w transmits n)
+-- the lines of the devices whose numbers are below n, in rising order, by what is told of each number
+unfoldable pub lines_below : ℕ → (ℕ → Option DeviceCounts) → ℕ → List ℕ
+lines_below version told zero = []
+lines_below version told (suc n) = lines_below version told n ++ device_lines version n (told n)
 
 -- The line of each row that polls in order, the lines of each device in rising order of their numbers, the poll list, the
 -- totals.
-unfoldable pub text_of : ℕ → ReplayState → Transmits → List ℕ
-text_of version w transmits = flat_map (λ line. ended (poll_line line)) w.lines
-    ++ (lines_below version w transmits 17
-    ++ (ended (list_line w.list)
-    ++ ended (total_line (totals_of (attached w.devices) w.lines))))
+unfoldable pub text_by : ℕ → List Line → (ℕ → Option DeviceCounts) → List ℕ → ℕ → List ℕ
+text_by version lines told list devices = flat_map (λ line. ended (poll_line line)) lines
+    ++ (lines_below version told 17
+    ++ (ended (list_line list)
+    ++ ended (total_line (totals_of devices lines))))
+
+-- the text of a replay as plain data
+abbrev pub text_of : ℕ → ReplayState → Transmits → List ℕ
+text_of version w transmits = text_by version w.lines (counts_of w transmits) w.list (attached w.devices)
 
 -- the serial report: the text of what the rows of a trace of this version make, or the fault of the first enable row that is early
 abbrev pub report_of : ℕ → Transmits → Result ReplayState ReplayFault → Result (List ℕ) ReplayFault

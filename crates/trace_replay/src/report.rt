@@ -7,6 +7,7 @@ ghost use Rattle.trace_replay.specs.Played.{state_in};
 ghost use Rattle.trace_replay.specs.Refused.{IsRefused};
 ghost use Rattle.trace_replay.specs.Replay.{start};
 ghost use Rattle.trace_replay.specs.Report.{device_line, device_lines, held_part, list_line, napi_line, of_run, poll_line, serial_report, spaced, state_word, total_line, totals_of};
+ghost use Rattle.trace_replay.specs.Told.{IsReportOf};
 ghost use Rattle.trace_replay.specs.Transmits.{transmits_of};
 ghost use Rattle.report_text.specs.Lines.{ended, flag, tx_line, tx_lines};
 
@@ -255,16 +256,21 @@ fn add_totals(text: &mut String, totals: &Totals) -> Result<(), AllocError>
 }
 
 impl<B: ReplayBench> Replay<B> {
-    ghost use Rattle.std.specs.Prelude.{◌≡◌, ◌++◌, IfOk, OnOk, string_bytes};
+    ghost use Rattle.std.specs.Prelude.{◌≡◌, ◌++◌, ℕ, Option, IfOk, OnOk, string_bytes};
     ghost use Rattle.transmit_sides.specs.Transmits.{Transmits};
     ghost use Rattle.trace_replay.specs.Played.{state_in};
-    ghost use Rattle.trace_replay.specs.Report.{lines_below, text_of};
+    ghost use Rattle.devices.specs.declared.counts.DeviceCounts.{DeviceCounts};
+    ghost use Rattle.trace_replay.specs.Report.{counts_of, lines_below, text_of};
+    ghost use Rattle.trace_replay.specs.Told.{AreTold, IsTextBy};
 
     // Adds the lines of each device, in rising order of their numbers.
     fn add_devices(&self, version: u32, text: &mut String) -> Result<(), AllocError>
-        ensures { B.Exact → (all : Transmits) → B.shows self.now.bench all
+        ensures exact { B.Exact → (all : Transmits) → B.shows self.now.bench all
             → OnOk result (string_bytes text.new ≡ string_bytes text.old
-            ++ lines_below version (state_in B.devices self.now) all 17) }
+            ++ lines_below version (counts_of (state_in B.devices self.now) all) 17) }
+        ensures told { (all : Transmits) → B.shows self.now.bench all
+            → OnOk result ((told : ℕ → Option DeviceCounts) × AreTold 17 all told
+            × (string_bytes text.new ≡ string_bytes text.old ++ lines_below version told 17)) }
     {
         for number in 0..PLACES {
             add_device(text, version, number, self.bench.counts(number))?;
@@ -273,11 +279,14 @@ impl<B: ReplayBench> Replay<B> {
     }
 
     // The text of the report, as a trace of this version has it.
-    #[tactic(auto, unfolding(crate::specs::Report::text_of))]
+    #[tactic(auto, unfolding(crate::specs::Report::text_by))]
     fn report(&self, alloc: Global, version: u32) -> Result<String, AllocError>
         requires { length self.now.lines.items ≤ 100000 }
-        ensures { B.Exact → (all : Transmits) → B.shows self.now.bench all → IfOk result
+        ensures exact { B.Exact → (all : Transmits) → B.shows self.now.bench all → IfOk result
             (λ text. string_bytes text ≡ text_of version (state_in B.devices self.now) all) }
+        ensures told { (all : Transmits) → B.shows self.now.bench all → IfOk result
+            (λ text. IsTextBy version all self.now.lines.items self.now.list
+            (string_bytes text)) }
     {
         let mut text = String::new(alloc);
         add_lines(&mut text, self.lines.as_slice())?;
@@ -304,6 +313,7 @@ fn report_rows<B: ReplayBench>(
     requires lines { replay.old.lines.items ≡ [] }
     ensures report { B.Exact → IfOk result
         (λ text. serial_report settings.now version rows.now ≡ Ok (string_bytes text)) }
+    ensures told { IfOk result (λ text. IsReportOf version rows.now (string_bytes text)) }
     ensures transmits { OnOk result (B.shows replay.new.bench (transmits_of rows.now)) }
     ensures fault { IfErr result (IsRefused B.Exact settings.now rows.now) }
 {
@@ -330,6 +340,9 @@ pub fn report_on<B: ReplayBench>(
     // On an exact bench text and fault are those of the serial report.
     ensures report { B.Exact → IfOk result.1
         (λ text. serial_report settings.now version rows.now ≡ Ok (string_bytes text)) }
+
+    // On any bench each opened device is told once, in order, with its transmit side.
+    ensures told { IfOk result.1 (λ text. IsReportOf version rows.now (string_bytes text)) }
     ensures fault { IfErr result.1 (IsRefused B.Exact settings.now rows.now) }
     ensures transmits { OnOk result.1 (B.shows result.0 (transmits_of rows.now)) }
 {

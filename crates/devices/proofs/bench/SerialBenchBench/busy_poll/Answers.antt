@@ -5,6 +5,8 @@ use Rattle.trace_rows.specs.Places.{at}
 use Rattle.devices.proofs.BenchFacts.{kept-changed, sound-at}
 use Rattle.devices.proofs.BusyFacts.{busy-keeps}
 use Rattle.trace_rows.proofs.PlaceFacts.{at-index}
+use Rattle.std.specs.Prelude.{is_some}
+use Rattle.devices.proofs.SideFacts.{sides-set}
 use Rattle.devices.proofs.Waiting.{waiting-more}
 use Rattle.devices.proofs.bench.SerialBenchBench.busy_poll.Goals as goal
 
@@ -25,7 +27,7 @@ returns-in-Some c =
     record {
       leads = record {
         exact = λ stated. (rw (here, c.busy_poll.ensures.report) refl, rw (here, c.busy_poll.ensures.device) refl);
-        transmits = λ all shown. shown;
+        transmits = λ all shown. record { sides = shown.sides; each = sides-set _ all c.args.id _ (ap is_some (sym here)) shown.each };
         waits = waiting-more c.args.self.now.devices.items c.args.id _ c.in-Some.device c.busy_poll.new.self here (rw (c.busy_poll.ensures.device, c.busy_poll.ensures.report) keeps.listed);
       };
     }

@@ -5,6 +5,8 @@ use Rattle.trace_rows.specs.Places.{at}
 use Rattle.devices.proofs.BenchFacts.{kept-changed, sound-at}
 use Rattle.devices.proofs.DeviceFacts.{once-keeps}
 use Rattle.trace_rows.proofs.PlaceFacts.{at-index}
+use Rattle.std.specs.Prelude.{is_some}
+use Rattle.devices.proofs.SideFacts.{sides-set}
 use Rattle.devices.proofs.Waiting.{waiting-less}
 use Rattle.devices.proofs.bench.SerialBenchBench.poll_once.Goals as goal
 
@@ -24,7 +26,7 @@ returns-in-Some-clause-leads c =
     let keeps = once-keeps c.args.weight c.in-Some.device (sound-at _ _ c.args.id _ c.args.self.now.kept here) in
     record {
       exact = λ stated. (rw here c.poll_once.ensures.once, rw (here, c.poll_once.ensures.device) refl);
-      transmits = λ all shown. shown;
+      transmits = λ all shown. record { sides = shown.sides; each = sides-set _ all c.args.id _ (ap is_some (sym here)) shown.each };
       waits = waiting-less c.args.self.now.devices.items c.args.id _ c.in-Some.device c.poll_once.new.self here
           (rw (c.poll_once.ensures.device, c.poll_once.ensures.once) keeps.listed);
     }

@@ -1,10 +1,12 @@
-use Rattle.std.proofs.Common.{◌≡◌, ◌∙◌, Some, ap, refl, sym, arith}
+use Rattle.std.proofs.Common.{rules, ◌≡◌, ◌∙◌, ◌<◌, Some, [], ap, length, slice_set, refl, sym, arith}
 use Rattle.devices.specs.Device.{is_pending, polled_by_thread}
 use Rattle.devices.specs.Kept.{is_sound}
 use Rattle.trace_rows.specs.Places.{at}
 use Rattle.devices.proofs.BenchFacts.{kept-changed, sound-at}
 use Rattle.devices.proofs.DeviceFacts.{thread-keeps}
 use Rattle.trace_rows.proofs.PlaceFacts.{at-index}
+use Rattle.std.specs.Prelude.{is_some}
+use Rattle.devices.proofs.SideFacts.{set-back, sides-set}
 use Rattle.devices.proofs.Waiting.{waiting-more}
 use Rattle.devices.proofs.bench.SerialBenchBench.poll_thread.Goals as goal
 
@@ -25,8 +27,22 @@ returns-in-Some c =
       (polled_by_thread c.args.most c.args.weight c.in-Some.device).0,
       record {
         exact = λ stated. (rw here refl, rw (here, c.poll_thread.ensures.device) refl);
-        transmits = λ all shown. shown;
+        transmits = λ all shown. record { sides = shown.sides; each = sides-set _ all c.args.id _ (ap is_some (sym here)) shown.each };
         waits = waiting-more c.args.self.now.devices.items c.args.id _ c.in-Some.device c.poll_thread.new.self here (rw c.poll_thread.ensures.device keeps.listed);
       },
       c.poll_thread.ensures.report,
+    )
+
+pub returns-in_default : goal.returns-in_default
+returns-in_default c =
+    let below : c.args.id < length c.args.self.now.devices.items = omega (arith, c.args.self.now.kept.places) in
+    let here : at c.args.id c.args.self.now.devices.items ≡ c.index_mut.result.now = at-index _ c.args.id _ below (sym c.index_mut.ensures.value) in
+    let back : slice_set c.args.self.now.devices.items c.args.id c.index_mut.result.now ≡ c.args.self.now.devices.items = set-back _ c.args.id _ below here in (
+      [],
+      record {
+        exact = λ stated. (search rules, search rules);
+        transmits = λ all shown. record { sides = shown.sides; each = rw back shown.each };
+        waits = search (rules, back);
+      },
+      search rules,
     )

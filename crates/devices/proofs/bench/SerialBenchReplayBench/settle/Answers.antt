@@ -1,6 +1,7 @@
 use Rattle.std.proofs.Common.{◌∙◌, ap, refl, sym, arith}
 use Rattle.devices.specs.Waiting.{waiting}
 use Rattle.devices.proofs.BenchFacts.{beyond, settled-all, settled-more, settled-none, settled-off, up-to}
+use Rattle.devices.proofs.SideFacts.{sides-settled}
 use Rattle.devices.proofs.Waiting.{waiting-settled}
 use Rattle.devices.proofs.bench.SerialBenchReplayBench.settle.Goals as goal
 use Rattle.devices.proofs.Waiting.{waiting-settled}
@@ -45,3 +46,6 @@ invariant_of-self c = record {
 
 pub returns-clause-waiting : goal.returns-clause-waiting
 returns-clause-waiting c = ap waiting (returns-clause-devices c tt) ∙ waiting-settled _ _ c.args.self.now.kept
+
+pub returns-clause-transmits : goal.returns-clause-transmits
+returns-clause-transmits c all shown = record { sides = rw c.loop-device.invariant.transmits shown.sides; each = rw (returns-clause-devices c tt) (sides-settled _ all shown.each) }

@@ -2,6 +2,8 @@ use Rattle.std.proofs.Common.{◌≡◌, ◌∙◌, Some, length-set, ap, sym, a
 use Rattle.trace_rows.specs.Places.{at}
 use Rattle.devices.specs.Waiting.{count}
 use Rattle.trace_rows.proofs.PlaceFacts.{at-index, below-some}
+use Rattle.std.specs.Prelude.{is_some}
+use Rattle.devices.proofs.SideFacts.{sides-set}
 use Rattle.shared_replay.proofs.SharedFacts.{few-of, rest-at, shared-set, waiting-at}
 use Rattle.shared_replay.proofs.shared_bench.SharedBench.control.Goals as goal
 
@@ -30,3 +32,9 @@ returns-in-Some-clause-waiting g c =
     at-index _ c.args.device _ (omega (arith, c.args.self.now.places)) (sym c.index_mut.ensures.value) ∙ c.in-Some.is in
     let counted = ap count c.control.ensures.listed in
     omega (arith, waiting-at _ c.args.device _ c.control.new.self here, counted)
+
+pub returns-in-Some-clause-transmits : goal.returns-in-Some-clause-transmits
+returns-in-Some-clause-transmits g c all shown =
+    let here : at c.args.device c.args.self.now.devices.items ≡ Some c.in-Some.station =
+    at-index _ c.args.device _ (omega (arith, c.args.self.now.places)) (sym c.index_mut.ensures.value) ∙ c.in-Some.is in
+    record { sides = shown.sides; each = sides-set _ all c.args.device _ (ap is_some (sym here)) shown.each }

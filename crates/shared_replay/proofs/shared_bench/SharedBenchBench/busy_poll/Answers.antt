@@ -1,6 +1,8 @@
-use Rattle.std.proofs.Common.{◌≡◌, ◌∙◌, Some, ◌<◌, length, length-set, sym, arith}
+use Rattle.std.proofs.Common.{◌≡◌, ◌∙◌, Some, ◌<◌, length, length-set, ap, sym, arith}
 use Rattle.trace_rows.specs.Places.{at}
 use Rattle.trace_rows.proofs.PlaceFacts.{at-index, below-some}
+use Rattle.std.specs.Prelude.{is_some}
+use Rattle.devices.proofs.SideFacts.{sides-set}
 use Rattle.shared_replay.proofs.SharedFacts.{few-of, rest-at, shared-set, waiting-at, waiting-back}
 use Rattle.shared_replay.proofs.shared_bench.SharedBenchBench.busy_poll.Goals as goal
 
@@ -30,7 +32,7 @@ returns-in-Some g c =
     record {
       leads = record {
         exact = λ stated. absurd stated;
-        transmits = λ all shown. shown;
+        transmits = λ all shown. record { sides = shown.sides; each = sides-set _ all c.args.id _ (ap is_some (sym here)) shown.each };
         waits = omega (arith, waiting-at _ c.args.id _ c.busy_poll.new.self here, c.busy_poll.ensures.listed);
       };
     }
@@ -39,4 +41,4 @@ pub returns-in_default : goal.returns-in_default
 returns-in_default g c =
     let below : c.args.id < length c.args.self.now.devices.items = omega (arith, c.args.self.now.places) in
     let here = at-index _ c.args.id _ below (sym c.index_mut.ensures.value) in
-    record { leads = record { exact = λ stated. absurd stated; transmits = λ all shown. shown; waits = omega (arith, waiting-back _ c.args.id _ below here) } }
+    record { leads = record { exact = λ stated. absurd stated; transmits = λ all shown. record { sides = shown.sides; each = sides-set _ all c.args.id _ (ap is_some (sym here)) shown.each }; waits = omega (arith, waiting-back _ c.args.id _ below here) } }

@@ -1,6 +1,8 @@
-use Rattle.std.proofs.Common.{◌≡◌, ◌∙◌, Some, length-set, sym, arith}
+use Rattle.std.proofs.Common.{◌≡◌, ◌∙◌, Some, length-set, ap, sym, arith}
 use Rattle.trace_rows.specs.Places.{at}
 use Rattle.trace_rows.proofs.PlaceFacts.{at-index, below-some}
+use Rattle.std.specs.Prelude.{is_some}
+use Rattle.devices.proofs.SideFacts.{sides-set}
 use Rattle.shared_replay.proofs.SharedFacts.{few-of, rest-at, shared-set, waiting-at}
 use Rattle.shared_replay.proofs.shared_bench.SharedBenchBench.poll_once.Goals as goal
 
@@ -29,6 +31,6 @@ returns-in-Some-clause-leads g c =
     at-index _ c.args.id _ (omega (arith, c.args.self.now.places)) (sym c.index_mut.ensures.value) ∙ c.in-Some.is in
     record {
       exact = λ stated. absurd stated;
-      transmits = λ all shown. shown;
+      transmits = λ all shown. record { sides = shown.sides; each = sides-set _ all c.args.id _ (ap is_some (sym here)) shown.each };
       waits = omega (arith, waiting-at _ c.args.id _ c.poll_once.new.self here, c.poll_once.ensures.listed);
     }

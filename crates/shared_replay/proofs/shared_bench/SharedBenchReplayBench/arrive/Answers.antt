@@ -1,6 +1,8 @@
-use Rattle.std.proofs.Common.{◌≡◌, ◌∙◌, Some, length-set, sym, arith}
+use Rattle.std.proofs.Common.{◌≡◌, ◌∙◌, Some, length-set, ap, sym, arith}
 use Rattle.trace_rows.specs.Places.{at}
 use Rattle.trace_rows.proofs.PlaceFacts.{at-index, below-some}
+use Rattle.std.specs.Prelude.{is_some}
+use Rattle.devices.proofs.SideFacts.{sides-set}
 use Rattle.shared_replay.proofs.SharedFacts.{few-of, rest-at, shared-set, waiting-at}
 use Rattle.shared_replay.proofs.shared_bench.SharedBenchReplayBench.arrive.Goals as goal
 
@@ -28,3 +30,9 @@ returns-in-Some-clause-waiting g c =
     let here : at c.args.device c.args.self.now.devices.items ≡ Some c.in-Some.station =
     at-index _ c.args.device _ (omega (arith, c.args.self.now.places)) (sym c.index_mut.ensures.value) ∙ c.in-Some.is in
     omega (arith, waiting-at _ c.args.device _ c.arrive.new.self here, c.arrive.ensures.listed)
+
+pub returns-in-Some-clause-transmits : goal.returns-in-Some-clause-transmits
+returns-in-Some-clause-transmits g c all shown =
+    let here : at c.args.device c.args.self.now.devices.items ≡ Some c.in-Some.station =
+    at-index _ c.args.device _ (omega (arith, c.args.self.now.places)) (sym c.index_mut.ensures.value) ∙ c.in-Some.is in
+    record { sides = shown.sides; each = sides-set _ all c.args.device _ (ap is_some (sym here)) shown.each }
