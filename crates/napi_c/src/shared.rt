@@ -6,6 +6,7 @@ ghost use Rattle.napi_calls.specs.Instance.{IsSeatOf};
 
 use c_handles::{Body, Controller, FqHandle, Hold, Mode, Ring, Seat, Shared, status};
 use napi_calls::{Caller, Control, Napi, NewBack, NewFault, Off};
+use rx_ring::ring;
 use std::alloc::Global;
 use std::mem;
 use std::sync::Arc;
@@ -126,12 +127,12 @@ fn give(alloc: Global, opened: Opened, control: &mut FqHandle, seats: &mut [FqHa
     }
 }
 
-/// As `Napi::new`, over the context of a ring: `ring` is then its input end alone, and `control` and `seats`, 2 to 8, lead to
+/// As `Napi::new`, over the context of a ring: `input` is then its input end alone, and `control` and `seats`, 2 to 8, lead to
 /// the controller and the callers. Where memory is out, those that are set are to be freed.
 #[unsafe(no_mangle)]
 pub extern "C" fn fq_shared_new(
     alloc: Global,
-    ring: &mut FqHandle,
+    input: &mut FqHandle,
     control: &mut FqHandle,
     seats: &mut [FqHandle],
 ) -> u32 {
@@ -141,7 +142,7 @@ pub extern "C" fn fq_shared_new(
     if seats.len() < 2 || 8 < seats.len() {
         return status::BAD_COUNT;
     }
-    let Some(mut boxed) = ring.take(alloc) else {
+    let Some(mut boxed) = input.take(alloc) else {
         return status::BAD_HANDLE;
     };
     let (body, opened) = open(
@@ -150,9 +151,35 @@ pub extern "C" fn fq_shared_new(
         seats.len() as u32,
     );
     *boxed = body;
-    ring.put(boxed);
+    input.put(boxed);
     match opened {
         Ok(opened) => give(alloc, opened, control, seats),
         Err(status) => status,
+    }
+}
+
+/// As `Napi::new`, over no ring of the caller's: its polls read what they will, and `fq_seat_poll` gives none. `control` and
+/// `seats` as in [`fq_shared_new`].
+#[unsafe(no_mangle)]
+pub extern "C" fn fq_shared_bare(
+    alloc: Global,
+    control: &mut FqHandle,
+    seats: &mut [FqHandle],
+) -> u32 {
+    if control.is_set() || is_any_set(seats) {
+        return status::IN_USE;
+    }
+    if seats.len() < 2 || 8 < seats.len() {
+        return status::BAD_COUNT;
+    }
+    let Ok((_input, ctx)) = ring(alloc, 1) else {
+        return status::OUT_OF_MEMORY;
+    };
+    match Napi::new(alloc, ctx, seats.len() as u32) {
+        Ok((napi, callers, off)) => give(alloc, Opened { napi, callers, off }, control, seats),
+        Err(NewBack {
+            fault: _,
+            ctx: _left,
+        }) => status::OUT_OF_MEMORY,
     }
 }
