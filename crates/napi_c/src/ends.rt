@@ -53,11 +53,7 @@ pub extern "C" fn fq_ring_split(alloc: Global, ring: &mut FqHandle, ctx: &mut Fq
 
 /// The end of a ring with both ends, as `rx_ring::finish`: its totals, and the handle leads to nothing.
 #[unsafe(no_mangle)]
-pub extern "C" fn fq_ring_finish(
-    alloc: Global,
-    ring: &mut FqHandle,
-    totals: &mut FqTotals,
-) -> u32
+pub extern "C" fn fq_ring_finish(alloc: Global, ring: &mut FqHandle, totals: &mut FqTotals) -> u32
     ensures totals { (r : Ring) → LeadsTo ring.old r → (result ≡ OK)
         × (totals.new ≡ totalled (totals_of (ring_of r.input r.ctx))) }
     ensures order { (r : Ring) → LeadsTo ring.old r → IsInOrder (ring_of r.input r.ctx) }

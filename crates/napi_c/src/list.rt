@@ -163,11 +163,7 @@ fn end_in(at: &mut Body, report: &mut FqRunReport) -> u32
 
 /// Ends the run, as `PollingRun::end`.
 #[unsafe(no_mangle)]
-pub extern "C" fn fq_run_end(
-    alloc: Global,
-    handle: &mut FqHandle,
-    report: &mut FqRunReport,
-) -> u32
+pub extern "C" fn fq_run_end(alloc: Global, handle: &mut FqHandle, report: &mut FqRunReport) -> u32
     ensures makes { ListMakes (IsEnd report.old report.new) handle.old result handle.new }
     ensures none { result ≢ OK → report.new ≡ report.old }
 {
