@@ -68,7 +68,7 @@ enum fq_status {
     FQ_NOT_ALLOWED = 100,   /* the object's state doesn't have this call */
     FQ_BAD_KIND = 101,      /* no number of enum fq_kind */
     FQ_BAD_HANDLE = 110,    /* the handle leads to nothing, or to another kind */
-    FQ_IN_USE = 111,        /* the handle is set already */
+    FQ_IN_USE = 111,        /* the handle is set already; push, polled: the list has the number already */
     FQ_OUT_OF_MEMORY = 112,
     FQ_BAD_CAPACITY = 113,  /* rings: 1 to 65536 */
     FQ_BAD_WEIGHT = 114,    /* 1 to 64 */
@@ -122,6 +122,10 @@ static inline const char *fq_status_name(uint32_t status) {
 /* To whom an instance is handed: a poll list, or a thread of its own. */
 enum fq_kind { FQ_LIST = 0, FQ_THREAD = 1 };
 
+/* How a poll ended: its device isn't on the list any more, is to be listed again, or handed to its thread; gave its whole weight,
+ * and is polled again behind all others; wasn't there. */
+enum fq_next { FQ_NEXT_GONE = 0, FQ_NEXT_AGAIN = 1, FQ_NEXT_AGAIN_THREAD = 2, FQ_NEXT_REPOLL = 3, FQ_NEXT_ABSENT = 4 };
+
 /* The bits of a state word: those of the kernel's NAPI_STATE_.., and whether it lies on a list or with its thread, untaken. */
 #define FQ_BIT_SCHED (UINT64_C(1) << 0)
 #define FQ_BIT_MISSED (UINT64_C(1) << 1)
@@ -167,6 +171,14 @@ FQ_NONNULL uint32_t fq_dql_limit(const struct fq_dql *dql);
 /* What may still be given to the device (dql_avail); negative: the queue is to be stopped. */
 FQ_NONNULL int64_t fq_dql_avail(const struct fq_dql *dql);
 FQ_NONNULL uint32_t fq_dql_in_flight(const struct fq_dql *dql);
+
+/* The same three, read in place without a call: the struct's first four numbers are the bytes queued and completed, the last
+ * object's, and the limit. */
+FQ_NONNULL static inline uint32_t fq_dql_limit_here(const struct fq_dql *dql) { return dql->private_a[3]; }
+FQ_NONNULL static inline uint32_t fq_dql_in_flight_here(const struct fq_dql *dql) { return dql->private_a[0] - dql->private_a[1]; }
+FQ_NONNULL static inline int64_t fq_dql_avail_here(const struct fq_dql *dql) {
+    return (int64_t)dql->private_a[3] - (int64_t)fq_dql_in_flight_here(dql);
+}
 
 /* ---- An instance of one thread (struct napi_struct), in the caller's memory. Who calls is a number; the controller's is named
  * when it is made. Whatever its bytes are, each is a state. */
@@ -217,6 +229,8 @@ struct fq_handle {
 FQ_CHECKED uint32_t fq_free(struct fq_handle *handle);
 /* Frees it whatever its state is: FQ_OK, FQ_BAD_HANDLE. An instance whose poller was given up is polled no more. */
 FQ_CHECKED uint32_t fq_abandon(struct fq_handle *handle);
+/* Lets `to` lead to what `from` leads to, which then leads to nothing: FQ_OK, FQ_BAD_HANDLE; FQ_IN_USE where `to` is set. */
+FQ_CHECKED uint32_t fq_move(struct fq_handle *FQ_RESTRICT from, struct fq_handle *FQ_RESTRICT to);
 
 /* ---- Receive rings. A packet's number is the caller's own: an index, a pointer. */
 
@@ -230,8 +244,26 @@ FQ_CHECKED uint32_t fq_ring_new(struct fq_handle *ring, size_t capacity);
 /* Puts a packet in, behind all others: FQ_OK, FQ_FULL, FQ_BAD_HANDLE. */
 FQ_CHECKED uint32_t fq_ring_put(struct fq_handle *ring, uint64_t number, uint32_t bytes);
 /* Takes the first packets out, at most weight (1 to 64), into an array of len places, at least the weight: FQ_OK and their
- * count, else a count of 0. Not of a ring whose other end an instance has (FQ_BAD_HANDLE). */
+ * count, else a count of 0. Not of a ring whose other end an instance has, or another handle (FQ_BAD_HANDLE). */
 FQ_CHECKED uint32_t fq_ring_poll(struct fq_handle *FQ_RESTRICT ring, size_t weight, struct fq_packet *FQ_RESTRICT out, size_t len, size_t *FQ_RESTRICT count);
+
+struct fq_counts {
+    uint64_t polls, packets, bytes; /* each stays at its greatest value */
+};
+
+struct fq_totals {
+    uint64_t put, polled, left, bytes; /* the bytes are those of all packets put */
+};
+
+/* What is counted of a ring's polls, of whoever has its poll end: a ring, or that end; a seat that polls; the controller of a
+ * disabled instance: FQ_OK, FQ_BAD_HANDLE; FQ_NOT_ALLOWED of any other, and *counts stays. */
+FQ_CHECKED uint32_t fq_counts(struct fq_handle *FQ_RESTRICT handle, struct fq_counts *FQ_RESTRICT counts);
+/* A ring of two threads, without an instance: `ring` is its input from then on, which takes puts, and `out` its poll end, which
+ * takes polls: FQ_OK, FQ_BAD_HANDLE, FQ_IN_USE, FQ_OUT_OF_MEMORY. Each is freed by itself. */
+FQ_CHECKED uint32_t fq_ring_split(struct fq_handle *FQ_RESTRICT ring, struct fq_handle *FQ_RESTRICT out);
+/* The end of a ring that was never split, with its totals; the handle leads to nothing then: FQ_OK; FQ_BAD_HANDLE, and all
+ * stays. */
+FQ_CHECKED uint32_t fq_ring_finish(struct fq_handle *FQ_RESTRICT ring, struct fq_totals *FQ_RESTRICT totals);
 
 /* ---- Transmit rings under a byte queue limit (netdev_tx_sent_queue, netdev_tx_completed_queue). The ring keeps the sizes of the
  * packets that were sent and aren't complete, in order; the packets themselves are the caller's. Moments are milliseconds. */
@@ -263,6 +295,10 @@ FQ_CHECKED uint32_t fq_tx_state(struct fq_handle *FQ_RESTRICT tx, struct fq_tx_s
  * to be given up. */
 FQ_CHECKED uint32_t fq_shared_new(struct fq_handle *FQ_RESTRICT ring, struct fq_handle *FQ_RESTRICT control, struct fq_handle *FQ_RESTRICT seats, size_t count);
 
+/* An instance without a ring of the caller's, whose polls read what they will; fq_seat_poll gives nothing there: FQ_OK, FQ_IN_USE,
+ * FQ_BAD_COUNT, FQ_OUT_OF_MEMORY. All else is as for fq_shared_new. */
+FQ_CHECKED uint32_t fq_shared_bare(struct fq_handle *FQ_RESTRICT control, struct fq_handle *FQ_RESTRICT seats, size_t count);
+
 /* The calls of a seat. Each makes one try. One that rests may schedule, take, busy take and set threaded; */
 FQ_CHECKED uint32_t fq_seat_schedule(struct fq_handle *seat); /* FQ_GRANTED, FQ_MISSED, FQ_DISABLED, FQ_CHANGED */
 FQ_CHECKED uint32_t fq_seat_take(struct fq_handle *seat, uint32_t kind); /* FQ_TAKEN, FQ_NOT_THERE */
@@ -277,6 +313,9 @@ FQ_CHECKED uint32_t fq_seat_complete(struct fq_handle *seat); /* FQ_RELEASED, FQ
 /* One that busy polls may poll and complete, and stops: it then polls once more. */
 FQ_CHECKED uint32_t fq_seat_busy_stop(struct fq_handle *seat); /* FQ_OK, FQ_CHANGED */
 
+/* Whatever the seat is, what the state word tells, of the FQ_BIT_..: FQ_OK, FQ_BAD_HANDLE. */
+FQ_CHECKED uint32_t fq_seat_look(struct fq_handle *FQ_RESTRICT seat, uint64_t *FQ_RESTRICT word);
+
 /* An interrupt: schedules, try after try until one decides, and hands over where it was granted. FQ_GRANTED (and it was handed over),
  * FQ_MISSED, FQ_DISABLED; FQ_BAD_KIND, FQ_BAD_HANDLE, FQ_NOT_ALLOWED. */
 FQ_CHECKED static inline uint32_t fq_seat_interrupt(struct fq_handle *seat, uint32_t kind) {
@@ -287,6 +326,34 @@ FQ_CHECKED static inline uint32_t fq_seat_interrupt(struct fq_handle *seat, uint
     if (said != FQ_GRANTED) return said;
     const uint32_t handed = fq_seat_hand(seat, kind);
     return handed == FQ_OK ? said : handed;
+}
+
+/* The end of a poll, as the kernel ends it (__napi_poll): after a full one, which gave its whole weight, the instance is on the list
+ * again, unless a disable is pending; else it is completed, try after try until one decides, and handed over again where a request
+ * was missed, to its thread where FQ_BIT_THREADED is set. *next tells fq_run_polled how the poll ended: FQ_NEXT_GONE,
+ * FQ_NEXT_AGAIN, FQ_NEXT_AGAIN_THREAD, FQ_NEXT_REPOLL; of FQ_NEXT_AGAIN and FQ_NEXT_REPOLL the number is still to be listed. FQ_OK;
+ * FQ_NOT_ALLOWED where the seat doesn't poll, and FQ_BAD_HANDLE; FQ_HELD where it busy polls, which it goes on to do. */
+FQ_CHECKED static inline uint32_t fq_seat_end(struct fq_handle *FQ_RESTRICT seat, bool full, uint32_t *FQ_RESTRICT next) {
+    uint64_t word;
+    uint32_t said = fq_seat_look(seat, &word);
+    if (said != FQ_OK) return said;
+    if (full && !(word & FQ_BIT_DISABLE)) {
+        said = fq_seat_requeue(seat);
+        if (said == FQ_OK) *next = FQ_NEXT_REPOLL;
+        return said;
+    }
+    do said = fq_seat_complete(seat);
+    while (said == FQ_CHANGED);
+    if (said == FQ_RELEASED) {
+        *next = FQ_NEXT_GONE;
+        return FQ_OK;
+    }
+    if (said != FQ_AGAIN) return said;
+    said = fq_seat_look(seat, &word);
+    if (said != FQ_OK) return said;
+    const uint32_t kind = word & FQ_BIT_THREADED ? FQ_THREAD : FQ_LIST;
+    *next = kind == FQ_THREAD ? FQ_NEXT_AGAIN_THREAD : FQ_NEXT_AGAIN;
+    return fq_seat_hand(seat, kind);
 }
 
 /* The controller's. Off: enable. On: mark. Marked: try to take, until FQ_TAKEN, which is off again (napi_disable). */
@@ -301,21 +368,38 @@ struct fq_run_report {
     bool squeezed; /* the budget or the window was spent */
 };
 
-/* How a poll ended: its device isn't on the list any more, is to be listed again, or handed to its thread; gave its whole weight,
- * and is polled again behind all others; wasn't there. */
-enum fq_next { FQ_NEXT_GONE = 0, FQ_NEXT_AGAIN = 1, FQ_NEXT_AGAIN_THREAD = 2, FQ_NEXT_REPOLL = 3, FQ_NEXT_ABSENT = 4 };
-
 FQ_CHECKED uint32_t fq_list_new(struct fq_handle *list);
-/* Puts a number at the list's tail: FQ_OK, FQ_FULL where list and run hold 64. */
+/* Puts a number at the list's tail: FQ_OK; FQ_IN_USE where it is on the list, or waits in the run over it; FQ_FULL where list and
+ * run hold 64. */
 FQ_CHECKED uint32_t fq_list_push(struct fq_handle *list, uint32_t id);
+/* How many numbers list and run hold: FQ_OK, FQ_BAD_HANDLE. */
+FQ_CHECKED uint32_t fq_list_len(struct fq_handle *FQ_RESTRICT list, uint32_t *FQ_RESTRICT len);
 /* Begins a run: FQ_OK, FQ_BAD_WEIGHT, FQ_BAD_BUDGET, FQ_NOT_ALLOWED where one is under way. */
 FQ_CHECKED uint32_t fq_run_begin(struct fq_handle *list, uint32_t budget, uint32_t weight, uint32_t window);
 /* The number to be polled next: FQ_OK, FQ_DONE, FQ_NOT_ALLOWED. */
 FQ_CHECKED uint32_t fq_run_next(struct fq_handle *FQ_RESTRICT list, uint32_t *FQ_RESTRICT id);
-/* What its poll did: FQ_OK, FQ_BAD_WORK above the weight, FQ_BAD_NEXT, FQ_NOT_ALLOWED. */
+/* What its poll did: FQ_OK, FQ_BAD_WORK above the weight, FQ_BAD_NEXT, FQ_NOT_ALLOWED; FQ_IN_USE where it would be listed a second
+ * time, and it is still to be told. */
 FQ_CHECKED uint32_t fq_run_polled(struct fq_handle *list, uint32_t work, uint32_t next);
 /* Ends it; what wasn't polled, and what is to be polled again, is on the list: FQ_OK, FQ_NOT_ALLOWED. */
 FQ_CHECKED uint32_t fq_run_end(struct fq_handle *FQ_RESTRICT list, struct fq_run_report *FQ_RESTRICT report);
+
+/* ---- A word of pending bits. A list is its poller's own: another thread raises the bit of a device in such a word, and wakes the
+ * poller, who takes all bits and pushes their numbers. It is sequentially consistent. */
+
+struct fq_word {
+    uint64_t private_bits; /* 0 at first */
+};
+
+#if defined(__GNUC__)
+/* Raises a bit, 0 to 63, and answers whether the word was 0: then the poller is to be woken. */
+FQ_NONNULL static inline bool fq_word_raise(struct fq_word *word, uint32_t bit) {
+    return __atomic_fetch_or(&word->private_bits, UINT64_C(1) << (bit & 63), __ATOMIC_SEQ_CST) == 0;
+}
+
+/* Takes all bits, which are 0 then. */
+FQ_NONNULL static inline uint64_t fq_word_take(struct fq_word *word) { return __atomic_exchange_n(&word->private_bits, UINT64_C(0), __ATOMIC_SEQ_CST); }
+#endif
 
 /* ---- The whole replay on one thread (napi_replay --mode=serial): the bytes of a trace in, the bytes of its report out. Formats and
  * faults are those of docs/FORMATS.md. */

@@ -75,9 +75,9 @@ public:
         return Status(fq_dql_completed(&raw_, count, now_ms));
     }
     void reset(std::uint64_t now_ms) { fq_dql_reset(&raw_, now_ms); }
-    std::uint32_t limit() const { return fq_dql_limit(&raw_); }
-    std::int64_t avail() const { return fq_dql_avail(&raw_); }
-    std::uint32_t in_flight() const { return fq_dql_in_flight(&raw_); }
+    std::uint32_t limit() const { return fq_dql_limit_here(&raw_); }
+    std::int64_t avail() const { return fq_dql_avail_here(&raw_); }
+    std::uint32_t in_flight() const { return fq_dql_in_flight_here(&raw_); }
 
 private:
     Limit() = default;
@@ -182,6 +182,12 @@ public:
     [[nodiscard]] Caller requeue() && {
         detail::made(fq_seat_requeue(at_.raw()));
         return Caller(std::move(at_));
+    }
+    // Ends the poll as the kernel does, after a full one or one that wasn't full, and tells a run how it ended.
+    [[nodiscard]] std::pair<Caller, fq_next> end(bool full) && {
+        std::uint32_t next = FQ_NEXT_GONE;
+        detail::made(fq_seat_end(at_.raw(), full, &next));
+        return {Caller(std::move(at_)), fq_next(next)};
     }
     [[nodiscard]] Completed complete() && {
         std::uint32_t said;
@@ -336,8 +342,14 @@ public:
         return std::optional<List>(List(std::move(at)));
     }
 
-    // False where list and run hold 64.
+    // False where the number is listed already, or list and run hold 64.
     [[nodiscard]] bool push(std::uint32_t id) { return fq_list_push(at_.raw(), id) == FQ_OK; }
+    // How many numbers list and run hold.
+    std::uint32_t size() {
+        std::uint32_t len = 0;
+        detail::made(fq_list_len(at_.raw(), &len));
+        return len;
+    }
 
     // A run (net_rx_action): poll(id, weight) answers the packets that it gave, and how the poll ended. None where the weight isn't
     // 1 to 64, budget or window not 1 to 65535, or poll answers more than its weight. poll may push to this list.

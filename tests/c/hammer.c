@@ -96,6 +96,128 @@ static void poll(uint32_t who) {
     for (size_t i = 0; i < count; i++, given++) want("the packet's number", out[i].number == given && out[i].bytes == given % 1500, 1);
 }
 
+static void look(uint32_t who) {
+    uint64_t word = 0;
+    want("look", fq_seat_look(&seats[who], &word), FQ_OK);
+    want("the word", word == fq_napi_word(&peer), 1);
+}
+
+/* Ends a poll, and so does the peer. */
+static void end(uint32_t who) {
+    const bool full = random_below(2);
+    uint32_t wanted = FQ_NOT_ALLOWED, next = 99, wanted_next = 99;
+    if (polls(who) && full && !peer.disable) {
+        wanted = fq_napi_hand(&peer, who, FQ_LIST), wanted_next = FQ_NEXT_REPOLL;
+    } else if (busy_polls(who) && full && !peer.disable) {
+        wanted = FQ_NOT_ALLOWED; /* a busy poller requeues nothing */
+    } else if (polls(who) || busy_polls(who)) {
+        wanted = fq_napi_complete(&peer, who);
+        if (wanted == FQ_RELEASED) wanted = FQ_OK, wanted_next = FQ_NEXT_GONE;
+        if (wanted == FQ_AGAIN) {
+            wanted_next = peer.threaded ? FQ_NEXT_AGAIN_THREAD : FQ_NEXT_AGAIN;
+            wanted = fq_napi_hand(&peer, who, peer.threaded ? FQ_THREAD : FQ_LIST);
+        }
+    }
+    want("end", fq_seat_end(&seats[who], full, &next), wanted);
+    want("how it ended", next, wanted_next);
+}
+
+static void count(uint32_t who) {
+    struct fq_counts counts = {1, 2, 3};
+    const bool has = polls(who) || busy_polls(who);
+    want("counts of a seat", fq_counts(&seats[who], &counts), has ? FQ_OK : FQ_NOT_ALLOWED);
+    want("the counts", has ? counts.packets == given : counts.polls == 1 && counts.packets == 2 && counts.bytes == 3, 1);
+    want("counts of an input", fq_counts(&ring, &counts), FQ_NOT_ALLOWED);
+}
+
+/* A handle that goes elsewhere, and comes back. */
+static void move(uint32_t who) {
+    struct fq_handle elsewhere = FQ_NONE, none = FQ_NONE;
+    want("a move of nothing", fq_move(&none, &elsewhere), FQ_BAD_HANDLE);
+    want("a move into a seat", fq_move(&control, &seats[who]), FQ_IN_USE);
+    want("a move", fq_move(&seats[who], &elsewhere), FQ_OK);
+    want("schedule by what has gone", fq_seat_schedule(&seats[who]), FQ_BAD_HANDLE);
+    want("a move back", fq_move(&elsewhere, &seats[who]), FQ_OK);
+}
+
+/* A ring of its own: split, or finished. */
+static void ends(uint32_t many) {
+    struct fq_handle whole = FQ_NONE, out = FQ_NONE;
+    struct fq_packet packets[64];
+    struct fq_totals totals;
+    struct fq_counts counts;
+    uint64_t word = 7;
+    size_t polled;
+    want("a ring to be split", fq_ring_new(&whole, 4), FQ_OK);
+    for (uint32_t i = 0; i < many; i++) want("a put", fq_ring_put(&whole, i, 10), FQ_OK);
+    want("a poll", fq_ring_poll(&whole, 1, packets, 64, &polled), FQ_OK);
+    want("its counts", fq_counts(&whole, &counts), FQ_OK);
+    want("the counts", counts.polls == 1 && counts.packets == polled && counts.bytes == 10 * polled, 1);
+    if (random_below(2)) {
+        want("finish", fq_ring_finish(&whole, &totals), FQ_OK);
+        want("totals", totals.put == many && totals.polled == polled && totals.left == many - polled && totals.bytes == 10 * many, 1);
+    } else {
+        want("a split of a seat", fq_ring_split(&seats[0], &out), FQ_BAD_HANDLE);
+        want("a split", fq_ring_split(&whole, &out), FQ_OK);
+        want("a second split", fq_ring_split(&whole, &out), FQ_IN_USE);
+        want("finish of an input", fq_ring_finish(&whole, &totals), FQ_BAD_HANDLE);
+        want("look of a ring", fq_seat_look(&out, &word), FQ_BAD_HANDLE);
+        want("the same word", word == 7, 1);
+        want("a put into the input", fq_ring_put(&whole, many, 10), FQ_OK);
+        want("a put into the other end", fq_ring_put(&out, 1, 10), FQ_BAD_HANDLE);
+        want("a poll of the other end", fq_ring_poll(&out, 64, packets, 64, &polled), FQ_OK);
+        want("the last packet", polled != 0 && packets[polled - 1].number == many, 1);
+        want("the end of the other end", fq_free(&out), FQ_OK);
+        want("the end of the input", fq_free(&whole), FQ_OK);
+    }
+    want("nothing is set", whole.private_set || out.private_set, 0);
+}
+
+/* An instance without a ring. */
+static void bare(uint32_t many) {
+    struct fq_handle controller = FQ_NONE, callers[8] = {FQ_NONE};
+    struct fq_packet packets[64];
+    uint32_t next = 99;
+    size_t polled;
+    want("one bare seat", fq_shared_bare(&controller, callers, 1), FQ_BAD_COUNT);
+    want("a bare instance over a seat", fq_shared_bare(&control, callers, 2), FQ_IN_USE);
+    want("a bare instance", fq_shared_bare(&controller, callers, 2 + many), FQ_OK);
+    want("enable", fq_control_enable(&controller, many % 2), FQ_OK);
+    want("interrupt", fq_seat_interrupt(&callers[0], FQ_LIST), FQ_GRANTED);
+    want("take", fq_seat_take(&callers[1], FQ_LIST), FQ_TAKEN);
+    want("poll", fq_seat_poll(&callers[1], 64, packets, 64, &polled), FQ_OK);
+    want("no packets", (uint32_t)polled, 0);
+    want("a request that is missed", fq_seat_interrupt(&callers[0], FQ_LIST), FQ_MISSED);
+    want("end", fq_seat_end(&callers[1], false, &next), FQ_OK);
+    want("again", next, many % 2 ? FQ_NEXT_AGAIN_THREAD : FQ_NEXT_AGAIN);
+    for (uint32_t i = 0; i < 2 + many; i++) want("the end of a bare seat", fq_free(&callers[i]), FQ_OK);
+    want("the end of an enabled controller", fq_abandon(&controller), FQ_OK);
+}
+
+static void raise(void) {
+    static struct fq_word word;
+    static uint64_t bits;
+    const uint32_t bit = random_below(64);
+    if (random_below(4)) {
+        want("raise", fq_word_raise(&word, bit), bits == 0);
+        bits |= UINT64_C(1) << bit;
+    } else {
+        want("take", fq_word_take(&word) == bits, 1);
+        bits = 0;
+    }
+}
+
+static void others_of_seat(uint32_t who) {
+    const uint32_t which = random_below(64);
+    if (which < 24) look(who);
+    else if (which < 36) end(who);
+    else if (which < 48) count(who);
+    else if (which < 56) move(who);
+    else if (which < 60) raise();
+    else if (which < 63) ends(random_below(4));
+    else bare(random_below(7));
+}
+
 static void put(void) {
     const uint32_t wanted = put_next - given < CAPACITY ? FQ_OK : FQ_FULL;
     want("put", fq_ring_put(&ring, put_next, (uint32_t)(put_next % 1500)), wanted);
@@ -148,11 +270,11 @@ static void wrong(uint32_t who) {
 }
 
 static void one_call(void) {
-    static void (*const of_seat[])(uint32_t) = {schedule, hand, take, requeue, complete, busy_take, busy_stop, set_threaded, poll, wrong};
+    static void (*const of_seat[])(uint32_t) = {schedule, hand, take, requeue, complete, busy_take, busy_stop, set_threaded, poll, wrong, others_of_seat};
     static void (*const others[])(void) = {put, enable, mark, try_take};
-    const uint32_t which = random_below(18);
-    if (which < 14) of_seat[which % 10](random_below(SEATS));
-    else others[which - 14]();
+    const uint32_t which = random_below(19);
+    if (which < 15) of_seat[which % 11](random_below(SEATS));
+    else others[which - 15]();
 }
 
 /* A transmit ring, beside a queue limit and the sizes that are kept here. */
@@ -172,6 +294,8 @@ static void send(void) {
     sizes[(first_size + waiting++) % PLACES] = bytes;
     all_sent += bytes;
     is_stopped = fq_dql_avail(&limit) < 0;
+    want("a limit in place", fq_dql_limit_here(&limit) == fq_dql_limit(&limit) && fq_dql_avail_here(&limit) == fq_dql_avail(&limit) &&
+                                 fq_dql_in_flight_here(&limit) == fq_dql_in_flight(&limit), 1);
 }
 
 static void done(void) {
@@ -218,18 +342,20 @@ static void call_of_tx(void) {
 }
 
 /* A list and its runs, beside numbers that are counted here. */
+enum { IDS = 120 };
 static struct fq_handle list = FQ_NONE;
-static uint32_t listed, asked, weight, budget, window, run_polls, run_work;
-static bool runs;
+static uint32_t listed, asked, asked_id, weight, budget, window, run_polls, run_work;
+static bool runs, waits[IDS]; /* the numbers that are listed, or wait in the run */
 
 static void call_of_list(void) {
     struct fq_run_report report;
-    uint32_t id, work, next, wanted;
-    switch (random_below(5)) {
+    uint32_t id = IDS, work, next, wanted;
+    switch (random_below(6)) {
     case 0:
-        wanted = listed < LISTED ? FQ_OK : FQ_FULL;
-        want("push", fq_list_push(&list, random_below(1000)), wanted);
-        listed += wanted == FQ_OK;
+        id = random_below(IDS);
+        wanted = waits[id] ? FQ_IN_USE : listed < LISTED ? FQ_OK : FQ_FULL;
+        want("push", fq_list_push(&list, id), wanted);
+        if (wanted == FQ_OK) listed++, waits[id] = true;
         break;
     case 1: {
         const uint32_t b = random_below(200), w = random_below(66), o = random_below(20);
@@ -242,15 +368,25 @@ static void call_of_list(void) {
         wanted = fq_run_next(&list, &id);
         if (!runs || asked) want("next", wanted, FQ_NOT_ALLOWED);
         else if (run_work >= budget || run_polls >= window || listed == 0) want("next", wanted, FQ_DONE);
-        else if (wanted != FQ_DONE) want("next", wanted, FQ_OK), asked = 1; /* done too where all is to be polled again */
+        else if (wanted != FQ_DONE) { /* done too where all is to be polled again */
+            want("next", wanted, FQ_OK);
+            want("the next number", id < IDS && waits[id], 1);
+            asked = 1, asked_id = id, waits[id] = false;
+        }
         break;
     case 3:
         work = random_below(66), next = random_below(6);
         wanted = !asked ? FQ_NOT_ALLOWED : work > weight ? FQ_BAD_WORK : next > FQ_NEXT_ABSENT ? FQ_BAD_NEXT : FQ_OK;
+        if (wanted == FQ_OK && (next == FQ_NEXT_AGAIN || next == FQ_NEXT_REPOLL) && waits[asked_id]) wanted = FQ_IN_USE;
         want("polled", fq_run_polled(&list, work, next), wanted);
         if (wanted != FQ_OK) break;
         asked = 0, run_polls++, run_work += work;
-        listed -= next != FQ_NEXT_AGAIN && next != FQ_NEXT_REPOLL;
+        if (next == FQ_NEXT_AGAIN || next == FQ_NEXT_REPOLL) waits[asked_id] = true;
+        else listed--;
+        break;
+    case 4:
+        want("length", fq_list_len(&list, &id), FQ_OK);
+        want("the length", id, listed);
         break;
     default:
         wanted = runs && !asked ? FQ_OK : FQ_NOT_ALLOWED;

@@ -17,8 +17,7 @@ pub struct Polled {
     pub next: Next,
 }
 
-/// A poll list of one thread: numbers of devices, which runs of the softirq poll in turn. It
-/// doesn't look for doubles.
+/// A poll list of one thread: numbers of devices, which runs of the softirq poll in turn.
 #[derive(Debug)]
 pub struct List {
     at: Handle,
@@ -33,10 +32,26 @@ impl List {
         Ok(List { at })
     }
 
-    /// Puts a number at the list's tail. [`FULL`](Fault::FULL) where list and run hold 64.
+    /// Puts a number at the list's tail. [`IN_USE`](Fault::IN_USE) where it is listed already,
+    /// [`FULL`](Fault::FULL) where list and run hold 64.
     pub fn push(&mut self, id: u32) -> Result<(), Fault> {
         // SAFETY: the handle is this list's alone.
         Fault::unless_made(unsafe { sys::fq_list_push(self.at.raw(), id) })
+    }
+
+    /// How many numbers it holds, with those of a run over it.
+    pub fn len(&mut self) -> usize {
+        let mut len = 0;
+        // SAFETY: the handle is this list's alone, and the number lies elsewhere.
+        match unsafe { sys::fq_list_len(self.at.raw(), &mut len) } {
+            sys::FQ_OK => len as usize,
+            said => unexpected("list_len", said),
+        }
+    }
+
+    /// Whether it holds none.
+    pub fn is_empty(&mut self) -> bool {
+        self.len() == 0
     }
 
     /// A run (`net_rx_action`): polls what is listed, in turn, until the list is empty or budget or
@@ -44,8 +59,9 @@ impl List {
     /// [`BAD_BUDGET`](Fault::BAD_BUDGET).
     ///
     /// `poll` polls the device of that number, and may list others. Where it answers more packets
-    /// than the weight, the run ends with [`BAD_WORK`](Fault::BAD_WORK), and where it panics, the
-    /// run ends too: that device isn't listed any more, all others are.
+    /// than the weight, the run ends with [`BAD_WORK`](Fault::BAD_WORK); where it asks to be listed
+    /// again though it has listed itself, with [`IN_USE`](Fault::IN_USE); and where it panics, the
+    /// run ends too: the device's answer lists it no more, all others are listed.
     pub fn run<F>(
         &mut self,
         budget: u32,

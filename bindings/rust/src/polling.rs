@@ -5,6 +5,7 @@ use crate::fault::unexpected;
 use crate::handle::Handle;
 use crate::packets::{Batch, Packet, Weight};
 use crate::sys;
+use crate::words::Next;
 
 /// A caller that polls the instance. A poll of the whole weight is requeued, any other completed.
 ///
@@ -37,6 +38,18 @@ impl Polling {
         match unsafe { sys::fq_seat_requeue(self.at.raw()) } {
             sys::FQ_OK => Caller { at: self.at },
             said => unexpected("seat_requeue", said),
+        }
+    }
+
+    /// Ends the poll as the kernel does (`__napi_poll`): after a full one, which gave its whole
+    /// weight, it is requeued, unless a disable is pending; else it is completed, and handed over
+    /// again where a request was missed. Tells a run how it ended.
+    pub fn end(mut self, full: bool) -> (Caller, Next) {
+        let mut next = 0;
+        // SAFETY: the handle is this poller's alone, and the number lies elsewhere.
+        match unsafe { sys::fq_seat_end(self.at.raw(), full, &mut next) } {
+            sys::FQ_OK => (Caller { at: self.at }, Next::of("seat_end", next)),
+            said => unexpected("seat_end", said),
         }
     }
 

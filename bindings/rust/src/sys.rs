@@ -3,6 +3,7 @@
 #![allow(non_camel_case_types)]
 
 use std::os::raw::c_void;
+use std::sync::atomic::{AtomicU64, Ordering};
 
 macro_rules! statuses {
     ($($name:ident = $number:literal,)*) => {
@@ -162,6 +163,32 @@ pub struct fq_packet {
     pub bytes: u32,
 }
 
+/// What is counted of a ring's polls. Each count stays at its greatest value.
+#[repr(C)]
+#[derive(Clone, Copy, Debug, Default, PartialEq, Eq)]
+pub struct fq_counts {
+    /// The polls.
+    pub polls: u64,
+    /// The packets that they gave.
+    pub packets: u64,
+    /// The bytes of these.
+    pub bytes: u64,
+}
+
+/// What is counted of a whole ring. Each count stays at its greatest value.
+#[repr(C)]
+#[derive(Clone, Copy, Debug, Default, PartialEq, Eq)]
+pub struct fq_totals {
+    /// The packets that were put.
+    pub put: u64,
+    /// The packets that polls gave.
+    pub polled: u64,
+    /// The packets that were left in the ring.
+    pub left: u64,
+    /// The bytes of all packets that were put.
+    pub bytes: u64,
+}
+
 /// What a transmit ring shows.
 #[repr(C)]
 #[derive(Clone, Copy, Debug, Default, PartialEq, Eq)]
@@ -176,6 +203,13 @@ pub struct fq_tx_state {
     pub avail: i64,
     /// Whether the queue is stopped.
     pub stopped: bool,
+}
+
+/// A word of pending bits, for threads beside a list's poller.
+#[repr(C)]
+#[derive(Debug, Default)]
+pub struct fq_word {
+    private_bits: u64,
 }
 
 /// What a polling run did.
@@ -240,6 +274,7 @@ extern "C" {
 
     pub fn fq_free(handle: *mut fq_handle) -> u32;
     pub fn fq_abandon(handle: *mut fq_handle) -> u32;
+    pub fn fq_move(from: *mut fq_handle, to: *mut fq_handle) -> u32;
 
     pub fn fq_ring_new(ring: *mut fq_handle, capacity: usize) -> u32;
     pub fn fq_ring_put(ring: *mut fq_handle, number: u64, bytes: u32) -> u32;
@@ -250,6 +285,10 @@ extern "C" {
         len: usize,
         count: *mut usize,
     ) -> u32;
+
+    pub fn fq_counts(handle: *mut fq_handle, counts: *mut fq_counts) -> u32;
+    pub fn fq_ring_split(ring: *mut fq_handle, out: *mut fq_handle) -> u32;
+    pub fn fq_ring_finish(ring: *mut fq_handle, totals: *mut fq_totals) -> u32;
 
     pub fn fq_tx_new(
         tx: *mut fq_handle,
@@ -269,6 +308,8 @@ extern "C" {
         seats: *mut fq_handle,
         count: usize,
     ) -> u32;
+    pub fn fq_shared_bare(control: *mut fq_handle, seats: *mut fq_handle, count: usize) -> u32;
+    pub fn fq_seat_look(seat: *mut fq_handle, word: *mut u64) -> u32;
     pub fn fq_seat_schedule(seat: *mut fq_handle) -> u32;
     pub fn fq_seat_take(seat: *mut fq_handle, kind: u32) -> u32;
     pub fn fq_seat_busy_take(seat: *mut fq_handle) -> u32;
@@ -290,6 +331,7 @@ extern "C" {
 
     pub fn fq_list_new(list: *mut fq_handle) -> u32;
     pub fn fq_list_push(list: *mut fq_handle, id: u32) -> u32;
+    pub fn fq_list_len(list: *mut fq_handle, len: *mut u32) -> u32;
     pub fn fq_run_begin(list: *mut fq_handle, budget: u32, weight: u32, window: u32) -> u32;
     pub fn fq_run_next(list: *mut fq_handle, id: *mut u32) -> u32;
     pub fn fq_run_polled(list: *mut fq_handle, work: u32, next: u32) -> u32;
@@ -338,6 +380,53 @@ pub unsafe fn fq_dql_init(dql: *mut fq_dql, min: u32, max: u32, hold_ms: u64, no
     made.status
 }
 
+/// The limit, read in place.
+///
+/// # Safety
+/// `dql` leads to a limit.
+pub unsafe fn fq_dql_limit_here(dql: *const fq_dql) -> u32 {
+    // SAFETY: as the caller says.
+    unsafe { (*dql).private_a[3] }
+}
+
+/// The bytes in flight, read in place.
+///
+/// # Safety
+/// `dql` leads to a limit.
+pub unsafe fn fq_dql_in_flight_here(dql: *const fq_dql) -> u32 {
+    // SAFETY: as the caller says.
+    unsafe { (*dql).private_a[0].wrapping_sub((*dql).private_a[1]) }
+}
+
+/// What may still be given to the device, read in place.
+///
+/// # Safety
+/// `dql` leads to a limit.
+pub unsafe fn fq_dql_avail_here(dql: *const fq_dql) -> i64 {
+    // SAFETY: as the caller says.
+    unsafe { i64::from(fq_dql_limit_here(dql)) - i64::from(fq_dql_in_flight_here(dql)) }
+}
+
+/// Raises a bit, 0 to 63, and answers whether the word was 0.
+///
+/// # Safety
+/// `word` leads to a word, which only these two calls use.
+pub unsafe fn fq_word_raise(word: *mut fq_word, bit: u32) -> bool {
+    // SAFETY: as the caller says; an atomic lies as its number does.
+    let bits = unsafe { &*word.cast::<AtomicU64>() };
+    bits.fetch_or(1 << (bit & 63), Ordering::SeqCst) == 0
+}
+
+/// Takes all bits, which are 0 then.
+///
+/// # Safety
+/// As for [`fq_word_raise`].
+pub unsafe fn fq_word_take(word: *mut fq_word) -> u64 {
+    // SAFETY: as the caller says; an atomic lies as its number does.
+    let bits = unsafe { &*word.cast::<AtomicU64>() };
+    bits.swap(0, Ordering::SeqCst)
+}
+
 /// An interrupt: schedules, try after try until one decides, and hands over where it was granted.
 ///
 /// # Safety
@@ -357,5 +446,59 @@ pub unsafe fn fq_seat_interrupt(seat: *mut fq_handle, kind: u32) -> u32 {
         if said != FQ_CHANGED {
             return said;
         }
+    }
+}
+
+/// The end of a poll, as the kernel ends it: after a full one the instance is on the list again,
+/// unless a disable is pending; else it is completed, and handed over again where a request was
+/// missed.
+///
+/// # Safety
+/// As for [`fq_seat_look`], whose word is `next` here.
+pub unsafe fn fq_seat_end(seat: *mut fq_handle, full: bool, next: *mut u32) -> u32 {
+    let mut word = 0;
+    // SAFETY: as the caller says; the word lies here.
+    let said = unsafe { fq_seat_look(seat, &mut word) };
+    if said != FQ_OK {
+        return said;
+    }
+    if full && word & FQ_BIT_DISABLE == 0 {
+        // SAFETY: as the caller says.
+        let said = unsafe { fq_seat_requeue(seat) };
+        if said == FQ_OK {
+            // SAFETY: as the caller says.
+            unsafe { next.write(FQ_NEXT_REPOLL) };
+        }
+        return said;
+    }
+    let said = loop {
+        // SAFETY: as the caller says.
+        let said = unsafe { fq_seat_complete(seat) };
+        if said != FQ_CHANGED {
+            break said;
+        }
+    };
+    if said == FQ_RELEASED {
+        // SAFETY: as the caller says.
+        unsafe { next.write(FQ_NEXT_GONE) };
+        return FQ_OK;
+    }
+    if said != FQ_AGAIN {
+        return said;
+    }
+    // SAFETY: as the caller says; the word lies here.
+    let said = unsafe { fq_seat_look(seat, &mut word) };
+    if said != FQ_OK {
+        return said;
+    }
+    let (kind, how) = if word & FQ_BIT_THREADED == 0 {
+        (FQ_LIST, FQ_NEXT_AGAIN)
+    } else {
+        (FQ_THREAD, FQ_NEXT_AGAIN_THREAD)
+    };
+    // SAFETY: as the caller says.
+    unsafe {
+        next.write(how);
+        fq_seat_hand(seat, kind)
     }
 }

@@ -69,6 +69,17 @@ pub enum Next {
 }
 
 impl Next {
+    pub(crate) fn of(call: &str, number: u32) -> Next {
+        match number {
+            sys::FQ_NEXT_GONE => Next::Gone,
+            sys::FQ_NEXT_AGAIN => Next::Again(Kind::List),
+            sys::FQ_NEXT_AGAIN_THREAD => Next::Again(Kind::Thread),
+            sys::FQ_NEXT_REPOLL => Next::Repoll,
+            sys::FQ_NEXT_ABSENT => Next::Absent,
+            number => unexpected(call, number),
+        }
+    }
+
     pub(crate) fn number(self) -> u32 {
         match self {
             Next::Gone => sys::FQ_NEXT_GONE,

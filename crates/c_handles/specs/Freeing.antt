@@ -1,12 +1,12 @@
 -- What may be freed, and what that is answered.
-use Rattle.std.specs.Prelude.{ℕ, Bool, true, false, ◌==◌, if◌then◌else◌, Option, Some, None}
+use Rattle.std.specs.Prelude.{ℕ, Bool, true, false, not, is_some, if◌then◌else◌, Option, Some, None}
 use Rattle.c_handles.specs.declared.hold.Hold.{Hold}
 use Rattle.c_handles.specs.declared.hold.Hold.TheVariants as hold
 use Rattle.c_handles.specs.declared.mode.Mode.{Mode}
 use Rattle.c_handles.specs.declared.mode.Mode.TheVariants as mode
 use Rattle.c_handles.specs.declared.body.Body.{Body}
 use Rattle.c_handles.specs.declared.body.Body.TheVariants as body
-use Rattle.c_handles.specs.Status.{OK, NOT_ALLOWED, BAD_HANDLE}
+use Rattle.c_handles.specs.Status.{OK, NOT_ALLOWED, BAD_HANDLE, IN_USE}
 
 abbrev pub rests : Hold → Bool
 rests (hold.Rests c) = true
@@ -25,9 +25,10 @@ is_off mode.Gone = false
 abbrev pub is_freeable : Body → Bool
 is_freeable (body.Seat s) = rests s.hold
 is_freeable (body.Controller c) = is_off c.mode
-is_freeable (body.List l) = l.value.window == 0
+is_freeable (body.List l) = not (is_some l.value.run)
 is_freeable (body.Ring r) = true
 is_freeable (body.In i) = true
+is_freeable (body.Ctx c) = true
 is_freeable (body.Tx r) = true
 is_freeable body.Gone = true
 
@@ -38,3 +39,9 @@ free_status (Some x) = if is_freeable x then OK else NOT_ALLOWED
 abbrev pub abandon_status : Option Body → ℕ
 abandon_status None = BAD_HANDLE
 abandon_status (Some x) = OK
+
+-- what was led to, and what the other handle led to
+abbrev pub move_status : Option Body → Option Body → ℕ
+move_status from (Some y) = IN_USE
+move_status None None = BAD_HANDLE
+move_status (Some x) None = OK

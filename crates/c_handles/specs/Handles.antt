@@ -1,34 +1,85 @@
--- What a handle leads to, by its kind.
-use Rattle.std.specs.Prelude.{◌≡◌, ℕ, List, Option, Some, None}
+-- What calls on handles are answered and leave, by what a handle leads to. One that leads to nothing, or to another kind than the
+-- call is for, is answered BAD_HANDLE, and stays as it is.
+use Rattle.std.specs.Prelude.{◌≡◌, ◌⊎◌, ℕ, List, Option, Some, None}
+use Rattle.napi_model.specs.declared.state.Seen.{Seen}
+use Rattle.napi_model.specs.Word.{word_of}
 use Rattle.rx_ring.specs.declared.packet.Packet.{Packet}
 use Rattle.c_handles.specs.declared.seat.Seat.{Seat}
 use Rattle.c_handles.specs.declared.seat.Controller.{Controller}
+use Rattle.c_handles.specs.declared.lister.Lister.{Lister}
 use Rattle.c_handles.specs.declared.body.Body.{Body}
 use Rattle.c_handles.specs.declared.body.Body.TheVariants as body
 use Rattle.c_handles.specs.declared.handle.FqHandle.{FqHandle}
+use Rattle.c_handles.specs.declared.hold.Hold.{Hold}
 use Rattle.c_handles.specs.declared.hold.SeatCall.{SeatCall}
 use Rattle.c_handles.specs.declared.mode.ControlCall.{ControlCall}
-use Rattle.c_handles.specs.SeatCalls.{SeatAnswers, SeatPolls, ControlAnswers}
+use Rattle.c_handles.specs.Status.{OK, BAD_HANDLE}
+use Rattle.c_handles.specs.SeatCalls.{Refused, SeatAnswers, SeatLooks, SeatPolls, ControlAnswers}
+
+-- another kind
+abbrev pub OtherKind : Body → ℕ → Body → Type 0
+OtherKind before n after = (n ≡ BAD_HANDLE) × (after ≡ before)
+
+-- what it led to was answered this and changed so, and it leads to that then
+abbrev pub OnHandle : (Body → ℕ → Body → Type 0) → Option Body → ℕ → Option Body → Type 0
+OnHandle P None n after = (n ≡ BAD_HANDLE) × (after ≡ None)
+OnHandle P (Some x) n None = ⊥
+OnHandle P (Some x) n (Some y) = P x n y
+
+-- ---- callers
 
 -- it is a caller with this
 abbrev pub IsSeatWith : (Seat → Type 0) → Body → Type 0
 IsSeatWith P (body.Seat s) = P s
 IsSeatWith P (body.Ring r) = ⊥
 IsSeatWith P (body.In i) = ⊥
+IsSeatWith P (body.Ctx c) = ⊥
 IsSeatWith P (body.List l) = ⊥
 IsSeatWith P (body.Controller c) = ⊥
 IsSeatWith P (body.Tx r) = ⊥
 IsSeatWith P body.Gone = ⊥
 
-abbrev pub LeadsToSeat : (Seat → Type 0) → Option Body → Type 0
-LeadsToSeat P None = ⊥
-LeadsToSeat P (Some x) = IsSeatWith P x
+-- of a caller, this
+abbrev pub OnSeat : (Seat → ℕ → Body → Type 0) → Body → ℕ → Body → Type 0
+OnSeat P (body.Seat s) n after = P s n after
+OnSeat P (body.Ring r) n after = OtherKind (body.Ring r) n after
+OnSeat P (body.In i) n after = OtherKind (body.In i) n after
+OnSeat P (body.Ctx c) n after = OtherKind (body.Ctx c) n after
+OnSeat P (body.List l) n after = OtherKind (body.List l) n after
+OnSeat P (body.Controller c) n after = OtherKind (body.Controller c) n after
+OnSeat P (body.Tx r) n after = OtherKind (body.Tx r) n after
+OnSeat P body.Gone n after = OtherKind body.Gone n after
+
+abbrev pub SeatMakesIn : SeatCall → Body → ℕ → Body → Type 0
+SeatMakesIn call = OnSeat (λ s n after. IsSeatWith (λ t. SeatAnswers call s.hold n t.hold) after)
+
+abbrev pub SeatGivesIn : ℕ → List Packet → Body → ℕ → Body → Type 0
+SeatGivesIn weight given = OnSeat (λ s n after. IsSeatWith (λ t. SeatPolls weight given s.hold n t.hold) after)
+
+-- A look shows this word. Of the two words the first was the caller's before, and the second afterwards.
+abbrev pub ShowsWord : ℕ → ℕ → Hold → ℕ → Hold → Type 0
+ShowsWord before after h n k = ((n ≡ OK) × ((x : Seen) × SeatLooks h (Some x) k × (after ≡ word_of x))) ⊎ (Refused h n k × (after ≡ before))
+
+abbrev pub SeatShowsIn : ℕ → ℕ → Body → ℕ → Body → Type 0
+SeatShowsIn before after = OnSeat (λ s n b. IsSeatWith (λ t. ShowsWord before after s.hold n t.hold) b)
+
+abbrev pub SeatShows : ℕ → ℕ → FqHandle → ℕ → FqHandle → Type 0
+SeatShows before after old n new = OnHandle (SeatShowsIn before after) old.held.body n new.held.body
+
+abbrev pub SeatMakes : SeatCall → FqHandle → ℕ → FqHandle → Type 0
+SeatMakes call old n new = OnHandle (SeatMakesIn call) old.held.body n new.held.body
+
+abbrev pub SeatGives : ℕ → List Packet → FqHandle → ℕ → FqHandle → Type 0
+SeatGives weight given old n new = OnHandle (SeatGivesIn weight given) old.held.body n new.held.body
+
+-- ---- controllers
 
 -- it is a controller with this
 abbrev pub IsControllerWith : (Controller → Type 0) → Body → Type 0
 IsControllerWith P (body.Controller c) = P c
 IsControllerWith P (body.Ring r) = ⊥
 IsControllerWith P (body.In i) = ⊥
+IsControllerWith P (body.Ctx c) = ⊥
 IsControllerWith P (body.List l) = ⊥
 IsControllerWith P (body.Seat s) = ⊥
 IsControllerWith P (body.Tx r) = ⊥
@@ -38,13 +89,54 @@ abbrev pub LeadsToController : (Controller → Type 0) → Option Body → Type 
 LeadsToController P None = ⊥
 LeadsToController P (Some x) = IsControllerWith P x
 
--- ---- of a handle that led to a caller or a controller: the call is answered this number, and it leads to what the call leaves
+-- of a controller, this
+abbrev pub OnController : (Controller → ℕ → Body → Type 0) → Body → ℕ → Body → Type 0
+OnController P (body.Controller c) n after = P c n after
+OnController P (body.Ring r) n after = OtherKind (body.Ring r) n after
+OnController P (body.In i) n after = OtherKind (body.In i) n after
+OnController P (body.Ctx c) n after = OtherKind (body.Ctx c) n after
+OnController P (body.List l) n after = OtherKind (body.List l) n after
+OnController P (body.Seat s) n after = OtherKind (body.Seat s) n after
+OnController P (body.Tx r) n after = OtherKind (body.Tx r) n after
+OnController P body.Gone n after = OtherKind body.Gone n after
 
-abbrev pub SeatMakes : SeatCall → FqHandle → ℕ → FqHandle → Type 0
-SeatMakes call old n new = (s : Seat) → old.held.body ≡ Some (body.Seat s) → LeadsToSeat (λ t. SeatAnswers call s.hold n t.hold) new.held.body
-
-abbrev pub SeatGives : ℕ → List Packet → FqHandle → ℕ → FqHandle → Type 0
-SeatGives weight given old n new = (s : Seat) → old.held.body ≡ Some (body.Seat s) → LeadsToSeat (λ t. SeatPolls weight given s.hold n t.hold) new.held.body
+abbrev pub ControlMakesIn : ControlCall → Body → ℕ → Body → Type 0
+ControlMakesIn call = OnController (λ c n after. IsControllerWith (λ d. ControlAnswers call c.mode n d.mode) after)
 
 abbrev pub ControlMakes : ControlCall → FqHandle → ℕ → FqHandle → Type 0
-ControlMakes call old n new = (c : Controller) → old.held.body ≡ Some (body.Controller c) → LeadsToController (λ d. ControlAnswers call c.mode n d.mode) new.held.body
+ControlMakes call old n new = OnHandle (ControlMakesIn call) old.held.body n new.held.body
+
+-- ---- lists
+
+-- it is a list with this
+abbrev pub IsListWith : (Lister → Type 0) → Body → Type 0
+IsListWith P (body.List l) = P l.value
+IsListWith P (body.Ring r) = ⊥
+IsListWith P (body.In i) = ⊥
+IsListWith P (body.Ctx c) = ⊥
+IsListWith P (body.Seat s) = ⊥
+IsListWith P (body.Controller c) = ⊥
+IsListWith P (body.Tx r) = ⊥
+IsListWith P body.Gone = ⊥
+
+abbrev pub LeadsToList : (Lister → Type 0) → Option Body → Type 0
+LeadsToList P None = ⊥
+LeadsToList P (Some x) = IsListWith P x
+
+-- of a list, this
+abbrev pub OnList : (Lister → ℕ → Body → Type 0) → Body → ℕ → Body → Type 0
+OnList P (body.List l) n after = P l.value n after
+OnList P (body.Ring r) n after = OtherKind (body.Ring r) n after
+OnList P (body.In i) n after = OtherKind (body.In i) n after
+OnList P (body.Ctx c) n after = OtherKind (body.Ctx c) n after
+OnList P (body.Seat s) n after = OtherKind (body.Seat s) n after
+OnList P (body.Controller c) n after = OtherKind (body.Controller c) n after
+OnList P (body.Tx r) n after = OtherKind (body.Tx r) n after
+OnList P body.Gone n after = OtherKind body.Gone n after
+
+abbrev pub ListMakesIn : (Lister → ℕ → Lister → Type 0) → Body → ℕ → Body → Type 0
+ListMakesIn P = OnList (λ l n after. IsListWith (λ m. P l n m) after)
+
+-- of a handle that leads to a list: it was answered this, and leads to that list then
+abbrev pub ListMakes : (Lister → ℕ → Lister → Type 0) → FqHandle → ℕ → FqHandle → Type 0
+ListMakes P old n new = OnHandle (ListMakesIn P) old.held.body n new.held.body

@@ -4,6 +4,7 @@ pub mod Held
 pub mod Rings
 pub mod Transmits
 pub mod Seats
+pub mod Lists
 pub mod Runs
 pub mod Tries
 pub mod SeatCalls

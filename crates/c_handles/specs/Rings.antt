@@ -2,7 +2,11 @@
 use Rattle.std.specs.Prelude.{◌≡◌, ℕ, List, Option, Some, None, [], ◌∷◌, ◌++◌}
 use Rattle.rx_ring.specs.declared.packet.Packet.{Packet}
 use Rattle.c_handles.specs.declared.body.Body.{Body}
-use Rattle.rx_ring.specs.Ends.{GivesNext, put_list, capacity_of, received_list}
+use Rattle.rx_ring.specs.declared.ends.RxIn.{RxIn}
+use Rattle.rx_ring.specs.declared.ends.RxCtx.{RxCtx}
+use Rattle.rx_ring.specs.Ends.{GivesNext, SameIn, put_list, capacity_of, received_list}
+use Rattle.rx_ring.specs.declared.packet.RxCounts.{RxCounts}
+use Rattle.c_handles.specs.SeatCalls.{ctx_counts, hold_counts, mode_counts}
 use Rattle.c_handles.specs.declared.body.Ring.{Ring}
 use Rattle.c_handles.specs.declared.body.Body.TheVariants as body
 use Rattle.c_handles.specs.declared.handle.FqHandle.{FqHandle}
@@ -15,6 +19,7 @@ LeadsTo handle ring = handle.held.body ≡ Some (body.Ring ring)
 abbrev pub IsRingWith : (Ring → Type 0) → Body → Type 0
 IsRingWith P (body.Ring ring) = P ring
 IsRingWith P (body.In input) = ⊥
+IsRingWith P (body.Ctx ctx) = ⊥
 IsRingWith P (body.List list) = ⊥
 IsRingWith P (body.Seat seat) = ⊥
 IsRingWith P (body.Controller controller) = ⊥
@@ -25,6 +30,35 @@ IsRingWith P body.Gone = ⊥
 abbrev pub LeadsToRing : (Ring → Type 0) → Option Body → Type 0
 LeadsToRing P None = ⊥
 LeadsToRing P (Some x) = IsRingWith P x
+
+-- the input of a ring, and the other end, alone
+abbrev pub IsInputWith : (RxIn → Type 0) → Body → Type 0
+IsInputWith P (body.In input) = P input
+IsInputWith P (body.Ring ring) = ⊥
+IsInputWith P (body.Ctx ctx) = ⊥
+IsInputWith P (body.List list) = ⊥
+IsInputWith P (body.Seat seat) = ⊥
+IsInputWith P (body.Controller controller) = ⊥
+IsInputWith P (body.Tx tx) = ⊥
+IsInputWith P body.Gone = ⊥
+
+abbrev pub LeadsToInput : (RxIn → Type 0) → Option Body → Type 0
+LeadsToInput P None = ⊥
+LeadsToInput P (Some x) = IsInputWith P x
+
+abbrev pub IsCtxWith : (RxCtx → Type 0) → Body → Type 0
+IsCtxWith P (body.Ctx ctx) = P ctx
+IsCtxWith P (body.Ring ring) = ⊥
+IsCtxWith P (body.In input) = ⊥
+IsCtxWith P (body.List list) = ⊥
+IsCtxWith P (body.Seat seat) = ⊥
+IsCtxWith P (body.Controller controller) = ⊥
+IsCtxWith P (body.Tx tx) = ⊥
+IsCtxWith P body.Gone = ⊥
+
+abbrev pub LeadsToCtx : (RxCtx → Type 0) → Option Body → Type 0
+LeadsToCtx P None = ⊥
+LeadsToCtx P (Some x) = IsCtxWith P x
 
 -- a new ring of so many places
 pub record IsNewRing (capacity : ℕ) (ring : Ring) : Type 0 where
@@ -37,7 +71,29 @@ pub record IsAfterPut (before : Ring) (packet : Packet) (after : Ring) : Type 0 
   pub put : put_list after.input ≡ put_list before.input ++ packet ∷ []
   pub ctx : after.ctx ≡ before.ctx
 
+-- the same, where the other end is elsewhere
+pub record IsAfterInput (before : RxIn) (packet : Packet) (after : RxIn) : Type 0 where
+  pub ring : SameIn before after
+  pub put : put_list after ≡ put_list before ++ packet ∷ []
+
 -- a poll of this weight gave these packets
 pub record IsAfterPoll (weight : ℕ) (before : Ring) (given : List Packet) (after : Ring) : Type 0 where
   pub input : after.input ≡ before.input
   pub next : GivesNext weight before.ctx after.ctx given
+
+-- ---- what is counted
+
+-- of the polls, by whoever has the ring's other end: none of one that nobody has there
+abbrev pub counts_in : Body → Option RxCounts
+counts_in (body.Ring ring) = Some (ctx_counts ring.ctx)
+counts_in (body.Ctx ctx) = Some (ctx_counts ctx)
+counts_in (body.Seat seat) = hold_counts seat.hold
+counts_in (body.Controller controller) = mode_counts controller.mode
+counts_in (body.In input) = None
+counts_in (body.List list) = None
+counts_in (body.Tx tx) = None
+counts_in body.Gone = None
+
+abbrev pub CountsAre : RxCounts → Option Body → Type 0
+CountsAre counts None = ⊥
+CountsAre counts (Some x) = counts_in x ≡ Some counts

@@ -1,16 +1,22 @@
 -- What a caller or the controller of a shared instance does with a call, in whatever state it is, told by the clauses of the
 -- calls below. A call that its state doesn't have is refused, and leaves all as it was.
-use Rattle.std.specs.Prelude.{◌≡◌, ℕ, Bool, List, [], ◌∷◌}
+use Rattle.std.specs.Prelude.{◌≡◌, ℕ, Bool, List, [], ◌∷◌, Option, Some, None}
 use Rattle.napi_model.specs.declared.state.Kind.TheVariants as kind
 use Rattle.napi_model.specs.declared.event.Done.TheVariants as done
 use Rattle.napi_model.specs.declared.event.Call.TheVariants as call
+use Rattle.napi_model.specs.declared.event.Operation.{Operation}
 use Rattle.napi_model.specs.declared.event.Operation.TheVariants as operation
 use Rattle.rx_ring.specs.declared.packet.Packet.{Packet}
-use Rattle.rx_ring.specs.Ends.{GivesNext}
+use Rattle.rx_ring.specs.declared.packet.RxCounts.{RxCounts}
+use Rattle.rx_ring.specs.declared.ends.RxCtx.{RxCtx}
+use Rattle.rx_ring.specs.ReceiveRing.{counts_of}
+use Rattle.rx_ring.specs.Ends.{GivesNext, polls_of, received_list}
+use Rattle.napi_model.specs.declared.state.Seen.{Seen}
 use Rattle.napi_calls.specs.declared.types.Polling.{Polling}
 use Rattle.napi_calls.specs.declared.types.Busy.{Busy}
 use Rattle.napi_word.specs.declared.table.Pass.{Pass}
 use Rattle.napi_calls.specs.Made.{Made, WasLost}
+use Rattle.napi_calls.specs.Packets.{Quiet, HoldsOn, GivesBack, IsSame, PreparesQuietly, TakesFresh, TriesToGiveBack, TriesToBusyPollFresh, TriesToStopHolding, TriesToTakeFresh}
 use Rattle.napi_calls.specs.Calls.{Prepares, Takes, TriesToComplete, TriesToBusyPoll, TriesToStop, TriesToTake, EnablesAt}
 use Rattle.c_handles.specs.declared.hold.Hold.{Hold}
 use Rattle.c_handles.specs.declared.hold.Hold.TheVariants as hold
@@ -31,6 +37,13 @@ RestsWith P (hold.Granted g) = ⊥
 RestsWith P (hold.Polls w) = ⊥
 RestsWith P (hold.Busy b) = ⊥
 RestsWith P hold.Gone = ⊥
+
+abbrev pub GrantedWith : (Pass → Type 0) → Hold → Type 0
+GrantedWith P (hold.Granted g) = P g.pass
+GrantedWith P (hold.Rests c) = ⊥
+GrantedWith P (hold.Polls w) = ⊥
+GrantedWith P (hold.Busy b) = ⊥
+GrantedWith P hold.Gone = ⊥
 
 abbrev pub BusyWith : (Busy → Type 0) → Hold → Type 0
 BusyWith P (hold.Busy b) = P b
@@ -65,38 +78,74 @@ IfGranted P (hold.Polls w) n after = Refused (hold.Polls w) n after
 IfGranted P (hold.Busy b) n after = Refused (hold.Busy b) n after
 IfGranted P hold.Gone n after = Refused hold.Gone n after
 
-abbrev pub IfPolls : (Pass → ℕ → Hold → Type 0) → Hold → ℕ → Hold → Type 0
-IfPolls P (hold.Polls w) n after = P w.pass n after
+abbrev pub IfPolls : (Polling → ℕ → Hold → Type 0) → Hold → ℕ → Hold → Type 0
+IfPolls P (hold.Polls w) n after = P w n after
 IfPolls P (hold.Rests c) n after = Refused (hold.Rests c) n after
 IfPolls P (hold.Granted g) n after = Refused (hold.Granted g) n after
 IfPolls P (hold.Busy b) n after = Refused (hold.Busy b) n after
 IfPolls P hold.Gone n after = Refused hold.Gone n after
 
-abbrev pub IfBusy : (Pass → ℕ → Hold → Type 0) → Hold → ℕ → Hold → Type 0
-IfBusy P (hold.Busy b) n after = P b.pass n after
+abbrev pub IfBusy : (Busy → ℕ → Hold → Type 0) → Hold → ℕ → Hold → Type 0
+IfBusy P (hold.Busy b) n after = P b n after
 IfBusy P (hold.Rests c) n after = Refused (hold.Rests c) n after
 IfBusy P (hold.Granted g) n after = Refused (hold.Granted g) n after
 IfBusy P (hold.Polls w) n after = Refused (hold.Polls w) n after
 IfBusy P hold.Gone n after = Refused hold.Gone n after
 
--- `napi_complete_done`, which holds an instance that is busy polled
+-- the operations of a call in the history, and what it does with the packets: its caller delivers none
+abbrev pub Does : List Operation → Pass → Pass → Type 0
+Does os p q = Made p os q × Quiet p q
+
+-- a try that the answer tells, with what it does with the packets
+abbrev pub Tries : {A : Type 0} → (Pass → A → Type 0) → (Pass → A → Type 0) → Pass → Option A → Type 0
+Tries events packets p = Is (λ r. events p r × packets p r)
+
+-- `napi_complete_done`, which holds an instance that is busy polled. Where it is released or is to be handed over again, what
+-- was polled is delivered.
 abbrev pub Completes : Hold → ℕ → Hold → Type 0
-Completes (hold.Polls w) n after = Is (TriesToComplete w.pass) (completed after n)
-Completes (hold.Busy b) n after = (n ≡ HELD) × BusyWith (λ x. Made b.pass (operation.Complete done.Held ∷ []) x.pass) after
+Completes (hold.Polls w) n after = Is (λ r. TriesToComplete w.pass r × TriesToGiveBack w.pass w.ctx r) (completed after n)
+Completes (hold.Busy b) n after = (n ≡ HELD) × BusyWith (λ x. Made b.pass (operation.Complete done.Held ∷ []) x.pass × HoldsOn b.pass x.pass × (x.ctx ≡ b.ctx)) after
 Completes (hold.Rests c) n after = Refused (hold.Rests c) n after
 Completes (hold.Granted g) n after = Refused (hold.Granted g) n after
 Completes hold.Gone n after = Refused hold.Gone n after
 
 -- `SeatAnswers call before n after`: the call is answered this number, and leaves this
 abbrev pub SeatAnswers : SeatCall → Hold → ℕ → Hold → Type 0
-SeatAnswers seat_call.Schedule = IfRests (λ p n after. Is (Prepares p) (scheduled after n))
-SeatAnswers (seat_call.Hand k) = IfGranted (λ p n after. (n ≡ OK) × RestsWith (Made p (operation.Hand k ∷ [])) after)
-SeatAnswers (seat_call.Take k) = IfRests (λ p n after. Is (Takes k p) (taken after n))
-SeatAnswers seat_call.Requeue = IfPolls (λ p n after. (n ≡ OK) × RestsWith (Made p (operation.Hand kind.List ∷ [])) after)
+SeatAnswers seat_call.Schedule = IfRests (λ p n after. Tries Prepares PreparesQuietly p (scheduled after n))
+SeatAnswers (seat_call.Hand k) = IfGranted (λ p n after. (n ≡ OK) × RestsWith (Does (operation.Hand k ∷ []) p) after)
+SeatAnswers (seat_call.Take k) = IfRests (λ p n after. Tries (Takes k) TakesFresh p (taken after n))
+SeatAnswers seat_call.Requeue = IfPolls (λ w n after. (n ≡ OK) × RestsWith (λ q. Made w.pass (operation.Hand kind.List ∷ []) q × GivesBack w.pass w.ctx q) after)
 SeatAnswers seat_call.Complete = Completes
-SeatAnswers seat_call.BusyTake = IfRests (λ p n after. Is (TriesToBusyPoll p) (busy_taken after n))
-SeatAnswers seat_call.BusyStop = IfBusy (λ p n after. Is (TriesToStop p) (busy_stopped after n))
-SeatAnswers (seat_call.SetThreaded b) = IfRests (λ p n after. (n ≡ OK) × RestsWith (Made p (operation.SetThreaded b ∷ [])) after)
+SeatAnswers seat_call.BusyTake = IfRests (λ p n after. Tries TriesToBusyPoll TriesToBusyPollFresh p (busy_taken after n))
+SeatAnswers seat_call.BusyStop = IfBusy (λ b n after. Is (λ r. TriesToStop b.pass r × TriesToStopHolding b.pass b.ctx r) (busy_stopped after n))
+SeatAnswers (seat_call.SetThreaded b) = IfRests (λ p n after. (n ≡ OK) × RestsWith (Does (operation.SetThreaded b ∷ []) p) after)
+
+-- a look tells this, and the caller stays what it is
+abbrev pub SeatLooks : Hold → Option Seen → Hold → Type 0
+SeatLooks (hold.Rests c) (Some x) after = RestsWith (Does (operation.Look x ∷ []) c.pass) after
+SeatLooks (hold.Granted g) (Some x) after = GrantedWith (Does (operation.Look x ∷ []) g.pass) after
+SeatLooks (hold.Polls w) (Some x) after = PollsWith (λ v. Made w.pass (operation.Look x ∷ []) v.pass × HoldsOn w.pass v.pass × (v.ctx ≡ w.ctx)) after
+SeatLooks (hold.Busy b) (Some x) after = BusyWith (λ v. Made b.pass (operation.Look x ∷ []) v.pass × HoldsOn b.pass v.pass × (v.ctx ≡ b.ctx)) after
+SeatLooks hold.Gone (Some x) after = ⊥
+SeatLooks before None after = (before ≡ hold.Gone) × (after ≡ before)
+
+-- ---- what is counted of a ring's polls, by who has its context
+
+abbrev pub ctx_counts : RxCtx → RxCounts
+ctx_counts ctx = counts_of (polls_of ctx) (received_list ctx)
+
+abbrev pub hold_counts : Hold → Option RxCounts
+hold_counts (hold.Polls w) = Some (ctx_counts w.ctx)
+hold_counts (hold.Busy b) = Some (ctx_counts b.ctx)
+hold_counts (hold.Rests c) = None
+hold_counts (hold.Granted g) = None
+hold_counts hold.Gone = None
+
+abbrev pub mode_counts : Mode → Option RxCounts
+mode_counts (mode.Off c) = Some (ctx_counts c.state.ctx)
+mode_counts (mode.On c) = None
+mode_counts (mode.Marked c) = None
+mode_counts mode.Gone = None
 
 -- ---- the controller
 
@@ -112,15 +161,15 @@ MarkedWith P (mode.Off c) = ⊥
 MarkedWith P (mode.On c) = ⊥
 MarkedWith P mode.Gone = ⊥
 
--- `napi_enable`, in one try
-abbrev pub EnablesIn : Pass → Bool → ℕ → Mode → Type 0
-EnablesIn p threaded n (mode.On c) = (n ≡ OK) × EnablesAt threaded p c.pass
-EnablesIn p threaded n (mode.Off c) = (n ≡ CHANGED) × WasLost (call.Enable threaded) p c.pass
-EnablesIn p threaded n (mode.Marked c) = ⊥
-EnablesIn p threaded n mode.Gone = ⊥
+-- `napi_enable`, in one try: what was polled is delivered, or the controller has it still
+abbrev pub EnablesIn : Pass → RxCtx → Bool → ℕ → Mode → Type 0
+EnablesIn p ctx threaded n (mode.On c) = (n ≡ OK) × EnablesAt threaded p c.pass × GivesBack p ctx c.pass
+EnablesIn p ctx threaded n (mode.Off c) = (n ≡ CHANGED) × WasLost (call.Enable threaded) p c.pass × HoldsOn p c.pass × IsSame ctx c.state.ctx
+EnablesIn p ctx threaded n (mode.Marked c) = ⊥
+EnablesIn p ctx threaded n mode.Gone = ⊥
 
-abbrev pub IfOff : (Pass → ℕ → Mode → Type 0) → Mode → ℕ → Mode → Type 0
-IfOff P (mode.Off c) n after = P c.pass n after
+abbrev pub IfOff : (Pass → RxCtx → ℕ → Mode → Type 0) → Mode → ℕ → Mode → Type 0
+IfOff P (mode.Off c) n after = P c.pass c.state.ctx n after
 IfOff P (mode.On c) n after = Refused (mode.On c) n after
 IfOff P (mode.Marked c) n after = Refused (mode.Marked c) n after
 IfOff P mode.Gone n after = Refused mode.Gone n after
@@ -138,9 +187,9 @@ IfMarked P (mode.On c) n after = Refused (mode.On c) n after
 IfMarked P mode.Gone n after = Refused mode.Gone n after
 
 abbrev pub ControlAnswers : ControlCall → Mode → ℕ → Mode → Type 0
-ControlAnswers (control_call.Enable threaded) = IfOff (λ p n after. EnablesIn p threaded n after)
-ControlAnswers control_call.Mark = IfOn (λ p n after. (n ≡ OK) × MarkedWith (Made p (operation.MarkDisable ∷ [])) after)
-ControlAnswers control_call.TryTake = IfMarked (λ p n after. Is (TriesToTake p) (disable_tried after n))
+ControlAnswers (control_call.Enable threaded) = IfOff (λ p ctx n after. EnablesIn p ctx threaded n after)
+ControlAnswers control_call.Mark = IfOn (λ p n after. (n ≡ OK) × MarkedWith (Does (operation.MarkDisable ∷ []) p) after)
+ControlAnswers control_call.TryTake = IfMarked (λ p n after. Tries TriesToTake TriesToTakeFresh p (disable_tried after n))
 
 -- ---- polls
 

@@ -22,6 +22,35 @@ sits_prop n (hold.Polls w) = Prim.hlevel props
 sits_prop n (hold.Busy b) = Prim.hlevel props
 sits_prop n hold.Gone = Prim.hlevel props
 
+-- what it is
+abbrev pub IsResting : Hold → Type 0
+IsResting (hold.Rests c) = Unit
+IsResting (hold.Granted g) = ⊥
+IsResting (hold.Polls w) = ⊥
+IsResting (hold.Busy b) = ⊥
+IsResting hold.Gone = ⊥
+
+abbrev pub IsGranted : Hold → Type 0
+IsGranted (hold.Rests c) = ⊥
+IsGranted (hold.Granted g) = Unit
+IsGranted (hold.Polls w) = ⊥
+IsGranted (hold.Busy b) = ⊥
+IsGranted hold.Gone = ⊥
+
+abbrev pub IsPolling : Hold → Type 0
+IsPolling (hold.Rests c) = ⊥
+IsPolling (hold.Granted g) = ⊥
+IsPolling (hold.Polls w) = Unit
+IsPolling (hold.Busy b) = ⊥
+IsPolling hold.Gone = ⊥
+
+abbrev pub IsBusy : Hold → Type 0
+IsBusy (hold.Rests c) = ⊥
+IsBusy (hold.Granted g) = ⊥
+IsBusy (hold.Polls w) = ⊥
+IsBusy (hold.Busy b) = Unit
+IsBusy hold.Gone = ⊥
+
 -- the controller is the instance's, or in a call
 abbrev pub ControlsAt : Napi → Mode → Type 0
 ControlsAt n (mode.Off c) = IsSeatOf n c.pass

@@ -73,6 +73,18 @@ BAD_WEIGHT = 114
 abbrev pub NO_ROOM : ℕ
 NO_ROOM = 115
 
+abbrev pub BAD_BUDGET : ℕ
+BAD_BUDGET = 116
+
+abbrev pub BAD_COUNT : ℕ
+BAD_COUNT = 117
+
+abbrev pub BAD_NEXT : ℕ
+BAD_NEXT = 118
+
+abbrev pub BAD_WORK : ℕ
+BAD_WORK = 119
+
 -- the number of a queue limit's fault, or that there is none
 abbrev pub dql_status : Option DqlFault → ℕ
 dql_status None = OK

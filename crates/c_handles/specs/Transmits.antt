@@ -17,6 +17,7 @@ abbrev pub IsTxWith : (TxRing → Type 0) → Body → Type 0
 IsTxWith P (body.Tx r) = P r
 IsTxWith P (body.Ring r) = ⊥
 IsTxWith P (body.In i) = ⊥
+IsTxWith P (body.Ctx ctx) = ⊥
 IsTxWith P (body.List l) = ⊥
 IsTxWith P (body.Seat s) = ⊥
 IsTxWith P (body.Controller c) = ⊥

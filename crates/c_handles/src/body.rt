@@ -1,7 +1,7 @@
 //! What C's handles lead to.
 ghost use Rattle.rx_ring.specs.Ends.{IsOneRing};
 
-use crate::run::Lister;
+use crate::lister::Lister;
 use crate::seat::{Controller, Seat};
 use rx_ring::{RxCtx, RxIn};
 use std::alloc::Global;
@@ -23,8 +23,10 @@ pub struct Ring {
 pub enum Body {
     /// A ring, of which no instance has an end.
     Ring(Ring),
-    /// The input of a ring whose other end an instance has.
+    /// The input of a ring whose other end an instance has, or another handle.
     In(RxIn),
+    /// The other end of a ring, where no instance has it.
+    Ctx(RxCtx),
     /// A poll list.
     List(Box<Lister, Global>),
     /// A caller of a shared instance.

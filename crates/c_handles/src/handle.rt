@@ -20,6 +20,7 @@ pub struct FqHandle {
 
 impl FqHandle {
     /// One that leads to nothing.
+    #[inline]
     fn none(alloc: Global) -> FqHandle
         ensures { result.held.body ≡ None }
     {
@@ -30,6 +31,7 @@ impl FqHandle {
     }
 
     /// One that leads to this.
+    #[inline]
     fn of(body: Box<Body, Global>) -> FqHandle
         ensures { result.held.body ≡ Some body.value }
     {
@@ -40,12 +42,14 @@ impl FqHandle {
     }
 
     /// Whether it leads to something.
+    #[inline]
     pub fn is_set(&self) -> bool
         ensures { result ≡ is_some self.now.held.body }
     {
         self.set
     }
 
+    #[inline]
     fn open(self) -> Option<Box<Body, Global>>
         ensures some { IfSome result (λ b. self.held.body ≡ Some b.value) }
         ensures none { IsNone result → self.held.body ≡ None }
@@ -59,6 +63,7 @@ impl FqHandle {
     }
 
     /// Takes out what it leads to.
+    #[inline]
     pub fn take(&mut self, alloc: Global) -> Option<Box<Body, Global>>
         ensures some { IfSome result (λ b. self.old.held.body ≡ Some b.value) }
         ensures none { IsNone result → self.old.held.body ≡ None }
@@ -68,6 +73,7 @@ impl FqHandle {
     }
 
     /// Lets a handle that leads to nothing lead to this.
+    #[inline]
     pub fn put(&mut self, body: Box<Body, Global>)
         ensures { self.new.held.body ≡ Some body.value }
     {

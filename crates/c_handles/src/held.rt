@@ -27,6 +27,7 @@ unsafe impl Send for Held {}
 
 impl Held {
     /// Of a box's parts.
+    #[inline]
     pub fn of_parts(parts: Parts<Body, Global>) -> Held
         ensures { result.body ≡ Some parts.value }
     {
@@ -38,6 +39,7 @@ impl Held {
     }
 
     /// The parts of the box, where there is one.
+    #[inline]
     pub fn into_parts(self) -> Parts<Body, Global>
         requires { (x : Body) × (self.body ≡ Some x) }
         ensures { self.body ≡ Some result.value }
@@ -50,6 +52,7 @@ impl Held {
     }
 
     /// One that owns nothing.
+    #[inline]
     pub fn none(alloc: Global) -> Held
         ensures { result.body ≡ None }
     {

@@ -1,11 +1,15 @@
 //! What a caller of a shared instance is: its type, told at run time.
-ghost use Rattle.c_handles.specs.SeatCalls.{SeatAnswers};
-ghost use Rattle.c_handles.specs.Seats.{SitsAt};
+ghost use Rattle.std.specs.Prelude.{◌≡◌};
+ghost use Rattle.c_handles.specs.SeatCalls.{SeatAnswers, SeatLooks, hold_counts};
+ghost use Rattle.c_handles.specs.Seats.{SitsAt, IsResting, IsGranted, IsPolling, IsBusy};
+ghost use Rattle.c_handles.specs.declared.hold.Hold.TheVariants as hold;
 ghost use Rattle.c_handles.specs.declared.hold.SeatCall.TheVariants as seat_call;
 
 use crate::status;
 use napi_calls::{Busy, Caller, Granted, Napi, Polling, TryBusy, TryDone, TryPrep, TryStop};
-use napi_model::Kind;
+use napi_model::{Kind, Seen};
+use rx_ring::RxCounts;
+use std::mem;
 
 /// What a caller is asked to do. Each is one try, which doesn't wait.
 #[derive(Clone, Copy)]
@@ -54,12 +58,60 @@ impl Drop for Hold {
     }
 }
 
-impl Hold {
+impl Hold { // The caller, of one that rests.
+    #[inline]
+    fn into_caller(self) -> Caller
+        requires { IsResting self }
+        ensures { self ≡ hold.Rests result }
+    {
+        match self {
+            Hold::Rests(caller) => caller,
+            _ => unreachable!(),
+        }
+    }
+
+    // The caller, of one that was granted the instance.
+    #[inline]
+    fn into_granted(self) -> Granted
+        requires { IsGranted self }
+        ensures { self ≡ hold.Granted result }
+    {
+        match self {
+            Hold::Granted(granted) => granted,
+            _ => unreachable!(),
+        }
+    }
+
+    // The poller, of one that polls.
+    #[inline]
+    fn into_polling(self) -> Polling
+        requires { IsPolling self }
+        ensures { self ≡ hold.Polls result }
+    {
+        match self {
+            Hold::Polls(polling) => polling,
+            _ => unreachable!(),
+        }
+    }
+
+    // The caller, of one that busy polls.
+    #[inline]
+    fn into_busy(self) -> Busy
+        requires { IsBusy self }
+        ensures { self ≡ hold.Busy result }
+    {
+        match self {
+            Hold::Busy(busy) => busy,
+            _ => unreachable!(),
+        }
+    }
+
     /// Makes a call, where the caller is one that has it, and answers its number.
-    pub(crate) fn step(self, napi: &Napi, call: SeatCall) -> (Hold, u32)
-        requires { SitsAt napi.now self }
-        ensures sits { SitsAt napi.now result.0 }
-        ensures answers { SeatAnswers call self result.1 result.0 }
+    #[inline]
+    pub(crate) fn step(&mut self, napi: &Napi, call: SeatCall) -> u32
+        requires { SitsAt napi.now self.old }
+        ensures sits { SitsAt napi.now self.new }
+        ensures answers { SeatAnswers call self.old result self.new }
     {
         match call {
             SeatCall::Schedule => self.schedule(napi),
@@ -73,117 +125,214 @@ impl Hold {
         }
     }
 
-    fn schedule(self, napi: &Napi) -> (Hold, u32)
-        requires { SitsAt napi.now self }
-        ensures sits { SitsAt napi.now result.0 }
-        ensures answers { SeatAnswers seat_call.Schedule self result.1 result.0 }
+    #[inline]
+    fn schedule(&mut self, napi: &Napi) -> u32
+        requires { SitsAt napi.now self.old }
+        ensures sits { SitsAt napi.now self.new }
+        ensures answers { SeatAnswers seat_call.Schedule self.old result self.new }
     {
-        match self {
-            Hold::Rests(caller) => match caller.try_schedule(napi) {
-                TryPrep::Granted(granted) => (Hold::Granted(granted), status::GRANTED),
-                TryPrep::Missed(caller) => (Hold::Rests(caller), status::MISSED),
-                TryPrep::Disabled(caller) => (Hold::Rests(caller), status::DISABLED),
-                TryPrep::Changed(caller) => (Hold::Rests(caller), status::CHANGED),
-            },
-            hold => (hold, status::NOT_ALLOWED),
+        if !matches!(self, Hold::Rests(_)) {
+            return status::NOT_ALLOWED;
+        }
+        let caller = mem::replace(self, Hold::Gone).into_caller();
+        match caller.try_schedule(napi) {
+            TryPrep::Granted(granted) => {
+                *self = Hold::Granted(granted);
+                status::GRANTED
+            }
+            TryPrep::Missed(caller) => {
+                *self = Hold::Rests(caller);
+                status::MISSED
+            }
+            TryPrep::Disabled(caller) => {
+                *self = Hold::Rests(caller);
+                status::DISABLED
+            }
+            TryPrep::Changed(caller) => {
+                *self = Hold::Rests(caller);
+                status::CHANGED
+            }
         }
     }
 
-    fn hand(self, napi: &Napi, kind: Kind) -> (Hold, u32)
-        requires { SitsAt napi.now self }
-        ensures sits { SitsAt napi.now result.0 }
-        ensures answers { SeatAnswers (seat_call.Hand kind) self result.1 result.0 }
+    #[inline]
+    fn hand(&mut self, napi: &Napi, kind: Kind) -> u32
+        requires { SitsAt napi.now self.old }
+        ensures sits { SitsAt napi.now self.new }
+        ensures answers { SeatAnswers (seat_call.Hand kind) self.old result self.new }
     {
-        match self {
-            Hold::Granted(granted) => (Hold::Rests(granted.hand(napi, kind)), status::OK),
-            hold => (hold, status::NOT_ALLOWED),
+        if !matches!(self, Hold::Granted(_)) {
+            return status::NOT_ALLOWED;
+        }
+        let granted = mem::replace(self, Hold::Gone).into_granted();
+        *self = Hold::Rests(granted.hand(napi, kind));
+        status::OK
+    }
+
+    #[inline]
+    fn take(&mut self, napi: &Napi, kind: Kind) -> u32
+        requires { SitsAt napi.now self.old }
+        ensures sits { SitsAt napi.now self.new }
+        ensures answers { SeatAnswers (seat_call.Take kind) self.old result self.new }
+    {
+        if !matches!(self, Hold::Rests(_)) {
+            return status::NOT_ALLOWED;
+        }
+        let caller = mem::replace(self, Hold::Gone).into_caller();
+        match caller.take(napi, kind) {
+            Ok(polling) => {
+                *self = Hold::Polls(polling);
+                status::TAKEN
+            }
+            Err(caller) => {
+                *self = Hold::Rests(caller);
+                status::NOT_THERE
+            }
         }
     }
 
-    fn take(self, napi: &Napi, kind: Kind) -> (Hold, u32)
-        requires { SitsAt napi.now self }
-        ensures sits { SitsAt napi.now result.0 }
-        ensures answers { SeatAnswers (seat_call.Take kind) self result.1 result.0 }
+    #[inline]
+    fn requeue(&mut self, napi: &Napi) -> u32
+        requires { SitsAt napi.now self.old }
+        ensures sits { SitsAt napi.now self.new }
+        ensures answers { SeatAnswers seat_call.Requeue self.old result self.new }
     {
-        match self {
-            Hold::Rests(caller) => match caller.take(napi, kind) {
-                Ok(polling) => (Hold::Polls(polling), status::TAKEN),
-                Err(caller) => (Hold::Rests(caller), status::NOT_THERE),
-            },
-            hold => (hold, status::NOT_ALLOWED),
+        if !matches!(self, Hold::Polls(_)) {
+            return status::NOT_ALLOWED;
         }
+        let polling = mem::replace(self, Hold::Gone).into_polling();
+        *self = Hold::Rests(polling.requeue(napi));
+        status::OK
     }
 
-    fn requeue(self, napi: &Napi) -> (Hold, u32)
-        requires { SitsAt napi.now self }
-        ensures sits { SitsAt napi.now result.0 }
-        ensures answers { SeatAnswers seat_call.Requeue self result.1 result.0 }
+    #[inline]
+    fn complete(&mut self, napi: &Napi) -> u32
+        requires { SitsAt napi.now self.old }
+        ensures sits { SitsAt napi.now self.new }
+        ensures answers { SeatAnswers seat_call.Complete self.old result self.new }
     {
         match self {
-            Hold::Polls(polling) => (Hold::Rests(polling.requeue(napi)), status::OK),
-            hold => (hold, status::NOT_ALLOWED),
-        }
-    }
-
-    fn complete(self, napi: &Napi) -> (Hold, u32)
-        requires { SitsAt napi.now self }
-        ensures sits { SitsAt napi.now result.0 }
-        ensures answers { SeatAnswers seat_call.Complete self result.1 result.0 }
-    {
-        match self {
-            Hold::Polls(polling) => match polling.try_complete(napi) {
-                TryDone::Released(caller) => (Hold::Rests(caller), status::RELEASED),
-                TryDone::Again(granted) => (Hold::Granted(granted), status::AGAIN),
-                TryDone::Changed(polling) => (Hold::Polls(polling), status::CHANGED),
-            },
-            Hold::Busy(mut busy) => {
+            Hold::Busy(busy) => {
                 busy.complete_held(napi);
-                (Hold::Busy(busy), status::HELD)
+                status::HELD
             }
-            hold => (hold, status::NOT_ALLOWED),
+            _ => self.end_poll(napi),
         }
     }
 
-    fn busy_take(self, napi: &Napi) -> (Hold, u32)
-        requires { SitsAt napi.now self }
-        ensures sits { SitsAt napi.now result.0 }
-        ensures answers { SeatAnswers seat_call.BusyTake self result.1 result.0 }
+    // As `complete`, where the caller doesn't busy poll.
+    #[inline]
+    fn end_poll(&mut self, napi: &Napi) -> u32
+        requires sits { SitsAt napi.now self.old }
+        requires not_busy { ¬ IsBusy self.old }
+        ensures sits { SitsAt napi.now self.new }
+        ensures answers { SeatAnswers seat_call.Complete self.old result self.new }
     {
-        match self {
-            Hold::Rests(caller) => match caller.try_busy(napi) {
-                TryBusy::Taken(busy) => (Hold::Busy(busy), status::TAKEN),
-                TryBusy::Refused(caller) => (Hold::Rests(caller), status::BUSY),
-                TryBusy::Changed(caller) => (Hold::Rests(caller), status::CHANGED),
-            },
-            hold => (hold, status::NOT_ALLOWED),
+        if !matches!(self, Hold::Polls(_)) {
+            return status::NOT_ALLOWED;
+        }
+        let polling = mem::replace(self, Hold::Gone).into_polling();
+        match polling.try_complete(napi) {
+            TryDone::Released(caller) => {
+                *self = Hold::Rests(caller);
+                status::RELEASED
+            }
+            TryDone::Again(granted) => {
+                *self = Hold::Granted(granted);
+                status::AGAIN
+            }
+            TryDone::Changed(polling) => {
+                *self = Hold::Polls(polling);
+                status::CHANGED
+            }
         }
     }
 
-    fn busy_stop(self, napi: &Napi) -> (Hold, u32)
-        requires { SitsAt napi.now self }
-        ensures sits { SitsAt napi.now result.0 }
-        ensures answers { SeatAnswers seat_call.BusyStop self result.1 result.0 }
+    #[inline]
+    fn busy_take(&mut self, napi: &Napi) -> u32
+        requires { SitsAt napi.now self.old }
+        ensures sits { SitsAt napi.now self.new }
+        ensures answers { SeatAnswers seat_call.BusyTake self.old result self.new }
     {
-        match self {
-            Hold::Busy(busy) => match busy.try_stop(napi) {
-                TryStop::Stopped(polling) => (Hold::Polls(polling), status::OK),
-                TryStop::Changed(busy) => (Hold::Busy(busy), status::CHANGED),
-            },
-            hold => (hold, status::NOT_ALLOWED),
+        if !matches!(self, Hold::Rests(_)) {
+            return status::NOT_ALLOWED;
+        }
+        let caller = mem::replace(self, Hold::Gone).into_caller();
+        match caller.try_busy(napi) {
+            TryBusy::Taken(busy) => {
+                *self = Hold::Busy(busy);
+                status::TAKEN
+            }
+            TryBusy::Refused(caller) => {
+                *self = Hold::Rests(caller);
+                status::BUSY
+            }
+            TryBusy::Changed(caller) => {
+                *self = Hold::Rests(caller);
+                status::CHANGED
+            }
         }
     }
 
-    fn set_threaded(self, napi: &Napi, threaded: bool) -> (Hold, u32)
-        requires { SitsAt napi.now self }
-        ensures sits { SitsAt napi.now result.0 }
-        ensures answers { SeatAnswers (seat_call.SetThreaded threaded) self result.1 result.0 }
+    #[inline]
+    fn busy_stop(&mut self, napi: &Napi) -> u32
+        requires { SitsAt napi.now self.old }
+        ensures sits { SitsAt napi.now self.new }
+        ensures answers { SeatAnswers seat_call.BusyStop self.old result self.new }
+    {
+        if !matches!(self, Hold::Busy(_)) {
+            return status::NOT_ALLOWED;
+        }
+        let busy = mem::replace(self, Hold::Gone).into_busy();
+        match busy.try_stop(napi) {
+            TryStop::Stopped(polling) => {
+                *self = Hold::Polls(polling);
+                status::OK
+            }
+            TryStop::Changed(busy) => {
+                *self = Hold::Busy(busy);
+                status::CHANGED
+            }
+        }
+    }
+
+    fn set_threaded(&mut self, napi: &Napi, threaded: bool) -> u32
+        requires { SitsAt napi.now self.old }
+        ensures sits { SitsAt napi.now self.new }
+        ensures answers { SeatAnswers (seat_call.SetThreaded threaded) self.old result self.new }
     {
         match self {
-            Hold::Rests(mut caller) => {
+            Hold::Rests(caller) => {
                 caller.set_threaded(napi, threaded);
-                (Hold::Rests(caller), status::OK)
+                status::OK
             }
-            hold => (hold, status::NOT_ALLOWED),
+            _ => status::NOT_ALLOWED,
+        }
+    }
+
+    /// What the state word tells, as `look` of whatever the caller is. None: it is in a call.
+    pub(crate) fn look(&mut self, napi: &Napi) -> Option<Seen>
+        requires { SitsAt napi.now self.old }
+        ensures sits { SitsAt napi.now self.new }
+        ensures looks { SeatLooks self.old result self.new }
+    {
+        match self {
+            Hold::Rests(caller) => Some(caller.look(napi)),
+            Hold::Granted(granted) => Some(granted.look(napi)),
+            Hold::Polls(polling) => Some(polling.look(napi)),
+            Hold::Busy(busy) => Some(busy.look(napi)),
+            Hold::Gone => None,
+        }
+    }
+
+    /// What is counted of the ring's polls, where the caller polls.
+    pub(crate) fn counts(&self) -> Option<RxCounts>
+        ensures { result ≡ hold_counts self.now }
+    {
+        match self {
+            Hold::Polls(polling) => Some(polling.counts()),
+            Hold::Busy(busy) => Some(busy.counts()),
+            _ => None,
         }
     }
 }

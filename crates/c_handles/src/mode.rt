@@ -1,10 +1,12 @@
 //! What the controller of a shared instance has done last: its type, told at run time.
-ghost use Rattle.c_handles.specs.SeatCalls.{ControlAnswers};
+ghost use Rattle.std.specs.Prelude.{◌≡◌};
+ghost use Rattle.c_handles.specs.SeatCalls.{ControlAnswers, mode_counts};
 ghost use Rattle.c_handles.specs.Seats.{ControlsAt};
 ghost use Rattle.c_handles.specs.declared.mode.ControlCall.TheVariants as control_call;
 
 use crate::status;
 use napi_calls::{Control, Marked, Napi, Off, On, TryTake};
+use rx_ring::RxCounts;
 
 /// What the controller is asked to do. Each is one try, which doesn't wait.
 #[derive(Clone, Copy)]
@@ -91,6 +93,16 @@ impl Mode {
                 TryTake::Changed(control) => (Mode::Marked(control), status::CHANGED),
             },
             mode => (mode, status::NOT_ALLOWED),
+        }
+    }
+
+    /// What is counted of the ring's polls, where the instance is disabled.
+    pub(crate) fn counts(&self) -> Option<RxCounts>
+        ensures { result ≡ mode_counts self.now }
+    {
+        match self {
+            Mode::Off(control) => Some(control.counts()),
+            _ => None,
         }
     }
 }

@@ -1,80 +1,98 @@
 //! A polling run that C makes, one poll after the other.
-ghost use Rattle.std.specs.Prelude.{◌≡◌, ◌==◌, ◌<◌, ◌≤◌, ◌+◌, not, length, true, false, is_some};
-ghost use Rattle.c_handles.specs.Runs.{asked};
+ghost use Rattle.std.specs.Prelude.{◌≡◌, ◌≢◌, ◌+◌, ◌<◌, ◌≤◌, ◌↔◌, ◌++◌, [], ◌∷◌, List, Some, None, is_some, length};
+ghost use Rattle.poll_engine.specs.Polls.{Poll, work_of};
+ghost use Rattle.poll_engine.specs.Driven.{and_poll};
+ghost use Rattle.poll_engine.specs.declared.bench.Next.{Next};
+ghost use Rattle.c_handles.specs.Status.{OK, DONE, NOT_ALLOWED};
+ghost use Rattle.c_handles.specs.Lists.{held_in};
+ghost use Rattle.c_handles.specs.Runs.{next_in, asked_in, is_listed, is_doubled, Runs, IsThrough, IsBetweenPolls, HasSettings, SameSettingsIn, IsRunOf, push_status, begin_status, polled_status};
 
+use crate::lister::{FqRunReport, Lister};
 use crate::status;
 use napi_model::Kind;
-use poll_engine::{Next, PlainList, PollList, SoftList};
+use poll_engine::{Next, Once, PlainList, PollList, PollingRun};
 use std::mem;
 
-/// What a run did: `struct fq_run_report`.
-#[repr(C)]
-#[derive(Clone, Copy)]
-pub struct FqRunReport {
-    /// The polls that were made, at most the window.
-    pub polls: u32,
-    /// The packets that they gave together.
-    pub work: u32,
-    /// Whether budget or window was spent.
-    pub squeezed: bool,
-}
-
-/// A poll list of one thread, with what a run over it has taken. Where no run is under way, the window is 0.
-#[derive(Drop)]
-pub struct Lister {
-    list: PlainList,
-    own: SoftList,
-    repoll: SoftList,
-    // the number that is being polled
-    at: Option<u32>,
-    budget: u32,
-    weight: u32,
-    window: u32,
-    polls: u32,
-    work: u32,
-    ghost few: { length list + (length own + (length repoll + asked at)) ≤ 64 },
-    ghost bounds: { (weight ≤ 64) × (budget ≤ 65535) × (window ≤ 65535) },
-    ghost polls_are: { polls ≤ window },
-    ghost work_is: { work ≤ budget + weight },
-    ghost going: { is_some at ≡ true → (polls < window) × (work < budget) },
+// How a poll ended, by C's number (`enum fq_next`).
+fn next_of(number: u32) -> Option<Next>
+    ensures { result ≡ next_in number }
+{
+    match number {
+        0 => Some(Next::Gone),
+        1 => Some(Next::Again(Kind::List)),
+        2 => Some(Next::Again(Kind::Thread)),
+        3 => Some(Next::Repoll),
+        4 => Some(Next::Absent),
+        _ => None,
+    }
 }
 
 impl Lister {
     /// An empty list.
-    pub fn new() -> Lister {
+    pub fn new() -> Lister
+        ensures list { result.list ≡ [] }
+        ensures run { result.run ≡ None }
+    {
         Lister {
             list: PlainList::new(),
-            own: SoftList::new(),
-            repoll: SoftList::new(),
-            at: None,
-            budget: 0,
-            weight: 0,
-            window: 0,
-            polls: 0,
-            work: 0,
+            run: None,
         }
     }
 
     /// Whether a run is under way.
     pub fn is_running(&self) -> bool
-        ensures { result ≡ not (self.now.window == 0) }
+        ensures { result ≡ is_some self.now.run }
     {
-        self.window != 0
+        self.run.is_some()
     }
 
-    /// Puts a number at the list's tail, where the list and the run over it hold fewer than 64.
-    pub fn push(&mut self, id: u32) -> u32 {
-        let asked = usize::from(self.at.is_some());
-        if self.list.ids().len() + self.own.ids().len() + self.repoll.ids().len() + asked >= 64 {
+    /// How many numbers list and run hold together.
+    pub fn len(&self) -> usize
+        ensures { result ≡ length self.now.list + held_in self.now.run }
+    {
+        let held = match &self.run {
+            Some(run) => run.held(),
+            None => 0,
+        };
+        self.list.ids().len() + held
+    }
+
+    fn is_listed(&self, id: u32) -> bool
+        ensures { result ≡ is_listed self.now id }
+    {
+        let waits = match &self.run {
+            Some(run) => run.is_waiting(id),
+            None => false,
+        };
+        self.list.ids().contains(&id) || waits
+    }
+
+    /// Puts a number at the list's tail, where list and run don't have it and hold fewer than 64.
+    pub fn push(&mut self, id: u32) -> u32
+        ensures status { result ≡ push_status self.old id }
+        ensures pushed { result ≡ OK → self.new.list ≡ self.old.list ++ id ∷ [] }
+        ensures run { self.new.run ≡ self.old.run }
+        ensures kept { result ≢ OK → self.new ≡ self.old }
+    {
+        if self.is_listed(id) {
+            return status::IN_USE;
+        }
+        if self.len() >= 64 {
             return status::FULL;
         }
         self.list.push(id);
         status::OK
     }
 
-    /// Begins a run.
-    pub fn begin(&mut self, budget: u32, weight: u32, window: u32) -> u32 {
-        if self.window != 0 {
+    /// Begins a run (`PollingRun::begin`).
+    pub fn begin(&mut self, budget: u32, weight: u32, window: u32) -> u32
+        ensures status { result ≡ begin_status self.old budget weight window }
+        ensures going { result ≡ OK → Runs self.old.list [] self.new }
+        ensures rests { result ≡ OK → IsBetweenPolls self.new }
+        ensures settings { result ≡ OK → HasSettings budget weight window self.new.run }
+        ensures kept { result ≢ OK → self.new ≡ self.old }
+    {
+        if self.run.is_some() {
             return status::NOT_ALLOWED;
         }
         if weight == 0 || weight > 64 {
@@ -83,106 +101,112 @@ impl Lister {
         if budget == 0 || budget > 65535 || window == 0 || window > 65535 {
             return status::BAD_BUDGET;
         }
-        self.budget = budget;
-        self.weight = weight;
-        self.window = window;
-        self.polls = 0;
-        self.work = 0;
+        let run = PollingRun::begin(&mut self.list, budget, weight, window);
+        self.run = Some(run);
         status::OK
     }
 
-    fn is_spent(&self) -> bool
-        ensures { result ≡ false → (self.now.work < self.now.budget)
-            × (self.now.polls < self.now.window) }
+    /// The number that is to be polled next, or that the run is over (`PollingRun::next`).
+    pub fn next(&mut self, id: &mut u32) -> u32
+        ensures going { (start : _) (polls : List Poll) → Runs start polls self.old
+            → Runs start polls self.new }
+        ensures over { (start : _) (polls : List Poll) → result ≡ DONE → Runs start polls self.old
+            → IsThrough start polls self.new }
+        ensures asks { result ≡ OK → asked_in self.new.run ≡ Some id.new }
+        ensures none { result ≢ OK → id.new ≡ id.old }
+        ensures settings { SameSettingsIn self.old.run self.new.run }
+        ensures refused { result ≡ NOT_ALLOWED ↔ ¬ IsBetweenPolls self.old }
+        ensures kept { result ≡ NOT_ALLOWED → self.new ≡ self.old }
     {
-        self.budget <= self.work || self.window <= self.polls
-    }
-
-    /// The number that is to be polled next, or that the run is over.
-    pub fn next(&mut self, id: &mut u32) -> u32 {
-        if self.window == 0 || self.at.is_some() {
-            return status::NOT_ALLOWED;
-        }
-        if self.is_spent() {
-            return status::DONE;
-        }
-        if self.own.is_empty() && self.repoll.is_empty() {
-            self.refill();
-        }
-        self.pop(id)
-    }
-
-    // Takes all that the list holds, where what was taken before is polled.
-    fn refill(&mut self) {
-        if self.own.is_empty() {
-            self.list.splice(&mut self.own);
-        }
-    }
-
-    // Takes the next number of what was taken, where none is being polled.
-    fn pop(&mut self, id: &mut u32) -> u32 {
-        if self.at.is_some() || self.is_spent() {
-            return status::NOT_ALLOWED;
-        }
-        let Some(first) = self.own.pop_front() else {
-            return status::DONE;
-        };
-        self.at = Some(first);
-        *id = first;
-        status::OK
-    }
-
-    /// What the poll did.
-    pub fn polled(&mut self, work: u32, next: u32) -> u32 {
-        let Some(id) = self.at else {
+        let Some(run) = &mut self.run else {
             return status::NOT_ALLOWED;
         };
-        if work > self.weight {
+        if run.asked().is_some() {
+            return status::NOT_ALLOWED;
+        }
+        match run.next(&mut self.list) {
+            Some(next) => {
+                *id = next;
+                status::OK
+            }
+            None => status::DONE,
+        }
+    }
+
+    // Whether the number that was polled comes back to where it stands already.
+    fn is_doubled(&self, id: u32, next: Next) -> bool
+        ensures { result ≡ is_doubled self.now (Some id) next }
+    {
+        match next {
+            Next::Again(Kind::List) | Next::Repoll => self.is_listed(id),
+            _ => false,
+        }
+    }
+
+    /// What the poll did, and how it ended (`PollingRun::polled`).
+    pub fn polled(&mut self, work: u32, next: u32) -> u32
+        ensures status { result ≡ polled_status self.old work next }
+        ensures going { (start : _) (polls : List Poll) (id : _) (n : Next) → result ≡ OK
+            → asked_in self.old.run ≡ Some id → next_in next ≡ Some n → Runs start polls self.old
+            → Runs start (and_poll polls id (record { work = work; next = n })) self.new }
+        ensures rests { result ≡ OK → IsBetweenPolls self.new }
+        ensures settings { SameSettingsIn self.old.run self.new.run }
+        ensures kept { result ≢ OK → self.new ≡ self.old }
+    {
+        let Some(run) = &self.run else {
+            return status::NOT_ALLOWED;
+        };
+        let Some(id) = run.asked() else {
+            return status::NOT_ALLOWED;
+        };
+        if work > run.weight() {
             return status::BAD_WORK;
         }
         let Some(next) = next_of(next) else {
             return status::BAD_NEXT;
         };
-        self.at = None;
-        self.polls += 1;
-        self.work += work;
-        match next {
-            Next::Again(Kind::List) => self.list.push(id),
-            Next::Repoll => {
-                let _ = self.repoll.push(id);
+        if self.is_doubled(id, next) {
+            return status::IN_USE;
+        }
+        if let Some(run) = &mut self.run {
+            run.polled(&mut self.list, Once { work, next });
+        }
+        status::OK
+    }
+
+    /// Ends the run (`PollingRun::end`).
+    pub fn end(&mut self, report: &mut FqRunReport) -> u32
+        ensures run { (start : _) (polls : List Poll) (budget weight window : _) → result ≡ OK
+            → HasSettings budget weight window self.old.run
+            → Runs start polls self.old → IsThrough start polls self.old
+            → IsRunOf budget window start polls self.new.list report.new }
+        ensures early { (start : _) (polls : List Poll) → result ≡ OK → Runs start polls self.old
+            → (report.new.polls ≡ length polls) × (report.new.work ≡ work_of polls) }
+        ensures bounds { (budget weight window : _) → result ≡ OK
+            → HasSettings budget weight window self.old.run
+            → (report.new.polls ≤ window) × (report.new.work < budget + weight) }
+        ensures over { result ≡ OK → self.new.run ≡ None }
+        ensures refused { result ≢ OK ↔ ¬ IsBetweenPolls self.old }
+        ensures kept { result ≢ OK → (self.new ≡ self.old) × (report.new ≡ report.old) }
+    {
+        match self.run.take() {
+            Some(run) if run.asked().is_none() => {
+                let mut list = mem::replace(&mut self.list, PlainList::new());
+                let done = run.end(&mut list);
+                // which tells that it holds at most 64 numbers
+                let _few = list.ids();
+                self.list = list;
+                *report = FqRunReport {
+                    polls: done.polls,
+                    work: done.work,
+                    squeezed: done.squeezed,
+                };
+                status::OK
             }
-            _ => {}
+            run => {
+                self.run = run;
+                status::NOT_ALLOWED
+            }
         }
-        status::OK
-    }
-
-    /// Ends the run.
-    pub fn end(&mut self, report: &mut FqRunReport) -> u32 {
-        if self.window == 0 || self.at.is_some() {
-            return status::NOT_ALLOWED;
-        }
-        *report = FqRunReport {
-            polls: self.polls,
-            work: self.work,
-            squeezed: self.is_spent(),
-        };
-        let own = mem::replace(&mut self.own, SoftList::new());
-        let repoll = mem::replace(&mut self.repoll, SoftList::new());
-        self.list.put_back(own, repoll);
-        self.polls = 0;
-        self.work = 0;
-        self.window = 0;
-        status::OK
-    }
-}
-
-fn next_of(number: u32) -> Option<Next> {
-    match number {
-        0 => Some(Next::Gone),
-        1 => Some(Next::Again(Kind::List)),
-        2 => Some(Next::Again(Kind::Thread)),
-        3 => Some(Next::Repoll),
-        4 => Some(Next::Absent),
-        _ => None,
     }
 }

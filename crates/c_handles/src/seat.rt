@@ -2,14 +2,15 @@
 ghost use Rattle.std.specs.Prelude.{◌≡◌, ◌≤◌, length};
 ghost use Rattle.std.specs.Arc.{arc_value};
 ghost use Rattle.c_handles.specs.Status.{OK};
-ghost use Rattle.c_handles.specs.SeatCalls.{SeatAnswers, ControlAnswers, SeatPolls};
+ghost use Rattle.c_handles.specs.SeatCalls.{SeatAnswers, SeatLooks, ControlAnswers, SeatPolls, hold_counts, mode_counts};
 ghost use Rattle.c_handles.specs.Seats.{SitsAt, ControlsAt, sits_prop, controls_prop};
 
 use crate::hold::{Hold, SeatCall};
 use crate::mode::{ControlCall, Mode};
 use crate::status;
 use napi_calls::Napi;
-use rx_ring::Batch;
+use napi_model::Seen;
+use rx_ring::{Batch, RxCounts};
 use std::alloc::Global;
 use std::mem;
 use std::sync::Arc;
@@ -40,15 +41,29 @@ pub struct Seat {
 
 impl Seat {
     /// Makes a call, and answers its number.
+    #[inline]
     pub fn step(&mut self, call: SeatCall) -> u32
         ensures { SeatAnswers call self.old.hold result self.new.hold }
     {
-        let (hold, status) = mem::replace(&mut self.hold, Hold::Gone).step(&self.napi.napi, call);
-        self.hold = hold;
-        status
+        self.hold.step(&self.napi.napi, call)
+    }
+
+    /// What the state word tells. None: it is in a call.
+    pub fn look(&mut self) -> Option<Seen>
+        ensures { SeatLooks self.old.hold result self.new.hold }
+    {
+        self.hold.look(&self.napi.napi)
+    }
+
+    /// What is counted of the ring's polls, where it polls.
+    pub fn counts(&self) -> Option<RxCounts>
+        ensures { result ≡ hold_counts self.now.hold }
+    {
+        self.hold.counts()
     }
 
     /// As `Polling::poll` and `Busy::poll`.
+    #[inline]
     pub fn poll(&mut self, weight: usize, batch: &mut Batch) -> u32
         requires { (1 ≤ weight) × (weight ≤ 64) }
         ensures polls { SeatPolls weight batch.new.items self.old.hold result self.new.hold }
@@ -87,5 +102,12 @@ impl Controller {
         let (mode, status) = mem::replace(&mut self.mode, Mode::Gone).step(&self.napi.napi, call);
         self.mode = mode;
         status
+    }
+
+    /// What is counted of the ring's polls, where the instance is disabled.
+    pub fn counts(&self) -> Option<RxCounts>
+        ensures { result ≡ mode_counts self.now.mode }
+    {
+        self.mode.counts()
     }
 }

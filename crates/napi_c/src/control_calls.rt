@@ -1,18 +1,12 @@
 //! The calls of the controller of a shared instance.
-ghost use Rattle.std.specs.Prelude.{◌≡◌, None};
-ghost use Rattle.c_handles.specs.declared.seat.Controller.{Controller};
-ghost use Rattle.c_handles.specs.declared.body.Body.TheVariants as body;
 ghost use Rattle.c_handles.specs.declared.mode.ControlCall.TheVariants as control_call;
-ghost use Rattle.c_handles.specs.Status.{BAD_HANDLE};
-ghost use Rattle.c_handles.specs.SeatCalls.{ControlAnswers};
-ghost use Rattle.c_handles.specs.Handles.{IsControllerWith, ControlMakes};
+ghost use Rattle.c_handles.specs.Handles.{ControlMakes, ControlMakesIn};
 
 use c_handles::{Body, ControlCall, FqHandle, status};
 use std::alloc::Global;
 
 fn step_in(at: &mut Body, call: ControlCall) -> u32
-    ensures { (c : Controller) → at.old ≡ body.Controller c
-        → IsControllerWith (λ d. ControlAnswers call c.mode result d.mode) at.new }
+    ensures { ControlMakesIn call at.old result at.new }
 {
     match at {
         Body::Controller(control) => control.step(call),
@@ -22,8 +16,7 @@ fn step_in(at: &mut Body, call: ControlCall) -> u32
 
 // Makes a call on the controller that a handle leads to.
 fn on_control(alloc: Global, handle: &mut FqHandle, call: ControlCall) -> u32
-    ensures answers { ControlMakes call handle.old result handle.new }
-    ensures none { handle.old.held.body ≡ None → result ≡ BAD_HANDLE }
+    ensures { ControlMakes call handle.old result handle.new }
 {
     let Some(mut boxed) = handle.take(alloc) else {
         return status::BAD_HANDLE;

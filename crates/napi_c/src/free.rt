@@ -1,6 +1,6 @@
 //! What a handle leads to is freed.
 ghost use Rattle.std.specs.Prelude.{◌≡◌, ◌≢◌, None};
-ghost use Rattle.c_handles.specs.Freeing.{is_freeable, free_status, abandon_status};
+ghost use Rattle.c_handles.specs.Freeing.{is_freeable, free_status, abandon_status, move_status};
 ghost use Rattle.c_handles.specs.Status.{OK};
 
 use c_handles::{Body, FqHandle, Hold, Mode, status};
@@ -46,4 +46,24 @@ pub extern "C" fn fq_abandon(alloc: Global, handle: &mut FqHandle) -> u32
         Some(_) => status::OK,
         None => status::BAD_HANDLE,
     }
+}
+
+/// Lets another handle lead to what this one leads to, which then leads to nothing: ok; bad handle of one that leads to nothing;
+/// in use where the other is set.
+#[unsafe(no_mangle)]
+pub extern "C" fn fq_move(alloc: Global, from: &mut FqHandle, to: &mut FqHandle) -> u32
+    ensures moved { result ≡ OK → (to.new.held.body ≡ from.old.held.body)
+        × (from.new.held.body ≡ None) }
+    ensures kept { result ≢ OK → (to.new ≡ to.old)
+        × (from.new.held.body ≡ from.old.held.body) }
+    ensures status { result ≡ move_status from.old.held.body to.old.held.body }
+{
+    if to.is_set() {
+        return status::IN_USE;
+    }
+    let Some(boxed) = from.take(alloc) else {
+        return status::BAD_HANDLE;
+    };
+    to.put(boxed);
+    status::OK
 }

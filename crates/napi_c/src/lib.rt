@@ -2,6 +2,8 @@
 #![tactic(auto)]
 
 mod control_calls;
+mod counts;
+mod ends;
 mod free;
 mod limit;
 mod list;

@@ -1,10 +1,18 @@
 //! Poll lists and runs for C.
+ghost use Rattle.std.specs.Prelude.{◌≡◌, ◌≢◌};
+ghost use Rattle.c_handles.specs.Handles.{LeadsToList, ListMakes, ListMakesIn};
+ghost use Rattle.c_handles.specs.Runs.{IsNewList, IsLength, IsPush, IsBegin, IsNext, IsPolled, IsEnd};
+ghost use Rattle.c_handles.specs.Status.{OK};
+
 use c_handles::{Body, FqHandle, FqRunReport, Lister, status};
 use std::alloc::Global;
 
 /// A new poll list of one thread.
 #[unsafe(no_mangle)]
-pub extern "C" fn fq_list_new(alloc: Global, handle: &mut FqHandle) -> u32 {
+pub extern "C" fn fq_list_new(alloc: Global, handle: &mut FqHandle) -> u32
+    ensures made { result ≡ OK → LeadsToList IsNewList handle.new.held.body }
+    ensures kept { result ≢ OK → handle.new ≡ handle.old }
+{
     if handle.is_set() {
         return status::IN_USE;
     }
@@ -20,28 +28,65 @@ pub extern "C" fn fq_list_new(alloc: Global, handle: &mut FqHandle) -> u32 {
     }
 }
 
-// Makes a call on the list that a handle leads to.
-fn on_list<F: FnOnce(&mut Lister) -> u32>(alloc: Global, handle: &mut FqHandle, f: F) -> u32
-    requires { (list : _) → F.pre f list }
+fn push_in(at: &mut Body, id: u32) -> u32
+    ensures { ListMakesIn (IsPush id) at.old result at.new }
+{
+    match at {
+        Body::List(list) => list.push(id),
+        _ => status::BAD_HANDLE,
+    }
+}
+
+/// Puts a number at the list's tail: ok, in use where it stands there or waits in the run, full where list and run hold 64.
+#[unsafe(no_mangle)]
+pub extern "C" fn fq_list_push(alloc: Global, handle: &mut FqHandle, id: u32) -> u32
+    ensures { ListMakes (IsPush id) handle.old result handle.new }
 {
     let Some(mut boxed) = handle.take(alloc) else {
         return status::BAD_HANDLE;
     };
-    let status = match &mut *boxed {
-        Body::List(list) => f(&mut **list),
-        _ => status::BAD_HANDLE,
-    };
+    let status = push_in(&mut *boxed, id);
     handle.put(boxed);
     status
 }
 
-/// Puts a number at the list's tail.
-#[unsafe(no_mangle)]
-pub extern "C" fn fq_list_push(alloc: Global, handle: &mut FqHandle, id: u32) -> u32 {
-    on_list(alloc, handle, |list| list.push(id))
+fn len_in(at: &Body, len: &mut u32) -> u32
+    ensures makes { ListMakesIn (IsLength len.old len.new) at.now result at.now }
+    ensures none { result ≢ OK → len.new ≡ len.old }
+{
+    match at {
+        Body::List(list) => {
+            *len = list.len() as u32;
+            status::OK
+        }
+        _ => status::BAD_HANDLE,
+    }
 }
 
-/// Begins a run.
+/// How many numbers list and run hold together.
+#[unsafe(no_mangle)]
+pub extern "C" fn fq_list_len(alloc: Global, handle: &mut FqHandle, len: &mut u32) -> u32
+    ensures makes { ListMakes (IsLength len.old len.new) handle.old result handle.new }
+    ensures none { result ≢ OK → len.new ≡ len.old }
+{
+    let Some(boxed) = handle.take(alloc) else {
+        return status::BAD_HANDLE;
+    };
+    let status = len_in(&*boxed, len);
+    handle.put(boxed);
+    status
+}
+
+fn begin_in(at: &mut Body, budget: u32, weight: u32, window: u32) -> u32
+    ensures { ListMakesIn (IsBegin budget weight window) at.old result at.new }
+{
+    match at {
+        Body::List(list) => list.begin(budget, weight, window),
+        _ => status::BAD_HANDLE,
+    }
+}
+
+/// Begins a run, as `PollingRun::begin`.
 #[unsafe(no_mangle)]
 pub extern "C" fn fq_run_begin(
     alloc: Global,
@@ -49,28 +94,83 @@ pub extern "C" fn fq_run_begin(
     budget: u32,
     weight: u32,
     window: u32,
-) -> u32 {
-    on_list(alloc, handle, |list| list.begin(budget, weight, window))
+) -> u32
+    ensures { ListMakes (IsBegin budget weight window) handle.old result handle.new }
+{
+    let Some(mut boxed) = handle.take(alloc) else {
+        return status::BAD_HANDLE;
+    };
+    let status = begin_in(&mut *boxed, budget, weight, window);
+    handle.put(boxed);
+    status
 }
 
-/// The number that is to be polled next: ok, or done where the run is over.
-#[unsafe(no_mangle)]
-pub extern "C" fn fq_run_next(alloc: Global, handle: &mut FqHandle, id: &mut u32) -> u32 {
-    on_list(alloc, handle, |list| list.next(id))
+fn next_in(at: &mut Body, id: &mut u32) -> u32
+    ensures makes { ListMakesIn (IsNext id.old id.new) at.old result at.new }
+    ensures none { result ≢ OK → id.new ≡ id.old }
+{
+    match at {
+        Body::List(list) => list.next(id),
+        _ => status::BAD_HANDLE,
+    }
 }
 
-/// What the poll did.
+/// The number that is to be polled next: ok, or done where the run is over, as `PollingRun::next`.
 #[unsafe(no_mangle)]
-pub extern "C" fn fq_run_polled(alloc: Global, handle: &mut FqHandle, work: u32, next: u32) -> u32 {
-    on_list(alloc, handle, |list| list.polled(work, next))
+pub extern "C" fn fq_run_next(alloc: Global, handle: &mut FqHandle, id: &mut u32) -> u32
+    ensures makes { ListMakes (IsNext id.old id.new) handle.old result handle.new }
+    ensures none { result ≢ OK → id.new ≡ id.old }
+{
+    let Some(mut boxed) = handle.take(alloc) else {
+        return status::BAD_HANDLE;
+    };
+    let status = next_in(&mut *boxed, id);
+    handle.put(boxed);
+    status
 }
 
-/// Ends the run.
+fn polled_in(at: &mut Body, work: u32, next: u32) -> u32
+    ensures { ListMakesIn (IsPolled work next) at.old result at.new }
+{
+    match at {
+        Body::List(list) => list.polled(work, next),
+        _ => status::BAD_HANDLE,
+    }
+}
+
+/// What the poll did, as `PollingRun::polled`. In use where its number comes back to a list on which it stands.
 #[unsafe(no_mangle)]
-pub extern "C" fn fq_run_end(
-    alloc: Global,
-    handle: &mut FqHandle,
-    report: &mut FqRunReport,
-) -> u32 {
-    on_list(alloc, handle, |list| list.end(report))
+pub extern "C" fn fq_run_polled(alloc: Global, handle: &mut FqHandle, work: u32, next: u32) -> u32
+    ensures { ListMakes (IsPolled work next) handle.old result handle.new }
+{
+    let Some(mut boxed) = handle.take(alloc) else {
+        return status::BAD_HANDLE;
+    };
+    let status = polled_in(&mut *boxed, work, next);
+    handle.put(boxed);
+    status
+}
+
+fn end_in(at: &mut Body, report: &mut FqRunReport) -> u32
+    ensures makes { ListMakesIn (IsEnd report.old report.new) at.old result at.new }
+    ensures none { result ≢ OK → report.new ≡ report.old }
+{
+    match at {
+        Body::List(list) => list.end(report),
+        _ => status::BAD_HANDLE,
+    }
+}
+
+/// Ends the run, as `PollingRun::end`.
+#[unsafe(no_mangle)]
+pub extern "C" fn fq_run_end(alloc: Global, handle: &mut FqHandle, report: &mut FqRunReport) -> u32
+    ensures makes { ListMakes (IsEnd report.old report.new) handle.old result handle.new }
+    ensures none { result ≢ OK → report.new ≡ report.old }
+{
+    let Some(mut boxed) = handle.take(alloc) else {
+        return status::BAD_HANDLE;
+    };
+    let status = end_in(&mut *boxed, report);
+    handle.put(boxed);
+    status
 }

@@ -1,10 +1,12 @@
 //! Receive rings for C, both ends in one handle.
-ghost use Rattle.std.specs.Prelude.{◌≡◌, ◌≢◌, ◌<◌, ◌≤◌, length, take};
-ghost use Rattle.rx_ring.specs.Ends.{put_list, capacity_of};
+ghost use Rattle.std.specs.Prelude.{◌≡◌, ◌≢◌, ◌<◌, ◌≤◌, length, take, Some};
+ghost use Rattle.rx_ring.specs.Ends.{put_list, capacity_of, GivesNext};
+ghost use Rattle.rx_ring.specs.declared.ends.RxIn.{RxIn};
+ghost use Rattle.rx_ring.specs.declared.ends.RxCtx.{RxCtx};
 ghost use Rattle.c_handles.specs.declared.body.Ring.{Ring};
 ghost use Rattle.c_handles.specs.declared.body.Body.TheVariants as variant;
 ghost use Rattle.c_handles.specs.Status.{OK};
-ghost use Rattle.c_handles.specs.Rings.{LeadsTo, LeadsToRing, IsRingWith, IsNewRing, IsAfterPut, IsAfterPoll};
+ghost use Rattle.c_handles.specs.Rings.{LeadsTo, LeadsToRing, IsRingWith, IsInputWith, LeadsToInput, IsCtxWith, LeadsToCtx, IsNewRing, IsAfterPut, IsAfterInput, IsAfterPoll};
 
 use c_handles::{Body, FqHandle, Ring, status};
 use rx_ring::{Batch, MAX_WEIGHT, Packet, ring};
@@ -42,6 +44,9 @@ pub extern "C" fn fq_ring_put(alloc: Global, handle: &mut FqHandle, number: u64,
         (IsAfterPut r (record { number = number; bytes = bytes })) handle.new.held.body }
     ensures first { (r : Ring) → LeadsTo handle.old r
         → length (put_list r.input) < capacity_of r.input → result ≡ OK }
+    ensures input { (i : RxIn) → handle.old.held.body ≡ Some (variant.In i) → result ≡ OK
+        → LeadsToInput
+        (IsAfterInput i (record { number = number; bytes = bytes })) handle.new.held.body }
 {
     let Some(mut body) = handle.take(alloc) else {
         return status::BAD_HANDLE;
@@ -56,6 +61,8 @@ fn put_into(body: &mut Body, packet: Packet) -> u32
         → IsRingWith (IsAfterPut r packet) body.new }
     ensures first { (r : Ring) → body.old ≡ variant.Ring r
         → length (put_list r.input) < capacity_of r.input → result ≡ OK }
+    ensures input { (i : RxIn) → body.old ≡ variant.In i → result ≡ OK
+        → IsInputWith (IsAfterInput i packet) body.new }
 {
     match body {
         Body::Ring(ring) => match ring.input.put(packet) {
@@ -81,6 +88,9 @@ pub extern "C" fn fq_ring_poll(
 ) -> u32
     ensures ok { (r : Ring) → LeadsTo handle.old r → result ≡ OK
         → LeadsToRing (IsAfterPoll weight r (take count.new out.new)) handle.new.held.body }
+    ensures context { (c : RxCtx) → handle.old.held.body ≡ Some (variant.Ctx c) → result ≡ OK
+        → LeadsToCtx
+        (λ d. GivesNext weight c d (take count.new out.new)) handle.new.held.body }
     ensures work { (count.new ≤ weight) × (count.new ≤ length out.new) }
 {
     *count = 0;
@@ -108,11 +118,17 @@ fn poll_into(body: &mut Body, weight: usize, batch: &mut Batch) -> u32
     requires { (1 ≤ weight) × (weight ≤ 64) }
     ensures ok { (r : Ring) → body.old ≡ variant.Ring r → result ≡ OK
         → IsRingWith (IsAfterPoll weight r batch.new.items) body.new }
+    ensures context { (c : RxCtx) → body.old ≡ variant.Ctx c → result ≡ OK
+        → IsCtxWith (λ d. GivesNext weight c d batch.new.items) body.new }
     ensures room { result ≡ OK → length batch.new.items ≤ weight }
 {
     match body {
         Body::Ring(ring) => {
             ring.ctx.poll(weight, batch);
+            status::OK
+        }
+        Body::Ctx(ctx) => {
+            ctx.poll(weight, batch);
             status::OK
         }
         _ => status::BAD_HANDLE,

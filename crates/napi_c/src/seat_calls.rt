@@ -1,21 +1,18 @@
 //! The calls of the callers of a shared instance. Each makes one try, and answers changed where another thread came between.
-ghost use Rattle.std.specs.Prelude.{◌≡◌, ◌≤◌, length, take, Some, None};
+ghost use Rattle.std.specs.Prelude.{◌≡◌, ◌≢◌, ◌≤◌, length, take, Some, None};
 ghost use Rattle.napi_model.specs.declared.state.Kind.{Kind};
-ghost use Rattle.c_handles.specs.declared.seat.Seat.{Seat};
-ghost use Rattle.c_handles.specs.declared.body.Body.TheVariants as body;
 ghost use Rattle.c_handles.specs.declared.hold.SeatCall.TheVariants as seat_call;
 ghost use Rattle.c_handles.specs.Kinds.{kind_in};
-ghost use Rattle.c_handles.specs.Status.{OK, BAD_HANDLE};
-ghost use Rattle.c_handles.specs.SeatCalls.{SeatAnswers, SeatPolls};
-ghost use Rattle.c_handles.specs.Handles.{IsSeatWith, SeatMakes, SeatGives};
+ghost use Rattle.c_handles.specs.Status.{OK, BAD_KIND, BAD_HANDLE};
+ghost use Rattle.c_handles.specs.Handles.{SeatMakes, SeatMakesIn, SeatGives, SeatGivesIn, SeatShows, SeatShowsIn};
 
 use c_handles::{Body, FqHandle, SeatCall, kind_of, status};
+use napi_model::encode;
 use rx_ring::{Batch, MAX_WEIGHT, Packet};
 use std::alloc::Global;
 
 fn step_in(at: &mut Body, call: SeatCall) -> u32
-    ensures { (s : Seat) → at.old ≡ body.Seat s
-        → IsSeatWith (λ t. SeatAnswers call s.hold result t.hold) at.new }
+    ensures { SeatMakesIn call at.old result at.new }
 {
     match at {
         Body::Seat(seat) => seat.step(call),
@@ -24,14 +21,44 @@ fn step_in(at: &mut Body, call: SeatCall) -> u32
 }
 
 // Makes a call on the caller that a handle leads to.
+#[inline]
 fn on_seat(alloc: Global, handle: &mut FqHandle, call: SeatCall) -> u32
-    ensures answers { SeatMakes call handle.old result handle.new }
-    ensures none { handle.old.held.body ≡ None → result ≡ BAD_HANDLE }
+    ensures { SeatMakes call handle.old result handle.new }
 {
     let Some(mut boxed) = handle.take(alloc) else {
         return status::BAD_HANDLE;
     };
     let status = step_in(&mut *boxed, call);
+    handle.put(boxed);
+    status
+}
+
+fn look_in(at: &mut Body, word: &mut u64) -> u32
+    ensures shows { SeatShowsIn word.old word.new at.old result at.new }
+    ensures none { result ≢ OK → word.new ≡ word.old }
+{
+    match at {
+        Body::Seat(seat) => match seat.look() {
+            Some(seen) => {
+                *word = encode(seen);
+                status::OK
+            }
+            None => status::NOT_ALLOWED,
+        },
+        _ => status::BAD_HANDLE,
+    }
+}
+
+/// As `look` of what the caller is: the state word, of the bits that are set.
+#[unsafe(no_mangle)]
+pub extern "C" fn fq_seat_look(alloc: Global, handle: &mut FqHandle, word: &mut u64) -> u32
+    ensures shows { SeatShows word.old word.new handle.old result handle.new }
+    ensures none { result ≢ OK → word.new ≡ word.old }
+{
+    let Some(mut boxed) = handle.take(alloc) else {
+        return status::BAD_HANDLE;
+    };
+    let status = look_in(&mut *boxed, word);
     handle.put(boxed);
     status
 }
@@ -47,8 +74,9 @@ pub extern "C" fn fq_seat_schedule(alloc: Global, handle: &mut FqHandle) -> u32
 /// As `Granted::hand`: ok; bad kind; not allowed where the instance isn't granted to the caller.
 #[unsafe(no_mangle)]
 pub extern "C" fn fq_seat_hand(alloc: Global, handle: &mut FqHandle, kind: u32) -> u32
-    ensures { (k : Kind) → kind_in kind ≡ Some k
+    ensures made { (k : Kind) → kind_in kind ≡ Some k
         → SeatMakes (seat_call.Hand k) handle.old result handle.new }
+    ensures bad { kind_in kind ≡ None → (result ≡ BAD_KIND) × (handle.new ≡ handle.old) }
 {
     let Some(kind) = kind_of(kind) else {
         return status::BAD_KIND;
@@ -59,8 +87,9 @@ pub extern "C" fn fq_seat_hand(alloc: Global, handle: &mut FqHandle, kind: u32) 
 /// As `Caller::take`: taken or not there; bad kind; not allowed where the caller doesn't rest.
 #[unsafe(no_mangle)]
 pub extern "C" fn fq_seat_take(alloc: Global, handle: &mut FqHandle, kind: u32) -> u32
-    ensures { (k : Kind) → kind_in kind ≡ Some k
+    ensures made { (k : Kind) → kind_in kind ≡ Some k
         → SeatMakes (seat_call.Take k) handle.old result handle.new }
+    ensures bad { kind_in kind ≡ None → (result ≡ BAD_KIND) × (handle.new ≡ handle.old) }
 {
     let Some(kind) = kind_of(kind) else {
         return status::BAD_KIND;
@@ -111,8 +140,7 @@ pub extern "C" fn fq_seat_set_threaded(alloc: Global, handle: &mut FqHandle, thr
 
 fn poll_in(at: &mut Body, weight: usize, batch: &mut Batch) -> u32
     requires { (1 ≤ weight) × (weight ≤ 64) }
-    ensures polls { (s : Seat) → at.old ≡ body.Seat s
-        → IsSeatWith (λ t. SeatPolls weight batch.new.items s.hold result t.hold) at.new }
+    ensures polls { SeatGivesIn weight batch.new.items at.old result at.new }
     ensures room { result ≡ OK → length batch.new.items ≤ weight }
 {
     match at {
@@ -134,6 +162,7 @@ pub extern "C" fn fq_seat_poll(
     ensures polls { result ≡ OK
         → SeatGives weight (take count.new out.new) handle.old result handle.new }
     ensures most { (count.new ≤ weight) × (count.new ≤ length out.new) }
+    ensures none { result ≢ OK → count.new ≡ 0 }
 {
     *count = 0;
     if weight == 0 || weight > MAX_WEIGHT {

@@ -1,0 +1,25 @@
+//! A poll list of C's, with the run over it.
+ghost use Rattle.poll_engine.specs.Plain.{HasRoom};
+ghost use Rattle.c_handles.specs.Lists.{held_in};
+
+use poll_engine::{PlainList, PollingRun};
+
+/// What a run did: `struct fq_run_report`.
+#[repr(C)]
+#[derive(Clone, Copy)]
+pub struct FqRunReport {
+    /// The polls that were made, at most the window.
+    pub polls: u32,
+    /// The packets that they gave together.
+    pub work: u32,
+    /// Whether budget or window was spent.
+    pub squeezed: bool,
+}
+
+/// A poll list of one thread, and the run over it, if one is under way.
+#[derive(Drop)]
+pub struct Lister {
+    pub(crate) list: PlainList,
+    pub(crate) run: Option<PollingRun>,
+    ghost few: { HasRoom list (held_in run) },
+}

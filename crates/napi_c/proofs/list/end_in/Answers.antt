@@ -1,0 +1,17 @@
+use mathlib.Core.Path.{subst}
+use Rattle.c_handles.specs.Runs.{IsEnd}
+use Rattle.c_handles.specs.declared.lister.Lister.{Lister}
+use Rattle.napi_c.proofs.list.end_in.Goals as goal
+
+pub returns-in-List-clause-makes : goal.returns-in-List-clause-makes
+returns-in-List-clause-makes c =
+    let said = c.end.ensures in
+    let made : IsEnd c.args.report.now c.end.new.report c.deref_mut.result.now c.end.result c.end.new.self = record {
+      run = said.run;
+      early = said.early;
+      bounds = said.bounds;
+      over = said.over;
+      refused = said.refused;
+      kept = said.kept;
+    } in
+    rw c.in-List.is (subst (λ (l : Lister). IsEnd c.args.report.now c.end.new.report l c.end.result c.end.new.self) c.deref_mut.ensures.value made)

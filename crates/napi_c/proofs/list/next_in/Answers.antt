@@ -1,0 +1,18 @@
+use mathlib.Core.Path.{subst}
+use Rattle.c_handles.specs.Runs.{IsNext}
+use Rattle.c_handles.specs.declared.lister.Lister.{Lister}
+use Rattle.napi_c.proofs.list.next_in.Goals as goal
+
+pub returns-in-List-clause-makes : goal.returns-in-List-clause-makes
+returns-in-List-clause-makes c =
+    let said = c.next.ensures in
+    let made : IsNext c.args.id.now c.next.new.id c.deref_mut.result.now c.next.result c.next.new.self = record {
+      going = said.going;
+      over = said.over;
+      asks = said.asks;
+      none = said.none;
+      settings = said.settings;
+      refused = said.refused;
+      kept = said.kept;
+    } in
+    rw c.in-List.is (subst (λ (l : Lister). IsNext c.args.id.now c.next.new.id l c.next.result c.next.new.self) c.deref_mut.ensures.value made)

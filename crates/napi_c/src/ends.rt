@@ -1,0 +1,114 @@
+//! The two ends of a receive ring of which no instance has one, and what is counted of a ring.
+ghost use Rattle.std.specs.Prelude.{◌≡◌, ◌≢◌, Some, None};
+ghost use Rattle.rx_ring.specs.declared.packet.RxCounts.{RxCounts};
+ghost use Rattle.rx_ring.specs.ReceiveRing.{IsInOrder, totals_of};
+ghost use Rattle.rx_ring.specs.Ends.{ring_of};
+ghost use Rattle.c_handles.specs.declared.body.Ring.{Ring};
+ghost use Rattle.c_handles.specs.declared.body.Body.TheVariants as variant;
+ghost use Rattle.c_handles.specs.Rings.{LeadsTo, CountsAre, counts_in};
+ghost use Rattle.c_handles.specs.Status.{OK};
+ghost use Rattle.napi_c.specs.Counts.{counted, totalled};
+
+use crate::counts::{FqCounts, FqTotals};
+use c_handles::{Body, FqHandle, Ring, status};
+use rx_ring::{RxCounts, finish};
+use std::alloc::Global;
+use std::mem;
+
+/// Gives a ring's poll end to a second handle: `ring` is its input from then on. In use where that one is set.
+#[unsafe(no_mangle)]
+pub extern "C" fn fq_ring_split(alloc: Global, ring: &mut FqHandle, ctx: &mut FqHandle) -> u32
+    ensures split { (r : Ring) → LeadsTo ring.old r → result ≡ OK
+        → (ring.new.held.body ≡ Some (variant.In r.input))
+        × (ctx.new.held.body ≡ Some (variant.Ctx r.ctx)) }
+    ensures kept { result ≢ OK → (ring.new.held.body ≡ ring.old.held.body)
+        × (ctx.new ≡ ctx.old) }
+{
+    if ctx.is_set() {
+        return status::IN_USE;
+    }
+    let Some(mut first) = ring.take(alloc) else {
+        return status::BAD_HANDLE;
+    };
+    let Ok(mut second) = Box::new(alloc, Body::Gone) else {
+        ring.put(first);
+        return status::OUT_OF_MEMORY;
+    };
+    match mem::replace(&mut *first, Body::Gone) {
+        Body::Ring(whole) => {
+            let Ring { input, ctx: other } = whole;
+            *first = Body::In(input);
+            *second = Body::Ctx(other);
+            ring.put(first);
+            ctx.put(second);
+            status::OK
+        }
+        body => {
+            *first = body;
+            ring.put(first);
+            status::BAD_HANDLE
+        }
+    }
+}
+
+/// The end of a ring with both ends, as `rx_ring::finish`: its totals, and the handle leads to nothing.
+#[unsafe(no_mangle)]
+pub extern "C" fn fq_ring_finish(alloc: Global, ring: &mut FqHandle, totals: &mut FqTotals) -> u32
+    ensures totals { (r : Ring) → LeadsTo ring.old r → (result ≡ OK)
+        × (totals.new ≡ totalled (totals_of (ring_of r.input r.ctx))) }
+    ensures order { (r : Ring) → LeadsTo ring.old r → IsInOrder (ring_of r.input r.ctx) }
+    ensures left { result ≡ OK → ring.new.held.body ≡ None }
+    ensures kept { result ≢ OK → (ring.new.held.body ≡ ring.old.held.body)
+        × (totals.new ≡ totals.old) }
+{
+    let Some(mut first) = ring.take(alloc) else {
+        return status::BAD_HANDLE;
+    };
+    match mem::replace(&mut *first, Body::Gone) {
+        Body::Ring(whole) => {
+            let Ring { input, ctx } = whole;
+            *totals = FqTotals::of(finish(input, ctx));
+            status::OK
+        }
+        body => {
+            *first = body;
+            ring.put(first);
+            status::BAD_HANDLE
+        }
+    }
+}
+
+fn counts_of(at: &Body) -> Option<RxCounts>
+    ensures { result ≡ counts_in at.now }
+{
+    match at {
+        Body::Ring(ring) => Some(ring.ctx.counts()),
+        Body::Ctx(ctx) => Some(ctx.counts()),
+        Body::Seat(seat) => seat.counts(),
+        Body::Controller(control) => control.counts(),
+        _ => None,
+    }
+}
+
+/// What is counted of a ring's polls, of whoever has its poll end: a ring, a seat that polls, the controller of a disabled
+/// instance. Not allowed of any other.
+#[unsafe(no_mangle)]
+pub extern "C" fn fq_counts(alloc: Global, handle: &mut FqHandle, counts: &mut FqCounts) -> u32
+    ensures counts { (c : RxCounts) → CountsAre c handle.old.held.body → (result ≡ OK)
+        × (counts.new ≡ counted c) }
+    ensures kept { result ≢ OK → counts.new ≡ counts.old }
+    ensures same { handle.new.held.body ≡ handle.old.held.body }
+{
+    let Some(boxed) = handle.take(alloc) else {
+        return status::BAD_HANDLE;
+    };
+    let found = counts_of(&*boxed);
+    handle.put(boxed);
+    match found {
+        Some(found) => {
+            *counts = FqCounts::of(found);
+            status::OK
+        }
+        None => status::NOT_ALLOWED,
+    }
+}
