@@ -107,6 +107,13 @@ check 'the hammer compiles' compile gcc "$top/tests/c/hammer.c" "$scratch/hammer
 check 'the hammer' compared "$scratch/hammered" "$scratch/hammer"
 check 'the hammer, another seed' compared "$scratch/hammered" "$scratch/hammer" 1000000 4711
 
+# ---- each allocation refused
+
+wraps=-Wl,--wrap=malloc,--wrap=realloc,--wrap=free
+echo 'each allocation was refused, and told' > "$scratch/told"
+check 'refuse.c compiles' compile gcc "$top/tests/c/refuse.c" "$scratch/refuse" -O2 "$wraps"
+check 'each allocation refused in turn' compared "$scratch/told" "$scratch/refuse"
+
 # The fold of bench/limits.cc was written from the rules, apart from the library.
 as_the_fold() {
     compile gcc "$top/bench/c_library.c" "$scratch/counts" -O2 && g++ -O2 "$top/bench/limits.cc" -o "$scratch/fold" &&
@@ -188,6 +195,8 @@ sanitized() {
     done
     check "$name: the hammer compiles" compile gcc "$top/tests/c/hammer.c" "$scratch/sanitized" -O1 -g "$flag" -fno-sanitize-recover=all
     check "$name: the hammer" compared "$scratch/hammered" "$scratch/sanitized"
+    check "$name: refuse.c compiles" compile gcc "$top/tests/c/refuse.c" "$scratch/sanitized" -O1 -g "$flag" -fno-sanitize-recover=all "$wraps"
+    check "$name: each allocation refused in turn" compared "$scratch/told" "$scratch/sanitized"
     check "$name: the replay compiles" compile gcc "$top/tests/c/replay.c" "$scratch/sanitized" -O1 -g "$flag" -fno-sanitize-recover=all
     check "$name: the replay" as_the_tool "$scratch/sanitized" "$scratch/long.csv" 300 64 1024
     check "$name: the replay of a fault" as_the_tool "$scratch/sanitized" "$scratch/pending.csv" 300 64 1024

@@ -30,14 +30,15 @@ const PACE: Pace = Pace {
 
 /// Each of these two waits at its act for the other to come to its own, as long as it is told to.
 #[derive(Drop)]
-struct Together {
+pub(crate) struct Together {
     first: (u32, u32),
     second: (u32, u32),
     came: [AtomicBool; 2],
 }
 
 impl Together {
-    fn new(first: (u32, u32), second: (u32, u32)) -> Together {
+    /// The gate of two of whom each goes by its number and its act.
+    pub(crate) fn new(first: (u32, u32), second: (u32, u32)) -> Together {
         Together {
             first,
             second,
@@ -75,9 +76,11 @@ impl Gate for Together {
 
 /// A gate that is shut at one act of one worker.
 #[derive(Drop)]
-struct ShutAt {
-    worker: u32,
-    act: u32,
+pub(crate) struct ShutAt {
+    /// Who is refused.
+    pub(crate) worker: u32,
+    /// At which act.
+    pub(crate) act: u32,
 }
 
 impl Gate for ShutAt {
@@ -86,20 +89,23 @@ impl Gate for ShutAt {
     }
 }
 
-/// Holds whoever polls at its start, until worker 1 has come to its disable, and some while more. The worker may come to its
+/// Holds whoever polls at its start, until a worker has come to its disable, and some while more. The worker may come to its
 /// next act only once the poller was let go.
 #[derive(Drop)]
-struct HoldsPoller {
+pub(crate) struct HoldsPoller {
     poller: u32,
+    worker: u32,
     disable: u32,
     asked: AtomicBool,
     let_go: AtomicBool,
 }
 
 impl HoldsPoller {
-    fn new(poller: u32, disable: u32) -> HoldsPoller {
+    /// The gate that holds this poller until this worker has come to the act that disables.
+    pub(crate) fn new(poller: u32, worker: u32, disable: u32) -> HoldsPoller {
         HoldsPoller {
             poller,
+            worker,
             disable,
             asked: AtomicBool::new(false),
             let_go: AtomicBool::new(false),
@@ -127,10 +133,13 @@ impl Gate for HoldsPoller {
         if worker == self.poller {
             return self.hold();
         }
-        if worker == 1 && act == self.disable {
+        if worker != self.worker {
+            return true;
+        }
+        if act == self.disable {
             self.asked.store(true, Ordering::SeqCst);
         }
-        worker != 1 || act <= self.disable || self.let_go.load(Ordering::SeqCst)
+        act <= self.disable || self.let_go.load(Ordering::SeqCst)
     }
 }
 
@@ -291,7 +300,7 @@ fn a_disable_waits_for_a_poller_at_the_gate(rt: HostRuntime) -> Result<(), Fail>
         acts.push(Act::Disable)?;
         acts.push(Act::Nothing)?;
         let stations = with(Vec::new(rt.alloc()), 1, 4, thread, acts)?;
-        let gate = HoldsPoller::new(poller, 2);
+        let gate = HoldsPoller::new(poller, 1, 2);
         let done = run_workers(&rt, rt.alloc(), stations, 1, PACE, &gate)?;
         assert_eq!(rt; done.len(), 1);
         for finished in done {

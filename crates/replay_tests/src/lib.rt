@@ -15,10 +15,18 @@ mod gates;
 #[cfg(test)]
 mod listing;
 #[cfg(test)]
+mod pacing;
+#[cfg(test)]
 mod polling;
 #[cfg(test)]
 mod reading;
 #[cfg(test)]
 mod shared;
 #[cfg(test)]
+mod shut;
+#[cfg(test)]
+mod side_by_side;
+#[cfg(test)]
 mod threads;
+#[cfg(test)]
+mod totals;

@@ -9,7 +9,8 @@ use std::test::Fail;
 use std::thread::Threads;
 use threads_replay::{Polled, replay_threads};
 
-const HEADER: &str = "moment,device,event,value\n";
+/// The first record of a trace.
+pub(crate) const HEADER: &str = "moment,device,event,value\n";
 
 // A trace below its header, each text as many times as told, its report, and the packets of each device.
 #[derive(Drop)]
@@ -53,8 +54,8 @@ total devices 2
     },
 ];
 
-// The text of these rows below a header.
-fn text_of(alloc: Global, rows: &[(u32, &str)]) -> Result<String, AllocError> {
+/// The text of these rows below a header.
+pub(crate) fn text_of(alloc: Global, rows: &[(u32, &str)]) -> Result<String, AllocError> {
     let mut text = String::from_str(alloc, HEADER)?;
     for (times, row) in rows {
         for _ in 0..*times {
@@ -77,7 +78,13 @@ fn run_case<P: Threads + Wait + Sync>(
     Ok((report, polled))
 }
 
-fn settings_of(pollers: u32, budget: u32, weight: u32, window: u32) -> Result<Settings, Fail> {
+/// Settings of so many pollers, with this budget, weight and window.
+pub(crate) fn settings_of(
+    pollers: u32,
+    budget: u32,
+    weight: u32,
+    window: u32,
+) -> Result<Settings, Fail> {
     Ok(Settings::new(pollers, budget, weight, window).ok_or("in range")?)
 }
 

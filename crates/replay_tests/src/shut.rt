@@ -1,0 +1,135 @@
+//! What is still done once a gate is shut.
+
+ghost use Rattle.std.specs.Prelude.{◌≡◌, IfOk, vec_len};
+ghost use Rattle.std.specs.List.{All};
+ghost use Rattle.interrupt_workers.specs.Opens.{IsStation};
+
+use crate::gates::ShutAt;
+use poll_workers::{Act, Device, Gate, OpenGate, Pace, Station, WorkFault, run_workers};
+use std::alloc::{AllocError, Global};
+use std::sync::atomic::{AtomicU32, Ordering};
+use std::test::Fail;
+use std::thread;
+
+const ACTS: u32 = 10;
+
+const PACE: Pace = Pace {
+    budget: 300,
+    weight: 64,
+    window: 1024,
+};
+
+/// A device of ten acts that do nothing, which counts them.
+#[derive(Drop)]
+struct Counting<'a> {
+    made: &'a AtomicU32,
+}
+
+impl Device for Counting<'_> {
+    ghost use Rattle.interrupt_workers.specs.declared.acts.Act.TheVariants.{Nothing};
+
+    ghost acts = { λ _. 10 };
+
+    ghost answer = { λ _ _. Nothing };
+
+    ghost after = { λ d _. d };
+
+    fn acts(&self) -> u32 {
+        ACTS
+    }
+
+    fn act(&mut self, _k: u32) -> Act {
+        self.made.fetch_add(1, Ordering::SeqCst);
+        Act::Nothing
+    }
+}
+
+// Devices 1 and 2, which count their acts there.
+fn two<'a>(
+    alloc: Global,
+    first: &'a AtomicU32,
+    second: &'a AtomicU32,
+) -> Result<Vec<Station<Counting<'a>>>, AllocError>
+    ensures all { IfOk result (λ v. All IsStation v.items) }
+    ensures len { IfOk result (λ v. vec_len v ≡ 2) }
+{
+    let mut stations = Vec::new(alloc);
+    for (number, made) in [(1, first), (2, second)] {
+        stations.push(Station {
+            number,
+            capacity: 4,
+            thread: false,
+            device: Counting { made },
+        })?;
+    }
+    Ok(stations)
+}
+
+// The acts before the shut gate are made, and none from there on.
+#[test]
+fn no_act_is_made_behind_a_shut_gate(rt: HostRuntime) -> Result<(), Fail> {
+    for act in 0..ACTS {
+        let made = [AtomicU32::new(0), AtomicU32::new(0)];
+        let stations = two(rt.alloc(), &made[0], &made[1])?;
+        let gate = ShutAt { worker: 1, act };
+        let done = run_workers(&rt, rt.alloc(), stations, 2, PACE, &gate);
+        assert!(rt; matches!(done, Err(WorkFault::GateShut)));
+        assert_eq!(rt; made[0].load(Ordering::SeqCst), act);
+        assert!(rt; made[1].load(Ordering::SeqCst) <= ACTS);
+    }
+    Ok(())
+}
+
+/// Shuts at the first act of worker 1. Worker 2 comes to its own only a good while later.
+#[derive(Drop)]
+struct ShutFirst {
+    shut: AtomicU32,
+}
+
+impl Gate for ShutFirst {
+    fn pass(&self, worker: u32, _act: u32) -> bool {
+        if worker == 1 {
+            self.shut.store(1, Ordering::SeqCst);
+            return false;
+        }
+        if worker == 2 {
+            let mut more = 100_000u32;
+            for _ in 0..1_000_000u32 {
+                if more == 0 {
+                    break;
+                }
+                more -= self.shut.load(Ordering::SeqCst).min(1);
+                thread::yield_now();
+            }
+        }
+        true
+    }
+}
+
+// A worker that is at an act while the gate is shut for another makes no further one.
+#[test]
+fn a_shut_gate_stops_the_others(rt: HostRuntime) -> Result<(), Fail> {
+    let made = [AtomicU32::new(0), AtomicU32::new(0)];
+    let stations = two(rt.alloc(), &made[0], &made[1])?;
+    let gate = ShutFirst {
+        shut: AtomicU32::new(0),
+    };
+    let done = run_workers(&rt, rt.alloc(), stations, 2, PACE, &gate);
+    assert!(rt; matches!(done, Err(WorkFault::GateShut)));
+    assert_eq!(rt; made[0].load(Ordering::SeqCst), 0);
+    assert!(rt; made[1].load(Ordering::SeqCst) <= 1);
+    Ok(())
+}
+
+// With a gate that is open each act is made once.
+#[test]
+fn each_act_is_made_once(rt: HostRuntime) -> Result<(), Fail> {
+    let made = [AtomicU32::new(0), AtomicU32::new(0)];
+    let stations = two(rt.alloc(), &made[0], &made[1])?;
+    let done = run_workers(&rt, rt.alloc(), stations, 2, PACE, &OpenGate)?;
+    assert_eq!(rt; done.len(), 2);
+    for made in &made {
+        assert_eq!(rt; made.load(Ordering::SeqCst), ACTS);
+    }
+    Ok(())
+}

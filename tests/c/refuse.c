@@ -1,0 +1,122 @@
+/* Refuses each allocation of each call that makes something in turn, counted from 1. Each one has to be told by FQ_OUT_OF_MEMORY, or to
+ * change nothing where memory is asked for again; what is left is given up, and then nothing is left on the heap; and the same call
+ * makes what it is for as soon as memory is there. To be linked with --wrap for malloc, realloc and free. Where one of this isn't so it
+ * ends by 9. */
+#include <fintaqush.h>
+#include <stdio.h>
+#include <stdlib.h>
+#include <string.h>
+
+void *__real_malloc(size_t size);
+void *__real_realloc(void *old, size_t size);
+void __real_free(void *old);
+
+static long refused_call, calls, blocks;
+
+static bool is_refused(void) { return ++calls == refused_call; }
+
+void *__wrap_malloc(size_t size) {
+    void *made = is_refused() ? NULL : __real_malloc(size);
+    blocks += made != NULL;
+    return made;
+}
+
+void *__wrap_realloc(void *old, size_t size) {
+    void *made = is_refused() ? NULL : __real_realloc(old, size);
+    blocks += made != NULL && old == NULL;
+    return made;
+}
+
+void __wrap_free(void *old) {
+    blocks -= old != NULL;
+    __real_free(old);
+}
+
+static void want(bool holds, const char *what, long call) {
+    if (holds) return;
+    fprintf(stderr, "refuse: %s, allocation %ld\n", what, call);
+    exit(9);
+}
+
+/* What was made, of which nothing may be left. */
+enum { HANDLES = 10 };
+static struct fq_handle handles[HANDLES];
+
+static void give_up(void) {
+    for (int i = 0; i < HANDLES; i++) {
+        const uint32_t said = fq_abandon(&handles[i]);
+        want(said == FQ_OK || said == FQ_BAD_HANDLE, "it can't be given up", refused_call);
+    }
+}
+
+static bool takes_two(struct fq_handle *ring) {
+    return fq_ring_put(ring, 1, 60) == FQ_OK && fq_ring_put(ring, 2, 60) == FQ_OK && fq_ring_put(ring, 3, 60) == FQ_FULL;
+}
+
+static uint32_t make_ring(void) { return fq_ring_new(&handles[0], 2); }
+static bool ring_works(void) { return takes_two(&handles[0]); }
+
+static uint32_t make_tx(void) { return fq_tx_new(&handles[0], 2, 0, 1000, 1000, 0); }
+static bool tx_works(void) { return fq_tx_send(&handles[0], 60) == FQ_OK && fq_tx_done(&handles[0], 1, 0) == FQ_OK; }
+
+static uint32_t make_list(void) { return fq_list_new(&handles[0]); }
+static bool list_works(void) {
+    uint32_t id = 0;
+    return fq_list_push(&handles[0], 7) == FQ_OK && fq_run_begin(&handles[0], 300, 64, 1024) == FQ_OK &&
+           fq_run_next(&handles[0], &id) == FQ_OK && id == 7;
+}
+
+/* Its ring too, so that each of them is refused. */
+static uint32_t make_shared(void) {
+    const uint32_t said = fq_ring_new(&handles[0], 2);
+    return said == FQ_OK ? fq_shared_new(&handles[0], &handles[1], &handles[2], 8) : said;
+}
+static bool shared_works(void) {
+    return takes_two(&handles[0]) && fq_control_enable(&handles[1], false) == FQ_OK && fq_seat_schedule(&handles[9]) == FQ_GRANTED;
+}
+
+static const char trace[] = "moment,device,event,value\n0,1,open,4\n0,2,open,4\n1,1,rx,100\n1,2,rx,60\n2,0,softirq,0\n3,1,tx,9\n";
+enum { ROOM = 4096, GUARD = 0xA5 };
+static uint8_t report[ROOM], wanted[ROOM];
+static struct fq_replayed replayed;
+
+static uint32_t make_replay(void) {
+    const struct fq_settings settings = FQ_USUAL_SETTINGS;
+    memset(report, GUARD, ROOM);
+    const uint32_t said = fq_replay(&settings, (const uint8_t *)trace, sizeof trace - 1, report, ROOM, &replayed);
+    for (size_t i = said == FQ_OK ? replayed.length : 0; i < ROOM; i++)
+        want(report[i] == GUARD, "a byte that isn't the report's was written", refused_call);
+    return said;
+}
+static bool replay_works(void) { return memcmp(report, wanted, ROOM) == 0; }
+
+/* refuse_each: how many allocations there were, each of which was refused. */
+static long refuse_each(const char *what, uint32_t (*make)(void), bool (*works)(void)) {
+    for (long call = 1;; call++) {
+        calls = 0;
+        refused_call = call;
+        const uint32_t said = make();
+        const bool was_refused = calls >= call;
+        refused_call = 0;
+        want(said == FQ_OK || (was_refused && said == FQ_OUT_OF_MEMORY), what, call);
+        if (said == FQ_OK) want(works(), what, call);
+        give_up();
+        want(blocks == 0, "something is left on the heap", call);
+        if (!was_refused) return call - 1;
+        want(make() == FQ_OK && works(), what, call);
+        give_up();
+        want(blocks == 0, "something is left on the heap then", call);
+    }
+}
+
+int main(void) {
+    want(make_replay() == FQ_OK, "there is no report", 0);
+    memcpy(wanted, report, ROOM);
+    want(refuse_each("a ring", make_ring, ring_works) > 0, "a ring takes no memory", 0);
+    want(refuse_each("a transmit ring", make_tx, tx_works) > 0, "a transmit ring takes no memory", 0);
+    want(refuse_each("a list", make_list, list_works) > 0, "a list takes no memory", 0);
+    want(refuse_each("a shared instance", make_shared, shared_works) > 8, "a shared instance takes no memory", 0);
+    want(refuse_each("a replay", make_replay, replay_works) > 0, "a replay takes no memory", 0);
+    puts("each allocation was refused, and told");
+    return 0;
+}
