@@ -17,13 +17,16 @@ run_crews-requires-clause-count g t c =
     let parts = rw (← d.mine_is, ← d.rest_is) at (parts_length (vec_items c.in_ok-dealt.dealt.order) (vec_items c.args.stations) d.long) in
     grind (arith, common_steps, parts, c.requires.count)
 
-pub returns-then-is_empty-2 : goal.returns-then-is_empty-2
-returns-then-is_empty-2 g t c =
+pub returns-then-is_empty-2-clause-finished : goal.returns-then-is_empty-2-clause-finished
+returns-then-is_empty-2-clause-finished g t c =
     let d = rw c.in_ok-dealt.ensures.made at c.deal_all.ensures.dealt in
     let mine : vec_items c.in_ok-dealt.dealt.mine ≡ [] = nil_from_length _ (grind (arith, common_steps)) in
     let none : vec_items c.new-then-is_empty-2.result ≡ [] = search rules in
-    let later = rw d.rest_is at c.in_ok-others.ensures in
+    let later = rw d.rest_is at c.in_ok-others.ensures.finished in
     rw (c.merge.ensures, none) (merge_zips _ _ _ _ _ d.long (rw (← d.mine_is, mine) tt) later)
+
+pub returns-then-is_empty-2-clause-fault : goal.returns-then-is_empty-2-clause-fault
+returns-then-is_empty-2-clause-fault g t c = tt
 
 pub run_crew-requires-2-clause-stations : goal.run_crew-requires-2-clause-stations
 run_crew-requires-2-clause-stations g t c κs within = let d = rw c.in_ok-dealt.ensures.made at c.deal_all.ensures.dealt in rw d.mine_is (all_picked IsStation (vec_items c.in_ok-dealt.dealt.order) (vec_items c.args.stations) c.requires.stations)
@@ -42,13 +45,16 @@ run_crew-requires-2-clause-beside g t c κs within =
     let fewer : c.args.number + 1 < c.args.pollers = grind (arith, common_steps, c.requires.pollers.0) in
     (grind (arith, common_steps, fewer, c.decreases), ((λ a m. m), ((λ a m. m), ((λ a m. m), ((search rules, search rules, search rules, search rules, fewer, c.requires.pollers.1, c.requires.pace, stations, grind (arith, common_steps, parts, c.requires.count)), (search rules, search rules, search rules, search rules))))))
 
-pub returns : goal.returns
-returns g t c =
+pub returns-clause-finished : goal.returns-clause-finished
+returns-clause-finished g t c =
     let d = rw c.in_ok-dealt.ensures.made at c.deal_all.ensures.dealt in
     let both = c.in_ok-finished-2.ensures.made in
     let mine = rw both at c.run_crew-2.ensures.finished in
-    let rest = rw both at c.run_crew-2.ensures.beside in
+    let rest = (rw both at c.run_crew-2.ensures.beside).0 in
     let whose = IsFinished g.D.Device.acts g.D.Device.answer g.D.Device.after in
     let made = IfOk-at_ok (λ v. AllZip whose (vec_items c.in_ok-dealt.dealt.mine) (vec_items v)) c.in_ok-finished-3.was mine in
     let later = IfOk-at_ok (λ v. AllZip whose (vec_items c.in_ok-dealt.dealt.others) (vec_items v)) c.in_ok-others-2.was rest in
     rw c.merge-2.ensures (merge_zips _ _ _ _ _ d.long (rw (← d.mine_is) made) (rw (← d.rest_is) later))
+
+pub returns-clause-fault : goal.returns-clause-fault
+returns-clause-fault g t c = tt
