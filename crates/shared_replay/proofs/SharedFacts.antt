@@ -11,7 +11,7 @@ use Rattle.shared_replay.specs.declared.shared_device.Controlled.{Controlled}
 use Rattle.shared_replay.specs.declared.shared_device.Controlled.TheVariants.{On, Marked, Off}
 use Rattle.shared_replay.specs.declared.shared_device.SharedDevice.{SharedDevice}
 use Rattle.std.proofs.lemmas.List.Sums.{sum_by-cons, sum_by-set}
-use Rattle.trace_rows.specs.Places.{Places, added, added_at, at}
+use Rattle.trace_rows.specs.Places.{Places, added, added_at, at, empty}
 use Rattle.shared_replay.specs.Stations.{IsEndAt, IsRestAt, IsSharedKept, listed_of, waiting_in}
 use Rattle.shared_replay.specs.SharedDevice.{IsAtRest, IsCallerAt, IsControlAt}
 use Rattle.devices.specs.Waiting.{count}
@@ -31,6 +31,23 @@ control-prop napi None = hlevel props
 control-prop napi (Some (On c)) = hlevel props
 control-prop napi (Some (Marked c)) = hlevel props
 control-prop napi (Some (Off c)) = hlevel props
+
+none-at : {A : Type 0} → (many n : ℕ) → at {A = A} n (replicate many None) ≡ None
+none-at zero n = refl
+none-at (suc many) zero = refl
+none-at (suc many) (suc n) = none-at many n
+
+-- no place has anything, whatever it could have
+pub none-alike : (A B : Type 0) (n : ℕ) → is_some (at n (empty {A = A})) ≡ is_some (at n (empty {A = B}))
+none-alike A B n = ap is_some (none-at {A = A} 17 n) ∙ sym (ap is_some (none-at {A = B} 17 n))
+
+stays : {A : Type 0} → (xs : Places A) (n : ℕ) (a : A) (o : Option A) → o ≡ Some a → xs ≡ added_at n a o xs
+stays xs n a None e = cc e
+stays xs n a (Some b) e = refl
+
+there : {A : Type 0} → (xs : Places A) (n : ℕ) (o : Option A) → at n xs ≡ o → is_some o ≡ true → (a : A) × (xs ≡ added n a xs)
+there xs n None here on = cc on
+there xs n (Some a) here on = (a, stays xs n a (at n xs) here)
 
 module _ {R : Type 0} where
   waits-one : (o : Option (Station R)) → listed_of o ≤ 1
@@ -85,10 +102,6 @@ module _ {R : Type 0} where
       let was : listed_of (get_or xs n None) ≡ listed_of o = ap listed_of here in
       omega (arith, sums, was)
 
-  none-at : (many n : ℕ) → at {A = Station R} n (replicate many None) ≡ None
-  none-at zero n = refl
-  none-at (suc many) zero = refl
-  none-at (suc many) (suc n) = none-at many n
 
   pub shared-empty : (xs : Places (Station R)) → xs ≡ replicate 17 None → ∥ IsSharedKept xs ∥₁
   shared-empty xs e = rw e (∣ record {
@@ -123,8 +136,7 @@ module _ {R : Type 0} where
 
   -- what stands there already stays, and what doesn't is put there
   pub added-there : (xs : Places (Station R)) (n : ℕ) (o : Option (Station R)) → at n xs ≡ o → is_some o ≡ true → (t : Station R) × (xs ≡ added n t xs)
-  added-there xs n None here on = cc on
-  added-there xs n (Some s) here on = (s, ap (λ (p : Option (Station R)). added_at n s p xs) (sym here))
+  added-there xs n o here on = there xs n o here on
 
   pub added-new : (xs : Places (Station R)) (n : ℕ) (o : Option (Station R)) (t : Station R) → at n xs ≡ None → o ≡ Some t → (u : Station R) × (slice_set xs n o ≡ added n u xs)
   added-new xs n o t here put = (t, rw put (ap (λ (p : Option (Station R)). added_at n t p xs) (sym here)))

@@ -1,4 +1,4 @@
-use Rattle.std.proofs.Common.{[], ◌∷◌, ◌∙◌, ap, subst, inl}
+use Rattle.std.proofs.Common.{[], ◌∙◌, ap, subst, inl}
 use Rattle.std.specs.Prelude.{Option}
 use Rattle.rx_ring.specs.Ends.{put_list}
 use Rattle.napi_model.specs.declared.event.Operation.TheVariants.{Look}

@@ -1,5 +1,4 @@
 use Rattle.std.proofs.Common.{ap}
-use Rattle.devices.specs.declared.counts.DeviceCounts.{DeviceCounts}
 use Rattle.shared_replay.proofs.shared_device.SharedDevice.look.Goals as goal
 
 pub returns-clause-looks : goal.returns-clause-looks
