@@ -1,6 +1,6 @@
 /* Times calls of the C library: c_library WHAT TIMES. What was counted goes to standard output, the time to standard error.
- * limits: the calls of limits.cc, which prints the same. turns: schedule, hand, take and complete on a shared instance, by one
- * thread. packets: puts, and polls of weight 64. */
+ * limits: the calls of limits.cc, which prints the same; what only reads is the header's own. turns: schedule, hand, take and
+ * complete on a shared instance, by one thread. packets: puts, and polls of weight 64. */
 #include <fintaqush.h>
 #include <inttypes.h>
 #include <stdio.h>
@@ -24,9 +24,10 @@ static bool limits(uint64_t pairs) {
         const uint32_t count = starves ? 1500u << (pair % 64 / 4) : 1500u;
         if (fq_dql_queued(&dql, count) != FQ_OK) return false;
         queued += count;
-        over += fq_dql_avail(&dql) < 0;
-        if (fq_dql_completed(&dql, starves ? fq_dql_in_flight(&dql) : fq_dql_in_flight(&dql) / 4, pair) != FQ_OK) return false;
-        sum += fq_dql_limit(&dql);
+        over += fq_dql_avail_here(&dql) < 0;
+        const uint32_t waiting = fq_dql_in_flight_here(&dql);
+        if (fq_dql_completed(&dql, starves ? waiting : waiting / 4, pair) != FQ_OK) return false;
+        sum += fq_dql_limit_here(&dql);
     }
     printf("pairs %" PRIu64 " limits %" PRIu64 " over %" PRIu64 " queued %" PRIu32 " limit %" PRIu32 "\n", pairs, sum, over, queued,
            fq_dql_limit(&dql));
