@@ -102,7 +102,6 @@ module _ {R : Type 0} where
       let was : listed_of (get_or xs n None) ≡ listed_of o = ap listed_of here in
       omega (arith, sums, was)
 
-
   pub shared-empty : (xs : Places (Station R)) → xs ≡ replicate 17 None → ∥ IsSharedKept xs ∥₁
   shared-empty xs e = rw e (∣ record {
     places = refl;
