@@ -7,7 +7,7 @@ use Rattle.dql_core.specs.declared.event.LimitEvent.TheVariants.{Queued, Complet
 use Rattle.dql_core.specs.declared.whole.Limit.{Limit}
 
 -- so many objects of 268435455 bytes are queued, each of which is complete at the moment 0 before the next one comes
-pub pairs : ℕ → List LimitEvent
+unfoldable pub pairs : ℕ → List LimitEvent
 pairs zero = []
 pairs (suc n) = Queued 268435455 ∷ Completed 268435455 0 ∷ pairs n
 

@@ -1,5 +1,7 @@
 //! The settings of a run with threads, as far as its packets show them.
 
+ghost use Rattle.std.specs.Prelude.{◌≤◌};
+
 use crate::gates::HoldsPoller;
 use crate::threads::{HEADER, settings_of, text_of};
 use poll_workers::Gate;

@@ -1,6 +1,6 @@
 //! What is still done once a gate is shut.
 
-ghost use Rattle.std.specs.Prelude.{◌≡◌, IfOk, vec_len};
+ghost use Rattle.std.specs.Prelude.{◌≡◌, IfOk, vec_len, ◌≤◌, ◌+◌};
 ghost use Rattle.std.specs.List.{All};
 ghost use Rattle.interrupt_workers.specs.Opens.{IsStation};
 
@@ -44,7 +44,27 @@ impl Device for Counting<'_> {
     }
 }
 
-// Devices 1 and 2, which count their acts there.
+// One more device, which counts its acts there.
+fn with<'a>(
+    mut stations: Vec<Station<Counting<'a>>>,
+    number: u32,
+    made: &'a AtomicU32,
+) -> Result<Vec<Station<Counting<'a>>>, AllocError>
+    requires all { All IsStation stations.items }
+    requires number { (1 ≤ number) × (number ≤ 16) }
+    ensures all { IfOk result (λ v. All IsStation v.items) }
+    ensures len { IfOk result (λ v. vec_len v ≡ vec_len stations.entry + 1) }
+{
+    stations.push(Station {
+        number,
+        capacity: 4,
+        thread: false,
+        device: Counting { made },
+    })?;
+    Ok(stations)
+}
+
+// Devices 1 and 2.
 fn two<'a>(
     alloc: Global,
     first: &'a AtomicU32,
@@ -53,16 +73,8 @@ fn two<'a>(
     ensures all { IfOk result (λ v. All IsStation v.items) }
     ensures len { IfOk result (λ v. vec_len v ≡ 2) }
 {
-    let mut stations = Vec::new(alloc);
-    for (number, made) in [(1, first), (2, second)] {
-        stations.push(Station {
-            number,
-            capacity: 4,
-            thread: false,
-            device: Counting { made },
-        })?;
-    }
-    Ok(stations)
+    let stations = with(Vec::new(alloc), 1, first)?;
+    with(stations, 2, second)
 }
 
 // The acts before the shut gate are made, and none from there on.

@@ -13,7 +13,6 @@ const TOTAL: u64 = 4_563_402_735;
 fn totals_are_whole()
     ensures queued { past_32_bits.queued ≡ 4563402735 }
     ensures completed { past_32_bits.completed ≡ 4563402735 }
-    ensures limit { past_32_bits.limit ≡ 268435455 }
 {}
 
 #[test]
