@@ -1,6 +1,6 @@
 /* Times calls of the C library: c_library WHAT TIMES. What was counted goes to standard output, the time to standard error.
  * limits: the calls of limits.cc, which prints the same; what only reads is the header's own. turns: schedule, hand, take and
- * complete on a shared instance, by one thread. packets: puts, and polls of weight 64. */
+ * complete on a shared instance, by one thread. packets: puts, and polls of weight 64; bursts: the same packets, put 64 at once. */
 #include <fintaqush.h>
 #include <inttypes.h>
 #include <stdio.h>
@@ -46,16 +46,29 @@ static bool turns(uint64_t count) {
     return true;
 }
 
-static bool packets(uint64_t count) {
+static bool put_one_by_one(struct fq_handle *ring, uint64_t first) {
+    for (uint64_t i = 0; i < 64; i++) {
+        if (fq_ring_put(ring, first + i, 60) != FQ_OK) return false;
+    }
+    return true;
+}
+
+static bool put_at_once(struct fq_handle *ring, uint64_t first) {
+    struct fq_packet burst[64];
+    size_t count;
+    for (uint64_t i = 0; i < 64; i++) burst[i] = (struct fq_packet){first + i, 60};
+    return fq_ring_put_all(ring, burst, 64, &count) == FQ_OK;
+}
+
+static bool packets(uint64_t count, bool put_64(struct fq_handle *, uint64_t)) {
     struct fq_handle ring = FQ_NONE;
     struct fq_packet out[64];
     uint64_t put = 0, given = 0;
     if (fq_ring_new(&ring, 64) != FQ_OK) return false;
     while (given < count) {
         size_t polled;
-        for (int i = 0; i < 64; i++) {
-            if (fq_ring_put(&ring, put++, 60) != FQ_OK) return false;
-        }
+        if (!put_64(&ring, put)) return false;
+        put += 64;
         if (fq_ring_poll(&ring, 64, out, 64, &polled) != FQ_OK || polled != 64) return false;
         if (out[63].number != put - 1) return false;
         given += polled;
@@ -67,7 +80,9 @@ static bool packets(uint64_t count) {
 int main(int words, char **word) {
     if (words != 3) return 64;
     const uint64_t times = strtoull(word[2], NULL, 10), start = now();
-    const bool good = strcmp(word[1], "limits") == 0 ? limits(times) : strcmp(word[1], "turns") == 0 ? turns(times) : packets(times);
+    const bool good = strcmp(word[1], "limits") == 0 ? limits(times)
+                      : strcmp(word[1], "turns") == 0 ? turns(times)
+                                                      : packets(times, strcmp(word[1], "bursts") == 0 ? put_at_once : put_one_by_one);
     fprintf(stderr, "%" PRIu64 " ns\n", now() - start);
     return good ? 0 : 1;
 }

@@ -1,8 +1,8 @@
 #!/bin/sh
 # Times calls of the C library from C: pairs on a queue limit beside the plain C++ fold of bench/limits.cc, which is inlined, and
 # which has to count the same; turns of a shared instance by one thread (schedule, hand, take, complete) beside the same turns by
-# the typed calls (crates/bench_word); and packets, put one by one and polled 64 at a time. Three rounds of all in turn; the best
-# time of each is shown, and how C's compares with what stands beside it.
+# the typed calls (crates/bench_word); and packets, put one by one and in bursts of 64, and polled 64 at a time. Three rounds of
+# all in turn; the best time of each is shown, and how C's compares with what stands beside it.
 #
 # usage: bench/c_library.sh [TIMES]     (10000000 where none are given; of the turns a tenth)
 set -eu
@@ -27,7 +27,7 @@ g++ -O2 -o "$work/fold" "$bench/limits.cc"
 for round in 1 2 3; do
     "$work/fold" "$times" > "$work/fold.line" 2> "$work/spent"
     cut -d ' ' -f 1 "$work/spent" >> "$work/fold.times"
-    for what in limits turns packets; do
+    for what in limits turns packets bursts; do
         count=$times
         [ "$what" != turns ] || count=$turns
         "$work/c_library" "$what" "$count" > "$work/$what.line" 2> "$work/spent"
@@ -55,3 +55,4 @@ show 'the same pair from C' limits "$times" fold 'the fold'
 show 'a turn by the typed calls' typed "$turns"
 show 'the same turn from C' turns "$turns" typed 'the typed calls'
 show 'a packet from C, weight 64' packets "$times"
+show 'a packet from C, in bursts' bursts "$times"

@@ -45,7 +45,7 @@ struct Kernel {
   static constexpr bool loops = false;
 };
 
-// What a poll needs: the end of its ring, and what is counted. As large as the context of crates/rx_ring.
+// What a poll needs: the end of its ring, and what is counted. As large as what a context of crates/rx_ring leads to.
 struct Context {
   void* ring = nullptr;
   std::size_t capacity = 4, head = 0, tail = 0;

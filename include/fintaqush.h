@@ -243,6 +243,9 @@ struct fq_packet {
 FQ_CHECKED uint32_t fq_ring_new(struct fq_handle *ring, size_t capacity);
 /* Puts a packet in, behind all others: FQ_OK, FQ_FULL, FQ_BAD_HANDLE. */
 FQ_CHECKED uint32_t fq_ring_put(struct fq_handle *ring, uint64_t number, uint32_t bytes);
+/* Puts the packets of an array in, behind all others and in their order: as many of the first ones as fit, and *count tells how
+ * many. FQ_OK where these are all, FQ_FULL where not; FQ_BAD_HANDLE, and a count of 0. A poll sees all of them at once. */
+FQ_CHECKED uint32_t fq_ring_put_all(struct fq_handle *FQ_RESTRICT ring, const struct fq_packet *FQ_RESTRICT packets, size_t len, size_t *FQ_RESTRICT count);
 /* Takes the first packets out, at most weight (1 to 64), into an array of len places, at least the weight: FQ_OK and their
  * count, else a count of 0. Not of a ring whose other end an instance has, or another handle (FQ_BAD_HANDLE). */
 FQ_CHECKED uint32_t fq_ring_poll(struct fq_handle *FQ_RESTRICT ring, size_t weight, struct fq_packet *FQ_RESTRICT out, size_t len, size_t *FQ_RESTRICT count);

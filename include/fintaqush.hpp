@@ -302,6 +302,14 @@ public:
         return fq_ring_put(at_.raw(), number, bytes) == FQ_OK;
     }
 
+    // Puts as many of the first packets in as fit, behind all others, and tells how many. A poll sees all of them at once.
+    [[nodiscard]] std::size_t put_all(const fq_packet *packets, std::size_t len) {
+        if (len == 0) return 0;
+        std::size_t count = 0;
+        const auto said = fq_ring_put_all(at_.raw(), packets, len, &count);
+        return said == FQ_OK ? len : count;
+    }
+
 private:
     friend struct Shared;
     explicit Input(Handle &&at) : at_(std::move(at)) {}

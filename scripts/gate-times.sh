@@ -90,6 +90,8 @@ look() {
         { IFS= read -r line < "$file"; } 2> /dev/null || continue
         # The name in brackets may hold anything.
         read -ra fields <<< "${line##*) }"
+        # A process that ends meanwhile leaves half a line, or none.
+        [ "${#fields[@]}" -gt 19 ] || continue
         pid=${line%% *}
         parent[$pid]=${fields[1]}
         ticks[$pid]=$((fields[11] + fields[12] + fields[13] + fields[14]))

@@ -10,7 +10,7 @@ import sys
 WIDEST_CLAUSE = 100
 LONGEST_FUNCTION = 40
 LONGEST_FILE = 800
-ALL_TESTS = ("replay_tests",)
+ALL_TESTS = ("library_tests", "replay_tests")
 COLUMNS = ("code", "contracts", "tests", "specs", "proofs", "edits", "functions", "clause", "function")
 FUNCTION = re.compile(r'(?:pub(?:\([\w:]+\))? )?(?:const )?(?:unsafe )?(?:extern "C" )?fn (\w+)')
 CLAUSE = re.compile(r"(requires|ensures)\b ?\*?(\w+)?")

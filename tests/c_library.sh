@@ -107,6 +107,9 @@ check 'the hammer compiles' compile gcc "$top/tests/c/hammer.c" "$scratch/hammer
 check 'the hammer' compared "$scratch/hammered" "$scratch/hammer"
 check 'the hammer, another seed' compared "$scratch/hammered" "$scratch/hammer" 1000000 4711
 
+check 'bursts in C++ compile' compile g++ "$top/tests/c/bursts.cpp" "$scratch/bursts" -O2
+check 'bursts in C++' "$scratch/bursts"
+
 # ---- each allocation refused
 
 wraps=-Wl,--wrap=malloc,--wrap=realloc,--wrap=free

@@ -75,13 +75,29 @@ def crate_rows(page):
         yield f"{name} is in one of crates.txt and its table, and not in the other"
 
 
+def in_full(line):
+    """Each name that a `use` line brings, in full, though its braces nest."""
+    heads, word = [""], ""
+    for c in line.removeprefix("use ") + ",":
+        if c == "{":
+            heads.append(heads[-1] + word.strip())
+        elif c in "},":
+            if word.strip():
+                yield heads[-1] + word.strip()
+            if c == "}":
+                heads.pop()
+        word = "" if c in "{}," else word + c
+
+
 def cited_lemmas(page):
     """The table of lemmas has each file of `proofs/` that another crate cites, and no other."""
     crates, cited = needs_of_crates(), set()
     listed = subprocess.run(["git", "ls-files", "crates"], cwd=TOP, capture_output=True, text=True, check=True).stdout.split()
     for name in listed:
         if name.endswith((".antt", ".rt")) and (TOP / name).is_file():
-            for crate, file in re.findall(r"Rattle\.(\w+)\.proofs\.(\w+)", (TOP / name).read_text()):
+            text = (TOP / name).read_text()
+            names = [each for line in text.splitlines() if line.startswith("use ") for each in in_full(line)]
+            for crate, file in re.findall(r"Rattle\.(\w+)\.proofs\.(\w+)", "\n".join([text, *names])):
                 if crate in crates and crate != name.split("/")[1]:
                     cited.add((crate, file))
     table = page.read_text().split("## All crates")[0]
@@ -107,7 +123,7 @@ def crate_picture(picture):
     needs = needs_of_crates()
     text = picture.read_text()
     for name in needs:
-        if not name.startswith(("bench_", "example_", "replay_tests")) and not re.search(rf"\b{name}\b", text):
+        if not name.startswith(("bench_", "example_", "library_tests", "replay_tests")) and not re.search(rf"\b{name}\b", text):
             yield f"{name} isn't in it"
     arrows = re.findall(r"(\w+) -> (\w+)", text)
     for low, high in arrows:
@@ -145,10 +161,10 @@ def kit():
 
 
 def kits(page):
-    """Each kit that a page names is the one that proves here."""
-    for name in re.findall(r"rattle-kit-\w+", page.read_text()):
-        if kit() not in ("", name):
-            yield f"it names {name}, and {kit()} proves here"
+    """A page that names kits names the one that proves here."""
+    named = re.findall(r"rattle-kit-\w+", page.read_text())
+    if named and kit() not in ("", *named):
+        yield f"it names {', '.join(named)}, and {kit()} proves here"
 
 
 def scripts_told(page):

@@ -149,7 +149,9 @@ static void ends(uint32_t many) {
     uint64_t word = 7;
     size_t polled;
     want("a ring to be split", fq_ring_new(&whole, 4), FQ_OK);
-    for (uint32_t i = 0; i < many; i++) want("a put", fq_ring_put(&whole, i, 10), FQ_OK);
+    for (uint32_t i = 0; i < many; i++) packets[i] = (struct fq_packet){i, 10};
+    want("a burst", fq_ring_put_all(&whole, packets, many, &polled), FQ_OK);
+    want("what was put", (uint32_t)polled, many);
     want("a poll", fq_ring_poll(&whole, 1, packets, 64, &polled), FQ_OK);
     want("its counts", fq_counts(&whole, &counts), FQ_OK);
     want("the counts", counts.polls == 1 && counts.packets == polled && counts.bytes == 10 * polled, 1);
@@ -224,6 +226,18 @@ static void put(void) {
     if (wanted == FQ_OK) put_next++;
 }
 
+/* At most 19 packets at once, of which those are put that fit. */
+static void burst(void) {
+    struct fq_packet packets[20];
+    const size_t many = random_below(20), room = CAPACITY - (size_t)(put_next - given);
+    const size_t wanted = many < room ? many : room;
+    size_t count = 99;
+    for (size_t i = 0; i < many; i++) packets[i] = (struct fq_packet){put_next + i, (uint32_t)((put_next + i) % 1500)};
+    want("burst", fq_ring_put_all(&ring, packets, many, &count), wanted == many ? FQ_OK : FQ_FULL);
+    want("what was put of a burst", (uint32_t)count, (uint32_t)wanted);
+    put_next += count;
+}
+
 static void enable(void) {
     const bool threaded = random_below(2);
     const bool off = peer.place == 5 && !peer.disable;
@@ -259,6 +273,9 @@ static void wrong(uint32_t who) {
     want("schedule by nothing", fq_seat_schedule(&none), FQ_BAD_HANDLE);
     want("mark by a seat", fq_control_mark(&seats[who]), FQ_BAD_HANDLE);
     want("put into a seat", fq_ring_put(&seats[who], 1, 1), FQ_BAD_HANDLE);
+    want("burst into a seat", fq_ring_put_all(&seats[who], (struct fq_packet[1]){{1, 1}}, 1, &count), FQ_BAD_HANDLE);
+    want("nothing put into a seat", (uint32_t)count, 0);
+    want("burst into nothing", fq_ring_put_all(&none, (struct fq_packet[1]){{1, 1}}, 1, &count), FQ_BAD_HANDLE);
     want("poll of the input", fq_ring_poll(&ring, 64, out, 64, &count), FQ_BAD_HANDLE);
     want("next of a seat", fq_run_next(&seats[who], &id), FQ_BAD_HANDLE);
     want("push to nothing", fq_list_push(&none, 1), FQ_BAD_HANDLE);
@@ -271,8 +288,8 @@ static void wrong(uint32_t who) {
 
 static void one_call(void) {
     static void (*const of_seat[])(uint32_t) = {schedule, hand, take, requeue, complete, busy_take, busy_stop, set_threaded, poll, wrong, others_of_seat};
-    static void (*const others[])(void) = {put, enable, mark, try_take};
-    const uint32_t which = random_below(19);
+    static void (*const others[])(void) = {put, burst, enable, mark, try_take};
+    const uint32_t which = random_below(20);
     if (which < 15) of_seat[which % 11](random_below(SEATS));
     else others[which - 15]();
 }

@@ -57,6 +57,17 @@ class Raise(InFolder):
         self.assertEqual(self.raised(self.BURST, *words, "--restarts", "1"), [*rows[:5], "2,0,softirq,0", rows[5], "3,0,softirq,0"])
         self.assertEqual(self.raised(self.BURST), rows)
 
+    def test_a_trace_of_version_2(self):
+        """With a budget of 1 runs are raised until all of its nine packets are polled, with the usual one none is. Busy rows stay."""
+        text = (TOP / "examples/busy-poll.csv").read_text()
+        words = ["--budget", "1", "--weight", "1"]
+        raised = "\n".join([text.splitlines()[0], *self.raised(text, *words), ""])
+        self.assertEqual([line[8:12] for line in self.replay(raised, *words) if line[0] == "device"],
+                         [["6", "bytes", "1560", "left"], ["3", "bytes", "3900", "left"]])
+        self.assertEqual(raised.count(",busy,"), text.count(",busy,"))
+        self.assertGreater(raised.count("softirq"), text.count("softirq"))
+        self.assertEqual(self.raised(text), text.splitlines()[1:])
+
     def test_every_form_of_a_record(self):
         text = '\ufeff"moment","device",event,value\r\n\r\n"0",01,open,8\r1,1,rx,60\n\n1,1,rx,60\n"2",0,"softirq","0'
         self.assertEqual(self.raised(text, "--weight", "1", "--budget", "1"),

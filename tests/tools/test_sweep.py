@@ -122,6 +122,15 @@ class Sweep(InFolder):
         self.assertEqual([[row[name] for name in names] for row in self.rows()],
                          [["no", "8441", "5582"], ["all", "15245", "0"]])
 
+    def test_a_trace_of_version_2(self):
+        """All nine packets of examples/busy-poll.csv are polled by a run, a thread or a busy poll, so none is left."""
+        shutil.copy(TOP / "examples/busy-poll.csv", self.write("burst.csv", ""))
+        done = self.sweep("--without-parallel")
+        self.assertEqual(done.returncode, 0, done.stderr)
+        row = self.rows()[3]
+        self.assertEqual([row[name] for name in ("budget", "weight", "status", "fault", "dropped", "left")],
+                         ["300", "64", "0", "", "0", "0"])
+
     def test_progress_is_told(self):
         self.assertRegex(self.sweep("--without-parallel").stderr, r"sweep: 4 of 8 rows, \d+ s\n")
 

@@ -297,6 +297,13 @@ class CompareRuns(InFolder):
         self.assertNotIn("dropped", raised)
         self.assertNotIn("total      work", raised)
 
+    def test_a_trace_of_version_2(self):
+        """Nine packets come in examples/busy-poll.csv, and none is lost by either budget, if the runs are raised anew."""
+        done = run("compare-runs", TOP / "examples/busy-poll.csv", "--raise", "--budget", "1", "--weight", "1", "--", "--weight", "64")
+        self.assertEqual(done.returncode, 0)
+        self.assertIn("the same: list", done.stdout)
+        self.assertNotIn("polled", done.stdout)
+
     def test_refusals(self):
         trace = self.write("burst.csv", self.BURST)
         self.assertEqual(run("compare-runs", trace, "--budget", "1").returncode, 2)

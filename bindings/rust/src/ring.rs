@@ -42,6 +42,24 @@ impl Ring {
         put(&mut self.at, packet)
     }
 
+    /// Puts as many of the first packets in as fit, behind all others, and answers how many.
+    ///
+    /// ```
+    /// use fintaqush::{Fault, Packet, Ring};
+    ///
+    /// # fn main() -> Result<(), Fault> {
+    /// let mut ring = Ring::new(2)?;
+    /// let burst = [7, 8, 9].map(|number| Packet { number, bytes: 60 });
+    /// assert_eq!(ring.put_all(&burst), 2);
+    /// assert_eq!(ring.put_all(&burst[2..]), 0);
+    /// assert_eq!(ring.put_all(&[]), 0);
+    /// # Ok(())
+    /// # }
+    /// ```
+    pub fn put_all(&mut self, packets: &[Packet]) -> usize {
+        put_all(&mut self.at, packets)
+    }
+
     /// Takes the first packets out, at most the weight.
     pub fn poll<'b>(&mut self, weight: Weight, batch: &'b mut Batch) -> &'b [Packet] {
         let at = self.at.raw();
@@ -66,6 +84,12 @@ impl Input {
     pub fn put(&mut self, packet: Packet) -> Result<(), Fault> {
         put(&mut self.at, packet)
     }
+
+    /// Puts as many of the first packets in as fit, behind all others, and answers how many. A poll
+    /// sees all of them at once; what each thread sees then is as for [`put`](Input::put).
+    pub fn put_all(&mut self, packets: &[Packet]) -> usize {
+        put_all(&mut self.at, packets)
+    }
 }
 
 fn put(ring: &mut Handle, packet: Packet) -> Result<(), Fault> {
@@ -73,5 +97,15 @@ fn put(ring: &mut Handle, packet: Packet) -> Result<(), Fault> {
     match unsafe { sys::fq_ring_put(ring.raw(), packet.number, packet.bytes) } {
         said @ (sys::FQ_OK | sys::FQ_FULL) => Fault::unless_made(said),
         said => unexpected("ring_put", said),
+    }
+}
+
+fn put_all(ring: &mut Handle, packets: &[Packet]) -> usize {
+    let mut count = 0;
+    let (first, len) = (packets.as_ptr().cast(), packets.len());
+    // SAFETY: handle and count are this call's alone, and the packets are only read.
+    match unsafe { sys::fq_ring_put_all(ring.raw(), first, len, &mut count) } {
+        sys::FQ_OK | sys::FQ_FULL => count,
+        said => unexpected("ring_put_all", said),
     }
 }

@@ -278,6 +278,12 @@ extern "C" {
 
     pub fn fq_ring_new(ring: *mut fq_handle, capacity: usize) -> u32;
     pub fn fq_ring_put(ring: *mut fq_handle, number: u64, bytes: u32) -> u32;
+    pub fn fq_ring_put_all(
+        ring: *mut fq_handle,
+        packets: *const fq_packet,
+        len: usize,
+        count: *mut usize,
+    ) -> u32;
     pub fn fq_ring_poll(
         ring: *mut fq_handle,
         weight: usize,

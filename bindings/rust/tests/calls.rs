@@ -188,9 +188,11 @@ fn sizes_out_of_range_are_refused() {
 #[test]
 fn polls_give_the_next_packets_at_most_the_weight() {
     let (mut input, on, mut interrupts, poller) = enabled(100);
-    for number in 0..100 {
-        input.put(packet(number)).unwrap();
-    }
+    let burst: Vec<_> = (0..102).map(packet).collect();
+    assert_eq!(input.put_all(&[]), 0);
+    assert_eq!(input.put_all(&burst[..1]), 1);
+    assert_eq!(input.put_all(&burst[1..]), 99);
+    assert_eq!(input.put_all(&burst[100..]), 0);
     assert_eq!(input.put(packet(100)), Err(Fault::FULL));
     assert_eq!(interrupts.interrupt(Kind::List), Prep::Granted);
 

@@ -2,9 +2,8 @@
 use mir.Syntax.{impl, tnil, dnil}
 use mathlib.Core.List.{[]}
 use denote.Signature.{Slot, plain}
-use Rattle.std_alloc.proofs.BoxSteps.Form.{Bx}
+use Rattle.{std_alloc.proofs.BoxSteps.Form.Bx, std_heap.specs.contracts.GlobalAllocator.TheImpl.{ghosts, dict}}
 use Rattle.std_heap.specs.contracts.Global as Heap
-use Rattle.std_heap.specs.contracts.GlobalAllocator.TheImpl.{ghosts, dict}
 use Rattle.std_heap.proofs.Global.TheLaws as heap
 use Rattle.c_handles.specs.contracts.body.Body as Body
 use Rattle.c_handles.proofs.body.Body.TheLaws as body

@@ -1,11 +1,12 @@
 -- What a handle leads to.
-use Rattle.std.specs.Prelude.{◌≡◌, ℕ, List, Option, Some, None, [], ◌∷◌, ◌++◌}
+use Rattle.std.specs.Prelude.{◌≡◌, ℕ, ◌==◌, if◌then◌else◌, List, Option, Some, None, [], ◌++◌, length}
 use Rattle.rx_ring.specs.declared.packet.Packet.{Packet}
 use Rattle.c_handles.specs.declared.body.Body.{Body}
 use Rattle.rx_ring.specs.declared.ends.RxIn.{RxIn}
 use Rattle.rx_ring.specs.declared.ends.RxCtx.{RxCtx}
 use Rattle.rx_ring.specs.Ends.{GivesNext, SameIn, put_list, capacity_of, received_list}
 use Rattle.rx_ring.specs.declared.packet.RxCounts.{RxCounts}
+use Rattle.c_handles.specs.Status.{OK, FULL, BAD_HANDLE}
 use Rattle.c_handles.specs.SeatCalls.{ctx_counts, hold_counts, mode_counts}
 use Rattle.c_handles.specs.declared.body.Ring.{Ring}
 use Rattle.c_handles.specs.declared.body.Body.TheVariants as body
@@ -66,15 +67,30 @@ pub record IsNewRing (capacity : ℕ) (ring : Ring) : Type 0 where
   pub nothing_put : put_list ring.input ≡ []
   pub nothing_received : received_list ring.ctx ≡ []
 
--- the packet was put in, behind all others
-pub record IsAfterPut (before : Ring) (packet : Packet) (after : Ring) : Type 0 where
-  pub put : put_list after.input ≡ put_list before.input ++ packet ∷ []
+-- the packets were put in, behind all others and in their order
+pub record IsAfterPut (before : Ring) (packets : List Packet) (after : Ring) : Type 0 where
+  pub put : put_list after.input ≡ put_list before.input ++ packets
   pub ctx : after.ctx ≡ before.ctx
 
 -- the same, where the other end is elsewhere
-pub record IsAfterInput (before : RxIn) (packet : Packet) (after : RxIn) : Type 0 where
+pub record IsAfterInput (before : RxIn) (packets : List Packet) (after : RxIn) : Type 0 where
   pub ring : SameIn before after
-  pub put : put_list after ≡ put_list before ++ packet ∷ []
+  pub put : put_list after ≡ put_list before ++ packets
+
+-- what a burst is answered, of which so many packets were put
+abbrev pub burst_in : Body → ℕ → List Packet → ℕ
+burst_in (body.Ring ring) count packets = if count == length packets then OK else FULL
+burst_in (body.In input) count packets = if count == length packets then OK else FULL
+burst_in (body.Ctx ctx) count packets = BAD_HANDLE
+burst_in (body.List list) count packets = BAD_HANDLE
+burst_in (body.Seat seat) count packets = BAD_HANDLE
+burst_in (body.Controller controller) count packets = BAD_HANDLE
+burst_in (body.Tx tx) count packets = BAD_HANDLE
+burst_in body.Gone count packets = BAD_HANDLE
+
+abbrev pub burst_status : Option Body → ℕ → List Packet → ℕ
+burst_status None count packets = BAD_HANDLE
+burst_status (Some x) count packets = burst_in x count packets
 
 -- a poll of this weight gave these packets
 pub record IsAfterPoll (weight : ℕ) (before : Ring) (given : List Packet) (after : Ring) : Type 0 where

@@ -58,7 +58,8 @@ impl Drop for Hold {
     }
 }
 
-impl Hold { // The caller, of one that rests.
+impl Hold {
+    // The caller, of one that rests.
     #[inline]
     fn into_caller(self) -> Caller
         requires { IsResting self }
@@ -106,8 +107,62 @@ impl Hold { // The caller, of one that rests.
         }
     }
 
+    // The four that follow write the place anew, from which the caller was taken out, and give the answer on. In functions of
+    // their own, so that each of the two is written once. What they take out tells the compiler that nothing is dropped.
+    #[inline(always)]
+    fn rest(&mut self, caller: Caller, answer: u32) -> u32
+        requires { self.old ≡ hold.Gone }
+        ensures place { self.new ≡ hold.Rests caller }
+        ensures answer { result ≡ answer }
+    {
+        let taken = mem::replace(self, Hold::Rests(caller));
+        match &taken {
+            Hold::Gone => answer,
+            _ => unreachable!(),
+        }
+    }
+
+    #[inline(always)]
+    fn grant(&mut self, granted: Granted, answer: u32) -> u32
+        requires { self.old ≡ hold.Gone }
+        ensures place { self.new ≡ hold.Granted granted }
+        ensures answer { result ≡ answer }
+    {
+        let taken = mem::replace(self, Hold::Granted(granted));
+        match &taken {
+            Hold::Gone => answer,
+            _ => unreachable!(),
+        }
+    }
+
+    #[inline(always)]
+    fn poll(&mut self, polling: Polling, answer: u32) -> u32
+        requires { self.old ≡ hold.Gone }
+        ensures place { self.new ≡ hold.Polls polling }
+        ensures answer { result ≡ answer }
+    {
+        let taken = mem::replace(self, Hold::Polls(polling));
+        match &taken {
+            Hold::Gone => answer,
+            _ => unreachable!(),
+        }
+    }
+
+    #[inline(always)]
+    fn busy(&mut self, busy: Busy, answer: u32) -> u32
+        requires { self.old ≡ hold.Gone }
+        ensures place { self.new ≡ hold.Busy busy }
+        ensures answer { result ≡ answer }
+    {
+        let taken = mem::replace(self, Hold::Busy(busy));
+        match &taken {
+            Hold::Gone => answer,
+            _ => unreachable!(),
+        }
+    }
+
     /// Makes a call, where the caller is one that has it, and answers its number.
-    #[inline]
+    #[inline(always)]
     pub(crate) fn step(&mut self, napi: &Napi, call: SeatCall) -> u32
         requires { SitsAt napi.now self.old }
         ensures sits { SitsAt napi.now self.new }
@@ -136,22 +191,10 @@ impl Hold { // The caller, of one that rests.
         }
         let caller = mem::replace(self, Hold::Gone).into_caller();
         match caller.try_schedule(napi) {
-            TryPrep::Granted(granted) => {
-                *self = Hold::Granted(granted);
-                status::GRANTED
-            }
-            TryPrep::Missed(caller) => {
-                *self = Hold::Rests(caller);
-                status::MISSED
-            }
-            TryPrep::Disabled(caller) => {
-                *self = Hold::Rests(caller);
-                status::DISABLED
-            }
-            TryPrep::Changed(caller) => {
-                *self = Hold::Rests(caller);
-                status::CHANGED
-            }
+            TryPrep::Granted(granted) => self.grant(granted, status::GRANTED),
+            TryPrep::Missed(caller) => self.rest(caller, status::MISSED),
+            TryPrep::Disabled(caller) => self.rest(caller, status::DISABLED),
+            TryPrep::Changed(caller) => self.rest(caller, status::CHANGED),
         }
     }
 
@@ -165,8 +208,7 @@ impl Hold { // The caller, of one that rests.
             return status::NOT_ALLOWED;
         }
         let granted = mem::replace(self, Hold::Gone).into_granted();
-        *self = Hold::Rests(granted.hand(napi, kind));
-        status::OK
+        self.rest(granted.hand(napi, kind), status::OK)
     }
 
     #[inline]
@@ -180,14 +222,8 @@ impl Hold { // The caller, of one that rests.
         }
         let caller = mem::replace(self, Hold::Gone).into_caller();
         match caller.take(napi, kind) {
-            Ok(polling) => {
-                *self = Hold::Polls(polling);
-                status::TAKEN
-            }
-            Err(caller) => {
-                *self = Hold::Rests(caller);
-                status::NOT_THERE
-            }
+            Ok(polling) => self.poll(polling, status::TAKEN),
+            Err(caller) => self.rest(caller, status::NOT_THERE),
         }
     }
 
@@ -201,8 +237,7 @@ impl Hold { // The caller, of one that rests.
             return status::NOT_ALLOWED;
         }
         let polling = mem::replace(self, Hold::Gone).into_polling();
-        *self = Hold::Rests(polling.requeue(napi));
-        status::OK
+        self.rest(polling.requeue(napi), status::OK)
     }
 
     #[inline]
@@ -233,18 +268,9 @@ impl Hold { // The caller, of one that rests.
         }
         let polling = mem::replace(self, Hold::Gone).into_polling();
         match polling.try_complete(napi) {
-            TryDone::Released(caller) => {
-                *self = Hold::Rests(caller);
-                status::RELEASED
-            }
-            TryDone::Again(granted) => {
-                *self = Hold::Granted(granted);
-                status::AGAIN
-            }
-            TryDone::Changed(polling) => {
-                *self = Hold::Polls(polling);
-                status::CHANGED
-            }
+            TryDone::Released(caller) => self.rest(caller, status::RELEASED),
+            TryDone::Again(granted) => self.grant(granted, status::AGAIN),
+            TryDone::Changed(polling) => self.poll(polling, status::CHANGED),
         }
     }
 
@@ -259,18 +285,9 @@ impl Hold { // The caller, of one that rests.
         }
         let caller = mem::replace(self, Hold::Gone).into_caller();
         match caller.try_busy(napi) {
-            TryBusy::Taken(busy) => {
-                *self = Hold::Busy(busy);
-                status::TAKEN
-            }
-            TryBusy::Refused(caller) => {
-                *self = Hold::Rests(caller);
-                status::BUSY
-            }
-            TryBusy::Changed(caller) => {
-                *self = Hold::Rests(caller);
-                status::CHANGED
-            }
+            TryBusy::Taken(busy) => self.busy(busy, status::TAKEN),
+            TryBusy::Refused(caller) => self.rest(caller, status::BUSY),
+            TryBusy::Changed(caller) => self.rest(caller, status::CHANGED),
         }
     }
 
@@ -285,14 +302,8 @@ impl Hold { // The caller, of one that rests.
         }
         let busy = mem::replace(self, Hold::Gone).into_busy();
         match busy.try_stop(napi) {
-            TryStop::Stopped(polling) => {
-                *self = Hold::Polls(polling);
-                status::OK
-            }
-            TryStop::Changed(busy) => {
-                *self = Hold::Busy(busy);
-                status::CHANGED
-            }
+            TryStop::Stopped(polling) => self.poll(polling, status::OK),
+            TryStop::Changed(busy) => self.busy(busy, status::CHANGED),
         }
     }
 

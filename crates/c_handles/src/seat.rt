@@ -41,7 +41,7 @@ pub struct Seat {
 
 impl Seat {
     /// Makes a call, and answers its number.
-    #[inline]
+    #[inline(always)]
     pub fn step(&mut self, call: SeatCall) -> u32
         ensures { SeatAnswers call self.old.hold result self.new.hold }
     {

@@ -1,6 +1,5 @@
 -- Lists side by side.
-use Rattle.std.proofs.Common.{◌≡◌, zero, suc, List, [], ◌∷◌, ◌++◌, length, sym, refl, ap, ◌∙◌, append-nil, arith, All}
-use Rattle.std.specs.List.{AllByRecursion, AllZip}
+use Rattle.std.{proofs.Common.{◌≡◌, zero, suc, List, [], ◌∷◌, ◌++◌, length, sym, refl, ap, ◌∙◌, append-nil, arith, All}, specs.List.{AllByRecursion, AllZip}}
 
 pub none_left : {A : Type 0} (all xs rest : List A) → xs ++ rest ≡ all → rest ≡ [] → xs ≡ all
 none_left all xs rest e n = sym (append-nil xs) ∙ ap (λ l. xs ++ l) (sym n) ∙ e

@@ -1,6 +1,5 @@
 -- Lists side by side.
-use Rattle.std.proofs.Common.{◌≡◌, ℕ, ◌+◌, ◌<◌, length, List, [], ◌∷◌, ◌++◌, refl, arith, length-append, ap, ◌∙◌, sym, get_or, suc, append_assoc, append-nil}
-use Rattle.std.specs.List.{AllZip}
+use Rattle.std.{proofs.Common.{◌≡◌, ℕ, ◌+◌, ◌<◌, length, List, [], ◌∷◌, ◌++◌, refl, arith, length-append, ap, ◌∙◌, sym, get_or, suc, append_assoc, append-nil}, specs.List.AllZip}
 
 pub zip_push : {A B : Type 0} (R : A → B → Type 0) (xs : List A) (ys : List B) (x : A) (y : B) → AllZip R xs ys → R x y → AllZip R (xs ++ x ∷ []) (ys ++ y ∷ [])
 zip_push R [] [] x y h r = (r, tt)

@@ -1,16 +1,8 @@
 -- How a change of one device keeps what is true of all.
-use Rattle.std.proofs.Common.{◌≡◌, ◌≢◌, ◌∙◌, ℕ, zero, suc, ◌+◌, ◌<◌, ◌≤◌, Bool, true, false, Option, Some, None, [], ◌∷◌, length, ◌++◌, length-set, replicate, slice_set, take, drop, ap, refl, sym, arith}
-use Rattle.std.specs.Prelude.{◌==◌, nat_lt}
-use Rattle.std.proofs.lemmas.Bool.{eqb-true, eqb-false, ltb-true, ltb-false}
-use Rattle.std.proofs.lemmas.List.{append-nil, drop_all, get_or-set_other, take_all}
-use Rattle.devices.specs.Bench.{all_settled, settled_at}
-use Rattle.devices.specs.Device.{is_pending, opened, settled}
-use Rattle.devices.specs.DeviceView.{DeviceView}
-use Rattle.devices.specs.Kept.{IsKept, is_pending_at, is_sound, is_sound_at}
-use Rattle.devices.proofs.DeviceFacts.{settled-same}
-use Rattle.devices.proofs.Waiting.{waiting-empty, waiting-most}
-use Rattle.trace_rows.specs.Places.{Places, at, changed, changed_from, empty}
-use Rattle.trace_rows.proofs.PlaceFacts.{at-set, below-some}
+use Rattle.std.{proofs.Common.{◌≡◌, ◌≢◌, ◌∙◌, ℕ, zero, suc, ◌+◌, ◌<◌, ◌≤◌, Bool, true, false, Option, Some, None, [], ◌∷◌, length, ◌++◌, length-set, replicate, slice_set, take, drop, ap, refl, sym, arith}, specs.Prelude.{◌==◌, nat_lt}}
+use Rattle.{std.proofs.lemmas.{Bool.{eqb-true, eqb-false, ltb-true, ltb-false}, List.{append-nil, drop_all, get_or-set_other, take_all}}, devices.specs.{Bench.{all_settled, settled_at}, Device.{is_pending, opened, settled}}}
+use Rattle.devices.{specs.{DeviceView.DeviceView, Kept.{IsKept, is_pending_at, is_sound, is_sound_at}}, proofs.{DeviceFacts.settled-same, Waiting.{waiting-empty, waiting-most}}}
+use Rattle.trace_rows.{specs.Places.{Places, at, changed, changed_from, empty}, proofs.PlaceFacts.{at-set, below-some}}
 
 pub sound-at : (u : Bool) (xs : Places DeviceView) (n : ℕ) (d : DeviceView) → IsKept u xs → at n xs ≡ Some d → is_sound d ≡ true
 sound-at u xs n d k e = ap is_sound_at (sym e) ∙ k.sound n

@@ -1,27 +1,13 @@
 -- Busy polling of a device by the calls of its trait is the function that the rules say, and what it keeps.
-use Rattle.std.proofs.Common.{◌≡◌, ◌∙◌, ℕ, zero, suc, Bool, true, false, List, [], ◌∷◌, Some, None, MatchBool, ap, length, refl, sym, subst, arith}
-use Rattle.std.specs.Prelude.{◌||◌, if◌then◌else◌, not}
-use Rattle.napi_model.specs.Step.{is_handed}
+use Rattle.{std.{proofs.Common.{◌≡◌, ◌∙◌, ℕ, zero, suc, Bool, true, false, List, [], ◌∷◌, Some, None, MatchBool, ap, length, refl, sym, subst, arith}, specs.Prelude.{◌||◌, if◌then◌else◌, not}}, napi_model.specs.Step.is_handed}
+use Rattle.{napi_model.specs.declared.state.State.State, poll_engine.specs.{BusyPolling.{Given, busy_report, is_below, no_report}, Polling.{is_absent, next_of}, Polls.{Chain, is_arrival, is_repoll}, declared.bench.BusyReport.BusyReport}}
+use Rattle.{poll_engine.specs.declared.bench.Next.{Next, TheVariants.{Absent, Gone, Again, Repoll}}, devices.specs.BusyPolling.{after_last, after_round, begun, gives, held_if, left_by, polled_busily, rounds_of, stopped}}
+use Rattle.devices.specs.{Device.{after_done, completed, is_pending, made, polled}, DeviceView.DeviceView, Instance.{BusyTakes, Completes, Gives, Holds, Requeues, Stops, poller_in, poller_of}, Kept.is_sound}
+use Rattle.devices.{specs.{Waiting.{count, is_left_to_list, waits}, declared.device.TheConstants.POLLER}, proofs.DeviceFacts.{Keeps, completed-leaves, unheld}}
 use Rattle.napi_model.specs.declared.event.Done.TheVariants as done
 use Rattle.napi_model.specs.declared.event.Operation.TheVariants as operation
 use Rattle.napi_model.specs.declared.state.Kind.TheVariants as kind
-use Rattle.napi_model.specs.declared.state.State.{State}
 use Rattle.poll_engine.specs.BusyPolling as rule
-use Rattle.poll_engine.specs.BusyPolling.{Given, busy_report, is_below, no_report}
-use Rattle.poll_engine.specs.Polling.{is_absent}
-use Rattle.poll_engine.specs.Polls.{Chain, is_arrival, is_repoll}
-use Rattle.poll_engine.specs.Polling.{next_of}
-use Rattle.poll_engine.specs.declared.bench.BusyReport.{BusyReport}
-use Rattle.poll_engine.specs.declared.bench.Next.{Next}
-use Rattle.poll_engine.specs.declared.bench.Next.TheVariants.{Absent, Gone, Again, Repoll}
-use Rattle.devices.specs.BusyPolling.{after_last, after_round, begun, gives, held_if, left_by, polled_busily, rounds_of, stopped}
-use Rattle.devices.specs.Device.{after_done, completed, is_pending, made, polled}
-use Rattle.devices.specs.DeviceView.{DeviceView}
-use Rattle.devices.specs.Instance.{BusyTakes, Completes, Gives, Holds, Requeues, Stops, poller_in, poller_of}
-use Rattle.devices.specs.Kept.{is_sound}
-use Rattle.devices.specs.Waiting.{count, is_left_to_list, waits}
-use Rattle.devices.specs.declared.device.TheConstants.{POLLER}
-use Rattle.devices.proofs.DeviceFacts.{Keeps, completed-leaves, unheld}
 
 abbrev Round : ℕ → DeviceView → Given ℕ → DeviceView → Type 0
 Round = rule.Round BusyTakes Gives Holds Stops Requeues Completes

@@ -1,28 +1,14 @@
 -- What rows and polls keep of a device: that it is sound, whether a disable is pending, and whether it waits on the list.
-use Rattle.std.proofs.Common.{◌≡◌, ◌∙◌, ℕ, zero, suc, ◌+◌, ◌≤◌, Bool, true, false, Option, Some, None, List, [], ◌∷◌, ◌++◌, length, refl, arith}
-use Rattle.std.specs.Prelude.{◌==◌, ◌||◌, not, if◌then◌else◌}
-use Rattle.napi_model.specs.Step.{is_handed}
+use Rattle.{std.{proofs.Common.{◌≡◌, ◌∙◌, ℕ, zero, suc, ◌+◌, ◌≤◌, Bool, true, false, Option, Some, None, List, [], ◌∷◌, ◌++◌, length, refl, arith}, specs.Prelude.{◌==◌, ◌||◌, not, if◌then◌else◌}}, napi_model.specs.Step.is_handed}
+use Rattle.{napi_model.specs.declared.{event.Prep.TheVariants.{Granted, Missed, Disabled}, state.{Kind.Kind, Place.Place}}, poll_engine.specs.{Polls.is_arrival, Thread.{is_for_thread, last_next}, declared.bench.Next.Next}}
+use Rattle.{poll_engine.specs.declared.bench.{Next.TheVariants.{Absent, Gone, Again, Repoll}, Once.Once}, devices.specs.Waiting.{count, is_left_to_list, is_listed, leaves, waits}, transmit_sides.specs.Counter.raised}
+use Rattle.devices.specs.Device.{after_disable, after_done, after_enable, after_packet, after_poll, after_reply, after_request, after_take, after_threaded, asks_again, completed, disabled_from, enabled_from, ended, ended_by, given, goes_on, handed_over, has_room, is_control, is_pending, let_go, made, polled, polled_by_thread, polled_once, retaken, settled, state_of, taken, thread_polls, tried}
+use Rattle.devices.{specs.{DeviceView.DeviceView, Kept.{is_held, is_sound}, declared.{counts.DeviceState.DeviceState, device.TheConstants.{INTERRUPT, POLLER, THREAD}}}, proofs.ThreadFacts.{goes-more, goes-next, some-polls}}
 use Rattle.napi_model.specs.declared.event.Done.TheVariants as done
 use Rattle.napi_model.specs.declared.event.Operation.TheVariants as operation
-use Rattle.napi_model.specs.declared.event.Prep.TheVariants.{Granted, Missed, Disabled}
-use Rattle.napi_model.specs.declared.state.Kind.{Kind}
 use Rattle.napi_model.specs.declared.state.Kind.TheVariants as kind
-use Rattle.napi_model.specs.declared.state.Place.{Place}
 use Rattle.napi_model.specs.declared.state.Place.TheVariants as place
-use Rattle.poll_engine.specs.Polls.{is_arrival}
-use Rattle.poll_engine.specs.Thread.{is_for_thread, last_next}
-use Rattle.poll_engine.specs.declared.bench.Next.{Next}
-use Rattle.poll_engine.specs.declared.bench.Next.TheVariants.{Absent, Gone, Again, Repoll}
-use Rattle.poll_engine.specs.declared.bench.Once.{Once}
-use Rattle.devices.specs.Waiting.{count, is_left_to_list, is_listed, leaves, waits}
-use Rattle.transmit_sides.specs.Counter.{raised}
-use Rattle.devices.specs.Device.{after_disable, after_done, after_enable, after_packet, after_poll, after_reply, after_request, after_take, after_threaded, asks_again, completed, disabled_from, enabled_from, ended, ended_by, given, goes_on, handed_over, has_room, is_control, is_pending, let_go, made, polled, polled_by_thread, polled_once, retaken, settled, state_of, taken, thread_polls, tried}
-use Rattle.devices.specs.DeviceView.{DeviceView}
-use Rattle.devices.specs.Kept.{is_held, is_sound}
-use Rattle.devices.specs.declared.counts.DeviceState.{DeviceState}
 use Rattle.devices.specs.declared.counts.DeviceState.TheVariants as state
-use Rattle.devices.specs.declared.device.TheConstants.{INTERRUPT, POLLER, THREAD}
-use Rattle.devices.proofs.ThreadFacts.{goes-more, goes-next, some-polls}
 
 -- an instance that isn't scheduled is on no list
 pub unheld : (p : Place) (sched : Bool) → (not (is_held p) || sched) ≡ true → sched ≡ false → is_handed kind.List p ≡ false

@@ -1,27 +1,13 @@
 -- The polling of a device by the calls of its trait is the function of the device that the rules say.
-use Rattle.std.proofs.Common.{◌≡◌, ◌∙◌, ℕ, zero, suc, ◌-◌, ◌≤◌, Bool, true, false, List, [], ◌∷◌, Option, Some, None, MatchBool, ap, refl, sym, subst, arith}
-use Rattle.std.specs.Prelude.{◌==◌, ◌&&◌, not, if◌then◌else◌}
-use Rattle.napi_model.specs.Step.{complete_reply, take_reply}
-use Rattle.napi_model.specs.declared.event.Done.{Done}
+use Rattle.std.{proofs.Common.{◌≡◌, ◌∙◌, ℕ, zero, suc, ◌-◌, ◌≤◌, Bool, true, false, List, [], ◌∷◌, Option, Some, None, MatchBool, ap, refl, sym, subst, arith}, specs.Prelude.{◌==◌, ◌&&◌, not, if◌then◌else◌}}
+use Rattle.{napi_model.specs.{Step.{complete_reply, take_reply}, declared.{event.Done.Done, state.{Kind.Kind, Place.TheVariants.{Polling, ToThread}}}}, poll_engine.specs.{Polling.{is_absent, next_of}, Polls.is_repoll}}
+use Rattle.{poll_engine.specs.{declared.bench.{Next.{Next, TheVariants.{Absent, Gone, Again, Repoll}}, Once.Once}, Thread.is_for_thread}, std.proofs.lemmas.Bool.{lt-ltb, ne_eqb}}
+use Rattle.devices.specs.Device.{after_done, after_poll, after_take, asks_again, completed, ended, ended_by, given, goes_on, handed_over, let_go, made, polled, polled_by_thread, polled_once, retaken, taken, thread_polls}
+use Rattle.devices.{proofs.ThreadFacts.goes-next, specs.{DeviceView.DeviceView, Instance.{Completes, Gives, Looks, Requeues, Takes, poller_in, poller_of}, declared.device.TheConstants.{POLLER, THREAD}}}
 use Rattle.napi_model.specs.declared.event.Done.TheVariants as done
 use Rattle.napi_model.specs.declared.event.Operation.TheVariants as operation
-use Rattle.napi_model.specs.declared.state.Kind.{Kind}
 use Rattle.napi_model.specs.declared.state.Kind.TheVariants as kind
-use Rattle.napi_model.specs.declared.state.Place.TheVariants.{Polling, ToThread}
 use Rattle.poll_engine.specs.Polling as polling
-use Rattle.poll_engine.specs.Polling.{is_absent}
-use Rattle.poll_engine.specs.Polls.{is_repoll}
-use Rattle.poll_engine.specs.Polling.{next_of}
-use Rattle.poll_engine.specs.declared.bench.Next.{Next}
-use Rattle.poll_engine.specs.declared.bench.Next.TheVariants.{Absent, Gone, Again, Repoll}
-use Rattle.poll_engine.specs.declared.bench.Once.{Once}
-use Rattle.std.proofs.lemmas.Bool.{lt-ltb, ne_eqb}
-use Rattle.poll_engine.specs.Thread.{is_for_thread}
-use Rattle.devices.specs.Device.{after_done, after_poll, after_take, asks_again, completed, ended, ended_by, given, goes_on, handed_over, let_go, made, polled, polled_by_thread, polled_once, retaken, taken, thread_polls}
-use Rattle.devices.proofs.ThreadFacts.{goes-next}
-use Rattle.devices.specs.DeviceView.{DeviceView}
-use Rattle.devices.specs.Instance.{Completes, Gives, Looks, Requeues, Takes, poller_in, poller_of}
-use Rattle.devices.specs.declared.device.TheConstants.{POLLER, THREAD}
 
 abbrev Given : DeviceView → ℕ → ℕ → ℕ → DeviceView → Type 0
 Given = Gives

@@ -1,10 +1,6 @@
 -- Each device has a transmit side: what keeps that.
-use Rattle.std.proofs.Common.{◌≡◌, ◌∙◌, ℕ, zero, suc, ◌<◌, Bool, true, false, Option, Some, None, [], ◌∷◌, length, slice_set, ap, refl, sym, arith}
-use Rattle.std.specs.Prelude.{filter, if◌then◌else◌, is_some, map, List}
-use Rattle.transmit_sides.specs.Transmits.{Transmits}
-use Rattle.transmit_sides.specs.Transmit.{TransmitView}
-use Rattle.trace_rows.specs.Places.{Places, added, added_at, at, changed, changed_from}
-use Rattle.devices.specs.Bench.{Devices, HaveSides, all_settled, attached}
+use Rattle.std.{proofs.Common.{◌≡◌, ◌∙◌, ℕ, zero, suc, ◌<◌, Bool, true, false, Option, Some, None, [], ◌∷◌, length, slice_set, ap, refl, sym, arith}, specs.Prelude.{filter, if◌then◌else◌, is_some, map, List}}
+use Rattle.{transmit_sides.specs.{Transmits.Transmits, Transmit.TransmitView}, trace_rows.specs.Places.{Places, added, added_at, at, changed, changed_from}, devices.specs.Bench.{Devices, HaveSides, all_settled, attached}}
 
 module _ {A : Type 0} where
   -- a place is set, and stays taken or empty

@@ -1,20 +1,9 @@
 -- A thread's polling on its way, and what its polls are.
-use Rattle.std.proofs.Common.{◌≡◌, ◌≢◌, ℕ, zero, suc, ◌<◌, ◌≤◌, Bool, true, false, List, [], ◌∷◌, length, refl, arith}
-use Rattle.std.specs.Prelude.{◌==◌, if◌then◌else◌}
-use Rattle.std.specs.List.{AllByRecursion}
-use Rattle.std.proofs.lemmas.Bool.{ne_eqb}
-use Rattle.std.proofs.Math.Nat.{min-le_left}
-use Rattle.napi_model.specs.Step.{complete_reply}
-use Rattle.napi_model.specs.declared.event.Done.{Done}
+use Rattle.std.{proofs.{Common.{◌≡◌, ◌≢◌, ℕ, zero, suc, ◌<◌, ◌≤◌, Bool, true, false, List, [], ◌∷◌, length, refl, arith}, lemmas.Bool.ne_eqb, Math.Nat.min-le_left}, specs.{Prelude.{◌==◌, if◌then◌else◌}, List.AllByRecursion}}
+use Rattle.{napi_model.specs.{Step.complete_reply, declared.event.Done.Done}, poll_engine.specs.{Thread.{Continues, is_for_thread, last_next}, declared.bench.{Next.{Next, TheVariants.{Absent, Gone, Again, Repoll}}, Once.Once}}}
+use Rattle.devices.specs.{Device.{after_done, after_poll, asks_again, completed, ended, ended_by, followed, given, goes_on, polled, thread_polls}, DeviceView.DeviceView, declared.device.TheConstants.THREAD}
 use Rattle.napi_model.specs.declared.event.Done.TheVariants as reply
 use Rattle.napi_model.specs.declared.state.Kind.TheVariants as kind
-use Rattle.poll_engine.specs.Thread.{Continues, is_for_thread, last_next}
-use Rattle.poll_engine.specs.declared.bench.Next.{Next}
-use Rattle.poll_engine.specs.declared.bench.Next.TheVariants.{Absent, Gone, Again, Repoll}
-use Rattle.poll_engine.specs.declared.bench.Once.{Once}
-use Rattle.devices.specs.Device.{after_done, after_poll, asks_again, completed, ended, ended_by, followed, given, goes_on, polled, thread_polls}
-use Rattle.devices.specs.DeviceView.{DeviceView}
-use Rattle.devices.specs.declared.device.TheConstants.{THREAD}
 
 -- ---- what the polls are
 

@@ -1,17 +1,8 @@
 -- How many devices wait on the poll list: each call changes it as it changes the list.
-use Rattle.std.proofs.Common.{◌≡◌, ℕ, suc, ◌+◌, ◌<◌, ◌≤◌, Bool, true, false, Option, Some, None, [], ◌∷◌, length, get_or, slice_set, map, ap, refl, arith}
-use Rattle.std.specs.Prelude.{sum_by, if◌then◌else◌}
-use Rattle.std.proofs.lemmas.List.Sums.{sum_by-cons, sum_by-set}
-use Rattle.napi_model.specs.Step.{is_handed}
+use Rattle.std.{proofs.Common.{◌≡◌, ℕ, suc, ◌+◌, ◌<◌, ◌≤◌, Bool, true, false, Option, Some, None, [], ◌∷◌, length, get_or, slice_set, map, ap, refl, arith}, specs.Prelude.{sum_by, if◌then◌else◌}}
+use Rattle.{std.proofs.lemmas.List.Sums.{sum_by-cons, sum_by-set}, napi_model.specs.Step.is_handed, devices.specs.{Bench.{Devices, all_settled, settled_at}, Device.opened, DeviceView.DeviceView, Kept.{IsKept, is_sound_at}}}
+use Rattle.{trace_rows.{specs.Places.{at, empty}, proofs.PlaceFacts.below-some}, devices.{specs.Waiting.{waiting, waits}, proofs.DeviceFacts.settle-keeps}}
 use Rattle.napi_model.specs.declared.state.Kind.TheVariants as kind
-use Rattle.devices.specs.Bench.{Devices, all_settled, settled_at}
-use Rattle.devices.specs.Device.{opened}
-use Rattle.devices.specs.DeviceView.{DeviceView}
-use Rattle.devices.specs.Kept.{IsKept, is_sound_at}
-use Rattle.trace_rows.specs.Places.{at, empty}
-use Rattle.devices.specs.Waiting.{waiting, waits}
-use Rattle.trace_rows.proofs.PlaceFacts.{below-some}
-use Rattle.devices.proofs.DeviceFacts.{settle-keeps}
 
 pub waiting-empty : waiting empty ≡ 0
 unfolding waiting

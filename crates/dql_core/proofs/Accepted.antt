@@ -1,10 +1,6 @@
 -- One more call at the end of a list of calls.
 use Rattle.std.proofs.Common.{◌≡◌, ℕ, ◌+◌, ◌<◌, ◌≤◌, Bool, true, false, cond, List, [], ◌∷◌, ◌++◌, length, take, get_or, Option, is_some, Result, Ok, Err, is_err, OnOk, OnErr, fold, ap, sym, refl, subst, ◌∙◌, length-append, arith}
-use Rattle.std.specs.Int.{from_bool}
-use Rattle.std.specs.Result.{result_err}
-use Rattle.std.proofs.lemmas.List.{take_more}
-use Rattle.std.proofs.lemmas.List.Sums.{fold-append}
-use Rattle.dql_core.specs.Accepted.{accepted, after_all, after_call}
+use Rattle.{std.{specs.{Int.from_bool, Result.result_err}, proofs.lemmas.List.{take_more, Sums.fold-append}}, dql_core.specs.Accepted.{accepted, after_all, after_call}}
 
 module _ {S E F : Type 0} (fault : S → E → Option F) (after : S → E → S) where
   -- the call, if the state accepts it

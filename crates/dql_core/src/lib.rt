@@ -15,6 +15,3 @@ pub use bounds::{MAX_IN_FLIGHT, MAX_LIMIT, MAX_OBJECT};
 pub use event::{DqlFault, LimitEvent};
 pub use queue::Dql;
 pub use whole::Limit;
-
-#[cfg(test)]
-mod tests;

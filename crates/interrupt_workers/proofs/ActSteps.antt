@@ -1,12 +1,6 @@
 -- One act more.
-use Rattle.std.proofs.Common.{◌≡◌, ℕ, ◌+◌, ◌≤◌, length, List, ◌++◌, sym, arith, length-append, append_assoc, add-one, ap, subst, Bool, ◌∙◌}
-use Rattle.rx_ring.specs.declared.packet.Packet.{Packet}
-use Rattle.rx_ring.specs.declared.ends.RxIn.{RxIn}
-use Rattle.rx_ring.specs.Ends.{SameIn}
-use Rattle.interrupt_workers.specs.declared.acts.Act.{Act}
-use Rattle.interrupt_workers.specs.declared.worker.Hold.{Hold}
-use Rattle.interrupt_workers.specs.Acts.{after_acts, arrivals, brings}
-use Rattle.interrupt_workers.specs.Calls.{Acts, AllActs}
+use Rattle.{std.proofs.Common.{◌≡◌, ℕ, ◌+◌, ◌≤◌, length, List, ◌++◌, sym, arith, length-append, append_assoc, add-one, ap, subst, Bool, ◌∙◌}, rx_ring.specs.{declared.{packet.Packet.Packet, ends.RxIn.RxIn}, Ends.SameIn}}
+use Rattle.interrupt_workers.specs.{declared.{acts.Act.Act, worker.Hold.Hold}, Acts.{after_acts, arrivals, brings}, Calls.{Acts, AllActs}}
 
 pub after_acts-more : {D : Type 0} (after : D → ℕ → D) (d : D) (n : ℕ) → after_acts after d (n + 1) ≡ after (after_acts after d n) n
 after_acts-more after d n = ap (λ m. after_acts after d m) (add-one n)

@@ -1,10 +1,6 @@
 -- What is dealt in two and put together again.
-use Rattle.std.proofs.Common.{◌≡◌, ℕ, zero, suc, ◌+◌, Bool, true, false, List, [], ◌∷◌, ◌++◌, length, refl, sym, ap, ◌∙◌, arith, All}
-use Rattle.std.specs.List.{AllZip}
-use Rattle.std.specs.Prelude.{map}
-use Rattle.std.proofs.lemmas.List.{map-append}
-use Rattle.interrupt_workers.specs.declared.station.Station.{Station}
-use Rattle.interrupt_workers.specs.Deals.{is_dealt, merged, others, picked}
+use Rattle.std.{proofs.{Common.{◌≡◌, ℕ, zero, suc, ◌+◌, Bool, true, false, List, [], ◌∷◌, ◌++◌, length, refl, sym, ap, ◌∙◌, arith, All}, lemmas.List.map-append}, specs.{List.AllZip, Prelude.map}}
+use Rattle.interrupt_workers.specs.{declared.station.Station.Station, Deals.{is_dealt, merged, others, picked}}
 
 -- one more is looked at
 pub dealt_more : {D : Type 0} (number pollers : ℕ) (order : List Bool) (stations : List (Station D)) {b : Bool} (x : Station D)

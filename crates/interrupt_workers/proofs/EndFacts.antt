@@ -1,23 +1,8 @@
 -- How a closed instance tells of its worker's run.
-use Rattle.std.proofs.Common.{◌≡◌, List, [], ◌∷◌, ◌++◌, refl, ap, ◌∙◌, subst}
+use Rattle.{std.proofs.Common.{◌≡◌, List, [], ◌∷◌, ◌++◌, refl, ap, ◌∙◌, subst}, rx_ring.specs.{declared.{ends.{RxCtx.RxCtx, RxIn.RxIn}, packet.{Packet.Packet, Totals.Totals}}, Ends.{put_list, received_list, ring_of}}}
+use Rattle.{rx_ring.specs.ReceiveRing.{IsInOrder, totals_of}, napi_model.specs.{Step.opening, History.own}, napi_word.specs.{View.{deliverers, packets_of}, Slot.givers}, napi_calls.specs.declared.types.{Caller.Caller, Napi.Napi}}
+use Rattle.{napi_calls.specs.{Closed.{IsClosed, IsHistoryOf, seats_of}, Instance.{callers_of, first_of_instance}, Seats.{number_of, own_list}}, interrupt_workers.specs.{declared.worker.Seats.Seats, Runs.{IsEnded, controller_number}}}
 use mathlib.Core.List.{IsPrefix}
-use Rattle.rx_ring.specs.declared.ends.RxCtx.{RxCtx}
-use Rattle.rx_ring.specs.declared.ends.RxIn.{RxIn}
-use Rattle.rx_ring.specs.declared.packet.Packet.{Packet}
-use Rattle.rx_ring.specs.declared.packet.Totals.{Totals}
-use Rattle.rx_ring.specs.Ends.{put_list, received_list, ring_of}
-use Rattle.rx_ring.specs.ReceiveRing.{IsInOrder, totals_of}
-use Rattle.napi_model.specs.Step.{opening}
-use Rattle.napi_model.specs.History.{own}
-use Rattle.napi_word.specs.View.{deliverers, packets_of}
-use Rattle.napi_word.specs.Slot.{givers}
-use Rattle.napi_calls.specs.declared.types.Caller.{Caller}
-use Rattle.napi_calls.specs.declared.types.Napi.{Napi}
-use Rattle.napi_calls.specs.Closed.{IsClosed, IsHistoryOf, seats_of}
-use Rattle.napi_calls.specs.Instance.{callers_of, first_of_instance}
-use Rattle.napi_calls.specs.Seats.{number_of, own_list}
-use Rattle.interrupt_workers.specs.declared.worker.Seats.{Seats}
-use Rattle.interrupt_workers.specs.Runs.{IsEnded, controller_number}
 
 pub ended_of : (napi : Napi) (seats : Seats) (poller thread : Caller) (rx : RxIn) (ctx : RxCtx) (totals : Totals)
     → callers_of napi ≡ controller_number → received_list (first_of_instance napi) ≡ [] → number_of seats.control.pass ≡ controller_number

@@ -1,33 +1,15 @@
 -- What the calls at a worker's seats add to its ledger.
-use Rattle.std.proofs.Common.{◌≡◌, ◌⊎◌, ℕ, zero, suc, ◌+◌, ◌≤◌, Bool, true, false, List, [], ◌∷◌, ◌++◌, length, inl, inr, ⊎_elim, refl, sym, ap, ◌∙◌, subst, append_assoc}
-use Rattle.std.specs.Prelude.{flat_map, if◌then◌else◌}
-use Rattle.std.proofs.lemmas.List.{map-append}
-use Rattle.rx_ring.specs.declared.ends.RxIn.{RxIn}
-use Rattle.rx_ring.specs.declared.packet.Packet.{Packet}
-use Rattle.rx_ring.specs.Ends.{SameIn, capacity_of, put_list}
-use Rattle.napi_model.specs.declared.state.Kind.TheVariants as kind
-use Rattle.napi_model.specs.declared.event.Event.{Event}
-use Rattle.napi_model.specs.declared.event.Prep.TheVariants as prep
-use Rattle.napi_model.specs.declared.event.Operation.{Operation}
-use Rattle.napi_model.specs.declared.event.Operation.TheVariants as operation
-use Rattle.napi_model.specs.Step.{event}
-use Rattle.napi_word.specs.declared.table.Pass.{Pass}
-use Rattle.napi_calls.specs.declared.answers.Sched.{Sched}
-use Rattle.napi_calls.specs.declared.answers.Sched.TheVariants as sched
-use Rattle.napi_calls.specs.declared.types.Caller.{Caller}
-use Rattle.napi_calls.specs.Calls.{Disables, Enables, Schedules}
-use Rattle.napi_calls.specs.Made.{Made, events, looks}
-use Rattle.napi_calls.specs.Seats.{number_of, own_list}
-use Rattle.interrupt_workers.specs.declared.acts.Act.{Act}
-use Rattle.interrupt_workers.specs.declared.acts.Act.TheVariants as act
-use Rattle.interrupt_workers.specs.declared.worker.Hold.{Hold}
-use Rattle.interrupt_workers.specs.declared.worker.Seats.{Seats}
-use Rattle.interrupt_workers.specs.declared.worker.Power.{Power}
-use Rattle.interrupt_workers.specs.declared.worker.Power.TheVariants.{On, Off}
-use Rattle.interrupt_workers.specs.Acts.{after_acts}
+use Rattle.std.{proofs.{Common.{◌≡◌, ◌⊎◌, ℕ, zero, suc, ◌+◌, ◌≤◌, Bool, true, false, List, [], ◌∷◌, ◌++◌, length, inl, inr, ⊎_elim, refl, sym, ap, ◌∙◌, subst, append_assoc}, lemmas.List.map-append}, specs.Prelude.{flat_map, if◌then◌else◌}}
+use Rattle.{rx_ring.specs.{declared.{ends.RxIn.RxIn, packet.Packet.Packet}, Ends.{SameIn, capacity_of, put_list}}, napi_model.specs.{declared.event.{Event.Event, Operation.Operation}, Step.event}, napi_word.specs.declared.table.Pass.Pass}
+use Rattle.{napi_calls.specs.{declared.{answers.Sched.Sched, types.Caller.Caller}, Calls.{Disables, Enables, Schedules}, Made.{Made, events, looks}, Seats.{number_of, own_list}}, interrupt_workers.specs.declared.acts.Act.Act}
+use Rattle.interrupt_workers.specs.{declared.worker.{Hold.Hold, Seats.Seats, Power.{Power, TheVariants.{On, Off}}}, Acts.after_acts}
 use Rattle.interrupt_workers.specs.Calls.{Acts, AllActs, Arrives, GoesOn, HandsOver, Interrupts, IsSameHold, Leaves, TurnsOff, TurnsOn, is_on, pass_of}
-use Rattle.interrupt_workers.specs.Runs.{Adds, AllAdd, IsDisabling, IsEnabling, IsHandingOver, IsInterrupt, Ledger, SwitchesOff, SwitchesOn, Whose, WorksBy}
-use Rattle.interrupt_workers.specs.Works.{AreSameSeats, ledger_of, whose}
+use Rattle.interrupt_workers.specs.{Runs.{Adds, AllAdd, IsDisabling, IsEnabling, IsHandingOver, IsInterrupt, Ledger, SwitchesOff, SwitchesOn, Whose, WorksBy}, Works.{AreSameSeats, ledger_of, whose}}
+use Rattle.napi_model.specs.declared.state.Kind.TheVariants as kind
+use Rattle.napi_model.specs.declared.event.Prep.TheVariants as prep
+use Rattle.napi_model.specs.declared.event.Operation.TheVariants as operation
+use Rattle.napi_calls.specs.declared.answers.Sched.TheVariants as sched
+use Rattle.interrupt_workers.specs.declared.acts.Act.TheVariants as act
 
 -- ---- calls at one seat
 

@@ -1,12 +1,12 @@
 //! Receive rings for C, both ends in one handle.
-ghost use Rattle.std.specs.Prelude.{◌≡◌, ◌≢◌, ◌<◌, ◌≤◌, length, take, Some};
+ghost use Rattle.std.specs.Prelude.{◌≡◌, ◌≢◌, ◌<◌, ◌≤◌, ◌-◌, [], ◌∷◌, length, take, min, Some};
 ghost use Rattle.rx_ring.specs.Ends.{put_list, capacity_of, GivesNext};
 ghost use Rattle.rx_ring.specs.declared.ends.RxIn.{RxIn};
 ghost use Rattle.rx_ring.specs.declared.ends.RxCtx.{RxCtx};
 ghost use Rattle.c_handles.specs.declared.body.Ring.{Ring};
 ghost use Rattle.c_handles.specs.declared.body.Body.TheVariants as variant;
-ghost use Rattle.c_handles.specs.Status.{OK};
-ghost use Rattle.c_handles.specs.Rings.{LeadsTo, LeadsToRing, IsRingWith, IsInputWith, LeadsToInput, IsCtxWith, LeadsToCtx, IsNewRing, IsAfterPut, IsAfterInput, IsAfterPoll};
+ghost use Rattle.c_handles.specs.Status.{OK, BAD_HANDLE};
+ghost use Rattle.c_handles.specs.Rings.{LeadsTo, LeadsToRing, IsRingWith, IsInputWith, LeadsToInput, IsCtxWith, LeadsToCtx, IsNewRing, IsAfterPut, IsAfterInput, IsAfterPoll, burst_in, burst_status};
 
 use c_handles::{Body, FqHandle, Ring, status};
 use rx_ring::{Batch, MAX_WEIGHT, Packet, ring};
@@ -41,12 +41,12 @@ pub extern "C" fn fq_ring_new(alloc: Global, handle: &mut FqHandle, capacity: us
 pub extern "C" fn fq_ring_put(alloc: Global, handle: &mut FqHandle, number: u64, bytes: u32) -> u32
     ensures ok { (r : Ring) → LeadsTo handle.old r → result ≡ OK
         → LeadsToRing
-        (IsAfterPut r (record { number = number; bytes = bytes })) handle.new.held.body }
+        (IsAfterPut r (record { number = number; bytes = bytes } ∷ [])) handle.new.held.body }
     ensures first { (r : Ring) → LeadsTo handle.old r
         → length (put_list r.input) < capacity_of r.input → result ≡ OK }
     ensures input { (i : RxIn) → handle.old.held.body ≡ Some (variant.In i) → result ≡ OK
         → LeadsToInput
-        (IsAfterInput i (record { number = number; bytes = bytes })) handle.new.held.body }
+        (IsAfterInput i (record { number = number; bytes = bytes } ∷ [])) handle.new.held.body }
 {
     let Some(mut body) = handle.take(alloc) else {
         return status::BAD_HANDLE;
@@ -58,11 +58,11 @@ pub extern "C" fn fq_ring_put(alloc: Global, handle: &mut FqHandle, number: u64,
 
 fn put_into(body: &mut Body, packet: Packet) -> u32
     ensures ok { (r : Ring) → body.old ≡ variant.Ring r → result ≡ OK
-        → IsRingWith (IsAfterPut r packet) body.new }
+        → IsRingWith (IsAfterPut r (packet ∷ [])) body.new }
     ensures first { (r : Ring) → body.old ≡ variant.Ring r
         → length (put_list r.input) < capacity_of r.input → result ≡ OK }
     ensures input { (i : RxIn) → body.old ≡ variant.In i → result ≡ OK
-        → IsInputWith (IsAfterInput i packet) body.new }
+        → IsInputWith (IsAfterInput i (packet ∷ [])) body.new }
 {
     match body {
         Body::Ring(ring) => match ring.input.put(packet) {
@@ -74,6 +74,58 @@ fn put_into(body: &mut Body, packet: Packet) -> u32
             Err(_) => status::FULL,
         },
         _ => status::BAD_HANDLE,
+    }
+}
+
+/// As `RxIn::put_all`: the first `count` of these packets were put.
+#[unsafe(no_mangle)]
+pub extern "C" fn fq_ring_put_all(
+    alloc: Global,
+    handle: &mut FqHandle,
+    packets: &[Packet],
+    count: &mut usize,
+) -> u32
+    ensures put { (r : Ring) → LeadsTo handle.old r
+        → LeadsToRing (IsAfterPut r (take count.new packets.now)) handle.new.held.body }
+    ensures input { (i : RxIn) → handle.old.held.body ≡ Some (variant.In i)
+        → LeadsToInput (IsAfterInput i (take count.new packets.now)) handle.new.held.body }
+    ensures first { (r : Ring) → LeadsTo handle.old r
+        → min (length packets.now) (capacity_of r.input - length (put_list r.input)) ≤ count.new }
+    ensures count { count.new ≤ length packets.now }
+    ensures status { result ≡ burst_status handle.old.held.body count.new packets.now }
+    ensures kept { result ≡ BAD_HANDLE
+        → (handle.new.held.body ≡ handle.old.held.body) × (count.new ≡ 0) }
+{
+    *count = 0;
+    let Some(mut body) = handle.take(alloc) else {
+        return status::BAD_HANDLE;
+    };
+    let status = put_all_into(&mut *body, packets, count);
+    handle.put(body);
+    status
+}
+
+fn put_all_into(body: &mut Body, packets: &[Packet], count: &mut usize) -> u32
+    requires none { count.old ≡ 0 }
+    ensures put { (r : Ring) → body.old ≡ variant.Ring r
+        → IsRingWith (IsAfterPut r (take count.new packets.now)) body.new }
+    ensures input { (i : RxIn) → body.old ≡ variant.In i
+        → IsInputWith (IsAfterInput i (take count.new packets.now)) body.new }
+    ensures first { (r : Ring) → body.old ≡ variant.Ring r
+        → min (length packets.now) (capacity_of r.input - length (put_list r.input)) ≤ count.new }
+    ensures count { count.new ≤ length packets.now }
+    ensures status { result ≡ burst_in body.old count.new packets.now }
+    ensures kept { result ≡ BAD_HANDLE → (body.new ≡ body.old) × (count.new ≡ 0) }
+{
+    *count = match body {
+        Body::Ring(ring) => ring.input.put_all(packets),
+        Body::In(input) => input.put_all(packets),
+        _ => return status::BAD_HANDLE,
+    };
+    if *count == packets.len() {
+        status::OK
+    } else {
+        status::FULL
     }
 }
 

@@ -11,6 +11,7 @@ use napi_model::encode;
 use rx_ring::{Batch, MAX_WEIGHT, Packet};
 use std::alloc::Global;
 
+#[inline(always)]
 fn step_in(at: &mut Body, call: SeatCall) -> u32
     ensures { SeatMakesIn call at.old result at.new }
 {
@@ -20,8 +21,8 @@ fn step_in(at: &mut Body, call: SeatCall) -> u32
     }
 }
 
-// Makes a call on the caller that a handle leads to.
-#[inline]
+// Makes a call on the caller that a handle leads to. It stands in each export once, where the call is known.
+#[inline(always)]
 fn on_seat(alloc: Global, handle: &mut FqHandle, call: SeatCall) -> u32
     ensures { SeatMakes call handle.old result handle.new }
 {

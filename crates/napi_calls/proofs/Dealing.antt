@@ -1,18 +1,8 @@
 -- What callers delivered, call after call.
-use Rattle.std.proofs.Common.{◌≡◌, ℕ, zero, suc, ◌<◌, List, [], ◌∷◌, ◌++◌, length, drop, refl, sym, ap, ◌∙◌, subst, append_assoc, append-nil, arith}
-use Rattle.rx_ring.specs.declared.packet.Packet.{Packet}
-use Rattle.rx_ring.specs.declared.ends.RxCtx.{RxCtx}
-use Rattle.rx_ring.specs.declared.ends.RxIn.{RxIn}
-use Rattle.rx_ring.specs.Ends.{RingName, ring_name, received_list, IsOneRing, SameIn}
-use Rattle.napi_word.specs.declared.table.Pass.{Pass}
-use Rattle.napi_word.specs.declared.view.Delivery.{Delivery}
-use Rattle.napi_word.specs.View.{delivery, own_deliveries, packets_of}
-use Rattle.napi_word.proofs.Deliveries.{packets_snoc, own_both, own_one_yes, own_deliveries_none, drop_front}
-use Rattle.napi_calls.specs.declared.types.Napi.{Napi}
-use Rattle.napi_calls.specs.Seats.{number_of, IsInputOf}
-use Rattle.napi_calls.specs.Instance.{IsNewSeat}
-use Rattle.napi_calls.specs.Packets.{delivered, own_delivered, received_before, polled, Quiet, GivesBack}
-use Rattle.napi_calls.specs.Dealt.{Delivers}
+use Rattle.{std.proofs.Common.{◌≡◌, ℕ, zero, suc, ◌<◌, List, [], ◌∷◌, ◌++◌, length, drop, refl, sym, ap, ◌∙◌, subst, append_assoc, append-nil, arith}, rx_ring.specs.declared.{packet.Packet.Packet, ends.{RxCtx.RxCtx, RxIn.RxIn}}}
+use Rattle.{rx_ring.specs.Ends.{RingName, ring_name, received_list, IsOneRing, SameIn}, napi_word.specs.{declared.{table.Pass.Pass, view.Delivery.Delivery}, View.{delivery, own_deliveries, packets_of}}}
+use Rattle.{napi_word.proofs.Deliveries.{packets_snoc, own_both, own_one_yes, own_deliveries_none, drop_front}, napi_calls.specs.{declared.types.Napi.Napi, Seats.{number_of, IsInputOf}, Instance.IsNewSeat}}
+use Rattle.napi_calls.specs.{Packets.{delivered, own_delivered, received_before, polled, Quiet, GivesBack}, Dealt.Delivers}
 
 pub delivers_none : (p q : Pass) → Quiet p q → Delivers p [] q
 delivers_none p q h = ap packets_of h ∙ sym (append-nil (packets_of (own_delivered p)))

@@ -1,31 +1,10 @@
 -- The list of all seats at the end, and its one history.
-use Rattle.std.proofs.Common.{◌≡◌, ◌≢◌, ℕ, zero, suc, ◌+◌, ◌<◌, List, [], ◌∷◌, ◌++◌, length, slice_get, Option, Some, false, unwrap_or, eq-eqb, refl, sym, ap, ◌∙◌, subst, length-append, arith}
-use Rattle.rx_ring.specs.declared.ends.RxCtx.{RxCtx}
+use Rattle.{std.proofs.Common.{◌≡◌, ◌≢◌, ℕ, zero, suc, ◌+◌, ◌<◌, List, [], ◌∷◌, ◌++◌, length, slice_get, Option, Some, false, unwrap_or, eq-eqb, refl, sym, ap, ◌∙◌, subst, length-append, arith}, rx_ring.specs.declared.ends.RxCtx.RxCtx}
+use Rattle.{napi_model.specs.{declared.event.Event.Event, Step.{opening, IsControl}, History.{LegalHistory, state_after}, Laws.is_owner}, napi_word.specs.declared.table.Pass.Pass, rx_ring.specs.Ends.{RingName, ring_name, received_list}}
+use Rattle.{napi_word.{specs.{Passes.{controller_of_table, view_of}, Ends.IsEnded, declared.view.Holds.TheVariants.{Nothing, Out}}, proofs.Closing.get_mid}, rx_ring.specs.declared.packet.Packet.Packet}
+use Rattle.{napi_word.{specs.{View.{deliverers, own_deliveries, received_in}, Slot.givers}, proofs.Deliveries.received_is}, napi_calls.specs.{declared.types.{Napi.Napi, Caller.Caller}, Seats.number_of, Instance.first_of_instance}}
+use Rattle.napi_calls.{specs.{Knows.{Controls, Has}, Closed.{seats_of, IsHistoryOf, IsClosed}}, proofs.{Serving.served, Standing.is_control}}
 use Rattle.napi_model.specs.declared.state.Place.TheVariants as place
-use Rattle.napi_model.specs.declared.event.Event.{Event}
-use Rattle.napi_model.specs.Step.{opening, IsControl}
-use Rattle.napi_model.specs.History.{LegalHistory, state_after}
-use Rattle.napi_word.specs.declared.table.Pass.{Pass}
-use Rattle.rx_ring.specs.Ends.{RingName, ring_name}
-use Rattle.napi_model.specs.Laws.{is_owner}
-use Rattle.napi_word.specs.Passes.{controller_of_table}
-use Rattle.napi_word.specs.Ends.{IsEnded}
-use Rattle.napi_word.proofs.Closing.{get_mid}
-use Rattle.rx_ring.specs.declared.packet.Packet.{Packet}
-use Rattle.rx_ring.specs.Ends.{received_list}
-use Rattle.napi_word.specs.declared.view.Holds.TheVariants.{Nothing, Out}
-use Rattle.napi_word.specs.View.{deliverers, own_deliveries, received_in}
-use Rattle.napi_word.specs.Slot.{givers}
-use Rattle.napi_word.specs.Passes.{view_of}
-use Rattle.napi_word.proofs.Deliveries.{received_is}
-use Rattle.napi_calls.specs.declared.types.Napi.{Napi}
-use Rattle.napi_calls.specs.declared.types.Caller.{Caller}
-use Rattle.napi_calls.specs.Seats.{number_of}
-use Rattle.napi_calls.specs.Instance.{first_of_instance}
-use Rattle.napi_calls.specs.Knows.{Controls, Has}
-use Rattle.napi_calls.specs.Closed.{seats_of, IsHistoryOf, IsClosed}
-use Rattle.napi_calls.proofs.Serving.{served}
-use Rattle.napi_calls.proofs.Standing.{is_control}
 
 pub seats_length : (cs : List Caller) → length (seats_of cs) ≡ length cs
 seats_length [] = refl

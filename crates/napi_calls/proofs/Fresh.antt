@@ -1,22 +1,10 @@
 -- New seats.
-use Rattle.std.proofs.Common.{Option, unwrap_or, append-nil, ◌≡◌, ℕ, zero, suc, ◌<◌, List, [], ◌∷◌, ◌++◌, slice_get, length, Some, Bool, cond, false, ne_eqb, refl, sym, ap, ◌∙◌, subst, arith}
-use Rattle.rx_ring.specs.declared.ends.RxCtx.{RxCtx}
-use Rattle.rx_ring.specs.Ends.{ring_name, received_list}
-use Rattle.napi_model.specs.declared.state.Place.{Place}
+use Rattle.{std.proofs.Common.{Option, unwrap_or, append-nil, ◌≡◌, ℕ, zero, suc, ◌<◌, List, [], ◌∷◌, ◌++◌, slice_get, length, Some, Bool, cond, false, ne_eqb, refl, sym, ap, ◌∙◌, subst, arith}, rx_ring.specs.declared.ends.RxCtx.RxCtx}
+use Rattle.{rx_ring.specs.Ends.{ring_name, received_list}, napi_model.specs.{declared.state.Place.Place, Step.opening, History.{LegalHistory, own, state_after}}, napi_word.specs.declared.table.{Pass.Pass, StateTable.StateTable}}
+use Rattle.{napi_word.{specs.{View.View, Rule.strand, Passes.{view_of, ctx_of, IsNew, IsPassOf, ring_of_table}}, proofs.Closing.get_mid}, napi_calls.specs.{declared.types.Napi.Napi, Knows.{own_place, Free, Stands, Controls}}}
+use Rattle.napi_calls.{specs.Instance.IsNewSeat, proofs.Standing.own_self}
 use Rattle.napi_model.specs.declared.state.Place.TheVariants as place
-use Rattle.napi_model.specs.Step.{opening}
-use Rattle.napi_model.specs.History.{LegalHistory, own, state_after}
-use Rattle.napi_word.specs.declared.table.Pass.{Pass}
-use Rattle.napi_word.specs.declared.table.StateTable.{StateTable}
 use Rattle.napi_word.specs.View as view
-use Rattle.napi_word.specs.View.{View}
-use Rattle.napi_word.specs.Rule.{strand}
-use Rattle.napi_word.specs.Passes.{view_of, ctx_of, IsNew, IsPassOf, ring_of_table}
-use Rattle.napi_word.proofs.Closing.{get_mid}
-use Rattle.napi_calls.specs.declared.types.Napi.{Napi}
-use Rattle.napi_calls.specs.Knows.{own_place, Free, Stands, Controls}
-use Rattle.napi_calls.specs.Instance.{IsNewSeat}
-use Rattle.napi_calls.proofs.Standing.{own_self}
 
 abbrev seat : ℕ → RxCtx → ℕ → View
 seat last of c = strand last of c ∷ []

@@ -1,13 +1,6 @@
 -- The history of two callers in turn: each number's events, and how many there are in all.
-use Rattle.std.proofs.Common.{◌≡◌, ◌≢◌, ℕ, zero, suc, ◌+◌, ◌<◌, Bool, true, false, List, [], ◌∷◌, ◌++◌, length, eqb, eq-eqb, ne_eqb, eqb-true, true≢false, refl, sym, ap, ◌∙◌, arith}
-use Rattle.napi_model.specs.declared.event.Event.{Event}
-use Rattle.napi_model.specs.declared.event.Operation.{Operation}
-use Rattle.napi_model.specs.History.{own}
-use Rattle.napi_word.specs.declared.table.Pass.{Pass}
-use Rattle.napi_calls.specs.declared.types.Napi.{Napi}
-use Rattle.napi_calls.specs.Seats.{number_of, own_list}
-use Rattle.napi_calls.specs.Instance.{IsNewSeat}
-use Rattle.napi_calls.specs.Made.{Made, events}
+use Rattle.{std.proofs.Common.{◌≡◌, ◌≢◌, ℕ, zero, suc, ◌+◌, ◌<◌, Bool, true, false, List, [], ◌∷◌, ◌++◌, length, eqb, eq-eqb, ne_eqb, eqb-true, true≢false, refl, sym, ap, ◌∙◌, arith}, napi_model.specs.declared.event.Event.Event}
+use Rattle.{napi_model.specs.{declared.event.Operation.Operation, History.own}, napi_word.specs.declared.table.Pass.Pass, napi_calls.specs.{declared.types.Napi.Napi, Seats.{number_of, own_list}, Instance.IsNewSeat, Made.{Made, events}}}
 
 -- the events of a number whose seat was new, and then made these
 pub own_of : (n : Napi) (c : ℕ) (p q : Pass) (os : List Operation) (h : List Event) → IsNewSeat n c p → Made p os q → own (number_of q) h ≡ own_list q → own c h ≡ events c os

@@ -1,3 +1,4 @@
+pub mod Alone
 pub mod Dealing
 pub mod Ending
 pub mod Fresh

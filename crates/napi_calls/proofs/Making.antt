@@ -1,27 +1,11 @@
 -- What a call made, step by step, and call by call.
-use Rattle.std.proofs.Common.{◌≡◌, ◌≢◌, ℕ, List, [], ◌∷◌, ◌++◌, flat_map, Option, Some, None, false, refl, sym, ap, ◌∙◌, subst, append-nil, append_assoc}
-use Rattle.std.proofs.lemmas.List.{map-append}
-use Rattle.std.proofs.lemmas.List.Concat.{flat_map-append}
+use Rattle.std.proofs.{Common.{◌≡◌, ◌≢◌, ℕ, List, [], ◌∷◌, ◌++◌, flat_map, Option, Some, None, false, refl, sym, ap, ◌∙◌, subst, append-nil, append_assoc}, lemmas.List.{map-append, Concat.flat_map-append}}
+use Rattle.napi_model.specs.{declared.{event.{Event.Event, Call.Call, Operation.{Operation, TheVariants.{Look, MarkDisable, TakeDisable}}}, state.{Seen.Seen, Place.Place}}, Step.{event, opening}, History.{LegalHistory, own}}
+use Rattle.{napi_word.specs.{declared.table.Pass.Pass, View.View, Events.Steps, Passes.{view_of, SameTable}}, napi_calls.specs.{Seats.{SameSeat, number_of, shown, own_list}, Knows.Stands}}
+use Rattle.napi_calls.{specs.Made.{EndsWith, Made, GoesOn, Lost, WasLost, looks, waits, events}, proofs.{Steps.{shows_more, shows_legal, prefix_trans}, Standing.shows_of}}
 use mathlib.Core.List.{IsPrefix}
-use Rattle.napi_model.specs.declared.event.Event.{Event}
-use Rattle.napi_model.specs.declared.state.Seen.{Seen}
-use Rattle.napi_model.specs.declared.state.Place.{Place}
-use Rattle.napi_model.specs.declared.event.Call.{Call}
 use Rattle.napi_model.specs.declared.event.Call.TheVariants as call
-use Rattle.napi_model.specs.declared.event.Operation.{Operation}
-use Rattle.napi_model.specs.declared.event.Operation.TheVariants.{Look, MarkDisable, TakeDisable}
-use Rattle.napi_model.specs.Step.{event, opening}
-use Rattle.napi_model.specs.History.{LegalHistory, own}
-use Rattle.napi_word.specs.declared.table.Pass.{Pass}
 use Rattle.napi_word.specs.View as view
-use Rattle.napi_word.specs.View.{View}
-use Rattle.napi_word.specs.Events.{Steps}
-use Rattle.napi_word.specs.Passes.{view_of, SameTable}
-use Rattle.napi_calls.specs.Seats.{SameSeat, number_of, shown, own_list}
-use Rattle.napi_calls.specs.Knows.{Stands}
-use Rattle.napi_calls.specs.Made.{EndsWith, Made, GoesOn, Lost, WasLost, looks, waits, events}
-use Rattle.napi_calls.proofs.Steps.{shows_more, shows_legal, prefix_trans}
-use Rattle.napi_calls.proofs.Standing.{shows_of}
 
 ends_one : (c : ℕ) (os : List Operation) (o : Operation) (h : List Event) → EndsWith (events c (os ++ o ∷ [])) (h ++ event c o ∷ [])
 ends_one c [] o h = (h, refl)

@@ -1,22 +1,10 @@
 -- What steps do with the packets, one after another.
-use Rattle.std.proofs.Common.{◌≡◌, ℕ, Bool, true, false, List, [], ◌∷◌, ◌++◌, length, drop, Option, Some, unwrap_or, refl, sym, ap, ◌∙◌, subst, append_assoc}
-use Rattle.rx_ring.specs.declared.packet.Packet.{Packet}
-use Rattle.rx_ring.specs.declared.ends.RxCtx.{RxCtx}
-use Rattle.rx_ring.specs.Ends.{SameCtx, received_list, is_beside}
-use Rattle.napi_model.specs.declared.event.Operation.{Operation}
-use Rattle.napi_word.specs.declared.table.Pass.{Pass}
-use Rattle.napi_word.specs.declared.view.Holds.{Holds}
-use Rattle.napi_word.specs.declared.view.Delivery.{Delivery}
+use Rattle.{std.proofs.Common.{◌≡◌, ℕ, Bool, true, false, List, [], ◌∷◌, ◌++◌, length, drop, Option, Some, unwrap_or, refl, sym, ap, ◌∙◌, subst, append_assoc}, rx_ring.specs.declared.{packet.Packet.Packet, ends.RxCtx.RxCtx}}
+use Rattle.{rx_ring.specs.Ends.{SameCtx, received_list, is_beside}, napi_model.specs.declared.event.Operation.Operation, napi_word.specs.declared.{table.Pass.Pass, view.{Holds.Holds, Delivery.Delivery}}}
+use Rattle.napi_word.specs.{View.{View, own_deliveries, delivery, Continues}, Slot.{Carried, Delivers, Gives, owns_slot, has_slot, ctx_in}, Events.Steps, Passes.{view_of, ctx_of, received_of, IsLaid}}
+use Rattle.{napi_word.proofs.Deliveries.{drop_front, received_stays}, napi_calls.{specs.{Seats.number_of, Packets.{delivered, received_before, polled, IsSame, Quiet, HoldsOn, IsFresh, GivesBack}}, proofs.Standing.fresh}}
 use Rattle.napi_word.specs.View as view
-use Rattle.napi_word.specs.View.{View, own_deliveries, delivery, Continues}
 use Rattle.napi_word.specs.Slot as slot
-use Rattle.napi_word.specs.Slot.{Carried, Delivers, Gives, owns_slot, has_slot, ctx_in}
-use Rattle.napi_word.specs.Events.{Steps}
-use Rattle.napi_word.specs.Passes.{view_of, ctx_of, received_of, IsLaid}
-use Rattle.napi_word.proofs.Deliveries.{drop_front, received_stays}
-use Rattle.napi_calls.specs.Seats.{number_of}
-use Rattle.napi_calls.specs.Packets.{delivered, received_before, polled, IsSame, Quiet, HoldsOn, IsFresh, GivesBack}
-use Rattle.napi_calls.proofs.Standing.{fresh}
 
 -- ---- the same context
 

@@ -1,34 +1,13 @@
 -- What a value knows after a step.
-use Rattle.std.proofs.Common.{◌≡◌, ℕ, Bool, true, false, cond, List, Option, Some, None, unwrap_or, true≢false, eq-eqb, refl, sym, ap, ◌∙◌, subst}
-use Rattle.rx_ring.specs.declared.ends.RxIn.{RxIn}
-use Rattle.rx_ring.specs.declared.ends.RxCtx.{RxCtx}
-use Rattle.rx_ring.specs.Ends.{RingName, ring_name, received_list, IsOneRing}
-use Rattle.napi_word.proofs.Deliveries.{of_prefix, prefix_self, received_stays}
-use Rattle.rx_ring.specs.declared.packet.Packet.{Packet}
+use Rattle.{std.proofs.Common.{◌≡◌, ℕ, Bool, true, false, cond, List, Option, Some, None, unwrap_or, true≢false, eq-eqb, refl, sym, ap, ◌∙◌, subst}, napi_model.specs.declared.state.Place.TheVariants.{Nobody, Granted, Polling, Control}}
+use Rattle.{rx_ring.specs.{declared.ends.{RxIn.RxIn, RxCtx.RxCtx}, Ends.{RingName, ring_name, received_list, IsOneRing}}, napi_word.specs.{Slot.{Delivers, has_slot}, View.View, Events.Steps}, napi_model.specs.Step.{opening, after_by}}
+use Rattle.{rx_ring.specs.declared.packet.Packet.Packet, napi_word.specs.declared.view.Holds.TheVariants.{Out, Nothing}, napi_calls.proofs.Steps.{found, state_stepped, shows_legal}}
+use Rattle.{napi_word.proofs.{Deliveries.{of_prefix, prefix_self, received_stays}, Knowing.{unbusy, take_polls, quiet_polls, step_of}}, napi_calls.{specs.Knows.{own_place, Free, Stands, BusyPolls, Controls, Has}, proofs.Whole.whole}}
+use Rattle.{napi_model.specs.{declared.state.{Kind.Kind, Seen.Seen, State.State, Place.Place}, History.{LegalHistory, own}, Laws.{is_owner, IsOwnedBy, IsPolled}}, napi_word.specs.{declared.table.Pass.Pass, Passes.{view_of, received_of}}}
+use Rattle.{napi_model.specs.declared.event.Operation.{Operation, TheVariants.{Look, Hand, Take, MarkDisable, TakeDisable, Unmark, Enable}}, napi_calls.specs.Seats.{number_of, controller_of, shown, state_of, ring_of, ShowsLegal, IsInputOf}}
 use Rattle.napi_word.specs.Slot as slot
-use Rattle.napi_word.specs.Slot.{Delivers, has_slot}
-use Rattle.napi_model.specs.declared.state.Kind.{Kind}
 use Rattle.napi_model.specs.declared.state.Kind.TheVariants as kind
-use Rattle.napi_model.specs.declared.state.Seen.{Seen}
-use Rattle.napi_model.specs.declared.state.State.{State}
-use Rattle.napi_model.specs.declared.state.Place.{Place}
-use Rattle.napi_model.specs.declared.state.Place.TheVariants.{Nobody, Granted, Polling, Control}
-use Rattle.napi_model.specs.declared.event.Operation.{Operation}
-use Rattle.napi_model.specs.declared.event.Operation.TheVariants.{Look, Hand, Take, MarkDisable, TakeDisable, Unmark, Enable}
-use Rattle.napi_model.specs.Step.{opening, after_by}
-use Rattle.napi_model.specs.History.{LegalHistory, own}
-use Rattle.napi_model.specs.Laws.{is_owner, IsOwnedBy, IsPolled}
-use Rattle.napi_word.specs.declared.table.Pass.{Pass}
-use Rattle.napi_word.specs.declared.view.Holds.TheVariants.{Out, Nothing}
 use Rattle.napi_word.specs.View as view
-use Rattle.napi_word.specs.View.{View}
-use Rattle.napi_word.specs.Events.{Steps}
-use Rattle.napi_word.specs.Passes.{view_of, received_of}
-use Rattle.napi_calls.specs.Seats.{number_of, controller_of, shown, state_of, ring_of, ShowsLegal, IsInputOf}
-use Rattle.napi_word.proofs.Knowing.{unbusy, take_polls, quiet_polls, step_of}
-use Rattle.napi_calls.specs.Knows.{own_place, Free, Stands, BusyPolls, Controls, Has}
-use Rattle.napi_calls.proofs.Steps.{found, state_stepped, shows_legal}
-use Rattle.napi_calls.proofs.Whole.{whole}
 
 -- ---- places as a number has them
 

@@ -1,21 +1,11 @@
 -- What one step tells of the seat that made it, in the words of seats.
-use Rattle.std.proofs.Common.{◌≡◌, ℕ, List, [], ◌∷◌, ◌++◌, refl, sym, ap, ◌∙◌, subst, append_assoc}
+use Rattle.{std.proofs.Common.{◌≡◌, ℕ, List, [], ◌∷◌, ◌++◌, refl, sym, ap, ◌∙◌, subst, append_assoc}, napi_model.specs.{declared.{event.{Event.Event, Operation.Operation}, state.State.State}, Step.{event, opening, after_by}}}
+use Rattle.{napi_model.specs.History.{LegalHistory, own}, napi_word.{specs.{declared.{table.Pass.Pass, view.Strand.Strand}, View.View, Events.Steps, Passes.view_of}, proofs.Knowing.{found_state, state_then}}}
+use Rattle.napi_calls.specs.Seats.{number_of, shown, state_of, ShowsLegal}
 use mathlib.Core.Option as maybe
 use mathlib.Core.List.{IsPrefix}
 use lib.ListN.{get_elem?}
-use Rattle.napi_model.specs.declared.event.Event.{Event}
-use Rattle.napi_model.specs.declared.event.Operation.{Operation}
-use Rattle.napi_model.specs.declared.state.State.{State}
-use Rattle.napi_model.specs.Step.{event, opening, after_by}
-use Rattle.napi_model.specs.History.{LegalHistory, own}
-use Rattle.napi_word.specs.declared.table.Pass.{Pass}
-use Rattle.napi_word.specs.declared.view.Strand.{Strand}
 use Rattle.napi_word.specs.View as view
-use Rattle.napi_word.specs.View.{View}
-use Rattle.napi_word.specs.Events.{Steps}
-use Rattle.napi_word.specs.Passes.{view_of}
-use Rattle.napi_word.proofs.Knowing.{found_state, state_then}
-use Rattle.napi_calls.specs.Seats.{number_of, shown, state_of, ShowsLegal}
 
 pub prefix_trans : (xs ys zs : List Event) → IsPrefix xs ys → IsPrefix ys zs → IsPrefix xs zs
 prefix_trans xs ys zs p q = (p.0 ++ q.0, sym (append_assoc xs p.0 q.0) ∙ ap (λ (l : List Event). l ++ q.0) p.1 ∙ q.1)

@@ -1,29 +1,10 @@
 -- What a value knows after a survey.
-use Rattle.std.proofs.Common.{◌≡◌, ℕ, Bool, true, false, List, [], ◌∷◌, Option, Some, None, unwrap_or, true≢false, refl, sym, ap, ◌∙◌, subst}
-use Rattle.rx_ring.specs.declared.ends.RxCtx.{RxCtx}
-use Rattle.rx_ring.specs.Ends.{ring_name, received_list}
-use Rattle.rx_ring.specs.declared.packet.Packet.{Packet}
-use Rattle.napi_model.specs.declared.event.Event.{Event}
-use Rattle.napi_model.specs.declared.state.State.{State}
-use Rattle.napi_model.specs.declared.state.Place.{Place}
-use Rattle.napi_model.specs.Step.{opening}
-use Rattle.napi_model.specs.History.{LegalHistory, state_after, own}
-use Rattle.napi_model.specs.Laws.{is_owner}
-use Rattle.napi_word.specs.declared.table.Pass.{Pass}
-use Rattle.napi_word.specs.declared.view.Delivery.{Delivery}
-use Rattle.napi_word.specs.declared.view.Holds.{Holds}
-use Rattle.napi_word.specs.declared.view.Holds.TheVariants.{Nothing}
+use Rattle.{std.proofs.Common.{◌≡◌, ℕ, Bool, true, false, List, [], ◌∷◌, Option, Some, None, unwrap_or, true≢false, refl, sym, ap, ◌∙◌, subst}, rx_ring.specs.{declared.ends.RxCtx.RxCtx, Ends.{ring_name, received_list}}}
+use Rattle.{rx_ring.specs.declared.packet.Packet.Packet, napi_model.specs.{declared.{event.Event.Event, state.{State.State, Place.Place}}, Step.opening, History.{LegalHistory, state_after, own}, Laws.is_owner}}
+use Rattle.napi_word.specs.{declared.{table.Pass.Pass, view.{Delivery.Delivery, Holds.{Holds, TheVariants.Nothing}}}, View.{View, Continues}, Slot.{has_at, has_slot}, Passes.view_of, Surveys.{IsWhole, CatchesUp, IsSurveyed}}
+use Rattle.{napi_word.proofs.{Allowed.nothing, Places.{has_owner, is_false}, Deliveries.{of_prefix, prefix_self}}, napi_calls.specs.Seats.{number_of, controller_of, shown, state_of, ring_of}}
+use Rattle.napi_calls.{specs.Knows.{own_place, Free, Stands, Controls, Has, held, ring_held, received_held}, proofs.Standing.{is_kept, is_free}}
 use Rattle.napi_word.specs.View as view
-use Rattle.napi_word.specs.View.{View, Continues}
-use Rattle.napi_word.specs.Slot.{has_at, has_slot}
-use Rattle.napi_word.specs.Passes.{view_of}
-use Rattle.napi_word.specs.Surveys.{IsWhole, CatchesUp, IsSurveyed}
-use Rattle.napi_word.proofs.Allowed.{nothing}
-use Rattle.napi_word.proofs.Places.{has_owner, is_false}
-use Rattle.napi_word.proofs.Deliveries.{of_prefix, prefix_self}
-use Rattle.napi_calls.specs.Seats.{number_of, controller_of, shown, state_of, ring_of}
-use Rattle.napi_calls.specs.Knows.{own_place, Free, Stands, Controls, Has, held, ring_held, received_held}
-use Rattle.napi_calls.proofs.Standing.{is_kept, is_free}
 
 -- who owns nothing holds nothing
 pub holds_nothing : {c : ℕ} {p : Pass} → Stands Free c p → p.holds ≡ Nothing

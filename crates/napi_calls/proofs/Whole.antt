@@ -1,17 +1,10 @@
 -- A history of which it is only known that it is legal somehow is legal: the choice that the table of legal steps leaves
 -- open is made by looking at the flags.
-use Rattle.std.proofs.Common.{◌≡◌, ◌⊎◌, ◌||◌, ℕ, Bool, true, false, List, [], ◌∷◌, inl, inr, refl, sym, ap, ◌∙◌, true≢false}
-use Rattle.std.proofs.Math.Logic.{∥∥₁_elim}
-use Rattle.std.proofs.Props.{props}
+use Rattle.{std.proofs.{Common.{◌≡◌, ◌⊎◌, ◌||◌, ℕ, Bool, true, false, List, [], ◌∷◌, inl, inr, refl, sym, ap, ◌∙◌, true≢false}, Math.Logic.∥∥₁_elim, Props.props}, napi_model.specs.declared.state.State.State}
+use Rattle.napi_model.specs.declared.event.{Done.TheVariants.{Released, Again, Held}, Operation.{Operation, TheVariants.{Look, Schedule, Hand, Take, Complete, BusyTake, BusyStop, MarkDisable, TakeDisable, Unmark, Enable, SetThreaded}}}
+use Rattle.napi_model.specs.{declared.event.Event.Event, Step.{after, IsLegalBy}, History.{IsBy, LegalHistory}}
 use Rattle.napi_model.specs.declared.state.Kind.TheVariants as kind
-use Rattle.napi_model.specs.declared.state.State.{State}
 use Rattle.napi_model.specs.declared.event.Prep.TheVariants as prep
-use Rattle.napi_model.specs.declared.event.Done.TheVariants.{Released, Again, Held}
-use Rattle.napi_model.specs.declared.event.Operation.{Operation}
-use Rattle.napi_model.specs.declared.event.Operation.TheVariants.{Look, Schedule, Hand, Take, Complete, BusyTake, BusyStop, MarkDisable, TakeDisable, Unmark, Enable, SetThreaded}
-use Rattle.napi_model.specs.declared.event.Event.{Event}
-use Rattle.napi_model.specs.Step.{after, IsLegalBy}
-use Rattle.napi_model.specs.History.{IsBy, LegalHistory}
 
 one_or_other : {A B : Type 0} → IsProp A → IsProp B → (A → B → ⊥) → IsProp (A ⊎ B)
 one_or_other a b apart (inl x) (inl y) = ap inl (a x y)

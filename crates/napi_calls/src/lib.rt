@@ -27,8 +27,6 @@ mod kept;
 mod polling;
 mod sharing;
 mod surveying;
-#[cfg(test)]
-mod tests;
 mod types;
 
 pub use answers::{Completed, Sched, TryBusy, TryDone, TryPrep, TryStop, TryTake};
@@ -38,5 +36,5 @@ pub use fault::{CloseFault, NewFault};
 pub use instance::{CloseBack, NewBack, next_caller};
 pub use kept::Kept;
 pub use sharing::{is_sent, is_shared};
-pub use surveying::survey;
+pub use surveying::{none_is_lost, one_acts_alone, survey};
 pub use types::{Busy, Caller, Control, Granted, Marked, Mode, Napi, Off, On, Polling};

@@ -1,18 +1,11 @@
 -- The laws of legal histories.
-use Rattle.std.proofs.Common.{◌≡◌, ◌≢◌, ℕ, Bool, List, [], ◌∷◌, ne_eqb, true, false, refl, sym, ap, ◌∙◌, subst, ⊎_elim, true≢false}
-use Rattle.napi_model.specs.declared.state.Kind.TheVariants as kind
-use Rattle.napi_model.specs.declared.state.Place.{Place}
-use Rattle.napi_model.specs.declared.state.Place.TheVariants.{Nobody, Granted, Listed, ToThread, Polling, Control}
-use Rattle.napi_model.specs.declared.state.State.{State}
-use Rattle.napi_model.specs.declared.event.Prep.TheVariants as prep
-use Rattle.napi_model.specs.declared.event.Done.TheVariants.{Released, Again, Held}
-use Rattle.napi_model.specs.declared.event.Operation.{Operation}
-use Rattle.napi_model.specs.declared.event.Operation.TheVariants.{Look, Schedule, Hand, Take, Complete, BusyTake, BusyStop, MarkDisable, TakeDisable, Unmark, Enable, SetThreaded}
-use Rattle.napi_model.specs.declared.event.Event.{Event}
-use Rattle.napi_model.specs.Step.{after, after_by, opening, IsLegalBy, Polls, MayHand}
-use Rattle.napi_model.specs.History.{LegalHistory, IsBy, state_after, own}
+use Rattle.{std.proofs.Common.{◌≡◌, ◌≢◌, ℕ, Bool, List, [], ◌∷◌, ne_eqb, true, false, refl, sym, ap, ◌∙◌, subst, ⊎_elim, true≢false}, napi_model.specs.declared.state.Place.TheVariants.{Nobody, Granted, Listed, ToThread, Polling, Control}}
+use Rattle.napi_model.specs.declared.{state.{Place.Place, State.State}, event.Event.Event}
+use Rattle.napi_model.{specs.{declared.event.{Done.TheVariants.{Released, Again, Held}, Operation.Operation}, History.{LegalHistory, IsBy, state_after, own}}, proofs.Histories.{state_after-append, legal_front, legal_back, own_first}}
+use Rattle.napi_model.specs.{declared.event.Operation.TheVariants.{Look, Schedule, Hand, Take, Complete, BusyTake, BusyStop, MarkDisable, TakeDisable, Unmark, Enable, SetThreaded}, Step.{after, after_by, opening, IsLegalBy, Polls, MayHand}}
 use Rattle.napi_model.specs.Laws.{IsSound, is_owner, IsOwnedBy, stand_of, IsPolled, BusyIsPolled, IsHandedOrPolled, ThreadsIsHanded, IsControlled, SchedClearIsNobody, BusyPollIsPolling, SchedThreadedIsHanded, OthersLeaveOwner, OthersLeaveOwnership, ControlIsTheControllers, OthersLeaveDisable}
-use Rattle.napi_model.proofs.Histories.{state_after-append, legal_front, legal_back, own_first}
+use Rattle.napi_model.specs.declared.state.Kind.TheVariants as kind
+use Rattle.napi_model.specs.declared.event.Prep.TheVariants as prep
 
 -- ---- SCHED clear, and nobody has the instance
 

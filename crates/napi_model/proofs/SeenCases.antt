@@ -1,10 +1,5 @@
 -- A `Seen` has 2 ^ 7 * 3 values: a fact of each is a test that computes. And equality of two, by the derived `==`.
-use Rattle.std.proofs.Common.{◌≡◌, ◌&&◌, Bool, true, false, Option, Some, None, refl, sym, true≢false}
-use Rattle.std.proofs.Math.Bool.{beq}
-use Rattle.std.specs.Option.{option_eq}
-use Rattle.napi_model.specs.declared.state.Kind.{Kind}
-use Rattle.napi_model.specs.declared.state.Kind.TheVariants.{List, Thread}
-use Rattle.napi_model.specs.declared.state.Seen.{Seen}
+use Rattle.{std.{proofs.{Common.{◌≡◌, ◌&&◌, Bool, true, false, Option, Some, None, refl, sym, true≢false}, Math.Bool.beq}, specs.Option.option_eq}, napi_model.specs.declared.state.{Kind.{Kind, TheVariants.{List, Thread}}, Seen.Seen}}
 use Rattle.napi_model.specs.contracts.state.KindPartialEq.TheImpl as kind_eq
 
 -- ---- a test of every value

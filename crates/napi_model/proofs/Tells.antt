@@ -1,16 +1,9 @@
 -- The word tells the next word.
-use Rattle.std.proofs.Common.{◌≡◌, ℕ, Option, Some, None, true, false, refl, sym, ap}
-use Rattle.napi_model.specs.declared.state.Flags.{Flags}
-use Rattle.napi_model.specs.declared.state.Kind.{Kind}
+use Rattle.{std.proofs.Common.{◌≡◌, ℕ, Option, Some, None, true, false, refl, sym, ap}, napi_model.specs.declared.{state.{Flags.Flags, Kind.Kind, Seen.Seen, State.State}, event.Done.TheVariants.{Released, Again, Held}}}
+use Rattle.napi_model.specs.declared.event.Operation.{Operation, TheVariants.{Look, Schedule, Hand, Take, Complete, BusyTake, BusyStop, MarkDisable, TakeDisable, Unmark, Enable, SetThreaded}}
+use Rattle.napi_model.specs.{Step.{IsLegalBy, after_by, seen_of, seen_after, handed_at, handed_after, flags_after, place_after}, Laws.IsSound}
 use Rattle.napi_model.specs.declared.state.Kind.TheVariants as kind
-use Rattle.napi_model.specs.declared.state.Seen.{Seen}
-use Rattle.napi_model.specs.declared.state.State.{State}
 use Rattle.napi_model.specs.declared.event.Prep.TheVariants as prep
-use Rattle.napi_model.specs.declared.event.Done.TheVariants.{Released, Again, Held}
-use Rattle.napi_model.specs.declared.event.Operation.{Operation}
-use Rattle.napi_model.specs.declared.event.Operation.TheVariants.{Look, Schedule, Hand, Take, Complete, BusyTake, BusyStop, MarkDisable, TakeDisable, Unmark, Enable, SetThreaded}
-use Rattle.napi_model.specs.Step.{IsLegalBy, after_by, seen_of, seen_after, handed_at, handed_after, flags_after, place_after}
-use Rattle.napi_model.specs.Laws.{IsSound}
 
 handed_next : (c : ℕ) (o : Operation) (s : State) → IsLegalBy c o s → IsSound s → handed_at (place_after c o s.place) ≡ handed_after o (handed_at s.place)
 handed_next c (Look x) s l sound = refl

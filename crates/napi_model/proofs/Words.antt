@@ -1,13 +1,7 @@
 -- The word tells what was seen: sums of bits.
 use Rattle.std.proofs.Common.{◌≡◌, ◌≢◌, ◌⊎◌, ℕ, ◌+◌, ◌*◌, ◌^◌, ◌<◌, min, ◌&&◌, not, ◌==◌, eqb, eq-eqb, ne_eqb, zero, suc, ⊎_elim, Bool, true, false, refl, sym, ap, ◌∙◌, subst, inl, inr, arith, bit_and, bit_or, true≢false}
-use Rattle.std.proofs.lemmas.Bool.{eqb-true}
-use Rattle.std.proofs.lemmas.Bool.Decides.{eqb_tells}
-use Rattle.std.proofs.lemmas.Nat.{or_disjoint, and-not, and_comm, pow_pos}
-use Rattle.std.proofs.lemmas.Nat.Bits.{bit_at_and, bit_at_or, same_from_bits, bit_at-zero, and_pow, bit_at-lt}
-use Rattle.std.specs.Int.{bit_at}
-use Rattle.napi_model.specs.declared.state.Seen.{Seen}
-use Rattle.napi_model.specs.Word.{bit_if, word_of, mark_word, both_marks, named_bits, other_bits, IsMalformed, seen_in, mark_in}
-use Rattle.napi_model.proofs.SeenCases.{seen_holds, seen_is, same_seen, and_l, and_r}
+use Rattle.std.{proofs.lemmas.{Bool.{eqb-true, Decides.eqb_tells}, Nat.{or_disjoint, and-not, and_comm, pow_pos, Bits.{bit_at_and, bit_at_or, same_from_bits, bit_at-zero, and_pow, bit_at-lt}}}, specs.Int.bit_at}
+use Rattle.napi_model.{specs.{declared.state.Seen.Seen, Word.{bit_if, word_of, mark_word, both_marks, named_bits, other_bits, IsMalformed, seen_in, mark_in}}, proofs.SeenCases.{seen_holds, seen_is, same_seen, and_l, and_r}}
 
 -- ---- bits of sums
 

@@ -12,8 +12,6 @@ mod history;
 mod laws;
 mod serial;
 mod state;
-#[cfg(test)]
-mod tests;
 mod word;
 
 pub use event::{Call, Done, Event, Operation, Prep};

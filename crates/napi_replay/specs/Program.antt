@@ -32,11 +32,11 @@ IsFaultIn Serial s bytes fault = replay_of s bytes ≡ Err fault
 IsFaultIn Shared s bytes fault = IsFaultOf (trace_of (records_of bytes)) fault
 IsFaultIn Threads s bytes fault = threads_of bytes ≡ Err fault
 
--- no fault of the bytes: the reader, the memory or the writer failed, or in threads mode a thread
+-- no fault of the bytes: the reader, the memory or the writer failed, or in threads mode a thread; no gate is ever shut
 abbrev pub IsOutsideIn : Mode → ReplayFault → Type 0
 IsOutsideIn Serial fault = IsOutside fault
 IsOutsideIn Shared fault = IsOutside fault
-IsOutsideIn Threads fault = IsOutsideThreads fault
+IsOutsideIn Threads fault = IsOutsideThreads ⊥ fault
 
 -- the text is the report of these bytes in the mode and by the settings that the words ask for
 abbrev pub IsReport : List Text → List ℕ → List ℕ → Type 0

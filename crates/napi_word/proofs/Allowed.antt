@@ -1,31 +1,14 @@
 -- A step is allowed where it is a legal one whose word is right, at each state that the view allows.
-use Rattle.std.proofs.Common.{◌≡◌, ◌≢◌, ℕ, zero, suc, set, length, [], ◌∷◌, ◌++◌, Option, Some, None, Bool, List, true, false, not, ◌&&◌, unwrap_or, refl, sym, ap, ◌∙◌, subst, inr, true≢false, arith}
+use Rattle.{std.proofs.Common.{◌≡◌, ◌≢◌, ℕ, zero, suc, set, length, [], ◌∷◌, ◌++◌, Option, Some, None, Bool, List, true, false, not, ◌&&◌, unwrap_or, refl, sym, ap, ◌∙◌, subst, inr, true≢false, arith}, napi_word.specs.declared.view.Key.Key}
+use Rattle.{rx_ring.specs.declared.{packet.Packet.Packet, ends.RxCtx.RxCtx}, napi_model.{specs.{declared.state.{Seen.Seen, Place.Place}, Word.word_of}, proofs.Histories.state_after-snoc}, napi_word.specs.Told.{told, laid_down}}
+use Rattle.napi_word.specs.{declared.view.Delivery.Delivery, Slot.{Content, Carried, has_at, is_out, owns_slot, hold_of, has_slot, ring_in, beside_in, carried_received, Tied, Moves, stays, taken, given, moved, Gives, Shifts, Delivers}}
+use Rattle.napi_word.proofs.{Deliveries.{prefix_self, to_prefix, of_prefix, received_snoc, last_snoc, More, not_given, more_none, more_one}, Keeps.{St, Open, opened, grown, running, Knows, knows, own_fits, owned, found, steps, grew, again}}
+use Rattle.{atomic_table.specs.Table.{Me, Act, keeps, takes, gives, rest, put_back, homes_after, carried_after, Valid, Allows}, napi_word.{specs.Rule.{Home, Homes, Owned, Fits, Kept, Holding}, proofs.Places.{has_out, has_same, in_no_hand}}}
+use Rattle.{rx_ring.specs.Ends.{RingName, ring_name, received_list}, napi_model.specs.{declared.{state.State.State as Napi, event.Operation.Operation}, Step.{event, opening, seen_of, after_by}, History.{IsLegalFor, state_after}}}
+use Rattle.napi_word.specs.{declared.view.Holds.{Holds, TheVariants.{Nothing, Within, Out}}, View.{View, is_pass, number_of, place_in, ring_of, delivery, own_deliveries, delivered, received_by, received_in, first_in, last_of, Continues}}
 use mathlib.Core.Option as maybe
 use mathlib.Core.List.{IsPrefix}
 use lib.ListN.{get_elem?}
-use Rattle.rx_ring.specs.declared.packet.Packet.{Packet}
-use Rattle.napi_word.specs.declared.view.Delivery.{Delivery}
-use Rattle.napi_word.proofs.Deliveries.{prefix_self, to_prefix, of_prefix, received_snoc, last_snoc, More, not_given, more_none, more_one}
-use Rattle.atomic_table.specs.Table.{Me, Act, keeps, takes, gives, rest, put_back, homes_after, carried_after, Valid, Allows}
-use Rattle.rx_ring.specs.declared.ends.RxCtx.{RxCtx}
-use Rattle.rx_ring.specs.Ends.{RingName, ring_name, received_list}
-use Rattle.napi_model.specs.declared.state.State.{State as Napi}
-use Rattle.napi_model.specs.declared.state.Seen.{Seen}
-use Rattle.napi_model.specs.declared.state.Place.{Place}
-use Rattle.napi_model.specs.declared.event.Operation.{Operation}
-use Rattle.napi_model.specs.Step.{event, opening, seen_of, after_by}
-use Rattle.napi_model.specs.History.{IsLegalFor, state_after}
-use Rattle.napi_model.specs.Word.{word_of}
-use Rattle.napi_model.proofs.Histories.{state_after-snoc}
-use Rattle.napi_word.specs.declared.view.Key.{Key}
-use Rattle.napi_word.specs.declared.view.Holds.{Holds}
-use Rattle.napi_word.specs.declared.view.Holds.TheVariants.{Nothing, Within, Out}
-use Rattle.napi_word.specs.View.{View, is_pass, number_of, place_in, ring_of, delivery, own_deliveries, delivered, received_by, received_in, first_in, last_of, Continues}
-use Rattle.napi_word.specs.Slot.{Content, Carried, has_at, is_out, owns_slot, hold_of, has_slot, ring_in, beside_in, carried_received, Tied, Moves, stays, taken, given, moved, Gives, Shifts, Delivers}
-use Rattle.napi_word.specs.Rule.{Home, Homes, Owned, Fits, Kept, Holding}
-use Rattle.napi_word.specs.Told.{told, laid_down}
-use Rattle.napi_word.proofs.Places.{has_out, has_same, in_no_hand}
-use Rattle.napi_word.proofs.Keeps.{St, Open, opened, grown, running, Knows, knows, own_fits, owned, found, steps, grew, again}
 
 -- ---- marks
 

@@ -1,36 +1,14 @@
 -- All strands of one seat catch up with the whole history.
-use Rattle.std.proofs.Common.{◌≡◌, ◌≢◌, ℕ, zero, suc, List, [], ◌∷◌, ◌++◌, length, slice_get, get_or, set, Option, Some, None, Bool, true, unwrap_or, is_some, refl, sym, ap, ◌∙◌, subst, inr, ⊎_elim}
+use Rattle.std.proofs.Common.{◌≡◌, ◌≢◌, ℕ, zero, suc, List, [], ◌∷◌, ◌++◌, length, slice_get, slice_index, get_or, set, Option, Some, None, Bool, true, unwrap_or, is_some, refl, sym, ap, ◌∙◌, subst, inr, ⊎_elim}
+use Rattle.{atomic_table.{specs.Table.{Me, keeps, Allows}, proofs.Lists.{at_longer, at_set}}, rx_ring.specs.{declared.{packet.Packet.Packet, ends.RxCtx.RxCtx}, Ends.{ring_name, received_list}}, napi_model.specs.declared.event.Event.Event}
+use Rattle.{napi_model.specs.{declared.state.{State.State as Napi, Place.Place}, Step.{opening, seen_of}, History.{state_after, own}, Laws.is_owner, Word.word_of}, napi_word.specs.declared.view.{Key.Key, Strand.Strand, Delivery.Delivery}}
+use Rattle.napi_word.specs.{declared.view.Holds.Holds, View.{View, is_pass, number_of, controller_of, ring_of, received_in, first_in, delivered, own_deliveries, received_by, place_in, Continues}}
+use Rattle.napi_word.specs.{Slot.{Content, Carried, has_at, hold_of, has_slot, carried_received, Tied}, Rule.{Fits, Kept, Holding}, declared.table.Pass.Pass}
+use Rattle.napi_word.{specs.{Surveys.{IsWhole, CatchesUp, Knew, surveyed, front, with_front, but_last, last_alone, caught_up, all_caught_up}, declared.view.Holds.TheVariants.Nothing}, proofs.Splitting.{but_last_is, last_alone_is}}
+use Rattle.napi_word.{specs.Passes.{view_of, tie_of}, proofs.{Places.has_same, Closing.is_pass_more, Deliveries.{prefix_self, of_prefix}, Allowed.{ring_kept, some_held, hold_nothing}}}
+use Rattle.napi_word.proofs.Keeps.{St, Open, opened, running, own_fits, owner_since, stand_since, disable_since}
 use mathlib.Core.Option as maybe
 use lib.ListN.{get_elem?}
-use Rattle.atomic_table.specs.Table.{Me, keeps, Allows}
-use Rattle.atomic_table.proofs.Lists.{at_longer, at_set}
-use Rattle.rx_ring.specs.declared.packet.Packet.{Packet}
-use Rattle.rx_ring.specs.declared.ends.RxCtx.{RxCtx}
-use Rattle.rx_ring.specs.Ends.{ring_name, received_list}
-use Rattle.napi_model.specs.declared.event.Event.{Event}
-use Rattle.napi_model.specs.declared.state.State.{State as Napi}
-use Rattle.napi_model.specs.declared.state.Place.{Place}
-use Rattle.napi_model.specs.Step.{opening, seen_of}
-use Rattle.napi_model.specs.History.{state_after, own}
-use Rattle.napi_model.specs.Laws.{is_owner}
-use Rattle.napi_model.specs.Word.{word_of}
-use Rattle.napi_word.specs.declared.view.Key.{Key}
-use Rattle.napi_word.specs.declared.view.Strand.{Strand}
-use Rattle.napi_word.specs.declared.view.Delivery.{Delivery}
-use Rattle.napi_word.specs.declared.view.Holds.{Holds}
-use Rattle.napi_word.specs.View.{View, is_pass, number_of, controller_of, ring_of, received_in, first_in, delivered, own_deliveries, received_by, place_in, Continues}
-use Rattle.napi_word.specs.Slot.{Content, Carried, has_at, hold_of, has_slot, carried_received, Tied}
-use Rattle.napi_word.specs.Rule.{Fits, Kept, Holding}
-use Rattle.napi_word.specs.declared.table.Pass.{Pass}
-use Rattle.napi_word.specs.Surveys.{IsWhole, CatchesUp, Knew, surveyed, front, with_front, but_last, last_alone, caught_up, all_caught_up}
-use Rattle.napi_word.proofs.Splitting.{but_last_is, last_alone_is}
-use Rattle.napi_word.specs.declared.view.Holds.TheVariants.{Nothing}
-use Rattle.napi_word.specs.Passes.{view_of, tie_of}
-use Rattle.napi_word.proofs.Places.{has_same}
-use Rattle.napi_word.proofs.Closing.{is_pass_more}
-use Rattle.napi_word.proofs.Deliveries.{prefix_self, of_prefix}
-use Rattle.napi_word.proofs.Allowed.{ring_kept, some_held, hold_nothing}
-use Rattle.napi_word.proofs.Keeps.{St, Open, opened, running, own_fits, owner_since, stand_since, disable_since}
 
 at_caught : (h : List Event) (ds : List Delivery) (v : View) (k : ℕ) (z : Strand) → get_elem? (all_caught_up h ds v) k ≡ maybe.some z → (x : Strand) × (get_elem? v k ≡ maybe.some x) × (caught_up h ds x ≡ z)
 at_caught h ds [] k z e = absurd (maybe.some-ne-none z (sym e))
@@ -99,6 +77,7 @@ surveys key slots id me p s holding len at fits =
         refl,
         refl,
         λ k x c e is. subst (λ (n : ℕ). Knew n r.history r.deliveries x c) (sym same) (knew key s r id me.0 at k x c e is),
+        ap (λ (ws : List ℕ). slice_index ws 0) r.word ∙ ap (λ (n : ℕ). word_of (seen_of (state_after (opening n) r.history))) (sym same),
       ),
     )
 
@@ -383,6 +362,10 @@ module _ (p0 p1 p2 p3 : Pass) (m1 m2 m3 : Me Content View) (e1 : m1 ≡ (with_fr
 
     pub whole_is : IsWhole (controller_of (view_of p3)) hs es
     whole_is = subst (λ (k : ℕ). IsWhole k hs es) (led_by (view_of p0) (view_of p1) (view_of p2) (view_of p3) q0 q1 q2 q3 m3.0 all_in hs es u.0 t.3) t.2
+
+    -- the word is that of the state behind the whole history
+    pub word_is : n ≡ word_of (seen_of (state_after (opening (controller_of (view_of p3))) hs))
+    word_is = t.6 ∙ ap (λ (k : ℕ). word_of (seen_of (state_after (opening k) hs))) (led_by (view_of p0) (view_of p1) (view_of p2) (view_of p3) q0 q1 q2 q3 m3.0 all_in hs es u.0 t.3)
 
     pub all_led : (i : ℕ) (p : Pass) → slice_get (p0 ∷ p1 ∷ p2 ∷ p3 ∷ []) i ≡ Some p → controller_of (view_of p) ≡ controller_of (view_of p3)
     all_led = of_four (λ p. controller_of (view_of p) ≡ controller_of (view_of p3)) p0 p1 p2 p3

@@ -1,41 +1,16 @@
 -- The end of a table: what its passes had, and what stands behind their views.
 use Rattle.std.proofs.Common.{◌<◌, ◌+◌, ◌≡◌, ◌≢◌, ℕ, zero, suc, ◌≤◌, List, [], ◌∷◌, ◌++◌, length, length-append, slice_get, Option, Some, None, Bool, true, false, unwrap_or, eqb, eq-eqb, ne_eqb, refl, sym, ap, ◌∙◌, subst, arith, true≢false, lt_of_not-le}
+use Rattle.{atomic_table.{specs.Table.{Final, Seen}, proofs.Lists.at_longer}, rx_ring.{specs.{declared.ends.RxCtx.RxCtx, Ends.{RingName, ring_name, received_list}}, proofs.Names.same_name}, napi_model.specs.Laws.is_owner}
+use Rattle.napi_model.{proofs.Owners.{ownership_kept, opens_sound}, specs.{declared.{event.Event.Event, state.{Place.{Place, TheVariants.{Nobody, Granted, Listed, ToThread, Polling, Control}}, State.State as Napi}}, Step.opening}}
+use Rattle.{napi_model.specs.History.{state_after, own}, napi_word.specs.declared.{gathering.Found.Found, table.{Pass.Pass, StateTable.StateTable}, view.{Key.Key, Holds.{Holds, TheVariants.{Nothing, Within, Out}}, Strand.Strand}}}
+use Rattle.napi_word.specs.{declared.view.Delivery.Delivery, View.{View, first_in, delivered, own_deliveries, received_by, last_of, is_pass, shown, mine, number_of, controller_of, place_in, ring_of}}
+use Rattle.napi_word.specs.{Slot.{Content, is_out, has_at, has_slot}, Rule.{Fits, Kept, Holding}, Passes.{view_of, controller_of_table}, Ends.{Finds, picked, IsOut, IsEnded, views_of, Gathered}}
+use Rattle.{napi_word.proofs.{Places.{has_owner, has_same, is_false}, Keeps.{St, Open, opened, running, owner_since, place_since}}, std.specs.List.{AllByRecursion, IsDistinct, list_any}}
+use Rattle.napi_word.proofs.{Counting.{numbers_of, numbers_length, find_number, every_number, no_more}, Whole.whole}
 use mathlib.Core.Option as maybe
-use mathlib.Core.Logic.{dite}
-use mathlib.Core.List.{IsPrefix}
+use mathlib.Core.{Logic.dite, List.IsPrefix}
 use native.Mathlib.Decide.{dec_le}
 use lib.ListN.{get_elem?}
-use Rattle.atomic_table.specs.Table.{Final, Seen}
-use Rattle.atomic_table.proofs.Lists.{at_longer}
-use Rattle.rx_ring.specs.declared.ends.RxCtx.{RxCtx}
-use Rattle.rx_ring.specs.Ends.{RingName, ring_name, received_list}
-use Rattle.rx_ring.proofs.Names.{same_name}
-use Rattle.napi_model.specs.Laws.{is_owner}
-use Rattle.napi_model.proofs.Owners.{ownership_kept, opens_sound}
-use Rattle.napi_model.specs.declared.event.Event.{Event}
-use Rattle.napi_model.specs.declared.state.Place.{Place}
-use Rattle.napi_model.specs.declared.state.Place.TheVariants.{Nobody, Granted, Listed, ToThread, Polling, Control}
-use Rattle.napi_model.specs.declared.state.State.{State as Napi}
-use Rattle.napi_model.specs.Step.{opening}
-use Rattle.napi_model.specs.History.{state_after, own}
-use Rattle.napi_word.specs.declared.gathering.Found.{Found}
-use Rattle.napi_word.specs.declared.table.Pass.{Pass}
-use Rattle.napi_word.specs.declared.table.StateTable.{StateTable}
-use Rattle.napi_word.specs.declared.view.Key.{Key}
-use Rattle.napi_word.specs.declared.view.Holds.{Holds}
-use Rattle.napi_word.specs.declared.view.Holds.TheVariants.{Nothing, Within, Out}
-use Rattle.napi_word.specs.declared.view.Strand.{Strand}
-use Rattle.napi_word.specs.declared.view.Delivery.{Delivery}
-use Rattle.napi_word.specs.View.{View, first_in, delivered, own_deliveries, received_by, last_of, is_pass, shown, mine, number_of, controller_of, place_in, ring_of}
-use Rattle.napi_word.specs.Slot.{Content, is_out, has_at, has_slot}
-use Rattle.napi_word.specs.Rule.{Fits, Kept, Holding}
-use Rattle.napi_word.specs.Passes.{view_of, controller_of_table}
-use Rattle.napi_word.specs.Ends.{Finds, picked, IsOut, IsEnded, views_of, Gathered}
-use Rattle.napi_word.proofs.Places.{has_owner, has_same, is_false}
-use Rattle.napi_word.proofs.Keeps.{St, Open, opened, running, owner_since, place_since}
-use Rattle.std.specs.List.{AllByRecursion, IsDistinct, list_any}
-use Rattle.napi_word.proofs.Counting.{numbers_of, numbers_length, find_number, every_number, no_more}
-use Rattle.napi_word.proofs.Whole.{whole}
 
 -- ---- strands of one view in another
 abbrev pub Stands : View → View → Type 0

@@ -1,11 +1,6 @@
 -- As many different numbers as there are up to the last are all of them.
-use Rattle.std.proofs.Common.{◌≡◌, ℕ, suc, ◌+◌, ◌<◌, ◌≤◌, ◌||◌, List, [], ◌∷◌, length, slice_get, Some, Bool, true, false, eqb, refl, sym, ap, ◌∙◌, arith, true≢false}
-use Rattle.std.specs.List.{AllByRecursion, IsDistinct, list_any}
-use Rattle.std.proofs.lemmas.Bool.{eqb-true}
-use Rattle.std.proofs.lemmas.Map.Steps.{length-le_from_distinct_below}
-use Rattle.napi_word.specs.declared.table.Pass.{Pass}
-use Rattle.napi_word.specs.View.{number_of}
-use Rattle.napi_word.specs.Passes.{view_of}
+use Rattle.std.{proofs.Common.{◌≡◌, ℕ, suc, ◌+◌, ◌<◌, ◌≤◌, ◌||◌, List, [], ◌∷◌, length, slice_get, Some, Bool, true, false, eqb, refl, sym, ap, ◌∙◌, arith, true≢false}, specs.List.{AllByRecursion, IsDistinct, list_any}}
+use Rattle.{std.proofs.lemmas.{Bool.eqb-true, Map.Steps.length-le_from_distinct_below}, napi_word.specs.{declared.table.Pass.Pass, View.number_of, Passes.view_of}}
 
 abbrev pub numbers_of : List Pass → List ℕ
 numbers_of [] = []

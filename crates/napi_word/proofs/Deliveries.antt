@@ -1,26 +1,11 @@
 -- Deliveries that grow at their end, and who may add one.
-use Rattle.std.proofs.Common.{◌≡◌, ◌≢◌, ℕ, List, [], ◌∷◌, ◌++◌, Bool, true, false, not, ◌&&◌, nat_eq, eq-eqb, ne_eqb, refl, sym, ap, ◌∙◌, append_assoc, length, drop, subst, Option, Some, unwrap_or, true≢false}
-use mathlib.Core.List.{IsPrefix}
-use Rattle.atomic_table.specs.Table.{Me}
-use Rattle.std.proofs.lemmas.List.{append-nil}
-use Rattle.std.proofs.lemmas.List.Elements.{filter-append}
-use Rattle.std.proofs.lemmas.Bool.{eqb-true}
-use Rattle.rx_ring.specs.declared.packet.Packet.{Packet}
-use Rattle.rx_ring.specs.declared.ends.RxCtx.{RxCtx}
-use Rattle.rx_ring.specs.Ends.{received_list}
-use Rattle.napi_model.specs.declared.state.State.{State as Napi}
-use Rattle.napi_model.specs.declared.state.Place.{Place}
-use Rattle.napi_model.specs.declared.state.Place.TheVariants.{Nobody, Granted, Listed, ToThread, Polling, Control}
-use Rattle.napi_model.specs.declared.event.Event.{Event}
-use Rattle.napi_model.specs.Step.{after}
-use Rattle.napi_model.specs.History.{LegalHistory, IsLegalFor, state_after}
-use Rattle.napi_model.specs.Laws.{IsSound}
-use Rattle.napi_model.proofs.Owners.{ownership_kept, owner_kept}
-use Rattle.napi_word.specs.declared.view.Delivery.{Delivery}
+use Rattle.{std.proofs.Common.{◌≡◌, ◌≢◌, ℕ, List, [], ◌∷◌, ◌++◌, Bool, true, false, not, ◌&&◌, nat_eq, eq-eqb, ne_eqb, refl, sym, ap, ◌∙◌, append_assoc, length, drop, subst, Option, Some, unwrap_or, true≢false}, atomic_table.specs.Table.Me}
+use Rattle.{std.proofs.lemmas.{List.{append-nil, Elements.filter-append}, Bool.eqb-true}, rx_ring.specs.{declared.{packet.Packet.Packet, ends.RxCtx.RxCtx}, Ends.received_list}, napi_model.specs.declared.state.State.State as Napi}
+use Rattle.napi_model.specs.{declared.{state.Place.{Place, TheVariants.{Nobody, Granted, Listed, ToThread, Polling, Control}}, event.Event.Event}, Step.after, History.{LegalHistory, IsLegalFor, state_after}, Laws.IsSound}
+use Rattle.{napi_model.proofs.Owners.{ownership_kept, owner_kept}, napi_word.specs.declared.view.Delivery.Delivery}
 use Rattle.napi_word.specs.View.{View, first_in, received_in, delivered, delivery, packets_of, own_deliveries, received_by, last_of, deliverers, Continues}
-use Rattle.napi_word.specs.Slot.{Content, stays, Delivers, owns_slot, has_at, is_out, is_given, one_if, givers}
-use Rattle.napi_word.proofs.Places.{has_same, has_out}
-use Rattle.napi_word.proofs.Owns.{own_no}
+use Rattle.napi_word.{specs.Slot.{Content, stays, Delivers, owns_slot, has_at, is_out, is_given, one_if, givers}, proofs.{Places.{has_same, has_out}, Owns.own_no}}
+use mathlib.Core.List.{IsPrefix}
 
 pub prefix_self : {A : Type 0} (l : List A) → IsPrefix l l
 prefix_self l = ([], append-nil l)

@@ -1,28 +1,13 @@
 -- One event more keeps the rule.
-use Rattle.std.proofs.Common.{◌≡◌, ◌≢◌, ℕ, zero, suc, List, [], ◌∷◌, ◌++◌, get_or, set, Option, Some, None, Bool, true, false, is_some, unwrap_or, refl, sym, ap, ◌∙◌, subst, ⊎_elim, arith, true≢false}
+use Rattle.{std.proofs.Common.{◌≡◌, ◌≢◌, ℕ, zero, suc, List, [], ◌∷◌, ◌++◌, get_or, set, Option, Some, None, Bool, true, false, is_some, unwrap_or, refl, sym, ap, ◌∙◌, subst, ⊎_elim, arith, true≢false}, atomic_table.specs.Table.State}
+use Rattle.{atomic_table.proofs.Lists.{at_set, set_again}, napi_model.specs.declared.{event.Operation.Operation, state.{State.State as Napi, Place.Place}}, napi_word.specs.declared.view.{Key.Key, Strand.Strand, Delivery.Delivery}}
+use Rattle.{napi_model.specs.{declared.event.Event.Event, Step.{event, opening, seen_of, after}}, napi_word.proofs.{Owns.{own_mine, own_other, own_rest, begins_self, begins_more}, Deliveries.{prefix_self, has_others, givers_snoc, More}}}
+use Rattle.napi_model.{specs.History.{LegalHistory, IsLegalFor, state_after, own}, proofs.Owners.{sound_after, opens_sound, ownership_kept, owner_kept, disable_kept, threads_after, opens_unthreaded, controlled_after, opens_controlled}}
+use Rattle.{napi_model.specs.Laws.{IsSound, ThreadsIsHanded, IsControlled, is_owner, stand_of}, napi_word.specs.{Slot.{Content, has_at, is_out, is_given, one_if}, Rule.{first_view, Home, Homes, Owned, Fits, Kept, Starts, Holding}}}
+use Rattle.{napi_model.{specs.Word.word_of, proofs.Histories.{state_after-snoc, state_after-append, legal_snoc, legal_front, legal_back}}, napi_word.specs.Events.Steps}
+use Rattle.napi_word.specs.View.{View, is_pass, number_of, controller_of, mine, ring_of, state_in, place_in, disable_in, busy_in}
 use mathlib.Core.Option as maybe
 use lib.ListN.{get_elem?}
-use Rattle.atomic_table.specs.Table.{State}
-use Rattle.atomic_table.proofs.Lists.{at_set, set_again}
-use Rattle.napi_model.specs.declared.event.Event.{Event}
-use Rattle.napi_model.specs.declared.event.Operation.{Operation}
-use Rattle.napi_model.specs.declared.state.State.{State as Napi}
-use Rattle.napi_model.specs.Step.{event, opening, seen_of, after}
-use Rattle.napi_model.specs.History.{LegalHistory, IsLegalFor, state_after, own}
-use Rattle.napi_model.specs.declared.state.Place.{Place}
-use Rattle.napi_model.specs.Laws.{IsSound, ThreadsIsHanded, IsControlled, is_owner, stand_of}
-use Rattle.napi_model.specs.Word.{word_of}
-use Rattle.napi_model.proofs.Histories.{state_after-snoc, state_after-append, legal_snoc, legal_front, legal_back}
-use Rattle.napi_model.proofs.Owners.{sound_after, opens_sound, ownership_kept, owner_kept, disable_kept, threads_after, opens_unthreaded, controlled_after, opens_controlled}
-use Rattle.napi_word.specs.declared.view.Key.{Key}
-use Rattle.napi_word.specs.declared.view.Strand.{Strand}
-use Rattle.napi_word.specs.declared.view.Delivery.{Delivery}
-use Rattle.napi_word.specs.View.{View, is_pass, number_of, controller_of, mine, ring_of, state_in, place_in, disable_in, busy_in}
-use Rattle.napi_word.specs.Slot.{Content, has_at, is_out, is_given, one_if}
-use Rattle.napi_word.specs.Rule.{first_view, Home, Homes, Owned, Fits, Kept, Starts, Holding}
-use Rattle.napi_word.specs.Events.{Steps}
-use Rattle.napi_word.proofs.Owns.{own_mine, own_other, own_rest, begins_self, begins_more}
-use Rattle.napi_word.proofs.Deliveries.{prefix_self, has_others, givers_snoc, More}
 
 abbrev pub St : Type 0
 St = State Content View

@@ -1,25 +1,11 @@
 -- What a pass knows by its last event.
-use Rattle.std.proofs.Common.{inl, eq-eqb, ◌≡◌, ℕ, List, [], ◌∷◌, Bool, true, false, ◌||◌, refl, sym, ap, ◌∙◌, subst, true≢false}
-use Rattle.napi_model.specs.declared.state.State.{State as Napi}
-use Rattle.napi_model.specs.declared.state.Seen.{Seen}
-use Rattle.napi_model.specs.declared.state.Kind.{Kind}
+use Rattle.{std.proofs.Common.{inl, eq-eqb, ◌≡◌, ℕ, List, [], ◌∷◌, Bool, true, false, ◌||◌, refl, sym, ap, ◌∙◌, subst, true≢false}, napi_model.specs.declared.state.{State.State as Napi, Seen.Seen, Kind.Kind}}
+use Rattle.napi_model.specs.declared.{event.{Done.TheVariants.{Again, Held}, Event.Event, Operation.Operation}, state.Place.TheVariants.{Granted, Polling, Control}}
+use Rattle.napi_model.specs.{declared.event.Operation.TheVariants.{Look, Schedule, Take, Complete, BusyTake, BusyStop, MarkDisable, TakeDisable, Unmark, Enable}, Step.{event, opening, after_by, place_of, MayHand}}
+use Rattle.napi_model.{specs.{History.{LegalHistory, IsLegalFor, state_after}, Laws.{is_owner, IsPolled}}, proofs.{Histories.{legal_front, legal_back, state_after-snoc}, Owners.{busy_after, opens_sound, opens_unbusy}}}
+use Rattle.napi_word.{specs.{View.{View, number_of, controller_of, state_at, state_in, place_in, disable_in}, Events.Steps, Told.done_of, Passes.{HasController, HasPoll}}, proofs.Places.is_false}
 use Rattle.napi_model.specs.declared.state.Kind.TheVariants as kind
 use Rattle.napi_model.specs.declared.event.Prep.TheVariants as prep
-use Rattle.napi_model.specs.declared.event.Done.TheVariants.{Again, Held}
-use Rattle.napi_model.specs.declared.state.Place.TheVariants.{Granted, Polling, Control}
-use Rattle.napi_model.specs.declared.event.Event.{Event}
-use Rattle.napi_model.specs.declared.event.Operation.{Operation}
-use Rattle.napi_model.specs.declared.event.Operation.TheVariants.{Look, Schedule, Take, Complete, BusyTake, BusyStop, MarkDisable, TakeDisable, Unmark, Enable}
-use Rattle.napi_model.specs.Step.{event, opening, after_by, place_of, MayHand}
-use Rattle.napi_model.specs.History.{LegalHistory, IsLegalFor, state_after}
-use Rattle.napi_model.specs.Laws.{is_owner, IsPolled}
-use Rattle.napi_model.proofs.Histories.{legal_front, legal_back, state_after-snoc}
-use Rattle.napi_model.proofs.Owners.{busy_after, opens_sound, opens_unbusy}
-use Rattle.napi_word.specs.View.{View, number_of, controller_of, state_at, state_in, place_in, disable_in}
-use Rattle.napi_word.specs.Events.{Steps}
-use Rattle.napi_word.specs.Told.{done_of}
-use Rattle.napi_word.specs.Passes.{HasController, HasPoll}
-use Rattle.napi_word.proofs.Places.{is_false}
 
 pub either_not : (a b : Bool) → (a || b) ≡ false → (a ≡ false) × (b ≡ false)
 either_not true b e = absurd (true≢false e)

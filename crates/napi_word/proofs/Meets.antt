@@ -1,16 +1,7 @@
 -- What a pass that took in a note shows after its next step.
-use Rattle.std.proofs.Common.{◌≡◌, List, [], ◌∷◌, length, true, refl, sym, subst, true≢false}
+use Rattle.{std.proofs.Common.{◌≡◌, List, [], ◌∷◌, length, true, refl, sym, subst, true≢false}, atomic_table.proofs.Lists.{at_longer, at_last}, napi_model.specs.{declared.event.{Event.Event, Operation.Operation}, Step.event}}
+use Rattle.{napi_word.{specs.{View.{View, is_pass, number_of, shown}, Rule.{note, note_of, joined}, Events.Steps, Slot.{Content, Carried, stays, Delivers}}, proofs.Owns.begins_more}, atomic_table.specs.Table.Me}
 use mathlib.Core.List.{IsPrefix}
-use Rattle.atomic_table.proofs.Lists.{at_longer, at_last}
-use Rattle.napi_model.specs.declared.event.Event.{Event}
-use Rattle.napi_model.specs.declared.event.Operation.{Operation}
-use Rattle.napi_model.specs.Step.{event}
-use Rattle.napi_word.specs.View.{View, is_pass, number_of, shown}
-use Rattle.napi_word.specs.Rule.{note, note_of, joined}
-use Rattle.napi_word.specs.Events.{Steps}
-use Rattle.atomic_table.specs.Table.{Me}
-use Rattle.napi_word.specs.Slot.{Content, Carried, stays, Delivers}
-use Rattle.napi_word.proofs.Owns.{begins_more}
 
 -- a step of a pass that took in another is a step of the pass
 pub steps_joined : (v w : View) (o : Operation) (u : View) → is_pass v ≡ true → Steps (joined v w) o u → Steps v o u

@@ -1,10 +1,6 @@
 -- A caller's own list, and lists that begin others.
-use Rattle.std.proofs.Common.{◌≡◌, ◌≢◌, ℕ, eq-eqb, ne_eqb, List, [], ◌∷◌, ◌++◌, drop, refl, sym, ap, ◌∙◌, append_assoc}
+use Rattle.{std.proofs.{Common.{◌≡◌, ◌≢◌, ℕ, eq-eqb, ne_eqb, List, [], ◌∷◌, ◌++◌, drop, refl, sym, ap, ◌∙◌, append_assoc}, lemmas.List.append-nil}, napi_model.{specs.{declared.event.Event.Event, History.own}, proofs.Histories.own-append}}
 use mathlib.Core.List.{IsPrefix}
-use Rattle.std.proofs.lemmas.List.{append-nil}
-use Rattle.napi_model.specs.declared.event.Event.{Event}
-use Rattle.napi_model.specs.History.{own}
-use Rattle.napi_model.proofs.Histories.{own-append}
 
 own_one : (c : ℕ) (e : Event) → e.caller ≡ c → own c (e ∷ []) ≡ e ∷ []
 unfolding own

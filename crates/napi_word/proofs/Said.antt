@@ -1,15 +1,6 @@
 -- What a seat did, once the word that it found is decoded.
-use Rattle.std.proofs.Common.{◌≡◌, ◌≢◌, ℕ, ◌<◌, Bool, eqb, eq-eqb, ne_eqb, refl, sym, ◌∙◌, subst, arith}
-use Rattle.atomic_table.specs.Table.{Me}
-use Rattle.napi_model.specs.declared.state.Seen.{Seen}
-use Rattle.napi_model.specs.declared.event.Operation.{Operation}
-use Rattle.napi_model.specs.declared.event.Operation.TheVariants.{Look}
-use Rattle.napi_model.specs.Word.{word_of}
-use Rattle.napi_model.proofs.Words.{word_of-injective}
-use Rattle.napi_word.specs.declared.table.StateTable.{StateTable}
-use Rattle.napi_word.specs.View.{View}
-use Rattle.napi_word.specs.Slot.{Content, Moves, stays}
-use Rattle.napi_word.specs.Told.{Did, told, exchanged, either_op, when}
+use Rattle.{std.proofs.Common.{◌≡◌, ◌≢◌, ℕ, ◌<◌, Bool, eqb, eq-eqb, ne_eqb, refl, sym, ◌∙◌, subst, arith}, atomic_table.specs.Table.Me, napi_model.specs.declared.{state.Seen.Seen, event.Operation.{Operation, TheVariants.Look}}}
+use Rattle.{napi_model.{specs.Word.word_of, proofs.Words.word_of-injective}, napi_word.specs.{declared.table.StateTable.StateTable, View.View, Slot.{Content, Moves, stays}, Told.{Did, told, exchanged, either_op, when}}}
 
 pub one_there : (t : StateTable) → 0 < t.table.shared.table_id.words
 one_there t = subst (λ n. 0 < n) (sym t.one_word) (omega arith)

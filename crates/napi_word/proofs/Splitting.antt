@@ -1,17 +1,9 @@
 -- Seats are split off and joined.
-use Rattle.std.proofs.Common.{◌≡◌, ◌≢◌, ◌⊎◌, ℕ, zero, suc, ◌+◌, ◌<◌, List, [], ◌∷◌, ◌++◌, length, set, Bool, true, cond, eqb, eq-eqb, ne_eqb, refl, sym, ap, ◌∙◌, subst, inl, inr, ⊎_elim, arith}
+use Rattle.{std.proofs.Common.{◌≡◌, ◌≢◌, ◌⊎◌, ℕ, zero, suc, ◌+◌, ◌<◌, List, [], ◌∷◌, ◌++◌, length, set, Bool, true, cond, eqb, eq-eqb, ne_eqb, refl, sym, ap, ◌∙◌, subst, inl, inr, ⊎_elim, arith}, atomic_table.specs.Table.{Splits, Joins}}
+use Rattle.{atomic_table.proofs.Lists.{at_longer, at_set, at_snoc, set_again}, napi_model.specs.declared.event.Event.Event, napi_word.specs.{declared.view.{Key.Key, Strand.Strand, Delivery.Delivery}, View.{View, is_pass}}}
+use Rattle.napi_word.{specs.{Rule.{Fits, Kept, Holding, left_of, right_of, note, note_of, joined, spent}, Surveys.{front, with_front, but_last, last_alone}}, proofs.Keeps.{St, opened, running}}
 use mathlib.Core.Option as maybe
 use lib.ListN.{get_elem?}
-use Rattle.atomic_table.specs.Table.{Splits, Joins}
-use Rattle.atomic_table.proofs.Lists.{at_longer, at_set, at_snoc, set_again}
-use Rattle.napi_model.specs.declared.event.Event.{Event}
-use Rattle.napi_word.specs.declared.view.Key.{Key}
-use Rattle.napi_word.specs.declared.view.Strand.{Strand}
-use Rattle.napi_word.specs.declared.view.Delivery.{Delivery}
-use Rattle.napi_word.specs.View.{View, is_pass}
-use Rattle.napi_word.specs.Rule.{Fits, Kept, Holding, left_of, right_of, note, note_of, joined, spent}
-use Rattle.napi_word.specs.Surveys.{front, with_front, but_last, last_alone}
-use Rattle.napi_word.proofs.Keeps.{St, opened, running}
 
 -- ---- lists
 pub at_end : {A : Type 0} (l : List A) (a b : A) (j : ℕ) → get_elem? (l ++ a ∷ []) j ≡ maybe.some b → (get_elem? l j ≡ maybe.some b) ⊎ ((j ≡ length l) × (a ≡ b))

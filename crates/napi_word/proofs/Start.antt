@@ -1,27 +1,12 @@
 -- The table is made, and its first seat takes the slot.
 use Rattle.std.proofs.Common.{◌≡◌, ◌⊎◌, ℕ, zero, suc, ◌+◌, ◌-◌, ◌<◌, ◌≤◌, List, [], ◌∷◌, ◌++◌, length, get_or, set, slice_get, Some, None, Bool, true, false, cond, eqb, eq-eqb, ne_eqb, unwrap_or, refl, sym, ap, ◌∙◌, subst, inl, inr, ⊎_elim, arith, true≢false}
+use Rattle.{atomic_table.specs.Table.{Me, opening, takes, Allows}, rx_ring.specs.declared.ends.RxCtx.RxCtx, napi_model.specs.{Step.seen_of, History.{LegalHistory, state_after}, Word.word_of}, napi_word.specs.declared.view.Key.Key}
+use Rattle.{napi_word.specs.{declared.view.{Strand.Strand, Holds.TheVariants.Within}, View.{View, number_of, place_in, disable_in}, Slot.{Content, is_out, owns_slot}}, napi_model.specs.declared.state.Place.TheVariants.Control}
+use Rattle.napi_word.specs.{Rule.{strand, strands_from, maker_at, first_view, begun_view, begun_slot, Homes, Owned, Fits, Kept, Starts, Holding}, Told.begun, declared.table.{Pass.Pass, StateTable.StateTable}}
+use Rattle.napi_word.{specs.Passes.{ctx_of, IsLaid, view_of, IsPassOf, IsNew, Controls, Disable}, proofs.{Owns.own_none, Deliveries.{own_deliveries_none, givers_none}, Keeps.some_is}}
 use mathlib.Core.Option as maybe
 use lib.ListN.{get_elem?}
-use Rattle.atomic_table.specs.Table.{Me, opening, takes, Allows}
-use Rattle.rx_ring.specs.declared.ends.RxCtx.{RxCtx}
 use Rattle.napi_model.specs.Step as model
-use Rattle.napi_model.specs.Step.{seen_of}
-use Rattle.napi_model.specs.History.{LegalHistory, state_after}
-use Rattle.napi_model.specs.Word.{word_of}
-use Rattle.napi_word.specs.declared.view.Key.{Key}
-use Rattle.napi_word.specs.declared.view.Strand.{Strand}
-use Rattle.napi_word.specs.declared.view.Holds.TheVariants.{Within}
-use Rattle.napi_word.specs.View.{View, number_of, place_in, disable_in}
-use Rattle.napi_model.specs.declared.state.Place.TheVariants.{Control}
-use Rattle.napi_word.specs.Slot.{Content, is_out, owns_slot}
-use Rattle.napi_word.specs.Rule.{strand, strands_from, maker_at, first_view, begun_view, begun_slot, Homes, Owned, Fits, Kept, Starts, Holding}
-use Rattle.napi_word.specs.Told.{begun}
-use Rattle.napi_word.specs.declared.table.Pass.{Pass}
-use Rattle.napi_word.specs.declared.table.StateTable.{StateTable}
-use Rattle.napi_word.specs.Passes.{ctx_of, IsLaid, view_of, IsPassOf, IsNew, Controls, Disable}
-use Rattle.napi_word.proofs.Owns.{own_none}
-use Rattle.napi_word.proofs.Deliveries.{own_deliveries_none, givers_none}
-use Rattle.napi_word.proofs.Keeps.{some_is}
 
 pub opens : (key : Key) (x : RxCtx) → x ≡ key.ring.value → Holding key (opening (9 ∷ []) (Some x ∷ []) (first_view key))
 opens key x same = inl record { word = refl; home = ap (λ (y : RxCtx). maybe.some (Some y) ∷ []) same; views = refl }

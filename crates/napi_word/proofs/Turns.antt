@@ -1,36 +1,15 @@
 -- Each kind of step, at each state that the view of its pass allows.
-use Rattle.std.proofs.Common.{◌≡◌, ◌⊎◌, ◌||◌, ℕ, eqb, eq-eqb, Option, Some, None, Bool, true, false, refl, sym, ap, ◌∙◌, subst, inl, inr, ⊎_elim, true≢false, bit_and, bit_or}
+use Rattle.{std.proofs.{Common.{◌≡◌, ◌⊎◌, ◌||◌, ℕ, eqb, eq-eqb, Option, Some, None, Bool, true, false, refl, sym, ap, ◌∙◌, subst, inl, inr, ⊎_elim, true≢false, bit_and, bit_or}, lemmas.Bool.eqb-true}, atomic_table.specs.Table.Me}
+use Rattle.napi_model.specs.declared.{state.{State.State as Napi, Seen.Seen, Kind.Kind, Place.{Place, TheVariants.{Nobody, Granted, Listed, ToThread, Polling, Control}}}, event.Operation.Operation}
+use Rattle.napi_model.specs.declared.event.{Operation.TheVariants.{Look, Schedule, Hand, Take, Complete, BusyTake, BusyStop, MarkDisable, TakeDisable, Unmark, Enable, SetThreaded}, Done.TheVariants.Held}
+use Rattle.napi_model.{specs.{Step.{event, seen_of, seen_after, after_by, handed_at, place_of, MayHand, IsControl}, History.IsLegalFor, Laws.{is_owner, ThreadsIsHanded, IsHandedOrPolled}, Word.word_of}, proofs.Words.word_of-injective}
+use Rattle.napi_word.specs.{declared.{table.{Pass.Pass, StateTable.StateTable}, view.Holds.Holds}, View.{View, number_of, controller_of, place_in}}
+use Rattle.napi_word.specs.{Slot.{Content, has_at, is_out, owns_slot, Tied, Moves, stays, taken, given, Gives, Delivers}, Passes.{tie_of, IsWithin, HandsOver, HasPoll, Polls, IsController, Controls, IsNoOwner, Disable}}
+use Rattle.napi_word.{specs.{Atoms.{MayMake, MayExchange}, Told.{Did, when, either_op, no_move, load_op, prep_of, done_of, is_marked, is_busy, busy_op}}, proofs.{Keeps.Knows, Allowed.{nothing, Fitting, Turn, allowed}}}
+use Rattle.{napi_model.proofs.Tells.tells_next, napi_word.proofs.{Places.is_false, Bits.{hand_bits, take_mask, added, subtracted, hand_list, hand_thread, take_word, threaded_word, unthreaded_word, mark_word, unmark_word}}}
 use prog.Atomic.{either}
-use Rattle.std.proofs.lemmas.Bool.{eqb-true}
-use Rattle.atomic_table.specs.Table.{Me}
-use Rattle.napi_model.specs.declared.state.State.{State as Napi}
-use Rattle.napi_model.specs.declared.state.Seen.{Seen}
-use Rattle.napi_model.specs.declared.state.Kind.{Kind}
 use Rattle.napi_model.specs.declared.state.Kind.TheVariants as kind
-use Rattle.napi_model.specs.declared.state.Place.{Place}
-use Rattle.napi_model.specs.declared.state.Place.TheVariants.{Nobody, Granted, Listed, ToThread, Polling, Control}
-use Rattle.napi_model.specs.declared.event.Operation.{Operation}
-use Rattle.napi_model.specs.declared.event.Operation.TheVariants.{Look, Schedule, Hand, Take, Complete, BusyTake, BusyStop, MarkDisable, TakeDisable, Unmark, Enable, SetThreaded}
-use Rattle.napi_model.specs.declared.event.Done.TheVariants.{Held}
-use Rattle.napi_model.specs.Step.{event, seen_of, seen_after, after_by, handed_at, place_of, MayHand, IsControl}
-use Rattle.napi_model.specs.History.{IsLegalFor}
 use Rattle.napi_model.specs.Step as step
-use Rattle.napi_model.specs.Laws.{is_owner, ThreadsIsHanded, IsHandedOrPolled}
-use Rattle.napi_model.specs.Word.{word_of}
-use Rattle.napi_model.proofs.Words.{word_of-injective}
-use Rattle.napi_word.specs.declared.table.Pass.{Pass}
-use Rattle.napi_word.specs.declared.table.StateTable.{StateTable}
-use Rattle.napi_word.specs.declared.view.Holds.{Holds}
-use Rattle.napi_word.specs.View.{View, number_of, controller_of, place_in}
-use Rattle.napi_word.specs.Slot.{Content, has_at, is_out, owns_slot, Tied, Moves, stays, taken, given, Gives, Delivers}
-use Rattle.napi_word.specs.Passes.{tie_of, IsWithin, HandsOver, HasPoll, Polls, IsController, Controls, IsNoOwner, Disable}
-use Rattle.napi_word.specs.Atoms.{MayMake, MayExchange}
-use Rattle.napi_word.specs.Told.{Did, when, either_op, no_move, load_op, prep_of, done_of, is_marked, is_busy, busy_op}
-use Rattle.napi_word.proofs.Keeps.{Knows}
-use Rattle.napi_word.proofs.Allowed.{nothing, Fitting, Turn, allowed}
-use Rattle.napi_model.proofs.Tells.{tells_next}
-use Rattle.napi_word.proofs.Places.{is_false}
-use Rattle.napi_word.proofs.Bits.{hand_bits, take_mask, added, subtracted, hand_list, hand_thread, take_word, threaded_word, unthreaded_word, mark_word, unmark_word}
 
 -- ---- places and marks
 

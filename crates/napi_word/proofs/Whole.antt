@@ -1,13 +1,8 @@
 -- A list that has each number's events is the whole history.
-use Rattle.std.proofs.Common.{◌≡◌, ℕ, ◌<◌, ◌≤◌, List, [], ◌∷◌, ◌++◌, length, drop, refl, sym, ap, ◌∙◌, arith, append_assoc, lt_of_not-le}
-use Rattle.std.proofs.lemmas.List.{append-nil}
-use mathlib.Core.List.{IsPrefix}
-use mathlib.Core.Logic.{dite}
+use Rattle.{std.proofs.{Common.{◌≡◌, ℕ, ◌<◌, ◌≤◌, List, [], ◌∷◌, ◌++◌, length, drop, refl, sym, ap, ◌∙◌, arith, append_assoc, lt_of_not-le}, lemmas.List.append-nil}, napi_model.specs.{declared.event.Event.Event, History.own}}
+use Rattle.{napi_model.proofs.Histories.{own_first, own-append}, napi_word.proofs.Owns.own_rest}
+use mathlib.Core.{List.IsPrefix, Logic.dite}
 use native.Mathlib.Decide.{dec_le}
-use Rattle.napi_model.specs.declared.event.Event.{Event}
-use Rattle.napi_model.specs.History.{own}
-use Rattle.napi_model.proofs.Histories.{own_first, own-append}
-use Rattle.napi_word.proofs.Owns.{own_rest}
 
 nobody_none : (xs : List Event) → ((c : ℕ) → own c xs ≡ []) → xs ≡ []
 nobody_none [] h = refl

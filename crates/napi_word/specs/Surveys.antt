@@ -5,7 +5,8 @@ use mathlib.Core.List.{IsPrefix}
 use lib.ListN.{get_elem?}
 use Rattle.atomic_table.specs.Table.{Me}
 use Rattle.napi_model.specs.declared.event.Event.{Event}
-use Rattle.napi_model.specs.Step.{opening}
+use Rattle.napi_model.specs.Step.{opening, seen_of}
+use Rattle.napi_model.specs.Word.{word_of}
 use Rattle.napi_model.specs.History.{LegalHistory, state_after, own}
 use Rattle.napi_model.specs.Laws.{is_owner}
 use Rattle.napi_word.specs.declared.view.Strand.{Strand}
@@ -102,9 +103,10 @@ pub record Knew (k : ℕ) (h : List Event) (ds : List Delivery) (x : Strand) (c 
   pub busy : is_owner c (state_after (opening k) x.seen).place ≡ true → (state_after (opening k) h).flags.in_busy_poll ≡ (state_after (opening k) x.seen).flags.in_busy_poll
   pub disable : c ≡ k → (state_after (opening k) h).flags.disable ≡ (state_after (opening k) x.seen).flags.disable
 
--- a load that is no event, by which all strands of a seat catch up
+-- a load that is no event, by which all strands of a seat catch up; the word that it finds is that of the state then
 abbrev pub surveyed : Me Content View → ℕ → Me Content View → Type 0
 surveyed me n me' =
     (h : List Event) × (ds : List Delivery) × IsWhole (controller_of me.0) h ds
     × (me'.0 ≡ all_caught_up h ds me.0) × (me'.1 ≡ me.1)
     × ((k : ℕ) (x : Strand) (c : ℕ) → get_elem? me.0 k ≡ maybe.some x → x.number ≡ Some c → Knew (controller_of me.0) h ds x c)
+    × (n ≡ word_of (seen_of (state_after (opening (controller_of me.0)) h)))

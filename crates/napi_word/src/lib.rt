@@ -22,8 +22,6 @@ mod slot;
 mod steps;
 mod surveying;
 mod table;
-#[cfg(test)]
-mod tests;
 mod view;
 
 pub use ending::Ended;

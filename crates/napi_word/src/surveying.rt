@@ -1,17 +1,19 @@
 //! All passes of a table meet at once.
 ghost use Rattle.std.specs.Prelude.{◌≡◌, [], ◌∷◌};
 ghost use Rattle.napi_word.specs.declared.view.Holds.TheVariants.{Nothing};
-ghost use Rattle.napi_word.specs.View.{controller_of};
+ghost use Rattle.napi_model.specs.Step.{seen_of};
+ghost use Rattle.napi_word.specs.View.{controller_of, state_in};
 ghost use Rattle.napi_word.specs.Passes.{view_of, IsPassOf};
 ghost use Rattle.napi_word.specs.Surveys.{Surveys};
 
 use crate::plays::{PartsLast, Surveying, TakesFront};
 use crate::table::{Pass, StateTable};
 use crate::view::Holds;
+use napi_model::{Seen, decode_known};
 
 impl StateTable {
     /// Three callers and the controller of a table meet at once. Then each shows the whole history, in which its own list is
-    /// exact, and all deliveries. It is no event, and writes nothing.
+    /// exact, and all deliveries. It is no event, and writes nothing. Last comes what the word tells of the state behind it.
     #[inline]
     pub fn survey(
         &self,
@@ -19,16 +21,17 @@ impl StateTable {
         second: Pass,
         third: Pass,
         last: &mut Pass,
-    ) -> (Pass, Pass, Pass)
+    ) -> (Pass, Pass, Pass, Seen)
         requires first { IsPassOf self.now first }
         requires second { IsPassOf self.now second }
         requires third { IsPassOf self.now third }
         requires last { IsPassOf self.now last.old }
         requires rest { (first.holds ≡ Nothing) × (second.holds ≡ Nothing)
             × (third.holds ≡ Nothing) }
-        ensures { Surveys (controller_of (view_of last.old))
+        ensures surveys { Surveys (controller_of (view_of last.old))
             (first ∷ second ∷ third ∷ last.old ∷ [])
             (result.0 ∷ result.1 ∷ result.2 ∷ last.new ∷ []) }
+        ensures word { result.3 ≡ seen_of (state_in (view_of last.new)) }
     {
         let table = &self.table.shared;
         let Pass {
@@ -46,7 +49,7 @@ impl StateTable {
         table.join_seat::<TakesFront>(&mut last.seat, first);
         table.join_seat::<TakesFront>(&mut last.seat, second);
         table.join_seat::<TakesFront>(&mut last.seat, third);
-        table.load::<Surveying>(&mut last.seat, 0);
+        let seen = decode_known(table.load::<Surveying>(&mut last.seat, 0));
         let third = table.split_seat::<PartsLast>(&mut last.seat);
         let second = table.split_seat::<PartsLast>(&mut last.seat);
         let first = table.split_seat::<PartsLast>(&mut last.seat);
@@ -58,6 +61,7 @@ impl StateTable {
                 holds,
             },
             Pass { seat: third, holds },
+            seen,
         )
     }
 }

@@ -1,16 +1,7 @@
 -- Busy polling on its way, and where it ends.
-use Rattle.std.proofs.Common.{◌≡◌, ◌∙◌, ℕ, ◌+◌, ◌≤◌, Bool, true, false, List, [], ◌∷◌, ◌++◌, length, length-append, ap, refl, sym, arith}
-use Rattle.std.specs.Prelude.{filter, if◌then◌else◌, sum_by, Option}
-use Rattle.std.proofs.lemmas.List.Elements.{filter-append}
-use Rattle.std.proofs.lemmas.List.Sums.{sum_by-append}
-use Rattle.napi_model.specs.declared.state.Kind.{Kind}
-use Rattle.poll_engine.specs.BusyPolling.{Given, Leaves, PollsBusily, Round, is_below, no_report}
-use Rattle.poll_engine.specs.Polling.{is_absent}
-use Rattle.poll_engine.specs.Polls.{Chain}
-use Rattle.poll_engine.specs.declared.bench.BusyReport.{BusyReport}
-use Rattle.poll_engine.specs.declared.bench.Next.{Next}
-use Rattle.poll_engine.specs.declared.bench.Next.TheVariants.{Absent, Gone, Again, Repoll}
-use Rattle.poll_engine.proofs.PollFacts.{chain-push}
+use Rattle.std.{proofs.{Common.{◌≡◌, ◌∙◌, ℕ, ◌+◌, ◌≤◌, Bool, true, false, List, [], ◌∷◌, ◌++◌, length, length-append, ap, refl, sym, arith}, lemmas.List.Elements.filter-append}, specs.Prelude.{filter, if◌then◌else◌, sum_by, Option}}
+use Rattle.{std.proofs.lemmas.List.Sums.sum_by-append, napi_model.specs.declared.state.Kind.Kind, poll_engine.specs.{BusyPolling.{Given, Leaves, PollsBusily, Round, is_below, no_report}, Polling.is_absent, Polls.Chain}}
+use Rattle.poll_engine.{specs.declared.bench.{BusyReport.BusyReport, Next.{Next, TheVariants.{Absent, Gone, Again, Repoll}}}, proofs.PollFacts.chain-push}
 
 pub at_most_one : (b : Bool) → (if b then 1 else 0) ≤ 1
 at_most_one true = omega arith

@@ -1,20 +1,9 @@
 -- The run as a function is a run, and every run over a list of one thread is that one.
-use Rattle.std.proofs.Common.{◌≡◌, ◌≢◌, ◌∙◌, ◌⊎◌, inl, inr, ℕ, zero, suc, ◌+◌, ◌<◌, ◌≤◌, Bool, true, false, cond, List, [], ◌∷◌, ◌++◌, length, length-append, drop, refl, sym, ap, subst, arith, append_assoc}
-use Rattle.std.specs.Prelude.{◌&&◌, ◌==◌, not, if◌then◌else◌}
-use Rattle.std.proofs.Math.Seq.{drop-append_seam}
-use Rattle.std.proofs.lemmas.Bool.Decides.{eqb_tells, leb_tells}
-use Rattle.std.proofs.lemmas.List.{append-nil}
-use Rattle.poll_engine.specs.Function.{IsGivenBy, Progress, RunIsFunction, after_batch, after_poll, from_batch, run_of, run_report, takes_more, IsShownBy, RunIsShown}
-use Rattle.poll_engine.specs.Laws.{HasOneOutcome, IsPlainRun}
-use Rattle.poll_engine.specs.Plain.{NothingBehind, OwnPushes, all_held}
-use Rattle.poll_engine.specs.Polls.{At, Chain, Poll, arrivals, is_arrival, is_repoll, repolled, work_of}
-use Rattle.poll_engine.specs.Run.{is_spent}
-use Rattle.poll_engine.specs.Driven.{Going}
-use Rattle.poll_engine.specs.Turn.{HandsOn}
-use Rattle.poll_engine.proofs.PlainFacts.{IsPlainBatch, handed-most, runs-agree}
-use Rattle.poll_engine.proofs.PollFacts.{arrivals-append, arrivals-one, chain-push, repolled-append, repolled-one, work-push}
-use Rattle.poll_engine.proofs.RunFacts.{going-ends, going-poll, going-spliced, going-start}
-use Rattle.poll_engine.specs.declared.bench.Once.{Once}
+use Rattle.std.proofs.{Common.{◌≡◌, ◌≢◌, ◌∙◌, ◌⊎◌, inl, inr, ℕ, zero, suc, ◌+◌, ◌<◌, ◌≤◌, Bool, true, false, cond, List, [], ◌∷◌, ◌++◌, length, length-append, drop, refl, sym, ap, subst, arith, append_assoc}, Math.Seq.drop-append_seam}
+use Rattle.{std.{specs.Prelude.{◌&&◌, ◌==◌, not, if◌then◌else◌}, proofs.lemmas.Bool.Decides.{eqb_tells, leb_tells}}, poll_engine.{specs.Plain.{NothingBehind, OwnPushes, all_held}, proofs.PlainFacts.{IsPlainBatch, handed-most, runs-agree}}}
+use Rattle.{std.proofs.lemmas.List.append-nil, poll_engine.specs.{Laws.{HasOneOutcome, IsPlainRun}, Run.is_spent, Driven.Going, Turn.HandsOn}}
+use Rattle.poll_engine.{specs.Function.{IsGivenBy, Progress, RunIsFunction, after_batch, after_poll, from_batch, run_of, run_report, takes_more, IsShownBy, RunIsShown}, proofs.RunFacts.{going-ends, going-poll, going-spliced, going-start}}
+use Rattle.poll_engine.{specs.{Polls.{At, Chain, Poll, arrivals, is_arrival, is_repoll, repolled, work_of}, declared.bench.Once.Once}, proofs.PollFacts.{arrivals-append, arrivals-one, chain-push, repolled-append, repolled-one, work-push}}
 
 -- budget and window are left
 unspent : (budget window : ℕ) (polls : List Poll) → is_spent budget window polls ≡ false → (work_of polls < budget) × (length polls < window)

@@ -1,19 +1,10 @@
 -- Runs over a list of one thread: by their polls alone, and that two of them agree.
-use Rattle.std.proofs.Common.{◌≡◌, ◌≢◌, ◌∙◌, ◌⊎◌, inl, inr, ℕ, ◌+◌, ◌<◌, ◌≤◌, Bool, false, cond, List, [], ◌∷◌, ◌++◌, length, length-append, take, drop, refl, sym, ap, arith, append_assoc}
-use Rattle.std.specs.List.{AllByRecursion, concat}
-use Rattle.std.proofs.Math.Seq.{drop-append_seam, take-add, take-append_seam}
-use Rattle.std.proofs.lemmas.List.{append-nil, append_cancel_left, drop-drop, take-append-drop, take-append-le, take_all}
-use Rattle.std.proofs.lemmas.Bool.{cases_lt}
-use Rattle.poll_engine.specs.Laws.{FollowEachOther, HasOneOutcome, IsPlainRun, NoOtherArrivals, PlainListAfterwards}
-use Rattle.poll_engine.specs.Plain.{NothingBehind, OwnPushes, all_held}
-use Rattle.poll_engine.specs.Polls.{At, Chain, Poll, arrivals, ids, is_arrival, is_repoll, repolled}
-use Rattle.poll_engine.specs.Run.{AreBatches, IsBatch, is_spent}
-use Rattle.poll_engine.proofs.PollFacts.{arrivals-append, arrivals-one, ids-append, length-ids, repolled-append, repolled-one, taken-le}
+use Rattle.std.{proofs.Common.{◌≡◌, ◌≢◌, ◌∙◌, ◌⊎◌, inl, inr, ℕ, ◌+◌, ◌<◌, ◌≤◌, Bool, false, cond, List, [], ◌∷◌, ◌++◌, length, length-append, take, drop, refl, sym, ap, arith, append_assoc}, specs.List.{AllByRecursion, concat}}
+use Rattle.std.proofs.{Math.Seq.{drop-append_seam, take-add, take-append_seam}, lemmas.{List.{append-nil, append_cancel_left, drop-drop, take-append-drop, take-append-le, take_all}, Bool.cases_lt}}
+use Rattle.poll_engine.specs.{Laws.{FollowEachOther, HasOneOutcome, IsPlainRun, NoOtherArrivals, PlainListAfterwards}, Plain.{NothingBehind, OwnPushes, all_held}, Polls.{At, Chain, Poll, arrivals, ids, is_arrival, is_repoll, repolled}}
+use Rattle.poll_engine.{specs.{Run.{AreBatches, IsBatch, is_spent}, declared.bench.Next.Next}, proofs.PollFacts.{arrivals-append, arrivals-one, ids-append, length-ids, repolled-append, repolled-one, taken-le}}
+use Rattle.poll_engine.specs.declared.{bench.{Next.TheVariants.{Absent, Gone, Again, Repoll}, Once.Once}, run.RunReport.RunReport}
 use Rattle.napi_model.specs.declared.state.Kind.TheVariants as kind
-use Rattle.poll_engine.specs.declared.bench.Next.{Next}
-use Rattle.poll_engine.specs.declared.bench.Next.TheVariants.{Absent, Gone, Again, Repoll}
-use Rattle.poll_engine.specs.declared.bench.Once.{Once}
-use Rattle.poll_engine.specs.declared.run.RunReport.{RunReport}
 
 -- a batch over a list of one thread
 abbrev pub IsPlainBatch : ℕ → ℕ → List ℕ → List Poll → List ℕ → Type 0

@@ -1,8 +1,5 @@
 -- What one more poll adds to a list of polls.
-use Rattle.std.proofs.Common.{◌≡◌, ◌∙◌, ℕ, ◌+◌, ◌≤◌, Bool, true, false, cond, List, [], ◌∷◌, ◌++◌, length, take, map, refl, sym, ap, arith}
-use Rattle.std.proofs.lemmas.List.{length-take, map-append}
-use Rattle.std.proofs.lemmas.List.Elements.{filter-append}
-use Rattle.std.proofs.lemmas.List.Sums.{sum_by-append}
+use Rattle.std.proofs.{Common.{◌≡◌, ◌∙◌, ℕ, ◌+◌, ◌≤◌, Bool, true, false, cond, List, [], ◌∷◌, ◌++◌, length, take, map, refl, sym, ap, arith}, lemmas.List.{length-take, map-append, Elements.filter-append, Sums.sum_by-append}}
 use Rattle.poll_engine.specs.Polls.{Chain, Poll, arrivals, ids, is_arrival, is_repoll, repolled, work_of}
 
 pub chain-push : {A B : Type 0} (leads : B → A → B → Type 0) (before : B) (polls : List A) (after last : B) (poll : A)

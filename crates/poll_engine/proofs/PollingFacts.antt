@@ -1,18 +1,9 @@
 -- A thread's polling of one instance on its way, and what its polls are.
 use Rattle.std.proofs.Common.{◌≡◌, ◌≢◌, ◌∙◌, ℕ, zero, suc, ◌+◌, ◌-◌, ◌<◌, ◌≤◌, Bool, true, false, List, [], ◌∷◌, ◌++◌, length, length-append, append_assoc, ap, refl, sym, arith, nat_lt}
-use Rattle.std.specs.Prelude.{◌==◌, ◌&&◌, sum_by, Option, MatchBool}
-use Rattle.std.specs.List.{AllByRecursion}
-use Rattle.std.proofs.lemmas.Bool.{eq-eqb, le-ltb, lt-ltb, ltb-true, ne_eqb}
-use Rattle.std.proofs.lemmas.List.Sums.{sum_by-append}
-use Rattle.napi_model.specs.declared.state.Kind.{Kind}
+use Rattle.{std.{specs.{Prelude.{◌==◌, ◌&&◌, sum_by, Option, MatchBool}, List.AllByRecursion}, proofs.lemmas.{Bool.{eq-eqb, le-ltb, lt-ltb, ltb-true, ne_eqb}, List.Sums.sum_by-append}}, napi_model.specs.declared.state.Kind.Kind}
+use Rattle.poll_engine.specs.{Polls.is_repoll, Polling.{Ends, Follows, LetsGo, PollsByThread, PollsHeld, goes_on}, Thread.{Continues, IsThreadPolling, is_for_thread, last_next}, declared.bench.Next.Next}
+use Rattle.poll_engine.specs.declared.bench.{Next.TheVariants.{Absent, Gone, Again, Repoll}, Once.Once, ThreadReport.ThreadReport}
 use Rattle.napi_model.specs.declared.state.Kind.TheVariants as kind
-use Rattle.poll_engine.specs.Polls.{is_repoll}
-use Rattle.poll_engine.specs.Polling.{Ends, Follows, LetsGo, PollsByThread, PollsHeld, goes_on}
-use Rattle.poll_engine.specs.Thread.{Continues, IsThreadPolling, is_for_thread, last_next}
-use Rattle.poll_engine.specs.declared.bench.Next.{Next}
-use Rattle.poll_engine.specs.declared.bench.Next.TheVariants.{Absent, Gone, Again, Repoll}
-use Rattle.poll_engine.specs.declared.bench.Once.{Once}
-use Rattle.poll_engine.specs.declared.bench.ThreadReport.{ThreadReport}
 
 last-snoc : (polls : List Once) (once : Once) → last_next (polls ++ once ∷ []) ≡ once.next
 last-snoc [] once = refl

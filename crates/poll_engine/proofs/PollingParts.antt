@@ -1,13 +1,8 @@
 -- The polling of an instance is a polling of a part of it, where each call is one of the part.
-use Rattle.std.proofs.Common.{◌==◌, ◌-◌, ℕ, Bool, true, false, List, [], ◌∷◌, Option, Some, None, MatchBool, ap}
-use Rattle.napi_model.specs.declared.state.Kind.{Kind}
+use Rattle.{std.proofs.Common.{◌==◌, ◌-◌, ℕ, Bool, true, false, List, [], ◌∷◌, Option, Some, None, MatchBool, ap}, napi_model.specs.declared.state.Kind.Kind, poll_engine.specs.{Polls.is_repoll, Polling.{goes_on, is_absent}}}
+use Rattle.poll_engine.specs.declared.bench.{Next.{Next, TheVariants.{Absent, Gone, Again, Repoll}}, Once.Once}
 use Rattle.napi_model.specs.declared.state.Kind.TheVariants as kind
-use Rattle.poll_engine.specs.Polls.{is_repoll}
 use Rattle.poll_engine.specs.Polling as polling
-use Rattle.poll_engine.specs.Polling.{goes_on, is_absent}
-use Rattle.poll_engine.specs.declared.bench.Next.{Next}
-use Rattle.poll_engine.specs.declared.bench.Next.TheVariants.{Absent, Gone, Again, Repoll}
-use Rattle.poll_engine.specs.declared.bench.Once.{Once}
 
 either : {A B C D : Type 0} (b : Bool) → (A → C) → (B → D) → MatchBool b A B → MatchBool b C D
 either true f g m = f m

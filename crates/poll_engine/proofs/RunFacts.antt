@@ -1,20 +1,10 @@
 -- A run on its way, and how each turn of the loop carries it on.
 use Rattle.std.proofs.Common.{◌≡◌, ◌≢◌, ◌∙◌, ◌⊎◌, inl, inr, ℕ, ◌+◌, ◌<◌, ◌≤◌, Bool, true, false, cond, List, [], ◌∷◌, ◌++◌, length, length-append, take, refl, sym, ap, subst, arith, append_assoc}
-use Rattle.std.specs.Prelude.{nat_le, ◌||◌, Option, Some, None, MatchOption}
-use Rattle.std.specs.List.{AllByRecursion, concat}
-use Rattle.std.proofs.lemmas.Bool.{lt-leb}
-use Rattle.std.proofs.lemmas.List.{append-nil, take-append-le, take_all}
-use Rattle.std.proofs.lemmas.List.Folds.{concat-append}
-use Rattle.std.proofs.Math.Nat.{eq-or-lt_of_le}
-use Rattle.poll_engine.specs.Polls.{Poll, arrivals, ids, is_arrival, is_repoll, repolled, work_of}
-use Rattle.poll_engine.specs.Run.{AreBatches, IsBatch, IsRun, is_spent}
-use Rattle.poll_engine.specs.Driven.{Going}
-use Rattle.poll_engine.specs.Turn.{HandsOn, Refills, Takes, asked_for}
-use Rattle.poll_engine.proofs.PollFacts.{arrivals-append, arrivals-one, ids-append, length-ids, repolled-append, repolled-one, taken-le, work-push}
-use Rattle.napi_model.specs.declared.state.Kind.TheVariants as kind
-use Rattle.poll_engine.specs.declared.bench.Next.{Next}
-use Rattle.poll_engine.specs.declared.bench.Next.TheVariants.{Absent, Gone, Again, Repoll}
+use Rattle.std.{specs.{Prelude.{nat_le, ◌||◌, Option, Some, None, MatchOption}, List.{AllByRecursion, concat}}, proofs.{lemmas.{Bool.lt-leb, List.{append-nil, take-append-le, take_all, Folds.concat-append}}, Math.Nat.eq-or-lt_of_le}}
+use Rattle.poll_engine.specs.{Polls.{Poll, arrivals, ids, is_arrival, is_repoll, repolled, work_of}, Run.{AreBatches, IsBatch, IsRun, is_spent}, Driven.Going, Turn.{HandsOn, Refills, Takes, asked_for}}
+use Rattle.poll_engine.{proofs.PollFacts.{arrivals-append, arrivals-one, ids-append, length-ids, repolled-append, repolled-one, taken-le, work-push}, specs.declared.bench.Next.{Next, TheVariants.{Absent, Gone, Again, Repoll}}}
 use Rattle.poll_engine.specs.declared.run.RunReport.{RunReport}
+use Rattle.napi_model.specs.declared.state.Kind.TheVariants as kind
 
 -- batches stay batches as polls are added
 pub batches-push : (takes : List Poll → List ℕ → Type 0) (polls : List Poll) (poll : Poll) (taken : List ℕ) (batches : List (List ℕ))

@@ -1,39 +1,11 @@
 -- What the parts of a crew come to for its stations.
-use Rattle.std.proofs.Common.{◌≡◌, ℕ, ◌≤◌, true, false, is_some, List, [], ◌++◌, length, sym, ap, ◌∙◌, subst, IsSome, All, arith, rules}
-use Rattle.std.specs.Prelude.{IfOk, Ok, Err, Result, vec_items}
-use Rattle.std.specs.Global.{Vec}
-use Rattle.std.specs.List.{AllByRecursion, AllZip}
-use Rattle.rx_ring.specs.declared.ends.RxIn.{RxIn}
-use Rattle.rx_ring.specs.declared.packet.Packet.{Packet}
-use Rattle.rx_ring.specs.Ends.{SameIn, capacity_of, put_list}
-use Rattle.rx_ring.specs.ReceiveRing.{bytes_of, capped}
-use Rattle.napi_calls.specs.declared.kept.Kept.{Kept}
-use Rattle.napi_calls.specs.declared.types.Caller.{Caller}
-use Rattle.napi_calls.specs.declared.types.Napi.{Napi}
-use Rattle.napi_calls.specs.Instance.{IsSeatOf}
-use Rattle.napi_calls.specs.Seats.{number_of, own_list}
-use Rattle.interrupt_workers.specs.declared.acts.Act.{Act}
-use Rattle.interrupt_workers.specs.declared.opening.Loose.{Loose}
-use Rattle.interrupt_workers.specs.declared.opening.Placed.{Placed}
-use Rattle.interrupt_workers.specs.declared.station.Station.{Station}
-use Rattle.interrupt_workers.specs.declared.station.Finished.{Finished}
-use Rattle.seat_pollers.specs.declared.seat.Seat.{Seat}
-use Rattle.interrupt_workers.specs.declared.job.Job.{Job}
-use Rattle.interrupt_workers.specs.declared.worker.Seats.{Seats}
-use Rattle.interrupt_workers.specs.declared.job.Worked.{Worked}
-use Rattle.seat_pollers.specs.declared.thread_poller.ThreadSide.{ThreadSide}
-use Rattle.interrupt_workers.specs.Acts.{after_acts, arrivals}
-use Rattle.poll_workers.specs.Finishes.{IsFinished, IsWorkedOf}
-use Rattle.seat_pollers.specs.SeatKeeping.{IsCallerOf}
-use Rattle.interrupt_workers.specs.Ends.{IsCallerAt, IsDoneAt, IsFinishOf}
-use Rattle.interrupt_workers.specs.Opens.{IsInputOf, IsKeptLoose, IsKeptSideOf, IsLoose}
-use Rattle.interrupt_workers.specs.Runs.{HasRun, IsEnded, Ledger, Whose, WorksBy, blank, controller_number}
-use Rattle.interrupt_workers.specs.Seats.{AreSeatsOf}
-use Rattle.seat_pollers.specs.SeatKeeping.{AreSameSeats, IsSameSeat}
-use Rattle.seat_pollers.specs.Gives.{GivesCaller}
-use Rattle.crew_tasks.specs.Paces.{IsLawful}
-use Rattle.poll_workers.specs.Spreads.{IsJobAt, IsKeptJobOf, IsSeatAt, IsThreadAt}
-use Rattle.interrupt_workers.specs.Works.{IsWorkOf, ledger_of, whose}
+use Rattle.std.{proofs.Common.{◌≡◌, ℕ, ◌≤◌, true, false, is_some, List, [], ◌++◌, length, sym, ap, ◌∙◌, subst, IsSome, All, arith, rules}, specs.{Prelude.{IfOk, Ok, Err, Result, vec_items}, Global.Vec, List.{AllByRecursion, AllZip}}}
+use Rattle.{rx_ring.specs.{declared.{ends.RxIn.RxIn, packet.Packet.Packet}, Ends.{SameIn, capacity_of, put_list}, ReceiveRing.{bytes_of, capped}}, napi_calls.specs.declared.{kept.Kept.Kept, types.{Caller.Caller, Napi.Napi}}}
+use Rattle.{napi_calls.specs.{Instance.IsSeatOf, Seats.{number_of, own_list}}, interrupt_workers.specs.declared.{acts.Act.Act, opening.{Loose.Loose, Placed.Placed}, station.{Station.Station, Finished.Finished}}}
+use Rattle.{seat_pollers.specs.declared.{seat.Seat.Seat, thread_poller.ThreadSide.ThreadSide}, interrupt_workers.specs.{declared.{job.{Job.Job, Worked.Worked}, worker.Seats.Seats}, Acts.{after_acts, arrivals}}}
+use Rattle.{poll_workers.specs.Finishes.{IsFinished, IsWorkedOf}, seat_pollers.specs.SeatKeeping.{IsCallerOf, AreSameSeats, IsSameSeat}, interrupt_workers.specs.Ends.{IsCallerAt, IsDoneAt, IsFinishOf}}
+use Rattle.{interrupt_workers.specs.{Opens.{IsInputOf, IsKeptLoose, IsKeptSideOf, IsLoose}, Runs.{HasRun, IsEnded, Ledger, Whose, WorksBy, blank, controller_number}, Seats.AreSeatsOf}, seat_pollers.specs.Gives.GivesCaller}
+use Rattle.{crew_tasks.specs.Paces.IsLawful, poll_workers.specs.Spreads.{IsJobAt, IsKeptJobOf, IsSeatAt, IsThreadAt}, interrupt_workers.specs.Works.{IsWorkOf, ledger_of, whose}}
 use Rattle.crew_tasks.proofs.ListFacts.{each_index, zip_all, zip_and, zip_both, zip_each, zip_flip, zip_same}
 
 same_ring : (a b c : RxIn) (napi : Napi) → b ≡ a → SameIn b c → IsInputOf a napi → IsInputOf c napi

@@ -1,8 +1,5 @@
 -- What is told of what the crews came to.
-use Rattle.std.proofs.Common.{◌≡◌, Bool, true, false, refl}
-use Rattle.std.specs.Prelude.{IfOk, IfErr, IsErrOf, Ok, Err, Result}
-use Rattle.poll_workers.specs.Faults.{IsCrewFault, told}
-use Rattle.poll_workers.specs.declared.fault.WorkFault.{WorkFault}
+use Rattle.{std.{proofs.Common.{◌≡◌, Bool, true, false, refl}, specs.Prelude.{IfOk, IfErr, IsErrOf, Ok, Err, Result}}, poll_workers.specs.{Faults.{IsCrewFault, told}, declared.fault.WorkFault.WorkFault}}
 use Rattle.poll_workers.specs.declared.fault.WorkFault.TheVariants.{OutOfMemory, GateShut, SpawnFailed, SameNumber}
 
 module _ {A : Type 0} where

@@ -48,7 +48,9 @@ fn lists_of_each_count(rt: HostRuntime) -> Result<(), Fail> {
 // A ring of few, of odd and of the most places takes as many packets as it has places, and no more.
 #[test]
 fn rings_of_odd_capacities(rt: HostRuntime) -> Result<(), Fail> {
-    for capacity in [1usize, 2, 3, 5, 63, 65, 999, 1001, 4095, 65_535, 65_536] {
+    for capacity in [
+        1usize, 2, 3, 5, 63, 65, 999, 1000, 1001, 4095, 65_535, 65_536,
+    ] {
         let (mut input, _ctx) = ring(rt.alloc(), capacity)?;
         for _ in 0..capacity {
             assert!(rt; input.put(PACKET).is_ok());

@@ -1,30 +1,13 @@
 -- What clap reads of the words, by its own account (`matches_of`, `fault_of`), is what they ask for.
-use Rattle.std.proofs.Common.{◌≡◌, ◌∙◌, ◌&&◌, ◌||◌, Bool, cond, true, false, not, refl, sym, ap, List, [], ◌∷◌, ◌++◌, map, length, Option, Some, None, is_some, option_map, true≢false}
-use mathlib.Core.List.{append-nil, map-append}
-use Rattle.std.specs.Prelude.{if◌then◌else◌, nat_lt, IfOk, Result, Ok, Err, fold, find, option_and_then, slice_get}
-use Rattle.std.specs.List.{list_any}
-use Rattle.std.specs.Option.{option_map_or}
-use Rattle.std.specs.Result.{result_ok}
-use Rattle.std.specs.Str.{bytes_eq}
-use Rattle.std.proofs.lemmas.Slice.Eq.{bytes_eq-Decides}
-use Rattle.clap.specs.Lexer.{long_of, long_of_rest, short_of, short_of_rest, strip_byte}
+use Rattle.{std.proofs.Common.{◌≡◌, ◌∙◌, ◌&&◌, ◌||◌, Bool, cond, true, false, not, refl, sym, ap, List, [], ◌∷◌, ◌++◌, map, length, Option, Some, None, is_some, option_map, true≢false}, clap.specs.declared.builder.command.Command.Command}
+use Rattle.{std.specs.{Prelude.{if◌then◌else◌, nat_lt, IfOk, Result, Ok, Err, fold, find, option_and_then, slice_get}, Option.option_map_or}, clap.specs.Simple.{App, Shape, app_of, built, entered, filled, is_simple, matches_of, with_rule}}
+use Rattle.{std.{specs.{List.list_any, Result.result_ok, Str.bytes_eq}, proofs.{Math.Bool.or-false, lemmas.Bool.or_parts}}, clap.specs.Kinds.{Kinds, or_else}}
+use Rattle.{std.proofs.lemmas.{Slice.Eq.bytes_eq-Decides, Option.none-some}, clap.proofs.WalkLemmas.list_any-map, replay_words.specs.{Options.{asked_by, option, read_by_clap, tool, with_name}, declared.settings.Settings.Settings}}
+use Rattle.clap.specs.{Lexer.{long_of, long_of_rest, short_of, short_of_rest, strip_byte}, Built.AddsArg, declared.{error.kind.ErrorKind.TheVariants.{ArgumentConflict, UnknownArgument}, parser.matches.ValueSource.TheVariants.CommandLine}}
 use Rattle.clap.specs.Walk.{option_word as value_word, used_by_id, Held, Row, Rule, Step, Waiting, Walk, after_flag, after_step, arg_by_id, arg_by_long, at_row, first_of, finished, has_long, has_row, idle, is_empty, long_met, long_or_other, more_values, next, nothing_held, option as waits_for, reading_by, settled, settled_rows, short_or_plain, trailing, used, walk, walked, rule_of, with_default, with_values}
-use Rattle.clap.specs.Simple.{App, Shape, app_of, built, entered, filled, is_simple, matches_of, with_rule}
-use Rattle.clap.specs.Built.{AddsArg}
-use Rattle.clap.specs.Kinds.{Kinds, or_else}
-use Rattle.clap.specs.Faults.{bundle_fault, check_fault, defaults_fault, entered_fault, fault_of, is_simple_and_free, flag_word_fault, long_fault, settle_fault, step_fault, turn_fault, use_fault, walk_fault}
-use Rattle.clap.specs.declared.builder.arg.Arg.{Arg}
-use Rattle.clap.specs.declared.builder.command.Command.{Command}
-use Rattle.clap.specs.declared.error.kind.ErrorKind.TheVariants.{ArgumentConflict, UnknownArgument}
-use Rattle.clap.specs.declared.parser.matches.ValueSource.TheVariants.{CommandLine}
-use Rattle.clap.proofs.WalkLemmas.{list_any-map}
-use Rattle.replay_words.specs.Options.{asked_by, option, read_by_clap, tool, with_name}
-use Rattle.replay_words.specs.declared.mode.Mode.{Mode}
-use Rattle.replay_words.specs.declared.settings.Settings.{Settings}
-use Rattle.replay_words.specs.Words.{Asked, asked_for, asked_of, asked_with, Given, Reading, Text, complete, is_hyphened, is_option, is_stray, next_word, option_names, option_word, read_on, value_of, with_option}
-use Rattle.std.proofs.Math.Bool.{or-false}
-use Rattle.std.proofs.lemmas.Bool.{or_parts}
-use Rattle.std.proofs.lemmas.Option.{none-some}
+use Rattle.clap.specs.{Faults.{bundle_fault, check_fault, defaults_fault, entered_fault, fault_of, is_simple_and_free, flag_word_fault, long_fault, settle_fault, step_fault, turn_fault, use_fault, walk_fault}, declared.builder.arg.Arg.Arg}
+use Rattle.replay_words.specs.{declared.mode.Mode.Mode, Words.{Asked, asked_for, asked_of, asked_with, Given, Reading, Text, complete, is_hyphened, is_option, is_stray, next_word, option_names, option_word, read_on, value_of, with_option}}
+use mathlib.Core.List.{append-nil, map-append}
 
 -- ---- the words, read from the front
 

@@ -11,6 +11,3 @@ mod words;
 pub use mode::Mode;
 pub use settings::{MOST_BUDGET, MOST_POLLERS, MOST_WEIGHT, MOST_WINDOW, Settings};
 pub use words::{WordFault, number_of, parse_serial_words, parse_words, word_line, word_status};
-
-#[cfg(test)]
-mod tests;

@@ -18,10 +18,16 @@ pub struct RxIn {
 /// The end that polls: the poll context of an instance. It may go to a thread of its own, and from one to another.
 #[derive(Drop)]
 pub struct RxCtx {
+    // On the heap, since a context goes from hand to hand at each poll: so one word is moved.
+    pub(crate) end: Box<PollEnd>,
+}
+
+/// What a context has.
+#[derive(Drop)]
+pub(crate) struct PollEnd {
     pub(crate) consumer: Consumer<Packet>,
-    // 1 under the mark of `beside`, else 0. As wide as the counts, so that a context moves in whole words: with a bool there
-    // it would move in pieces that overlap, and a processor then waits for each to be stored.
-    pub(crate) mark: u64,
+    // Whether the mark of `beside` is set.
+    pub(crate) mark: bool,
     pub(crate) polls: u64,
     pub(crate) packets: u64,
     pub(crate) bytes: u64,
@@ -30,7 +36,7 @@ pub struct RxCtx {
 }
 
 impl RxIn {
-    ghost use Rattle.std.specs.Prelude.{◌≡◌, ◌<◌, ◌≤◌, ◌+◌, [], ◌∷◌, ◌++◌, length, IsOk, OnOk, IfErr, OnErr};
+    ghost use Rattle.std.specs.Prelude.{◌≡◌, ◌<◌, ◌≤◌, ◌+◌, ◌-◌, [], ◌∷◌, ◌++◌, length, take, min, IsOk, OnOk, IfErr, OnErr};
     ghost use Rattle.rx_ring.specs.Ends.{put_list, capacity_of, free_of, SameIn};
 
     /// Puts a packet in, behind all others, or hands it back where the ring is full; nothing changes then.
@@ -52,6 +58,23 @@ impl RxIn {
             Err(PushError::Full(back)) => Err(back),
         }
     }
+
+    /// Puts a burst in, behind all others and in its order: as many of its first packets as fit. Answers how many these
+    /// are; the others aren't put, and may be put later.
+    ///
+    /// What fits is as for [`put`](RxIn::put), packet by packet; the poll's end sees all of them at once.
+    pub fn put_all(&mut self, packets: &[Packet]) -> usize
+        ensures ring { SameIn self.old self.new }
+        ensures put { put_list self.new ≡ put_list self.old ++ take result packets.now }
+        ensures count { result ≤ length packets.now }
+        ensures first { min (length packets.now) (capacity_of self.old - length (put_list self.old))
+            ≤ result }
+        ensures fits { min (length packets.now) (free_of self.old) ≤ result }
+        ensures used { free_of self.old ≤ free_of self.new + result }
+    {
+        let (put, _) = self.producer.push_partial_slice(packets);
+        put.len()
+    }
 }
 
 impl RxCtx {
@@ -64,9 +87,9 @@ impl RxCtx {
         ensures { result ≡ counts_of (polls_of self.now) (received_list self.now) }
     {
         RxCounts {
-            polls: self.polls,
-            packets: self.packets,
-            bytes: self.bytes,
+            polls: self.end.polls,
+            packets: self.end.packets,
+            bytes: self.end.bytes,
         }
     }
 
@@ -81,23 +104,7 @@ impl RxCtx {
         ensures next { GivesNext weight self.old self.new batch.new.items }
         ensures work { result ≡ length batch.new.items }
     {
-        if !self.is_beside() && self.consumer.cached_slots() < weight {
-            self.consumer.slots();
-        }
-        let count = self.consumer.cached_slots().min(weight);
-        self.bytes = take_known(&mut self.consumer, count, self.bytes, batch);
-        self.packets = self.packets.saturating_add(count as u64);
-        self.polls = self.polls.saturating_add(1);
-        self.apart();
-        count
-    }
-
-    // Whether the mark of `beside` is set: the next poll gives what was seen there, and looks no further.
-    #[tactic(auto, unfolding(crate::specs::Ends::is_beside))]
-    fn is_beside(&self) -> bool
-        ensures { result ≡ is_beside self.now }
-    {
-        self.mark != 0
+        self.end.poll(weight, batch)
     }
 
     /// Ends the mark that [`beside`](crate::beside) leaves, so that the next poll looks at the ring again. Whoever gives
@@ -110,7 +117,28 @@ impl RxCtx {
         ensures polls { polls_of self.new ≡ polls_of self.old }
         ensures unmarked { is_beside self.new ≡ false }
     {
-        self.mark = 0;
+        self.end.mark = false;
+    }
+}
+
+impl PollEnd {
+    ghost use Rattle.std.specs.Prelude.{◌≡◌, ◌≤◌, length};
+    ghost use Rattle.rx_ring.specs.Ends.{Gives};
+
+    fn poll(&mut self, weight: usize, batch: &mut Batch) -> usize
+        requires { (1 ≤ weight) × (weight ≤ NAPI_POLL_WEIGHT) }
+        ensures next { Gives weight self.old self.new batch.new.items }
+        ensures work { result ≡ length batch.new.items }
+    {
+        if !self.mark && self.consumer.cached_slots() < weight {
+            self.consumer.slots();
+        }
+        let count = self.consumer.cached_slots().min(weight);
+        self.bytes = take_known(&mut self.consumer, count, self.bytes, batch);
+        self.packets = self.packets.saturating_add(count as u64);
+        self.polls = self.polls.saturating_add(1);
+        self.mark = false;
+        count
     }
 }
 

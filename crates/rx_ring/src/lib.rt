@@ -16,6 +16,3 @@ pub use ends::{RxCtx, RxIn};
 pub use fault::RingFault;
 pub use packet::{Batch, MAX_WEIGHT, Packet, RxCounts, Totals};
 pub use pair::{MAX_CAPACITY, beside, finish, names_tell_rings, ring};
-
-#[cfg(test)]
-mod tests;

@@ -1,12 +1,12 @@
 //! What is done with both ends of a ring in one hand: it is made, the ends meet, and it is finished.
 
 ghost use Rattle.std.specs.Prelude.{◌≡◌, ◌≢◌, ◌+◌, ◌<◌, ◌^◌, ◌++◌, ◌⊎◌, ◌↔◌, [], false, length, IfOk, IfErr, IsErrOf};
-ghost use Rattle.rtrb.specs.Ring.{received, known_items};
+ghost use Rattle.rtrb.specs.Ring.{received, known_items, IsPair};
 ghost use Rattle.rx_ring.specs.ReceiveRing.{most_places, capped, bytes_of, IsInOrder, totals_of};
-ghost use Rattle.rx_ring.specs.Ends.{put_list, capacity_of, received_list, known_list, polls_of, is_beside, IsOneRing, ring_of, Meets, NamesTellRings};
+ghost use Rattle.rx_ring.specs.Ends.{put_list, capacity_of, received_list, known_list, polls_of, is_beside, IsOneRing, ring_of, Meets, Meeting, NamesTellRings};
 ghost use Rattle.rx_ring.specs.declared.fault.RingFault.TheVariants.{BadCapacity, OutOfMemory};
 
-use crate::ends::{RxCtx, RxIn};
+use crate::ends::{PollEnd, RxCtx, RxIn};
 use crate::fault::RingFault;
 use crate::packet::{Packet, Totals};
 use rtrb::{Consumer, RingBuffer};
@@ -15,7 +15,8 @@ use std::alloc::Global;
 /// The most packets that a ring can hold.
 pub const MAX_CAPACITY: usize = 65_536;
 
-/// A new ring of `capacity` packets: its two ends. It is the only call here that takes memory.
+/// A new ring of `capacity` packets: its two ends. It is the only call here that takes memory, for the packets and for what
+/// the context leads to.
 ///
 /// Refused by [`BadCapacity`](RingFault::BadCapacity) where `capacity` is 0 or over [`MAX_CAPACITY`], and else by
 /// [`OutOfMemory`](RingFault::OutOfMemory) where there is no memory for the ring.
@@ -33,16 +34,19 @@ pub fn ring(alloc: Global, capacity: usize) -> Result<(RxIn, RxCtx), RingFault>
         return Err(RingFault::BadCapacity);
     }
     match RingBuffer::new(alloc, capacity) {
-        Ok((producer, consumer)) => Ok((
-            RxIn { producer },
-            RxCtx {
+        Ok((producer, consumer)) => {
+            let end = PollEnd {
                 consumer,
-                mark: 0,
+                mark: false,
                 polls: 0,
                 packets: 0,
                 bytes: 0,
-            },
-        )),
+            };
+            match Box::new(alloc, end) {
+                Ok(end) => Ok((RxIn { producer }, RxCtx { end })),
+                Err(_) => Err(RingFault::OutOfMemory),
+            }
+        }
         Err(_) => Err(RingFault::OutOfMemory),
     }
 }
@@ -52,14 +56,20 @@ pub fn ring(alloc: Global, capacity: usize) -> Result<(RxIn, RxCtx), RingFault>
 ///
 /// A poll right after it gives exactly the lesser of the weight and what the ring holds. The mark ends with that poll, or
 /// by [`RxCtx::apart`].
-#[tactic(auto, unfolding(crate::specs::Ends::is_beside))]
 pub fn beside(input: &mut RxIn, ctx: &mut RxCtx)
     requires { IsOneRing input.old ctx.old }
     ensures { Meets input.old ctx.old input.new ctx.new }
 {
-    input.producer.slots_beside(&mut ctx.consumer);
-    ctx.consumer.slots_beside(&mut input.producer);
-    ctx.mark = 1;
+    meet(input, &mut *ctx.end);
+}
+
+fn meet(input: &mut RxIn, end: &mut PollEnd)
+    requires { IsPair input.old.producer end.old.consumer }
+    ensures { Meeting input.old end.old input.new end.new }
+{
+    input.producer.slots_beside(&mut end.consumer);
+    end.consumer.slots_beside(&mut input.producer);
+    end.mark = true;
 }
 
 /// The end of a ring, whose two ends these are: what was put, what was received, and what is left.
@@ -72,13 +82,13 @@ pub fn finish(input: RxIn, ctx: RxCtx) -> Totals
     let mut input = input;
     let mut ctx = ctx;
     beside(&mut input, &mut ctx);
-    let RxCtx {
+    let PollEnd {
         mut consumer,
         mark: _,
         polls: _,
         packets,
         bytes,
-    } = ctx;
+    } = Box::into_inner(ctx.end);
     let left = consumer.cached_slots();
     Totals {
         put: packets.saturating_add(left as u64),

@@ -1,16 +1,7 @@
 -- What polls, runs and turns keep of a poller's seats.
-use Rattle.std.proofs.Common.{◌≡◌, ◌∙◌, ℕ, zero, suc, ◌<◌, Bool, List, [], ◌∷◌, Option, Some, None, length, refl, sym, ap, subst, vec_items, set, get_or, arith}
-use Rattle.std.specs.Prelude.{◌==◌, MatchOption, position}
-use Rattle.poll_engine.specs.Polls.{At, Chain, Poll}
-use Rattle.poll_engine.specs.declared.bench.Once.{Once}
-use Rattle.seat_pollers.specs.declared.seat.Seat.{Seat}
-use Rattle.seat_pollers.specs.declared.poller.Crowd.{Crowd}
-use Rattle.seat_pollers.specs.declared.poller.Poller.{Poller}
-use Rattle.seat_pollers.specs.declared.thread_poller.Alone.{Alone}
-use Rattle.seat_pollers.specs.SeatKeeping.{AreSameSeats, IsSameSeat}
-use Rattle.seat_pollers.specs.Crowds.{IsNowhere, IsPolledAt, PollsSeat}
-use Rattle.seat_pollers.specs.Serving.{IsServed}
-use Rattle.seat_pollers.specs.Turns.{TurnsAlone, TurnsByRun}
+use Rattle.std.{proofs.Common.{◌≡◌, ◌∙◌, ℕ, zero, suc, ◌<◌, Bool, List, [], ◌∷◌, Option, Some, None, length, refl, sym, ap, subst, vec_items, set, get_or, arith}, specs.Prelude.{◌==◌, MatchOption, position}}
+use Rattle.{poll_engine.specs.{Polls.{At, Chain, Poll}, declared.bench.Once.Once}, seat_pollers.specs.{declared.{seat.Seat.Seat, poller.{Crowd.Crowd, Poller.Poller}, thread_poller.Alone.Alone}, SeatKeeping.{AreSameSeats, IsSameSeat}}}
+use Rattle.seat_pollers.specs.{Crowds.{IsNowhere, IsPolledAt, PollsSeat}, Serving.IsServed, Turns.{TurnsAlone, TurnsByRun}}
 
 -- a seat that nobody touched
 pub seat_stays : (x : Seat) → IsSameSeat x x

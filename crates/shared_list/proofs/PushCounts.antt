@@ -1,21 +1,11 @@
 -- Once all ends came back, there are no more pushes than theirs and the poller's.
 use Rattle.std.proofs.Common.{◌≡◌, ℕ, zero, suc, ◌+◌, ◌<◌, ◌≤◌, ◌⊎◌, Bool, true, false, List, [], ◌∷◌, ◌++◌, length, map, cond, eqb, sym, refl, ap, ◌∙◌, subst, inl, inr, ⊎_elim, length-append, append-nil, eq-eqb, lt_of_not-le, arith}
-use Rattle.std.specs.List.{sum_by}
-use Rattle.std.proofs.lemmas.List.{length-map, nil_from_length}
-use Rattle.std.proofs.lemmas.List.Sums.{sum_by-cons}
-use mathlib.Core.Option.{some, some-ne-none, some-injective}
-use mathlib.Core.Logic.{dite}
+use Rattle.{std.{specs.List.{sum_by, All}, proofs.lemmas.List.{length-map, nil_from_length, Sums.sum_by-cons}}, shared_list.specs.declared.list_rule.{Returned.Returned, EndView.EndView}, crossbeam_queue.specs.Passes.view}
+use Rattle.shared_list.specs.{declared.{list_in.ListIn.ListIn, shared.SharedList.SharedList}, PushOrder.{Push, ids_of, poller, pushes_by, IsReturned, KnowsOrder, PopsMore, WasEmpty, returned_pushes}}
+use Rattle.{shared_list.specs.SharedList.{as_returned, number_of, own_pushes, popped_by, pushed_by, IsOneOrder}, std.proofs.lemmas.List.Elements.{All-nil, All-cons}}
+use mathlib.Core.{Option.{some, some-ne-none, some-injective}, Logic.dite}
 use native.Mathlib.Decide.{dec_le}
 use lib.ListN.{get_elem?}
-use Rattle.shared_list.specs.declared.list_rule.Returned.{Returned}
-use Rattle.shared_list.specs.declared.list_rule.EndView.{EndView}
-use Rattle.crossbeam_queue.specs.Passes.{view}
-use Rattle.shared_list.specs.declared.list_in.ListIn.{ListIn}
-use Rattle.shared_list.specs.declared.shared.SharedList.{SharedList}
-use Rattle.shared_list.specs.PushOrder.{Push, ids_of, poller, pushes_by, IsReturned, KnowsOrder, PopsMore, WasEmpty, returned_pushes}
-use Rattle.shared_list.specs.SharedList.{as_returned, number_of, own_pushes, popped_by, pushed_by, IsOneOrder}
-use Rattle.std.specs.List.{All}
-use Rattle.std.proofs.lemmas.List.Elements.{All-nil, All-cons}
 
 module _ {A : Type 0} where
   sum_mono : (f g : A → ℕ) → ((a : A) → f a ≤ g a) → (l : List A) → sum_by f l ≤ sum_by g l

@@ -1,15 +1,7 @@
 -- The operations of calls, one after the other.
-use Rattle.std.proofs.Common.{◌≢◌, Bool, true, false, List, [], ◌∷◌, ◌++◌, ◌∙◌, sym, refl}
-use Rattle.napi_model.specs.declared.event.Operation.{Operation}
-use Rattle.napi_model.specs.declared.event.Done.{Done}
+use Rattle.{std.proofs.Common.{◌≢◌, Bool, true, false, List, [], ◌∷◌, ◌++◌, ◌∙◌, sym, refl}, napi_model.specs.declared.{event.{Operation.Operation, Done.Done}, state.Kind.Kind}, napi_word.specs.declared.table.Pass.Pass}
+use Rattle.{napi_calls.{specs.Made.Made, proofs.Making.more}, poll_engine.specs.declared.bench.Next.{Next, TheVariants.{Absent, Gone, Again, Repoll}}, shared_polling.specs.SharedPolling.{CompletesBy, EndsBy, HandsTo}}
 use Rattle.napi_model.specs.declared.event.Done.TheVariants as done
-use Rattle.napi_model.specs.declared.state.Kind.{Kind}
-use Rattle.napi_word.specs.declared.table.Pass.{Pass}
-use Rattle.napi_calls.specs.Made.{Made}
-use Rattle.napi_calls.proofs.Making.{more}
-use Rattle.poll_engine.specs.declared.bench.Next.{Next}
-use Rattle.poll_engine.specs.declared.bench.Next.TheVariants.{Absent, Gone, Again, Repoll}
-use Rattle.shared_polling.specs.SharedPolling.{CompletesBy, EndsBy, HandsTo}
 
 pub filled : (os : List Operation) (o : Operation) (ps : List Operation) → os ++ o ∷ ps ≢ []
 filled [] o ps = λ e. cc

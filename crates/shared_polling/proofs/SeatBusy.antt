@@ -1,33 +1,14 @@
 -- Busy polling of a shared instance through its caller's seat, told by the operations of the caller.
 use Rattle.std.proofs.Common.{◌≡◌, ◌≢◌, ◌∙◌, ℕ, ◌+◌, ◌≤◌, Bool, true, false, List, [], ◌∷◌, ◌++◌, append_assoc, append-nil, MatchBool, ap, arith, flat_map, length, length-append, map, refl, sym, subst}
-use Rattle.std.specs.Prelude.{filter, if◌then◌else◌, nat_lt, sum_by}
-use Rattle.std.specs.List.{AllByRecursion}
-use Rattle.std.proofs.lemmas.List.Elements.{filter-append}
-use Rattle.std.proofs.lemmas.List.Sums.{sum-map, sum_by-append, sum_by-cons}
-use Rattle.rx_ring.specs.declared.packet.Packet.{Packet}
-use Rattle.rx_ring.specs.ReceiveRing.{bytes_of}
-use Rattle.napi_model.specs.declared.state.Kind.{Kind}
+use Rattle.{std.{specs.{Prelude.{filter, if◌then◌else◌, nat_lt, sum_by}, List.AllByRecursion}, proofs.lemmas.List.{Elements.filter-append, Sums.{sum-map, sum_by-append, sum_by-cons}}}, rx_ring.specs.declared.packet.Packet.Packet}
+use Rattle.{rx_ring.specs.ReceiveRing.bytes_of, napi_model.specs.declared.{state.Kind.Kind, event.{Done.Done, Operation.{Operation, TheVariants.{Look, Hand, Complete, BusyTake, BusyStop}}}}, napi_word.specs.declared.table.Pass.Pass}
+use Rattle.{napi_model.specs.declared.event.Call.Call, napi_calls.specs.Made.{Lost, Made, looks}, poll_engine.specs.{BusyPolling.{Given, busy_report, is_below, no_report}, Polling.is_absent, Polls.Chain}}
+use Rattle.shared_polling.specs.{Seat.{SeatBusyTakes, SeatCompletes, SeatGives, SeatHolds, SeatMade, SeatRequeues, SeatStops, packets_by}, SharedBusy.{BusyPollsBy, BusyTakesBy, LeavesBy, PollsBusilyBy, StopsBy, held_by, held_in, is_held}}
+use Rattle.{shared_polling.specs.{SharedPolling.{CompletesBy, EndsBy, HandsTo}, declared.seat.Seat.Seat}, poll_engine.specs.declared.bench.{BusyReport.BusyReport, Next.{Next, TheVariants.{Absent, Gone, Again, Repoll}}}}
+use Rattle.shared_polling.proofs.{Joined.{end_made, filled}, SeatPolling.{same_pass, seat_behind}}
 use Rattle.napi_model.specs.declared.state.Kind.TheVariants as kind
-use Rattle.napi_model.specs.declared.event.Done.{Done}
 use Rattle.napi_model.specs.declared.event.Done.TheVariants as done
-use Rattle.napi_model.specs.declared.event.Operation.{Operation}
-use Rattle.napi_model.specs.declared.event.Operation.TheVariants.{Look, Hand, Complete, BusyTake, BusyStop}
-use Rattle.napi_word.specs.declared.table.Pass.{Pass}
-use Rattle.napi_model.specs.declared.event.Call.{Call}
-use Rattle.napi_calls.specs.Made.{Lost, Made, looks}
 use Rattle.poll_engine.specs.BusyPolling as busy
-use Rattle.poll_engine.specs.BusyPolling.{Given, busy_report, is_below, no_report}
-use Rattle.poll_engine.specs.Polling.{is_absent}
-use Rattle.poll_engine.specs.Polls.{Chain}
-use Rattle.shared_polling.specs.Seat.{SeatBusyTakes, SeatCompletes, SeatGives, SeatHolds, SeatMade, SeatRequeues, SeatStops, packets_by}
-use Rattle.shared_polling.specs.SharedBusy.{BusyPollsBy, BusyTakesBy, LeavesBy, PollsBusilyBy, StopsBy, held_by, held_in, is_held}
-use Rattle.shared_polling.specs.SharedPolling.{CompletesBy, EndsBy, HandsTo}
-use Rattle.poll_engine.specs.declared.bench.BusyReport.{BusyReport}
-use Rattle.poll_engine.specs.declared.bench.Next.{Next}
-use Rattle.poll_engine.specs.declared.bench.Next.TheVariants.{Absent, Gone, Again, Repoll}
-use Rattle.shared_polling.specs.declared.seat.Seat.{Seat}
-use Rattle.shared_polling.proofs.Joined.{end_made, filled}
-use Rattle.shared_polling.proofs.SeatPolling.{same_pass, seat_behind}
 
 -- ---- the completions that were held
 

@@ -1,19 +1,7 @@
 -- A call of a caller's seat at a shared instance.
-use Rattle.std.proofs.Common.{◌≡◌, List, [], ◌++◌, length, drop, Some, ◌∙◌, ap, sym, append-nil, append_assoc}
-use Rattle.rx_ring.specs.declared.packet.Packet.{Packet}
-use Rattle.rx_ring.specs.declared.ends.RxCtx.{RxCtx}
-use Rattle.rx_ring.specs.Ends.{received_list}
-use Rattle.napi_model.specs.declared.event.Operation.{Operation}
-use Rattle.napi_word.specs.declared.table.Pass.{Pass}
-use Rattle.napi_word.specs.View.{own_deliveries, packets_of}
-use Rattle.napi_calls.specs.Made.{Made}
-use Rattle.napi_calls.specs.Packets.{GivesBack, HoldsOn, IsFresh, own_delivered, polled}
-use Rattle.napi_calls.specs.Seats.{number_of}
-use Rattle.napi_calls.proofs.Dealing.{delivers_back, polled_none}
-use Rattle.shared_polling.specs.declared.seat.Hold.{Hold}
-use Rattle.shared_polling.specs.declared.seat.Hold.TheVariants.{Gone}
-use Rattle.shared_polling.specs.declared.seat.Seat.{Seat}
-use Rattle.shared_polling.specs.Seat.{SeatMade, ctx_of, packets_by, pass_of}
+use Rattle.{std.proofs.Common.{◌≡◌, List, [], ◌++◌, length, drop, Some, ◌∙◌, ap, sym, append-nil, append_assoc}, rx_ring.specs.{declared.{packet.Packet.Packet, ends.RxCtx.RxCtx}, Ends.received_list}}
+use Rattle.{napi_model.specs.declared.event.Operation.Operation, napi_word.specs.{declared.table.Pass.Pass, View.{own_deliveries, packets_of}}, napi_calls.specs.{Made.Made, Packets.{GivesBack, HoldsOn, IsFresh, own_delivered, polled}}}
+use Rattle.{napi_calls.{specs.Seats.number_of, proofs.Dealing.{delivers_back, polled_none}}, shared_polling.specs.{declared.seat.{Hold.{Hold, TheVariants.Gone}, Seat.Seat}, Seat.{SeatMade, ctx_of, packets_by, pass_of}}}
 
 -- ---- the packets of one who has the context: those delivered, and those polled since
 

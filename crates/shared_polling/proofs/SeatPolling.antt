@@ -1,27 +1,11 @@
 -- The polling of a shared instance through its caller's seat, told by the operations of the caller.
-use Rattle.std.proofs.Common.{◌≡◌, ◌≢◌, ◌∙◌, ◌==◌, ◌-◌, ℕ, Bool, true, false, List, [], ◌∷◌, ◌++◌, Option, Some, None, MatchBool, append-nil, append_assoc, ap, length, refl, sym, subst}
-use Rattle.rx_ring.specs.declared.packet.Packet.{Packet}
-use Rattle.napi_model.specs.declared.state.Kind.{Kind}
+use Rattle.{std.proofs.Common.{◌≡◌, ◌≢◌, ◌∙◌, ◌==◌, ◌-◌, ℕ, Bool, true, false, List, [], ◌∷◌, ◌++◌, Option, Some, None, MatchBool, append-nil, append_assoc, ap, length, refl, sym, subst}, rx_ring.specs.declared.packet.Packet.Packet}
+use Rattle.{napi_model.specs.declared.{state.Kind.Kind, event.Operation.{Operation, TheVariants.{Look, Hand, Take}}}, napi_word.specs.declared.table.Pass.Pass, napi_calls.specs.{Dealt.Delivers, Made.Made}}
+use Rattle.{poll_engine.specs.declared.bench.{Next.{Next, TheVariants.{Absent, Gone, Again, Repoll}}, Once.Once}, napi_calls.specs.declared.types.Caller.Caller, shared_polling.specs.declared.seat.{Hold.{Hold, TheVariants.Rests}, Seat.Seat}}
+use Rattle.{poll_engine.specs.{Polls.is_repoll, Polling.{goes_on, is_absent, next_of}}, shared_polling.specs.Seat.{SeatCompletes, SeatGives, SeatLooks, SeatMade, SeatRequeues, SeatTakes, packets_by, pass_of}}
+use Rattle.shared_polling.{specs.SharedPolling.{EndsBy, GivesEach, LooksAndEndsBy, PollsBy, PollsOnceBy, ThreadPollsBy, let_go, retaken}, proofs.Joined.{joined, end_made, filled_behind}}
 use Rattle.napi_model.specs.declared.state.Kind.TheVariants as kind
-use Rattle.napi_model.specs.declared.event.Operation.{Operation}
-use Rattle.napi_model.specs.declared.event.Operation.TheVariants.{Look, Hand, Take}
-use Rattle.napi_word.specs.declared.table.Pass.{Pass}
-use Rattle.napi_calls.specs.Dealt.{Delivers}
-use Rattle.napi_calls.specs.Made.{Made}
-use Rattle.poll_engine.specs.declared.bench.Next.{Next}
-use Rattle.poll_engine.specs.declared.bench.Next.TheVariants.{Absent, Gone, Again, Repoll}
-use Rattle.poll_engine.specs.declared.bench.Once.{Once}
-use Rattle.napi_calls.specs.declared.types.Caller.{Caller}
-use Rattle.shared_polling.specs.declared.seat.Hold.{Hold}
-use Rattle.shared_polling.specs.declared.seat.Hold.TheVariants.{Rests}
-use Rattle.shared_polling.specs.declared.seat.Seat.{Seat}
-use Rattle.poll_engine.specs.Polls.{is_repoll}
 use Rattle.poll_engine.specs.Polling as polling
-use Rattle.poll_engine.specs.Polling.{goes_on, is_absent}
-use Rattle.shared_polling.specs.Seat.{SeatCompletes, SeatGives, SeatLooks, SeatMade, SeatRequeues, SeatTakes, packets_by, pass_of}
-use Rattle.poll_engine.specs.Polling.{next_of}
-use Rattle.shared_polling.specs.SharedPolling.{EndsBy, GivesEach, LooksAndEndsBy, PollsBy, PollsOnceBy, ThreadPollsBy, let_go, retaken}
-use Rattle.shared_polling.proofs.Joined.{joined, end_made, filled_behind}
 
 some_inj : {p q : Pass} → Some p ≡ Some q → p ≡ q
 some_inj e = cc

@@ -1,9 +1,5 @@
 -- The operations of a caller in its place, one call after another.
-use Rattle.std.proofs.Common.{◌≡◌, ◌∙◌, sym, subst, List, ◌∷◌, ◌++◌, Option, Some}
-use Rattle.napi_model.specs.declared.event.Operation.{Operation}
-use Rattle.napi_calls.specs.Made.{Made}
-use Rattle.napi_calls.specs.declared.types.Caller.{Caller}
-use Rattle.napi_calls.proofs.Making.{more}
+use Rattle.{std.proofs.Common.{◌≡◌, ◌∙◌, sym, subst, List, ◌∷◌, ◌++◌, Option, Some}, napi_model.specs.declared.event.Operation.Operation, napi_calls.{specs.{Made.Made, declared.types.Caller.Caller}, proofs.Making.more}}
 use Rattle.shared_replay.specs.Acts.{MakesAt}
 
 some_inj : {c d : Caller} → Some c ≡ Some d → c ≡ d

@@ -1,22 +1,8 @@
 -- How a change of one shared device keeps what is true of all.
-use Rattle.std.proofs.Common.{◌≡◌, ◌∙◌, ℕ, ◌+◌, ◌<◌, ◌≤◌, Bool, true, false, Option, Some, None, [], ◌∷◌, ◌++◌, length, length-set, get_or, slice_set, replicate, zero, suc, ap, subst, refl, sym, arith}
-use Rattle.std.specs.Prelude.{List, is_some, sum_by}
-use Rattle.std.specs.List.{AllByRecursion, AllZip}
-use Rattle.rx_ring.specs.declared.packet.Totals.{Totals}
-use Rattle.std.proofs.Math.Logic.{∥∥₁_elim}
-use Rattle.std.proofs.Props.{props}
-use Rattle.napi_calls.specs.declared.types.Caller.{Caller}
-use Rattle.napi_calls.specs.declared.types.Napi.{Napi}
-use Rattle.shared_replay.specs.declared.shared_device.Controlled.{Controlled}
-use Rattle.shared_replay.specs.declared.shared_device.Controlled.TheVariants.{On, Marked, Off}
-use Rattle.shared_replay.specs.declared.shared_device.SharedDevice.{SharedDevice}
-use Rattle.std.proofs.lemmas.List.Sums.{sum_by-cons, sum_by-set}
-use Rattle.trace_rows.specs.Places.{Places, added, added_at, at, empty}
-use Rattle.shared_replay.specs.Stations.{IsEndAt, IsRestAt, IsSharedKept, listed_of, waiting_in}
-use Rattle.shared_replay.specs.SharedDevice.{IsAtRest, IsCallerAt, IsControlAt}
-use Rattle.devices.specs.Waiting.{count}
-use Rattle.shared_replay.specs.declared.station.Station.{Station}
-use Rattle.trace_rows.proofs.PlaceFacts.{at-set, below-some}
+use Rattle.std.{proofs.Common.{◌≡◌, ◌∙◌, ℕ, ◌+◌, ◌<◌, ◌≤◌, Bool, true, false, Option, Some, None, [], ◌∷◌, ◌++◌, length, length-set, get_or, slice_set, replicate, zero, suc, ap, subst, refl, sym, arith}, specs.List.{AllByRecursion, AllZip}}
+use Rattle.{std.{specs.Prelude.{List, is_some, sum_by}, proofs.{Math.Logic.∥∥₁_elim, Props.props}}, rx_ring.specs.declared.packet.Totals.Totals, napi_calls.specs.declared.types.{Caller.Caller, Napi.Napi}, devices.specs.Waiting.count}
+use Rattle.shared_replay.specs.{declared.{shared_device.{Controlled.{Controlled, TheVariants.{On, Marked, Off}}, SharedDevice.SharedDevice}, station.Station.Station}, Stations.{IsEndAt, IsRestAt, IsSharedKept, listed_of, waiting_in}}
+use Rattle.{std.proofs.lemmas.List.Sums.{sum_by-cons, sum_by-set}, trace_rows.{specs.Places.{Places, added, added_at, at, empty}, proofs.PlaceFacts.{at-set, below-some}}, shared_replay.specs.SharedDevice.{IsAtRest, IsCallerAt, IsControlAt}}
 
 one : (b : Bool) → count b ≤ 1
 one true = omega arith

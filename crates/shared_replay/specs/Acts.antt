@@ -1,6 +1,7 @@
 -- What the acts of a shared device make of its numbers, of its ring, and of its instance by the operations of who makes them.
-use Rattle.std.specs.Prelude.{◌≡◌, ◌-◌, ℕ, Bool, true, false, List, [], ◌∷◌, ◌++◌, flat_map, Option, Some, None, MatchBool}
+use Rattle.std.specs.Prelude.{◌≡◌, ◌-◌, ℕ, Bool, true, false, List, [], ◌∷◌, ◌++◌, flat_map, length, Option, Some, None, is_some, MatchBool}
 use Rattle.rx_ring.specs.declared.packet.Packet.{Packet}
+use Rattle.rx_ring.specs.ReceiveRing.{bytes_of}
 use Rattle.napi_model.specs.declared.state.Kind.{Kind}
 use Rattle.napi_model.specs.declared.state.Seen.{Seen}
 use Rattle.napi_model.specs.declared.event.Operation.{Operation}
@@ -12,7 +13,9 @@ use Rattle.napi_model.specs.declared.event.Call.TheVariants as call
 use Rattle.napi_calls.specs.Made.{Lost, Made, WasLost, looks}
 use Rattle.napi_calls.specs.declared.types.Caller.{Caller}
 use Rattle.poll_engine.specs.declared.bench.BusyReport.{BusyReport}
+use Rattle.poll_engine.specs.Polling.{PollsByThread, PollsOnce}
 use Rattle.poll_engine.specs.declared.bench.Next.{Next}
+use Rattle.poll_engine.specs.declared.bench.Once.{Once}
 use Rattle.poll_engine.specs.declared.bench.Next.TheVariants as next
 use Rattle.shared_polling.specs.SharedBusy.{PollsBusilyBy}
 use Rattle.shared_polling.specs.SharedPolling.{HandsTo}
@@ -98,7 +101,7 @@ ControlsAt leads before told after told' =
     (c : Controlled) × (d : Controlled) × (before ≡ Some c) × (after ≡ Some d) × leads c d
     × (but_word told' ≡ but_word (record told { state = state_at d }))
 
--- ---- busy polling
+-- ---- polls
 
 abbrev pub completed_told : Bool → DeviceCounts → DeviceCounts
 completed_told true t = record t { again = raised t.again 1 }
@@ -109,6 +112,45 @@ ended_told next.Gone t = completed_told false t
 ended_told (next.Again k) t = completed_told true t
 ended_told next.Absent t = t
 ended_told next.Repoll t = t
+
+-- a poll with these packets
+abbrev pub polled_told : List Packet → DeviceCounts → DeviceCounts
+polled_told packets t = record t {
+  polls = raised t.polls 1;
+  polled = raised t.polled (length packets);
+  bytes = raised t.bytes (bytes_of packets);
+  left = t.left - length packets;
+}
+
+-- What the calls of a polling make of the numbers: a poll is counted with its packets, and a completion by its answer.
+abbrev pub TakesTold : DeviceCounts → Kind → Bool → DeviceCounts → Type 0
+TakesTold t kind taken u = u ≡ t
+
+abbrev pub GivesTold : {P : Type 0} → (P → List Packet) → DeviceCounts → ℕ → P → ℕ → DeviceCounts → Type 0
+GivesTold items t weight batch work u = (work ≡ length (items batch)) × (u ≡ polled_told (items batch) t)
+
+abbrev pub LooksTold : DeviceCounts → Bool → DeviceCounts → Type 0
+LooksTold t disabling u = u ≡ t
+
+abbrev pub RequeuesTold : DeviceCounts → DeviceCounts → Type 0
+RequeuesTold t u = u ≡ t
+
+abbrev pub CompletesTold : DeviceCounts → Option Kind → DeviceCounts → Type 0
+CompletesTold t again u = u ≡ completed_told (is_some again) t
+
+-- the numbers after one poll from the list, but for the state word
+abbrev pub OnceTold : {P : Type 0} → (P → List Packet) → ℕ → DeviceCounts → Once → P → DeviceCounts → Type 0
+OnceTold {P} items weight told once batch told' =
+    (empty : P) × (t : DeviceCounts) × (items empty ≡ [])
+    × PollsOnce TakesTold (GivesTold items) LooksTold RequeuesTold CompletesTold weight told empty once batch t
+    × (but_word told' ≡ but_word t)
+
+-- the numbers after these polls of a thread, the last of which left this batch
+abbrev pub PollsTold : {P : Type 0} → (P → List Packet) → ℕ → ℕ → DeviceCounts → List Once → P → DeviceCounts → Type 0
+PollsTold {P} items weight most told polls batch told' =
+    (empty : P) × (t : DeviceCounts) × (items empty ≡ [])
+    × PollsByThread TakesTold (GivesTold items) LooksTold RequeuesTold CompletesTold weight most false told empty polls batch t
+    × (but_word told' ≡ but_word t)
 
 -- the polls, their packets and bytes, and the completions that were held
 abbrev pub busy_told : BusyReport → DeviceCounts → DeviceCounts

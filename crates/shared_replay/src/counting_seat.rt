@@ -1,12 +1,12 @@
 //! A caller's seat at a device's instance, which counts what is polled there.
 
-ghost use Rattle.std.specs.Prelude.{◌≡◌, true};
-ghost use Rattle.shared_replay.specs.Acts.{completed_told};
+ghost use Rattle.std.specs.Prelude.{◌≡◌, true, is_some, length};
+ghost use Rattle.shared_replay.specs.Acts.{completed_told, polled_told};
 
 use devices::DeviceCounts;
 use napi_calls::{Caller, Napi};
 use napi_model::Kind;
-use poll_engine::Instance;
+use poll_engine::{BusyInstance, Instance};
 use rx_ring::Batch;
 use shared_polling::Seat;
 use std::sync::Wait;
@@ -44,6 +44,7 @@ impl<'a, R: Wait> CountingSeat<'a, R> {
         ensures rests { seat_rests result.seat }
         ensures hold { result.seat.hold ≡ Rests caller }
         ensures thread { result.seat.thread ≡ true }
+        ensures told { result.told ≡ told }
     {
         CountingSeat {
             seat: Seat::sit(rt, napi, true, caller),
@@ -54,7 +55,8 @@ impl<'a, R: Wait> CountingSeat<'a, R> {
     /// The caller, who polls no more, and what is told now.
     pub(crate) fn rise(self) -> (Caller, DeviceCounts)
         requires { seat_rests self.seat }
-        ensures { self.entry.seat.hold ≡ Rests result.0 }
+        ensures caller { self.entry.seat.hold ≡ Rests result.0 }
+        ensures told { result.1 ≡ self.entry.told }
     {
         let CountingSeat { seat, told } = self;
         (seat.rise(), told)
@@ -70,15 +72,17 @@ impl<'a, R: Wait> Instance for CountingSeat<'a, R> {
 
     ghost in_hand = { λ s. seat_in_hand s.seat };
 
-    ghost takes = { λ s kind taken t. SeatTakes s.seat kind taken t.seat };
+    ghost takes = { λ s kind taken t. SeatTakes s.seat kind taken t.seat × (t.told ≡ s.told) };
 
-    ghost gives = { λ s weight packets work t. SeatGives s.seat weight packets.items work t.seat };
+    ghost gives = { λ s weight packets work t. SeatGives s.seat weight packets.items work t.seat
+        × (work ≡ length packets.items) × (t.told ≡ polled_told packets.items s.told) };
 
-    ghost looks = { λ s disabling t. SeatLooks s.seat disabling t.seat };
+    ghost looks = { λ s disabling t. SeatLooks s.seat disabling t.seat × (t.told ≡ s.told) };
 
-    ghost requeues = { λ s t. SeatRequeues s.seat t.seat };
+    ghost requeues = { λ s t. SeatRequeues s.seat t.seat × (t.told ≡ s.told) };
 
-    ghost completes = { λ s again t. SeatCompletes s.seat again t.seat };
+    ghost completes = { λ s again t. SeatCompletes s.seat again t.seat
+        × (t.told ≡ completed_told (is_some again) s.told) };
 
     fn take(&mut self, kind: Kind) -> bool {
         self.seat.take(kind)
@@ -86,10 +90,10 @@ impl<'a, R: Wait> Instance for CountingSeat<'a, R> {
 
     fn poll(&mut self, weight: u32, batch: &mut Batch) -> u32 {
         let work = self.seat.poll(weight, batch);
-        let counts = self.seat.counts();
-        self.told.polls = counts.polls;
-        self.told.polled = counts.packets;
-        self.told.bytes = counts.bytes;
+        let bytes = <Seat<'a, R> as BusyInstance>::bytes_of(batch);
+        self.told.polls = self.told.polls.saturating_add(1);
+        self.told.polled = self.told.polled.saturating_add(u64::from(work));
+        self.told.bytes = self.told.bytes.saturating_add(bytes);
         self.told.left = self.told.left.saturating_sub(u64::from(work));
         work
     }

@@ -3,7 +3,7 @@
 
 ghost use Rattle.std.specs.Prelude.{◌≡◌, ◌≤◌, ◌+◌, ℕ, List, [], ◌∷◌, IfOk, Some, length, slice_get, vec_capacity};
 ghost use Rattle.trace_rows.specs.Range.{IsWithin};
-ghost use Rattle.shared_replay.specs.Acts.{AsksBy, ControlsAt, EnablesBy, IsBusyPollOf, MakesAt, MarksBy, Puts, TriesBy, busy_told, but_word, packet_told, requested, state_at};
+ghost use Rattle.shared_replay.specs.Acts.{AsksBy, ControlsAt, EnablesBy, IsBusyPollOf, MakesAt, MarksBy, OnceTold, PollsTold, Puts, TriesBy, busy_told, but_word, packet_told, requested, state_at};
 ghost use Rattle.shared_replay.specs.Arrivals.{Arrives};
 ghost use Rattle.shared_replay.specs.Acts.{is_pending};
 ghost use Rattle.shared_replay.specs.declared.shared_device.Controlled.TheVariants as controlled;
@@ -56,25 +56,6 @@ pub(crate) struct SharedDevice<R> {
     pub(crate) threaded: bool,
     pub(crate) told: DeviceCounts,
 }
-
-// What the report tells of a device without packets whose state word is 0.
-const OPENED: DeviceCounts = DeviceCounts {
-    state: DeviceState::On,
-    arrived: 0,
-    dropped: 0,
-    polled: 0,
-    bytes: 0,
-    left: 0,
-    polls: 0,
-    granted: 0,
-    missed: 0,
-    disabled: 0,
-    again: 0,
-    released: 0,
-    held: 0,
-    word: 0,
-    tx: None,
-};
 
 // The next caller, of an instance's callers.
 fn pop(napi: &Napi, callers: &mut Vec<Caller>) -> Caller
@@ -175,7 +156,7 @@ impl<R: Wait + Copy + Drop> SharedDevice<R> {
             seats,
             input,
             threaded: false,
-            told: OPENED,
+            told: DeviceCounts::OPENED,
         })
     }
 
@@ -406,6 +387,8 @@ impl<R: Wait + Copy + Drop> SharedDevice<R> {
         ensures rest { IsAtRest self.new }
         ensures input { self.new.input ≡ self.old.input }
         ensures polls { IsPollOf weight self.old.poller result batch.new.items self.new.poller }
+        ensures told { OnceTold (λ b. b.items) weight self.old.told result batch.new
+            self.new.told }
         ensures bound { result.work ≤ weight }
     {
         batch.clear();
@@ -428,6 +411,7 @@ impl<R: Wait + Copy + Drop> SharedDevice<R> {
         ensures input { self.new.input ≡ self.old.input }
         ensures report { (polls : List Once)
             × ArePollsOf weight most self.old.thread polls batch.new.items self.new.thread
+            × PollsTold (λ b. b.items) weight most self.old.told polls batch.new self.new.told
             × IsThreadPolling weight most polls result }
     {
         batch.clear();

@@ -1,13 +1,6 @@
 -- How one more row is dealt to its device.
-use Rattle.std.proofs.Common.{◌≡◌, ◌≢◌, ◌∙◌, ℕ, ◌+◌, ◌-◌, ◌≤◌, Bool, true, false, List, [], ◌∷◌, ◌++◌, length, append-nil, slice_index_or, slice_set, ap, refl, sym, arith}
-use Rattle.std.specs.Prelude.{◌==◌}
-use Rattle.std.proofs.lemmas.Bool.{eqb-true, eqb-false}
-use Rattle.std.proofs.lemmas.List.{get_or-set_other}
-use Rattle.std.proofs.lemmas.List.Elements.{filter-append}
-use Rattle.std.proofs.lemmas.Grind.{get_or-set_at}
-use Rattle.trace_rows.specs.declared.row.Row.{Row}
-use Rattle.threads_replay.specs.Dealing.{AreScripts}
-use Rattle.threads_replay.specs.Script.{is_act_of, is_open, script_of}
+use Rattle.std.{proofs.{Common.{◌≡◌, ◌≢◌, ◌∙◌, ℕ, ◌+◌, ◌-◌, ◌≤◌, Bool, true, false, List, [], ◌∷◌, ◌++◌, length, append-nil, slice_index_or, slice_set, ap, refl, sym, arith}, lemmas.Bool.{eqb-true, eqb-false}}, specs.Prelude.◌==◌}
+use Rattle.{std.proofs.lemmas.{List.{get_or-set_other, Elements.filter-append}, Grind.get_or-set_at}, trace_rows.specs.declared.row.Row.Row, threads_replay.specs.{Dealing.AreScripts, Script.{is_act_of, is_open, script_of}}}
 use Rattle.threads_replay.proofs.Rows.{filter-one}
 
 script-other : (device : ℕ) (rows : List Row) (row : Row) → is_act_of device row ≡ false → script_of device (rows ++ row ∷ []) ≡ script_of device rows

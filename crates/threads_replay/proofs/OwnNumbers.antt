@@ -1,10 +1,6 @@
 -- Stations in rising order of their numbers.
-use Rattle.std.proofs.Common.{◌≡◌, ◌∙◌, ℕ, zero, suc, ◌+◌, ◌<◌, ◌≤◌, Bool, true, false, List, [], ◌∷◌, ap, refl, arith}
-use Rattle.std.specs.Prelude.{◌==◌, ◌&&◌, ◌||◌, not, filter}
-use Rattle.std.specs.List.{AllZip, list_any, range_with_len}
-use Rattle.std.proofs.lemmas.Bool.{ne_eqb}
-use Rattle.interrupt_workers.specs.declared.station.Station.{Station}
-use Rattle.poll_workers.specs.Numbers.{own_numbers}
+use Rattle.std.{proofs.{Common.{◌≡◌, ◌∙◌, ℕ, zero, suc, ◌+◌, ◌<◌, ◌≤◌, Bool, true, false, List, [], ◌∷◌, ap, refl, arith}, lemmas.Bool.ne_eqb}, specs.{Prelude.{◌==◌, ◌&&◌, ◌||◌, not, filter}, List.{AllZip, list_any, range_with_len}}}
+use Rattle.{interrupt_workers.specs.declared.station.Station.Station, poll_workers.specs.Numbers.own_numbers}
 
 -- no number stands twice
 abbrev differ : List ℕ → Bool

@@ -1,10 +1,6 @@
 -- Filters and searches over the front of a list, and one more item.
-use Rattle.std.proofs.Common.{◌≡◌, ◌∙◌, ℕ, zero, suc, ◌+◌, ◌<◌, ◌≤◌, Bool, true, false, Option, Some, None, List, [], ◌∷◌, ◌++◌, length, take, get_or, ap, refl, arith}
-use Rattle.std.specs.Prelude.{◌&&◌, filter, if◌then◌else◌}
-use Rattle.std.specs.List.{find, range_with_len}
-use Rattle.std.proofs.lemmas.List.{take_more}
-use Rattle.std.proofs.lemmas.List.Elements.{filter-append}
-use Rattle.std.proofs.lemmas.List.Folds.{find-append}
+use Rattle.std.{proofs.Common.{◌≡◌, ◌∙◌, ℕ, zero, suc, ◌+◌, ◌<◌, ◌≤◌, Bool, true, false, Option, Some, None, List, [], ◌∷◌, ◌++◌, length, take, get_or, ap, refl, arith}, specs.Prelude.{◌&&◌, filter, if◌then◌else◌}}
+use Rattle.std.{specs.List.{find, range_with_len}, proofs.lemmas.List.{take_more, Elements.filter-append, Folds.find-append}}
 
 pub filter-one : {X : Type 0} (p : X → Bool) (x : X) (b : Bool) → p x ≡ b → filter p (x ∷ []) ≡ (if b then x ∷ [] else [])
 filter-one p x true e = rw e refl

@@ -1,23 +1,9 @@
 -- How one more act carries a script on, and what all its acts bring.
-use Rattle.std.proofs.Common.{◌≡◌, ◌∙◌, ℕ, zero, suc, ◌+◌, ◌<◌, ◌≤◌, List, [], ◌∷◌, ◌++◌, length, length-append, take, get_or, ap, refl, sym, arith}
-use Rattle.std.specs.Prelude.{sum_by}
-use Rattle.std.proofs.lemmas.Bool.{eq-eqb}
-use Rattle.std.proofs.lemmas.List.{length-take, take_more}
-use Rattle.std.proofs.lemmas.List.Elements.{filter-append}
-use Rattle.std.proofs.lemmas.List.Sums.{sum-map, sum_by-append}
-use Rattle.transmit_sides.specs.Transmit.{ShowsTransmit, TransmitView, opened_transmit}
-use Rattle.trace_rows.specs.declared.event.Event.{Event}
-use Rattle.trace_rows.specs.declared.event.Event.TheVariants.{Opened, Rx, Tx, Finish, Softirq, Kthread, Disable, Enable, Threaded, Busy}
-use Rattle.trace_rows.specs.declared.row.Row.{Row}
-use Rattle.transmit_sides.specs.declared.transmit.Transmit.{Transmit}
-use Rattle.interrupt_workers.specs.Acts.{after_acts, arrivals, brings}
-use Rattle.rx_ring.specs.ReceiveRing.{bytes_of}
-use Rattle.rx_ring.specs.declared.packet.Packet.{Packet}
-use Rattle.threads_replay.specs.Script.{act_at, act_of, is_rx, rx_of, transmit_after, transmit_by}
-use Rattle.threads_replay.specs.ScriptShown.{IsKept, Script, after, answer}
-use Rattle.interrupt_workers.specs.declared.acts.Act.{Act}
-use Rattle.trace_rows.proofs.Accepted.{get-at}
-use Rattle.threads_replay.proofs.Rows.{filter-long}
+use Rattle.std.{proofs.{Common.{◌≡◌, ◌∙◌, ℕ, zero, suc, ◌+◌, ◌<◌, ◌≤◌, List, [], ◌∷◌, ◌++◌, length, length-append, take, get_or, ap, refl, sym, arith}, lemmas.{Bool.eq-eqb, List.{length-take, take_more}}}, specs.Prelude.sum_by}
+use Rattle.{std.proofs.lemmas.List.{Elements.filter-append, Sums.{sum-map, sum_by-append}}, transmit_sides.specs.Transmit.{ShowsTransmit, TransmitView, opened_transmit}, trace_rows.specs.declared.event.Event.Event}
+use Rattle.{trace_rows.specs.declared.{event.Event.TheVariants.{Opened, Rx, Tx, Finish, Softirq, Kthread, Disable, Enable, Threaded, Busy}, row.Row.Row}, transmit_sides.specs.declared.transmit.Transmit.Transmit}
+use Rattle.{interrupt_workers.specs.Acts.{after_acts, arrivals, brings}, rx_ring.specs.{ReceiveRing.bytes_of, declared.packet.Packet.Packet}, threads_replay.specs.Script.{act_at, act_of, is_rx, rx_of, transmit_after, transmit_by}}
+use Rattle.{threads_replay.{specs.ScriptShown.{IsKept, Script, after, answer}, proofs.Rows.filter-long}, interrupt_workers.specs.declared.acts.Act.Act, trace_rows.proofs.Accepted.get-at}
 
 -- a row that an index out of the rows would give
 abbrev pub none : Row

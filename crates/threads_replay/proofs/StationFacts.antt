@@ -1,36 +1,12 @@
 -- From the rows of a trace to its stations, and from what a run made of these to the report.
-use Rattle.std.proofs.Common.{◌≡◌, ◌∙◌, ℕ, suc, ◌+◌, ◌-◌, ◌<◌, ◌≤◌, Bool, true, false, Option, Some, None, List, [], ◌∷◌, ◌++◌, length, slice_index_or, take, append-nil, get_or, ap, refl, sym, subst, arith, flat_map}
-use Rattle.std.specs.Global.{Vec}
-use Rattle.report_text.specs.declared.fault.ReplayFault.{ReplayFault}
-use Rattle.std.specs.Prelude.{◌==◌, ◌&&◌, Result, Ok, Err, IfOk, OnOk, vec_items, filter, map, option_map, sum_by}
-use Rattle.std.specs.List.{All, AllZip, find, range_with_len}
-use Rattle.std.proofs.Math.Nat.{min-eq_left}
-use Rattle.std.proofs.Math.Seq.{take-length}
-use Rattle.std.proofs.lemmas.Bool.{and_parts, eqb-true, leb-true, ltb-false}
-use Rattle.std.proofs.Math.Dec.{leb}
-use Rattle.std.proofs.lemmas.List.Elements.{All-filter, filter-append}
-use Rattle.std.proofs.lemmas.List.Sums.{sum_by-le}
-use Rattle.trace_rows.specs.Row.{value_fits}
-use Rattle.trace_rows.specs.Trace.{AcceptedAfter}
-use Rattle.trace_rows.specs.declared.event.Event.{Event}
-use Rattle.trace_rows.specs.declared.event.Event.TheVariants.{Opened, Rx, Tx, Finish, Softirq, Kthread, Disable, Enable, Threaded, Busy}
-use Rattle.trace_rows.specs.declared.row.Row.{Row}
-use Rattle.interrupt_workers.specs.Acts.{arrivals}
-use Rattle.interrupt_workers.specs.Runs.{HasRun}
-use Rattle.poll_workers.specs.Finishes.{IsFinished}
-use Rattle.interrupt_workers.specs.declared.station.Finished.{Finished}
-use Rattle.interrupt_workers.specs.declared.station.Station.{Station}
-use Rattle.rx_ring.specs.ReceiveRing.{bytes_of, capped}
-use Rattle.threads_replay.specs.Answer.{IsPolled, overflows}
-use Rattle.threads_replay.specs.Script.{has_thread, is_act_of, is_open, is_rx, opening_of, openings_of, opens, rx_of, script_of}
-use Rattle.threads_replay.specs.ScriptShown.{Script, acts, after, answer}
-use Rattle.threads_replay.specs.Stations.{IsEndOf, IsStationOf, end_lines, is_small, polled_of, small_fault}
-use Rattle.threads_replay.specs.ThreadsReport.{arrived, bytes, device_lines, is_opened, opened}
-use Rattle.trace_rows.proofs.Accepted.{accepted-at}
-use Rattle.report_text.specs.declared.fault.ReplayFault.TheVariants.{RingTooSmall}
-use Rattle.threads_replay.proofs.Rows.{filter-long, find-among, find-here, find-more, range-more}
-use Rattle.crew_tasks.proofs.Zips.{zip_push}
-use Rattle.threads_replay.proofs.ScriptFacts.{acts-made, arrivals-are}
+use Rattle.std.proofs.{Common.{◌≡◌, ◌∙◌, ℕ, suc, ◌+◌, ◌-◌, ◌<◌, ◌≤◌, Bool, true, false, Option, Some, None, List, [], ◌∷◌, ◌++◌, length, slice_index_or, take, append-nil, get_or, ap, refl, sym, subst, arith, flat_map}, Math.Nat.min-eq_left}
+use Rattle.{std.{specs.Global.Vec, proofs.Math.{Seq.take-length, Dec.leb}}, trace_rows.specs.{Row.value_fits, Trace.AcceptedAfter}, interrupt_workers.specs.Runs.HasRun, crew_tasks.proofs.Zips.zip_push}
+use Rattle.{report_text.specs.declared.fault.ReplayFault.{ReplayFault, TheVariants.RingTooSmall}, interrupt_workers.specs.declared.station.{Finished.Finished, Station.Station}, threads_replay.specs.ScriptShown.{Script, acts, after, answer}}
+use Rattle.{std.specs.Prelude.{◌==◌, ◌&&◌, Result, Ok, Err, IfOk, OnOk, vec_items, filter, map, option_map, sum_by}, threads_replay.specs.Script.{has_thread, is_act_of, is_open, is_rx, opening_of, openings_of, opens, rx_of, script_of}}
+use Rattle.{std.{specs.List.{All, AllZip, find, range_with_len}, proofs.lemmas.List.{Elements.{All-filter, filter-append}, Sums.sum_by-le}}, threads_replay.{specs.Answer.{IsPolled, overflows}, proofs.ScriptFacts.{acts-made, arrivals-are}}}
+use Rattle.{std.proofs.lemmas.Bool.{and_parts, eqb-true, leb-true, ltb-false}, threads_replay.{specs.ThreadsReport.{arrived, bytes, device_lines, is_opened, opened}, proofs.Rows.{filter-long, find-among, find-here, find-more, range-more}}}
+use Rattle.{trace_rows.{specs.declared.{event.Event.Event, row.Row.Row}, proofs.Accepted.accepted-at}, interrupt_workers.specs.Acts.arrivals, poll_workers.specs.Finishes.IsFinished, rx_ring.specs.ReceiveRing.{bytes_of, capped}}
+use Rattle.{trace_rows.specs.declared.event.Event.TheVariants.{Opened, Rx, Tx, Finish, Softirq, Kthread, Disable, Enable, Threaded, Busy}, threads_replay.specs.Stations.{IsEndOf, IsStationOf, end_lines, is_small, polled_of, small_fault}}
 
 -- ---- what acceptance says of a row's numbers
 

@@ -41,11 +41,11 @@ answer_of (Err fault) = Err (Trace fault)
 abbrev pub threads_of : List ℕ → Result (List ℕ) ReplayFault
 threads_of bytes = answer_of (trace_of (records_of bytes))
 
--- the reader, the memory, the writer, the gate or a thread failed
-abbrev pub IsOutside : ReplayFault → Type 0
-IsOutside GateShut = Unit {0}
-IsOutside SpawnFailed = Unit {0}
-IsOutside fault = IsSerialOutside fault
+-- the reader, the memory, the writer or a thread failed; or the gate did, where it may be shut
+abbrev pub IsOutside : Type 0 → ReplayFault → Type 0
+IsOutside may_shut GateShut = may_shut
+IsOutside may_shut SpawnFailed = Unit {0}
+IsOutside may_shut fault = IsSerialOutside fault
 
 -- the fault of a run as the replay tells it; the numbers of devices are all different
 abbrev pub IsToldAs : WorkFault → ReplayFault → Type 0

@@ -7,7 +7,7 @@ ghost use Rattle.trace_rows.specs.Trace.{AcceptedAfter};
 ghost use Rattle.trace_rows.specs.declared.row.Row.{Row};
 ghost use Rattle.poll_workers.specs.Finishes.{IsFinished};
 ghost use Rattle.poll_workers.specs.Numbers.{own_numbers};
-ghost use Rattle.poll_workers.specs.declared.fault.WorkFault.TheVariants.{SameNumber};
+ghost use Rattle.poll_workers.specs.declared.fault.WorkFault.TheVariants.{GateShut, SameNumber};
 ghost use Rattle.interrupt_workers.specs.Opens.{IsStation};
 ghost use Rattle.threads_replay.specs.Answer.{IsOutside, IsToldAs, ring_fault};
 ghost use Rattle.threads_replay.specs.Script.{opening_of, rx_of, script_of};
@@ -120,7 +120,7 @@ fn ring_fault(stations: &[Station<ScriptDevice>]) -> Option<ReplayFault>
 // Why a run of workers was refused. The numbers of devices are all different.
 fn work_fault(fault: WorkFault) -> ReplayFault
     requires { fault ≢ SameNumber }
-    ensures outside { IsOutside result }
+    ensures outside { IsOutside (fault ≡ GateShut) result }
     ensures told { IsToldAs fault result }
 {
     match fault {
@@ -158,7 +158,7 @@ where
     requires count { vec_len stations ≤ 16 }
     ensures ends { IfOk result
         (λ all. AllZip (IsFinished acts answer after) (vec_items stations) (vec_items all)) }
-    ensures fault { IfErr result (λ fault. IsOutside fault) }
+    ensures fault { IfErr result (λ fault. IsOutside G.may_shut fault) }
 {
     let pace = pace_of(settings);
     match run_workers(rt, alloc, stations, settings.pollers, pace, gate) {
@@ -183,7 +183,8 @@ where
     ensures ends { IfOk result
         (λ all. AllZip (IsEndOf rows.now) (opened rows.now) (vec_items all)) }
     ensures rings { OnOk result (ring_fault rows.now ≡ None) }
-    ensures fault { IfErr result (λ fault. IsOutside fault ⊎ (ring_fault rows.now ≡ Some fault)) }
+    ensures fault { IfErr result
+        (λ fault. IsOutside G.may_shut fault ⊎ (ring_fault rows.now ≡ Some fault)) }
 {
     let stations = stations_of(alloc, rows)?;
     match ring_fault(&stations) {

@@ -59,7 +59,7 @@ where
     ensures polled { IfOk result
         (λ all. AllZip (IsPolled rows.now) (opened rows.now) (vec_items all)) }
     ensures fault { IfErr result
-        (λ fault. IsOutside fault ⊎ (answer_of (Ok rows.now) ≡ Err fault)) }
+        (λ fault. IsOutside G.may_shut fault ⊎ (answer_of (Ok rows.now) ≡ Err fault)) }
     ensures untouched { IfErr result
         (λ fault. fault ≢ OutputFailed → Keeps (W.contents writer.old) (W.contents writer.new)) }
 {
@@ -78,7 +78,7 @@ where
 /// disable waits until its device is let go.
 ///
 /// `RingTooSmall` comes before any worker starts, for the lowest device whose ring has fewer places than packets that arrive
-/// there; `GateShut` where the gate answers false; `SpawnFailed` where a thread can't be started. All threads have ended then.
+/// there; `GateShut` where the gate answers false, so never where that is always open; `SpawnFailed` where a thread can't be started. All threads have ended then.
 /// Nothing is written before the whole run is over, so on every fault but `OutputFailed` nothing was. After a failed write it
 /// isn't known how much went out. Want of memory may come before any other fault.
 pub fn replay_threads<P, R, W, G>(
@@ -102,9 +102,10 @@ where
     ensures polled { IfOk result (λ all. (bytes : List ℕ) → R.remaining reader ≡ Some bytes
         → (rows : List Row) × (trace_of (records_of bytes) ≡ Ok rows)
         × AllZip (IsPolled rows) (opened rows) (vec_items all)) }
-    // A fault is that of the bytes read, unless the reader, the memory, the writer, the gate or a thread failed.
+    // A fault is that of the bytes read, unless the reader, the memory, the writer or a thread failed, or the gate, where that
+    // may be shut.
     ensures fault { IfErr result (λ fault. (bytes : List ℕ) → R.remaining reader ≡ Some bytes
-        → IsOutside fault ⊎ (threads_of bytes ≡ Err fault)) }
+        → IsOutside G.may_shut fault ⊎ (threads_of bytes ≡ Err fault)) }
     ensures untouched { IfErr result
         (λ fault. fault ≢ OutputFailed → Keeps (W.contents writer.old) (W.contents writer.new)) }
 {

@@ -1,15 +1,7 @@
 -- How one more row carries a replay on.
-use Rattle.std.proofs.Common.{◌≡◌, ◌∙◌, ℕ, zero, suc, ◌+◌, ◌<◌, Bool, true, false, Ok, Err, List, [], ◌∷◌, ◌++◌, length, append_assoc, take, drop, get_or, ap, refl, arith}
-use Rattle.std.specs.Prelude.{Result, if◌then◌else◌}
-use Rattle.std.proofs.lemmas.List.{length-take, take_more}
-use Rattle.transmit_sides.specs.Transmits.{Transmits}
-use Rattle.trace_rows.specs.declared.row.Row.{Row}
-use Rattle.trace_replay.specs.Replay.{after_row, after_rows, is_early, start, after_all}
-use Rattle.trace_replay.specs.Report.{report_of, serial_report}
-use Rattle.trace_replay.specs.Transmits.{after_transmit, after_transmits, transmits_of}
-use Rattle.trace_replay.specs.ReplayState.{ReplayState}
-use Rattle.report_text.specs.declared.fault.ReplayFault.{ReplayFault}
-use Rattle.report_text.specs.declared.fault.ReplayFault.TheVariants.{Pending}
+use Rattle.std.{proofs.Common.{◌≡◌, ◌∙◌, ℕ, zero, suc, ◌+◌, ◌<◌, Bool, true, false, Ok, Err, List, [], ◌∷◌, ◌++◌, length, append_assoc, take, drop, get_or, ap, refl, arith}, specs.Prelude.{Result, if◌then◌else◌}}
+use Rattle.{std.proofs.lemmas.List.{length-take, take_more}, transmit_sides.specs.Transmits.Transmits, trace_rows.specs.declared.row.Row.Row, trace_replay.specs.Replay.{after_row, after_rows, is_early, start, after_all}}
+use Rattle.{trace_replay.specs.{Report.{report_of, serial_report}, Transmits.{after_transmit, after_transmits, transmits_of}, ReplayState.ReplayState}, report_text.specs.declared.fault.ReplayFault.{ReplayFault, TheVariants.Pending}}
 use Rattle.replay_words.specs.declared.settings.Settings.{Settings}
 
 -- the rest of the rows, where those before it were played

@@ -1,24 +1,10 @@
 -- A run over the poll list is the one that its definition gives, and keeps the list within the devices that wait on it.
-use Rattle.std.proofs.Common.{◌≡◌, ℕ, ◌+◌, ◌≤◌, cond, List, [], ◌∷◌, ◌++◌, length, length-append, take, drop, ap, refl, arith}
-use Rattle.std.specs.Prelude.{sum_by}
-use Rattle.std.proofs.lemmas.List.{length-drop, length-take}
-use Rattle.std.proofs.lemmas.List.Sums.{sum_by-cons}
-use Rattle.devices.specs.Bench.{ArePolls, Devices, polled_at}
-use Rattle.transmit_sides.specs.Transmits.{Keeps, Transmits}
-use Rattle.devices.specs.Waiting.{leaves}
-use Rattle.poll_engine.specs.Function.{run_report}
-use Rattle.poll_engine.specs.Laws.{IsPlainRun}
-use Rattle.poll_engine.specs.Polls.{At, Chain, Poll, arrivals, ids, is_arrival, is_repoll, repolled}
-use Rattle.napi_model.specs.declared.state.Kind.TheVariants as kind
-use Rattle.poll_engine.specs.declared.bench.Next.{Next}
-use Rattle.poll_engine.specs.declared.bench.Next.TheVariants.{Absent, Gone, Again, Repoll}
-use Rattle.poll_engine.specs.declared.bench.Once.{Once}
-use Rattle.poll_engine.specs.declared.run.RunReport.{RunReport}
-use Rattle.poll_engine.proofs.FunctionFacts.{run-is-shown}
-use Rattle.poll_engine.proofs.PlainFacts.{list-afterwards}
-use Rattle.poll_engine.proofs.PollFacts.{arrivals-append, arrivals-one, length-ids, repolled-append, repolled-one}
-use Rattle.trace_replay.specs.Run.{run_of}
+use Rattle.std.{proofs.{Common.{◌≡◌, ℕ, ◌+◌, ◌≤◌, cond, List, [], ◌∷◌, ◌++◌, length, length-append, take, drop, ap, refl, arith}, lemmas.List.{length-drop, length-take, Sums.sum_by-cons}}, specs.Prelude.sum_by}
+use Rattle.{devices.specs.{Bench.{ArePolls, Devices, polled_at}, Waiting.leaves}, transmit_sides.specs.Transmits.{Keeps, Transmits}, poll_engine.specs.{Function.run_report, Laws.IsPlainRun}}
+use Rattle.poll_engine.specs.{Polls.{At, Chain, Poll, arrivals, ids, is_arrival, is_repoll, repolled}, declared.{bench.{Next.{Next, TheVariants.{Absent, Gone, Again, Repoll}}, Once.Once}, run.RunReport.RunReport}}
+use Rattle.{poll_engine.proofs.{FunctionFacts.run-is-shown, PlainFacts.list-afterwards, PollFacts.{arrivals-append, arrivals-one, length-ids, repolled-append, repolled-one}}, trace_replay.specs.Run.run_of}
 use Rattle.replay_words.specs.declared.settings.Settings.{Settings}
+use Rattle.napi_model.specs.declared.state.Kind.TheVariants as kind
 
 abbrev pub Leads : {B : Type 0} → (B → ℕ → ℕ → Once → B → Type 0) → Settings → B → List Poll → B → Type 0
 Leads relation s before polls after = Chain (At relation s.weight) before polls after

@@ -1,13 +1,7 @@
 -- What is told of one more device.
-use Rattle.std.proofs.Common.{◌≡◌, ◌≢◌, ◌∙◌, ℕ, zero, suc, ◌+◌, ◌<◌, Bool, true, false, Option, Some, None, IfSome, List, [], ◌∷◌, ◌++◌, append_assoc, ap, refl, sym, subst, arith}
-use Rattle.std.specs.Prelude.{◌==◌, if◌then◌else◌, is_some}
-use Rattle.std.proofs.lemmas.Bool.{eqb-true, eqb-false}
-use Rattle.devices.specs.declared.counts.DeviceCounts.{DeviceCounts}
-use Rattle.transmit_sides.specs.Transmit.{TransmitView}
-use Rattle.transmit_sides.specs.Transmits.{Transmits, tx_counts_of}
-use Rattle.trace_rows.specs.Places.{at}
-use Rattle.trace_replay.specs.Report.{device_lines, lines_below}
-use Rattle.trace_replay.specs.Told.{AreTold, IsToldAt}
+use Rattle.std.{proofs.Common.{◌≡◌, ◌≢◌, ◌∙◌, ℕ, zero, suc, ◌+◌, ◌<◌, Bool, true, false, Option, Some, None, IfSome, List, [], ◌∷◌, ◌++◌, append_assoc, ap, refl, sym, subst, arith}, specs.Prelude.{◌==◌, if◌then◌else◌, is_some}}
+use Rattle.{std.proofs.lemmas.Bool.{eqb-true, eqb-false}, devices.specs.declared.counts.DeviceCounts.DeviceCounts, transmit_sides.specs.{Transmit.TransmitView, Transmits.{Transmits, tx_counts_of}}, trace_rows.specs.Places.at}
+use Rattle.trace_replay.specs.{Report.{device_lines, lines_below}, Told.{AreTold, IsToldAt}}
 
 pub told-at : (t : Option TransmitView) (counts : Option DeviceCounts) → is_some counts ≡ is_some t → IfSome counts (λ c. c.tx ≡ tx_counts_of t) → IsToldAt t counts
 told-at None None same tx = tt

@@ -1,11 +1,6 @@
 -- The rows of a trace are accepted, each after those before it.
-use Rattle.std.proofs.Common.{◌≡◌, ℕ, zero, suc, ◌<◌, List, [], ◌∷◌, ◌++◌, length, get_or, refl, sym, append_assoc, arith, Some, None, Option}
-use Rattle.std.specs.Prelude.{Ok, slice_get}
-use Rattle.std.proofs.lemmas.List.{append-nil}
-use Rattle.trace_rows.specs.Switch.{unless_refused}
-use Rattle.trace_rows.specs.Trace.{AcceptedAfter, IsAccepted}
-use Rattle.trace_rows.specs.declared.fault.TraceFault.{TraceFault}
-use Rattle.trace_rows.specs.declared.row.Row.{Row}
+use Rattle.std.{proofs.{Common.{◌≡◌, ℕ, zero, suc, ◌<◌, List, [], ◌∷◌, ◌++◌, length, get_or, refl, sym, append_assoc, arith, Some, None, Option}, lemmas.List.append-nil}, specs.Prelude.{Ok, slice_get}}
+use Rattle.trace_rows.specs.{Switch.unless_refused, Trace.{AcceptedAfter, IsAccepted}, declared.{fault.TraceFault.TraceFault, row.Row.Row}}
 
 pub not-refused : (o : Option TraceFault) (row taken : Row) → Ok taken ≡ unless_refused o row → o ≡ None
 not-refused None row taken h = refl

@@ -1,17 +1,9 @@
 -- Which records of a text decide its trace: the first 100002, and those up to the first fault.
-use Rattle.std.proofs.Common.{◌≡◌, ◌∙◌, ℕ, zero, suc, ◌+◌, ◌≤◌, Bool, true, false, List, [], ◌∷◌, ◌++◌, length, length-append, take, refl, sym, ap, arith, Some, None, Option}
-use Rattle.std.specs.Prelude.{Result, Ok, Err, nat_lt}
-use Rattle.std.proofs.lemmas.Bool.{ltb-true}
-use Rattle.csv.specs.Reading.{default_config, records_from, strip_bom}
-use Rattle.csv.specs.declared.parser.State.{State}
-use Rattle.csv.specs.declared.parser.State.TheVariants as state
-use Rattle.trace_rows.specs.Record.{row_of, version_of}
-use Rattle.trace_rows.specs.Switch.{refusal, switch_of, unless_refused}
-use Rattle.trace_rows.specs.Trace.{records_of, rows_after, rows_behind, trace_of, version_in, with_row}
-use Rattle.trace_rows.specs.declared.fault.TraceFault.{TraceFault}
-use Rattle.trace_rows.specs.declared.row.Row.{Row}
-use Rattle.trace_rows.proofs.RowsFacts.{rows-bad, rows-end, rows-good, rows-over}
+use Rattle.std.{proofs.Common.{◌≡◌, ◌∙◌, ℕ, zero, suc, ◌+◌, ◌≤◌, Bool, true, false, List, [], ◌∷◌, ◌++◌, length, length-append, take, refl, sym, ap, arith, Some, None, Option}, specs.Prelude.{Result, Ok, Err, nat_lt}}
+use Rattle.{std.proofs.lemmas.Bool.ltb-true, csv.specs.{Reading.{default_config, records_from, strip_bom}, declared.parser.State.State}, trace_rows.specs.{Record.{row_of, version_of}, Switch.{refusal, switch_of, unless_refused}}}
+use Rattle.trace_rows.{specs.{Trace.{records_of, rows_after, rows_behind, trace_of, version_in, with_row}, declared.{fault.TraceFault.TraceFault, row.Row.Row}}, proofs.RowsFacts.{rows-bad, rows-end, rows-good, rows-over}}
 use Rattle.trace_rows.proofs.RecordsFacts.{records-all, records-take}
+use Rattle.csv.specs.declared.parser.State.TheVariants as state
 
 module _ (version : ℕ) where
   -- a row that is taken makes the list one longer

@@ -1,14 +1,6 @@
 -- The number that digits write, by all but the last of them.
-use Rattle.std.proofs.Common.{◌≡◌, ℕ, zero, suc, ◌+◌, ◌-◌, ◌*◌, ◌^◌, ◌<◌, ◌≤◌, Bool, true, false, List, [], ◌∷◌, ◌++◌, length, length-append, refl, arith}
-use Rattle.std.proofs.Math.Nat.{add-suc, add-zero, pow-suc}
-use Rattle.std.proofs.Math.Dec.{leb-suc-suc}
-use Rattle.std.proofs.lemmas.Bool.{le-leb}
-use Rattle.std.specs.Prelude.{◌&&◌, nat_le}
-use Rattle.std.specs.Char.{digit_value, is_ascii_digit}
-use Rattle.std.specs.List.{IsLastAndRest}
-use Rattle.std.specs.Str.{all_ascii_digits}
-use Rattle.std.proofs.lemmas.Int.Digits.{digits_value_push}
-use Rattle.trace_rows.specs.Record.{is_numeral, numeral}
+use Rattle.std.proofs.{Common.{◌≡◌, ℕ, zero, suc, ◌+◌, ◌-◌, ◌*◌, ◌^◌, ◌<◌, ◌≤◌, Bool, true, false, List, [], ◌∷◌, ◌++◌, length, length-append, refl, arith}, Math.{Nat.{add-suc, add-zero, pow-suc}, Dec.leb-suc-suc}, lemmas.Bool.le-leb}
+use Rattle.{std.{specs.{Prelude.{◌&&◌, nat_le}, Char.{digit_value, is_ascii_digit}, List.IsLastAndRest, Str.all_ascii_digits}, proofs.lemmas.Int.Digits.digits_value_push}, trace_rows.specs.Record.{is_numeral, numeral}}
 
 pub digits-push : (front : List ℕ) (last : ℕ) → all_ascii_digits (front ++ last ∷ []) ≡ (all_ascii_digits front && is_ascii_digit last)
 digits-push [] last = by (is_ascii_digit last)

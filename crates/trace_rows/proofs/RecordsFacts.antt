@@ -1,10 +1,7 @@
 -- That a text has no more records than bytes, and that fewer of them are the first ones.
-use Rattle.std.proofs.Common.{◌≡◌, ℕ, zero, suc, ◌-◌, ◌<◌, ◌≤◌, Bool, true, false, List, [], ◌∷◌, ◌++◌, length, take, refl, ap, arith, Some, None, Option}
-use Rattle.std.specs.Prelude.{◌==◌, if◌then◌else◌}
-use Rattle.csv.specs.Machine.{Read, after_end, ends_at_end, ends_with, field_after, fields_after, in_field, is_end, next_record, start_field, start_record, step}
-use Rattle.csv.specs.Reading.{default_config, records_from, records_next}
-use Rattle.csv.specs.declared.parser.Action.{Action}
-use Rattle.csv.specs.declared.parser.State.{State}
+use Rattle.std.{proofs.Common.{◌≡◌, ℕ, zero, suc, ◌-◌, ◌<◌, ◌≤◌, Bool, true, false, List, [], ◌∷◌, ◌++◌, length, take, refl, ap, arith, Some, None, Option}, specs.Prelude.{◌==◌, if◌then◌else◌}}
+use Rattle.csv.specs.{Machine.{Read, after_end, ends_at_end, ends_with, field_after, fields_after, in_field, is_end, next_record, start_field, start_record, step}, Reading.{default_config, records_from, records_next}}
+use Rattle.csv.specs.declared.parser.{Action.Action, State.State}
 use Rattle.csv.specs.declared.parser.State.TheVariants as state
 use Rattle.csv.specs.declared.parser.Terminator.TheVariants as terminator
 

@@ -1,17 +1,8 @@
 -- How the rows of the records that are left follow from the next record.
-use Rattle.std.proofs.Common.{◌≡◌, ◌∙◌, ℕ, suc, ◌+◌, ◌-◌, ◌≤◌, true, false, List, [], ◌∷◌, ◌++◌, length, refl, sym, ap, arith, Some, None, Option}
-use Rattle.std.specs.Prelude.{Result, Ok, Err, nat_lt}
-use Rattle.csv.specs.Machine.{Read, next_record}
-use Rattle.csv.specs.Reading.{default_config, reader_state, records_from, records_next}
-use Rattle.csv.specs.declared.reader.Reader.{Reader}
-use Rattle.csv.specs.declared.parser.State.{State}
-use Rattle.trace_rows.specs.Source.{StandsAt, TakesNext}
-use Rattle.trace_rows.specs.Record.{row_of, version_of}
-use Rattle.trace_rows.specs.Switch.{refusal, switch_of}
-use Rattle.trace_rows.specs.Trace.{rows_after, trace_of, version_in, with_row}
-use Rattle.trace_rows.specs.declared.fault.TraceFault.{TraceFault}
+use Rattle.{std.{proofs.Common.{◌≡◌, ◌∙◌, ℕ, suc, ◌+◌, ◌-◌, ◌≤◌, true, false, List, [], ◌∷◌, ◌++◌, length, refl, sym, ap, arith, Some, None, Option}, specs.Prelude.{Result, Ok, Err, nat_lt}}, csv.specs.Machine.{Read, next_record}}
+use Rattle.{csv.specs.{Reading.{default_config, reader_state, records_from, records_next}, declared.{reader.Reader.Reader, parser.State.State}}, trace_rows.specs.{Source.{StandsAt, TakesNext}, Record.{row_of, version_of}}}
+use Rattle.trace_rows.specs.{Switch.{refusal, switch_of}, Trace.{rows_after, trace_of, version_in, with_row}, declared.{fault.TraceFault.TraceFault, row.Row.Row}}
 use Rattle.trace_rows.specs.declared.fault.TraceFault.TheVariants as fault
-use Rattle.trace_rows.specs.declared.row.Row.{Row}
 
 records-next : (n m : ℕ) (s : State) (xs : List ℕ) → n ≡ suc m
     → records_from default_config n s xs ≡ records_next (records_from default_config m) (next_record default_config s [] [] xs)

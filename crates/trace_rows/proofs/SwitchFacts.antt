@@ -1,18 +1,7 @@
 -- How one more row changes the switches.
-use Rattle.std.proofs.Common.{◌≡◌, ◌≢◌, ◌∙◌, ℕ, ◌+◌, ◌-◌, ◌≤◌, Bool, true, false, List, [], ◌∷◌, ◌++◌, length, refl, arith, Some, None, slice_index_or, slice_set}
-use Rattle.std.specs.Prelude.{◌==◌, unwrap_or}
-use Rattle.std.proofs.lemmas.Bool.{eqb-true, eqb-false}
-use Rattle.std.proofs.lemmas.List.{map-append, get_or-set_other}
-use Rattle.std.proofs.lemmas.List.Elements.{filter-append}
-use Rattle.std.proofs.lemmas.Grind.{get_or-set_at}
-use Rattle.trace_rows.specs.Row.{device_fits}
-use Rattle.trace_rows.specs.Switch.{Tracks, events_of, set_by, switch_after, switch_of}
-use Rattle.std.proofs.lemmas.Bool.Decides.{nat_tests}
-use Rattle.trace_rows.specs.declared.event.Event.{Event}
-use Rattle.trace_rows.specs.declared.event.Event.TheVariants.{Opened, Rx, Tx, Finish, Softirq, Kthread, Disable, Enable, Threaded, Busy}
-use Rattle.trace_rows.specs.declared.row.Row.{Row}
-use Rattle.trace_rows.specs.declared.switch.Switch.{Switch}
-use Rattle.trace_rows.specs.declared.switch.Switch.TheVariants.{Unopened}
+use Rattle.std.{proofs.{Common.{◌≡◌, ◌≢◌, ◌∙◌, ℕ, ◌+◌, ◌-◌, ◌≤◌, Bool, true, false, List, [], ◌∷◌, ◌++◌, length, refl, arith, Some, None, slice_index_or, slice_set}, lemmas.Bool.{eqb-true, eqb-false}}, specs.Prelude.{◌==◌, unwrap_or}}
+use Rattle.{std.proofs.lemmas.{List.{map-append, get_or-set_other, Elements.filter-append}, Grind.get_or-set_at, Bool.Decides.nat_tests}, trace_rows.specs.{Row.device_fits, Switch.{Tracks, events_of, set_by, switch_after, switch_of}}}
+use Rattle.trace_rows.specs.declared.{event.Event.{Event, TheVariants.{Opened, Rx, Tx, Finish, Softirq, Kthread, Disable, Enable, Threaded, Busy}}, row.Row.Row, switch.Switch.{Switch, TheVariants.Unopened}}
 
 pub switch_after-append : (s : Switch) (xs ys : List Event) → switch_after s (xs ++ ys) ≡ switch_after (switch_after s xs) ys
 switch_after-append s [] ys = refl

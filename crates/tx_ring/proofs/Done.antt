@@ -1,6 +1,5 @@
 -- A completion of 0 bytes, and one of more.
-use Rattle.std.proofs.Common.{◌≡◌, ℕ, ◌+◌, ◌<◌, Bool, cond, ap, eq-eqb, ne_eqb, arith}
-use Rattle.tx_ring.specs.Queue.{TransmitQueue, bytes_of, after_bytes, after_done}
+use Rattle.{std.proofs.Common.{◌≡◌, ℕ, ◌+◌, ◌<◌, Bool, cond, ap, eq-eqb, ne_eqb, arith}, tx_ring.specs.Queue.{TransmitQueue, bytes_of, after_bytes, after_done}}
 
 pub after_done-none : (t : TransmitQueue) (count now : ℕ) → bytes_of t count ≡ 0 → after_done t count now ≡ record t { done = t.done + count }
 unfolding after_done

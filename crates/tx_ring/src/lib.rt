@@ -11,6 +11,3 @@ mod ring;
 
 pub use event::{TxEvent, TxFault, TxState};
 pub use ring::{MAX_CAPACITY, TxRing};
-
-#[cfg(test)]
-mod tests;

@@ -1,9 +1,4 @@
-use Rattle.std.proofs.Common.{sym, subst, ◌∙◌, inl, inr}
-use Rattle.napi_model.specs.declared.event.Done.{Done}
-use Rattle.napi_model.specs.declared.event.Operation.TheVariants.{Complete}
-use Rattle.napi_word.specs.Events.{Steps}
-use Rattle.napi_word.specs.Passes.{view_of}
-use Rattle.napi_word.proofs.Knowing.{again_grants, look_polls, never_held}
+use Rattle.{std.proofs.Common.{sym, subst, ◌∙◌, inl, inr}, napi_model.specs.declared.event.{Done.Done, Operation.TheVariants.Complete}, napi_word.{specs.{Events.Steps, Passes.view_of}, proofs.Knowing.{again_grants, look_polls, never_held}}}
 use Rattle.bench_word.proofs.turns.complete.Goals as goal
 
 pub loop-init : goal.loop-init

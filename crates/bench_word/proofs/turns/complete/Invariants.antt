@@ -1,6 +1,4 @@
-use Rattle.std.specs.Prelude.{false}
-use Rattle.napi_word.specs.Passes.{Polls}
-use Rattle.bench_word.specs.Ready.{IsReady}
+use Rattle.{std.specs.Prelude.false, napi_word.specs.Passes.Polls, bench_word.specs.Ready.IsReady}
 use Rattle.bench_word.proofs.turns.complete.Given as goal
 
 abbrev pub invariant-loop : goal.invariant-loop

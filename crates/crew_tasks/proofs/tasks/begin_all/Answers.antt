@@ -1,6 +1,4 @@
-use Rattle.std.proofs.Common.{◌≡◌, ◌<◌, length, vec_len, vec_items, rules, arith, ap, get_or}
-use Rattle.std.proofs.lemmas.Grind.{common_steps}
-use Rattle.crew_tasks.proofs.Zips.{zip_push, before_more, all_done}
+use Rattle.{std.proofs.{Common.{◌≡◌, ◌<◌, length, vec_len, vec_items, rules, arith, ap, get_or}, lemmas.Grind.common_steps}, crew_tasks.proofs.Zips.{zip_push, before_more, all_done}}
 use Rattle.crew_tasks.proofs.tasks.begin_all.Goals as goal
 
 pub begin-requires-after_bounds : goal.begin-requires-after_bounds

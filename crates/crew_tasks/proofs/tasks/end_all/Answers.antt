@@ -1,6 +1,4 @@
-use Rattle.std.proofs.Common.{◌<◌, length, vec_items, rules, arith}
-use Rattle.std.proofs.lemmas.Grind.{common_steps}
-use Rattle.crew_tasks.proofs.Zips.{zip_push, before_more, all_done, zip_through}
+use Rattle.{std.proofs.{Common.{◌<◌, length, vec_items, rules, arith}, lemmas.Grind.common_steps}, crew_tasks.proofs.Zips.{zip_push, before_more, all_done, zip_through}}
 use Rattle.crew_tasks.proofs.tasks.end_all.Goals as goal
 
 pub push_reserved-requires : goal.push_reserved-requires

@@ -1,5 +1,4 @@
-use Rattle.rx_ring.specs.Ends.{SameIn}
-use Rattle.napi_calls.specs.Instance.{IsSeatOf}
+use Rattle.{rx_ring.specs.Ends.SameIn, napi_calls.specs.Instance.IsSeatOf}
 use Rattle.example_shared.proofs.handlers.receive.Given as goal
 
 abbrev pub invariant-loop-number : goal.invariant-loop-number

@@ -1,8 +1,5 @@
-use Rattle.std.proofs.Common.{◌≡◌, true, false, rules, ◌++◌, ◌∷◌, [], length, vec_items, arith, ◌∙◌, ap, sym}
-use Rattle.std.proofs.lemmas.Grind.{common_steps}
-use Rattle.crew_tasks.proofs.Zips.{before_more}
-use Rattle.interrupt_workers.proofs.DealFacts.{dealt_more, others_no, others_yes, picked_no, picked_yes}
-use Rattle.interrupt_workers.specs.Deals.{is_dealt}
+use Rattle.{std.proofs.{Common.{◌≡◌, true, false, rules, ◌++◌, ◌∷◌, [], length, vec_items, arith, ◌∙◌, ap, sym}, lemmas.Grind.common_steps}, crew_tasks.proofs.Zips.before_more}
+use Rattle.interrupt_workers.{proofs.DealFacts.{dealt_more, others_no, others_yes, picked_no, picked_yes}, specs.Deals.is_dealt}
 use Rattle.interrupt_workers.proofs.dealing.deal.Goals as goal
 
 pub loop-station-preserved-then-saturating_sub-pollers : goal.loop-station-preserved-then-saturating_sub-pollers

@@ -1,7 +1,4 @@
-use Rattle.std.proofs.Common.{◌≡◌, ◌+◌, ◌≤◌, ◌++◌, vec_len, vec_capacity, vec_items, length}
-use Rattle.std.specs.Prelude.{map}
-use Rattle.std.specs.Vec.Iter.{into_iter_items, into_iter_len}
-use Rattle.interrupt_workers.specs.Deals.{is_dealt, others, picked}
+use Rattle.{std.{proofs.Common.{◌≡◌, ◌+◌, ◌≤◌, ◌++◌, vec_len, vec_capacity, vec_items, length}, specs.{Prelude.map, Vec.Iter.{into_iter_items, into_iter_len}}}, interrupt_workers.specs.Deals.{is_dealt, others, picked}}
 use Rattle.interrupt_workers.proofs.dealing.deal.Given as goal
 
 abbrev pub invariant-loop-station : goal.invariant-loop-station

@@ -1,6 +1,4 @@
-use Rattle.std.proofs.Common.{◌≡◌, ◌+◌, ◌≤◌, ◌++◌, vec_len, vec_capacity, vec_items, length}
-use Rattle.std.specs.Vec.Iter.{into_iter_items, into_iter_len}
-use Rattle.interrupt_workers.specs.Deals.{merged}
+use Rattle.{std.{proofs.Common.{◌≡◌, ◌+◌, ◌≤◌, ◌++◌, vec_len, vec_capacity, vec_items, length}, specs.Vec.Iter.{into_iter_items, into_iter_len}}, interrupt_workers.specs.Deals.merged}
 use Rattle.interrupt_workers.proofs.dealing.merge.Given as goal
 
 abbrev pub invariant-loop-is_mine : goal.invariant-loop-is_mine

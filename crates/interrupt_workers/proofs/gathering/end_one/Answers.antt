@@ -1,11 +1,5 @@
-use Rattle.std.proofs.Common.{◌≡◌, refl, ap, subst}
-use Rattle.rx_ring.specs.declared.packet.Totals.{Totals}
-use Rattle.rx_ring.specs.Ends.{put_list, received_list}
-use Rattle.napi_calls.specs.Instance.{callers_of, first_of_instance}
-use Rattle.napi_calls.specs.Seats.{number_of, own_list}
-use Rattle.interrupt_workers.specs.declared.worker.Seats.{Seats}
-use Rattle.interrupt_workers.specs.Runs.{IsEnded}
-use Rattle.interrupt_workers.proofs.EndFacts.{ended_of}
+use Rattle.{std.proofs.Common.{◌≡◌, refl, ap, subst}, rx_ring.specs.{declared.packet.Totals.Totals, Ends.{put_list, received_list}}, napi_calls.specs.{Instance.{callers_of, first_of_instance}, Seats.{number_of, own_list}}}
+use Rattle.interrupt_workers.{specs.{declared.worker.Seats.Seats, Runs.IsEnded}, proofs.EndFacts.ended_of}
 use Rattle.interrupt_workers.proofs.gathering.end_one.Goals as goal
 
 pub returns : goal.returns

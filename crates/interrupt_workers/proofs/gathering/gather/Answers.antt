@@ -1,9 +1,4 @@
-use Rattle.std.proofs.Common.{◌≡◌, ◌∷◌, ◌++◌, [], vec_items, arith}
-use Rattle.std.proofs.lemmas.Grind.{common_steps}
-use Rattle.std.proofs.lemmas.List.{nil_from_length}
-use Rattle.std.specs.Vec.Iter.{into_iter_items}
-use Rattle.crew_tasks.proofs.Zips.{zip_push, before_more}
-use Rattle.crew_tasks.proofs.ListFacts.{none_left}
+use Rattle.{std.{proofs.{Common.{◌≡◌, ◌∷◌, ◌++◌, [], vec_items, arith}, lemmas.{Grind.common_steps, List.nil_from_length}}, specs.Vec.Iter.into_iter_items}, crew_tasks.proofs.{Zips.{zip_push, before_more}, ListFacts.none_left}}
 use Rattle.interrupt_workers.proofs.gathering.gather.Goals as goal
 
 pub loop-done-init : goal.loop-done-init

@@ -1,7 +1,4 @@
-use Rattle.std.proofs.Common.{◌≡◌, ◌+◌, ◌≤◌, ◌++◌, vec_len, vec_capacity, vec_items, length, List}
-use Rattle.std.specs.Vec.Iter.{into_iter_items, into_iter_len}
-use Rattle.std.specs.List.{AllZip}
-use Rattle.interrupt_workers.specs.declared.job.Worked.{Worked}
+use Rattle.{std.{proofs.Common.{◌≡◌, ◌+◌, ◌≤◌, ◌++◌, vec_len, vec_capacity, vec_items, length, List}, specs.{Vec.Iter.{into_iter_items, into_iter_len}, List.AllZip}}, interrupt_workers.specs.declared.job.Worked.Worked}
 use Rattle.interrupt_workers.specs.Ends.{IsDoneAt, IsFinishOf, IsCallerAt}
 use Rattle.interrupt_workers.proofs.gathering.gather.Given as goal
 

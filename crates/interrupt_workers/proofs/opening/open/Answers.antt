@@ -1,7 +1,4 @@
-use Rattle.std.proofs.Common.{ap, ◌∙◌, rules, arith}
-use Rattle.std.proofs.lemmas.Grind.{common_steps}
-use Rattle.rx_ring.specs.declared.ends.RxCtx.{RxCtx}
-use Rattle.rx_ring.specs.Ends.{received_list}
+use Rattle.{std.proofs.{Common.{ap, ◌∙◌, rules, arith}, lemmas.Grind.common_steps}, rx_ring.specs.{declared.ends.RxCtx.RxCtx, Ends.received_list}}
 use Rattle.interrupt_workers.proofs.opening.open.Goals as goal
 
 pub returns-clause-side : goal.returns-clause-side

@@ -1,7 +1,4 @@
-use Rattle.std.proofs.Common.{◌≡◌, length, ◌<◌, get_or, vec_items, rules, arith}
-use Rattle.std.proofs.lemmas.Grind.{common_steps}
-use Rattle.crew_tasks.proofs.Zips.{zip_push, before_more, all_done}
-use Rattle.interrupt_workers.specs.Opens.{IsLoose, IsSideOf}
+use Rattle.{std.proofs.{Common.{◌≡◌, length, ◌<◌, get_or, vec_items, rules, arith}, lemmas.Grind.common_steps}, crew_tasks.proofs.Zips.{zip_push, before_more, all_done}, interrupt_workers.specs.Opens.{IsLoose, IsSideOf}}
 use Rattle.interrupt_workers.proofs.opening.open_all.Goals as goal
 
 pub open-requires : goal.open-requires

@@ -1,7 +1,4 @@
-use Rattle.std.proofs.Common.{◌≡◌, ◌+◌, ◌≤◌, ◌++◌, vec_len, vec_capacity, vec_items, length}
-use Rattle.std.specs.Vec.Iter.{into_iter_items, into_iter_len}
-use Rattle.std.specs.List.{AllZip}
-use Rattle.interrupt_workers.specs.Opens.{IsKeptLoose, IsKeptSideOf}
+use Rattle.{std.{proofs.Common.{◌≡◌, ◌+◌, ◌≤◌, ◌++◌, vec_len, vec_capacity, vec_items, length}, specs.{Vec.Iter.{into_iter_items, into_iter_len}, List.AllZip}}, interrupt_workers.specs.Opens.{IsKeptLoose, IsKeptSideOf}}
 use Rattle.interrupt_workers.proofs.opening.open_all.Given as goal
 
 abbrev pub invariant-loop-station : goal.invariant-loop-station

@@ -1,7 +1,4 @@
-use Rattle.std.proofs.Common.{◌≡◌, length}
-use Rattle.std.specs.Vec.Iter.{into_iter_items, into_iter_len}
-use Rattle.std.specs.List.{AllZip}
-use Rattle.interrupt_workers.specs.Opens.{IsKeptSideOf}
+use Rattle.{std.{proofs.Common.{◌≡◌, length}, specs.{Vec.Iter.{into_iter_items, into_iter_len}, List.AllZip}}, interrupt_workers.specs.Opens.IsKeptSideOf}
 use Rattle.interrupt_workers.proofs.opening.shut_all.Given as goal
 
 abbrev pub invariant-loop-other : goal.invariant-loop-other

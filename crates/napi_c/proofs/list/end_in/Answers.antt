@@ -1,6 +1,5 @@
 use mathlib.Core.Path.{subst}
-use Rattle.c_handles.specs.Runs.{IsEnd}
-use Rattle.c_handles.specs.declared.lister.Lister.{Lister}
+use Rattle.c_handles.specs.{Runs.IsEnd, declared.lister.Lister.Lister}
 use Rattle.napi_c.proofs.list.end_in.Goals as goal
 
 pub returns-in-List-clause-makes : goal.returns-in-List-clause-makes

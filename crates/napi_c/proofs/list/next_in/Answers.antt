@@ -1,6 +1,5 @@
 use mathlib.Core.Path.{subst}
-use Rattle.c_handles.specs.Runs.{IsNext}
-use Rattle.c_handles.specs.declared.lister.Lister.{Lister}
+use Rattle.c_handles.specs.{Runs.IsNext, declared.lister.Lister.Lister}
 use Rattle.napi_c.proofs.list.next_in.Goals as goal
 
 pub returns-in-List-clause-makes : goal.returns-in-List-clause-makes

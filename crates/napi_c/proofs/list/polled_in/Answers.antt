@@ -1,6 +1,5 @@
 use mathlib.Core.Path.{subst}
-use Rattle.c_handles.specs.Runs.{IsPolled}
-use Rattle.c_handles.specs.declared.lister.Lister.{Lister}
+use Rattle.c_handles.specs.{Runs.IsPolled, declared.lister.Lister.Lister}
 use Rattle.napi_c.proofs.list.polled_in.Goals as goal
 
 pub returns-in-List : goal.returns-in-List

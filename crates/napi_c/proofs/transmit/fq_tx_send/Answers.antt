@@ -1,10 +1,5 @@
 use mathlib.Core.Path.{sym, subst}
-use Rattle.std.proofs.Common.{Option}
-use Rattle.tx_ring.specs.Queue.{after_send}
-use Rattle.tx_ring.specs.Ring.{ShowsQueue}
-use Rattle.tx_ring.specs.declared.ring.TxRing.{TxRing}
-use Rattle.c_handles.specs.declared.body.Body.{Body}
-use Rattle.c_handles.specs.Transmits.{IsTxWith, LeadsToTx}
+use Rattle.{std.proofs.Common.Option, tx_ring.specs.{Queue.after_send, Ring.ShowsQueue, declared.ring.TxRing.TxRing}, c_handles.specs.{declared.body.Body.Body, Transmits.{IsTxWith, LeadsToTx}}}
 use Rattle.napi_c.proofs.transmit.fq_tx_send.Goals as goal
 
 pub returns-clause-ok : goal.returns-clause-ok

@@ -1,5 +1,4 @@
-use Rattle.napi_calls.proofs.Standing.{looked}
-use Rattle.napi_calls.proofs.Making.{nothing, step}
+use Rattle.napi_calls.proofs.{Standing.looked, Making.{nothing, step}}
 use Rattle.napi_calls.proofs.caller.meet.Goals as goal
 
 pub invariant_of-first : goal.invariant_of-first

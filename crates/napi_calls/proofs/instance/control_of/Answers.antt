@@ -1,5 +1,4 @@
-use Rattle.napi_calls.proofs.Fresh.{new_controls, new_exact}
-use Rattle.napi_calls.proofs.Standing.{controls_moved, outside}
+use Rattle.napi_calls.proofs.{Fresh.{new_controls, new_exact}, Standing.{controls_moved, outside}}
 use Rattle.napi_calls.proofs.instance.control_of.Goals as goal
 
 pub invariant_of-result : goal.invariant_of-result

@@ -1,7 +1,4 @@
-use Rattle.std.proofs.Common.{rules, ◌≡◌, ◌+◌, List, [], ◌∷◌, ◌++◌, length, sym, ap, ◌∙◌, append_assoc, length-append, arith}
-use Rattle.std.specs.Vec.Iter.{into_iter_items}
-use Rattle.napi_word.specs.declared.table.Pass.{Pass}
-use Rattle.napi_calls.specs.Closed.{seats_of}
+use Rattle.{std.{proofs.Common.{rules, ◌≡◌, ◌+◌, List, [], ◌∷◌, ◌++◌, length, sym, ap, ◌∙◌, append_assoc, length-append, arith}, specs.Vec.Iter.into_iter_items}, napi_word.specs.declared.table.Pass.Pass, napi_calls.specs.Closed.seats_of}
 use Rattle.napi_calls.proofs.Ending.{next_seat, seats_more}
 use Rattle.napi_calls.proofs.instance.seat_callers.Goals as goal
 

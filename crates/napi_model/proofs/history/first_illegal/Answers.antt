@@ -1,6 +1,4 @@
-use Rattle.std.proofs.Common.{◌+◌, refl, sym, ap, ◌∙◌, take, get_or, subst, true≢false}
-use Rattle.napi_model.specs.Step.{after}
-use Rattle.napi_model.specs.History.{state_after, LegalHistory, IsLegalFor}
+use Rattle.{std.proofs.Common.{◌+◌, refl, sym, ap, ◌∙◌, take, get_or, subst, true≢false}, napi_model.specs.{Step.after, History.{state_after, LegalHistory, IsLegalFor}}}
 use Rattle.napi_model.proofs.Histories.{no_event, state_after-more, legal_more, legal_last, legal_part}
 use Rattle.napi_model.proofs.history.first_illegal.Goals as goal
 

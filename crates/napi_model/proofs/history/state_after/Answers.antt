@@ -1,7 +1,4 @@
-use Rattle.std.proofs.Common.{refl, sym, ap, ◌∙◌, get_or}
-use Rattle.napi_model.specs.Step.{after}
-use Rattle.napi_model.specs.History.{state_after}
-use Rattle.napi_model.proofs.Histories.{no_event, state_after-more}
+use Rattle.{std.proofs.Common.{refl, sym, ap, ◌∙◌, get_or}, napi_model.{specs.{Step.after, History.state_after}, proofs.Histories.{no_event, state_after-more}}}
 use Rattle.napi_model.proofs.history.state_after.Goals as goal
 
 pub loop-event-init : goal.loop-event-init

@@ -1,6 +1,4 @@
-use Rattle.std.proofs.Common.{◌<◌, Some, sym, ap, ◌∙◌, subst, true≢false, arith}
-use Rattle.napi_model.specs.Word.{word_of, seen_in, IsMalformed}
-use Rattle.napi_model.proofs.Words.{not_malformed, word_of-seen_in, seen_in-word}
+use Rattle.{std.proofs.Common.{◌<◌, Some, sym, ap, ◌∙◌, subst, true≢false, arith}, napi_model.{specs.Word.{word_of, seen_in, IsMalformed}, proofs.Words.{not_malformed, word_of-seen_in, seen_in-word}}}
 use Rattle.napi_model.proofs.word.decode.Goals as goal
 
 pub returns-then-is_malformed-clause-inverse : goal.returns-then-is_malformed-clause-inverse

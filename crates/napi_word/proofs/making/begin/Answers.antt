@@ -1,15 +1,6 @@
-use Rattle.std.proofs.Common.{◌≡◌, ◌∷◌, ◌++◌, subst, Option, Some, None, [], ap, sym, ◌∙◌, unwrap_or}
-use Rattle.atomic_table.specs.Table.{Me, rest}
-use Rattle.rx_ring.specs.declared.ends.RxCtx.{RxCtx}
-use Rattle.rx_ring.specs.Ends.{SameCtx, ring_name, received_list, known_list, polls_of}
-use Rattle.rx_ring.proofs.Names.{same_ring}
-use Rattle.napi_word.specs.View.{View, is_pass, ring_of, received_in, Continues}
-use Rattle.napi_word.specs.Slot.{Content, Carried, hold_of, owns_slot, ring_in, beside_in, ctx_in, carried_received}
-use Rattle.napi_word.specs.Rule.{begun_view, begun_slot, maker_at}
-use Rattle.std.proofs.lemmas.List.{append-nil}
-use Rattle.napi_word.proofs.Deliveries.{of_prefix}
-use Rattle.napi_word.proofs.Said.{one_there}
-use Rattle.napi_word.proofs.Start.{begins, owns_at_start, slot_is}
+use Rattle.{std.proofs.{Common.{◌≡◌, ◌∷◌, ◌++◌, subst, Option, Some, None, [], ap, sym, ◌∙◌, unwrap_or}, lemmas.List.append-nil}, napi_word.specs.Slot.{Content, Carried, hold_of, owns_slot, ring_in, beside_in, ctx_in, carried_received}}
+use Rattle.{atomic_table.specs.Table.{Me, rest}, rx_ring.{proofs.Names.same_ring, specs.declared.ends.RxCtx.RxCtx}, napi_word.proofs.{Deliveries.of_prefix, Said.one_there, Start.{begins, owns_at_start, slot_is}}}
+use Rattle.{rx_ring.specs.Ends.{SameCtx, ring_name, received_list, known_list, polls_of}, napi_word.specs.{View.{View, is_pass, ring_of, received_in, Continues}, Rule.{begun_view, begun_slot, maker_at}}}
 use Rattle.napi_word.proofs.making.begin.Goals as goal
 
 pub load-requires : goal.load-requires

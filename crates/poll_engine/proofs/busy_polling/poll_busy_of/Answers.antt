@@ -1,7 +1,4 @@
-use Rattle.std.proofs.Common.{◌≡◌, rules, arith}
-use Rattle.std.specs.Prelude.{if◌then◌else◌, nat_lt}
-use Rattle.poll_engine.specs.BusyPolling.{Given}
-use Rattle.poll_engine.proofs.BusyFacts.{at_most_one, going-ends, going-more}
+use Rattle.{std.{proofs.Common.{◌≡◌, rules, arith}, specs.Prelude.{if◌then◌else◌, nat_lt}}, poll_engine.{specs.BusyPolling.Given, proofs.BusyFacts.{at_most_one, going-ends, going-more}}}
 use Rattle.poll_engine.proofs.busy_polling.poll_busy_of.Goals as goal
 
 pub loop-preserved : goal.loop-preserved

@@ -1,5 +1,4 @@
-use Rattle.std.proofs.Common.{◌^◌, ◌*◌, ◌≤◌}
-use Rattle.poll_engine.proofs.BusyFacts.{Going}
+use Rattle.{std.proofs.Common.{◌^◌, ◌*◌, ◌≤◌}, poll_engine.proofs.BusyFacts.Going}
 use Rattle.poll_engine.proofs.busy_polling.poll_busy_of.Given as goal
 
 abbrev pub invariant-loop : goal.invariant-loop

@@ -1,5 +1,4 @@
-use Rattle.std.proofs.Common.{arith}
-use Rattle.poll_engine.proofs.PollingFacts.{going-ends, going-poll, going-start}
+use Rattle.{std.proofs.Common.arith, poll_engine.proofs.PollingFacts.{going-ends, going-poll, going-start}}
 use Rattle.poll_engine.proofs.polling.poll_thread_of.Goals as goal
 
 pub loop-held-init : goal.loop-held-init

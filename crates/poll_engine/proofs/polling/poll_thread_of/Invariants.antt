@@ -1,5 +1,4 @@
-use Rattle.std.proofs.Common.{◌-◌, ◌*◌, ◌≤◌, MatchBool}
-use Rattle.poll_engine.proofs.PollingFacts.{Going}
+use Rattle.{std.proofs.Common.{◌-◌, ◌*◌, ◌≤◌, MatchBool}, poll_engine.proofs.PollingFacts.Going}
 use Rattle.poll_engine.proofs.polling.poll_thread_of.Given as goal
 
 abbrev pub invariant-loop-held : goal.invariant-loop-held

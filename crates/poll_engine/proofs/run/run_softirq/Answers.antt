@@ -1,7 +1,4 @@
-use Rattle.std.proofs.Common.{◌∙◌}
-use Rattle.poll_engine.specs.Polls.{At}
-use Rattle.poll_engine.specs.Driven.{and_poll}
-use Rattle.poll_engine.proofs.PollFacts.{chain-push}
+use Rattle.{std.proofs.Common.◌∙◌, poll_engine.{specs.{Polls.At, Driven.and_poll}, proofs.PollFacts.chain-push}}
 use Rattle.poll_engine.proofs.run.run_softirq.Goals as goal
 
 pub loop-id-preserved : goal.loop-id-preserved

@@ -1,6 +1,4 @@
-use Rattle.std.proofs.Common.{◌≡◌, ◌-◌, List, None}
-use Rattle.poll_engine.specs.Driven.{IsGoing, held}
-use Rattle.poll_engine.specs.Polls.{At, Chain, Poll}
+use Rattle.{std.proofs.Common.{◌≡◌, ◌-◌, List, None}, poll_engine.specs.{Driven.{IsGoing, held}, Polls.{At, Chain, Poll}}}
 use Rattle.poll_engine.proofs.run.run_softirq.Given as goal
 
 abbrev pub invariant-loop-id : goal.invariant-loop-id

@@ -1,5 +1,4 @@
-use Rattle.std.proofs.Common.{◌∙◌, ap, sym, refl, arith}
-use Rattle.poll_workers.specs.Numbers.{own_numbers}
+use Rattle.{std.proofs.Common.{◌∙◌, ap, sym, refl, arith}, poll_workers.specs.Numbers.own_numbers}
 use Rattle.poll_workers.proofs.numbers.have_own_numbers.Goals as goal
 
 pub loop-preserved : goal.loop-preserved

@@ -1,5 +1,4 @@
-use Rattle.std.proofs.Common.{◌≡◌, ◌+◌, length}
-use Rattle.poll_workers.specs.Numbers.{own_numbers}
+use Rattle.{std.proofs.Common.{◌≡◌, ◌+◌, length}, poll_workers.specs.Numbers.own_numbers}
 use Rattle.poll_workers.proofs.numbers.have_own_numbers.Given as goal
 
 abbrev pub invariant-loop : goal.invariant-loop

@@ -1,8 +1,4 @@
-use Rattle.std.proofs.Common.{◌≡◌, ◌∷◌, ◌++◌, [], vec_items, rules, arith, refl}
-use Rattle.std.proofs.lemmas.Grind.{common_steps}
-use Rattle.std.proofs.lemmas.List.{nil_from_length}
-use Rattle.std.specs.Vec.Iter.{into_iter_items}
-use Rattle.crew_tasks.proofs.Zips.{zip_push, before_more}
+use Rattle.{std.{proofs.{Common.{◌≡◌, ◌∷◌, ◌++◌, [], vec_items, rules, arith, refl}, lemmas.{Grind.common_steps, List.nil_from_length}}, specs.Vec.Iter.into_iter_items}, crew_tasks.proofs.Zips.{zip_push, before_more}}
 use Rattle.crew_tasks.proofs.ListFacts.{none_left, zip_empty}
 use Rattle.poll_workers.proofs.spreading.spread.Goals as goal
 

@@ -1,11 +1,5 @@
-use Rattle.std.proofs.Common.{◌≡◌, ◌+◌, ◌≤◌, ◌++◌, vec_len, vec_capacity, vec_items, length, List}
-use Rattle.std.specs.Vec.Iter.{into_iter_items, into_iter_len}
-use Rattle.std.specs.List.{AllZip}
-use Rattle.napi_calls.specs.declared.kept.Kept.{Kept}
-use Rattle.interrupt_workers.specs.declared.opening.Loose.{Loose}
-use Rattle.interrupt_workers.specs.declared.opening.Placed.{Placed}
-use Rattle.interrupt_workers.specs.Opens.{IsKeptSideOf}
-use Rattle.poll_workers.specs.Spreads.{IsJobAt, IsKeptJobOf, IsSeatAt, IsThreadAt}
+use Rattle.{std.{proofs.Common.{◌≡◌, ◌+◌, ◌≤◌, ◌++◌, vec_len, vec_capacity, vec_items, length, List}, specs.{Vec.Iter.{into_iter_items, into_iter_len}, List.AllZip}}, napi_calls.specs.declared.kept.Kept.Kept}
+use Rattle.{interrupt_workers.specs.{declared.opening.{Loose.Loose, Placed.Placed}, Opens.IsKeptSideOf}, poll_workers.specs.Spreads.{IsJobAt, IsKeptJobOf, IsSeatAt, IsThreadAt}}
 use Rattle.poll_workers.proofs.spreading.spread.Given as goal
 
 abbrev pub invariant-loop-rest : goal.invariant-loop-rest

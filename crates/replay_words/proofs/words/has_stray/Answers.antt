@@ -1,8 +1,4 @@
-use Rattle.std.proofs.Common.{◌∙◌, rules, tests, string_bytes}
-use Rattle.std.proofs.lemmas.Iterator.{YieldsList-from_slice}
-use Rattle.std.proofs.lemmas.Iterator.Search.{any_from_yields_List}
-use Rattle.clap.proofs.WalkLemmas.{list_any-map}
-use Rattle.replay_words.specs.Words.{is_stray}
+use Rattle.{std.proofs.{Common.{◌∙◌, rules, tests, string_bytes}, lemmas.Iterator.{YieldsList-from_slice, Search.any_from_yields_List}}, clap.proofs.WalkLemmas.list_any-map, replay_words.specs.Words.is_stray}
 use Rattle.replay_words.proofs.words.has_stray.Goals as goal
 
 pub returns : goal.returns

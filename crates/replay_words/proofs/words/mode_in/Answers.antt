@@ -1,8 +1,4 @@
-use Rattle.std.proofs.Common.{◌∙◌, ap, codes}
-use Rattle.clap.specs.Words.{found_of}
-use Rattle.clap.proofs.WalkLemmas.{first_value-rows}
-use Rattle.replay_words.specs.Words.{mode_of, or_usual}
-use Rattle.replay_words.specs.declared.mode.Mode.TheVariants.{Serial}
+use Rattle.{std.proofs.Common.{◌∙◌, ap, codes}, clap.{specs.Words.found_of, proofs.WalkLemmas.first_value-rows}, replay_words.specs.{Words.{mode_of, or_usual}, declared.mode.Mode.TheVariants.Serial}}
 use Rattle.replay_words.proofs.words.mode_in.Goals as goal
 
 pub returns-in-None : goal.returns-in-None

@@ -1,7 +1,4 @@
-use Rattle.std.proofs.Common.{◌∙◌, ap}
-use Rattle.clap.specs.Words.{found_of}
-use Rattle.clap.proofs.WalkLemmas.{first_value-rows}
-use Rattle.replay_words.specs.Words.{number_of, or_usual}
+use Rattle.{std.proofs.Common.{◌∙◌, ap}, clap.{specs.Words.found_of, proofs.WalkLemmas.first_value-rows}, replay_words.specs.Words.{number_of, or_usual}}
 use Rattle.replay_words.proofs.words.number_in.Goals as goal
 
 pub returns-in-None-clause-number : goal.returns-in-None-clause-number

@@ -1,6 +1,4 @@
-use Rattle.std.proofs.Common.{◌≡◌, ◌<◌, ◌^◌, drop}
-use Rattle.std.specs.Str.{all_ascii_digits}
-use Rattle.std.specs.Str.Parse.{digits_value, digits_value_after}
+use Rattle.std.{proofs.Common.{◌≡◌, ◌<◌, ◌^◌, drop}, specs.Str.{all_ascii_digits, Parse.{digits_value, digits_value_after}}}
 use Rattle.replay_words.proofs.words.number_of.Given as goal
 
 abbrev pub invariant-loop-byte : goal.invariant-loop-byte

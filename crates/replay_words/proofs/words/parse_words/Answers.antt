@@ -1,5 +1,4 @@
-use Rattle.std.proofs.Common.{◌∙◌, sym, map, string_bytes}
-use Rattle.replay_words.proofs.ClapFacts.{asked_is, read_is_asked, stray_is_refused}
+use Rattle.{std.proofs.Common.{◌∙◌, sym, map, string_bytes}, replay_words.proofs.ClapFacts.{asked_is, read_is_asked, stray_is_refused}}
 use Rattle.replay_words.proofs.words.parse_words.Goals as goal
 
 pub returns-then-has_stray-clause-usage : goal.returns-then-has_stray-clause-usage

@@ -1,7 +1,4 @@
-use Rattle.std.proofs.Common.{◌≡◌, ◌∙◌, ap, sym, map, string_bytes}
-use Rattle.clap.specs.Words.{app_of, found_of, rows_of}
-use Rattle.replay_words.specs.Options.{asked_by, read_by_clap, with_name}
-use Rattle.replay_words.proofs.ClapFacts.{found_is, read_ok}
+use Rattle.{std.proofs.Common.{◌≡◌, ◌∙◌, ap, sym, map, string_bytes}, clap.specs.Words.{app_of, found_of, rows_of}, replay_words.{specs.Options.{asked_by, read_by_clap, with_name}, proofs.ClapFacts.{found_is, read_ok}}}
 use Rattle.replay_words.proofs.words.read_words.Goals as goal
 
 pub returns-in-Ok-try_get_matches_from-clause-asked : goal.returns-in-Ok-try_get_matches_from-clause-asked

@@ -1,7 +1,4 @@
-use Rattle.std.proofs.Common.{◌≡◌, ◌∙◌, ap, codes}
-use Rattle.clap.specs.Simple.{app_of, app_of_fields, new_app, with_rule}
-use Rattle.replay_words.specs.Options.{without_help}
-use Rattle.replay_words.proofs.ClapFacts.{adds}
+use Rattle.{std.proofs.Common.{◌≡◌, ◌∙◌, ap, codes}, clap.specs.Simple.{app_of, app_of_fields, new_app, with_rule}, replay_words.{specs.Options.without_help, proofs.ClapFacts.adds}}
 use Rattle.replay_words.proofs.words.tool.Goals as goal
 
 pub returns : goal.returns

@@ -1,5 +1,4 @@
-use Rattle.std.proofs.Common.{◌≡◌, ◌+◌, take}
-use Rattle.rx_ring.specs.ReceiveRing.{capped, bytes_of}
+use Rattle.{std.proofs.Common.{◌≡◌, ◌+◌, take}, rx_ring.specs.ReceiveRing.{capped, bytes_of}}
 use Rattle.rx_ring.proofs.ends.add_bytes.Given as goal
 
 abbrev pub invariant-loop-packet : goal.invariant-loop-packet

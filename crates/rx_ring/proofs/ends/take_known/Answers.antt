@@ -1,7 +1,4 @@
-use Rattle.std.proofs.Common.{◌≡◌, length, arith}
-use Rattle.std.proofs.lemmas.Grind.{common_steps}
-use Rattle.rtrb.specs.Ring.{known_items}
-use Rattle.rx_ring.proofs.Prefix.{front_of_prefix}
+use Rattle.{std.proofs.{Common.{◌≡◌, length, arith}, lemmas.Grind.common_steps}, rtrb.specs.Ring.known_items, rx_ring.proofs.Prefix.front_of_prefix}
 use Rattle.rx_ring.proofs.ends.take_known.Goals as goal
 
 pub returns-clause-batch : goal.returns-clause-batch

@@ -1,5 +1,4 @@
-use Rattle.std.proofs.Common.{◌∷◌, ◌++◌, []}
-use Rattle.poll_engine.proofs.PollFacts.{chain-push}
+use Rattle.{std.proofs.Common.{◌∷◌, ◌++◌, []}, poll_engine.proofs.PollFacts.chain-push}
 use Rattle.seat_pollers.proofs.serving.serve.Goals as goal
 
 pub loop-preserved-then-turn : goal.loop-preserved-then-turn

@@ -1,5 +1,4 @@
-use Rattle.std.proofs.Common.{Bool, List}
-use Rattle.poll_engine.specs.Polls.{Chain}
+use Rattle.{std.proofs.Common.{Bool, List}, poll_engine.specs.Polls.Chain}
 use Rattle.seat_pollers.proofs.serving.serve.Given as goal
 
 abbrev pub invariant-loop : goal.invariant-loop

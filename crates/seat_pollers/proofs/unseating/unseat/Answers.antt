@@ -1,7 +1,4 @@
-use Rattle.std.proofs.Common.{◌≡◌, ◌∷◌, ◌++◌, [], vec_items, arith}
-use Rattle.std.proofs.lemmas.Grind.{common_steps}
-use Rattle.std.proofs.lemmas.List.{nil_from_length}
-use Rattle.crew_tasks.proofs.Zips.{zip_push, before_more}
+use Rattle.{std.proofs.{Common.{◌≡◌, ◌∷◌, ◌++◌, [], vec_items, arith}, lemmas.{Grind.common_steps, List.nil_from_length}}, crew_tasks.proofs.Zips.{zip_push, before_more}}
 use Rattle.seat_pollers.proofs.unseating.unseat.Goals as goal
 
 pub loop-seat-init : goal.loop-seat-init

@@ -1,7 +1,4 @@
-use Rattle.std.proofs.Common.{◌≡◌, ◌+◌, ◌≤◌, ◌++◌, vec_len, vec_capacity, vec_items, length, List, IsSome}
-use Rattle.std.specs.Vec.Iter.{into_iter_items, into_iter_len}
-use Rattle.std.specs.List.{AllByRecursion, AllZip}
-use Rattle.seat_pollers.specs.declared.seat.Seat.{Seat}
+use Rattle.{std.{proofs.Common.{◌≡◌, ◌+◌, ◌≤◌, ◌++◌, vec_len, vec_capacity, vec_items, length, List, IsSome}, specs.{Vec.Iter.{into_iter_items, into_iter_len}, List.{AllByRecursion, AllZip}}}, seat_pollers.specs.declared.seat.Seat.Seat}
 use Rattle.seat_pollers.specs.SeatKeeping.{IsCallerOf}
 use Rattle.seat_pollers.proofs.unseating.unseat.Given as goal
 

@@ -1,6 +1,4 @@
-use Rattle.std.proofs.Common.{ap, ◌∙◌}
-use Rattle.shared_list.proofs.OrderSteps.{learns}
-use Rattle.shared_list.proofs.PushCounts.{emptied}
+use Rattle.{std.proofs.Common.{ap, ◌∙◌}, shared_list.proofs.{OrderSteps.learns, PushCounts.emptied}}
 use Rattle.shared_list.proofs.list_ends.drain.Goals as goal
 
 pub learn_as-requires-clause-rule : goal.learn_as-requires-clause-rule

@@ -1,9 +1,4 @@
-use Rattle.std.proofs.Common.{◌≤◌, ◌+◌, length, map, arith}
-use Rattle.std.proofs.lemmas.Grind.{common_steps}
-use Rattle.std.proofs.lemmas.List.{length-map}
-use Rattle.crossbeam_queue.specs.Passes.{view}
-use Rattle.shared_list.specs.SharedList.{as_returned}
-use Rattle.shared_list.proofs.PushCounts.{read_off}
+use Rattle.{std.proofs.{Common.{◌≤◌, ◌+◌, length, map, arith}, lemmas.{Grind.common_steps, List.length-map}}, crossbeam_queue.specs.Passes.view, shared_list.{specs.SharedList.as_returned, proofs.PushCounts.read_off}}
 use Rattle.shared_list.proofs.list_ends.end_list.Goals as goal
 
 pub returns-clause-ok : goal.returns-clause-ok

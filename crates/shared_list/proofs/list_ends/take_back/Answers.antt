@@ -1,5 +1,4 @@
-use Rattle.std.proofs.Common.{ap}
-use Rattle.shared_list.proofs.OrderSteps.{merges}
+use Rattle.{std.proofs.Common.ap, shared_list.proofs.OrderSteps.merges}
 use Rattle.shared_list.proofs.list_ends.take_back.Goals as goal
 
 pub absorb-requires-clause-rule : goal.absorb-requires-clause-rule

@@ -1,7 +1,4 @@
-use Rattle.std.proofs.Common.{◌≡◌, ◌++◌, map}
-use Rattle.crossbeam_queue.specs.Passes.{view, IsPassOf}
-use Rattle.shared_list.specs.PushOrder.{poller}
-use Rattle.shared_list.specs.SharedList.{as_returned}
+use Rattle.{std.proofs.Common.{◌≡◌, ◌++◌, map}, crossbeam_queue.specs.Passes.{view, IsPassOf}, shared_list.specs.{PushOrder.poller, SharedList.as_returned}}
 use Rattle.shared_list.proofs.list_ends.take_back.Given as goal
 
 abbrev pub invariant-loop-end : goal.invariant-loop-end

@@ -1,5 +1,4 @@
-use Rattle.std.proofs.Common.{ap}
-use Rattle.shared_list.proofs.OrderSteps.{begins, forks}
+use Rattle.{std.proofs.Common.ap, shared_list.proofs.OrderSteps.{begins, forks}}
 use Rattle.shared_list.proofs.list_ends.with_ends.Goals as goal
 
 pub ruled-requires-clause-rule : goal.ruled-requires-clause-rule

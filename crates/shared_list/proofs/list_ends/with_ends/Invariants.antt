@@ -1,8 +1,4 @@
-use Rattle.std.proofs.Common.{◌≡◌, ◌+◌, [], length, All, ℕ, ◌<◌, slice_index_or}
-use Rattle.shared_list.specs.declared.list_in.ListIn.{ListIn}
-use Rattle.crossbeam_queue.specs.Passes.{view, IsPassOf}
-use Rattle.std.specs.Arc.{arc_value}
-use Rattle.shared_list.specs.PushOrder.{poller}
+use Rattle.{std.{proofs.Common.{◌≡◌, ◌+◌, [], length, All, ℕ, ◌<◌, slice_index_or}, specs.Arc.arc_value}, shared_list.specs.{declared.list_in.ListIn.ListIn, PushOrder.poller}, crossbeam_queue.specs.Passes.{view, IsPassOf}}
 use Rattle.shared_list.specs.SharedList.{pushed_by, number_of}
 use Rattle.shared_list.proofs.list_ends.with_ends.Given as goal
 

@@ -1,5 +1,4 @@
-use Rattle.std.proofs.Common.{ap, ◌∙◌}
-use Rattle.shared_list.proofs.OrderSteps.{pushes}
+use Rattle.{std.proofs.Common.{ap, ◌∙◌}, shared_list.proofs.OrderSteps.pushes}
 use Rattle.shared_list.proofs.list_in.push_waiting.Goals as goal
 
 pub push_as-requires-clause-rule : goal.push_as-requires-clause-rule

@@ -1,6 +1,4 @@
-use Rattle.std.proofs.Common.{◌≡◌, ◌++◌, List, ℕ, length}
-use Rattle.crossbeam_queue.specs.Passes.{view, IsPassOf}
-use Rattle.shared_list.specs.PushOrder.{PopsMore}
+use Rattle.{std.proofs.Common.{◌≡◌, ◌++◌, List, ℕ, length}, crossbeam_queue.specs.Passes.{view, IsPassOf}, shared_list.specs.PushOrder.PopsMore}
 use Rattle.shared_list.proofs.shared.fill.Given as goal
 
 abbrev pub invariant-loop : goal.invariant-loop

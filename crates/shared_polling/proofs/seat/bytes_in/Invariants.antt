@@ -1,5 +1,4 @@
-use Rattle.std.proofs.Common.{◌≡◌, ◌+◌, ◌*◌, ◌≤◌, drop}
-use Rattle.rx_ring.specs.ReceiveRing.{bytes_of}
+use Rattle.{std.proofs.Common.{◌≡◌, ◌+◌, ◌*◌, ◌≤◌, drop}, rx_ring.specs.ReceiveRing.bytes_of}
 use Rattle.shared_polling.proofs.seat.bytes_in.Given as goal
 
 abbrev pub invariant-loop-packet : goal.invariant-loop-packet

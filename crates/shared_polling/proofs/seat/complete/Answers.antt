@@ -1,7 +1,4 @@
-use Rattle.std.proofs.Common.{refl}
-use Rattle.napi_calls.specs.Packets.{polled}
-use Rattle.napi_calls.proofs.Dealing.{delivers_back, delivers_before}
-use Rattle.shared_polling.proofs.Joined.{again_made}
+use Rattle.{std.proofs.Common.refl, napi_calls.{specs.Packets.polled, proofs.Dealing.{delivers_back, delivers_before}}, shared_polling.proofs.Joined.again_made}
 use Rattle.shared_polling.proofs.seat.complete.Goals as goal
 
 pub returns-in-Released-clause-packets : goal.returns-in-Released-clause-packets

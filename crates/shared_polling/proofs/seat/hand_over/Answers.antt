@@ -1,6 +1,4 @@
-use Rattle.std.proofs.Common.{[], ◌∷◌, ◌∙◌, refl}
-use Rattle.napi_model.specs.declared.event.Operation.TheVariants.{Look, Hand}
-use Rattle.napi_calls.proofs.Making.{more}
+use Rattle.{std.proofs.Common.{[], ◌∷◌, ◌∙◌, refl}, napi_model.specs.declared.event.Operation.TheVariants.{Look, Hand}, napi_calls.proofs.Making.more}
 use Rattle.shared_polling.proofs.seat.hand_over.Goals as goal
 
 pub returns-clause-made : goal.returns-clause-made

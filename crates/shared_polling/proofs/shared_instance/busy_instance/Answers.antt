@@ -1,7 +1,4 @@
-use Rattle.std.proofs.Common.{refl, ap}
-use Rattle.shared_polling.specs.Seat.{pass_of}
-use Rattle.shared_polling.proofs.SeatPolling.{delivers, rises}
-use Rattle.shared_polling.proofs.SeatBusy.{busily_made}
+use Rattle.{std.proofs.Common.{refl, ap}, shared_polling.{specs.Seat.pass_of, proofs.{SeatPolling.{delivers, rises}, SeatBusy.busily_made}}}
 use Rattle.shared_polling.proofs.shared_instance.busy_instance.Goals as goal
 
 pub returns-clause-polls : goal.returns-clause-polls

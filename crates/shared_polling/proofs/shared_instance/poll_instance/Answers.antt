@@ -1,6 +1,4 @@
-use Rattle.std.proofs.Common.{refl, ap}
-use Rattle.shared_polling.specs.Seat.{pass_of}
-use Rattle.shared_polling.proofs.SeatPolling.{delivers, once_made, rises}
+use Rattle.{std.proofs.Common.{refl, ap}, shared_polling.{specs.Seat.pass_of, proofs.SeatPolling.{delivers, once_made, rises}}}
 use Rattle.shared_polling.proofs.shared_instance.poll_instance.Goals as goal
 
 pub returns-clause-made : goal.returns-clause-made

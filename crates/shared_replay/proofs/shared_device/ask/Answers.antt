@@ -1,7 +1,4 @@
-use Rattle.std.proofs.Common.{[], ◌∷◌, ◌++◌, flat_map, refl, true}
-use Rattle.napi_model.specs.declared.event.Operation.TheVariants.{Look, Schedule}
-use Rattle.napi_model.specs.declared.event.Prep.TheVariants.{Granted}
-use Rattle.napi_calls.specs.Made.{looks}
+use Rattle.{std.proofs.Common.{[], ◌∷◌, ◌++◌, flat_map, refl, true}, napi_model.specs.declared.event.{Operation.TheVariants.{Look, Schedule}, Prep.TheVariants.Granted}, napi_calls.specs.Made.looks}
 use Rattle.shared_polling.proofs.Joined.{hand_made, joined}
 use Rattle.shared_replay.proofs.shared_device.ask.Goals as goal
 

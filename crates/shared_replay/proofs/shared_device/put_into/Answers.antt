@@ -1,7 +1,4 @@
-use Rattle.std.proofs.Common.{rules}
-use Rattle.std.proofs.Math.Logic.{∥∥₁_elim}
-use Rattle.std.proofs.Props.{props}
-use Rattle.rx_ring.specs.Ends.{IsOneRing}
+use Rattle.{std.proofs.{Common.rules, Math.Logic.∥∥₁_elim, Props.props}, rx_ring.specs.Ends.IsOneRing}
 use Rattle.shared_replay.proofs.shared_device.put_into.Goals as goal
 
 pub returns-in-Ok-clause-input : goal.returns-in-Ok-clause-input

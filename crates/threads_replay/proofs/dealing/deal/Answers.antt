@@ -1,8 +1,4 @@
-use Rattle.std.proofs.Common.{◌≡◌, ◌∙◌, ◌-◌, [], ap, slice_index_or, sym, vec_items, length, arith}
-use Rattle.std.proofs.lemmas.Grind.{common_steps}
-use Rattle.std.proofs.lemmas.List.{get_or-map, length-map, map-set}
-use Rattle.threads_replay.specs.Dealing.{lists}
-use Rattle.threads_replay.proofs.DealFacts.{dealt}
+use Rattle.{std.proofs.{Common.{◌≡◌, ◌∙◌, ◌-◌, [], ap, slice_index_or, sym, vec_items, length, arith}, lemmas.{Grind.common_steps, List.{get_or-map, length-map, map-set}}}, threads_replay.{specs.Dealing.lists, proofs.DealFacts.dealt}}
 use Rattle.threads_replay.proofs.dealing.deal.Goals as goal
 
 pub returns-clause-scripts : goal.returns-clause-scripts

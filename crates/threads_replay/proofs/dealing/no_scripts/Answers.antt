@@ -1,5 +1,4 @@
-use Rattle.std.proofs.Common.{◌≡◌, ◌∙◌, ◌∷◌, ◌+◌, ◌-◌, [], ap, replicate, vec_items, arith}
-use Rattle.std.proofs.lemmas.List.{map-append, replicate_more}
+use Rattle.std.proofs.{Common.{◌≡◌, ◌∙◌, ◌∷◌, ◌+◌, ◌-◌, [], ap, replicate, vec_items, arith}, lemmas.List.{map-append, replicate_more}}
 use Rattle.threads_replay.proofs.dealing.no_scripts.Goals as goal
 
 pub loop-preserved : goal.loop-preserved

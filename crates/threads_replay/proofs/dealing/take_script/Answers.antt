@@ -1,6 +1,4 @@
-use Rattle.std.proofs.Common.{◌∙◌, ap, slice_set, vec_items}
-use Rattle.std.proofs.lemmas.List.{map-set}
-use Rattle.threads_replay.specs.Dealing.{lists}
+use Rattle.{std.proofs.{Common.{◌∙◌, ap, slice_set, vec_items}, lemmas.List.map-set}, threads_replay.specs.Dealing.lists}
 use Rattle.threads_replay.proofs.dealing.take_script.Goals as goal
 
 pub returns-clause-scripts : goal.returns-clause-scripts

@@ -1,6 +1,4 @@
-use Rattle.std.proofs.Common.{refl}
-use Rattle.threads_replay.specs.ThreadsReport.{opened, threads_report}
-use Rattle.threads_replay.proofs.StationFacts.{all-lines}
+use Rattle.{std.proofs.Common.refl, threads_replay.{specs.ThreadsReport.{opened, threads_report}, proofs.StationFacts.all-lines}}
 use Rattle.threads_replay.proofs.report.report_of.Goals as goal
 
 pub returns : goal.returns

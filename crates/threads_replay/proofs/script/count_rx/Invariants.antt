@@ -1,5 +1,4 @@
-use Rattle.std.proofs.Common.{◌≡◌, ◌≤◌, length, take}
-use Rattle.threads_replay.specs.Script.{rx_of}
+use Rattle.{std.proofs.Common.{◌≡◌, ◌≤◌, length, take}, threads_replay.specs.Script.rx_of}
 use Rattle.threads_replay.proofs.script.count_rx.Given as goal
 
 abbrev pub invariant-loop-row : goal.invariant-loop-row

@@ -1,8 +1,4 @@
-use Rattle.std.proofs.Common.{◌∙◌, ap, sym}
-use Rattle.std.specs.Prelude.{is_some}
-use Rattle.threads_replay.specs.Script.{makes_threaded}
-use Rattle.threads_replay.proofs.Rows.{find-here, find-more}
-use Rattle.threads_replay.proofs.ScriptFacts.{none}
+use Rattle.{std.{proofs.Common.{◌∙◌, ap, sym}, specs.Prelude.is_some}, threads_replay.{specs.Script.makes_threaded, proofs.{Rows.{find-here, find-more}, ScriptFacts.none}}}
 use Rattle.threads_replay.proofs.script.has_thread.Goals as goal
 
 pub returns-then-makes_threaded : goal.returns-then-makes_threaded

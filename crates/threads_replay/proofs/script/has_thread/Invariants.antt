@@ -1,6 +1,4 @@
-use Rattle.std.proofs.Common.{◌≡◌, None, take}
-use Rattle.std.specs.List.{find}
-use Rattle.threads_replay.specs.Script.{makes_threaded}
+use Rattle.{std.{proofs.Common.{◌≡◌, None, take}, specs.List.find}, threads_replay.specs.Script.makes_threaded}
 use Rattle.threads_replay.proofs.script.has_thread.Given as goal
 
 abbrev pub invariant-loop-row : goal.invariant-loop-row

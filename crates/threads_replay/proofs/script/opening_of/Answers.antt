@@ -1,7 +1,4 @@
-use Rattle.std.proofs.Common.{◌∙◌, sym, arith}
-use Rattle.threads_replay.specs.Script.{opens}
-use Rattle.threads_replay.proofs.Rows.{find-here, find-more}
-use Rattle.threads_replay.proofs.ScriptFacts.{none}
+use Rattle.{std.proofs.Common.{◌∙◌, sym, arith}, threads_replay.{specs.Script.opens, proofs.{Rows.{find-here, find-more}, ScriptFacts.none}}}
 use Rattle.threads_replay.proofs.script.opening_of.Goals as goal
 
 pub returns-then-opens : goal.returns-then-opens

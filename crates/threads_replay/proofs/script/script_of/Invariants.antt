@@ -1,6 +1,4 @@
-use Rattle.std.proofs.Common.{◌≡◌, take}
-use Rattle.std.specs.Prelude.{filter}
-use Rattle.threads_replay.specs.Script.{is_act_of}
+use Rattle.{std.{proofs.Common.{◌≡◌, take}, specs.Prelude.filter}, threads_replay.specs.Script.is_act_of}
 use Rattle.threads_replay.proofs.script.script_of.Given as goal
 
 abbrev pub invariant-loop-row : goal.invariant-loop-row

@@ -1,8 +1,4 @@
-use Rattle.std.proofs.Common.{◌≡◌, ◌∙◌, true, Some, ap, sym}
-use Rattle.std.specs.Prelude.{is_some}
-use Rattle.threads_replay.specs.Script.{opening_of}
-use Rattle.threads_replay.specs.ThreadsReport.{is_opened}
-use Rattle.threads_replay.proofs.StationFacts.{station-here}
+use Rattle.{std.{proofs.Common.{◌≡◌, ◌∙◌, true, Some, ap, sym}, specs.Prelude.is_some}, threads_replay.{specs.{Script.opening_of, ThreadsReport.is_opened}, proofs.StationFacts.station-here}}
 use Rattle.threads_replay.proofs.stations.add_station.Goals as goal
 
 pub returns-in_ok-push-clause-stations : goal.returns-in_ok-push-clause-stations

@@ -1,6 +1,4 @@
-use Rattle.std.proofs.Common.{◌≡◌, None, take}
-use Rattle.std.specs.List.{find}
-use Rattle.threads_replay.specs.Stations.{is_small}
+use Rattle.{std.{proofs.Common.{◌≡◌, None, take}, specs.List.find}, threads_replay.specs.Stations.is_small}
 use Rattle.threads_replay.proofs.stations.ring_fault.Given as goal
 
 abbrev pub invariant-loop-station : goal.invariant-loop-station

@@ -1,8 +1,4 @@
-use Rattle.std.proofs.Common.{◌≡◌, ◌∙◌, None, Some, inr, sym, vec_items}
-use Rattle.threads_replay.specs.Stations.{small_fault}
-use Rattle.threads_replay.specs.ThreadsReport.{is_opened, opened}
-use Rattle.threads_replay.specs.Stations.{IsStationOf}
-use Rattle.threads_replay.proofs.OwnNumbers.{own-numbers-rise}
+use Rattle.{std.proofs.Common.{◌≡◌, ◌∙◌, None, Some, inr, sym, vec_items}, threads_replay.{specs.{Stations.{small_fault, IsStationOf}, ThreadsReport.{is_opened, opened}}, proofs.OwnNumbers.own-numbers-rise}}
 use Rattle.threads_replay.proofs.StationFacts.{ends-if-ok, ring-of, rings-if-ok}
 use Rattle.threads_replay.proofs.stations.run_rows.Goals as goal
 

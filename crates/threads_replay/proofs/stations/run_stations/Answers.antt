@@ -1,5 +1,4 @@
-use Rattle.std.proofs.Common.{◌∙◌, ap, sym, true≢false}
-use Rattle.std.specs.Prelude.{Err}
+use Rattle.std.{proofs.Common.{◌∙◌, ap, sym, true≢false}, specs.Prelude.Err}
 use Rattle.threads_replay.proofs.stations.run_stations.Goals as goal
 
 pub work_fault-requires : goal.work_fault-requires

@@ -1,13 +1,5 @@
-use Rattle.std.proofs.Common.{◌≡◌, ◌∙◌, ◌-◌, [], subst, sym, arith, vec_items, ℕ}
-use Rattle.std.specs.Prelude.{filter}
-use Rattle.std.specs.List.{AllZip, range_with_len}
-use Rattle.std.proofs.lemmas.List.{get_or-set_other}
-use Rattle.threads_replay.specs.Dealing.{lists}
-use Rattle.threads_replay.specs.Script.{is_act_of}
-use Rattle.threads_replay.specs.Stations.{IsStationOf}
-use Rattle.threads_replay.specs.ThreadsReport.{is_opened, opened}
-use Rattle.threads_replay.proofs.Rows.{filter-long}
-use Rattle.threads_replay.proofs.StationFacts.{opened-more, opened-within, opening-among, script-at}
+use Rattle.{std.{proofs.{Common.{◌≡◌, ◌∙◌, ◌-◌, [], subst, sym, arith, vec_items, ℕ}, lemmas.List.get_or-set_other}, specs.{Prelude.filter, List.{AllZip, range_with_len}}}, threads_replay.specs.{Dealing.lists, Script.is_act_of}}
+use Rattle.threads_replay.{specs.{Stations.IsStationOf, ThreadsReport.{is_opened, opened}}, proofs.{Rows.filter-long, StationFacts.{opened-more, opened-within, opening-among, script-at}}}
 use Rattle.threads_replay.proofs.stations.stations_of.Goals as goal
 
 pub add_station-requires-clause-places : goal.add_station-requires-clause-places

@@ -1,11 +1,5 @@
-use Rattle.std.proofs.Common.{◌≡◌, ◌-◌, ◌+◌, ◌<◌, ◌≤◌, ℕ, [], slice_index_or, vec_items, vec_len}
-use Rattle.std.specs.Prelude.{filter}
-use Rattle.std.specs.List.{All, AllZip, range_with_len}
-use Rattle.interrupt_workers.specs.Opens.{IsStation}
-use Rattle.threads_replay.specs.Dealing.{lists}
-use Rattle.threads_replay.specs.Script.{script_of}
-use Rattle.threads_replay.specs.Stations.{IsStationOf}
-use Rattle.threads_replay.specs.ThreadsReport.{is_opened}
+use Rattle.{std.{proofs.Common.{◌≡◌, ◌-◌, ◌+◌, ◌<◌, ◌≤◌, ℕ, [], slice_index_or, vec_items, vec_len}, specs.{Prelude.filter, List.{All, AllZip, range_with_len}}}, interrupt_workers.specs.Opens.IsStation, threads_replay.specs.Dealing.lists}
+use Rattle.threads_replay.specs.{Script.script_of, Stations.IsStationOf, ThreadsReport.is_opened}
 use Rattle.threads_replay.proofs.stations.stations_of.Given as goal
 
 abbrev pub invariant-loop-number : goal.invariant-loop-number

@@ -1,6 +1,4 @@
-use Rattle.std.proofs.Common.{◌≡◌, take}
-use Rattle.std.specs.Prelude.{map}
-use Rattle.threads_replay.specs.Stations.{polled_of}
+use Rattle.{std.{proofs.Common.{◌≡◌, take}, specs.Prelude.map}, threads_replay.specs.Stations.polled_of}
 use Rattle.threads_replay.proofs.threads.all_polled.Given as goal
 
 abbrev pub invariant-loop-end : goal.invariant-loop-end

@@ -1,5 +1,4 @@
-use Rattle.threads_replay.specs.ThreadsReport.{opened}
-use Rattle.threads_replay.proofs.StationFacts.{all-polled}
+use Rattle.threads_replay.{specs.ThreadsReport.opened, proofs.StationFacts.all-polled}
 use Rattle.threads_replay.proofs.threads.write_report.Goals as goal
 
 pub returns-clause-polled : goal.returns-clause-polled

@@ -1,6 +1,4 @@
-use Rattle.std.proofs.Common.{◌≡◌, ◌++◌, take, string_bytes, flat_map}
-use Rattle.report_text.specs.Lines.{ended}
-use Rattle.trace_replay.specs.Report.{poll_line}
+use Rattle.{std.proofs.Common.{◌≡◌, ◌++◌, take, string_bytes, flat_map}, report_text.specs.Lines.ended, trace_replay.specs.Report.poll_line}
 use Rattle.trace_replay.proofs.report.add_lines.Given as goal
 
 abbrev pub invariant-loop-line : goal.invariant-loop-line

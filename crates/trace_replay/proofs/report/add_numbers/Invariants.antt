@@ -1,5 +1,4 @@
-use Rattle.std.proofs.Common.{◌≡◌, ◌++◌, take, string_bytes}
-use Rattle.trace_replay.specs.Report.{spaced}
+use Rattle.{std.proofs.Common.{◌≡◌, ◌++◌, take, string_bytes}, trace_replay.specs.Report.spaced}
 use Rattle.trace_replay.proofs.report.add_numbers.Given as goal
 
 abbrev pub invariant-loop-number : goal.invariant-loop-number

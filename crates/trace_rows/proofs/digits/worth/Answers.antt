@@ -1,5 +1,4 @@
-use Rattle.std.proofs.Common.{◌≡◌, rules, arith}
-use Rattle.trace_rows.specs.Digits.{worth}
+use Rattle.{std.proofs.Common.{◌≡◌, rules, arith}, trace_rows.specs.Digits.worth}
 use Rattle.trace_rows.proofs.digits.worth.Goals as goal
 
 pub returns-in_default : goal.returns-in_default

@@ -1,8 +1,4 @@
-use Rattle.std.proofs.Common.{◌≡◌, ◌≢◌, ◌∙◌, ℕ, ◌+◌, ◌<◌, ◌/◌, ◌%◌, Bool, true, false, slice_index_or, slice_set, refl, rules, arith}
-use Rattle.std.specs.Prelude.{◌==◌}
-use Rattle.std.proofs.lemmas.Bool.{eqb-true, eqb-false}
-use Rattle.std.proofs.lemmas.List.{get_or-set_other}
-use Rattle.std.proofs.lemmas.Grind.{get_or-set_at}
+use Rattle.std.{proofs.{Common.{◌≡◌, ◌≢◌, ◌∙◌, ℕ, ◌+◌, ◌<◌, ◌/◌, ◌%◌, Bool, true, false, slice_index_or, slice_set, refl, rules, arith}, lemmas.{Bool.{eqb-true, eqb-false}, List.get_or-set_other, Grind.get_or-set_at}}, specs.Prelude.◌==◌}
 use Rattle.trace_rows.specs.Digits.{worth}
 use Rattle.trace_rows.proofs.digits.worths.Goals as goal
 

@@ -1,5 +1,4 @@
-use Rattle.std.proofs.Common.{◌≡◌, ℕ, ◌<◌, ◌/◌, ◌%◌, length, slice_index_or}
-use Rattle.trace_rows.specs.Digits.{worth}
+use Rattle.{std.proofs.Common.{◌≡◌, ℕ, ◌<◌, ◌/◌, ◌%◌, length, slice_index_or}, trace_rows.specs.Digits.worth}
 use Rattle.trace_rows.proofs.digits.worths.Given as goal
 
 abbrev pub invariant-loop-at : goal.invariant-loop-at

@@ -1,6 +1,4 @@
-use Rattle.std.proofs.Common.{◌≡◌, ◌<◌, ◌^◌, true, Some, rules}
-use Rattle.trace_rows.specs.Record.{event_of}
-use Rattle.trace_rows.proofs.ShortFacts.{short-row}
+use Rattle.{std.proofs.Common.{◌≡◌, ◌<◌, ◌^◌, true, Some, rules}, trace_rows.{specs.Record.event_of, proofs.ShortFacts.short-row}}
 use Rattle.trace_rows.proofs.record.add_at.Goals as goal
 
 pub returns-clause-added : goal.returns-clause-added

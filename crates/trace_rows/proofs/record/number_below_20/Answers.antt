@@ -1,5 +1,4 @@
-use Rattle.std.proofs.Common.{◌<◌, rules, arith}
-use Rattle.trace_rows.proofs.NumeralFacts.{fits}
+use Rattle.{std.proofs.Common.{◌<◌, rules, arith}, trace_rows.proofs.NumeralFacts.fits}
 use Rattle.trace_rows.proofs.record.number_below_20.Goals as goal
 
 pub overflow_mul-number : goal.overflow_mul-number

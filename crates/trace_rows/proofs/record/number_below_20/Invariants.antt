@@ -1,7 +1,4 @@
-use Rattle.std.proofs.Common.{◌≡◌, ◌<◌, ◌^◌, drop}
-use Rattle.std.specs.Str.{all_ascii_digits}
-use Rattle.std.specs.Str.Parse.{digits_value_after}
-use Rattle.trace_rows.specs.Record.{numeral}
+use Rattle.{std.{proofs.Common.{◌≡◌, ◌<◌, ◌^◌, drop}, specs.Str.{all_ascii_digits, Parse.digits_value_after}}, trace_rows.specs.Record.numeral}
 use Rattle.trace_rows.proofs.record.number_below_20.Given as goal
 
 abbrev pub invariant-loop-place : goal.invariant-loop-place

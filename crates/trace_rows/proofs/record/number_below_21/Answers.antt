@@ -1,5 +1,4 @@
-use Rattle.std.proofs.Common.{rules}
-use Rattle.trace_rows.proofs.NumeralFacts.{is_numeral-push, numeral-push}
+use Rattle.{std.proofs.Common.rules, trace_rows.proofs.NumeralFacts.{is_numeral-push, numeral-push}}
 use Rattle.trace_rows.proofs.record.number_below_21.Goals as goal
 
 pub returns-then-front-gt19 : goal.returns-then-front-gt19

@@ -1,7 +1,4 @@
-use Rattle.std.proofs.Common.{◌+◌, [], length, sym, vec_items}
-use Rattle.trace_rows.proofs.Accepted.{accepted-push}
-use Rattle.trace_rows.proofs.RowsFacts.{with_row-good}
-use Rattle.trace_rows.proofs.SwitchFacts.{tracks-same}
+use Rattle.{std.proofs.Common.{◌+◌, [], length, sym, vec_items}, trace_rows.proofs.{Accepted.accepted-push, RowsFacts.with_row-good, SwitchFacts.tracks-same}}
 use Rattle.trace_rows.proofs.trace.add_next.Goals as goal
 
 pub returns-then-add_short_row-clause-rows : goal.returns-then-add_short_row-clause-rows

@@ -1,7 +1,4 @@
-use Rattle.std.proofs.Common.{[], vec_items}
-use Rattle.std.proofs.lemmas.Result.{err_from_is_err_and}
-use Rattle.trace_rows.proofs.Accepted.{accepted-push}
-use Rattle.trace_rows.proofs.RowsFacts.{with_row-bad, with_row-good, with_row-refused}
+use Rattle.{std.proofs.{Common.{[], vec_items}, lemmas.Result.err_from_is_err_and}, trace_rows.proofs.{Accepted.accepted-push, RowsFacts.{with_row-bad, with_row-good, with_row-refused}}}
 use Rattle.trace_rows.proofs.trace.add_row.Goals as goal
 
 pub returns-in_err-row-clause-rows : goal.returns-in_err-row-clause-rows

@@ -1,14 +1,7 @@
-use Rattle.std.proofs.Common.{◌≡◌, ◌∙◌, ◌-◌, length, ap, inr, true, false, rules, arith}
-use Rattle.std.specs.Prelude.{nat_lt}
-use Rattle.std.proofs.lemmas.Bool.{le-ltb, lt-ltb}
-use Rattle.std.proofs.lemmas.Result.{err_from_is_err_and}
-use Rattle.csv.specs.Records.{fields_of}
-use Rattle.csv.specs.Reading.{reader_state}
-use Rattle.trace_rows.specs.Trace.{rows_after}
+use Rattle.{std.{proofs.{Common.{◌≡◌, ◌∙◌, ◌-◌, length, ap, inr, true, false, rules, arith}, lemmas.{Bool.{le-ltb, lt-ltb}, Result.err_from_is_err_and}}, specs.Prelude.nat_lt}, csv.specs.{Records.fields_of, Reading.reader_state}}
+use Rattle.trace_rows.{specs.Trace.rows_after, proofs.{RowsFacts.{ends, goes-on, records-zero, rows-bad, rows-end, rows-good, rows-over}, trace.read_rows.Goals.{else-loop-before-test, then-loop-before-test+in-End}}}
 use Rattle.trace_rows.specs.declared.trace.Next.TheVariants as came
-use Rattle.trace_rows.proofs.RowsFacts.{ends, goes-on, records-zero, rows-bad, rows-end, rows-good, rows-over}
 use Rattle.trace_rows.proofs.trace.read_rows.Goals as goal
-use Rattle.trace_rows.proofs.trace.read_rows.Goals.{else-loop-before-test, then-loop-before-test+in-End}
 
 pub returns-then-before-eq-MOST_ROWS-clause-fault : goal.returns-then-before-eq-MOST_ROWS-clause-fault
 returns-then-before-eq-MOST_ROWS-clause-fault g c bytes start =

@@ -1,7 +1,4 @@
-use Rattle.std.proofs.Common.{◌≡◌, ℕ, ◌-◌, ◌≤◌, List, [], length, vec_capacity, vec_len}
-use Rattle.csv.specs.Reading.{default_config, reader_state, records_from}
-use Rattle.trace_rows.specs.Source.{IsOpen, StandsAt}
-use Rattle.trace_rows.specs.Switch.{Tracks}
+use Rattle.{std.proofs.Common.{◌≡◌, ℕ, ◌-◌, ◌≤◌, List, [], length, vec_capacity, vec_len}, csv.specs.Reading.{default_config, reader_state, records_from}, trace_rows.specs.{Source.{IsOpen, StandsAt}, Switch.Tracks}}
 use Rattle.trace_rows.specs.Trace.{AcceptedAfter, rows_after}
 use Rattle.trace_rows.proofs.trace.read_rows.Given as goal
 

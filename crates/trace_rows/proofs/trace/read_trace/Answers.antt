@@ -1,11 +1,6 @@
-use Rattle.std.proofs.Common.{◌≡◌, ◌∙◌, refl, inr, sym, Some, None, rules, arith}
-use Rattle.std.proofs.lemmas.Result.{IfErr-weaker, IfOk-weaker}
-use Rattle.csv.specs.Records.{fields_of}
-use Rattle.csv.specs.Reading.{strip_bom}
-use Rattle.trace_rows.specs.Record.{version_of}
+use Rattle.{std.proofs.{Common.{◌≡◌, ◌∙◌, refl, inr, sym, Some, None, rules, arith}, lemmas.Result.{IfErr-weaker, IfOk-weaker}}, csv.specs.{Records.fields_of, Reading.strip_bom}, trace_rows.specs.Record.version_of}
+use Rattle.trace_rows.proofs.{DecidingFacts.{asked-decide, asked-version}, RowsFacts.{first-version, records-more, records-none, trace-none, trace-other, trace-rows}}
 use Rattle.trace_rows.specs.declared.trace.Next.TheVariants as came
-use Rattle.trace_rows.proofs.DecidingFacts.{asked-decide, asked-version}
-use Rattle.trace_rows.proofs.RowsFacts.{first-version, records-more, records-none, trace-none, trace-other, trace-rows}
 use Rattle.trace_rows.proofs.trace.read_trace.Goals as goal
 
 pub returns-in-End-clause-fault : goal.returns-in-End-clause-fault

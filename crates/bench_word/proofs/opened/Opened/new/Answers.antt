@@ -1,5 +1,4 @@
-use Rattle.std.proofs.Common.{◌≡◌, List, [], ◌∷◌, ◌++◌, length, length-append, slice_get, refl, sym, ap, ◌∙◌, arith}
-use Rattle.napi_word.specs.declared.table.Pass.{Pass}
+use Rattle.{std.proofs.Common.{◌≡◌, List, [], ◌∷◌, ◌++◌, length, length-append, slice_get, refl, sym, ap, ◌∙◌, arith}, napi_word.specs.declared.table.Pass.Pass}
 use Rattle.bench_word.proofs.opened.Opened.new.Goals as goal
 
 -- three were popped of three, so none is left

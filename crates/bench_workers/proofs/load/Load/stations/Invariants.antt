@@ -1,6 +1,4 @@
-use Rattle.std.proofs.Common.{◌≡◌, ◌+◌, vec_items, vec_len}
-use Rattle.std.specs.List.{All}
-use Rattle.poll_workers.specs.Opens.{IsStation}
+use Rattle.{std.{proofs.Common.{◌≡◌, ◌+◌, vec_items, vec_len}, specs.List.All}, poll_workers.specs.Opens.IsStation}
 use Rattle.bench_workers.proofs.load.Load.stations.Given as goal
 
 abbrev pub invariant-loop-number : goal.invariant-loop-number

@@ -1,20 +1,11 @@
 -- A held value may cross threads, as what it leads to may.
 use mir.Raw.{raw}
 use base.Shift.{Keyless}
-use denote.Memory.{lone}
-use denote.RawPtr.{Ptr}
-use denote.Struct.Struct.{exits_of}
-use denote.Struct.Owning.{shape, fields, to}
-use denote.Param.Send.{IsSend, AllSend, owning_send, struct_send, sendable}
-use Rattle.std.specs.Prelude.{Option, Some, None}
-use Rattle.std.specs.Global.{Global}
+use denote.{Memory.lone, RawPtr.Ptr, Struct.{Struct.exits_of, Owning.{shape, fields, to}}, Param.Send.{IsSend, AllSend, owning_send, struct_send, sendable}}
+use Rattle.{std.specs.{Prelude.{Option, Some, None}, Global.Global}, std_alloc.proofs.SendSync.{quiet, lies}, c_handles.{proofs.body.Body.TheSendSync.the_send as body, specs.{Held.held_owns, contracts.held.Held.{the_row, the_type}}}}
 use Rattle.std.proofs.Crossing as heap
-use Rattle.std_alloc.proofs.SendSync.{quiet, lies}
 use Rattle.std_heap.proofs.Global.TheSendSync as handle
 use Rattle.c_handles.specs.contracts.body.Body as Body
-use Rattle.c_handles.proofs.body.Body.TheSendSync.{the_send as body}
-use Rattle.c_handles.specs.Held.{held_owns}
-use Rattle.c_handles.specs.contracts.held.Held.{the_row, the_type}
 
 keyless : (alloc : Global) (p : Ptr) (o : Option Body.the_row.Denot) → Keyless (held_owns alloc p o)
 keyless alloc p None = tt

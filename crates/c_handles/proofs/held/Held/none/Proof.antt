@@ -1,41 +1,19 @@
 -- `none` makes a held value that owns nothing, at no pointer.
-use mathlib.Core.Path.{refl, sym, subst}
-use mathlib.Core.List.{List, [], ◌∷◌, ◌++◌}
+use mathlib.Core.{Path.{refl, sym, subst}, List.{List, [], ◌∷◌, ◌++◌}}
 use seplogic.Ra.Ura.{Ura}
 use mir.Val.{Val, vstruct, vcons, vnil, has_ty}
-use base.Logic.{SProp, ent, emp, id⊢}
-use base.Fml.{ftrue, fsep}
-use prog.Memory.{Memory}
-use prog.Routine.{Routine}
-use prog.Wp.{WpFn, Tables}
-use types.Logic.{Logic}
-use contract.Monad.{Fun}
-use contract.Running.{tables, tables_of}
-use sound.WpLaws.{WpFn-mono}
-use types.Kit.{Item, ‵, raw, ◌⊛◌, ◌$◌, ◌∵◌, !, qed, by, move, keep, drop, use1, join, split, fsplit, fjoin, fpack, feq_i, suffices, done}
-use types.Part.{agg}
-use types.Run.{lit, no_more, and_then, returns, enter}
+use base.{Logic.{SProp, ent, emp, id⊢}, Fml.{ftrue, fsep}}
+use prog.{Memory.Memory, Routine.Routine, Wp.{WpFn, Tables}}
+use types.{Logic.Logic, Kit.{Item, ‵, raw, ◌⊛◌, ◌$◌, ◌∵◌, !, qed, by, move, keep, drop, use1, join, split, fsplit, fjoin, fpack, feq_i, suffices, done}, Part.agg, Run.{lit, no_more, and_then, returns, enter}}
 use types.ByLocal.{alloc_all, pass_all, free_all, look_at, get, sets}
-use Rattle.std.proofs.Common.{lit<}
-use Rattle.std.specs.Prelude.{None}
-use denote.Exit.{yes}
-use denote.RattleType.{Valss}
-use denote.RawPtr.{RawPtr, null_ptr, ptr_val}
-use denote.Signature.{Slot, plain, type_at}
-use denote.Steps.{nothing}
-use denote.Struct.Struct.{within}
-use denote.Struct.Owning.{shape, to}
-use denote.Triple.Spec.{triple_of}
-use denote.Triple.Table.{entered}
+use contract.{Monad.Fun, Running.{tables, tables_of}}
+use sound.WpLaws.{WpFn-mono}
+use Rattle.{std.{proofs.{Common.lit<, alloc.Calls.{α, handle_tells}}, specs.Prelude.None}, std_alloc.proofs.{ResultValues.and_tt, BoxSteps.Form.handle}, c_handles.{proofs.AsBox.E, specs.contracts.held.Held.none.Key.name as #self}}
+use denote.{Exit.yes, RattleType.Valss, RawPtr.{RawPtr, null_ptr, ptr_val}, Signature.{Slot, plain, type_at}, Steps.nothing, Struct.{Struct.within, Owning.{shape, to}}, Triple.{Spec.triple_of, Table.entered}}
 use denote.Triple.Walked.{says, Stays, stay_dropped, walk_of, ends_at, Goes-dropped, walk_Meets}
-use Rattle.std.proofs.alloc.Calls.{α, handle_tells}
-use Rattle.std_alloc.proofs.ResultValues.{and_tt}
 use Rattle.std_heap.specs.contracts.Global as Heap
-use Rattle.std_alloc.proofs.BoxSteps.Form.{handle}
-use Rattle.c_handles.proofs.AsBox.{E}
 use Rattle.c_handles.specs.contracts.held.Held as Held
 use Rattle.c_handles.specs.contracts.held.Held.none as F
-use Rattle.c_handles.specs.contracts.held.Held.none.Key.{name as #self}
 use Rattle.c_handles.proofs.held.Held.none.Statement as stated
 use Rattle.c_handles.proofs.held.Held.none.Code as code
 

@@ -1,8 +1,4 @@
-use Rattle.std.proofs.Common.{◌≡◌, ◌∙◌, ◌<◌, None, length, sym, arith}
-use Rattle.trace_rows.specs.Places.{at}
-use Rattle.devices.proofs.BenchFacts.{kept-opened}
-use Rattle.trace_rows.proofs.PlaceFacts.{at-index, none-of}
-use Rattle.devices.proofs.Waiting.{waiting-added}
+use Rattle.{std.proofs.Common.{◌≡◌, ◌∙◌, ◌<◌, None, length, sym, arith}, trace_rows.{specs.Places.at, proofs.PlaceFacts.{at-index, none-of}}, devices.proofs.{BenchFacts.kept-opened, Waiting.waiting-added}}
 use Rattle.devices.proofs.bench.SerialBench.keep.Goals as goal
 
 pub invariant_of-self : goal.invariant_of-self

@@ -1,7 +1,4 @@
-use Rattle.std.proofs.Common.{◌≡◌, false, subst, sym, arith}
-use Rattle.devices.specs.Kept.{IsKept}
-use Rattle.trace_rows.specs.Places.{empty}
-use Rattle.devices.proofs.BenchFacts.{kept-empty}
+use Rattle.{std.proofs.Common.{◌≡◌, false, subst, sym, arith}, devices.{specs.Kept.IsKept, proofs.BenchFacts.kept-empty}, trace_rows.specs.Places.empty}
 use Rattle.devices.proofs.bench.SerialBench.new.Goals as goal
 
 pub invariant_of-result : goal.invariant_of-result

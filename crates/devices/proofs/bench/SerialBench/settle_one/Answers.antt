@@ -1,9 +1,4 @@
-use Rattle.std.proofs.Common.{◌≡◌, ◌∙◌, Some, ap, sym, arith}
-use Rattle.devices.specs.Device.{is_pending}
-use Rattle.devices.specs.Kept.{is_sound}
-use Rattle.trace_rows.specs.Places.{at}
-use Rattle.devices.proofs.BenchFacts.{kept-set, pending-off, sound-at}
-use Rattle.trace_rows.proofs.PlaceFacts.{at-index, below-some}
+use Rattle.{std.proofs.Common.{◌≡◌, ◌∙◌, Some, ap, sym, arith}, devices.{specs.{Device.is_pending, Kept.is_sound}, proofs.BenchFacts.{kept-set, pending-off, sound-at}}, trace_rows.{specs.Places.at, proofs.PlaceFacts.{at-index, below-some}}}
 use Rattle.devices.proofs.DeviceFacts.{settle-keeps, settled-same}
 use Rattle.devices.proofs.bench.SerialBench.settle_one.Goals as goal
 

@@ -1,13 +1,5 @@
-use Rattle.std.proofs.Common.{◌≡◌, ◌∙◌, Some, ap, refl, sym, arith}
-use Rattle.devices.specs.Device.{is_pending}
-use Rattle.devices.specs.Kept.{is_sound}
-use Rattle.trace_rows.specs.Places.{at}
-use Rattle.devices.proofs.BenchFacts.{kept-changed, sound-at}
-use Rattle.devices.proofs.BusyFacts.{busy-keeps}
-use Rattle.trace_rows.proofs.PlaceFacts.{at-index}
-use Rattle.std.specs.Prelude.{is_some}
-use Rattle.devices.proofs.SideFacts.{sides-set}
-use Rattle.devices.proofs.Waiting.{waiting-more}
+use Rattle.{std.proofs.Common.{◌≡◌, ◌∙◌, Some, ap, refl, sym, arith}, devices.{specs.{Device.is_pending, Kept.is_sound}, proofs.{BenchFacts.{kept-changed, sound-at}, BusyFacts.busy-keeps}}, trace_rows.specs.Places.at}
+use Rattle.{trace_rows.proofs.PlaceFacts.at-index, std.specs.Prelude.is_some, devices.proofs.{SideFacts.sides-set, Waiting.waiting-more}}
 use Rattle.devices.proofs.bench.SerialBenchBench.busy_poll.Goals as goal
 
 pub invariant_of-self : goal.invariant_of-self

@@ -1,13 +1,5 @@
-use Rattle.std.proofs.Common.{rules, ◌≡◌, ◌∙◌, ◌<◌, Some, [], ap, length, slice_set, refl, sym, arith}
-use Rattle.devices.specs.Device.{is_pending, polled_by_thread}
-use Rattle.devices.specs.Kept.{is_sound}
-use Rattle.trace_rows.specs.Places.{at}
-use Rattle.devices.proofs.BenchFacts.{kept-changed, sound-at}
-use Rattle.devices.proofs.DeviceFacts.{thread-keeps}
-use Rattle.trace_rows.proofs.PlaceFacts.{at-index}
-use Rattle.std.specs.Prelude.{is_some}
-use Rattle.devices.proofs.SideFacts.{set-back, sides-set}
-use Rattle.devices.proofs.Waiting.{waiting-more}
+use Rattle.{std.proofs.Common.{rules, ◌≡◌, ◌∙◌, ◌<◌, Some, [], ap, length, slice_set, refl, sym, arith}, devices.specs.{Device.{is_pending, polled_by_thread}, Kept.is_sound}, trace_rows.specs.Places.at}
+use Rattle.{devices.proofs.{BenchFacts.{kept-changed, sound-at}, DeviceFacts.thread-keeps, SideFacts.{set-back, sides-set}, Waiting.waiting-more}, trace_rows.proofs.PlaceFacts.at-index, std.specs.Prelude.is_some}
 use Rattle.devices.proofs.bench.SerialBenchBench.poll_thread.Goals as goal
 
 pub invariant_of-self : goal.invariant_of-self

@@ -1,5 +1,4 @@
-use Rattle.std.proofs.Common.{◌∙◌, sym}
-use Rattle.devices.proofs.SideFacts.{sides-attached}
+use Rattle.{std.proofs.Common.{◌∙◌, sym}, devices.proofs.SideFacts.sides-attached}
 use Rattle.devices.proofs.bench.SerialBenchReplayBench.attached.Goals as goal
 
 pub returns-clause-transmits : goal.returns-clause-transmits

@@ -1,12 +1,5 @@
-use Rattle.std.proofs.Common.{◌≡◌, ◌∙◌, Some, true, ap, sym, arith}
-use Rattle.devices.specs.DeviceView.{DeviceView}
-use Rattle.devices.specs.Kept.{is_sound}
-use Rattle.trace_rows.specs.Places.{at}
-use Rattle.devices.specs.Waiting.{waits}
-use Rattle.devices.proofs.BenchFacts.{kept-set, sound-at}
-use Rattle.trace_rows.proofs.PlaceFacts.{at-index, below-some}
-use Rattle.devices.proofs.DeviceFacts.{disable-keeps}
-use Rattle.devices.proofs.Waiting.{waiting-same}
+use Rattle.{std.proofs.Common.{◌≡◌, ◌∙◌, Some, true, ap, sym, arith}, devices.{specs.{DeviceView.DeviceView, Kept.is_sound, Waiting.waits}, proofs.BenchFacts.{kept-set, sound-at}}, trace_rows.specs.Places.at}
+use Rattle.{trace_rows.proofs.PlaceFacts.{at-index, below-some}, devices.proofs.{DeviceFacts.disable-keeps, Waiting.waiting-same}}
 use Rattle.devices.proofs.bench.SerialBenchReplayBench.disable.Goals as goal
 
 pub invariant_of-self : goal.invariant_of-self

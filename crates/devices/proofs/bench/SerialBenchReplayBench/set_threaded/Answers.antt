@@ -1,13 +1,5 @@
-use Rattle.std.proofs.Common.{◌≡◌, ◌∙◌, Some, ap, sym, arith}
-use Rattle.devices.specs.Device.{is_pending}
-use Rattle.devices.specs.DeviceView.{DeviceView}
-use Rattle.devices.specs.Kept.{is_sound}
-use Rattle.trace_rows.specs.Places.{at}
-use Rattle.devices.specs.Waiting.{waits}
-use Rattle.devices.proofs.BenchFacts.{kept-changed, sound-at}
-use Rattle.devices.proofs.DeviceFacts.{threaded-keeps}
-use Rattle.trace_rows.proofs.PlaceFacts.{at-index}
-use Rattle.devices.proofs.Waiting.{waiting-same}
+use Rattle.{std.proofs.Common.{◌≡◌, ◌∙◌, Some, ap, sym, arith}, devices.{specs.{Device.is_pending, DeviceView.DeviceView, Kept.is_sound, Waiting.waits}, proofs.BenchFacts.{kept-changed, sound-at}}, trace_rows.specs.Places.at}
+use Rattle.{devices.proofs.{DeviceFacts.threaded-keeps, Waiting.waiting-same}, trace_rows.proofs.PlaceFacts.at-index}
 use Rattle.devices.proofs.bench.SerialBenchReplayBench.set_threaded.Goals as goal
 
 pub invariant_of-self : goal.invariant_of-self

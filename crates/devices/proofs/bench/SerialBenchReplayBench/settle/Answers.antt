@@ -1,11 +1,6 @@
-use Rattle.std.proofs.Common.{◌∙◌, ap, refl, sym, arith}
-use Rattle.devices.specs.Waiting.{waiting}
-use Rattle.devices.proofs.BenchFacts.{beyond, settled-all, settled-more, settled-none, settled-off, up-to}
-use Rattle.devices.proofs.SideFacts.{sides-settled}
-use Rattle.devices.proofs.Waiting.{waiting-settled}
-use Rattle.devices.proofs.bench.SerialBenchReplayBench.settle.Goals as goal
-use Rattle.devices.proofs.Waiting.{waiting-settled}
+use Rattle.{std.proofs.Common.{◌∙◌, ap, refl, sym, arith}, devices.{specs.Waiting.waiting, proofs.{BenchFacts.{beyond, settled-all, settled-more, settled-none, settled-off, up-to}, SideFacts.sides-settled, Waiting.waiting-settled}}}
 use Rattle.devices.proofs.bench.SerialBenchReplayBench.settle.Goals.{then-settle_one, else-settle_one}
+use Rattle.devices.proofs.bench.SerialBenchReplayBench.settle.Goals as goal
 
 pub returns-then-not-self-clause-devices : goal.returns-then-not-self-clause-devices
 returns-then-not-self-clause-devices c stated = sym (settled-off _ _ c.args.self.now.kept c.if-not-self.true)

@@ -1,7 +1,4 @@
-use Rattle.std.proofs.Common.{◌≡◌, ◌<◌, ℕ, true, false}
-use Rattle.devices.specs.Kept.{is_pending_at}
-use Rattle.trace_rows.specs.Places.{at}
-use Rattle.devices.proofs.BenchFacts.{settled_to}
+use Rattle.{std.proofs.Common.{◌≡◌, ◌<◌, ℕ, true, false}, devices.{specs.Kept.is_pending_at, proofs.BenchFacts.settled_to}, trace_rows.specs.Places.at}
 use Rattle.devices.proofs.bench.SerialBenchReplayBench.settle.Given as goal
 
 abbrev pub invariant-loop-device : goal.invariant-loop-device

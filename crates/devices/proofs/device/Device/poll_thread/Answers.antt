@@ -1,8 +1,4 @@
-use Rattle.std.proofs.Common.{List, ap, subst}
-use Rattle.poll_engine.specs.Thread.{IsThreadPolling}
-use Rattle.poll_engine.specs.declared.bench.Once.{Once}
-use Rattle.devices.specs.DeviceView.{DeviceView}
-use Rattle.devices.proofs.InstanceFacts.{by_thread_is}
+use Rattle.{std.proofs.Common.{List, ap, subst}, poll_engine.specs.{Thread.IsThreadPolling, declared.bench.Once.Once}, devices.{specs.DeviceView.DeviceView, proofs.InstanceFacts.by_thread_is}}
 use Rattle.devices.proofs.device.Device.poll_thread.Goals as goal
 
 pub returns-clause-device : goal.returns-clause-device

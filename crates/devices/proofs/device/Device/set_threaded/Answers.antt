@@ -1,7 +1,4 @@
-use Rattle.std.proofs.Common.{◌∙◌, refl, subst, sym}
-use Rattle.devices.specs.Device.{after_threaded}
-use Rattle.devices.specs.Owner.{IsOurs}
-use Rattle.devices.specs.declared.device.TheConstants.{CONTROLLER}
+use Rattle.{std.proofs.Common.{◌∙◌, refl, subst, sym}, devices.specs.{Device.after_threaded, Owner.IsOurs, declared.device.TheConstants.CONTROLLER}}
 use Rattle.devices.proofs.device.Device.set_threaded.Goals as goal
 
 pub invariant_of-self : goal.invariant_of-self

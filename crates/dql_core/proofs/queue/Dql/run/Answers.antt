@@ -1,8 +1,4 @@
-use Rattle.std.proofs.Common.{◌≡◌, arith}
-use Rattle.std.specs.Int.{from_bool}
-use Rattle.dql_core.proofs.Accepted.{shows_more, count_more, from_bool_most}
-use Rattle.dql_core.specs.Dql.{Shows}
-use Rattle.dql_core.specs.Limit.{fault_of, after}
+use Rattle.{std.{proofs.Common.{◌≡◌, arith}, specs.Int.from_bool}, dql_core.{proofs.Accepted.{shows_more, count_more, from_bool_most}, specs.{Dql.Shows, Limit.{fault_of, after}}}}
 use Rattle.dql_core.proofs.queue.Dql.run.Goals as goal
 
 pub loop-i-preserved : goal.loop-i-preserved

@@ -1,8 +1,4 @@
-use Rattle.std.proofs.Common.{◌≡◌, ◌+◌, ◌≤◌, length, take}
-use Rattle.dql_core.specs.Accepted.{accepted, after_all}
-use Rattle.dql_core.specs.Dql.{Shows}
-use Rattle.dql_core.specs.Limit.{fault_of, after}
-use Rattle.dql_core.specs.declared.whole.Limit.{Limit}
+use Rattle.{std.proofs.Common.{◌≡◌, ◌+◌, ◌≤◌, length, take}, dql_core.specs.{Accepted.{accepted, after_all}, Dql.Shows, Limit.{fault_of, after}, declared.whole.Limit.Limit}}
 use Rattle.dql_core.proofs.queue.Dql.run.Given as goal
 
 abbrev pub invariant-loop-i : goal.invariant-loop-i

@@ -1,9 +1,5 @@
-use Rattle.std.proofs.Common.{◌≡◌, ◌+◌, ◌≤◌, ◌++◌, is_some, length, ap, sym, ◌∙◌, rules, arith}
-use Rattle.std.proofs.lemmas.Grind.{common_steps}
-use Rattle.rx_ring.specs.Ends.{capacity_of, put_list}
-use Rattle.interrupt_workers.specs.Acts.{after_acts, brings}
-use Rattle.interrupt_workers.proofs.ActSteps.{acts-more, after_acts-more, arrivals-more, put_more}
-use Rattle.interrupt_workers.proofs.LedgerSteps.{all_same}
+use Rattle.{std.proofs.{Common.{◌≡◌, ◌+◌, ◌≤◌, ◌++◌, is_some, length, ap, sym, ◌∙◌, rules, arith}, lemmas.Grind.common_steps}, rx_ring.specs.Ends.{capacity_of, put_list}, interrupt_workers.specs.Acts.{after_acts, brings}}
+use Rattle.interrupt_workers.proofs.{ActSteps.{acts-more, after_acts-more, arrivals-more, put_more}, LedgerSteps.all_same}
 use Rattle.interrupt_workers.proofs.worker.Desk.make_acts.Goals as goal
 
 pub loop-k-preserved : goal.loop-k-preserved

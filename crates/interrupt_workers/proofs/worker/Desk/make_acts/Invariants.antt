@@ -1,8 +1,4 @@
-use Rattle.std.proofs.Common.{◌≡◌, ◌+◌, ◌≤◌, ◌++◌, is_some, length}
-use Rattle.rx_ring.specs.Ends.{SameIn, capacity_of, put_list}
-use Rattle.interrupt_workers.specs.Acts.{after_acts, arrivals}
-use Rattle.interrupt_workers.specs.Calls.{AllActs}
-use Rattle.interrupt_workers.specs.Seats.{IsHoldOf}
+use Rattle.{std.proofs.Common.{◌≡◌, ◌+◌, ◌≤◌, ◌++◌, is_some, length}, rx_ring.specs.Ends.{SameIn, capacity_of, put_list}, interrupt_workers.specs.{Acts.{after_acts, arrivals}, Calls.AllActs, Seats.IsHoldOf}}
 use Rattle.interrupt_workers.proofs.worker.Desk.make_acts.Given as goal
 
 abbrev pub invariant-loop-k : goal.invariant-loop-k

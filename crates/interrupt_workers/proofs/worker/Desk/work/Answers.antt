@@ -1,5 +1,4 @@
-use Rattle.std.proofs.Common.{◌≡◌, is_some}
-use Rattle.interrupt_workers.proofs.LedgerSteps.{same_seats, works}
+use Rattle.{std.proofs.Common.{◌≡◌, is_some}, interrupt_workers.proofs.LedgerSteps.{same_seats, works}}
 use Rattle.interrupt_workers.proofs.worker.Desk.work.Goals as goal
 
 pub returns : goal.returns

@@ -1,7 +1,4 @@
-use Rattle.std.specs.Prelude.{List, flat_map}
-use Rattle.napi_model.specs.declared.event.Call.TheVariants.{Enable}
-use Rattle.napi_calls.specs.Made.{Made, Lost, looks}
-use Rattle.napi_calls.specs.Packets.{HoldsOn, IsSame}
+use Rattle.{std.specs.Prelude.{List, flat_map}, napi_model.specs.declared.event.Call.TheVariants.Enable, napi_calls.specs.{Made.{Made, Lost, looks}, Packets.{HoldsOn, IsSame}}}
 use Rattle.napi_calls.proofs.control.Control+Off.enable.Given as goal
 
 abbrev pub invariant-loop : goal.invariant-loop

@@ -1,11 +1,6 @@
-use Rattle.std.proofs.Common.{refl, sym, ap, ◌∙◌}
-use Rattle.napi_word.specs.declared.view.Holds.TheVariants.{Within, Out}
-use Rattle.napi_word.specs.View.{number_of}
-use Rattle.napi_model.specs.declared.state.Flags.{Flags}
+use Rattle.{std.proofs.Common.{refl, sym, ap, ◌∙◌}, napi_word.specs.{declared.view.Holds.TheVariants.{Within, Out}, View.number_of}, napi_model.specs.declared.state.Flags.Flags}
+use Rattle.napi_calls.proofs.{Standing.{looked_flags, control_looked, control_enabled, controls_moved, is_control, outside, has_none}, Packets.{owns, held_step, held_still, gives_back, got_back}, Making.{nothing, step, still, lost}}
 use Rattle.napi_model.specs.declared.event.Call.TheVariants as call
-use Rattle.napi_calls.proofs.Standing.{looked_flags, control_looked, control_enabled, controls_moved, is_control, outside, has_none}
-use Rattle.napi_calls.proofs.Packets.{owns, held_step, held_still, gives_back, got_back}
-use Rattle.napi_calls.proofs.Making.{nothing, step, still, lost}
 use Rattle.napi_calls.proofs.control.Control+Off.try_enable_between.Goals as goal
 
 pub enable_swap-requires-clause-owner : goal.enable_swap-requires-clause-owner

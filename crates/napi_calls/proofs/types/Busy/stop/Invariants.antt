@@ -1,7 +1,4 @@
-use Rattle.std.specs.Prelude.{◌≡◌, List, flat_map}
-use Rattle.napi_model.specs.declared.event.Call.TheVariants.{BusyStop}
-use Rattle.napi_calls.specs.Made.{Made, Lost, looks}
-use Rattle.napi_calls.specs.Packets.{HoldsOn}
+use Rattle.{std.specs.Prelude.{◌≡◌, List, flat_map}, napi_model.specs.declared.event.Call.TheVariants.BusyStop, napi_calls.specs.{Made.{Made, Lost, looks}, Packets.HoldsOn}}
 use Rattle.napi_calls.proofs.types.Busy.stop.Given as goal
 
 abbrev pub invariant-loop : goal.invariant-loop

@@ -1,10 +1,6 @@
-use Rattle.std.proofs.Common.{◌∙◌, ap, refl}
-use Rattle.napi_model.specs.declared.state.Flags.{Flags}
+use Rattle.{std.proofs.Common.{◌∙◌, ap, refl}, napi_model.specs.declared.state.Flags.Flags, napi_calls.proofs.Standing.{looked, looked_flags, kept, busy_looked, busy_made, is_polling, stays_has}}
+use Rattle.{napi_word.specs.declared.view.Holds.TheVariants.Out, napi_calls.proofs.{Packets.{owns, held_step, held_more}, Making.{nothing, step, lost}}}
 use Rattle.napi_model.specs.declared.event.Call.TheVariants as call
-use Rattle.napi_calls.proofs.Standing.{looked, looked_flags, kept, busy_looked, busy_made, is_polling, stays_has}
-use Rattle.napi_word.specs.declared.view.Holds.TheVariants.{Out}
-use Rattle.napi_calls.proofs.Packets.{owns, held_step, held_more}
-use Rattle.napi_calls.proofs.Making.{nothing, step, lost}
 use Rattle.napi_calls.proofs.types.Busy.try_stop_between.Goals as goal
 
 pub stop_swap-requires-clause-owner : goal.stop_swap-requires-clause-owner

@@ -1,7 +1,4 @@
-use Rattle.std.proofs.Common.{refl, [], ◌∷◌, ◌∙◌}
-use Rattle.napi_model.specs.declared.event.Operation.TheVariants.{Look, BusyTake}
-use Rattle.napi_calls.proofs.Packets.{fresh_behind}
-use Rattle.napi_calls.proofs.Making.{nothing, more, more_lost}
+use Rattle.{std.proofs.Common.{refl, [], ◌∷◌, ◌∙◌}, napi_model.specs.declared.event.Operation.TheVariants.{Look, BusyTake}, napi_calls.proofs.{Packets.fresh_behind, Making.{nothing, more, more_lost}}}
 use Rattle.napi_calls.proofs.types.Caller.busy.Goals as goal
 
 pub loop-init : goal.loop-init

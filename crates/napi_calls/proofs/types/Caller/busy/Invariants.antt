@@ -1,7 +1,4 @@
-use Rattle.std.specs.Prelude.{List, flat_map}
-use Rattle.napi_model.specs.declared.event.Call.TheVariants.{BusyTake}
-use Rattle.napi_calls.specs.Made.{Made, Lost, looks}
-use Rattle.napi_calls.specs.Packets.{Quiet}
+use Rattle.{std.specs.Prelude.{List, flat_map}, napi_model.specs.declared.event.Call.TheVariants.BusyTake, napi_calls.specs.{Made.{Made, Lost, looks}, Packets.Quiet}}
 use Rattle.napi_calls.proofs.types.Caller.busy.Given as goal
 
 abbrev pub invariant-loop : goal.invariant-loop

@@ -1,6 +1,4 @@
-use Rattle.napi_calls.proofs.Standing.{looked}
-use Rattle.napi_calls.proofs.Packets.{quiet_step}
-use Rattle.napi_calls.proofs.Making.{nothing, step}
+use Rattle.napi_calls.proofs.{Standing.looked, Packets.quiet_step, Making.{nothing, step}}
 use Rattle.napi_calls.proofs.types.Caller.look.Goals as goal
 
 pub invariant_of-self : goal.invariant_of-self

@@ -1,7 +1,5 @@
-use Rattle.std.proofs.Common.{refl, [], ◌∷◌, ◌∙◌}
+use Rattle.{std.proofs.Common.{refl, [], ◌∷◌, ◌∙◌}, napi_model.specs.declared.event.Operation.TheVariants.{Look, Schedule}, napi_calls.proofs.Making.{nothing, more, more_lost}}
 use Rattle.napi_model.specs.declared.event.Prep.TheVariants as prep
-use Rattle.napi_model.specs.declared.event.Operation.TheVariants.{Look, Schedule}
-use Rattle.napi_calls.proofs.Making.{nothing, more, more_lost}
 use Rattle.napi_calls.proofs.types.Caller.schedule.Goals as goal
 
 pub loop-init : goal.loop-init

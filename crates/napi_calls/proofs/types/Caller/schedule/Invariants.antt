@@ -1,7 +1,4 @@
-use Rattle.std.specs.Prelude.{List, flat_map}
-use Rattle.napi_model.specs.declared.event.Call.TheVariants.{Schedule}
-use Rattle.napi_calls.specs.Made.{Made, Lost, looks}
-use Rattle.napi_calls.specs.Packets.{Quiet}
+use Rattle.{std.specs.Prelude.{List, flat_map}, napi_model.specs.declared.event.Call.TheVariants.Schedule, napi_calls.specs.{Made.{Made, Lost, looks}, Packets.Quiet}}
 use Rattle.napi_calls.proofs.types.Caller.schedule.Given as goal
 
 abbrev pub invariant-loop : goal.invariant-loop

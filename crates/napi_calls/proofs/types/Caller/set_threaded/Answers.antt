@@ -1,7 +1,4 @@
-use Rattle.std.proofs.Common.{refl}
-use Rattle.napi_calls.proofs.Standing.{kept}
-use Rattle.napi_calls.proofs.Packets.{quiet_step}
-use Rattle.napi_calls.proofs.Making.{nothing, step}
+use Rattle.{std.proofs.Common.refl, napi_calls.proofs.{Standing.kept, Packets.quiet_step, Making.{nothing, step}}}
 use Rattle.napi_calls.proofs.types.Caller.set_threaded.Goals as goal
 
 pub invariant_of-self : goal.invariant_of-self

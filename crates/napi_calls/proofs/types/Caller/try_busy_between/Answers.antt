@@ -1,9 +1,7 @@
-use Rattle.std.proofs.Common.{refl, sym, ◌∙◌, true≢false}
+use Rattle.{std.proofs.Common.{refl, sym, ◌∙◌, true≢false}, napi_calls.proofs.{Standing.{looked, made, self_polling, moved, busy_made, busy_moved, outside}, Packets.{quiet_step, quiet_more, taken, fresh_behind}}}
+use Rattle.napi_calls.proofs.Making.{nothing, step, still, lost}
 use Rattle.napi_model.specs.declared.state.Place.TheVariants as place
 use Rattle.napi_model.specs.declared.event.Call.TheVariants as call
-use Rattle.napi_calls.proofs.Standing.{looked, made, self_polling, moved, busy_made, busy_moved, outside}
-use Rattle.napi_calls.proofs.Packets.{quiet_step, quiet_more, taken, fresh_behind}
-use Rattle.napi_calls.proofs.Making.{nothing, step, still, lost}
 use Rattle.napi_calls.proofs.types.Caller.try_busy_between.Goals as goal
 
 pub invariant_of-result : goal.invariant_of-result

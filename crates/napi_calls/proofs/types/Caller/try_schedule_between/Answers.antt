@@ -1,11 +1,7 @@
-use Rattle.std.proofs.Common.{◌≡◌, Bool, true, false, refl}
+use Rattle.{std.proofs.Common.{◌≡◌, Bool, true, false, refl}, napi_word.specs.Told.prep_of, napi_calls.proofs.{Standing.{kept, looked, made, self_granted}, Packets.{quiet_step, quiet_more}, Making.{nothing, step, lost}}}
 use Rattle.napi_model.specs.declared.event.Prep.TheVariants as prep
-use Rattle.napi_word.specs.Told.{prep_of}
 use Rattle.napi_model.specs.declared.state.Place.TheVariants as place
 use Rattle.napi_model.specs.declared.event.Call.TheVariants as call
-use Rattle.napi_calls.proofs.Standing.{kept, looked, made, self_granted}
-use Rattle.napi_calls.proofs.Packets.{quiet_step, quiet_more}
-use Rattle.napi_calls.proofs.Making.{nothing, step, lost}
 use Rattle.napi_calls.proofs.types.Caller.try_schedule_between.Goals as goal
 
 pub invariant_of-result : goal.invariant_of-result

@@ -1,9 +1,5 @@
-use Rattle.std.proofs.Common.{◌≡◌, ◌-◌, ℕ, List, [], ◌∷◌, ◌++◌, length, take, sym, ap, ◌∙◌, subst, append_assoc, arith, rules}
-use Rattle.napi_word.specs.Ends.{Gathered}
-use Rattle.napi_calls.specs.declared.types.Caller.{Caller}
-use Rattle.napi_calls.specs.Closed.{seats_of}
-use Rattle.napi_calls.proofs.Fresh.{here}
-use Rattle.napi_calls.proofs.Ending.{all_count, closed}
+use Rattle.{std.proofs.Common.{◌≡◌, ◌-◌, ℕ, List, [], ◌∷◌, ◌++◌, length, take, sym, ap, ◌∙◌, subst, append_assoc, arith, rules}, napi_word.specs.Ends.Gathered, napi_calls.specs.{declared.types.Caller.Caller, Closed.seats_of}}
+use Rattle.napi_calls.proofs.{Fresh.here, Ending.{all_count, closed}}
 use Rattle.napi_calls.proofs.types.Napi.close.Goals as goal
 
 pub join-requires-clause-pass : goal.join-requires-clause-pass

@@ -1,7 +1,4 @@
-use Rattle.std.proofs.Common.{◌≡◌, List, [], ◌∷◌, ◌++◌}
-use Rattle.napi_word.specs.Ends.{IsGatheredOf, Gathered}
-use Rattle.napi_calls.specs.declared.types.Caller.{Caller}
-use Rattle.napi_calls.specs.Closed.{seats_of}
+use Rattle.{std.proofs.Common.{◌≡◌, List, [], ◌∷◌, ◌++◌}, napi_word.specs.Ends.{IsGatheredOf, Gathered}, napi_calls.specs.{declared.types.Caller.Caller, Closed.seats_of}}
 use Rattle.napi_calls.proofs.types.Napi.close.Given as goal
 
 abbrev pub invariant-loop-caller : goal.invariant-loop-caller

@@ -1,7 +1,4 @@
-use Rattle.std.proofs.Common.{◌≡◌, ◌+◌, List, [], ◌∷◌, slice_get, length, refl, sym, ap, ◌∙◌, length-append, arith}
-use Rattle.napi_word.specs.declared.table.Pass.{Pass}
-use Rattle.napi_word.proofs.Start.{new_as}
-use Rattle.napi_calls.proofs.Fresh.{here, front_of, new_seat}
+use Rattle.{std.proofs.Common.{◌≡◌, ◌+◌, List, [], ◌∷◌, slice_get, length, refl, sym, ap, ◌∙◌, length-append, arith}, napi_word.{specs.declared.table.Pass.Pass, proofs.Start.new_as}, napi_calls.proofs.Fresh.{here, front_of, new_seat}}
 use Rattle.napi_calls.proofs.Ending.{seats_length, seat_at}
 use Rattle.napi_calls.proofs.types.Napi.new.Goals as goal
 

@@ -1,6 +1,4 @@
-use Rattle.rx_ring.specs.Ends.{received_list}
-use Rattle.napi_calls.specs.Packets.{received_before}
-use Rattle.napi_calls.proofs.Packets.{polled_more}
+use Rattle.{rx_ring.specs.Ends.received_list, napi_calls.{specs.Packets.received_before, proofs.Packets.polled_more}}
 use Rattle.napi_calls.proofs.types.Polling.poll.Goals as goal
 
 pub returns-clause-polled : goal.returns-clause-polled

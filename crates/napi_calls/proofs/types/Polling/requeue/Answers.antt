@@ -1,9 +1,4 @@
-use Rattle.std.proofs.Common.{refl, ap}
-use Rattle.napi_word.specs.declared.view.Holds.TheVariants.{Within}
-use Rattle.napi_word.specs.View.{number_of}
-use Rattle.napi_calls.specs.Knows.{Free}
-use Rattle.napi_calls.proofs.Standing.{made, moved}
-use Rattle.napi_calls.proofs.Packets.{owns, held_self, held_still, gives_back}
+use Rattle.{std.proofs.Common.{refl, ap}, napi_word.specs.{declared.view.Holds.TheVariants.Within, View.number_of}, napi_calls.{specs.Knows.Free, proofs.{Standing.{made, moved}, Packets.{owns, held_self, held_still, gives_back}}}}
 use Rattle.napi_calls.proofs.Making.{nothing, step, still}
 use Rattle.napi_calls.proofs.types.Polling.requeue.Goals as goal
 

@@ -1,14 +1,7 @@
-use Rattle.std.proofs.Common.{refl, ap, ◌∙◌}
-use Rattle.napi_word.specs.declared.view.Holds.TheVariants.{Within, Out}
-use Rattle.napi_word.specs.View.{number_of}
+use Rattle.{std.proofs.Common.{refl, ap, ◌∙◌}, napi_word.{specs.{declared.view.Holds.TheVariants.{Within, Out}, View.number_of}, proofs.Knowing.never_held}, napi_calls.specs.Knows.Free, napi_model.specs.declared.state.Flags.Flags}
+use Rattle.napi_calls.proofs.{Standing.{looked, looked_flags, made, self_granted, moved, is_polling, busy_looked, busy_moved, outside}, Packets.{owns, held_step, held_still, gives_back, got_back}, Making.{nothing, step, still, lost}}
 use Rattle.napi_model.specs.declared.state.Place.TheVariants as place
-use Rattle.napi_word.proofs.Knowing.{never_held}
-use Rattle.napi_calls.specs.Knows.{Free}
-use Rattle.napi_model.specs.declared.state.Flags.{Flags}
 use Rattle.napi_model.specs.declared.event.Call.TheVariants as call
-use Rattle.napi_calls.proofs.Standing.{looked, looked_flags, made, self_granted, moved, is_polling, busy_looked, busy_moved, outside}
-use Rattle.napi_calls.proofs.Packets.{owns, held_step, held_still, gives_back, got_back}
-use Rattle.napi_calls.proofs.Making.{nothing, step, still, lost}
 use Rattle.napi_calls.proofs.types.Polling.try_complete_between.Goals as goal
 
 pub complete_swap-requires-clause-owner : goal.complete_swap-requires-clause-owner

@@ -1,7 +1,4 @@
-use Rattle.std.proofs.Common.{◌≡◌, ap, ◌∙◌}
-use Rattle.napi_model.specs.declared.state.State.{State}
-use Rattle.napi_model.specs.Step.{after_by, seen_of}
-use Rattle.napi_model.proofs.Tells.{tells_next}
+use Rattle.{std.proofs.Common.{◌≡◌, ap, ◌∙◌}, napi_model.{specs.{declared.state.State.State, Step.{after_by, seen_of}}, proofs.Tells.tells_next}}
 use Rattle.napi_model.proofs.state.State.after.Goals as goal
 
 pub returns-clause-seen : goal.returns-clause-seen

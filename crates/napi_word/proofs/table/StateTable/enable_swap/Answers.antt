@@ -1,5 +1,4 @@
-use Rattle.std.proofs.Common.{true, false}
-use Rattle.napi_word.proofs.Turns.{enables}
+use Rattle.{std.proofs.Common.{true, false}, napi_word.proofs.Turns.enables}
 use Rattle.napi_word.proofs.table.StateTable.enable_swap.Goals as goal
 
 pub exchange-requires-clause-may : goal.exchange-requires-clause-may

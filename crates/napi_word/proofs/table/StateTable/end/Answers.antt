@@ -1,7 +1,4 @@
-use Rattle.std.proofs.Common.{◌≡◌, ◌-◌, ℕ, List, [], ◌∷◌, ◌++◌, slice_get, length, take, sym, ap, ◌∙◌, subst, append_assoc, arith}
-use Rattle.napi_word.specs.declared.table.Pass.{Pass}
-use Rattle.napi_word.specs.Ends.{Gathered}
-use Rattle.napi_word.proofs.Closing.{get_mid}
+use Rattle.{std.proofs.Common.{◌≡◌, ◌-◌, ℕ, List, [], ◌∷◌, ◌++◌, slice_get, length, take, sym, ap, ◌∙◌, subst, append_assoc, arith}, napi_word.{specs.{declared.table.Pass.Pass, Ends.Gathered}, proofs.Closing.get_mid}}
 use Rattle.napi_word.proofs.table.StateTable.end.Goals as goal
 
 pub gather-gathering-requires : goal.gather-gathering-requires

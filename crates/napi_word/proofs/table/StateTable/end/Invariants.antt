@@ -1,6 +1,4 @@
-use Rattle.std.proofs.Common.{◌≡◌, List, ◌++◌}
-use Rattle.napi_word.specs.declared.table.Pass.{Pass}
-use Rattle.napi_word.specs.Ends.{IsGatheredOf, Gathered}
+use Rattle.{std.proofs.Common.{◌≡◌, List, ◌++◌}, napi_word.specs.{declared.table.Pass.Pass, Ends.{IsGatheredOf, Gathered}}}
 use Rattle.napi_word.proofs.table.StateTable.end.Given as goal
 
 abbrev pub invariant-loop-pass : goal.invariant-loop-pass

@@ -1,9 +1,4 @@
-use Rattle.std.proofs.Common.{ap, ◌∙◌}
-use Rattle.napi_model.specs.declared.event.Operation.{Operation}
-use Rattle.napi_model.specs.declared.state.Seen.{Seen}
-use Rattle.napi_model.specs.Step.{seen_after}
-use Rattle.napi_model.specs.Word.{word_of}
-use Rattle.napi_word.proofs.Said.{one_there}
+use Rattle.{std.proofs.Common.{ap, ◌∙◌}, napi_model.specs.{declared.{event.Operation.Operation, state.Seen.Seen}, Step.seen_after, Word.word_of}, napi_word.proofs.Said.one_there}
 use Rattle.napi_word.proofs.table.StateTable.exchange.Goals as goal
 
 pub compare_exchange-word-requires : goal.compare_exchange-word-requires

@@ -1,7 +1,4 @@
-use Rattle.std.proofs.Common.{Option, sym, subst}
-use Rattle.rx_ring.specs.declared.ends.RxCtx.{RxCtx}
-use Rattle.napi_word.specs.Ends.{IsEnded}
-use Rattle.napi_word.proofs.Closing.{ended}
+use Rattle.{std.proofs.Common.{Option, sym, subst}, rx_ring.specs.declared.ends.RxCtx.RxCtx, napi_word.{specs.Ends.IsEnded, proofs.Closing.ended}}
 use Rattle.napi_word.proofs.table.StateTable.finish.Goals as goal
 
 pub returns : goal.returns

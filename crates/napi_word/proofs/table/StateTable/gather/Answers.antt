@@ -1,5 +1,4 @@
-use Rattle.std.proofs.Common.{[], ap}
-use Rattle.napi_word.proofs.Closing.{gathered_none, gathered_more}
+use Rattle.{std.proofs.Common.{[], ap}, napi_word.proofs.Closing.{gathered_none, gathered_more}}
 use Rattle.napi_word.proofs.table.StateTable.gather.Goals as goal
 
 pub returns-clause-has : goal.returns-clause-has

@@ -1,8 +1,5 @@
-use Rattle.std.proofs.Common.{subst}
-use Rattle.napi_model.specs.declared.state.Kind.{Kind}
+use Rattle.{std.proofs.Common.subst, napi_model.specs.declared.state.Kind.Kind, napi_word.{specs.Passes.HandsOver, proofs.Turns.hands}}
 use Rattle.napi_model.specs.declared.state.Kind.TheVariants as kind
-use Rattle.napi_word.specs.Passes.{HandsOver}
-use Rattle.napi_word.proofs.Turns.{hands}
 use Rattle.napi_word.proofs.table.StateTable.hand.Goals as goal
 
 pub add-requires-clause-may : goal.add-requires-clause-may

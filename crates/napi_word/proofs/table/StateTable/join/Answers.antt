@@ -1,8 +1,4 @@
-use Rattle.std.proofs.Common.{◌++◌, ap, ◌∙◌}
-use Rattle.napi_word.specs.View.{View}
-use Rattle.napi_word.proofs.Said.{one_there}
-use Rattle.napi_word.proofs.Splitting.{joins}
-use Rattle.napi_word.proofs.Closing.{gathered_more}
+use Rattle.{std.proofs.Common.{◌++◌, ap, ◌∙◌}, napi_word.{specs.View.View, proofs.{Said.one_there, Splitting.joins, Closing.gathered_more}}}
 use Rattle.napi_word.proofs.table.StateTable.join.Goals as goal
 
 pub join_seat-requires : goal.join_seat-requires

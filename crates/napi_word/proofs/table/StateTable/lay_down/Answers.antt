@@ -1,6 +1,4 @@
-use Rattle.napi_word.specs.Passes.{tie_of}
-use Rattle.napi_word.proofs.Allowed.{lays_down}
-use Rattle.napi_word.proofs.Said.{one_there}
+use Rattle.napi_word.{specs.Passes.tie_of, proofs.{Allowed.lays_down, Said.one_there}}
 use Rattle.napi_word.proofs.table.StateTable.lay_down.Goals as goal
 
 pub load-requires : goal.load-requires

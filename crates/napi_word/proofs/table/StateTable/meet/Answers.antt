@@ -1,14 +1,6 @@
-use Rattle.std.proofs.Common.{sym, ap, ◌∙◌, subst}
+use Rattle.{std.proofs.Common.{sym, ap, ◌∙◌, subst}, napi_model.specs.declared.event.Operation.TheVariants.Look, atomic_table.specs.Table.Me, napi_word.specs.{Slot.{Content, stays, Delivers}, View.{View, shown}, Rule.joined, Events.Steps}}
+use Rattle.napi_word.proofs.{Said.one_there, Splitting.{notes, joins}, Meets.{steps_joined, delivers_joined, meets}}
 use mathlib.Core.List.{IsPrefix}
-use Rattle.napi_model.specs.declared.event.Operation.TheVariants.{Look}
-use Rattle.atomic_table.specs.Table.{Me}
-use Rattle.napi_word.specs.Slot.{Content, stays, Delivers}
-use Rattle.napi_word.specs.View.{View, shown}
-use Rattle.napi_word.specs.Rule.{joined}
-use Rattle.napi_word.specs.Events.{Steps}
-use Rattle.napi_word.proofs.Said.{one_there}
-use Rattle.napi_word.proofs.Splitting.{notes, joins}
-use Rattle.napi_word.proofs.Meets.{steps_joined, delivers_joined, meets}
 use Rattle.napi_word.proofs.table.StateTable.meet.Goals as goal
 
 pub split_seat-note-requires : goal.split_seat-note-requires

@@ -1,9 +1,5 @@
-use Rattle.std.proofs.Common.{rules, ◌≡◌, ◌+◌, ◌-◌, [], ◌∷◌, Option, List, slice_get, length, refl, sym, ap, ◌∙◌, subst, ⊎_elim, arith, length-append}
-use Rattle.atomic_table.specs.Table.{opening}
-use Rattle.rx_ring.specs.declared.ends.RxCtx.{RxCtx}
-use Rattle.napi_word.specs.declared.view.Key.{Key}
-use Rattle.napi_word.specs.Rule.{Holding, first_view, maker_at}
-use Rattle.napi_word.proofs.Start.{opens, at_push, new_as, new_last, still_laid}
+use Rattle.{std.proofs.Common.{rules, ◌≡◌, ◌+◌, ◌-◌, [], ◌∷◌, Option, List, slice_get, length, refl, sym, ap, ◌∙◌, subst, ⊎_elim, arith, length-append}, atomic_table.specs.Table.opening, rx_ring.specs.declared.ends.RxCtx.RxCtx}
+use Rattle.napi_word.{specs.{declared.view.Key.Key, Rule.{Holding, first_view, maker_at}}, proofs.Start.{opens, at_push, new_as, new_last, still_laid}}
 use Rattle.napi_word.proofs.table.StateTable.new.Goals as goal
 
 pub new-requires : goal.new-requires

@@ -1,7 +1,4 @@
-use Rattle.std.proofs.Common.{ap}
-use Rattle.atomic_table.specs.Table.{Me}
-use Rattle.napi_word.specs.View.{View}
-use Rattle.napi_word.specs.Slot.{Content, ctx_in}
+use Rattle.{std.proofs.Common.ap, atomic_table.specs.Table.Me, napi_word.specs.{View.View, Slot.{Content, ctx_in}}}
 use Rattle.napi_word.proofs.table.StateTable.slot_in.Goals as goal
 
 pub returns-clause-laid : goal.returns-clause-laid

@@ -1,13 +1,6 @@
-use Rattle.std.proofs.Common.{Some, ap, ◌∙◌, sym, refl}
-use Rattle.atomic_table.specs.Table.{Me}
-use Rattle.napi_word.specs.declared.table.Pass.{Pass}
-use Rattle.napi_word.specs.View.{View}
-use Rattle.napi_word.specs.Slot.{Content}
-use Rattle.napi_word.specs.Surveys.{IsSurveyed}
-use Rattle.napi_word.proofs.Said.{one_there}
-use Rattle.napi_word.proofs.Allowed.{hold_nothing}
-use Rattle.napi_word.proofs.Splitting.{joins_front, parts_last_of}
-use Rattle.napi_word.proofs.CatchingUp.{surveys, first_pass, second_pass, third_pass, caught_is, caught_is_pass, second_left, second_left_pass, first_left, first_left_pass, first_back, second_back, third_back, last_back, last_slot, last_tied, rest_tied, whole_is, all_led, of_both_four}
+use Rattle.{std.proofs.Common.{ℕ, List, Some, ap, ◌∙◌, sym, refl}, atomic_table.specs.Table.Me, napi_model.specs.{declared.event.Event.Event, Step.{opening, seen_of}, History.state_after}, napi_word.specs.declared.table.Pass.Pass}
+use Rattle.napi_word.{specs.{View.View, Slot.Content, Surveys.IsSurveyed}, proofs.{Said.one_there, Allowed.hold_nothing, Splitting.{joins_front, parts_last_of}}}
+use Rattle.napi_word.proofs.CatchingUp.{surveys, first_pass, second_pass, third_pass, caught_is, caught_is_pass, second_left, second_left_pass, first_left, first_left_pass, first_back, second_back, third_back, last_back, last_slot, last_tied, rest_tied, whole_is, word_is, all_led, of_both_four}
 use Rattle.napi_word.proofs.table.StateTable.survey.Goals as goal
 
 pub join_seat-requires : goal.join_seat-requires
@@ -139,8 +132,8 @@ invariant_of-result-3 c =
     let tie = rest_tied c.args.first c.args.second c.args.third c.args.last.now c.join_seat.new.seat.me c.join_seat-2.new.seat.me c.join_seat-3.new.seat.me j.2 k.2 l.2 c.load.result c.load.new.seat.me u.2 c.args.third c.requires.rest.2 _ c.split_seat-third.result.me x.4 is in
     record { is_pass = is.pass; marked = tie.marked; right = tie.right; ring = tie.ring; unmarked = tie.unmarked; received = tie.received }
 
-pub returns : goal.returns
-returns c =
+pub returns-clause-surveys : goal.returns-clause-surveys
+returns-clause-surveys c =
     let j = c.join_seat.ensures in
     let k = c.join_seat-2.ensures in
     let l = c.join_seat-3.ensures in
@@ -169,3 +162,24 @@ returns c =
           (record { table = x.3 ∙ table ∙ sym r.third; holds = sym r.rest.2; slot = ap (λ (m : Me Content View). m.1) x.4 ∙ sym none2; view = three })
           (record { table = z.0 ∙ y.0 ∙ x.0 ∙ u.0 ∙ l.0 ∙ k.0 ∙ j.0; holds = refl; slot = slot; view = four });
     }
+
+pub decode_known-seen-requires : goal.decode_known-seen-requires
+decode_known-seen-requires c =
+    let j = c.join_seat.ensures in
+    let k = c.join_seat-2.ensures in
+    let l = c.join_seat-3.ensures in
+    let u = c.load.ensures in
+    (_, sym (word_is c.args.first c.args.second c.args.third c.args.last.now c.join_seat.new.seat.me c.join_seat-2.new.seat.me c.join_seat-3.new.seat.me j.2 k.2 l.2 c.load.result c.load.new.seat.me u.2))
+
+pub returns-clause-word : goal.returns-clause-word
+returns-clause-word c =
+    let j = c.join_seat.ensures in
+    let k = c.join_seat-2.ensures in
+    let l = c.join_seat-3.ensures in
+    let u = c.load.ensures in
+    let x = c.split_seat-third.ensures in
+    let y = c.split_seat-second.ensures in
+    let z = c.split_seat-first.ensures in
+    let word = word_is c.args.first c.args.second c.args.third c.args.last.now c.join_seat.new.seat.me c.join_seat-2.new.seat.me c.join_seat-3.new.seat.me j.2 k.2 l.2 c.load.result c.load.new.seat.me u.2 in
+    let four = last_back c.args.first c.args.second c.args.third c.args.last.now c.join_seat.new.seat.me c.join_seat-2.new.seat.me c.join_seat-3.new.seat.me j.2 k.2 l.2 c.load.result c.load.new.seat.me u.2 c.split_seat-third.new.seat.me x.2 c.split_seat-second.new.seat.me y.2 c.split_seat-first.new.seat.me z.2 in
+    c.decode_known-seen.ensures.inverse _ (sym word) ∙ sym (ap (λ (t : ℕ × List Event). seen_of (state_after (opening t.0) t.1)) (λ i. (four.controller i, four.shown i)))

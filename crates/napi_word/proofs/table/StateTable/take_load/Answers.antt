@@ -1,8 +1,4 @@
-use Rattle.std.proofs.Common.{Bool, ◌∙◌, sym, subst}
-use Rattle.napi_word.specs.Events.{Steps}
-use Rattle.napi_word.specs.Told.{busy_op}
-use Rattle.napi_word.proofs.Knowing.{either_not, look_disable}
-use Rattle.napi_word.proofs.Turns.{asks}
+use Rattle.{std.proofs.Common.{Bool, ◌∙◌, sym, subst}, napi_word.{specs.{Events.Steps, Told.busy_op}, proofs.{Knowing.{either_not, look_disable}, Turns.asks}}}
 use Rattle.napi_word.proofs.table.StateTable.take_load.Goals as goal
 
 pub load-seen-requires-clause-may : goal.load-seen-requires-clause-may

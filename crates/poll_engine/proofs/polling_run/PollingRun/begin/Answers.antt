@@ -1,6 +1,4 @@
-use Rattle.std.proofs.Common.{arith}
-use Rattle.poll_engine.specs.Turn.{Takes}
-use Rattle.poll_engine.proofs.RunFacts.{going-start}
+use Rattle.{std.proofs.Common.arith, poll_engine.{specs.Turn.Takes, proofs.RunFacts.going-start}}
 use Rattle.poll_engine.proofs.polling_run.PollingRun.begin.Goals as goal
 
 pub returns-clause-going : goal.returns-clause-going

@@ -1,5 +1,4 @@
-use Rattle.std.proofs.Common.{refl}
-use Rattle.poll_engine.proofs.RunFacts.{going-ends}
+use Rattle.{std.proofs.Common.refl, poll_engine.proofs.RunFacts.going-ends}
 use Rattle.poll_engine.proofs.polling_run.PollingRun.end.Goals as goal
 
 pub returns-clause-run : goal.returns-clause-run

@@ -1,5 +1,4 @@
-use Rattle.std.proofs.Common.{◌≡◌, ◌∙◌, [], rules}
-use Rattle.poll_engine.proofs.RunFacts.{ahead-popped, going-filled, none-popped}
+use Rattle.{std.proofs.Common.{◌≡◌, ◌∙◌, [], rules}, poll_engine.proofs.RunFacts.{ahead-popped, going-filled, none-popped}}
 use Rattle.poll_engine.proofs.polling_run.PollingRun.next.Goals as goal
 
 pub returns-clause-going : goal.returns-clause-going

@@ -1,5 +1,4 @@
-use Rattle.std.proofs.Common.{rules, refl}
-use Rattle.seat_pollers.proofs.SeatFacts.{polls_nowhere, polls_there}
+use Rattle.{std.proofs.Common.{rules, refl}, seat_pollers.proofs.SeatFacts.{polls_nowhere, polls_there}}
 use Rattle.seat_pollers.proofs.poller.CrowdBench.poll_once.Goals as goal
 
 pub returns-in-Some-clause-leads : goal.returns-in-Some-clause-leads

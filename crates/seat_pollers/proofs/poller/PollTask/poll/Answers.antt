@@ -1,6 +1,4 @@
-use Rattle.std.proofs.Common.{◌∙◌, ap, inr, refl, subst, sym, vec_items}
-use Rattle.seat_pollers.specs.SeatKeeping.{AreSameSeats}
-use Rattle.seat_pollers.proofs.SeatFacts.{served_keeps}
+use Rattle.{std.proofs.Common.{◌∙◌, ap, inr, refl, subst, sym, vec_items}, seat_pollers.{specs.SeatKeeping.AreSameSeats, proofs.SeatFacts.served_keeps}}
 use Rattle.seat_pollers.proofs.poller.PollTask.poll.Goals as goal
 
 pub returns : goal.returns

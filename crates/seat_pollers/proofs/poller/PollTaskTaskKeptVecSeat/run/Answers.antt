@@ -1,5 +1,4 @@
-use Rattle.std.proofs.Common.{refl, inl}
-use Rattle.seat_pollers.proofs.SeatFacts.{seats_stay}
+use Rattle.{std.proofs.Common.{refl, inl}, seat_pollers.proofs.SeatFacts.seats_stay}
 use Rattle.seat_pollers.proofs.poller.PollTaskTaskKeptVecSeat.run.Goals as goal
 
 pub returns-then-is_refused : goal.returns-then-is_refused

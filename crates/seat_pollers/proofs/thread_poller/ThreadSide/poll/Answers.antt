@@ -1,7 +1,4 @@
-use Rattle.std.proofs.Common.{◌∙◌, Some, ap, inr, refl, rules, subst, sym}
-use Rattle.napi_calls.specs.declared.types.Napi.{Napi}
-use Rattle.napi_calls.specs.Instance.{IsSeatOf}
-use Rattle.seat_pollers.proofs.SeatFacts.{served_alone}
+use Rattle.{std.proofs.Common.{◌∙◌, Some, ap, inr, refl, rules, subst, sym}, napi_calls.specs.{declared.types.Napi.Napi, Instance.IsSeatOf}, seat_pollers.proofs.SeatFacts.served_alone}
 use Rattle.seat_pollers.proofs.thread_poller.ThreadSide.poll.Goals as goal
 
 pub leave-requires : goal.leave-requires

@@ -1,7 +1,4 @@
-use Rattle.std.proofs.Common.{ap, ◌∙◌, Some}
-use Rattle.shared_polling.specs.declared.seat.Hold.TheVariants.{PollsBusily}
-use Rattle.shared_polling.specs.Seat.{ctx_of, pass_of}
-use Rattle.shared_polling.proofs.SeatFacts.{back_ctx, back_gave, back_is, back_thread, polled_packets}
+use Rattle.{std.proofs.Common.{ap, ◌∙◌, Some}, shared_polling.{specs.{declared.seat.Hold.TheVariants.PollsBusily, Seat.{ctx_of, pass_of}}, proofs.SeatFacts.{back_ctx, back_gave, back_is, back_thread, polled_packets}}}
 use Rattle.shared_polling.proofs.seat.SeatBusyInstance.busy_poll.Goals as goal
 
 pub returns-clause-leads : goal.returns-clause-leads

@@ -1,7 +1,4 @@
-use Rattle.std.proofs.Common.{refl}
-use Rattle.shared_polling.specs.declared.seat.Hold.TheVariants.{Rests, PollsBusily}
-use Rattle.napi_calls.proofs.Dealing.{delivers_none}
-use Rattle.shared_polling.proofs.SeatFacts.{seat_made, taken_packets}
+use Rattle.{std.proofs.Common.refl, shared_polling.{specs.declared.seat.Hold.TheVariants.{Rests, PollsBusily}, proofs.SeatFacts.{seat_made, taken_packets}}, napi_calls.proofs.Dealing.delivers_none}
 use Rattle.shared_polling.proofs.seat.SeatBusyInstance.busy_take.Goals as goal
 
 pub returns-in-Ok-clause-leads : goal.returns-in-Ok-clause-leads

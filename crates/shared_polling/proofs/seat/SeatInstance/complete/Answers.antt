@@ -1,9 +1,4 @@
-use Rattle.std.proofs.Common.{refl, ap, subst, sym, ◌∙◌, append-nil, Bool}
-use Rattle.shared_polling.specs.declared.seat.Hold.TheVariants.{Rests, Polls}
-use Rattle.shared_polling.specs.declared.seat.Seat.{Seat}
-use Rattle.poll_engine.specs.Polling.{next_of}
-use Rattle.shared_polling.specs.Seat.{packets_by}
-use Rattle.shared_polling.specs.SharedPolling.{EndsBy}
+use Rattle.{std.proofs.Common.{refl, ap, subst, sym, ◌∙◌, append-nil, Bool}, shared_polling.specs.{declared.seat.{Hold.TheVariants.{Rests, Polls}, Seat.Seat}, Seat.packets_by, SharedPolling.EndsBy}, poll_engine.specs.Polling.next_of}
 use Rattle.shared_polling.proofs.SeatFacts.{seat_made}
 use Rattle.shared_polling.proofs.seat.SeatInstance.complete.Goals as goal
 

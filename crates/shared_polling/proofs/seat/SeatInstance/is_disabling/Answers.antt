@@ -1,6 +1,4 @@
-use Rattle.std.proofs.Common.{refl}
-use Rattle.shared_polling.specs.declared.seat.Hold.TheVariants.{Polls}
-use Rattle.shared_polling.proofs.SeatFacts.{held_packets, seat_made}
+use Rattle.{std.proofs.Common.refl, shared_polling.{specs.declared.seat.Hold.TheVariants.Polls, proofs.SeatFacts.{held_packets, seat_made}}}
 use Rattle.shared_polling.proofs.seat.SeatInstance.is_disabling.Goals as goal
 
 pub returns-clause-leads : goal.returns-clause-leads

@@ -1,6 +1,4 @@
-use Rattle.std.proofs.Common.{refl}
-use Rattle.shared_polling.specs.declared.seat.Hold.TheVariants.{Rests, Polls}
-use Rattle.shared_polling.proofs.SeatFacts.{back_packets, seat_made}
+use Rattle.{std.proofs.Common.refl, shared_polling.{specs.declared.seat.Hold.TheVariants.{Rests, Polls}, proofs.SeatFacts.{back_packets, seat_made}}}
 use Rattle.shared_polling.proofs.seat.SeatInstance.requeue.Goals as goal
 
 pub returns-clause-leads : goal.returns-clause-leads

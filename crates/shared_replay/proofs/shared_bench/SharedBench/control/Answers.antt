@@ -1,9 +1,4 @@
-use Rattle.std.proofs.Common.{◌≡◌, ◌∙◌, Some, length-set, ap, sym, arith}
-use Rattle.trace_rows.specs.Places.{at}
-use Rattle.devices.specs.Waiting.{count}
-use Rattle.trace_rows.proofs.PlaceFacts.{at-index, below-some}
-use Rattle.std.specs.Prelude.{is_some}
-use Rattle.devices.proofs.SideFacts.{sides-set}
+use Rattle.{std.{proofs.Common.{◌≡◌, ◌∙◌, Some, length-set, ap, sym, arith}, specs.Prelude.is_some}, trace_rows.{specs.Places.at, proofs.PlaceFacts.{at-index, below-some}}, devices.{specs.Waiting.count, proofs.SideFacts.sides-set}}
 use Rattle.shared_replay.proofs.SharedFacts.{few-of, rest-at, shared-set, waiting-at}
 use Rattle.shared_replay.proofs.shared_bench.SharedBench.control.Goals as goal
 

@@ -1,7 +1,4 @@
-use Rattle.std.proofs.Common.{◌≡◌, ◌∷◌, ◌++◌, [], vec_items, append_assoc, ap, arith, sym, ◌∙◌}
-use Rattle.std.proofs.lemmas.Grind.{common_steps}
-use Rattle.std.proofs.lemmas.List.{nil_from_length}
-use Rattle.shared_replay.proofs.SharedFacts.{all-rest, end-more, next-rests}
+use Rattle.{std.proofs.{Common.{◌≡◌, ◌∷◌, ◌++◌, [], vec_items, append_assoc, ap, arith, sym, ◌∙◌}, lemmas.{Grind.common_steps, List.nil_from_length}}, shared_replay.proofs.SharedFacts.{all-rest, end-more, next-rests}}
 use Rattle.shared_replay.proofs.shared_bench.SharedBench.end.Goals as goal
 
 pub loop-place-init : goal.loop-place-init

@@ -1,9 +1,5 @@
-use Rattle.std.proofs.Common.{◌≡◌, ◌+◌, ◌≤◌, ◌++◌, length, vec_len, vec_capacity, vec_items}
-use Rattle.std.specs.List.{AllByRecursion, AllZip}
-use Rattle.std.specs.Vec.Iter.{into_iter_items, into_iter_len}
-use Rattle.trace_rows.specs.Places.{Places}
-use Rattle.shared_replay.specs.Stations.{IsEndAt, IsRestAt}
-use Rattle.shared_replay.specs.declared.station.Station.{Station}
+use Rattle.{std.{proofs.Common.{◌≡◌, ◌+◌, ◌≤◌, ◌++◌, length, vec_len, vec_capacity, vec_items}, specs.{List.{AllByRecursion, AllZip}, Vec.Iter.{into_iter_items, into_iter_len}}}, trace_rows.specs.Places.Places}
+use Rattle.shared_replay.specs.{Stations.{IsEndAt, IsRestAt}, declared.station.Station.Station}
 use Rattle.shared_replay.proofs.shared_bench.SharedBench.end.Given as goal
 
 abbrev pub invariant-loop-place : goal.invariant-loop-place

@@ -1,7 +1,4 @@
-use Rattle.std.proofs.Common.{◌≡◌, ◌∙◌, ◌<◌, None, false, true, rules, length, length-set, refl, sym, arith}
-use Rattle.std.specs.Prelude.{is_some}
-use Rattle.trace_rows.specs.Places.{at}
-use Rattle.trace_rows.proofs.PlaceFacts.{at-index, none-of}
+use Rattle.{std.{proofs.Common.{◌≡◌, ◌∙◌, ◌<◌, None, false, true, rules, length, length-set, refl, sym, arith}, specs.Prelude.is_some}, trace_rows.{specs.Places.at, proofs.PlaceFacts.{at-index, none-of}}}
 use Rattle.shared_replay.proofs.SharedFacts.{added-new, added-there, few-of, shared-put, waiting-put}
 use Rattle.shared_replay.proofs.shared_bench.SharedBench.keep.Goals as goal
 

@@ -1,5 +1,4 @@
-use Rattle.std.proofs.Common.{rules, ◌≡◌, None, length, replicate, ap, arith}
-use Rattle.shared_replay.proofs.SharedFacts.{few-of, none-alike, shared-empty}
+use Rattle.{std.proofs.Common.{rules, ◌≡◌, None, length, replicate, ap, arith}, shared_replay.proofs.SharedFacts.{few-of, none-alike, shared-empty}}
 use Rattle.shared_replay.proofs.shared_bench.SharedBench.new.Goals as goal
 
 pub invariant_of-result : goal.invariant_of-result

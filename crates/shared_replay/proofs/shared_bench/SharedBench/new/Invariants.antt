@@ -1,5 +1,4 @@
-use Rattle.std.proofs.Common.{◌≡◌, ◌≤◌, None, replicate}
-use Rattle.std.specs.Prelude.{vec_capacity}
+use Rattle.std.{proofs.Common.{◌≡◌, ◌≤◌, None, replicate}, specs.Prelude.vec_capacity}
 use Rattle.shared_replay.proofs.shared_bench.SharedBench.new.Given as goal
 
 abbrev pub invariant-loop : goal.invariant-loop

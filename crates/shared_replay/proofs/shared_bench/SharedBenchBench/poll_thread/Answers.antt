@@ -1,8 +1,4 @@
-use Rattle.std.proofs.Common.{◌≡◌, ◌∙◌, Some, [], ◌<◌, length, length-set, ap, refl, sym, arith}
-use Rattle.trace_rows.specs.Places.{at}
-use Rattle.trace_rows.proofs.PlaceFacts.{at-index, below-some}
-use Rattle.std.specs.Prelude.{is_some}
-use Rattle.devices.proofs.SideFacts.{sides-set}
+use Rattle.{std.{proofs.Common.{◌≡◌, ◌∙◌, Some, [], ◌<◌, length, length-set, ap, refl, sym, arith}, specs.Prelude.is_some}, trace_rows.{specs.Places.at, proofs.PlaceFacts.{at-index, below-some}}, devices.proofs.SideFacts.sides-set}
 use Rattle.shared_replay.proofs.SharedFacts.{few-of, rest-at, shared-set, waiting-at, waiting-back}
 use Rattle.shared_replay.proofs.shared_bench.SharedBenchBench.poll_thread.Goals as goal
 

@@ -1,6 +1,4 @@
-use Rattle.std.proofs.Common.{◌≡◌, ◌∙◌, length, sym}
-use Rattle.transmit_sides.specs.Transmit.{opened_transmit}
-use Rattle.devices.proofs.SideFacts.{sides-added}
+use Rattle.{std.proofs.Common.{◌≡◌, ◌∙◌, length, sym}, transmit_sides.specs.Transmit.opened_transmit, devices.proofs.SideFacts.sides-added}
 use Rattle.shared_replay.proofs.shared_bench.SharedBenchReplayBench.attach.Goals as goal
 
 pub returns-clause-transmits : goal.returns-clause-transmits

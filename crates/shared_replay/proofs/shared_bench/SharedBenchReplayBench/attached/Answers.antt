@@ -1,5 +1,4 @@
-use Rattle.std.proofs.Common.{◌∙◌, sym}
-use Rattle.devices.proofs.SideFacts.{sides-attached}
+use Rattle.{std.proofs.Common.{◌∙◌, sym}, devices.proofs.SideFacts.sides-attached}
 use Rattle.shared_replay.proofs.shared_bench.SharedBenchReplayBench.attached.Goals as goal
 
 pub returns-clause-transmits : goal.returns-clause-transmits

@@ -1,6 +1,4 @@
-use Rattle.std.proofs.Common.{◌≡◌}
-use Rattle.transmit_sides.specs.Transmits.{Keeps}
-use Rattle.shared_replay.specs.SharedBench.{ShowsTransmits, waiting_of}
+use Rattle.{std.proofs.Common.◌≡◌, transmit_sides.specs.Transmits.Keeps, shared_replay.specs.SharedBench.{ShowsTransmits, waiting_of}}
 use Rattle.shared_replay.proofs.shared_bench.SharedBenchReplayBench.settle.Given as goal
 
 abbrev pub invariant-loop-device : goal.invariant-loop-device

@@ -1,10 +1,5 @@
-use Rattle.std.proofs.Common.{[], ◌∙◌, ap, subst, inl}
-use Rattle.std.specs.Prelude.{Option}
-use Rattle.rx_ring.specs.Ends.{put_list}
-use Rattle.napi_model.specs.declared.event.Operation.TheVariants.{Look}
-use Rattle.napi_calls.specs.declared.types.Caller.{Caller}
-use Rattle.shared_replay.specs.Acts.{MakesAt, but_word, requested}
-use Rattle.shared_replay.proofs.ActFacts.{makes_more}
+use Rattle.{std.{proofs.Common.{[], ◌∙◌, ap, subst, inl}, specs.Prelude.Option}, rx_ring.specs.Ends.put_list, napi_model.specs.declared.event.Operation.TheVariants.Look, napi_calls.specs.declared.types.Caller.Caller}
+use Rattle.shared_replay.{specs.Acts.{MakesAt, but_word, requested}, proofs.ActFacts.makes_more}
 use Rattle.shared_replay.proofs.shared_device.SharedDevice.arrive.Goals as goal
 
 pub returns-clause-packet : goal.returns-clause-packet

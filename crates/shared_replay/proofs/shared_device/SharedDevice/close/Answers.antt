@@ -1,6 +1,4 @@
-use Rattle.std.proofs.Common.{rules}
-use Rattle.std.proofs.Math.Logic.{∥∥₁_elim}
-use Rattle.std.proofs.Props.{props}
+use Rattle.std.proofs.{Common.rules, Math.Logic.∥∥₁_elim, Props.props}
 use Rattle.shared_replay.proofs.shared_device.SharedDevice.close.Goals as goal
 
 pub finish-requires : goal.finish-requires

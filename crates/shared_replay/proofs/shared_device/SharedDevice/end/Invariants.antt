@@ -1,5 +1,4 @@
-use Rattle.std.proofs.Common.{◌≡◌}
-use Rattle.shared_replay.specs.SharedDevice.{IsAtRest}
+use Rattle.{std.proofs.Common.◌≡◌, shared_replay.specs.SharedDevice.IsAtRest}
 use Rattle.shared_replay.proofs.shared_device.SharedDevice.end.Given as goal
 
 abbrev pub invariant-loop : goal.invariant-loop

@@ -1,6 +1,4 @@
-use Rattle.std.proofs.Common.{[], ◌∷◌}
-use Rattle.napi_model.specs.declared.event.Operation.TheVariants.{Look, SetThreaded}
-use Rattle.shared_replay.proofs.ActFacts.{makes_more}
+use Rattle.{std.proofs.Common.{[], ◌∷◌}, napi_model.specs.declared.event.Operation.TheVariants.{Look, SetThreaded}, shared_replay.proofs.ActFacts.makes_more}
 use Rattle.shared_replay.proofs.shared_device.SharedDevice.set_threaded.Goals as goal
 
 pub returns-clause-written : goal.returns-clause-written

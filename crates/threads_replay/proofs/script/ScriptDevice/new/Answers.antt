@@ -1,7 +1,4 @@
-use Rattle.std.proofs.Common.{◌∙◌, sym, arith}
-use Rattle.threads_replay.specs.Script.{is_act_of}
-use Rattle.threads_replay.proofs.Rows.{filter-long}
-use Rattle.threads_replay.proofs.StationFacts.{opened-within}
+use Rattle.{std.proofs.Common.{◌∙◌, sym, arith}, threads_replay.{specs.Script.is_act_of, proofs.{Rows.filter-long, StationFacts.opened-within}}}
 use Rattle.threads_replay.proofs.script.ScriptDevice.new.Goals as goal
 
 pub of-requires-clause-places : goal.of-requires-clause-places

@@ -1,6 +1,4 @@
-use Rattle.std.proofs.Common.{◌≡◌, ◌<◌, get_or, length, subst, sym, arith}
-use Rattle.threads_replay.specs.ScriptShown.{answer}
-use Rattle.threads_replay.proofs.ScriptFacts.{answer-in-turn, few-packets, kept-more}
+use Rattle.{std.proofs.Common.{◌≡◌, ◌<◌, get_or, length, subst, sym, arith}, threads_replay.{specs.ScriptShown.answer, proofs.ScriptFacts.{answer-in-turn, few-packets, kept-more}}}
 use Rattle.threads_replay.proofs.script.ScriptDeviceDevice.act.Goals as goal
 
 pub play-requires : goal.play-requires

@@ -1,6 +1,4 @@
-use Rattle.std.proofs.Common.{◌≡◌, ◌+◌, append_assoc, append-nil, None, suc, arith, sym}
-use Rattle.trace_replay.specs.Report.{lines_below}
-use Rattle.trace_replay.proofs.ToldFacts.{told-at, told-more}
+use Rattle.{std.proofs.Common.{◌≡◌, ◌+◌, append_assoc, append-nil, None, suc, arith, sym}, trace_replay.{specs.Report.lines_below, proofs.ToldFacts.{told-at, told-more}}}
 use Rattle.trace_replay.proofs.replay.Replay.add_devices.Goals as goal
 
 pub loop-number-init : goal.loop-number-init

@@ -1,8 +1,4 @@
-use Rattle.std.proofs.Common.{◌≡◌, ◌++◌, ℕ, Option, string_bytes}
-use Rattle.devices.specs.declared.counts.DeviceCounts.{DeviceCounts}
-use Rattle.transmit_sides.specs.Transmits.{Transmits}
-use Rattle.trace_replay.specs.Played.{state_in}
-use Rattle.trace_replay.specs.Report.{counts_of, lines_below}
+use Rattle.{std.proofs.Common.{◌≡◌, ◌++◌, ℕ, Option, string_bytes}, devices.specs.declared.counts.DeviceCounts.DeviceCounts, transmit_sides.specs.Transmits.Transmits, trace_replay.specs.{Played.state_in, Report.{counts_of, lines_below}}}
 use Rattle.trace_replay.specs.Told.{AreTold}
 use Rattle.trace_replay.proofs.replay.Replay.add_devices.Given as goal
 

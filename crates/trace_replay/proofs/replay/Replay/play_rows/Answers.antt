@@ -1,10 +1,5 @@
-use Rattle.std.proofs.Common.{inl, inr, ◌<◌, length, get_or, take, subst, sym, arith}
-use Rattle.std.proofs.lemmas.Result.{err_from_is_err_and}
-use Rattle.trace_rows.specs.declared.event.Event.TheVariants.{Opened}
-use Rattle.trace_rows.specs.declared.row.Row.{Row}
-use Rattle.trace_replay.specs.Transmits.{after_transmits}
-use Rattle.trace_rows.proofs.Accepted.{accepted-at, get-at}
-use Rattle.trace_replay.proofs.PlayFacts.{after_transmits-more, played-early, played-more, report-early}
+use Rattle.{std.proofs.{Common.{inl, inr, ◌<◌, length, get_or, take, subst, sym, arith}, lemmas.Result.err_from_is_err_and}, trace_rows.specs.declared.{event.Event.TheVariants.Opened, row.Row.Row}}
+use Rattle.{trace_replay.{specs.Transmits.after_transmits, proofs.PlayFacts.{after_transmits-more, played-early, played-more, report-early}}, trace_rows.proofs.Accepted.{accepted-at, get-at}}
 use Rattle.trace_replay.proofs.replay.Replay.play_rows.Goals as goal
 
 -- the row that an index out of the rows would give

@@ -1,8 +1,4 @@
-use Rattle.std.proofs.Common.{◌≡◌, ◌≤◌, Ok, length, take}
-use Rattle.transmit_sides.specs.Transmits.{Changes}
-use Rattle.trace_replay.specs.Played.{state_in}
-use Rattle.trace_replay.specs.Replay.{after_rows, start}
-use Rattle.trace_replay.specs.Transmits.{after_transmits}
+use Rattle.{std.proofs.Common.{◌≡◌, ◌≤◌, Ok, length, take}, transmit_sides.specs.Transmits.Changes, trace_replay.specs.{Played.state_in, Replay.{after_rows, start}, Transmits.after_transmits}}
 use Rattle.trace_replay.proofs.replay.Replay.play_rows.Given as goal
 
 abbrev pub invariant-loop-i : goal.invariant-loop-i

@@ -1,8 +1,4 @@
-use Rattle.std.specs.Prelude.{flat_map}
-use Rattle.devices.specs.Bench.{attached}
-use Rattle.trace_replay.specs.Played.{state_in}
-use Rattle.report_text.specs.Lines.{ended}
-use Rattle.trace_replay.specs.Report.{counts_of, lines_below, list_line, poll_line, text_by, total_line, totals_of}
+use Rattle.{std.specs.Prelude.flat_map, devices.specs.Bench.attached, trace_replay.specs.{Played.state_in, Report.{counts_of, lines_below, list_line, poll_line, text_by, total_line, totals_of}}, report_text.specs.Lines.ended}
 use Rattle.trace_replay.proofs.PlayFacts.{four-parts}
 use Rattle.trace_replay.proofs.replay.Replay.report.Goals as goal
 

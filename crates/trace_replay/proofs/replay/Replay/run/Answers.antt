@@ -1,5 +1,4 @@
-use Rattle.std.proofs.Common.{refl}
-use Rattle.trace_replay.proofs.RunFacts.{only-run, run-room, transmits-stay}
+use Rattle.{std.proofs.Common.refl, trace_replay.proofs.RunFacts.{only-run, run-room, transmits-stay}}
 use Rattle.trace_replay.proofs.replay.Replay.run.Goals as goal
 
 pub returns-clause-transmits : goal.returns-clause-transmits

@@ -1,5 +1,4 @@
-use Rattle.std.proofs.Common.{◌≡◌, ◌*◌, ◌≤◌, take}
-use Rattle.trace_replay.specs.Report.{totals_of}
+use Rattle.{std.proofs.Common.{◌≡◌, ◌*◌, ◌≤◌, take}, trace_replay.specs.Report.totals_of}
 use Rattle.trace_replay.proofs.report.Totals.of.Given as goal
 
 abbrev pub invariant-loop-line : goal.invariant-loop-line

@@ -1,12 +1,5 @@
-use Rattle.std.proofs.Common.{inl, inr, take, subst, sym, arith}
-use Rattle.std.proofs.lemmas.Result.{err_from_is_err_and}
-use Rattle.devices.specs.SerialBench.{ShowsTransmits}
-use Rattle.trace_rows.specs.Places.{empty}
-use Rattle.trace_rows.specs.declared.event.Event.TheVariants.{Opened}
-use Rattle.trace_rows.specs.declared.row.Row.{Row}
-use Rattle.trace_replay.specs.Transmits.{after_transmits}
-use Rattle.trace_rows.proofs.Accepted.{accepted-at}
-use Rattle.trace_replay.proofs.PlayFacts.{after_transmits-more, played-early, played-more}
+use Rattle.{std.proofs.{Common.{inl, inr, take, subst, sym, arith}, lemmas.Result.err_from_is_err_and}, devices.specs.SerialBench.ShowsTransmits, trace_rows.specs.{Places.empty, declared.{event.Event.TheVariants.Opened, row.Row.Row}}}
+use Rattle.{trace_replay.{specs.Transmits.after_transmits, proofs.PlayFacts.{after_transmits-more, played-early, played-more}}, trace_rows.proofs.Accepted.accepted-at}
 use Rattle.trace_replay.proofs.serial_replay.SerialReplay.play_row.Goals as goal
 
 -- the row that an index out of the rows would give

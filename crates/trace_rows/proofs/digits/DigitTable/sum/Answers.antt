@@ -1,6 +1,4 @@
-use Rattle.std.proofs.Common.{◌≡◌, suc, ◌+◌, ◌-◌, ◌<◌, take, slice_index_or, rules, arith}
-use Rattle.std.proofs.lemmas.List.{take_more}
-use Rattle.trace_rows.proofs.DigitFacts.{worth-most, worth-step}
+use Rattle.{std.proofs.{Common.{◌≡◌, suc, ◌+◌, ◌-◌, ◌<◌, take, slice_index_or, rules, arith}, lemmas.List.take_more}, trace_rows.proofs.DigitFacts.{worth-most, worth-step}}
 use Rattle.trace_rows.proofs.digits.DigitTable.sum.Goals as goal
 
 pub overflow_add-sum-in-loop-place : goal.overflow_add-sum-in-loop-place

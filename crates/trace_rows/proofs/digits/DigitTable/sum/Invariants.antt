@@ -1,6 +1,4 @@
-use Rattle.std.proofs.Common.{◌≡◌, ◌<◌, ◌≤◌, ◌-◌, ◌*◌, ◌^◌, true, take}
-use Rattle.std.specs.Str.{all_ascii_digits}
-use Rattle.trace_rows.specs.Record.{numeral}
+use Rattle.{std.{proofs.Common.{◌≡◌, ◌<◌, ◌≤◌, ◌-◌, ◌*◌, ◌^◌, true, take}, specs.Str.all_ascii_digits}, trace_rows.specs.Record.numeral}
 use Rattle.trace_rows.proofs.digits.DigitTable.sum.Given as goal
 
 abbrev pub invariant-loop-place : goal.invariant-loop-place

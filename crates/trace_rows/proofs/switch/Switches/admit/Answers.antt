@@ -1,7 +1,4 @@
-use Rattle.std.proofs.Common.{◌≡◌, ◌≢◌, ◌∙◌, sym, rules, length, ap}
-use Rattle.trace_rows.specs.Switch.{set_by}
-use Rattle.trace_rows.specs.declared.event.Event.TheVariants.{Softirq}
-use Rattle.trace_rows.proofs.SwitchFacts.{device_range, tracks-same, tracks-set}
+use Rattle.{std.proofs.Common.{◌≡◌, ◌≢◌, ◌∙◌, sym, rules, length, ap}, trace_rows.{specs.{Switch.set_by, declared.event.Event.TheVariants.Softirq}, proofs.SwitchFacts.{device_range, tracks-same, tracks-set}}}
 use Rattle.trace_rows.proofs.switch.Switches.admit.Goals as goal
 
 pub returns-then-eq-clause-tracks : goal.returns-then-eq-clause-tracks

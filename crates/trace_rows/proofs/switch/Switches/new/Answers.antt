@@ -1,6 +1,4 @@
-use Rattle.std.proofs.lemmas.List.{get_or-replicate}
-use Rattle.trace_rows.specs.Switch.{switch_of}
-use Rattle.trace_rows.specs.declared.switch.Switch.TheVariants.{Unopened}
+use Rattle.{std.proofs.lemmas.List.get_or-replicate, trace_rows.specs.{Switch.switch_of, declared.switch.Switch.TheVariants.Unopened}}
 use Rattle.trace_rows.proofs.switch.Switches.new.Goals as goal
 
 pub returns : goal.returns

@@ -1,6 +1,4 @@
-use Rattle.std.proofs.Common.{refl}
-use Rattle.dql_core.specs.Bounds.{DQL_MAX_LIMIT}
-use Rattle.transmit_sides.specs.Transmit.{hold_time}
+use Rattle.{std.proofs.Common.refl, dql_core.specs.Bounds.DQL_MAX_LIMIT, transmit_sides.specs.Transmit.hold_time}
 use Rattle.transmit_sides.proofs.transmit.Transmit.open.Goals as goal
 
 pub returns-in-Ok-new : goal.returns-in-Ok-new

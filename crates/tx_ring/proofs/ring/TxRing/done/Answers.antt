@@ -1,10 +1,5 @@
-use Rattle.std.proofs.Common.{◌≡◌, ◌&&◌, sum, take, drop, length, arith, length-drop, ap, sym, ◌∙◌}
-use Rattle.std.proofs.lemmas.List.{drop-drop}
-use Rattle.dql_core.specs.Dql.{Shows}
-use Rattle.dql_core.specs.Limit.{after_completed}
-use Rattle.tx_ring.specs.Queue.{bytes_of, is_over}
-use Rattle.tx_ring.proofs.Done.{after_done-none, after_done-some}
-use Rattle.tx_ring.proofs.Sums.{sum-take-add}
+use Rattle.{std.proofs.{Common.{◌≡◌, ◌&&◌, sum, take, drop, length, arith, length-drop, ap, sym, ◌∙◌}, lemmas.List.drop-drop}, dql_core.specs.{Dql.Shows, Limit.after_completed}, tx_ring.specs.Queue.{bytes_of, is_over}}
+use Rattle.tx_ring.proofs.{Done.{after_done-none, after_done-some}, Sums.sum-take-add}
 use Rattle.tx_ring.proofs.ring.TxRing.done.Goals as goal
 
 pub returns-else-bytes-gt0-clause-ok : goal.returns-else-bytes-gt0-clause-ok

@@ -1,8 +1,4 @@
-use Rattle.std.proofs.Common.{◌≡◌, arith}
-use Rattle.std.specs.Int.{from_bool}
-use Rattle.dql_core.proofs.Accepted.{shows_more, count_more, from_bool_most}
-use Rattle.tx_ring.specs.Ring.{ShowsQueue}
-use Rattle.tx_ring.specs.Queue.{fault_of, after}
+use Rattle.{std.{proofs.Common.{◌≡◌, arith}, specs.Int.from_bool}, dql_core.proofs.Accepted.{shows_more, count_more, from_bool_most}, tx_ring.specs.{Ring.ShowsQueue, Queue.{fault_of, after}}}
 use Rattle.tx_ring.proofs.ring.TxRing.run.Goals as goal
 
 pub loop-i-preserved : goal.loop-i-preserved

@@ -1,7 +1,4 @@
-use Rattle.std.proofs.Common.{◌≡◌, ◌+◌, ◌≤◌, length, take}
-use Rattle.dql_core.specs.Accepted.{accepted, after_all}
-use Rattle.tx_ring.specs.Queue.{TransmitQueue, fault_of, after}
-use Rattle.tx_ring.specs.Ring.{ShowsQueue}
+use Rattle.{std.proofs.Common.{◌≡◌, ◌+◌, ◌≤◌, length, take}, dql_core.specs.Accepted.{accepted, after_all}, tx_ring.specs.{Queue.{TransmitQueue, fault_of, after}, Ring.ShowsQueue}}
 use Rattle.tx_ring.proofs.ring.TxRing.run.Given as goal
 
 abbrev pub invariant-loop-i : goal.invariant-loop-i

@@ -1,0 +1,219 @@
+//! Busy polling: who takes an idle instance for it, what is held meanwhile, and the stop.
+
+ghost use Rattle.std.specs.Prelude.{◌≡◌};
+ghost use Rattle.napi_calls.specs.Instance.{IsSeatOf};
+
+use crate::bed::{
+    Bed, again, closed, enabled, handed, make_bed, missed, not_there, released, taken, word,
+};
+use crate::contention::{Schedules, SetsThreaded};
+use napi_calls::{Busy, Caller, Napi, Polling, TryBusy, TryPrep, TryStop, TryTake};
+use napi_model::{Kind, encode};
+use rx_ring::{Batch, Packet};
+use std::process::Abort;
+use std::test::Fail;
+
+fn busied(rt: &impl Abort, napi: &Napi, caller: Caller) -> Busy
+    requires { IsSeatOf napi.now caller.pass }
+    ensures { IsSeatOf napi.now result.pass }
+{
+    let answer = caller.try_busy(napi);
+    let TryBusy::Taken(busy) = answer else {
+        panic!(rt; "not taken to be busy polled")
+    };
+    busy
+}
+
+fn refused(rt: &impl Abort, napi: &Napi, caller: Caller) -> Caller
+    requires { IsSeatOf napi.now caller.pass }
+    ensures { IsSeatOf napi.now result.pass }
+{
+    let answer = caller.try_busy(napi);
+    let TryBusy::Refused(caller) = answer else {
+        panic!(rt; "not refused")
+    };
+    caller
+}
+
+fn stopped(rt: &impl Abort, napi: &Napi, busy: Busy) -> Polling
+    requires { IsSeatOf napi.now busy.pass }
+    ensures { IsSeatOf napi.now result.pass }
+{
+    let answer = busy.try_stop(napi);
+    let TryStop::Stopped(polling) = answer else {
+        panic!(rt; "not stopped")
+    };
+    polling
+}
+
+#[test]
+fn busy_polling_holds_what_is_missed(rt: HostRuntime) -> Result<(), Fail> {
+    let Bed {
+        input: _,
+        napi,
+        first,
+        second,
+        control,
+    } = make_bed(&rt, rt.alloc());
+    let control = enabled(&rt, &napi, control, false);
+    let mut batch = Batch::new();
+    let mut busy = busied(&rt, &napi, first);
+    assert_eq!(rt; busy.number(), 0);
+    assert_eq!(rt; encode(busy.look(&napi)), 65);
+    let second = missed(&rt, &napi, second);
+    assert_eq!(rt; encode(busy.look(&napi)), 67);
+    let second = not_there(&rt, &napi, second, Kind::List);
+    let mut second = refused(&rt, &napi, second);
+    assert_eq!(rt; busy.poll(64, &mut batch), 0);
+    busy.complete_held(&napi);
+    assert_eq!(rt; word(&napi, &mut second), 67);
+    assert_eq!(rt; busy.counts().polls, 1);
+    let mut polling = stopped(&rt, &napi, busy);
+    assert_eq!(rt; encode(polling.look(&napi)), 1);
+    assert_eq!(rt; polling.poll(64, &mut batch), 0);
+    let first = released(&rt, &napi, polling);
+    assert_eq!(rt; word(&napi, &mut second), 0);
+    let busy = busied(&rt, &napi, first);
+    assert_eq!(rt; word(&napi, &mut second), 65);
+    let control = control.mark(&napi);
+    assert_eq!(rt; word(&napi, &mut second), 69);
+    let answer = control.try_take(&napi);
+    let TryTake::Busy(control) = answer else {
+        panic!(rt; "not busy")
+    };
+    let mut other = SetsThreaded {
+        napi: &napi,
+        caller: second,
+    };
+    let answer = busy.try_stop_between(&napi, &mut other);
+    let TryStop::Changed(busy) = answer else {
+        panic!(rt; "not changed")
+    };
+    let SetsThreaded {
+        napi: _,
+        caller: mut second,
+    } = other;
+    assert_eq!(rt; word(&napi, &mut second), 325);
+    let polling = stopped(&rt, &napi, busy);
+    assert_eq!(rt; word(&napi, &mut second), 261);
+    let first = released(&rt, &napi, polling);
+    assert_eq!(rt; word(&napi, &mut second), 260);
+    let first = refused(&rt, &napi, first);
+    let answer = control.try_take(&napi);
+    let TryTake::Taken(control) = answer else {
+        panic!(rt; "not taken")
+    };
+    assert_eq!(rt; word(&napi, &mut second), 9);
+    let ctx = closed(&rt, rt.alloc(), napi, first, second, control);
+    assert_eq!(rt; ctx.counts().polls, 2);
+    Ok(())
+}
+
+#[test]
+fn stop_loses_to_a_schedule(rt: HostRuntime) -> Result<(), Fail> {
+    let Bed {
+        input: _,
+        napi,
+        first,
+        second,
+        control,
+    } = make_bed(&rt, rt.alloc());
+    let control = enabled(&rt, &napi, control, false);
+    let mut busy = busied(&rt, &napi, first);
+    assert_eq!(rt; encode(busy.look(&napi)), 65);
+    let mut other = Schedules {
+        napi: &napi,
+        caller: Some(second),
+        answer: None,
+    };
+    let answer = busy.try_stop_between(&napi, &mut other);
+    let TryStop::Changed(busy) = answer else {
+        panic!(rt; "not changed")
+    };
+    let middle = other.answered(&rt);
+    let TryPrep::Missed(mut second) = middle else {
+        panic!(rt; "the second isn't missed")
+    };
+    assert_eq!(rt; word(&napi, &mut second), 67);
+    let polling = stopped(&rt, &napi, busy);
+    assert_eq!(rt; word(&napi, &mut second), 1);
+    let first = released(&rt, &napi, polling);
+    let control = control.disable(&rt, &napi);
+    closed(&rt, rt.alloc(), napi, first, second, control);
+    Ok(())
+}
+
+#[test]
+fn busy_loses_to_a_schedule(rt: HostRuntime) -> Result<(), Fail> {
+    let Bed {
+        input: _,
+        napi,
+        first,
+        second,
+        control,
+    } = make_bed(&rt, rt.alloc());
+    let control = enabled(&rt, &napi, control, false);
+    let mut other = Schedules {
+        napi: &napi,
+        caller: Some(second),
+        answer: None,
+    };
+    let answer = first.try_busy_between(&napi, &mut other);
+    let TryBusy::Changed(first) = answer else {
+        panic!(rt; "not changed")
+    };
+    let middle = other.answered(&rt);
+    let TryPrep::Granted(owner) = middle else {
+        panic!(rt; "the second isn't granted")
+    };
+    let first = refused(&rt, &napi, first);
+    let second = handed(&napi, owner, Kind::List);
+    let polling = taken(&rt, &napi, second, Kind::List);
+    let second = released(&rt, &napi, polling);
+    let control = control.disable(&rt, &napi);
+    closed(&rt, rt.alloc(), napi, first, second, control);
+    Ok(())
+}
+
+// By the waiting forms, with packets: what is polled in between is what was put, and what is put after the ends of the ring
+// met isn't polled by the next poll.
+#[test]
+fn busy_polls_give_what_was_put(rt: HostRuntime) -> Result<(), Fail> {
+    let Bed {
+        mut input,
+        napi,
+        first,
+        second,
+        control,
+    } = make_bed(&rt, rt.alloc());
+    let control = control.enable(&rt, &napi, false);
+    let packet = Packet {
+        number: 1,
+        bytes: 60,
+    };
+    assert_eq!(rt; input.put(packet), Ok(()));
+    let mut batch = Batch::new();
+    let answer = first.busy(&rt, &napi);
+    let Ok(mut busy) = answer else {
+        panic!(rt; "refused")
+    };
+    assert_eq!(rt; busy.poll(64, &mut batch), 1);
+    assert_eq!(rt; batch.as_slice(), [packet].as_slice());
+    busy.complete_held(&napi);
+    assert_eq!(rt; busy.poll(64, &mut batch), 0);
+    let answer = second.busy(&rt, &napi);
+    let Err(second) = answer else {
+        panic!(rt; "taken twice")
+    };
+    let second = missed(&rt, &napi, second);
+    let polling = busy.stop(&rt, &napi);
+    let second = missed(&rt, &napi, second);
+    let owner = again(&rt, &napi, polling);
+    let first = handed(&napi, owner, Kind::List);
+    let polling = taken(&rt, &napi, first, Kind::List);
+    let first = released(&rt, &napi, polling);
+    let control = control.disable(&rt, &napi);
+    let ctx = closed(&rt, rt.alloc(), napi, first, second, control);
+    assert_eq!(rt; ctx.counts().packets, 1);
+    Ok(())
+}

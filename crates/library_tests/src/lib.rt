@@ -1,0 +1,34 @@
+//! Tests of the library's calls, from other crates as their users are: worked runs, refusals, and threads. Nothing but tests
+//! stands here, so that the crates below are proved once.
+#![tactic(auto)]
+
+#[cfg(test)]
+mod bed;
+#[cfg(test)]
+mod busy;
+#[cfg(test)]
+mod contention;
+#[cfg(test)]
+mod dealing;
+#[cfg(test)]
+mod events;
+#[cfg(test)]
+mod limits;
+#[cfg(test)]
+mod model;
+#[cfg(test)]
+mod receive;
+#[cfg(test)]
+mod refusals;
+#[cfg(test)]
+mod switching;
+#[cfg(test)]
+mod threads;
+#[cfg(test)]
+mod transmit;
+#[cfg(test)]
+mod turns;
+#[cfg(test)]
+mod word;
+#[cfg(test)]
+mod words;

@@ -1,0 +1,275 @@
+//! A worked list of events, and the words of the states.
+
+ghost use Rattle.std.specs.Prelude.{◌≡◌};
+ghost use Rattle.napi_model.specs.Serial.{controller_of};
+ghost use Rattle.library_tests.specs.declared.model.TheConstants.{CONTROLLER};
+
+use napi_model::{
+    Call, Done, Event, Flags, Kind, Operation, Place, Prep, Seen, SerialNapi, State, decode,
+    decode_known, encode, first_illegal, own, state_after,
+};
+use std::process::Abort;
+use std::test::Fail;
+
+/// The controller's number; callers 0 and 1 make the requests and the polls.
+const CONTROLLER: u32 = 2;
+
+/// An instance of this controller.
+#[derive(Drop)]
+struct Instance {
+    napi: SerialNapi,
+    ghost controlled: { controller_of napi ≡ CONTROLLER },
+}
+
+impl Instance {
+    fn new() -> Instance {
+        Instance {
+            napi: SerialNapi::new(CONTROLLER),
+        }
+    }
+
+    fn state(&self) -> State
+        ensures { result ≡ self.now.napi.state }
+    {
+        State {
+            flags: self.napi.flags(),
+            place: self.napi.place(),
+        }
+    }
+
+    fn word(&self) -> u64 {
+        encode(self.napi.look())
+    }
+
+    /// Makes a call where it may be made, and tells it with its reply.
+    fn perform(&mut self, caller: u32, call: Call) -> Option<Operation> {
+        if !self.state().may_call(caller, call) {
+            return None;
+        }
+        let napi = &mut self.napi;
+        match call {
+            Call::Look => Some(Operation::Look(napi.look())),
+            Call::Schedule => Some(Operation::Schedule(napi.schedule(caller))),
+            Call::Hand(kind) => {
+                napi.hand(caller, kind);
+                Some(Operation::Hand(kind))
+            }
+            Call::Take(kind) => Some(Operation::Take(kind, napi.take(caller, kind))),
+            Call::Complete => Some(Operation::Complete(napi.complete(caller))),
+            Call::BusyTake => napi.busy_take(caller).then_some(Operation::BusyTake),
+            Call::BusyStop => {
+                napi.busy_stop(caller);
+                Some(Operation::BusyStop)
+            }
+            Call::SetThreaded(threaded) => {
+                napi.set_threaded(threaded);
+                Some(Operation::SetThreaded(threaded))
+            }
+            Call::MarkDisable if caller == CONTROLLER => {
+                napi.mark_disable(caller);
+                Some(Operation::MarkDisable)
+            }
+            Call::TakeDisable if caller == CONTROLLER => Some(Operation::TakeDisable(
+                napi.take_disable(caller),
+            )),
+            Call::Unmark if caller == CONTROLLER => {
+                napi.unmark(caller);
+                Some(Operation::Unmark)
+            }
+            Call::Enable(threaded) if caller == CONTROLLER => {
+                napi.enable(caller, threaded);
+                Some(Operation::Enable(threaded))
+            }
+            _ => None,
+        }
+    }
+}
+
+const IDLE: Flags = Flags::NONE;
+
+const MARKED: Flags = Flags {
+    disable: true,
+    ..IDLE
+};
+
+const SCHED: Flags = Flags {
+    sched: true,
+    ..IDLE
+};
+
+const SCHED_MISSED: Flags = Flags {
+    sched: true,
+    missed: true,
+    ..IDLE
+};
+
+const DISABLED: Flags = Flags {
+    sched: true,
+    npsvc: true,
+    ..IDLE
+};
+
+fn call_of(operation: Operation) -> Call {
+    match operation {
+        Operation::Look(_) => Call::Look,
+        Operation::Schedule(_) => Call::Schedule,
+        Operation::Hand(kind) => Call::Hand(kind),
+        Operation::Take(kind, _) => Call::Take(kind),
+        Operation::Complete(_) => Call::Complete,
+        Operation::BusyTake => Call::BusyTake,
+        Operation::BusyStop => Call::BusyStop,
+        Operation::MarkDisable => Call::MarkDisable,
+        Operation::TakeDisable(_) => Call::TakeDisable,
+        Operation::Unmark => Call::Unmark,
+        Operation::Enable(threaded) => Call::Enable(threaded),
+        Operation::SetThreaded(threaded) => Call::SetThreaded(threaded),
+    }
+}
+
+fn seen(flags: Flags) -> Operation {
+    Operation::Look(Seen {
+        flags,
+        handed: None,
+    })
+}
+
+#[test]
+fn two_callers_and_a_controller(rt: HostRuntime) -> Result<(), Fail> {
+    let events = [
+        (2, seen(DISABLED), 9),
+        (2, Operation::Enable(false), 0),
+        (0, seen(IDLE), 0),
+        (1, seen(IDLE), 0),
+        (0, seen(IDLE), 0),
+        (0, Operation::Schedule(Prep::Granted), 1),
+        (0, Operation::Hand(Kind::List), 4294967297),
+        (1, Operation::Take(Kind::List, true), 1),
+        (0, Operation::Take(Kind::List, false), 1),
+        (0, seen(SCHED), 1),
+        (0, Operation::Schedule(Prep::Missed), 3),
+        (1, seen(SCHED_MISSED), 3),
+        (1, Operation::Complete(Done::Again), 1),
+        (1, Operation::Hand(Kind::List), 4294967297),
+        (0, Operation::Take(Kind::List, true), 1),
+        (0, seen(SCHED), 1),
+        (0, Operation::Complete(Done::Released), 0),
+        (2, Operation::MarkDisable, 4),
+        (2, seen(MARKED), 4),
+        (2, Operation::TakeDisable(true), 13),
+        (2, Operation::Unmark, 9),
+    ];
+    let mut instance = Instance::new();
+    let mut history = Vec::new(rt.alloc());
+    assert_eq!(rt; instance.word(), 9);
+    for (i, &(caller, operation, word)) in events.iter().enumerate() {
+        assert_eq!(rt;
+            instance.perform(caller, call_of(operation)),
+            Some(operation),
+            "at event {i}"
+        );
+        assert_eq!(rt; instance.word(), word, "at event {i}");
+        assert_eq!(rt; decode(word), Some(instance.napi.look()), "at event {i}");
+        history.push(Event { caller, operation })?;
+    }
+    let opening = State::opening(CONTROLLER);
+    assert_eq!(rt; first_illegal(CONTROLLER, opening, &history), None);
+    assert_eq!(rt; state_after(opening, &history), opening);
+    for (caller, count) in [(0, 10), (1, 5), (2, 6), (3, 0)] {
+        assert_eq!(rt;
+            own(rt.alloc(), caller, &history)?.len(),
+            count,
+            "of caller {caller}"
+        );
+    }
+    Ok(())
+}
+
+fn word_after(rt: &impl Abort, calls: &[(u32, Call)]) -> u64 {
+    let mut instance = Instance::new();
+    for &(caller, call) in calls {
+        let operation = instance.perform(caller, call);
+        assert!(rt; operation.is_some());
+    }
+    let word = instance.word();
+    let seen = instance.napi.look();
+    assert_eq!(rt; decode(word), Some(seen));
+    assert_eq!(rt; decode_known(encode(seen)), seen);
+    word
+}
+
+#[test]
+fn words_of_the_states(rt: HostRuntime) {
+    let enable = (2, Call::Enable(false));
+    let enable_threaded = (2, Call::Enable(true));
+    let schedule = (0, Call::Schedule);
+    let list = (0, Call::Hand(Kind::List));
+    let thread = (0, Call::Hand(Kind::Thread));
+    let mark = (2, Call::MarkDisable);
+    let take = (2, Call::TakeDisable);
+    assert_eq!(rt; word_after(&rt, &[]), 9, "new, disabled");
+    assert_eq!(rt; word_after(&rt, &[enable]), 0, "idle");
+    assert_eq!(rt; word_after(&rt, &[enable_threaded]), 256, "idle, threaded");
+    assert_eq!(rt; word_after(&rt, &[enable, schedule]), 1, "granted");
+    assert_eq!(rt;
+        word_after(&rt, &[enable, schedule, schedule]),
+        3,
+        "granted and missed"
+    );
+    assert_eq!(rt;
+        word_after(&rt, &[enable, schedule, list]),
+        4294967297,
+        "on the list"
+    );
+    assert_eq!(rt;
+        word_after(&rt, &[enable, schedule, list, schedule]),
+        4294967299,
+        "on the list and missed"
+    );
+    assert_eq!(rt;
+        word_after(&rt, &[enable_threaded, schedule, thread]),
+        8589935361,
+        "handed to the thread"
+    );
+    let taken = (1, Call::Take(Kind::Thread));
+    assert_eq!(rt;
+        word_after(&rt, &[enable_threaded, schedule, thread, taken]),
+        769,
+        "taken by the thread"
+    );
+    assert_eq!(rt; word_after(&rt, &[enable, mark]), 4, "marked");
+    assert_eq!(rt;
+        word_after(&rt, &[enable, (0, Call::BusyTake)]),
+        65,
+        "busy polled"
+    );
+    assert_eq!(rt;
+        word_after(&rt, &[enable, mark, take]),
+        13,
+        "taken by the controller"
+    );
+    assert_eq!(rt; word_after(&rt, &[schedule]), 11, "disabled and missed");
+}
+
+#[test]
+fn malformed_words(rt: HostRuntime) {
+    for bit in 0..64u32 {
+        let is_named = matches!(bit, 0..4 | 6 | 8 | 9 | 32 | 33);
+        assert_eq!(rt; decode(1 << bit).is_some(), is_named, "bit {bit}");
+    }
+    assert_eq!(rt; decode(1 + (1 << 32) + (1 << 33)), None, "both marks");
+}
+
+// A caller's own list out of a long history is made, where memory is there.
+#[test]
+fn own_events_of_a_long_history(rt: HostRuntime) -> Result<(), Fail> {
+    let missed = Operation::Schedule(Prep::Missed);
+    let both = [0, 1].map(|caller| Event {
+        caller,
+        operation: missed,
+    });
+    let history = both.repeat(rt.alloc(), 5000)?;
+    let events = own(rt.alloc(), 1, &history)?;
+    assert_eq!(rt; events.len(), 5000);
+    assert_eq!(rt; events.as_slice().first(), Some(&both[1]));
+    Ok(())
+}

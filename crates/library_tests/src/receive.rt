@@ -1,0 +1,211 @@
+//! Worked runs, and what no clause says: that later puts find room, that polls find what was put, and two threads.
+
+ghost use Rattle.std.specs.Prelude.{◌≡◌, ◌≤◌, ◌<◌, length, min, take, IsOk};
+ghost use Rattle.rx_ring.specs.ReceiveRing.{NAPI_POLL_WEIGHT, held_of};
+ghost use Rattle.rx_ring.specs.Ends.{IsOneRing, SameIn, SameCtx, capacity_of, ring_of};
+
+use rx_ring::{Batch, Packet, RingFault, RxCounts, RxCtx, RxIn, Totals, beside, finish, ring};
+use std::sync::Wait;
+use std::test::Fail;
+use std::thread;
+
+fn packet(number: u64, bytes: u32) -> Packet {
+    Packet { number, bytes }
+}
+
+// What the clauses of both calls give together: a poll right after `beside` is exact.
+fn poll_beside(input: &mut RxIn, ctx: &mut RxCtx, weight: usize, batch: &mut Batch) -> usize
+    requires ring { IsOneRing input.old ctx.old }
+    requires weight { (1 ≤ weight) × (weight ≤ NAPI_POLL_WEIGHT) }
+    ensures ring { IsOneRing input.new ctx.new }
+    ensures exact { batch.new.items ≡ take weight (held_of (ring_of input.old ctx.old)) }
+    ensures work { result ≡ min weight (length (held_of (ring_of input.old ctx.old))) }
+{
+    beside(input, ctx);
+    ctx.poll(weight, batch)
+}
+
+// A put right after `beside` is Ok where the ring has room.
+fn put_beside(input: &mut RxIn, ctx: &mut RxCtx, packet: Packet) -> Result<(), Packet>
+    requires ring { IsOneRing input.old ctx.old }
+    ensures ring { IsOneRing input.new ctx.new }
+    ensures room { length (held_of (ring_of input.old ctx.old)) < capacity_of input.old
+        → IsOk result }
+{
+    beside(input, ctx);
+    input.put(packet)
+}
+
+#[test]
+fn receive_ring_of_two(rt: HostRuntime) -> Result<(), Fail> {
+    let (mut input, mut ctx) = ring(rt.alloc(), 2)?;
+    let mut batch = Batch::new();
+    beside(&mut input, &mut ctx);
+    assert_eq!(rt; input.put(packet(1, 10)), Ok(()));
+    beside(&mut input, &mut ctx);
+    assert_eq!(rt; input.put(packet(2, 20)), Ok(()));
+    beside(&mut input, &mut ctx);
+    assert_eq!(rt; input.put(packet(3, 30)), Err(packet(3, 30)));
+    assert_eq!(rt; poll_beside(&mut input, &mut ctx, 64, &mut batch), 2);
+    assert_eq!(rt; batch.as_slice(), [packet(1, 10), packet(2, 20)].as_slice());
+    let counts = RxCounts {
+        polls: 1,
+        packets: 2,
+        bytes: 30,
+    };
+    assert_eq!(rt; ctx.counts(), counts);
+    assert_eq!(rt; put_beside(&mut input, &mut ctx, packet(4, 40)), Ok(()));
+    let totals = Totals {
+        put: 3,
+        polled: 2,
+        left: 1,
+        bytes: 70,
+    };
+    assert_eq!(rt; finish(input, ctx), totals);
+    assert_eq!(rt;
+        ring(rt.alloc(), 65_537).err(),
+        Some(RingFault::BadCapacity)
+    );
+    Ok(())
+}
+
+// With each allocation refused in turn (`rt try --test --fail-alloc N`) the answer is the fault, and nothing else changes.
+#[test]
+fn memory_is_there_or_refused(rt: HostRuntime) -> Result<(), Fail> {
+    for capacity in [1, 65_536] {
+        match ring(rt.alloc(), capacity) {
+            Ok((mut input, ctx)) => {
+                for k in 0..capacity {
+                    assert!(rt; input.put(packet(k as u64, 1)).is_ok());
+                }
+                assert_eq!(rt; input.put(packet(0, 1)), Err(packet(0, 1)));
+                assert_eq!(rt; ctx.counts().polls, 0);
+            }
+            Err(fault) => assert_eq!(rt; fault, RingFault::OutOfMemory),
+        }
+    }
+    Ok(())
+}
+
+#[test]
+fn faults_have_numbers_and_texts(rt: HostRuntime) -> Result<(), Fail> {
+    for (fault, number, text) in [
+        (RingFault::OutOfMemory, 1, "out of memory"),
+        (RingFault::BadCapacity, 2, "the capacity is out of range"),
+    ] {
+        assert_eq!(rt; fault.number(), number);
+        assert_eq!(rt; format!(in rt.alloc(); "{fault}")?.as_str(), text);
+    }
+    Ok(())
+}
+
+// A poll right after `beside` gives what stood in the ring there, and the next poll what was put since.
+#[test]
+fn put_after_beside_waits_for_the_next_poll(rt: HostRuntime) -> Result<(), Fail> {
+    let (mut input, mut ctx) = ring(rt.alloc(), 4)?;
+    let mut batch = Batch::new();
+    assert_eq!(rt; input.put(packet(1, 10)), Ok(()));
+    beside(&mut input, &mut ctx);
+    assert_eq!(rt; input.put(packet(2, 20)), Ok(()));
+    assert_eq!(rt; ctx.poll(64, &mut batch), 1);
+    assert_eq!(rt; ctx.poll(64, &mut batch), 1);
+    assert_eq!(rt; batch.as_slice(), [packet(2, 20)].as_slice());
+    assert_eq!(rt; ctx.poll(64, &mut batch), 0);
+    assert!(rt; batch.is_empty());
+    Ok(())
+}
+
+// That a poll looks at the ring is said by no clause: each of many finds what was put before it.
+#[test]
+fn a_poll_finds_what_was_put_after_a_million_packets(rt: HostRuntime) -> Result<(), Fail> {
+    let (mut input, mut ctx) = ring(rt.alloc(), 64)?;
+    let mut batch = Batch::new();
+    for _ in 0..16_000u64 {
+        for number in 0..64 {
+            assert_eq!(rt; input.put(packet(number, 60)), Ok(()));
+        }
+        assert_eq!(rt; ctx.poll(64, &mut batch), 64);
+    }
+    assert_eq!(rt; ctx.counts().packets, 1_024_000);
+    Ok(())
+}
+
+// A context that was given away and taken back finds what was put meanwhile.
+#[test]
+fn context_given_away_overlooks_nothing(rt: HostRuntime) -> Result<(), Fail> {
+    let (mut input, mut ctx) = ring(rt.alloc(), 4)?;
+    let mut batch = Batch::new();
+    beside(&mut input, &mut ctx);
+    assert_eq!(rt; input.put(packet(1, 10)), Ok(()));
+    ctx.apart();
+    let mut slot = Some(ctx);
+    assert_eq!(rt; input.put(packet(2, 20)), Ok(()));
+    let mut ctx = slot.take().ok_or("the slot is empty")?;
+    assert_eq!(rt; ctx.poll(64, &mut batch), 2);
+    assert_eq!(rt; batch.as_slice(), [packet(1, 10), packet(2, 20)].as_slice());
+    Ok(())
+}
+
+const COUNT: u64 = 100_000;
+
+// Puts the packets 0, 1, .. in turn, and waits where the ring is full.
+fn put_all(rt: &impl Wait, input: RxIn) -> RxIn
+    ensures { SameIn input result }
+{
+    let mut input = input;
+    let mut next = 0u64;
+    for _ in rt.forever() {
+        if next >= COUNT {
+            return input;
+        }
+        match input.put(packet(next, 3)) {
+            Ok(()) => next += 1,
+            Err(_) => thread::yield_now(),
+        }
+    }
+    unreachable!()
+}
+
+// Polls until as many packets came, and counts those that came in their turn.
+fn poll_all(rt: &impl Wait, ctx: RxCtx) -> (RxCtx, u64)
+    ensures { SameCtx ctx result.0 }
+{
+    let mut ctx = ctx;
+    let mut batch = Batch::new();
+    let mut next = 0u64;
+    for _ in rt.forever() {
+        if ctx.counts().packets >= COUNT {
+            return (ctx, next);
+        }
+        if ctx.poll(64, &mut batch) == 0 {
+            thread::yield_now();
+        }
+        for packet in batch.as_slice() {
+            next = next.wrapping_add(u64::from(packet.number == next));
+        }
+    }
+    unreachable!()
+}
+
+#[test]
+fn two_threads_lose_nothing(rt: HostRuntime) -> Result<(), Fail> {
+    let (input, ctx) = ring(rt.alloc(), 64)?;
+    let (input, (ctx, in_turn)) = thread::join(
+        &rt,
+        move || -> RxIn
+            ensures { SameIn input result }
+        { put_all(&rt, input) },
+        move || -> (RxCtx, u64)
+            ensures { SameCtx ctx result.0 }
+        { poll_all(&rt, ctx) },
+    );
+    assert_eq!(rt; in_turn, COUNT);
+    let totals = Totals {
+        put: COUNT,
+        polled: COUNT,
+        left: 0,
+        bytes: 300_000,
+    };
+    assert_eq!(rt; finish(input, ctx), totals);
+    Ok(())
+}

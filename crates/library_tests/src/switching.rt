@@ -1,0 +1,109 @@
+//! Calls that try until one decides come back, though another thread changes the word all the time and tries are lost.
+
+ghost use Rattle.napi_calls.specs.Instance.{IsSeatOf};
+
+use crate::bed::{Bed, enabled, make_bed};
+use napi_calls::{Caller, Completed, Control, Kept, Napi, On};
+use napi_model::Kind;
+use std::sync::Wait;
+use std::sync::atomic::{AtomicBool, Ordering};
+use std::test::Fail;
+use std::thread;
+
+const SETTINGS: u64 = 10_000_000;
+
+const ROUNDS: u64 = 2000;
+
+// Sets and clears THREADED until it is over.
+fn keep_setting(napi: &Napi, caller: Caller, over: &AtomicBool) -> Caller
+    requires { IsSeatOf napi.now caller.pass }
+{
+    let mut caller = caller;
+    for k in 0..SETTINGS {
+        if over.load(Ordering::SeqCst) {
+            break;
+        }
+        caller.set_threaded(napi, k % 2 == 0);
+    }
+    caller
+}
+
+// Disables and enables so often.
+fn keep_switching(rt: &impl Wait, napi: &Napi, control: Control<On>) -> Control<On>
+    requires { IsSeatOf napi.now control.pass }
+{
+    let mut control = control;
+    for _ in 0..ROUNDS {
+        let off = control.disable(rt, napi);
+        control = off.enable(rt, napi, false);
+    }
+    control
+}
+
+// Busy polls once, where the instance is idle.
+fn busy_once(rt: &impl Wait, napi: &Napi, caller: Caller) -> Caller
+    requires { IsSeatOf napi.now caller.pass }
+    ensures { IsSeatOf napi.now result.pass }
+{
+    match caller.busy(rt, napi) {
+        Err(caller) => caller,
+        Ok(busy) => match busy.stop(rt, napi).complete(rt, napi) {
+            Completed::Released(caller) => caller,
+            Completed::Again(granted) => granted.hand(napi, Kind::List),
+        },
+    }
+}
+
+fn keep_busy(rt: &impl Wait, napi: &Napi, caller: Caller) -> Caller
+    requires { IsSeatOf napi.now caller.pass }
+{
+    let mut caller = caller;
+    for _ in 0..ROUNDS {
+        caller = busy_once(rt, napi, caller);
+    }
+    caller
+}
+
+#[test]
+fn lost_tries_are_made_again(rt: HostRuntime) -> Result<(), Fail> {
+    let Bed {
+        input: _,
+        napi,
+        first,
+        second,
+        control,
+    } = make_bed(&rt, rt.alloc());
+    let control = enabled(&rt, &napi, control, false);
+    let over = AtomicBool::new(false);
+    let first = Kept::new(rt, first);
+    let second = Kept::new(rt, second);
+    let control = Kept::new(rt, control);
+    let (shared, end) = (&napi, &over);
+    let (setter, (poller, control)) = thread::join(
+        &rt,
+        move || -> Caller
+            requires { IsSeatOf shared.now first.value.pass }
+        { keep_setting(shared, first.open(), end) },
+        move || -> (Caller, Control<On>)
+            requires { IsSeatOf shared.now second.value.pass
+                × IsSeatOf shared.now control.value.pass }
+        {
+            let both = thread::join(
+                &rt,
+                move || -> Caller
+                    requires { IsSeatOf shared.now second.value.pass }
+                { keep_busy(&rt, shared, second.open()) },
+                move || -> Control<On>
+                    requires { IsSeatOf shared.now control.value.pass }
+                { keep_switching(&rt, shared, control.open()) },
+            );
+            end.store(true, Ordering::SeqCst);
+            both
+        },
+    );
+    setter.abandon();
+    poller.abandon();
+    control.abandon();
+    napi.abandon();
+    Ok(())
+}

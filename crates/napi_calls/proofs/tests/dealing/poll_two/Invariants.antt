@@ -1,6 +1,0 @@
-use Rattle.napi_calls.specs.Seats.{SameSeat}
-use Rattle.napi_calls.specs.Packets.{Quiet}
-use Rattle.napi_calls.proofs.tests.dealing.poll_two.Given as goal
-
-abbrev pub invariant-loop : goal.invariant-loop
-invariant-loop g l = SameSeat l.fn.caller.pass l.caller.pass × Quiet l.fn.caller.pass l.caller.pass

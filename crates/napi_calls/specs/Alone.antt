@@ -1,0 +1,60 @@
+-- Between two surveys of an instance with three callers one of its numbers alone makes calls.
+use Rattle.std.specs.Prelude.{◌≡◌, ◌<◌, ◌≤◌, ℕ, nat_eq, List, [], ◌∷◌, ◌++◌, flat_map, MatchBool}
+use Rattle.rx_ring.specs.declared.packet.Packet.{Packet}
+use Rattle.napi_model.specs.declared.event.Event.{Event}
+use Rattle.napi_model.specs.declared.event.Call.{Call}
+use Rattle.napi_model.specs.declared.event.Operation.{Operation}
+use Rattle.napi_model.specs.declared.state.State.{State}
+use Rattle.napi_model.specs.Step.{opening}
+use Rattle.napi_model.specs.History.{LegalHistory, own, state_after}
+use Rattle.napi_word.specs.declared.table.Pass.{Pass}
+use Rattle.napi_word.specs.declared.view.Delivery.{Delivery}
+use Rattle.napi_word.specs.View.{own_deliveries, packets_of}
+use Rattle.napi_word.specs.Surveys.{Surveys}
+use Rattle.napi_calls.specs.Dealt.{Delivers}
+use Rattle.napi_calls.specs.Packets.{delivered}
+use Rattle.napi_calls.specs.Made.{Lost, Made, events, looks}
+use Rattle.napi_calls.specs.Seats.{controller_of, number_of, own_list, shown}
+
+-- the seat of this number shows this history, in which its own list is exact, and these deliveries
+pub record Shows (h : List Event) (ds : List Delivery) (c : ℕ) (p : Pass) : Type 0 where
+  pub number : number_of p ≡ c
+  pub controller : controller_of p ≡ 3
+  pub shows : shown p ≡ h
+  pub exact : own c h ≡ own_list p
+  pub delivers : delivered p ≡ ds
+
+-- the seats of the numbers 0 to 3 show it, and nobody else has an event, or a delivery
+pub record AllShow (h : List Event) (ds : List Delivery) (first second third last : Pass) : Type 0 where
+  pub zeroth : Shows h ds 0 first
+  pub one : Shows h ds 1 second
+  pub two : Shows h ds 2 third
+  pub three : Shows h ds 3 last
+  pub others : (n : ℕ) → 3 < n → own n h ≡ []
+  pub few : (n : ℕ) → 3 < n → own_deliveries n ds ≡ []
+
+-- of the seats the one of number c made these operations and delivered these packets, and the others made nothing
+abbrev pub MakesAlone : ℕ → List Operation → List Packet → ℕ → Pass → Pass → Type 0
+MakesAlone c os packets n p q = MatchBool (nat_eq n c) (Made p os q × Delivers p packets q) (q ≡ p)
+
+-- the history grew by just these, each legal in the state that it met, and the deliveries by just those packets; all seats show it
+pub record GrewBy (c : ℕ) (os : List Operation) (packets : List Packet) (h now : List Event) (ds later : List Delivery) (first second third last : Pass) : Type 0 where
+  pub grown : now ≡ h ++ events c os
+  pub legal : LegalHistory 3 (state_after (opening 3) h) (events c os)
+  pub leads : state_after (opening 3) now ≡ state_after (state_after (opening 3) h) (events c os)
+  pub gave : packets_of later ≡ packets_of ds ++ packets
+  pub all : AllShow now later first second third last
+
+-- law: where all seats show the whole history and all deliveries, and then one of them makes calls alone, a survey shows just these behind it
+abbrev pub OneActsAlone : Type 0
+OneActsAlone =
+    (c : ℕ) (os : List Operation) (packets : List Packet) (h : List Event) (ds : List Delivery) (first second third last first' second' third' last' a b d e : Pass)
+    → c ≤ 3 → AllShow h ds first second third last
+    → MakesAlone c os packets 0 first first' → MakesAlone c os packets 1 second second' → MakesAlone c os packets 2 third third' → MakesAlone c os packets 3 last last'
+    → (s : Surveys 3 (first' ∷ second' ∷ third' ∷ last' ∷ []) (a ∷ b ∷ d ∷ e ∷ [])) → GrewBy c os packets h s.history ds s.deliveries a b d e
+
+-- law: who acts alone loses no try, since nothing comes between its two looks
+abbrev pub NoneIsLost : Type 0
+NoneIsLost =
+    (controller c : ℕ) (call : Call) (s : State) (ts : List (Lost call)) (os : List Operation)
+    → LegalHistory controller s (events c (flat_map looks ts ++ os)) → ts ≡ []
