@@ -28,6 +28,9 @@ const PACE: Pace = Pace {
     window: 1024,
 };
 
+/// How often a gate looks before it gives up: some seconds long, so that a run that waits for ever ends all the same.
+pub(crate) const LOOKS: u32 = 20_000_000;
+
 /// Each of these two waits at its act for the other to come to its own, as long as it is told to.
 #[derive(Drop)]
 pub(crate) struct Together {
@@ -50,7 +53,7 @@ impl Together {
         if let Some(flag) = self.came.get(mine) {
             flag.store(true, Ordering::SeqCst);
         }
-        for _ in 0..1_000_000u32 {
+        for _ in 0..LOOKS {
             if let Some(flag) = self.came.get(other)
                 && flag.load(Ordering::SeqCst)
             {
@@ -114,7 +117,7 @@ impl HoldsPoller {
 
     fn hold(&self) -> bool {
         let mut more = 100_000u32;
-        for _ in 0..1_000_000u32 {
+        for _ in 0..LOOKS {
             thread::yield_now();
             if self.asked.load(Ordering::SeqCst) {
                 more = more.saturating_sub(1);

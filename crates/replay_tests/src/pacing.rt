@@ -2,10 +2,11 @@
 
 ghost use Rattle.std.specs.Prelude.{◌≤◌};
 
-use crate::gates::HoldsPoller;
+use crate::gates::{HoldsPoller, LOOKS};
 use crate::threads::{HEADER, settings_of, text_of};
 use poll_workers::Gate;
 use replay_words::Settings;
+use report_text::ReplayFault;
 use std::alloc::{AllocError, Global};
 use std::sync::Wait;
 use std::sync::atomic::{AtomicBool, AtomicU32, Ordering};
@@ -23,7 +24,7 @@ const TRIES: u32 = 10;
 // Waits until all these bits are set, and so many turns more, but not for ever. Answers whether that came.
 fn comes(flags: &AtomicU32, bits: u32, more: u32) -> bool {
     let mut more = more;
-    for _ in 0..1_000_000u32 {
+    for _ in 0..LOOKS {
         if flags.load(Ordering::SeqCst) & bits == bits {
             if more == 0 {
                 return true;
@@ -52,7 +53,7 @@ fn polled_of<P: Threads + Wait + Sync, G: Gate + Sync>(
     Ok(replay_threads(rt, alloc, text.as_bytes(), &mut report, settings, gate)?)
 }
 
-// What is polled of the first device of these rows.
+// What is polled of the first device of these rows; 0 if a thread was too slow for the gate.
 fn polled_first<P: Threads + Wait + Sync, G: Gate + Sync>(
     rt: &P,
     alloc: Global,
@@ -61,8 +62,12 @@ fn polled_first<P: Threads + Wait + Sync, G: Gate + Sync>(
     gate: &G,
 ) -> Result<u64, Fail> {
     let text = text_of(alloc, rows)?;
-    let polled = polled_of(rt, alloc, &text, settings, gate)?;
-    Ok(polled.first().ok_or("no device")?.polled)
+    let mut report = Vec::new(alloc);
+    match replay_threads(rt, alloc, text.as_bytes(), &mut report, settings, gate) {
+        Ok(polled) => Ok(polled.first().ok_or("no device")?.polled),
+        Err(ReplayFault::GateShut) => Ok(0),
+        Err(fault) => Err(fault.into()),
+    }
 }
 
 /// Holds one poller at its start until the devices of the others are disabled, and keeps which devices are by then.

@@ -4,7 +4,7 @@ ghost use Rattle.std.specs.Prelude.{◌≡◌, IfOk, vec_len, ◌≤◌, ◌+◌
 ghost use Rattle.std.specs.List.{All};
 ghost use Rattle.interrupt_workers.specs.Opens.{IsStation};
 
-use crate::gates::ShutAt;
+use crate::gates::{LOOKS, ShutAt};
 use poll_workers::{Act, Device, Gate, OpenGate, Pace, Station, WorkFault, run_workers};
 use std::alloc::{AllocError, Global};
 use std::sync::atomic::{AtomicU32, Ordering};
@@ -106,7 +106,7 @@ impl Gate for ShutFirst {
         }
         if worker == 2 {
             let mut more = 100_000u32;
-            for _ in 0..1_000_000u32 {
+            for _ in 0..LOOKS {
                 if more == 0 {
                     break;
                 }
