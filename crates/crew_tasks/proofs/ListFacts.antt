@@ -15,33 +15,28 @@ module _ {A B : Type 0} where
 
   pub zip_flip : (R : A → B → Type 0) (xs : List A) (ys : List B) → AllZip R xs ys → AllZip (λ y x. R x y) ys xs
   zip_flip R [] [] h = tt
-  zip_flip R [] (y ∷ ys) h = absurd h
-  zip_flip R (x ∷ xs) [] h = absurd h
   zip_flip R (x ∷ xs) (y ∷ ys) h = (h.0, zip_flip R xs ys h.1)
+  zip_flip R xs ys h = absurd h
 
   pub zip_and : (R S : A → B → Type 0) (xs : List A) (ys : List B) → AllZip R xs ys → AllZip S xs ys → AllZip (λ x y. R x y × S x y) xs ys
   zip_and R S [] [] h k = tt
-  zip_and R S [] (y ∷ ys) h k = absurd h
-  zip_and R S (x ∷ xs) [] h k = absurd h
   zip_and R S (x ∷ xs) (y ∷ ys) h k = ((h.0, k.0), zip_and R S xs ys h.1 k.1)
+  zip_and R S xs ys h k = absurd h
 
   pub zip_each : (R : A → B → Type 0) (P : B → Type 0) (xs : List A) (ys : List B) → ((x : A) (y : B) → R x y → P y) → AllZip R xs ys → AllByRecursion P ys
   zip_each R P [] [] f h = tt
-  zip_each R P [] (y ∷ ys) f h = absurd h
-  zip_each R P (x ∷ xs) [] f h = absurd h
   zip_each R P (x ∷ xs) (y ∷ ys) f h = (f x y h.0, zip_each R P xs ys f h.1)
+  zip_each R P xs ys f h = absurd h
 
   pub zip_all : (R : A → B → Type 0) (P : A → Type 0) (xs : List A) (ys : List B) → All P xs → AllZip R xs ys → AllZip (λ x y. P x × R x y) xs ys
   zip_all R P [] [] a h = tt
-  zip_all R P [] (y ∷ ys) a h = absurd h
-  zip_all R P (x ∷ xs) [] a h = absurd h
   zip_all R P (x ∷ xs) (y ∷ ys) a h = ((a 0 x (omega arith), h.0), zip_all R P xs ys (λ k d b. a (suc k) d (omega arith)) h.1)
+  zip_all R P xs ys a h = absurd h
 
   pub zip_same : (R S : A → B → Type 0) (xs : List A) (ys : List B) → ((x : A) (y : B) → R x y → S x y) → AllZip R xs ys → AllZip S xs ys
   zip_same R S [] [] f h = tt
-  zip_same R S [] (y ∷ ys) f h = absurd h
-  zip_same R S (x ∷ xs) [] f h = absurd h
   zip_same R S (x ∷ xs) (y ∷ ys) f h = (f x y h.0, zip_same R S xs ys f h.1)
+  zip_same R S xs ys f h = absurd h
 
 pub each_index : {A : Type 0} (P : A → Type 0) (xs : List A) → AllByRecursion P xs → All P xs
 each_index P [] h k d b = absurd (omega arith)
@@ -51,11 +46,7 @@ each_index P (x ∷ xs) h (suc k) d b = each_index P xs h.1 k d (omega arith)
 pub zip_both : {A B C : Type 0} (R : A → B → Type 0) (S : B → C → Type 0) (xs : List A) (ys : List B) (zs : List C)
     → AllZip R xs ys → AllZip S ys zs → AllZip (λ x z. (y : B) × R x y × S y z) xs zs
 zip_both R S [] [] [] h k = tt
-zip_both R S [] [] (z ∷ zs) h k = absurd k
 zip_both R S [] (y ∷ ys) zs h k = absurd h
 zip_both R S (x ∷ xs) [] zs h k = absurd h
-zip_both R S (x ∷ xs) (y ∷ ys) [] h k = absurd k
 zip_both R S (x ∷ xs) (y ∷ ys) (z ∷ zs) h k = ((y, h.0, k.0), zip_both R S xs ys zs h.1 k.1)
-
-pub one_zip : {A B : Type 0} (R : A → B → Type 0) (xs : List A) (ys : List B) (x : A) (y : B) → AllZip R xs ys → xs ≡ x ∷ [] → ys ≡ y ∷ [] → R x y
-one_zip R xs ys x y h e f = let k : AllZip R (x ∷ []) (y ∷ []) = rw (e, f) at h in k.0
+zip_both R S xs ys zs h k = absurd k

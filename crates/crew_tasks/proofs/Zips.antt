@@ -3,15 +3,13 @@ use Rattle.std.{proofs.Common.{◌≡◌, ℕ, ◌+◌, ◌<◌, length, List, [
 
 pub zip_push : {A B : Type 0} (R : A → B → Type 0) (xs : List A) (ys : List B) (x : A) (y : B) → AllZip R xs ys → R x y → AllZip R (xs ++ x ∷ []) (ys ++ y ∷ [])
 zip_push R [] [] x y h r = (r, tt)
-zip_push R [] (b ∷ ys) x y h r = absurd h
-zip_push R (a ∷ xs) [] x y h r = absurd h
 zip_push R (a ∷ xs) (b ∷ ys) x y h r = (h.0, zip_push R xs ys x y h.1 r)
+zip_push R xs ys x y h r = absurd h
 
 pub zip_long : {A B : Type 0} (R : A → B → Type 0) (xs : List A) (ys : List B) → AllZip R xs ys → length xs ≡ length ys
 zip_long R [] [] h = refl
-zip_long R [] (b ∷ ys) h = absurd h
-zip_long R (a ∷ xs) [] h = absurd h
 zip_long R (a ∷ xs) (b ∷ ys) h = ap (λ n. suc n) (zip_long R xs ys h.1)
+zip_long R xs ys h = absurd h
 
 -- the item after those that were yielded
 pub at_turn : {A : Type 0} (all xs rest : List A) (x : A) → all ≡ xs ++ x ∷ rest → get_or all (length xs) x ≡ x
@@ -35,8 +33,7 @@ all_done all xs (x ∷ rest) e n z = absurd (let h = ap (λ l. length l) e in om
 pub zip_through : {A B C : Type 0} (R : A → B → Type 0) (S : A → C → Type 0) (xs : List A) (ys : List B) (zs : List C)
     → AllZip R xs ys → AllZip (λ y z. (x : A) → R x y → S x z) ys zs → AllZip S xs zs
 zip_through R S [] [] [] h k = tt
-zip_through R S [] [] (z ∷ zs) h k = absurd k
 zip_through R S [] (y ∷ ys) zs h k = absurd h
 zip_through R S (x ∷ xs) [] zs h k = absurd h
-zip_through R S (x ∷ xs) (y ∷ ys) [] h k = absurd k
 zip_through R S (x ∷ xs) (y ∷ ys) (z ∷ zs) h k = (k.0 x h.0, zip_through R S xs ys zs h.1 k.1)
+zip_through R S xs ys zs h k = absurd k

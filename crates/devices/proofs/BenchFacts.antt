@@ -21,9 +21,8 @@ kept-set u v xs n e k below sound both pending = record {
 }
 
 none-at : (count n : ℕ) → at {A = DeviceView} n (replicate count None) ≡ None
-none-at zero n = refl
-none-at (suc count) zero = refl
 none-at (suc count) (suc n) = none-at count n
+none-at count n = refl
 
 -- no devices
 pub kept-empty : IsKept false empty

@@ -3,9 +3,7 @@ use Rattle.{std.{proofs.Common.{◌≡◌, ◌∙◌, ℕ, zero, suc, Bool, true
 use Rattle.{napi_model.specs.declared.state.State.State, poll_engine.specs.{BusyPolling.{Given, busy_report, is_below, no_report}, Polling.{is_absent, next_of}, Polls.{Chain, is_arrival, is_repoll}, declared.bench.BusyReport.BusyReport}}
 use Rattle.{poll_engine.specs.declared.bench.Next.{Next, TheVariants.{Absent, Gone, Again, Repoll}}, devices.specs.BusyPolling.{after_last, after_round, begun, gives, held_if, left_by, polled_busily, rounds_of, stopped}}
 use Rattle.devices.specs.{Device.{after_done, completed, is_pending, made, polled}, DeviceView.DeviceView, Instance.{BusyTakes, Completes, Gives, Holds, Requeues, Stops, poller_in, poller_of}, Kept.is_sound}
-use Rattle.devices.{specs.{Waiting.{count, is_left_to_list, waits}, declared.device.TheConstants.POLLER}, proofs.DeviceFacts.{Keeps, completed-leaves, unheld}}
-use Rattle.napi_model.specs.declared.event.Done.TheVariants as done
-use Rattle.napi_model.specs.declared.event.Operation.TheVariants as operation
+use Rattle.{devices.{specs.{Waiting.{count, is_left_to_list, waits}, declared.device.TheConstants.POLLER}, proofs.DeviceFacts.{Keeps, completed-leaves, unheld}}, napi_model.specs.declared.event.{Done.Done, Operation.Operation}}
 use Rattle.napi_model.specs.declared.state.Kind.TheVariants as kind
 use Rattle.poll_engine.specs.BusyPolling as rule
 
@@ -52,7 +50,7 @@ rounds_napi (suc count) weight d = rounds_napi count weight (after_round weight 
 left_is : (below : Bool) (d : DeviceView) (next : Next) (e : DeviceView) → poller_of d ≡ POLLER → rule.Leaves BusyTakes Gives Holds Stops Requeues Completes below d next e
     → (next ≡ (left_by below d).0) × (e ≡ (left_by below d).1)
 left_is below d Absent e who l = absurd l
-left_is below d Repoll e who l = rw l.0 (refl, subst (λ (c : ℕ). e ≡ made c (operation.Hand kind.List) d) who l.1)
+left_is below d Repoll e who l = rw l.0 (refl, subst (λ (c : ℕ). e ≡ made c (Operation.Hand kind.List) d) who l.1)
 left_is below d Gone e who l = rw l.0 (subst (λ (c : ℕ). (next_of None ≡ (completed c d).0) × (e ≡ (completed c d).1)) who l.1)
 left_is below d (Again k) e who l = rw l.0 (subst (λ (c : ℕ). (next_of (Some k) ≡ (completed c d).0) × (e ≡ (completed c d).1)) who l.1)
 
@@ -94,7 +92,7 @@ unfolding completed
 completed_next d e = by d.napi.flags.missed e
   where
     by : (missed : Bool) → d.napi.flags.in_busy_poll ≡ false
-        → is_repoll (after_done POLLER (if d.napi.flags.in_busy_poll then done.Held else (if missed then done.Again else done.Released)) d).0 ≡ false
+        → is_repoll (after_done POLLER (if d.napi.flags.in_busy_poll then Done.Held else (if missed then Done.Again else Done.Released)) d).0 ≡ false
     by true e = rw e refl
     by false e = rw e refl
 

@@ -1,46 +1,25 @@
 -- What rows and polls keep of a device: that it is sound, whether a disable is pending, and whether it waits on the list.
 use Rattle.{std.{proofs.Common.{◌≡◌, ◌∙◌, ℕ, zero, suc, ◌+◌, ◌≤◌, Bool, true, false, Option, Some, None, List, [], ◌∷◌, ◌++◌, length, refl, arith}, specs.Prelude.{◌==◌, ◌||◌, not, if◌then◌else◌}}, napi_model.specs.Step.is_handed}
-use Rattle.{napi_model.specs.declared.{event.Prep.TheVariants.{Granted, Missed, Disabled}, state.{Kind.Kind, Place.Place}}, poll_engine.specs.{Polls.is_arrival, Thread.{is_for_thread, last_next}, declared.bench.Next.Next}}
-use Rattle.{poll_engine.specs.declared.bench.{Next.TheVariants.{Absent, Gone, Again, Repoll}, Once.Once}, devices.specs.Waiting.{count, is_left_to_list, is_listed, leaves, waits}, transmit_sides.specs.Counter.raised}
+use Rattle.{napi_model.specs.declared.{event.{Prep.TheVariants.{Granted, Missed, Disabled}, Done.Done}, state.{Kind.Kind, Place.Place}}, poll_engine.specs.{Polls.is_arrival, Thread.{is_for_thread, last_next}, declared.bench.Next.Next}}
+use Rattle.{poll_engine.specs.declared.bench.{Next.TheVariants.{Again, Repoll}, Once.Once}, devices.specs.Waiting.{count, is_left_to_list, is_listed, leaves, waits}, transmit_sides.specs.Counter.raised}
 use Rattle.devices.specs.Device.{after_disable, after_done, after_enable, after_packet, after_poll, after_reply, after_request, after_take, after_threaded, asks_again, completed, disabled_from, enabled_from, ended, ended_by, given, goes_on, handed_over, has_room, is_control, is_pending, let_go, made, polled, polled_by_thread, polled_once, retaken, settled, state_of, taken, thread_polls, tried}
 use Rattle.devices.{specs.{DeviceView.DeviceView, Kept.{is_held, is_sound}, declared.{counts.DeviceState.DeviceState, device.TheConstants.{INTERRUPT, POLLER, THREAD}}}, proofs.ThreadFacts.{goes-more, goes-next, some-polls}}
-use Rattle.napi_model.specs.declared.event.Done.TheVariants as done
 use Rattle.napi_model.specs.declared.event.Operation.TheVariants as operation
-use Rattle.napi_model.specs.declared.state.Kind.TheVariants as kind
-use Rattle.napi_model.specs.declared.state.Place.TheVariants as place
-use Rattle.devices.specs.declared.counts.DeviceState.TheVariants as state
 
 -- an instance that isn't scheduled is on no list
-pub unheld : (p : Place) (sched : Bool) → (not (is_held p) || sched) ≡ true → sched ≡ false → is_handed kind.List p ≡ false
-unheld place.Nobody sched h e = refl
-unheld (place.Granted c) sched h e = refl
-unheld place.Listed sched h e = cc (rw e at h)
-unheld place.ToThread sched h e = refl
-unheld (place.Polling c) sched h e = refl
-unheld (place.Control c) sched h e = refl
+pub unheld : (p : Place) (sched : Bool) → (not (is_held p) || sched) ≡ true → sched ≡ false → is_handed Kind.List p ≡ false
+unheld Place.Listed sched h e = cc (rw e at h)
+unheld p sched h e = refl
 
 -- one that was handed over is scheduled
 scheduled : (k : Kind) (p : Place) (sched : Bool) → (not (is_held p) || sched) ≡ true → is_handed k p ≡ true → sched ≡ true
-scheduled kind.List place.Listed sched h e = h
-scheduled kind.Thread place.ToThread sched h e = h
-scheduled kind.List place.Nobody sched h e = cc e
-scheduled kind.List (place.Granted c) sched h e = cc e
-scheduled kind.List place.ToThread sched h e = cc e
-scheduled kind.List (place.Polling c) sched h e = cc e
-scheduled kind.List (place.Control c) sched h e = cc e
-scheduled kind.Thread place.Nobody sched h e = cc e
-scheduled kind.Thread (place.Granted c) sched h e = cc e
-scheduled kind.Thread place.Listed sched h e = cc e
-scheduled kind.Thread (place.Polling c) sched h e = cc e
-scheduled kind.Thread (place.Control c) sched h e = cc e
+scheduled Kind.List Place.Listed sched h e = h
+scheduled Kind.Thread Place.ToThread sched h e = h
+scheduled k p sched h e = cc e
 
-not-listed : (p : Place) → is_handed kind.Thread p ≡ true → is_handed kind.List p ≡ false
-not-listed place.ToThread e = refl
-not-listed place.Nobody e = refl
-not-listed (place.Granted c) e = refl
-not-listed place.Listed e = cc e
-not-listed (place.Polling c) e = refl
-not-listed (place.Control c) e = refl
+not-listed : (p : Place) → is_handed Kind.Thread p ≡ true → is_handed Kind.List p ≡ false
+not-listed Place.Listed e = cc e
+not-listed p e = refl
 
 -- what is kept from one device to the next, and how many entries are added to the list
 pub record Keeps (d e : DeviceView) (added : ℕ) : Type 0 where
@@ -54,8 +33,8 @@ abbrev pub entries : Option Kind → ℕ
 entries handed = count (is_listed handed)
 
 -- a scheduled instance that its owner hands over
-hands : (threaded : Bool) (caller : ℕ) (d g : DeviceView) → g.napi.flags.sched ≡ true → is_pending g ≡ is_pending d → is_handed kind.List d.napi.place ≡ false
-    → Keeps d (made caller (operation.Hand (if threaded then kind.Thread else kind.List)) g) (entries (Some (if threaded then kind.Thread else kind.List)))
+hands : (threaded : Bool) (caller : ℕ) (d g : DeviceView) → g.napi.flags.sched ≡ true → is_pending g ≡ is_pending d → is_handed Kind.List d.napi.place ≡ false
+    → Keeps d (made caller (operation.Hand (if threaded then Kind.Thread else Kind.List)) g) (entries (Some (if threaded then Kind.Thread else Kind.List)))
 hands true caller d g sched pending off = record { sound = sched; pending = pending; listed = rw off refl }
 hands false caller d g sched pending off = record { sound = sched; pending = pending; listed = rw off refl }
 
@@ -88,7 +67,7 @@ packet-keeps bytes d sound = by (has_room d)
 -- an instance in its poller's hands, off the list
 pub record IsInHand (d : DeviceView) : Type 0 where
   pub sched : d.napi.flags.sched ≡ true
-  pub off : is_handed kind.List d.napi.place ≡ false
+  pub off : is_handed Kind.List d.napi.place ≡ false
 
 -- what a poll leaves: entries are added where it handed the instance to the list
 pub record Leaves (d e : DeviceView) (next : Next) : Type 0 where
@@ -98,15 +77,11 @@ pub record Leaves (d e : DeviceView) (next : Next) : Type 0 where
   pub sched : is_for_thread next ≡ true → e.napi.flags.sched ≡ true
 
 sound-of : (p : Place) (sched : Bool) → sched ≡ true → (not (is_held p) || sched) ≡ true
-sound-of place.Nobody sched e = refl
-sound-of (place.Granted c) sched e = e
-sound-of place.Listed sched e = e
-sound-of place.ToThread sched e = e
-sound-of (place.Polling c) sched e = e
-sound-of (place.Control c) sched e = e
+sound-of Place.Nobody sched e = refl
+sound-of p sched e = e
 
 handed-on : (threaded : Bool) (poller : ℕ) (d g : DeviceView) → g.napi.flags.sched ≡ true → is_pending g ≡ is_pending d
-    → Leaves d (made poller (operation.Hand (if threaded then kind.Thread else kind.List)) g) (Again (if threaded then kind.Thread else kind.List))
+    → Leaves d (made poller (operation.Hand (if threaded then Kind.Thread else Kind.List)) g) (Again (if threaded then Kind.Thread else Kind.List))
 handed-on true poller d g sched pending = record { sound = sched; pending = pending; listed = refl; sched = λ e. sched }
 handed-on false poller d g sched pending = record { sound = sched; pending = pending; listed = refl; sched = λ e. sched }
 
@@ -117,9 +92,9 @@ pub completed-leaves : (poller : ℕ) (d : DeviceView) → IsInHand d → Leaves
 unfolding completed handed_over
 completed-leaves poller d hand = by d.napi.flags.in_busy_poll d.napi.flags.missed
   where
-    by : (busy missed : Bool) → let end = after_done poller (if busy then done.Held else (if missed then done.Again else done.Released)) d in Leaves d end.1 end.0
+    by : (busy missed : Bool) → let end = after_done poller (if busy then Done.Held else (if missed then Done.Again else Done.Released)) d in Leaves d end.1 end.0
     by true missed = kept-in-hand d hand
-    by false true = handed-on d.napi.flags.threaded poller d (record (made poller (operation.Complete done.Again) d) { told = record d.told { again = raised d.told.again 1 } }) hand.sched refl
+    by false true = handed-on d.napi.flags.threaded poller d (record (made poller (operation.Complete Done.Again) d) { told = record d.told { again = raised d.told.again 1 } }) hand.sched refl
     by false false = record { sound = refl; pending = refl; listed = refl; sched = λ e. cc e }
 
 ended-leaves : (poller work weight : ℕ) (d : DeviceView) → IsInHand d → Leaves d (ended poller work weight d).1 (ended poller work weight d).0
@@ -144,10 +119,8 @@ record Lets (d e : DeviceView) (next : Next) : Type 0 where
 
 lets-go : (poller : ℕ) (d e : DeviceView) (next : Next) → Leaves d e next → Lets d (let_go poller next e) next
 lets-go poller d e Repoll left = record { sound = left.sched refl; pending = left.pending; listed = refl }
-lets-go poller d e (Again kind.List) left = record { sound = left.sound; pending = left.pending; listed = rw left.listed refl }
-lets-go poller d e (Again kind.Thread) left = record { sound = left.sound; pending = left.pending; listed = rw left.listed refl }
-lets-go poller d e Absent left = record { sound = left.sound; pending = left.pending; listed = rw left.listed refl }
-lets-go poller d e Gone left = record { sound = left.sound; pending = left.pending; listed = rw left.listed refl }
+lets-go poller d e (Again Kind.List) left = record { sound = left.sound; pending = left.pending; listed = rw left.listed refl }
+lets-go poller d e next left = record { sound = left.sound; pending = left.pending; listed = rw left.listed refl }
 
 -- what a poll from the list keeps
 pub record KeepsPolled (d e : DeviceView) (next : Next) : Type 0 where
@@ -157,14 +130,14 @@ pub record KeepsPolled (d e : DeviceView) (next : Next) : Type 0 where
 
 pub once-keeps : (weight : ℕ) (d : DeviceView) → is_sound d ≡ true → KeepsPolled d (polled_once weight d).1 (polled_once weight d).0.next
 unfolding polled_once
-once-keeps weight d sound = by (is_handed kind.List d.napi.place) refl
+once-keeps weight d sound = by (is_handed Kind.List d.napi.place) refl
   where
-    by : (b : Bool) → is_handed kind.List d.napi.place ≡ b → KeepsPolled d (after_take b weight d).1 (after_take b weight d).0.next
+    by : (b : Bool) → is_handed Kind.List d.napi.place ≡ b → KeepsPolled d (after_take b weight d).1 (after_take b weight d).0.next
     by false e = record { sound = sound; pending = refl; listed = omega arith }
     by true e =
-        let poll = after_poll POLLER weight (taken POLLER kind.List d) in
-        let left = poll-leaves POLLER weight (taken POLLER kind.List d) (record { sched = scheduled kind.List d.napi.place d.napi.flags.sched sound e; off = refl }) in
-        let gone = lets-go POLLER (taken POLLER kind.List d) poll.1 poll.0.next left in
+        let poll = after_poll POLLER weight (taken POLLER Kind.List d) in
+        let left = poll-leaves POLLER weight (taken POLLER Kind.List d) (record { sched = scheduled Kind.List d.napi.place d.napi.flags.sched sound e; off = refl }) in
+        let gone = lets-go POLLER (taken POLLER Kind.List d) poll.1 poll.0.next left in
         record { sound = gone.sound; pending = gone.pending; listed = rw e (omega (arith, gone.listed)) }
 
 -- ---- the thread's polling
@@ -177,20 +150,17 @@ record LeavesPolled (d e : DeviceView) (next : Next) : Type 0 where
 
 lets : (d e : DeviceView) (next : Next) → Leaves d e next → LeavesPolled d (let_go THREAD next e) next
 lets d e Repoll left = record { sound = left.sched refl; pending = left.pending; listed = refl }
-lets d e (Again kind.List) left = record { sound = left.sound; pending = left.pending; listed = left.listed }
-lets d e (Again kind.Thread) left = record { sound = left.sound; pending = left.pending; listed = left.listed }
-lets d e Absent left = record { sound = left.sound; pending = left.pending; listed = left.listed }
-lets d e Gone left = record { sound = left.sound; pending = left.pending; listed = left.listed }
+lets d e (Again Kind.List) left = record { sound = left.sound; pending = left.pending; listed = left.listed }
+lets d e next left = record { sound = left.sound; pending = left.pending; listed = left.listed }
 
 zero-off : (b : Bool) → if◌then◌else◌ {A = ℕ} b 1 0 ≡ 0 → b ≡ false
 zero-off true e = absurd (omega (arith, e))
 zero-off false e = refl
 
 retakes : (d e : DeviceView) (next : Next) → Leaves d e next → is_for_thread next ≡ true → IsInHand (retaken next e) × (is_pending (retaken next e) ≡ is_pending d)
-retakes d e Repoll left goes = (record { sched = left.sched refl; off = zero-off (is_handed kind.List e.napi.place) left.listed }, left.pending)
+retakes d e Repoll left goes = (record { sched = left.sched refl; off = zero-off (is_handed Kind.List e.napi.place) left.listed }, left.pending)
 retakes d e (Again k) left goes = (record { sched = left.sched goes; off = refl }, left.pending)
-retakes d e Absent left goes = cc goes
-retakes d e Gone left goes = cc goes
+retakes d e next left goes = cc goes
 
 last-of : (once : Once) (more : List Once) → 1 ≤ length more → last_next (once ∷ more) ≡ last_next more
 last-of once [] some = absurd (omega arith)
@@ -221,13 +191,13 @@ thread-leaves (suc most) weight d hand = by (goes_on poll.0.next (most == 0)) re
 pub thread-keeps : (most weight : ℕ) (d : DeviceView) → is_sound d ≡ true
     → let after = polled_by_thread most weight d in Keeps d after.1 (count (is_left_to_list (last_next after.0)))
 unfolding polled_by_thread
-thread-keeps most weight d sound = by (is_handed kind.Thread d.napi.place) refl
+thread-keeps most weight d sound = by (is_handed Kind.Thread d.napi.place) refl
   where
-    by : (b : Bool) → is_handed kind.Thread d.napi.place ≡ b
-        → let after = if◌then◌else◌ {A = List Once × DeviceView} b (thread_polls most weight (taken THREAD kind.Thread d)) ([], d) in
+    by : (b : Bool) → is_handed Kind.Thread d.napi.place ≡ b
+        → let after = if◌then◌else◌ {A = List Once × DeviceView} b (thread_polls most weight (taken THREAD Kind.Thread d)) ([], d) in
         Keeps d after.1 (count (is_left_to_list (last_next after.0)))
     by true e =
-        let left = thread-leaves most weight (taken THREAD kind.Thread d) (record { sched = scheduled kind.Thread d.napi.place d.napi.flags.sched sound e; off = refl }) in
+        let left = thread-leaves most weight (taken THREAD Kind.Thread d) (record { sched = scheduled Kind.Thread d.napi.place d.napi.flags.sched sound e; off = refl }) in
         record { sound = left.sound; pending = left.pending; listed = rw (not-listed d.napi.place e) (omega (arith, left.listed)) }
     by false e = record { sound = sound; pending = refl; listed = omega arith }
 
@@ -243,24 +213,20 @@ unfolding after_disable
 disable-keeps d sound = by (state_of d)
   where
     by : (s : DeviceState) → KeepsPlace d (disabled_from s d)
-    by state.On = record { sound = sound; listed = refl }
-    by state.Off = record { sound = sound; listed = refl }
-    by state.Pending = record { sound = sound; listed = refl }
+    by DeviceState.On = record { sound = sound; listed = refl }
+    by DeviceState.Off = record { sound = sound; listed = refl }
+    by DeviceState.Pending = record { sound = sound; listed = refl }
 
-control-unlisted : (p : Place) → is_control p ≡ true → is_handed kind.List p ≡ false
-control-unlisted (place.Control c) e = refl
-control-unlisted place.Nobody e = refl
-control-unlisted (place.Granted c) e = refl
-control-unlisted place.Listed e = cc e
-control-unlisted place.ToThread e = refl
-control-unlisted (place.Polling c) e = refl
+control-unlisted : (p : Place) → is_control p ≡ true → is_handed Kind.List p ≡ false
+control-unlisted Place.Listed e = cc e
+control-unlisted p e = refl
 
 pub enable-keeps : (d : DeviceView) → is_sound d ≡ true → Keeps d (after_enable d) 0
 unfolding after_enable
 enable-keeps d sound = by d.napi.flags.disable (is_control d.napi.place) refl
   where
     by : (disable control : Bool) → is_control d.napi.place ≡ control
-        → Keeps d (enabled_from (if disable then state.Pending else (if control then state.Off else state.On)) d) 0
+        → Keeps d (enabled_from (if disable then DeviceState.Pending else (if control then DeviceState.Off else DeviceState.On)) d) 0
     by true control e = record { sound = sound; pending = refl; listed = omega arith }
     by false true e = record { sound = refl; pending = refl; listed = rw (control-unlisted d.napi.place e) refl }
     by false false e = record { sound = sound; pending = refl; listed = omega arith }

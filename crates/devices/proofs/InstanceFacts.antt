@@ -1,12 +1,9 @@
 -- The polling of a device by the calls of its trait is the function of the device that the rules say.
 use Rattle.std.{proofs.Common.{◌≡◌, ◌∙◌, ℕ, zero, suc, ◌-◌, ◌≤◌, Bool, true, false, List, [], ◌∷◌, Option, Some, None, MatchBool, ap, refl, sym, subst, arith}, specs.Prelude.{◌==◌, ◌&&◌, not, if◌then◌else◌}}
 use Rattle.{napi_model.specs.{Step.{complete_reply, take_reply}, declared.{event.Done.Done, state.{Kind.Kind, Place.TheVariants.{Polling, ToThread}}}}, poll_engine.specs.{Polling.{is_absent, next_of}, Polls.is_repoll}}
-use Rattle.{poll_engine.specs.{declared.bench.{Next.{Next, TheVariants.{Absent, Gone, Again, Repoll}}, Once.Once}, Thread.is_for_thread}, std.proofs.lemmas.Bool.{lt-ltb, ne_eqb}}
+use Rattle.{poll_engine.specs.{declared.bench.{Next.{Next, TheVariants.{Absent, Gone, Again, Repoll}}, Once.Once}, Thread.is_for_thread}, std.proofs.lemmas.Bool.{lt-ltb, ne_eqb}, napi_model.specs.declared.event.Operation.Operation}
 use Rattle.devices.specs.Device.{after_done, after_poll, after_take, asks_again, completed, ended, ended_by, given, goes_on, handed_over, let_go, made, polled, polled_by_thread, polled_once, retaken, taken, thread_polls}
 use Rattle.devices.{proofs.ThreadFacts.goes-next, specs.{DeviceView.DeviceView, Instance.{Completes, Gives, Looks, Requeues, Takes, poller_in, poller_of}, declared.device.TheConstants.{POLLER, THREAD}}}
-use Rattle.napi_model.specs.declared.event.Done.TheVariants as done
-use Rattle.napi_model.specs.declared.event.Operation.TheVariants as operation
-use Rattle.napi_model.specs.declared.state.Kind.TheVariants as kind
 use Rattle.poll_engine.specs.Polling as polling
 
 abbrev Given : DeviceView → ℕ → ℕ → ℕ → DeviceView → Type 0
@@ -67,10 +64,8 @@ kept_place c weight d packets once e place h again =
     ap (λ (x : DeviceView). x.napi.place) (f.1.1 ∙ h.1.1) ∙ place
 
 go_is : (c : ℕ) (next : Next) (d e : DeviceView) → (next ≡ Repoll → d.napi.place ≡ Polling c) → Go next d e → e ≡ let_go c next d
-go_is c Repoll d e place g = let who : poller_of d ≡ c = ap poller_in (place refl) in subst (λ (n : ℕ). e ≡ made n (operation.Hand kind.List) d) who g
-go_is c Absent d e place g = g
-go_is c Gone d e place g = g
-go_is c (Again k) d e place g = g
+go_is c Repoll d e place g = let who : poller_of d ≡ c = ap poller_in (place refl) in subst (λ (n : ℕ). e ≡ made n (Operation.Hand Kind.List) d) who g
+go_is c next d e place g = g
 
 -- ---- a poll from the list
 
@@ -86,35 +81,33 @@ unfolding polled_once
 once_is weight d packets once packets' e o = by once.next refl
   where
     Case : Bool → Type 0
-    Case absent = MatchBool absent ((once.work ≡ 0) × Takes d kind.List false e × (packets' ≡ packets)) (Found weight d packets' once e)
+    Case absent = MatchBool absent ((once.work ≡ 0) × Takes d Kind.List false e × (packets' ≡ packets)) (Found weight d packets' once e)
 
-    found : Found weight d packets' once e → (once ≡ (after_take (take_reply kind.List d.napi) weight d).0) × (e ≡ (after_take (take_reply kind.List d.napi) weight d).1)
+    found : Found weight d packets' once e → (once ≡ (after_take (take_reply Kind.List d.napi) weight d).0) × (e ≡ (after_take (take_reply Kind.List d.napi) weight d).1)
     found f =
-        let t : f.taken ≡ taken POLLER kind.List d = f.was_there.1 in
+        let t : f.taken ≡ taken POLLER Kind.List d = f.was_there.1 in
         let place : f.taken.napi.place ≡ Polling POLLER = ap (λ (x : DeviceView). x.napi.place) t in
         let h = held_is POLLER weight f.taken packets' once f.polled place f.polls in
         let g = go_is POLLER once.next f.polled e (kept_place POLLER weight f.taken packets' once f.polled place f.polls) f.lets_go in
         let k = subst (λ (x : DeviceView). (once ≡ (after_poll POLLER weight x).0) × (f.polled ≡ (after_poll POLLER weight x).1)) t h in
-        let gone = g ∙ ap (λ (x : Once). let_go POLLER x.next f.polled) k.0 ∙ ap (λ (x : DeviceView). let_go POLLER (after_poll POLLER weight (taken POLLER kind.List d)).0.next x) k.1 in
+        let gone = g ∙ ap (λ (x : Once). let_go POLLER x.next f.polled) k.0 ∙ ap (λ (x : DeviceView). let_go POLLER (after_poll POLLER weight (taken POLLER Kind.List d)).0.next x) k.1 in
         subst (λ (b : Bool). (once ≡ (after_take b weight d).0) × (e ≡ (after_take b weight d).1)) f.was_there.0 (k.0, gone)
 
-    by : (next : Next) → once.next ≡ next → (once ≡ (after_take (take_reply kind.List d.napi) weight d).0) × (e ≡ (after_take (take_reply kind.List d.napi) weight d).1)
+    by : (next : Next) → once.next ≡ next → (once ≡ (after_take (take_reply Kind.List d.napi) weight d).0) × (e ≡ (after_take (take_reply Kind.List d.napi) weight d).1)
     by Absent n = let r = subst Case (ap is_absent n) o in subst (λ (b : Bool). (once ≡ (after_take b weight d).0) × (e ≡ (after_take b weight d).1)) r.1.0 (once_eq once 0 Absent r.0 n, r.1.1)
-    by Gone n = found (subst Case (ap is_absent n) o)
-    by Repoll n = found (subst Case (ap is_absent n) o)
-    by (Again k) n = found (subst Case (ap is_absent n) o)
+    by next n = found (subst Case (ap is_absent n) o)
 
 -- ---- the polling by the thread
 
-completed_place : (c : ℕ) (d : DeviceView) → (completed c d).0 ≡ Again kind.Thread → (completed c d).1.napi.place ≡ ToThread
+completed_place : (c : ℕ) (d : DeviceView) → (completed c d).0 ≡ Again Kind.Thread → (completed c d).1.napi.place ≡ ToThread
 unfolding completed handed_over
 completed_place c d e = by (complete_reply d.napi) d.napi.flags.threaded refl e
   where
-    by : (reply : Done) (threaded : Bool) → d.napi.flags.threaded ≡ threaded → (after_done c reply d).0 ≡ Again kind.Thread → (after_done c reply d).1.napi.place ≡ ToThread
-    by done.Released threaded t e = cc e
-    by done.Held threaded t e = cc e
-    by done.Again true t e = rw t refl
-    by done.Again false t e = cc (rw t at e)
+    by : (reply : Done) (threaded : Bool) → d.napi.flags.threaded ≡ threaded → (after_done c reply d).0 ≡ Again Kind.Thread → (after_done c reply d).1.napi.place ≡ ToThread
+    by Done.Released threaded t e = cc e
+    by Done.Held threaded t e = cc e
+    by Done.Again true t e = rw t refl
+    by Done.Again false t e = cc (rw t at e)
 
 never : (b : Bool) → (b && false) ≡ false
 never true = refl
@@ -137,7 +130,7 @@ polls-last n weight t goes = rw goes refl
 -- the thread has the device, or takes it first
 abbrev From : Bool → ℕ → ℕ → DeviceView → List Once × DeviceView
 From true most weight d = thread_polls most weight d
-From false most weight d = if take_reply kind.Thread d.napi then thread_polls most weight (taken THREAD kind.Thread d) else ([], d)
+From false most weight d = if take_reply Kind.Thread d.napi then thread_polls most weight (taken THREAD Kind.Thread d) else ([], d)
 
 -- with the device taken
 turn_from : (held : Bool) (most weight : ℕ) (d t : DeviceView) → polling.TakesUnless Takes Given Looks Requeues Completes held d t → (held ≡ true → d.napi.place ≡ Polling THREAD)
@@ -146,26 +139,22 @@ turn_from true most weight d t tk place = (rw tk refl, ap (λ (x : DeviceView). 
 turn_from false most weight d t tk place = (rw (← tk.0, tk.1) refl, ap (λ (x : DeviceView). x.napi.place) tk.1)
 
 -- what the thread goes on with
-goes_from : (most weight : ℕ) (next : Next) (p : DeviceView) → is_for_thread next ≡ true → (next ≡ Again kind.Thread → p.napi.place ≡ ToThread) → From (is_repoll next) most weight p ≡ thread_polls most weight (retaken next p)
+goes_from : (most weight : ℕ) (next : Next) (p : DeviceView) → is_for_thread next ≡ true → (next ≡ Again Kind.Thread → p.napi.place ≡ ToThread) → From (is_repoll next) most weight p ≡ thread_polls most weight (retaken next p)
 goes_from most weight Repoll p goes there = refl
-goes_from most weight (Again kind.Thread) p goes there = rw (there refl) refl
-goes_from most weight (Again kind.List) p goes there = cc goes
-goes_from most weight Absent p goes there = cc goes
-goes_from most weight Gone p goes there = cc goes
+goes_from most weight (Again Kind.Thread) p goes there = rw (there refl) refl
+goes_from most weight next p goes there = cc goes
 
-ended_place : (b : Bool) (c : ℕ) (d : DeviceView) → (ended_by b c d).0 ≡ Again kind.Thread → (ended_by b c d).1.napi.place ≡ ToThread
+ended_place : (b : Bool) (c : ℕ) (d : DeviceView) → (ended_by b c d).0 ≡ Again Kind.Thread → (ended_by b c d).1.napi.place ≡ ToThread
 ended_place true c d e = cc e
 ended_place false c d e = completed_place c d e
 
-poll_place : (c weight : ℕ) (d : DeviceView) → (after_poll c weight d).0.next ≡ Again kind.Thread → (after_poll c weight d).1.napi.place ≡ ToThread
+poll_place : (c weight : ℕ) (d : DeviceView) → (after_poll c weight d).0.next ≡ Again Kind.Thread → (after_poll c weight d).1.napi.place ≡ ToThread
 unfolding ended
 poll_place c weight d e = ended_place (asks_again (given weight d) weight (polled weight d)) c (polled weight d) e
 
 repoll_of : (next : Next) → is_repoll next ≡ true → next ≡ Repoll
 repoll_of Repoll e = refl
-repoll_of Absent e = cc e
-repoll_of Gone e = cc e
-repoll_of (Again k) e = cc e
+repoll_of next e = cc e
 
 abbrev By-thread : ℕ → ℕ → Bool → DeviceView → ℕ → List Once → ℕ → DeviceView → Type 0
 By-thread = polling.PollsByThread Takes Given Looks Requeues Completes
@@ -187,7 +176,7 @@ module _ (weight n : ℕ) (t : DeviceView) (packets : ℕ) (once : Once) (p : De
 
   more_polls : (more : List Once) (e : DeviceView) → goes_on once.next (n == 0) ≡ true → (more, e) ≡ From (is_repoll once.next) n weight p → (once ∷ more, e) ≡ thread_polls (suc n) weight t
   more_polls more e goes m =
-      let there : once.next ≡ Again kind.Thread → p.napi.place ≡ ToThread = λ a. ap (λ (x : DeviceView). x.napi.place) is.1 ∙ poll_place THREAD weight t (ap (λ (o : Once). o.next) (sym is.0) ∙ a) in
+      let there : once.next ≡ Again Kind.Thread → p.napi.place ≡ ToThread = λ a. ap (λ (x : DeviceView). x.napi.place) is.1 ∙ poll_place THREAD weight t (ap (λ (o : Once). o.next) (sym is.0) ∙ a) in
       let whole = m ∙ goes_from n weight once.next p (goes-next once.next n goes) there in
       let on = subst (λ (o : Once). goes_on o.next (n == 0) ≡ true) is.0 goes in
       ap (λ (x : List Once × DeviceView). (once ∷ x.0, x.1)) whole ∙ sym (polls-more n weight t on

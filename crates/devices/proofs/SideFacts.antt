@@ -1,15 +1,13 @@
 -- Each device has a transmit side: what keeps that.
-use Rattle.std.{proofs.Common.{◌≡◌, ◌∙◌, ℕ, zero, suc, ◌<◌, Bool, true, false, Option, Some, None, [], ◌∷◌, length, slice_set, ap, refl, sym, arith}, specs.Prelude.{filter, if◌then◌else◌, is_some, map, List}}
+use Rattle.std.{proofs.Common.{◌≡◌, ◌∙◌, ℕ, zero, suc, ◌<◌, Option, Some, None, [], ◌∷◌, length, slice_set, ap, refl, sym, arith}, specs.Prelude.is_some}
 use Rattle.{transmit_sides.specs.{Transmits.Transmits, Transmit.TransmitView}, trace_rows.specs.Places.{Places, added, added_at, at, changed, changed_from}, devices.specs.Bench.{Devices, HaveSides, all_settled, attached}}
 
 module _ {A : Type 0} where
   -- a place is set, and stays taken or empty
   pub some-set : (xs : Places A) (n m : ℕ) (o : Option A) → is_some o ≡ is_some (at n xs) → is_some (at m (slice_set xs n o)) ≡ is_some (at m xs)
-  some-set [] n m o e = refl
   some-set (x ∷ xs) zero zero o e = e
-  some-set (x ∷ xs) zero (suc m) o e = refl
-  some-set (x ∷ xs) (suc n) zero o e = refl
   some-set (x ∷ xs) (suc n) (suc m) o e = some-set xs n m o e
+  some-set xs n m o e = refl
 
   some-changed : (f : A → A) (xs : Places A) (n m : ℕ) → is_some (at m (changed f n xs)) ≡ is_some (at m xs)
   some-changed f xs n m = by (at n xs) refl
@@ -20,13 +18,11 @@ module _ {A : Type 0} where
 
   both-set : {B : Type 0} → (xs : Places A) (ys : Places B) (n m : ℕ) (a : A) (b : B) → length ys ≡ length xs → is_some (at m ys) ≡ is_some (at m xs)
       → is_some (at m (slice_set ys n (Some b))) ≡ is_some (at m (slice_set xs n (Some a)))
-  both-set [] [] n m a b long e = e
   both-set [] (y ∷ ys) n m a b long e = absurd (omega (arith, long))
   both-set (x ∷ xs) [] n m a b long e = absurd (omega (arith, long))
   both-set (x ∷ xs) (y ∷ ys) zero zero a b long e = refl
-  both-set (x ∷ xs) (y ∷ ys) zero (suc m) a b long e = e
-  both-set (x ∷ xs) (y ∷ ys) (suc n) zero a b long e = e
   both-set (x ∷ xs) (y ∷ ys) (suc n) (suc m) a b long e = both-set xs ys n m a b (omega (arith, long)) e
+  both-set xs ys n m a b long e = e
 
   -- what stood in a place is written back
   pub set-back : (xs : Places A) (n : ℕ) (o : Option A) → n < length xs → at n xs ≡ o → slice_set xs n o ≡ xs
@@ -37,9 +33,6 @@ module _ {A : Type 0} where
   -- a device is changed in its place, or what stood there is written back
   pub sides-set : (xs : Places A) (all : Transmits) (n : ℕ) (o : Option A) → is_some o ≡ is_some (at n xs) → HaveSides xs all → HaveSides (slice_set xs n o) all
   sides-set xs all n o e same m = same m ∙ sym (some-set xs n m o e)
-
-  pub sides-changed : (f : A → A) (xs : Places A) (all : Transmits) (n : ℕ) → HaveSides xs all → HaveSides (changed f n xs) all
-  sides-changed f xs all n same m = same m ∙ sym (some-changed f xs n m)
 
   -- a device with its side is added, unless it is there
   pub sides-added : (xs : Places A) (all : Transmits) (n : ℕ) (a : A) (t : TransmitView) → length all ≡ length xs → HaveSides xs all → HaveSides (added n a xs) (added n t all)
@@ -54,22 +47,20 @@ module _ {A : Type 0} where
   -- so there are as many
   pub sides-attached : (xs : Places A) (all : Transmits) → length all ≡ length xs → HaveSides xs all → attached xs ≡ attached all
   sides-attached [] [] long same = refl
-  sides-attached [] (t ∷ all) long same = absurd (omega (arith, long))
-  sides-attached (x ∷ xs) [] long same = absurd (omega (arith, long))
   sides-attached (None ∷ xs) (None ∷ all) long same = sides-attached xs all (omega (arith, long)) (λ n. same (suc n))
   sides-attached (Some d ∷ xs) (Some t ∷ all) long same = ap suc (sides-attached xs all (omega (arith, long)) (λ n. same (suc n)))
   sides-attached (None ∷ xs) (Some t ∷ all) long same = cc (same 0)
   sides-attached (Some d ∷ xs) (None ∷ all) long same = cc (same 0)
+  sides-attached xs all long same = absurd (omega (arith, long))
 
 -- a side is changed
 pub sides-sent : {A : Type 0} → (f : TransmitView → TransmitView) (xs : Places A) (all : Transmits) (n : ℕ) → HaveSides xs all → HaveSides xs (changed f n all)
 sides-sent f xs all n same m = some-changed f all n m ∙ same m
 
 some-settled : (xs : Devices) (m : ℕ) → is_some (at m (all_settled xs)) ≡ is_some (at m xs)
-some-settled [] m = refl
 some-settled (None ∷ xs) zero = refl
-some-settled (Some d ∷ xs) zero = refl
 some-settled (x ∷ xs) (suc m) = some-settled xs m
+some-settled xs m = refl
 
 pub sides-settled : (xs : Devices) (all : Transmits) → HaveSides xs all → HaveSides (all_settled xs) all
 sides-settled xs all same m = same m ∙ sym (some-settled xs m)

@@ -1,8 +1,7 @@
 -- How many devices wait on the poll list: each call changes it as it changes the list.
 use Rattle.std.{proofs.Common.{◌≡◌, ℕ, suc, ◌+◌, ◌<◌, ◌≤◌, Bool, true, false, Option, Some, None, [], ◌∷◌, length, get_or, slice_set, map, ap, refl, arith}, specs.Prelude.{sum_by, if◌then◌else◌}}
 use Rattle.{std.proofs.lemmas.List.Sums.{sum_by-cons, sum_by-set}, napi_model.specs.Step.is_handed, devices.specs.{Bench.{Devices, all_settled, settled_at}, Device.opened, DeviceView.DeviceView, Kept.{IsKept, is_sound_at}}}
-use Rattle.{trace_rows.{specs.Places.{at, empty}, proofs.PlaceFacts.below-some}, devices.{specs.Waiting.{waiting, waits}, proofs.DeviceFacts.settle-keeps}}
-use Rattle.napi_model.specs.declared.state.Kind.TheVariants as kind
+use Rattle.{trace_rows.{specs.Places.{at, empty}, proofs.PlaceFacts.below-some}, devices.{specs.Waiting.{waiting, waits}, proofs.DeviceFacts.settle-keeps}, napi_model.specs.declared.state.Kind.Kind}
 
 pub waiting-empty : waiting empty ≡ 0
 unfolding waiting
@@ -11,7 +10,7 @@ waiting-empty = refl
 -- at most as many as there are places
 waits-one : (o : Option DeviceView) → waits o ≤ 1
 waits-one None = omega arith
-waits-one (Some d) = by (is_handed kind.List d.napi.place)
+waits-one (Some d) = by (is_handed Kind.List d.napi.place)
   where
     by : (b : Bool) → if◌then◌else◌ {A = ℕ} b 1 0 ≤ 1
     by true = omega arith

@@ -1,8 +1,8 @@
 -- Between two surveys one caller alone made calls: the history grew by its operations.
 use Rattle.std.proofs.Common.{◌≡◌, ◌≢◌, ◌∙◌, ◌≤◌, MatchBool, nat_eq, ℕ, zero, suc, ◌<◌, Bool, true, false, List, [], ◌∷◌, ◌++◌, refl, sym, ap, subst, arith, append-nil, append_assoc, eqb, eqb-true, eq-eqb, ne_eqb, true≢false}
-use Rattle.{std.proofs.lemmas.List.append_cancel_left, napi_model.specs.{declared.{event.{Event.Event, Operation.{Operation, TheVariants.Look}, Call.Call}, state.{Seen.Seen, State.State}}, Step.{IsLegal, after, event, opening, seen_of}}}
+use Rattle.{std.proofs.lemmas.List.append_cancel_left, napi_model.specs.{declared.{event.{Event.Event, Operation.{Operation, TheVariants.Look}}, state.{Seen.Seen, State.State}}, Step.{IsLegal, after, event, opening, seen_of}}}
 use Rattle.{napi_model.{specs.History.{LegalHistory, own, state_after}, proofs.Histories.{legal_back, own-append, state_after-append}}, napi_word.specs.{declared.{table.Pass.Pass, view.Delivery.Delivery}, View.{own_deliveries, packets_of}}}
-use Rattle.{napi_word.{specs.Surveys.{IsSurveyed, Surveys}, proofs.Deliveries.own_both}, napi_calls.specs.{Dealt.Delivers, Packets.delivered, Made.{Lost, Made, events, looks}}, rx_ring.specs.declared.packet.Packet.Packet}
+use Rattle.{napi_word.{specs.Surveys.{IsSurveyed, Surveys}, proofs.Deliveries.own_both}, napi_calls.specs.{Dealt.Delivers, Packets.delivered, Made.{Made, events}}, rx_ring.specs.declared.packet.Packet.Packet}
 use Rattle.napi_calls.{specs.{Seats.{controller_of, number_of, own_list, shown}, Alone.{AllShow, GrewBy, MakesAlone, NoneIsLost, OneActsAlone, Shows}}, proofs.Steps.prefix_trans}
 use mathlib.Core.List.{IsPrefix}
 
@@ -70,10 +70,6 @@ module _ (h h' : List Event) (ds : List Delivery) (c : ℕ) (p q r : Pass) (os :
     exact = ap (λ (n : ℕ). own n h') (sym (g.number ∙ s.number)) ∙ u.view.exact ∙ sym u.view.mine;
     delivers = u.view.delivered;
   }
-
--- who made nothing has no event more
-pub same_own : (c : ℕ) (h h' : List Event) → own c h' ≡ own c h ++ events c [] → own c h' ≡ own c h
-same_own c h h' e = e ∙ append-nil (own c h)
 
 -- ---- deliveries, in the same way
 
@@ -143,7 +139,7 @@ module _ (c : ℕ) (os : List Operation) (packets : List Packet) (h h' : List Ev
   still : (n : ℕ) (p q r : Pass) → Shows h old n p → MakesAlone c os packets n p q → IsSurveyed h' ds q r → n ≢ c → own n h' ≡ own n h
   still n p q r s m u apart =
       let e : q ≡ p = rw (ne_eqb n c apart) at m in
-      same_own n h h' (own_then h h' ds n p p r [] old s (grows_nothing p) (subst (λ (x : Pass). IsSurveyed h' ds x r) e u))
+      own_then h h' ds n p p r [] old s (grows_nothing p) (subst (λ (x : Pass). IsSurveyed h' ds x r) e u) ∙ append-nil (own n h)
 
   quiet : (n : ℕ) (p q r : Pass) → Shows h old n p → MakesAlone c os packets n p q → IsSurveyed h' ds q r → n ≢ c → own_deliveries n ds ≡ own_deliveries n old
   quiet n p q r s m u apart =

@@ -1,5 +1,5 @@
 -- What callers delivered, call after call.
-use Rattle.{std.proofs.Common.{◌≡◌, ℕ, zero, suc, ◌<◌, List, [], ◌∷◌, ◌++◌, length, drop, refl, sym, ap, ◌∙◌, subst, append_assoc, append-nil, arith}, rx_ring.specs.declared.{packet.Packet.Packet, ends.{RxCtx.RxCtx, RxIn.RxIn}}}
+use Rattle.{std.proofs.Common.{◌≡◌, ℕ, zero, suc, ◌<◌, List, [], ◌∷◌, ◌++◌, length, drop, sym, ap, ◌∙◌, subst, append-nil, arith}, rx_ring.specs.declared.{packet.Packet.Packet, ends.{RxCtx.RxCtx, RxIn.RxIn}}}
 use Rattle.{rx_ring.specs.Ends.{RingName, ring_name, received_list, IsOneRing, SameIn}, napi_word.specs.{declared.{table.Pass.Pass, view.Delivery.Delivery}, View.{delivery, own_deliveries, packets_of}}}
 use Rattle.{napi_word.proofs.Deliveries.{packets_snoc, own_both, own_one_yes, own_deliveries_none, drop_front}, napi_calls.specs.{declared.types.Napi.Napi, Seats.{number_of, IsInputOf}, Instance.IsNewSeat}}
 use Rattle.napi_calls.specs.{Packets.{delivered, own_delivered, received_before, polled, Quiet, GivesBack}, Dealt.Delivers}
@@ -47,10 +47,9 @@ pub back_unpolled : (p q : Pass) (x : RxCtx) → received_list x ≡ received_be
 back_unpolled p q x fresh g num = subst (λ (l : List Packet). Delivers p l q) (polled_none p x fresh) (delivers_back p q x g num)
 
 pub others : (ds : List Delivery) → packets_of (own_deliveries 2 ds) ≡ [] → ((c : ℕ) → 2 < c → own_deliveries c ds ≡ []) → (c : ℕ) → 1 < c → packets_of (own_deliveries c ds) ≡ []
-others ds two more zero low = absurd (omega (arith, low))
-others ds two more (suc zero) low = absurd (omega (arith, low))
 others ds two more (suc (suc zero)) low = two
 others ds two more (suc (suc (suc n))) low = ap packets_of (more (suc (suc (suc n))) (omega arith))
+others ds two more c low = absurd (omega (arith, low))
 
 -- contexts of one name are of one ring
 pub named_ring : (input : RxIn) (x y : RxCtx) → IsOneRing input x → ring_name x ≡ ring_name y → IsOneRing input y

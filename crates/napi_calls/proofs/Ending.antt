@@ -1,9 +1,8 @@
 -- The list of all seats at the end, and its one history.
-use Rattle.{std.proofs.Common.{◌≡◌, ◌≢◌, ℕ, zero, suc, ◌+◌, ◌<◌, List, [], ◌∷◌, ◌++◌, length, slice_get, Option, Some, false, unwrap_or, eq-eqb, refl, sym, ap, ◌∙◌, subst, length-append, arith}, rx_ring.specs.declared.ends.RxCtx.RxCtx}
-use Rattle.{napi_model.specs.{declared.event.Event.Event, Step.{opening, IsControl}, History.{LegalHistory, state_after}, Laws.is_owner}, napi_word.specs.declared.table.Pass.Pass, rx_ring.specs.Ends.{RingName, ring_name, received_list}}
-use Rattle.{napi_word.{specs.{Passes.{controller_of_table, view_of}, Ends.IsEnded, declared.view.Holds.TheVariants.{Nothing, Out}}, proofs.Closing.get_mid}, rx_ring.specs.declared.packet.Packet.Packet}
-use Rattle.{napi_word.{specs.{View.{deliverers, own_deliveries, received_in}, Slot.givers}, proofs.Deliveries.received_is}, napi_calls.specs.{declared.types.{Napi.Napi, Caller.Caller}, Seats.number_of, Instance.first_of_instance}}
-use Rattle.napi_calls.{specs.{Knows.{Controls, Has}, Closed.{seats_of, IsHistoryOf, IsClosed}}, proofs.{Serving.served, Standing.is_control}}
+use Rattle.{napi_model.specs.{Step.{opening, IsControl}, declared.event.Event.Event, History.{LegalHistory, state_after}, Laws.is_owner}, rx_ring.specs.{declared.ends.RxCtx.RxCtx, Ends.{RingName, ring_name, received_list}}}
+use Rattle.{std.proofs.Common.{◌≡◌, ◌≢◌, ℕ, zero, suc, ◌+◌, ◌<◌, List, [], ◌∷◌, ◌++◌, length, slice_get, Option, Some, false, unwrap_or, eq-eqb, refl, sym, ap, ◌∙◌, subst, length-append, arith}, napi_word.specs.Passes.controller_of_table}
+use Rattle.napi_word.{specs.{Passes.view_of, Slot.givers, Ends.IsEnded, declared.{view.Holds.TheVariants.{Nothing, Out}, table.Pass.Pass}, View.{deliverers, own_deliveries, received_in}}, proofs.{Deliveries.received_is, Closing.get_mid}}
+use Rattle.napi_calls.{proofs.{Serving.served, Standing.is_control}, specs.{Closed.{seats_of, IsHistoryOf, IsClosed}, declared.types.{Caller.Caller, Napi.Napi}, Seats.number_of, Knows.{Controls, Has}, Instance.first_of_instance}}
 use Rattle.napi_model.specs.declared.state.Place.TheVariants as place
 
 pub seats_length : (cs : List Caller) → length (seats_of cs) ≡ length cs

@@ -3,13 +3,12 @@ use Rattle.{std.proofs.Common.{Option, unwrap_or, append-nil, ◌≡◌, ℕ, ze
 use Rattle.{rx_ring.specs.Ends.{ring_name, received_list}, napi_model.specs.{declared.state.Place.Place, Step.opening, History.{LegalHistory, own, state_after}}, napi_word.specs.declared.table.{Pass.Pass, StateTable.StateTable}}
 use Rattle.{napi_word.{specs.{View.View, Rule.strand, Passes.{view_of, ctx_of, IsNew, IsPassOf, ring_of_table}}, proofs.Closing.get_mid}, napi_calls.specs.{declared.types.Napi.Napi, Knows.{own_place, Free, Stands, Controls}}}
 use Rattle.napi_calls.{specs.Instance.IsNewSeat, proofs.Standing.own_self}
-use Rattle.napi_model.specs.declared.state.Place.TheVariants as place
 use Rattle.napi_word.specs.View as view
 
 abbrev seat : ℕ → RxCtx → ℕ → View
 seat last of c = strand last of c ∷ []
 
-opens : (last : ℕ) (of : RxCtx) (c : ℕ) → view.place_in (seat last of c) ≡ place.Control last
+opens : (last : ℕ) (of : RxCtx) (c : ℕ) → view.place_in (seat last of c) ≡ Place.Control last
 unfolding state_after
 opens last of c = refl
 
@@ -17,7 +16,7 @@ unflagged : (last : ℕ) (of : RxCtx) (c : ℕ) → view.disable_in (seat last o
 unfolding state_after
 unflagged last of c = refl
 
-blank : (role : ℕ → Place) (last : ℕ) (of : RxCtx) (c : ℕ) (p : Pass) → view_of p ≡ seat last of c → own_place c (place.Control last) ≡ role c → Stands role c p
+blank : (role : ℕ → Place) (last : ℕ) (of : RxCtx) (c : ℕ) (p : Pass) → view_of p ≡ seat last of c → own_place c (Place.Control last) ≡ role c → Stands role c p
 unfolding LegalHistory own
 blank role last of c p e is = record {
   number = ap view.number_of e;
@@ -28,12 +27,12 @@ blank role last of c p e is = record {
 
 pub new_stands : {t : StateTable} {last : ℕ} {of : RxCtx} {c : ℕ} (p : Pass) → IsNew t last of c p → c < last → Stands Free c p
 new_stands {t} {last} {of} {c} p new low =
-    blank Free last of c p new.view (ap (λ (b : Bool). cond b (place.Control last) place.Nobody) (ne_eqb last c (λ e. omega (arith, low, e))))
+    blank Free last of c p new.view (ap (λ (b : Bool). cond b (Place.Control last) Place.Nobody) (ne_eqb last c (λ e. omega (arith, low, e))))
 
-pub new_controls : {t : StateTable} {last : ℕ} {of : RxCtx} (p : Pass) → IsNew t last of last p → Controls place.Control false p
+pub new_controls : {t : StateTable} {last : ℕ} {of : RxCtx} (p : Pass) → IsNew t last of last p → Controls Place.Control false p
 new_controls {t} {last} {of} p new =
     let controller : view.controller_of (view_of p) ≡ last = ap view.controller_of new.view in record {
-      stands = subst (λ (n : ℕ). Stands place.Control n p) (sym controller) (blank place.Control last of last p new.view (own_self last));
+      stands = subst (λ (n : ℕ). Stands Place.Control n p) (sym controller) (blank Place.Control last of last p new.view (own_self last));
       flag = ap view.disable_in new.view ∙ unflagged last of last;
     }
 

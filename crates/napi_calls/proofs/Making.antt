@@ -4,18 +4,15 @@ use Rattle.napi_model.specs.{declared.{event.{Event.Event, Call.Call, Operation.
 use Rattle.{napi_word.specs.{declared.table.Pass.Pass, View.View, Events.Steps, Passes.{view_of, SameTable}}, napi_calls.specs.{Seats.{SameSeat, number_of, shown, own_list}, Knows.Stands}}
 use Rattle.napi_calls.{specs.Made.{EndsWith, Made, GoesOn, Lost, WasLost, looks, waits, events}, proofs.{Steps.{shows_more, shows_legal, prefix_trans}, Standing.shows_of}}
 use mathlib.Core.List.{IsPrefix}
-use Rattle.napi_model.specs.declared.event.Call.TheVariants as call
 use Rattle.napi_word.specs.View as view
 
 ends_one : (c : ℕ) (os : List Operation) (o : Operation) (h : List Event) → EndsWith (events c (os ++ o ∷ [])) (h ++ event c o ∷ [])
-ends_one c [] o h = (h, refl)
-ends_one c (x ∷ []) o h = (h, refl)
 ends_one c (x ∷ y ∷ os) o h = ends_one c (y ∷ os) o h
+ends_one c os o h = (h, refl)
 
 ends_more : (c : ℕ) (os : List Operation) (o : Operation) (ps : List Operation) (h : List Event) → EndsWith (events c (o ∷ ps)) h → EndsWith (events c (os ++ o ∷ ps)) h
-ends_more c [] o ps h e = e
-ends_more c (x ∷ []) o ps h e = e
 ends_more c (x ∷ y ∷ os) o ps h e = ends_more c (y ∷ os) o ps h e
+ends_more c os o ps h e = e
 
 pub seat_same : {p q r : Pass} → SameSeat p q → SameSeat q r → SameSeat p r
 seat_same a b = record { table = b.table ∙ a.table; number = b.number ∙ a.number; controller = b.controller ∙ a.controller; ring = b.ring ∙ a.ring }
@@ -80,9 +77,9 @@ more_lost {p} {q} {r} {c} ts m w =
 
 -- the mark, and then the tries that decided nothing
 abbrev pub Waited : Pass → Pass → Type 0
-Waited p q = (ts : List (Option (Lost call.TakeDisable))) × Made p (MarkDisable ∷ flat_map waits ts) q
+Waited p q = (ts : List (Option (Lost Call.TakeDisable))) × Made p (MarkDisable ∷ flat_map waits ts) q
 
-pub more_waits : {p q r : Pass} → Waited p q → WasLost call.TakeDisable q r → Waited p r
+pub more_waits : {p q r : Pass} → Waited p q → WasLost Call.TakeDisable q r → Waited p r
 more_waits {p} {q} {r} m w =
     let ts = m.0 in
     let t = w.0 in

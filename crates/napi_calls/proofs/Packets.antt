@@ -1,8 +1,8 @@
 -- What steps do with the packets, one after another.
-use Rattle.{std.proofs.Common.{◌≡◌, ℕ, Bool, true, false, List, [], ◌∷◌, ◌++◌, length, drop, Option, Some, unwrap_or, refl, sym, ap, ◌∙◌, subst, append_assoc}, rx_ring.specs.declared.{packet.Packet.Packet, ends.RxCtx.RxCtx}}
-use Rattle.{rx_ring.specs.Ends.{SameCtx, received_list, is_beside}, napi_model.specs.declared.event.Operation.Operation, napi_word.specs.declared.{table.Pass.Pass, view.{Holds.Holds, Delivery.Delivery}}}
-use Rattle.napi_word.specs.{View.{View, own_deliveries, delivery, Continues}, Slot.{Carried, Delivers, Gives, owns_slot, has_slot, ctx_in}, Events.Steps, Passes.{view_of, ctx_of, received_of, IsLaid}}
-use Rattle.{napi_word.proofs.Deliveries.{drop_front, received_stays}, napi_calls.{specs.{Seats.number_of, Packets.{delivered, received_before, polled, IsSame, Quiet, HoldsOn, IsFresh, GivesBack}}, proofs.Standing.fresh}}
+use Rattle.{std.proofs.Common.{◌≡◌, ℕ, Bool, true, false, List, [], ◌∷◌, ◌++◌, length, drop, Some, refl, sym, ap, ◌∙◌, subst, append_assoc}, rx_ring.specs.declared.{packet.Packet.Packet, ends.RxCtx.RxCtx}}
+use Rattle.{rx_ring.specs.Ends.{received_list, is_beside}, napi_model.specs.declared.event.Operation.Operation, napi_word.specs.declared.{table.Pass.Pass, view.Holds.Holds}}
+use Rattle.napi_word.specs.{View.{View, own_deliveries, delivery, Continues}, Slot.{Delivers, Gives, owns_slot, has_slot, ctx_in}, Events.Steps, Passes.{view_of, ctx_of, received_of, IsLaid}}
+use Rattle.{napi_word.proofs.Deliveries.{drop_front, received_stays, some_is}, napi_calls.{specs.{Seats.number_of, Packets.{delivered, received_before, polled, IsSame, Quiet, HoldsOn, IsFresh, GivesBack}}, proofs.Standing.fresh}}
 use Rattle.napi_word.specs.View as view
 use Rattle.napi_word.specs.Slot as slot
 
@@ -19,12 +19,9 @@ same_more a b = record {
   polls = b.polls ∙ a.polls;
 }
 
-ctx_same : {x y : RxCtx} → Some x ≡ Some y → x ≡ y
-ctx_same {x} e = ap (λ (o : Option RxCtx). unwrap_or o x) e
-
 -- what lies in the slot is the context that was laid there
 same_laid : {x : RxCtx} (p : Pass) (y : RxCtx) → IsLaid x p → ctx_of p ≡ Some y → IsSame x y
-same_laid {x} p y l is = subst (λ (z : RxCtx). IsSame x z) (ctx_same (sym l.within ∙ is)) (record { ring = l.ring; received = l.received; known = l.known; polls = l.polls })
+same_laid {x} p y l is = subst (λ (z : RxCtx). IsSame x z) (some_is (sym l.within ∙ is)) (record { ring = l.ring; received = l.received; known = l.known; polls = l.polls })
 
 -- ---- who delivers nothing
 

@@ -6,7 +6,6 @@ use Rattle.{napi_word.proofs.{Deliveries.{of_prefix, prefix_self, received_stays
 use Rattle.{napi_model.specs.{declared.state.{Kind.Kind, Seen.Seen, State.State, Place.Place}, History.{LegalHistory, own}, Laws.{is_owner, IsOwnedBy, IsPolled}}, napi_word.specs.{declared.table.Pass.Pass, Passes.{view_of, received_of}}}
 use Rattle.{napi_model.specs.declared.event.Operation.{Operation, TheVariants.{Look, Hand, Take, MarkDisable, TakeDisable, Unmark, Enable}}, napi_calls.specs.Seats.{number_of, controller_of, shown, state_of, ring_of, ShowsLegal, IsInputOf}}
 use Rattle.napi_word.specs.Slot as slot
-use Rattle.napi_model.specs.declared.state.Kind.TheVariants as kind
 use Rattle.napi_word.specs.View as view
 
 -- ---- places as a number has them
@@ -34,8 +33,8 @@ pub self_polling : (c : ℕ) → own_place c (Polling c) ≡ Polling c
 self_polling c = ap (λ (b : Bool). cond b (Polling c) Nobody) (eq-eqb c c refl)
 
 pub hand_free : (k : Kind) (c : ℕ) (s : State) → own_place c (after_by c (Hand k) s).place ≡ Nobody
-hand_free kind.List c s = refl
-hand_free kind.Thread c s = refl
+hand_free Kind.List c s = refl
+hand_free Kind.Thread c s = refl
 
 -- ---- what the types say
 

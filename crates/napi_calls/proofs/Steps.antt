@@ -2,15 +2,14 @@
 use Rattle.{std.proofs.Common.{◌≡◌, ℕ, List, [], ◌∷◌, ◌++◌, refl, sym, ap, ◌∙◌, subst, append_assoc}, napi_model.specs.{declared.{event.{Event.Event, Operation.Operation}, state.State.State}, Step.{event, opening, after_by}}}
 use Rattle.{napi_model.specs.History.{LegalHistory, own}, napi_word.{specs.{declared.{table.Pass.Pass, view.Strand.Strand}, View.View, Events.Steps, Passes.view_of}, proofs.Knowing.{found_state, state_then}}}
 use Rattle.napi_calls.specs.Seats.{number_of, shown, state_of, ShowsLegal}
-use mathlib.Core.Option as maybe
-use mathlib.Core.List.{IsPrefix}
+use mathlib.Core.{Option.{Option as Maybe}, List.IsPrefix}
 use lib.ListN.{get_elem?}
 use Rattle.napi_word.specs.View as view
 
 pub prefix_trans : (xs ys zs : List Event) → IsPrefix xs ys → IsPrefix ys zs → IsPrefix xs zs
 prefix_trans xs ys zs p q = (p.0 ++ q.0, sym (append_assoc xs p.0 q.0) ∙ ap (λ (l : List Event). l ++ q.0) p.1 ∙ q.1)
 
-own_begins : (v : View) (h : List Event) → ((k : ℕ) (x : Strand) → get_elem? v k ≡ maybe.some x → IsPrefix x.seen h) → IsPrefix (view.shown v) h
+own_begins : (v : View) (h : List Event) → ((k : ℕ) (x : Strand) → get_elem? v k ≡ Maybe.some x → IsPrefix x.seen h) → IsPrefix (view.shown v) h
 own_begins [] h all = (h, refl)
 own_begins (x ∷ xs) h all = all 0 x refl
 

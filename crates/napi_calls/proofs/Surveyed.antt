@@ -1,15 +1,9 @@
 -- What a value knows after a survey.
-use Rattle.{std.proofs.Common.{◌≡◌, ℕ, Bool, true, false, List, [], ◌∷◌, Option, Some, None, unwrap_or, true≢false, refl, sym, ap, ◌∙◌, subst}, rx_ring.specs.{declared.ends.RxCtx.RxCtx, Ends.{ring_name, received_list}}}
-use Rattle.{rx_ring.specs.declared.packet.Packet.Packet, napi_model.specs.{declared.{event.Event.Event, state.{State.State, Place.Place}}, Step.opening, History.{LegalHistory, state_after, own}, Laws.is_owner}}
-use Rattle.napi_word.specs.{declared.{table.Pass.Pass, view.{Delivery.Delivery, Holds.{Holds, TheVariants.Nothing}}}, View.{View, Continues}, Slot.{has_at, has_slot}, Passes.view_of, Surveys.{IsWhole, CatchesUp, IsSurveyed}}
-use Rattle.{napi_word.proofs.{Allowed.nothing, Places.{has_owner, is_false}, Deliveries.{of_prefix, prefix_self}}, napi_calls.specs.Seats.{number_of, controller_of, shown, state_of, ring_of}}
-use Rattle.napi_calls.{specs.Knows.{own_place, Free, Stands, Controls, Has, held, ring_held, received_held}, proofs.Standing.{is_kept, is_free}}
+use Rattle.{std.proofs.Common.{◌≡◌, ℕ, Bool, true, List, Option, Some, None, refl, sym, ap, ◌∙◌, subst}, rx_ring.specs.{declared.{ends.RxCtx.RxCtx, packet.Packet.Packet}, Ends.received_list}, napi_word.proofs.Deliveries.ring_as}
+use Rattle.{napi_model.specs.{declared.{event.Event.Event, state.{State.State, Place.Place}}, Step.opening, History.{LegalHistory, state_after, own}, Laws.is_owner}, napi_word.specs.declared.{table.Pass.Pass, view.Delivery.Delivery}}
+use Rattle.{napi_word.{specs.{View.Continues, Slot.has_slot, Passes.view_of, Surveys.{IsWhole, CatchesUp, IsSurveyed}}, proofs.Deliveries.{of_prefix, prefix_self}}, napi_calls.specs.Seats.{controller_of, shown, state_of}}
+use Rattle.{napi_calls.{specs.Knows.{own_place, Stands, Controls, Has, held, received_held}, proofs.Standing.is_kept}, napi_word.proofs.Deliveries.received_as}
 use Rattle.napi_word.specs.View as view
-
--- who owns nothing holds nothing
-pub holds_nothing : {c : ℕ} {p : Pass} → Stands Free c p → p.holds ≡ Nothing
-holds_nothing {c} {p} st = nothing p.holds
-    (sym p.right ∙ is_false (has_at (number_of p) (state_of p).place) (λ e. true≢false (sym (has_owner (number_of p) (state_of p).place e) ∙ is_free st)))
 
 module _ (k : ℕ) (h : List Event) (ds : List Delivery) (w : IsWhole k h ds) (p q : Pass) (s : IsSurveyed h ds p q) (led : controller_of p ≡ k) where
   abbrev u : CatchesUp h ds (view_of p) (view_of q)
@@ -38,30 +32,15 @@ module _ (k : ℕ) (h : List Event) (ds : List Delivery) (w : IsWhole k h ds) (p
     flag = ap (λ (t : State). t.flags.disable) state_is ∙ u.disable c.stands.number ∙ c.flag;
   }
 
-  ring_by : (v w : View) → view.first_in w ≡ view.first_in v → view.ring_of w ≡ view.ring_of v
-  ring_by [] [] e = refl
-  ring_by [] (y ∷ ys) e = absurd (cc)
-  ring_by (x ∷ xs) [] e = absurd (cc)
-  ring_by (x ∷ xs) (y ∷ ys) e = ap (λ (r : Option RxCtx). Some (ring_name (unwrap_or r x.ring))) e
-
-  received_same : (v w : View) → view.first_in w ≡ view.first_in v → view.delivered w ≡ view.delivered v → view.received_in w ≡ view.received_in v
-  received_same [] [] e d = refl
-  received_same [] (y ∷ ys) e d = absurd (cc)
-  received_same (x ∷ xs) [] e d = absurd (cc)
-  received_same (x ∷ xs) (y ∷ ys) e d = λ i. view.received_by (unwrap_or (e i) x.ring) (d i)
-
-  pub ring_stays : ring_of q ≡ ring_of p
-  ring_stays = ring_by (view_of p) (view_of q) u.ring
-
   -- who has the slot had seen all deliveries
   kept_received : has_slot p.holds ≡ true → view.received_in (view_of q) ≡ view.received_in (view_of p)
-  kept_received has = received_same (view_of p) (view_of q) u.ring (u.delivered ∙ sym (u.held (p.right ∙ has)))
+  kept_received has = received_as (view_of p) (view_of q) u.ring (u.delivered ∙ sym (u.held (p.right ∙ has)))
 
   pub has_up : (ctx : Option RxCtx) → Has p ctx → Has q ctx
   has_up None has = record { holds = s.holds ∙ has.holds; ring = refl; received = of_prefix _ _ (prefix_self _) }
   has_up (Some x) has = record {
     holds = s.holds ∙ has.holds;
-    ring = ring_stays ∙ has.ring;
+    ring = ring_as (view_of p) (view_of q) u.ring ∙ has.ring;
     received = subst (λ (l : List Packet). Continues l (received_list x)) (sym (kept_received (ap has_slot has.holds))) has.received;
   }
 

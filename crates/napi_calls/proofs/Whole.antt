@@ -1,10 +1,7 @@
 -- A history of which it is only known that it is legal somehow is legal: the choice that the table of legal steps leaves
 -- open is made by looking at the flags.
-use Rattle.{std.proofs.{Common.{◌≡◌, ◌⊎◌, ◌||◌, ℕ, Bool, true, false, List, [], ◌∷◌, inl, inr, refl, sym, ap, ◌∙◌, true≢false}, Math.Logic.∥∥₁_elim, Props.props}, napi_model.specs.declared.state.State.State}
-use Rattle.napi_model.specs.declared.event.{Done.TheVariants.{Released, Again, Held}, Operation.{Operation, TheVariants.{Look, Schedule, Hand, Take, Complete, BusyTake, BusyStop, MarkDisable, TakeDisable, Unmark, Enable, SetThreaded}}}
-use Rattle.napi_model.specs.{declared.event.Event.Event, Step.{after, IsLegalBy}, History.{IsBy, LegalHistory}}
-use Rattle.napi_model.specs.declared.state.Kind.TheVariants as kind
-use Rattle.napi_model.specs.declared.event.Prep.TheVariants as prep
+use Rattle.{std.proofs.{Common.{◌≡◌, ◌⊎◌, ◌||◌, ℕ, Bool, true, false, List, [], ◌∷◌, inl, inr, refl, sym, ap, ◌∙◌, true≢false}, Math.Logic.∥∥₁_elim, Props.props}, napi_model.specs.{Step.{after, IsLegalBy}, declared.state.Kind.Kind}}
+use Rattle.napi_model.specs.{declared.{state.State.State, event.{Event.Event, Prep.Prep, Done.TheVariants.Again, Operation.{Operation, TheVariants.{Schedule, Hand, Take, Complete, MarkDisable, TakeDisable}}}}, History.{IsBy, LegalHistory}}
 
 one_or_other : {A B : Type 0} → IsProp A → IsProp B → (A → B → ⊥) → IsProp (A ⊎ B)
 one_or_other a b apart (inl x) (inl y) = ap inl (a x y)
@@ -18,25 +15,12 @@ Told c (TakeDisable false) s = (s.flags.disable ≡ true) × ((s.flags.sched || 
 Told c o s = IsLegalBy c o s
 
 told_prop : (c : ℕ) (o : Operation) (s : State) → IsProp (Told c o s)
-told_prop c (Look seen) s = hlevel props
-told_prop c (Schedule prep.Disabled) s = hlevel props
-told_prop c (Schedule prep.Granted) s = hlevel props
-told_prop c (Schedule prep.Missed) s = hlevel props
-told_prop c (Hand kind.List) s = one_or_other (hlevel props) (hlevel props) (λ a b. let bad = sym a ∙ b.0 in cc)
-told_prop c (Hand kind.Thread) s = hlevel props
+told_prop c (Schedule Prep.Disabled) s = hlevel props
+told_prop c (Hand Kind.List) s = one_or_other (hlevel props) (hlevel props) (λ a b. let bad = sym a ∙ b.0 in cc)
 told_prop c (Take kind true) s = hlevel props
-told_prop c (Take kind false) s = hlevel props
 told_prop c (Complete Again) s = hlevel props
-told_prop c (Complete Released) s = hlevel props
-told_prop c (Complete Held) s = hlevel props
-told_prop c BusyTake s = hlevel props
-told_prop c BusyStop s = hlevel props
-told_prop c MarkDisable s = hlevel props
 told_prop c (TakeDisable true) s = hlevel props
-told_prop c (TakeDisable false) s = hlevel props
-told_prop c Unmark s = hlevel props
-told_prop c (Enable b) s = hlevel props
-told_prop c (SetThreaded b) s = hlevel props
+told_prop c o s = hlevel props
 
 either : (a b : Bool) → (a ≡ true) ⊎ (b ≡ true) → (a || b) ≡ true
 either true b t = refl
@@ -48,58 +32,22 @@ which true b e = inl refl
 which false b e = inr e
 
 tells : (c : ℕ) (o : Operation) (s : State) → IsLegalBy c o s → Told c o s
-tells c (Look seen) s l = l
-tells c (Schedule prep.Disabled) s l = l
-tells c (Schedule prep.Granted) s l = l
-tells c (Schedule prep.Missed) s l = l
-tells c (Hand kind) s l = l
+tells c (Schedule Prep.Disabled) s l = l
 tells c (Take kind true) s l = l
-tells c (Take kind false) s l = l
 tells c (Complete Again) s l = l
-tells c (Complete Released) s l = l
-tells c (Complete Held) s l = l
-tells c BusyTake s l = l
-tells c BusyStop s l = l
-tells c MarkDisable s l = l
-tells c (TakeDisable true) s l = l
 tells c (TakeDisable false) s l = (l.0, either s.flags.sched s.flags.npsvc l.1)
-tells c Unmark s l = l
-tells c (Enable b) s l = l
-tells c (SetThreaded b) s l = l
+tells c o s l = l
 
 is_legal : (c : ℕ) (o : Operation) (s : State) → Told c o s → IsLegalBy c o s
-is_legal c (Look seen) s l = l
-is_legal c (Schedule prep.Disabled) s l = l
-is_legal c (Schedule prep.Granted) s l = l
-is_legal c (Schedule prep.Missed) s l = l
-is_legal c (Hand kind) s l = l
+is_legal c (Schedule Prep.Disabled) s l = l
 is_legal c (Take kind true) s l = l
-is_legal c (Take kind false) s l = l
 is_legal c (Complete Again) s l = l
-is_legal c (Complete Released) s l = l
-is_legal c (Complete Held) s l = l
-is_legal c BusyTake s l = l
-is_legal c BusyStop s l = l
-is_legal c MarkDisable s l = l
-is_legal c (TakeDisable true) s l = l
 is_legal c (TakeDisable false) s l = (l.0, which s.flags.sched s.flags.npsvc l.1)
-is_legal c Unmark s l = l
-is_legal c (Enable b) s l = l
-is_legal c (SetThreaded b) s l = l
+is_legal c o s l = l
 
 by_prop : (k c : ℕ) (o : Operation) → IsProp (IsBy k c o)
 by_prop k c MarkDisable = hlevel props
-by_prop k c (TakeDisable b) = hlevel props
-by_prop k c Unmark = hlevel props
-by_prop k c (Enable b) = hlevel props
-by_prop k c (Look seen) = hlevel props
-by_prop k c (Schedule p) = hlevel props
-by_prop k c (Hand kind) = hlevel props
-by_prop k c (Take kind b) = hlevel props
-by_prop k c (Complete d) = hlevel props
-by_prop k c BusyTake = hlevel props
-by_prop k c BusyStop = hlevel props
-by_prop k c (SetThreaded b) = hlevel props
+by_prop k c o = hlevel props
 
 pub whole : (k : ℕ) (s : State) (h : List Event) → ∥ LegalHistory k s h ∥₁ → LegalHistory k s h
 unfolding LegalHistory

@@ -1,38 +1,27 @@
 -- The laws of legal histories.
 use Rattle.{std.proofs.Common.{◌≡◌, ◌≢◌, ℕ, Bool, List, [], ◌∷◌, ne_eqb, true, false, refl, sym, ap, ◌∙◌, subst, ⊎_elim, true≢false}, napi_model.specs.declared.state.Place.TheVariants.{Nobody, Granted, Listed, ToThread, Polling, Control}}
-use Rattle.napi_model.specs.declared.{state.{Place.Place, State.State}, event.Event.Event}
+use Rattle.napi_model.specs.declared.{state.{Place.Place, State.State, Kind.Kind}, event.{Event.Event, Prep.Prep}}
 use Rattle.napi_model.{specs.{declared.event.{Done.TheVariants.{Released, Again, Held}, Operation.Operation}, History.{LegalHistory, IsBy, state_after, own}}, proofs.Histories.{state_after-append, legal_front, legal_back, own_first}}
 use Rattle.napi_model.specs.{declared.event.Operation.TheVariants.{Look, Schedule, Hand, Take, Complete, BusyTake, BusyStop, MarkDisable, TakeDisable, Unmark, Enable, SetThreaded}, Step.{after, after_by, opening, IsLegalBy, Polls, MayHand}}
 use Rattle.napi_model.specs.Laws.{IsSound, is_owner, IsOwnedBy, stand_of, IsPolled, BusyIsPolled, IsHandedOrPolled, ThreadsIsHanded, IsControlled, SchedClearIsNobody, BusyPollIsPolling, SchedThreadedIsHanded, OthersLeaveOwner, OthersLeaveOwnership, ControlIsTheControllers, OthersLeaveDisable}
-use Rattle.napi_model.specs.declared.state.Kind.TheVariants as kind
-use Rattle.napi_model.specs.declared.event.Prep.TheVariants as prep
 
 -- ---- SCHED clear, and nobody has the instance
 
-hand_apart : (c : ℕ) (s : State) → s.place ≡ Nobody → MayHand c kind.List s → ⊥
+hand_apart : (c : ℕ) (s : State) → s.place ≡ Nobody → MayHand c Kind.List s → ⊥
 hand_apart c s e h = ⊎_elim (λ (g : s.place ≡ Granted c). cc) (λ (g : Polls c false s). let p = g.0 in cc) h
 
 pub sound_by : (c : ℕ) (o : Operation) (s : State) → IsLegalBy c o s → IsSound s → IsSound (after_by c o s)
-sound_by c (Look seen) s l sound = sound
-sound_by c (Schedule prep.Granted) s l sound = λ e. absurd (true≢false e)
-sound_by c (Schedule prep.Missed) s l sound = sound
-sound_by c (Schedule prep.Disabled) s l sound = sound
-sound_by c (Hand kind.List) s l sound = λ e. absurd (hand_apart c s (sound e) l)
-sound_by c (Hand kind.Thread) s l sound = λ e. let n = sound e in cc
-sound_by c (Take kind.List true) s l sound = λ e. let n = sound e in cc
-sound_by c (Take kind.Thread true) s l sound = λ e. let n = sound e in cc
-sound_by c (Take k false) s l sound = sound
+sound_by c (Schedule Prep.Granted) s l sound = λ e. absurd (true≢false e)
+sound_by c (Hand Kind.List) s l sound = λ e. absurd (hand_apart c s (sound e) l)
+sound_by c (Hand Kind.Thread) s l sound = λ e. let n = sound e in cc
+sound_by c (Take Kind.List true) s l sound = λ e. let n = sound e in cc
+sound_by c (Take Kind.Thread true) s l sound = λ e. let n = sound e in cc
 sound_by c (Complete Again) s l sound = λ e. let n = sound e in let p = l.0 in cc
 sound_by c (Complete Released) s l sound = λ e. refl
-sound_by c (Complete Held) s l sound = sound
 sound_by c BusyTake s l sound = λ e. absurd (true≢false e)
-sound_by c BusyStop s l sound = sound
-sound_by c MarkDisable s l sound = sound
 sound_by c (TakeDisable true) s l sound = λ e. absurd (true≢false e)
-sound_by c (TakeDisable false) s l sound = sound
-sound_by c Unmark s l sound = sound
 sound_by c (Enable b) s l sound = λ e. refl
-sound_by c (SetThreaded b) s l sound = sound
+sound_by c o s l sound = sound
 
 pub sound_after : SchedClearIsNobody
 unfolding LegalHistory state_after
@@ -42,28 +31,20 @@ sound_after k s (e ∷ h) sound l = sound_after k (after s e) h (sound_by e.call
 -- ---- IN_BUSY_POLL, and the place is a Polling
 
 pub busy_by : (c : ℕ) (o : Operation) (s : State) → IsLegalBy c o s → IsSound s → BusyIsPolled s → BusyIsPolled (after_by c o s)
-busy_by c (Look seen) s l sound busy = busy
-busy_by c (Schedule prep.Granted) s l sound busy = λ e. absurd (subst IsPolled (sound l.1) (busy e))
-busy_by c (Schedule prep.Missed) s l sound busy = busy
-busy_by c (Schedule prep.Disabled) s l sound busy = busy
-busy_by c (Hand kind.List) s l sound busy = λ e. ⊎_elim
+busy_by c (Schedule Prep.Granted) s l sound busy = λ e. absurd (subst IsPolled (sound l.1) (busy e))
+busy_by c (Hand Kind.List) s l sound busy = λ e. ⊎_elim
     (λ (g : s.place ≡ Granted c). subst IsPolled g (busy e))
     (λ (g : Polls c false s). absurd (true≢false (sym e ∙ g.1)))
     l
-busy_by c (Hand kind.Thread) s l sound busy = λ e. subst IsPolled l (busy e)
+busy_by c (Hand Kind.Thread) s l sound busy = λ e. subst IsPolled l (busy e)
 busy_by c (Take k true) s l sound busy = λ e. tt
-busy_by c (Take k false) s l sound busy = busy
 busy_by c (Complete Again) s l sound busy = λ e. absurd (true≢false (sym e ∙ l.2))
 busy_by c (Complete Released) s l sound busy = λ e. absurd (true≢false (sym e ∙ l.2))
-busy_by c (Complete Held) s l sound busy = busy
 busy_by c BusyTake s l sound busy = λ e. tt
 busy_by c BusyStop s l sound busy = λ e. absurd (true≢false (sym e))
-busy_by c MarkDisable s l sound busy = busy
 busy_by c (TakeDisable true) s l sound busy = λ e. absurd (subst IsPolled (sound l.1) (busy e))
-busy_by c (TakeDisable false) s l sound busy = busy
-busy_by c Unmark s l sound busy = busy
 busy_by c (Enable b) s l sound busy = λ e. absurd (subst IsPolled l.0 (busy e))
-busy_by c (SetThreaded b) s l sound busy = busy
+busy_by c o s l sound busy = busy
 
 pub busy_after : BusyPollIsPolling
 unfolding LegalHistory state_after
@@ -74,25 +55,16 @@ busy_after k s (e ∷ h) sound busy l =
 -- ---- SCHED_THREADED, and the instance is handed over or polled
 
 pub threads_by : (c : ℕ) (o : Operation) (s : State) → IsLegalBy c o s → IsSound s → ThreadsIsHanded s → ThreadsIsHanded (after_by c o s)
-threads_by c (Look seen) s l sound handed = handed
-threads_by c (Schedule prep.Granted) s l sound handed = λ e. absurd (subst IsHandedOrPolled (sound l.1) (handed e))
-threads_by c (Schedule prep.Missed) s l sound handed = handed
-threads_by c (Schedule prep.Disabled) s l sound handed = handed
-threads_by c (Hand kind.List) s l sound handed = λ e. tt
-threads_by c (Hand kind.Thread) s l sound handed = λ e. tt
+threads_by c (Schedule Prep.Granted) s l sound handed = λ e. absurd (subst IsHandedOrPolled (sound l.1) (handed e))
+threads_by c (Hand Kind.List) s l sound handed = λ e. tt
+threads_by c (Hand Kind.Thread) s l sound handed = λ e. tt
 threads_by c (Take k true) s l sound handed = λ e. tt
-threads_by c (Take k false) s l sound handed = handed
 threads_by c (Complete Again) s l sound handed = λ e. absurd (true≢false (sym e))
 threads_by c (Complete Released) s l sound handed = λ e. absurd (true≢false (sym e))
-threads_by c (Complete Held) s l sound handed = handed
 threads_by c BusyTake s l sound handed = λ e. tt
-threads_by c BusyStop s l sound handed = handed
-threads_by c MarkDisable s l sound handed = handed
 threads_by c (TakeDisable true) s l sound handed = λ e. absurd (subst IsHandedOrPolled (sound l.1) (handed e))
-threads_by c (TakeDisable false) s l sound handed = handed
-threads_by c Unmark s l sound handed = handed
 threads_by c (Enable b) s l sound handed = λ e. absurd (subst IsHandedOrPolled l.0 (handed e))
-threads_by c (SetThreaded b) s l sound handed = handed
+threads_by c o s l sound handed = handed
 
 pub threads_after : SchedThreadedIsHanded
 unfolding LegalHistory state_after
@@ -105,14 +77,14 @@ threads_after k s (e ∷ h) sound handed l =
 pub ownership_by_others : (c b : ℕ) (o : Operation) (s : State)
     → b ≢ c → IsLegalBy b o s → IsSound s → is_owner c (after_by b o s).place ≡ is_owner c s.place
 ownership_by_others c b (Look seen) s apart l sound = refl
-ownership_by_others c b (Schedule prep.Granted) s apart l sound = ne_eqb b c apart ∙ sym (ap (is_owner c) (sound l.1))
-ownership_by_others c b (Schedule prep.Missed) s apart l sound = refl
-ownership_by_others c b (Schedule prep.Disabled) s apart l sound = refl
-ownership_by_others c b (Hand kind.List) s apart l sound =
+ownership_by_others c b (Schedule Prep.Granted) s apart l sound = ne_eqb b c apart ∙ sym (ap (is_owner c) (sound l.1))
+ownership_by_others c b (Schedule Prep.Missed) s apart l sound = refl
+ownership_by_others c b (Schedule Prep.Disabled) s apart l sound = refl
+ownership_by_others c b (Hand Kind.List) s apart l sound =
     sym (⊎_elim (λ (g : s.place ≡ Granted b). ap (is_owner c) g ∙ ne_eqb b c apart) (λ (g : Polls b false s). ap (is_owner c) g.0 ∙ ne_eqb b c apart) l)
-ownership_by_others c b (Hand kind.Thread) s apart l sound = sym (ap (is_owner c) l ∙ ne_eqb b c apart)
-ownership_by_others c b (Take kind.List true) s apart l sound = ne_eqb b c apart ∙ sym (ap (is_owner c) l)
-ownership_by_others c b (Take kind.Thread true) s apart l sound = ne_eqb b c apart ∙ sym (ap (is_owner c) l)
+ownership_by_others c b (Hand Kind.Thread) s apart l sound = sym (ap (is_owner c) l ∙ ne_eqb b c apart)
+ownership_by_others c b (Take Kind.List true) s apart l sound = ne_eqb b c apart ∙ sym (ap (is_owner c) l)
+ownership_by_others c b (Take Kind.Thread true) s apart l sound = ne_eqb b c apart ∙ sym (ap (is_owner c) l)
 ownership_by_others c b (Take k false) s apart l sound = refl
 ownership_by_others c b (Complete Again) s apart l sound = sym (ap (is_owner c) l.0)
 ownership_by_others c b (Complete Released) s apart l sound = sym (ap (is_owner c) l.0 ∙ ne_eqb b c apart)
@@ -150,29 +122,21 @@ not_owner c p q is other owned = absurd (true≢false (sym owned ∙ ap (is_owne
 
 pub owned_by_others : (c b : ℕ) (o : Operation) (s : State)
     → b ≢ c → IsLegalBy b o s → IsSound s → IsOwnedBy c s.place → stand_of (after_by b o s) ≡ stand_of s
-owned_by_others c b (Look seen) s apart l sound owned = refl
-owned_by_others c b (Schedule prep.Granted) s apart l sound owned = not_owner c s.place Nobody (sound l.1) refl owned
-owned_by_others c b (Schedule prep.Missed) s apart l sound owned = refl
-owned_by_others c b (Schedule prep.Disabled) s apart l sound owned = refl
-owned_by_others c b (Hand kind.List) s apart l sound owned = ⊎_elim
+owned_by_others c b (Schedule Prep.Granted) s apart l sound owned = not_owner c s.place Nobody (sound l.1) refl owned
+owned_by_others c b (Hand Kind.List) s apart l sound owned = ⊎_elim
     (λ (g : s.place ≡ Granted b). not_owner c s.place (Granted b) g (ne_eqb b c apart) owned)
     (λ (g : Polls b false s). not_owner c s.place (Polling b) g.0 (ne_eqb b c apart) owned)
     l
-owned_by_others c b (Hand kind.Thread) s apart l sound owned = not_owner c s.place (Granted b) l (ne_eqb b c apart) owned
-owned_by_others c b (Take kind.List true) s apart l sound owned = not_owner c s.place Listed l refl owned
-owned_by_others c b (Take kind.Thread true) s apart l sound owned = not_owner c s.place ToThread l refl owned
-owned_by_others c b (Take k false) s apart l sound owned = refl
+owned_by_others c b (Hand Kind.Thread) s apart l sound owned = not_owner c s.place (Granted b) l (ne_eqb b c apart) owned
+owned_by_others c b (Take Kind.List true) s apart l sound owned = not_owner c s.place Listed l refl owned
+owned_by_others c b (Take Kind.Thread true) s apart l sound owned = not_owner c s.place ToThread l refl owned
 owned_by_others c b (Complete Again) s apart l sound owned = not_owner c s.place (Polling b) l.0 (ne_eqb b c apart) owned
 owned_by_others c b (Complete Released) s apart l sound owned = not_owner c s.place (Polling b) l.0 (ne_eqb b c apart) owned
-owned_by_others c b (Complete Held) s apart l sound owned = refl
 owned_by_others c b BusyTake s apart l sound owned = not_owner c s.place Nobody (sound l.1) refl owned
 owned_by_others c b BusyStop s apart l sound owned = not_owner c s.place (Polling b) l.0 (ne_eqb b c apart) owned
-owned_by_others c b MarkDisable s apart l sound owned = refl
 owned_by_others c b (TakeDisable true) s apart l sound owned = not_owner c s.place Nobody (sound l.1) refl owned
-owned_by_others c b (TakeDisable false) s apart l sound owned = refl
-owned_by_others c b Unmark s apart l sound owned = refl
 owned_by_others c b (Enable threaded) s apart l sound owned = not_owner c s.place (Control b) l.0 (ne_eqb b c apart) owned
-owned_by_others c b (SetThreaded threaded) s apart l sound owned = refl
+owned_by_others c b o s apart l sound owned = refl
 
 -- from any sound state
 pub owner_kept : (k c : ℕ) (s : State) (h : List Event)
@@ -193,25 +157,14 @@ others_leave_owner k c s h others sound l none owned =
 -- ---- the disable flag
 
 disable_by_others : (k c : ℕ) (o : Operation) (s : State) → c ≢ k → IsBy k c o → (after_by c o s).flags.disable ≡ s.flags.disable
-disable_by_others k c (Look seen) s apart by = refl
-disable_by_others k c (Schedule prep.Granted) s apart by = refl
-disable_by_others k c (Schedule prep.Missed) s apart by = refl
-disable_by_others k c (Schedule prep.Disabled) s apart by = refl
-disable_by_others k c (Hand kind.List) s apart by = refl
-disable_by_others k c (Hand kind.Thread) s apart by = refl
+disable_by_others k c (Schedule Prep.Granted) s apart by = refl
+disable_by_others k c (Hand Kind.List) s apart by = refl
 disable_by_others k c (Take kind true) s apart by = refl
-disable_by_others k c (Take kind false) s apart by = refl
 disable_by_others k c (Complete Again) s apart by = refl
-disable_by_others k c (Complete Released) s apart by = refl
-disable_by_others k c (Complete Held) s apart by = refl
-disable_by_others k c BusyTake s apart by = refl
-disable_by_others k c BusyStop s apart by = refl
 disable_by_others k c MarkDisable s apart by = absurd (apart by)
 disable_by_others k c (TakeDisable true) s apart by = refl
-disable_by_others k c (TakeDisable false) s apart by = refl
 disable_by_others k c Unmark s apart by = absurd (apart by)
-disable_by_others k c (Enable threaded) s apart by = refl
-disable_by_others k c (SetThreaded threaded) s apart by = refl
+disable_by_others k c o s apart by = refl
 
 pub disable_kept : (k : ℕ) (s : State) (h : List Event)
     → LegalHistory k s h → own k h ≡ [] → (state_after s h).flags.disable ≡ s.flags.disable
@@ -229,25 +182,16 @@ others_leave_disable k s h others l none =
 -- ---- the place Control
 
 pub controlled_by : (k c : ℕ) (o : Operation) (s : State) → IsBy k c o → IsControlled k s → IsControlled k (after_by c o s)
-controlled_by k c (Look seen) s by ok = ok
-controlled_by k c (Schedule prep.Granted) s by ok = λ d e. cc
-controlled_by k c (Schedule prep.Missed) s by ok = ok
-controlled_by k c (Schedule prep.Disabled) s by ok = ok
-controlled_by k c (Hand kind.List) s by ok = λ d e. cc
-controlled_by k c (Hand kind.Thread) s by ok = λ d e. cc
+controlled_by k c (Schedule Prep.Granted) s by ok = λ d e. cc
+controlled_by k c (Hand Kind.List) s by ok = λ d e. cc
+controlled_by k c (Hand Kind.Thread) s by ok = λ d e. cc
 controlled_by k c (Take q true) s by ok = λ d e. cc
-controlled_by k c (Take q false) s by ok = ok
 controlled_by k c (Complete Again) s by ok = λ d e. cc
 controlled_by k c (Complete Released) s by ok = λ d e. cc
-controlled_by k c (Complete Held) s by ok = ok
 controlled_by k c BusyTake s by ok = λ d e. cc
-controlled_by k c BusyStop s by ok = ok
-controlled_by k c MarkDisable s by ok = ok
 controlled_by k c (TakeDisable true) s by ok = λ d e. cc
-controlled_by k c (TakeDisable false) s by ok = ok
-controlled_by k c Unmark s by ok = ok
 controlled_by k c (Enable threaded) s by ok = λ d e. cc
-controlled_by k c (SetThreaded threaded) s by ok = ok
+controlled_by k c o s by ok = ok
 
 pub controlled_after : ControlIsTheControllers
 unfolding LegalHistory state_after

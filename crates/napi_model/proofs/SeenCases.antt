@@ -69,19 +69,15 @@ same_seen x y =
     && same_mark x.handed y.handed
 
 bool_is : (a b : Bool) → beq a b ≡ true → a ≡ b
-bool_is true true h = refl
 bool_is true false h = absurd (true≢false (sym h))
 bool_is false true h = absurd (true≢false (sym h))
-bool_is false false h = refl
+bool_is a b h = refl
 
 mark_is : (a b : Option Kind) → same_mark a b ≡ true → a ≡ b
 mark_is None None h = refl
-mark_is None (Some k) h = absurd (true≢false (sym h))
-mark_is (Some k) None h = absurd (true≢false (sym h))
 mark_is (Some List) (Some List) h = refl
-mark_is (Some List) (Some Thread) h = absurd (true≢false (sym h))
-mark_is (Some Thread) (Some List) h = absurd (true≢false (sym h))
 mark_is (Some Thread) (Some Thread) h = refl
+mark_is a b h = absurd (true≢false (sym h))
 
 pub seen_is : (x y : Seen) → same_seen x y ≡ true → x ≡ y
 seen_is x y h =

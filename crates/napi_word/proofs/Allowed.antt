@@ -1,51 +1,35 @@
 -- A step is allowed where it is a legal one whose word is right, at each state that the view allows.
-use Rattle.{std.proofs.Common.{◌≡◌, ◌≢◌, ℕ, zero, suc, set, length, [], ◌∷◌, ◌++◌, Option, Some, None, Bool, List, true, false, not, ◌&&◌, unwrap_or, refl, sym, ap, ◌∙◌, subst, inr, true≢false, arith}, napi_word.specs.declared.view.Key.Key}
-use Rattle.{rx_ring.specs.declared.{packet.Packet.Packet, ends.RxCtx.RxCtx}, napi_model.{specs.{declared.state.{Seen.Seen, Place.Place}, Word.word_of}, proofs.Histories.state_after-snoc}, napi_word.specs.Told.{told, laid_down}}
-use Rattle.napi_word.specs.{declared.view.Delivery.Delivery, Slot.{Content, Carried, has_at, is_out, owns_slot, hold_of, has_slot, ring_in, beside_in, carried_received, Tied, Moves, stays, taken, given, moved, Gives, Shifts, Delivers}}
-use Rattle.napi_word.proofs.{Deliveries.{prefix_self, to_prefix, of_prefix, received_snoc, last_snoc, More, not_given, more_none, more_one}, Keeps.{St, Open, opened, grown, running, Knows, knows, own_fits, owned, found, steps, grew, again}}
-use Rattle.{atomic_table.specs.Table.{Me, Act, keeps, takes, gives, rest, put_back, homes_after, carried_after, Valid, Allows}, napi_word.{specs.Rule.{Home, Homes, Owned, Fits, Kept, Holding}, proofs.Places.{has_out, has_same, in_no_hand}}}
-use Rattle.{rx_ring.specs.Ends.{RingName, ring_name, received_list}, napi_model.specs.{declared.{state.State.State as Napi, event.Operation.Operation}, Step.{event, opening, seen_of, after_by}, History.{IsLegalFor, state_after}}}
-use Rattle.napi_word.specs.{declared.view.Holds.{Holds, TheVariants.{Nothing, Within, Out}}, View.{View, is_pass, number_of, place_in, ring_of, delivery, own_deliveries, delivered, received_by, received_in, first_in, last_of, Continues}}
-use mathlib.Core.Option as maybe
-use mathlib.Core.List.{IsPrefix}
+use Rattle.napi_word.specs.{Told.{told, laid_down}, View.{View, is_pass, number_of, place_in, ring_of, delivery, own_deliveries, delivered, received_by, received_in, first_in, last_of, Continues}, declared.view.{Key.Key, Delivery.Delivery}}
+use Rattle.napi_word.specs.{declared.view.Holds.{Holds, TheVariants.{Nothing, Within, Out}}, Rule.{Home, Homes, Owned, Fits, Kept, Holding}, Slot.{Content, Carried, has_at, is_out, owns_slot, hold_of, has_slot, ring_in, beside_in}}
+use Rattle.napi_word.{specs.Slot.{carried_received, Tied, Moves, stays, taken, given, moved, Gives, Shifts, Delivers}, proofs.{Places.{has_out, has_same, in_no_hand}, Keeps.{St, Open, opened, grown, running, Knows, knows, own_fits, owned}}}
+use Rattle.{napi_word.proofs.{Keeps.{found, steps, grew, again}, Deliveries.{some_is, prefix_self, to_prefix, of_prefix, received_snoc, last_snoc, More, not_given, more_none, more_one}}, rx_ring.specs.declared.ends.RxCtx.RxCtx}
+use Rattle.{rx_ring.specs.{declared.packet.Packet.Packet, Ends.{ring_name, received_list}}, napi_model.specs.{History.{IsLegalFor, state_after}, declared.{state.{State.State as Napi, Place.Place, Seen.Seen}, event.Operation.Operation}}}
+use Rattle.{napi_model.{specs.{Step.{event, opening, seen_of, after_by}, Word.word_of}, proofs.Histories.state_after-snoc}, std.proofs.Common.{◌≡◌, ◌≢◌, ℕ, zero, set, length, [], ◌∷◌, ◌++◌, Option, Some, None, Bool, List, true, false}}
+use Rattle.{std.proofs.Common.{not, ◌&&◌, unwrap_or, refl, sym, ap, ◌∙◌, subst, inr, true≢false, arith}, atomic_table.specs.Table.{Me, Act, keeps, takes, gives, rest, put_back, homes_after, carried_after, Valid, Allows}}
+use mathlib.Core.{Option.Option as Maybe, List.IsPrefix}
 use lib.ListN.{get_elem?}
 
 -- ---- marks
-
-pub hold_same : {a b : Holds} → Some a ≡ Some b → a ≡ b
-hold_same {a} e = ap (λ (o : Option Holds). unwrap_or o a) e
-
-name_same : {a b : RingName} → Some a ≡ Some b → a ≡ b
-name_same {a} e = ap (λ (o : Option RingName). unwrap_or o a) e
 
 pub hold_nothing : (l : Carried) → hold_of l ≡ Some Nothing → l ≡ []
 hold_nothing [] e = refl
 hold_nothing ((zero, Some x) ∷ []) e = absurd (cc)
 hold_nothing ((zero, None) ∷ []) e = absurd (cc)
-hold_nothing ((zero, Some x) ∷ y ∷ l) e = absurd (cc)
-hold_nothing ((zero, None) ∷ y ∷ l) e = absurd (cc)
-hold_nothing ((suc k, x) ∷ l) e = absurd (cc)
+hold_nothing l e = absurd (cc)
 
 pub hold_within : (l : Carried) → hold_of l ≡ Some Within → (x : RxCtx) × (l ≡ (0, Some x) ∷ [])
-hold_within [] e = absurd (cc)
 hold_within ((zero, Some x) ∷ []) e = (x, refl)
 hold_within ((zero, None) ∷ []) e = absurd (cc)
-hold_within ((zero, Some x) ∷ y ∷ l) e = absurd (cc)
-hold_within ((zero, None) ∷ y ∷ l) e = absurd (cc)
-hold_within ((suc k, x) ∷ l) e = absurd (cc)
+hold_within l e = absurd (cc)
 
 pub hold_out : (l : Carried) → hold_of l ≡ Some Out → l ≡ (0, None) ∷ []
-hold_out [] e = absurd (cc)
-hold_out ((zero, Some x) ∷ []) e = absurd (cc)
 hold_out ((zero, None) ∷ []) e = refl
-hold_out ((zero, Some x) ∷ y ∷ l) e = absurd (cc)
-hold_out ((zero, None) ∷ y ∷ l) e = absurd (cc)
-hold_out ((suc k, x) ∷ l) e = absurd (cc)
+hold_out ((zero, Some x) ∷ []) e = absurd (cc)
+hold_out l e = absurd (cc)
 
 pub nothing : (h : Holds) → has_slot h ≡ false → h ≡ Nothing
 nothing Nothing e = refl
-nothing Within e = absurd (true≢false e)
-nothing Out e = absurd (true≢false e)
+nothing h e = absurd (true≢false e)
 
 pub within : (h : Holds) → has_slot h ≡ true → h ≢ Out → h ≡ Within
 within Nothing e n = absurd (true≢false (sym e))
@@ -58,14 +42,12 @@ ring_kept ((k, Some y) ∷ l) v w e f = e ∙ f
 ring_kept ((k, None) ∷ l) v w e f = refl
 
 pub some_held : {h : Holds} (k : ℕ) (x : RxCtx) (l : Carried) → hold_of ((k, Some x) ∷ l) ≡ Some h → has_slot h ≡ true
-some_held zero x [] e = ap has_slot (sym (hold_same e))
-some_held zero x (y ∷ l) e = absurd (cc)
-some_held (suc k) x l e = absurd (cc)
+some_held zero x [] e = ap has_slot (sym (some_is e))
+some_held k x l e = absurd (cc)
 
-set_one : (homes : Homes) (a : maybe.Option Content) → length homes ≡ 1 → set homes 0 a ≡ a ∷ []
-set_one [] a e = absurd (omega arith)
+set_one : (homes : Homes) (a : Maybe Content) → length homes ≡ 1 → set homes 0 a ≡ a ∷ []
 set_one (x ∷ []) a e = refl
-set_one (x ∷ y ∷ l) a e = absurd (omega arith)
+set_one homes a e = absurd (omega arith)
 
 -- ---- what a step owes
 
@@ -80,7 +62,7 @@ pub record Turn (k : ℕ) (now : Napi) (c : ℕ) (o : Operation) (m : Moves) (g 
   pub word : g (word_of (seen_of now)) ≡ word_of (seen_of (after_by c o now))
   pub slot : Fitting m c now.place (after_by c o now).place
 
-module _ (key : Key) (id : ℕ) (me : Me Content View) (h : Holds) (tie : Tied h me) (s : St) (r : Kept key s) (len : length s.homes ≡ 1) (at : get_elem? s.views id ≡ maybe.some me.0) (o : Open me.0) where
+module _ (key : Key) (id : ℕ) (me : Me Content View) (h : Holds) (tie : Tied h me) (s : St) (r : Kept key s) (len : length s.homes ≡ 1) (at : get_elem? s.views id ≡ Maybe.some me.0) (o : Open me.0) where
   abbrev start : Napi
   start = opening key.controller
 
@@ -199,7 +181,7 @@ module _ (key : Key) (id : ℕ) (me : Me Content View) (h : Holds) (tie : Tied h
         }
     slot_step given f n =
         let held = hold_within me.1 (tie.marked ∙ ap Some (within h (sym has_now ∙ f.0) (n refl))) in
-        let named : ring_name held.0 ≡ ring_name o.first.ring = name_same (ap (λ (l : Carried). ring_in l me.0) (sym held.1) ∙ tie.ring ∙ ring_now) in
+        let named : ring_name held.0 ≡ ring_name o.first.ring = some_is (ap (λ (l : Carried). ring_in l me.0) (sym held.1) ∙ tie.ring ∙ ring_now) in
         let more = subst (λ (l : Carried). IsPrefix (received_in me.0) (carried_received l me.0)) held.1 (to_prefix _ _ tie.received) in
         let ds : List Delivery = r.deliveries ++ delivery c more.0 held.0 ∷ [] in
         let owns : true ≡ owns_slot me.0 = sym f.0 ∙ has_now ∙ sym tie.right in
@@ -208,7 +190,7 @@ module _ (key : Key) (id : ℕ) (me : Me Content View) (h : Holds) (tie : Tied h
           more = more_one now (event c d) r.deliveries more.0 held.0 f.0 (λ i. f.0 i && not (f.1 i));
           act = gives;
           valid = tt;
-          home = λ y. (held.0, ap (λ (l : Carried). put_back s.homes l) held.1 ∙ set_one s.homes (maybe.some (Some held.0)) len, named ∙ ap ring_name fits_now.ring, ap beside_in (sym held.1) ∙ tie.unmarked, all, sym (last_snoc ring r.deliveries (delivery c more.0 held.0)));
+          home = λ y. (held.0, ap (λ (l : Carried). put_back s.homes l) held.1 ∙ set_one s.homes (Maybe.some (Some held.0)) len, named ∙ ap ring_name fits_now.ring, ap beside_in (sym held.1) ∙ tie.unmarked, all, sym (last_snoc ring r.deliveries (delivery c more.0 held.0)));
           tied = record {
             marked = ap (λ (l : Carried). hold_of (rest l)) held.1;
             right = right_after ds ∙ in_no_hand c q f.1;
@@ -241,7 +223,7 @@ module _ (key : Key) (slots id : ℕ) (me : Me Content View) (one : slots ≡ 1)
           found key s r id me.0 at o,
           (
             grew key s r id me.0 at o d a.ds t.legal,
-            λ h' tie'. subst (λ (y : Holds). Tied (moved (m x) y) (grown o.first (number_of me.0) r.history d a.ds ∷ [], carried_after me.1 a.act)) (hold_same (sym tie.marked ∙ tie'.marked)) a.tied,
+            λ h' tie'. subst (λ (y : Holds). Tied (moved (m x) y) (grown o.first (number_of me.0) r.history d a.ds ∷ [], carried_after me.1 a.act)) (some_is (sym tie.marked ∙ tie'.marked)) a.tied,
             a.told,
           ),
         ),

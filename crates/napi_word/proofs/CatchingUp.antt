@@ -1,14 +1,13 @@
 -- All strands of one seat catch up with the whole history.
-use Rattle.std.proofs.Common.{◌≡◌, ◌≢◌, ℕ, zero, suc, List, [], ◌∷◌, ◌++◌, length, slice_get, slice_index, get_or, set, Option, Some, None, Bool, true, unwrap_or, is_some, refl, sym, ap, ◌∙◌, subst, inr, ⊎_elim}
-use Rattle.{atomic_table.{specs.Table.{Me, keeps, Allows}, proofs.Lists.{at_longer, at_set}}, rx_ring.specs.{declared.{packet.Packet.Packet, ends.RxCtx.RxCtx}, Ends.{ring_name, received_list}}, napi_model.specs.declared.event.Event.Event}
+use Rattle.std.proofs.Common.{◌≡◌, ◌≢◌, ℕ, zero, suc, List, [], ◌∷◌, ◌++◌, length, slice_get, slice_index, get_or, set, Some, None, Bool, true, unwrap_or, is_some, refl, sym, ap, ◌∙◌, subst, inr, ⊎_elim}
+use Rattle.{atomic_table.{specs.Table.{Me, keeps, Allows}, proofs.Lists.{at_longer, at_set}}, rx_ring.specs.{declared.packet.Packet.Packet, Ends.received_list}, napi_model.specs.declared.event.Event.Event}
 use Rattle.{napi_model.specs.{declared.state.{State.State as Napi, Place.Place}, Step.{opening, seen_of}, History.{state_after, own}, Laws.is_owner, Word.word_of}, napi_word.specs.declared.view.{Key.Key, Strand.Strand, Delivery.Delivery}}
-use Rattle.napi_word.specs.{declared.view.Holds.Holds, View.{View, is_pass, number_of, controller_of, ring_of, received_in, first_in, delivered, own_deliveries, received_by, place_in, Continues}}
-use Rattle.napi_word.specs.{Slot.{Content, Carried, has_at, hold_of, has_slot, carried_received, Tied}, Rule.{Fits, Kept, Holding}, declared.table.Pass.Pass}
-use Rattle.napi_word.{specs.{Surveys.{IsWhole, CatchesUp, Knew, surveyed, front, with_front, but_last, last_alone, caught_up, all_caught_up}, declared.view.Holds.TheVariants.Nothing}, proofs.Splitting.{but_last_is, last_alone_is}}
-use Rattle.napi_word.{specs.Passes.{view_of, tie_of}, proofs.{Places.has_same, Closing.is_pass_more, Deliveries.{prefix_self, of_prefix}, Allowed.{ring_kept, some_held, hold_nothing}}}
-use Rattle.napi_word.proofs.Keeps.{St, Open, opened, running, own_fits, owner_since, stand_since, disable_since}
-use mathlib.Core.Option as maybe
+use Rattle.napi_word.specs.{declared.{view.Holds.{Holds, TheVariants.Nothing}, table.Pass.Pass}, View.{View, is_pass, number_of, controller_of, received_in, delivered, own_deliveries, place_in, Continues}}
+use Rattle.napi_word.specs.{Slot.{Content, Carried, has_at, hold_of, has_slot, carried_received, Tied}, Rule.{Fits, Kept, Holding}, Surveys.{IsWhole, CatchesUp, Knew, surveyed, front, with_front, but_last, last_alone, caught_up}}
+use Rattle.napi_word.{specs.{Surveys.all_caught_up, Passes.{view_of, tie_of}}, proofs.{Splitting.{but_last_is, last_alone_is}, Places.has_same, Closing.is_pass_more, Deliveries.{prefix_self, of_prefix}, Allowed.{ring_kept, some_held}}}
+use Rattle.napi_word.proofs.{Allowed.hold_nothing, Keeps.{St, Open, opened, running, own_fits, owner_since, stand_since, disable_since}, Deliveries.{some_is, ring_as, received_as}}
 use lib.ListN.{get_elem?}
+use mathlib.Core.Option as maybe
 
 at_caught : (h : List Event) (ds : List Delivery) (v : View) (k : ℕ) (z : Strand) → get_elem? (all_caught_up h ds v) k ≡ maybe.some z → (x : Strand) × (get_elem? v k ≡ maybe.some x) × (caught_up h ds x ≡ z)
 at_caught h ds [] k z e = absurd (maybe.some-ne-none z (sym e))
@@ -134,22 +133,10 @@ pub tied_up : (h : List Event) (ds : List Delivery) (v w : View) (l : Carried) (
 tied_up h ds v w l hold u tie = record {
   marked = tie.marked;
   right = (λ i. has_at (u.number i) (state_after (opening (u.controller i)) (u.shown i)).place) ∙ has_same (number_of v) (state_after (opening (controller_of v)) h).place (place_in v) u.owner u.place ∙ tie.right;
-  ring = ring_kept l v w tie.ring (sym (ring_by v w u.ring));
+  ring = ring_kept l v w tie.ring (sym (ring_as v w u.ring));
   unmarked = tie.unmarked;
-  received = received_caught l hold v w tie.marked (λ has. received_by_same v w u.ring (u.delivered ∙ sym (u.held (tie.right ∙ has)))) tie.received;
+  received = received_caught l hold v w tie.marked (λ has. received_as v w u.ring (u.delivered ∙ sym (u.held (tie.right ∙ has)))) tie.received;
 }
-  where
-    ring_by : (v w : View) → first_in w ≡ first_in v → ring_of w ≡ ring_of v
-    ring_by [] [] e = refl
-    ring_by [] (y ∷ ys) e = absurd (cc)
-    ring_by (x ∷ xs) [] e = absurd (cc)
-    ring_by (x ∷ xs) (y ∷ ys) e = ap (λ (r : Option RxCtx). Some (ring_name (unwrap_or r x.ring))) e
-
-    received_by_same : (v w : View) → first_in w ≡ first_in v → delivered w ≡ delivered v → received_in w ≡ received_in v
-    received_by_same [] [] e d = refl
-    received_by_same [] (y ∷ ys) e d = absurd (cc)
-    received_by_same (x ∷ xs) [] e d = absurd (cc)
-    received_by_same (x ∷ xs) (y ∷ ys) e d = λ i. received_by (unwrap_or (e i) x.ring) (d i)
 
 -- ---- the strands of four passes, together and apart again
 at_length : (l : View) (y : Strand) → get_elem? (l ++ y ∷ []) (length l) ≡ maybe.some y
@@ -167,17 +154,11 @@ module _ (v0 v1 v2 v3 : View) (o0 : Open v0) (o1 : Open v1) (o2 : Open v2) (o3 :
   abbrev pub two : View
   two = one ++ o1.first ∷ []
 
-  pub first_in_it : (j : View) → j ≡ with_front v3 v0 → j ≡ one
-  first_in_it j e = e ∙ ap (λ (l : View). v3 ++ front l) o0.is
-
-  pub second_in_it : (j : View) → j ≡ with_front one v1 → j ≡ two
-  second_in_it j e = e ∙ ap (λ (l : View). one ++ front l) o1.is
-
-  pub third_in_it : (j : View) → j ≡ with_front two v2 → j ≡ two ++ o2.first ∷ []
-  third_in_it j e = e ∙ ap (λ (l : View). two ++ front l) o2.is
-
   pub together : (a b j : View) → a ≡ with_front v3 v0 → b ≡ with_front a v1 → j ≡ with_front b v2 → j ≡ two ++ o2.first ∷ []
-  together a b j e f g = third_in_it j (g ∙ ap (λ (l : View). with_front l v2) (second_in_it b (f ∙ ap (λ (l : View). with_front l v1) (first_in_it a e))))
+  together a b j e f g =
+      let one_is : a ≡ one = e ∙ ap (λ (l : View). v3 ++ front l) o0.is in
+      let two_is : b ≡ two = f ∙ ap (λ (l : View). with_front l v1) one_is ∙ ap (λ (l : View). one ++ front l) o1.is in
+      g ∙ ap (λ (l : View). with_front l v2) two_is ∙ ap (λ (l : View). two ++ front l) o2.is
 
   module _ (j : View) (is : j ≡ two ++ o2.first ∷ []) (h : List Event) (ds : List Delivery) (u : View) (caught : u ≡ all_caught_up h ds j) where
     pub parts_two : u ≡ all_caught_up h ds two ++ caught_up h ds o2.first ∷ []
@@ -238,22 +219,19 @@ pub leads : (k : ℕ) (h : List Event) (ds : List Delivery) (v : View) (o : Open
 leads k h ds v o c n = ap controller_of o.is ∙ n.controller
 
 -- ---- of four passes
-pass_same : {p q : Pass} → Some p ≡ Some q → p ≡ q
-pass_same {p} e = ap (λ (o : Option Pass). unwrap_or o p) e
-
 pub of_four : (P : Pass → Type 0) (a b c d : Pass) → P a → P b → P c → P d → (i : ℕ) (p : Pass) → slice_get (a ∷ b ∷ c ∷ d ∷ []) i ≡ Some p → P p
-of_four P a b c d x y z w zero p e = subst P (pass_same e) x
-of_four P a b c d x y z w (suc zero) p e = subst P (pass_same e) y
-of_four P a b c d x y z w (suc (suc zero)) p e = subst P (pass_same e) z
-of_four P a b c d x y z w (suc (suc (suc zero))) p e = subst P (pass_same e) w
+of_four P a b c d x y z w zero p e = subst P (some_is e) x
+of_four P a b c d x y z w (suc zero) p e = subst P (some_is e) y
+of_four P a b c d x y z w (suc (suc zero)) p e = subst P (some_is e) z
+of_four P a b c d x y z w (suc (suc (suc zero))) p e = subst P (some_is e) w
 of_four P a b c d x y z w (suc (suc (suc (suc i)))) p e = absurd (cc)
 
 pub of_both_four : (P : Pass → Pass → Type 0) (a b c d a' b' c' d' : Pass) → P a a' → P b b' → P c c' → P d d'
     → (i : ℕ) (p q : Pass) → slice_get (a ∷ b ∷ c ∷ d ∷ []) i ≡ Some p → slice_get (a' ∷ b' ∷ c' ∷ d' ∷ []) i ≡ Some q → P p q
-of_both_four P a b c d a' b' c' d' x y z w zero p q e f = subst (λ (r : Pass). P r q) (pass_same e) (subst (P a) (pass_same f) x)
-of_both_four P a b c d a' b' c' d' x y z w (suc zero) p q e f = subst (λ (r : Pass). P r q) (pass_same e) (subst (P b) (pass_same f) y)
-of_both_four P a b c d a' b' c' d' x y z w (suc (suc zero)) p q e f = subst (λ (r : Pass). P r q) (pass_same e) (subst (P c) (pass_same f) z)
-of_both_four P a b c d a' b' c' d' x y z w (suc (suc (suc zero))) p q e f = subst (λ (r : Pass). P r q) (pass_same e) (subst (P d) (pass_same f) w)
+of_both_four P a b c d a' b' c' d' x y z w zero p q e f = subst (λ (r : Pass). P r q) (some_is e) (subst (P a) (some_is f) x)
+of_both_four P a b c d a' b' c' d' x y z w (suc zero) p q e f = subst (λ (r : Pass). P r q) (some_is e) (subst (P b) (some_is f) y)
+of_both_four P a b c d a' b' c' d' x y z w (suc (suc zero)) p q e f = subst (λ (r : Pass). P r q) (some_is e) (subst (P c) (some_is f) z)
+of_both_four P a b c d a' b' c' d' x y z w (suc (suc (suc zero))) p q e f = subst (λ (r : Pass). P r q) (some_is e) (subst (P d) (some_is f) w)
 of_both_four P a b c d a' b' c' d' x y z w (suc (suc (suc (suc i)))) p q e f = absurd (cc)
 
 -- ---- a survey, step by step
@@ -315,15 +293,12 @@ module _ (p0 p1 p2 p3 : Pass) (m1 m2 m3 : Me Content View) (e1 : m1 ≡ (with_fr
     pub caught_is_pass : is_pass u.0 ≡ true
     caught_is_pass = ap is_pass t.3 ∙ caught_pass hs es m3.0 third_pass
 
-    one_pass : is_pass one_of ≡ true
-    one_pass = is_pass_more (view_of p3) (q0.first ∷ []) p3.is_pass
-
     module _ (s1 : Me Content View) (f1 : s1 ≡ (but_last u.0, u.1)) where
       pub second_left : s1.0 ≡ all_caught_up hs es one_of ++ caught_up hs es q1.first ∷ []
       second_left = ap (λ (m : Me Content View). m.0) f1 ∙ parts_one (view_of p0) (view_of p1) (view_of p2) (view_of p3) q0 q1 q2 q3 m3.0 all_in hs es u.0 t.3
 
       pub second_left_pass : is_pass s1.0 ≡ true
-      second_left_pass = ap is_pass second_left ∙ is_pass_more (all_caught_up hs es one_of) (caught_up hs es q1.first ∷ []) (caught_pass hs es one_of one_pass)
+      second_left_pass = ap is_pass second_left ∙ is_pass_more (all_caught_up hs es one_of) (caught_up hs es q1.first ∷ []) (caught_pass hs es one_of (is_pass_more (view_of p3) (q0.first ∷ []) p3.is_pass))
 
       module _ (s2 : Me Content View) (f2 : s2 ≡ (but_last s1.0, s1.1)) where
         left_two : s2.0 ≡ but_last (but_last u.0)

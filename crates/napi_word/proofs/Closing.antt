@@ -1,34 +1,26 @@
 -- The end of a table: what its passes had, and what stands behind their views.
-use Rattle.std.proofs.Common.{◌<◌, ◌+◌, ◌≡◌, ◌≢◌, ℕ, zero, suc, ◌≤◌, List, [], ◌∷◌, ◌++◌, length, length-append, slice_get, Option, Some, None, Bool, true, false, unwrap_or, eqb, eq-eqb, ne_eqb, refl, sym, ap, ◌∙◌, subst, arith, true≢false, lt_of_not-le}
-use Rattle.{atomic_table.{specs.Table.{Final, Seen}, proofs.Lists.at_longer}, rx_ring.{specs.{declared.ends.RxCtx.RxCtx, Ends.{RingName, ring_name, received_list}}, proofs.Names.same_name}, napi_model.specs.Laws.is_owner}
-use Rattle.napi_model.{proofs.Owners.{ownership_kept, opens_sound}, specs.{declared.{event.Event.Event, state.{Place.{Place, TheVariants.{Nobody, Granted, Listed, ToThread, Polling, Control}}, State.State as Napi}}, Step.opening}}
-use Rattle.{napi_model.specs.History.{state_after, own}, napi_word.specs.declared.{gathering.Found.Found, table.{Pass.Pass, StateTable.StateTable}, view.{Key.Key, Holds.{Holds, TheVariants.{Nothing, Within, Out}}, Strand.Strand}}}
-use Rattle.napi_word.specs.{declared.view.Delivery.Delivery, View.{View, first_in, delivered, own_deliveries, received_by, last_of, is_pass, shown, mine, number_of, controller_of, place_in, ring_of}}
-use Rattle.napi_word.specs.{Slot.{Content, is_out, has_at, has_slot}, Rule.{Fits, Kept, Holding}, Passes.{view_of, controller_of_table}, Ends.{Finds, picked, IsOut, IsEnded, views_of, Gathered}}
-use Rattle.{napi_word.proofs.{Places.{has_owner, has_same, is_false}, Keeps.{St, Open, opened, running, owner_since, place_since}}, std.specs.List.{AllByRecursion, IsDistinct, list_any}}
-use Rattle.napi_word.proofs.{Counting.{numbers_of, numbers_length, find_number, every_number, no_more}, Whole.whole}
-use mathlib.Core.Option as maybe
-use mathlib.Core.{Logic.dite, List.IsPrefix}
+use Rattle.napi_word.proofs.{Keeps.{St, Open, opened, running, owner_since, place_since}, Deliveries.some_is, Places.{has_owner, has_same, is_false}, Whole.whole, Counting.{numbers_of, numbers_length, find_number, every_number, no_more}}
+use Rattle.napi_word.specs.{Rule.{Fits, Kept, Holding}, declared.{view.{Key.Key, Holds.{Holds, TheVariants.{Nothing, Within, Out}}, Delivery.Delivery, Strand.Strand}, table.{Pass.Pass, StateTable.StateTable}, gathering.Found.Found}}
+use Rattle.napi_word.specs.{Ends.{Finds, picked, IsOut, IsEnded, views_of, Gathered}, View.{View, first_in, delivered, own_deliveries, received_by, last_of, is_pass, shown, mine, number_of, controller_of, place_in, ring_of}, Passes.view_of}
+use Rattle.{napi_word.specs.{Passes.controller_of_table, Slot.{Content, is_out, has_at, has_slot}}, rx_ring.{proofs.Names.same_name, specs.{Ends.{RingName, ring_name, received_list}, declared.ends.RxCtx.RxCtx}}}
+use Rattle.{atomic_table.{proofs.Lists.at_longer, specs.Table.{Final, Seen}}, std.{specs.List.{AllByRecursion, IsDistinct, list_any}, proofs.Common.{◌<◌, ◌+◌, ◌≡◌, ◌≢◌, ℕ, zero, suc, ◌≤◌, List, [], ◌∷◌, ◌++◌, length, length-append}}}
+use Rattle.{std.proofs.Common.{slice_get, Option, Some, None, Bool, true, false, unwrap_or, eqb, eq-eqb, ne_eqb, refl, sym, ap, ◌∙◌, subst, arith, true≢false, lt_of_not-le}, napi_model.proofs.Owners.{ownership_kept, opens_sound}}
+use Rattle.napi_model.specs.{declared.{event.Event.Event, state.{Place.{Place, TheVariants.{Nobody, Granted, Listed, ToThread, Polling, Control}}, State.State as Napi}}, History.{state_after, own}, Step.opening, Laws.is_owner}
+use mathlib.Core.{Logic.dite, List.IsPrefix, Option.{Option as Maybe, some-injective}}
 use native.Mathlib.Decide.{dec_le}
 use lib.ListN.{get_elem?}
 
 -- ---- strands of one view in another
 abbrev pub Stands : View → View → Type 0
-Stands xs ys = (k : ℕ) (x : Strand) → get_elem? xs k ≡ maybe.some x → (j : ℕ) × (get_elem? ys j ≡ maybe.some x)
+Stands xs ys = (k : ℕ) (x : Strand) → get_elem? xs k ≡ Maybe.some x → (j : ℕ) × (get_elem? ys j ≡ Maybe.some x)
 
-at_right : {A : Type 0} (l m : List A) (k : ℕ) (x : A) → get_elem? m k ≡ maybe.some x → (j : ℕ) × (get_elem? (l ++ m) j ≡ maybe.some x)
+at_right : {A : Type 0} (l m : List A) (k : ℕ) (x : A) → get_elem? m k ≡ Maybe.some x → (j : ℕ) × (get_elem? (l ++ m) j ≡ Maybe.some x)
 at_right [] m k x e = (k, e)
 at_right (y ∷ ys) m k x e = let r = at_right ys m k x e in (suc r.0, r.1)
 
 pub get_mid : {A : Type 0} (xs ys : List A) (y : A) → slice_get (xs ++ y ∷ ys) (length xs) ≡ Some y
 get_mid [] ys y = refl
 get_mid (x ∷ xs) ys y = get_mid xs ys y
-
-stands_left : (xs ys zs : View) → zs ≡ xs ++ ys → Stands xs zs
-stands_left xs ys zs e k x at = (k, ap (λ (l : View). get_elem? l k) e ∙ at_longer xs ys k x at)
-
-stands_right : (xs ys zs : View) → zs ≡ xs ++ ys → Stands ys zs
-stands_right xs ys zs e k x at = let r = at_right xs ys k x at in (r.0, ap (λ (l : View). get_elem? l r.0) e ∙ r.1)
 
 pub is_pass_more : (xs ys : View) → is_pass xs ≡ true → is_pass (xs ++ ys) ≡ true
 is_pass_more [] ys e = absurd (true≢false (sym e))
@@ -37,10 +29,10 @@ is_pass_more (x ∷ xs) ys e = e
 -- ---- the passes' views, one after the other
 stands_in : (ps : List Pass) (k : ℕ) (p : Pass) → slice_get ps k ≡ Some p → Stands (view_of p) (views_of ps)
 stands_in [] k p e = absurd (cc)
-stands_in (q ∷ ps) zero p e = subst (λ (y : Pass). Stands (view_of y) (views_of (q ∷ ps))) (ap (λ (o : Option Pass). unwrap_or o q) e) (stands_right (views_of ps) (view_of q) (views_of (q ∷ ps)) refl)
-stands_in (q ∷ ps) (suc k) p e = λ i x at. let r = stands_in ps k p e i x at in stands_left (views_of ps) (view_of q) (views_of (q ∷ ps)) refl r.0 x r.1
+stands_in (q ∷ ps) zero p e = subst (λ (y : Pass). Stands (view_of y) (views_of (q ∷ ps))) (some_is e) (at_right (views_of ps) (view_of q))
+stands_in (q ∷ ps) (suc k) p e = λ i x at. let r = stands_in ps k p e i x at in (r.0, at_longer (views_of ps) (view_of q) r.0 x r.1)
 
-at_mid : (l m : View) (x : Strand) (xs : View) → m ≡ x ∷ xs → get_elem? (l ++ m) (length l) ≡ maybe.some x
+at_mid : (l m : View) (x : Strand) (xs : View) → m ≡ x ∷ xs → get_elem? (l ++ m) (length l) ≡ Maybe.some x
 at_mid [] m x xs is = ap (λ (y : View). get_elem? y 0) is
 at_mid (y ∷ l) m x xs is = at_mid l m x xs is
 
@@ -55,11 +47,8 @@ gathered_none = record {
 }
 
 all_more : (P : Pass → Type 0) (p : Pass) (taken : List Pass) → P p → ((k : ℕ) (q : Pass) → slice_get taken k ≡ Some q → P q) → (k : ℕ) (q : Pass) → slice_get (p ∷ taken) k ≡ Some q → P q
-all_more P p taken one all zero q e = subst P (ap (λ (o : Option Pass). unwrap_or o p) e) one
+all_more P p taken one all zero q e = subst P (some_is e) one
 all_more P p taken one all (suc k) q e = all k q e
-
-ctx_same : {x y : RxCtx} → Some x ≡ Some y → x ≡ y
-ctx_same {x} e = ap (λ (o : Option RxCtx). unwrap_or o x) e
 
 pub gathered_more : (p : Pass) (taken : List Pass) (v w : View) (f f' : Found) → Gathered taken v f → Finds p.holds (ring_of (view_of p)) f f' → w ≡ v ++ view_of p → Gathered (p ∷ taken) w f'
 gathered_more p taken v w f f' g finds both = by p.holds refl finds
@@ -80,7 +69,7 @@ gathered_more p taken v w f f' g finds both = by p.holds refl finds
       some_out = λ e. let o = g.some_out (ap (λ (y : Found). y.out) (sym t.1) ∙ e) in (suc o.0, o.1, o.2, o.3);
       none_out = λ e. all_more (λ q. q.holds ≢ Out) p taken (λ b. cc) (g.none_out (ap (λ (y : Found). y.out) (sym t.1) ∙ e));
       none_within = λ e. let bad : Some t.0 ≡ None = ap (λ (y : Found). y.ctx) (sym t.1) ∙ e in absurd (cc);
-      ring = λ x e. (0, p, refl, t.2 ∙ ap (λ (y : RxCtx). Some (ring_name y)) (ctx_same (ap (λ (y : Found). y.ctx) (sym t.1) ∙ e)), is);
+      ring = λ x e. (0, p, refl, t.2 ∙ ap (λ (y : RxCtx). Some (ring_name y)) (some_is (ap (λ (y : Found). y.ctx) (sym t.1) ∙ e)), is);
     }
     by Out is same = record {
       views = views;
@@ -101,7 +90,7 @@ third Out a b = absurd (a refl)
 -- ---- the last state
 module _ (t : StateTable) (passes : List Pass) (v : View) (id : ℕ) (f : Found) (g : Gathered passes v f)
     (count : controller_of_table t + 1 ≤ length passes)
-    (s : St) (r : Kept t.table.shared.key s) (at : get_elem? s.views id ≡ maybe.some v) where
+    (s : St) (r : Kept t.table.shared.key s) (at : get_elem? s.views id ≡ Maybe.some v) where
   abbrev key : Key
   key = t.table.shared.key
 
@@ -126,7 +115,7 @@ module _ (t : StateTable) (passes : List Pass) (v : View) (id : ℕ) (f : Found)
   place_of n = (r.seat n).1
 
   abbrev Front : List Pass → Type 0
-  Front ps = (k : ℕ) (x : Strand) → get_elem? (views_of ps) k ≡ maybe.some x → get_elem? v k ≡ maybe.some x
+  Front ps = (k : ℕ) (x : Strand) → get_elem? (views_of ps) k ≡ Maybe.some x → get_elem? v k ≡ Maybe.some x
 
   front_less : (p : Pass) (ps : List Pass) → Front (p ∷ ps) → Front ps
   front_less p ps f k x e = f k x (at_longer (views_of ps) (view_of p) k x e)
@@ -239,8 +228,7 @@ module _ (t : StateTable) (passes : List Pass) (v : View) (id : ℕ) (f : Found)
 
   some_slot : (x : Holds) → x ≢ Nothing → has_slot x ≡ true
   some_slot Nothing a = absurd (a refl)
-  some_slot Within a = refl
-  some_slot Out a = refl
+  some_slot x a = refl
 
   pub deliveries_held : (k : ℕ) (q : Pass) → slice_get passes k ≡ Some q → q.holds ≢ Nothing → delivered (view_of q) ≡ r.deliveries
   deliveries_held k q e some = let o = front q in
@@ -292,12 +280,12 @@ module _ (t : StateTable) (passes : List Pass) (v : View) (id : ℕ) (f : Found)
       let is : Some (ring_name x) ≡ Some (ring_name o.first.ring) = sym ring ∙ ap ring_of o.is in
       ap (λ (y : Option RingName). unwrap_or y (ring_name x)) is ∙ ap ring_name (stood k q e).1.ring
 
-  module _ (slots : List Content) (each : (k : ℕ) (y : Content) → get_elem? s.homes k ≡ maybe.some (maybe.some y) → get_elem? slots k ≡ maybe.some y) (slot : Content) (there : get_elem? slots 0 ≡ maybe.some slot) where
+  module _ (slots : List Content) (each : (k : ℕ) (y : Content) → get_elem? s.homes k ≡ Maybe.some (Maybe.some y) → get_elem? slots k ≡ Maybe.some y) (slot : Content) (there : get_elem? slots 0 ≡ Maybe.some slot) where
     -- nobody had anything: the context is in the slot
     in_slot : f.out ≡ false → f.ctx ≡ None → (x : RxCtx) × (slot ≡ Some x) × (ring_name x ≡ ring_name key.ring.value)
     in_slot out none =
         let home = r.slot (at_home (λ k q e. third q.holds (g.none_out out k q e) (g.none_within none k q e))) in
-        (home.0, maybe.some-injective _ _ (sym there ∙ each 0 (Some home.0) (ap (λ (l : List (maybe.Option Content)). get_elem? l 0) home.1)), home.2)
+        (home.0, some-injective _ _ (sym there ∙ each 0 (Some home.0) (ap (λ (l : List (Maybe Content)). get_elem? l 0) home.1)), home.2)
 
     gone : (out : Bool) (held : Option RxCtx) → f.out ≡ out → f.ctx ≡ held → picked out held slot ≡ None → IsOut passes
     gone true held a b e = g.some_out a
@@ -313,21 +301,21 @@ module _ (t : StateTable) (passes : List Pass) (v : View) (id : ℕ) (f : Found)
 
     right : (out : Bool) (held : Option RxCtx) → f.out ≡ out → f.ctx ≡ held → (x : RxCtx) → picked out held slot ≡ Some x → ring_name x ≡ ring_name key.ring.value
     right true held a b x e = absurd (cc)
-    right false (Some y) a b x e = let q = g.ring y b in ap ring_name (ctx_same (sym e)) ∙ named q.0 q.1 y q.2 q.3
-    right false None a b x e = let y = in_slot a b in ap ring_name (ctx_same (sym e ∙ y.1)) ∙ y.2
+    right false (Some y) a b x e = let q = g.ring y b in ap ring_name (some_is (sym e)) ∙ named q.0 q.1 y q.2 q.3
+    right false None a b x e = let y = in_slot a b in ap ring_name (some_is (sym e ∙ y.1)) ∙ y.2
 
     received : (x : RxCtx) → picked f.out f.ctx slot ≡ Some x → ((k : ℕ) (q : Pass) → slice_get passes k ≡ Some q → q.holds ≡ Nothing)
         → (received_list x ≡ received_by key.ring.value r.deliveries) × (x ≡ last_of key.ring.value r.deliveries)
     received x e empty =
         let home = r.slot (at_home empty) in
-        let there : slot ≡ Some home.0 = maybe.some-injective _ _ (sym there ∙ each 0 (Some home.0) (ap (λ (l : List (maybe.Option Content)). get_elem? l 0) home.1)) in
+        let there : slot ≡ Some home.0 = some-injective _ _ (sym there ∙ each 0 (Some home.0) (ap (λ (l : List (Maybe Content)). get_elem? l 0) home.1)) in
         let is : x ≡ home.0 = by f.out f.ctx refl refl e there in
         (ap received_list is ∙ home.4, is ∙ home.5)
       where
         by : (out : Bool) (held : Option RxCtx) → f.out ≡ out → f.ctx ≡ held → picked out held slot ≡ Some x → {y : RxCtx} → slot ≡ Some y → x ≡ y
         by true held a b e t = absurd (cc)
         by false (Some z) a b e t = let q = g.ring z b in let bad : Nothing ≡ Within = sym (empty q.0 q.1 q.2) ∙ q.4 in absurd (cc)
-        by false None a b e t = ctx_same (sym e ∙ t)
+        by false None a b e t = some_is (sym e ∙ t)
 
     pub closes : IsEnded t passes (picked f.out f.ctx slot)
     closes = record {
@@ -356,7 +344,7 @@ module _ (t : StateTable) (passes : List Pass) (v : View) (id : ℕ) (f : Found)
 
 pub ended : (t : StateTable) (passes : List Pass) (v : View) (id : ℕ) (f : Found) → Gathered passes v f
     → controller_of_table t + 1 ≤ length passes
-    → is_pass v ≡ true → (ws : List ℕ) (slots : List Content) (slot : Content) → Final (Seen (Holding t.table.shared.key) id v) ws slots → get_elem? slots 0 ≡ maybe.some slot
+    → is_pass v ≡ true → (ws : List ℕ) (slots : List Content) (slot : Content) → Final (Seen (Holding t.table.shared.key) id v) ws slots → get_elem? slots 0 ≡ Maybe.some slot
     → IsEnded t passes (picked f.out f.ctx slot)
 ended t passes v id f g count p ws slots slot final there =
     closes t passes v id f g count final.0 (running t.table.shared.key final.0 final.1.0 id v final.1.1 p) final.1.1 slots final.4 slot there

@@ -1,11 +1,13 @@
 -- Deliveries that grow at their end, and who may add one.
-use Rattle.{std.proofs.Common.{◌≡◌, ◌≢◌, ℕ, List, [], ◌∷◌, ◌++◌, Bool, true, false, not, ◌&&◌, nat_eq, eq-eqb, ne_eqb, refl, sym, ap, ◌∙◌, append_assoc, length, drop, subst, Option, Some, unwrap_or, true≢false}, atomic_table.specs.Table.Me}
-use Rattle.{std.proofs.lemmas.{List.{append-nil, Elements.filter-append}, Bool.eqb-true}, rx_ring.specs.{declared.{packet.Packet.Packet, ends.RxCtx.RxCtx}, Ends.received_list}, napi_model.specs.declared.state.State.State as Napi}
-use Rattle.napi_model.specs.{declared.{state.Place.{Place, TheVariants.{Nobody, Granted, Listed, ToThread, Polling, Control}}, event.Event.Event}, Step.after, History.{LegalHistory, IsLegalFor, state_after}, Laws.IsSound}
-use Rattle.{napi_model.proofs.Owners.{ownership_kept, owner_kept}, napi_word.specs.declared.view.Delivery.Delivery}
-use Rattle.napi_word.specs.View.{View, first_in, received_in, delivered, delivery, packets_of, own_deliveries, received_by, last_of, deliverers, Continues}
-use Rattle.napi_word.{specs.Slot.{Content, stays, Delivers, owns_slot, has_at, is_out, is_given, one_if, givers}, proofs.{Places.{has_same, has_out}, Owns.own_no}}
+use Rattle.std.proofs.{Common.{◌≡◌, ◌≢◌, ℕ, List, [], ◌∷◌, ◌++◌, Bool, true, false, not, ◌&&◌, nat_eq, eq-eqb, ne_eqb, refl, sym, ap, ◌∙◌, append_assoc, length, drop, subst, Option, Some, unwrap_or, true≢false}, lemmas.List.append-nil}
+use Rattle.{std.proofs.lemmas.{List.Elements.filter-append, Bool.eqb-true}, atomic_table.specs.Table.Me, rx_ring.specs.{declared.{packet.Packet.Packet, ends.RxCtx.RxCtx}, Ends.{received_list, ring_name}}}
+use Rattle.napi_model.specs.{declared.{state.{State.State as Napi, Place.{Place, TheVariants.{Polling, Control}}}, event.Event.Event}, Step.after, History.{LegalHistory, IsLegalFor, state_after}}
+use Rattle.{napi_model.{specs.Laws.IsSound, proofs.Owners.{ownership_kept, owner_kept}}, napi_word.specs.{declared.view.Delivery.Delivery, View.{View, first_in, received_in, delivered, delivery, packets_of, own_deliveries, received_by}}}
+use Rattle.napi_word.{specs.{View.{last_of, deliverers, Continues, ring_of}, Slot.{Content, stays, Delivers, owns_slot, has_at, is_out, is_given, one_if, givers}}, proofs.{Places.{has_same, has_out}, Owns.own_no}}
 use mathlib.Core.List.{IsPrefix}
+
+pub some_is : {A : Type 0} {a b : A} → Some a ≡ Some b → a ≡ b
+some_is {A} {a} e = ap (λ (o : Option A). unwrap_or o a) e
 
 pub prefix_self : {A : Type 0} (l : List A) → IsPrefix l l
 prefix_self l = ([], append-nil l)
@@ -47,12 +49,9 @@ unfolding own_deliveries
 own_both n g h = filter-append (λ (d : Delivery). nat_eq d.by n) g h
 
 pub has_one : (a b : ℕ) (p : Place) → has_at a p ≡ true → has_at b p ≡ true → a ≡ b
-has_one a b Nobody x y = absurd (true≢false (sym x))
-has_one a b (Granted c) x y = absurd (true≢false (sym x))
-has_one a b Listed x y = absurd (true≢false (sym x))
-has_one a b ToThread x y = absurd (true≢false (sym x))
 has_one a b (Polling c) x y = sym (eqb-true c a x) ∙ eqb-true c b y
 has_one a b (Control c) x y = sym (eqb-true c a x) ∙ eqb-true c b y
+has_one a b p x y = absurd (true≢false (sym x))
 
 -- others' events leave who has the slot
 pub has_others : (k n : ℕ) (s : Napi) (e : Event) → IsSound s → IsLegalFor k s e → e.caller ≢ n → has_at n (after s e).place ≡ has_at n s.place
@@ -106,14 +105,16 @@ own_deliveries_none c = refl
 
 -- ---- what a view tells once what it shows of deliveries is known
 
+-- the same context and deliveries: the same ring, and the same received
+pub ring_as : (v w : View) → first_in w ≡ first_in v → ring_of w ≡ ring_of v
+ring_as [] [] e = refl
+ring_as (x ∷ xs) (y ∷ ys) e = ap (λ (r : Option RxCtx). Some (ring_name (unwrap_or r x.ring))) e
+ring_as v w e = absurd (cc)
+
 pub received_as : (v w : View) → first_in w ≡ first_in v → delivered w ≡ delivered v → received_in w ≡ received_in v
 received_as [] [] e d = refl
-received_as [] (y ∷ ys) e d = absurd (cc)
-received_as (x ∷ xs) [] e d = absurd (cc)
-received_as (x ∷ xs) (y ∷ ys) e d = λ i. received_by (ring i) (d i)
-  where
-    ring : y.ring ≡ x.ring
-    ring = ap (λ (o : Option RxCtx). unwrap_or o x.ring) e
+received_as (x ∷ xs) (y ∷ ys) e d = λ i. received_by (unwrap_or (e i) x.ring) (d i)
+received_as v w e d = absurd (cc)
 
 -- a step that leaves the slot with its owner leaves what was received before it
 pub received_stays : (me me' : Me Content View) → Delivers stays me me' → owns_slot me.0 ≡ true → received_in me'.0 ≡ received_in me.0
@@ -121,7 +122,4 @@ received_stays me me' g owns = received_as me.0 me'.0 g.first (g.shifts.0 ∙ g.
 
 pub received_is : (v : View) (r : RxCtx) (ds : List Delivery) → first_in v ≡ Some r → delivered v ≡ ds → received_in v ≡ received_by r ds
 received_is [] r ds e d = absurd (cc)
-received_is (x ∷ xs) r ds e d = λ i. received_by (ring i) (d i)
-  where
-    ring : x.ring ≡ r
-    ring = ap (λ (o : Option RxCtx). unwrap_or o r) e
+received_is (x ∷ xs) r ds e d = λ i. received_by (unwrap_or (e i) r) (d i)

@@ -1,19 +1,15 @@
 -- One event more keeps the rule.
-use Rattle.{std.proofs.Common.{◌≡◌, ◌≢◌, ℕ, zero, suc, List, [], ◌∷◌, ◌++◌, get_or, set, Option, Some, None, Bool, true, false, is_some, unwrap_or, refl, sym, ap, ◌∙◌, subst, ⊎_elim, arith, true≢false}, atomic_table.specs.Table.State}
-use Rattle.{atomic_table.proofs.Lists.{at_set, set_again}, napi_model.specs.declared.{event.Operation.Operation, state.{State.State as Napi, Place.Place}}, napi_word.specs.declared.view.{Key.Key, Strand.Strand, Delivery.Delivery}}
-use Rattle.{napi_model.specs.{declared.event.Event.Event, Step.{event, opening, seen_of, after}}, napi_word.proofs.{Owns.{own_mine, own_other, own_rest, begins_self, begins_more}, Deliveries.{prefix_self, has_others, givers_snoc, More}}}
-use Rattle.napi_model.{specs.History.{LegalHistory, IsLegalFor, state_after, own}, proofs.Owners.{sound_after, opens_sound, ownership_kept, owner_kept, disable_kept, threads_after, opens_unthreaded, controlled_after, opens_controlled}}
-use Rattle.{napi_model.specs.Laws.{IsSound, ThreadsIsHanded, IsControlled, is_owner, stand_of}, napi_word.specs.{Slot.{Content, has_at, is_out, is_given, one_if}, Rule.{first_view, Home, Homes, Owned, Fits, Kept, Starts, Holding}}}
-use Rattle.{napi_model.{specs.Word.word_of, proofs.Histories.{state_after-snoc, state_after-append, legal_snoc, legal_front, legal_back}}, napi_word.specs.Events.Steps}
-use Rattle.napi_word.specs.View.{View, is_pass, number_of, controller_of, mine, ring_of, state_in, place_in, disable_in, busy_in}
-use mathlib.Core.Option as maybe
+use Rattle.napi_word.{proofs.{Owns.{own_mine, own_other, own_rest, begins_self, begins_more}, Deliveries.{prefix_self, has_others, givers_snoc, More, some_is}}, specs.{Events.Steps, Slot.{Content, has_at, is_out, is_given, one_if}}}
+use Rattle.napi_word.specs.{View.{View, is_pass, number_of, controller_of, mine, ring_of, state_in, place_in, disable_in, busy_in}, declared.view.{Strand.Strand, Key.Key, Delivery.Delivery}, Rule.{first_view, Home, Homes, Owned, Fits}}
+use Rattle.{napi_word.specs.Rule.{Kept, Starts, Holding}, napi_model.specs.{History.{LegalHistory, IsLegalFor, state_after, own}, Laws.{IsSound, ThreadsIsHanded, IsControlled, is_owner, stand_of}, Step.{event, opening, seen_of, after}}}
+use Rattle.napi_model.{specs.{declared.{state.{State.State as Napi, Place.Place}, event.{Event.Event, Operation.Operation}}, Word.word_of}, proofs.Owners.{sound_after, opens_sound, ownership_kept, owner_kept, disable_kept, threads_after}}
+use Rattle.{napi_model.proofs.{Owners.{opens_unthreaded, controlled_after, opens_controlled}, Histories.{state_after-snoc, state_after-append, legal_snoc, legal_front, legal_back}}, std.proofs.Common.{◌≡◌, ◌≢◌, ℕ, zero, suc, List, [], ◌∷◌}}
+use Rattle.{std.proofs.Common.{◌++◌, get_or, set, Option, Some, None, Bool, true, false, is_some, unwrap_or, refl, sym, ap, ◌∙◌, subst, ⊎_elim, arith, true≢false}, atomic_table.{proofs.Lists.{at_set, set_again}, specs.Table.State}}
 use lib.ListN.{get_elem?}
+use mathlib.Core.Option as maybe
 
 abbrev pub St : Type 0
 St = State Content View
-
-pub some_is : {a b : ℕ} → Some a ≡ Some b → a ≡ b
-some_is {a} e = ap (λ (o : Option ℕ). unwrap_or o a) e
 
 -- ---- what a pass's view begins with
 pub record Open (v : View) : Type 0 where
@@ -121,14 +117,8 @@ module _ (key : Key) (s : St) (r : Kept key s) (id : ℕ) (v : View) (at : get_e
   pub owned : Owned key h r.deliveries r.seat (id, 0) o.first c
   owned = own_fits.owned c o.numbered
 
-  owner_now : is_owner c now.place ≡ is_owner c t.place
-  owner_now = owner_since key s r (id, 0) o.first own_fits c o.numbered
-
   stand_now : is_owner c t.place ≡ true → stand_of now ≡ stand_of t
   stand_now = stand_since key s r (id, 0) o.first own_fits c o.numbered
-
-  disable_now : c ≡ key.controller → now.flags.disable ≡ t.flags.disable
-  disable_now = disable_since key s r (id, 0) o.first own_fits c o.numbered
 
   viewed : state_in v ≡ t
   viewed = ap state_in o.is ∙ ap (λ (k : ℕ). state_after (opening k) seen) own_fits.controller
@@ -140,10 +130,10 @@ module _ (key : Key) (s : St) (r : Kept key s) (id : ℕ) (v : View) (at : get_e
     sound = sound_after key.controller (opening key.controller) h (opens_sound key.controller) r.legal;
     threads = threads_after key.controller (opening key.controller) h (opens_sound key.controller) (opens_unthreaded key.controller) r.legal;
     controlled = controlled_after key.controller (opening key.controller) h (opens_controlled key.controller) r.legal;
-    owner = owner_now ∙ ap (λ (u : Napi). is_owner c u.place) (sym viewed);
+    owner = owner_since key s r (id, 0) o.first own_fits c o.numbered ∙ ap (λ (u : Napi). is_owner c u.place) (sym viewed);
     place = λ y. ap (λ (t : Place × Bool). t.0) (stand_now (ap (λ (u : Napi). is_owner c u.place) (sym viewed) ∙ y)) ∙ ap (λ (u : Napi). u.place) (sym viewed);
     busy = λ y. ap (λ (t : Place × Bool). t.1) (stand_now (ap (λ (u : Napi). is_owner c u.place) (sym viewed) ∙ y)) ∙ ap (λ (u : Napi). u.flags.in_busy_poll) (sym viewed);
-    disable = λ y. disable_now y ∙ ap (λ (u : Napi). u.flags.disable) (sym viewed);
+    disable = λ y. disable_since key s r (id, 0) o.first own_fits c o.numbered y ∙ ap (λ (u : Napi). u.flags.disable) (sym viewed);
   }
 
   pub found : get_or s.words 0 0 ≡ word_of (seen_of now)

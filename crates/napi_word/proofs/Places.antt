@@ -1,22 +1,14 @@
 -- Who has the slot, by the place.
-use Rattle.{std.proofs.Common.{◌≡◌, ℕ, Bool, true, false, refl, sym, ap, ◌∙◌, true≢false}, napi_model.specs.{declared.state.Place.{Place, TheVariants.{Nobody, Granted, Listed, ToThread, Polling, Control}}, Laws.is_owner}}
-use Rattle.napi_word.specs.Slot.{has_at, is_out}
+use Rattle.{std.proofs.Common.{◌≡◌, ℕ, Bool, true, false, refl, sym, ap, ◌∙◌, true≢false}, napi_model.specs.{declared.state.Place.{Place, TheVariants.{Granted, Polling, Control}}, Laws.is_owner}, napi_word.specs.Slot.{has_at, is_out}}
 
 pub has_owner : (c : ℕ) (p : Place) → has_at c p ≡ true → is_owner c p ≡ true
-has_owner c Nobody e = e
 has_owner c (Granted b) e = absurd (true≢false (sym e))
-has_owner c Listed e = e
-has_owner c ToThread e = e
-has_owner c (Polling b) e = e
-has_owner c (Control b) e = e
+has_owner c p e = e
 
 pub has_out : (c : ℕ) (p : Place) → has_at c p ≡ true → is_out p ≡ true
-has_out c Nobody e = e
-has_out c (Granted b) e = e
-has_out c Listed e = e
-has_out c ToThread e = e
 has_out c (Polling b) e = refl
 has_out c (Control b) e = refl
+has_out c p e = e
 
 pub is_false : (b : Bool) → (b ≡ true → ⊥) → b ≡ false
 is_false true h = absurd (h refl)

@@ -2,8 +2,8 @@
 use Rattle.{std.proofs.Common.{◌≡◌, ◌≢◌, ◌⊎◌, ℕ, zero, suc, ◌+◌, ◌<◌, List, [], ◌∷◌, ◌++◌, length, set, Bool, true, cond, eqb, eq-eqb, ne_eqb, refl, sym, ap, ◌∙◌, subst, inl, inr, ⊎_elim, arith}, atomic_table.specs.Table.{Splits, Joins}}
 use Rattle.{atomic_table.proofs.Lists.{at_longer, at_set, at_snoc, set_again}, napi_model.specs.declared.event.Event.Event, napi_word.specs.{declared.view.{Key.Key, Strand.Strand, Delivery.Delivery}, View.{View, is_pass}}}
 use Rattle.napi_word.{specs.{Rule.{Fits, Kept, Holding, left_of, right_of, note, note_of, joined, spent}, Surveys.{front, with_front, but_last, last_alone}}, proofs.Keeps.{St, opened, running}}
-use mathlib.Core.Option as maybe
 use lib.ListN.{get_elem?}
+use mathlib.Core.Option as maybe
 
 -- ---- lists
 pub at_end : {A : Type 0} (l : List A) (a b : A) (j : ℕ) → get_elem? (l ++ a ∷ []) j ≡ maybe.some b → (get_elem? l j ≡ maybe.some b) ⊎ ((j ≡ length l) × (a ≡ b))
@@ -23,11 +23,6 @@ at_join [] m b j e = inr (j, omega arith, e)
 at_join (x ∷ xs) m b zero e = inl e
 at_join (x ∷ xs) m b (suc j) e = ⊎_elim (λ t. inl t) (λ t. let h = t.1 in inr (t.0, omega (arith, h), t.2)) (at_join xs m b j e)
 
-length_set : {A : Type 0} (l : List A) (i : ℕ) (a : A) → length (set l i a) ≡ length l
-length_set [] i a = refl
-length_set (x ∷ xs) zero a = refl
-length_set (x ∷ xs) (suc i) a = ap suc (length_set xs i a)
-
 -- a strand moves to another place
 refit : (key : Key) (h : List Event) (ds : List Delivery) (seat seat' : ℕ → ℕ × ℕ) (p q : ℕ × ℕ) (x : Strand) → ((c : ℕ) → seat c ≡ p → seat' c ≡ q) → Fits key h ds seat p x → Fits key h ds seat' q x
 refit key h ds seat seat' p q x goes f = record {
@@ -38,6 +33,13 @@ refit key h ds seat seat' p q x goes f = record {
   ring = f.ring;
   begun = f.begun;
 }
+
+-- other views behind the same history, whose strands are theirs
+other_views : {key : Key} {s : St} (r : Kept key s) (seat : ℕ → ℕ × ℕ) (views : List View)
+    → ((j : ℕ) (u : View) → get_elem? views j ≡ maybe.some u → (k : ℕ) (z : Strand) → get_elem? u k ≡ maybe.some z → Fits key r.history r.deliveries seat (j, k) z)
+    → Kept key record { words = s.words; homes = s.homes; views = views }
+other_views r seat views strands =
+    record { history = r.history; deliveries = r.deliveries; seat = seat; legal = r.legal; word = r.word; slot = r.slot; strands = strands; few = r.few; order = r.order; few_deliver = r.few_deliver }
 
 -- ---- the second strand is given away
 module _ (key : Key) (id : ℕ) (x y : Strand) (ys : View) (s : St) (r : Kept key s) (at : get_elem? s.views id ≡ maybe.some (x ∷ y ∷ ys)) where
@@ -67,24 +69,14 @@ module _ (key : Key) (id : ℕ) (x y : Strand) (ys : View) (s : St) (r : Kept ke
   right_fits (suc k) z e = absurd (maybe.some-ne-none z (sym e))
 
   divided : Kept key record { words = s.words; homes = s.homes; views = set s.views id (x ∷ ys) ++ (y ∷ []) ∷ [] }
-  divided = record {
-    history = r.history;
-    deliveries = r.deliveries;
-    seat = λ c. moved (r.seat c);
-    legal = r.legal;
-    word = r.word;
-    slot = r.slot;
-    strands = λ j u is k z e. ⊎_elim
-        (λ (t : get_elem? (set s.views id (x ∷ ys)) j ≡ maybe.some u). ⊎_elim
-        (λ (d : (j ≡ id) × (x ∷ ys ≡ u)). subst (λ (i : ℕ). Fits key r.history r.deliveries (λ c. moved (r.seat c)) (i, k) z) (sym d.0) (left_fits k z (ap (λ (v : View). get_elem? v k) d.1 ∙ e)))
-        (λ (d : (j ≢ id) × (get_elem? s.views j ≡ maybe.some u)). refit key r.history r.deliveries r.seat (λ c. moved (r.seat c)) (j, k) (j, k) z (λ c. there j k c d.0) (r.strands j u d.1 k z e))
-        (at_set s.views id j (x ∷ ys) u t))
-        (λ (t : (j ≡ N) × (y ∷ [] ≡ u)). subst (λ (i : ℕ). Fits key r.history r.deliveries (λ c. moved (r.seat c)) (i, k) z) (sym t.0) (right_fits k z (ap (λ (v : View). get_elem? v k) t.1 ∙ e)))
-        (at_end (set s.views id (x ∷ ys)) (y ∷ []) u j is);
-    few = r.few;
-    order = r.order;
-    few_deliver = r.few_deliver;
-  }
+  divided = other_views r (λ c. moved (r.seat c)) (set s.views id (x ∷ ys) ++ (y ∷ []) ∷ [])
+      (λ j u is k z e. ⊎_elim
+      (λ (t : get_elem? (set s.views id (x ∷ ys)) j ≡ maybe.some u). ⊎_elim
+      (λ (d : (j ≡ id) × (x ∷ ys ≡ u)). subst (λ (i : ℕ). Fits key r.history r.deliveries (λ c. moved (r.seat c)) (i, k) z) (sym d.0) (left_fits k z (ap (λ (v : View). get_elem? v k) d.1 ∙ e)))
+      (λ (d : (j ≢ id) × (get_elem? s.views j ≡ maybe.some u)). refit key r.history r.deliveries r.seat (λ c. moved (r.seat c)) (j, k) (j, k) z (λ c. there j k c d.0) (r.strands j u d.1 k z e))
+      (at_set s.views id j (x ∷ ys) u t))
+      (λ (t : (j ≡ N) × (y ∷ [] ≡ u)). subst (λ (i : ℕ). Fits key r.history r.deliveries (λ c. moved (r.seat c)) (i, k) z) (sym t.0) (right_fits k z (ap (λ (v : View). get_elem? v k) t.1 ∙ e)))
+      (at_end (set s.views id (x ∷ ys)) (y ∷ []) u j is))
 
 pub gives_number : (key : Key) (id : ℕ) (x y : Strand) (ys v : View) → v ≡ x ∷ y ∷ ys → is_pass v ≡ true → Splits (Holding key) id v (left_of v) (right_of v)
 gives_number key id x y ys v is p = subst (λ (u : View). Splits (Holding key) id u (left_of u) (right_of u)) (sym is)
@@ -96,21 +88,11 @@ notes key id v p s holding at =
     let r = running key s holding id v at p in
     let o = opened v p in
     let shown : note o.first ∷ [] ≡ note_of v = ap note_of (sym o.is) in
-    inr record {
-      history = r.history;
-      deliveries = r.deliveries;
-      seat = r.seat;
-      legal = r.legal;
-      word = r.word;
-      slot = r.slot;
-      strands = λ j u is k z e. ⊎_elim
-          (λ (t : get_elem? (set s.views id v) j ≡ maybe.some u). r.strands j u (ap (λ (l : List View). get_elem? l j) (sym (set_again s.views id v at)) ∙ t) k z e)
-          (λ (t : note_of v ≡ u). one r o.first (r.strands id v at 0 o.first (ap (λ (l : View). get_elem? l 0) o.is)) j k z (ap (λ (l : View). get_elem? l k) (shown ∙ t) ∙ e))
-          (at_snoc (set s.views id v) (note_of v) u j is);
-      few = r.few;
-      order = r.order;
-      few_deliver = r.few_deliver;
-    }
+    inr (other_views r r.seat (set s.views id v ++ note_of v ∷ [])
+    (λ j u is k z e. ⊎_elim
+    (λ (t : get_elem? (set s.views id v) j ≡ maybe.some u). r.strands j u (ap (λ (l : List View). get_elem? l j) (sym (set_again s.views id v at)) ∙ t) k z e)
+    (λ (t : note_of v ≡ u). one r o.first (r.strands id v at 0 o.first (ap (λ (l : View). get_elem? l 0) o.is)) j k z (ap (λ (l : View). get_elem? l k) (shown ∙ t) ∙ e))
+    (at_snoc (set s.views id v) (note_of v) u j is)))
   where
     one : (r : Kept key s) (x : Strand) → Fits key r.history r.deliveries r.seat (id, 0) x → (j k : ℕ) (z : Strand) → get_elem? (note x ∷ []) k ≡ maybe.some z → Fits key r.history r.deliveries r.seat (j, k) z
     one r x f j zero z e = subst (Fits key r.history r.deliveries r.seat (j, 0)) (maybe.some-injective _ _ e) record { begins = f.begins; delivered = f.delivered; owned = λ c none. absurd (cc); controller = f.controller; ring = f.ring; begun = f.begun }
@@ -140,32 +122,21 @@ module _ (key : Key) (id : ℕ) (v : View) (other : ℕ) (w u : View) (from : (i
       (at_join v u z k e)
 
   merged : Kept key record { words = s.words; homes = s.homes; views = set (set s.views id (joined v u)) other spent }
-  merged = record {
-    history = r.history;
-    deliveries = r.deliveries;
-    seat = λ c. shifted (r.seat c);
-    legal = r.legal;
-    word = r.word;
-    slot = r.slot;
-    strands = λ j y is k z e. ⊎_elim
-        (λ (t : (j ≡ other) × (spent ≡ y)). absurd (maybe.some-ne-none z (sym (ap (λ (l : View). get_elem? l k) t.1 ∙ e))))
-        (λ (t : (j ≢ other) × (get_elem? (set s.views id (joined v u)) j ≡ maybe.some y)). ⊎_elim
-        (λ (d : (j ≡ id) × (joined v u ≡ y)). subst (λ (i : ℕ). Fits key r.history r.deliveries (λ c. shifted (r.seat c)) (i, k) z) (sym d.0) (both_fit k z (ap (λ (l : View). get_elem? l k) d.1 ∙ e)))
-        (λ (d : (j ≢ id) × (get_elem? s.views j ≡ maybe.some y)). refit key r.history r.deliveries r.seat (λ c. shifted (r.seat c)) (j, k) (j, k) z (λ c. stays j k c t.0) (r.strands j y d.1 k z e))
-        (at_set s.views id j (joined v u) y t.1))
-        (at_set (set s.views id (joined v u)) other j spent y is);
-    few = r.few;
-    order = r.order;
-    few_deliver = r.few_deliver;
-  }
+  merged = other_views r (λ c. shifted (r.seat c)) (set (set s.views id (joined v u)) other spent)
+      (λ j y is k z e. ⊎_elim
+      (λ (t : (j ≡ other) × (spent ≡ y)). absurd (maybe.some-ne-none z (sym (ap (λ (l : View). get_elem? l k) t.1 ∙ e))))
+      (λ (t : (j ≢ other) × (get_elem? (set s.views id (joined v u)) j ≡ maybe.some y)). ⊎_elim
+      (λ (d : (j ≡ id) × (joined v u ≡ y)). subst (λ (i : ℕ). Fits key r.history r.deliveries (λ c. shifted (r.seat c)) (i, k) z) (sym d.0) (both_fit k z (ap (λ (l : View). get_elem? l k) d.1 ∙ e)))
+      (λ (d : (j ≢ id) × (get_elem? s.views j ≡ maybe.some y)). refit key r.history r.deliveries r.seat (λ c. shifted (r.seat c)) (j, k) (j, k) z (λ c. stays j k c t.0) (r.strands j y d.1 k z e))
+      (at_set s.views id j (joined v u) y t.1))
+      (at_set (set s.views id (joined v u)) other j spent y is))
 
 pub joins : (key : Key) (id : ℕ) (v : View) (other : ℕ) (w : View) → is_pass v ≡ true → Joins (Holding key) id v other w (joined v w) spent
 joins key id v other w p s holding at apart beside = inr (merged key id v other w w (λ i z e. e) s (running key s holding id v at p) at apart beside)
 
 front_from : (w : View) (i : ℕ) (z : Strand) → get_elem? (front w) i ≡ maybe.some z → get_elem? w i ≡ maybe.some z
-front_from [] i z e = e
-front_from (x ∷ xs) zero z e = e
 front_from (x ∷ xs) (suc i) z e = absurd (maybe.some-ne-none z (sym e))
+front_from w i z e = e
 
 pub joins_front : (key : Key) (id : ℕ) (v : View) (other : ℕ) (w : View) → is_pass v ≡ true → Joins (Holding key) id v other w (with_front v w) spent
 joins_front key id v other w p s holding at apart beside = inr (merged key id v other w (front w) (front_from w) s (running key s holding id v at p) at apart beside)
@@ -203,34 +174,22 @@ module _ (key : Key) (id : ℕ) (xs : View) (y : Strand) (s : St) (r : Kept key 
   last_fit (suc k) z e = absurd (maybe.some-ne-none z (sym e))
 
   cut : Kept key record { words = s.words; homes = s.homes; views = set s.views id xs ++ (y ∷ []) ∷ [] }
-  cut = record {
-    history = r.history;
-    deliveries = r.deliveries;
-    seat = λ c. parted (r.seat c);
-    legal = r.legal;
-    word = r.word;
-    slot = r.slot;
-    strands = λ j u is k z e. ⊎_elim
-        (λ (t : get_elem? (set s.views id xs) j ≡ maybe.some u). ⊎_elim
-        (λ (d : (j ≡ id) × (xs ≡ u)). subst (λ (i : ℕ). Fits key r.history r.deliveries (λ c. parted (r.seat c)) (i, k) z) (sym d.0) (stay_fit k z (ap (λ (v : View). get_elem? v k) d.1 ∙ e)))
-        (λ (d : (j ≢ id) × (get_elem? s.views j ≡ maybe.some u)). refit key r.history r.deliveries r.seat (λ c. parted (r.seat c)) (j, k) (j, k) z (λ c. parts_not j k c d.0) (r.strands j u d.1 k z e))
-        (at_set s.views id j xs u t))
-        (λ (t : (j ≡ M) × (y ∷ [] ≡ u)). subst (λ (i : ℕ). Fits key r.history r.deliveries (λ c. parted (r.seat c)) (i, k) z) (sym t.0) (last_fit k z (ap (λ (v : View). get_elem? v k) t.1 ∙ e)))
-        (at_end (set s.views id xs) (y ∷ []) u j is);
-    few = r.few;
-    order = r.order;
-    few_deliver = r.few_deliver;
-  }
+  cut = other_views r (λ c. parted (r.seat c)) (set s.views id xs ++ (y ∷ []) ∷ [])
+      (λ j u is k z e. ⊎_elim
+      (λ (t : get_elem? (set s.views id xs) j ≡ maybe.some u). ⊎_elim
+      (λ (d : (j ≡ id) × (xs ≡ u)). subst (λ (i : ℕ). Fits key r.history r.deliveries (λ c. parted (r.seat c)) (i, k) z) (sym d.0) (stay_fit k z (ap (λ (v : View). get_elem? v k) d.1 ∙ e)))
+      (λ (d : (j ≢ id) × (get_elem? s.views j ≡ maybe.some u)). refit key r.history r.deliveries r.seat (λ c. parted (r.seat c)) (j, k) (j, k) z (λ c. parts_not j k c d.0) (r.strands j u d.1 k z e))
+      (at_set s.views id j xs u t))
+      (λ (t : (j ≡ M) × (y ∷ [] ≡ u)). subst (λ (i : ℕ). Fits key r.history r.deliveries (λ c. parted (r.seat c)) (i, k) z) (sym t.0) (last_fit k z (ap (λ (v : View). get_elem? v k) t.1 ∙ e)))
+      (at_end (set s.views id xs) (y ∷ []) u j is))
 
 pub but_last_is : (xs : View) (y : Strand) → but_last (xs ++ y ∷ []) ≡ xs
-but_last_is [] y = refl
-but_last_is (x ∷ []) y = refl
 but_last_is (x ∷ z ∷ zs) y = ap (λ (l : View). x ∷ l) (but_last_is (z ∷ zs) y)
+but_last_is xs y = refl
 
 pub last_alone_is : (xs : View) (y : Strand) → last_alone (xs ++ y ∷ []) ≡ y ∷ []
-last_alone_is [] y = refl
-last_alone_is (x ∷ []) y = refl
 last_alone_is (x ∷ z ∷ zs) y = last_alone_is (z ∷ zs) y
+last_alone_is xs y = refl
 
 pub parts_last_of : (key : Key) (id : ℕ) (xs : View) (y : Strand) (v : View) → v ≡ xs ++ y ∷ [] → is_pass v ≡ true → Splits (Holding key) id v (but_last v) (last_alone v)
 parts_last_of key id xs y v is p = subst (λ (u : View). Splits (Holding key) id u (but_last u) (last_alone u)) (sym is)

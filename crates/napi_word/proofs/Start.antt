@@ -3,9 +3,9 @@ use Rattle.std.proofs.Common.{◌≡◌, ◌⊎◌, ℕ, zero, suc, ◌+◌, ◌
 use Rattle.{atomic_table.specs.Table.{Me, opening, takes, Allows}, rx_ring.specs.declared.ends.RxCtx.RxCtx, napi_model.specs.{Step.seen_of, History.{LegalHistory, state_after}, Word.word_of}, napi_word.specs.declared.view.Key.Key}
 use Rattle.{napi_word.specs.{declared.view.{Strand.Strand, Holds.TheVariants.Within}, View.{View, number_of, place_in, disable_in}, Slot.{Content, is_out, owns_slot}}, napi_model.specs.declared.state.Place.TheVariants.Control}
 use Rattle.napi_word.specs.{Rule.{strand, strands_from, maker_at, first_view, begun_view, begun_slot, Homes, Owned, Fits, Kept, Starts, Holding}, Told.begun, declared.table.{Pass.Pass, StateTable.StateTable}}
-use Rattle.napi_word.{specs.Passes.{ctx_of, IsLaid, view_of, IsPassOf, IsNew, Controls, Disable}, proofs.{Owns.own_none, Deliveries.{own_deliveries_none, givers_none}, Keeps.some_is}}
-use mathlib.Core.Option as maybe
+use Rattle.napi_word.{specs.Passes.{ctx_of, IsLaid, view_of, IsPassOf, IsNew, Controls, Disable}, proofs.{Owns.own_none, Deliveries.{own_deliveries_none, givers_none, some_is}}}
 use lib.ListN.{get_elem?}
+use mathlib.Core.Option as maybe
 use Rattle.napi_model.specs.Step as model
 
 pub opens : (key : Key) (x : RxCtx) → x ≡ key.ring.value → Holding key (opening (9 ∷ []) (Some x ∷ []) (first_view key))

@@ -1,55 +1,40 @@
 -- Each kind of step, at each state that the view of its pass allows.
-use Rattle.{std.proofs.{Common.{◌≡◌, ◌⊎◌, ◌||◌, ℕ, eqb, eq-eqb, Option, Some, None, Bool, true, false, refl, sym, ap, ◌∙◌, subst, inl, inr, ⊎_elim, true≢false, bit_and, bit_or}, lemmas.Bool.eqb-true}, atomic_table.specs.Table.Me}
-use Rattle.napi_model.specs.declared.{state.{State.State as Napi, Seen.Seen, Kind.Kind, Place.{Place, TheVariants.{Nobody, Granted, Listed, ToThread, Polling, Control}}}, event.Operation.Operation}
-use Rattle.napi_model.specs.declared.event.{Operation.TheVariants.{Look, Schedule, Hand, Take, Complete, BusyTake, BusyStop, MarkDisable, TakeDisable, Unmark, Enable, SetThreaded}, Done.TheVariants.Held}
-use Rattle.napi_model.{specs.{Step.{event, seen_of, seen_after, after_by, handed_at, place_of, MayHand, IsControl}, History.IsLegalFor, Laws.{is_owner, ThreadsIsHanded, IsHandedOrPolled}, Word.word_of}, proofs.Words.word_of-injective}
-use Rattle.napi_word.specs.{declared.{table.{Pass.Pass, StateTable.StateTable}, view.Holds.Holds}, View.{View, number_of, controller_of, place_in}}
-use Rattle.napi_word.specs.{Slot.{Content, has_at, is_out, owns_slot, Tied, Moves, stays, taken, given, Gives, Delivers}, Passes.{tie_of, IsWithin, HandsOver, HasPoll, Polls, IsController, Controls, IsNoOwner, Disable}}
-use Rattle.napi_word.{specs.{Atoms.{MayMake, MayExchange}, Told.{Did, when, either_op, no_move, load_op, prep_of, done_of, is_marked, is_busy, busy_op}}, proofs.{Keeps.Knows, Allowed.{nothing, Fitting, Turn, allowed}}}
-use Rattle.{napi_model.proofs.Tells.tells_next, napi_word.proofs.{Places.is_false, Bits.{hand_bits, take_mask, added, subtracted, hand_list, hand_thread, take_word, threaded_word, unthreaded_word, mark_word, unmark_word}}}
+use Rattle.napi_model.specs.{Step.{event, seen_of, seen_after, after_by, handed_at, place_of, MayHand, IsControl}, Laws.{is_owner, IsHandedOrPolled}, History.IsLegalFor, Word.word_of, declared.event.Operation.Operation}
+use Rattle.napi_model.specs.declared.{event.{Operation.TheVariants.{Look, Schedule, Hand, Take, Complete, BusyTake, BusyStop, MarkDisable, TakeDisable, Unmark, Enable, SetThreaded}, Done.TheVariants.Held}, state.State.State as Napi}
+use Rattle.{napi_model.{specs.declared.state.{Kind.Kind, Seen.Seen, Place.{TheVariants.{Granted, Listed, ToThread, Polling, Control}, Place}}, proofs.{Words.word_of-injective, Tells.tells_next}}, atomic_table.specs.Table.Me}
+use Rattle.napi_word.proofs.{Places.is_false, Keeps.Knows, Bits.{hand_bits, take_mask, added, subtracted, hand_list, hand_thread, take_word, threaded_word, unthreaded_word, mark_word, unmark_word}, Allowed.{nothing, Fitting, Turn, allowed}}
+use Rattle.napi_word.specs.{declared.{view.Holds.Holds, table.{Pass.Pass, StateTable.StateTable}}, Slot.{Content, has_at, is_out, owns_slot, Tied, Moves, stays, taken, given, Gives, Delivers}, Passes.{tie_of, IsWithin, HandsOver, HasPoll}}
+use Rattle.napi_word.specs.{Passes.{Polls, IsController, Controls, IsNoOwner, Disable}, Atoms.{MayMake, MayExchange}, Told.{Did, when, either_op, no_move, load_op, prep_of, done_of, is_marked, is_busy, busy_op}, View.{View, number_of}}
+use Rattle.{napi_word.specs.View.{controller_of, place_in}, std.proofs.{Common.{◌≡◌, ◌⊎◌, ◌||◌, ℕ, eqb, eq-eqb, None, Bool, true, false, refl, sym, ap, ◌∙◌, subst, inl, inr, ⊎_elim, true≢false, bit_and, bit_or}, lemmas.Bool.eqb-true}}
 use prog.Atomic.{either}
-use Rattle.napi_model.specs.declared.state.Kind.TheVariants as kind
 use Rattle.napi_model.specs.Step as step
 
 -- ---- places and marks
 
 marked_place : (k : Kind) (p : Place) → is_marked k (handed_at p) ≡ true → p ≡ place_of k
-marked_place kind.List Nobody e = absurd (true≢false (sym e))
-marked_place kind.List (Granted c) e = absurd (true≢false (sym e))
-marked_place kind.List Listed e = refl
-marked_place kind.List ToThread e = absurd (true≢false (sym e))
-marked_place kind.List (Polling c) e = absurd (true≢false (sym e))
-marked_place kind.List (Control c) e = absurd (true≢false (sym e))
-marked_place kind.Thread Nobody e = absurd (true≢false (sym e))
-marked_place kind.Thread (Granted c) e = absurd (true≢false (sym e))
-marked_place kind.Thread Listed e = absurd (true≢false (sym e))
-marked_place kind.Thread ToThread e = refl
-marked_place kind.Thread (Polling c) e = absurd (true≢false (sym e))
-marked_place kind.Thread (Control c) e = absurd (true≢false (sym e))
+marked_place Kind.List Listed e = refl
+marked_place Kind.Thread ToThread e = refl
+marked_place k p e = absurd (true≢false (sym e))
 
 place_marked : (k : Kind) → is_marked k (handed_at (place_of k)) ≡ true
-place_marked kind.List = refl
-place_marked kind.Thread = refl
+place_marked Kind.List = refl
+place_marked Kind.Thread = refl
 
 -- what a take leaves, by whether the mark was there
 take_said : (k : Kind) (now : Napi) (b : Bool) → is_marked k (handed_at now.place) ≡ b → bit_and (word_of (seen_of now)) (take_mask k) ≡ word_of (seen_after (Take k b) (seen_of now))
 take_said k now b is = take_word k (seen_of now) ∙ ap (λ (v : Bool). word_of (seen_after (Take k v) (seen_of now))) is
 
 home_at : (k : Kind) → is_out (place_of k) ≡ false
-home_at kind.List = refl
-home_at kind.Thread = refl
+home_at Kind.List = refl
+home_at Kind.Thread = refl
 
 or_is : (a b : Bool) → (a || b) ≡ true → (a ≡ true) ⊎ (b ≡ true)
 or_is true b e = inl refl
 or_is false b e = inr e
 
 control_is : (p : Place) → IsControl p → (d : ℕ) × (p ≡ Control d)
-control_is Nobody h = absurd h
-control_is (Granted c) h = absurd h
-control_is Listed h = absurd h
-control_is ToThread h = absurd h
-control_is (Polling c) h = absurd h
 control_is (Control c) h = (c, refl)
+control_is p h = absurd h
 
 gift : {A : Type 0} (b : Bool) (m : Moves) → (m ≡ given → A) → when b m ≡ given → A
 gift true m f e = f e
@@ -64,9 +49,6 @@ is_polling : (k : ℕ) (v : View) (c : ℕ) (now : Napi) (b : Bool) → Knows k 
 is_polling k v c now b kn is =
     let place = is.0 ∙ ap Polling kn.number in
     (owned_place k v c now kn (Polling c) place (eq-eqb c c refl), kn.busy (ap (is_owner c) place ∙ eq-eqb c c refl) ∙ is.1)
-
-is_granted : (k : ℕ) (v : View) (c : ℕ) (now : Napi) → Knows k v c now → place_in v ≡ Granted (number_of v) → now.place ≡ Granted c
-is_granted k v c now kn is = owned_place k v c now kn (Granted c) (is ∙ ap Granted kn.number) (eq-eqb c c refl)
 
 is_control : (k : ℕ) (v : View) (c : ℕ) (now : Napi) → Knows k v c now → place_in v ≡ Control (number_of v) → now.place ≡ Control c
 is_control k v c now kn is = owned_place k v c now kn (Control c) (is ∙ ap Control kn.number) (eq-eqb c c refl)
@@ -182,18 +164,16 @@ module _ (t : StateTable) (p : Pass) where
       (((place, kn.disable top ∙ on), top), (ap (has_at c) place ∙ eq-eqb c c refl, refl)))
 
   -- ---- single bits
-  list_turn : (m : Moves) (now : Napi) (c : ℕ) → Knows last me.0 c now → MayHand c kind.List now → handed_at now.place ≡ None → Fitting m c now.place Listed
-      → Turn last now c (Hand kind.List) m (added (hand_bits kind.List))
-  list_turn m now c kn may none slot = turn now c (Hand kind.List) m (added (hand_bits kind.List)) kn (may, tt) (hand_list (seen_of now) none) slot
-
-  -- what was granted isn't its thread's
-  unthreaded_at : (now : Napi) (c : ℕ) → ThreadsIsHanded now → now.place ≡ Granted c → now.flags.sched_threaded ≡ false
-  unthreaded_at now c threads is = is_false now.flags.sched_threaded (λ e. subst IsHandedOrPolled is (threads e))
+  list_turn : (m : Moves) (now : Napi) (c : ℕ) → Knows last me.0 c now → MayHand c Kind.List now → handed_at now.place ≡ None → Fitting m c now.place Listed
+      → Turn last now c (Hand Kind.List) m (added (hand_bits Kind.List))
+  list_turn m now c kn may none slot = turn now c (Hand Kind.List) m (added (hand_bits Kind.List)) kn (may, tt) (hand_list (seen_of now) none) slot
 
   granted_turn : (k : Kind) (now : Napi) (c : ℕ) → Knows last me.0 c now → now.place ≡ Granted c → Turn last now c (Hand k) stays (added (hand_bits k))
-  granted_turn kind.List now c kn is = list_turn stays now c kn (inl is) (ap handed_at is) (sym (ap is_out is), sym (ap (has_at c) is))
-  granted_turn kind.Thread now c kn is =
-      turn now c (Hand kind.Thread) stays (added (hand_bits kind.Thread)) kn (is, tt) (hand_thread (seen_of now) (ap handed_at is) (unthreaded_at now c kn.threads is)) (sym (ap is_out is), sym (ap (has_at c) is))
+  granted_turn Kind.List now c kn is = list_turn stays now c kn (inl is) (ap handed_at is) (sym (ap is_out is), sym (ap (has_at c) is))
+  granted_turn Kind.Thread now c kn is =
+      -- what was granted isn't its thread's
+      let unthreaded = is_false now.flags.sched_threaded (λ e. subst IsHandedOrPolled is (kn.threads e)) in
+      turn now c (Hand Kind.Thread) stays (added (hand_bits Kind.Thread)) kn (is, tt) (hand_thread (seen_of now) (ap handed_at is) unthreaded) (sym (ap is_out is), sym (ap (has_at c) is))
 
   gives_nothing : (x y : Me Content View) → owns_slot x.0 ≡ false → Delivers stays x y → Delivers given x y
   gives_nothing x y none g = record {
@@ -214,16 +194,16 @@ module _ (t : StateTable) (p : Pass) where
   hands_granted : (k : Kind) → place_in me.0 ≡ Granted (number_of me.0) → MayMake t p.seat (added (hand_bits k)) (λ x. Hand k) (λ x. given)
   hands_granted k is s holding len at fits =
       let a = makes (added (hand_bits k)) (λ x. Hand k) no_move (λ x e. absurd (cc))
-      (λ now c kn. granted_turn k now c kn (is_granted last me.0 c now kn is)) s holding len at fits in
+      (λ now c kn. granted_turn k now c kn (owned_place last me.0 c now kn (Granted c) (is ∙ ap Granted kn.number) (eq-eqb c c refl))) s holding len at fits in
       (a.0, a.1, a.2, a.3, (a.4.0, a.4.1, nothing_given (Hand k) _ is a.4.2))
 
-  hands_polled : Polls false p → IsWithin p → MayMake t p.seat (added (hand_bits kind.List)) (λ x. Hand kind.List) (λ x. given)
-  hands_polled is within = makes (added (hand_bits kind.List)) (λ x. Hand kind.List) (λ x. given) (λ x e. within)
+  hands_polled : Polls false p → IsWithin p → MayMake t p.seat (added (hand_bits Kind.List)) (λ x. Hand Kind.List) (λ x. given)
+  hands_polled is within = makes (added (hand_bits Kind.List)) (λ x. Hand Kind.List) (λ x. given) (λ x e. within)
       (λ now c kn. let q = is_polling last me.0 c now false kn is in list_turn given now c kn (inr q) (ap handed_at q.0) (ap (has_at c) q.0 ∙ eq-eqb c c refl, refl))
 
   pub hands : (k : Kind) → HandsOver k p → IsWithin p → MayMake t p.seat (added (hand_bits k)) (λ x. Hand k) (λ x. given)
-  hands kind.List may within = ⊎_elim (λ (q : place_in me.0 ≡ Granted (number_of me.0)). hands_granted kind.List q) (λ (q : Polls false p). hands_polled q within) may
-  hands kind.Thread may within = hands_granted kind.Thread may
+  hands Kind.List may within = ⊎_elim (λ (q : place_in me.0 ≡ Granted (number_of me.0)). hands_granted Kind.List q) (λ (q : Polls false p). hands_polled q within) may
+  hands Kind.Thread may within = hands_granted Kind.Thread may
 
   take_turn : (k : Kind) (now : Napi) (c : ℕ) → Knows last me.0 c now → (b : Bool) → is_marked k (handed_at now.place) ≡ b → Turn last now c (Take k b) (when b taken) (λ n. bit_and n (take_mask k))
   take_turn k now c kn true is =

@@ -1,7 +1,7 @@
 -- Busy polling on its way, and where it ends.
 use Rattle.std.{proofs.{Common.{◌≡◌, ◌∙◌, ℕ, ◌+◌, ◌≤◌, Bool, true, false, List, [], ◌∷◌, ◌++◌, length, length-append, ap, refl, sym, arith}, lemmas.List.Elements.filter-append}, specs.Prelude.{filter, if◌then◌else◌, sum_by, Option}}
-use Rattle.{std.proofs.lemmas.List.Sums.sum_by-append, napi_model.specs.declared.state.Kind.Kind, poll_engine.specs.{BusyPolling.{Given, Leaves, PollsBusily, Round, is_below, no_report}, Polling.is_absent, Polls.Chain}}
-use Rattle.poll_engine.{specs.declared.bench.{BusyReport.BusyReport, Next.{Next, TheVariants.{Absent, Gone, Again, Repoll}}}, proofs.PollFacts.chain-push}
+use Rattle.{std.proofs.lemmas.List.Sums.sum_by-append, napi_model.specs.declared.state.Kind.Kind, poll_engine.specs.{BusyPolling.{Given, Leaves, PollsBusily, Round, is_below}, Polling.is_absent, Polls.Chain}}
+use Rattle.poll_engine.{specs.declared.bench.{BusyReport.BusyReport, Next.{Next, TheVariants.Absent}}, proofs.PollFacts.chain-push}
 
 pub at_most_one : (b : Bool) → (if b then 1 else 0) ≤ 1
 at_most_one true = omega arith
@@ -47,9 +47,6 @@ module _ {I P : Type 0} (busy_takes : I → Bool → I → Type 0) (gives : I �
     pub count_is : length rounds ≡ count
     pub tells : report ≡ told bytes weight rounds
 
-  pub going-start : (weight : ℕ) (start : I) → Going weight start 0 start no_report
-  going-start weight start = record { rounds = []; each = refl; count_is = refl; tells = refl }
-
   pub going-more : (weight : ℕ) (start : I) (count : ℕ) (now : I) (report : BusyReport) (poll : Given P) (after : I) → Going weight start count now report
       → Round busy_takes gives holds stops requeues completes weight now poll after
       → Going weight start (count + 1) after (record (with_poll report poll.work (bytes poll.packets)) { held = report.held + (if is_below weight poll then 1 else 0) })
@@ -62,9 +59,7 @@ module _ {I P : Type 0} (busy_takes : I → Bool → I → Type 0) (gives : I �
 
   leaves-present : (below : Bool) (s : I) (next : Next) (t : I) → Leaves busy_takes gives holds stops requeues completes below s next t → is_absent next ≡ false
   leaves-present below s Absent t l = absurd l
-  leaves-present below s Repoll t l = refl
-  leaves-present below s Gone t l = refl
-  leaves-present below s (Again k) t l = refl
+  leaves-present below s next t l = refl
 
   -- all rounds are made: the stop, and the last poll
   pub going-ends : (weight : ℕ) (before : I) (packets : P) (taken : I) (count : ℕ) (now : I) (report : BusyReport) (stopped : I) (last : Given P) (given : I) (next : Next) (after : I)

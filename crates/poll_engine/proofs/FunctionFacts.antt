@@ -3,7 +3,7 @@ use Rattle.std.proofs.{Common.{◌≡◌, ◌≢◌, ◌∙◌, ◌⊎◌, inl, 
 use Rattle.{std.{specs.Prelude.{◌&&◌, ◌==◌, not, if◌then◌else◌}, proofs.lemmas.Bool.Decides.{eqb_tells, leb_tells}}, poll_engine.{specs.Plain.{NothingBehind, OwnPushes, all_held}, proofs.PlainFacts.{IsPlainBatch, handed-most, runs-agree}}}
 use Rattle.{std.proofs.lemmas.List.append-nil, poll_engine.specs.{Laws.{HasOneOutcome, IsPlainRun}, Run.is_spent, Driven.Going, Turn.HandsOn}}
 use Rattle.poll_engine.{specs.Function.{IsGivenBy, Progress, RunIsFunction, after_batch, after_poll, from_batch, run_of, run_report, takes_more, IsShownBy, RunIsShown}, proofs.RunFacts.{going-ends, going-poll, going-spliced, going-start}}
-use Rattle.poll_engine.{specs.{Polls.{At, Chain, Poll, arrivals, is_arrival, is_repoll, repolled, work_of}, declared.bench.Once.Once}, proofs.PollFacts.{arrivals-append, arrivals-one, chain-push, repolled-append, repolled-one, work-push}}
+use Rattle.poll_engine.{specs.{Polls.{At, Chain, Poll, arrivals, is_arrival, is_repoll, repolled, work_of}, declared.bench.Once.Once}, proofs.PollFacts.{chain-push, work-push, arrivals-cons, repolled-cons}}
 
 -- budget and window are left
 unspent : (budget window : ℕ) (polls : List Poll) → is_spent budget window polls ≡ false → (work_of polls < budget) × (length polls < window)
@@ -17,9 +17,6 @@ unspent budget window polls h =
     ]
 
 -- a list of one thread keeps these words
-own-stays : (list : List ℕ) → OwnPushes list [] [] list
-own-stays list = refl
-
 own-joins : (a b c pushed more came later : List ℕ) → OwnPushes a pushed came b → OwnPushes b more later c → OwnPushes a (pushed ++ more) (came ++ later) c
 own-joins a b c pushed more came later h k =
     let one : came ≡ pushed = h in let two : later ≡ more = k in ap (λ (xs : List ℕ). xs ++ later) one ∙ ap (λ (xs : List ℕ). pushed ++ xs) two
@@ -49,20 +46,7 @@ stands-start relation budget weight window start bench money room = record {
 recount : (budget window : ℕ) (start held : List ℕ) (polls : List Poll) (own back : List ℕ) (count sum more total : ℕ)
     → (g : Going all_held OwnPushes NothingBehind budget window start polls held own back count sum) → more ≡ count → total ≡ sum
     → Going all_held OwnPushes NothingBehind budget window start polls held own back more total
-recount budget window start held polls own back count sum more total g c s = record {
-  first = g.first;
-  further = g.further;
-  came = g.came;
-  batches = g.batches;
-  not_empty = g.not_empty;
-  front = g.front;
-  moved = g.moved;
-  joined = g.joined;
-  again = g.again;
-  goes_on = g.goes_on;
-  counted = c ∙ g.counted;
-  summed = s ∙ g.summed;
-}
+recount budget window start held polls own back count sum more total g c s = rw (c, s) g
 
 -- one more poll of the progress
 stands-poll : {B : Type 0} (relation : B → ℕ → ℕ → Once → B → Type 0) (poll : B → ℕ → ℕ → Once × B) → IsGivenBy relation poll
@@ -75,7 +59,7 @@ stands-poll relation poll given budget weight window start bench p id own held b
     let more = unspent budget window p.polls left in
     let one : Poll = record { id = id; once = (poll p.bench id weight).0 } in
     let next = going-poll all_held OwnPushes NothingBehind Roomy budget window start p.polls held (held ++ cond (is_arrival one.once.next) (one.id ∷ []) []) own back
-    (length p.polls) (work_of p.polls) one own-stays own-joins more.0 more.1 (hands held (is_arrival one.once.next) one.id) s.going in
+    (length p.polls) (work_of p.polls) one (λ list. refl) own-joins more.0 more.1 (hands held (is_arrival one.once.next) one.id) s.going in
     record {
       going = recount budget window start (held ++ cond (is_arrival one.once.next) (id ∷ []) []) (p.polls ++ one ∷ []) own
           (back ++ cond (is_repoll one.once.next) (id ∷ []) []) (length p.polls + 1) (work_of p.polls + one.once.work) (length (p.polls ++ one ∷ [])) (work_of (p.polls ++ one ∷ []))
@@ -83,12 +67,6 @@ stands-poll relation poll given budget weight window start bench p id own held b
       chain = chain-push (At relation weight) bench p.polls p.bench (poll p.bench id weight).1 one s.chain
           ((given p.bench (poll p.bench id weight).1 id weight (poll p.bench id weight).0).1 (refl, refl));
     }
-
-arrivals-cons : (one : Poll) (polls : List Poll) → arrivals (one ∷ polls) ≡ cond (is_arrival one.once.next) (one.id ∷ []) [] ++ arrivals polls
-arrivals-cons one polls = arrivals-append (one ∷ []) polls ∙ ap (λ (l : List ℕ). l ++ arrivals polls) (arrivals-one one)
-
-repolled-cons : (one : Poll) (polls : List Poll) → repolled (one ∷ polls) ≡ cond (is_repoll one.once.next) (one.id ∷ []) [] ++ repolled polls
-repolled-cons one polls = repolled-append (one ∷ []) polls ∙ ap (λ (l : List ℕ). l ++ repolled polls) (repolled-one one)
 
 -- a batch, as far as it was polled
 record Batched {B : Type 0} (relation : B → ℕ → ℕ → Once → B → Type 0) (poll : B → ℕ → ℕ → Once × B) (budget weight window : ℕ) (start : List ℕ) (bench : B)
@@ -191,9 +169,7 @@ longer-than-none (x ∷ xs) h = omega arith
 -- what the test for another batch tells
 takes-tells : (spent none empty : Bool) → (not spent && (none && not empty)) ≡ true → (spent ≡ false) × (none ≡ true) × (empty ≡ false)
 takes-tells false true false h = (refl, refl, refl)
-takes-tells false true true h = let bad : false ≡ true = h in cc bad
-takes-tells false false empty h = let bad : false ≡ true = h in cc bad
-takes-tells true none empty h = let bad : false ≡ true = h in cc bad
+takes-tells spent none empty h = let bad : false ≡ true = h in cc bad
 
 stops-tells : (spent none empty : Bool) → (not spent && (none && not empty)) ≡ false → spent ≡ false → none ≡ true → empty ≡ true
 stops-tells true none empty h s n = let bad : true ≡ false = s in cc bad

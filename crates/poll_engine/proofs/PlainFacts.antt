@@ -2,9 +2,8 @@
 use Rattle.std.{proofs.Common.{◌≡◌, ◌≢◌, ◌∙◌, ◌⊎◌, inl, inr, ℕ, ◌+◌, ◌<◌, ◌≤◌, Bool, false, cond, List, [], ◌∷◌, ◌++◌, length, length-append, take, drop, refl, sym, ap, arith, append_assoc}, specs.List.{AllByRecursion, concat}}
 use Rattle.std.proofs.{Math.Seq.{drop-append_seam, take-add, take-append_seam}, lemmas.{List.{append-nil, append_cancel_left, drop-drop, take-append-drop, take-append-le, take_all}, Bool.cases_lt}}
 use Rattle.poll_engine.specs.{Laws.{FollowEachOther, HasOneOutcome, IsPlainRun, NoOtherArrivals, PlainListAfterwards}, Plain.{NothingBehind, OwnPushes, all_held}, Polls.{At, Chain, Poll, arrivals, ids, is_arrival, is_repoll, repolled}}
-use Rattle.poll_engine.{specs.{Run.{AreBatches, IsBatch, is_spent}, declared.bench.Next.Next}, proofs.PollFacts.{arrivals-append, arrivals-one, ids-append, length-ids, repolled-append, repolled-one, taken-le}}
-use Rattle.poll_engine.specs.declared.{bench.{Next.TheVariants.{Absent, Gone, Again, Repoll}, Once.Once}, run.RunReport.RunReport}
-use Rattle.napi_model.specs.declared.state.Kind.TheVariants as kind
+use Rattle.poll_engine.{specs.{Run.{AreBatches, IsBatch, is_spent}, declared.bench.Next.Next}, proofs.PollFacts.{arrivals-append, ids-append, length-ids, taken-le, arrivals-cons, repolled-cons}}
+use Rattle.{poll_engine.specs.declared.{bench.{Next.TheVariants.{Absent, Gone, Again, Repoll}, Once.Once}, run.RunReport.RunReport}, napi_model.specs.declared.state.Kind.Kind}
 
 -- a batch over a list of one thread
 abbrev pub IsPlainBatch : ℕ → ℕ → List ℕ → List Poll → List ℕ → Type 0
@@ -194,20 +193,16 @@ pub handed-most : (polls : List Poll) → length (arrivals polls) + length (repo
 handed-most [] = omega arith
 handed-most (poll ∷ polls) =
     let by : Bool → List ℕ = λ (b : Bool). cond b (poll.id ∷ []) [] in
-    let arrived : arrivals (poll ∷ polls) ≡ by (is_arrival poll.once.next) ++ arrivals polls =
-    arrivals-append (poll ∷ []) polls ∙ ap (λ (l : List ℕ). l ++ arrivals polls) (arrivals-one poll) in
-    let again : repolled (poll ∷ polls) ≡ by (is_repoll poll.once.next) ++ repolled polls =
-    repolled-append (poll ∷ []) polls ∙ ap (λ (l : List ℕ). l ++ repolled polls) (repolled-one poll) in
-    let a : length (arrivals (poll ∷ polls)) ≡ length (by (is_arrival poll.once.next)) + length (arrivals polls) = ap length arrived ∙ length-append (by (is_arrival poll.once.next)) (arrivals polls) in
-    let r : length (repolled (poll ∷ polls)) ≡ length (by (is_repoll poll.once.next)) + length (repolled polls) = ap length again ∙ length-append (by (is_repoll poll.once.next)) (repolled polls) in
+    let a : length (arrivals (poll ∷ polls)) ≡ length (by (is_arrival poll.once.next)) + length (arrivals polls) = ap length (arrivals-cons poll polls) ∙ length-append (by (is_arrival poll.once.next)) (arrivals polls) in
+    let r : length (repolled (poll ∷ polls)) ≡ length (by (is_repoll poll.once.next)) + length (repolled polls) = ap length (repolled-cons poll polls) ∙ length-append (by (is_repoll poll.once.next)) (repolled polls) in
     omega (arith, a, r, handed-most polls, one poll.once.next poll.id)
   where
     one : (next : Next) (id : ℕ) → length (cond (is_arrival next) (id ∷ []) []) + length (cond (is_repoll next) (id ∷ []) []) ≤ 1
     one Absent id = omega arith
     one Gone id = omega arith
     one Repoll id = omega arith
-    one (Again kind.List) id = omega arith
-    one (Again kind.Thread) id = omega arith
+    one (Again Kind.List) id = omega arith
+    one (Again Kind.Thread) id = omega arith
 
 pub list-afterwards : PlainListAfterwards
 list-afterwards budget window start after polls report run = (polled, left, sized)

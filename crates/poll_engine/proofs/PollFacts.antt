@@ -16,19 +16,21 @@ arrivals-append polls more = rw (filter-append (λ (p : Poll). is_arrival p.once
 pub repolled-append : (polls more : List Poll) → repolled (polls ++ more) ≡ repolled polls ++ repolled more
 repolled-append polls more = rw (filter-append (λ (p : Poll). is_repoll p.once.next) polls more) (map-append (λ (p : Poll). p.id) _ _)
 
+one-id : (b : Bool) (poll : Poll) → map (λ (p : Poll). p.id) (cond b (poll ∷ []) []) ≡ cond b (poll.id ∷ []) []
+one-id true poll = refl
+one-id false poll = refl
+
 pub arrivals-one : (poll : Poll) → arrivals (poll ∷ []) ≡ cond (is_arrival poll.once.next) (poll.id ∷ []) []
-arrivals-one poll = by (is_arrival poll.once.next)
-  where
-    by : (b : Bool) → map (λ (p : Poll). p.id) (cond b (poll ∷ []) []) ≡ cond b (poll.id ∷ []) []
-    by true = refl
-    by false = refl
+arrivals-one poll = one-id (is_arrival poll.once.next) poll
 
 pub repolled-one : (poll : Poll) → repolled (poll ∷ []) ≡ cond (is_repoll poll.once.next) (poll.id ∷ []) []
-repolled-one poll = by (is_repoll poll.once.next)
-  where
-    by : (b : Bool) → map (λ (p : Poll). p.id) (cond b (poll ∷ []) []) ≡ cond b (poll.id ∷ []) []
-    by true = refl
-    by false = refl
+repolled-one poll = one-id (is_repoll poll.once.next) poll
+
+pub arrivals-cons : (one : Poll) (polls : List Poll) → arrivals (one ∷ polls) ≡ cond (is_arrival one.once.next) (one.id ∷ []) [] ++ arrivals polls
+arrivals-cons one polls = arrivals-append (one ∷ []) polls ∙ ap (λ (l : List ℕ). l ++ arrivals polls) (arrivals-one one)
+
+pub repolled-cons : (one : Poll) (polls : List Poll) → repolled (one ∷ polls) ≡ cond (is_repoll one.once.next) (one.id ∷ []) [] ++ repolled polls
+repolled-cons one polls = repolled-append (one ∷ []) polls ∙ ap (λ (l : List ℕ). l ++ repolled polls) (repolled-one one)
 
 pub work-push : (polls : List Poll) (poll : Poll) → work_of (polls ++ poll ∷ []) ≡ work_of polls + poll.once.work
 work-push polls poll = sum_by-append (λ (p : Poll). p.once.work) polls (poll ∷ []) ∙ omega arith

@@ -1,14 +1,12 @@
 -- A thread's polling of one instance on its way, and what its polls are.
-use Rattle.std.proofs.Common.{◌≡◌, ◌≢◌, ◌∙◌, ℕ, zero, suc, ◌+◌, ◌-◌, ◌<◌, ◌≤◌, Bool, true, false, List, [], ◌∷◌, ◌++◌, length, length-append, append_assoc, ap, refl, sym, arith, nat_lt}
-use Rattle.{std.{specs.{Prelude.{◌==◌, ◌&&◌, sum_by, Option, MatchBool}, List.AllByRecursion}, proofs.lemmas.{Bool.{eq-eqb, le-ltb, lt-ltb, ltb-true, ne_eqb}, List.Sums.sum_by-append}}, napi_model.specs.declared.state.Kind.Kind}
-use Rattle.poll_engine.specs.{Polls.is_repoll, Polling.{Ends, Follows, LetsGo, PollsByThread, PollsHeld, goes_on}, Thread.{Continues, IsThreadPolling, is_for_thread, last_next}, declared.bench.Next.Next}
-use Rattle.poll_engine.specs.declared.bench.{Next.TheVariants.{Absent, Gone, Again, Repoll}, Once.Once, ThreadReport.ThreadReport}
-use Rattle.napi_model.specs.declared.state.Kind.TheVariants as kind
+use Rattle.std.proofs.{Common.{◌≡◌, ◌≢◌, ◌∙◌, ℕ, zero, suc, ◌+◌, ◌-◌, ◌<◌, ◌≤◌, Bool, true, false, List, [], ◌∷◌, ◌++◌, length, length-append, append_assoc, ap, refl, sym, arith, nat_lt}, Math.Bool.{and-false, and-true}}
+use Rattle.{std.{specs.{Prelude.{◌==◌, sum_by, Option, MatchBool}, List.AllByRecursion}, proofs.lemmas.{Bool.{eq-eqb, le-ltb, lt-ltb, ltb-true, ne_eqb}, List.Sums.sum_by-append}}, napi_model.specs.declared.state.Kind.Kind}
+use Rattle.{poll_engine.specs.{Polls.is_repoll, Polling.{Ends, Follows, LetsGo, PollsByThread, PollsHeld, goes_on}, Thread.{Continues, IsThreadPolling, is_for_thread, last_next}, declared.bench.Next.Next}, napi_model.proofs.SeenCases.and_l}
+use Rattle.{poll_engine.specs.declared.bench.{Next.TheVariants.{Absent, Gone, Again, Repoll}, Once.Once, ThreadReport.ThreadReport}, napi_model.proofs.SeenCases.and_r}
 
 last-snoc : (polls : List Once) (once : Once) → last_next (polls ++ once ∷ []) ≡ once.next
-last-snoc [] once = refl
-last-snoc (first ∷ []) once = refl
 last-snoc (first ∷ second ∷ more) once = last-snoc (second ∷ more) once
+last-snoc polls once = refl
 
 -- a report, and one poll more
 abbrev pub told : ThreadReport → Once → ThreadReport
@@ -26,27 +24,11 @@ tells-more polls once report t = record {
   last = sym (last-snoc polls once);
 }
 
-and-false : (b : Bool) → (b && false) ≡ false
-and-false true = refl
-and-false false = refl
-
-and-true : (b : Bool) → (b && true) ≡ b
-and-true true = refl
-and-true false = refl
-
 goes-room : (next : Next) (most : ℕ) → goes_on next most ≡ true → 1 < most
-goes-room next most goes = ltb-true 1 most (behind (is_for_thread next) (nat_lt 1 most) goes)
-  where
-    behind : (a b : Bool) → (a && b) ≡ true → b ≡ true
-    behind true b e = e
-    behind false b e = cc e
+goes-room next most goes = ltb-true 1 most (and_r (is_for_thread next) (nat_lt 1 most) goes)
 
 goes-thread : (next : Next) (most : ℕ) → goes_on next most ≡ true → is_for_thread next ≡ true
-goes-thread next most goes = before (is_for_thread next) (nat_lt 1 most) goes
-  where
-    before : (a b : Bool) → (a && b) ≡ true → a ≡ true
-    before true b e = refl
-    before false b e = cc e
+goes-thread next most goes = and_l (is_for_thread next) (nat_lt 1 most) goes
 
 no-repoll : (next : Next) → is_repoll next ≡ false → next ≢ Repoll
 no-repoll next h = λ e. let bad : true ≡ false = ap is_repoll (sym e) ∙ h in cc bad
@@ -61,19 +43,15 @@ pub record Polls (weight most : ℕ) (polls : List Once) : Type 0 where
 only-of : (weight most : ℕ) (once : Once) → (once.work ≤ weight) × (once.next ≢ Absent) → 1 ≤ most → (1 < most → once.next ≢ Repoll) → Polls weight most (once ∷ [])
 only-of weight most once small room stops = record { within = omega (arith, room); each = (small, tt); continues = tt; fewer = λ less. stops (omega (arith, less)) }
 
-first-of : (weight most : ℕ) (once second : Once) (more : List Once) → (once.work ≤ weight) × (once.next ≢ Absent) → is_for_thread once.next ≡ true → 1 < most → Polls weight (most - 1) (second ∷ more)
-    → Polls weight most (once ∷ second ∷ more)
-first-of weight most once second more small goes room p = record {
+joined : (weight most : ℕ) (once : Once) (more : List Once) → (once.work ≤ weight) × (once.next ≢ Absent) → is_for_thread once.next ≡ true → 1 < most → (more ≡ [] → once.next ≢ Repoll)
+    → Polls weight (most - 1) more → Polls weight most (once ∷ more)
+joined weight most once [] small goes room stops p = only-of weight most once small (omega (arith, room)) (λ less. stops refl)
+joined weight most once (second ∷ more) small goes room stops p = record {
   within = omega (arith, p.within, room);
   each = (small, p.each);
   continues = (goes, p.continues);
   fewer = λ less. p.fewer (omega (arith, less, room));
 }
-
-joined : (weight most : ℕ) (once : Once) (more : List Once) → (once.work ≤ weight) × (once.next ≢ Absent) → is_for_thread once.next ≡ true → 1 < most → (more ≡ [] → once.next ≢ Repoll)
-    → Polls weight (most - 1) more → Polls weight most (once ∷ more)
-joined weight most once [] small goes room stops p = only-of weight most once small (omega (arith, room)) (λ less. stops refl)
-joined weight most once (second ∷ more) small goes room stops p = first-of weight most once second more small goes room p
 
 small-more : (weight : ℕ) (polls : List Once) (once : Once) → AllByRecursion (λ (o : Once). o.work ≤ weight) polls → once.work ≤ weight → AllByRecursion (λ (o : Once). o.work ≤ weight) (polls ++ once ∷ [])
 small-more weight [] once all small = (small, tt)
@@ -107,12 +85,12 @@ module _ {I P : Type 0} (takes : I → Kind → Bool → I → Type 0) (gives : 
         (By weight most false start packets polls given now)
 
   -- the thread had taken it
-  with-take : (weight most : ℕ) (before now : I) (packets : P) (more : List Once) (last : P) (after : I) → takes before kind.Thread true now
+  with-take : (weight most : ℕ) (before now : I) (packets : P) (more : List Once) (last : P) (after : I) → takes before Kind.Thread true now
       → By weight most true now packets more last after → By weight most false before packets more last after
   with-take weight most before now packets [] last after t b = cc b.0
   with-take weight most before now packets (once ∷ more) last after t b = (b.0, b.1, b.2, rw b.3 t, b.4, b.5)
 
-  pub going-start : (weight most : ℕ) (start : I) (packets : P) (held : Bool) (now : I) → 1 ≤ most → takes start kind.Thread held now
+  pub going-start : (weight most : ℕ) (start : I) (packets : P) (held : Bool) (now : I) → 1 ≤ most → takes start Kind.Thread held now
       → Going weight most start packets held now packets (record { polls = 0; work = 0; next = Absent })
   going-start weight most start packets true now room t = record {
     polls = [];
@@ -182,9 +160,9 @@ module _ {I P : Type 0} (takes : I → Kind → Bool → I → Type 0) (gives : 
         by : (next : Next) → once.next ≡ next → (held : Bool) → Follows takes gives looks requeues completes false next polled held after
             → Going weight most start packets held after given' (told report once)
         by Repoll e held f = rw f.0 (goes-with after room (λ more last end b. rw (goes Repoll e, e) (rw (sym f.1) b)))
-        by (Again kind.Thread) e true f = goes-with after room (λ more last end b. rw (goes (Again kind.Thread) e, e) (with-take weight (g.left - 1) polled after given' more last end f b))
-        by (Again kind.Thread) e false f = ends-with after (rw (goes (Again kind.Thread) e, e) (refl, f, refl))
-        by (Again kind.List) e held f = rw f.0 (lets-go after (goes (Again kind.List) e) (rw e f.1))
+        by (Again Kind.Thread) e true f = goes-with after room (λ more last end b. rw (goes (Again Kind.Thread) e, e) (with-take weight (g.left - 1) polled after given' more last end f b))
+        by (Again Kind.Thread) e false f = ends-with after (rw (goes (Again Kind.Thread) e, e) (refl, f, refl))
+        by (Again Kind.List) e held f = rw f.0 (lets-go after (goes (Again Kind.List) e) (rw e f.1))
         by Absent e held f = rw f.0 (lets-go after (goes Absent e) (rw e f.1))
         by Gone e held f = rw f.0 (lets-go after (goes Gone e) (rw e f.1))
 
@@ -203,9 +181,7 @@ module _ {I P : Type 0} (takes : I → Kind → Bool → I → Type 0) (gives : 
 
   ends-present : (full : Bool) (before : I) (next : Next) (after : I) → Ends takes gives looks requeues completes full before next after → next ≢ Absent
   ends-present full before Absent after e = absurd e
-  ends-present full before Repoll after e = λ same. cc same
-  ends-present full before Gone after e = λ same. cc same
-  ends-present full before (Again k) after e = λ same. cc same
+  ends-present full before next after e = λ same. cc same
 
   pub polls-are : (weight most : ℕ) (held : Bool) (before : I) (packets : P) (polls : List Once) (last : P) (after : I) → 1 ≤ most
       → AllByRecursion (λ (o : Once). o.work ≤ weight) polls → By weight most held before packets polls last after → Polls weight most polls

@@ -1,7 +1,6 @@
 -- The polling of an instance is a polling of a part of it, where each call is one of the part.
 use Rattle.{std.proofs.Common.{◌==◌, ◌-◌, ℕ, Bool, true, false, List, [], ◌∷◌, Option, Some, None, MatchBool, ap}, napi_model.specs.declared.state.Kind.Kind, poll_engine.specs.{Polls.is_repoll, Polling.{goes_on, is_absent}}}
 use Rattle.poll_engine.specs.declared.bench.{Next.{Next, TheVariants.{Absent, Gone, Again, Repoll}}, Once.Once}
-use Rattle.napi_model.specs.declared.state.Kind.TheVariants as kind
 use Rattle.poll_engine.specs.Polling as polling
 
 either : {A B C D : Type 0} (b : Bool) → (A → C) → (B → D) → MatchBool b A B → MatchBool b C D
@@ -37,18 +36,16 @@ module _ {I J P : Type 0} (part : I → J)
   goes : (next : Next) (a b : I) → polling.LetsGo takes gives looks requeues completes next a b
       → polling.LetsGo part_takes part_gives part_looks part_requeues part_completes next (part a) (part b)
   goes Repoll a b g = requeued a b g
-  goes Absent a b g = ap part g
-  goes Gone a b g = ap part g
-  goes (Again k) a b g = ap part g
+  goes next a b g = ap part g
 
   pub once_of_part : (weight : ℕ) (a : I) (packets : P) (once : Once) (last : P) (b : I) → polling.PollsOnce takes gives looks requeues completes weight a packets once last b
       → polling.PollsOnce part_takes part_gives part_looks part_requeues part_completes weight (part a) packets once last (part b)
   once_of_part weight a packets once last b = either (is_absent once.next)
-      (λ none. (none.0, taken a b kind.List false none.1, none.2))
+      (λ none. (none.0, taken a b Kind.List false none.1, none.2))
       (λ f. record {
         taken = part f.taken;
         polled = part f.polled;
-        was_there = taken a f.taken kind.List true f.was_there;
+        was_there = taken a f.taken Kind.List true f.was_there;
         polls = held weight f.taken last once f.polled f.polls;
         lets_go = goes once.next f.polled b f.lets_go;
       })
@@ -56,12 +53,12 @@ module _ {I J P : Type 0} (part : I → J)
   takes_unless : (has : Bool) (a b : I) → polling.TakesUnless takes gives looks requeues completes has a b
       → polling.TakesUnless part_takes part_gives part_looks part_requeues part_completes has (part a) (part b)
   takes_unless true a b t = ap part t
-  takes_unless false a b t = taken a b kind.Thread true t
+  takes_unless false a b t = taken a b Kind.Thread true t
 
   pub thread_of_part : (weight most : ℕ) (has : Bool) (a : I) (packets : P) (polls : List Once) (last : P) (b : I)
       → polling.PollsByThread takes gives looks requeues completes weight most has a packets polls last b
       → polling.PollsByThread part_takes part_gives part_looks part_requeues part_completes weight most has (part a) packets polls last (part b)
-  thread_of_part weight most has a packets [] last b t = (t.0, taken a b kind.Thread false t.1, t.2)
+  thread_of_part weight most has a packets [] last b t = (t.0, taken a b Kind.Thread false t.1, t.2)
   thread_of_part weight most has a packets (once ∷ more) last b t = (
     part t.0,
     t.1,

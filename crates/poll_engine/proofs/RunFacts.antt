@@ -1,10 +1,8 @@
 -- A run on its way, and how each turn of the loop carries it on.
-use Rattle.std.proofs.Common.{◌≡◌, ◌≢◌, ◌∙◌, ◌⊎◌, inl, inr, ℕ, ◌+◌, ◌<◌, ◌≤◌, Bool, true, false, cond, List, [], ◌∷◌, ◌++◌, length, length-append, take, refl, sym, ap, subst, arith, append_assoc}
-use Rattle.std.{specs.{Prelude.{nat_le, ◌||◌, Option, Some, None, MatchOption}, List.{AllByRecursion, concat}}, proofs.{lemmas.{Bool.lt-leb, List.{append-nil, take-append-le, take_all, Folds.concat-append}}, Math.Nat.eq-or-lt_of_le}}
-use Rattle.poll_engine.specs.{Polls.{Poll, arrivals, ids, is_arrival, is_repoll, repolled, work_of}, Run.{AreBatches, IsBatch, IsRun, is_spent}, Driven.Going, Turn.{HandsOn, Refills, Takes, asked_for}}
-use Rattle.poll_engine.{proofs.PollFacts.{arrivals-append, arrivals-one, ids-append, length-ids, repolled-append, repolled-one, taken-le, work-push}, specs.declared.bench.Next.{Next, TheVariants.{Absent, Gone, Again, Repoll}}}
-use Rattle.poll_engine.specs.declared.run.RunReport.{RunReport}
-use Rattle.napi_model.specs.declared.state.Kind.TheVariants as kind
+use Rattle.std.proofs.{Common.{◌≡◌, ◌≢◌, ◌∙◌, ◌⊎◌, inl, inr, ℕ, ◌+◌, ◌<◌, Bool, true, false, cond, List, [], ◌∷◌, ◌++◌, length, length-append, take, refl, sym, ap, arith, append_assoc}, lemmas.{Bool.lt-leb, List.append-nil}}
+use Rattle.{std.{proofs.{lemmas.List.{take-append-le, take_all, Folds.concat-append}, Math.Nat.eq-or-lt_of_le}, specs.{Prelude.{nat_le, ◌||◌, Option, Some, None, MatchOption}, List.{AllByRecursion, concat}}}, poll_engine.specs.Polls.Poll}
+use Rattle.poll_engine.specs.{Polls.{arrivals, ids, is_arrival, is_repoll, repolled, work_of}, Run.{AreBatches, IsBatch, IsRun, is_spent}, Driven.Going, Turn.{HandsOn, Refills, Takes, asked_for}, declared.run.RunReport.RunReport}
+use Rattle.poll_engine.proofs.PollFacts.{arrivals-append, arrivals-one, ids-append, length-ids, repolled-append, repolled-one, taken-le, work-push}
 
 -- batches stay batches as polls are added
 pub batches-push : (takes : List Poll → List ℕ → Type 0) (polls : List Poll) (poll : Poll) (taken : List ℕ) (batches : List (List ℕ))
@@ -188,28 +186,6 @@ going-poll entries moves is_all has_room budget window start polls list after ow
     goes_on : (n : ℕ) → n < length (polls ++ poll ∷ []) → is_spent budget window (take n (polls ++ poll ∷ [])) ≡ false
     goes_on n e = elim (eq-or-lt_of_le {n = n} {m = length polls} (omega (arith, length-append polls (poll ∷ []), e))) [ inl same ↦ late n same | inr less ↦ early n less ]
 
--- between polls more came to the list
-pub going-came : {L : Type 0} (entries : L → List ℕ) (moves : L → List ℕ → List ℕ → L → Type 0) (is_all : List ℕ → L → Type 0)
-    (budget window : ℕ) (start : L) (polls : List Poll) (list after : L) (ahead repoll : List ℕ) (count sum : ℕ) (came : List ℕ)
-    → ((a b c : L) (pushed more came later : List ℕ) → moves a pushed came b → moves b more later c → moves a (pushed ++ more) (came ++ later) c)
-    → moves list [] came after → entries after ≡ entries list ++ came
-    → Going entries moves is_all budget window start polls list ahead repoll count sum
-    → Going entries moves is_all budget window start polls after ahead repoll count sum
-going-came entries moves is_all budget window start polls list after ahead repoll count sum came joins moved held g = record {
-  first = g.first;
-  further = g.further;
-  came = g.came ++ came;
-  batches = g.batches;
-  not_empty = g.not_empty;
-  front = g.front;
-  moved = rw (append-nil (arrivals polls)) at (joins start list after (arrivals polls) [] g.came came g.moved moved);
-  joined = rw (held, ← append_assoc (g.first ++ concat g.further) (entries list) came, g.joined) (append_assoc (entries start) g.came came);
-  again = g.again;
-  goes_on = g.goes_on;
-  counted = g.counted;
-  summed = g.summed;
-}
-
 -- what the run leaves
 pub going-ends : {L : Type 0} (entries : L → List ℕ) (moves : L → List ℕ → List ℕ → L → Type 0) (is_all : List ℕ → L → Type 0)
     (budget window : ℕ) (start : L) (polls : List Poll) (list after : L) (own repoll : List ℕ) (count sum : ℕ) (report : RunReport)
@@ -240,41 +216,6 @@ going-ends entries moves is_all budget window start polls list after own repoll 
       count = told ∙ g.counted;
       sum = work ∙ g.summed;
     }
-
--- filling the own list makes no room less
-pub filled-room : {L : Type 0} (entries : L → List ℕ) (moves : L → List ℕ → List ℕ → L → Type 0) (is_all : List ℕ → L → Type 0) (has_room : L → ℕ → Type 0)
-    (own : List ℕ) (list : L) (repoll filled : List ℕ) (after : L) → Refills entries moves is_all has_room own list repoll filled after
-    → length own + length repoll ≤ 64 → has_room list (length own + length repoll)
-    → (length filled + length repoll ≤ 64) × has_room after (length filled + length repoll)
-filled-room entries moves is_all has_room (id ∷ own) list repoll filled after r short room = rw (r.0, r.1) (short, room)
-filled-room entries moves is_all has_room [] list (id ∷ repoll) filled after r short room = rw (r.0, r.1) (short, room)
-filled-room entries moves is_all has_room [] list [] filled after r short room =
-    let same : length filled + 0 ≡ length filled = omega arith in (omega (arith, r.most), subst (λ (n : ℕ). has_room after n) (sym same) r.room)
-
--- a number that was polled is pushed, is to be repolled, or is gone
-pub handed-room : {L : Type 0} (entries : L → List ℕ) (moves : L → List ℕ → List ℕ → L → Type 0) (has_room : L → ℕ → Type 0)
-    (list after : L) (next : Next) (id : ℕ) (own repoll again : List ℕ)
-    → ((at : L) (n : ℕ) → has_room at (n + 1) → has_room at n)
-    → HandsOn entries moves has_room list (is_arrival next) id after → again ≡ repoll ++ cond (is_repoll next) (id ∷ []) []
-    → length (id ∷ own) + length repoll ≤ 64 → has_room list (length (id ∷ own) + length repoll)
-    → (length own + length again ≤ 64) × has_room after (length own + length again)
-handed-room {L} entries moves has_room list after next id own repoll again less h e short room = by next h e
-  where
-    sized : (n : ℕ) → n ≡ length own + length repoll + 1 → has_room list n
-    sized n s = let same : n ≡ length (id ∷ own) + length repoll = omega (arith, s) in subst (λ (m : ℕ). has_room list m) (sym same) room
-
-    gone : again ≡ repoll ++ [] → after ≡ list → (length own + length again ≤ 64) × has_room after (length own + length again)
-    gone a l = let same : again ≡ repoll = a ∙ append-nil repoll in rw (same, l) (omega arith, less list (length own + length repoll) (sized _ refl))
-
-    by : (n : Next) → HandsOn entries moves has_room list (is_arrival n) id after → again ≡ repoll ++ cond (is_repoll n) (id ∷ []) []
-        → (length own + length again ≤ 64) × has_room after (length own + length again)
-    by (Again kind.List) p a = let same : again ≡ repoll = a ∙ append-nil repoll in rw same (omega arith, p.room (length own + length repoll) (sized _ refl))
-    by (Again kind.Thread) p a = gone a p
-    by Absent p a = gone a p
-    by Gone p a = gone a p
-    by Repoll p a =
-        let size : length again ≡ length repoll + 1 = ap length a ∙ length-append repoll (id ∷ []) in
-        (omega (arith, size), rw p (sized (length own + length again) (omega (arith, size))))
 
 -- the first number is taken out, to be polled
 pub ahead-popped : (popped : Option ℕ) (before after : List ℕ) → MatchOption popped ((before ≡ []) × (after ≡ [])) (λ id. before ≡ id ∷ after)

@@ -1,10 +1,6 @@
 -- The rows of a trace are accepted, each after those before it.
-use Rattle.std.{proofs.{Common.{◌≡◌, ℕ, zero, suc, ◌<◌, List, [], ◌∷◌, ◌++◌, length, get_or, refl, sym, append_assoc, arith, Some, None, Option}, lemmas.List.append-nil}, specs.Prelude.{Ok, slice_get}}
-use Rattle.trace_rows.specs.{Switch.unless_refused, Trace.{AcceptedAfter, IsAccepted}, declared.{fault.TraceFault.TraceFault, row.Row.Row}}
-
-pub not-refused : (o : Option TraceFault) (row taken : Row) → Ok taken ≡ unless_refused o row → o ≡ None
-not-refused None row taken h = refl
-not-refused (Some f) row taken h = cc h
+use Rattle.std.{proofs.{Common.{◌≡◌, ℕ, zero, suc, ◌<◌, List, [], ◌∷◌, ◌++◌, length, get_or, refl, sym, append_assoc, arith, Some}, lemmas.List.append-nil}, specs.Prelude.slice_get}
+use Rattle.trace_rows.specs.{Trace.{AcceptedAfter, IsAccepted}, declared.row.Row.Row}
 
 -- one more row
 pub accepted-push : (earlier rows : List Row) (row : Row) → AcceptedAfter earlier rows → IsAccepted (earlier ++ rows) row → AcceptedAfter earlier (rows ++ row ∷ [])

@@ -3,7 +3,6 @@ use Rattle.std.{proofs.Common.{◌≡◌, ◌∙◌, ℕ, zero, suc, ◌+◌, �
 use Rattle.{std.proofs.lemmas.Bool.ltb-true, csv.specs.{Reading.{default_config, records_from, strip_bom}, declared.parser.State.State}, trace_rows.specs.{Record.{row_of, version_of}, Switch.{refusal, switch_of, unless_refused}}}
 use Rattle.trace_rows.{specs.{Trace.{records_of, rows_after, rows_behind, trace_of, version_in, with_row}, declared.{fault.TraceFault.TraceFault, row.Row.Row}}, proofs.RowsFacts.{rows-bad, rows-end, rows-good, rows-over}}
 use Rattle.trace_rows.proofs.RecordsFacts.{records-all, records-take}
-use Rattle.csv.specs.declared.parser.State.TheVariants as state
 
 module _ (version : ℕ) where
   -- a row that is taken makes the list one longer
@@ -48,16 +47,16 @@ first-decide (header ∷ records) (suc count) many = by (version_of header)
 
 -- as many records as the reader asks for decide what is told of a text, where they decide it of records
 asked-same : {A : Type 0} (told : List (List (List ℕ)) → A) (count : ℕ) (s : State) (bytes : List ℕ) → ((records : List (List (List ℕ))) → told (take count records) ≡ told records)
-    → s ≡ state.StartRecord → told (records_of bytes) ≡ told (records_from default_config count s (strip_bom bytes))
+    → s ≡ State.StartRecord → told (records_of bytes) ≡ told (records_from default_config count s (strip_bom bytes))
 unfolding records_of
 asked-same told count s bytes decide at =
     let xs = strip_bom bytes in
     let more = count + length xs + 1 in
-    rw at (ap told (records-all (length xs + 1) more state.StartRecord xs refl (omega arith) (omega arith))
-    ∙ sym (decide (records_from default_config more state.StartRecord xs))
-    ∙ ap told (sym (records-take count more state.StartRecord xs (omega arith))))
+    rw at (ap told (records-all (length xs + 1) more State.StartRecord xs refl (omega arith) (omega arith))
+    ∙ sym (decide (records_from default_config more State.StartRecord xs))
+    ∙ ap told (sym (records-take count more State.StartRecord xs (omega arith))))
 
-pub asked-decide : (count : ℕ) (s : State) (bytes : List ℕ) → 100002 ≤ count → s ≡ state.StartRecord
+pub asked-decide : (count : ℕ) (s : State) (bytes : List ℕ) → 100002 ≤ count → s ≡ State.StartRecord
     → trace_of (records_of bytes) ≡ trace_of (records_from default_config count s (strip_bom bytes))
 asked-decide count s bytes many at = asked-same trace_of count s bytes (λ records. first-decide records count many) at
 
@@ -66,7 +65,7 @@ first-tells records zero some = absurd (omega arith)
 first-tells [] (suc count) some = refl
 first-tells (header ∷ records) (suc count) some = refl
 
-pub asked-version : (count : ℕ) (s : State) (bytes : List ℕ) → 1 ≤ count → s ≡ state.StartRecord
+pub asked-version : (count : ℕ) (s : State) (bytes : List ℕ) → 1 ≤ count → s ≡ State.StartRecord
     → version_in (records_of bytes) ≡ version_in (records_from default_config count s (strip_bom bytes))
 asked-version count s bytes some at = asked-same version_in count s bytes (λ records. first-tells records count some) at
 

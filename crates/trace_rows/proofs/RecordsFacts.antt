@@ -1,9 +1,7 @@
 -- That a text has no more records than bytes, and that fewer of them are the first ones.
 use Rattle.std.{proofs.Common.{◌≡◌, ℕ, zero, suc, ◌-◌, ◌<◌, ◌≤◌, Bool, true, false, List, [], ◌∷◌, ◌++◌, length, take, refl, ap, arith, Some, None, Option}, specs.Prelude.{◌==◌, if◌then◌else◌}}
 use Rattle.csv.specs.{Machine.{Read, after_end, ends_at_end, ends_with, field_after, fields_after, in_field, is_end, next_record, start_field, start_record, step}, Reading.{default_config, records_from, records_next}}
-use Rattle.csv.specs.declared.parser.{Action.Action, State.State}
-use Rattle.csv.specs.declared.parser.State.TheVariants as state
-use Rattle.csv.specs.declared.parser.Terminator.TheVariants as terminator
+use Rattle.csv.specs.declared.parser.{Action.Action, State.State, Terminator.Terminator}
 
 -- a step that ends a record leads to a state between two records
 abbrev IsTidy : State × Action → Type 0
@@ -13,31 +11,31 @@ tidy-if : (b : Bool) (x y : State × Action) → IsTidy x → IsTidy y → IsTid
 tidy-if true x y p q = p
 tidy-if false x y p q = q
 
-after_end-tidy : (c : ℕ) → ends_at_end (after_end terminator.CRLF c) ≡ false
+after_end-tidy : (c : ℕ) → ends_at_end (after_end Terminator.CRLF c) ≡ false
 after_end-tidy c = by (c == 13)
   where
-    by : (b : Bool) → ends_at_end (if b then state.AfterCr else state.StartRecord) ≡ false
+    by : (b : Bool) → ends_at_end (if b then State.AfterCr else State.StartRecord) ≡ false
     by true = refl
     by false = refl
 
 in_field-tidy : (c : ℕ) → IsTidy (in_field default_config c)
-in_field-tidy c = tidy-if (c == 44) _ _ (λ h. cc h) (tidy-if (ends_with terminator.CRLF c) _ _ (λ h. after_end-tidy c) (λ h. cc h))
+in_field-tidy c = tidy-if (c == 44) _ _ (λ h. cc h) (tidy-if (ends_with Terminator.CRLF c) _ _ (λ h. after_end-tidy c) (λ h. cc h))
 
 start_field-tidy : (c : ℕ) → IsTidy (start_field default_config c)
 start_field-tidy c = tidy-if (c == 34) _ _ (λ h. cc h) (in_field-tidy c)
 
 start_record-tidy : (c : ℕ) → IsTidy (start_record default_config c)
-start_record-tidy c = tidy-if (ends_with terminator.CRLF c) _ _ (λ h. refl) (start_field-tidy c)
+start_record-tidy c = tidy-if (ends_with Terminator.CRLF c) _ _ (λ h. refl) (start_field-tidy c)
 
 step-tidy : (s : State) (c : ℕ) → IsTidy (step default_config s c)
-step-tidy state.StartRecord c = start_record-tidy c
-step-tidy state.StartField c = start_field-tidy c
-step-tidy state.InField c = in_field-tidy c
-step-tidy state.InQuoted c = tidy-if (c == 34) _ _ (λ h. cc h) (λ h. cc h)
-step-tidy state.InEscape c = λ h. cc h
-step-tidy state.AfterQuote c = tidy-if (c == 34) _ _ (λ h. cc h) (in_field-tidy c)
-step-tidy state.InComment c = tidy-if (c == 10) _ _ (λ h. refl) (λ h. cc h)
-step-tidy state.AfterCr c = tidy-if (c == 10) _ _ (λ h. refl) (start_record-tidy c)
+step-tidy State.StartRecord c = start_record-tidy c
+step-tidy State.StartField c = start_field-tidy c
+step-tidy State.InField c = in_field-tidy c
+step-tidy State.InQuoted c = tidy-if (c == 34) _ _ (λ h. cc h) (λ h. cc h)
+step-tidy State.InEscape c = λ h. cc h
+step-tidy State.AfterQuote c = tidy-if (c == 34) _ _ (λ h. cc h) (in_field-tidy c)
+step-tidy State.InComment c = tidy-if (c == 10) _ _ (λ h. refl) (λ h. cc h)
+step-tidy State.AfterCr c = tidy-if (c == 10) _ _ (λ h. refl) (start_record-tidy c)
 
 -- a record takes at least a byte, where there is one
 next-short : (s : State) (fields : List (List ℕ)) (field xs : List ℕ) (p : Read) → next_record default_config s fields field xs ≡ Some p
@@ -45,9 +43,9 @@ next-short : (s : State) (fields : List (List ℕ)) (field xs : List ℕ) (p : R
 unfolding next_record
 next-short s fields field [] p e = by (ends_at_end s) e
   where
-    by : (b : Bool) → (if b then Some (fields ++ (field ∷ []), state.StartRecord, []) else None) ≡ Some p → (ends_at_end p.1 ≡ false) × (length p.2 ≤ length {A = ℕ} [] - 1)
+    by : (b : Bool) → (if b then Some (fields ++ (field ∷ []), State.StartRecord, []) else None) ≡ Some p → (ends_at_end p.1 ≡ false) × (length p.2 ≤ length {A = ℕ} [] - 1)
     by true h =
-        let same : p ≡ (fields ++ (field ∷ []), state.StartRecord, []) = cc h in
+        let same : p ≡ (fields ++ (field ∷ []), State.StartRecord, []) = cc h in
         rw same (refl, omega arith)
     by false h = cc h
 next-short s fields field (c ∷ rest) p e =

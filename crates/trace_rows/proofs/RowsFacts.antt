@@ -2,7 +2,6 @@
 use Rattle.{std.{proofs.Common.{◌≡◌, ◌∙◌, ℕ, suc, ◌+◌, ◌-◌, ◌≤◌, true, false, List, [], ◌∷◌, ◌++◌, length, refl, sym, ap, arith, Some, None, Option}, specs.Prelude.{Result, Ok, Err, nat_lt}}, csv.specs.Machine.{Read, next_record}}
 use Rattle.{csv.specs.{Reading.{default_config, reader_state, records_from, records_next}, declared.{reader.Reader.Reader, parser.State.State}}, trace_rows.specs.{Source.{StandsAt, TakesNext}, Record.{row_of, version_of}}}
 use Rattle.trace_rows.specs.{Switch.{refusal, switch_of}, Trace.{rows_after, trace_of, version_in, with_row}, declared.{fault.TraceFault.TraceFault, row.Row.Row}}
-use Rattle.trace_rows.specs.declared.fault.TraceFault.TheVariants as fault
 
 records-next : (n m : ℕ) (s : State) (xs : List ℕ) → n ≡ suc m
     → records_from default_config n s xs ≡ records_next (records_from default_config m) (next_record default_config s [] [] xs)
@@ -59,7 +58,7 @@ module _ (version : ℕ) where
       so_far ∙ ap (rows_after version rows) (records-none remaining reader after fields (100001 - before) (100001 - (before + 1)) left (omega arith) next) ∙ rows-end rows
 
   pub rows-over : (rows : List Row) (fields : List (List ℕ)) (records : List (List (List ℕ))) → nat_lt (length rows) 100000 ≡ false
-      → rows_after version rows (fields ∷ records) ≡ Err fault.TooManyRows
+      → rows_after version rows (fields ∷ records) ≡ Err TraceFault.TooManyRows
   unfolding rows_after
   rows-over rows fields records e = rw e refl
 
@@ -91,12 +90,12 @@ module _ (version : ℕ) where
   with_row-good rows fields row e h = rw (sym e, h) refl
 
 -- no first record
-pub trace-none : (records : List (List (List ℕ))) → records ≡ [] → trace_of records ≡ Err fault.BadHeader
+pub trace-none : (records : List (List (List ℕ))) → records ≡ [] → trace_of records ≡ Err TraceFault.BadHeader
 trace-none records e = rw e refl
 
 -- a first record that is no header
 pub trace-other : (records : List (List (List ℕ))) (fields : List (List ℕ)) (rest : List (List (List ℕ))) → records ≡ fields ∷ rest → version_of fields ≡ None
-    → trace_of records ≡ Err fault.BadHeader
+    → trace_of records ≡ Err TraceFault.BadHeader
 trace-other records fields rest e h = rw (e, h) refl
 
 -- the header

@@ -1,7 +1,7 @@
 -- How one more row changes the switches.
 use Rattle.std.{proofs.{Common.{◌≡◌, ◌≢◌, ◌∙◌, ℕ, ◌+◌, ◌-◌, ◌≤◌, Bool, true, false, List, [], ◌∷◌, ◌++◌, length, refl, arith, Some, None, slice_index_or, slice_set}, lemmas.Bool.{eqb-true, eqb-false}}, specs.Prelude.{◌==◌, unwrap_or}}
 use Rattle.{std.proofs.lemmas.{List.{map-append, get_or-set_other, Elements.filter-append}, Grind.get_or-set_at, Bool.Decides.nat_tests}, trace_rows.specs.{Row.device_fits, Switch.{Tracks, events_of, set_by, switch_after, switch_of}}}
-use Rattle.trace_rows.specs.declared.{event.Event.{Event, TheVariants.{Opened, Rx, Tx, Finish, Softirq, Kthread, Disable, Enable, Threaded, Busy}}, row.Row.Row, switch.Switch.{Switch, TheVariants.Unopened}}
+use Rattle.trace_rows.specs.declared.{event.Event.{Event, TheVariants.Softirq}, row.Row.Row, switch.Switch.{Switch, TheVariants.Unopened}}
 
 pub switch_after-append : (s : Switch) (xs ys : List Event) → switch_after s (xs ++ ys) ≡ switch_after (switch_after s xs) ys
 switch_after-append s [] ys = refl
@@ -45,13 +45,5 @@ tracks-set table rows row s e low high size t place below = by (row.device == pl
 
 -- a device of a row that is no softirq
 pub device_range : (e : Event) (n : ℕ) → e ≢ Softirq → device_fits e n ≡ true → (1 ≤ n) × (n ≤ 16)
-device_range Opened n other h = grind (arith, nat_tests)
-device_range Rx n other h = grind (arith, nat_tests)
-device_range Tx n other h = grind (arith, nat_tests)
-device_range Finish n other h = grind (arith, nat_tests)
 device_range Softirq n other h = absurd (other refl)
-device_range Kthread n other h = grind (arith, nat_tests)
-device_range Disable n other h = grind (arith, nat_tests)
-device_range Enable n other h = grind (arith, nat_tests)
-device_range Threaded n other h = grind (arith, nat_tests)
-device_range Busy n other h = grind (arith, nat_tests)
+device_range e n other h = grind (arith, nat_tests)

@@ -1,6 +1,5 @@
-use Rattle.{std.proofs.Common.{refl, sym, ap, ◌∙◌}, napi_word.specs.{declared.view.Holds.TheVariants.{Within, Out}, View.number_of}, napi_model.specs.declared.state.Flags.Flags}
+use Rattle.{std.proofs.Common.{refl, sym, ap, ◌∙◌}, napi_word.specs.{declared.view.Holds.TheVariants.{Within, Out}, View.number_of}, napi_model.specs.declared.{state.Flags.Flags, event.Call.Call}}
 use Rattle.napi_calls.proofs.{Standing.{looked_flags, control_looked, control_enabled, controls_moved, is_control, outside, has_none}, Packets.{owns, held_step, held_still, gives_back, got_back}, Making.{nothing, step, still, lost}}
-use Rattle.napi_model.specs.declared.event.Call.TheVariants as call
 use Rattle.napi_calls.proofs.control.Control+Off.try_enable_between.Goals as goal
 
 pub enable_swap-requires-clause-owner : goal.enable_swap-requires-clause-owner
@@ -46,7 +45,7 @@ returns-in-Err-clause-events g c =
     let e = c.slot_out-ctx.ensures in
     let k = control_looked c.look-seen.new.pass c.args.self.controls c.look-seen.ensures.step.event in
     let on = ap (λ (f : Flags). f.disable) (looked_flags c.args.self.pass c.look-seen.new.pass c.look-seen.ensures.step.event) ∙ k.flag in
-    lost (call.Enable c.args.threaded) _ _ on c.in-Err.ensures.other (still c.slot_out-ctx.new.pass (step c.enable_swap.new.pass in_slot c.enable_swap.ensures.step.table c.in-Err.ensures.step.event) e.keeps.table e.keeps.view)
+    lost (Call.Enable c.args.threaded) _ _ on c.in-Err.ensures.other (still c.slot_out-ctx.new.pass (step c.enable_swap.new.pass in_slot c.enable_swap.ensures.step.table c.in-Err.ensures.step.event) e.keeps.table e.keeps.view)
 
 pub returns-in-Ok-clause-packets : goal.returns-in-Ok-clause-packets
 returns-in-Ok-clause-packets g c =

@@ -1,6 +1,5 @@
-use Rattle.{std.proofs.Common.{◌∙◌, ap, refl}, napi_model.specs.declared.state.Flags.Flags, napi_calls.proofs.Standing.{looked, looked_flags, kept, busy_looked, busy_made, is_polling, stays_has}}
+use Rattle.{std.proofs.Common.{◌∙◌, ap, refl}, napi_model.specs.declared.{state.Flags.Flags, event.Call.Call}, napi_calls.proofs.Standing.{looked, looked_flags, kept, busy_looked, busy_made, is_polling, stays_has}}
 use Rattle.{napi_word.specs.declared.view.Holds.TheVariants.Out, napi_calls.proofs.{Packets.{owns, held_step, held_more}, Making.{nothing, step, lost}}}
-use Rattle.napi_model.specs.declared.event.Call.TheVariants as call
 use Rattle.napi_calls.proofs.types.Busy.try_stop_between.Goals as goal
 
 pub stop_swap-requires-clause-owner : goal.stop_swap-requires-clause-owner
@@ -40,7 +39,7 @@ returns-in-Err-clause-events g c =
     let one = step c.look-seen.new.pass (nothing c.args.self.stands) c.look-seen.ensures.step.table c.look-seen.ensures.step.event in
     let busy = busy_looked c.look-seen.new.pass c.args.self.stands c.args.self.busy c.look-seen.ensures.step.event in
     let on = ap (λ (f : Flags). f.in_busy_poll) (looked_flags c.args.self.pass c.look-seen.new.pass c.look-seen.ensures.step.event) ∙ busy in
-    lost call.BusyStop _ _ on c.in-Err.ensures.other (step c.stop_swap.new.pass one c.stop_swap.ensures.step.table c.in-Err.ensures.step.event)
+    lost Call.BusyStop _ _ on c.in-Err.ensures.other (step c.stop_swap.new.pass one c.stop_swap.ensures.step.table c.in-Err.ensures.step.event)
 
 pub returns-in-Ok-clause-packets : goal.returns-in-Ok-clause-packets
 returns-in-Ok-clause-packets g c =

@@ -1,5 +1,4 @@
-use Rattle.{std.proofs.Common.{refl, [], ◌∷◌, ◌∙◌}, napi_model.specs.declared.event.Operation.TheVariants.{Look, Schedule}, napi_calls.proofs.Making.{nothing, more, more_lost}}
-use Rattle.napi_model.specs.declared.event.Prep.TheVariants as prep
+use Rattle.{std.proofs.Common.{refl, [], ◌∷◌, ◌∙◌}, napi_model.specs.declared.event.{Operation.TheVariants.{Look, Schedule}, Prep.Prep}, napi_calls.proofs.Making.{nothing, more, more_lost}}
 use Rattle.napi_calls.proofs.types.Caller.schedule.Goals as goal
 
 pub loop-init : goal.loop-init
@@ -14,15 +13,15 @@ loop-preserved g c = (c.in-Changed.ensures.packets ∙ c.loop.invariant.0, more_
 pub returns-in-Granted-clause-events : goal.returns-in-Granted-clause-events
 returns-in-Granted-clause-events g c =
     let e = c.in-Granted.ensures.events in
-    (c.loop.invariant.1.0, e.0, more (Look e.0) (Schedule prep.Granted ∷ []) c.loop.invariant.1.1 e.1)
+    (c.loop.invariant.1.0, e.0, more (Look e.0) (Schedule Prep.Granted ∷ []) c.loop.invariant.1.1 e.1)
 
 pub returns-in-Missed-clause-events : goal.returns-in-Missed-clause-events
 returns-in-Missed-clause-events g c =
     let e = c.in-Missed.ensures.events in
-    (c.loop.invariant.1.0, e.0, more (Look e.0) (Schedule prep.Missed ∷ []) c.loop.invariant.1.1 e.1)
+    (c.loop.invariant.1.0, e.0, more (Look e.0) (Schedule Prep.Missed ∷ []) c.loop.invariant.1.1 e.1)
 
 pub returns-in-Disabled-clause-events : goal.returns-in-Disabled-clause-events
-returns-in-Disabled-clause-events g c = (c.loop.invariant.1.0, more (Schedule prep.Disabled) [] c.loop.invariant.1.1 c.in-Disabled.ensures.events)
+returns-in-Disabled-clause-events g c = (c.loop.invariant.1.0, more (Schedule Prep.Disabled) [] c.loop.invariant.1.1 c.in-Disabled.ensures.events)
 
 pub returns-in-Granted-clause-packets : goal.returns-in-Granted-clause-packets
 returns-in-Granted-clause-packets g c = c.in-Granted.ensures.packets ∙ c.loop.invariant.0

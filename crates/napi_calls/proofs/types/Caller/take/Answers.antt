@@ -1,5 +1,4 @@
-use Rattle.{std.proofs.Common.refl, napi_calls.proofs.{Standing.{kept, made, self_polling, moved, busy_taken, busy_moved, outside}, Packets.{quiet_step, taken}, Making.{nothing, step, still}}}
-use Rattle.napi_model.specs.declared.state.Place.TheVariants as place
+use Rattle.{std.proofs.Common.refl, napi_calls.proofs.{Standing.{kept, made, self_polling, moved, busy_taken, busy_moved, outside}, Packets.{quiet_step, taken}, Making.{nothing, step, still}}, napi_model.specs.declared.state.Place.Place}
 use Rattle.napi_calls.proofs.types.Caller.take.Goals as goal
 
 pub invariant_of-result : goal.invariant_of-result
@@ -14,7 +13,7 @@ returns-then-not-take-clause-packets c = quiet_step c.args.self.pass c.take.new.
 pub invariant_of-result-2 : goal.invariant_of-result-2
 invariant_of-result-2 c =
     let e = c.slot_out-ctx.ensures in
-    let st = made place.Polling c.take.new.pass c.args.self.stands c.if-not-take.ensures.step.event (λ s. self_polling _) in record {
+    let st = made Place.Polling c.take.new.pass c.args.self.stands c.if-not-take.ensures.step.event (λ s. self_polling _) in record {
       stands = moved c.slot_out-ctx.new.pass st e.keeps.view;
       busy = busy_moved c.slot_out-ctx.new.pass st (busy_taken c.take.new.pass c.args.self.stands c.if-not-take.ensures.step.event) e.keeps.view;
       has = outside c.take.new.pass c.slot_out-ctx.new.pass _ e.holds e.keeps.view e.ring e.received;

@@ -1,7 +1,5 @@
 use Rattle.{std.proofs.Common.{refl, sym, ◌∙◌, true≢false}, napi_calls.proofs.{Standing.{looked, made, self_polling, moved, busy_made, busy_moved, outside}, Packets.{quiet_step, quiet_more, taken, fresh_behind}}}
-use Rattle.napi_calls.proofs.Making.{nothing, step, still, lost}
-use Rattle.napi_model.specs.declared.state.Place.TheVariants as place
-use Rattle.napi_model.specs.declared.event.Call.TheVariants as call
+use Rattle.{napi_calls.proofs.Making.{nothing, step, still, lost}, napi_model.specs.declared.{state.Place.Place, event.Call.Call}}
 use Rattle.napi_calls.proofs.types.Caller.try_busy_between.Goals as goal
 
 pub invariant_of-result : goal.invariant_of-result
@@ -18,7 +16,7 @@ pub invariant_of-result-in-Ok : goal.invariant_of-result-in-Ok
 invariant_of-result-in-Ok g c =
     let st = looked c.look-seen.new.pass c.args.self.stands c.look-seen.ensures.step.event in
     let taken = c.in-Ok.ensures.step.event in
-    let polls = made place.Polling c.busy_swap.new.pass st taken (λ s. self_polling _) in
+    let polls = made Place.Polling c.busy_swap.new.pass st taken (λ s. self_polling _) in
     let e = c.slot_out-ctx.ensures in record {
       stands = moved c.slot_out-ctx.new.pass polls e.keeps.view;
       busy = busy_moved c.slot_out-ctx.new.pass polls (busy_made c.busy_swap.new.pass st taken (λ n s. refl)) e.keeps.view;
@@ -41,7 +39,7 @@ pub returns-in-Err-clause-events : goal.returns-in-Err-clause-events
 returns-in-Err-clause-events g c =
     let one = step c.look-seen.new.pass (nothing c.args.self.stands) c.look-seen.ensures.step.table c.look-seen.ensures.step.event in
     let two = step c.busy_swap.new.pass one c.busy_swap.ensures.step.table c.in-Err.ensures.step.event in
-    lost call.BusyTake _ _ (c.may_busy_take.ensures.0 c.if-not-may_busy_take.false) c.in-Err.ensures.other two
+    lost Call.BusyTake _ _ (c.may_busy_take.ensures.0 c.if-not-may_busy_take.false) c.in-Err.ensures.other two
 
 pub returns-then-not-may_busy_take-clause-packets : goal.returns-then-not-may_busy_take-clause-packets
 returns-then-not-may_busy_take-clause-packets g c = quiet_step c.args.self.pass c.look-seen.new.pass c.look-seen.ensures.step.event c.look-seen.ensures.step.packets

@@ -1,4 +1,4 @@
-use Rattle.{std.proofs.Common.{ap, ◌∙◌}, napi_model.specs.{declared.{event.Operation.Operation, state.Seen.Seen}, Step.seen_after, Word.word_of}, napi_word.proofs.Said.one_there}
+use Rattle.{std.proofs.Common.{ap, ◌∙◌}, napi_model.specs.{declared.event.Operation.Operation, Step.seen_after, Word.word_of}, napi_word.proofs.Said.one_there}
 use Rattle.napi_word.proofs.table.StateTable.exchange.Goals as goal
 
 pub compare_exchange-word-requires : goal.compare_exchange-word-requires
