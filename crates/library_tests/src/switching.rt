@@ -3,7 +3,7 @@
 ghost use Rattle.napi_calls.specs.Instance.{IsSeatOf};
 
 use crate::bed::{Bed, enabled, make_bed};
-use napi_calls::{Caller, Completed, Control, Kept, Napi, On};
+use napi_calls::{Caller, Completed, Control, Kept, Napi, On, Polling, Sched};
 use napi_model::Kind;
 use std::sync::Wait;
 use std::sync::atomic::{AtomicBool, Ordering};
@@ -40,6 +40,17 @@ fn keep_switching(rt: &impl Wait, napi: &Napi, control: Control<On>) -> Control<
     control
 }
 
+// Completes a poll. The poll that has to follow goes to the list.
+fn completed(rt: &impl Wait, napi: &Napi, polling: Polling) -> Caller
+    requires { IsSeatOf napi.now polling.pass }
+    ensures { IsSeatOf napi.now result.pass }
+{
+    match polling.complete(rt, napi) {
+        Completed::Released(caller) => caller,
+        Completed::Again(granted) => granted.hand(napi, Kind::List),
+    }
+}
+
 // Busy polls once, where the instance is idle.
 fn busy_once(rt: &impl Wait, napi: &Napi, caller: Caller) -> Caller
     requires { IsSeatOf napi.now caller.pass }
@@ -47,19 +58,45 @@ fn busy_once(rt: &impl Wait, napi: &Napi, caller: Caller) -> Caller
 {
     match caller.busy(rt, napi) {
         Err(caller) => caller,
-        Ok(busy) => match busy.stop(rt, napi).complete(rt, napi) {
-            Completed::Released(caller) => caller,
-            Completed::Again(granted) => granted.hand(napi, Kind::List),
-        },
+        Ok(busy) => completed(rt, napi, busy.stop(rt, napi)),
     }
 }
 
-fn keep_busy(rt: &impl Wait, napi: &Napi, caller: Caller) -> Caller
+// Asks for a poll, which goes to the list where it is granted.
+fn ask_once(rt: &impl Wait, napi: &Napi, caller: Caller) -> Caller
+    requires { IsSeatOf napi.now caller.pass }
+    ensures { IsSeatOf napi.now result.pass }
+{
+    match caller.schedule(rt, napi) {
+        Sched::Granted(granted) => granted.hand(napi, Kind::List),
+        Sched::Missed(caller) | Sched::Disabled(caller) => caller,
+    }
+}
+
+// Polls until the instance isn't on the list.
+fn poll_list(rt: &impl Wait, napi: &Napi, caller: Caller) -> Caller
+    requires { IsSeatOf napi.now caller.pass }
+    ensures { IsSeatOf napi.now result.pass }
+{
+    let mut caller = caller;
+    for _ in rt.forever() {
+        match caller.take(napi, Kind::List) {
+            Err(rest) => return rest,
+            Ok(polling) => caller = completed(rt, napi, polling),
+        }
+    }
+    unreachable!()
+}
+
+// Busy polls and asks for polls so often.
+fn keep_polling(rt: &impl Wait, napi: &Napi, caller: Caller) -> Caller
     requires { IsSeatOf napi.now caller.pass }
 {
     let mut caller = caller;
     for _ in 0..ROUNDS {
         caller = busy_once(rt, napi, caller);
+        caller = ask_once(rt, napi, caller);
+        caller = poll_list(rt, napi, caller);
     }
     caller
 }
@@ -92,7 +129,7 @@ fn lost_tries_are_made_again(rt: HostRuntime) -> Result<(), Fail> {
                 &rt,
                 move || -> Caller
                     requires { IsSeatOf shared.now second.value.pass }
-                { keep_busy(&rt, shared, second.open()) },
+                { keep_polling(&rt, shared, second.open()) },
                 move || -> Control<On>
                     requires { IsSeatOf shared.now control.value.pass }
                 { keep_switching(&rt, shared, control.open()) },

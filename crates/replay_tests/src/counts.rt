@@ -1,10 +1,20 @@
 //! What is made for a count is made for each count that it takes, where memory is there: no clause can say that.
 
+ghost use Rattle.std.specs.Prelude.{◌≡◌, ◌≤◌, IfOk, vec_items, vec_len};
+ghost use Rattle.std.specs.List.{All};
+ghost use Rattle.interrupt_workers.specs.Opens.{IsStation};
+
+use devices::{ReplayBench, SerialBench};
 use napi_calls::Napi;
 use poll_engine::{PollList, SoftList};
+use poll_workers::{ActList, OpenGate, Pace, Station, run_workers};
 use rx_ring::{Packet, ring};
 use shared_list::shared_list;
+use shared_replay::SharedBench;
+use std::alloc::{AllocError, Global};
+use std::sync::Wait;
 use std::test::Fail;
+use std::thread::Threads;
 
 const PACKET: Packet = Packet {
     number: 1,
@@ -56,6 +66,74 @@ fn rings_of_odd_capacities(rt: HostRuntime) -> Result<(), Fail> {
             assert!(rt; input.put(PACKET).is_ok());
         }
         assert_eq!(rt; input.put(PACKET), Err(PACKET));
+    }
+    Ok(())
+}
+
+// Devices of all numbers, with rings of 333 places and more.
+fn attach_each<B: ReplayBench>(alloc: Global, bench: &mut B) -> Result<(), AllocError> {
+    for device in 1..17u32 {
+        bench.attach(alloc, device, 333 * device, 0)?;
+    }
+    Ok(())
+}
+
+#[test]
+fn benches_of_sixteen_devices(rt: HostRuntime) -> Result<(), Fail> {
+    let mut serial = SerialBench::new(rt.alloc())?;
+    attach_each(rt.alloc(), &mut serial)?;
+    assert_eq!(rt; serial.attached(), 16);
+    let mut shared = SharedBench::new(&rt, rt.alloc())?;
+    assert_eq!(rt; attach_each(rt.alloc(), &mut shared), Ok(()));
+    assert_eq!(rt; shared.attached(), 16);
+    let _ended = shared.end();
+    Ok(())
+}
+
+// So many stations without an act, each with a thread of its own.
+fn stations_of(alloc: Global, count: u32) -> Result<Vec<Station<ActList>>, AllocError>
+    requires { count ≤ 16 }
+    ensures all { IfOk result (λ v. All IsStation (vec_items v)) }
+    ensures len { IfOk result (λ v. vec_len v ≡ count) }
+{
+    let mut stations = Vec::new(alloc);
+    for number in 1..=count {
+        stations.push(Station {
+            number,
+            capacity: 5,
+            thread: true,
+            device: ActList::new(Vec::new(alloc)),
+        })?;
+    }
+    Ok(stations)
+}
+
+// How many of so many stations are run by so many pollers.
+fn run_idle<R: Threads + Wait + Sync>(
+    rt: &R,
+    alloc: Global,
+    count: u32,
+    pollers: u32,
+) -> Result<usize, Fail>
+    requires count { count ≤ 16 }
+    requires pollers { (1 ≤ pollers) × (pollers ≤ 8) }
+{
+    let pace = Pace {
+        budget: 300,
+        weight: 64,
+        window: 1024,
+    };
+    let stations = stations_of(alloc, count)?;
+    Ok(run_workers(rt, alloc, stations, pollers, pace, &OpenGate)?.len())
+}
+
+// Runs of 1 to 16 stations, by one poller and by 1 to 8.
+#[test]
+fn runs_of_each_count(rt: HostRuntime) -> Result<(), Fail> {
+    for count in 1..17u32 {
+        assert_eq!(rt; run_idle(&rt, rt.alloc(), count, 1)?, count as usize);
+        let pollers = 1 + count % 8;
+        assert_eq!(rt; run_idle(&rt, rt.alloc(), count, pollers)?, count as usize);
     }
     Ok(())
 }

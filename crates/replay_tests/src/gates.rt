@@ -313,3 +313,28 @@ fn a_disable_waits_for_a_poller_at_the_gate(rt: HostRuntime) -> Result<(), Fail>
     }
     Ok(())
 }
+
+/// Holds a poller as that gate does, and is shut for it then.
+#[derive(Drop)]
+struct ShutsPoller(HoldsPoller);
+
+impl Gate for ShutsPoller {
+    fn pass(&self, worker: u32, act: u32) -> bool {
+        self.0.pass(worker, act) && worker != self.0.poller
+    }
+}
+
+// Where the gate is shut for a poller, or for a thread, it polls all the same what was put before: a disable waits for that.
+#[test]
+fn a_poller_goes_on_behind_a_shut_gate(rt: HostRuntime) -> Result<(), Fail> {
+    for (poller, thread) in [(100, false), (201, true)] {
+        let mut acts = vec![in rt.alloc(); Act::SetThreaded(thread)]?;
+        receive(&mut acts, 1)?;
+        acts.push(Act::Disable)?;
+        let stations = with(Vec::new(rt.alloc()), 1, 4, thread, acts)?;
+        let gate = ShutsPoller(HoldsPoller::new(poller, 1, 2));
+        let done = run_workers(&rt, rt.alloc(), stations, 1, PACE, &gate);
+        assert!(rt; matches!(done, Err(WorkFault::GateShut)));
+    }
+    Ok(())
+}

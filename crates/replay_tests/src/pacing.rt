@@ -15,14 +15,14 @@ use std::thread;
 use std::thread::Threads;
 use threads_replay::{Polled, replay_threads};
 
-// How often a gate looks while it is to wait a good while for others that do something.
-const LONG: u32 = 100_000;
+/// How often a gate looks while it is to wait a good while for others that do something.
+pub(crate) const LONG: u32 = 100_000;
 
 // How often a run is tried in which one thread has to be quicker than another that waits so.
 const TRIES: u32 = 10;
 
-// Waits until all these bits are set, and so many turns more, but not for ever. Answers whether that came.
-fn comes(flags: &AtomicU32, bits: u32, more: u32) -> bool {
+/// Waits until all these bits are set, and so many turns more, but not for ever. Answers whether that came.
+pub(crate) fn comes(flags: &AtomicU32, bits: u32, more: u32) -> bool {
     let mut more = more;
     for _ in 0..LOOKS {
         if flags.load(Ordering::SeqCst) & bits == bits {
@@ -148,26 +148,29 @@ fn each_device_has_its_poller(rt: HostRuntime) -> Result<(), Fail> {
 }
 
 // 20 packets wait when the device is being disabled. Then a poll of the whole weight ends the device's polls, but for the one
-// that a packet asked for while the device was on the list.
+// that a packet asked for while the device was handed over: to the list, or to its thread.
 #[test]
 fn a_poll_takes_the_weight(rt: HostRuntime) -> Result<(), Fail> {
-    let rows = [
-        (1, "0,1,open,32\n"),
-        (20, "1,1,rx,100\n"),
-        (1, "2,1,disable,0\n3,1,enable,0\n"),
-    ];
-    for weight in [1u32, 3, 6] {
-        let settings = settings_of(1, 300, weight, 1024)?;
-        let want = u64::from(2 * weight);
-        let mut polled = 0;
-        for _ in 0..TRIES {
-            let gate = HoldsPoller::new(100, 1, 20);
-            polled = polled_first(&rt, rt.alloc(), &rows, &settings, &gate)?;
-            if polled == want {
-                break;
+    for (poller, threaded) in [(100, 0), (201, 1)] {
+        let opening = format!(in rt.alloc(); "0,1,open,32\n1,1,threaded,{threaded}\n")?;
+        let rows = [
+            (1, opening.as_str()),
+            (20, "1,1,rx,100\n"),
+            (1, "2,1,disable,0\n3,1,enable,0\n"),
+        ];
+        for weight in [1u32, 3, 6] {
+            let settings = settings_of(1, 300, weight, 1024)?;
+            let want = u64::from(2 * weight);
+            let mut polled = 0;
+            for _ in 0..TRIES {
+                let gate = HoldsPoller::new(poller, 1, 21);
+                polled = polled_first(&rt, rt.alloc(), &rows, &settings, &gate)?;
+                if polled == want {
+                    break;
+                }
             }
+            assert_eq!(rt; polled, want, "of weight {weight} by {poller}");
         }
-        assert_eq!(rt; polled, want, "of weight {weight}");
     }
     Ok(())
 }

@@ -4,14 +4,16 @@ ghost use Rattle.std.specs.Prelude.{◌≡◌, IfOk, vec_len, ◌≤◌, ◌+◌
 ghost use Rattle.std.specs.List.{All};
 ghost use Rattle.interrupt_workers.specs.Opens.{IsStation};
 
-use crate::gates::{LOOKS, ShutAt};
+use crate::gates::ShutAt;
+use crate::pacing::{LONG, comes};
 use poll_workers::{Act, Device, Gate, OpenGate, Pace, Station, WorkFault, run_workers};
 use std::alloc::{AllocError, Global};
 use std::sync::atomic::{AtomicU32, Ordering};
 use std::test::Fail;
-use std::thread;
 
 const ACTS: u32 = 10;
+
+const HALF: u32 = 5;
 
 const PACE: Pace = Pace {
     budget: 300,
@@ -44,7 +46,7 @@ impl Device for Counting<'_> {
     }
 }
 
-// One more device, which counts its acts there.
+// One more device, with a thread of its own, which counts its acts there.
 fn with<'a>(
     mut stations: Vec<Station<Counting<'a>>>,
     number: u32,
@@ -58,7 +60,7 @@ fn with<'a>(
     stations.push(Station {
         number,
         capacity: 4,
-        thread: false,
+        thread: true,
         device: Counting { made },
     })?;
     Ok(stations)
@@ -105,14 +107,7 @@ impl Gate for ShutFirst {
             return false;
         }
         if worker == 2 {
-            let mut more = 100_000u32;
-            for _ in 0..LOOKS {
-                if more == 0 {
-                    break;
-                }
-                more -= self.shut.load(Ordering::SeqCst).min(1);
-                thread::yield_now();
-            }
+            comes(&self.shut, 1, LONG);
         }
         true
     }
@@ -130,6 +125,48 @@ fn a_shut_gate_stops_the_others(rt: HostRuntime) -> Result<(), Fail> {
     assert!(rt; matches!(done, Err(WorkFault::GateShut)));
     assert_eq!(rt; made[0].load(Ordering::SeqCst), 0);
     assert!(rt; made[1].load(Ordering::SeqCst) <= 1);
+    Ok(())
+}
+
+/// Shuts as one of those that poll starts, once worker 1 has made half of its acts. That one makes its next act only a good
+/// while later.
+#[derive(Drop)]
+struct ShutStart {
+    starts: u32,
+    half: AtomicU32,
+    shut: AtomicU32,
+}
+
+impl Gate for ShutStart {
+    fn pass(&self, worker: u32, act: u32) -> bool {
+        if worker == self.starts {
+            comes(&self.half, 1, 0);
+            self.shut.store(1, Ordering::SeqCst);
+            return false;
+        }
+        if (worker, act) == (1, HALF) {
+            self.half.store(1, Ordering::SeqCst);
+            comes(&self.shut, 1, LONG);
+        }
+        true
+    }
+}
+
+// Nor is a further act made where the gate is shut for a poller, or for a thread.
+#[test]
+fn a_gate_shut_for_a_poller_stops_the_workers(rt: HostRuntime) -> Result<(), Fail> {
+    for starts in [100, 201] {
+        let made = [AtomicU32::new(0), AtomicU32::new(0)];
+        let stations = two(rt.alloc(), &made[0], &made[1])?;
+        let gate = ShutStart {
+            starts,
+            half: AtomicU32::new(0),
+            shut: AtomicU32::new(0),
+        };
+        let done = run_workers(&rt, rt.alloc(), stations, 2, PACE, &gate);
+        assert!(rt; matches!(done, Err(WorkFault::GateShut)));
+        assert_eq!(rt; made[0].load(Ordering::SeqCst), HALF + 1);
+    }
     Ok(())
 }
 
