@@ -1,6 +1,8 @@
 //! The atomic steps of the word, each once for every kind of step.
 ghost use Rattle.std.specs.Prelude.{◌≡◌, ◌≢◌, ◌+◌, ◌-◌, ◌%◌, ◌^◌, OnOk, IfErr, bit_and, bit_or};
 ghost use Rattle.napi_model.specs.declared.event.Operation.TheVariants.{Look};
+ghost use Rattle.napi_model.specs.Step.{seen_after};
+ghost use Rattle.napi_model.specs.Word.{word_of};
 ghost use Rattle.napi_word.specs.Slot.{stays};
 ghost use Rattle.napi_word.specs.Told.{Did};
 ghost use Rattle.napi_word.specs.Atoms.{MayMake, MayExchange};
@@ -9,8 +11,26 @@ use crate::plays::{Exchanged, Step, Told};
 use crate::table::StateTable;
 use crate::view::View;
 use atomic_table::Seat;
-use napi_model::{Operation, Seen, decode_known, encode};
+use napi_model::bits::{MISSED, SCHED, SCHED_THREADED};
+use napi_model::{Done, Operation, Prep, Seen, decode_known, encode};
 use rx_ring::RxCtx;
+
+// The word after an operation, by the word before it. Where few bits change, they alone are set or cleared: the flags needn't be
+// put together again.
+#[inline(always)]
+#[tactic(auto, using(crate::proofs::Bits::granted_word, crate::proofs::Bits::missed_word, crate::proofs::Bits::again_word, crate::proofs::Bits::released_word))]
+fn word_after(seen: Seen, word: u64, operation: Operation) -> u64
+    requires { word ≡ word_of seen }
+    ensures { result ≡ word_of (seen_after operation seen) }
+{
+    match operation {
+        Operation::Schedule(Prep::Granted) => word | SCHED,
+        Operation::Schedule(Prep::Missed) => word | MISSED,
+        Operation::Complete(Done::Again) => word & !(MISSED | SCHED_THREADED),
+        Operation::Complete(Done::Released) => word & !(SCHED | SCHED_THREADED),
+        _ => encode(seen.after(operation)),
+    }
+}
 
 impl StateTable {
     // Reads the word, and answers what it said.
@@ -76,7 +96,8 @@ impl StateTable {
     }
 
     // Makes the operation where the word still says what was seen, and answers so. Else nothing is written, and what it says is handed back.
-    #[inline]
+    // Mostly nothing is handed over, and the word is then made of the flags alone: so the two cases are apart.
+    #[inline(always)]
     pub(crate) fn exchange<K: Step>(
         &self,
         seat: &mut Seat<Option<RxCtx>, View>,
@@ -91,8 +112,43 @@ impl StateTable {
         ensures lost { IfErr result
             (λ found. Did (Look found) stays seat.old.me seat.new.me × (found ≢ seen)) }
     {
+        let Seen { flags, handed } = seen;
+        match handed {
+            None => {
+                let seen = Seen {
+                    flags,
+                    handed: None,
+                };
+                self.exchange_seen::<K>(seat, seen, operation)
+            }
+            Some(kind) => {
+                let seen = Seen {
+                    flags,
+                    handed: Some(kind),
+                };
+                self.exchange_seen::<K>(seat, seen, operation)
+            }
+        }
+    }
+
+    // The same, for what was seen with or without a hand-over.
+    #[inline(always)]
+    fn exchange_seen<K: Step>(
+        &self,
+        seat: &mut Seat<Option<RxCtx>, View>,
+        seen: Seen,
+        operation: Operation,
+    ) -> Result<(), Seen>
+        requires table { seat.old.table_id ≡ self.now.table.shared.table_id }
+        requires operation { operation ≡ K.operation seen }
+        requires may { MayExchange self.now seat.old seen K.operation K.moves }
+        ensures table { seat.new.table_id ≡ seat.old.table_id }
+        ensures won { OnOk result (Did (K.operation seen) (K.moves seen) seat.old.me seat.new.me) }
+        ensures lost { IfErr result
+            (λ found. Did (Look found) stays seat.old.me seat.new.me × (found ≢ seen)) }
+    {
         let old = encode(seen);
-        let next = encode(seen.after(operation));
+        let next = word_after(seen, old, operation);
         let word = self
             .table
             .shared

@@ -68,7 +68,7 @@ impl StateTable {
     /// Ends a poll if the word still says what was seen (`napi_complete_done`, its `try_cmpxchg` on `napi->state`):
     /// `Released` clears SCHED, `Again` clears MISSED and keeps SCHED, and the instance is the pass's to be handed over.
     /// The context must be in the slot. `Err`: another step came between. Nothing was written, and this was a look.
-    #[inline]
+    #[inline(always)]
     pub fn complete_swap(&self, pass: &mut Pass, seen: Seen) -> Result<Done, Seen>
         requires table { IsPassOf self.now pass.old }
         requires owner { Polls false pass.old }

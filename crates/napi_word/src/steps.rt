@@ -46,7 +46,7 @@ impl StateTable {
     /// The second half of `napi_schedule_prep` (`try_cmpxchg` on `napi->state`): sets SCHED, or MISSED where SCHED is set,
     /// if the word still says what was seen; that must not have DISABLE. `Err`: another step came between. Nothing was
     /// written, and this was a look at what the word says now.
-    #[inline]
+    #[inline(always)]
     pub fn schedule_swap(&self, pass: &mut Pass, seen: Seen) -> Result<Prep, Seen>
         requires table { IsPassOf self.now pass.old }
         requires enabled { seen.flags.disable ≡ false }
