@@ -97,9 +97,9 @@ fn stations_of(alloc: Global, count: u32) -> Result<Vec<Station<ActList>>, Alloc
     ensures len { IfOk result (λ v. vec_len v ≡ count) }
 {
     let mut stations = Vec::new(alloc);
-    for number in 1..=count {
+    for index in 0..count {
         stations.push(Station {
-            number,
+            number: index + 1,
             capacity: 5,
             thread: true,
             device: ActList::new(Vec::new(alloc)),

@@ -1,8 +1,8 @@
-use Rattle.{std.{proofs.Common.{◌≡◌, ◌+◌, vec_items, vec_len}, specs.List.All}, interrupt_workers.specs.Opens.IsStation}
+use Rattle.{std.{proofs.Common.{◌≡◌, vec_items, vec_len}, specs.List.All}, interrupt_workers.specs.Opens.IsStation}
 use Rattle.replay_tests.proofs.counts.stations_of.Given as goal
 
-abbrev pub invariant-loop-number : goal.invariant-loop-number
-invariant-loop-number l = record {
+abbrev pub invariant-loop-index : goal.invariant-loop-index
+invariant-loop-index l = record {
   all : All IsStation (vec_items l.stations);
-  count : vec_len l.stations + 1 ≡ l.number;
+  count : vec_len l.stations ≡ l.index;
 }
