@@ -2,9 +2,10 @@
 use Rattle.{std.{proofs.Common.{◌≡◌, ◌∙◌, ℕ, zero, suc, Bool, true, false, List, [], ◌∷◌, Some, None, MatchBool, ap, length, refl, sym, subst, arith}, specs.Prelude.{◌||◌, if◌then◌else◌, not}}, napi_model.specs.Step.is_handed}
 use Rattle.{napi_model.specs.declared.state.State.State, poll_engine.specs.{BusyPolling.{Given, busy_report, is_below, no_report}, Polling.{is_absent, next_of}, Polls.{Chain, is_arrival, is_repoll}, declared.bench.BusyReport.BusyReport}}
 use Rattle.{poll_engine.specs.declared.bench.Next.{Next, TheVariants.{Absent, Gone, Again, Repoll}}, devices.specs.BusyPolling.{after_last, after_round, begun, gives, held_if, left_by, polled_busily, rounds_of, stopped}}
-use Rattle.devices.specs.{Device.{after_done, completed, is_pending, made, polled}, DeviceView.DeviceView, Instance.{BusyTakes, Completes, Gives, Holds, Requeues, Stops, poller_in, poller_of}, Kept.is_sound}
+use Rattle.devices.specs.{Device.{after_done, completed, is_pending, made, polled}, DeviceView.DeviceView, Instance.{BusyTakes, Completes, Gives, Holds, Requeues, Stops, poller_of}, Kept.is_sound}
 use Rattle.{devices.{specs.{Waiting.{count, is_left_to_list, waits}, declared.device.TheConstants.POLLER}, proofs.DeviceFacts.{Keeps, completed-leaves, unheld}}, napi_model.specs.declared.event.{Done.Done, Operation.Operation}}
 use Rattle.napi_model.specs.declared.state.Kind.TheVariants as kind
+use Rattle.devices.specs.Receive.{poller_in}
 use Rattle.poll_engine.specs.BusyPolling as rule
 
 abbrev Round : ℕ → DeviceView → Given ℕ → DeviceView → Type 0

@@ -2,8 +2,9 @@
 use Rattle.{std.{proofs.Common.{◌≡◌, ◌∙◌, ℕ, zero, suc, ◌+◌, ◌≤◌, Bool, true, false, Option, Some, None, List, [], ◌∷◌, ◌++◌, length, refl, arith}, specs.Prelude.{◌==◌, ◌||◌, not, if◌then◌else◌}}, napi_model.specs.Step.is_handed}
 use Rattle.{napi_model.specs.declared.{event.{Prep.TheVariants.{Granted, Missed, Disabled}, Done.Done}, state.{Kind.Kind, Place.Place}}, poll_engine.specs.{Polls.is_arrival, Thread.{is_for_thread, last_next}, declared.bench.Next.Next}}
 use Rattle.{poll_engine.specs.declared.bench.{Next.TheVariants.{Again, Repoll}, Once.Once}, devices.specs.Waiting.{count, is_left_to_list, is_listed, leaves, waits}, transmit_sides.specs.Counter.raised}
-use Rattle.devices.specs.Device.{after_disable, after_done, after_enable, after_packet, after_poll, after_reply, after_request, after_take, after_threaded, asks_again, completed, disabled_from, enabled_from, ended, ended_by, given, goes_on, handed_over, has_room, is_control, is_pending, let_go, made, polled, polled_by_thread, polled_once, retaken, settled, state_of, taken, thread_polls, tried}
+use Rattle.devices.specs.Device.{after_disable, after_done, after_enable, after_packet, after_poll, after_reply, after_request, after_take, after_threaded, asks_again, completed, disabled_from, enabled_from, ended, ended_by, given, goes_on, handed_over, has_room, is_pending, let_go, made, polled, polled_by_thread, polled_once, retaken, settled, state_of, taken, thread_polls, tried}
 use Rattle.devices.{specs.{DeviceView.DeviceView, Kept.{is_held, is_sound}, declared.{counts.DeviceState.DeviceState, device.TheConstants.{INTERRUPT, POLLER, THREAD}}}, proofs.ThreadFacts.{goes-more, goes-next, some-polls}}
+use Rattle.devices.specs.Receive.{is_control}
 use Rattle.napi_model.specs.declared.event.Operation.TheVariants as operation
 
 -- an instance that isn't scheduled is on no list

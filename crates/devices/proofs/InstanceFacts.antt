@@ -3,7 +3,8 @@ use Rattle.std.{proofs.Common.{◌≡◌, ◌∙◌, ℕ, zero, suc, ◌-◌, �
 use Rattle.{napi_model.specs.{Step.{complete_reply, take_reply}, declared.{event.Done.Done, state.{Kind.Kind, Place.TheVariants.{Polling, ToThread}}}}, poll_engine.specs.{Polling.{is_absent, next_of}, Polls.is_repoll}}
 use Rattle.{poll_engine.specs.{declared.bench.{Next.{Next, TheVariants.{Absent, Gone, Again, Repoll}}, Once.Once}, Thread.is_for_thread}, std.proofs.lemmas.Bool.{lt-ltb, ne_eqb}, napi_model.specs.declared.event.Operation.Operation}
 use Rattle.devices.specs.Device.{after_done, after_poll, after_take, asks_again, completed, ended, ended_by, given, goes_on, handed_over, let_go, made, polled, polled_by_thread, polled_once, retaken, taken, thread_polls}
-use Rattle.devices.{proofs.ThreadFacts.goes-next, specs.{DeviceView.DeviceView, Instance.{Completes, Gives, Looks, Requeues, Takes, poller_in, poller_of}, declared.device.TheConstants.{POLLER, THREAD}}}
+use Rattle.devices.{proofs.ThreadFacts.goes-next, specs.{DeviceView.DeviceView, Instance.{Completes, Gives, Looks, Requeues, Takes, poller_of}, declared.device.TheConstants.{POLLER, THREAD}}}
+use Rattle.devices.specs.Receive.{poller_in}
 use Rattle.poll_engine.specs.Polling as polling
 
 abbrev Given : DeviceView → ℕ → ℕ → ℕ → DeviceView → Type 0

@@ -1,5 +1,6 @@
 pub mod BenchFacts
 pub mod BusyFacts
+pub mod CompletionFacts
 pub mod DeviceFacts
 pub mod InstanceFacts
 pub mod SideFacts

@@ -18,6 +18,8 @@ use Rattle.poll_engine.specs.declared.bench.Next.TheVariants as next
 use Rattle.poll_engine.specs.declared.bench.Once.{Once}
 use Rattle.transmit_sides.specs.Counter.{raised}
 use Rattle.devices.specs.DeviceView.{DeviceView}
+use Rattle.devices.specs.Receive.{is_control, kind_for}
+use Rattle.devices.specs.declared.counts.DeviceCounts.{DeviceCounts}
 use Rattle.devices.specs.declared.counts.DeviceState.{DeviceState}
 use Rattle.devices.specs.declared.counts.TheConstants.DeviceCounts.{OPENED}
 use Rattle.devices.specs.declared.counts.DeviceState.TheVariants as state
@@ -38,9 +40,6 @@ opened capacity = record {
 }
 
 -- ---- the hand-over: to the thread where THREADED is set, else to the poll list (`____napi_schedule`)
-
-abbrev pub kind_for : State → Kind
-kind_for s = if s.flags.threaded then kind.Thread else kind.List
 
 unfoldable pub handed_over : ℕ → DeviceView → DeviceView
 handed_over caller d = made caller (operation.Hand (kind_for d.napi)) d
@@ -88,6 +87,11 @@ polled weight d = record d {
     polls = raised d.told.polls 1;
   };
 }
+
+-- a completion is counted, by whether a poll was asked for meanwhile
+abbrev pub completed_told : Bool → DeviceCounts → DeviceCounts
+completed_told true t = record t { again = raised t.again 1 }
+completed_told false t = record t { released = raised t.released 1 }
 
 -- a completion (`napi_complete_done`); where a request was missed, the poller owns the instance again and hands it over;
 -- what is busy polled stays in its hands
@@ -172,10 +176,6 @@ polled_by_thread most weight d =
     if take_reply kind.Thread d.napi then thread_polls most weight (taken THREAD kind.Thread d) else ([], d)
 
 -- ---- disabling and enabling (`napi_disable`, `napi_enable`, `dev_set_threaded`)
-
-abbrev pub is_control : Place → Bool
-is_control (Control c) = true
-is_control _ = false
 
 -- on, being disabled, or off
 abbrev pub state_of : DeviceView → DeviceState

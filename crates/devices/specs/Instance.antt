@@ -10,17 +10,8 @@ use Rattle.poll_engine.specs.Polling.{next_of}
 use Rattle.devices.specs.BusyPolling.{begun, held, is_idle, stopped}
 use Rattle.devices.specs.Device.{bytes_given, completed, given, made, polled}
 use Rattle.devices.specs.DeviceView.{DeviceView}
+use Rattle.devices.specs.Receive.{poller_in, taker_of}
 use Rattle.devices.specs.declared.device.TheConstants.{POLLER, THREAD}
-
--- who takes a device from there
-abbrev pub taker_of : Kind → ℕ
-taker_of kind.List = POLLER
-taker_of kind.Thread = THREAD
-
--- who polls an instance that somebody polls
-abbrev pub poller_in : Place → ℕ
-poller_in (Polling c) = c
-poller_in _ = 0
 
 abbrev pub poller_of : DeviceView → ℕ
 poller_of d = poller_in d.napi.place

@@ -2,9 +2,10 @@ pub mod Bench
 pub mod BusyPolling
 pub mod Counts
 pub mod Device
+pub mod DeviceBench
 pub mod DeviceView
 pub mod Instance
 pub mod Kept
 pub mod Owner
-pub mod SerialBench
+pub mod Receive
 pub mod Waiting

@@ -1,48 +1,85 @@
-//! The devices of a replay on one thread, by their numbers.
+//! The devices of a replay, by their numbers.
 
-ghost use Rattle.std.specs.Prelude.{◌≡◌};
+ghost use Rattle.std.specs.Prelude.{◌≡◌, None, Some, false, is_some};
 ghost use Rattle.devices.specs.Kept.{IsKept};
 
 use crate::counts::DeviceCounts;
 use crate::device::Device;
+use crate::receive_side::{Opener, ReceiveSide};
 use crate::replay_bench::ReplayBench;
+use crate::serial_receive::{SerialOpener, SerialReceive};
 use napi_model::Kind;
 use poll_engine::{Bench, BusyReport, Next, Once, ShownBench, ThreadReport};
 use std::alloc::{AllocError, Global};
+use std::mem;
 use trace_rows::PLACES;
 use transmit_sides::{Transmit, TransmitSides};
 
-/// The devices of one thread, each in the place of its number.
+/// The devices, each in the place of its number, over receive sides that the opener opens.
 #[derive(Drop)]
-pub struct SerialBench {
-    devices: Vec<Option<Device>>,
+pub struct DeviceBench<S: ReceiveSide, O> {
+    opener: O,
+    devices: Vec<Option<Device<S>>>,
     transmits: TransmitSides,
     // Whether a disable may be pending.
     unsettled: bool,
     ghost kept: { IsKept unsettled devices.items },
 }
 
-impl SerialBench {
-    ghost use Rattle.std.specs.Prelude.{◌≡◌, ℕ, IfOk};
-    ghost use Rattle.devices.specs.Bench.{attached};
-    ghost use Rattle.devices.specs.Device.{opened, settled};
-    ghost use Rattle.devices.specs.Kept.{is_pending_at};
-    ghost use Rattle.trace_rows.specs.Places.{added, at, changed, empty};
-    ghost use Rattle.trace_rows.specs.Range.{IsWithin};
-    ghost use Rattle.devices.specs.SerialBench.{ShowsTransmits, devices_of, waiting_of};
+/// The devices of one thread.
+pub type SerialBench = DeviceBench<SerialReceive, SerialOpener>;
+
+// Puts a value into a place, which is empty.
+fn fill<T>(place: &mut Option<T>, value: T)
+    requires { is_some place.old ≡ false }
+    ensures { place.new ≡ Some value }
+{
+    match mem::replace(place, Some(value)) {
+        None => {}
+        Some(_) => unreachable!(),
+    }
+}
+
+impl DeviceBench<SerialReceive, SerialOpener> {
+    ghost use Rattle.std.specs.Prelude.{IfOk};
+    ghost use Rattle.trace_rows.specs.Places.{empty};
+    ghost use Rattle.devices.specs.DeviceBench.{ShowsTransmits, devices_of};
 
     /// A bench without devices. Its places are made here, so that no call but `attach` takes memory.
     pub fn new(alloc: Global) -> Result<SerialBench, AllocError>
         ensures devices { IfOk result (λ bench. devices_of bench ≡ empty) }
         ensures transmits { IfOk result (λ bench. ShowsTransmits bench empty) }
     {
+        DeviceBench::over(alloc, SerialOpener)
+    }
+}
+
+impl<S: ReceiveSide, O: Opener<S>> DeviceBench<S, O> {
+    ghost use Rattle.std.specs.Prelude.{◌≡◌, ℕ, IfOk, OnErr, OnOk};
+    ghost use Rattle.devices.specs.Bench.{attached};
+    ghost use Rattle.devices.specs.Device.{opened, settled};
+    ghost use Rattle.devices.specs.Kept.{is_pending_at};
+    ghost use Rattle.trace_rows.specs.Places.{added, at, changed, empty};
+    ghost use Rattle.trace_rows.specs.Range.{IsWithin};
+    ghost use Rattle.devices.specs.DeviceBench.{ShowsTransmits, devices_of, waiting_of};
+
+    /// A bench without devices, whose receive sides this opener opens. Its places are made here, so that no call but `attach`
+    /// takes memory.
+    pub fn over(alloc: Global, opener: O) -> Result<DeviceBench<S, O>, AllocError>
+    where
+        O: Drop,
+        ensures devices { IfOk result (λ bench. devices_of bench ≡ empty) }
+        ensures transmits { IfOk result (λ bench. ShowsTransmits bench empty) }
+    {
+        let transmits = TransmitSides::new(alloc)?;
         let mut devices = Vec::with_capacity(alloc, PLACES as usize)?;
         for _ in 0..PLACES {
-            devices.push(None)?;
+            devices.push_reserved(None);
         }
-        Ok(SerialBench {
+        Ok(DeviceBench {
+            opener,
             devices,
-            transmits: TransmitSides::new(alloc)?,
+            transmits,
             unsettled: false,
         })
     }
@@ -53,18 +90,22 @@ impl SerialBench {
         self.devices.iter().filter(|place| place.is_some()).count()
     }
 
-    // Puts a new device in its place, unless one is there.
-    fn keep(&mut self, device: u32, new: Device)
+    // Makes a device in its place, unless one is there.
+    fn keep(&mut self, alloc: Global, device: u32, capacity: u32) -> Result<(), AllocError>
         requires device { IsWithin 1 16 device }
-        requires new { (capacity : ℕ) × (new ≡ opened capacity) }
-        ensures devices { devices_of self.new ≡ added device new (devices_of self.old) }
+        requires capacity { IsWithin 1 65536 capacity }
+        ensures devices { OnOk result
+            (devices_of self.new ≡ added device (opened capacity) (devices_of self.old)) }
         ensures transmits { self.new.transmits ≡ self.old.transmits }
         ensures waiting { waiting_of self.new ≡ waiting_of self.old }
+        ensures refused { OnErr result (self.new ≡ self.old) }
     {
-        let place = &mut self.devices[device as usize];
-        if place.is_none() {
-            *place = Some(new);
+        if self.devices[device as usize].is_some() {
+            return Ok(());
         }
+        let opened = Device::new(self.opener.open(alloc, capacity)?);
+        fill(&mut self.devices[device as usize], opened);
+        Ok(())
     }
 
     // Tries a disable of this device that is pending once. The answer is whether it still is.
@@ -83,10 +124,10 @@ impl SerialBench {
     }
 }
 
-impl Bench for SerialBench {
+impl<S: ReceiveSide, O: Opener<S>> Bench for DeviceBench<S, O> {
     ghost use Rattle.std.specs.Prelude.{⊤};
     ghost use Rattle.devices.specs.Bench.{IsBusyPoll, IsPoll, IsThreadPolls};
-    ghost use Rattle.devices.specs.SerialBench.{ShowsTransmits, devices_of, waiting_of};
+    ghost use Rattle.devices.specs.DeviceBench.{ShowsTransmits, devices_of, waiting_of};
 
     ghost polls = { IsPoll ⊤ devices_of ShowsTransmits waiting_of };
 
@@ -129,9 +170,9 @@ impl Bench for SerialBench {
     }
 }
 
-impl ReplayBench for SerialBench {
+impl<S: ReceiveSide, O: Opener<S>> ReplayBench for DeviceBench<S, O> {
     ghost use Rattle.std.specs.Prelude.{⊤};
-    ghost use Rattle.devices.specs.SerialBench.{ShowsTransmits, devices_of, waiting_of};
+    ghost use Rattle.devices.specs.DeviceBench.{ShowsTransmits, devices_of, waiting_of};
 
     ghost Exact = { ⊤ };
 
@@ -157,9 +198,8 @@ impl ReplayBench for SerialBench {
         capacity: u32,
         moment: u64,
     ) -> Result<(), AllocError> {
-        let opened = Device::open(alloc, capacity as usize)?;
         let transmit = Transmit::open(alloc, capacity, moment)?;
-        self.keep(device, opened);
+        self.keep(alloc, device, capacity)?;
         self.transmits.attach(device, transmit);
         Ok(())
     }
@@ -237,9 +277,9 @@ impl ReplayBench for SerialBench {
     ghost few = { λ bench. bench.kept.few };
 }
 
-impl ShownBench for SerialBench {
+impl<S: ReceiveSide, O: Opener<S>> ShownBench for DeviceBench<S, O> {
     ghost use Rattle.devices.specs.Bench.{Devices, polled_at};
-    ghost use Rattle.devices.specs.SerialBench.{devices_of};
+    ghost use Rattle.devices.specs.DeviceBench.{devices_of};
 
     ghost Shown = { Devices };
 

@@ -1,26 +1,20 @@
-//! One device: its receive ring, its instance, and what was counted.
+//! One device: its receive side, and what was counted.
 
-ghost use Rattle.std.specs.Prelude.{◌≡◌, ◌≢◌, ◌≤◌, ◌<◌, ◌^◌, true, length, sum, sum_by, IfOk, List};
+ghost use Rattle.std.specs.Prelude.{◌≡◌, ◌≤◌, ◌<◌, ◌^◌, true};
 ghost use Rattle.devices.specs.BusyPolling.{polled_busily};
-ghost use Rattle.devices.specs.Device.{after_disable, after_enable, after_packet, after_poll, after_request, after_threaded, bytes_given, completed, ended, followed, given, goes_on, handed_over, is_control, is_pending, kind_for, let_go, opened, polled, polled_by_thread, polled_once, settled, state_of};
+ghost use Rattle.devices.specs.Device.{after_disable, after_enable, after_packet, after_request, after_threaded, bytes_given, completed_told, given, is_pending, opened, polled, polled_by_thread, polled_once, settled, state_of};
 ghost use Rattle.devices.specs.Counts.{counts_of};
-ghost use Rattle.devices.specs.declared.device.TheConstants.{THREAD};
-ghost use Rattle.devices.specs.Instance.{IsPolled};
+ghost use Rattle.devices.specs.Receive.{is_polling, opened_side};
 ghost use Rattle.trace_rows.specs.Range.{IsWithin};
 ghost use Rattle.poll_engine.specs.Thread.{IsThreadPolling};
-ghost use Rattle.napi_model.specs.declared.state.Place.TheVariants.{Granted, Polling, ToThread};
-ghost use Rattle.napi_model.specs.Step.{place_of};
-ghost use Rattle.napi_model.specs.declared.state.Kind.TheVariants as kind;
-ghost use Rattle.poll_engine.specs.declared.bench.Next.TheVariants.{Again, Repoll};
 
 use crate::counts::{DeviceCounts, DeviceState};
-use circular_buffer::HeapCircularBuffer;
-use napi_model::{Done, Kind, Place, Prep, SerialNapi, encode};
+use crate::receive_side::ReceiveSide;
+use napi_model::{Kind, Prep, encode};
 use poll_engine::{
     BusyInstance, BusyReport, Instance, Once, ThreadReport, poll_busy_of, poll_once_of,
     poll_thread_of,
 };
-use std::alloc::{AllocError, Global};
 use std::marker::Model;
 use transmit_sides::TxCounts;
 
@@ -36,53 +30,41 @@ pub(crate) const THREAD: u32 = 2;
 /// The caller that makes, disables and enables an instance.
 pub(crate) const CONTROLLER: u32 = 3;
 
-/// The most packets that one poll gives (`NAPI_POLL_WEIGHT`).
-const MOST_WEIGHT: usize = 64;
-
-/// A device's receive ring, the state of its instance, and its counts.
+/// A device's receive side, its threaded setting, and its counts.
 #[derive(Drop)]
-pub(crate) struct Device {
-    napi: SerialNapi,
+pub(crate) struct Device<S: ReceiveSide> {
+    pub(crate) side: S,
     threaded: bool,
-    ring: HeapCircularBuffer<u32>,
     // What was counted; the other values are found when they are asked for.
     told: DeviceCounts,
 }
 
-impl Model for Device {
-    ghost use Rattle.std.specs.Prelude.{◌≡◌};
+impl<S: ReceiveSide> Model for Device<S> {
     ghost use Rattle.devices.specs.DeviceView.{DeviceView};
-    ghost use Rattle.devices.specs.Owner.{IsOurs};
-    ghost use Rattle.devices.specs.declared.device.TheConstants.{CONTROLLER};
-    ghost use Rattle.napi_model.specs.Serial.{controller_of, state_of};
 
     ghost Value = { DeviceView };
 
     ghost view = { λ d. record {
-      napi = state_of d.napi;
+      napi = (S.side d.side).napi;
       threaded = d.threaded;
-      packets = d.ring.items;
-      capacity = d.ring.capacity;
+      packets = (S.side d.side).packets;
+      capacity = (S.side d.side).capacity;
       told = d.told;
     } };
-
-    ghost invariant = { λ d. (controller_of d.napi ≡ CONTROLLER) × IsOurs (state_of d.napi) };
 }
 
-impl Device {
-    /// A device with an empty ring of that many places. Its instance is made and enabled, not threaded.
-    pub(crate) fn open(alloc: Global, capacity: usize) -> Result<Device, AllocError>
-        ensures { IfOk result (λ device. device ≡ opened capacity) }
+impl<S: ReceiveSide> Device<S> {
+    ghost use Rattle.std.specs.Prelude.{ℕ};
+
+    /// A device over a receive side as it is opened.
+    pub(crate) fn new(side: S) -> Device<S>
+        ensures { (capacity : ℕ) → S.side side ≡ opened_side capacity → result ≡ opened capacity }
     {
-        let ring = HeapCircularBuffer::with_capacity(alloc, capacity)?;
-        let mut napi = SerialNapi::new(CONTROLLER);
-        napi.enable(CONTROLLER, false);
-        Ok(Device {
-            napi,
+        Device {
+            side,
             threaded: false,
-            ring,
             told: DeviceCounts::OPENED,
-        })
+        }
     }
 
     /// What the report tells of the device, with that of its transmit side.
@@ -91,28 +73,11 @@ impl Device {
     {
         DeviceCounts {
             state: self.state(),
-            left: self.ring.len() as u64,
-            word: encode(self.napi.look()),
+            left: self.side.left() as u64,
+            word: encode(self.side.seen()),
             tx,
             ..self.told
         }
-    }
-
-    // Hands the instance to its thread where THREADED is set, else to the list, and answers which.
-    #[tactic(auto, unfolding(crate::specs::Device::handed_over))]
-    fn hand_over(&mut self, caller: u32) -> Kind
-        requires { self.old.napi.place ≡ Granted caller }
-        ensures device { self.new ≡ handed_over caller self.old }
-        ensures kind { result ≡ kind_for self.old.napi }
-        ensures place { self.new.napi.place ≡ place_of result }
-    {
-        let kind = if self.napi.flags().threaded {
-            Kind::Thread
-        } else {
-            Kind::List
-        };
-        self.napi.hand(caller, kind);
-        kind
     }
 
     // The interrupt asks for a poll; granted, it hands the instance over, and answers to whom.
@@ -121,20 +86,13 @@ impl Device {
         ensures device { self.new ≡ (after_request self.old).1 }
         ensures kind { result ≡ (after_request self.old).0 }
     {
-        match self.napi.schedule(INTERRUPT) {
-            Prep::Granted => {
-                self.told.granted = self.told.granted.saturating_add(1);
-                Some(self.hand_over(INTERRUPT))
-            }
-            Prep::Missed => {
-                self.told.missed = self.told.missed.saturating_add(1);
-                None
-            }
-            Prep::Disabled => {
-                self.told.disabled = self.told.disabled.saturating_add(1);
-                None
-            }
+        let (reply, kind) = self.side.request();
+        match reply {
+            Prep::Granted => self.told.granted = self.told.granted.saturating_add(1),
+            Prep::Missed => self.told.missed = self.told.missed.saturating_add(1),
+            Prep::Disabled => self.told.disabled = self.told.disabled.saturating_add(1),
         }
+        kind
     }
 
     /// A packet of that many bytes arrives. A full ring drops it; else the interrupt asks for a poll. The answer is to
@@ -145,7 +103,7 @@ impl Device {
         ensures kind { result ≡ (after_packet bytes self.old).0 }
     {
         self.told.arrived = self.told.arrived.saturating_add(1);
-        if self.ring.try_push_back(bytes).is_err() {
+        if !self.side.put(bytes) {
             self.told.dropped = self.told.dropped.saturating_add(1);
             return None;
         }
@@ -153,17 +111,17 @@ impl Device {
     }
 }
 
-impl Device {
+impl<S: ReceiveSide> Device<S> {
     /// Whether the device is on, off, or being disabled.
     pub(crate) fn state(&self) -> DeviceState
         ensures { result ≡ state_of self.now }
     {
-        if self.napi.flags().disable {
-            return DeviceState::Pending;
-        }
-        match self.napi.place() {
-            Place::Control(_) => DeviceState::Off,
-            _ => DeviceState::On,
+        if self.is_pending() {
+            DeviceState::Pending
+        } else if self.side.is_off() {
+            DeviceState::Off
+        } else {
+            DeviceState::On
         }
     }
 
@@ -171,7 +129,7 @@ impl Device {
     pub(crate) fn is_pending(&self) -> bool
         ensures { result ≡ is_pending self.now }
     {
-        self.napi.flags().disable
+        self.side.seen().flags.disable
     }
 
     /// Marks a device that is on for disabling; any other stays as it is.
@@ -180,7 +138,7 @@ impl Device {
         ensures { self.new ≡ after_disable self.old }
     {
         if self.state() == DeviceState::On {
-            self.napi.mark_disable(CONTROLLER);
+            self.side.mark();
         }
     }
 
@@ -190,14 +148,7 @@ impl Device {
         ensures device { self.new ≡ settled self.old }
         ensures pending { result ≡ is_pending self.new }
     {
-        if !self.napi.flags().disable {
-            return false;
-        }
-        if !self.napi.take_disable(CONTROLLER) {
-            return true;
-        }
-        self.napi.unmark(CONTROLLER);
-        false
+        self.is_pending() && !self.side.try_take()
     }
 
     /// Enables a device that is off with its threaded setting; any other stays as it is.
@@ -206,7 +157,7 @@ impl Device {
         ensures { self.new ≡ after_enable self.old }
     {
         if self.state() == DeviceState::Off {
-            self.napi.enable(CONTROLLER, self.threaded);
+            self.side.enable(self.threaded);
         }
     }
 
@@ -216,38 +167,26 @@ impl Device {
         ensures { self.new ≡ after_threaded threaded self.old }
     {
         self.threaded = threaded;
-        self.napi.set_threaded(threaded);
+        self.side.set_threaded(threaded);
     }
 }
 
-impl Device {
+impl<S: ReceiveSide> Device<S> {
     // Gives the next packets, at most the weight, and answers how many.
     #[tactic(auto, unfolding(crate::specs::Device::polled))]
     fn receive(&mut self, weight: u32, load: &mut Load) -> u32
-        requires { IsWithin 1 64 weight }
+        requires weight { IsWithin 1 64 weight }
+        requires polled { is_polling self.old.napi.place ≡ true }
         ensures device { self.new ≡ polled weight self.old }
         ensures work { result ≡ given weight self.old }
         ensures bytes { load.new ≡ bytes_given weight self.old }
     {
-        let mut batch = [0u32; MOST_WEIGHT];
-        let count = self.ring.read_into(&mut batch[..weight as usize]);
-        let bytes = byte_sum(&batch[..count]);
+        let (count, bytes) = self.side.receive(weight);
         load.bytes = bytes;
-        self.told.polled = self.told.polled.saturating_add(count as u64);
+        self.told.polled = self.told.polled.saturating_add(u64::from(count));
         self.told.bytes = self.told.bytes.saturating_add(bytes);
         self.told.polls = self.told.polls.saturating_add(1);
-        count as u32
-    }
-
-    // Who polls it.
-    fn poller(&self) -> u32
-        requires { IsPolled self.now }
-        ensures { self.now.napi.place ≡ Polling result }
-    {
-        match self.napi.place() {
-            Place::Polling(poller) => poller,
-            _ => unreachable!(),
-        }
+        count
     }
 
     /// One poll from the list. An instance that is to be polled again is handed to the list.
@@ -282,7 +221,7 @@ impl Device {
     }
 }
 
-impl Instance for Device {
+impl<S: ReceiveSide> Instance for Device<S> {
     ghost use Rattle.devices.specs.Instance.{Completes, Gives, IsPolled, Looks, Requeues, Takes};
 
     type Packets = Load;
@@ -302,10 +241,7 @@ impl Instance for Device {
     ghost completes = { Completes };
 
     fn take(&mut self, kind: Kind) -> bool {
-        match kind {
-            Kind::List => self.napi.take(POLLER, Kind::List),
-            Kind::Thread => self.napi.take(THREAD, Kind::Thread),
-        }
+        self.side.take(kind)
     }
 
     #[tactic(auto, unfolding(crate::specs::Device::polled))]
@@ -314,32 +250,21 @@ impl Instance for Device {
     }
 
     fn is_disabling(&mut self) -> bool {
-        self.napi.flags().disable
+        self.is_pending()
     }
 
     fn requeue(&mut self) {
-        let poller = self.poller();
-        self.napi.hand(poller, Kind::List);
+        self.side.requeue();
     }
 
-    #[tactic(auto, unfolding(crate::specs::Device::completed))]
     fn complete(&mut self) -> Option<Kind> {
-        let poller = self.poller();
-        match self.napi.complete(poller) {
-            Done::Released => {
-                self.told.released = self.told.released.saturating_add(1);
-                None
-            }
-            Done::Held => unreachable!(),
-            Done::Again => {
-                self.told.again = self.told.again.saturating_add(1);
-                Some(self.hand_over(poller))
-            }
-        }
+        let again = self.side.complete();
+        count_completion(&mut self.told, again.is_some());
+        again
     }
 }
 
-impl BusyInstance for Device {
+impl<S: ReceiveSide> BusyInstance for Device<S> {
     ghost use Rattle.devices.specs.Instance.{BusyTakes, Holds, IsPolledBusily, Stops};
 
     ghost in_busy = { IsPolledBusily };
@@ -353,7 +278,7 @@ impl BusyInstance for Device {
     ghost bytes_in = { λ load. load };
 
     fn busy_take(&mut self) -> bool {
-        self.napi.busy_take(POLLER)
+        self.side.busy_take()
     }
 
     #[tactic(auto, unfolding(crate::specs::Device::polled))]
@@ -362,18 +287,27 @@ impl BusyInstance for Device {
     }
 
     fn hold(&mut self) {
-        match self.napi.complete(POLLER) {
-            Done::Held => self.told.held = self.told.held.saturating_add(1),
-            _ => unreachable!(),
-        }
+        self.side.hold();
+        self.told.held = self.told.held.saturating_add(1);
     }
 
     fn stop(&mut self) {
-        self.napi.busy_stop(POLLER);
+        self.side.stop();
     }
 
     fn bytes_of(load: &Load) -> u64 {
         load.bytes
+    }
+}
+
+// Counts a completion.
+fn count_completion(told: &mut DeviceCounts, again: bool)
+    ensures { told.new ≡ completed_told again told.old }
+{
+    if again {
+        told.again = told.again.saturating_add(1);
+    } else {
+        told.released = told.released.saturating_add(1);
     }
 }
 
@@ -395,17 +329,4 @@ impl Model for Load {
 
 impl Load {
     const NONE: Load = Load { bytes: 0 };
-}
-
-// The bytes of a batch of packets together.
-fn byte_sum(batch: &[u32]) -> u64
-    requires { length batch.now ≤ 64 }
-    ensures sum { result ≡ sum batch.now }
-    ensures bound { result < 2 ^ 38 }
-{
-    let mut sum = 0;
-    for bytes in batch {
-        sum += u64::from(*bytes);
-    }
-    sum
 }

@@ -7,8 +7,12 @@
 mod bench;
 mod counts;
 mod device;
+mod receive_side;
 mod replay_bench;
+mod serial_receive;
 
-pub use bench::SerialBench;
+pub use bench::{DeviceBench, SerialBench};
 pub use counts::{DeviceCounts, DeviceState};
+pub use receive_side::{Opener, ReceiveSide};
 pub use replay_bench::ReplayBench;
+pub use serial_receive::{SerialOpener, SerialReceive};

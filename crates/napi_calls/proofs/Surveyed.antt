@@ -1,9 +1,10 @@
 -- What a value knows after a survey.
-use Rattle.{std.proofs.Common.{◌≡◌, ℕ, Bool, true, List, Option, Some, None, refl, sym, ap, ◌∙◌, subst}, rx_ring.specs.{declared.{ends.RxCtx.RxCtx, packet.Packet.Packet}, Ends.received_list}, napi_word.proofs.Deliveries.ring_as}
+use Rattle.{std.proofs.Common.{◌≡◌, ℕ, Bool, true, List, Option, Some, None, refl, sym, ap, ◌∙◌, subst, eq-eqb}, rx_ring.specs.{declared.{ends.RxCtx.RxCtx, packet.Packet.Packet}, Ends.received_list}, napi_word.proofs.Deliveries.ring_as}
 use Rattle.{napi_model.specs.{declared.{event.Event.Event, state.{State.State, Place.Place}}, Step.opening, History.{LegalHistory, state_after, own}, Laws.is_owner}, napi_word.specs.declared.{table.Pass.Pass, view.Delivery.Delivery}}
-use Rattle.{napi_word.{specs.{View.Continues, Slot.has_slot, Passes.view_of, Surveys.{IsWhole, CatchesUp, IsSurveyed}}, proofs.Deliveries.{of_prefix, prefix_self}}, napi_calls.specs.Seats.{controller_of, shown, state_of}}
-use Rattle.{napi_calls.{specs.Knows.{own_place, Stands, Controls, Has, held, received_held}, proofs.Standing.is_kept}, napi_word.proofs.Deliveries.received_as}
+use Rattle.{napi_word.{specs.{View.Continues, Slot.has_slot, Passes.view_of, Surveys.{IsWhole, CatchesUp, IsSurveyed}}, proofs.Deliveries.{of_prefix, prefix_self}}, napi_calls.specs.Seats.{controller_of, number_of, shown, state_of}}
+use Rattle.{napi_calls.{specs.Knows.{own_place, Stands, BusyPolls, Controls, Has, held, received_held}, proofs.Standing.{is_kept, is_polling}}, napi_word.proofs.Deliveries.received_as}
 use Rattle.napi_word.specs.View as view
+use Rattle.napi_model.specs.declared.state.Place.TheVariants as place
 
 module _ (k : ℕ) (h : List Event) (ds : List Delivery) (w : IsWhole k h ds) (p q : Pass) (s : IsSurveyed h ds p q) (led : controller_of p ≡ k) where
   abbrev u : CatchesUp h ds (view_of p) (view_of q)
@@ -25,6 +26,10 @@ module _ (k : ℕ) (h : List Event) (ds : List Delivery) (w : IsWhole k h ds) (p
         exact = ap (own c) u.shown ∙ ap (λ (n : ℕ). own n h) (sym e) ∙ u.exact ∙ sym u.mine;
         place = ap (λ (t : State). own_place c t.place) state_is ∙ is_kept c had now (is_owner c had) refl owner place ∙ st.place;
       }
+
+  -- who polls, or busy polls, does so still
+  pub busy_up : {b : Bool} {c : ℕ} → Stands place.Polling c p → BusyPolls b p → BusyPolls b q
+  busy_up {b} {c} st busy = ap (λ (t : State). t.flags.in_busy_poll) state_is ∙ u.busy (ap (is_owner (number_of p)) (is_polling st) ∙ eq-eqb (number_of p) (number_of p) refl) ∙ busy
 
   pub controls_up : {r : ℕ → Place} {b : Bool} → Controls r b p → Controls r b q
   controls_up {r} {b} c = record {

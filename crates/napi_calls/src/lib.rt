@@ -36,5 +36,5 @@ pub use fault::{CloseFault, NewFault};
 pub use instance::{CloseBack, NewBack, next_caller};
 pub use kept::Kept;
 pub use sharing::{is_sent, is_shared};
-pub use surveying::{none_is_lost, one_acts_alone, survey};
+pub use surveying::{none_is_lost, one_acts_alone, survey, survey_busy, survey_polling};
 pub use types::{Busy, Caller, Control, Granted, Marked, Mode, Napi, Off, On, Polling};

@@ -1,12 +1,13 @@
 //! All seats of an instance meet at once.
-ghost use Rattle.std.specs.Prelude.{◌≡◌, [], ◌∷◌};
+ghost use Rattle.std.specs.Prelude.{◌≡◌, [], ◌∷◌, None};
 ghost use Rattle.napi_word.specs.Surveys.{Surveys};
 ghost use Rattle.napi_model.specs.Step.{seen_of};
 ghost use Rattle.napi_calls.specs.Seats.{controller_of, state_of};
 ghost use Rattle.napi_calls.specs.Instance.{IsSeatOf};
 
-use crate::types::{Caller, Control, Mode, Napi};
+use crate::types::{Busy, Caller, Control, Mode, Napi, Polling};
 use napi_model::Seen;
+use napi_word::Pass;
 
 /// The three callers of an instance and its controller meet at once, while none of them is within a call. Then each shows
 /// the whole history, in which there is no more of its own than it had made, and all deliveries. It is no event. Last comes
@@ -55,6 +56,112 @@ pub fn survey<S: Mode>(
             pass: c,
             number: third,
         },
+        seen,
+    )
+}
+
+/// As [`survey`], while one of the callers polls the instance: two others, the controller, who has nothing of the instance,
+/// and the one who polls meet at once. It is no event, and the poll context stays in its hands.
+#[inline]
+pub fn survey_polling<S: Mode>(
+    napi: &Napi,
+    first: Caller,
+    second: Caller,
+    control: Control<S>,
+    polling: Polling,
+) -> (Caller, Caller, Control<S>, Polling, Seen)
+    requires first { IsSeatOf napi.now first.pass }
+    requires second { IsSeatOf napi.now second.pass }
+    requires control { IsSeatOf napi.now control.pass }
+    requires polling { IsSeatOf napi.now polling.pass }
+    requires nothing { S.ctx control.state ≡ None }
+    ensures surveys { Surveys (controller_of polling.pass)
+        (first.pass ∷ second.pass ∷ control.pass ∷ polling.pass ∷ [])
+        (result.0.pass ∷ result.1.pass ∷ result.2.pass ∷ result.3.pass ∷ []) }
+    ensures word { result.4 ≡ seen_of (state_of result.3.pass) }
+    ensures state { result.2.state ≡ control.state }
+    ensures ctx { result.3.ctx ≡ polling.ctx }
+{
+    let Polling {
+        mut pass,
+        number,
+        ctx,
+    } = polling;
+    let (first, second, control, seen) = survey_beside(napi, first, second, control, &mut pass);
+    let polling = Polling { pass, number, ctx };
+    (first, second, control, polling, seen)
+}
+
+/// As [`survey_polling`], while one of the callers busy polls the instance.
+#[inline]
+pub fn survey_busy<S: Mode>(
+    napi: &Napi,
+    first: Caller,
+    second: Caller,
+    control: Control<S>,
+    busy: Busy,
+) -> (Caller, Caller, Control<S>, Busy, Seen)
+    requires first { IsSeatOf napi.now first.pass }
+    requires second { IsSeatOf napi.now second.pass }
+    requires control { IsSeatOf napi.now control.pass }
+    requires busy { IsSeatOf napi.now busy.pass }
+    requires nothing { S.ctx control.state ≡ None }
+    ensures surveys { Surveys (controller_of busy.pass)
+        (first.pass ∷ second.pass ∷ control.pass ∷ busy.pass ∷ [])
+        (result.0.pass ∷ result.1.pass ∷ result.2.pass ∷ result.3.pass ∷ []) }
+    ensures word { result.4 ≡ seen_of (state_of result.3.pass) }
+    ensures state { result.2.state ≡ control.state }
+    ensures ctx { result.3.ctx ≡ busy.ctx }
+{
+    let Busy {
+        mut pass,
+        number,
+        ctx,
+    } = busy;
+    let (first, second, control, seen) = survey_beside(napi, first, second, control, &mut pass);
+    let busy = Busy { pass, number, ctx };
+    (first, second, control, busy, seen)
+}
+
+// Two callers and a controller who has nothing of the instance meet with the pass of who polls it.
+fn survey_beside<S: Mode>(
+    napi: &Napi,
+    first: Caller,
+    second: Caller,
+    control: Control<S>,
+    last: &mut Pass,
+) -> (Caller, Caller, Control<S>, Seen)
+    requires first { IsSeatOf napi.now first.pass }
+    requires second { IsSeatOf napi.now second.pass }
+    requires control { IsSeatOf napi.now control.pass }
+    requires last { IsSeatOf napi.now last.old }
+    requires nothing { S.ctx control.state ≡ None }
+    ensures surveys { Surveys (controller_of last.old)
+        (first.pass ∷ second.pass ∷ control.pass ∷ last.old ∷ [])
+        (result.0.pass ∷ result.1.pass ∷ result.2.pass ∷ last.new ∷ []) }
+    ensures word { result.3 ≡ seen_of (state_of last.new) }
+    ensures state { result.2.state ≡ control.state }
+{
+    let Caller {
+        pass: a,
+        number: first,
+    } = first;
+    let Caller {
+        pass: b,
+        number: second,
+    } = second;
+    let Control { pass: c, state } = control;
+    let (a, b, c, seen) = napi.table.survey(a, b, c, last);
+    (
+        Caller {
+            pass: a,
+            number: first,
+        },
+        Caller {
+            pass: b,
+            number: second,
+        },
+        Control { pass: c, state },
         seen,
     )
 }

@@ -1,8 +1,8 @@
 -- All strands of one seat catch up with the whole history.
 use Rattle.std.proofs.Common.{◌≡◌, ◌≢◌, ℕ, zero, suc, List, [], ◌∷◌, ◌++◌, length, slice_get, slice_index, get_or, set, Some, None, Bool, true, unwrap_or, is_some, refl, sym, ap, ◌∙◌, subst, inr, ⊎_elim}
-use Rattle.{atomic_table.{specs.Table.{Me, keeps, Allows}, proofs.Lists.{at_longer, at_set}}, rx_ring.specs.{declared.packet.Packet.Packet, Ends.received_list}, napi_model.specs.declared.event.Event.Event}
+use Rattle.{atomic_table.{specs.Table.{Me, keeps, Allows}, proofs.Lists.{at_longer, at_set}}, rx_ring.specs.{declared.{packet.Packet.Packet, ends.RxCtx.RxCtx}, Ends.received_list}, napi_model.specs.declared.event.Event.Event}
 use Rattle.{napi_model.specs.{declared.state.{State.State as Napi, Place.Place}, Step.{opening, seen_of}, History.{state_after, own}, Laws.is_owner, Word.word_of}, napi_word.specs.declared.view.{Key.Key, Strand.Strand, Delivery.Delivery}}
-use Rattle.napi_word.specs.{declared.{view.Holds.{Holds, TheVariants.Nothing}, table.Pass.Pass}, View.{View, is_pass, number_of, controller_of, received_in, delivered, own_deliveries, place_in, Continues}}
+use Rattle.napi_word.specs.{declared.{view.Holds.{Holds, TheVariants.Nothing}, table.Pass.Pass}, View.{View, is_pass, number_of, controller_of, first_in, received_in, delivered, own_deliveries, place_in, Continues}}
 use Rattle.napi_word.specs.{Slot.{Content, Carried, has_at, hold_of, has_slot, carried_received, Tied}, Rule.{Fits, Kept, Holding}, Surveys.{IsWhole, CatchesUp, Knew, surveyed, front, with_front, but_last, last_alone, caught_up}}
 use Rattle.napi_word.{specs.{Surveys.all_caught_up, Passes.{view_of, tie_of}}, proofs.{Splitting.{but_last_is, last_alone_is}, Places.has_same, Closing.is_pass_more, Deliveries.{prefix_self, of_prefix}, Allowed.{ring_kept, some_held}}}
 use Rattle.napi_word.proofs.{Allowed.hold_nothing, Keeps.{St, Open, opened, running, own_fits, owner_since, stand_since, disable_since}, Deliveries.{some_is, ring_as, received_as}}
@@ -77,6 +77,7 @@ surveys key slots id me p s holding len at fits =
         refl,
         λ k x c e is. subst (λ (n : ℕ). Knew n r.history r.deliveries x c) (sym same) (knew key s r id me.0 at k x c e is),
         ap (λ (ws : List ℕ). slice_index ws 0) r.word ∙ ap (λ (n : ℕ). word_of (seen_of (state_after (opening n) r.history))) (sym same),
+        (key.ring.value, λ k x e. (r.strands id me.0 at k x e).ring),
       ),
     )
 
@@ -184,6 +185,24 @@ module _ (v0 v1 v2 v3 : View) (o0 : Open v0) (o1 : Open v1) (o2 : Open v2) (o3 :
 
     pub led_by : controller_of j ≡ controller_of v3
     led_by = ap controller_of is ∙ ap (λ (l : View). controller_of (((l ++ o0.first ∷ []) ++ o1.first ∷ []) ++ o2.first ∷ [])) o3.is ∙ sym (ap controller_of o3.is)
+
+    module _ (ring : RxCtx) (rings : (k : ℕ) (x : Strand) → get_elem? j k ≡ maybe.some x → x.ring ≡ ring) where
+      ring_at : (k : ℕ) (x : Strand) → get_elem? (two ++ o2.first ∷ []) k ≡ maybe.some x → x.ring ≡ ring
+      ring_at k x e = rings k x (ap (λ (l : View). get_elem? l k) is ∙ e)
+
+      pub third_named : first_in v2 ≡ Some ring
+      third_named = ap first_in o2.is ∙ ap Some (ring_at (length two) o2.first (at_length two o2.first))
+
+      pub second_named : first_in v1 ≡ Some ring
+      second_named = ap first_in o1.is ∙ ap Some (ring_at (length one) o1.first (at_longer two (o2.first ∷ []) (length one) o1.first (at_length one o1.first)))
+
+      pub first_named : first_in v0 ≡ Some ring
+      first_named = ap first_in o0.is
+          ∙ ap Some (ring_at (length v3) o0.first (at_longer two (o2.first ∷ []) (length v3) o0.first (at_longer one (o1.first ∷ []) (length v3) o0.first (at_length v3 o0.first))))
+
+      pub last_named : first_in v3 ≡ Some ring
+      last_named = ap first_in o3.is
+          ∙ ap Some (ring_at 0 o3.first (at_longer two (o2.first ∷ []) 0 o3.first (at_longer one (o1.first ∷ []) 0 o3.first (at_longer v3 (o0.first ∷ []) 0 o3.first (ap (λ (l : View). get_elem? l 0) o3.is)))))
 
     module _ (knows : (k : ℕ) (x : Strand) (c : ℕ) → get_elem? j k ≡ maybe.some x → x.number ≡ Some c → Knew (controller_of j) h ds x c) where
       knows_at : (k : ℕ) (x : Strand) (c : ℕ) → get_elem? (two ++ o2.first ∷ []) k ≡ maybe.some x → x.number ≡ Some c → Knew (controller_of v3) h ds x c
@@ -337,6 +356,16 @@ module _ (p0 p1 p2 p3 : Pass) (m1 m2 m3 : Me Content View) (e1 : m1 ≡ (with_fr
 
     pub whole_is : IsWhole (controller_of (view_of p3)) hs es
     whole_is = subst (λ (k : ℕ). IsWhole k hs es) (led_by (view_of p0) (view_of p1) (view_of p2) (view_of p3) q0 q1 q2 q3 m3.0 all_in hs es u.0 t.3) t.2
+
+    abbrev pub ring_is : RxCtx
+    ring_is = t.7.0
+
+    pub all_named : (i : ℕ) (p : Pass) → slice_get (p0 ∷ p1 ∷ p2 ∷ p3 ∷ []) i ≡ Some p → first_in (view_of p) ≡ Some ring_is
+    all_named = of_four (λ p. first_in (view_of p) ≡ Some ring_is) p0 p1 p2 p3
+        (first_named (view_of p0) (view_of p1) (view_of p2) (view_of p3) q0 q1 q2 q3 m3.0 all_in hs es u.0 t.3 t.7.0 t.7.1)
+        (second_named (view_of p0) (view_of p1) (view_of p2) (view_of p3) q0 q1 q2 q3 m3.0 all_in hs es u.0 t.3 t.7.0 t.7.1)
+        (third_named (view_of p0) (view_of p1) (view_of p2) (view_of p3) q0 q1 q2 q3 m3.0 all_in hs es u.0 t.3 t.7.0 t.7.1)
+        (last_named (view_of p0) (view_of p1) (view_of p2) (view_of p3) q0 q1 q2 q3 m3.0 all_in hs es u.0 t.3 t.7.0 t.7.1)
 
     -- the word is that of the state behind the whole history
     pub word_is : n ≡ word_of (seen_of (state_after (opening (controller_of (view_of p3))) hs))

@@ -4,6 +4,7 @@ use mathlib.Core.Option as maybe
 use mathlib.Core.List.{IsPrefix}
 use lib.ListN.{get_elem?}
 use Rattle.atomic_table.specs.Table.{Me}
+use Rattle.rx_ring.specs.declared.ends.RxCtx.{RxCtx}
 use Rattle.napi_model.specs.declared.event.Event.{Event}
 use Rattle.napi_model.specs.Step.{opening, seen_of}
 use Rattle.napi_model.specs.Word.{word_of}
@@ -61,6 +62,9 @@ pub record Surveys (k : ℕ) (before after : List Pass) : Type 0 where
   pub deliveries : List Delivery
   pub whole : IsWhole k history deliveries
   pub controllers : (i : ℕ) (p : Pass) → slice_get before i ≡ Some p → controller_of (view_of p) ≡ k
+  -- all name the same context as the one that was handed in
+  pub first : RxCtx
+  pub firsts : (i : ℕ) (p : Pass) → slice_get before i ≡ Some p → first_in (view_of p) ≡ Some first
   pub each : (i : ℕ) (p q : Pass) → slice_get before i ≡ Some p → slice_get after i ≡ Some q → IsSurveyed history deliveries p q
 
 -- ---- how it is made: the strands come together, catch up by one load, and part again
@@ -110,3 +114,4 @@ surveyed me n me' =
     × (me'.0 ≡ all_caught_up h ds me.0) × (me'.1 ≡ me.1)
     × ((k : ℕ) (x : Strand) (c : ℕ) → get_elem? me.0 k ≡ maybe.some x → x.number ≡ Some c → Knew (controller_of me.0) h ds x c)
     × (n ≡ word_of (seen_of (state_after (opening (controller_of me.0)) h)))
+    × ((ring : RxCtx) × ((k : ℕ) (x : Strand) → get_elem? me.0 k ≡ maybe.some x → x.ring ≡ ring))

@@ -1,7 +1,7 @@
 -- A replay whose first n rows were played, none of them refused, and what it tells.
 use Rattle.std.specs.Prelude.{◌≡◌, ℕ, List, Option, None, Result, Ok, Err, take}
 use Rattle.transmit_sides.specs.Transmits.{Transmits}
-use Rattle.devices.specs.SerialBench.{ShowsTransmits, devices_of}
+use Rattle.devices.specs.DeviceBench.{ShowsTransmits, devices_of}
 use Rattle.devices.specs.declared.counts.DeviceCounts.{DeviceCounts}
 use Rattle.trace_rows.specs.declared.row.Row.{Row}
 use Rattle.trace_replay.specs.Played.{state_in}

@@ -1,11 +1,6 @@
-use Rattle.{std.proofs.Common.{◌∙◌, refl, subst, sym}, devices.specs.{Device.after_threaded, Owner.IsOurs, declared.device.TheConstants.CONTROLLER}}
+use Rattle.{std.proofs.Common.refl, devices.specs.Device.after_threaded}
 use Rattle.devices.proofs.device.Device.set_threaded.Goals as goal
-
-pub invariant_of-self : goal.invariant_of-self
-invariant_of-self c =
-    let step = (c.set_threaded.ensures.step CONTROLLER).legal.1 in
-    (c.set_threaded.ensures.controller ∙ c.self.invariant.0, subst IsOurs (sym step) c.self.invariant.1)
 
 pub returns : goal.returns
 unfolding after_threaded
-returns c = rw (← c.self.view_is, (c.set_threaded.ensures.step CONTROLLER).legal.1) refl
+returns g c = rw (← c.self.view_is, c.set_threaded.ensures.side) refl

@@ -1,6 +1,6 @@
 use Rattle.{std.proofs.Common.{ℕ, List, Some, ap, ◌∙◌, sym, refl}, atomic_table.specs.Table.Me, napi_model.specs.{declared.event.Event.Event, Step.{opening, seen_of}, History.state_after}, napi_word.specs.declared.table.Pass.Pass}
 use Rattle.napi_word.{specs.{View.View, Slot.Content, Surveys.IsSurveyed}, proofs.{Said.one_there, Allowed.hold_nothing, Splitting.{joins_front, parts_last_of}}}
-use Rattle.napi_word.proofs.CatchingUp.{surveys, first_pass, second_pass, third_pass, caught_is, caught_is_pass, second_left, second_left_pass, first_left, first_left_pass, first_back, second_back, third_back, last_back, last_slot, last_tied, rest_tied, whole_is, word_is, all_led, of_both_four}
+use Rattle.napi_word.proofs.CatchingUp.{surveys, first_pass, second_pass, third_pass, caught_is, caught_is_pass, second_left, second_left_pass, first_left, first_left_pass, first_back, second_back, third_back, last_back, last_slot, last_tied, rest_tied, whole_is, word_is, all_led, all_named, of_both_four}
 use Rattle.napi_word.proofs.table.StateTable.survey.Goals as goal
 
 pub join_seat-requires : goal.join_seat-requires
@@ -156,6 +156,8 @@ returns-clause-surveys c =
       deliveries = u.2.1;
       whole = whole_is c.args.first c.args.second c.args.third c.args.last.now c.join_seat.new.seat.me c.join_seat-2.new.seat.me c.join_seat-3.new.seat.me j.2 k.2 l.2 c.load.result c.load.new.seat.me u.2;
       controllers = all_led c.args.first c.args.second c.args.third c.args.last.now c.join_seat.new.seat.me c.join_seat-2.new.seat.me c.join_seat-3.new.seat.me j.2 k.2 l.2 c.load.result c.load.new.seat.me u.2;
+      first = u.2.7.0;
+      firsts = all_named c.args.first c.args.second c.args.third c.args.last.now c.join_seat.new.seat.me c.join_seat-2.new.seat.me c.join_seat-3.new.seat.me j.2 k.2 l.2 c.load.result c.load.new.seat.me u.2;
       each = of_both_four (IsSurveyed u.2.0 u.2.1) c.args.first c.args.second c.args.third c.args.last.now _ _ _ _
           (record { table = z.3 ∙ y.0 ∙ x.0 ∙ table ∙ sym r.first; holds = sym r.rest.0; slot = ap (λ (m : Me Content View). m.1) z.4 ∙ sym none0; view = one })
           (record { table = y.3 ∙ x.0 ∙ table ∙ sym r.second; holds = sym r.rest.1; slot = ap (λ (m : Me Content View). m.1) y.4 ∙ sym none1; view = two })

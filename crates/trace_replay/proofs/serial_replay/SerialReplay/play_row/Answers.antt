@@ -1,4 +1,4 @@
-use Rattle.{std.proofs.{Common.{inl, inr, take, subst, sym, arith}, lemmas.Result.err_from_is_err_and}, devices.specs.SerialBench.ShowsTransmits, trace_rows.specs.{Places.empty, declared.{event.Event.TheVariants.Opened, row.Row.Row}}}
+use Rattle.{std.proofs.{Common.{inl, inr, take, subst, sym, arith}, lemmas.Result.err_from_is_err_and}, devices.specs.DeviceBench.ShowsTransmits, trace_rows.specs.{Places.empty, declared.{event.Event.TheVariants.Opened, row.Row.Row}}}
 use Rattle.{trace_replay.{specs.Transmits.after_transmits, proofs.PlayFacts.{after_transmits-more, played-early, played-more}}, trace_rows.proofs.Accepted.accepted-at}
 use Rattle.trace_replay.proofs.serial_replay.SerialReplay.play_row.Goals as goal
 

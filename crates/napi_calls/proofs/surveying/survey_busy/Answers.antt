@@ -1,0 +1,13 @@
+use Rattle.{std.proofs.Common.{Some, refl}, napi_calls.proofs.Surveyed.{stands_up, busy_up, has_up}}
+use Rattle.napi_calls.proofs.surveying.survey_busy.Goals as goal
+
+pub invariant_of-busy : goal.invariant_of-busy
+invariant_of-busy g c =
+    let u = c.survey_beside-first.ensures.surveys in
+    let k = c.args.busy in
+    let s = u.each 3 _ _ refl refl in
+    record {
+      stands = stands_up _ u.history u.deliveries u.whole _ _ s refl k.stands;
+      busy = busy_up _ u.history u.deliveries u.whole _ _ s refl k.stands k.busy;
+      has = has_up _ u.history u.deliveries u.whole _ _ s refl (Some k.ctx) k.has;
+    }
