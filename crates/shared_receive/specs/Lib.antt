@@ -1,0 +1,5 @@
+pub mod Seats
+pub mod Acting
+pub mod Meeting
+pub mod Receiving
+pub mod SharedReceive

@@ -1,0 +1,18 @@
+//! The receive side of a device whose instance is one that threads could share, with all that make calls on it in one hand.
+//!
+//! [`SharedReceive`] keeps the callers and the controller of an instance of `napi_calls`. Behind each of its calls they meet, and
+//! since nobody else has a seat there, what they then know is the whole history of the instance. So each call makes of ring and
+//! instance just what the rules of one thread say, as [`ReceiveSide`](devices::ReceiveSide) asks.
+#![tactic(auto)]
+
+mod acting;
+mod ending;
+mod meeting;
+mod opening;
+mod places;
+mod receiving;
+mod seats;
+mod shared_receive;
+
+pub use opening::SharedOpener;
+pub use shared_receive::SharedReceive;

@@ -1,0 +1,28 @@
+//! Values that must be spent, in places from which they are taken and to which they come back.
+
+ghost use Rattle.std.specs.Prelude.{◌≡◌, None, Some, false, is_some, true};
+
+use std::mem;
+
+/// Takes the value out of its place.
+pub(crate) fn take_out<T>(place: &mut Option<T>) -> T
+    requires { is_some place.old ≡ true }
+    ensures was { place.old ≡ Some result }
+    ensures out { place.new ≡ None }
+{
+    match mem::replace(place, None) {
+        Some(value) => value,
+        None => unreachable!(),
+    }
+}
+
+/// Puts the value into its place, which is empty.
+pub(crate) fn put_back<T>(place: &mut Option<T>, value: T)
+    requires { is_some place.old ≡ false }
+    ensures { place.new ≡ Some value }
+{
+    match mem::replace(place, Some(value)) {
+        None => {}
+        Some(_) => unreachable!(),
+    }
+}
