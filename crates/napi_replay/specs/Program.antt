@@ -1,7 +1,5 @@
 -- The whole program: what it writes and how it ends, of the words after its name and the bytes of its input.
 use Rattle.std.specs.Prelude.{◌≡◌, ◌⊎◌, ℕ, List, Option, Some, None, Ok, Err}
-use Rattle.trace_rows.specs.Trace.{records_of, trace_of}
-use Rattle.shared_replay.specs.Replay.{IsFaultOf, IsReportBy}
 use Rattle.threads_replay.specs.Answer.{threads_of}
 use Rattle.threads_replay.specs.Answer.{IsOutside as IsOutsideThreads}
 use Rattle.report_text.specs.Outside.{IsOutside}
@@ -19,17 +17,16 @@ use Rattle.replay_words.specs.declared.words.WordFault.TheVariants.{Usage, OutOf
 abbrev pub AskFor : List Text → Mode × Settings → Type 0
 AskFor words asked = asked_for words ≡ Some (asked_of asked)
 
--- The text is a mode's report of these bytes. Of shared mode's it is said which devices it tells, with their transmit sides; tests
--- show that it is serial mode's.
+-- the text is a mode's report of these bytes; shared mode's is serial mode's
 abbrev pub IsReportIn : Mode → Settings → List ℕ → List ℕ → Type 0
 IsReportIn Serial s bytes text = replay_of s bytes ≡ Ok text
-IsReportIn Shared s bytes text = IsReportBy bytes text
+IsReportIn Shared s bytes text = replay_of s bytes ≡ Ok text
 IsReportIn Threads s bytes text = threads_of bytes ≡ Ok text
 
 -- a mode's fault of these bytes
 abbrev pub IsFaultIn : Mode → Settings → List ℕ → ReplayFault → Type 0
 IsFaultIn Serial s bytes fault = replay_of s bytes ≡ Err fault
-IsFaultIn Shared s bytes fault = IsFaultOf (trace_of (records_of bytes)) fault
+IsFaultIn Shared s bytes fault = replay_of s bytes ≡ Err fault
 IsFaultIn Threads s bytes fault = threads_of bytes ≡ Err fault
 
 -- no fault of the bytes: the reader, the memory or the writer failed, or in threads mode a thread; no gate is ever shut

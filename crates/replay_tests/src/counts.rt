@@ -10,7 +10,7 @@ use poll_engine::{PollList, SoftList};
 use poll_workers::{ActList, OpenGate, Pace, Station, run_workers};
 use rx_ring::{Packet, ring};
 use shared_list::shared_list;
-use shared_replay::SharedBench;
+use shared_replay::shared_bench;
 use std::alloc::{AllocError, Global};
 use std::sync::Wait;
 use std::test::Fail;
@@ -83,10 +83,9 @@ fn benches_of_sixteen_devices(rt: HostRuntime) -> Result<(), Fail> {
     let mut serial = SerialBench::new(rt.alloc())?;
     attach_each(rt.alloc(), &mut serial)?;
     assert_eq!(rt; serial.attached(), 16);
-    let mut shared = SharedBench::new(&rt, rt.alloc())?;
+    let mut shared = shared_bench(&rt, rt.alloc())?;
     assert_eq!(rt; attach_each(rt.alloc(), &mut shared), Ok(()));
     assert_eq!(rt; shared.attached(), 16);
-    let _ended = shared.end();
     Ok(())
 }
 

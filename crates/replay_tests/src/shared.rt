@@ -1,12 +1,10 @@
-//! Whole replays over instances that threads could share, beside those on one thread, whose bytes are proved; and what their
-//! rings hold at the end.
+//! Whole replays over instances that threads could share, beside those on one thread; and the end of a bench.
 
 use devices::ReplayBench;
 use napi_model::Kind;
 use poll_engine::{Bench, Next};
 use replay_words::Settings;
-use rx_ring::Totals;
-use shared_replay::{SharedBench, replay_shared};
+use shared_replay::{replay_shared, shared_bench};
 use std::alloc::{AllocError, Global};
 use std::test::Fail;
 use trace_replay::replay_serial;
@@ -158,47 +156,65 @@ fn shared_as_serial_behind_each_row(rt: HostRuntime) -> Result<(), Fail> {
     Ok(())
 }
 
-// What is put is polled or left: the end polls what a hand-over has left, and no more.
+// What is told of a device's packets: how many arrived, how many were polled, their bytes, and how many are left.
+fn packets_of<B: ReplayBench>(bench: &B, device: u32) -> Option<(u64, u64, u64, u64)> {
+    match bench.counts(device) {
+        Some(told) => Some((told.arrived, told.polled, told.bytes, told.left)),
+        None => None,
+    }
+}
+
+// What arrived is polled or left. Then the bench ends, whose instances are handed over, repolled, to be disabled or disabled.
 #[test]
-fn totals_at_the_end(rt: HostRuntime) -> Result<(), Fail> {
-    let mut bench = SharedBench::new(&rt, rt.alloc())?;
-    assert_eq!(rt; bench.attach(rt.alloc(), 2, 4, 0), Ok(()));
-    assert_eq!(rt; bench.attach(rt.alloc(), 16, 4, 0), Ok(()));
-    assert_eq!(rt; bench.attached(), 2);
+fn packets_at_the_end(rt: HostRuntime) -> Result<(), Fail> {
+    let mut bench = shared_bench(&rt, rt.alloc())?;
+    for device in [2, 3, 5, 7, 16] {
+        assert_eq!(rt; bench.attach(rt.alloc(), device, 4, 0), Ok(()));
+    }
+    assert_eq!(rt; bench.attached(), 5);
+    // Repolled, and so handed to the list again.
     assert_eq!(rt; bench.arrive(2, 100), Some(Kind::List));
     assert_eq!(rt; bench.arrive(2, 60), None);
     let once = bench.poll_once(2, 1);
     assert_eq!(rt; (once.work, once.next), (1, Next::Repoll));
+    // Handed to its thread.
+    bench.set_threaded(3, true);
+    assert_eq!(rt; bench.arrive(3, 7), Some(Kind::Thread));
+    // Handed to the list, with a disable that is pending.
+    assert_eq!(rt; bench.arrive(5, 8), Some(Kind::List));
+    bench.disable(5);
+    // Off.
     bench.disable(16);
+    bench.disable(7);
     bench.settle();
     assert_eq!(rt; bench.arrive(16, 9), None);
-    let ended = bench.end();
-    assert_eq!(rt; ended.len(), 17);
-    for number in 0..17 {
+    // Enabled with packets, busy polled, and not polled to the end.
+    for bytes in [10, 20, 30] {
+        assert_eq!(rt; bench.arrive(7, bytes), None);
+    }
+    assert!(rt; bench.enable(7));
+    let report = bench.busy_poll(7, 1, 1);
+    assert_eq!(rt;
+        (report.polls, report.work, report.next),
+        (2, 2, Next::Repoll)
+    );
+    for number in 0..18 {
         let wanted = match number {
-            2 => Some(Totals {
-                put: 2,
-                polled: 2,
-                left: 0,
-                bytes: 160,
-            }),
-            16 => Some(Totals {
-                put: 1,
-                polled: 0,
-                left: 1,
-                bytes: 9,
-            }),
+            2 => Some((2, 1, 100, 1)),
+            3 | 5 | 16 => Some((1, 0, 0, 1)),
+            7 => Some((3, 2, 30, 1)),
             _ => None,
         };
-        assert_eq!(rt; ended[number], wanted, "of device {number}");
+        assert_eq!(rt; packets_of(&bench, number), wanted, "of device {number}");
     }
+    drop(bench);
     Ok(())
 }
 
 // One more device, and one that is there already, leave a device as it was.
 #[test]
 fn another_device_stays(rt: HostRuntime) -> Result<(), Fail> {
-    let mut bench = SharedBench::new(&rt, rt.alloc())?;
+    let mut bench = shared_bench(&rt, rt.alloc())?;
     assert_eq!(rt; bench.attach(rt.alloc(), 1, 4, 0), Ok(()));
     bench.arrive(1, 100);
     bench.send(1, 1500);
@@ -208,6 +224,5 @@ fn another_device_stays(rt: HostRuntime) -> Result<(), Fail> {
     assert_eq!(rt; bench.attach(rt.alloc(), 3, 65536, 5), Ok(()));
     assert_eq!(rt; bench.counts(1), before);
     assert_eq!(rt; bench.attached(), 2);
-    let _ended = bench.end();
     Ok(())
 }

@@ -1,13 +1,9 @@
-//! A replay over instances that threads could share, by one thread: the devices of [`SharedBench`], each over an instance
-//! with a lock-free word, on which the rows of a trace play as they do on one thread's own.
+//! A replay over instances that threads could share, by one thread: the devices of a bench, each over an instance with
+//! a lock-free word, on which the rows of a trace play as they do on one thread's own.
 #![tactic(auto)]
 
-mod counting_seat;
-mod places;
+mod bench;
 mod replay;
-mod shared_bench;
-mod shared_device;
-mod station;
 
+pub use bench::{SharedBench, shared_bench};
 pub use replay::replay_shared;
-pub use shared_bench::SharedBench;

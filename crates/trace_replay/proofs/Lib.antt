@@ -1,3 +1,2 @@
 pub mod PlayFacts
 pub mod RunFacts
-pub mod ToldFacts

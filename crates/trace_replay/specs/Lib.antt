@@ -6,5 +6,4 @@ pub mod Replay
 pub mod ReplayState
 pub mod Report
 pub mod Run
-pub mod Told
 pub mod Transmits

@@ -1,5 +1,5 @@
 -- Why the rows of a trace have no report.
-use Rattle.std.specs.Prelude.{◌≡◌, ◌⊎◌, ℕ, ◌+◌, true, List, Some, Err, slice_get}
+use Rattle.std.specs.Prelude.{◌≡◌, ◌⊎◌, ℕ, true, List, Err}
 use Rattle.trace_rows.specs.declared.event.Event.TheVariants.{Enable}
 use Rattle.trace_rows.specs.declared.fault.TraceFault.TheVariants.{OutOfMemory}
 use Rattle.trace_rows.specs.declared.row.Row.{Row}
@@ -10,13 +10,9 @@ use Rattle.report_text.specs.declared.fault.ReplayFault.{ReplayFault}
 use Rattle.report_text.specs.declared.fault.ReplayFault.TheVariants.{Pending, Trace}
 use Rattle.replay_words.specs.declared.settings.Settings.{Settings}
 
--- the fault names an enable row
-abbrev pub IsOfEnable : List Row → ReplayFault → Type 0
-IsOfEnable rows fault = (i : ℕ) × (row : Row) × (slice_get rows i ≡ Some row) × (row.event ≡ Enable) × (fault ≡ Pending (i + 1))
-
 -- memory was refused, or an enable row met a disable that was pending; on an exact bench that is the rows' own fault
 abbrev pub IsRefused : Type 0 → Settings → List Row → ReplayFault → Type 0
-IsRefused Exact s rows fault = (fault ≡ Trace OutOfMemory) ⊎ (IsOfEnable rows fault × (Exact → (version : ℕ) → serial_report s version rows ≡ Err fault))
+IsRefused Exact s rows fault = (fault ≡ Trace OutOfMemory) ⊎ (Exact → (version : ℕ) → serial_report s version rows ≡ Err fault)
 
 -- why row n, with this behind the rows before it, was refused
 abbrev pub IsRefusedAt : Type 0 → ℕ → Row → ReplayState → ReplayFault → Type 0

@@ -1,15 +1,11 @@
 //! The report: the rows are played, and what they did becomes its text, in every mode that plays rows.
 
-ghost use Rattle.std.specs.Prelude.{◌≡◌, ◌+◌, ◌^◌, ◌<◌, ◌≤◌, ◌++◌, [], Ok, IfErr, IfOk, OnOk, flat_map, length, string_bytes};
+ghost use Rattle.std.specs.Prelude.{◌≡◌, ◌⊎◌, ◌+◌, ◌^◌, ◌<◌, ◌≤◌, ◌++◌, [], Ok, Err, IfErr, IfOk, OnOk, flat_map, length, string_bytes};
 ghost use Rattle.trace_rows.specs.Places.{empty};
 ghost use Rattle.trace_rows.specs.Trace.{AcceptedAfter};
-ghost use Rattle.trace_replay.specs.Played.{state_in};
-ghost use Rattle.trace_replay.specs.Refused.{IsRefused};
-ghost use Rattle.trace_replay.specs.Replay.{start};
 ghost use Rattle.trace_replay.specs.Report.{device_line, device_lines, held_part, list_line, napi_line, of_run, poll_line, serial_report, spaced, state_word, total_line, totals_of};
-ghost use Rattle.trace_replay.specs.Told.{IsReportOf};
-ghost use Rattle.trace_replay.specs.Transmits.{transmits_of};
 ghost use Rattle.report_text.specs.Lines.{ended, flag, tx_line, tx_lines};
+ghost use Rattle.report_text.specs.Outside.{IsOutside};
 
 use crate::line::Line;
 use crate::replay::{Replay, room_for_lines};
@@ -256,21 +252,16 @@ fn add_totals(text: &mut String, totals: &Totals) -> Result<(), AllocError>
 }
 
 impl<B: ReplayBench> Replay<B> {
-    ghost use Rattle.std.specs.Prelude.{◌≡◌, ◌++◌, ℕ, Option, IfOk, OnOk, string_bytes};
+    ghost use Rattle.std.specs.Prelude.{◌≡◌, ◌++◌, IfOk, OnOk, string_bytes};
     ghost use Rattle.transmit_sides.specs.Transmits.{Transmits};
     ghost use Rattle.trace_replay.specs.Played.{state_in};
-    ghost use Rattle.devices.specs.declared.counts.DeviceCounts.{DeviceCounts};
     ghost use Rattle.trace_replay.specs.Report.{counts_of, lines_below, text_of};
-    ghost use Rattle.trace_replay.specs.Told.{AreTold, IsTextBy};
 
     // Adds the lines of each device, in rising order of their numbers.
     fn add_devices(&self, version: u32, text: &mut String) -> Result<(), AllocError>
-        ensures exact { B.Exact → (all : Transmits) → B.shows self.now.bench all
+        ensures { B.Exact → (all : Transmits) → B.shows self.now.bench all
             → OnOk result (string_bytes text.new ≡ string_bytes text.old
             ++ lines_below version (counts_of (state_in B.devices self.now) all) 17) }
-        ensures told { (all : Transmits) → B.shows self.now.bench all
-            → OnOk result ((told : ℕ → Option DeviceCounts) × AreTold 17 all told
-            × (string_bytes text.new ≡ string_bytes text.old ++ lines_below version told 17)) }
     {
         for number in 0..PLACES {
             add_device(text, version, number, self.bench.counts(number))?;
@@ -282,11 +273,8 @@ impl<B: ReplayBench> Replay<B> {
     #[tactic(auto, unfolding(crate::specs::Report::text_by))]
     fn report(&self, alloc: Global, version: u32) -> Result<String, AllocError>
         requires { length self.now.lines.items ≤ 100000 }
-        ensures exact { B.Exact → (all : Transmits) → B.shows self.now.bench all → IfOk result
+        ensures { B.Exact → (all : Transmits) → B.shows self.now.bench all → IfOk result
             (λ text. string_bytes text ≡ text_of version (state_in B.devices self.now) all) }
-        ensures told { (all : Transmits) → B.shows self.now.bench all → IfOk result
-            (λ text. IsTextBy version all self.now.lines.items self.now.list
-            (string_bytes text)) }
     {
         let mut text = String::new(alloc);
         add_lines(&mut text, self.lines.as_slice())?;
@@ -298,64 +286,28 @@ impl<B: ReplayBench> Replay<B> {
     }
 }
 
-// Plays the rows, and forms the text of their report.
-fn report_rows<B: ReplayBench>(
-    replay: &mut Replay<B>,
+/// Plays the rows of a trace on an exact bench that has no devices yet, and gives the text of their report, as a trace of this
+/// version has it.
+///
+/// The faults are want of memory, and an enable row whose disable is pending still.
+pub(crate) fn report_on<B: ReplayBench + Drop>(
     alloc: Global,
+    bench: B,
     settings: &Settings,
     version: u32,
     rows: &[Row],
 ) -> Result<String, ReplayFault>
     requires accepted { AcceptedAfter [] rows.now }
     requires count { length rows.now ≤ 100000 }
-    requires start { B.Exact → state_in B.devices replay.old ≡ start }
-    requires transmits { B.shows replay.old.bench empty }
-    requires lines { replay.old.lines.items ≡ [] }
-    ensures report { B.Exact → IfOk result
+    requires exact { B.Exact }
+    requires devices { B.devices bench ≡ empty }
+    requires transmits { B.shows bench empty }
+    ensures report { IfOk result
         (λ text. serial_report settings.now version rows.now ≡ Ok (string_bytes text)) }
-    ensures told { IfOk result (λ text. IsReportOf version rows.now (string_bytes text)) }
-    ensures transmits { OnOk result (B.shows replay.new.bench (transmits_of rows.now)) }
-    ensures fault { IfErr result (IsRefused B.Exact settings.now rows.now) }
+    ensures fault { IfErr result
+        (λ fault. IsOutside fault ⊎ (serial_report settings.now version rows.now ≡ Err fault)) }
 {
+    let mut replay = Replay::new(bench, room_for_lines(alloc, rows)?);
     replay.play_rows(alloc, settings, rows)?;
     Ok(replay.report(alloc, version)?)
-}
-
-/// Plays the rows of a trace on a bench that has no devices yet, and gives the text of their report, as a trace of this version
-/// has it. The bench comes back, after a fault too.
-///
-/// The faults are want of memory, and an enable row whose disable is pending still.
-pub fn report_on<B: ReplayBench>(
-    alloc: Global,
-    bench: B,
-    settings: &Settings,
-    version: u32,
-    rows: &[Row],
-) -> (B, Result<String, ReplayFault>)
-    requires accepted { AcceptedAfter [] rows.now }
-    requires count { length rows.now ≤ 100000 }
-    requires devices { B.Exact → B.devices bench ≡ empty }
-    requires transmits { B.shows bench empty }
-
-    // On an exact bench text and fault are those of the serial report.
-    ensures report { B.Exact → IfOk result.1
-        (λ text. serial_report settings.now version rows.now ≡ Ok (string_bytes text)) }
-
-    // On any bench each opened device is told once, in order, with its transmit side.
-    ensures told { IfOk result.1 (λ text. IsReportOf version rows.now (string_bytes text)) }
-    ensures fault { IfErr result.1 (IsRefused B.Exact settings.now rows.now) }
-    ensures transmits { OnOk result.1 (B.shows result.0 (transmits_of rows.now)) }
-{
-    let lines = match room_for_lines(alloc, rows) {
-        Ok(lines) => lines,
-        Err(error) => return (bench, Err(ReplayFault::from(error))),
-    };
-    let mut replay = Replay::new(bench, lines);
-    let report = report_rows(&mut replay, alloc, settings, version, rows);
-    let Replay {
-        bench,
-        list: _,
-        lines: _,
-    } = replay;
-    (bench, report)
 }

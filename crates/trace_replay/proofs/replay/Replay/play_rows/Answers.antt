@@ -1,5 +1,5 @@
-use Rattle.{std.proofs.{Common.{inl, inr, ◌<◌, length, get_or, take, subst, sym, arith}, lemmas.Result.err_from_is_err_and}, trace_rows.specs.declared.{event.Event.TheVariants.Opened, row.Row.Row}}
-use Rattle.{trace_replay.{specs.Transmits.after_transmits, proofs.PlayFacts.{after_transmits-more, played-early, played-more, report-early}}, trace_rows.proofs.Accepted.{accepted-at, get-at}}
+use Rattle.{std.proofs.{Common.{inl, inr, ◌<◌, length, take, subst, sym, arith}, lemmas.Result.err_from_is_err_and}, trace_rows.specs.declared.{event.Event.TheVariants.Opened, row.Row.Row}}
+use Rattle.{trace_replay.{specs.Transmits.after_transmits, proofs.PlayFacts.{after_transmits-more, played-early, played-more, report-early}}, trace_rows.proofs.Accepted.accepted-at}
 use Rattle.trace_replay.proofs.replay.Replay.play_rows.Goals as goal
 
 -- the row that an index out of the rows would give
@@ -30,8 +30,5 @@ returns-in_err-play-clause-fault g c =
     rw (p.1, p.2)
     (elim c.in_err-play.ensures.fault [
       | inl memory ↦ inl memory
-      | inr early ↦ inr (
-        (c.loop-i.i, get_or c.args.rows.now c.loop-i.i none, get-at c.args.rows.now c.loop-i.i none below, early.0, early.1),
-        λ stated. rw early.1 (report-early c.args.settings.now c.args.rows.now _ (played-early c.args.settings.now c.args.rows.now c.loop-i.i none _ below (c.loop-i.invariant.played stated) (early.2 stated))),
-      )
+      | inr early ↦ inr (λ stated. rw early.1 (report-early c.args.settings.now c.args.rows.now _ (played-early c.args.settings.now c.args.rows.now c.loop-i.i none _ below (c.loop-i.invariant.played stated) (early.2 stated))))
     ])

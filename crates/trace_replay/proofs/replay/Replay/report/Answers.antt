@@ -2,13 +2,13 @@ use Rattle.{std.specs.Prelude.flat_map, devices.specs.Bench.attached, trace_repl
 use Rattle.trace_replay.proofs.PlayFacts.{four-parts}
 use Rattle.trace_replay.proofs.replay.Replay.report.Goals as goal
 
-pub returns-clause-exact : goal.returns-clause-exact
+pub returns : goal.returns
 unfolding text_by
-returns-clause-exact g c stated all shows =
+returns g c stated all shows =
     rw (
       c.in_ok-add_totals.ensures,
       c.in_ok-add_list.ensures,
-      c.in_ok-add_devices.ensures.exact stated all shows,
+      c.in_ok-add_devices.ensures stated all shows,
       c.in_ok-add_lines.ensures,
       c.new-text.ensures.bytes,
       c.of-totals.ensures,
@@ -22,29 +22,3 @@ returns-clause-exact g c stated all shows =
     (lines_below c.args.version (counts_of (state_in g.B.ReplayBench.devices c.args.self.now) all) 17)
     (ended (list_line c.args.self.now.list))
     (ended (total_line (totals_of (attached (g.B.ReplayBench.devices c.args.self.now.bench)) c.args.self.now.lines.items))))
-
-pub returns-clause-told : goal.returns-clause-told
-unfolding text_by
-returns-clause-told g c all shows =
-    let told = c.in_ok-add_devices.ensures.told all shows in
-    record {
-      told = told.0;
-      each = told.1;
-      is = rw (
-        c.in_ok-add_totals.ensures,
-        c.in_ok-add_list.ensures,
-        told.2,
-        c.in_ok-add_lines.ensures,
-        c.new-text.ensures.bytes,
-        c.of-totals.ensures,
-        c.attached.ensures.transmits all shows,
-        c.ids.ensures.ids,
-        c.as_slice.ensures.value,
-        c.as_slice-2.ensures.value,
-      )
-          (four-parts
-          (flat_map (λ line. ended (poll_line line)) c.args.self.now.lines.items)
-          (lines_below c.args.version told.0 17)
-          (ended (list_line c.args.self.now.list))
-          (ended (total_line (totals_of (attached all) c.args.self.now.lines.items))));
-    }

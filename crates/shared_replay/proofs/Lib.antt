@@ -1,3 +1,0 @@
-pub mod ActFacts
-pub mod CountingFacts
-pub mod SharedFacts
