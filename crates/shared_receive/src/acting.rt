@@ -376,7 +376,8 @@ impl Seats {
     pub(crate) fn enable<R: Wait>(self, rt: &R, napi: &Napi, threaded: bool) -> Seats
         requires seats { AreSeats napi.now self }
         requires off { role_of self.turn ≡ None }
-        ensures acts { (os : List Operation) × EnablesBy threaded os × Acts 3 os napi.now self result }
+        ensures acts { (os : List Operation) × EnablesBy threaded os
+            × Acts 3 os napi.now self result }
         ensures role { role_of result.turn ≡ Some (false, None) }
     {
         let Seats { interrupt, turn } = self;

@@ -15,7 +15,8 @@ fn meet_posts<S: Mode>(
     posts: Posts,
     mut control: Control<S>,
 ) -> (Caller, Posts, Control<S>, Seen)
-    requires seats { AreFour napi.now interrupt.pass (poller_post posts) (thread_post posts) control.pass }
+    requires seats { AreFour
+        napi.now interrupt.pass (poller_post posts) (thread_post posts) control.pass }
     requires nothing { S.ctx control.state ≡ None }
     ensures meet { Meet (posted interrupt posts control.pass)
         (posted result.0 result.1 result.2.pass) result.3 }

@@ -27,7 +27,8 @@ fn poll(polling: &mut Polling, input: &mut RxIn, weight: usize, batch: &mut Batc
 fn poll_busily(busy: &mut Busy, input: &mut RxIn, weight: usize, batch: &mut Batch)
     requires input { IsInputOf input.old busy.old.pass }
     requires weight { (1 ≤ weight) × (weight ≤ MAX_WEIGHT) }
-    ensures next { ReceivesNext weight input.old busy.old.ctx input.new busy.new.ctx batch.new.items }
+    ensures next { ReceivesNext
+        weight input.old busy.old.ctx input.new busy.new.ctx batch.new.items }
     ensures pass { busy.new.pass ≡ busy.old.pass }
 {
     busy.beside(input);
