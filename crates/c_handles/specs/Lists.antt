@@ -1,7 +1,7 @@
 -- A poll list of one thread and the run over it, as C drives it: what the run, if one is under way, has of the list.
 use Rattle.std.specs.Prelude.{ℕ, Option, Some, None}
-use Rattle.poll_engine.specs.Driven.{held}
-use Rattle.poll_engine.specs.declared.polling_run.PollingRun.{PollingRun}
+use Rattle.poll_runs.specs.Driven.{held}
+use Rattle.poll_runs.specs.declared.polling_run.PollingRun.{PollingRun}
 
 -- how many of the list's numbers it holds
 abbrev pub held_in : Option PollingRun → ℕ

@@ -1,8 +1,8 @@
 //! A poll list of C's, with the run over it.
-ghost use Rattle.poll_engine.specs.Plain.{HasRoom};
+ghost use Rattle.poll_runs.specs.Plain.{HasRoom};
 ghost use Rattle.c_handles.specs.Lists.{held_in};
 
-use poll_engine::{PlainList, PollingRun};
+use poll_runs::{PlainList, PollingRun};
 
 /// What a run did: `struct fq_run_report`.
 #[repr(C)]

@@ -1,8 +1,8 @@
 //! A polling run that C makes, one poll after the other.
 ghost use Rattle.std.specs.Prelude.{◌≡◌, ◌≢◌, ◌+◌, ◌<◌, ◌≤◌, ◌↔◌, ◌++◌, [], ◌∷◌, List, Some, None, is_some, length};
-ghost use Rattle.poll_engine.specs.Polls.{Poll, work_of};
-ghost use Rattle.poll_engine.specs.Driven.{and_poll};
-ghost use Rattle.poll_engine.specs.declared.bench.Next.{Next};
+ghost use Rattle.poll_runs.specs.Polls.{Poll, work_of};
+ghost use Rattle.poll_runs.specs.Driven.{and_poll};
+ghost use Rattle.poll_runs.specs.declared.bench.Next.{Next};
 ghost use Rattle.c_handles.specs.Status.{OK, DONE, NOT_ALLOWED};
 ghost use Rattle.c_handles.specs.Lists.{held_in};
 ghost use Rattle.c_handles.specs.Runs.{next_in, asked_in, is_listed, is_doubled, Runs, IsThrough, IsBetweenPolls, HasSettings, SameSettingsIn, IsRunOf, push_status, begin_status, polled_status};
@@ -10,7 +10,7 @@ ghost use Rattle.c_handles.specs.Runs.{next_in, asked_in, is_listed, is_doubled,
 use crate::lister::{FqRunReport, Lister};
 use crate::status;
 use napi_model::Kind;
-use poll_engine::{Next, Once, PlainList, PollList, PollingRun};
+use poll_runs::{Next, Once, PlainList, PollList, PollingRun};
 use std::mem;
 
 // How a poll ended, by C's number (`enum fq_next`).

@@ -1,12 +1,12 @@
 -- The whole program: what it writes and how it ends, of the words after its name and the bytes of its input.
 use Rattle.std.specs.Prelude.{◌≡◌, ◌⊎◌, ℕ, List, Option, Some, None, Ok, Err}
-use Rattle.threads_replay.specs.Answer.{threads_of}
-use Rattle.threads_replay.specs.Answer.{IsOutside as IsOutsideThreads}
-use Rattle.report_text.specs.Outside.{IsOutside}
-use Rattle.trace_replay.specs.Answer.{replay_of}
-use Rattle.report_text.specs.declared.fault.ReplayFault.{ReplayFault}
-use Rattle.report_text.specs.declared.program.ProgramFault.{ProgramFault}
-use Rattle.report_text.specs.declared.program.ProgramFault.TheVariants.{Words, Replay}
+use Rattle.replay_threads.specs.Answer.{threads_of}
+use Rattle.replay_threads.specs.Answer.{IsOutside as IsOutsideThreads}
+use Rattle.replay_text.specs.Outside.{IsOutside}
+use Rattle.replay_rows.specs.Answer.{replay_of}
+use Rattle.replay_text.specs.declared.fault.ReplayFault.{ReplayFault}
+use Rattle.replay_text.specs.declared.program.ProgramFault.{ProgramFault}
+use Rattle.replay_text.specs.declared.program.ProgramFault.TheVariants.{Words, Replay}
 use Rattle.replay_words.specs.Words.{Text, asked_for, asked_of}
 use Rattle.replay_words.specs.declared.mode.Mode.{Mode}
 use Rattle.replay_words.specs.declared.mode.Mode.TheVariants.{Serial, Shared, Threads}

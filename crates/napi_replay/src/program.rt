@@ -3,20 +3,19 @@
 ghost use Rattle.std.specs.Prelude.{◌≡◌, ◌≢◌, ◌⊎◌, ℕ, List, Some, IfErr, OnOk, map, string_bytes};
 ghost use Rattle.std.specs.Io.KnownBytes.{Appends, Keeps};
 ghost use Rattle.napi_replay.specs.Program.{IsFault, IsFaultIn, IsOutsideIn, IsReport, IsReportIn};
-ghost use Rattle.report_text.specs.Program.{FailedBy};
-ghost use Rattle.report_text.specs.declared.fault.ReplayFault.TheVariants.{OutputFailed};
-ghost use Rattle.report_text.specs.declared.program.ProgramFault.TheVariants.{Replay};
+ghost use Rattle.replay_text.specs.Program.{FailedBy};
+ghost use Rattle.replay_text.specs.declared.fault.ReplayFault.TheVariants.{OutputFailed};
+ghost use Rattle.replay_text.specs.declared.program.ProgramFault.TheVariants.{Replay};
 
 use poll_workers::OpenGate;
+use replay_rows::replay_serial;
+use replay_text::{Ending, ProgramFault, ReplayFault, end_by};
+use replay_threads::{replay_shared, replay_threads};
 use replay_words::{Mode, Settings, parse_words};
-use report_text::{Ending, ProgramFault, ReplayFault, end_by};
-use shared_replay::replay_shared;
 use std::alloc::Global;
 use std::io::{Read, Write};
 use std::sync::Wait;
 use std::thread::Threads;
-use threads_replay::replay_threads;
-use trace_replay::replay_serial;
 
 // Replays the input in a mode.
 fn replay_in<H, R, W>(

@@ -1,14 +1,14 @@
 -- The serial tool: what it writes and how it ends, of the words after its name and the bytes of its input.
 use Rattle.std.specs.Prelude.{◌≡◌, ◌⊎◌, ℕ, List, Option, Some, None, Ok, Err}
-use Rattle.report_text.specs.Outside.{IsOutside}
-use Rattle.report_text.specs.Written.{IsFaultBy}
-use Rattle.report_text.specs.declared.program.ProgramFault.{ProgramFault}
-use Rattle.report_text.specs.declared.program.ProgramFault.TheVariants.{Words, Replay}
+use Rattle.replay_text.specs.Outside.{IsOutside}
+use Rattle.replay_text.specs.Written.{IsFaultBy}
+use Rattle.replay_text.specs.declared.program.ProgramFault.{ProgramFault}
+use Rattle.replay_text.specs.declared.program.ProgramFault.TheVariants.{Words, Replay}
 use Rattle.replay_words.specs.Words.{Text, asked_of, serial_asked_for}
 use Rattle.replay_words.specs.declared.mode.Mode.TheVariants.{Serial}
 use Rattle.replay_words.specs.declared.settings.Settings.{Settings}
 use Rattle.replay_words.specs.declared.words.WordFault.TheVariants.{Usage, OutOfMemory}
-use Rattle.trace_replay.specs.Answer.{replay_of}
+use Rattle.replay_rows.specs.Answer.{replay_of}
 
 -- the words ask for serial mode and these settings
 abbrev pub AskFor : List Text → Settings → Type 0

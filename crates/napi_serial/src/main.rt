@@ -5,7 +5,7 @@
 mod program;
 
 use crate::program::run_program;
-use report_text::{end_by, given_words};
+use replay_text::{end_by, given_words};
 use std::io;
 use std::process::ExitCode;
 

@@ -3,14 +3,14 @@
 ghost use Rattle.std.specs.Prelude.{◌≡◌, ◌≢◌, IfErr, OnOk, map, string_bytes};
 ghost use Rattle.std.specs.Io.KnownBytes.{Keeps};
 ghost use Rattle.napi_serial.specs.Program.{IsFault, IsReport};
-ghost use Rattle.report_text.specs.Program.{FailedBy, KeepsOutput};
-ghost use Rattle.report_text.specs.Written.{Writes};
+ghost use Rattle.replay_text.specs.Program.{FailedBy, KeepsOutput};
+ghost use Rattle.replay_text.specs.Written.{Writes};
 
+use replay_rows::replay_serial;
+use replay_text::{Ending, ProgramFault, end_by};
 use replay_words::parse_serial_words;
-use report_text::{Ending, ProgramFault, end_by};
 use std::alloc::Global;
 use std::io::{Read, Write};
-use trace_replay::replay_serial;
 
 // Replays the input as the words ask for, and writes the report.
 fn replay_asked<R: Read + Drop, W: Write>(

@@ -6,10 +6,10 @@ use Rattle.replay_words.specs.Words.{Text, asked_of}
 use Rattle.replay_words.specs.declared.mode.Mode.TheVariants.{Serial}
 use Rattle.replay_words.specs.declared.settings.Settings.{Settings}
 use Rattle.replay_words.specs.declared.words.WordFault.TheVariants.{Usage, OutOfMemory}
-use Rattle.report_text.specs.Outside.{IsOutside}
-use Rattle.report_text.specs.Written.{IsFaultBy}
-use Rattle.report_text.specs.declared.program.ProgramFault.{ProgramFault}
-use Rattle.report_text.specs.declared.program.ProgramFault.TheVariants.{Words, Replay}
+use Rattle.replay_text.specs.Outside.{IsOutside}
+use Rattle.replay_text.specs.Written.{IsFaultBy}
+use Rattle.replay_text.specs.declared.program.ProgramFault.{ProgramFault}
+use Rattle.replay_text.specs.declared.program.ProgramFault.TheVariants.{Words, Replay}
 
 -- the words ask for a line of each so many rows, by these settings
 pub record AskFor (words : List Text) (every : ℕ) (settings : Settings) : Type 0 where

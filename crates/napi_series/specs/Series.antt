@@ -3,22 +3,22 @@
 use Rattle.std.specs.Prelude.{ℕ, zero, suc, ◌+◌, ◌%◌, ◌==◌, List, [], ◌∷◌, ◌++◌, Option, Some, None, Result, Ok, Err, codes, decimal, flat_map, if◌then◌else◌, length}
 use Rattle.std.specs.Fmt.{signed_decimal}
 use Rattle.std.specs.List.{slice_get}
-use Rattle.trace_rows.specs.Trace.{records_of, trace_of}
-use Rattle.devices.specs.declared.counts.DeviceCounts.{DeviceCounts}
-use Rattle.trace_rows.specs.declared.fault.TraceFault.{TraceFault}
-use Rattle.trace_rows.specs.declared.row.Row.{Row}
-use Rattle.transmit_sides.specs.declared.transmit.TxCounts.{TxCounts}
+use Rattle.device_rows.specs.Trace.{records_of, trace_of}
+use Rattle.device_bench.specs.declared.counts.DeviceCounts.{DeviceCounts}
+use Rattle.device_rows.specs.declared.fault.TraceFault.{TraceFault}
+use Rattle.device_rows.specs.declared.row.Row.{Row}
+use Rattle.device_transmit.specs.declared.transmit.TxCounts.{TxCounts}
 use Rattle.dql_core.specs.Counter.{distance_of}
 use Rattle.replay_words.specs.declared.settings.Settings.{Settings}
-use Rattle.trace_replay.specs.After.{counts_after, polled_after}
-use Rattle.trace_replay.specs.Replay.{after_all}
-use Rattle.report_text.specs.Lines.{flag}
-use Rattle.trace_replay.specs.Report.{state_word}
-use Rattle.trace_replay.specs.ReplayState.{ReplayState}
-use Rattle.report_text.specs.declared.fault.ReplayFault.{ReplayFault}
-use Rattle.report_text.specs.declared.fault.ReplayFault.TheVariants.{Trace}
-use Rattle.trace_replay.specs.declared.line.Line.{Line}
-use Rattle.trace_replay.specs.declared.line.Line.TheVariants.{Softirq, Kthread, Busy}
+use Rattle.replay_rows.specs.After.{counts_after, polled_after}
+use Rattle.replay_rows.specs.Replay.{after_all}
+use Rattle.replay_text.specs.Lines.{flag}
+use Rattle.replay_rows.specs.Report.{state_word}
+use Rattle.replay_rows.specs.ReplayState.{ReplayState}
+use Rattle.replay_text.specs.declared.fault.ReplayFault.{ReplayFault}
+use Rattle.replay_text.specs.declared.fault.ReplayFault.TheVariants.{Trace}
+use Rattle.replay_rows.specs.declared.line.Line.{Line}
+use Rattle.replay_rows.specs.declared.line.Line.TheVariants.{Softirq, Kthread, Busy}
 
 abbrev pub header : List ℕ
 header = codes "row,moment,device,state,waiting,arrived,dropped,polled,in_flight,limit,avail,stopped,polls,work,squeezed\n"

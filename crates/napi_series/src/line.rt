@@ -3,11 +3,11 @@
 ghost use Rattle.std.specs.Prelude.{◌≡◌, ◌++◌, OnOk, string_bytes};
 ghost use Rattle.napi_series.specs.Series.{device_fields, line_of, queue_fields, row_fields, run_fields};
 
-use devices::DeviceCounts;
+use device_bench::DeviceCounts;
+use device_rows::Row;
+use device_transmit::TxCounts;
+use replay_rows::{Line, state_word};
 use std::alloc::AllocError;
-use trace_replay::{Line, state_word};
-use trace_rows::Row;
-use transmit_sides::TxCounts;
 
 fn add_row(text: &mut String, number: u32, row: &Row) -> Result<(), AllocError>
     ensures { OnOk result

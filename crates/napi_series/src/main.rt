@@ -11,7 +11,7 @@ mod series;
 mod words;
 
 use crate::program::run_program;
-use report_text::{Ending, end_by, given_words};
+use replay_text::{Ending, end_by, given_words};
 use std::io;
 use std::process::ExitCode;
 

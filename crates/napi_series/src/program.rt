@@ -3,12 +3,12 @@
 ghost use Rattle.std.specs.Prelude.{◌≡◌, ◌≢◌, IfErr, OnOk, map, string_bytes};
 ghost use Rattle.std.specs.Io.KnownBytes.{Keeps};
 ghost use Rattle.napi_series.specs.Program.{IsFault, IsSeries};
-ghost use Rattle.report_text.specs.Program.{FailedBy, KeepsOutput};
-ghost use Rattle.report_text.specs.Written.{Writes};
+ghost use Rattle.replay_text.specs.Program.{FailedBy, KeepsOutput};
+ghost use Rattle.replay_text.specs.Written.{Writes};
 
 use crate::series::write_series;
 use crate::words::parse_series_words;
-use report_text::{Ending, ProgramFault, end_by};
+use replay_text::{Ending, ProgramFault, end_by};
 use std::alloc::Global;
 use std::io::{Read, Write};
 

@@ -1,22 +1,22 @@
 //! The series of a trace: from the bytes of the trace to the bytes of the series.
 
 ghost use Rattle.std.specs.Prelude.{◌≡◌, ◌≢◌, ◌⊎◌, ◌≤◌, ◌<◌, ◌+◌, ◌++◌, [], ℕ, List, Ok, Err, Some, IfOk, IfErr, OnOk, length, slice_get, string_bytes};
-ghost use Rattle.trace_rows.specs.Trace.{AcceptedAfter};
-ghost use Rattle.trace_rows.specs.declared.fault.TraceFault.TheVariants.{OutOfMemory};
+ghost use Rattle.device_rows.specs.Trace.{AcceptedAfter};
+ghost use Rattle.device_rows.specs.declared.fault.TraceFault.TheVariants.{OutOfMemory};
 ghost use Rattle.napi_series.specs.Series.{part_after, series_by, series_of};
-ghost use Rattle.report_text.specs.Outside.{IsOutside};
-ghost use Rattle.report_text.specs.Written.{IsFaultBy, LeavesAsItWas, Writes};
-ghost use Rattle.trace_replay.specs.After.{IsAfter};
-ghost use Rattle.trace_replay.specs.Replay.{after_all};
-ghost use Rattle.report_text.specs.declared.fault.ReplayFault.TheVariants.{Trace};
+ghost use Rattle.replay_text.specs.Outside.{IsOutside};
+ghost use Rattle.replay_text.specs.Written.{IsFaultBy, LeavesAsItWas, Writes};
+ghost use Rattle.replay_rows.specs.After.{IsAfter};
+ghost use Rattle.replay_rows.specs.Replay.{after_all};
+ghost use Rattle.replay_text.specs.declared.fault.ReplayFault.TheVariants.{Trace};
 
 use crate::line::add_line;
+use device_rows::{Row, read_trace};
+use replay_rows::SerialReplay;
+use replay_text::{ReplayFault, write_text};
 use replay_words::Settings;
-use report_text::{ReplayFault, write_text};
 use std::alloc::{AllocError, Global};
 use std::io::{Read, Write};
-use trace_replay::SerialReplay;
-use trace_rows::{Row, read_trace};
 
 const HEADER: &str =
     "row,moment,device,state,waiting,arrived,dropped,polled,in_flight,limit,avail,stopped,polls,work,squeezed\n";

@@ -1,11 +1,11 @@
 -- What the parts of a crew come to for its stations.
 use Rattle.std.{proofs.Common.{◌≡◌, ℕ, ◌≤◌, true, false, is_some, List, [], ◌++◌, length, sym, ap, ◌∙◌, subst, IsSome, All, arith, rules}, specs.{Prelude.{IfOk, Ok, Err, Result, vec_items}, Global.Vec, List.{AllByRecursion, AllZip}}}
 use Rattle.{rx_ring.specs.{declared.{ends.RxIn.RxIn, packet.Packet.Packet}, Ends.{SameIn, capacity_of, put_list}, ReceiveRing.{bytes_of, capped}}, napi_calls.specs.declared.{kept.Kept.Kept, types.{Caller.Caller, Napi.Napi}}}
-use Rattle.{napi_calls.specs.{Instance.IsSeatOf, Seats.{number_of, own_list}}, interrupt_workers.specs.declared.{acts.Act.Act, opening.{Loose.Loose, Placed.Placed}, station.{Station.Station, Finished.Finished}, job.Job.Job}}
-use Rattle.interrupt_workers.specs.{declared.{job.Worked.Worked, worker.Seats.Seats}, Acts.{after_acts, arrivals}, Ends.{IsCallerAt, IsDoneAt, IsFinishOf}, Opens.{IsInputOf, IsKeptLoose, IsKeptSideOf, IsLoose}, Runs.{HasRun, IsEnded}}
-use Rattle.{interrupt_workers.specs.{Runs.{Ledger, Whose, WorksBy, blank, controller_number}, Seats.AreSeatsOf, Works.{IsWorkOf, ledger_of, whose}}, seat_pollers.specs.declared.{seat.Seat.Seat, thread_poller.ThreadSide.ThreadSide}}
-use Rattle.{seat_pollers.specs.{SeatKeeping.{IsCallerOf, AreSameSeats, IsSameSeat}, Gives.GivesCaller}, poll_workers.specs.{Finishes.{IsFinished, IsWorkedOf}, Spreads.{IsJobAt, IsKeptJobOf, IsSeatAt, IsThreadAt}}}
-use Rattle.crew_tasks.{specs.Paces.IsLawful, proofs.ListFacts.{each_index, zip_all, zip_and, zip_both, zip_each, zip_flip, zip_same}}
+use Rattle.{napi_calls.specs.{Instance.IsSeatOf, Seats.{number_of, own_list}}, poll_interrupts.specs.declared.{acts.Act.Act, opening.{Loose.Loose, Placed.Placed}, station.{Station.Station, Finished.Finished}, job.Job.Job}}
+use Rattle.poll_interrupts.specs.{declared.{job.Worked.Worked, worker.Seats.Seats}, Acts.{after_acts, arrivals}, Ends.{IsCallerAt, IsDoneAt, IsFinishOf}, Opens.{IsInputOf, IsKeptLoose, IsKeptSideOf, IsLoose}, Runs.{HasRun, IsEnded}}
+use Rattle.{poll_interrupts.specs.{Runs.{Ledger, Whose, WorksBy, blank, controller_number}, Seats.AreSeatsOf, Works.{IsWorkOf, ledger_of, whose}}, poll_seats.specs.declared.{seat.Seat.Seat, thread_poller.ThreadSide.ThreadSide}}
+use Rattle.{poll_seats.specs.{SeatKeeping.{IsCallerOf, AreSameSeats, IsSameSeat}, Gives.GivesCaller}, poll_workers.specs.{Finishes.{IsFinished, IsWorkedOf}, Spreads.{IsJobAt, IsKeptJobOf, IsSeatAt, IsThreadAt}}}
+use Rattle.poll_tasks.{specs.Paces.IsLawful, proofs.ListFacts.{each_index, zip_all, zip_and, zip_both, zip_each, zip_flip, zip_same}}
 
 same_ring : (a b c : RxIn) (napi : Napi) → b ≡ a → SameIn b c → IsInputOf a napi → IsInputOf c napi
 same_ring a b c napi e s h = let whole : IsInputOf b napi = subst (λ (r : RxIn). IsInputOf r napi) (sym e) h in (whole.0, whole.1, search rules)

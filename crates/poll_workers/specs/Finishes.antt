@@ -3,15 +3,15 @@ use Rattle.std.specs.Prelude.{◌≡◌, ℕ, ◌+◌, ◌≤◌, is_some, lengt
 use Rattle.rx_ring.specs.ReceiveRing.{bytes_of, capped}
 use Rattle.napi_calls.specs.declared.kept.Kept.{Kept}
 use Rattle.napi_calls.specs.declared.types.Napi.{Napi}
-use Rattle.interrupt_workers.specs.declared.acts.Act.{Act}
-use Rattle.interrupt_workers.specs.declared.opening.Loose.{Loose}
-use Rattle.interrupt_workers.specs.declared.job.Worked.{Worked}
-use Rattle.interrupt_workers.specs.declared.worker.Work.{Work}
-use Rattle.interrupt_workers.specs.declared.station.Finished.{Finished}
-use Rattle.interrupt_workers.specs.declared.station.Station.{Station}
-use Rattle.interrupt_workers.specs.Acts.{after_acts, arrivals}
-use Rattle.interrupt_workers.specs.Runs.{HasRun}
-use Rattle.interrupt_workers.specs.Works.{IsWorkOf}
+use Rattle.poll_interrupts.specs.declared.acts.Act.{Act}
+use Rattle.poll_interrupts.specs.declared.opening.Loose.{Loose}
+use Rattle.poll_interrupts.specs.declared.job.Worked.{Worked}
+use Rattle.poll_interrupts.specs.declared.worker.Work.{Work}
+use Rattle.poll_interrupts.specs.declared.station.Finished.{Finished}
+use Rattle.poll_interrupts.specs.declared.station.Station.{Station}
+use Rattle.poll_interrupts.specs.Acts.{after_acts, arrivals}
+use Rattle.poll_interrupts.specs.Runs.{HasRun}
+use Rattle.poll_interrupts.specs.Works.{IsWorkOf}
 
 module _ {D : Type 0} (acts : D → ℕ) (answer : D → ℕ → Act) (after : D → ℕ → D) where
   -- The station's device made its acts, each once and in order. What was put was polled or is left. Where the ring has a

@@ -1,7 +1,7 @@
 -- Stations each of which has a number of its own.
 use Rattle.std.specs.Prelude.{◌==◌, ◌&&◌, not, Bool, true, List, [], ◌∷◌}
 use Rattle.std.specs.List.{list_any}
-use Rattle.interrupt_workers.specs.declared.station.Station.{Station}
+use Rattle.poll_interrupts.specs.declared.station.Station.{Station}
 
 -- the number of each is that of no other
 abbrev pub own_numbers : {D : Type 0} → List (Station D) → Bool

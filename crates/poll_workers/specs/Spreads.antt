@@ -2,13 +2,13 @@
 use Rattle.std.specs.Prelude.{◌≡◌, IsSome, is_some, ◌≤◌}
 use Rattle.napi_calls.specs.declared.kept.Kept.{Kept}
 use Rattle.napi_calls.specs.Instance.{IsSeatOf}
-use Rattle.interrupt_workers.specs.declared.opening.Placed.{Placed}
-use Rattle.interrupt_workers.specs.declared.opening.Loose.{Loose}
-use Rattle.interrupt_workers.specs.declared.job.Job.{Job}
-use Rattle.seat_pollers.specs.declared.seat.Seat.{Seat}
-use Rattle.seat_pollers.specs.declared.thread_poller.ThreadSide.{ThreadSide}
-use Rattle.interrupt_workers.specs.Seats.{AreSeatsOf}
-use Rattle.crew_tasks.specs.Paces.{IsLawful}
+use Rattle.poll_interrupts.specs.declared.opening.Placed.{Placed}
+use Rattle.poll_interrupts.specs.declared.opening.Loose.{Loose}
+use Rattle.poll_interrupts.specs.declared.job.Job.{Job}
+use Rattle.poll_seats.specs.declared.seat.Seat.{Seat}
+use Rattle.poll_seats.specs.declared.thread_poller.ThreadSide.{ThreadSide}
+use Rattle.poll_interrupts.specs.Seats.{AreSeatsOf}
+use Rattle.poll_tasks.specs.Paces.{IsLawful}
 
 module _ {R D G : Type 0} where
   -- the job has the device, its number, its end of the ring and its seats, knows of its thread, and may be done

@@ -4,20 +4,20 @@ ghost use Rattle.std.specs.Prelude.{◌≡◌, ◌≤◌, ◌<◌, ◌+◌, IfOk
 ghost use Rattle.std.specs.List.{All, AllZip};
 ghost use Rattle.poll_workers.specs.Finishes.{IsFinished, IsWorkedOf};
 ghost use Rattle.poll_workers.specs.declared.fault.WorkFault.TheVariants.{SpawnFailed};
-ghost use Rattle.interrupt_workers.specs.Ends.{IsCallerAt, IsDoneAt, IsFinishOf};
-ghost use Rattle.interrupt_workers.specs.Opens.{IsKeptSideOf, IsStation};
-ghost use Rattle.crew_tasks.specs.Paces.{IsLawful};
-ghost use Rattle.crew_tasks.specs.Tasks.{HasRoom};
+ghost use Rattle.poll_interrupts.specs.Ends.{IsCallerAt, IsDoneAt, IsFinishOf};
+ghost use Rattle.poll_interrupts.specs.Opens.{IsKeptSideOf, IsStation};
+ghost use Rattle.poll_tasks.specs.Paces.{IsLawful};
+ghost use Rattle.poll_tasks.specs.Tasks.{HasRoom};
 
 use crate::fault::WorkFault;
 use crate::spreading::{Parts, spread};
-use crew_tasks::{Bell, Gate, Pause, Post, Room, Setting, Task, drive, task_room};
-use interrupt_workers::{
+use napi_calls::{Caller, Kept};
+use poll_interrupts::{
     Device, Finished, Loose, Placed, Station, Worked, are_whole, gather, open_all, shut_all,
 };
-use napi_calls::{Caller, Kept};
-use seat_pollers::{PollTask, unseat};
-use shared_list::{ListIn, SharedList, shared_list};
+use poll_list::{ListIn, SharedList, shared_list};
+use poll_seats::{PollTask, unseat};
+use poll_tasks::{Bell, Gate, Pause, Post, Room, Setting, Task, drive, task_room};
 use std::alloc::{AllocError, Global};
 use std::sync::Wait;
 use std::thread::Threads;

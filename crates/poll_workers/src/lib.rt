@@ -1,4 +1,4 @@
-//! Interrupt workers, pollers and thread pollers, each in a thread of its own, over shared instances.
+//! Behind the door `poll_engine`: interrupt workers, pollers and thread pollers, each in a thread of its own, over shared instances.
 #![tactic(auto)]
 
 mod crew;
@@ -7,7 +7,7 @@ mod numbers;
 mod run;
 mod spreading;
 
-pub use crew_tasks::{Gate, OpenGate, Pace};
 pub use fault::WorkFault;
-pub use interrupt_workers::{Act, ActList, Device, Finished, Station};
+pub use poll_interrupts::{Act, ActList, Device, Finished, Station};
+pub use poll_tasks::{Gate, OpenGate, Pace};
 pub use run::run_workers;

@@ -4,7 +4,7 @@ ghost use Rattle.std.specs.Prelude.{◌≡◌, ◌==◌};
 ghost use Rattle.std.specs.List.{list_any};
 ghost use Rattle.poll_workers.specs.Numbers.{own_numbers};
 
-use interrupt_workers::Station;
+use poll_interrupts::Station;
 
 // Whether one of the stations has the number.
 fn is_among<D: Drop>(number: u32, stations: &[Station<D>]) -> bool

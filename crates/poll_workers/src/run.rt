@@ -3,19 +3,19 @@
 ghost use Rattle.std.specs.Prelude.{◌≡◌, ◌≤◌, ◌<◌, ◌+◌, ◌↔◌, IfErr, IfOk, IsErrOf, Ok, false, vec_items, vec_len, vec_capacity};
 ghost use Rattle.std.specs.List.{All, AllZip};
 ghost use Rattle.std.specs.Thread.{IsSend, IsSync};
-ghost use Rattle.interrupt_workers.specs.Deals.{IsDealt};
+ghost use Rattle.poll_interrupts.specs.Deals.{IsDealt};
 ghost use Rattle.poll_workers.specs.Finishes.{IsFinished};
 ghost use Rattle.poll_workers.specs.declared.fault.WorkFault.TheVariants.{GateShut, OutOfMemory, SameNumber};
 ghost use Rattle.poll_workers.specs.Faults.{IsCrewFault, told};
 ghost use Rattle.poll_workers.specs.Numbers.{own_numbers};
-ghost use Rattle.interrupt_workers.specs.Opens.{IsStation};
-ghost use Rattle.crew_tasks.specs.Paces.{IsLawful};
+ghost use Rattle.poll_interrupts.specs.Opens.{IsStation};
+ghost use Rattle.poll_tasks.specs.Paces.{IsLawful};
 
 use crate::crew::run_crew;
 use crate::fault::WorkFault;
 use crate::numbers::have_own_numbers;
-use crew_tasks::{Gate, Pace, Setting, Signals, Watch};
-use interrupt_workers::{Dealt, Device, Finished, Station, deal, merge};
+use poll_interrupts::{Dealt, Device, Finished, Station, deal, merge};
+use poll_tasks::{Gate, Pace, Setting, Signals, Watch};
 use std::alloc::{AllocError, Global};
 use std::sync::Wait;
 use std::thread::Threads;

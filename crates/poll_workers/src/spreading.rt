@@ -2,16 +2,16 @@
 
 ghost use Rattle.std.specs.Prelude.{◌≡◌, ◌+◌, ◌≤◌, is_some, length, vec_items, vec_len};
 ghost use Rattle.std.specs.List.{AllZip};
-ghost use Rattle.interrupt_workers.specs.Opens.{IsKeptSideOf, IsSideOf};
-ghost use Rattle.crew_tasks.specs.Paces.{IsLawful};
+ghost use Rattle.poll_interrupts.specs.Opens.{IsKeptSideOf, IsSideOf};
+ghost use Rattle.poll_tasks.specs.Paces.{IsLawful};
 ghost use Rattle.poll_workers.specs.Spreads.{IsJobAt, IsJobOf, IsKeptJobOf, IsSeatAt, IsThreadAt};
-ghost use Rattle.crew_tasks.specs.Tasks.{HasRoom};
+ghost use Rattle.poll_tasks.specs.Tasks.{HasRoom};
 
-use crew_tasks::{Bell, Pause, Post, Setting};
-use interrupt_workers::{Desk, Job, Loose, Placed, Work};
 use napi_calls::Kept;
-use seat_pollers::{Own, Seat, ThreadSide};
-use shared_list::ListIn;
+use poll_interrupts::{Desk, Job, Loose, Placed, Work};
+use poll_list::ListIn;
+use poll_seats::{Own, Seat, ThreadSide};
+use poll_tasks::{Bell, Pause, Post, Setting};
 use std::sync::Wait;
 
 /// What goes to the threads of a crew, in the order of its stations. It must be spent.

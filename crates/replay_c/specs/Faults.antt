@@ -1,10 +1,10 @@
 -- The faults of a replay as numbers.
 use Rattle.std.specs.Prelude.{ℕ}
 use Rattle.replay_c.specs.Status.{BAD_TRACE, OUT_OF_MEMORY}
-use Rattle.report_text.specs.declared.fault.ReplayFault.{ReplayFault}
-use Rattle.report_text.specs.declared.fault.ReplayFault.TheVariants.{Trace, Pending, OutputFailed}
-use Rattle.trace_rows.specs.declared.fault.TraceFault.{TraceFault}
-use Rattle.trace_rows.specs.declared.fault.TraceFault.TheVariants.{BadHeader, BadFields, BadNumber, BadEvent, OutOfRange, UnknownDevice, OpenTwice, WrongState, TooManyRows, ReadFailed, OutOfMemory}
+use Rattle.replay_text.specs.declared.fault.ReplayFault.{ReplayFault}
+use Rattle.replay_text.specs.declared.fault.ReplayFault.TheVariants.{Trace, Pending, OutputFailed}
+use Rattle.device_rows.specs.declared.fault.TraceFault.{TraceFault}
+use Rattle.device_rows.specs.declared.fault.TraceFault.TheVariants.{BadHeader, BadFields, BadNumber, BadEvent, OutOfRange, UnknownDevice, OpenTwice, WrongState, TooManyRows, ReadFailed, OutOfMemory}
 
 -- a fault that no trace has is for want of memory
 abbrev pub trace_status : TraceFault → ℕ

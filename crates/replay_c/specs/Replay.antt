@@ -1,10 +1,10 @@
 -- What a replay for C asks for, and what it answers.
 use Rattle.std.specs.Prelude.{◌≡◌, ◌≤◌, ◌⊎◌, ℕ, List, Ok, Err}
 use Rattle.replay_c.specs.Status.{BAD_WEIGHT, BAD_BUDGET}
-use Rattle.report_text.specs.Fault.{number_of}
-use Rattle.report_text.specs.declared.fault.ReplayFault.{ReplayFault}
+use Rattle.replay_text.specs.Fault.{number_of}
+use Rattle.replay_text.specs.declared.fault.ReplayFault.{ReplayFault}
 use Rattle.replay_words.specs.declared.settings.Settings.{Settings}
-use Rattle.trace_replay.specs.Answer.{replay_of}
+use Rattle.replay_rows.specs.Answer.{replay_of}
 use Rattle.replay_c.specs.Faults.{row_of}
 use Rattle.replay_c.specs.declared.replay.FqReplayed.{FqReplayed}
 use Rattle.replay_c.specs.declared.replay.FqSettings.{FqSettings}

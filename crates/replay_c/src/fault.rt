@@ -5,8 +5,8 @@ ghost use Rattle.replay_c.specs.Status.{BAD_TRACE};
 ghost use Rattle.replay_c.specs.Faults.{fault_status, row_of, trace_row};
 
 use crate::status;
-use report_text::ReplayFault;
-use trace_rows::TraceFault;
+use device_rows::TraceFault;
+use replay_text::ReplayFault;
 
 // The status of a fault. A trace in memory is read without fail, so where a reader or a writer fails it is for want of memory.
 pub(crate) fn fault_status(fault: &ReplayFault) -> u32

@@ -1,18 +1,18 @@
 //! A whole replay on one thread, from the caller's bytes into the caller's bytes.
 
 ghost use Rattle.std.specs.Prelude.{◌≡◌, ◌≢◌, ◌<◌, ◌≤◌, ◌⊎◌, ◌↔◌, ℕ, List, Ok, Err, IfOk, IfErr, length, take};
-ghost use Rattle.report_text.specs.Outside.{IsOutside};
-ghost use Rattle.trace_replay.specs.Answer.{replay_of};
+ghost use Rattle.replay_text.specs.Outside.{IsOutside};
+ghost use Rattle.replay_rows.specs.Answer.{replay_of};
 ghost use Rattle.replay_c.specs.Status.{OK, BAD_WEIGHT, NO_ROOM, BAD_BUDGET, BAD_TRACE};
 ghost use Rattle.replay_c.specs.Faults.{fault_status};
 ghost use Rattle.replay_c.specs.Replay.{Asks, HasWeight, HasBudget, IsReport, IsFault, Lacks, Tells};
 
 use crate::fault::{fault_status, row_of};
 use crate::status;
+use replay_rows::replay_serial;
+use replay_text::ReplayFault;
 use replay_words::Settings;
-use report_text::ReplayFault;
 use std::alloc::Global;
-use trace_replay::replay_serial;
 
 /// How a replay polls: `struct fq_settings`.
 #[repr(C)]

@@ -1,6 +1,6 @@
 //! Devices whose memory is refused.
 
-use devices::{ReplayBench, SerialBench};
+use device_bench::{ReplayBench, SerialBench};
 use std::test::Fail;
 
 // Where memory is refused (`rt try --test --fail-alloc 5`, to 8) nothing changed, and the next call attaches the device. One

@@ -2,15 +2,15 @@
 
 ghost use Rattle.std.specs.Prelude.{◌≡◌, ◌≤◌, IfOk, vec_items, vec_len};
 ghost use Rattle.std.specs.List.{All};
-ghost use Rattle.interrupt_workers.specs.Opens.{IsStation};
+ghost use Rattle.poll_interrupts.specs.Opens.{IsStation};
 
-use devices::{ReplayBench, SerialBench};
+use device_bench::{ReplayBench, SerialBench};
+use device_shared::shared_bench;
 use napi_calls::Napi;
-use poll_engine::{PollList, SoftList};
+use poll_list::shared_list;
+use poll_runs::{PollList, SoftList};
 use poll_workers::{ActList, OpenGate, Pace, Station, run_workers};
 use rx_ring::{Packet, ring};
-use shared_list::shared_list;
-use shared_replay::shared_bench;
 use std::alloc::{AllocError, Global};
 use std::sync::Wait;
 use std::test::Fail;

@@ -3,18 +3,17 @@
 use crate::ends::{
     EndlessReader, FailingReader, FailingWriter, ONE_PACKET, ONE_PACKET_REPORT, ONE_PACKET_THREADS,
 };
+use device_rows::{TraceFault, read_trace};
 use poll_workers::OpenGate;
+use replay_rows::replay_serial;
+use replay_text::{ProgramFault, ReplayFault, end_by, fault_line, status};
+use replay_threads::{replay_shared, replay_threads};
 use replay_words::{Mode, Settings};
-use report_text::{ProgramFault, ReplayFault, end_by, fault_line, status};
-use shared_replay::replay_shared;
 use std::alloc::Global;
 use std::io::{Read, Write};
 use std::sync::Wait;
 use std::test::Fail;
 use std::thread::Threads;
-use threads_replay::replay_threads;
-use trace_replay::replay_serial;
-use trace_rows::{TraceFault, read_trace};
 
 const MODES: [(Mode, &str); 3] = [
     (Mode::Serial, ONE_PACKET_REPORT),

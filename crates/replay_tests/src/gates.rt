@@ -2,7 +2,7 @@
 
 ghost use Rattle.std.specs.Prelude.{◌≡◌, ◌≤◌, ◌+◌, IfOk, vec_len};
 ghost use Rattle.std.specs.List.{All};
-ghost use Rattle.interrupt_workers.specs.Opens.{IsStation};
+ghost use Rattle.poll_interrupts.specs.Opens.{IsStation};
 
 use poll_workers::{Act, ActList, Finished, Gate, OpenGate, Pace, Station, WorkFault, run_workers};
 use rx_ring::Packet;

@@ -1,10 +1,10 @@
 //! The poll list to which other threads push.
 
 ghost use Rattle.std.specs.Prelude.{◌≡◌, [], ◌∷◌, IfOk};
-ghost use Rattle.shared_list.specs.SharedList.{IsInOf, IsNewList, in_hand, pushed_by};
+ghost use Rattle.poll_list.specs.SharedList.{IsInOf, IsNewList, in_hand, pushed_by};
 
-use poll_engine::{PollList, SoftList};
-use shared_list::{ListFault, ListIn, SharedList, end_list, shared_list};
+use poll_list::{ListFault, ListIn, SharedList, end_list, shared_list};
+use poll_runs::{PollList, SoftList};
 use std::alloc::Global;
 use std::sync::Wait;
 use std::test::Fail;

@@ -5,15 +5,15 @@ ghost use Rattle.std.specs.Prelude.{◌≤◌};
 use crate::gates::{HoldsPoller, LOOKS};
 use crate::threads::{HEADER, settings_of, text_of};
 use poll_workers::Gate;
+use replay_text::ReplayFault;
+use replay_threads::{Polled, replay_threads};
 use replay_words::Settings;
-use report_text::ReplayFault;
 use std::alloc::{AllocError, Global};
 use std::sync::Wait;
 use std::sync::atomic::{AtomicBool, AtomicU32, Ordering};
 use std::test::Fail;
 use std::thread;
 use std::thread::Threads;
-use threads_replay::{Polled, replay_threads};
 
 /// How often a gate looks while it is to wait a good while for others that do something.
 pub(crate) const LONG: u32 = 100_000;

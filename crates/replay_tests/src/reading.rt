@@ -1,8 +1,8 @@
 //! How the records of a trace may be written, and what a reader makes of bytes that are none.
 
+use device_rows::{Event, Row, Trace, TraceFault, read_trace};
 use std::alloc::Global;
 use std::test::Fail;
-use trace_rows::{Event, Row, Trace, TraceFault, read_trace};
 
 const HEADER: &str = "moment,device,event,value\n";
 

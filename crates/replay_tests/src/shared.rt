@@ -1,13 +1,14 @@
 //! Whole replays over instances that threads could share, beside those on one thread; and the end of a bench.
 
-use devices::ReplayBench;
+use device_bench::ReplayBench;
+use device_shared::shared_bench;
 use napi_model::Kind;
-use poll_engine::{Bench, Next};
+use poll_runs::{Bench, Next};
+use replay_rows::replay_serial;
+use replay_threads::replay_shared;
 use replay_words::Settings;
-use shared_replay::{replay_shared, shared_bench};
 use std::alloc::{AllocError, Global};
 use std::test::Fail;
-use trace_replay::replay_serial;
 
 const HEADER: &str = "moment,device,event,value\n";
 

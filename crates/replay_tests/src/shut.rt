@@ -2,7 +2,7 @@
 
 ghost use Rattle.std.specs.Prelude.{◌≡◌, IfOk, vec_len, ◌≤◌, ◌+◌};
 ghost use Rattle.std.specs.List.{All};
-ghost use Rattle.interrupt_workers.specs.Opens.{IsStation};
+ghost use Rattle.poll_interrupts.specs.Opens.{IsStation};
 
 use crate::gates::ShutAt;
 use crate::pacing::{LONG, comes};
@@ -28,7 +28,7 @@ struct Counting<'a> {
 }
 
 impl Device for Counting<'_> {
-    ghost use Rattle.interrupt_workers.specs.declared.acts.Act.TheVariants.{Nothing};
+    ghost use Rattle.poll_interrupts.specs.declared.acts.Act.TheVariants.{Nothing};
 
     ghost acts = { λ _. 10 };
 

@@ -3,12 +3,12 @@
 use crate::gates::{HoldsPoller, ShutAt, Together};
 use crate::threads::{settings_of, text_of};
 use poll_workers::Gate;
-use report_text::ReplayFault;
+use replay_text::ReplayFault;
+use replay_threads::replay_threads;
 use std::alloc::Global;
 use std::sync::Wait;
 use std::test::Fail;
 use std::thread::Threads;
-use threads_replay::replay_threads;
 
 // Each device's acts are four packets, the disable, the enable, and four packets.
 const ROWS: [(u32, &str); 4] = [

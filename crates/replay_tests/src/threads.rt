@@ -1,13 +1,13 @@
 //! Replays with threads: what is polled, and what a gate that is shut gives.
 
 use poll_workers::{Gate, OpenGate};
+use replay_text::ReplayFault;
+use replay_threads::{Polled, replay_threads};
 use replay_words::Settings;
-use report_text::ReplayFault;
 use std::alloc::{AllocError, Global};
 use std::sync::Wait;
 use std::test::Fail;
 use std::thread::Threads;
-use threads_replay::{Polled, replay_threads};
 
 /// The first record of a trace.
 pub(crate) const HEADER: &str = "moment,device,event,value\n";

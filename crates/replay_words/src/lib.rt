@@ -1,4 +1,4 @@
-//! The words after the program's name: which replay they ask for, and how it polls.
+//! Behind the door `replay`: the words after the program's name, which replay they ask for, and how it polls.
 //!
 //! [`parse_words`] gives the mode and the [`Settings`] that the words name, by clap, and [`parse_serial_words`] the settings
 //! for a program that has serial mode alone; `specs/Words.antt` says what they ask for without clap.

@@ -1,4 +1,4 @@
-use Rattle.{std.proofs.{Common.{rules, arith}, lemmas.Grind.common_steps}, crew_tasks.proofs.Zips.zip_long, poll_workers.proofs.RunFacts.{all_can_poll, all_can_work, all_done_at, all_pollers_at, all_there, all_threads_at, all_worked}}
+use Rattle.{std.proofs.{Common.{rules, arith}, lemmas.Grind.common_steps}, poll_tasks.proofs.Zips.zip_long, poll_workers.proofs.RunFacts.{all_can_poll, all_can_work, all_done_at, all_pollers_at, all_there, all_threads_at, all_worked}}
 use Rattle.poll_workers.proofs.crew.run_threads.Goals as goal
 
 pub drive-driven-requires-clause-workers : goal.drive-driven-requires-clause-workers

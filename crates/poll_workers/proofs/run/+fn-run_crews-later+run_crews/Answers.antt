@@ -1,5 +1,5 @@
 use Rattle.{std.{proofs.{Common.{◌≡◌, ◌+◌, ◌<◌, [], vec_items, rules, arith}, lemmas.{Grind.common_steps, List.nil_from_length, Result.IfOk-at_ok}}, specs.List.AllZip}, poll_workers.specs.Finishes.IsFinished}
-use Rattle.interrupt_workers.{specs.Opens.IsStation, proofs.DealFacts.{all_others, all_picked, merge_zips, parts_length}}
+use Rattle.poll_interrupts.{specs.Opens.IsStation, proofs.DealFacts.{all_others, all_picked, merge_zips, parts_length}}
 use Rattle.poll_workers.proofs.run.+fn-run_crews-later+run_crews.Goals as goal
 
 pub run_crews-requires-clause-stations : goal.run_crews-requires-clause-stations

@@ -1,5 +1,5 @@
-use Rattle.{std.{proofs.{Common.{◌≡◌, ◌∷◌, ◌++◌, [], vec_items, rules, arith, refl}, lemmas.{Grind.common_steps, List.nil_from_length}}, specs.Vec.Iter.into_iter_items}, crew_tasks.proofs.Zips.{zip_push, before_more}}
-use Rattle.crew_tasks.proofs.ListFacts.{none_left, zip_empty}
+use Rattle.{std.{proofs.{Common.{◌≡◌, ◌∷◌, ◌++◌, [], vec_items, rules, arith, refl}, lemmas.{Grind.common_steps, List.nil_from_length}}, specs.Vec.Iter.into_iter_items}, poll_tasks.proofs.Zips.{zip_push, before_more}}
+use Rattle.poll_tasks.proofs.ListFacts.{none_left, zip_empty}
 use Rattle.poll_workers.proofs.spreading.spread.Goals as goal
 
 pub loop-rest-init : goal.loop-rest-init

@@ -1,4 +1,4 @@
-use Rattle.{std.proofs.Common.{◌≡◌, ◌<◌, ℕ, List, Ok, length, sym, ap, subst, arith, ◌∙◌}, trace_replay.specs.Answer.replay_of, replay_c.proofs.Outside.theirs}
+use Rattle.{std.proofs.Common.{◌≡◌, ◌<◌, ℕ, List, Ok, length, sym, ap, subst, arith, ◌∙◌}, replay_rows.specs.Answer.replay_of, replay_c.proofs.Outside.theirs}
 use Rattle.replay_c.proofs.replay.fq_replay.Goals as goal
 
 pub returns-in-Ok-report_of-clause-written : goal.returns-in-Ok-report_of-clause-written

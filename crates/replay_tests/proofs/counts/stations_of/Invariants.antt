@@ -1,4 +1,4 @@
-use Rattle.{std.{proofs.Common.{◌≡◌, vec_items, vec_len}, specs.List.All}, interrupt_workers.specs.Opens.IsStation}
+use Rattle.{std.{proofs.Common.{◌≡◌, vec_items, vec_len}, specs.List.All}, poll_interrupts.specs.Opens.IsStation}
 use Rattle.replay_tests.proofs.counts.stations_of.Given as goal
 
 abbrev pub invariant-loop-index : goal.invariant-loop-index

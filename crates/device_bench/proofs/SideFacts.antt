@@ -1,0 +1,66 @@
+-- Each device has a transmit side: what keeps that.
+use Rattle.std.{proofs.Common.{◌≡◌, ◌∙◌, ℕ, zero, suc, ◌<◌, Option, Some, None, [], ◌∷◌, length, slice_set, ap, refl, sym, arith}, specs.Prelude.is_some}
+use Rattle.{device_transmit.specs.{Transmits.Transmits, Transmit.TransmitView}, device_rows.specs.Places.{Places, added, added_at, at, changed, changed_from}, device_bench.specs.Bench.{Devices, HaveSides, all_settled, attached}}
+
+module _ {A : Type 0} where
+  -- a place is set, and stays taken or empty
+  pub some-set : (xs : Places A) (n m : ℕ) (o : Option A) → is_some o ≡ is_some (at n xs) → is_some (at m (slice_set xs n o)) ≡ is_some (at m xs)
+  some-set (x ∷ xs) zero zero o e = e
+  some-set (x ∷ xs) (suc n) (suc m) o e = some-set xs n m o e
+  some-set xs n m o e = refl
+
+  some-changed : (f : A → A) (xs : Places A) (n m : ℕ) → is_some (at m (changed f n xs)) ≡ is_some (at m xs)
+  some-changed f xs n m = by (at n xs) refl
+    where
+      by : (o : Option A) → at n xs ≡ o → is_some (at m (changed_from f n o xs)) ≡ is_some (at m xs)
+      by None e = refl
+      by (Some a) e = some-set xs n m (Some (f a)) (sym (ap is_some e))
+
+  both-set : {B : Type 0} → (xs : Places A) (ys : Places B) (n m : ℕ) (a : A) (b : B) → length ys ≡ length xs → is_some (at m ys) ≡ is_some (at m xs)
+      → is_some (at m (slice_set ys n (Some b))) ≡ is_some (at m (slice_set xs n (Some a)))
+  both-set [] (y ∷ ys) n m a b long e = absurd (omega (arith, long))
+  both-set (x ∷ xs) [] n m a b long e = absurd (omega (arith, long))
+  both-set (x ∷ xs) (y ∷ ys) zero zero a b long e = refl
+  both-set (x ∷ xs) (y ∷ ys) (suc n) (suc m) a b long e = both-set xs ys n m a b (omega (arith, long)) e
+  both-set xs ys n m a b long e = e
+
+  -- what stood in a place is written back
+  pub set-back : (xs : Places A) (n : ℕ) (o : Option A) → n < length xs → at n xs ≡ o → slice_set xs n o ≡ xs
+  set-back [] n o below e = absurd (omega (arith, below))
+  set-back (x ∷ xs) zero o below e = ap (λ (y : Option A). y ∷ xs) (sym e)
+  set-back (x ∷ xs) (suc n) o below e = ap (λ (l : Places A). x ∷ l) (set-back xs n o (omega (arith, below)) e)
+
+  -- a device is changed in its place, or what stood there is written back
+  pub sides-set : (xs : Places A) (all : Transmits) (n : ℕ) (o : Option A) → is_some o ≡ is_some (at n xs) → HaveSides xs all → HaveSides (slice_set xs n o) all
+  sides-set xs all n o e same m = same m ∙ sym (some-set xs n m o e)
+
+  -- a device with its side is added, unless it is there
+  pub sides-added : (xs : Places A) (all : Transmits) (n : ℕ) (a : A) (t : TransmitView) → length all ≡ length xs → HaveSides xs all → HaveSides (added n a xs) (added n t all)
+  sides-added xs all n a t long same m = by (at n xs) (at n all) (same n)
+    where
+      by : (o : Option A) (p : Option TransmitView) → is_some p ≡ is_some o → is_some (at m (added_at n t p all)) ≡ is_some (at m (added_at n a o xs))
+      by None None e = both-set xs all n m a t long (same m)
+      by (Some d) (Some u) e = same m
+      by None (Some u) e = cc e
+      by (Some d) None e = cc e
+
+  -- so there are as many
+  pub sides-attached : (xs : Places A) (all : Transmits) → length all ≡ length xs → HaveSides xs all → attached xs ≡ attached all
+  sides-attached [] [] long same = refl
+  sides-attached (None ∷ xs) (None ∷ all) long same = sides-attached xs all (omega (arith, long)) (λ n. same (suc n))
+  sides-attached (Some d ∷ xs) (Some t ∷ all) long same = ap suc (sides-attached xs all (omega (arith, long)) (λ n. same (suc n)))
+  sides-attached (None ∷ xs) (Some t ∷ all) long same = cc (same 0)
+  sides-attached (Some d ∷ xs) (None ∷ all) long same = cc (same 0)
+  sides-attached xs all long same = absurd (omega (arith, long))
+
+-- a side is changed
+pub sides-sent : {A : Type 0} → (f : TransmitView → TransmitView) (xs : Places A) (all : Transmits) (n : ℕ) → HaveSides xs all → HaveSides xs (changed f n all)
+sides-sent f xs all n same m = some-changed f all n m ∙ same m
+
+some-settled : (xs : Devices) (m : ℕ) → is_some (at m (all_settled xs)) ≡ is_some (at m xs)
+some-settled (None ∷ xs) zero = refl
+some-settled (x ∷ xs) (suc m) = some-settled xs m
+some-settled xs m = refl
+
+pub sides-settled : (xs : Devices) (all : Transmits) → HaveSides xs all → HaveSides (all_settled xs) all
+sides-settled xs all same m = same m ∙ sym (some-settled xs m)

@@ -1,0 +1,10 @@
+use Rattle.{std.proofs.Common.{◌≡◌, ◌<◌, ℕ, true, false}, device_bench.{specs.Kept.is_pending_at, proofs.BenchFacts.settled_to}, device_rows.specs.Places.at}
+use Rattle.device_bench.proofs.bench.DeviceBenchReplayBench.settle.Given as goal
+
+abbrev pub invariant-loop-device : goal.invariant-loop-device
+invariant-loop-device g l = record {
+  devices : l.self.devices.items ≡ settled_to l.device l.fn.self.devices.items;
+  transmits : l.self.transmits ≡ l.fn.self.transmits;
+  marked : l.self.unsettled ≡ true;
+  pending : l.unsettled ≡ false → (number : ℕ) → number < l.device → is_pending_at (at number l.self.devices.items) ≡ false;
+}

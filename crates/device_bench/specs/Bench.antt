@@ -1,0 +1,115 @@
+-- What the devices of a bench are, and what its calls and polls do to what it shows.
+use Rattle.std.specs.Prelude.{◌≡◌, ℕ, ◌+◌, ◌≤◌, List, [], Option, Some, None, is_some, filter, length, map}
+use Rattle.napi_model.specs.declared.state.Kind.{Kind}
+use Rattle.poll_runs.specs.BusyPolling.{no_report}
+use Rattle.poll_runs.specs.Thread.{last_next}
+use Rattle.poll_runs.specs.declared.bench.BusyReport.{BusyReport}
+use Rattle.poll_runs.specs.declared.bench.Next.TheVariants.{Absent}
+use Rattle.poll_runs.specs.declared.bench.Once.{Once}
+use Rattle.device_bench.specs.BusyPolling.{polled_busily}
+use Rattle.device_bench.specs.Counts.{counts_of}
+use Rattle.device_bench.specs.Device.{after_packet, polled_by_thread, polled_once, settled}
+use Rattle.device_bench.specs.DeviceView.{DeviceView}
+use Rattle.device_rows.specs.Places.{Places, at, changed}
+use Rattle.device_bench.specs.Waiting.{count, is_left_to_list, leaves}
+use Rattle.device_bench.specs.declared.counts.DeviceCounts.{DeviceCounts}
+use Rattle.device_transmit.specs.declared.transmit.TxCounts.{TxCounts}
+use Rattle.device_transmit.specs.Transmits.{Keeps, Transmits}
+
+abbrev pub Devices : Type 0
+Devices = Places DeviceView
+
+-- ---- packets
+
+abbrev pub arrived : ℕ → ℕ → Devices → Devices
+arrived number bytes devices = changed (λ d. (after_packet bytes d).1) number devices
+
+-- to whom a packet has its device handed
+abbrev pub handed_by : ℕ → Option DeviceView → Option Kind
+handed_by bytes None = None
+handed_by bytes (Some d) = (after_packet bytes d).0
+
+-- ---- polls
+
+-- a number that has no device is absent
+abbrev pub once_of : ℕ → Option DeviceView → Once
+once_of weight None = record { work = 0; next = Absent }
+once_of weight (Some d) = (polled_once weight d).0
+
+-- a poll from the list as a function of the devices: the answer, and the devices afterwards
+abbrev pub polled_at : Devices → ℕ → ℕ → Once × Devices
+polled_at devices number weight = (once_of weight (at number devices), changed (λ d. (polled_once weight d).1) number devices)
+
+-- a poll from the list, by what a bench shows: where it is exact, answer and devices afterwards are this function's
+pub record IsPoll {B : Type 0} (Exact : Type 0) (devices : B → Devices) (shows : B → Transmits → Type 0) (waiting : B → ℕ)
+    (before : B) (number weight : ℕ) (once : Once) (after : B) : Type 0 where
+  pub exact : Exact → (once ≡ (polled_at (devices before) number weight).0) × (devices after ≡ (polled_at (devices before) number weight).1)
+  pub transmits : Keeps shows before after
+  pub waits : waiting before ≤ waiting after + leaves once.next
+
+-- that the polls from the list, of a bench that states them so, are these
+abbrev pub ArePolls : {B : Type 0} → Type 0 → (B → Devices) → (B → Transmits → Type 0) → (B → ℕ) → (B → ℕ → ℕ → Once → B → Type 0) → Type 0
+ArePolls {B} Exact devices shows waiting polls =
+    (before after : B) (number weight : ℕ) (once : Once) → polls before number weight once after → IsPoll Exact devices shows waiting before number weight once after
+
+abbrev pub thread_polls_of : ℕ → ℕ → Option DeviceView → List Once
+thread_polls_of weight most None = []
+thread_polls_of weight most (Some d) = (polled_by_thread most weight d).0
+
+-- the same of the polling of a device by its thread
+abbrev pub thread_polled_at : Devices → ℕ → ℕ → ℕ → Devices
+thread_polled_at devices number weight most = changed (λ d. (polled_by_thread most weight d).1) number devices
+
+pub record IsThreadPolls {B : Type 0} (Exact : Type 0) (devices : B → Devices) (shows : B → Transmits → Type 0) (waiting : B → ℕ)
+    (before : B) (number weight most : ℕ) (polls : List Once) (after : B) : Type 0 where
+  pub exact : Exact → (polls ≡ thread_polls_of weight most (at number (devices before))) × (devices after ≡ thread_polled_at (devices before) number weight most)
+  pub transmits : Keeps shows before after
+  pub waits : waiting before + count (is_left_to_list (last_next polls)) ≤ waiting after
+
+abbrev pub AreThreadPolls : {B : Type 0} → Type 0 → (B → Devices) → (B → Transmits → Type 0) → (B → ℕ) → (B → ℕ → ℕ → ℕ → List Once → B → Type 0) → Type 0
+AreThreadPolls {B} Exact devices shows waiting polls =
+    (before after : B) (number weight most : ℕ) (all : List Once) → polls before number weight most all after
+    → IsThreadPolls Exact devices shows waiting before number weight most all after
+
+-- the same of busy polling
+abbrev pub busy_report_of : ℕ → ℕ → Option DeviceView → BusyReport
+busy_report_of weight rounds None = no_report
+busy_report_of weight rounds (Some d) = (polled_busily rounds weight d).0
+
+abbrev pub busily_polled_at : Devices → ℕ → ℕ → ℕ → Devices
+busily_polled_at devices number weight rounds = changed (λ d. (polled_busily rounds weight d).1) number devices
+
+pub record IsBusyPoll {B : Type 0} (Exact : Type 0) (devices : B → Devices) (shows : B → Transmits → Type 0) (waiting : B → ℕ)
+    (before : B) (number weight rounds : ℕ) (report : BusyReport) (after : B) : Type 0 where
+  pub exact : Exact → (report ≡ busy_report_of weight rounds (at number (devices before))) × (devices after ≡ busily_polled_at (devices before) number weight rounds)
+  pub transmits : Keeps shows before after
+  pub waits : waiting before + count (is_left_to_list report.next) ≤ waiting after
+
+abbrev pub AreBusyPolls : {B : Type 0} → Type 0 → (B → Devices) → (B → Transmits → Type 0) → (B → ℕ) → (B → ℕ → ℕ → ℕ → BusyReport → B → Type 0) → Type 0
+AreBusyPolls {B} Exact devices shows waiting polls =
+    (before after : B) (number weight rounds : ℕ) (report : BusyReport) → polls before number weight rounds report after
+    → IsBusyPoll Exact devices shows waiting before number weight rounds report after
+
+-- ---- disabling
+
+abbrev pub settled_at : Option DeviceView → Option DeviceView
+settled_at None = None
+settled_at (Some d) = Some (settled d)
+
+-- each pending disable is tried once, in rising order of the devices
+abbrev pub all_settled : Devices → Devices
+all_settled devices = map settled_at devices
+
+-- ---- the report
+
+-- how many places are taken
+abbrev pub attached : {A : Type 0} → Places A → ℕ
+attached places = length (filter is_some places)
+
+-- each device has a transmit side, and no other number has one
+abbrev pub HaveSides : {A : Type 0} → Places A → Transmits → Type 0
+HaveSides devices all = (number : ℕ) → is_some (at number all) ≡ is_some (at number devices)
+
+abbrev pub counts_at : Option DeviceView → Option TxCounts → Option DeviceCounts
+counts_at None tx = None
+counts_at (Some d) tx = Some (counts_of d tx)

@@ -1,0 +1,17 @@
+-- What the report tells of a device.
+use Rattle.std.specs.Prelude.{Option, length}
+use Rattle.napi_model.specs.Step.{seen_of}
+use Rattle.napi_model.specs.Word.{word_of}
+use Rattle.device_bench.specs.Device.{state_of}
+use Rattle.device_bench.specs.DeviceView.{DeviceView}
+use Rattle.device_bench.specs.declared.counts.DeviceCounts.{DeviceCounts}
+use Rattle.device_transmit.specs.declared.transmit.TxCounts.{TxCounts}
+
+-- what a device counted, what its ring holds, its state word, and its transmit side
+abbrev pub counts_of : DeviceView → Option TxCounts → DeviceCounts
+counts_of d tx = record d.told {
+  state = state_of d;
+  left = length d.packets;
+  word = word_of (seen_of d.napi);
+  tx = tx;
+}

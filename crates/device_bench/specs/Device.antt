@@ -1,0 +1,215 @@
+-- What rows and polls do to a device.
+use Rattle.std.specs.Prelude.{ℕ, zero, suc, ◌==◌, ◌&&◌, not, min, Bool, true, false, List, [], ◌∷◌, ◌++◌, length, take, drop, sum, Option, Some, None, if◌then◌else◌, nat_lt}
+use Rattle.napi_model.specs.Step.{after, complete_reply, event, opening, schedule_reply, take_disable_reply, take_reply}
+use Rattle.napi_model.specs.declared.event.Done.{Done}
+use Rattle.napi_model.specs.declared.event.Done.TheVariants.{Released, Again, Held}
+use Rattle.napi_model.specs.declared.event.Operation.{Operation}
+use Rattle.napi_model.specs.declared.event.Operation.TheVariants as operation
+use Rattle.napi_model.specs.declared.event.Prep.{Prep}
+use Rattle.napi_model.specs.declared.event.Prep.TheVariants.{Granted, Missed, Disabled}
+use Rattle.napi_model.specs.declared.state.Kind.{Kind}
+use Rattle.napi_model.specs.declared.state.Kind.TheVariants as kind
+use Rattle.napi_model.specs.declared.state.Place.{Place}
+use Rattle.napi_model.specs.declared.state.Place.TheVariants.{Control}
+use Rattle.napi_model.specs.declared.state.State.{State}
+use Rattle.poll_runs.specs.Thread.{is_for_thread}
+use Rattle.poll_runs.specs.declared.bench.Next.{Next}
+use Rattle.poll_runs.specs.declared.bench.Next.TheVariants as next
+use Rattle.poll_runs.specs.declared.bench.Once.{Once}
+use Rattle.device_transmit.specs.Counter.{raised}
+use Rattle.device_bench.specs.DeviceView.{DeviceView}
+use Rattle.device_bench.specs.Receive.{is_control, kind_for}
+use Rattle.device_bench.specs.declared.counts.DeviceCounts.{DeviceCounts}
+use Rattle.device_bench.specs.declared.counts.DeviceState.{DeviceState}
+use Rattle.device_bench.specs.declared.counts.TheConstants.DeviceCounts.{OPENED}
+use Rattle.device_bench.specs.declared.counts.DeviceState.TheVariants as state
+use Rattle.device_bench.specs.declared.device.TheConstants.{CONTROLLER, INTERRUPT, POLLER, THREAD}
+
+-- the device after a caller's operation on its instance
+abbrev pub made : ℕ → Operation → DeviceView → DeviceView
+made caller operation d = record d { napi = after d.napi (event caller operation) }
+
+-- an empty ring of that many places, and an instance that is made and enabled, not threaded
+abbrev pub opened : ℕ → DeviceView
+opened capacity = record {
+  napi = after (opening CONTROLLER) (event CONTROLLER (operation.Enable false));
+  threaded = false;
+  packets = [];
+  capacity = capacity;
+  told = OPENED;
+}
+
+-- ---- the hand-over: to the thread where THREADED is set, else to the poll list (`____napi_schedule`)
+
+unfoldable pub handed_over : ℕ → DeviceView → DeviceView
+handed_over caller d = made caller (operation.Hand (kind_for d.napi)) d
+
+-- ---- a packet
+
+-- the interrupt asks for a poll (`napi_schedule_prep`); granted, it hands the instance over
+abbrev pub after_reply : Prep → DeviceView → Option Kind × DeviceView
+after_reply Granted d =
+    let granted = record (made INTERRUPT (operation.Schedule Granted) d) { told = record d.told { granted = raised d.told.granted 1 } } in
+    (Some (kind_for granted.napi), handed_over INTERRUPT granted)
+after_reply Missed d = (None, record (made INTERRUPT (operation.Schedule Missed) d) { told = record d.told { missed = raised d.told.missed 1 } })
+after_reply Disabled d = (None, record (made INTERRUPT (operation.Schedule Disabled) d) { told = record d.told { disabled = raised d.told.disabled 1 } })
+
+unfoldable pub after_request : DeviceView → Option Kind × DeviceView
+after_request d = after_reply (schedule_reply d.napi) d
+
+abbrev pub has_room : DeviceView → Bool
+has_room d = nat_lt (length d.packets) d.capacity
+
+-- A packet is put into the ring, and the interrupt asks for a poll; where there is no room it is dropped. To whom the
+-- instance was handed by that, and the device afterwards.
+unfoldable pub after_packet : ℕ → DeviceView → Option Kind × DeviceView
+after_packet bytes d =
+    let counted = record d { told = record d.told { arrived = raised d.told.arrived 1 } } in
+    if has_room d then after_request (record counted { packets = d.packets ++ bytes ∷ [] })
+    else (None, record counted { told = record counted.told { dropped = raised d.told.dropped 1 } })
+
+-- ---- a poll of an instance that is in its poller's hands
+
+-- a poll gives the ring's next packets, at most the weight
+abbrev pub given : ℕ → DeviceView → ℕ
+given weight d = min weight (length d.packets)
+
+-- the bytes of these packets
+abbrev pub bytes_given : ℕ → DeviceView → ℕ
+bytes_given weight d = sum (take (given weight d) d.packets)
+
+unfoldable pub polled : ℕ → DeviceView → DeviceView
+polled weight d = record d {
+  packets = drop (given weight d) d.packets;
+  told = record d.told {
+    polled = raised d.told.polled (given weight d);
+    bytes = raised d.told.bytes (bytes_given weight d);
+    polls = raised d.told.polls 1;
+  };
+}
+
+-- a completion is counted, by whether a poll was asked for meanwhile
+abbrev pub completed_told : Bool → DeviceCounts → DeviceCounts
+completed_told true t = record t { again = raised t.again 1 }
+completed_told false t = record t { released = raised t.released 1 }
+
+-- a completion (`napi_complete_done`); where a request was missed, the poller owns the instance again and hands it over;
+-- what is busy polled stays in its hands
+abbrev pub after_done : ℕ → Done → DeviceView → Next × DeviceView
+after_done poller Released d = (next.Gone, record (made poller (operation.Complete Released) d) { told = record d.told { released = raised d.told.released 1 } })
+after_done poller Again d =
+    let again = record (made poller (operation.Complete Again) d) { told = record d.told { again = raised d.told.again 1 } } in
+    (next.Again (kind_for again.napi), handed_over poller again)
+after_done poller Held d = (next.Repoll, d)
+
+unfoldable pub completed : ℕ → DeviceView → Next × DeviceView
+completed poller d = after_done poller (complete_reply d.napi) d
+
+-- With work below the weight the driver completes. With work equal to it the core completes an instance that is being
+-- disabled; any other is to be polled again, and is in its poller's hands still.
+abbrev pub asks_again : ℕ → ℕ → DeviceView → Bool
+asks_again work weight d = work == weight && not d.napi.flags.disable
+
+abbrev pub ended_by : Bool → ℕ → DeviceView → Next × DeviceView
+ended_by true poller d = (next.Repoll, d)
+ended_by false poller d = completed poller d
+
+unfoldable pub ended : ℕ → ℕ → ℕ → DeviceView → Next × DeviceView
+ended poller work weight d = ended_by (asks_again work weight d) poller d
+
+-- one poll (`__napi_poll`): what it did, and the device afterwards
+abbrev pub after_poll : ℕ → ℕ → DeviceView → Once × DeviceView
+after_poll poller weight d =
+    let end = ended poller (given weight d) weight (polled weight d) in
+    (record { work = given weight d; next = end.0 }, end.1)
+
+abbrev pub taken : ℕ → Kind → DeviceView → DeviceView
+taken poller kind d = made poller (operation.Take kind true) d
+
+-- an instance that is to be polled again and isn't by whom it was taken goes to the list
+abbrev pub let_go : ℕ → Next → DeviceView → DeviceView
+let_go poller next.Repoll d = made poller (operation.Hand kind.List) d
+let_go poller (next.Again k) d = d
+let_go poller next.Absent d = d
+let_go poller next.Gone d = d
+
+-- ---- a poll from the list
+
+abbrev pub after_take : Bool → ℕ → DeviceView → Once × DeviceView
+after_take false weight d = (record { work = 0; next = next.Absent }, d)
+after_take true weight d =
+    let poll = after_poll POLLER weight (taken POLLER kind.List d) in
+    (poll.0, let_go POLLER poll.0.next poll.1)
+
+-- the instance is taken from the list and polled once, if it is there
+unfoldable pub polled_once : ℕ → DeviceView → Once × DeviceView
+polled_once weight d = after_take (take_reply kind.List d.napi) weight d
+
+-- ---- the thread's polling (`napi_threaded_poll`)
+
+-- one that is to be polled again the thread has still, and one that was handed to it again it takes again
+abbrev pub retaken : Next → DeviceView → DeviceView
+retaken (next.Again k) d = taken THREAD kind.Thread d
+retaken next.Repoll d = d
+retaken next.Absent d = d
+retaken next.Gone d = d
+
+-- it polls an instance once more that is left to it, unless this was the last poll that it may make
+abbrev pub goes_on : Next → Bool → Bool
+goes_on next is_last = is_for_thread next && not is_last
+
+abbrev pub followed : Next → Bool → DeviceView → DeviceView
+followed next is_last d = if goes_on next is_last then retaken next d else let_go THREAD next d
+
+-- the polls of an instance that is in the thread's hands, at most so many, and the device afterwards
+unfoldable pub thread_polls : ℕ → ℕ → DeviceView → List Once × DeviceView
+thread_polls zero weight d = ([], d)
+thread_polls (suc most) weight d =
+    let poll = after_poll THREAD weight d in
+    let after = followed poll.0.next (most == 0) poll.1 in
+    if goes_on poll.0.next (most == 0) then (let more = thread_polls most weight after in (poll.0 ∷ more.0, more.1))
+    else (poll.0 ∷ [], after)
+
+-- the thread takes the instance, if it was handed to it, and polls it
+unfoldable pub polled_by_thread : ℕ → ℕ → DeviceView → List Once × DeviceView
+polled_by_thread most weight d =
+    if take_reply kind.Thread d.napi then thread_polls most weight (taken THREAD kind.Thread d) else ([], d)
+
+-- ---- disabling and enabling (`napi_disable`, `napi_enable`, `dev_set_threaded`)
+
+-- on, being disabled, or off
+abbrev pub state_of : DeviceView → DeviceState
+state_of d = if d.napi.flags.disable then state.Pending else (if is_control d.napi.place then state.Off else state.On)
+
+-- a device that is on is marked for disabling
+abbrev pub disabled_from : DeviceState → DeviceView → DeviceView
+disabled_from state.On d = made CONTROLLER operation.MarkDisable d
+disabled_from state.Off d = d
+disabled_from state.Pending d = d
+
+unfoldable pub after_disable : DeviceView → DeviceView
+after_disable d = disabled_from (state_of d) d
+
+-- one try of a pending disable: where nobody has the instance, the controller takes it, and the mark is cleared
+abbrev pub tried : Bool → DeviceView → DeviceView
+tried false d = made CONTROLLER (operation.TakeDisable false) d
+tried true d = made CONTROLLER operation.Unmark (made CONTROLLER (operation.TakeDisable true) d)
+
+unfoldable pub settled : DeviceView → DeviceView
+settled d = if d.napi.flags.disable then tried (take_disable_reply d.napi) d else d
+
+-- a device that is off is enabled with its threaded setting
+abbrev pub enabled_from : DeviceState → DeviceView → DeviceView
+enabled_from state.Off d = made CONTROLLER (operation.Enable d.threaded) d
+enabled_from state.On d = d
+enabled_from state.Pending d = d
+
+unfoldable pub after_enable : DeviceView → DeviceView
+after_enable d = enabled_from (state_of d) d
+
+abbrev pub is_pending : DeviceView → Bool
+is_pending d = d.napi.flags.disable
+
+-- the threaded setting, and THREADED at once
+unfoldable pub after_threaded : Bool → DeviceView → DeviceView
+after_threaded threaded d = record (made CONTROLLER (operation.SetThreaded threaded) d) { threaded = threaded }

@@ -1,0 +1,22 @@
+-- What a bench of devices shows.
+use Rattle.std.specs.Prelude.{ℕ}
+use Rattle.device_bench.specs.Bench.{Devices, HaveSides}
+use Rattle.device_transmit.specs.Transmits.{Transmits}
+use Rattle.device_transmit.specs.Sides.{ShowsSides}
+use Rattle.device_bench.specs.Waiting.{waiting}
+use Rattle.device_bench.specs.declared.bench.DeviceBench.{DeviceBench}
+use Rattle.device_bench.specs.declared.receive_side.ReceiveSide.{Ghosts}
+
+module _ {S O : Type 0} {g : Ghosts S} where
+  -- the devices that were attached
+  abbrev pub devices_of : DeviceBench S O g → Devices
+  devices_of bench = bench.devices.items
+
+  -- its transmit sides show these, one for each of its devices
+  pub record ShowsTransmits (bench : DeviceBench S O g) (all : Transmits) : Type 0 where
+    pub sides : ShowsSides bench.transmits all
+    pub each : HaveSides (devices_of bench) all
+
+  -- how many of its devices wait on the poll list
+  abbrev pub waiting_of : DeviceBench S O g → ℕ
+  waiting_of bench = waiting (devices_of bench)

@@ -1,0 +1,49 @@
+-- A device, in the sight of one that polls it: what each call of the trait does to it.
+use Rattle.std.specs.Prelude.{◌≡◌, ℕ, Bool, true, false, if◌then◌else◌, Option}
+use Rattle.napi_model.specs.Step.{Polls, take_reply}
+use Rattle.napi_model.specs.declared.event.Operation.TheVariants as operation
+use Rattle.napi_model.specs.declared.state.Kind.{Kind}
+use Rattle.napi_model.specs.declared.state.Kind.TheVariants as kind
+use Rattle.napi_model.specs.declared.state.Place.{Place}
+use Rattle.napi_model.specs.declared.state.Place.TheVariants.{Polling}
+use Rattle.poll_runs.specs.Polling.{next_of}
+use Rattle.device_bench.specs.BusyPolling.{begun, held, is_idle, stopped}
+use Rattle.device_bench.specs.Device.{bytes_given, completed, given, made, polled}
+use Rattle.device_bench.specs.DeviceView.{DeviceView}
+use Rattle.device_bench.specs.Receive.{poller_in, taker_of}
+use Rattle.device_bench.specs.declared.device.TheConstants.{POLLER, THREAD}
+
+abbrev pub poller_of : DeviceView → ℕ
+poller_of d = poller_in d.napi.place
+
+abbrev pub IsPolled : DeviceView → Type 0
+IsPolled d = Polls (poller_of d) false d.napi
+
+-- the poller busy polls it
+abbrev pub IsPolledBusily : DeviceView → Type 0
+IsPolledBusily d = Polls POLLER true d.napi
+
+abbrev pub Takes : DeviceView → Kind → Bool → DeviceView → Type 0
+Takes d k taken e = (taken ≡ take_reply k d.napi) × (e ≡ made (taker_of k) (operation.Take k taken) d)
+
+-- a poll gives so many packets, of so many bytes
+abbrev pub Gives : DeviceView → ℕ → ℕ → ℕ → DeviceView → Type 0
+Gives d weight bytes work e = (work ≡ given weight d) × (e ≡ polled weight d) × (bytes ≡ bytes_given weight d)
+
+abbrev pub Looks : DeviceView → Bool → DeviceView → Type 0
+Looks d disabling e = (disabling ≡ d.napi.flags.disable) × (e ≡ d)
+
+abbrev pub Requeues : DeviceView → DeviceView → Type 0
+Requeues d e = e ≡ made (poller_of d) (operation.Hand kind.List) d
+
+abbrev pub Completes : DeviceView → Option Kind → DeviceView → Type 0
+Completes d again e = (next_of again ≡ (completed (poller_of d) d).0) × (e ≡ (completed (poller_of d) d).1)
+
+abbrev pub BusyTakes : DeviceView → Bool → DeviceView → Type 0
+BusyTakes d taken e = (taken ≡ is_idle d) × (e ≡ (if taken then begun d else d))
+
+abbrev pub Holds : DeviceView → DeviceView → Type 0
+Holds d e = e ≡ held d
+
+abbrev pub Stops : DeviceView → DeviceView → Type 0
+Stops d e = e ≡ stopped d

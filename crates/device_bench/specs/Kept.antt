@@ -1,0 +1,32 @@
+-- What is true of the devices of a bench at all times.
+use Rattle.std.specs.Prelude.{◌≡◌, ◌≤◌, ℕ, Bool, true, false, not, ◌||◌, Option, Some, None, length}
+use Rattle.napi_model.specs.declared.state.Place.{Place}
+use Rattle.napi_model.specs.declared.state.Place.TheVariants.{Nobody}
+use Rattle.device_bench.specs.Device.{is_pending}
+use Rattle.device_bench.specs.DeviceView.{DeviceView}
+use Rattle.device_rows.specs.Places.{Places, at}
+use Rattle.device_bench.specs.Waiting.{waiting}
+
+-- an instance that somebody has, or that was handed over, is scheduled
+abbrev pub is_held : Place → Bool
+is_held Nobody = false
+is_held _ = true
+
+abbrev pub is_sound : DeviceView → Bool
+is_sound d = not (is_held d.napi.place) || d.napi.flags.sched
+
+abbrev pub is_sound_at : Option DeviceView → Bool
+is_sound_at None = true
+is_sound_at (Some d) = is_sound d
+
+abbrev pub is_pending_at : Option DeviceView → Bool
+is_pending_at None = false
+is_pending_at (Some d) = is_pending d
+
+pub record IsKept (unsettled : Bool) (devices : Places DeviceView) : Type 0 where
+  pub places : length devices ≡ 17
+  pub sound : (number : ℕ) → is_sound_at (at number devices) ≡ true
+  -- where no disable is unsettled, none is pending
+  pub settled : unsettled ≡ false → (number : ℕ) → is_pending_at (at number devices) ≡ false
+  -- each waits once at most
+  pub few : waiting devices ≤ 17

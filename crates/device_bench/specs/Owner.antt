@@ -1,0 +1,19 @@
+-- Who owns a device's instance.
+use Rattle.std.specs.Prelude.{◌≡◌, ◌||◌, ◌&&◌, Bool, true, false, not}
+use Rattle.napi_model.specs.declared.state.Place.{Place}
+use Rattle.napi_model.specs.declared.state.Place.TheVariants.{Control, Polling}
+use Rattle.napi_model.specs.declared.state.State.{State}
+use Rattle.device_bench.specs.declared.device.TheConstants.{CONTROLLER}
+
+-- only the controller takes an instance out of use
+abbrev pub IsOursAt : Place → Type 0
+IsOursAt (Control c) = c ≡ CONTROLLER
+IsOursAt _ = Unit {0}
+
+abbrev pub is_polled : Place → Bool
+is_polled (Polling c) = true
+is_polled _ = false
+
+-- an instance that is busy polled is in its poller's hands, and scheduled
+abbrev pub IsOurs : State → Type 0
+IsOurs s = IsOursAt s.place × ((not s.flags.in_busy_poll || (is_polled s.place && s.flags.sched)) ≡ true)

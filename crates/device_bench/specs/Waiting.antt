@@ -1,0 +1,34 @@
+-- The poll list, as the devices see it: how many of them wait on it, and what puts them there.
+use Rattle.std.specs.Prelude.{ℕ, Bool, true, false, Option, Some, None, ◌||◌, if◌then◌else◌, sum_by}
+use Rattle.napi_model.specs.Step.{is_handed}
+use Rattle.napi_model.specs.declared.state.Kind.{Kind}
+use Rattle.napi_model.specs.declared.state.Kind.TheVariants as kind
+use Rattle.poll_runs.specs.Polls.{is_arrival, is_repoll}
+use Rattle.poll_runs.specs.declared.bench.Next.{Next}
+use Rattle.device_bench.specs.DeviceView.{DeviceView}
+use Rattle.device_rows.specs.Places.{Places}
+
+abbrev pub count : Bool → ℕ
+count b = if b then 1 else 0
+
+-- a device waits on the list from its hand-over to the list until it is taken
+abbrev pub waits : Option DeviceView → ℕ
+waits None = 0
+waits (Some d) = count (is_handed kind.List d.napi.place)
+
+unfoldable pub waiting : Places DeviceView → ℕ
+waiting devices = sum_by waits devices
+
+-- whether a hand-over is to the list
+abbrev pub is_listed : Option Kind → Bool
+is_listed None = false
+is_listed (Some kind.List) = true
+is_listed (Some kind.Thread) = false
+
+-- whether a poll that ended so left its device to the list
+abbrev pub is_left_to_list : Next → Bool
+is_left_to_list next = is_arrival next || is_repoll next
+
+-- the entry that a poll took from the list, unless the poll put its device there again
+abbrev pub leaves : Next → ℕ
+leaves next = if is_left_to_list next then 0 else 1

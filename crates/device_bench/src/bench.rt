@@ -1,0 +1,289 @@
+//! The devices of a replay, by their numbers.
+
+ghost use Rattle.std.specs.Prelude.{◌≡◌, None, Some, false, is_some};
+ghost use Rattle.device_bench.specs.Kept.{IsKept};
+
+use crate::counts::DeviceCounts;
+use crate::device::Device;
+use crate::receive_side::{Opener, ReceiveSide};
+use crate::replay_bench::ReplayBench;
+use crate::serial_receive::{SerialOpener, SerialReceive};
+use device_rows::PLACES;
+use device_transmit::{Transmit, TransmitSides};
+use napi_model::Kind;
+use poll_runs::{Bench, BusyReport, Next, Once, ShownBench, ThreadReport};
+use std::alloc::{AllocError, Global};
+use std::mem;
+
+/// The devices, each in the place of its number, over receive sides that the opener opens.
+#[derive(Drop)]
+pub struct DeviceBench<S: ReceiveSide, O> {
+    opener: O,
+    devices: Vec<Option<Device<S>>>,
+    transmits: TransmitSides,
+    // Whether a disable may be pending.
+    unsettled: bool,
+    ghost kept: { IsKept unsettled devices.items },
+}
+
+/// The devices of one thread.
+pub type SerialBench = DeviceBench<SerialReceive, SerialOpener>;
+
+// Puts a value into a place, which is empty.
+fn fill<T>(place: &mut Option<T>, value: T)
+    requires { is_some place.old ≡ false }
+    ensures { place.new ≡ Some value }
+{
+    match mem::replace(place, Some(value)) {
+        None => {}
+        Some(_) => unreachable!(),
+    }
+}
+
+impl DeviceBench<SerialReceive, SerialOpener> {
+    ghost use Rattle.std.specs.Prelude.{IfOk};
+    ghost use Rattle.device_rows.specs.Places.{empty};
+    ghost use Rattle.device_bench.specs.DeviceBench.{ShowsTransmits, devices_of};
+
+    /// A bench without devices. Its places are made here, so that no call but `attach` takes memory.
+    pub fn new(alloc: Global) -> Result<SerialBench, AllocError>
+        ensures devices { IfOk result (λ bench. devices_of bench ≡ empty) }
+        ensures transmits { IfOk result (λ bench. ShowsTransmits bench empty) }
+    {
+        DeviceBench::over(alloc, SerialOpener)
+    }
+}
+
+impl<S: ReceiveSide, O: Opener<S>> DeviceBench<S, O> {
+    ghost use Rattle.std.specs.Prelude.{◌≡◌, ℕ, IfOk, OnErr, OnOk};
+    ghost use Rattle.device_bench.specs.Bench.{attached};
+    ghost use Rattle.device_bench.specs.Device.{opened, settled};
+    ghost use Rattle.device_bench.specs.Kept.{is_pending_at};
+    ghost use Rattle.device_rows.specs.Places.{added, at, changed, empty};
+    ghost use Rattle.device_rows.specs.Range.{IsWithin};
+    ghost use Rattle.device_bench.specs.DeviceBench.{ShowsTransmits, devices_of, waiting_of};
+
+    /// A bench without devices, whose receive sides this opener opens. Its places are made here, so that no call but `attach`
+    /// takes memory.
+    pub fn over(alloc: Global, opener: O) -> Result<DeviceBench<S, O>, AllocError>
+    where
+        O: Drop,
+        ensures devices { IfOk result (λ bench. devices_of bench ≡ empty) }
+        ensures transmits { IfOk result (λ bench. ShowsTransmits bench empty) }
+    {
+        let transmits = TransmitSides::new(alloc)?;
+        let mut devices = Vec::with_capacity(alloc, PLACES as usize)?;
+        for _ in 0..PLACES {
+            devices.push_reserved(None);
+        }
+        Ok(DeviceBench {
+            opener,
+            devices,
+            transmits,
+            unsettled: false,
+        })
+    }
+
+    fn taken_places(&self) -> usize
+        ensures { result ≡ attached (devices_of self.now) }
+    {
+        self.devices.iter().filter(|place| place.is_some()).count()
+    }
+
+    // Makes a device in its place, unless one is there.
+    fn keep(&mut self, alloc: Global, device: u32, capacity: u32) -> Result<(), AllocError>
+        requires device { IsWithin 1 16 device }
+        requires capacity { IsWithin 1 65536 capacity }
+        ensures devices { OnOk result
+            (devices_of self.new ≡ added device (opened capacity) (devices_of self.old)) }
+        ensures transmits { self.new.transmits ≡ self.old.transmits }
+        ensures waiting { waiting_of self.new ≡ waiting_of self.old }
+        ensures refused { OnErr result (self.new ≡ self.old) }
+    {
+        if self.devices[device as usize].is_some() {
+            return Ok(());
+        }
+        let opened = Device::new(self.opener.open(alloc, capacity)?);
+        fill(&mut self.devices[device as usize], opened);
+        Ok(())
+    }
+
+    // Tries a disable of this device that is pending once. The answer is whether it still is.
+    fn settle_one(&mut self, device: u32) -> bool
+        ensures devices { devices_of self.new ≡ changed settled device (devices_of self.old) }
+        ensures transmits { self.new.transmits ≡ self.old.transmits }
+        ensures unsettled { self.new.unsettled ≡ self.old.unsettled }
+        ensures pending { result ≡ is_pending_at (at device (devices_of self.new)) }
+    {
+        if device < PLACES {
+            if let Some(device) = &mut self.devices[device as usize] {
+                return device.settle();
+            }
+        }
+        false
+    }
+}
+
+impl<S: ReceiveSide, O: Opener<S>> Bench for DeviceBench<S, O> {
+    ghost use Rattle.std.specs.Prelude.{⊤};
+    ghost use Rattle.device_bench.specs.Bench.{IsBusyPoll, IsPoll, IsThreadPolls};
+    ghost use Rattle.device_bench.specs.DeviceBench.{ShowsTransmits, devices_of, waiting_of};
+
+    ghost polls = { IsPoll ⊤ devices_of ShowsTransmits waiting_of };
+
+    ghost thread_polls = { IsThreadPolls ⊤ devices_of ShowsTransmits waiting_of };
+
+    ghost busy_polls = { IsBusyPoll ⊤ devices_of ShowsTransmits waiting_of };
+
+    fn poll_once(&mut self, id: u32, weight: u32) -> Once {
+        if id < PLACES {
+            if let Some(device) = &mut self.devices[id as usize] {
+                return device.poll_once(weight);
+            }
+        }
+        Once {
+            work: 0,
+            next: Next::Absent,
+        }
+    }
+
+    fn poll_thread(&mut self, id: u32, weight: u32, most: u32) -> ThreadReport {
+        if id < PLACES {
+            if let Some(device) = &mut self.devices[id as usize] {
+                return device.poll_thread(weight, most);
+            }
+        }
+        ThreadReport {
+            polls: 0,
+            work: 0,
+            next: Next::Absent,
+        }
+    }
+
+    fn busy_poll(&mut self, id: u32, weight: u32, rounds: u32) -> BusyReport {
+        if id < PLACES {
+            if let Some(device) = &mut self.devices[id as usize] {
+                return device.busy_poll(weight, rounds);
+            }
+        }
+        BusyReport::NONE
+    }
+}
+
+impl<S: ReceiveSide, O: Opener<S>> ReplayBench for DeviceBench<S, O> {
+    ghost use Rattle.std.specs.Prelude.{⊤};
+    ghost use Rattle.device_bench.specs.DeviceBench.{ShowsTransmits, devices_of, waiting_of};
+
+    ghost Exact = { ⊤ };
+
+    ghost devices = { devices_of };
+
+    ghost shows = { ShowsTransmits };
+
+    ghost waiting = { waiting_of };
+
+    fn arrive(&mut self, device: u32, bytes: u32) -> Option<Kind> {
+        if device < PLACES {
+            if let Some(device) = &mut self.devices[device as usize] {
+                return device.arrive(bytes);
+            }
+        }
+        None
+    }
+
+    fn attach(
+        &mut self,
+        alloc: Global,
+        device: u32,
+        capacity: u32,
+        moment: u64,
+    ) -> Result<(), AllocError> {
+        let transmit = Transmit::open(alloc, capacity, moment)?;
+        self.keep(alloc, device, capacity)?;
+        self.transmits.attach(device, transmit);
+        Ok(())
+    }
+
+    fn send(&mut self, device: u32, bytes: u32) {
+        self.transmits.send(device, bytes);
+    }
+
+    fn done(&mut self, device: u32, count: u32, moment: u64) {
+        self.transmits.finish(device, count, moment);
+    }
+
+    fn disable(&mut self, device: u32) {
+        if device < PLACES {
+            if let Some(device) = &mut self.devices[device as usize] {
+                self.unsettled = true;
+                device.disable();
+            }
+        }
+    }
+
+    fn enable(&mut self, device: u32) -> bool {
+        if device < PLACES {
+            if let Some(device) = &mut self.devices[device as usize] {
+                let pending = device.is_pending();
+                device.enable();
+                return !pending;
+            }
+        }
+        true
+    }
+
+    fn set_threaded(&mut self, device: u32, threaded: bool) {
+        if device < PLACES {
+            if let Some(device) = &mut self.devices[device as usize] {
+                device.set_threaded(threaded);
+            }
+        }
+    }
+
+    fn settle(&mut self) {
+        if !self.unsettled {
+            return;
+        }
+        let mut unsettled = false;
+        for device in 0..PLACES {
+            if self.settle_one(device) {
+                unsettled = true;
+            }
+        }
+        self.unsettled = unsettled;
+    }
+
+    fn attached(&self) -> usize {
+        self.taken_places()
+    }
+
+    fn counts(&self, device: u32) -> Option<DeviceCounts> {
+        if device >= PLACES {
+            return None;
+        }
+        let transmit = self.transmits.counts(device);
+        match &self.devices[device as usize] {
+            Some(device) => Some(device.counts(transmit)),
+            None => None,
+        }
+    }
+
+    ghost polled = { λ before after number weight once is. is };
+
+    ghost thread_polled = { λ before after number weight most polls are. are };
+
+    ghost busily_polled = { λ before after number weight rounds report is. is };
+
+    ghost few = { λ bench. bench.kept.few };
+}
+
+impl<S: ReceiveSide, O: Opener<S>> ShownBench for DeviceBench<S, O> {
+    ghost use Rattle.device_bench.specs.Bench.{Devices, polled_at};
+    ghost use Rattle.device_bench.specs.DeviceBench.{devices_of};
+
+    ghost Shown = { Devices };
+
+    ghost shown = { devices_of };
+
+    ghost poll = { polled_at };
+}

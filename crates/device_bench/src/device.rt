@@ -1,0 +1,332 @@
+//! One device: its receive side, and what was counted.
+
+ghost use Rattle.std.specs.Prelude.{◌≡◌, ◌≤◌, ◌<◌, ◌^◌, true};
+ghost use Rattle.device_bench.specs.BusyPolling.{polled_busily};
+ghost use Rattle.device_bench.specs.Device.{after_disable, after_enable, after_packet, after_request, after_threaded, bytes_given, completed_told, given, is_pending, opened, polled, polled_by_thread, polled_once, settled, state_of};
+ghost use Rattle.device_bench.specs.Counts.{counts_of};
+ghost use Rattle.device_bench.specs.Receive.{is_polling, opened_side};
+ghost use Rattle.device_rows.specs.Range.{IsWithin};
+ghost use Rattle.poll_runs.specs.Thread.{IsThreadPolling};
+
+use crate::counts::{DeviceCounts, DeviceState};
+use crate::receive_side::ReceiveSide;
+use device_transmit::TxCounts;
+use napi_model::{Kind, Prep, encode};
+use poll_runs::{
+    BusyInstance, BusyReport, Instance, Once, ThreadReport, poll_busy_of, poll_once_of,
+    poll_thread_of,
+};
+use std::marker::Model;
+
+/// The caller that the interrupt of a device is.
+pub(crate) const INTERRUPT: u32 = 0;
+
+/// The caller that polls the list.
+pub(crate) const POLLER: u32 = 1;
+
+/// The caller that the thread of a device is.
+pub(crate) const THREAD: u32 = 2;
+
+/// The caller that makes, disables and enables an instance.
+pub(crate) const CONTROLLER: u32 = 3;
+
+/// A device's receive side, its threaded setting, and its counts.
+#[derive(Drop)]
+pub(crate) struct Device<S: ReceiveSide> {
+    pub(crate) side: S,
+    threaded: bool,
+    // What was counted; the other values are found when they are asked for.
+    told: DeviceCounts,
+}
+
+impl<S: ReceiveSide> Model for Device<S> {
+    ghost use Rattle.device_bench.specs.DeviceView.{DeviceView};
+
+    ghost Value = { DeviceView };
+
+    ghost view = { λ d. record {
+      napi = (S.side d.side).napi;
+      threaded = d.threaded;
+      packets = (S.side d.side).packets;
+      capacity = (S.side d.side).capacity;
+      told = d.told;
+    } };
+}
+
+impl<S: ReceiveSide> Device<S> {
+    ghost use Rattle.std.specs.Prelude.{ℕ};
+
+    /// A device over a receive side as it is opened.
+    pub(crate) fn new(side: S) -> Device<S>
+        ensures { (capacity : ℕ) → S.side side ≡ opened_side capacity → result ≡ opened capacity }
+    {
+        Device {
+            side,
+            threaded: false,
+            told: DeviceCounts::OPENED,
+        }
+    }
+
+    /// What the report tells of the device, with that of its transmit side.
+    pub(crate) fn counts(&self, tx: Option<TxCounts>) -> DeviceCounts
+        ensures { result ≡ counts_of self.now tx }
+    {
+        DeviceCounts {
+            state: self.state(),
+            left: self.side.left() as u64,
+            word: encode(self.side.seen()),
+            tx,
+            ..self.told
+        }
+    }
+
+    // The interrupt asks for a poll; granted, it hands the instance over, and answers to whom.
+    #[tactic(auto, unfolding(crate::specs::Device::after_request))]
+    fn request(&mut self) -> Option<Kind>
+        ensures device { self.new ≡ (after_request self.old).1 }
+        ensures kind { result ≡ (after_request self.old).0 }
+    {
+        let (reply, kind) = self.side.request();
+        match reply {
+            Prep::Granted => self.told.granted = self.told.granted.saturating_add(1),
+            Prep::Missed => self.told.missed = self.told.missed.saturating_add(1),
+            Prep::Disabled => self.told.disabled = self.told.disabled.saturating_add(1),
+        }
+        kind
+    }
+
+    /// A packet of that many bytes arrives. A full ring drops it; else the interrupt asks for a poll. The answer is to
+    /// whom the instance was handed by that.
+    #[tactic(auto, unfolding(crate::specs::Device::after_packet))]
+    pub(crate) fn arrive(&mut self, bytes: u32) -> Option<Kind>
+        ensures device { self.new ≡ (after_packet bytes self.old).1 }
+        ensures kind { result ≡ (after_packet bytes self.old).0 }
+    {
+        self.told.arrived = self.told.arrived.saturating_add(1);
+        if !self.side.put(bytes) {
+            self.told.dropped = self.told.dropped.saturating_add(1);
+            return None;
+        }
+        self.request()
+    }
+}
+
+impl<S: ReceiveSide> Device<S> {
+    /// Whether the device is on, off, or being disabled.
+    pub(crate) fn state(&self) -> DeviceState
+        ensures { result ≡ state_of self.now }
+    {
+        if self.is_pending() {
+            DeviceState::Pending
+        } else if self.side.is_off() {
+            DeviceState::Off
+        } else {
+            DeviceState::On
+        }
+    }
+
+    /// Whether a disable is pending.
+    pub(crate) fn is_pending(&self) -> bool
+        ensures { result ≡ is_pending self.now }
+    {
+        self.side.seen().flags.disable
+    }
+
+    /// Marks a device that is on for disabling; any other stays as it is.
+    #[tactic(auto, unfolding(crate::specs::Device::after_disable))]
+    pub(crate) fn disable(&mut self)
+        ensures { self.new ≡ after_disable self.old }
+    {
+        if self.state() == DeviceState::On {
+            self.side.mark();
+        }
+    }
+
+    /// Tries a disable that is pending once. The answer is whether it still is.
+    #[tactic(auto, unfolding(crate::specs::Device::settled))]
+    pub(crate) fn settle(&mut self) -> bool
+        ensures device { self.new ≡ settled self.old }
+        ensures pending { result ≡ is_pending self.new }
+    {
+        self.is_pending() && !self.side.try_take()
+    }
+
+    /// Enables a device that is off with its threaded setting; any other stays as it is.
+    #[tactic(auto, unfolding(crate::specs::Device::after_enable))]
+    pub(crate) fn enable(&mut self)
+        ensures { self.new ≡ after_enable self.old }
+    {
+        if self.state() == DeviceState::Off {
+            self.side.enable(self.threaded);
+        }
+    }
+
+    /// Sets the device's threaded setting, and THREADED at once.
+    #[tactic(auto, unfolding(crate::specs::Device::after_threaded))]
+    pub(crate) fn set_threaded(&mut self, threaded: bool)
+        ensures { self.new ≡ after_threaded threaded self.old }
+    {
+        self.threaded = threaded;
+        self.side.set_threaded(threaded);
+    }
+}
+
+impl<S: ReceiveSide> Device<S> {
+    // Gives the next packets, at most the weight, and answers how many.
+    #[tactic(auto, unfolding(crate::specs::Device::polled))]
+    fn receive(&mut self, weight: u32, load: &mut Load) -> u32
+        requires weight { IsWithin 1 64 weight }
+        requires polled { is_polling self.old.napi.place ≡ true }
+        ensures device { self.new ≡ polled weight self.old }
+        ensures work { result ≡ given weight self.old }
+        ensures bytes { load.new ≡ bytes_given weight self.old }
+    {
+        let (count, bytes) = self.side.receive(weight);
+        load.bytes = bytes;
+        self.told.polled = self.told.polled.saturating_add(u64::from(count));
+        self.told.bytes = self.told.bytes.saturating_add(bytes);
+        self.told.polls = self.told.polls.saturating_add(1);
+        count
+    }
+
+    /// One poll from the list. An instance that is to be polled again is handed to the list.
+    pub(crate) fn poll_once(&mut self, weight: u32) -> Once
+        requires { IsWithin 1 64 weight }
+        ensures device { self.new ≡ (polled_once weight self.old).1 }
+        ensures once { result ≡ (polled_once weight self.old).0 }
+        ensures bound { result.work ≤ weight }
+    {
+        poll_once_of(self, weight, &mut Load::NONE)
+    }
+
+    /// The thread takes the instance, if it was handed to it, and polls it at most so many times.
+    pub(crate) fn poll_thread(&mut self, weight: u32, most: u32) -> ThreadReport
+        requires weight { IsWithin 1 64 weight }
+        requires most { IsWithin 1 131072 most }
+        ensures device { self.new ≡ (polled_by_thread most weight self.old).1 }
+        ensures report { IsThreadPolling weight most
+            (polled_by_thread most weight self.old).0 result }
+    {
+        poll_thread_of(self, weight, most, &mut Load::NONE)
+    }
+
+    /// The poller takes an instance that is idle, polls it for so many rounds, stops and polls once more.
+    pub(crate) fn busy_poll(&mut self, weight: u32, rounds: u32) -> BusyReport
+        requires weight { IsWithin 1 64 weight }
+        requires rounds { IsWithin 1 65535 rounds }
+        ensures device { self.new ≡ (polled_busily rounds weight self.old).1 }
+        ensures report { result ≡ (polled_busily rounds weight self.old).0 }
+    {
+        poll_busy_of(self, rounds, weight, &mut Load::NONE)
+    }
+}
+
+impl<S: ReceiveSide> Instance for Device<S> {
+    ghost use Rattle.device_bench.specs.Instance.{Completes, Gives, IsPolled, Looks, Requeues, Takes};
+
+    type Packets = Load;
+
+    ghost rests = { λ d. Unit };
+
+    ghost in_hand = { IsPolled };
+
+    ghost takes = { Takes };
+
+    ghost gives = { λ d weight load work e. Gives d weight load work e };
+
+    ghost looks = { Looks };
+
+    ghost requeues = { Requeues };
+
+    ghost completes = { Completes };
+
+    fn take(&mut self, kind: Kind) -> bool {
+        self.side.take(kind)
+    }
+
+    #[tactic(auto, unfolding(crate::specs::Device::polled))]
+    fn poll(&mut self, weight: u32, load: &mut Load) -> u32 {
+        self.receive(weight, load)
+    }
+
+    fn is_disabling(&mut self) -> bool {
+        self.is_pending()
+    }
+
+    fn requeue(&mut self) {
+        self.side.requeue();
+    }
+
+    fn complete(&mut self) -> Option<Kind> {
+        let again = self.side.complete();
+        count_completion(&mut self.told, again.is_some());
+        again
+    }
+}
+
+impl<S: ReceiveSide> BusyInstance for Device<S> {
+    ghost use Rattle.device_bench.specs.Instance.{BusyTakes, Holds, IsPolledBusily, Stops};
+
+    ghost in_busy = { IsPolledBusily };
+
+    ghost busy_takes = { BusyTakes };
+
+    ghost holds = { Holds };
+
+    ghost stops = { Stops };
+
+    ghost bytes_in = { λ load. load };
+
+    fn busy_take(&mut self) -> bool {
+        self.side.busy_take()
+    }
+
+    #[tactic(auto, unfolding(crate::specs::Device::polled))]
+    fn busy_poll(&mut self, weight: u32, load: &mut Load) -> u32 {
+        self.receive(weight, load)
+    }
+
+    fn hold(&mut self) {
+        self.side.hold();
+        self.told.held = self.told.held.saturating_add(1);
+    }
+
+    fn stop(&mut self) {
+        self.side.stop();
+    }
+
+    fn bytes_of(load: &Load) -> u64 {
+        load.bytes
+    }
+}
+
+// Counts a completion.
+fn count_completion(told: &mut DeviceCounts, again: bool)
+    ensures { told.new ≡ completed_told again told.old }
+{
+    if again {
+        told.again = told.again.saturating_add(1);
+    } else {
+        told.released = told.released.saturating_add(1);
+    }
+}
+
+/// The bytes of the packets that a poll gave: at most 64, each of 32 bits of bytes.
+#[derive(Drop)]
+pub(crate) struct Load {
+    bytes: u64,
+}
+
+impl Model for Load {
+    ghost use Rattle.std.specs.Prelude.{ℕ, ◌<◌, ◌^◌};
+
+    ghost Value = { ℕ };
+
+    ghost view = { λ load. load.bytes };
+
+    ghost invariant = { λ load. load.bytes < 2 ^ 38 };
+}
+
+impl Load {
+    const NONE: Load = Load { bytes: 0 };
+}

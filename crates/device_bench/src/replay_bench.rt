@@ -1,0 +1,131 @@
+//! What the rows of a trace play on.
+
+ghost use Rattle.std.specs.Prelude.{◌≡◌, ◌≤◌, ◌+◌, ℕ, is_some, not, IfSome, OnErr, OnOk};
+ghost use Rattle.device_bench.specs.Bench.{AreBusyPolls, ArePolls, AreThreadPolls, Devices, all_settled, arrived, attached, counts_at, handed_by};
+ghost use Rattle.device_transmit.specs.Transmits.{Changes, Keeps, Transmits, tx_counts_of};
+ghost use Rattle.device_bench.specs.Device.{after_disable, after_enable, after_threaded, opened};
+ghost use Rattle.device_bench.specs.Kept.{is_pending_at};
+ghost use Rattle.device_rows.specs.Places.{added, at, changed};
+ghost use Rattle.device_rows.specs.Range.{IsWithin};
+ghost use Rattle.device_transmit.specs.Transmit.{after_finish, after_tx, opened_transmit};
+ghost use Rattle.device_bench.specs.Waiting.{count, is_listed};
+
+use crate::counts::DeviceCounts;
+use napi_model::Kind;
+use poll_runs::Bench;
+use std::alloc::{AllocError, Global};
+
+/// At most sixteen devices by their numbers, on which the rows of a trace play. A call on a number that has no device
+/// changes nothing.
+///
+/// A bench states by ghost members what it shows of itself, and whether it is exact: that each call makes of its devices
+/// exactly what the rules make of them. The transmit sides are exact in every bench.
+pub trait ReplayBench: Bench {
+    /// That the bench is exact. One that isn't states what nothing meets.
+    ghost Exact: { Type 0 };
+
+    /// The devices, by their numbers.
+    ghost devices: { Self → Devices };
+
+    /// `shows bench all`: the bench's transmit sides are these.
+    ghost shows: { Self → Transmits → Type 0 };
+
+    /// How many devices wait on the poll list: so many entries it has at most.
+    ghost waiting: { Self → ℕ };
+
+    /// A packet of that many bytes arrives at a device. The answer is to whom its instance was handed by that; handed to
+    /// the list, its number is still to be pushed (`napi_schedule`).
+    fn arrive(&mut self, device: u32, bytes: u32) -> Option<Kind>
+        ensures devices { Exact → devices self.new ≡ arrived device bytes (devices self.old) }
+        ensures transmits { Keeps shows self.old self.new }
+        ensures kind { Exact → result ≡ handed_by bytes (at device (devices self.old)) }
+        ensures waiting { waiting self.old + count (is_listed result) ≤ waiting self.new };
+
+    /// Makes a device with a receive ring and a transmit ring of that many places, both empty, a queue limit that starts at
+    /// that moment, and an instance that is enabled, not threaded. A device that is there stays as it is. Where memory is
+    /// refused the bench stays as it is.
+    fn attach(
+        &mut self,
+        alloc: Global,
+        device: u32,
+        capacity: u32,
+        moment: u64,
+    ) -> Result<(), AllocError>
+        requires device { IsWithin 1 16 device }
+        requires capacity { IsWithin 1 65536 capacity }
+        ensures devices { Exact → OnOk result
+            (devices self.new ≡ added device (opened capacity) (devices self.old)) }
+        ensures transmits { OnOk result
+            (Changes shows (added device (opened_transmit capacity moment)) self.old self.new) }
+        ensures waiting { waiting self.old ≤ waiting self.new }
+        ensures refused { OnErr result (self.new ≡ self.old) };
+
+    /// A packet of that many bytes is sent, or held back and counted (`netdev_tx_sent_queue`).
+    fn send(&mut self, device: u32, bytes: u32)
+        ensures devices { Exact → devices self.new ≡ devices self.old }
+        ensures transmits { Changes shows (changed (after_tx bytes) device) self.old self.new }
+        ensures waiting { waiting self.new ≡ waiting self.old };
+
+    /// That many packets are complete, or too many and counted (`netdev_tx_completed_queue`).
+    fn done(&mut self, device: u32, count: u32, moment: u64)
+        ensures devices { Exact → devices self.new ≡ devices self.old }
+        ensures transmits { Changes shows
+            (changed (after_finish count moment) device) self.old self.new }
+        ensures waiting { waiting self.new ≡ waiting self.old };
+
+    /// Marks a device that is on for disabling; `settle` tries it (`napi_disable`).
+    fn disable(&mut self, device: u32)
+        ensures devices { Exact → devices self.new
+            ≡ changed after_disable device (devices self.old) }
+        ensures transmits { Keeps shows self.old self.new }
+        ensures waiting { waiting self.new ≡ waiting self.old };
+
+    /// Enables a device that is off with its threaded setting (`napi_enable`). The answer is false where its disable is
+    /// pending still.
+    fn enable(&mut self, device: u32) -> bool
+        ensures devices { Exact → devices self.new
+            ≡ changed after_enable device (devices self.old) }
+        ensures transmits { Keeps shows self.old self.new }
+        ensures answer { Exact → result ≡ not (is_pending_at (at device (devices self.old))) }
+        ensures waiting { waiting self.new ≡ waiting self.old };
+
+    /// Sets the threaded setting of a device, and THREADED at once (`dev_set_threaded`).
+    fn set_threaded(&mut self, device: u32, threaded: bool)
+        ensures devices { Exact → devices self.new
+            ≡ changed (after_threaded threaded) device (devices self.old) }
+        ensures transmits { Keeps shows self.old self.new }
+        ensures waiting { waiting self.new ≡ waiting self.old };
+
+    /// Tries each disable that is pending once, in rising order of the devices (the loop of `napi_disable`).
+    fn settle(&mut self)
+        ensures devices { Exact → devices self.new ≡ all_settled (devices self.old) }
+        ensures transmits { Keeps shows self.old self.new }
+        ensures waiting { waiting self.new ≡ waiting self.old };
+
+    /// How many devices there are.
+    fn attached(&self) -> usize
+        ensures devices { Exact → result ≡ attached (devices self.now) }
+        ensures transmits { (all : Transmits) → shows self.now all → result ≡ attached all };
+
+    /// What the report tells of a device, or `None` where there is no such device. Each device has its transmit side from
+    /// `attach` on.
+    fn counts(&self, device: u32) -> Option<DeviceCounts>
+        ensures devices { Exact → (all : Transmits) → shows self.now all
+            → result ≡ counts_at (at device (devices self.now)) (tx_counts_of (at device all)) }
+        ensures attached { (all : Transmits) → shows self.now all
+            → is_some result ≡ is_some (at device all) }
+        ensures transmits { (all : Transmits) → shows self.now all
+            → IfSome result (λ counts. counts.tx ≡ tx_counts_of (at device all)) };
+
+    /// What a poll from the list is.
+    ghost polled: { ArePolls Exact devices shows waiting Self.polls };
+
+    /// What the polling of a device by its thread is.
+    ghost thread_polled: { AreThreadPolls Exact devices shows waiting Self.thread_polls };
+
+    /// What busy polling of a device is.
+    ghost busily_polled: { AreBusyPolls Exact devices shows waiting Self.busy_polls };
+
+    /// Each number waits once at most.
+    ghost few: { (bench : Self) → waiting bench ≤ 17 };
+}

@@ -1,0 +1,97 @@
+-- What the fields of one record say by themselves: a row, or one of the faults 2 to 5. See docs/FORMATS.md, "The trace".
+use Rattle.std.specs.Prelude.{ℕ, ◌^◌, ◌==◌, ◌&&◌, Bool, false, List, length, Option, Some, None, option_and_then, if◌then◌else◌, nat_le, nat_lt, codes, Result, Ok, Err}
+use Rattle.std.specs.Str.{all_ascii_digits, bytes_eq}
+use Rattle.std.specs.Str.Parse.{digits_value}
+use Rattle.csv.specs.Records.{field_at}
+use Rattle.device_rows.specs.Row.{device_fits, value_fits}
+use Rattle.device_rows.specs.declared.event.Event.{Event}
+use Rattle.device_rows.specs.declared.event.Event.TheVariants.{Opened, Rx, Tx, Finish, Softirq, Kthread, Disable, Enable, Threaded, Busy}
+use Rattle.device_rows.specs.declared.fault.TraceFault.{TraceFault}
+use Rattle.device_rows.specs.declared.fault.TraceFault.TheVariants.{BadFields, BadNumber, BadEvent, OutOfRange}
+use Rattle.device_rows.specs.declared.row.Row.{Row}
+
+-- a chain of steps that ends where one gives nothing
+infixl 10 ◌>>=◌
+abbrev ◌>>=◌ : {A B : Type 0} → Option A → (A → Option B) → Option B
+found >>= next = option_and_then next found
+
+-- the four fields of a record that has four
+abbrev pub Four : Type 0
+Four = List ℕ × List ℕ × List ℕ × List ℕ
+
+abbrev pub first_four : List (List ℕ) → Option Four
+first_four fields = do
+  moment ← field_at fields 0
+  device ← field_at fields 1
+  event ← field_at fields 2
+  value ← field_at fields 3
+  Some (moment, device, event, value)
+
+unfoldable pub four_of : List (List ℕ) → Option Four
+four_of fields = if length fields == 4 then first_four fields else None
+
+-- one to twenty ASCII digits, and the number that they write
+abbrev pub is_numeral : List ℕ → Bool
+is_numeral field = nat_le 1 (length field) && (nat_le (length field) 20 && all_ascii_digits field)
+
+abbrev pub numeral : List ℕ → ℕ
+numeral field = digits_value 10 field
+
+-- the event of a word, in a trace of this version: only in version 2 there is busy polling
+unfoldable pub event_of : ℕ → List ℕ → Option Event
+event_of version word =
+    if bytes_eq word (codes "open") then Some Opened
+    else if bytes_eq word (codes "rx") then Some Rx
+    else if bytes_eq word (codes "tx") then Some Tx
+    else if bytes_eq word (codes "done") then Some Finish
+    else if bytes_eq word (codes "softirq") then Some Softirq
+    else if bytes_eq word (codes "kthread") then Some Kthread
+    else if bytes_eq word (codes "disable") then Some Disable
+    else if bytes_eq word (codes "enable") then Some Enable
+    else if bytes_eq word (codes "threaded") then Some Threaded
+    else if version == 2 && bytes_eq word (codes "busy") then Some Busy
+    else None
+
+-- row n of these numbers, where they are in their ranges
+unfoldable pub ranged : ℕ → ℕ → ℕ → Event → ℕ → Result Row TraceFault
+ranged n moment device event value =
+    if nat_lt moment (2 ^ 64) && (device_fits event device && value_fits event value)
+    then Ok (record { moment = moment; device = device; event = event; value = value })
+    else Err (OutOfRange n)
+
+-- where its word names an event
+abbrev pub of_event : ℕ → ℕ → ℕ → Option Event → ℕ → Result Row TraceFault
+of_event n moment device None value = Err (BadEvent n)
+of_event n moment device (Some event) value = ranged n moment device event value
+
+-- where three of its four fields are numbers
+unfoldable pub of_fields : ℕ → ℕ → List ℕ → List ℕ → List ℕ → List ℕ → Result Row TraceFault
+of_fields version n moment device event value =
+    if is_numeral moment && (is_numeral device && is_numeral value)
+    then of_event n (numeral moment) (numeral device) (event_of version event) (numeral value)
+    else Err (BadNumber n)
+
+-- where it has four fields
+abbrev pub of_four : ℕ → ℕ → Option Four → Result Row TraceFault
+of_four version n None = Err (BadFields n)
+of_four version n (Some four) = of_fields version n four.0 four.1 four.2 four.3
+
+-- row n of a trace of this version, or its first fault of 2 to 5
+abbrev pub row_of : ℕ → ℕ → List (List ℕ) → Result Row TraceFault
+row_of version n fields = of_four version n (four_of fields)
+
+-- the titles of a trace's first record
+abbrev pub is_title : Option Four → Bool
+is_title None = false
+is_title (Some four) =
+    bytes_eq four.0 (codes "moment") && (bytes_eq four.1 (codes "device") && (bytes_eq four.2 (codes "event") && bytes_eq four.3 (codes "value")))
+
+abbrev pub is_two : Option (List ℕ) → Bool
+is_two None = false
+is_two (Some field) = bytes_eq field (codes "2")
+
+-- the version that a trace's first record tells: its titles alone, or these and a 2
+unfoldable pub version_of : List (List ℕ) → Option ℕ
+version_of fields =
+    if is_title (first_four fields) then (if length fields == 4 then Some 1 else if length fields == 5 && is_two (field_at fields 4) then Some 2 else None)
+    else None

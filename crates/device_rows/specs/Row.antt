@@ -1,0 +1,37 @@
+-- The numbers that a row of each event may bear. See docs/FORMATS.md, "The trace".
+use Rattle.std.specs.Prelude.{ℕ, ◌==◌, ◌&&◌, Bool, nat_le}
+use Rattle.device_rows.specs.declared.event.Event.{Event}
+use Rattle.device_rows.specs.declared.event.Event.TheVariants.{Opened, Rx, Tx, Finish, Softirq, Kthread, Disable, Enable, Threaded, Busy}
+
+abbrev pub is_within : ℕ → ℕ → ℕ → Bool
+is_within low high n = nat_le low n && nat_le n high
+
+-- one of the sixteen devices
+abbrev pub is_device : ℕ → Bool
+is_device n = is_within 1 16 n
+
+-- the device that a row of this event may name: one of sixteen, and none for a softirq, which is of no device
+abbrev pub device_fits : Event → ℕ → Bool
+device_fits Opened n = is_device n
+device_fits Rx n = is_device n
+device_fits Tx n = is_device n
+device_fits Finish n = is_device n
+device_fits Softirq n = n == 0
+device_fits Kthread n = is_device n
+device_fits Disable n = is_device n
+device_fits Enable n = is_device n
+device_fits Threaded n = is_device n
+device_fits Busy n = is_device n
+
+-- the value that it may bear: places, bytes, bytes, packets, the setting of threaded, the rounds of busy polling, and else 0
+abbrev pub value_fits : Event → ℕ → Bool
+value_fits Opened n = is_within 1 65536 n
+value_fits Rx n = is_within 1 65535 n
+value_fits Tx n = is_within 1 65535 n
+value_fits Finish n = nat_le n 65536
+value_fits Softirq n = n == 0
+value_fits Kthread n = n == 0
+value_fits Disable n = n == 0
+value_fits Enable n = n == 0
+value_fits Threaded n = nat_le n 1
+value_fits Busy n = is_within 1 65535 n

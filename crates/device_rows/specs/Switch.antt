@@ -1,0 +1,83 @@
+-- What the earlier rows of a device say of the next one: faults 6 to 8. See docs/FORMATS.md, "The trace".
+use Rattle.std.specs.Prelude.{◌≡◌, ℕ, ◌+◌, ◌<◌, ◌==◌, true, List, [], ◌∷◌, ◌++◌, map, filter, Option, Some, None, unwrap_or, slice_index_or, Result, Ok, Err}
+use Rattle.device_rows.specs.Row.{device_fits, value_fits}
+use Rattle.device_rows.specs.declared.event.Event.{Event}
+use Rattle.device_rows.specs.declared.event.Event.TheVariants.{Opened, Rx, Tx, Finish, Softirq, Kthread, Disable, Enable, Threaded, Busy}
+use Rattle.device_rows.specs.declared.fault.TraceFault.{TraceFault}
+use Rattle.device_rows.specs.declared.fault.TraceFault.TheVariants.{UnknownDevice, OpenTwice, WrongState}
+use Rattle.device_rows.specs.declared.row.Row.{Row}
+use Rattle.device_rows.specs.declared.switch.Switch.{Switch}
+use Rattle.device_rows.specs.declared.switch.Switch.TheVariants.{Unopened, On, Off}
+
+-- what a row of this event sets its device to, if it does
+abbrev pub set_by : Event → Option Switch
+set_by Opened = Some On
+set_by Rx = None
+set_by Tx = None
+set_by Finish = None
+set_by Softirq = None
+set_by Kthread = None
+set_by Disable = Some Off
+set_by Enable = Some On
+set_by Threaded = None
+set_by Busy = None
+
+-- the events of a device, in order
+abbrev pub events_of : ℕ → List Row → List Event
+events_of device rows = map (λ row. row.event) (filter (λ row. row.device == device) rows)
+
+abbrev pub switch_after : Switch → List Event → Switch
+switch_after switch [] = switch
+switch_after switch (event ∷ events) = switch_after (unwrap_or (set_by event) switch) events
+
+-- what the rows leave a device: unopened, on or off
+unfoldable pub switch_of : ℕ → List Row → Switch
+switch_of device rows = switch_after Unopened (events_of device rows)
+
+-- why row n is refused where it wants its device open, if it is
+abbrev pub wants_open : ℕ → Switch → Option TraceFault
+wants_open n Unopened = Some (UnknownDevice n)
+wants_open n On = None
+wants_open n Off = None
+
+-- why row n is refused where the earlier rows leave its device so, if it is. Disable and enable take turns: `napi_disable`
+-- of a disabled instance waits for ever, and `napi_enable` of an enabled one is a BUG (`net/core/dev.c`)
+abbrev pub refusal : ℕ → Event → Switch → Option TraceFault
+refusal n Opened Unopened = None
+refusal n Opened On = Some (OpenTwice n)
+refusal n Opened Off = Some (OpenTwice n)
+refusal n Rx switch = wants_open n switch
+refusal n Tx switch = wants_open n switch
+refusal n Finish switch = wants_open n switch
+refusal n Softirq switch = None
+refusal n Kthread switch = wants_open n switch
+refusal n Disable Unopened = Some (UnknownDevice n)
+refusal n Disable On = None
+refusal n Disable Off = Some (WrongState n)
+refusal n Enable Unopened = Some (UnknownDevice n)
+refusal n Enable On = Some (WrongState n)
+refusal n Enable Off = None
+refusal n Threaded switch = wants_open n switch
+refusal n Busy switch = wants_open n switch
+
+abbrev pub unless_refused : {A : Type 0} → Option TraceFault → A → Result A TraceFault
+unless_refused None x = Ok x
+unless_refused (Some fault) x = Err fault
+
+-- a table has the switch of each device after these rows
+abbrev pub Tracks : List Switch → List Row → Type 0
+Tracks table rows = (place : ℕ) → place < 16 → slice_index_or table place Unopened ≡ switch_of (place + 1) rows
+
+-- a row in its ranges that nothing refuses behind rows whose switches the table has, and that changes none of them
+pub record Passes (table : List Switch) (row : Row) : Type 0 where
+  pub device : device_fits row.event row.device ≡ true
+  pub value : value_fits row.event row.value ≡ true
+  pub sets : set_by row.event ≡ None
+  pub in_turn : (earlier : List Row) → Tracks table earlier → (n : ℕ) → refusal n row.event (switch_of row.device earlier) ≡ None
+
+-- the row that a record tells as whatever number was added, one that passes
+pub record AddsShort (table : List Switch) (tells : ℕ → Result Row TraceFault) (before after : List Row) : Type 0 where
+  pub row : Row
+  pub told : (number : ℕ) → tells number ≡ Ok row
+  pub passes : Passes table row
+  pub added : after ≡ before ++ row ∷ []

@@ -1,0 +1,69 @@
+//! The events of a trace, and their words.
+
+ghost use Rattle.std.specs.Prelude.{◌≡◌};
+ghost use Rattle.device_rows.specs.Record.{event_of};
+
+/// What a row tells. Its word in the trace stands first.
+#[derive(Clone, Copy, Debug, PartialEq, Eq)]
+pub enum Event {
+    /// `open`: a device with a receive and a transmit ring of `value` places each; its instance is made and enabled, not
+    /// threaded.
+    Opened,
+    /// `rx`: a packet of `value` bytes arrives, and the interrupt asks for a poll (`napi_schedule_prep`).
+    Rx,
+    /// `tx`: a packet of `value` bytes is sent (`netdev_tx_sent_queue`).
+    Tx,
+    /// `done`: `value` packets that were sent are complete at the row's moment (`netdev_tx_completed_queue`).
+    Finish,
+    /// `softirq`: one run over the poll list (`net_rx_action`).
+    Softirq,
+    /// `kthread`: the device's thread polls (`napi_threaded_poll`).
+    Kthread,
+    /// `disable`: the instance is marked, and taken as soon as nobody polls it (`napi_disable`).
+    Disable,
+    /// `enable`: the instance is let go again (`napi_enable`).
+    Enable,
+    /// `threaded`: the device is polled by its thread from now on, or by the list again (`dev_set_threaded`).
+    Threaded,
+    /// `busy`, in version 2: the device is busy polled for `value` rounds (`napi_busy_loop`).
+    Busy,
+}
+
+/// The event that a word names in a trace of this version, if it names one.
+#[inline(always)]
+#[tactic(auto, unfolding(crate::specs::Record::event_of))]
+pub(crate) fn event_of(version: u32, word: &[u8]) -> Option<Event>
+    ensures { result ≡ event_of version word.now }
+{
+    if word == b"open".as_slice() {
+        return Some(Event::Opened);
+    }
+    if word == b"rx".as_slice() {
+        return Some(Event::Rx);
+    }
+    if word == b"tx".as_slice() {
+        return Some(Event::Tx);
+    }
+    if word == b"done".as_slice() {
+        return Some(Event::Finish);
+    }
+    if word == b"softirq".as_slice() {
+        return Some(Event::Softirq);
+    }
+    if word == b"kthread".as_slice() {
+        return Some(Event::Kthread);
+    }
+    if word == b"disable".as_slice() {
+        return Some(Event::Disable);
+    }
+    if word == b"enable".as_slice() {
+        return Some(Event::Enable);
+    }
+    if word == b"threaded".as_slice() {
+        return Some(Event::Threaded);
+    }
+    if version == 2 && word == b"busy".as_slice() {
+        return Some(Event::Busy);
+    }
+    None
+}

@@ -1,0 +1,25 @@
+//! Behind the door `device_model`: the rows of a trace, read from the bytes of a text.
+//!
+//! `specs/Trace.antt` says which rows a text holds, or which fault is its first, and the contract of [`read_trace`] says
+//! that it answers so. docs/FORMATS.md has the format.
+#![tactic(auto)]
+
+mod bounded;
+mod digits;
+mod event;
+mod fault;
+mod laws;
+mod places;
+mod record;
+mod row;
+mod switch;
+mod trace;
+
+pub use bounded::MOST_BYTES;
+pub use event::Event;
+pub use fault::TraceFault;
+pub use laws::{first_fault_stands, first_records_decide};
+pub use places::PLACES;
+pub use row::Row;
+pub use switch::Switch;
+pub use trace::{MOST_ROWS, Trace, read_trace};

@@ -1,0 +1,300 @@
+//! What the fields of one record say by themselves.
+
+ghost use Rattle.std.specs.Prelude.{◌≡◌, ◌≤◌, length, true, option_map, if◌then◌else◌, ℕ, ◌&&◌, ◌<◌, ◌+◌, false, Some, None, Ok, IfOk, IfSome, vec_capacity, vec_items, vec_len};
+ghost use Rattle.std.specs.Str.{all_ascii_digits};
+ghost use Rattle.csv.specs.Records.{fields_of};
+ghost use Rattle.device_rows.specs.Range.{IsWithin};
+ghost use Rattle.device_rows.specs.Record.{first_four, four_of, is_numeral, is_title, numeral, of_fields, ranged, row_of, version_of};
+ghost use Rattle.device_rows.specs.Row.{device_fits, value_fits};
+ghost use Rattle.device_rows.specs.Switch.{AddsShort};
+
+use crate::digits::{DigitTable, NO_NUMBER};
+use crate::event::{Event, event_of};
+use crate::fault::TraceFault;
+use crate::row::Row;
+use crate::switch::Switches;
+use csv::ByteRecord;
+
+// The number that the first `count` bytes of a field write, 0 where these are none, if all of them are digits. A u64 holds
+// it. Inlined for its callers' sake: one that tells `count` gets a row of steps in place of a loop.
+#[inline(always)]
+fn number_below_20(digits: &[u8], count: usize) -> Option<u64>
+    requires count { count ≡ length digits.now }
+    requires few { count ≤ 19 }
+    ensures { result ≡ (if all_ascii_digits digits.now then Some (numeral digits.now) else None) }
+{
+    let mut number = 0;
+    for place in 0..count {
+        let byte = digits[place];
+        if !byte.is_ascii_digit() {
+            return None;
+        }
+        number = number * 10 + u64::from(byte) - 48;
+    }
+    Some(number)
+}
+
+// The number that one to twenty digits write, kept in a u64 up to the last of them.
+fn number_below_21(field: &[u8]) -> Option<u128>
+    ensures { result ≡ (if is_numeral field.now then Some (numeral field.now) else None) }
+{
+    let (last, front) = field.split_last()?;
+    if front.len() > 19 {
+        return None;
+    }
+    let number = number_below_20(front, front.len())?;
+    if !last.is_ascii_digit() {
+        return None;
+    }
+    Some(u128::from(number) * 10 + u128::from(*last - b'0'))
+}
+
+// The number that one to nineteen digits write.
+#[inline(never)]
+fn long_number(field: &[u8]) -> Option<u64>
+    ensures { IfSome result
+        (λ number. (is_numeral field.now ≡ true) × (number ≡ numeral field.now)) }
+{
+    match field.len() {
+        1..=19 => number_below_20(field, field.len()),
+        _ => None,
+    }
+}
+
+// Whether a row of this event may name this device, and bear this value.
+fn fits(event: Event, device: u128, value: u128) -> bool
+    ensures { result ≡ (device_fits event device && value_fits event value) }
+{
+    let is_device = 1 <= device && device <= 16;
+    match event {
+        Event::Opened => is_device && 1 <= value && value <= 65536,
+        Event::Rx | Event::Tx | Event::Busy => is_device && 1 <= value && value <= 65535,
+        Event::Finish => is_device && value <= 65536,
+        Event::Threaded => is_device && value <= 1,
+        Event::Kthread | Event::Disable | Event::Enable => is_device && value == 0,
+        Event::Softirq => device == 0 && value == 0,
+    }
+}
+
+// Row `number` of these numbers, where they are in their ranges.
+#[tactic(auto, unfolding(crate::specs::Record::ranged))]
+fn ranged(
+    number: u32,
+    moment: u128,
+    device: u128,
+    event: Event,
+    value: u128,
+) -> Result<Row, TraceFault>
+    ensures row { result ≡ ranged number moment device event value }
+    ensures device { IfOk result (λ row. device_fits row.event row.device ≡ true) }
+    ensures value { IfOk result (λ row. value_fits row.event row.value ≡ true) }
+{
+    if moment < 1 << 64 && fits(event, device, value) {
+        Ok(Row {
+            moment: moment as u64,
+            device: device as u32,
+            event,
+            value: value as u32,
+        })
+    } else {
+        Err(TraceFault::OutOfRange { row: number })
+    }
+}
+
+// Adds the row of these fields, the first of which writes this moment, where it has no fault, changes no switch, and its numbers
+// have few digits. It answers whether it did. The row is written straight to its place: an option of it would be moved in pieces.
+#[inline(always)]
+fn add_at(
+    table: &DigitTable,
+    switches: &Switches,
+    version: u32,
+    moment: u64,
+    fields: (&[u8], &[u8], &[u8], &[u8]),
+    rows: &mut Vec<Row>,
+) -> bool
+    requires room { vec_len rows.old < vec_capacity rows.old }
+    requires numeral { is_numeral fields.0.now ≡ true }
+    requires moment { moment ≡ numeral fields.0.now }
+    ensures added { result ≡ true → AddsShort switches.now.of
+        (λ number. of_fields version number fields.entry.0.now fields.entry.1.now
+        fields.entry.2.now fields.entry.3.now)
+        (vec_items rows.old) (vec_items rows.new) }
+    ensures count { result ≡ true → vec_len rows.new ≡ vec_len rows.old + 1 }
+    ensures capacity { vec_capacity rows.new ≡ vec_capacity rows.old }
+    ensures kept { result ≡ false → rows.new ≡ rows.old }
+{
+    let device = table.short_number(fields.1);
+    let value = table.number(fields.3);
+    if device >= NO_NUMBER || value >= NO_NUMBER {
+        return false;
+    }
+    let Some(event) = event_of(version, fields.2) else {
+        return false;
+    };
+    if !switches.pass(event, device, value) {
+        return false;
+    }
+    rows.push_reserved(Row {
+        moment,
+        device,
+        event,
+        value,
+    });
+    true
+}
+
+// Adds the row of a record as `add_short_row` does, if its moment has up to nineteen digits.
+#[inline(never)]
+fn add_long(
+    table: &DigitTable,
+    switches: &Switches,
+    version: u32,
+    fields: &ByteRecord,
+    rows: &mut Vec<Row>,
+) -> bool
+    requires room { vec_len rows.old < vec_capacity rows.old }
+    ensures added { result ≡ true → AddsShort switches.now.of
+        (λ number. row_of version number (fields_of fields.now)) (vec_items rows.old)
+        (vec_items rows.new) }
+    ensures count { result ≡ true → vec_len rows.new ≡ vec_len rows.old + 1 }
+    ensures capacity { vec_capacity rows.new ≡ vec_capacity rows.old }
+    ensures kept { result ≡ false → rows.new ≡ rows.old }
+{
+    let Some(four) = four_of(fields) else {
+        return false;
+    };
+    match long_number(four.0) {
+        Some(moment) => add_at(table, switches, version, moment, four, rows),
+        None => false,
+    }
+}
+
+// Row `number` of these fields.
+#[tactic(auto, unfolding(crate::specs::Record::of_fields))]
+fn of_fields(
+    version: u32,
+    number: u32,
+    moment: &[u8],
+    device: &[u8],
+    event: &[u8],
+    value: &[u8],
+) -> Result<Row, TraceFault>
+    ensures row { result ≡ of_fields version number moment.now device.now event.now value.now }
+    ensures device { IfOk result (λ row. device_fits row.event row.device ≡ true) }
+    ensures value { IfOk result (λ row. value_fits row.event row.value ≡ true) }
+{
+    let (Some(moment), Some(device), Some(value)) = (
+        number_below_21(moment),
+        number_below_21(device),
+        number_below_21(value),
+    ) else {
+        return Err(TraceFault::BadNumber { row: number });
+    };
+    let Some(event) = event_of(version, event) else {
+        return Err(TraceFault::BadEvent { row: number });
+    };
+    ranged(number, moment, device, event, value)
+}
+
+// The four fields of a record that has four.
+#[inline(always)]
+#[tactic(auto, unfolding(crate::specs::Record::four_of))]
+fn four_of(fields: &ByteRecord) -> Option<(&[u8], &[u8], &[u8], &[u8])>
+    ensures { option_map (λ four. (four.0.now, four.1.now, four.2.now, four.3.now)) result
+        ≡ four_of (fields_of fields.now) }
+{
+    if fields.len() != 4 {
+        return None;
+    }
+    first_four(fields)
+}
+
+// The first four fields of a record that has so many.
+fn first_four(fields: &ByteRecord) -> Option<(&[u8], &[u8], &[u8], &[u8])>
+    ensures { option_map (λ four. (four.0.now, four.1.now, four.2.now, four.3.now)) result
+        ≡ first_four (fields_of fields.now) }
+{
+    let moment = fields.get(0)?;
+    let device = fields.get(1)?;
+    let event = fields.get(2)?;
+    let value = fields.get(3)?;
+    Some((moment, device, event, value))
+}
+
+/// Adds the row that a record of a trace of this version tells, where neither the record nor the switches have a fault of it, it
+/// changes no switch, and its numbers have few digits: so are nearly all. It answers whether it did.
+#[inline(always)]
+pub(crate) fn add_short_row(
+    table: &DigitTable,
+    switches: &Switches,
+    version: u32,
+    fields: &ByteRecord,
+    rows: &mut Vec<Row>,
+) -> bool
+    requires room { vec_len rows.old < vec_capacity rows.old }
+    ensures added { result ≡ true → AddsShort switches.now.of
+        (λ number. row_of version number (fields_of fields.now)) (vec_items rows.old)
+        (vec_items rows.new) }
+    ensures count { result ≡ true → vec_len rows.new ≡ vec_len rows.old + 1 }
+    ensures capacity { vec_capacity rows.new ≡ vec_capacity rows.old }
+    ensures kept { result ≡ false → rows.new ≡ rows.old }
+{
+    let Some(four) = four_of(fields) else {
+        return false;
+    };
+    let moment = table.number(four.0);
+    if moment < NO_NUMBER {
+        add_at(table, switches, version, u64::from(moment), four, rows)
+    } else {
+        add_long(table, switches, version, fields, rows)
+    }
+}
+
+/// The row that a record of a trace of this version tells, whose number it is, or the first of the faults 2 to 5 that it has.
+#[cold]
+#[inline(never)]
+pub(crate) fn row_of(version: u32, number: u32, fields: &ByteRecord) -> Result<Row, TraceFault>
+    ensures row { result ≡ row_of version number (fields_of fields.now) }
+    ensures device { IfOk result (λ row. device_fits row.event row.device ≡ true) }
+    ensures value { IfOk result (λ row. value_fits row.event row.value ≡ true) }
+{
+    let Some((moment, device, event, value)) = four_of(fields) else {
+        return Err(TraceFault::BadFields { row: number });
+    };
+    of_fields(version, number, moment, device, event, value)
+}
+
+// Whether the first fields of a record are the titles `moment,device,event,value`.
+fn is_titled(fields: &ByteRecord) -> bool
+    ensures { result ≡ is_title (first_four (fields_of fields.now)) }
+{
+    let Some((moment, device, event, value)) = first_four(fields) else {
+        return false;
+    };
+    moment == b"moment".as_slice()
+        && device == b"device".as_slice()
+        && event == b"event".as_slice()
+        && value == b"value".as_slice()
+}
+
+/// The version that a trace's first record tells, if it is one: `moment,device,event,value` is version 1, and the same with a
+/// fifth field `2` is version 2.
+#[tactic(auto, unfolding(crate::specs::Record::version_of))]
+pub(crate) fn version_of(fields: &ByteRecord) -> Option<u32>
+    ensures version { result ≡ version_of (fields_of fields.now) }
+    ensures range { IfSome result (λ version. IsWithin 1 2 version) }
+{
+    if !is_titled(fields) {
+        return None;
+    }
+    if fields.len() == 4 {
+        return Some(1);
+    }
+    if fields.len() != 5 {
+        return None;
+    }
+    match fields.get(4) {
+        Some(field) if field == b"2".as_slice() => Some(2),
+        _ => None,
+    }
+}

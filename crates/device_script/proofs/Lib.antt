@@ -1,0 +1,3 @@
+pub mod DealFacts
+pub mod Rows
+pub mod ScriptFacts

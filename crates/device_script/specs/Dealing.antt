@@ -1,0 +1,12 @@
+-- The scripts of all devices, by their places.
+use Rattle.std.specs.Prelude.{◌≡◌, ℕ, ◌+◌, ◌<◌, List, [], map, slice_index_or, vec_items}
+use Rattle.std.specs.Global.{Vec}
+use Rattle.device_rows.specs.declared.row.Row.{Row}
+use Rattle.device_script.specs.Script.{script_of}
+
+abbrev pub lists : Vec (Vec Row) → List (List Row)
+lists scripts = map (λ script. vec_items script) (vec_items scripts)
+
+-- at each place stand the rows of the device whose number is one more
+abbrev pub AreScripts : List (List Row) → List Row → Type 0
+AreScripts scripts rows = (place : ℕ) → place < 16 → slice_index_or scripts place [] ≡ script_of (place + 1) rows

@@ -1,0 +1,33 @@
+-- A device of a script, as contracts see it.
+use Rattle.std.specs.Prelude.{◌≡◌, ◌≤◌, ℕ, ◌+◌, ◌==◌, List, if◌then◌else◌, length, take}
+use Rattle.device_transmit.specs.Transmit.{ShowsTransmit, opened_transmit}
+use Rattle.device_rows.specs.declared.row.Row.{Row}
+use Rattle.device_transmit.specs.declared.transmit.Transmit.{Transmit}
+use Rattle.poll_interrupts.specs.declared.acts.Act.{Act}
+use Rattle.poll_interrupts.specs.declared.acts.Act.TheVariants as act
+use Rattle.device_script.specs.Script.{act_at, rx_of, transmit_after}
+
+pub record Script : Type 0 where
+  -- the row that opened the device
+  pub opening : Row
+  -- its rows behind that one
+  pub rows : List Row
+  -- how many of them were made acts
+  pub made : ℕ
+
+abbrev pub acts : Script → ℕ
+acts script = length script.rows
+
+-- the acts are asked for in turn; one that is asked for out of turn is none
+abbrev pub answer : Script → ℕ → Act
+answer script k = if k == script.made then act_at script.rows k else act.Nothing
+
+abbrev pub after : Script → ℕ → Script
+after script k = if k == script.made then record script { made = script.made + 1 } else script
+
+-- the transmit side is that of the rows so far, whose packets were counted
+pub record IsKept (opening : Row) (rows : List Row) (made counted : ℕ) (side : Transmit) : Type 0 where
+  pub few : length rows ≤ 100000
+  pub within : made ≤ length rows
+  pub packets : counted ≡ length (rx_of (take made rows))
+  pub transmit : ShowsTransmit side (transmit_after (take made rows) (opened_transmit opening.value opening.moment))

@@ -1,0 +1,92 @@
+//! How the rows of a trace are dealt to its devices, in one pass.
+
+ghost use Rattle.std.specs.Prelude.{◌≡◌, ◌<◌, ◌≤◌, ◌++◌, ◌∷◌, [], List, IfOk, OnOk, slice_index_or, slice_set, vec_len};
+ghost use Rattle.device_rows.specs.declared.row.Row.{Row};
+ghost use Rattle.device_script.specs.Dealing.{AreScripts, lists};
+ghost use Rattle.device_script.specs.Script.{is_act_of, is_open, openings_of, opens};
+
+use device_rows::{Event, PLACES, Row};
+use std::alloc::{AllocError, Global};
+use std::mem;
+
+fn is_open(row: &Row) -> bool
+    ensures { result ≡ is_open row.now.event }
+{
+    matches!(row.event, Event::Opened)
+}
+
+/// Whether the row opens the device.
+pub(crate) fn opens(row: &Row, device: u32) -> bool
+    ensures { result ≡ opens device row.now }
+{
+    is_open(row) && row.device == device
+}
+
+/// Whether the row is another one of the device.
+pub(crate) fn is_act_of(row: &Row, device: u32) -> bool
+    ensures { result ≡ is_act_of device row.now }
+{
+    !is_open(row) && row.device == device
+}
+
+/// The open rows among these, in their order.
+pub fn openings_of(alloc: Global, rows: &[Row]) -> Result<Vec<Row>, AllocError>
+    ensures { IfOk result (λ openings. openings.items ≡ openings_of rows.now) }
+{
+    let mut openings = Vec::new(alloc);
+    for row in rows {
+        if is_open(row) {
+            openings.push(*row)?;
+        }
+    }
+    Ok(openings)
+}
+
+// Sixteen scripts without a row.
+fn no_scripts(alloc: Global) -> Result<Vec<Vec<Row>>, AllocError>
+    ensures scripts { IfOk result (λ scripts. AreScripts (lists scripts) []) }
+    ensures count { IfOk result (λ scripts. vec_len scripts ≡ 16) }
+{
+    let mut scripts = Vec::new(alloc);
+    for _ in 1..PLACES {
+        scripts.push(Vec::new(alloc))?;
+    }
+    Ok(scripts)
+}
+
+// Adds a row to the script of its device, unless it opens that.
+fn deal(row: &Row, scripts: &mut Vec<Vec<Row>>) -> Result<(), AllocError>
+    requires { vec_len scripts.old ≡ 16 }
+    ensures scripts { OnOk result
+        ((rows : List Row) → AreScripts (lists scripts.old) rows
+        → AreScripts (lists scripts.new) (rows ++ row.now ∷ [])) }
+    ensures count { vec_len scripts.new ≡ 16 }
+{
+    if is_open(row) || row.device == 0 || row.device >= PLACES {
+        return Ok(());
+    }
+    scripts[row.device as usize - 1].push(*row)?;
+    Ok(())
+}
+
+/// The rows of all sixteen devices behind their open rows: those of device 1 stand in the first place.
+pub fn scripts_of(alloc: Global, rows: &[Row]) -> Result<Vec<Vec<Row>>, AllocError>
+    ensures scripts { IfOk result (λ scripts. AreScripts (lists scripts) rows.now) }
+    ensures count { IfOk result (λ scripts. vec_len scripts ≡ 16) }
+{
+    let mut scripts = no_scripts(alloc)?;
+    for row in rows {
+        deal(row, &mut scripts)?;
+    }
+    Ok(scripts)
+}
+
+/// Takes out the script of a place.
+pub fn take_script(alloc: Global, scripts: &mut Vec<Vec<Row>>, place: usize) -> Vec<Row>
+    requires { place < vec_len scripts.old }
+    ensures script { result.items ≡ slice_index_or (lists scripts.old) place [] }
+    ensures scripts { lists scripts.new ≡ slice_set (lists scripts.old) place [] }
+    ensures count { vec_len scripts.new ≡ vec_len scripts.old }
+{
+    mem::replace(&mut scripts[place], Vec::new(alloc))
+}

@@ -1,0 +1,8 @@
+//! Behind the door `device_model`: a device whose acts are its rows of a trace.
+#![tactic(auto)]
+
+mod dealing;
+mod script;
+
+pub use dealing::{openings_of, scripts_of, take_script};
+pub use script::{ScriptDevice, opening_of};

@@ -1,0 +1,212 @@
+//! A device whose acts are its rows of a trace.
+
+ghost use Rattle.std.specs.Prelude.{◌≡◌, ◌≤◌, ◌<◌, ◌+◌, ◌^◌, ℕ, List, [], ◌∷◌, Some, IfOk, OnOk, IsSome, filter, length, take};
+ghost use Rattle.device_rows.specs.Range.{IsWithin};
+ghost use Rattle.device_rows.specs.Trace.{AcceptedAfter};
+ghost use Rattle.device_transmit.specs.Transmit.{ShowsTransmit, TransmitView};
+ghost use Rattle.device_script.specs.Script.{act_of, has_thread, is_rx, makes_threaded, opening_of, rx_of, script_of, transmit_by, tx_after};
+
+use crate::dealing::{is_act_of, opens};
+use device_rows::{Event, Row};
+use device_transmit::{Transmit, TxCounts};
+use poll_interrupts::{Act, Device};
+use rx_ring::Packet;
+use std::alloc::{AllocError, Global};
+use std::marker::Model;
+
+/// A device of a trace. Its acts are its rows behind its open row, in order; tx and done rows are played on its transmit side
+/// as their act is asked for.
+#[derive(Drop)]
+pub struct ScriptDevice {
+    opening: Row,
+    rows: Vec<Row>,
+    made: u32,
+    packets: u64,
+    transmit: Transmit,
+}
+
+impl Model for ScriptDevice {
+    ghost use Rattle.std.specs.Prelude.{vec_items};
+    ghost use Rattle.device_script.specs.ScriptShown.{IsKept, Script};
+
+    ghost Value = { Script };
+
+    ghost view = { λ d. record { opening = d.opening; rows = d.rows.items; made = d.made } };
+
+    ghost invariant = { λ d. IsKept d.opening d.rows.items d.made d.packets d.transmit };
+}
+
+/// The open row of a device, where it has one.
+pub fn opening_of(rows: &[Row], device: u32) -> Option<Row>
+    ensures { result ≡ opening_of device rows.now }
+{
+    for row in rows {
+        if opens(row, device) {
+            return Some(*row);
+        }
+    }
+    None
+}
+
+// The rows of a device behind its open row.
+fn script_of(alloc: Global, rows: &[Row], device: u32) -> Result<Vec<Row>, AllocError>
+    ensures { IfOk result (λ script. script.items ≡ script_of device rows.now) }
+{
+    let mut script = Vec::new(alloc);
+    for row in rows {
+        if is_act_of(row, device) {
+            script.push(*row)?;
+        }
+    }
+    Ok(script)
+}
+
+fn is_rx(row: &Row) -> bool
+    ensures { result ≡ is_rx row.now.event }
+{
+    matches!(row.event, Event::Rx)
+}
+
+// How many of the rows bring a packet.
+fn count_rx(rows: &[Row]) -> u32
+    requires { length rows.now ≤ 100000 }
+    ensures { result ≡ length (rx_of rows.now) }
+{
+    let mut packets = 0;
+    for row in rows {
+        if is_rx(row) {
+            packets += 1;
+        }
+    }
+    packets
+}
+
+fn makes_threaded(row: &Row) -> bool
+    ensures { result ≡ makes_threaded row.now }
+{
+    matches!(row.event, Event::Threaded) && row.value == 1
+}
+
+// Whether one of the rows makes its device threaded.
+fn has_thread(rows: &[Row]) -> bool
+    ensures { result ≡ has_thread rows.now }
+{
+    for row in rows {
+        if makes_threaded(row) {
+            return true;
+        }
+    }
+    false
+}
+
+// Plays a row on what it changes of its device, and tells what the interrupt does. So many packets came before.
+fn play(row: Row, packets: &mut u64, transmit: &mut Transmit) -> Act
+    requires { packets.old < 2 ^ 63 }
+    ensures act { result ≡ act_of (packets.old + 1) row.event row.value }
+    ensures packets { packets.new ≡ packets.old + length (rx_of (row ∷ [])) }
+    ensures transmit { (view : TransmitView) → ShowsTransmit transmit.old view
+        → ShowsTransmit transmit.new (transmit_by row.event row view) }
+{
+    match row.event {
+        Event::Rx => {
+            *packets += 1;
+            return Act::Arrive(Packet {
+                number: *packets,
+                bytes: row.value,
+            });
+        }
+        Event::Tx => transmit.send(row.value),
+        Event::Finish => transmit.finish(row.value, row.moment),
+        Event::Disable => return Act::Disable,
+        Event::Enable => return Act::Enable,
+        Event::Threaded => return Act::SetThreaded(row.value == 1),
+        Event::Opened | Event::Softirq | Event::Kthread | Event::Busy => {}
+    }
+    Act::Nothing
+}
+
+impl ScriptDevice {
+    /// The device of these rows, before its acts. The only error is want of memory.
+    pub fn new(alloc: Global, rows: &[Row], device: u32) -> Result<ScriptDevice, AllocError>
+        requires accepted { AcceptedAfter [] rows.now }
+        requires count { length rows.now ≤ 100000 }
+        requires opened { IsSome (opening_of device rows.now) }
+        ensures opening { IfOk result (λ script. opening_of device rows.now ≡ Some script.opening) }
+        ensures rows { IfOk result (λ script. script.rows ≡ script_of device rows.now) }
+        ensures made { IfOk result (λ script. script.made ≡ 0) }
+    {
+        let Some(opening) = opening_of(rows, device) else {
+            unreachable!()
+        };
+        ScriptDevice::of(alloc, opening, script_of(alloc, rows, device)?)
+    }
+
+    /// The device of its open row and of its rows behind that one, before its acts.
+    pub fn of(alloc: Global, opening: Row, rows: Vec<Row>) -> Result<ScriptDevice, AllocError>
+        requires places { IsWithin 1 65536 opening.value }
+        requires count { length rows.items ≤ 100000 }
+        ensures opening { IfOk result (λ script. script.opening ≡ opening) }
+        ensures rows { IfOk result (λ script. script.rows ≡ rows.items) }
+        ensures made { IfOk result (λ script. script.made ≡ 0) }
+    {
+        Ok(ScriptDevice {
+            opening,
+            rows,
+            made: 0,
+            packets: 0,
+            transmit: Transmit::open(alloc, opening.value, opening.moment)?,
+        })
+    }
+
+    /// The places of the device's rings.
+    pub fn capacity(&self) -> u32
+        ensures { result ≡ self.now.opening.value }
+    {
+        self.opening.value
+    }
+
+    /// How many packets its acts bring, those that were made among them.
+    pub fn packets(&self) -> u32
+        ensures { result ≡ length (rx_of self.now.rows) }
+    {
+        count_rx(self.rows.as_slice())
+    }
+
+    /// Whether one of its acts makes it threaded.
+    pub fn is_threaded(&self) -> bool
+        ensures { result ≡ has_thread self.now.rows }
+    {
+        has_thread(self.rows.as_slice())
+    }
+
+    /// What the report tells of the device's transmit side after the acts that were made, where one was a tx or done row.
+    pub fn tx_counts(&self) -> Option<TxCounts>
+        ensures { result ≡ tx_after self.now.opening (take self.now.made self.now.rows) }
+    {
+        self.transmit.counts()
+    }
+}
+
+impl Device for ScriptDevice {
+    ghost use Rattle.device_script.specs.ScriptShown.{acts, after, answer};
+
+    ghost acts = { acts };
+
+    ghost answer = { answer };
+
+    ghost after = { after };
+
+    fn acts(&self) -> u32 {
+        self.rows.len() as u32
+    }
+
+    /// One that is asked for out of turn is `Nothing`, and plays no row.
+    fn act(&mut self, k: u32) -> Act {
+        if k != self.made {
+            return Act::Nothing;
+        }
+        let row = self.rows[k as usize];
+        self.made += 1;
+        play(row, &mut self.packets, &mut self.transmit)
+    }
+}

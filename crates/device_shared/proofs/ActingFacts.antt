@@ -1,0 +1,162 @@
+-- How a call of one seat is one of its number alone.
+use Rattle.std.proofs.Common.{◌≡◌, ◌∙◌, ℕ, Bool, true, false, List, [], Option, Some, None, refl, sym, ap, subst, arith}
+use Rattle.{rx_ring.specs.declared.{ends.RxCtx.RxCtx, packet.Packet.Packet}, napi_model.specs.declared.{event.Operation.Operation, state.{Kind.Kind, Place.Place}}}
+use Rattle.napi_model.specs.declared.state.Kind.TheVariants as kind
+use Rattle.{napi_word.specs.{declared.table.Pass.Pass, Slot.has_slot, View.own_deliveries}, device_bench.specs.Receive.taker_of}
+use Rattle.napi_calls.specs.{Made.Made, Knows.{Has, Stands}, Dealt.Delivers, Packets.{Quiet, IsFresh, HoldsOn, polled}, declared.types.{Napi.Napi, Caller.Caller}}
+use Rattle.napi_calls.proofs.{Dealing.delivers_none, Making.nothing}
+use Rattle.device_shared.specs.{Acting.{CtxMoves, PostsAct, Acts, TurnTakes, nobody}, Seats.{IsSeatAt, ArePosts, AreSeats, poller_post, thread_post, ctx_at, polls_at, poller_of, thread_of, control_of, ctx_of}}
+use Rattle.device_shared.specs.declared.seats.{Posts.{Posts, TheVariants.{Rest, ListPolls, ThreadPolls, PollsBusily}}, Enabled.Enabled, Turn.Turn, Seats.Seats}
+use Rattle.device_shared.specs.declared.seats.Turn.TheVariants as turn
+
+pub seat_made : {n : Napi} {p q : Pass} {os : List Operation} → IsSeatAt n p → Made p os q → IsSeatAt n q
+seat_made s m = record { instance = m.seat.table ∙ s.instance; controller = m.seat.controller ∙ s.controller }
+
+-- the context stays where it is
+pub stays : (p q : Pass) (o : Option RxCtx) → CtxMoves [] p q o o
+stays p q None = refl
+stays p q (Some x) = (refl, refl)
+
+-- ---- one seat made these, and the context moved so
+
+pub record Moved (os : List Operation) (packets : List Packet) (p q : Pass) (before after : Option RxCtx) : Type 0 where
+  pub made : Made p os q
+  pub gave : Delivers p packets q
+  pub moves : CtxMoves packets p q before after
+
+pub quiet : {os : List Operation} (p q : Pass) (o : Option RxCtx) → Made p os q → Quiet p q → Moved os [] p q o o
+quiet p q o m k = record { made = m; gave = delivers_none p q k; moves = stays p q o }
+
+pub idle : {role : ℕ → Place} {c : ℕ} {p : Pass} (o : Option RxCtx) → Stands role c p → Moved [] [] p p o o
+idle {role} {c} {p} o st = quiet p p o (nothing st) refl
+
+pub taken : {os : List Operation} (p q : Pass) (x : RxCtx) → Made p os q → IsFresh p q x → Has q (Some x) → Moved os [] p q None (Some x)
+taken p q x m f has = record { made = m; gave = delivers_none p q f.quiet; moves = (refl, f.received, q.right ∙ ap has_slot has.holds) }
+
+pub held : {os : List Operation} (p q : Pass) (x y : RxCtx) → Made p os q → HoldsOn p q → y ≡ x → Moved os [] p q (Some x) (Some y)
+held p q x y m h e = record { made = m; gave = delivers_none p q (λ i. own_deliveries (m.seat.number i) (h.deliveries i)); moves = (refl, e) }
+
+pub given : {os : List Operation} (p q : Pass) (x : RxCtx) → Made p os q → Delivers p (polled p x) q → Has p (Some x) → Moved os (polled p x) p q (Some x) None
+given p q x m d has = record { made = m; gave = d; moves = (refl, has.received) }
+
+-- ---- one of the two that poll
+
+pub first_acts : {n : Napi} {os : List Operation} {packets : List Packet} (before after : Posts) → ArePosts n before
+    → Moved os packets (poller_post before) (poller_post after) (ctx_at before) (ctx_at after) → thread_post after ≡ thread_post before → PostsAct 1 os n before after
+first_acts {n} {os} {packets} before after s m same = record {
+  packets = packets;
+  one = (m.made, m.gave);
+  two = same;
+  moves = m.moves;
+  posts = record { one = seat_made s.one m.made; two = subst (IsSeatAt n) (sym same) s.two };
+}
+
+pub second_acts : {n : Napi} {os : List Operation} {packets : List Packet} (before after : Posts) → ArePosts n before
+    → Moved os packets (thread_post before) (thread_post after) (ctx_at before) (ctx_at after) → poller_post after ≡ poller_post before → PostsAct 2 os n before after
+second_acts {n} {os} {packets} before after s m same = record {
+  packets = packets;
+  one = same;
+  two = (m.made, m.gave);
+  moves = m.moves;
+  posts = record { one = subst (IsSeatAt n) (sym same) s.one; two = seat_made s.two m.made };
+}
+
+-- nobody calls
+pub poller_rests : (posts : Posts) → Moved [] [] (poller_post posts) (poller_post posts) (ctx_at posts) (ctx_at posts)
+poller_rests (Rest p t) = idle None p.stands
+poller_rests (ListPolls w t) = idle (Some w.ctx) w.stands
+poller_rests (ThreadPolls p w) = idle (Some w.ctx) p.stands
+poller_rests (PollsBusily b t) = idle (Some b.ctx) b.stands
+
+pub thread_rests : (posts : Posts) → Moved [] [] (thread_post posts) (thread_post posts) (ctx_at posts) (ctx_at posts)
+thread_rests (Rest p t) = idle None t.stands
+thread_rests (ListPolls w t) = idle (Some w.ctx) t.stands
+thread_rests (ThreadPolls p w) = idle (Some w.ctx) w.stands
+thread_rests (PollsBusily b t) = idle (Some b.ctx) t.stands
+
+pub none_acts : {n : Napi} (k : Kind) (posts : Posts) → ArePosts n posts → PostsAct (taker_of k) [] n posts posts
+none_acts kind.List posts s = first_acts posts posts s (poller_rests posts) refl
+none_acts kind.Thread posts s = second_acts posts posts s (thread_rests posts) refl
+
+pub not_rest : (posts : Posts) → ((p t : Caller) → posts ≡ Rest p t → ⊥) → nobody (polls_at posts) ≡ false
+not_rest (Rest p t) none = absurd (none p t refl)
+not_rest (ListPolls w t) none = refl
+not_rest (ThreadPolls p w) none = refl
+not_rest (PollsBusily b t) none = refl
+
+-- ---- one of the four
+
+abbrev pub with_turn : Caller → Turn → Seats
+with_turn i t = record { interrupt = i; turn = t }
+
+pub interrupt_acts : {n : Napi} {os : List Operation} (s : Seats) (i : Caller) → AreSeats n s → Made s.interrupt.pass os i.pass → Quiet s.interrupt.pass i.pass → Acts 0 os n s (with_turn i s.turn)
+interrupt_acts s i seats m k = record {
+  low = omega arith;
+  packets = [];
+  zeroth = (m, delivers_none s.interrupt.pass i.pass k);
+  one = refl;
+  two = refl;
+  three = refl;
+  moves = stays s.interrupt.pass i.pass (ctx_of s.turn);
+  seats = record { zeroth = seat_made seats.zeroth m; one = seats.one; two = seats.two; three = seats.three };
+}
+
+module _ {n : Napi} {os : List Operation} {packets : List Packet} (i : Caller) (t before after : Turn) (was : t ≡ before) (s : AreSeats n (with_turn i t)) where
+  pub first_turn : Moved os packets (poller_of before) (poller_of after) (ctx_of before) (ctx_of after) → thread_of after ≡ thread_of before → control_of after ≡ control_of before
+      → Acts 1 os n (with_turn i t) (with_turn i after)
+  first_turn m two three = let seats = rw was at s in rw was (record {
+    low = omega arith;
+    packets = packets;
+    zeroth = refl;
+    one = (m.made, m.gave);
+    two = two;
+    three = three;
+    moves = m.moves;
+    seats = record { zeroth = seats.zeroth; one = seat_made seats.one m.made; two = subst (IsSeatAt n) (sym two) seats.two; three = subst (IsSeatAt n) (sym three) seats.three };
+  })
+
+  pub second_turn : Moved os packets (thread_of before) (thread_of after) (ctx_of before) (ctx_of after) → poller_of after ≡ poller_of before → control_of after ≡ control_of before
+      → Acts 2 os n (with_turn i t) (with_turn i after)
+  second_turn m one three = let seats = rw was at s in rw was (record {
+    low = omega arith;
+    packets = packets;
+    zeroth = refl;
+    one = one;
+    two = (m.made, m.gave);
+    three = three;
+    moves = m.moves;
+    seats = record { zeroth = seats.zeroth; one = subst (IsSeatAt n) (sym one) seats.one; two = seat_made seats.two m.made; three = subst (IsSeatAt n) (sym three) seats.three };
+  })
+
+  pub control_turn : Moved os packets (control_of before) (control_of after) (ctx_of before) (ctx_of after) → poller_of after ≡ poller_of before → thread_of after ≡ thread_of before
+      → Acts 3 os n (with_turn i t) (with_turn i after)
+  control_turn m one two = let seats = rw was at s in rw was (record {
+    low = omega arith;
+    packets = packets;
+    zeroth = refl;
+    one = one;
+    two = two;
+    three = (m.made, m.gave);
+    moves = m.moves;
+    seats = record { zeroth = seats.zeroth; one = subst (IsSeatAt n) (sym one) seats.one; two = subst (IsSeatAt n) (sym two) seats.two; three = seat_made seats.three m.made };
+  })
+
+-- what one of the two that poll made, where it is their turn
+pub posts_turn : {n : Napi} {os : List Operation} (k : Kind) (i : Caller) (t : Turn) (before after : Posts) (e : Enabled) → t ≡ turn.On before e → AreSeats n (with_turn i t)
+    → PostsAct (taker_of k) os n before after → Acts (taker_of k) os n (with_turn i t) (with_turn i (turn.On after e))
+posts_turn kind.List i t before after e was s a =
+    first_turn i t (turn.On before e) (turn.On after e) was s (record { made = a.one.0; gave = a.one.1; moves = a.moves }) a.two refl
+posts_turn kind.Thread i t before after e was s a =
+    second_turn i t (turn.On before e) (turn.On after e) was s (record { made = a.two.0; gave = a.two.1; moves = a.moves }) a.one refl
+
+-- nobody calls
+pub none_turn : {n : Napi} (k : Kind) (i : Caller) (t : Turn) → AreSeats n (with_turn i t) → Acts (taker_of k) [] n (with_turn i t) (with_turn i t)
+none_turn kind.List i (turn.Off p t c) s = first_turn i (turn.Off p t c) (turn.Off p t c) (turn.Off p t c) refl s (idle (Some c.state.ctx) p.stands) refl refl
+none_turn kind.Thread i (turn.Off p t c) s = second_turn i (turn.Off p t c) (turn.Off p t c) (turn.Off p t c) refl s (idle (Some c.state.ctx) t.stands) refl refl
+none_turn kind.List i (turn.On posts e) s = first_turn i (turn.On posts e) (turn.On posts e) (turn.On posts e) refl s (poller_rests posts) refl refl
+none_turn kind.Thread i (turn.On posts e) s = second_turn i (turn.On posts e) (turn.On posts e) (turn.On posts e) refl s (thread_rests posts) refl refl
+
+-- a try of the controller, where nobody has the context
+pub tried : {os : List Operation} (p : Pass) (t : Turn) (taken : Bool) → Made p os (control_of t) → TurnTakes p t taken → Moved os [] p (control_of t) None (ctx_of t)
+tried p t true m k = record { made = m; gave = delivers_none p (control_of t) k.1; moves = k.0 }
+tried {os} p t false m k = subst (λ (o : Option RxCtx). Moved os [] p (control_of t) None o) (sym k.0) (quiet p (control_of t) None m k.1)

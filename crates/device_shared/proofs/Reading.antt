@@ -1,0 +1,331 @@
+-- What the operations of one who acts alone make of the state and of the roles.
+use Rattle.std.proofs.Common.{◌≡◌, ◌≢◌, ◌∙◌, ℕ, Bool, true, false, List, [], ◌∷◌, ◌++◌, Option, Some, None, refl, sym, ap, subst, flat_map, append_assoc, true≢false, ⊎_elim}
+use Rattle.std.specs.Prelude.{◌⊎◌, ◌||◌, not, if◌then◌else◌}
+use Rattle.napi_model.specs.declared.state.{Kind.Kind, Seen.Seen, State.State, Place.{Place, TheVariants.{Nobody, Listed, ToThread, Polling, Control}}}
+use Rattle.napi_model.specs.declared.event.{Call.Call, Done.Done, Prep.Prep}
+use Rattle.napi_model.specs.declared.event.Operation.{Operation, TheVariants.{Look, Schedule, Hand, Take, Complete, BusyTake, BusyStop, MarkDisable, TakeDisable, Enable, SetThreaded}}
+use Rattle.napi_model.specs.Step.{MayBusyTake, Polls, after, complete_reply, event, is_handed, place_of, schedule_reply, seen_of, take_disable_reply, take_reply}
+use Rattle.napi_model.specs.{History.{LegalHistory, state_after}, Laws.IsSound}
+use Rattle.napi_calls.{specs.Made.{Lost, events, looks}, proofs.Alone.none_lost}
+use Rattle.poll_runs.specs.Polling.{next_of}
+use Rattle.poll_shared.specs.{SharedPolling.EndsBy, SharedBusy.StopsBy}
+use Rattle.poll_shared.specs.SharedPolling as shared
+use Rattle.device_bench.specs.Receive.{busy_taken, done_by, handed_again, handed_on, is_control, is_polling, kind_for, poller_in, requested, taker_of, tried_by}
+use Rattle.device_shared.specs.Seats.{ArePlaced, IsRole, Role, rests}
+use Rattle.device_shared.specs.Acting.{AsksBy, EnablesBy, IsMarked, IsUnmarked, MayComplete, PolledBy, TakesBusilyBy, TakesBy, TriesBy, at_rest, left_by, marked, nobody, poller_by, polled_by}
+
+-- ---- the operations are those behind the tries, none of which was lost
+
+-- a list that is known leads where it leads, and is as legal
+leads : (c : ℕ) (s : State) (os rest : List Operation) → os ≡ rest → state_after s (events c os) ≡ state_after s (events c rest)
+leads c s os rest is = ap (λ (o : List Operation). state_after s (events c o)) is
+
+legal_as : (c : ℕ) (s : State) (os rest : List Operation) → os ≡ rest → LegalHistory 3 s (events c os) → LegalHistory 3 s (events c rest)
+legal_as c s os rest is l = subst (λ (o : List Operation). LegalHistory 3 s (events c o)) is l
+
+-- alone, a caller loses no try
+decided : {call : Call} (c : ℕ) (s : State) (ts : List (Lost call)) (os rest : List Operation)
+    → os ≡ flat_map looks ts ++ rest → LegalHistory 3 s (events c os) → (os ≡ rest) × LegalHistory 3 s (events c rest)
+decided {call} c s ts os rest is l =
+    let none = none_lost 3 c call s ts rest (legal_as c s os (flat_map looks ts ++ rest) is l) in
+    let same : os ≡ rest = is ∙ ap (λ (t : List (Lost call)). flat_map looks t ++ rest) none in
+    (same, legal_as c s os rest same l)
+
+-- ---- places
+
+at_rest_uncontrolled : (p : Place) → rests p ≡ true → is_control p ≡ false
+at_rest_uncontrolled (Control c) e = absurd (true≢false (sym e))
+at_rest_uncontrolled p e = refl
+
+at_rest_unpolled : (p : Place) → rests p ≡ true → is_polling p ≡ false
+at_rest_unpolled (Polling c) e = absurd (true≢false (sym e))
+at_rest_unpolled p e = refl
+
+-- not at rest, it isn't on the list, nor with the thread
+away : (k : Kind) (p : Place) → rests p ≡ false → is_handed k p ≡ false
+away Kind.List Listed e = absurd (true≢false e)
+away Kind.Thread ToThread e = absurd (true≢false e)
+away k p e = refl
+
+-- it isn't where a take looks for it
+unhanded : (k : Kind) (p : Place) → p ≢ place_of k → is_handed k p ≡ false
+unhanded Kind.List Listed e = absurd (e refl)
+unhanded Kind.Thread ToThread e = absurd (e refl)
+unhanded k p e = refl
+
+handed_there : (k : Kind) → is_handed k (place_of k) ≡ true
+handed_there Kind.List = refl
+handed_there Kind.Thread = refl
+
+-- handed over, an instance is at rest
+hand_rests : (k : Kind) (c : ℕ) (s : State) (m : Bool) → s.flags.disable ≡ m → s.flags.in_busy_poll ≡ false → IsRole (Some (m, None)) (after s (event c (Hand k)))
+hand_rests Kind.List c s m d b = (d, (refl, b))
+hand_rests Kind.Thread c s m d b = (d, (refl, b))
+
+-- ---- from a role to what a call asks
+
+pub control_is : (r : Role) (s : State) → IsRole r s → is_control s.place ≡ nobody r
+control_is None s role = ap is_control role.0
+control_is (Some (m, None)) s role = at_rest_uncontrolled s.place role.1.0
+control_is (Some (m, Some who)) s role = ap is_control role.1.0
+
+-- who polls it in its state polls it in the role
+polls_as : (r : Role) (s : State) (c : ℕ) (busy : Bool) → IsRole r s → Polls c busy s → PolledBy c busy r
+polls_as None s c busy role p = let was = role.0 in let now = p.0 in absurd (cc)
+polls_as (Some (m, None)) s c busy role p = absurd (true≢false (sym (ap is_polling p.0) ∙ at_rest_unpolled s.place role.1.0))
+polls_as (Some (m, Some (d, b))) s c busy role p =
+    let was = role.1.0 in
+    let now = p.0 in
+    let who : d ≡ c = cc in
+    let how : b ≡ busy = sym role.1.1 ∙ p.1 in
+    (m, λ i. Some (m, Some (who i, how i)))
+
+pub may_complete : (r : Role) (s : State) → IsRole r s → Polls (poller_in s.place) false s → MayComplete r × (poller_by r ≡ poller_in s.place)
+may_complete r s role p =
+    let by = polls_as r s (poller_in s.place) false role p in
+    ((poller_in s.place, by), ap poller_by by.1)
+
+pub polls_busily : (r : Role) (s : State) → IsRole r s → Polls 1 true s → PolledBy 1 true r
+polls_busily r s role p = polls_as r s 1 true role p
+
+pub unmarked_of : (r : Role) (s : State) → IsRole r s → s.flags.disable ≡ false → is_control s.place ≡ false → IsUnmarked r
+unmarked_of None s role f away = absurd (true≢false (sym (ap is_control role.0) ∙ away))
+unmarked_of (Some (m, who)) s role f away = (who, ap (λ (b : Bool). Some (b, who)) (sym role.0 ∙ f))
+
+pub marked_of : (r : Role) (s : State) → IsRole r s → s.flags.disable ≡ true → IsMarked r
+marked_of None s role f = absurd (true≢false (sym f ∙ role.1))
+marked_of (Some (m, who)) s role f = (who, ap (λ (b : Bool). Some (b, who)) (sym role.0 ∙ f))
+
+pub off_of : (r : Role) (s : State) → IsRole r s → is_control s.place ≡ true → r ≡ None
+off_of None s role off = refl
+off_of (Some q) s role off = absurd (true≢false (sym off ∙ control_is (Some q) s role))
+
+pub polling_of : (r : Role) (s : State) → IsRole r s → is_polling s.place ≡ true → (c : ℕ) × (busy : Bool) × PolledBy c busy r
+polling_of None s role is = absurd (true≢false (sym is ∙ ap is_polling role.0))
+polling_of (Some (m, None)) s role is = absurd (true≢false (sym is ∙ at_rest_unpolled s.place role.1.0))
+polling_of (Some (m, Some (c, busy))) s role is = (c, busy, (m, refl))
+
+-- ---- the interrupt asks
+
+pub asked : (s : State) (prep : Prep) (k : Option Kind) (os : List Operation) → AsksBy prep k os → LegalHistory 3 s (events 0 os)
+    → (prep ≡ schedule_reply s) × (k ≡ handed_on prep s) × (state_after s (events 0 os) ≡ requested prep s)
+unfolding LegalHistory state_after
+asked s Prep.Granted None os a l = absurd a
+asked s Prep.Granted (Some k) os a l =
+    let h = a.3 in
+    let begun = flat_map looks a.0 in
+    let all = a.4 ∙ ap (λ (o : List Operation). (begun ++ Look a.1 ∷ Schedule Prep.Granted ∷ []) ++ o) h.2 ∙ append_assoc begun (Look a.1 ∷ Schedule Prep.Granted ∷ []) (Look h.0 ∷ Hand k ∷ []) in
+    let d = decided 0 s a.0 os (Look a.1 ∷ Schedule Prep.Granted ∷ Look h.0 ∷ Hand k ∷ []) all l in
+    let off : s.flags.disable ≡ false = d.1.1.0.0.0 in
+    let free : s.flags.sched ≡ false = d.1.1.0.0.1 in
+    let seen : h.0 ≡ seen_of (after s (event 0 (Schedule Prep.Granted))) = d.1.1.1.0.0 in
+    let to : k ≡ kind_for s = h.1 ∙ ap (λ (x : Seen). shared.kind_for x.flags) seen in
+    (rw (off, free) refl, ap Some to, leads 0 s os _ d.0 ∙ ap (λ (q : Kind). after (after s (event 0 (Schedule Prep.Granted))) (event 0 (Hand q))) to)
+asked s Prep.Missed k os a l =
+    let d = decided 0 s a.1 os (Look a.2 ∷ Schedule Prep.Missed ∷ []) a.3 l in
+    let on : s.flags.disable ≡ false = d.1.1.0.0.0 in
+    let busy : s.flags.sched ≡ true = d.1.1.0.0.1 in
+    (rw (on, busy) refl, a.0, leads 0 s os _ d.0)
+asked s Prep.Disabled k os a l =
+    let d = decided 0 s a.1 os (Schedule Prep.Disabled ∷ []) a.2 l in
+    let off : s.flags.disable ≡ true = d.1.0.0 in
+    (rw off refl, a.0, leads 0 s os _ d.0)
+
+-- a request never changes whose turn it is
+pub asked_role : (r : Role) (s : State) (prep : Prep) → IsRole r s → IsSound s → prep ≡ schedule_reply s → IsRole r (requested prep s)
+asked_role r s Prep.Granted role sound is = granted r role (nobody_has s.flags.disable s.flags.sched refl is)
+  where
+    nobody_has : (d b : Bool) → s.flags.sched ≡ b → Prep.Granted ≡ (if d then Prep.Disabled else (if b then Prep.Missed else Prep.Granted)) → s.place ≡ Nobody
+    nobody_has true b e g = absurd (cc g)
+    nobody_has false true e g = absurd (cc g)
+    nobody_has false false e g = sound e
+
+    granted : (q : Role) → IsRole q s → s.place ≡ Nobody → IsRole q (requested Prep.Granted s)
+    granted None role free = let was = role.0 in absurd (cc)
+    granted (Some (m, None)) role free = hand_rests (kind_for s) 0 (after s (event 0 (Schedule Prep.Granted))) m role.0 role.1.1
+    granted (Some (m, Some who)) role free = let was = role.1.0 in absurd (cc)
+asked_role None s Prep.Missed role sound is = role
+asked_role (Some (m, None)) s Prep.Missed role sound is = role
+asked_role (Some (m, Some who)) s Prep.Missed role sound is = role
+asked_role None s Prep.Disabled role sound is = role
+asked_role (Some (m, None)) s Prep.Disabled role sound is = role
+asked_role (Some (m, Some who)) s Prep.Disabled role sound is = role
+
+-- ---- takes
+
+pub took : (r : Role) (s : State) (k : Kind) (taken : Bool) (os : List Operation) → IsRole r s → TakesBy (at_rest r) k taken os → LegalHistory 3 s (events (taker_of k) os)
+    → (taken ≡ take_reply k s) × (state_after s (events (taker_of k) os) ≡ after s (event (taker_of k) (Take k taken)))
+    × IsRole (if taken then polled_by (taker_of k) false r else r) (state_after s (events (taker_of k) os)) × (taken ≡ true → s.flags.in_busy_poll ≡ false)
+unfolding LegalHistory state_after
+took None s k true os role t l = absurd (true≢false t.0)
+took None s k false os role t l =
+    let led = leads (taker_of k) s os [] t.1 in
+    (sym (ap (is_handed k) role.0 ∙ away k (Control 3) refl), led, subst (IsRole None) (sym led) role, λ e. absurd (true≢false (sym e)))
+took (Some (m, None)) s k true os role t l =
+    let led = leads (taker_of k) s os (Take k true ∷ []) t in
+    let legal = legal_as (taker_of k) s os _ t l in
+    let was : s.place ≡ place_of k = legal.0.0 in
+    (sym (ap (is_handed k) was ∙ handed_there k), led, subst (IsRole (Some (m, Some (taker_of k, false)))) (sym led) (role.0, (refl, role.1.1)), λ e. role.1.1)
+took (Some (m, None)) s k false os role t l =
+    let led = leads (taker_of k) s os (Take k false ∷ []) t in
+    let legal = legal_as (taker_of k) s os _ t l in
+    (sym (unhanded k s.place legal.0.0), led, subst (IsRole (Some (m, None))) (sym led) role, λ e. absurd (true≢false (sym e)))
+took (Some (m, Some who)) s k true os role t l = absurd (true≢false t.0)
+took (Some (m, Some who)) s k false os role t l =
+    let led = leads (taker_of k) s os [] t.1 in
+    (sym (ap (is_handed k) role.1.0 ∙ away k (Polling who.0) refl), led, subst (IsRole (Some (m, Some who))) (sym led) role, λ e. absurd (true≢false (sym e)))
+
+-- ---- polls end
+
+pub requeued : (r : Role) (s : State) (c : ℕ) → IsRole r s → MayComplete r
+    → (state_after s (events c (Hand Kind.List ∷ [])) ≡ after s (event c (Hand Kind.List))) × IsRole (left_by r) (state_after s (events c (Hand Kind.List ∷ [])))
+unfolding state_after
+requeued r s c role may =
+    let was = subst (λ (q : Role). IsRole q s) may.1.1 role in
+    (refl, subst (λ (q : Role). IsRole (left_by q) (after s (event c (Hand Kind.List)))) (sym may.1.1) (was.0, (refl, was.1.1)))
+
+pub completed : (r : Role) (s : State) (c : ℕ) (again : Option Kind) (os : List Operation) → IsRole r s → MayComplete r → EndsBy true (next_of again) os
+    → LegalHistory 3 s (events c os)
+    → (again ≡ handed_again (complete_reply s) s) × (state_after s (events c os) ≡ done_by c (complete_reply s) s) × IsRole (left_by r) (state_after s (events c os))
+unfolding LegalHistory state_after
+completed r s c None os role may e l =
+    let d = decided c s e.0 os (Look e.1 ∷ Complete Done.Released ∷ []) e.2 l in
+    let unmissed : s.flags.missed ≡ false = d.1.1.0.0.1 in
+    let idle : s.flags.in_busy_poll ≡ false = d.1.1.0.0.2 in
+    let reply : complete_reply s ≡ Done.Released = rw (idle, unmissed) refl in
+    let led = leads c s os _ d.0 in
+    let was = subst (λ (q : Role). IsRole q s) may.1.1 role in (
+      ap (λ (x : Done). handed_again x s) (sym reply),
+      led ∙ ap (λ (x : Done). done_by c x s) (sym reply),
+      subst (IsRole (left_by r)) (sym led) (subst (λ (q : Role). IsRole (left_by q) (after s (event c (Complete Done.Released)))) (sym may.1.1) (was.0, (refl, was.1.1))),
+    )
+completed r s c (Some k) os role may e l =
+    let t = e.2 in
+    let h = e.3 in
+    let begun = flat_map looks t.0 in
+    let all = e.4 ∙ (λ i. t.2 i ++ h.2 i) ∙ append_assoc begun (Look t.1 ∷ Complete Done.Again ∷ []) (Look h.0 ∷ Hand k ∷ []) in
+    let d = decided c s t.0 os (Look t.1 ∷ Complete Done.Again ∷ Look h.0 ∷ Hand k ∷ []) all l in
+    let missed : s.flags.missed ≡ true = d.1.1.0.0.1 in
+    let idle : s.flags.in_busy_poll ≡ false = d.1.1.0.0.2 in
+    let seen : h.0 ≡ seen_of (after s (event c (Complete Done.Again))) = d.1.1.1.0.0 in
+    let to : k ≡ kind_for s = h.1 ∙ ap (λ (x : Seen). shared.kind_for x.flags) seen in
+    let reply : complete_reply s ≡ Done.Again = rw (idle, missed) refl in
+    let owned = after s (event c (Complete Done.Again)) in
+    let led = leads c s os _ d.0 in
+    let was = subst (λ (q : Role). IsRole q s) may.1.1 role in (
+      ap Some to ∙ ap (λ (x : Done). handed_again x s) (sym reply),
+      led ∙ ap (λ (q : Kind). after owned (event c (Hand q))) to ∙ ap (λ (x : Done). done_by c x s) (sym reply),
+      subst (IsRole (left_by r)) (sym led) (subst (λ (q : Role). IsRole (left_by q) (after owned (event c (Hand k)))) (sym may.1.1) (hand_rests k c owned may.1.0 was.0 was.1.1)),
+    )
+
+-- ---- busy polls
+
+busy_refused : (d s b : Bool) → ¬ ((d ≡ false) × (s ≡ false) × (b ≡ false)) → false ≡ not (d || (s || b))
+busy_refused true s b may = refl
+busy_refused false true b may = refl
+busy_refused false false true may = refl
+busy_refused false false false may = absurd (may (refl, refl, refl))
+
+pub took_busily : (r : Role) (s : State) (taken : Bool) (os : List Operation) → IsRole r s → IsSound s → TakesBusilyBy (at_rest r) taken os → LegalHistory 3 s (events 1 os)
+    → (taken ≡ not (s.flags.disable || (s.flags.sched || s.flags.in_busy_poll))) × (state_after s (events 1 os) ≡ busy_taken taken s)
+    × IsRole (if taken then polled_by 1 true r else r) (state_after s (events 1 os))
+unfolding LegalHistory state_after
+took_busily None s true os role sound t l = absurd (true≢false t.0)
+took_busily None s false os role sound t l =
+    let led = leads 1 s os [] t.1 in
+    (busy_refused s.flags.disable s.flags.sched s.flags.in_busy_poll (λ m. let free = sound m.1 in let was = role.0 in absurd (cc)), led, subst (IsRole None) (sym led) role)
+took_busily (Some (m, None)) s true os role sound t l =
+    let d = decided 1 s t.0 os (Look t.1 ∷ BusyTake ∷ []) t.3 l in
+    let may : MayBusyTake s.flags = d.1.1.0.0 in
+    let off = may.0 in
+    let free = may.1 in
+    let idle = may.2 in
+    let led = leads 1 s os _ d.0 in
+    (rw (off, free, idle) refl, led, subst (IsRole (Some (m, Some (1, true)))) (sym led) (role.0, (refl, refl)))
+took_busily (Some (m, None)) s false os role sound t l =
+    let d = decided 1 s t.0 os (Look t.1 ∷ []) t.3 l in
+    let seen : t.1 ≡ seen_of s = d.1.0.0 in
+    let led = leads 1 s os _ d.0 in
+    let refused = subst (λ (x : Seen). ¬ MayBusyTake x.flags) seen t.2 in
+    (busy_refused s.flags.disable s.flags.sched s.flags.in_busy_poll refused, led, subst (IsRole (Some (m, None))) (sym led) role)
+took_busily (Some (m, Some who)) s true os role sound t l = absurd (true≢false t.0)
+took_busily (Some (m, Some who)) s false os role sound t l =
+    let led = leads 1 s os [] t.1 in
+    (busy_refused s.flags.disable s.flags.sched s.flags.in_busy_poll (λ f. let free = sound f.1 in let was = role.1.0 in absurd (cc)), led, subst (IsRole (Some (m, Some who))) (sym led) role)
+
+pub held : (s : State) → state_after s (events 1 (Complete Done.Held ∷ [])) ≡ s
+unfolding state_after
+held s = refl
+
+pub stopped : (r : Role) (s : State) (os : List Operation) → IsRole r s → PolledBy 1 true r → StopsBy os → LegalHistory 3 s (events 1 os)
+    → (state_after s (events 1 os) ≡ after s (event 1 BusyStop)) × IsRole (polled_by 1 false r) (state_after s (events 1 os))
+unfolding LegalHistory state_after
+stopped r s os role by t l =
+    let d = decided 1 s t.0 os (Look t.1 ∷ BusyStop ∷ []) t.2 l in
+    let led = leads 1 s os _ d.0 in
+    let was = subst (λ (q : Role). IsRole q s) by.1 role in
+    (led, subst (IsRole (polled_by 1 false r)) (sym led) (subst (λ (q : Role). IsRole (polled_by 1 false q) (after s (event 1 BusyStop))) (sym by.1) (was.0, (was.1.0, refl))))
+
+-- ---- the controller
+
+pub marks : (r : Role) (s : State) → IsRole r s → IsUnmarked r
+    → (state_after s (events 3 (MarkDisable ∷ [])) ≡ after s (event 3 MarkDisable)) × IsRole (marked r) (state_after s (events 3 (MarkDisable ∷ [])))
+unfolding state_after
+marks r s role un =
+    let was = subst (λ (q : Role). IsRole q s) un.1 role in
+    (refl, subst (λ (q : Role). IsRole (marked q) (after s (event 3 MarkDisable))) (sym un.1) (refl, placed un.0 was.1))
+  where
+    placed : (who : Option (ℕ × Bool)) → ArePlaced who s → ArePlaced who (after s (event 3 MarkDisable))
+    placed None p = p
+    placed (Some w) p = p
+
+pub tried : (r : Role) (s : State) (taken : Bool) (os : List Operation) → IsRole r s → IsSound s → IsMarked r → TriesBy (at_rest r) taken os → LegalHistory 3 s (events 3 os)
+    → (taken ≡ take_disable_reply s) × (state_after s (events 3 os) ≡ tried_by taken s) × IsRole (if taken then None else r) (state_after s (events 3 os))
+unfolding LegalHistory state_after
+tried None s taken os role sound mark t l = absurd (cc (mark.1))
+tried (Some (m, None)) s true os role sound mark t l =
+    let led = leads 3 s os _ t.1 in
+    let legal = legal_as 3 s os _ t.1 l in
+    let free : s.flags.sched ≡ false = legal.1.0.0.1 in
+    let enabled : s.flags.npsvc ≡ false = legal.1.0.0.2 in
+    (rw (free, enabled) refl, led, subst (IsRole None) (sym led) (refl, refl, role.1.1))
+tried (Some (m, None)) s false os role sound mark t l = ⊎_elim refused lost t
+  where
+    has : (b n : Bool) → (b ≡ true) ⊎ (n ≡ true) → not (b || n) ≡ false
+    has true n e = refl
+    has false true e = refl
+    has false false e = absurd (true≢false (sym (⊎_elim (λ x. x) (λ x. x) e)))
+
+    refused : os ≡ TakeDisable false ∷ [] → (false ≡ take_disable_reply s) × (state_after s (events 3 os) ≡ tried_by false s) × IsRole (Some (m, None)) (state_after s (events 3 os))
+    refused is =
+        let led = leads 3 s os _ is in
+        let legal = legal_as 3 s os _ is l in
+        (sym (has s.flags.sched s.flags.npsvc legal.0.0.1), led, subst (IsRole (Some (m, None))) (sym led) role)
+
+    lost : (x : Lost Call.TakeDisable) × (os ≡ looks x) → (false ≡ take_disable_reply s) × (state_after s (events 3 os) ≡ tried_by false s) × IsRole (Some (m, None)) (state_after s (events 3 os))
+    lost x = let none = none_lost 3 3 Call.TakeDisable s (x.0 ∷ []) [] (legal_as 3 s os _ x.1 l) in absurd (cc none)
+tried (Some (m, Some who)) s true os role sound mark t l = absurd (true≢false t.0)
+tried (Some (m, Some who)) s false os role sound mark t l =
+    let led = leads 3 s os [] t.1 in
+    (sym (has s.flags.sched refl), led, subst (IsRole (Some (m, Some who))) (sym led) role)
+  where
+    has : (b : Bool) → s.flags.sched ≡ b → not (b || s.flags.npsvc) ≡ false
+    has true e = refl
+    has false e = let free = sound e in let was = role.1.0 in absurd (cc)
+
+pub enables : (s : State) (threaded : Bool) (os : List Operation) → IsRole None s → EnablesBy threaded os → LegalHistory 3 s (events 3 os)
+    → (state_after s (events 3 os) ≡ after s (event 3 (Enable threaded))) × IsRole (Some (false, None)) (state_after s (events 3 os))
+unfolding LegalHistory state_after
+enables s threaded os role t l =
+    let d = decided 3 s t.0 os (Look t.1 ∷ Enable threaded ∷ []) t.2 l in
+    let led = leads 3 s os _ d.0 in
+    (led, subst (IsRole (Some (false, None))) (sym led) (role.1, (refl, role.2)))
+
+-- ---- anybody
+
+pub threads : (r : Role) (s : State) (t : Bool) → IsRole r s
+    → (state_after s (events 0 (SetThreaded t ∷ [])) ≡ after s (event 3 (SetThreaded t))) × IsRole r (state_after s (events 0 (SetThreaded t ∷ [])))
+unfolding state_after
+threads None s t role = (refl, role)
+threads (Some (m, None)) s t role = (refl, role)
+threads (Some (m, Some who)) s t role = (refl, role)

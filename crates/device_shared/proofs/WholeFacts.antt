@@ -1,0 +1,80 @@
+-- What a call makes of a receive side, behind which all met.
+use Rattle.{std.proofs.Common.{◌≡◌, ◌∙◌, ◌≤◌, ℕ, List, Option, Some, sym, ap, subst, length, drop}, rx_ring.specs.{declared.{ends.RxIn.RxIn, packet.Packet.Packet}, Ends.put_list}}
+use Rattle.{napi_model.specs.{declared.{event.Operation.Operation, state.{Seen.Seen, State.State}}, History.{LegalHistory, state_after}, Laws.IsSound}, napi_calls.specs.{Made.events, declared.types.Napi.Napi}}
+use Rattle.device_shared.specs.{declared.seats.Seats.Seats, Acting.Acts, Meeting.Meets, Seats.{IsRole, Role, received_by, role_of, state_in}, SharedReceive.{IsWhole, IsWholeAt, bytes_each, left_in, napi_at, packets_at}}
+use Rattle.device_shared.proofs.{Gathering.{leads_then, legal_then, received_then, seen_then, shows_still, sound_then}, RingFacts.{seen_side, whole_in}}
+
+-- a call was made, and then all met
+pub record Called (c : ℕ) (os : List Operation) (n : Napi) (place place' : Option Seats) (s1 : Seats) (input : RxIn) (held capacity : ℕ) (seen seen' : Seen) : Type 0 where
+  pub s0 : Seats
+  pub was : place ≡ Some s0
+  pub at : IsWholeAt n place input held capacity seen
+  pub acts : Acts c os n s0 s1
+  pub met : (s2 : Seats) × (place' ≡ Some s2) × Meets s1 s2 seen'
+
+abbrev pub called : {c : ℕ} {os : List Operation} {n : Napi} {place place' : Option Seats} {s1 : Seats} {input : RxIn} {held capacity : ℕ} {seen seen' : Seen} (s0 : Seats)
+    → place ≡ Some s0 → IsWholeAt n place input held capacity seen → Acts c os n s0 s1 → ((s2 : Seats) × (place' ≡ Some s2) × Meets s1 s2 seen') → Called c os n place place' s1 input held capacity seen seen'
+called s0 was at acts met = record { s0 = s0; was = was; at = at; acts = acts; met = met }
+
+module _ {c : ℕ} {os : List Operation} {n : Napi} {place place' : Option Seats} {s1 : Seats} {input : RxIn} {held capacity : ℕ} {seen seen' : Seen}
+    (k : Called c os n place place' s1 input held capacity seen seen') where
+  whole : IsWhole n k.s0 input held capacity seen
+  whole = whole_in n place k.s0 input held capacity seen k.was k.at
+
+  state_is : napi_at place ≡ state_in k.s0
+  state_is = ap napi_at k.was
+
+  pub role_before : IsRole (role_of k.s0.turn) (napi_at place)
+  role_before = subst (IsRole (role_of k.s0.turn)) (sym state_is) whole.gathered.role
+
+  pub sound : IsSound (napi_at place)
+  sound = subst IsSound (sym state_is) (sound_then c os n whole.first k.s0 s1 k.met.0 seen' whole.gathered.show k.acts k.met.2)
+
+  pub legal : LegalHistory 3 (napi_at place) (events c os)
+  legal = subst (λ (s : State). LegalHistory 3 s (events c os)) (sym state_is) (legal_then c os n whole.first k.s0 s1 k.met.0 seen' whole.gathered.show k.acts k.met.2)
+
+  leads : state_in k.met.0 ≡ state_after (napi_at place) (events c os)
+  leads = leads_then c os n whole.first k.s0 s1 k.met.0 seen' whole.gathered.show k.acts k.met.2 ∙ ap (λ (s : State). state_after s (events c os)) (sym state_is)
+
+  pub state : napi_at place' ≡ state_after (napi_at place) (events c os)
+  state = ap napi_at k.met.1 ∙ leads
+
+  received_same : received_by k.met.0 ≡ received_by k.s0
+  received_same = received_then c os n whole.first k.s0 s1 k.met.0 seen' whole.gathered.show k.acts k.met.2
+
+  left_same : left_in input k.met.0 ≡ left_in input k.s0
+  left_same = ap (λ (l : List Packet). drop (length l) (put_list input)) received_same
+
+  pub packets : packets_at input place' ≡ packets_at input place
+  packets = ap (packets_at input) k.met.1 ∙ ap bytes_each left_same ∙ sym (ap (packets_at input) k.was)
+
+  pub kept : IsRole (role_of s1.turn) (state_after (napi_at place) (events c os)) → IsWholeAt n place' input held capacity seen'
+  kept role = subst (λ (p : Option Seats). IsWholeAt n p input held capacity seen') (sym k.met.1) (record {
+    first = whole.first;
+    gathered = record {
+      show = shows_still c os n whole.first k.s0 s1 k.met.0 seen' whole.gathered.show k.acts k.met.2;
+      role = subst (λ (r : Role). IsRole r (state_in k.met.0)) (sym k.met.2.role) (subst (IsRole (role_of s1.turn)) (sym leads) role);
+    };
+    one = whole.one;
+    capacity_is = whole.capacity_is;
+    order = subst (λ (l : List Packet). length l ≤ length (put_list input)) (sym received_same) whole.order;
+    held_is = whole.held_is ∙ sym (ap length left_same);
+    free = whole.free;
+    seen_is = seen_then c os n whole.first k.s0 s1 k.met.0 seen' whole.gathered.show k.acts k.met.2;
+  })
+
+  -- with whose turn it is then
+  pub kept_as : {r : Role} → role_of s1.turn ≡ r → IsRole r (state_after (napi_at place) (events c os)) → IsWholeAt n place' input held capacity seen'
+  kept_as e role = kept (subst (λ (q : Role). IsRole q (state_after (napi_at place) (events c os))) (sym e) role)
+
+  pub kept_at : {r : Role} {t : State} → role_of s1.turn ≡ r → state_after (napi_at place) (events c os) ≡ t → IsRole r t → IsWholeAt n place' input held capacity seen'
+  kept_at {r} {t} e leads role = kept_as e (subst (IsRole r) (sym leads) role)
+
+-- whose turn it was
+pub role_there : (n : Napi) (place : Option Seats) (input : RxIn) (held capacity : ℕ) (seen : Seen) (s0 : Seats) → place ≡ Some s0 → IsWholeAt n place input held capacity seen → IsRole (role_of s0.turn) (napi_at place)
+role_there n place input held capacity seen s0 was at =
+    subst (IsRole (role_of s0.turn)) (sym (ap napi_at was)) (whole_in n place s0 input held capacity seen was at).gathered.role
+
+-- the side as it is seen
+pub viewed : {s t : State} {l k : List ℕ} (capacity : ℕ) → s ≡ t → l ≡ k → seen_side s l capacity ≡ seen_side t k capacity
+viewed capacity e f = λ i. seen_side (e i) (f i) capacity

@@ -1,0 +1,19 @@
+use Rattle.{std.proofs.Common.{◌∙◌}, device_shared.proofs.{Reading.{polls_busily, stopped}, WholeFacts.{called, kept_as, legal, packets, role_before, role_there, state, viewed}}}
+use Rattle.device_shared.proofs.shared_receive.SharedReceiveReceiveSide.stop.Goals as goal
+
+pub stop-seats-requires-clause-polls : goal.stop-seats-requires-clause-polls
+stop-seats-requires-clause-polls g c = polls_busily _ _ (role_there _ _ _ _ _ _ c.take_out-seats.result c.take_out-seats.ensures.was c.self.invariant.0) (rw (← c.self.view_is) at c.requires)
+
+pub invariant_of-self : goal.invariant_of-self
+invariant_of-self g c =
+    let a = c.stop-seats.ensures.acts in
+    let k = called c.take_out-seats.result c.take_out-seats.ensures.was c.self.invariant.0 a.2 c.keep.ensures in
+    let r = stopped _ _ _ (role_before k) (polls_busily _ _ (role_before k) (rw (← c.self.view_is) at c.requires)) a.1 (legal k) in
+    (kept_as k c.stop-seats.ensures.role r.1, c.self.invariant.1)
+
+pub returns : goal.returns
+returns g c =
+    let a = c.stop-seats.ensures.acts in
+    let k = called c.take_out-seats.result c.take_out-seats.ensures.was c.self.invariant.0 a.2 c.keep.ensures in
+    let r = stopped _ _ _ (role_before k) (polls_busily _ _ (role_before k) (rw (← c.self.view_is) at c.requires)) a.1 (legal k) in
+    record { side = rw (← c.self.view_is) (viewed c.self.inside.capacity (state k ∙ r.0) (packets k)) }

@@ -1,0 +1,141 @@
+-- What one of those who make calls on an instance did alone.
+use Rattle.std.specs.Prelude.{◌≡◌, ℕ, zero, suc, ◌≤◌, ◌⊎◌, Bool, true, false, List, [], ◌∷◌, ◌++◌, flat_map, Option, Some, None}
+use Rattle.rx_ring.specs.declared.ends.RxCtx.{RxCtx}
+use Rattle.rx_ring.specs.declared.packet.Packet.{Packet}
+use Rattle.rx_ring.specs.Ends.{received_list}
+use Rattle.napi_model.specs.declared.state.Kind.{Kind}
+use Rattle.napi_model.specs.declared.state.Seen.{Seen}
+use Rattle.napi_model.specs.declared.event.Call.TheVariants as call
+use Rattle.napi_model.specs.declared.event.Operation.{Operation}
+use Rattle.napi_model.specs.declared.event.Operation.TheVariants.{Look, Schedule, Take, TakeDisable, Unmark, Enable}
+use Rattle.napi_model.specs.declared.event.Prep.{Prep}
+use Rattle.napi_model.specs.declared.event.Prep.TheVariants.{Granted, Missed, Disabled}
+use Rattle.napi_word.specs.declared.table.Pass.{Pass}
+use Rattle.napi_word.specs.Passes.{OwnsSlot}
+use Rattle.napi_word.specs.View.{Continues}
+use Rattle.napi_calls.specs.Alone.{MakesAlone}
+use Rattle.napi_calls.specs.Made.{Lost, looks}
+use Rattle.napi_calls.specs.Packets.{Quiet, polled, received_before}
+use Rattle.napi_calls.specs.declared.types.Napi.{Napi}
+use Rattle.poll_shared.specs.SharedPolling.{HandsTo}
+use Rattle.poll_shared.specs.SharedBusy.{BusyTakesBy}
+use Rattle.device_shared.specs.declared.seats.Seats.{Seats}
+use Rattle.device_shared.specs.declared.seats.Posts.{Posts}
+use Rattle.device_shared.specs.declared.seats.Turn.{Turn}
+use Rattle.device_shared.specs.Seats.{ArePosts, AreSeats, Role, control_of, ctx_at, ctx_of, poller_of, poller_post, thread_of, thread_post}
+
+abbrev pub seat_at : ℕ → Seats → Pass
+seat_at zero s = s.interrupt.pass
+seat_at (suc zero) s = poller_of s.turn
+seat_at (suc (suc zero)) s = thread_of s.turn
+seat_at (suc (suc (suc n))) s = control_of s.turn
+
+-- The context stays where it is, or who acts takes it, as it was given back last, or gives it back with these packets, which it has
+-- received since.
+abbrev pub CtxMoves : List Packet → Pass → Pass → Option RxCtx → Option RxCtx → Type 0
+CtxMoves packets p q None None = packets ≡ []
+CtxMoves packets p q (Some x) (Some y) = (packets ≡ []) × (y ≡ x)
+CtxMoves packets p q None (Some x) = (packets ≡ []) × (received_list x ≡ received_before q) × OwnsSlot q
+CtxMoves packets p q (Some x) None = (packets ≡ polled p x) × Continues (received_before p) (received_list x)
+
+abbrev pub post_at : ℕ → Posts → Pass
+post_at (suc zero) posts = poller_post posts
+post_at _ posts = thread_post posts
+
+-- one of the two that poll made these, and the other nothing
+pub record PostsAct (c : ℕ) (os : List Operation) (n : Napi) (before after : Posts) : Type 0 where
+  pub packets : List Packet
+  pub one : MakesAlone c os packets 1 (poller_post before) (poller_post after)
+  pub two : MakesAlone c os packets 2 (thread_post before) (thread_post after)
+  pub moves : CtxMoves packets (post_at c before) (post_at c after) (ctx_at before) (ctx_at after)
+  pub posts : ArePosts n after
+
+-- the one of this number made these operations, and the others did nothing
+pub record Acts (c : ℕ) (os : List Operation) (n : Napi) (before after : Seats) : Type 0 where
+  pub low : c ≤ 3
+  pub packets : List Packet
+  pub zeroth : MakesAlone c os packets 0 before.interrupt.pass after.interrupt.pass
+  pub one : MakesAlone c os packets 1 (poller_of before.turn) (poller_of after.turn)
+  pub two : MakesAlone c os packets 2 (thread_of before.turn) (thread_of after.turn)
+  pub three : MakesAlone c os packets 3 (control_of before.turn) (control_of after.turn)
+  pub moves : CtxMoves packets (seat_at c before) (seat_at c after) (ctx_of before.turn) (ctx_of after.turn)
+  pub seats : AreSeats n after
+
+-- the interrupt asks for a poll, and hands over what it is granted
+abbrev pub AsksBy : Prep → Option Kind → List Operation → Type 0
+AsksBy Granted None os = ⊥
+AsksBy Granted (Some k) os =
+    (ts : List (Lost call.Schedule)) × (x : Seen) × (handed : List Operation) × HandsTo true k handed
+    × (os ≡ (flat_map looks ts ++ Look x ∷ Schedule Granted ∷ []) ++ handed)
+AsksBy Missed kind os = (kind ≡ None) × (ts : List (Lost call.Schedule)) × (x : Seen) × (os ≡ flat_map looks ts ++ Look x ∷ Schedule Missed ∷ [])
+AsksBy Disabled kind os = (kind ≡ None) × (ts : List (Lost call.Schedule)) × (os ≡ flat_map looks ts ++ Schedule Disabled ∷ [])
+
+-- ---- where somebody has the instance nobody need look for it
+
+abbrev pub nobody : {A : Type 0} → Option A → Bool
+nobody None = true
+nobody (Some a) = false
+
+abbrev pub at_rest : Role → Bool
+at_rest None = false
+at_rest (Some r) = nobody r.1
+
+abbrev pub TakesBy : Bool → Kind → Bool → List Operation → Type 0
+TakesBy true k taken os = os ≡ Take k taken ∷ []
+TakesBy false k taken os = (taken ≡ false) × (os ≡ [])
+
+abbrev pub TakesBusilyBy : Bool → Bool → List Operation → Type 0
+TakesBusilyBy true taken os = BusyTakesBy taken os
+TakesBusilyBy false taken os = (taken ≡ false) × (os ≡ [])
+
+-- the controller tries to take an instance that it marked; a try that was lost is two looks
+abbrev pub TriesBy : Bool → Bool → List Operation → Type 0
+TriesBy true true os = (x : Seen) × (os ≡ Look x ∷ TakeDisable true ∷ Unmark ∷ [])
+TriesBy true false os = (os ≡ TakeDisable false ∷ []) ⊎ ((t : Lost call.TakeDisable) × (os ≡ looks t))
+TriesBy false taken os = (taken ≡ false) × (os ≡ [])
+
+-- taken, the controller has the context, which has received just what was delivered
+abbrev pub TurnTakes : Pass → Turn → Bool → Type 0
+TurnTakes p t true = CtxMoves [] p (control_of t) None (ctx_of t) × Quiet p (control_of t)
+TurnTakes p t false = (ctx_of t ≡ None) × Quiet p (control_of t)
+
+abbrev pub EnablesBy : Bool → List Operation → Type 0
+EnablesBy threaded os = (ts : List (Lost (call.Enable threaded))) × (x : Seen) × (os ≡ flat_map looks ts ++ Look x ∷ Enable threaded ∷ [])
+
+-- ---- whose turn it is then
+
+-- this one polls it, or nobody does
+abbrev pub polled_by : ℕ → Bool → Role → Role
+polled_by c busy None = None
+polled_by c busy (Some r) = Some (r.0, Some (c, busy))
+
+abbrev pub left_by : Role → Role
+left_by None = None
+left_by (Some r) = Some (r.0, None)
+
+abbrev pub marked : Role → Role
+marked None = None
+marked (Some r) = Some (true, r.1)
+
+-- who polls it
+abbrev pub who_polls : Option (ℕ × Bool) → ℕ
+who_polls None = 0
+who_polls (Some who) = who.0
+
+abbrev pub poller_by : Role → ℕ
+poller_by None = 0
+poller_by (Some r) = who_polls r.1
+
+-- one of them polls it so
+abbrev pub PolledBy : ℕ → Bool → Role → Type 0
+PolledBy c busy r = (marked : Bool) × (r ≡ Some (marked, Some (c, busy)))
+
+-- somebody polls it who may complete
+abbrev pub MayComplete : Role → Type 0
+MayComplete r = (c : ℕ) × PolledBy c false r
+
+abbrev pub IsUnmarked : Role → Type 0
+IsUnmarked r = (who : Option (ℕ × Bool)) × (r ≡ Some (false, who))
+
+abbrev pub IsMarked : Role → Type 0
+IsMarked r = (who : Option (ℕ × Bool)) × (r ≡ Some (true, who))

@@ -1,0 +1,33 @@
+-- All that make calls on an instance meet.
+use Rattle.std.specs.Prelude.{◌≡◌, List, [], ◌∷◌}
+use Rattle.napi_model.specs.History.{state_after}
+use Rattle.napi_model.specs.Step.{opening, seen_of}
+use Rattle.napi_model.specs.declared.state.Seen.{Seen}
+use Rattle.napi_word.specs.declared.table.Pass.{Pass}
+use Rattle.napi_word.specs.Surveys.{Surveys}
+use Rattle.napi_calls.specs.declared.types.Caller.{Caller}
+use Rattle.device_shared.specs.declared.seats.Posts.{Posts}
+use Rattle.device_shared.specs.declared.seats.Seats.{Seats}
+use Rattle.device_shared.specs.Seats.{control_of, ctx_at, ctx_of, poller_of, poller_post, polls_at, role_of, thread_of, thread_post}
+
+-- the seats in the order of their numbers
+abbrev pub posted : Caller → Posts → Pass → List Pass
+posted interrupt posts control = interrupt.pass ∷ poller_post posts ∷ thread_post posts ∷ control ∷ []
+
+abbrev pub passes_of : Seats → List Pass
+passes_of s = s.interrupt.pass ∷ poller_of s.turn ∷ thread_of s.turn ∷ control_of s.turn ∷ []
+
+-- these passes met, and this was seen of the state behind the whole history
+pub record Meet (before after : List Pass) (seen : Seen) : Type 0 where
+  pub surveys : Surveys 3 before after
+  pub told : seen ≡ seen_of (state_after (opening 3) surveys.history)
+
+-- all stay what they are
+pub record StayPosts (before after : Posts) : Type 0 where
+  pub ctx : ctx_at after ≡ ctx_at before
+  pub polls : polls_at after ≡ polls_at before
+
+pub record Meets (before after : Seats) (seen : Seen) : Type 0 where
+  pub meet : Meet (passes_of before) (passes_of after) seen
+  pub ctx : ctx_of after.turn ≡ ctx_of before.turn
+  pub role : role_of after.turn ≡ role_of before.turn

@@ -1,0 +1,155 @@
+-- All that make calls on one instance, in one hand: the interrupt is caller 0, the poller of the list 1, the device's thread 2, and
+-- the controller 3.
+use Rattle.std.specs.Prelude.{◌≡◌, ℕ, Bool, true, false, List, Option, Some, None}
+use Rattle.rx_ring.specs.declared.ends.RxCtx.{RxCtx}
+use Rattle.rx_ring.specs.declared.packet.Packet.{Packet}
+use Rattle.napi_model.specs.declared.state.Place.{Place}
+use Rattle.napi_model.specs.declared.state.Place.TheVariants.{Nobody, Granted, Listed, ToThread, Polling, Control}
+use Rattle.napi_model.specs.declared.state.State.{State}
+use Rattle.napi_model.specs.History.{LegalHistory}
+use Rattle.napi_model.specs.Step.{Polls, opening}
+use Rattle.napi_word.specs.declared.table.Pass.{Pass}
+use Rattle.napi_word.specs.View.{first_in, received_in}
+use Rattle.napi_word.specs.Passes.{view_of}
+use Rattle.napi_calls.specs.Alone.{AllShow}
+use Rattle.napi_calls.specs.Instance.{IsSeatOf}
+use Rattle.napi_calls.specs.Knows.{received_held}
+use Rattle.napi_calls.specs.Packets.{delivered}
+use Rattle.napi_calls.specs.Seats.{controller_of, shown, state_of}
+use Rattle.napi_calls.specs.declared.types.Napi.{Napi}
+use Rattle.device_shared.specs.declared.seats.Enabled.{Enabled}
+use Rattle.device_shared.specs.declared.seats.Enabled.TheVariants as enabled
+use Rattle.device_shared.specs.declared.seats.Posts.{Posts}
+use Rattle.device_shared.specs.declared.seats.Posts.TheVariants.{Rest, ListPolls, ThreadPolls, PollsBusily}
+use Rattle.device_shared.specs.declared.seats.Turn.{Turn}
+use Rattle.device_shared.specs.declared.seats.Turn.TheVariants as turn
+use Rattle.device_shared.specs.declared.seats.Seats.{Seats}
+
+-- ---- the seat of each number
+
+abbrev pub enabled_pass : Enabled → Pass
+enabled_pass (enabled.On c) = c.pass
+enabled_pass (enabled.Marked c) = c.pass
+
+abbrev pub poller_post : Posts → Pass
+poller_post (Rest p t) = p.pass
+poller_post (ListPolls w t) = w.pass
+poller_post (ThreadPolls p w) = p.pass
+poller_post (PollsBusily b t) = b.pass
+
+abbrev pub thread_post : Posts → Pass
+thread_post (Rest p t) = t.pass
+thread_post (ListPolls w t) = t.pass
+thread_post (ThreadPolls p w) = w.pass
+thread_post (PollsBusily b t) = t.pass
+
+abbrev pub poller_of : Turn → Pass
+poller_of (turn.Off p t c) = p.pass
+poller_of (turn.On posts e) = poller_post posts
+
+abbrev pub thread_of : Turn → Pass
+thread_of (turn.Off p t c) = t.pass
+thread_of (turn.On posts e) = thread_post posts
+
+abbrev pub control_of : Turn → Pass
+control_of (turn.Off p t c) = c.pass
+control_of (turn.On posts e) = enabled_pass e
+
+-- ---- whose turn it is
+
+-- the poll context, where one of them has it
+abbrev pub ctx_at : Posts → Option RxCtx
+ctx_at (Rest p t) = None
+ctx_at (ListPolls w t) = Some w.ctx
+ctx_at (ThreadPolls p w) = Some w.ctx
+ctx_at (PollsBusily b t) = Some b.ctx
+
+abbrev pub ctx_of : Turn → Option RxCtx
+ctx_of (turn.Off p t c) = Some c.state.ctx
+ctx_of (turn.On posts e) = ctx_at posts
+
+-- who polls, and whether busily
+abbrev pub polls_at : Posts → Option (ℕ × Bool)
+polls_at (Rest p t) = None
+polls_at (ListPolls w t) = Some (1, false)
+polls_at (ThreadPolls p w) = Some (2, false)
+polls_at (PollsBusily b t) = Some (1, true)
+
+abbrev pub is_marked : Enabled → Bool
+is_marked (enabled.On c) = false
+is_marked (enabled.Marked c) = true
+
+-- the controller has the instance, or whether it marked it, and who polls it, and whether busily
+abbrev pub Role : Type 0
+Role = Option (Bool × Option (ℕ × Bool))
+
+abbrev pub role_of : Turn → Role
+role_of (turn.Off p t c) = None
+role_of (turn.On posts e) = Some (is_marked e, polls_at posts)
+
+abbrev pub is_off : Role → Bool
+is_off None = true
+is_off (Some r) = false
+
+-- nobody has it, but maybe the list or the thread
+abbrev pub rests : Place → Bool
+rests Nobody = true
+rests Listed = true
+rests ToThread = true
+rests (Granted c) = false
+rests (Polling c) = false
+rests (Control c) = false
+
+abbrev pub ArePlaced : Option (ℕ × Bool) → State → Type 0
+ArePlaced None s = (rests s.place ≡ true) × (s.flags.in_busy_poll ≡ false)
+ArePlaced (Some who) s = Polls who.0 who.1 s
+
+-- the instance's state is the one that this role has
+abbrev pub IsRole : Role → State → Type 0
+IsRole None s = (s.place ≡ Control 3) × (s.flags.disable ≡ false) × (s.flags.in_busy_poll ≡ false)
+IsRole (Some r) s = (s.flags.disable ≡ r.0) × ArePlaced r.1 s
+
+-- ---- all four seats
+
+pub record IsSeatAt (n : Napi) (p : Pass) : Type 0 where
+  pub instance : IsSeatOf n p
+  pub controller : controller_of p ≡ 3
+
+pub record AreFour (n : Napi) (p0 p1 p2 p3 : Pass) : Type 0 where
+  pub zeroth : IsSeatAt n p0
+  pub one : IsSeatAt n p1
+  pub two : IsSeatAt n p2
+  pub three : IsSeatAt n p3
+
+pub record ArePosts (n : Napi) (posts : Posts) : Type 0 where
+  pub one : IsSeatAt n (poller_post posts)
+  pub two : IsSeatAt n (thread_post posts)
+
+pub record AreTurned (n : Napi) (t : Turn) : Type 0 where
+  pub one : IsSeatAt n (poller_of t)
+  pub two : IsSeatAt n (thread_of t)
+  pub three : IsSeatAt n (control_of t)
+
+abbrev pub AreSeats : Napi → Seats → Type 0
+AreSeats n s = AreFour n s.interrupt.pass (poller_of s.turn) (thread_of s.turn) (control_of s.turn)
+
+-- all of them show the one history, which is whole, and all deliveries of the context that was handed in, which is this one
+pub record ShowAll (n : Napi) (first : RxCtx) (p0 p1 p2 p3 : Pass) : Type 0 where
+  pub seats : AreFour n p0 p1 p2 p3
+  pub first_zeroth : first_in (view_of p0) ≡ Some first
+  pub first_one : first_in (view_of p1) ≡ Some first
+  pub first_two : first_in (view_of p2) ≡ Some first
+  pub first_three : first_in (view_of p3) ≡ Some first
+  pub legal : LegalHistory 3 (opening 3) (shown p3)
+  pub all : AllShow (shown p3) (delivered p3) p0 p1 p2 p3
+
+-- the instance's state, and the packets that its ring's context has received
+abbrev pub state_in : Seats → State
+state_in s = state_of (control_of s.turn)
+
+abbrev pub received_by : Seats → List Packet
+received_by s = received_held (ctx_of s.turn) (received_in (view_of (control_of s.turn)))
+
+pub record AreGathered (n : Napi) (first : RxCtx) (s : Seats) : Type 0 where
+  pub show : ShowAll n first s.interrupt.pass (poller_of s.turn) (thread_of s.turn) (control_of s.turn)
+  pub role : IsRole (role_of s.turn) (state_in s)

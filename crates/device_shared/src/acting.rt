@@ -1,0 +1,393 @@
+//! The calls on an instance, of which each is made by one of those in the hand alone.
+
+ghost use Rattle.std.specs.Prelude.{◌≡◌, [], ◌∷◌, List, ℕ, None, Some, if◌then◌else◌, true, false};
+ghost use Rattle.napi_model.specs.declared.event.Done.TheVariants.{Held};
+ghost use Rattle.napi_model.specs.declared.event.Operation.{Operation};
+ghost use Rattle.napi_model.specs.declared.event.Operation.TheVariants as operation;
+ghost use Rattle.napi_model.specs.declared.state.Kind.TheVariants as kind;
+ghost use Rattle.napi_calls.specs.Dealt.{Delivers};
+ghost use Rattle.napi_calls.specs.Instance.{IsSeatOf};
+ghost use Rattle.napi_calls.specs.Made.{Made};
+ghost use Rattle.napi_calls.specs.Packets.{Quiet, polled};
+ghost use Rattle.poll_runs.specs.Polling.{next_of};
+ghost use Rattle.poll_shared.specs.SharedPolling.{EndsBy};
+ghost use Rattle.device_bench.specs.Receive.{taker_of};
+ghost use Rattle.poll_shared.specs.SharedBusy.{StopsBy};
+ghost use Rattle.device_shared.specs.Acting.{Acts, AsksBy, EnablesBy, IsMarked, IsUnmarked, MayComplete, PolledBy, PostsAct, TakesBusilyBy, TakesBy, TriesBy, TurnTakes, at_rest, left_by, marked, nobody, polled_by, poller_by, who_polls};
+ghost use Rattle.device_shared.specs.Seats.{ArePosts, AreSeats, control_of, enabled_pass, is_marked, poller_of, polls_at, role_of, thread_of};
+
+use crate::seats::{Enabled, Posts, Seats, Turn};
+use napi_calls::{Caller, Completed, Control, Marked, Napi, Polling, Sched, TryTake};
+use napi_model::{Kind, Prep};
+use poll_shared::hand_over;
+use std::sync::Wait;
+
+// The interrupt asks for a poll; granted, it hands the instance over.
+fn ask<R: Wait>(rt: &R, napi: &Napi, caller: Caller) -> (Caller, Prep, Option<Kind>)
+    requires { IsSeatOf napi.now caller.pass }
+    ensures asks { (os : List Operation) × Made caller.pass os result.0.pass
+        × AsksBy result.1 result.2 os }
+    ensures packets { Quiet caller.pass result.0.pass }
+{
+    match caller.schedule(rt, napi) {
+        Sched::Granted(granted) => {
+            let (caller, kind) = hand_over(napi, granted, true);
+            (caller, Prep::Granted, Some(kind))
+        }
+        Sched::Missed(caller) => (caller, Prep::Missed, None),
+        Sched::Disabled(caller) => (caller, Prep::Disabled, None),
+    }
+}
+
+/// Who polls completes, and hands over what it is granted again.
+pub(crate) fn complete<R: Wait>(rt: &R, napi: &Napi, polling: Polling) -> (Caller, Option<Kind>)
+    requires { IsSeatOf napi.now polling.pass }
+    ensures ends { (os : List Operation) × Made polling.pass os result.0.pass
+        × EndsBy true (next_of result.1) os }
+    ensures packets { Delivers polling.pass (polled polling.pass polling.ctx) result.0.pass }
+{
+    match polling.complete(rt, napi) {
+        Completed::Released(caller) => (caller, None),
+        Completed::Again(granted) => {
+            let (caller, kind) = hand_over(napi, granted, true);
+            (caller, Some(kind))
+        }
+    }
+}
+
+impl Posts {
+    // The poller looks for the instance on the list, or the device's thread for what was handed to it, unless one has it.
+    fn take(self, napi: &Napi, kind: Kind) -> (Posts, bool)
+        requires { ArePosts napi.now self }
+        ensures acts { (os : List Operation) × TakesBy (nobody (polls_at self)) kind result.1 os
+            × PostsAct (taker_of kind) os napi.now self result.0 }
+        ensures polls { polls_at result.0
+            ≡ (if result.1 then Some (taker_of kind, false) else polls_at self) }
+    {
+        match self {
+            Posts::Rest(poller, thread) => match kind {
+                Kind::List => match poller.take(napi, kind) {
+                    Ok(polling) => (Posts::ListPolls(polling, thread), true),
+                    Err(poller) => (Posts::Rest(poller, thread), false),
+                },
+                Kind::Thread => match thread.take(napi, kind) {
+                    Ok(polling) => (Posts::ThreadPolls(poller, polling), true),
+                    Err(thread) => (Posts::Rest(poller, thread), false),
+                },
+            },
+            posts => (posts, false),
+        }
+    }
+
+    // Who polls it hands it to the list again.
+    fn requeue(self, napi: &Napi) -> Posts
+        requires posts { ArePosts napi.now self }
+        requires polls { (c : ℕ) × (polls_at self ≡ Some (c, false)) }
+        ensures acts { PostsAct (who_polls (polls_at self))
+            (operation.Hand kind.List ∷ []) napi.now self result }
+        ensures polls { polls_at result ≡ None }
+    {
+        match self {
+            Posts::ListPolls(polling, thread) => Posts::Rest(polling.requeue(napi), thread),
+            Posts::ThreadPolls(poller, polling) => Posts::Rest(poller, polling.requeue(napi)),
+            _ => unreachable!(),
+        }
+    }
+
+    // Who polls it completes it, and hands over what it is granted again.
+    fn complete<R: Wait>(self, rt: &R, napi: &Napi) -> (Posts, Option<Kind>)
+        requires posts { ArePosts napi.now self }
+        requires polls { (c : ℕ) × (polls_at self ≡ Some (c, false)) }
+        ensures acts { (os : List Operation) × EndsBy true (next_of result.1) os
+            × PostsAct (who_polls (polls_at self)) os napi.now self result.0 }
+        ensures polls { polls_at result.0 ≡ None }
+    {
+        match self {
+            Posts::ListPolls(polling, thread) => {
+                let (poller, again) = complete(rt, napi, polling);
+                (Posts::Rest(poller, thread), again)
+            }
+            Posts::ThreadPolls(poller, polling) => {
+                let (thread, again) = complete(rt, napi, polling);
+                (Posts::Rest(poller, thread), again)
+            }
+            _ => unreachable!(),
+        }
+    }
+
+    // The poller tries to take an instance that is idle, to busy poll it.
+    fn busy_take<R: Wait>(self, rt: &R, napi: &Napi) -> (Posts, bool)
+        requires { ArePosts napi.now self }
+        ensures acts { (os : List Operation) × TakesBusilyBy (nobody (polls_at self)) result.1 os
+            × PostsAct 1 os napi.now self result.0 }
+        ensures polls { polls_at result.0 ≡ (if result.1 then Some (1, true) else polls_at self) }
+    {
+        match self {
+            Posts::Rest(poller, thread) => match poller.busy(rt, napi) {
+                Ok(busy) => (Posts::PollsBusily(busy, thread), true),
+                Err(poller) => (Posts::Rest(poller, thread), false),
+            },
+            posts => (posts, false),
+        }
+    }
+
+    // The poller, who busy polls it, completes a poll.
+    fn hold(self, napi: &Napi) -> Posts
+        requires posts { ArePosts napi.now self }
+        requires polls { polls_at self ≡ Some (1, true) }
+        ensures acts { PostsAct 1 (operation.Complete Held ∷ []) napi.now self result }
+        ensures polls { polls_at result ≡ polls_at self }
+    {
+        match self {
+            Posts::PollsBusily(mut busy, thread) => {
+                busy.complete_held(napi);
+                Posts::PollsBusily(busy, thread)
+            }
+            _ => unreachable!(),
+        }
+    }
+
+    // The poller stops busy polling.
+    fn stop<R: Wait>(self, rt: &R, napi: &Napi) -> Posts
+        requires posts { ArePosts napi.now self }
+        requires polls { polls_at self ≡ Some (1, true) }
+        ensures acts { (os : List Operation) × StopsBy os × PostsAct 1 os napi.now self result }
+        ensures polls { polls_at result ≡ Some (1, false) }
+    {
+        match self {
+            Posts::PollsBusily(busy, thread) => Posts::ListPolls(busy.stop(rt, napi), thread),
+            _ => unreachable!(),
+        }
+    }
+}
+
+impl Enabled {
+    // The controller marks an instance that is on.
+    fn mark(self, napi: &Napi) -> Enabled
+        requires seat { IsSeatOf napi.now (enabled_pass self) }
+        requires on { is_marked self ≡ false }
+        ensures made { Made (enabled_pass self) (operation.MarkDisable ∷ []) (enabled_pass result) }
+        ensures packets { Quiet (enabled_pass self) (enabled_pass result) }
+        ensures marked { is_marked result ≡ true }
+    {
+        match self {
+            Enabled::On(control) => Enabled::Marked(control.mark(napi)),
+            _ => unreachable!(),
+        }
+    }
+}
+
+/// The controller tries to take an instance that nobody polls.
+pub(crate) fn try_at_rest(
+    napi: &Napi,
+    poller: Caller,
+    thread: Caller,
+    control: Control<Marked>,
+) -> (Turn, bool)
+    requires { IsSeatOf napi.now control.pass }
+    ensures acts { (os : List Operation) × TriesBy true result.1 os
+        × Made control.pass os (control_of result.0) }
+    ensures packets { TurnTakes control.pass result.0 result.1 }
+    ensures others { (poller_of result.0 ≡ poller.pass) × (thread_of result.0 ≡ thread.pass) }
+    ensures role { role_of result.0 ≡ (if result.1 then None else Some (true, None)) }
+{
+    match control.try_take(napi) {
+        TryTake::Taken(control) => (Turn::Off(poller, thread, control), true),
+        TryTake::Busy(control) | TryTake::Changed(control) => {
+            let posts = Posts::Rest(poller, thread);
+            (Turn::On(posts, Enabled::Marked(control)), false)
+        }
+    }
+}
+
+impl Seats {
+    /// The interrupt asks for a poll; granted, it hands the instance over.
+    pub(crate) fn request<R: Wait>(self, rt: &R, napi: &Napi) -> (Seats, Prep, Option<Kind>)
+        requires { AreSeats napi.now self }
+        ensures acts { (os : List Operation) × AsksBy result.1 result.2 os
+            × Acts 0 os napi.now self result.0 }
+        ensures role { role_of result.0.turn ≡ role_of self.turn }
+    {
+        let Seats { interrupt, turn } = self;
+        let (interrupt, prep, kind) = ask(rt, napi, interrupt);
+        (Seats { interrupt, turn }, prep, kind)
+    }
+
+    /// The interrupt says whether polls are handed to the device's thread.
+    pub(crate) fn set_threaded(self, napi: &Napi, threaded: bool) -> Seats
+        requires { AreSeats napi.now self }
+        ensures acts { Acts 0 (operation.SetThreaded threaded ∷ []) napi.now self result }
+        ensures role { role_of result.turn ≡ role_of self.turn }
+    {
+        let Seats {
+            mut interrupt,
+            turn,
+        } = self;
+        interrupt.set_threaded(napi, threaded);
+        Seats { interrupt, turn }
+    }
+
+    /// The poller looks for the instance on the list, or the device's thread for what was handed to it. Where somebody has it,
+    /// nobody looks.
+    pub(crate) fn take(self, napi: &Napi, kind: Kind) -> (Seats, bool)
+        requires { AreSeats napi.now self }
+        ensures acts { (os : List Operation)
+            × TakesBy (at_rest (role_of self.turn)) kind result.1 os
+            × Acts (taker_of kind) os napi.now self result.0 }
+        ensures role { role_of result.0.turn ≡ (if result.1
+            then polled_by (taker_of kind) false (role_of self.turn) else role_of self.turn) }
+    {
+        let Seats { interrupt, turn } = self;
+        let (turn, taken) = match turn {
+            Turn::On(posts, enabled) => {
+                let (posts, taken) = posts.take(napi, kind);
+                (Turn::On(posts, enabled), taken)
+            }
+            Turn::Off(poller, thread, control) => (Turn::Off(poller, thread, control), false),
+        };
+        (Seats { interrupt, turn }, taken)
+    }
+
+    /// Who polls the instance hands it to the list again.
+    pub(crate) fn requeue(self, napi: &Napi) -> Seats
+        requires seats { AreSeats napi.now self }
+        requires polls { MayComplete (role_of self.turn) }
+        ensures acts { Acts (poller_by (role_of self.turn))
+            (operation.Hand kind.List ∷ []) napi.now self result }
+        ensures role { role_of result.turn ≡ left_by (role_of self.turn) }
+    {
+        let Seats { interrupt, turn } = self;
+        let turn = match turn {
+            Turn::On(posts, enabled) => Turn::On(posts.requeue(napi), enabled),
+            _ => unreachable!(),
+        };
+        Seats { interrupt, turn }
+    }
+
+    /// Who polls the instance completes it, and hands over what it is granted again.
+    pub(crate) fn complete<R: Wait>(self, rt: &R, napi: &Napi) -> (Seats, Option<Kind>)
+        requires seats { AreSeats napi.now self }
+        requires polls { MayComplete (role_of self.turn) }
+        ensures acts { (os : List Operation) × EndsBy true (next_of result.1) os
+            × Acts (poller_by (role_of self.turn)) os napi.now self result.0 }
+        ensures role { role_of result.0.turn ≡ left_by (role_of self.turn) }
+    {
+        let Seats { interrupt, turn } = self;
+        let (turn, again) = match turn {
+            Turn::On(posts, enabled) => {
+                let (posts, again) = posts.complete(rt, napi);
+                (Turn::On(posts, enabled), again)
+            }
+            _ => unreachable!(),
+        };
+        (Seats { interrupt, turn }, again)
+    }
+
+    /// The poller tries to take an instance that is idle, to busy poll it.
+    pub(crate) fn busy_take<R: Wait>(self, rt: &R, napi: &Napi) -> (Seats, bool)
+        requires { AreSeats napi.now self }
+        ensures acts { (os : List Operation)
+            × TakesBusilyBy (at_rest (role_of self.turn)) result.1 os
+            × Acts 1 os napi.now self result.0 }
+        ensures role { role_of result.0.turn
+            ≡ (if result.1 then polled_by 1 true (role_of self.turn) else role_of self.turn) }
+    {
+        let Seats { interrupt, turn } = self;
+        let (turn, taken) = match turn {
+            Turn::On(posts, enabled) => {
+                let (posts, taken) = posts.busy_take(rt, napi);
+                (Turn::On(posts, enabled), taken)
+            }
+            Turn::Off(poller, thread, control) => (Turn::Off(poller, thread, control), false),
+        };
+        (Seats { interrupt, turn }, taken)
+    }
+
+    /// The poller, who busy polls the instance, completes a poll.
+    pub(crate) fn hold(self, napi: &Napi) -> Seats
+        requires seats { AreSeats napi.now self }
+        requires polls { PolledBy 1 true (role_of self.turn) }
+        ensures acts { Acts 1 (operation.Complete Held ∷ []) napi.now self result }
+        ensures role { role_of result.turn ≡ role_of self.turn }
+    {
+        let Seats { interrupt, turn } = self;
+        let turn = match turn {
+            Turn::On(posts, enabled) => Turn::On(posts.hold(napi), enabled),
+            _ => unreachable!(),
+        };
+        Seats { interrupt, turn }
+    }
+
+    /// The poller stops busy polling.
+    pub(crate) fn stop<R: Wait>(self, rt: &R, napi: &Napi) -> Seats
+        requires seats { AreSeats napi.now self }
+        requires polls { PolledBy 1 true (role_of self.turn) }
+        ensures acts { (os : List Operation) × StopsBy os × Acts 1 os napi.now self result }
+        ensures role { role_of result.turn ≡ polled_by 1 false (role_of self.turn) }
+    {
+        let Seats { interrupt, turn } = self;
+        let turn = match turn {
+            Turn::On(posts, enabled) => Turn::On(posts.stop(rt, napi), enabled),
+            _ => unreachable!(),
+        };
+        Seats { interrupt, turn }
+    }
+
+    /// The controller marks an instance that is on for disabling.
+    pub(crate) fn mark(self, napi: &Napi) -> Seats
+        requires seats { AreSeats napi.now self }
+        requires on { IsUnmarked (role_of self.turn) }
+        ensures acts { Acts 3 (operation.MarkDisable ∷ []) napi.now self result }
+        ensures role { role_of result.turn ≡ marked (role_of self.turn) }
+    {
+        let Seats { interrupt, turn } = self;
+        let turn = match turn {
+            Turn::On(posts, enabled) => Turn::On(posts, enabled.mark(napi)),
+            _ => unreachable!(),
+        };
+        Seats { interrupt, turn }
+    }
+
+    /// The controller tries once to take an instance that it marked. Where somebody polls that, it needn't try.
+    pub(crate) fn try_take(self, napi: &Napi) -> (Seats, bool)
+        requires seats { AreSeats napi.now self }
+        requires marked { IsMarked (role_of self.turn) }
+        ensures acts { (os : List Operation) × TriesBy (at_rest (role_of self.turn)) result.1 os
+            × Acts 3 os napi.now self result.0 }
+        ensures role { role_of result.0.turn ≡ (if result.1 then None else role_of self.turn) }
+    {
+        let Seats { interrupt, turn } = self;
+        let (posts, enabled) = match turn {
+            Turn::On(posts, enabled) => (posts, enabled),
+            _ => unreachable!(),
+        };
+        let control = match enabled {
+            Enabled::Marked(control) => control,
+            _ => unreachable!(),
+        };
+        let (turn, taken) = match posts {
+            Posts::Rest(poller, thread) => try_at_rest(napi, poller, thread, control),
+            posts => (Turn::On(posts, Enabled::Marked(control)), false),
+        };
+        (Seats { interrupt, turn }, taken)
+    }
+
+    /// The controller enables an instance that it has.
+    pub(crate) fn enable<R: Wait>(self, rt: &R, napi: &Napi, threaded: bool) -> Seats
+        requires seats { AreSeats napi.now self }
+        requires off { role_of self.turn ≡ None }
+        ensures acts { (os : List Operation) × EnablesBy threaded os
+            × Acts 3 os napi.now self result }
+        ensures role { role_of result.turn ≡ Some (false, None) }
+    {
+        let Seats { interrupt, turn } = self;
+        let turn = match turn {
+            Turn::Off(poller, thread, control) => {
+                let control = control.enable(rt, napi, threaded);
+                Turn::On(Posts::Rest(poller, thread), Enabled::On(control))
+            }
+            _ => unreachable!(),
+        };
+        Seats { interrupt, turn }
+    }
+}

@@ -1,0 +1,69 @@
+//! How a receive side is opened.
+
+ghost use Rattle.std.specs.Prelude.{◌≡◌, ◌≤◌, ◌++◌, [], ◌∷◌, length, vec_capacity};
+
+use crate::seats::{Seats, Turn};
+use crate::shared_receive::SharedReceive;
+use device_bench::Opener;
+use napi_calls::{Caller, Napi, NewBack};
+use rx_ring::{Batch, RingFault, ring};
+use std::alloc::{AllocError, Global};
+use std::sync::Wait;
+
+/// Opens receive sides whose instances threads could share. `rt` is what their calls would wait with.
+#[derive(Drop)]
+pub struct SharedOpener<R: Drop> {
+    rt: R,
+}
+
+impl<R: Wait + Copy + Drop> SharedOpener<R> {
+    /// An opener whose receive sides would wait with `rt`.
+    pub fn new(rt: R) -> SharedOpener<R> {
+        SharedOpener { rt }
+    }
+}
+
+// The last of an instance's callers.
+fn pop(callers: &mut Vec<Caller>) -> Caller
+    requires some { 1 ≤ length callers.old.items }
+    ensures last { callers.old.items ≡ callers.new.items ++ result ∷ [] }
+    ensures room { vec_capacity callers.new ≡ vec_capacity callers.old }
+{
+    let popped = callers.pop();
+    let Some(caller) = popped else { unreachable!() };
+    caller
+}
+
+impl<R: Wait + Copy + Drop> Opener<SharedReceive<R>> for SharedOpener<R> {
+    fn open(&self, alloc: Global, capacity: u32) -> Result<SharedReceive<R>, AllocError> {
+        let (mut input, ctx) = match ring(alloc, capacity as usize) {
+            Ok(ends) => ends,
+            Err(RingFault::OutOfMemory) => return Err(AllocError),
+            Err(RingFault::BadCapacity) => unreachable!(),
+        };
+        let (napi, mut callers, mut control) = match Napi::new(alloc, ctx, 3) {
+            Ok(made) => made,
+            Err(NewBack { fault: _, ctx: _ }) => return Err(AllocError),
+        };
+        // So each place is known to be free.
+        control.beside(&mut input);
+        let thread = pop(&mut callers);
+        let poller = pop(&mut callers);
+        let interrupt = pop(&mut callers);
+        let turn = Turn::Off(poller, thread, control);
+        let (seats, _) = Seats { interrupt, turn }.meet(&napi);
+        let (seats, seen) = seats.enable(&self.rt, &napi, false).meet(&napi);
+        Ok(SharedReceive {
+            rt: self.rt,
+            napi,
+            seats: Some(seats),
+            callers,
+            input,
+            batch: Batch::new(),
+            held: 0,
+            capacity: capacity as usize,
+            seen,
+            put: 0,
+        })
+    }
+}

@@ -1,0 +1,83 @@
+//! A poll while both ends of the ring are in one hand.
+
+ghost use Rattle.std.specs.Prelude.{◌≡◌, ◌≤◌, ℕ, Bool, is_some, true};
+ghost use Rattle.napi_calls.specs.Seats.{IsInputOf};
+ghost use Rattle.device_shared.specs.Acting.{PolledBy};
+ghost use Rattle.device_shared.specs.Receiving.{FeedsPosts, PostsReceive, ReceivesNext, SeatsReceive};
+ghost use Rattle.device_shared.specs.Seats.{poller_of, polls_at, role_of, thread_of};
+
+use crate::seats::{Posts, Seats, Turn};
+use napi_calls::{Busy, Polling};
+use rx_ring::{Batch, MAX_WEIGHT, RxIn};
+
+// The ends of the ring meet before the poll, so that it finds each packet, and behind it, so that each place is known that is free.
+fn poll(polling: &mut Polling, input: &mut RxIn, weight: usize, batch: &mut Batch)
+    requires input { IsInputOf input.old polling.old.pass }
+    requires weight { (1 ≤ weight) × (weight ≤ MAX_WEIGHT) }
+    ensures next { ReceivesNext
+        weight input.old polling.old.ctx input.new polling.new.ctx batch.new.items }
+    ensures pass { polling.new.pass ≡ polling.old.pass }
+{
+    polling.beside(input);
+    polling.poll(weight, batch);
+    polling.beside(input);
+}
+
+// As [`poll`], of who busy polls.
+fn poll_busily(busy: &mut Busy, input: &mut RxIn, weight: usize, batch: &mut Batch)
+    requires input { IsInputOf input.old busy.old.pass }
+    requires weight { (1 ≤ weight) × (weight ≤ MAX_WEIGHT) }
+    ensures next { ReceivesNext
+        weight input.old busy.old.ctx input.new busy.new.ctx batch.new.items }
+    ensures pass { busy.new.pass ≡ busy.old.pass }
+{
+    busy.beside(input);
+    busy.poll(weight, batch);
+    busy.beside(input);
+}
+
+impl Posts {
+    // Who polls the instance polls the ring.
+    fn receive(self, input: &mut RxIn, weight: usize, batch: &mut Batch) -> Posts
+        requires input { FeedsPosts input.old self }
+        requires weight { (1 ≤ weight) × (weight ≤ MAX_WEIGHT) }
+        requires polls { is_some (polls_at self) ≡ true }
+        ensures next { PostsReceive weight input.old self input.new result batch.new.items }
+        ensures polls { polls_at result ≡ polls_at self }
+    {
+        match self {
+            Posts::ListPolls(mut polling, thread) => {
+                poll(&mut polling, input, weight, batch);
+                Posts::ListPolls(polling, thread)
+            }
+            Posts::ThreadPolls(poller, mut polling) => {
+                poll(&mut polling, input, weight, batch);
+                Posts::ThreadPolls(poller, polling)
+            }
+            Posts::PollsBusily(mut busy, thread) => {
+                poll_busily(&mut busy, input, weight, batch);
+                Posts::PollsBusily(busy, thread)
+            }
+            _ => unreachable!(),
+        }
+    }
+}
+
+impl Seats {
+    /// Who polls the instance polls the ring. It is no event.
+    pub(crate) fn receive(self, input: &mut RxIn, weight: usize, batch: &mut Batch) -> Seats
+        requires one { IsInputOf input.old (poller_of self.turn) }
+        requires two { IsInputOf input.old (thread_of self.turn) }
+        requires weight { (1 ≤ weight) × (weight ≤ MAX_WEIGHT) }
+        requires polls { (c : ℕ) × (b : Bool) × PolledBy c b (role_of self.turn) }
+        ensures next { SeatsReceive weight input.old self input.new result batch.new.items }
+        ensures role { role_of result.turn ≡ role_of self.turn }
+    {
+        let Seats { interrupt, turn } = self;
+        let turn = match turn {
+            Turn::On(posts, enabled) => Turn::On(posts.receive(input, weight, batch), enabled),
+            _ => unreachable!(),
+        };
+        Seats { interrupt, turn }
+    }
+}

@@ -1,0 +1,41 @@
+//! All that make calls on one instance, in one hand.
+
+use napi_calls::{Busy, Caller, Control, Marked, Off, On, Polling};
+
+/// The controller of an instance that is enabled, or to be disabled.
+pub(crate) enum Enabled {
+    On(Control<On>),
+    Marked(Control<Marked>),
+}
+
+/// The poller of the list and the device's thread, of whom one at most polls the instance.
+pub(crate) enum Posts {
+    Rest(Caller, Caller),
+    ListPolls(Polling, Caller),
+    ThreadPolls(Caller, Polling),
+    PollsBusily(Busy, Caller),
+}
+
+/// Whose turn it is: the controller's, or that of the others.
+pub(crate) enum Turn {
+    Off(Caller, Caller, Control<Off>),
+    On(Posts, Enabled),
+}
+
+/// The interrupt, which is caller 0, the poller of the list, 1, the device's thread, 2, and the controller, 3.
+pub(crate) struct Seats {
+    pub(crate) interrupt: Caller,
+    pub(crate) turn: Turn,
+}
+
+impl Seats {
+    ghost use Rattle.std.specs.Prelude.{◌≡◌};
+    ghost use Rattle.device_shared.specs.Seats.{is_off, role_of};
+
+    /// Whether the controller has the instance.
+    pub(crate) fn is_off(&self) -> bool
+        ensures { result ≡ is_off (role_of self.now.turn) }
+    {
+        matches!(self.turn, Turn::Off(..))
+    }
+}

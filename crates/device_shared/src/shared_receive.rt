@@ -1,0 +1,232 @@
+//! The receive side of a device over an instance that threads could share.
+
+ghost use Rattle.std.specs.Prelude.{◌≡◌, ◌<◌, ◌≤◌, ◌^◌, ◌++◌, [], ◌∷◌, false, is_some, length, sum, Some};
+ghost use Rattle.device_shared.specs.Meeting.{Meets};
+ghost use Rattle.device_shared.specs.Seats.{AreSeats};
+ghost use Rattle.device_shared.specs.SharedReceive.{bytes_each};
+ghost use Rattle.device_shared.specs.declared.seats.Seats.{Seats};
+
+use crate::ending::close;
+use crate::places::{put_back, take_out};
+use crate::seats::{Seats, Turn};
+use device_bench::ReceiveSide;
+use napi_calls::{Caller, Napi};
+use napi_model::{Kind, Prep, Seen};
+use rx_ring::{Batch, Packet, RxIn};
+use std::marker::Model;
+use std::sync::Wait;
+
+/// A receive ring and a NAPI instance that threads could share, with all that make calls on it in one hand. They meet behind
+/// each call, so that each call finds the whole history of the instance.
+///
+/// Dropped, it polls until nobody has the instance, and closes it.
+pub struct SharedReceive<R: Wait + Drop> {
+    pub(crate) rt: R,
+    pub(crate) napi: Napi,
+    // Gone only within a call.
+    pub(crate) seats: Option<Seats>,
+    // Places for the callers at the end.
+    pub(crate) callers: Vec<Caller>,
+    pub(crate) input: RxIn,
+    pub(crate) batch: Batch,
+    // How many packets the ring holds, and how many it may hold.
+    pub(crate) held: usize,
+    pub(crate) capacity: usize,
+    // What the state word tells.
+    pub(crate) seen: Seen,
+    // How many packets were put; it stays at its greatest value.
+    pub(crate) put: u64,
+}
+
+impl<R: Wait + Drop> Model for SharedReceive<R> {
+    ghost use Rattle.std.specs.Prelude.{length, vec_capacity};
+    ghost use Rattle.device_bench.specs.Receive.{ReceiveView};
+    ghost use Rattle.napi_calls.specs.Instance.{callers_of};
+    ghost use Rattle.device_shared.specs.SharedReceive.{HasRoom, IsWholeAt, napi_at, packets_at};
+
+    ghost Value = { ReceiveView };
+
+    ghost view = { λ s. record {
+      napi = napi_at s.seats;
+      packets = packets_at s.input s.seats;
+      capacity = s.capacity;
+    } };
+
+    ghost invariant = { λ s. IsWholeAt s.napi s.seats s.input s.held s.capacity s.seen
+        × HasRoom (callers_of s.napi) (length s.callers.items) (vec_capacity s.callers) };
+}
+
+impl<R: Wait + Drop> Drop for SharedReceive<R> {
+    fn drop(self) {
+        let SharedReceive {
+            rt,
+            napi,
+            seats,
+            callers,
+            input: _,
+            batch: _,
+            held: _,
+            capacity: _,
+            seen: _,
+            put: _,
+        } = self;
+        let Some(
+            Seats {
+                interrupt,
+                mut turn,
+            },
+        ) = seats
+        else {
+            unreachable!()
+        };
+        for _ in rt.forever() {
+            match turn {
+                Turn::Off(poller, thread, control) => {
+                    close(napi, interrupt, poller, thread, control, callers);
+                    return;
+                }
+                Turn::On(posts, enabled) => turn = Turn::leave(posts, enabled, &rt, &napi),
+            }
+        }
+        unreachable!()
+    }
+}
+
+// All meet, and come back to their place.
+fn keep(napi: &Napi, place: &mut Option<Seats>, seen: &mut Seen, seats: Seats)
+    requires empty { is_some place.old ≡ false }
+    requires seats { AreSeats napi.now seats }
+    ensures { (met : Seats) × (place.new ≡ Some met) × Meets seats met seen.new }
+{
+    let (seats, told) = seats.meet(napi);
+    put_back(place, seats);
+    *seen = told;
+}
+
+impl<R: Wait + Drop> ReceiveSide for SharedReceive<R> {
+    ghost side = { λ s. s };
+
+    fn put(&mut self, bytes: u32) -> bool {
+        if self.held >= self.capacity {
+            return false;
+        }
+        self.put = self.put.saturating_add(1);
+        let packet = Packet {
+            number: self.put,
+            bytes,
+        };
+        let Ok(()) = self.input.put(packet) else {
+            unreachable!();
+        };
+        self.held += 1;
+        true
+    }
+
+    fn left(&self) -> usize {
+        self.held
+    }
+
+    fn seen(&self) -> Seen {
+        self.seen
+    }
+
+    fn is_off(&self) -> bool {
+        match &self.seats {
+            Some(seats) => seats.is_off(),
+            None => unreachable!(),
+        }
+    }
+
+    fn request(&mut self) -> (Prep, Option<Kind>) {
+        let seats = take_out(&mut self.seats);
+        let (seats, prep, kind) = seats.request(&self.rt, &self.napi);
+        keep(&self.napi, &mut self.seats, &mut self.seen, seats);
+        (prep, kind)
+    }
+
+    fn take(&mut self, kind: Kind) -> bool {
+        let seats = take_out(&mut self.seats);
+        let (seats, taken) = seats.take(&self.napi, kind);
+        keep(&self.napi, &mut self.seats, &mut self.seen, seats);
+        taken
+    }
+
+    fn receive(&mut self, weight: u32) -> (u32, u64) {
+        let seats = take_out(&mut self.seats);
+        let seats = seats.receive(&mut self.input, weight as usize, &mut self.batch);
+        put_back(&mut self.seats, seats);
+        let given = self.batch.len();
+        self.held -= given;
+        (given as u32, byte_sum(self.batch.as_slice()))
+    }
+
+    fn requeue(&mut self) {
+        let seats = take_out(&mut self.seats);
+        let seats = seats.requeue(&self.napi);
+        keep(&self.napi, &mut self.seats, &mut self.seen, seats);
+    }
+
+    fn complete(&mut self) -> Option<Kind> {
+        let seats = take_out(&mut self.seats);
+        let (seats, again) = seats.complete(&self.rt, &self.napi);
+        keep(&self.napi, &mut self.seats, &mut self.seen, seats);
+        again
+    }
+
+    fn busy_take(&mut self) -> bool {
+        let seats = take_out(&mut self.seats);
+        let (seats, taken) = seats.busy_take(&self.rt, &self.napi);
+        keep(&self.napi, &mut self.seats, &mut self.seen, seats);
+        taken
+    }
+
+    fn hold(&mut self) {
+        let seats = take_out(&mut self.seats);
+        let seats = seats.hold(&self.napi);
+        keep(&self.napi, &mut self.seats, &mut self.seen, seats);
+    }
+
+    fn stop(&mut self) {
+        let seats = take_out(&mut self.seats);
+        let seats = seats.stop(&self.rt, &self.napi);
+        keep(&self.napi, &mut self.seats, &mut self.seen, seats);
+    }
+
+    fn mark(&mut self) {
+        let seats = take_out(&mut self.seats);
+        let seats = seats.mark(&self.napi);
+        keep(&self.napi, &mut self.seats, &mut self.seen, seats);
+    }
+
+    fn try_take(&mut self) -> bool {
+        let seats = take_out(&mut self.seats);
+        let (seats, taken) = seats.try_take(&self.napi);
+        keep(&self.napi, &mut self.seats, &mut self.seen, seats);
+        taken
+    }
+
+    fn enable(&mut self, threaded: bool) {
+        let seats = take_out(&mut self.seats);
+        let seats = seats.enable(&self.rt, &self.napi, threaded);
+        keep(&self.napi, &mut self.seats, &mut self.seen, seats);
+    }
+
+    fn set_threaded(&mut self, threaded: bool) {
+        let seats = take_out(&mut self.seats);
+        let seats = seats.set_threaded(&self.napi, threaded);
+        keep(&self.napi, &mut self.seats, &mut self.seen, seats);
+    }
+}
+
+// The bytes of a batch of packets together.
+fn byte_sum(batch: &[Packet]) -> u64
+    requires { length batch.now ≤ 64 }
+    ensures sum { result ≡ sum (bytes_each batch.now) }
+    ensures bound { result < 2 ^ 38 }
+{
+    let mut sum = 0;
+    for packet in batch {
+        sum += u64::from(packet.bytes);
+    }
+    sum
+}

@@ -1,0 +1,19 @@
+-- The transmit sides of a bench, as it keeps them.
+use Rattle.std.specs.Prelude.{◌≡◌, ℕ, Option, Some, None, length}
+use Rattle.device_transmit.specs.Transmits.{Transmits}
+use Rattle.device_rows.specs.Places.{at}
+use Rattle.device_transmit.specs.Transmit.{ShowsTransmit, TransmitView}
+use Rattle.device_transmit.specs.declared.sides.TransmitSides.{TransmitSides}
+use Rattle.device_transmit.specs.declared.transmit.Transmit.{Transmit}
+
+-- what is kept of a transmit side shows this
+abbrev pub ShowsAt : Option Transmit → Option TransmitView → Type 0
+ShowsAt None None = Unit {0}
+ShowsAt (Some kept) (Some t) = ShowsTransmit kept t
+ShowsAt None (Some t) = ⊥
+ShowsAt (Some kept) None = ⊥
+
+-- the transmit sides that are kept show these
+pub record ShowsSides (sides : TransmitSides) (all : Transmits) : Type 0 where
+  pub places : length all ≡ 17
+  pub each : (number : ℕ) → ShowsAt (at number sides.of.items) (at number all)

@@ -1,0 +1,66 @@
+-- The transmit side of a device: its queue, and what became of its tx and done rows. It knows nothing of polls.
+use Rattle.std.specs.Prelude.{◌≡◌, ℕ, Bool, true, false, Option, Some, None, if◌then◌else◌}
+use Rattle.dql_core.specs.Bounds.{DQL_MAX_LIMIT}
+use Rattle.dql_core.specs.Limit.{opening}
+use Rattle.device_transmit.specs.Counter.{raised}
+use Rattle.device_transmit.specs.declared.transmit.Transmit.{Transmit}
+use Rattle.device_transmit.specs.declared.transmit.TxCounts.{TxCounts}
+use Rattle.tx_ring.specs.Queue.{TransmitQueue, after_done, after_send, done_fault, opening_queue, send_fault, state_of}
+use Rattle.tx_ring.specs.Ring.{ShowsQueue}
+use Rattle.tx_ring.specs.declared.event.TxFault.{TxFault}
+
+pub record TransmitView : Type 0 where
+  pub queue : TransmitQueue
+  -- packets sent, packets refused, packets completed, completions refused
+  pub sent : ℕ
+  pub held : ℕ
+  pub done : ℕ
+  pub denied : ℕ
+  -- whether there was a row
+  pub used : Bool
+
+-- how long slack is held before the limit shrinks, in milliseconds: the `hold_time` of `dql_init`, which
+-- `netdev_init_one_queue` (net/core/dev.c) calls with HZ, a second
+abbrev pub hold_time : ℕ
+hold_time = 1000
+
+-- an empty queue of that many packets under a limit that starts at that moment
+abbrev pub opened_transmit : ℕ → ℕ → TransmitView
+opened_transmit capacity moment = record {
+  queue = opening_queue capacity (opening 0 DQL_MAX_LIMIT hold_time moment);
+  sent = 0;
+  held = 0;
+  done = 0;
+  denied = 0;
+  used = false;
+}
+
+-- a packet is sent, where the queue doesn't refuse it
+abbrev pub sent_unless : Option TxFault → ℕ → TransmitView → TransmitView
+sent_unless None bytes t = record t { queue = after_send t.queue bytes; sent = raised t.sent 1; used = true }
+sent_unless (Some fault) bytes t = record t { held = raised t.held 1; used = true }
+
+abbrev pub after_tx : ℕ → TransmitView → TransmitView
+after_tx bytes t = sent_unless (send_fault t.queue bytes) bytes t
+
+-- so many packets are complete, where the queue holds them
+abbrev pub done_unless : Option TxFault → ℕ → ℕ → TransmitView → TransmitView
+done_unless None count moment t = record t { queue = after_done t.queue count moment; done = raised t.done count; used = true }
+done_unless (Some fault) count moment t = record t { denied = raised t.denied 1; used = true }
+
+abbrev pub after_finish : ℕ → ℕ → TransmitView → TransmitView
+after_finish count moment t = done_unless (done_fault t.queue count) count moment t
+
+-- what the report tells of it, where there was a row
+abbrev pub tx_counts : TransmitView → Option TxCounts
+tx_counts t =
+    if t.used then Some (record { sent = t.sent; held = t.held; done = t.done; denied = t.denied; state = state_of t.queue }) else None
+
+-- what is kept shows this: the ring shows the queue, which counts more than 32 bits hold
+pub record ShowsTransmit (kept : Transmit) (t : TransmitView) : Type 0 where
+  pub queue : ShowsQueue kept.ring t.queue
+  pub sent : kept.sent ≡ t.sent
+  pub held : kept.held ≡ t.held
+  pub done : kept.done ≡ t.done
+  pub denied : kept.denied ≡ t.denied
+  pub used : kept.used ≡ t.used

@@ -1,0 +1,21 @@
+-- The transmit sides of devices, by their numbers, and what calls do to them.
+use Rattle.std.specs.Prelude.{Option, Some, None}
+use Rattle.device_rows.specs.Places.{Places}
+use Rattle.device_transmit.specs.Transmit.{TransmitView, tx_counts}
+use Rattle.device_transmit.specs.declared.transmit.TxCounts.{TxCounts}
+
+abbrev pub Transmits : Type 0
+Transmits = Places TransmitView
+
+-- a call changed the transmit sides that a bench shows so
+abbrev pub Changes : {B : Type 0} → (B → Transmits → Type 0) → (Transmits → Transmits) → B → B → Type 0
+Changes shows change old new = (all : Transmits) → shows old all → shows new (change all)
+
+-- a call left them as they were
+abbrev pub Keeps : {B : Type 0} → (B → Transmits → Type 0) → B → B → Type 0
+Keeps shows old new = Changes shows (λ all. all) old new
+
+-- what the report tells of a side, where there is one
+abbrev pub tx_counts_of : Option TransmitView → Option TxCounts
+tx_counts_of None = None
+tx_counts_of (Some t) = tx_counts t

@@ -1,0 +1,84 @@
+//! The transmit sides of a bench's devices, by their numbers.
+
+ghost use Rattle.std.specs.Prelude.{◌≡◌, length};
+
+use crate::transmit::{Transmit, TxCounts};
+use device_rows::PLACES;
+use std::alloc::{AllocError, Global};
+
+/// At most sixteen transmit sides, each in the place of its device's number. A call on a number that has none changes
+/// nothing.
+#[derive(Drop)]
+pub struct TransmitSides {
+    of: Vec<Option<Transmit>>,
+    ghost places: { length of.items ≡ 17 },
+}
+
+impl TransmitSides {
+    ghost use Rattle.std.specs.Prelude.{IfOk};
+    ghost use Rattle.device_transmit.specs.Transmits.{Changes, Transmits, tx_counts_of};
+    ghost use Rattle.device_rows.specs.Places.{added, at, changed, empty};
+    ghost use Rattle.device_rows.specs.Range.{IsWithin};
+    ghost use Rattle.device_transmit.specs.Sides.{ShowsSides};
+    ghost use Rattle.device_transmit.specs.Transmit.{ShowsTransmit, TransmitView, after_finish, after_tx};
+
+    /// No sides. Their places are made here, so that no other call takes memory.
+    pub fn new(alloc: Global) -> Result<TransmitSides, AllocError>
+        ensures { IfOk result (λ sides. ShowsSides sides empty) }
+    {
+        let mut of = Vec::with_capacity(alloc, PLACES as usize)?;
+        for _ in 0..PLACES {
+            of.push(None)?;
+        }
+        Ok(TransmitSides { of })
+    }
+
+    /// The side of a device, unless that has one.
+    pub fn attach(&mut self, device: u32, transmit: Transmit)
+        requires { IsWithin 1 16 device }
+        ensures { (view : TransmitView) → ShowsTransmit transmit view
+            → Changes ShowsSides (added device view) self.old self.new }
+    {
+        let place = device as usize;
+        if self.of[place].is_none() {
+            self.of[place] = Some(transmit);
+        }
+    }
+
+    /// A tx row.
+    pub fn send(&mut self, device: u32, bytes: u32)
+        ensures { Changes ShowsSides (changed (after_tx bytes) device) self.old self.new }
+    {
+        if device < PLACES {
+            if let Some(transmit) = &mut self.of[device as usize] {
+                transmit.send(bytes);
+            }
+        }
+    }
+
+    /// A done row.
+    pub fn finish(&mut self, device: u32, count: u32, moment: u64)
+        ensures { Changes ShowsSides
+            (changed (after_finish count moment) device) self.old self.new }
+    {
+        if device < PLACES {
+            if let Some(transmit) = &mut self.of[device as usize] {
+                transmit.finish(count, moment);
+            }
+        }
+    }
+
+    /// What the report tells of a side, where it had a row.
+    pub fn counts(&self, device: u32) -> Option<TxCounts>
+        ensures { (all : Transmits) → ShowsSides self.now all
+            → result ≡ tx_counts_of (at device all) }
+    {
+        if device >= PLACES {
+            return None;
+        }
+        match &self.of[device as usize] {
+            Some(transmit) => transmit.counts(),
+            None => None,
+        }
+    }
+}

@@ -1,0 +1,103 @@
+//! The transmit side of a device.
+
+ghost use Rattle.std.specs.Prelude.{◌≡◌, IfOk};
+ghost use Rattle.device_rows.specs.Range.{IsWithin};
+ghost use Rattle.device_transmit.specs.Transmit.{ShowsTransmit, TransmitView, after_finish, after_tx, opened_transmit, tx_counts};
+
+use dql_core::{Dql, MAX_LIMIT};
+use std::alloc::{AllocError, Global};
+use tx_ring::{TxFault, TxRing, TxState};
+
+/// How long slack is held before the limit shrinks, in milliseconds.
+const HOLD: u64 = 1000;
+
+/// A device's transmit ring, and what became of its tx and done rows. Counts stay at their greatest value.
+#[derive(Drop)]
+pub struct Transmit {
+    ring: TxRing,
+    sent: u64,
+    held: u64,
+    done: u64,
+    denied: u64,
+    used: bool,
+}
+
+/// What the report tells of a device's transmit side.
+#[derive(Clone, Copy, Debug, PartialEq, Eq)]
+pub struct TxCounts {
+    /// Packets sent.
+    pub sent: u64,
+    /// Packets that the ring refused.
+    pub held: u64,
+    /// Packets completed.
+    pub done: u64,
+    /// Completions that the ring refused.
+    pub denied: u64,
+    /// How the ring and its limit stand after the last row.
+    pub state: TxState,
+}
+
+impl Transmit {
+    /// A new ring of that many places, under a limit of the kernel's bounds that starts at that moment.
+    pub fn open(alloc: Global, capacity: u32, moment: u64) -> Result<Transmit, AllocError>
+        requires { IsWithin 1 65536 capacity }
+        ensures { IfOk result
+            (λ transmit. ShowsTransmit transmit (opened_transmit capacity moment)) }
+    {
+        let Ok(limit) = Dql::new(0, MAX_LIMIT, HOLD, moment) else {
+            unreachable!();
+        };
+        match TxRing::new(alloc, capacity as usize, limit) {
+            Ok(ring) => Ok(Transmit {
+                ring,
+                sent: 0,
+                held: 0,
+                done: 0,
+                denied: 0,
+                used: false,
+            }),
+            Err(TxFault::OutOfMemory) => Err(AllocError),
+            Err(_) => unreachable!(),
+        }
+    }
+
+    /// A tx row: a packet of that many bytes is sent, or held back and counted (`netdev_tx_sent_queue`).
+    pub fn send(&mut self, bytes: u32)
+        ensures { (view : TransmitView) → ShowsTransmit self.old view
+            → ShowsTransmit self.new (after_tx bytes view) }
+    {
+        self.used = true;
+        match self.ring.send(bytes) {
+            Ok(()) => self.sent = self.sent.saturating_add(1),
+            Err(_) => self.held = self.held.saturating_add(1),
+        }
+    }
+
+    /// A done row: that many packets are complete, or too many and counted (`netdev_tx_completed_queue`).
+    pub fn finish(&mut self, count: u32, moment: u64)
+        ensures { (view : TransmitView) → ShowsTransmit self.old view
+            → ShowsTransmit self.new (after_finish count moment view) }
+    {
+        self.used = true;
+        match self.ring.done(count, moment) {
+            Ok(()) => self.done = self.done.saturating_add(u64::from(count)),
+            Err(_) => self.denied = self.denied.saturating_add(1),
+        }
+    }
+
+    /// What the report tells of it, where it had a row.
+    pub fn counts(&self) -> Option<TxCounts>
+        ensures { (view : TransmitView) → ShowsTransmit self.now view → result ≡ tx_counts view }
+    {
+        if !self.used {
+            return None;
+        }
+        Some(TxCounts {
+            sent: self.sent,
+            held: self.held,
+            done: self.done,
+            denied: self.denied,
+            state: self.ring.state(),
+        })
+    }
+}

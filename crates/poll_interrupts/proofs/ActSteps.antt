@@ -1,0 +1,30 @@
+-- One act more.
+use Rattle.{std.proofs.Common.{◌≡◌, ℕ, ◌+◌, ◌≤◌, length, List, ◌++◌, sym, arith, length-append, append_assoc, add-one, ap, subst, Bool, ◌∙◌}, rx_ring.specs.{declared.{packet.Packet.Packet, ends.RxIn.RxIn}, Ends.SameIn}}
+use Rattle.poll_interrupts.specs.{declared.{acts.Act.Act, worker.Hold.Hold}, Acts.{after_acts, arrivals, brings}, Calls.{Acts, AllActs}}
+
+pub after_acts-more : {D : Type 0} (after : D → ℕ → D) (d : D) (n : ℕ) → after_acts after d (n + 1) ≡ after (after_acts after d n) n
+after_acts-more after d n = ap (λ m. after_acts after d m) (add-one n)
+
+pub arrivals-more : {D : Type 0} (answer : D → ℕ → Act) (after : D → ℕ → D) (d : D) (n : ℕ)
+    → arrivals answer after d (n + 1) ≡ arrivals answer after d n ++ brings (answer (after_acts after d n) n)
+arrivals-more answer after d n = ap (λ m. arrivals answer after d m) (add-one n)
+
+pub acts-more : {D : Type 0} (thread : Bool) (answer : D → ℕ → Act) (after : D → ℕ → D) (d : D) (n : ℕ) (a m b : Hold) (first rx last : RxIn)
+    → AllActs thread answer after d n a m first rx → SameIn rx last → Acts thread (answer (after_acts after d n) n) m b rx last → AllActs thread answer after d (n + 1) a b first last
+acts-more thread answer after d n a m b first rx last before same one = subst (λ k. AllActs thread answer after d k a b first last) (sym (add-one n)) (m, rx, before, same, one)
+
+pub ruleset steps = (after_acts-more, arrivals-more)
+
+-- what one act more brings is put, where there is room for all
+pub put_more : (old arrived brought all now after : List Packet) (places : ℕ)
+    → all ≡ arrived ++ brought
+    → (length old + length arrived ≤ places → now ≡ old ++ arrived)
+    → (length now + length brought ≤ places → after ≡ now ++ brought)
+    → length old + length all ≤ places → after ≡ old ++ all
+put_more old arrived brought all now after places more before then room =
+    let size : length all ≡ length (arrived ++ brought) = ap (λ l. length l) more in
+    let parts = length-append arrived brought in
+    let was = before (omega arith) in
+    let long : length now ≡ length (old ++ arrived) = ap (λ l. length l) was in
+    let pieces = length-append old arrived in
+    then (omega arith) ∙ ap (λ l. l ++ brought) was ∙ append_assoc old arrived brought ∙ ap (λ l. old ++ l) (sym more)

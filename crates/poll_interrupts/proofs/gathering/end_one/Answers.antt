@@ -1,0 +1,19 @@
+use Rattle.{std.proofs.Common.{◌≡◌, refl, ap, subst}, rx_ring.specs.{declared.packet.Totals.Totals, Ends.{put_list, received_list}}, napi_calls.specs.{Instance.{callers_of, first_of_instance}, Seats.{number_of, own_list}}}
+use Rattle.poll_interrupts.{specs.{declared.worker.Seats.Seats, Runs.IsEnded}, proofs.EndFacts.ended_of}
+use Rattle.poll_interrupts.proofs.gathering.end_one.Goals as goal
+
+pub returns : goal.returns
+returns g c =
+    let done = c.requires.done in
+    let rx = c.args.worked.done.rx in
+    let all = c.finish.ensures in
+    let ended = ended_of c.open.result.napi c.open-2.result c.open-3.result c.open-4.result rx c.close-ctx.result c.finish.result
+    (rw c.open.ensures done.home.callers) (rw c.open.ensures done.home.nothing_received) (rw c.open-2.ensures done.controller) c.close-ctx.ensures all.totals all.order in
+    record {
+      same_number = refl;
+      same_device = refl;
+      put = ap (λ (t : Totals). t.put) all.totals;
+      bytes = ap (λ (t : Totals). t.bytes) all.totals;
+      sum = all.sum;
+      ended = subst (λ (s : Seats). IsEnded (number_of s.caller.pass) (own_list s.caller.pass) (own_list s.control.pass) (put_list rx) c.finish.result) c.open-2.ensures ended;
+    }

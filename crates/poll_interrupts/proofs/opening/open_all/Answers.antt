@@ -1,0 +1,31 @@
+use Rattle.{std.proofs.{Common.{◌≡◌, length, ◌<◌, get_or, vec_items, rules, arith}, lemmas.Grind.common_steps}, poll_tasks.proofs.Zips.{zip_push, before_more, all_done}, poll_interrupts.specs.Opens.{IsLoose, IsSideOf}}
+use Rattle.poll_interrupts.proofs.opening.open_all.Goals as goal
+
+pub open-requires : goal.open-requires
+open-requires g c =
+    let more = before_more _ _ _ _ _ c.loop-station.invariant.all c.in-Some.ensures.steps.0 in
+    let below : length c.loop-station.yielded < length (vec_items c.args.stations) = more.0 in
+    let same : get_or (vec_items c.args.stations) (length c.loop-station.yielded) c.in-Some.station ≡ c.in-Some.station = more.1 in
+    rw (← same) (c.requires.stations (length c.loop-station.yielded) c.in-Some.station below)
+
+pub loop-station-preserved : goal.loop-station-preserved
+loop-station-preserved g c =
+    let now = c.loop-station.invariant in
+    let more = before_more _ _ _ _ _ now.all c.in-Some.ensures.steps.0 in
+    let ok : IsLoose c.in-Some.station c.in-Ok.other × IsSideOf c.in-Ok.other c.in-Ok.one = search rules in record {
+      can = tt;
+      ends = tt;
+      all = more.2;
+      left = grind (arith, common_steps, now.left, c.in-Some.ensures.steps.1);
+      count = grind (arith, common_steps, now.count, c.push_reserved.ensures.len);
+      as_count = grind (arith, common_steps, now.as_count, c.push_reserved-in-Ok.ensures.len);
+      room = search rules;
+      as_room = search rules;
+      made = rw c.push_reserved-in-Ok.ensures.items (zip_push _ _ _ _ _ now.made (rw c.new-in-Ok.ensures ok.0));
+      sides = rw (c.push_reserved-in-Ok.ensures.items, c.push_reserved.ensures.items) (zip_push _ _ _ _ _ now.sides (rw (c.new-in-Ok.ensures, c.new.ensures) ok.1));
+    }
+
+pub returns-clause-loose : goal.returns-clause-loose
+returns-clause-loose g c =
+    let now = c.loop-station.invariant in
+    let whole = all_done _ _ _ now.all now.left c.in-None.ensures.steps.0 in rw (← whole) now.made

@@ -1,0 +1,12 @@
+use Rattle.std.proofs.Common.{◌≡◌, true, false, rules}
+use Rattle.poll_interrupts.proofs.worker.Desk.hand_over.Goals as goal
+
+pub returns-then-not-look-clause-handed : goal.returns-then-not-look-clause-handed
+returns-then-not-look-clause-handed g c =
+    let off : c.look.result.flags.threaded ≡ false = search rules in
+    rw c.in-Some.is (c.look.result, c.look.new.self.pass, c.look.ensures.event, rw off c.hand_to_list-then-not-look.ensures.handed)
+
+pub returns-clause-handed : goal.returns-clause-handed
+returns-clause-handed g c =
+    let on : c.look.result.flags.threaded ≡ true = search rules in
+    rw c.in-Some.is (c.look.result, c.look.new.self.pass, c.look.ensures.event, rw on c.hand-caller.ensures.event)

@@ -1,0 +1,87 @@
+-- What acts make of a worker's seats at its instance.
+use Rattle.std.specs.Prelude.{◌≡◌, ◌⊎◌, ◌≤◌, ℕ, zero, suc, Bool, true, false, List, [], ◌∷◌, ◌++◌, length, if◌then◌else◌}
+use Rattle.rx_ring.specs.declared.ends.RxIn.{RxIn}
+use Rattle.rx_ring.specs.declared.packet.Packet.{Packet}
+use Rattle.rx_ring.specs.Ends.{SameIn, capacity_of, put_list}
+use Rattle.napi_model.specs.declared.state.Kind.TheVariants as kind
+use Rattle.napi_model.specs.declared.state.Seen.{Seen}
+use Rattle.napi_model.specs.declared.event.Operation.TheVariants as operation
+use Rattle.napi_word.specs.declared.table.Pass.{Pass}
+use Rattle.napi_calls.specs.declared.answers.Sched.{Sched}
+use Rattle.napi_calls.specs.declared.answers.Sched.TheVariants as sched
+use Rattle.napi_calls.specs.Calls.{Disables, Enables, Schedules}
+use Rattle.napi_calls.specs.Made.{Made}
+use Rattle.napi_calls.specs.Seats.{number_of}
+use Rattle.poll_interrupts.specs.declared.acts.Act.{Act}
+use Rattle.poll_interrupts.specs.declared.acts.Act.TheVariants.{Arrive, Disable, Enable, SetThreaded, Nothing}
+use Rattle.poll_interrupts.specs.declared.worker.Hold.{Hold}
+use Rattle.poll_interrupts.specs.declared.worker.Power.{Power}
+use Rattle.poll_interrupts.specs.declared.worker.Power.TheVariants.{On, Off}
+use Rattle.poll_interrupts.specs.Acts.{after_acts}
+
+-- Granted, the instance is handed over: where it has a thread of its own to whom a look says, else to the list.
+abbrev pub HandsOver : Bool → Pass → Pass → Type 0
+HandsOver false p q = Made p (operation.Hand kind.List ∷ []) q
+HandsOver true p q =
+    (x : Seen) × (r : Pass) × Made p (operation.Look x ∷ []) r
+    × Made r (operation.Hand (if x.flags.threaded then kind.Thread else kind.List) ∷ []) q
+
+abbrev pub GoesOn : Bool → Sched → Pass → Type 0
+GoesOn thread (sched.Granted granted) q = HandsOver thread granted.pass q
+GoesOn thread (sched.Missed caller) q = q ≡ caller.pass
+GoesOn thread (sched.Disabled caller) q = q ≡ caller.pass
+
+-- an interrupt: a poll is asked for, and where it is granted the instance is handed over
+abbrev pub Interrupts : Bool → Pass → Pass → Type 0
+Interrupts thread p q = (s : Sched) × Schedules p s × GoesOn thread s q
+
+-- the packet was put last
+abbrev pub IsPutLast : Packet → RxIn → Type 0
+IsPutLast packet rx = (earlier : List Packet) × (put_list rx ≡ earlier ++ packet ∷ [])
+
+-- a packet is put, and then interrupts; a full ring drops it, and nothing is asked for
+abbrev pub Arrives : Bool → Packet → Pass → Pass → RxIn → RxIn → Type 0
+Arrives thread packet p q before after =
+    ((put_list after ≡ put_list before ++ packet ∷ []) × Interrupts thread p q)
+    ⊎ ((capacity_of before ≤ length (put_list before)) × (put_list after ≡ put_list before) × (q ≡ p))
+
+abbrev pub pass_of : Power → Pass
+pass_of (On control) = control.pass
+pass_of (Off control) = control.pass
+
+abbrev pub is_on : Power → Bool
+is_on (On control) = true
+is_on (Off control) = false
+
+-- the same seats, by their numbers
+abbrev pub IsSameHold : Hold → Hold → Type 0
+IsSameHold a b = (number_of b.caller.pass ≡ number_of a.caller.pass) × (number_of (pass_of b.power) ≡ number_of (pass_of a.power))
+
+-- enabled with this threaded setting, unless it is on
+abbrev pub TurnsOn : Bool → Power → Power → Type 0
+TurnsOn threaded (On control) after = after ≡ On control
+TurnsOn threaded (Off control) after = (is_on after ≡ true) × Enables threaded control.pass (pass_of after)
+
+-- disabled, unless it is off
+abbrev pub Leaves : Power → Pass → Type 0
+Leaves (On control) q = Disables control.pass q
+Leaves (Off control) q = q ≡ control.pass
+
+abbrev pub TurnsOff : Power → Power → Type 0
+TurnsOff before after = (is_on after ≡ false) × Leaves before (pass_of after)
+
+-- one act: what it makes of the seats and of the threaded setting
+abbrev pub Acts : Bool → Act → Hold → Hold → RxIn → RxIn → Type 0
+Acts thread (Arrive packet) a b before after =
+    Arrives thread packet a.caller.pass b.caller.pass before after × (b.power ≡ a.power) × (b.threaded ≡ a.threaded)
+Acts thread Disable a b before after = (b.caller ≡ a.caller) × TurnsOff a.power b.power × (b.threaded ≡ a.threaded) × (put_list after ≡ put_list before)
+Acts thread Enable a b before after = (b.caller ≡ a.caller) × TurnsOn a.threaded a.power b.power × (b.threaded ≡ a.threaded) × (put_list after ≡ put_list before)
+Acts thread (SetThreaded set) a b before after =
+    Made a.caller.pass (operation.SetThreaded set ∷ []) b.caller.pass × (b.power ≡ a.power) × (b.threaded ≡ set) × (put_list after ≡ put_list before)
+Acts thread Nothing a b before after = (b ≡ a) × (put_list after ≡ put_list before)
+
+-- the first n acts, each once and in order
+abbrev pub AllActs : {D : Type 0} → Bool → (D → ℕ → Act) → (D → ℕ → D) → D → ℕ → Hold → Hold → RxIn → RxIn → Type 0
+AllActs thread answer after d zero a b first last = (b ≡ a) × (last ≡ first)
+AllActs thread answer after d (suc n) a b first last =
+    (m : Hold) × (rx : RxIn) × AllActs thread answer after d n a m first rx × SameIn rx last × Acts thread (answer (after_acts after d n) n) m b rx last

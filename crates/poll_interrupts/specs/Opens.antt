@@ -1,0 +1,58 @@
+-- The instances of stations.
+use Rattle.std.specs.Prelude.{◌≡◌, ◌≤◌, [], is_some, vec_len, vec_capacity}
+use Rattle.rx_ring.specs.declared.ends.RxCtx.{RxCtx}
+use Rattle.rx_ring.specs.declared.ends.RxIn.{RxIn}
+use Rattle.rx_ring.specs.Ends.{IsOneRing, capacity_of, put_list, received_list, ring_name}
+use Rattle.napi_calls.specs.declared.kept.Kept.{Kept}
+use Rattle.napi_calls.specs.declared.types.Napi.{Napi}
+use Rattle.napi_calls.specs.Instance.{IsSeatOf, callers_of, first_of_instance, ring_of_instance}
+use Rattle.napi_calls.specs.Seats.{number_of}
+use Rattle.poll_interrupts.specs.declared.station.Station.{Station}
+use Rattle.poll_interrupts.specs.declared.opening.Placed.{Placed}
+use Rattle.poll_interrupts.specs.declared.opening.Loose.{Loose}
+use Rattle.poll_interrupts.specs.Seats.{AreSeatsOf, AreUnused}
+use Rattle.poll_interrupts.specs.Runs.{controller_number}
+
+-- its number is 1 to 16, and its ring has 1 to 65536 places
+pub record IsStation {D : Type 0} (station : Station D) : Type 0 where
+  pub number : (1 ≤ station.number) × (station.number ≤ 16)
+  pub capacity : (1 ≤ station.capacity) × (station.capacity ≤ 65536)
+
+-- this end puts packets into the ring of the instance
+abbrev pub IsInputOf : RxIn → Napi → Type 0
+IsInputOf rx napi = (ctx : RxCtx) × (ring_name ctx ≡ ring_of_instance napi) × IsOneRing rx ctx
+
+-- the instance has three callers, and there is room for them; nothing of its ring had been received when it was made
+pub record IsHome (placed : Placed) : Type 0 where
+  pub callers : callers_of placed.napi ≡ 3
+  pub nothing_received : received_list (first_of_instance placed.napi) ≡ []
+  pub empty : vec_len placed.room ≡ 0
+  pub room : 3 ≤ vec_capacity placed.room
+
+module _ {D : Type 0} where
+  -- what goes to the threads of a station
+  pub record IsLoose (station : Station D) (loose : Loose D) : Type 0 where
+    pub same_number : loose.number ≡ station.number
+    pub same_device : loose.device ≡ station.device
+    pub places : capacity_of loose.rx ≡ station.capacity
+    pub nothing_put : put_list loose.rx ≡ []
+    pub thread : is_some loose.pause ≡ station.thread
+    pub unused : AreUnused loose.seats
+
+  -- what goes to the threads and what stays behind are of one instance, and of one ring
+  pub record IsSideOf (loose : Loose D) (placed : Placed) : Type 0 where
+    pub name : loose.number ≤ 16
+    pub seats : AreSeatsOf placed.napi loose.seats
+    pub controller : number_of loose.seats.control.pass ≡ controller_number
+    pub bell : is_some placed.bell ≡ is_some loose.pause
+    pub poller : IsSeatOf placed.napi loose.poller.pass
+    pub thread : IsSeatOf placed.napi loose.thread.pass
+    pub ring : IsInputOf loose.rx placed.napi
+    pub home : IsHome placed
+
+  module _ {R : Type 0} where
+    abbrev pub IsKeptLoose : Station D → Kept R (Loose D) → Type 0
+    IsKeptLoose station kept = IsLoose station kept.value
+
+    abbrev pub IsKeptSideOf : Kept R (Loose D) → Kept R Placed → Type 0
+    IsKeptSideOf loose placed = IsSideOf loose.value placed.value

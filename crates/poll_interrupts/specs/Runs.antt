@@ -1,0 +1,138 @@
+-- What a worker's run leaves behind: what each act adds to the events of its own, and the one history in which these stand.
+use Rattle.std.specs.Prelude.{◌≡◌, ◌⊎◌, ◌≤◌, ℕ, zero, suc, Bool, true, false, List, [], ◌∷◌, ◌++◌, length, flat_map, if◌then◌else◌, Option}
+use mathlib.Core.List.{IsPrefix}
+use Rattle.rx_ring.specs.declared.packet.Packet.{Packet}
+use Rattle.rx_ring.specs.declared.packet.Totals.{Totals}
+use Rattle.rx_ring.specs.ReceiveRing.{totals_of}
+use Rattle.napi_model.specs.declared.state.Kind.TheVariants as kind
+use Rattle.napi_model.specs.declared.state.Seen.{Seen}
+use Rattle.napi_model.specs.declared.state.Place.TheVariants as place
+use Rattle.napi_model.specs.declared.event.Prep.{Prep}
+use Rattle.napi_model.specs.declared.event.Prep.TheVariants as prep
+use Rattle.napi_model.specs.declared.event.Call.TheVariants as call
+use Rattle.napi_model.specs.declared.event.Event.{Event}
+use Rattle.napi_model.specs.declared.event.Operation.{Operation}
+use Rattle.napi_model.specs.declared.event.Operation.TheVariants.{Look, Schedule, Hand, MarkDisable, TakeDisable, Unmark, Enable, SetThreaded}
+use Rattle.napi_model.specs.Step.{opening}
+use Rattle.napi_model.specs.History.{LegalHistory, state_after, own, IsAcceptedSchedule}
+use Rattle.napi_word.specs.declared.view.Delivery.{Delivery}
+use Rattle.napi_word.specs.View.{deliverers, packets_of}
+use Rattle.napi_word.specs.Slot.{givers}
+use Rattle.napi_calls.specs.Made.{Lost, events, looks, waits}
+use Rattle.napi_calls.specs.Served.{IsServed}
+use Rattle.poll_interrupts.specs.declared.acts.Act.{Act}
+use Rattle.poll_interrupts.specs.declared.acts.Act.TheVariants as act
+use Rattle.poll_interrupts.specs.Acts.{after_acts}
+
+-- ---- what a thread does of its own: the tries that were lost, and the one that decided
+
+-- granted, it hands the instance over: where that has a thread of its own to whom a look says, else to the list
+abbrev pub IsHandingOver : Bool → List Operation → Type 0
+IsHandingOver false os = os ≡ Hand kind.List ∷ []
+IsHandingOver true os = (x : Seen) × (os ≡ Look x ∷ Hand (if x.flags.threaded then kind.Thread else kind.List) ∷ [])
+
+abbrev pub IsAnswered : Bool → Prep → List Operation → Type 0
+IsAnswered thread prep.Granted os = (x : Seen) × (over : List Operation) × IsHandingOver thread over × (os ≡ Look x ∷ Schedule prep.Granted ∷ over)
+IsAnswered thread prep.Missed os = (x : Seen) × (os ≡ Look x ∷ Schedule prep.Missed ∷ [])
+IsAnswered thread prep.Disabled os = os ≡ Schedule prep.Disabled ∷ []
+
+-- an interrupt (`napi_schedule`)
+abbrev pub IsInterrupt : Bool → List Operation → Type 0
+IsInterrupt thread os = (ts : List (Lost call.Schedule)) × (reply : Prep) × (rest : List Operation) × IsAnswered thread reply rest × (os ≡ flat_map looks ts ++ rest)
+
+-- `napi_enable`
+abbrev pub IsEnabling : Bool → List Operation → Type 0
+IsEnabling threaded os = (ts : List (Lost (call.Enable threaded))) × (x : Seen) × (os ≡ flat_map looks ts ++ Look x ∷ Enable threaded ∷ [])
+
+-- `napi_disable`
+abbrev pub IsDisabling : List Operation → Type 0
+IsDisabling os = (ts : List (Option (Lost call.TakeDisable))) × (x : Seen) × (os ≡ (MarkDisable ∷ flat_map waits ts) ++ Look x ∷ TakeDisable true ∷ Unmark ∷ [])
+
+-- ---- a worker's ledger
+
+-- whose it is: the numbers of its caller and of its controller, how many packets its ring can hold, and whether the instance has
+-- a thread of its own
+pub record Whose : Type 0 where
+  pub caller : ℕ
+  pub controller : ℕ
+  pub places : ℕ
+  pub thread : Bool
+
+-- the events of its caller and of its controller, the packets that were put, whether the instance is on, and the threaded
+-- setting that an enable writes
+pub record Ledger : Type 0 where
+  pub calls : List Event
+  pub controls : List Event
+  pub put : List Packet
+  pub on : Bool
+  pub threaded : Bool
+
+abbrev pub blank : Ledger
+blank = record { calls = []; controls = []; put = []; on = false; threaded = false }
+
+-- a packet is put, and interrupts
+abbrev pub Puts : Whose → Packet → Ledger → Ledger → Type 0
+Puts w packet a b = (os : List Operation) × IsInterrupt w.thread os × (b ≡ record a { put = a.put ++ packet ∷ []; calls = a.calls ++ events w.caller os })
+
+-- a full ring drops it, and nothing is asked for
+abbrev pub Drops : Whose → Ledger → Ledger → Type 0
+Drops w a b = (w.places ≤ length a.put) × (b ≡ a)
+
+-- an instance that is on stays so
+abbrev pub SwitchesOn : Whose → Bool → Ledger → Ledger → Type 0
+SwitchesOn w true a b = b ≡ a
+SwitchesOn w false a b = (os : List Operation) × IsEnabling a.threaded os × (b ≡ record a { controls = a.controls ++ events w.controller os; on = true })
+
+-- one that is off too
+abbrev pub SwitchesOff : Whose → Bool → Ledger → Ledger → Type 0
+SwitchesOff w true a b = (os : List Operation) × IsDisabling os × (b ≡ record a { controls = a.controls ++ events w.controller os; on = false })
+SwitchesOff w false a b = b ≡ a
+
+-- what one act adds
+abbrev pub Adds : Whose → Act → Ledger → Ledger → Type 0
+Adds w (act.Arrive packet) a b = Puts w packet a b ⊎ Drops w a b
+Adds w act.Disable a b = SwitchesOff w a.on a b
+Adds w act.Enable a b = SwitchesOn w a.on a b
+Adds w (act.SetThreaded threaded) a b = b ≡ record a { calls = a.calls ++ events w.caller (SetThreaded threaded ∷ []); threaded = threaded }
+Adds w act.Nothing a b = b ≡ a
+
+-- what the first n acts add, each once and in order
+abbrev pub AllAdd : {D : Type 0} → Whose → (D → ℕ → Act) → (D → ℕ → D) → D → ℕ → Ledger → Ledger → Type 0
+AllAdd w answer after d zero a b = b ≡ a
+AllAdd w answer after d (suc n) a b = (m : Ledger) × AllAdd w answer after d n a m × Adds w (answer (after_acts after d n) n) m b
+
+-- a worker's whole run: the instance is enabled, n acts are made, and it is disabled
+abbrev pub WorksBy : {D : Type 0} → Whose → (D → ℕ → Act) → (D → ℕ → D) → D → ℕ → Ledger → Ledger → Type 0
+WorksBy w answer after d n a b = (on : Ledger) × (acted : Ledger) × SwitchesOn w a.on a on × AllAdd w answer after d n on acted × SwitchesOff w acted.on acted b
+
+-- ---- the whole run of a station
+
+-- its instance has three callers, so its controller has this number
+abbrev pub controller_number : ℕ
+controller_number = 3
+
+-- The instance was closed, and has one history, which is legal. In it the events of this caller and of the controller are these.
+pub record IsEnded (caller : ℕ) (calls : List Event) (controls : List Event) (put : List Packet) (totals : Totals) : Type 0 where
+  pub history : List Event
+  pub legal : LegalHistory controller_number (opening controller_number) history
+  pub calls_are : own caller history ≡ calls
+  pub controls_are : own controller_number history ≡ controls
+  -- it ends in the controller's hands
+  pub ends : (state_after (opening controller_number) history).place ≡ place.Control controller_number
+  -- every accepted schedule is followed by a Released, with a poll start between it and the next one
+  pub served : (front : List Event) (e : Event) (rest : List Event) → history ≡ front ++ e ∷ rest
+      → IsAcceptedSchedule (state_after (opening controller_number) front) e → IsServed false rest
+  -- each owner who gave the context back delivered what it had polled: the first packets put, each once and in order
+  pub deliveries : List Delivery
+  pub deliverers_are : deliverers deliveries ≡ givers (opening controller_number) history
+  pub in_order : IsPrefix (packets_of deliveries) put
+  -- the totals are those of what was put and of what was delivered
+  pub totals_are : totals ≡ totals_of (record { put = put; received = packets_of deliveries })
+
+-- a station with so many places, with a thread or without, whose device made n acts
+pub record HasRun {D : Type 0} (answer : D → ℕ → Act) (after : D → ℕ → D) (places : ℕ) (thread : Bool) (d : D) (n : ℕ) (totals : Totals) : Type 0 where
+  -- the number of its worker's caller, and what its acts left
+  pub caller : ℕ
+  pub left : Ledger
+  pub works : WorksBy (record { caller = caller; controller = controller_number; places = places; thread = thread }) answer after d n blank left
+  pub ended : IsEnded caller left.calls left.controls left.put totals

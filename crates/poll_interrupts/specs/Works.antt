@@ -1,0 +1,47 @@
+-- What a worker promises of its own station.
+use Rattle.std.specs.Prelude.{◌≡◌, ℕ, ◌+◌, ◌≤◌, ◌++◌, Bool, true, false, length}
+use Rattle.rx_ring.specs.declared.ends.RxIn.{RxIn}
+use Rattle.rx_ring.specs.Ends.{SameIn, capacity_of, put_list}
+use Rattle.napi_calls.specs.declared.types.Napi.{Napi}
+use Rattle.poll_interrupts.specs.declared.acts.Act.{Act}
+use Rattle.poll_interrupts.specs.declared.worker.Seats.{Seats}
+use Rattle.poll_interrupts.specs.declared.worker.Work.{Work}
+use Rattle.poll_interrupts.specs.declared.worker.Done.{Done}
+use Rattle.poll_interrupts.specs.declared.job.Worked.{Worked}
+use Rattle.napi_calls.specs.Seats.{number_of, own_list}
+use Rattle.poll_interrupts.specs.Acts.{after_acts, arrivals}
+use Rattle.poll_interrupts.specs.Runs.{Ledger, Whose, WorksBy}
+use Rattle.poll_interrupts.specs.Seats.{AreSeatsOf}
+
+-- the ledger of a worker whose instance is off, by its seats, the ring's input and the threaded setting
+abbrev pub ledger_of : Seats → RxIn → Bool → Ledger
+ledger_of seats rx threaded = record { calls = own_list seats.caller.pass; controls = own_list seats.control.pass; put = put_list rx; on = false; threaded = threaded }
+
+-- whose ledger that is
+abbrev pub whose : Seats → RxIn → Bool → Whose
+whose seats rx thread = record { caller = number_of seats.caller.pass; controller = number_of seats.control.pass; places = capacity_of rx; thread = thread }
+
+-- the same numbers
+abbrev pub AreSameSeats : Seats → Seats → Type 0
+AreSameSeats a b = (number_of b.caller.pass ≡ number_of a.caller.pass) × (number_of b.control.pass ≡ number_of a.control.pass)
+
+module _ {R D : Type 0} (acts : D → ℕ) (answer : D → ℕ → Act) (after : D → ℕ → D) where
+  -- what it did is the run of these acts, by the events that its seats had before and have afterwards
+  abbrev pub HasWorked : Bool → Work R D → Done R D → Type 0
+  HasWorked thread work done = (threaded : Bool) × WorksBy (whose work.seats.value work.rx thread) answer after work.device (acts work.device)
+      (ledger_of work.seats.value work.rx false) (ledger_of done.seats.value done.rx threaded)
+
+  -- it made all acts of the device, each once and in order, and put what they brought, where there is room for all
+  pub record IsDoneBy (napi : Napi) (thread : Bool) (work : Work R D) (done : Done R D) : Type 0 where
+    pub seats : AreSeatsOf napi done.seats.value
+    pub same : AreSameSeats work.seats.value done.seats.value
+    pub run : done.whole ≡ true → HasWorked thread work done
+    pub made : done.whole ≡ true → done.device ≡ after_acts after work.device (acts work.device)
+    pub ring : SameIn work.rx done.rx
+    pub few : length (put_list done.rx) ≤ length (put_list work.rx) + 4294967295
+    pub put : done.whole ≡ true → length (put_list work.rx) + length (arrivals answer after work.device (acts work.device)) ≤ capacity_of work.rx
+        → put_list done.rx ≡ put_list work.rx ++ arrivals answer after work.device (acts work.device)
+
+  pub record IsWorkOf (napi : Napi) (thread : Bool) (number : ℕ) (work : Work R D) (worked : Worked R D) : Type 0 where
+    pub same_number : worked.number ≡ number
+    pub done : IsDoneBy napi thread work worked.done

@@ -1,0 +1,43 @@
+//! What a device does.
+
+ghost use Rattle.std.specs.Prelude.{◌≡◌, ℕ, ◌<◌};
+
+use rx_ring::Packet;
+
+/// One act of a device.
+#[derive(Clone, Copy, Debug, PartialEq, Eq)]
+pub enum Act {
+    /// A packet arrives and interrupts (`napi_schedule`). A full ring drops it, and then nothing is asked for.
+    Arrive(Packet),
+    /// The device is disabled, once its polls have ended (`napi_disable`). One that is disabled stays so.
+    Disable,
+    /// The device is enabled with its threaded setting (`napi_enable`). One that is enabled stays so.
+    Enable,
+    /// The threaded setting, and THREADED at once (`dev_set_threaded`).
+    SetThreaded(bool),
+    /// Nothing of the instance's.
+    Nothing,
+}
+
+/// A device whose acts a worker makes, one after the other. It states what it answers and what it is afterwards as
+/// functions of itself and the act's number.
+pub trait Device {
+    ghost use Rattle.poll_interrupts.specs.declared.acts.Act.{Act};
+
+    ghost acts: { Self → ℕ };
+
+    ghost answer: { Self → ℕ → Act };
+
+    ghost after: { Self → ℕ → Self };
+
+    /// How many acts there are. They are numbered from 0.
+    fn acts(&self) -> u32
+        ensures { result ≡ acts self.now };
+
+    /// The next act. The acts are asked for in order, each once.
+    fn act(&mut self, k: u32) -> Act
+        requires { k < acts self.old }
+        ensures answer { result ≡ answer self.old k }
+        ensures after { self.new ≡ after self.old k }
+        ensures same { acts self.new ≡ acts self.old };
+}

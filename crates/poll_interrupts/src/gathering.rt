@@ -1,0 +1,84 @@
+//! What the threads of a crew gave back comes to an end.
+
+ghost use Rattle.std.specs.Prelude.{◌≡◌, ◌≤◌, true, vec_items, vec_len, vec_capacity};
+ghost use Rattle.std.specs.List.{All, AllZip};
+ghost use Rattle.poll_interrupts.specs.Ends.{IsCallerAt, IsDoneAt, IsFinishOf};
+
+use crate::job::Worked;
+use crate::opening::Placed;
+use crate::station::Finished;
+use crate::worker::Done;
+use napi_calls::{Caller, Kept};
+use rx_ring::finish;
+use std::sync::Wait;
+
+// Ends one station.
+fn end_one<R: Wait + Drop, D: Drop>(
+    worked: Worked<R, D>,
+    poller: Kept<R, Caller>,
+    thread: Kept<R, Caller>,
+    placed: Kept<R, Placed>,
+) -> Finished<D>
+    requires done { IsDoneAt worked placed }
+    requires poller { IsCallerAt poller placed }
+    requires thread { IsCallerAt thread placed }
+    ensures { IsFinishOf worked result }
+{
+    let Worked { number, done } = worked;
+    let Done {
+        device,
+        rx,
+        seats,
+        whole: _,
+    } = done;
+    let ctx = placed
+        .open()
+        .close(seats.open(), poller.open(), thread.open());
+    Finished {
+        number,
+        device,
+        totals: finish(rx, ctx),
+    }
+}
+
+/// Ends all stations of a crew, in order. There is room for them.
+pub fn gather<R: Wait + Drop, D: Drop>(
+    worked: Vec<Worked<R, D>>,
+    pollers: Vec<Kept<R, Caller>>,
+    threads: Vec<Kept<R, Caller>>,
+    placed: Vec<Kept<R, Placed>>,
+    room: Vec<Finished<D>>,
+) -> Vec<Finished<D>>
+    requires dones { AllZip IsDoneAt (vec_items worked) (vec_items placed) }
+    requires pollers { AllZip IsCallerAt (vec_items pollers) (vec_items placed) }
+    requires threads { AllZip IsCallerAt (vec_items threads) (vec_items placed) }
+    requires empty { vec_len room ≡ 0 }
+    requires room { vec_len worked ≤ vec_capacity room }
+    ensures { AllZip IsFinishOf (vec_items worked) (vec_items result) }
+{
+    let mut finished = room;
+    let mut dones = worked.into_iter();
+    let mut seats = pollers.into_iter();
+    let mut sides = threads.into_iter();
+    let mut all = placed.into_iter();
+    while let Some(done) = dones.next() {
+        let Some(placed) = all.next() else {
+            unreachable!()
+        };
+        let Some(poller) = seats.next() else {
+            unreachable!()
+        };
+        let Some(thread) = sides.next() else {
+            unreachable!()
+        };
+        finished.push_reserved(end_one(done, poller, thread, placed));
+    }
+    finished
+}
+
+/// Whether all workers made all their acts.
+pub fn are_whole<R: Wait + Drop, D>(worked: &[Worked<R, D>]) -> bool
+    ensures { result ≡ true → All (λ w. w.done.whole ≡ true) worked.now }
+{
+    worked.iter().all(|one| one.done.whole)
+}

@@ -1,0 +1,20 @@
+//! Behind the door `poll_engine`: interrupt workers, each the device of a station, its instance, and the thread that makes its acts.
+#![tactic(auto)]
+
+mod act_list;
+mod acts;
+mod dealing;
+mod gathering;
+mod job;
+mod opening;
+mod station;
+mod worker;
+
+pub use act_list::ActList;
+pub use acts::{Act, Device};
+pub use dealing::{Dealt, deal, merge};
+pub use gathering::{are_whole, gather};
+pub use job::{Job, Worked};
+pub use opening::{Loose, Placed, open_all, shut_all};
+pub use station::{Finished, Station};
+pub use worker::{Desk, Done, Seats, Work};

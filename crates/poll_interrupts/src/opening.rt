@@ -1,0 +1,200 @@
+//! How the instances of stations are made and closed.
+
+ghost use Rattle.std.specs.Prelude.{◌≡◌, ◌≤◌, ◌+◌, ℕ, [], ◌∷◌, IfOk, is_some, length, slice_get, Some, vec_items, vec_len, vec_capacity};
+ghost use Rattle.std.specs.List.{All, AllZip};
+ghost use Rattle.napi_calls.specs.Closed.{IsClosed};
+ghost use Rattle.napi_calls.specs.Instance.{IsSeatOf, callers_of};
+ghost use Rattle.napi_calls.specs.declared.types.Caller.{Caller};
+ghost use Rattle.poll_interrupts.specs.Opens.{IsHome, IsKeptLoose, IsKeptSideOf, IsLoose, IsSideOf, IsStation};
+ghost use Rattle.poll_interrupts.specs.Seats.{AreSeatsOf, IsNew};
+
+use crate::station::Station;
+use crate::worker::Seats;
+use napi_calls::{Caller, Kept, Napi, NewBack};
+use poll_tasks::{Bell, Pause};
+use rx_ring::{RxCtx, RxIn, ring};
+use std::alloc::{AllocError, Global};
+use std::sync::Wait;
+
+/// What stays where it is of an instance while its threads run: the instance, the bell of its own thread, where it has one,
+/// and room for its three callers. It must be spent.
+pub struct Placed {
+    /// The instance.
+    pub napi: Napi,
+    /// The bell of its own thread, where it has one.
+    pub bell: Option<Bell>,
+    /// Room for its three callers.
+    pub room: Vec<Caller>,
+}
+
+/// What goes to the threads of an instance. It must be spent.
+pub struct Loose<D> {
+    /// The device's number.
+    pub number: u32,
+    /// The device, before its acts.
+    pub device: D,
+    /// The input of its receive ring.
+    pub rx: RxIn,
+    /// The worker's seats at the instance.
+    pub seats: Seats,
+    /// The caller of the poller of its list.
+    pub poller: Caller,
+    /// The caller of its own thread.
+    pub thread: Caller,
+    /// What its own thread sleeps on, where it has one.
+    pub pause: Option<Pause>,
+}
+
+impl Placed {
+    /// Closes the instance, with its three callers (`netif_napi_del`).
+    pub(crate) fn close(self, seats: Seats, poller: Caller, thread: Caller) -> RxCtx
+        requires home { IsHome self }
+        requires seats { AreSeatsOf self.napi seats }
+        requires callers { IsSeatOf self.napi poller.pass × IsSeatOf self.napi thread.pass }
+        ensures { IsClosed self.napi (seats.caller ∷ poller ∷ thread ∷ []) seats.control.pass
+            result }
+    {
+        let Placed {
+            napi,
+            bell: _,
+            room,
+        } = self;
+        let Seats { caller, control } = seats;
+        let mut callers = room;
+        callers.push_reserved(caller);
+        callers.push_reserved(poller);
+        callers.push_reserved(thread);
+        let closed = napi.close(callers, control);
+        let Ok(ctx) = closed else { unreachable!() };
+        ctx
+    }
+}
+
+// The next caller, of an instance's callers.
+fn next(napi: &Napi, callers: &mut Vec<Caller>) -> Caller
+    requires some { 1 ≤ length callers.old.items }
+    requires seats { (k : ℕ) (c : Caller) → slice_get callers.old.items k ≡ Some c
+        → IsNew napi.now c.pass }
+    ensures caller { IsNew napi.now result.pass }
+    ensures left { length callers.new.items + 1 ≡ length callers.old.items }
+    ensures seats { (k : ℕ) (c : Caller) → slice_get callers.new.items k ≡ Some c
+        → IsNew napi.now c.pass }
+    ensures room { vec_capacity callers.new ≡ vec_capacity callers.old }
+{
+    let popped = callers.pop();
+    let Some(caller) = popped else { unreachable!() };
+    caller
+}
+
+// The bell of an instance's own thread, and what that sleeps on, where it is to have one.
+fn thread_bell(alloc: Global, thread: bool) -> Result<(Option<Bell>, Option<Pause>), AllocError>
+    ensures { IfOk result (λ r. (is_some r.0 ≡ thread) × (is_some r.1 ≡ thread)) }
+{
+    if !thread {
+        return Ok((None, None));
+    }
+    let (bell, parker) = Bell::new(alloc)?;
+    Ok((Some(bell), Some(Pause::new(parker))))
+}
+
+// The instance of a station.
+fn open<D: Drop>(alloc: Global, station: Station<D>) -> Result<(Placed, Loose<D>), AllocError>
+    requires { IsStation station }
+    ensures loose { IfOk result (λ r. IsLoose station r.1) }
+    ensures side { IfOk result (λ r. IsSideOf r.1 r.0) }
+{
+    let Station {
+        number,
+        capacity,
+        thread,
+        device,
+    } = station;
+    let (bell, pause) = thread_bell(alloc, thread)?;
+    let Ok((rx, ctx)) = ring(alloc, capacity) else {
+        return Err(AllocError);
+    };
+    let (napi, mut callers, control) = match Napi::new(alloc, ctx, 3) {
+        Ok(made) => made,
+        Err(NewBack { fault: _, ctx: _ }) => return Err(AllocError),
+    };
+    let thread = next(&napi, &mut callers);
+    let poller = next(&napi, &mut callers);
+    let caller = next(&napi, &mut callers);
+    let placed = Placed {
+        napi,
+        bell,
+        room: callers,
+    };
+    let loose = Loose {
+        number,
+        device,
+        rx,
+        seats: Seats { caller, control },
+        poller,
+        thread,
+        pause,
+    };
+    Ok((placed, loose))
+}
+
+// Closes an instance that no thread has used.
+fn shut<D: Drop>(placed: Placed, loose: Loose<D>)
+    requires { IsSideOf loose placed }
+{
+    let Loose {
+        number: _,
+        device: _,
+        rx: _,
+        seats,
+        poller,
+        thread,
+        pause: _,
+    } = loose;
+    let _ctx = placed.close(seats, poller, thread);
+}
+
+/// Closes instances that no thread has used.
+pub fn shut_all<R: Wait + Drop, D: Drop>(
+    placed: Vec<Kept<R, Placed>>,
+    loose: Vec<Kept<R, Loose<D>>>,
+)
+    requires { AllZip IsKeptSideOf (vec_items loose) (vec_items placed) }
+{
+    let mut others = loose.into_iter();
+    let mut all = placed.into_iter();
+    while let Some(other) = others.next() {
+        let Some(one) = all.next() else {
+            unreachable!()
+        };
+        shut(one.open(), other.open());
+    }
+}
+
+/// Makes the instances of all stations. With no memory for all of them those that were made are closed.
+pub fn open_all<R: Wait + Drop + Copy, D: Drop>(
+    rt: R,
+    alloc: Global,
+    stations: Vec<Station<D>>,
+) -> Result<(Vec<Kept<R, Placed>>, Vec<Kept<R, Loose<D>>>), AllocError>
+    requires stations { All IsStation (vec_items stations) }
+    ensures loose { IfOk result (λ r. AllZip IsKeptLoose (vec_items stations) (vec_items r.1)) }
+    ensures sides { IfOk result (λ r. AllZip IsKeptSideOf (vec_items r.1) (vec_items r.0)) }
+    ensures len { IfOk result
+        (λ r. (vec_len r.0 ≡ vec_len stations) × (vec_len r.1 ≡ vec_len stations)) }
+{
+    let mut placed = Vec::with_capacity(alloc, stations.len())?;
+    let mut loose = Vec::with_capacity(alloc, stations.len())?;
+    for station in stations {
+        match open(alloc, station) {
+            Ok((one, other)) => {
+                placed.push_reserved(Kept::new(rt, one));
+                loose.push_reserved(Kept::new(rt, other));
+            }
+            Err(error) => {
+                shut_all(placed, loose);
+                return Err(error);
+            }
+        }
+    }
+    Ok((placed, loose))
+}

@@ -1,0 +1,336 @@
+//! An interrupt worker: it makes its device's acts, and hands the instance to its poller.
+
+ghost use Rattle.std.specs.Prelude.{◌≡◌, ℕ, ◌+◌, ◌≤◌, ◌<◌, ◌++◌, true, false, is_some, length};
+ghost use Rattle.rx_ring.specs.Ends.{SameIn, capacity_of, put_list};
+ghost use Rattle.napi_calls.specs.Instance.{IsSeatOf};
+ghost use Rattle.poll_interrupts.specs.Acts.{after_acts, arrivals, brings};
+ghost use Rattle.poll_interrupts.specs.Calls.{Acts, AllActs, HandsOver, Interrupts, IsPutLast, IsSameHold, Leaves, TurnsOff, TurnsOn};
+ghost use Rattle.poll_interrupts.specs.Seats.{AreSeatsOf, IsHoldOf};
+ghost use Rattle.poll_interrupts.specs.Works.{IsDoneBy};
+
+use crate::acts::{Act, Device};
+use napi_calls::{Between, Caller, Control, Granted, Kept, Napi, Off, On, Sched};
+use napi_model::Kind;
+use poll_list::ListIn;
+use poll_tasks::{Bell, Gate, Signals};
+use rx_ring::{Packet, RxIn};
+use std::sync::Wait;
+use std::thread;
+
+// Leaves the processor to others, so that whoever has an instance can go on.
+#[derive(Drop)]
+struct Yields;
+
+impl Between for Yields {
+    ghost ran = { λ _ _. Unit {0} };
+
+    fn run(&mut self) {
+        thread::yield_now();
+    }
+}
+
+/// The controller, by whether the instance is on.
+pub(crate) enum Power {
+    On(Control<On>),
+    Off(Control<Off>),
+}
+
+/// What a worker holds of its instance. It must be spent.
+pub(crate) struct Hold {
+    pub(crate) caller: Caller,
+    pub(crate) power: Power,
+    /// The device's threaded setting, which an enable writes again (`dev_set_threaded`).
+    pub(crate) threaded: bool,
+}
+
+/// The worker's seats at its instance, which is off. They must be spent.
+pub struct Seats {
+    /// The caller that asks for polls.
+    pub caller: Caller,
+    /// The controller of the instance.
+    pub control: Control<Off>,
+}
+
+/// What a worker begins with.
+#[derive(Drop)]
+pub struct Work<R: Wait + Drop, D> {
+    /// The worker's end of its poller's list.
+    pub list: ListIn<R>,
+    /// The device, before its acts.
+    pub device: D,
+    /// The input of its receive ring.
+    pub rx: RxIn,
+    /// The worker's seats at the instance.
+    pub seats: Kept<R, Seats>,
+}
+
+/// What a worker ends with.
+#[derive(Drop)]
+pub struct Done<R: Wait + Drop, D> {
+    /// The device, after its acts.
+    pub device: D,
+    /// The input of its receive ring.
+    pub rx: RxIn,
+    /// The worker's seats at the instance, which is off again.
+    pub seats: Kept<R, Seats>,
+    /// Whether all acts were made.
+    pub whole: bool,
+}
+
+/// Where a worker's interrupts go.
+#[derive(Drop)]
+pub struct Desk<'s, 'p, 'n, R> {
+    /// What waits.
+    pub rt: R,
+    /// The device's number.
+    pub number: u32,
+    /// The instance.
+    pub napi: &'n Napi,
+    /// The bell of its thread, where it has one.
+    pub thread: Option<&'n Bell>,
+    /// The bell of the poller of its list.
+    pub poller: &'p Bell,
+    /// Why no further acts are made.
+    pub signals: &'s Signals,
+}
+
+impl<'s, 'p, 'n, R: Wait> Desk<'s, 'p, 'n, R> {
+    // Hands the instance to the list, and wakes who polls it.
+    fn hand_to_list(&self, list: &mut ListIn<R>, granted: Granted) -> Caller
+        requires { IsSeatOf self.now.napi.now granted.pass }
+        ensures of { IsSeatOf self.now.napi.now result.pass }
+        ensures handed { HandsOver false granted.pass result.pass }
+    {
+        let caller = granted.hand(self.napi, Kind::List);
+        list.push(self.number);
+        self.poller.wake();
+        caller
+    }
+
+    // Hands the instance to its thread, where it has one and THREADED is set, else to the list, and wakes who polls it
+    // (`____napi_schedule`).
+    fn hand_over(&self, list: &mut ListIn<R>, mut granted: Granted) -> Caller
+        requires { IsSeatOf self.now.napi.now granted.pass }
+        ensures of { IsSeatOf self.now.napi.now result.pass }
+        ensures handed { HandsOver (is_some self.now.thread) granted.pass result.pass }
+    {
+        let Some(bell) = self.thread else {
+            return self.hand_to_list(list, granted);
+        };
+        if !granted.look(self.napi).flags.threaded {
+            return self.hand_to_list(list, granted);
+        }
+        let caller = granted.hand(self.napi, Kind::Thread);
+        bell.wake();
+        caller
+    }
+
+    // The interrupt of a packet that was put: it asks for a poll, and where that is granted it hands the instance over
+    // (`napi_schedule`).
+    fn interrupt(&self, list: &mut ListIn<R>, caller: Caller, rx: &RxIn, packet: Packet) -> Caller
+        requires of { IsSeatOf self.now.napi.now caller.pass }
+        requires put { IsPutLast packet rx.now }
+        ensures of { IsSeatOf self.now.napi.now result.pass }
+        ensures interrupts { Interrupts (is_some self.now.thread) caller.pass result.pass }
+    {
+        match caller.schedule(&self.rt, self.napi) {
+            Sched::Granted(granted) => self.hand_over(list, granted),
+            Sched::Missed(caller) | Sched::Disabled(caller) => caller,
+        }
+    }
+
+    // Enables an instance that is off.
+    fn turn_on(&self, hold: Hold) -> Hold
+        requires { IsHoldOf self.now.napi.now hold }
+        ensures of { IsHoldOf self.now.napi.now result }
+        ensures caller { result.caller ≡ hold.caller }
+        ensures power { TurnsOn hold.threaded hold.power result.power }
+        ensures threaded { result.threaded ≡ hold.threaded }
+    {
+        let Hold {
+            caller,
+            power,
+            threaded,
+        } = hold;
+        let control = match power {
+            Power::On(control) => control,
+            Power::Off(control) => control.enable(&self.rt, self.napi, threaded),
+        };
+        Hold {
+            caller,
+            power: Power::On(control),
+            threaded,
+        }
+    }
+
+    // Disables an instance that is on, which waits until its polls have ended.
+    fn turn_off(&self, hold: Hold) -> Hold
+        requires { IsHoldOf self.now.napi.now hold }
+        ensures of { IsHoldOf self.now.napi.now result }
+        ensures caller { result.caller ≡ hold.caller }
+        ensures power { TurnsOff hold.power result.power }
+        ensures threaded { result.threaded ≡ hold.threaded }
+    {
+        let threaded = hold.threaded;
+        let Seats { caller, control } = self.leave(hold);
+        Hold {
+            caller,
+            power: Power::Off(control),
+            threaded,
+        }
+    }
+
+    // The seats of an instance, which is disabled for that.
+    fn leave(&self, hold: Hold) -> Seats
+        requires { IsHoldOf self.now.napi.now hold }
+        ensures of { AreSeatsOf self.now.napi.now result }
+        ensures caller { result.caller ≡ hold.caller }
+        ensures power { Leaves hold.power result.control.pass }
+    {
+        let Hold {
+            caller,
+            power,
+            threaded: _threaded,
+        } = hold;
+        let control = match power {
+            Power::On(control) => control.disable_pausing(&self.rt, self.napi, &mut Yields),
+            Power::Off(control) => control,
+        };
+        Seats { caller, control }
+    }
+
+    // One act: the device is asked for it, and it is made.
+    fn make_act<D: Device>(
+        &self,
+        list: &mut ListIn<R>,
+        device: &mut D,
+        k: u32,
+        hold: Hold,
+        rx: &mut RxIn,
+    ) -> Hold
+        requires below { k < D.acts device.old }
+        requires of { IsHoldOf self.now.napi.now hold }
+        ensures of { IsHoldOf self.now.napi.now result }
+        ensures made { Acts (is_some self.now.thread)
+            (D.answer device.old k) hold result rx.old rx.new }
+        ensures device { device.new ≡ D.after device.old k }
+        ensures acts { D.acts device.new ≡ D.acts device.old }
+        ensures ring { SameIn rx.old rx.new }
+        ensures few { length (put_list rx.new) ≤ length (put_list rx.old) + 1 }
+        ensures put { length (put_list rx.old) + length (brings (D.answer device.old k))
+            ≤ capacity_of rx.old
+            → put_list rx.new ≡ put_list rx.old ++ brings (D.answer device.old k) }
+    {
+        match device.act(k) {
+            Act::Arrive(packet) => match rx.put(packet) {
+                Ok(()) => {
+                    let Hold {
+                        caller,
+                        power,
+                        threaded,
+                    } = hold;
+                    let caller = self.interrupt(list, caller, rx, packet);
+                    Hold {
+                        caller,
+                        power,
+                        threaded,
+                    }
+                }
+                Err(_dropped) => hold,
+            },
+            Act::Disable => self.turn_off(hold),
+            Act::Enable => self.turn_on(hold),
+            Act::SetThreaded(threaded) => {
+                let Hold {
+                    mut caller,
+                    power,
+                    threaded: _before,
+                } = hold;
+                caller.set_threaded(self.napi, threaded);
+                Hold {
+                    caller,
+                    power,
+                    threaded,
+                }
+            }
+            Act::Nothing => hold,
+        }
+    }
+
+    // Whether the worker may make its next act. Where the gate says no, the run is shut.
+    fn may_act<G: Gate>(&self, gate: &G, k: u32) -> bool {
+        if !self.signals.go_on() {
+            return false;
+        }
+        let open = gate.pass(self.number, k);
+        if !open {
+            self.signals.stop();
+        }
+        open
+    }
+
+    // The device's acts in order, and whether all were made.
+    #[tactic(auto, using(crate::proofs::ActSteps::steps))]
+    fn make_acts<D: Device, G: Gate>(
+        &self,
+        list: &mut ListIn<R>,
+        device: &mut D,
+        hold: Hold,
+        rx: &mut RxIn,
+        gate: &G,
+    ) -> (Hold, bool)
+        requires { IsHoldOf self.now.napi.now hold }
+        ensures of { IsHoldOf self.now.napi.now result.0 }
+        ensures same { IsSameHold hold result.0 }
+        ensures made { result.1 ≡ true
+            → AllActs (is_some self.now.thread) D.answer D.after device.old
+            (D.acts device.old) hold result.0 rx.old rx.new }
+        ensures device { result.1 ≡ true
+            → device.new ≡ after_acts D.after device.old (D.acts device.old) }
+        ensures ring { SameIn rx.old rx.new }
+        ensures few { length (put_list rx.new) ≤ length (put_list rx.old) + 4294967295 }
+        ensures put { result.1 ≡ true
+            → length (put_list rx.old)
+            + length (arrivals D.answer D.after device.old (D.acts device.old)) ≤ capacity_of rx.old
+            → put_list rx.new ≡ put_list rx.old
+            ++ arrivals D.answer D.after device.old (D.acts device.old) }
+    {
+        let mut hold = hold;
+        for k in 0..device.acts() {
+            if !self.may_act(gate, k) {
+                return (hold, false);
+            }
+            hold = self.make_act(list, device, k, hold, rx);
+        }
+        (hold, true)
+    }
+}
+
+impl<'s, 'p, 'n, R: Wait + Drop + Copy> Desk<'s, 'p, 'n, R> {
+    /// Makes the device's acts over an instance that is enabled before, and disabled after.
+    pub(crate) fn work<D: Device, G: Gate>(&self, gate: &G, work: Work<R, D>) -> Done<R, D>
+        requires { AreSeatsOf self.now.napi.now work.seats.value }
+        ensures { IsDoneBy D.acts D.answer D.after self.now.napi.now
+            (is_some self.now.thread) work result }
+    {
+        let Work {
+            mut list,
+            mut device,
+            mut rx,
+            seats,
+        } = work;
+        let Seats { caller, control } = seats.open();
+        let hold = self.turn_on(Hold {
+            caller,
+            power: Power::Off(control),
+            threaded: false,
+        });
+        let (hold, whole) = self.make_acts(&mut list, &mut device, hold, &mut rx, gate);
+        Done {
+            device,
+            rx,
+            seats: Kept::new(self.rt, self.leave(hold)),
+            whole,
+        }
+    }
+}

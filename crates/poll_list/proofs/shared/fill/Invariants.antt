@@ -1,0 +1,10 @@
+use Rattle.{std.proofs.Common.{◌≡◌, ◌++◌, List, ℕ, length}, crossbeam_queue.specs.Passes.{view, IsPassOf}, poll_list.specs.PushOrder.PopsMore}
+use Rattle.poll_list.proofs.shared.fill.Given as goal
+
+abbrev pub invariant-loop : goal.invariant-loop
+invariant-loop g l = record {
+  pass : IsPassOf l.queue l.pass × (l.pass.table_id ≡ l.initial.pass.table_id);
+  popped : (fresh : List ℕ) × (l.into ≡ l.initial.into ++ fresh) × PopsMore (view l.initial.pass) fresh (view l.pass);
+  size : length l.into ≡ l.counter;
+  none_empty : l.pops ≡ l.initial.pops;
+}

@@ -1,0 +1,10 @@
+-- The numbers of the faults of a shared list.
+use Rattle.std.specs.Prelude.{ℕ}
+use Rattle.poll_list.specs.declared.list_fault.ListFault.{ListFault}
+use Rattle.poll_list.specs.declared.list_fault.ListFault.TheVariants.{BadSize, OutOfMemory, NotAll}
+
+-- the number by which a fault is known
+abbrev pub number_of : ListFault → ℕ
+number_of BadSize = 1
+number_of OutOfMemory = 2
+number_of NotAll = 3

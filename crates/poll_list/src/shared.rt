@@ -1,0 +1,154 @@
+//! A poll list to which other threads push.
+
+ghost use Rattle.std.specs.Prelude.{◌≡◌, ℕ, ◌+◌, ◌≤◌, ◌<◌, true, List, [], ◌∷◌, ◌++◌, length};
+ghost use Rattle.std.specs.Arc.{arc_value};
+ghost use Rattle.crossbeam_queue.specs.Passes.{view, IsPassOf, ruled_capacity};
+ghost use Rattle.poll_list.specs.EmptyPops.{CountsOne};
+ghost use Rattle.poll_list.specs.PushOrder.{PopsMore, WasEmpty};
+
+use crate::list_rule::{EndPass, PoppedLast, PushQueue, PushedLast};
+use crate::pops::Pops;
+use poll_runs::{PollList, SoftList};
+use std::sync::{Arc, Wait};
+
+/// A poll list without a lock: its poller's end, at which alone numbers are taken. Others push at its
+/// [`ListIn`](crate::ListIn)s, from threads of their own.
+///
+/// At most 64 entries stand in its queue, and beside it those that stand in the poller's hands. The pushes stand
+/// in one order, each end's own in its order, and what was popped is the first part of it, each push once.
+#[derive(Drop)]
+pub struct SharedList<R> {
+    pub(crate) rt: R,
+    pub(crate) queue: Arc<PushQueue>,
+    pub(crate) pass: EndPass,
+    pub(crate) pops: Pops,
+    pub(crate) hand: SoftList,
+    pub(crate) pushers: u32,
+    ghost fits: { IsPassOf (arc_value queue) pass },
+    ghost places: { ruled_capacity (arc_value queue) ≡ 64 },
+    ghost polls: { ((view pass).live ≡ true) × ((view pass).polls ≡ true) },
+    ghost whole: { ((view pass).returned ≡ []) × ((view pass).number ≡ 0) × ((view pass).made ≡ pushers + 1) },
+}
+
+// Pops until a pop finds the queue empty, or `into` has `most` entries.
+pub(crate) fn fill<R: Wait>(
+    rt: &R,
+    queue: &PushQueue,
+    pass: &mut EndPass,
+    pops: &mut Pops,
+    into: &mut SoftList,
+    most: usize,
+)
+    requires pass { IsPassOf queue.now pass.old × ((view pass.old).polls ≡ true) }
+    requires most { most ≤ 64 }
+    ensures pass { IsPassOf queue.now pass.new × (pass.new.table_id ≡ pass.old.table_id) }
+    ensures popped { (fresh : List ℕ) × (into.new ≡ into.old ++ fresh)
+        × PopsMore (view pass.old) fresh (view pass.new) }
+    ensures most { length into.old ≤ most → length into.new ≤ most }
+    ensures all { length into.new < most → WasEmpty (view pass.new) }
+    ensures empty { length into.new < most → CountsOne pops.old pops.new }
+{
+    for _ in into.ids().len()..most {
+        match pops.pop(rt, queue, pass) {
+            Some(id) => into.append(id),
+            None => return,
+        }
+    }
+}
+
+// Pushes a number of the poller's own. Where the queue is full its first number goes into the poller's hands: nobody else
+// makes room, so a push that waited would wait for itself.
+fn push_own<R: Wait>(rt: &R, queue: &PushQueue, pass: &mut EndPass, hand: &mut SoftList, id: u32)
+    requires pass { IsPassOf queue.now pass.old × ((view pass.old).live ≡ true)
+        × ((view pass.old).polls ≡ true) }
+    requires place { length hand.old < 64 }
+    ensures pass { IsPassOf queue.now pass.new × (pass.new.table_id ≡ pass.old.table_id) }
+    ensures pushed { (came : List ℕ) × (length came ≤ 1) × (hand.new ≡ hand.old ++ came)
+        × (view pass.new
+        ≡ record (view pass.old) {
+          pushed = (view pass.old).pushed ++ id
+              ∷ [];
+          popped = (view pass.old).popped ++ came;
+        }) }
+{
+    if let Some(first) = queue.force_push_as::<PushedLast, PoppedLast, R>(rt, pass, id) {
+        hand.append(first);
+    }
+}
+
+impl<R: Wait> PollList for SharedList<R> {
+    ghost use Rattle.std.proofs.Common.{rules, arith};
+    ghost use Rattle.std.proofs.lemmas.Grind.{common_steps};
+    ghost use Rattle.poll_list.specs.SharedList.{FindsEmpty, HandsHavePlace, HandsHaveRoom, IsAllPopped, PopsCame, in_hand};
+
+    ghost entries = { in_hand };
+
+    ghost moves = { PopsCame };
+
+    ghost is_all = { IsAllPopped };
+
+    ghost can_push = { HandsHavePlace };
+
+    ghost has_room = { HandsHaveRoom };
+
+    /// Puts a number at the queue's tail, behind what others pushed. Where 64 stand there, the first of them goes into the
+    /// poller's hands: the push doesn't wait, since nobody but its own poller makes room.
+    fn push(&mut self, id: u32) {
+        push_own(&self.rt, &self.queue, &mut self.pass, &mut self.hand, id);
+    }
+
+    /// Takes what is in the poller's hands, and then pops until the queue is empty or 64 are taken.
+    fn splice(&mut self, to: &mut SoftList) -> usize
+        requires { to.old ≡ [] }
+        ensures given { (came : List ℕ) × PopsCame self.old [] came self.new
+            × (to.new ≡ in_hand self.old ++ came) }
+        ensures nothing_kept { in_hand self.new ≡ [] }
+        ensures all { IsAllPopped to.new self.new }
+        ensures count { result ≡ length to.new }
+        ensures most { result ≤ 64 }
+        ensures room { HandsHaveRoom self.new (length to.new) }
+        ensures empty { length to.new < 64 → FindsEmpty self.old self.new }
+    {
+        std::mem::swap(&mut self.hand, to);
+        fill(
+            &self.rt,
+            &self.queue,
+            &mut self.pass,
+            &mut self.pops,
+            to,
+            64,
+        );
+        to.ids().len()
+    }
+
+    /// Keeps in the poller's hands the rest, then what it pops until the queue is empty or 64 are in hand with those to
+    /// be repolled, and these last.
+    fn put_back(&mut self, mut rest: SoftList, repoll: SoftList)
+        requires { HandsHaveRoom self.old (length rest + length repoll) }
+        ensures back { (came : List ℕ) × PopsCame self.old [] came self.new
+            × (in_hand self.new ≡ rest ++ (in_hand self.old ++ came) ++ repoll) }
+        ensures all { IsAllPopped (in_hand self.new) self.new }
+        ensures empty { length (in_hand self.new) < 64 → FindsEmpty self.old self.new }
+    {
+        let most = 64 - repoll.ids().len();
+        rest.append_all(&self.hand);
+        fill(
+            &self.rt,
+            &self.queue,
+            &mut self.pass,
+            &mut self.pops,
+            &mut rest,
+            most,
+        );
+        rest.append_all(&repoll);
+        self.hand = rest;
+    }
+
+    ghost stays = { Prim.search rules };
+
+    ghost joins = { Prim.search (rules, common_steps) };
+
+    ghost room_to_push = { λ list n room. omega (arith, room) };
+
+    ghost room_for_less = { λ list n room. omega (arith, room) };
+}

@@ -1,0 +1,49 @@
+-- Laws of runs over a list of one thread.
+use Rattle.std.specs.Prelude.{◌≡◌, ℕ, ◌≤◌, List, [], ◌∷◌, ◌++◌, length, take, drop}
+use Rattle.poll_runs.specs.Plain.{NothingBehind, OwnPushes, all_held}
+use Rattle.poll_runs.specs.Polls.{At, Chain, Poll, arrivals, ids, repolled}
+use Rattle.poll_runs.specs.Run.{IsRun}
+use Rattle.poll_runs.specs.declared.bench.Once.{Once}
+use Rattle.poll_runs.specs.declared.run.RunReport.{RunReport}
+
+-- a run over a list of one thread, as it states itself
+abbrev pub IsPlainRun : ℕ → ℕ → List ℕ → List Poll → List ℕ → RunReport → Type 0
+IsPlainRun = IsRun all_held OwnPushes NothingBehind
+
+-- each batch is what the polls of the batch before it handed to the list; the polls begin with those of the first one
+abbrev pub FollowEachOther : List Poll → List ℕ → List (List ℕ) → Type 0
+FollowEachOther polls batch [] = Unit
+FollowEachOther polls batch (next ∷ more) =
+    (next ≡ arrivals (take (length batch) polls)) × FollowEachOther (drop (length batch) polls) next more
+
+-- law: over a list of one thread there are no arrivals but the polls' own
+abbrev pub NoOtherArrivals : Type 0
+NoOtherArrivals =
+    (budget window : ℕ) (start after : List ℕ) (polls : List Poll) (report : RunReport)
+    → (run : IsPlainRun budget window start polls after report)
+    → (run.first ≡ start) × FollowEachOther polls run.first run.further × (run.came ≡ arrivals polls)
+
+-- law: the numbers polled are a front of what the list held and of the polls' own arrivals; the rest of these is on the
+-- list afterwards, before what is to be repolled, and there are no more of them than before
+abbrev pub PlainListAfterwards : Type 0
+PlainListAfterwards =
+    (budget window : ℕ) (start after : List ℕ) (polls : List Poll) (report : RunReport)
+    → IsPlainRun budget window start polls after report
+    → (ids polls ≡ take (length polls) (start ++ arrivals polls))
+    × (after ≡ drop (length polls) (start ++ arrivals polls) ++ repolled polls)
+    × (length after ≤ length start)
+
+-- a poll has one outcome: the same poll of the same bench gives the same answer and leaves the same bench
+abbrev pub HasOneOutcome : {B : Type 0} → (B → ℕ → ℕ → Once → B → Type 0) → Type 0
+HasOneOutcome {B} polls =
+    (before after last : B) (id weight : ℕ) (once other : Once)
+    → polls before id weight once after → polls before id weight other last → (once ≡ other) × (after ≡ last)
+
+-- law: where each poll has one outcome, so has each run over a list of one thread
+abbrev pub RunsAgree : {B : Type 0} → (B → ℕ → ℕ → Once → B → Type 0) → Type 0
+RunsAgree {B} relation =
+    HasOneOutcome relation
+    → (budget weight window : ℕ) (bench : B) (list : List ℕ) (polls others : List Poll) (after last : B) (left kept : List ℕ) (report other : RunReport)
+    → Chain (At relation weight) bench polls after → IsPlainRun budget window list polls left report
+    → Chain (At relation weight) bench others last → IsPlainRun budget window list others kept other
+    → (polls ≡ others) × (after ≡ last) × (left ≡ kept) × (report ≡ other)

@@ -1,0 +1,40 @@
+-- The polling of an instance by its thread (`napi_threaded_poll`).
+use Rattle.std.specs.Prelude.{◌≡◌, ◌≢◌, ℕ, ◌<◌, ◌≤◌, Bool, true, false, List, [], ◌∷◌, length, sum_by}
+use Rattle.std.specs.List.{AllByRecursion}
+use Rattle.napi_model.specs.declared.state.Kind.TheVariants as kind
+use Rattle.poll_runs.specs.declared.bench.Next.{Next}
+use Rattle.poll_runs.specs.declared.bench.Next.TheVariants.{Absent, Gone, Again, Repoll}
+use Rattle.poll_runs.specs.declared.bench.Once.{Once}
+use Rattle.poll_runs.specs.declared.bench.ThreadReport.{ThreadReport}
+
+-- the thread may poll once more: the instance is still in its hands, or was handed to it again
+abbrev pub is_for_thread : Next → Bool
+is_for_thread Repoll = true
+is_for_thread (Again kind.Thread) = true
+is_for_thread (Again kind.List) = false
+is_for_thread Absent = false
+is_for_thread Gone = false
+
+-- how the last of these polls ended, Absent where there is none
+abbrev pub last_next : List Once → Next
+last_next [] = Absent
+last_next (once ∷ []) = once.next
+last_next (once ∷ (second ∷ more)) = last_next (second ∷ more)
+
+-- each poll but the last one leaves the instance to the thread
+abbrev pub Continues : List Once → Type 0
+Continues [] = Unit
+Continues (once ∷ []) = Unit
+Continues (once ∷ (second ∷ more)) = (is_for_thread once.next ≡ true) × Continues (second ∷ more)
+
+-- A thread's polling by these polls. Fewer than `most` are made only where the last one left nothing to the thread, or a
+-- take found nothing; after a repoll there is no take, for the instance is still in the thread's hands.
+pub record IsThreadPolling (weight most : ℕ) (polls : List Once) (report : ThreadReport) : Type 0 where
+  pub within : length polls ≤ most
+  -- a take that finds nothing is no poll
+  pub each : AllByRecursion (λ once. (once.work ≤ weight) × (once.next ≢ Absent)) polls
+  pub continues : Continues polls
+  pub fewer : length polls < most → last_next polls ≢ Repoll
+  pub count : report.polls ≡ length polls
+  pub sum : report.work ≡ sum_by (λ once. once.work) polls
+  pub last : report.next ≡ last_next polls

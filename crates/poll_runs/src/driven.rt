@@ -1,0 +1,182 @@
+//! A polling run, poll by poll.
+
+ghost use Rattle.std.specs.Prelude.{◌≡◌, ◌+◌, ◌<◌, ◌≤◌, ◌||◌, true, false, is_some, nat_le, List, [], ◌∷◌, ◌++◌, length, if◌then◌else◌, None, Some};
+ghost use Rattle.poll_runs.specs.Polls.{Poll, is_arrival, is_repoll, work_of};
+ghost use Rattle.poll_runs.specs.Run.{IsRun};
+ghost use Rattle.poll_runs.specs.Turn.{HandsOn, Refills};
+ghost use Rattle.poll_runs.specs.Driven.{IsGoing, IsOver, SameSettings, and_poll, held, waits};
+
+use crate::bench::{Next, Once};
+use crate::list::PollList;
+use crate::polling_run::PollingRun;
+use crate::run::RunReport;
+use crate::soft::SoftList;
+use napi_model::Kind;
+
+// Whether the work meets the budget or the polls meet the window.
+fn is_spent(budget: u32, window: u32, polls: u32, work: u32) -> bool
+    ensures spent { result ≡ (nat_le budget work || nat_le window polls) }
+    ensures left { result ≡ false → (work < budget) × (polls < window) }
+{
+    budget <= work || window <= polls
+}
+
+// Where all that was taken is polled, and nothing is to be repolled, takes what the list holds.
+fn refill<L: PollList>(own: &mut SoftList, list: &mut L, repoll: &SoftList)
+    ensures { Refills L.entries L.moves L.is_all L.has_room own.old list.old repoll.now own.new
+        list.new }
+{
+    if own.is_empty() && repoll.is_empty() {
+        list.splice(own);
+    }
+}
+
+// Puts a number that was polled where its answer says.
+fn hand_on<L: PollList>(next: Next, id: u32, list: &mut L, repoll: &mut SoftList)
+    requires list { L.can_push list.old }
+    requires repoll { length repoll.old < 64 }
+    ensures list { HandsOn L.entries L.moves L.has_room list.old (is_arrival next) id list.new }
+    ensures repoll { repoll.new ≡ repoll.old ++ (if is_repoll next then id ∷ [] else []) }
+{
+    match next {
+        Next::Again(Kind::List) => list.push(id),
+        Next::Repoll => repoll.append(id),
+        _ => {}
+    }
+}
+
+impl PollingRun {
+    /// Takes all that the list holds. The weight is in 1..=64, budget and window in 1..=65535.
+    pub fn begin<L: PollList>(list: &mut L, budget: u32, weight: u32, window: u32) -> PollingRun
+        requires weight { (1 ≤ weight) × (weight ≤ 64) }
+        requires budget { (1 ≤ budget) × (budget ≤ 65535) }
+        requires window { (1 ≤ window) × (window ≤ 65535) }
+        ensures going { IsGoing L.entries L.moves L.is_all list.old [] list.new result }
+        ensures rests { result.asked ≡ None }
+        ensures room { L.has_room list.new (held result) }
+        ensures settings { (result.budget ≡ budget) × (result.weight ≡ weight)
+            × (result.window ≡ window) }
+    {
+        let mut own = SoftList::new();
+        list.splice(&mut own);
+        let repoll = SoftList::new();
+        PollingRun {
+            own,
+            repoll,
+            asked: None,
+            budget,
+            weight,
+            window,
+            polls: 0,
+            work: 0,
+        }
+    }
+
+    /// The number that is to be polled next, None where the run is over: the work meets the budget or the polls meet the
+    /// window, or all that was taken is polled, and a poll asked for a repoll or the list holds nothing.
+    pub fn next<L: PollList>(&mut self, list: &mut L) -> Option<u32>
+        requires rests { self.old.asked ≡ None }
+        requires room { L.has_room list.old (held self.old) }
+        ensures going { (start : _) (polls : List Poll)
+            → IsGoing L.entries L.moves L.is_all start polls list.old self.old
+            → IsGoing L.entries L.moves L.is_all start polls list.new self.new }
+        ensures over { (start : _) (polls : List Poll) → result ≡ None
+            → IsGoing L.entries L.moves L.is_all start polls list.old self.old
+            → IsOver L.entries L.moves L.is_all start polls self.new }
+        ensures asks { self.new.asked ≡ result }
+        ensures room { L.has_room list.new (held self.new) }
+        ensures counts { self.new.polls ≡ self.old.polls }
+        ensures settings { SameSettings self.old self.new }
+    {
+        if is_spent(self.budget, self.window, self.polls, self.work) {
+            return None;
+        }
+        refill(&mut self.own, list, &self.repoll);
+        self.asked = self.own.pop_front();
+        self.asked
+    }
+
+    /// The number that is being polled: [`next`](PollingRun::next) named it, and what its poll did isn't told yet.
+    pub fn asked(&self) -> Option<u32>
+        ensures { result ≡ self.now.asked }
+    {
+        self.asked
+    }
+
+    /// The packets that one poll may give at most.
+    pub fn weight(&self) -> u32
+        ensures { result ≡ self.now.weight }
+    {
+        self.weight
+    }
+
+    /// How many of the list's numbers the run holds.
+    pub fn held(&self) -> usize
+        ensures held { result ≡ held self.now }
+        ensures few { result ≤ 64 }
+    {
+        let asked = usize::from(self.asked.is_some());
+        self.own.ids().len() + asked + self.repoll.ids().len()
+    }
+
+    /// Whether the number waits in the run: to be polled, or to be put back.
+    pub fn is_waiting(&self, id: u32) -> bool
+        ensures { result ≡ waits self.now id }
+    {
+        self.own.ids().contains(&id) || self.repoll.ids().contains(&id)
+    }
+
+    /// What the poll of the number gave that was named last, at most the weight, and how it ended.
+    pub fn polled<L: PollList>(&mut self, list: &mut L, once: Once)
+        requires asked { is_some self.old.asked ≡ true }
+        requires work { once.work ≤ self.old.weight }
+        requires room { L.has_room list.old (held self.old) }
+        ensures going { (start : _) (polls : List Poll) (id : _) → self.old.asked ≡ Some id
+            → IsGoing L.entries L.moves L.is_all start polls list.old self.old
+            → IsGoing L.entries L.moves L.is_all start (and_poll polls id once) list.new self.new }
+        ensures rests { self.new.asked ≡ None }
+        ensures room { L.has_room list.new (held self.new) }
+        ensures counts { self.new.polls ≡ self.old.polls + 1 }
+        ensures settings { SameSettings self.old self.new }
+    {
+        let Some(id) = self.asked else {
+            return;
+        };
+        self.asked = None;
+        self.polls += 1;
+        self.work += once.work;
+        hand_on(once.next, id, list, &mut self.repoll);
+    }
+
+    /// Ends the run: the list gets back what wasn't polled, before what came meanwhile, and what is to be repolled behind it. It
+    /// may be ended early, before [`next`](PollingRun::next) answers None.
+    pub fn end<L: PollList>(self, list: &mut L) -> RunReport
+        requires rests { self.asked ≡ None }
+        requires room { L.has_room list.old (held self) }
+        ensures run { (start : _) (polls : List Poll)
+            → IsGoing L.entries L.moves L.is_all start polls list.old self
+            → IsOver L.entries L.moves L.is_all start polls self
+            → IsRun L.entries L.moves L.is_all self.budget self.window start polls list.new result }
+        ensures early { (start : _) (polls : List Poll)
+            → IsGoing L.entries L.moves L.is_all start polls list.old self
+            → (result.polls ≡ length polls) × (result.work ≡ work_of polls) }
+        ensures polls { result.polls ≤ self.window }
+        ensures work { result.work < self.budget + self.weight }
+    {
+        let PollingRun {
+            own,
+            repoll,
+            budget,
+            window,
+            polls,
+            work,
+            ..
+        } = self;
+        list.put_back(own, repoll);
+        RunReport {
+            polls,
+            work,
+            squeezed: is_spent(budget, window, polls, work),
+        }
+    }
+}

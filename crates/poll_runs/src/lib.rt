@@ -1,0 +1,35 @@
+//! Behind the door `poll_engine`: poll lists of one thread, polling runs and the polling of an instance by its thread, over
+//! whatever is polled.
+//!
+//! The rules are those of `net_rx_action` and `napi_threaded_poll` of Linux 6.6 (`net/core/dev.c`). A [`Bench`] polls
+//! instances by their numbers, and states by relations of its own what a poll does; a [`PollList`] holds numbers.
+//! A [`PollingRun`] goes poll by poll, by whoever drives it; [`run_softirq`] drives one over a bench. Both are written and proved
+//! once, for every list and every bench. The definitions that the contracts cite are in `specs/`: `Polls` has lists of polls,
+//! `Thread` the polling of an instance by its thread, `Run` the polling run, `Driven` where a run stands between its polls,
+//! `Laws` what follows over a list of one thread.
+#![tactic(auto)]
+
+mod bench;
+mod busy_polling;
+mod driven;
+mod instance;
+mod laws;
+mod list;
+mod plain;
+mod polling;
+mod polling_run;
+mod run;
+mod soft;
+
+pub use bench::{Bench, BusyReport, Next, Once, ShownBench, ThreadReport};
+pub use busy_polling::poll_busy_of;
+pub use instance::{BusyInstance, Instance};
+pub use laws::{
+    no_other_arrivals, plain_list_afterwards, run_is_function, run_is_shown, runs_agree,
+};
+pub use list::PollList;
+pub use plain::PlainList;
+pub use polling::{poll_once_of, poll_thread_of};
+pub use polling_run::PollingRun;
+pub use run::{RunReport, run_softirq};
+pub use soft::SoftList;

@@ -1,0 +1,75 @@
+//! The poll list of one thread.
+
+ghost use Rattle.std.specs.Prelude.{◌≡◌, ◌≤◌, List, ℕ, [], length, refl};
+ghost use Rattle.std.proofs.Common.{rules};
+ghost use Rattle.poll_runs.specs.Plain.{CanPush, HasRoom, NothingBehind, OwnPushes, all_held};
+
+use crate::list::PollList;
+use crate::soft::SoftList;
+use std::marker::Model;
+
+/// A poll list of one thread. It holds at most 64 numbers.
+#[derive(Drop)]
+pub struct PlainList {
+    entries: SoftList,
+}
+
+impl Model for PlainList {
+    ghost Value = { List ℕ };
+
+    ghost view = { λ list. list.entries };
+}
+
+impl PlainList {
+    /// An empty list.
+    pub fn new() -> PlainList
+        ensures { result ≡ [] }
+    {
+        PlainList {
+            entries: SoftList::new(),
+        }
+    }
+
+    /// The numbers, in order.
+    pub fn ids(&self) -> &[u32]
+        ensures ids { result.now ≡ self.now }
+        ensures room { length self.now ≤ 64 }
+    {
+        self.entries.ids()
+    }
+}
+
+impl PollList for PlainList {
+    ghost entries = { all_held };
+
+    ghost moves = { OwnPushes };
+
+    ghost is_all = { NothingBehind };
+
+    ghost can_push = { CanPush };
+
+    ghost has_room = { HasRoom };
+
+    fn push(&mut self, id: u32) {
+        self.entries.append(id);
+    }
+
+    fn splice(&mut self, to: &mut SoftList) -> usize {
+        std::mem::swap(&mut self.entries, to);
+        to.ids().len()
+    }
+
+    fn put_back(&mut self, mut rest: SoftList, repoll: SoftList) {
+        rest.append_all(&self.entries);
+        rest.append_all(&repoll);
+        self.entries = rest;
+    }
+
+    ghost stays = { λ _. refl };
+
+    ghost joins = { Prim.search rules };
+
+    ghost room_to_push = { Prim.search rules };
+
+    ghost room_for_less = { Prim.search rules };
+}

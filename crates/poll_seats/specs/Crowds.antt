@@ -1,0 +1,39 @@
+-- What a poll makes of a poller's seats.
+use Rattle.std.specs.Prelude.{◌≡◌, ◌==◌, ◌<◌, ℕ, List, length, get_or, set, position, is_some, vec_items, MatchOption}
+use Rattle.poll_runs.specs.declared.bench.BusyReport.{BusyReport}
+use Rattle.poll_runs.specs.declared.bench.Next.TheVariants.{Absent}
+use Rattle.poll_runs.specs.declared.bench.Once.{Once}
+use Rattle.poll_seats.specs.declared.seat.Seat.{Seat}
+use Rattle.poll_seats.specs.declared.poller.Crowd.{Crowd}
+use Rattle.poll_seats.specs.Polled.{Polls}
+use Rattle.poll_seats.specs.SeatKeeping.{IsSameSeat}
+
+module _ {R : Type 0} where
+  -- the seat at this place was polled once, with this weight and this answer, and no other one
+  pub record IsPolledAt (before : Crowd R) (weight : ℕ) (once : Once) (after : Crowd R) (place : ℕ) : Type 0 where
+    pub was : Seat
+    pub now : Seat
+    pub within : place < length (vec_items before.seats)
+    pub there : get_or (vec_items before.seats) place was ≡ was
+    pub same : IsSameSeat was now
+    pub polls : Polls (is_some was.thread) weight was.caller once after.batch.items now.caller
+    pub others : vec_items after.seats ≡ set (vec_items before.seats) place now
+
+  -- the poller has no seat at the instance, which is absent
+  pub record IsNowhere (before : Crowd R) (once : Once) (after : Crowd R) : Type 0 where
+    pub work : once.work ≡ 0
+    pub next : once.next ≡ Absent
+    pub seats : vec_items after.seats ≡ vec_items before.seats
+
+  -- one poll of the instance with this number, with this weight and this answer
+  abbrev pub PollsSeat : Crowd R → ℕ → ℕ → Once → Crowd R → Type 0
+  PollsSeat before id weight once after =
+      MatchOption (position (λ (seat : Seat). seat.number == id) (vec_items before.seats))
+      (IsNowhere before once after)
+      (IsPolledAt before weight once after)
+
+  abbrev pub ThreadKeepsSeats : Crowd R → ℕ → ℕ → ℕ → List Once → Crowd R → Type 0
+  ThreadKeepsSeats before id weight most polls after = after ≡ before
+
+  abbrev pub BusyKeepsSeats : Crowd R → ℕ → ℕ → ℕ → BusyReport → Crowd R → Type 0
+  BusyKeepsSeats before id weight rounds report after = after ≡ before

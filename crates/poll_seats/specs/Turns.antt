@@ -1,0 +1,36 @@
+-- A turn of a poller, and one of the thread of an instance.
+use Rattle.std.specs.Prelude.{◌≡◌, ◌++◌, Bool, List, nat_lt}
+use Rattle.poll_list.specs.SharedList.{IsAllPopped, PopsCame, in_hand, pushed_by}
+use Rattle.poll_runs.specs.Polls.{At, Chain, Poll}
+use Rattle.poll_runs.specs.Run.{IsRun}
+use Rattle.poll_runs.specs.declared.bench.ThreadReport.{ThreadReport}
+use Rattle.poll_runs.specs.declared.run.RunReport.{RunReport}
+use Rattle.poll_seats.specs.declared.poller.Poller.{Poller}
+use Rattle.poll_seats.specs.declared.thread_poller.Alone.{Alone}
+use Rattle.poll_seats.specs.Crowds.{PollsSeat}
+use Rattle.poll_seats.specs.Polled.{PollsByThread, handed_on}
+use Rattle.poll_seats.specs.SeatKeeping.{IsSameSeat}
+
+module _ {R : Type 0} where
+  -- a run over what is on the list, by the budget, the weight and the window of the pace (`net_rx_action`)
+  pub record RunsOnce (before : Poller R) (report : RunReport) (after : Poller R) : Type 0 where
+    pub polls : List Poll
+    pub seats : Chain (At PollsSeat before.pace.weight) before.crowd polls after.crowd
+    pub run : IsRun in_hand PopsCame IsAllPopped before.pace.budget before.pace.window before.list polls after.list report
+    pub pace : after.pace ≡ before.pace
+
+  -- a poller's turn is one run, which found something where it polled
+  pub record TurnsByRun (before : Poller R) (found : Bool) (after : Poller R) : Type 0 where
+    pub report : RunReport
+    pub run : RunsOnce before report after
+    pub found_polls : found ≡ nat_lt 0 report.polls
+
+  -- a thread's turn is one polling, by the weight and the window of the pace (`napi_threaded_poll`), which found something
+  -- where it polled, and hands on what it may not poll again
+  pub record TurnsAlone (before : Alone R) (found : Bool) (after : Alone R) : Type 0 where
+    pub report : ThreadReport
+    pub same : IsSameSeat before.seat after.seat
+    pub polls : PollsByThread before.pace.weight before.pace.window before.seat.caller report after.batch.items after.seat.caller
+    pub handed : pushed_by after.list ≡ pushed_by before.list ++ handed_on report.next before.seat.number
+    pub pace : after.pace ≡ before.pace
+    pub found_polls : found ≡ nat_lt 0 report.polls

@@ -1,0 +1,192 @@
+//! A poller: its seats are a bench, over which it runs while there is something on its list.
+
+ghost use Rattle.std.specs.Prelude.{◌≡◌, ◌==◌, ◌<◌, position, vec_items};
+ghost use Rattle.poll_tasks.specs.Paces.{IsLawful};
+
+use crate::seat::Seat;
+use crate::serving::{Serves, serve};
+use napi_calls::Kept;
+use poll_list::SharedList;
+use poll_runs::{Bench, BusyReport, Next, Once, RunReport, ThreadReport, run_softirq};
+use poll_tasks::{Gate, Pace, Pause, Post, Setting, Task};
+use rx_ring::Batch;
+use std::sync::Wait;
+
+// A poller goes by 100 and its number from 0.
+const FIRST_POLLER: u32 = 100;
+
+/// A poller's seats, as what is polled by the instances' numbers. It must be spent.
+pub(crate) struct Crowd<'n, R> {
+    rt: R,
+    pub(crate) seats: Vec<Seat<'n>>,
+    batch: Batch,
+}
+
+// Where the instance of this number has its seat.
+fn find(seats: &[Seat], number: u32) -> Option<usize>
+    ensures { result ≡ position (λ seat. seat.number == number) seats.now }
+{
+    seats.iter().position(|seat| seat.number == number)
+}
+
+impl<'n, R: Wait> Bench for Crowd<'n, R> {
+    ghost use Rattle.poll_seats.specs.Crowds.{BusyKeepsSeats, PollsSeat, ThreadKeepsSeats};
+
+    ghost polls = { PollsSeat };
+
+    ghost thread_polls = { ThreadKeepsSeats };
+
+    ghost busy_polls = { BusyKeepsSeats };
+
+    fn poll_once(&mut self, id: u32, weight: u32) -> Once {
+        match find(self.seats.as_slice(), id) {
+            Some(at) => self.seats[at].poll(&self.rt, weight, &mut self.batch),
+            None => Once {
+                work: 0,
+                next: Next::Absent,
+            },
+        }
+    }
+
+    /// Polls nothing: an instance that is handed to its thread is polled there.
+    fn poll_thread(&mut self, _id: u32, _weight: u32, _most: u32) -> ThreadReport {
+        ThreadReport {
+            polls: 0,
+            work: 0,
+            next: Next::Absent,
+        }
+    }
+
+    /// Polls nothing: no worker busy polls.
+    fn busy_poll(&mut self, _id: u32, _weight: u32, _rounds: u32) -> BusyReport {
+        BusyReport::NONE
+    }
+}
+
+// A poller at its list. It must be spent.
+struct Poller<'n, R> {
+    list: SharedList<R>,
+    crowd: Crowd<'n, R>,
+    pace: Pace,
+    ghost lawful: { IsLawful pace },
+}
+
+impl<'n, R: Wait> Poller<'n, R> {
+    ghost use Rattle.poll_seats.specs.Turns.{RunsOnce};
+
+    // A run over what is on the list, by the budget, the weight and the window of the pace (`net_rx_action`).
+    fn run(&mut self) -> RunReport
+        ensures { RunsOnce self.old result self.new }
+    {
+        let Pace {
+            budget,
+            weight,
+            window,
+        } = self.pace;
+        run_softirq(&mut self.list, &mut self.crowd, budget, weight, window)
+    }
+}
+
+impl<'n, R: Drop> Poller<'n, R> {
+    // Gives the seats back.
+    fn leave(self) -> Vec<Seat<'n>>
+        ensures { vec_items result ≡ vec_items self.entry.crowd.seats }
+    {
+        let Poller {
+            list: _,
+            crowd,
+            pace: _,
+        } = self;
+        let Crowd {
+            rt: _,
+            seats,
+            batch: _,
+        } = crowd;
+        seats
+    }
+}
+
+impl<'n, R: Wait> Serves for Poller<'n, R> {
+    ghost use Rattle.poll_seats.specs.Turns.{TurnsByRun};
+
+    ghost turns = { TurnsByRun };
+
+    fn turn(&mut self) -> bool {
+        self.run().polls > 0
+    }
+}
+
+/// A poller's thread.
+#[derive(Drop)]
+pub struct PollTask<'t, 'p, 'n, R: Wait + Drop, G> {
+    /// What all threads of the run have.
+    pub setting: &'t Setting<'t, R, G>,
+    /// The poller's bell, and whether its threads were started.
+    pub post: &'p Post,
+    /// The poller's number, from 0.
+    pub number: u32,
+    /// The list of instances that the poller polls.
+    pub list: SharedList<R>,
+    /// How the poller waits.
+    pub pause: Pause,
+    /// The poller's seats at its instances.
+    pub seats: Kept<R, Vec<Seat<'n>>>,
+}
+
+impl<'t, 'p, 'n, R: Wait + Drop + Copy, G: Gate> PollTask<'t, 'p, 'n, R, G> {
+    ghost use Rattle.poll_seats.specs.Gives.{GivesSeats};
+
+    // Polls until told.
+    fn poll(self) -> Kept<R, Vec<Seat<'n>>>
+        requires number { self.number < 8 }
+        requires pace { IsLawful self.setting.now.pace }
+        ensures { GivesSeats self.entry result }
+    {
+        let PollTask {
+            setting,
+            post,
+            number,
+            list,
+            pause,
+            seats,
+        } = self;
+        let rt = setting.rt;
+        if !setting.gate.pass(FIRST_POLLER + number, 0) {
+            setting.signals.stop();
+        }
+        let crowd = Crowd {
+            rt,
+            seats: seats.open(),
+            batch: Batch::new(),
+        };
+        let mut poller = Poller {
+            list,
+            crowd,
+            pace: setting.pace,
+        };
+        serve(&rt, &post.bell, &pause, &mut poller);
+        Kept::new(rt, poller.leave())
+    }
+}
+
+impl<'t, 'p, 'n, R: Wait + Drop + Copy, G: Gate> Task<Kept<R, Vec<Seat<'n>>>>
+    for PollTask<'t, 'p, 'n, R, G> {
+    ghost use Rattle.std.specs.Prelude.{◌<◌};
+    ghost use Rattle.poll_tasks.specs.Paces.{IsLawful};
+    ghost use Rattle.poll_seats.specs.Gives.{GivesSeats};
+
+    ghost can_run = { λ task. (task.number < 8) × IsLawful task.setting.now.pace };
+
+    ghost gives = { GivesSeats };
+
+    fn is_idle(&self) -> bool {
+        false
+    }
+
+    fn run(self) -> Kept<R, Vec<Seat<'n>>> {
+        if self.post.is_refused() {
+            return self.seats;
+        }
+        self.poll()
+    }
+}

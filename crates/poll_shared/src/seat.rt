@@ -1,0 +1,298 @@
+//! A caller's seat at an instance that threads share, in the sight of one that polls it.
+
+ghost use Rattle.std.specs.Prelude.{◌≡◌, ◌<◌, ◌^◌, List};
+ghost use Rattle.rx_ring.specs.ReceiveRing.{bytes_of};
+ghost use Rattle.napi_model.specs.declared.event.Operation.{Operation};
+ghost use Rattle.napi_calls.specs.Dealt.{Delivers};
+ghost use Rattle.napi_calls.specs.Instance.{IsSeatOf};
+ghost use Rattle.napi_calls.specs.Made.{Made};
+ghost use Rattle.napi_calls.specs.Packets.{Quiet, polled};
+ghost use Rattle.poll_runs.specs.Polling.{next_of};
+ghost use Rattle.poll_shared.specs.SharedPolling.{EndsBy, HandsTo, kind_for};
+
+use napi_calls::{Busy, Caller, Completed, Granted, Napi, Polling};
+use napi_model::{Flags, Kind};
+use poll_runs::{BusyInstance, Instance};
+use rx_ring::{Batch, RxCounts};
+use std::mem;
+use std::sync::Wait;
+
+/// What the caller is. It has gone only within a call.
+pub(crate) enum Hold {
+    Rests(Caller),
+    Polls(Polling),
+    PollsBusily(Busy),
+    Gone,
+}
+
+/// The seat, by which the caller polls as an [`Instance`] does. It must be spent by [`rise`](Seat::rise).
+pub struct Seat<'a, R> {
+    pub(crate) rt: &'a R,
+    pub(crate) napi: &'a Napi,
+    pub(crate) thread: bool,
+    pub(crate) hold: Hold,
+}
+
+// To the instance's own thread where THREADED is set, else to the list.
+fn kind_for(flags: Flags) -> Kind
+    ensures { result ≡ kind_for flags }
+{
+    if flags.threaded {
+        Kind::Thread
+    } else {
+        Kind::List
+    }
+}
+
+/// Hands over an instance that was granted (`____napi_schedule`): where `thread` says that it has a thread of its own, to that
+/// if THREADED is seen, and else to the list. Answers to whom; handed to the list, its number is still to be pushed.
+pub fn hand_over(napi: &Napi, mut granted: Granted, thread: bool) -> (Caller, Kind)
+    requires { IsSeatOf napi.now granted.pass }
+    ensures made { (os : List Operation) × Made granted.pass os result.0.pass
+        × HandsTo thread result.1 os }
+    ensures packets { Quiet granted.pass result.0.pass }
+{
+    if !thread {
+        return (granted.hand(napi, Kind::List), Kind::List);
+    }
+    let seen = granted.look(napi);
+    let kind = kind_for(seen.flags);
+    (granted.hand(napi, kind), kind)
+}
+
+// Completes the instance, and hands it over where it is granted again; to whom.
+fn complete<R: Wait>(rt: &R, napi: &Napi, polling: Polling, thread: bool) -> (Caller, Option<Kind>)
+    requires { IsSeatOf napi.now polling.pass }
+    ensures made { (os : List Operation) × Made polling.pass os result.0.pass
+        × EndsBy thread (next_of result.1) os }
+    ensures packets { Delivers polling.pass (polled polling.pass polling.ctx) result.0.pass }
+{
+    match polling.complete(rt, napi) {
+        Completed::Released(caller) => (caller, None),
+        Completed::Again(granted) => {
+            let (caller, kind) = hand_over(napi, granted, thread);
+            (caller, Some(kind))
+        }
+    }
+}
+
+impl<'a, R: Wait> Seat<'a, R> {
+    ghost use Rattle.std.specs.Prelude.{◌≡◌};
+    ghost use Rattle.napi_calls.specs.declared.types.Polling.{Polling};
+    ghost use Rattle.poll_shared.specs.Seat.{seat_in_busy, seat_in_hand, seat_rests};
+    ghost use Rattle.poll_shared.specs.declared.seat.Hold.TheVariants.{Rests, Polls, PollsBusily, Gone};
+    ghost use Rattle.rx_ring.specs.Ends.{polls_of, received_list};
+    ghost use Rattle.rx_ring.specs.ReceiveRing.{counts_of};
+
+    /// The caller sits down. Where `thread` is true the instance has a thread of its own, to which it is handed after `Again`
+    /// where THREADED is seen; else every handing is to the list.
+    pub fn sit(rt: &'a R, napi: &'a Napi, thread: bool, caller: Caller) -> Seat<'a, R>
+        ensures napi { result.napi.now ≡ napi.now }
+        ensures thread { result.thread ≡ thread }
+        ensures hold { result.hold ≡ Rests caller }
+    {
+        Seat {
+            rt,
+            napi,
+            thread,
+            hold: Hold::Rests(caller),
+        }
+    }
+
+    /// What is counted of the polls of the instance so far.
+    pub fn counts(&self) -> RxCounts
+        requires { seat_in_hand self.now }
+        ensures { (polling : Polling) → self.now.hold ≡ Polls polling
+            → result ≡ counts_of (polls_of polling.ctx) (received_list polling.ctx) }
+    {
+        match &self.hold {
+            Hold::Polls(polling) => polling.counts(),
+            _ => unreachable!(),
+        }
+    }
+
+    /// The caller, who polls no more.
+    pub fn rise(self) -> Caller
+        requires { seat_rests self }
+        ensures { self.entry.hold ≡ Rests result }
+    {
+        let Seat {
+            rt: _,
+            napi: _,
+            thread: _,
+            hold,
+        } = self;
+        match hold {
+            Hold::Rests(caller) => caller,
+            _ => unreachable!(),
+        }
+    }
+
+    // Lets the caller go into a call.
+    fn caller(&mut self) -> Caller
+        requires { seat_rests self.old }
+        ensures was { self.old.hold ≡ Rests result }
+        ensures gone { self.new ≡ record self.old { hold = Gone } }
+    {
+        match mem::replace(&mut self.hold, Hold::Gone) {
+            Hold::Rests(caller) => caller,
+            _ => unreachable!(),
+        }
+    }
+
+    // Lets the poller go into a call.
+    fn polling(&mut self) -> Polling
+        requires { seat_in_hand self.old }
+        ensures was { self.old.hold ≡ Polls result }
+        ensures gone { self.new ≡ record self.old { hold = Gone } }
+    {
+        match mem::replace(&mut self.hold, Hold::Gone) {
+            Hold::Polls(polling) => polling,
+            _ => unreachable!(),
+        }
+    }
+
+    // Lets who busy polls go into a call.
+    fn busy(&mut self) -> Busy
+        requires { seat_in_busy self.old }
+        ensures was { self.old.hold ≡ PollsBusily result }
+        ensures gone { self.new ≡ record self.old { hold = Gone } }
+    {
+        match mem::replace(&mut self.hold, Hold::Gone) {
+            Hold::PollsBusily(busy) => busy,
+            _ => unreachable!(),
+        }
+    }
+
+    // What comes out of the call.
+    fn put(&mut self, hold: Hold)
+        requires { self.old.hold ≡ Gone }
+        ensures { self.new ≡ record self.old { hold = hold } }
+    {
+        match mem::replace(&mut self.hold, hold) {
+            Hold::Gone => {}
+            _ => unreachable!(),
+        }
+    }
+}
+
+impl<'a, R: Wait> Instance for Seat<'a, R> {
+    ghost use Rattle.poll_shared.specs.Seat.{SeatCompletes, SeatGives, SeatLooks, SeatRequeues, SeatTakes, seat_in_hand, seat_rests};
+
+    type Packets = Batch;
+
+    ghost rests = { seat_rests };
+
+    ghost in_hand = { seat_in_hand };
+
+    ghost takes = { SeatTakes };
+
+    ghost gives = { λ s weight packets work t. SeatGives s weight packets.items work t };
+
+    ghost looks = { SeatLooks };
+
+    ghost requeues = { SeatRequeues };
+
+    ghost completes = { SeatCompletes };
+
+    fn take(&mut self, kind: Kind) -> bool {
+        match self.caller().take(self.napi, kind) {
+            Ok(polling) => {
+                self.put(Hold::Polls(polling));
+                true
+            }
+            Err(caller) => {
+                self.put(Hold::Rests(caller));
+                false
+            }
+        }
+    }
+
+    fn poll(&mut self, weight: u32, batch: &mut Batch) -> u32 {
+        let mut polling = self.polling();
+        let work = polling.poll(weight as usize, batch);
+        self.put(Hold::Polls(polling));
+        work as u32
+    }
+
+    fn is_disabling(&mut self) -> bool {
+        let mut polling = self.polling();
+        let seen = polling.look(self.napi);
+        self.put(Hold::Polls(polling));
+        seen.flags.disable
+    }
+
+    fn requeue(&mut self) {
+        let caller = self.polling().requeue(self.napi);
+        self.put(Hold::Rests(caller));
+    }
+
+    fn complete(&mut self) -> Option<Kind> {
+        let polling = self.polling();
+        let (caller, again) = complete(self.rt, self.napi, polling, self.thread);
+        self.put(Hold::Rests(caller));
+        again
+    }
+}
+
+// The bytes of the packets of a batch.
+fn bytes_in(batch: &Batch) -> u64
+    ensures sum { result ≡ bytes_of batch.now.items }
+    ensures bound { result < 2 ^ 38 }
+{
+    let mut bytes = 0;
+    for packet in batch.as_slice() {
+        bytes += u64::from(packet.bytes);
+    }
+    bytes
+}
+
+impl<'a, R: Wait> BusyInstance for Seat<'a, R> {
+    ghost use Rattle.rx_ring.specs.ReceiveRing.{bytes_of};
+    ghost use Rattle.poll_shared.specs.Seat.{SeatBusyTakes, SeatHolds, SeatStops, seat_in_busy};
+
+    ghost in_busy = { seat_in_busy };
+
+    ghost busy_takes = { SeatBusyTakes };
+
+    ghost holds = { SeatHolds };
+
+    ghost stops = { SeatStops };
+
+    ghost bytes_in = { λ batch. bytes_of batch.items };
+
+    fn busy_take(&mut self) -> bool {
+        match self.caller().busy(self.rt, self.napi) {
+            Ok(busy) => {
+                self.put(Hold::PollsBusily(busy));
+                true
+            }
+            Err(caller) => {
+                self.put(Hold::Rests(caller));
+                false
+            }
+        }
+    }
+
+    fn busy_poll(&mut self, weight: u32, batch: &mut Batch) -> u32 {
+        let mut busy = self.busy();
+        let work = busy.poll(weight as usize, batch);
+        self.put(Hold::PollsBusily(busy));
+        work as u32
+    }
+
+    fn hold(&mut self) {
+        let mut busy = self.busy();
+        busy.complete_held(self.napi);
+        self.put(Hold::PollsBusily(busy));
+    }
+
+    fn stop(&mut self) {
+        let polling = self.busy().stop(self.rt, self.napi);
+        self.put(Hold::Polls(polling));
+    }
+
+    fn bytes_of(batch: &Batch) -> u64 {
+        bytes_in(batch)
+    }
+}

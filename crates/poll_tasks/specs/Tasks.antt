@@ -1,0 +1,23 @@
+-- A task that was begun.
+use Rattle.std.specs.Prelude.{◌≡◌, ℕ, ◌≤◌, vec_len, vec_capacity}
+use Rattle.std.specs.Global.{Vec}
+use Rattle.std.specs.List.{All}
+use Rattle.poll_tasks.specs.declared.tasks.Begun.{Begun}
+use Rattle.poll_tasks.specs.declared.tasks.Begun.TheVariants.{Running, Ended}
+
+-- what was begun is the task, or what it gave
+abbrev pub IsBegun : {J O : Type 0} → (J → O → Type 0) → J → Begun J O → Type 0
+IsBegun gives task (Running handle) = handle.promise.0.value ≡ task
+IsBegun gives task (Ended out) = gives task out
+
+-- there is nothing in it yet, and room for so many
+abbrev pub HasRoom : {A : Type 0} → ℕ → Vec A → Type 0
+HasRoom count room = (vec_len room ≡ 0) × (count ≤ vec_capacity room)
+
+-- the tasks may run, and there is room for them and for what they give
+pub record IsReady {J O : Type 0} (can_run : J → Type 0) (tasks : Vec J) (begun : Vec (Begun J O)) (given : Vec O) : Type 0 where
+  pub can : All can_run tasks.items
+  pub begun_empty : vec_len begun ≡ 0
+  pub begun_room : vec_len tasks ≤ vec_capacity begun
+  pub given_empty : vec_len given ≡ 0
+  pub given_room : vec_len tasks ≤ vec_capacity given

@@ -1,0 +1,14 @@
+//! Behind the door `poll_engine`: tasks in threads of their own, and what the threads of a run have in common.
+#![tactic(auto)]
+
+mod driving;
+mod gate;
+mod pace;
+mod signals;
+mod tasks;
+
+pub use driving::{Driven, Room, drive, task_room};
+pub use gate::{Gate, OpenGate, Watch};
+pub use pace::{Pace, Setting};
+pub use signals::{Bell, Pause, Post, Signals};
+pub use tasks::{Begun, Gives, Task, begin, begin_all, end, end_all};

@@ -1,0 +1,24 @@
+use Rattle.{std.specs.Prelude.flat_map, device_bench.specs.Bench.attached, replay_rows.specs.{Played.state_in, Report.{counts_of, lines_below, list_line, poll_line, text_by, total_line, totals_of}}, replay_text.specs.Lines.ended}
+use Rattle.replay_rows.proofs.PlayFacts.{four-parts}
+use Rattle.replay_rows.proofs.replay.Replay.report.Goals as goal
+
+pub returns : goal.returns
+unfolding text_by
+returns g c stated all shows =
+    rw (
+      c.in_ok-add_totals.ensures,
+      c.in_ok-add_list.ensures,
+      c.in_ok-add_devices.ensures stated all shows,
+      c.in_ok-add_lines.ensures,
+      c.new-text.ensures.bytes,
+      c.of-totals.ensures,
+      c.attached.ensures.devices stated,
+      c.ids.ensures.ids,
+      c.as_slice.ensures.value,
+      c.as_slice-2.ensures.value,
+    )
+    (four-parts
+    (flat_map (λ line. ended (poll_line line)) c.args.self.now.lines.items)
+    (lines_below c.args.version (counts_of (state_in g.B.ReplayBench.devices c.args.self.now) all) 17)
+    (ended (list_line c.args.self.now.list))
+    (ended (total_line (totals_of (attached (g.B.ReplayBench.devices c.args.self.now.bench)) c.args.self.now.lines.items))))

@@ -1,0 +1,35 @@
+-- A replay whose first n rows were played, none of them refused, and what it tells.
+use Rattle.std.specs.Prelude.{◌≡◌, ℕ, List, Option, None, Result, Ok, Err, take}
+use Rattle.device_transmit.specs.Transmits.{Transmits}
+use Rattle.device_bench.specs.DeviceBench.{ShowsTransmits, devices_of}
+use Rattle.device_bench.specs.declared.counts.DeviceCounts.{DeviceCounts}
+use Rattle.device_rows.specs.declared.row.Row.{Row}
+use Rattle.replay_rows.specs.Played.{state_in}
+use Rattle.replay_rows.specs.Replay.{after_all}
+use Rattle.replay_rows.specs.Report.{counts_of, polled_by}
+use Rattle.replay_rows.specs.Transmits.{transmits_of}
+use Rattle.replay_rows.specs.ReplayState.{ReplayState}
+use Rattle.replay_text.specs.declared.fault.ReplayFault.{ReplayFault}
+use Rattle.replay_rows.specs.declared.line.Line.{Line}
+use Rattle.replay_rows.specs.declared.serial_replay.SerialReplay.{SerialReplay}
+use Rattle.replay_words.specs.declared.settings.Settings.{Settings}
+
+pub record IsAfter (s : Settings) (rows : List Row) (n : ℕ) (r : SerialReplay) : Type 0 where
+  pub state : after_all s (take n rows) ≡ Ok (state_in devices_of r.replay)
+  pub transmits : ShowsTransmits r.replay.bench (transmits_of (take n rows))
+
+-- what the report of the first n rows tells of a device
+abbrev pub counts_in : Result ReplayState ReplayFault → Transmits → ℕ → Option DeviceCounts
+counts_in (Ok w) transmits device = counts_of w transmits device
+counts_in (Err fault) transmits device = None
+
+abbrev pub counts_after : Settings → List Row → ℕ → ℕ → Option DeviceCounts
+counts_after s rows n device = counts_in (after_all s (take n rows)) (transmits_of (take n rows)) device
+
+-- what row n did by the report of the first n rows, where it polled
+abbrev pub polled_in : Result ReplayState ReplayFault → ℕ → Option Line
+polled_in (Ok w) n = polled_by n w
+polled_in (Err fault) n = None
+
+abbrev pub polled_after : Settings → List Row → ℕ → Option Line
+polled_after s rows n = polled_in (after_all s (take n rows)) n

@@ -1,0 +1,20 @@
+-- Why the rows of a trace have no report.
+use Rattle.std.specs.Prelude.{◌≡◌, ◌⊎◌, ℕ, true, List, Err}
+use Rattle.device_rows.specs.declared.event.Event.TheVariants.{Enable}
+use Rattle.device_rows.specs.declared.fault.TraceFault.TheVariants.{OutOfMemory}
+use Rattle.device_rows.specs.declared.row.Row.{Row}
+use Rattle.replay_rows.specs.Replay.{is_early}
+use Rattle.replay_rows.specs.Report.{serial_report}
+use Rattle.replay_rows.specs.ReplayState.{ReplayState}
+use Rattle.replay_text.specs.declared.fault.ReplayFault.{ReplayFault}
+use Rattle.replay_text.specs.declared.fault.ReplayFault.TheVariants.{Pending, Trace}
+use Rattle.replay_words.specs.declared.settings.Settings.{Settings}
+
+-- memory was refused, or an enable row met a disable that was pending; on an exact bench that is the rows' own fault
+abbrev pub IsRefused : Type 0 → Settings → List Row → ReplayFault → Type 0
+IsRefused Exact s rows fault = (fault ≡ Trace OutOfMemory) ⊎ (Exact → (version : ℕ) → serial_report s version rows ≡ Err fault)
+
+-- why row n, with this behind the rows before it, was refused
+abbrev pub IsRefusedAt : Type 0 → ℕ → Row → ReplayState → ReplayFault → Type 0
+IsRefusedAt Exact n row w fault =
+    (fault ≡ Trace OutOfMemory) ⊎ ((row.event ≡ Enable) × (fault ≡ Pending n) × (Exact → is_early row.event row.device w ≡ true))

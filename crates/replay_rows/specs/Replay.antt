@@ -1,0 +1,106 @@
+-- What the rows of a trace do, one after the other.
+use Rattle.std.specs.Prelude.{ℕ, ◌+◌, ◌==◌, Bool, false, if◌then◌else◌, List, [], ◌∷◌, ◌++◌, length, Result, Ok, Err, sum_by}
+use Rattle.device_bench.specs.Bench.{all_settled, arrived, busily_polled_at, busy_report_of, handed_by, thread_polls_of}
+use Rattle.device_bench.specs.Device.{after_disable, after_enable, after_threaded, opened, polled_by_thread}
+use Rattle.device_bench.specs.Kept.{is_pending_at}
+use Rattle.device_rows.specs.Places.{added, at, changed, empty}
+use Rattle.device_bench.specs.Waiting.{is_left_to_list, is_listed}
+use Rattle.device_rows.specs.declared.event.Event.{Event}
+use Rattle.device_rows.specs.declared.event.Event.TheVariants.{Opened, Rx, Tx, Finish, Softirq, Kthread, Disable, Enable, Threaded, Busy}
+use Rattle.device_rows.specs.declared.row.Row.{Row}
+use Rattle.poll_runs.specs.Function.{run_report}
+use Rattle.poll_runs.specs.Thread.{last_next}
+use Rattle.poll_runs.specs.declared.bench.Once.{Once}
+use Rattle.poll_runs.specs.declared.bench.ThreadReport.{ThreadReport}
+use Rattle.replay_rows.specs.Run.{run_of}
+use Rattle.replay_rows.specs.ReplayState.{ReplayState}
+use Rattle.replay_text.specs.declared.fault.ReplayFault.{ReplayFault}
+use Rattle.replay_text.specs.declared.fault.ReplayFault.TheVariants.{Pending}
+use Rattle.replay_rows.specs.declared.line.Line.{Line}
+use Rattle.replay_rows.specs.declared.line.Line.TheVariants as line
+use Rattle.replay_words.specs.declared.settings.Settings.{Settings}
+
+abbrev pub start : ReplayState
+start = record { devices = empty; list = []; lines = [] }
+
+-- ---- what puts a device on the poll list, at its tail
+
+abbrev pub entry : Bool → ℕ → List ℕ
+entry listed number = if listed then number ∷ [] else []
+
+-- a packet whose request was granted and handed to the list
+abbrev pub with_packet : ℕ → ℕ → ReplayState → ReplayState
+with_packet number bytes w = record w {
+  devices = arrived number bytes w.devices;
+  list = w.list ++ entry (is_listed (handed_by bytes (at number w.devices))) number;
+}
+
+-- ---- a run over the list, a thread's polling and busy polling, each with its line
+
+abbrev pub with_line : Line → ReplayState → ReplayState
+with_line line w = record w { lines = w.lines ++ line ∷ [] }
+
+abbrev pub with_run : Settings → ℕ → ReplayState → ReplayState
+with_run s row w =
+    let run = run_of s w.devices w.list in
+    with_line (line.Softirq row (run_report s.budget s.window run.0.polls)) (record w { devices = run.0.bench; list = run.1 })
+
+-- the most polls that a thread makes at a time; the kernel has no such bound, and a trace has too few packets to meet it
+abbrev pub most_thread_polls : ℕ
+most_thread_polls = 131072
+
+abbrev pub thread_report_of : List Once → ThreadReport
+thread_report_of polls = record { polls = length polls; work = sum_by (λ once. once.work) polls; next = last_next polls }
+
+abbrev pub with_thread : Settings → ℕ → ℕ → ReplayState → ReplayState
+with_thread s row number w =
+    let polls = thread_polls_of s.weight most_thread_polls (at number w.devices) in
+    with_line (line.Kthread row number (thread_report_of polls)) (record w {
+      devices = changed (λ d. (polled_by_thread most_thread_polls s.weight d).1) number w.devices;
+      list = w.list ++ entry (is_left_to_list (last_next polls)) number;
+    })
+
+-- busy polling for so many rounds, with its line
+abbrev pub with_busy : Settings → ℕ → ℕ → ℕ → ReplayState → ReplayState
+with_busy s row number rounds w =
+    let report = busy_report_of s.weight rounds (at number w.devices) in
+    with_line (line.Busy row number report) (record w {
+      devices = busily_polled_at w.devices number s.weight rounds;
+      list = w.list ++ entry (is_left_to_list report.next) number;
+    })
+
+-- ---- rows
+
+-- the effect of row n, by its event; tx and done rows have theirs on the transmit side alone
+abbrev pub after_event : Settings → ℕ → Event → Row → ReplayState → ReplayState
+after_event s n Opened row w = record w { devices = added row.device (opened row.value) w.devices }
+after_event s n Rx row w = with_packet row.device row.value w
+after_event s n Tx row w = w
+after_event s n Finish row w = w
+after_event s n Softirq row w = with_run s n w
+after_event s n Kthread row w = with_thread s n row.device w
+after_event s n Disable row w = record w { devices = changed after_disable row.device w.devices }
+after_event s n Enable row w = record w { devices = changed after_enable row.device w.devices }
+after_event s n Busy row w = with_busy s n row.device row.value w
+after_event s n Threaded row w = record w { devices = changed (after_threaded (row.value == 1)) row.device w.devices }
+
+-- after each row every pending disable is tried once
+abbrev pub settled : ReplayState → ReplayState
+settled w = record w { devices = all_settled w.devices }
+
+abbrev pub after_row : Settings → ℕ → Row → ReplayState → ReplayState
+after_row s n row w = settled (after_event s n row.event row w)
+
+-- an enable row that meets a disable which is pending still
+abbrev pub is_early : Event → ℕ → ReplayState → Bool
+is_early Enable number w = is_pending_at (at number w.devices)
+is_early _ number w = false
+
+-- the rows from row n on, in order, or the first enable row that is early
+abbrev pub after_rows : Settings → ℕ → List Row → ReplayState → Result ReplayState ReplayFault
+after_rows s n [] w = Ok w
+after_rows s n (row ∷ rows) w = if is_early row.event row.device w then Err (Pending n) else after_rows s (n + 1) rows (after_row s n row w)
+
+-- what all rows of a trace make
+abbrev pub after_all : Settings → List Row → Result ReplayState ReplayFault
+after_all s rows = after_rows s 1 rows start

@@ -1,0 +1,12 @@
+-- A replay as plain data.
+use Rattle.std.specs.Prelude.{ℕ, List}
+use Rattle.device_bench.specs.Bench.{Devices}
+use Rattle.replay_rows.specs.declared.line.Line.{Line}
+
+pub record ReplayState : Type 0 where
+  -- the devices that were opened
+  pub devices : Devices
+  -- the numbers on the poll list, the next one first
+  pub list : List ℕ
+  -- a line for each row that polled, in order
+  pub lines : List Line

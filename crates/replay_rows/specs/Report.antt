@@ -1,0 +1,120 @@
+-- The report's text, word by word. See docs/FORMATS.md, "The report".
+use Rattle.std.specs.Prelude.{ℕ, zero, suc, ◌-◌, ◌==◌, length, slice_get, List, [], ◌∷◌, ◌++◌, Option, Some, None, Result, Ok, Err, codes, decimal, flat_map, if◌then◌else◌, sum_by}
+use Rattle.device_transmit.specs.Transmits.{Transmits, tx_counts_of}
+use Rattle.device_bench.specs.Bench.{attached, counts_at}
+use Rattle.device_rows.specs.Places.{at}
+use Rattle.replay_rows.specs.Replay.{after_all}
+use Rattle.replay_rows.specs.Transmits.{transmits_of}
+use Rattle.replay_rows.specs.ReplayState.{ReplayState}
+use Rattle.device_bench.specs.declared.counts.DeviceCounts.{DeviceCounts}
+use Rattle.device_bench.specs.declared.counts.DeviceState.{DeviceState}
+use Rattle.device_bench.specs.declared.counts.DeviceState.TheVariants.{On, Off, Pending}
+use Rattle.replay_text.specs.declared.fault.ReplayFault.{ReplayFault}
+use Rattle.replay_rows.specs.declared.report.Totals.{Totals}
+use Rattle.device_rows.specs.declared.row.Row.{Row}
+use Rattle.replay_rows.specs.declared.line.Line.{Line}
+use Rattle.replay_rows.specs.declared.line.Line.TheVariants.{Softirq, Kthread, Busy}
+use Rattle.poll_runs.specs.declared.run.RunReport.{RunReport}
+use Rattle.replay_words.specs.declared.settings.Settings.{Settings}
+use Rattle.replay_text.specs.Lines.{ended, flag, tx_lines, words}
+
+-- what a row that polls did
+abbrev pub poll_line : Line → List ℕ
+poll_line (Softirq row run) = words (codes "softirq" ∷ decimal row ∷ codes "polls" ∷ decimal run.polls ∷ codes "work" ∷ decimal run.work
+    ∷ codes "squeezed" ∷ decimal (flag run.squeezed) ∷ [])
+poll_line (Kthread row device report) = words (codes "kthread" ∷ decimal row ∷ codes "device" ∷ decimal device ∷ codes "polls" ∷ decimal report.polls
+    ∷ codes "work" ∷ decimal report.work ∷ [])
+poll_line (Busy row device report) = words (codes "busy" ∷ decimal row ∷ codes "device" ∷ decimal device ∷ codes "polls" ∷ decimal report.polls
+    ∷ codes "work" ∷ decimal report.work ∷ [])
+
+-- one device
+abbrev pub state_word : DeviceState → List ℕ
+state_word On = codes "on"
+state_word Off = codes "off"
+state_word Pending = codes "pending"
+
+abbrev pub device_line : ℕ → DeviceCounts → List ℕ
+device_line number counts = words (codes "device" ∷ decimal number ∷ state_word counts.state ∷ codes "arrived" ∷ decimal counts.arrived ∷ codes "dropped" ∷ decimal counts.dropped
+    ∷ codes "polled" ∷ decimal counts.polled ∷ codes "bytes" ∷ decimal counts.bytes ∷ codes "left" ∷ decimal counts.left ∷ codes "polls" ∷ decimal counts.polls ∷ [])
+
+-- in version 2 the completions that were held, too
+abbrev pub held_part : ℕ → ℕ → List ℕ
+held_part version held = if version == 2 then codes " held " ++ decimal held else []
+
+abbrev pub napi_line : ℕ → ℕ → DeviceCounts → List ℕ
+napi_line version number counts = words (codes "napi" ∷ decimal number ∷ codes "granted" ∷ decimal counts.granted ∷ codes "missed" ∷ decimal counts.missed
+    ∷ codes "disabled" ∷ decimal counts.disabled ∷ codes "again" ∷ decimal counts.again ∷ codes "released" ∷ decimal counts.released ∷ codes "word" ∷ decimal counts.word ∷ []) ++ held_part version counts.held
+
+-- the lines of a device, where there is one
+abbrev pub device_lines : ℕ → ℕ → Option DeviceCounts → List ℕ
+device_lines version number None = []
+device_lines version number (Some counts) = ended (device_line number counts) ++ (ended (napi_line version number counts) ++ tx_lines number counts.tx)
+
+-- the numbers, each after a space
+abbrev pub spaced : List ℕ → List ℕ
+spaced numbers = flat_map (λ number. codes " " ++ decimal number) numbers
+
+abbrev pub list_line : List ℕ → List ℕ
+list_line numbers = codes "list" ++ spaced numbers
+
+-- a number of a run; a thread's polling is no run, nor is busy polling
+abbrev pub of_run : (RunReport → ℕ) → Line → ℕ
+of_run number (Softirq row run) = number run
+of_run number (Kthread row device report) = 0
+of_run number (Busy row device report) = 0
+
+-- opened devices, runs, and sums over the runs
+abbrev pub totals_of : ℕ → List Line → Totals
+totals_of devices lines = record {
+  devices = devices;
+  runs = sum_by (of_run (λ run. 1)) lines;
+  polls = sum_by (of_run (λ run. run.polls)) lines;
+  work = sum_by (of_run (λ run. run.work)) lines;
+  squeezed = sum_by (of_run (λ run. flag run.squeezed)) lines;
+}
+
+abbrev pub total_line : Totals → List ℕ
+total_line totals = words (codes "total" ∷ codes "devices" ∷ decimal totals.devices ∷ codes "runs" ∷ decimal totals.runs
+    ∷ codes "polls" ∷ decimal totals.polls ∷ codes "work" ∷ decimal totals.work ∷ codes "squeezed" ∷ decimal totals.squeezed ∷ [])
+
+-- what the report tells of device n
+abbrev pub counts_of : ReplayState → Transmits → ℕ → Option DeviceCounts
+counts_of w transmits n = counts_at (at n w.devices) (tx_counts_of (at n transmits))
+
+-- what row n did, where it is the last one that polled
+abbrev pub row_of : Line → ℕ
+row_of (Softirq row run) = row
+row_of (Kthread row device report) = row
+row_of (Busy row device report) = row
+
+abbrev pub if_of_row : ℕ → Option Line → Option Line
+if_of_row n None = None
+if_of_row n (Some line) = if row_of line == n then Some line else None
+
+abbrev pub polled_by : ℕ → ReplayState → Option Line
+polled_by n w = if_of_row n (slice_get w.lines (length w.lines - 1))
+
+-- the lines of the devices whose numbers are below n, in rising order, by what is told of each number
+unfoldable pub lines_below : ℕ → (ℕ → Option DeviceCounts) → ℕ → List ℕ
+lines_below version told zero = []
+lines_below version told (suc n) = lines_below version told n ++ device_lines version n (told n)
+
+-- The line of each row that polls in order, the lines of each device in rising order of their numbers, the poll list, the
+-- totals.
+unfoldable pub text_by : ℕ → List Line → (ℕ → Option DeviceCounts) → List ℕ → ℕ → List ℕ
+text_by version lines told list devices = flat_map (λ line. ended (poll_line line)) lines
+    ++ (lines_below version told 17
+    ++ (ended (list_line list)
+    ++ ended (total_line (totals_of devices lines))))
+
+-- the text of a replay as plain data
+abbrev pub text_of : ℕ → ReplayState → Transmits → List ℕ
+text_of version w transmits = text_by version w.lines (counts_of w transmits) w.list (attached w.devices)
+
+-- the serial report: the text of what the rows of a trace of this version make, or the fault of the first enable row that is early
+abbrev pub report_of : ℕ → Transmits → Result ReplayState ReplayFault → Result (List ℕ) ReplayFault
+report_of version transmits (Ok w) = Ok (text_of version w transmits)
+report_of version transmits (Err fault) = Err fault
+
+abbrev pub serial_report : Settings → ℕ → List Row → Result (List ℕ) ReplayFault
+serial_report s version rows = report_of version (transmits_of rows) (after_all s rows)

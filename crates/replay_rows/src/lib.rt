@@ -1,0 +1,19 @@
+//! Behind the door `replay`: a whole replay of a trace of network events through the packet polling core, from the bytes of the trace
+//! to the bytes of the report, or the line and the exit status of a fault.
+//!
+//! [`replay_serial`] replays on one thread, and [`replay_on`] on any exact bench. [`SerialReplay`] plays row by row, for programs
+//! that look at what stands behind each.
+#![tactic(auto)]
+
+mod line;
+mod replay;
+mod report;
+mod serial;
+mod serial_replay;
+mod whole;
+
+pub use line::Line;
+pub use report::state_word;
+pub use serial::replay_serial;
+pub use serial_replay::SerialReplay;
+pub use whole::replay_on;

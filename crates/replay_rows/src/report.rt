@@ -1,0 +1,313 @@
+//! The report: the rows are played, and what they did becomes its text, in every mode that plays rows.
+
+ghost use Rattle.std.specs.Prelude.{◌≡◌, ◌⊎◌, ◌+◌, ◌^◌, ◌<◌, ◌≤◌, ◌++◌, [], Ok, Err, IfErr, IfOk, OnOk, flat_map, length, string_bytes};
+ghost use Rattle.device_rows.specs.Places.{empty};
+ghost use Rattle.device_rows.specs.Trace.{AcceptedAfter};
+ghost use Rattle.replay_rows.specs.Report.{device_line, device_lines, held_part, list_line, napi_line, of_run, poll_line, serial_report, spaced, state_word, total_line, totals_of};
+ghost use Rattle.replay_text.specs.Lines.{ended, flag, tx_line, tx_lines};
+ghost use Rattle.replay_text.specs.Outside.{IsOutside};
+
+use crate::line::Line;
+use crate::replay::{Replay, room_for_lines};
+use device_bench::{DeviceCounts, DeviceState, ReplayBench};
+use device_rows::{PLACES, Row};
+use poll_runs::PollList;
+use replay_text::{ReplayFault, add_transmit};
+use replay_words::Settings;
+use std::alloc::{AllocError, Global};
+use std::fmt;
+
+// Adds the line of each row that polled.
+fn add_lines(text: &mut String, lines: &[Line]) -> Result<(), AllocError>
+    ensures { OnOk result
+        (string_bytes text.new ≡ string_bytes text.old
+        ++ flat_map (λ line. ended (poll_line line)) lines.now) }
+{
+    for line in lines {
+        add_line(text, line)?;
+    }
+    Ok(())
+}
+
+fn add_line(text: &mut String, line: &Line) -> Result<(), AllocError>
+    ensures { OnOk result
+        (string_bytes text.new ≡ string_bytes text.old ++ ended (poll_line line.now)) }
+{
+    match line {
+        Line::Softirq { row, run } => writeln!(
+            text,
+            "softirq {} polls {} work {} squeezed {}",
+            row,
+            run.polls,
+            run.work,
+            u8::from(run.squeezed)
+        )?,
+        Line::Kthread {
+            row,
+            device,
+            report,
+        } => writeln!(
+            text,
+            "kthread {} device {} polls {} work {}",
+            row, device, report.polls, report.work
+        )?,
+        Line::Busy {
+            row,
+            device,
+            report,
+        } => writeln!(
+            text,
+            "busy {} device {} polls {} work {}",
+            row, device, report.polls, report.work
+        )?,
+    }
+    Ok(())
+}
+
+// Adds the lines of a device, where there is one: two, and a third one where its transmit side had a row.
+fn add_device(
+    text: &mut String,
+    version: u32,
+    number: u32,
+    counts: Option<DeviceCounts>,
+) -> Result<(), AllocError>
+    ensures { OnOk result
+        (string_bytes text.new ≡ string_bytes text.old ++ device_lines version number counts) }
+{
+    let Some(counts) = counts else {
+        return Ok(());
+    };
+    add_device_line(text, number, &counts)?;
+    add_napi_line(text, version, number, &counts)?;
+    add_transmit(text, number, counts.tx)
+}
+
+/// The word of a device's state.
+pub fn state_word(state: DeviceState) -> &'static str
+    ensures { result.now ≡ state_word state }
+{
+    match state {
+        DeviceState::On => "on",
+        DeviceState::Off => "off",
+        DeviceState::Pending => "pending",
+    }
+}
+
+fn add_device_line(text: &mut String, number: u32, counts: &DeviceCounts) -> Result<(), AllocError>
+    ensures { OnOk result
+        (string_bytes text.new ≡ string_bytes text.old ++ ended (device_line number counts.now)) }
+{
+    writeln!(
+        text,
+        "device {} {} arrived {} dropped {} polled {} bytes {} left {} polls {}",
+        number,
+        state_word(counts.state),
+        counts.arrived,
+        counts.dropped,
+        counts.polled,
+        counts.bytes,
+        counts.left,
+        counts.polls
+    )?;
+    Ok(())
+}
+
+// In version 2 it ends with the completions that were held.
+fn add_held(text: &mut String, version: u32, held: u64) -> Result<(), AllocError>
+    ensures { OnOk result
+        (string_bytes text.new ≡ string_bytes text.old ++ held_part version held) }
+{
+    if version == 2 {
+        write!(text, " held {held}")?;
+    }
+    Ok(())
+}
+
+fn add_napi_line(
+    text: &mut String,
+    version: u32,
+    number: u32,
+    counts: &DeviceCounts,
+) -> Result<(), AllocError>
+    ensures { OnOk result
+        (string_bytes text.new ≡ string_bytes text.old
+        ++ ended (napi_line version number counts.now)) }
+{
+    write!(
+        text,
+        "napi {} granted {} missed {} disabled {} again {} released {} word {}",
+        number,
+        counts.granted,
+        counts.missed,
+        counts.disabled,
+        counts.again,
+        counts.released,
+        counts.word
+    )?;
+    add_held(text, version, counts.held)?;
+    text.push_str("\n")?;
+    Ok(())
+}
+
+// Adds the line of the poll list.
+fn add_list(text: &mut String, list: &[u32]) -> Result<(), AllocError>
+    ensures { OnOk result
+        (string_bytes text.new ≡ string_bytes text.old ++ ended (list_line list.now)) }
+{
+    text.push_str("list")?;
+    add_numbers(text, list)?;
+    text.push_str("\n")?;
+    Ok(())
+}
+
+fn add_numbers(text: &mut String, numbers: &[u32]) -> Result<(), AllocError>
+    ensures { OnOk result (string_bytes text.new ≡ string_bytes text.old ++ spaced numbers.now) }
+{
+    for number in numbers {
+        write!(text, " {number}")?;
+    }
+    Ok(())
+}
+
+/// The sums of the last line: opened devices, and over the runs of all softirq rows.
+#[derive(Clone, Copy, Debug, PartialEq, Eq)]
+pub(crate) struct Totals {
+    /// Opened devices.
+    pub devices: usize,
+    /// Runs of the softirq.
+    pub runs: u64,
+    /// Polls of these runs.
+    pub polls: u64,
+    /// Packets that these polls gave.
+    pub work: u64,
+    /// Runs that were squeezed.
+    pub squeezed: u64,
+}
+
+impl fmt::Display for Totals {
+    ghost use Rattle.std.specs.Prelude.{Some};
+    ghost use Rattle.replay_rows.specs.Report.{total_line};
+
+    ghost output = { λ totals. Some (total_line totals) };
+
+    fn fmt<W: fmt::Write>(&self, f: &mut fmt::Formatter<W>) -> fmt::Result {
+        write!(
+            f,
+            "total devices {} runs {} polls {} work {} squeezed {}",
+            self.devices, self.runs, self.polls, self.work, self.squeezed
+        )
+    }
+}
+
+impl Totals {
+    // Adds the run of a softirq row; a thread's polling is no run, and busy polling is none.
+    fn add(&mut self, line: &Line)
+        requires { (self.old.runs < 2 ^ 63) × (self.old.polls < 2 ^ 63) × (self.old.work < 2 ^ 63)
+            × (self.old.squeezed < 2 ^ 63) }
+        ensures devices { self.new.devices ≡ self.old.devices }
+        ensures runs { self.new.runs ≡ self.old.runs + of_run (λ run. 1) line.now }
+        ensures polls { self.new.polls ≡ self.old.polls + of_run (λ run. run.polls) line.now }
+        ensures work { self.new.work ≡ self.old.work + of_run (λ run. run.work) line.now }
+        ensures squeezed { self.new.squeezed ≡ self.old.squeezed
+            + of_run (λ run. flag run.squeezed) line.now }
+        ensures few { (self.new.runs ≤ self.old.runs + 1)
+            × (self.new.squeezed ≤ self.old.squeezed + 1) }
+        ensures most { (self.new.polls ≤ self.old.polls + 4294967295)
+            × (self.new.work ≤ self.old.work + 4294967295) }
+    {
+        if let Line::Softirq { run, .. } = line {
+            self.runs += 1;
+            self.polls += u64::from(run.polls);
+            self.work += u64::from(run.work);
+            self.squeezed += u64::from(run.squeezed);
+        }
+    }
+
+    /// The sums over these rows.
+    pub(crate) fn of(devices: usize, lines: &[Line]) -> Totals
+        requires { length lines.now ≤ 100000 }
+        ensures { result ≡ totals_of devices lines.now }
+    {
+        let mut totals = Totals {
+            devices,
+            runs: 0,
+            polls: 0,
+            work: 0,
+            squeezed: 0,
+        };
+        for line in lines {
+            totals.add(line);
+        }
+        totals
+    }
+}
+
+// Adds the last line.
+fn add_totals(text: &mut String, totals: &Totals) -> Result<(), AllocError>
+    ensures { OnOk result
+        (string_bytes text.new ≡ string_bytes text.old ++ ended (total_line totals.now)) }
+{
+    writeln!(text, "{totals}")?;
+    Ok(())
+}
+
+impl<B: ReplayBench> Replay<B> {
+    ghost use Rattle.std.specs.Prelude.{◌≡◌, ◌++◌, IfOk, OnOk, string_bytes};
+    ghost use Rattle.device_transmit.specs.Transmits.{Transmits};
+    ghost use Rattle.replay_rows.specs.Played.{state_in};
+    ghost use Rattle.replay_rows.specs.Report.{counts_of, lines_below, text_of};
+
+    // Adds the lines of each device, in rising order of their numbers.
+    fn add_devices(&self, version: u32, text: &mut String) -> Result<(), AllocError>
+        ensures { B.Exact → (all : Transmits) → B.shows self.now.bench all
+            → OnOk result (string_bytes text.new ≡ string_bytes text.old
+            ++ lines_below version (counts_of (state_in B.devices self.now) all) 17) }
+    {
+        for number in 0..PLACES {
+            add_device(text, version, number, self.bench.counts(number))?;
+        }
+        Ok(())
+    }
+
+    // The text of the report, as a trace of this version has it.
+    #[tactic(auto, unfolding(crate::specs::Report::text_by))]
+    fn report(&self, alloc: Global, version: u32) -> Result<String, AllocError>
+        requires { length self.now.lines.items ≤ 100000 }
+        ensures { B.Exact → (all : Transmits) → B.shows self.now.bench all → IfOk result
+            (λ text. string_bytes text ≡ text_of version (state_in B.devices self.now) all) }
+    {
+        let mut text = String::new(alloc);
+        add_lines(&mut text, self.lines.as_slice())?;
+        self.add_devices(version, &mut text)?;
+        add_list(&mut text, self.list.ids())?;
+        let totals = Totals::of(self.bench.attached(), self.lines.as_slice());
+        add_totals(&mut text, &totals)?;
+        Ok(text)
+    }
+}
+
+/// Plays the rows of a trace on an exact bench that has no devices yet, and gives the text of their report, as a trace of this
+/// version has it.
+///
+/// The faults are want of memory, and an enable row whose disable is pending still.
+pub(crate) fn report_on<B: ReplayBench + Drop>(
+    alloc: Global,
+    bench: B,
+    settings: &Settings,
+    version: u32,
+    rows: &[Row],
+) -> Result<String, ReplayFault>
+    requires accepted { AcceptedAfter [] rows.now }
+    requires count { length rows.now ≤ 100000 }
+    requires exact { B.Exact }
+    requires devices { B.devices bench ≡ empty }
+    requires transmits { B.shows bench empty }
+    ensures report { IfOk result
+        (λ text. serial_report settings.now version rows.now ≡ Ok (string_bytes text)) }
+    ensures fault { IfErr result
+        (λ fault. IsOutside fault ⊎ (serial_report settings.now version rows.now ≡ Err fault)) }
+{
+    let mut replay = Replay::new(bench, room_for_lines(alloc, rows)?);
+    replay.play_rows(alloc, settings, rows)?;
+    Ok(replay.report(alloc, version)?)
+}

@@ -1,0 +1,36 @@
+//! A whole replay on one thread.
+
+ghost use Rattle.std.specs.Prelude.{◌≡◌, Ok, Err, IfErr, OnOk};
+ghost use Rattle.replay_text.specs.Outside.{IsOutside};
+ghost use Rattle.replay_text.specs.Written.{IsFaultBy, LeavesAsItWas, Writes};
+ghost use Rattle.replay_rows.specs.Answer.{replay_of};
+
+use crate::whole::replay_on;
+use device_bench::SerialBench;
+use replay_text::ReplayFault;
+use replay_words::Settings;
+use std::alloc::Global;
+use std::io::{Read, Write};
+
+/// Plays a trace on one thread, and writes the report of it.
+///
+/// Nothing is written before the whole trace is read and played, so on every fault but `OutputFailed` nothing was. After
+/// a failed write it isn't known how much went out. Want of memory may come before any other fault.
+pub fn replay_serial<R: Read + Drop, W: Write>(
+    alloc: Global,
+    reader: R,
+    writer: &mut W,
+    settings: &Settings,
+) -> Result<(), ReplayFault>
+    // What is written is the report of the rows of the bytes read, and nothing else.
+    ensures written { OnOk result (Writes (λ bytes text. replay_of settings.now bytes ≡ Ok text)
+        (R.remaining reader) (W.contents writer.old) (W.contents writer.new)) }
+
+    // A fault is that of the bytes read, unless the reader, the memory or the writer failed.
+    ensures fault { IfErr result (IsFaultBy IsOutside
+        (λ bytes fault. replay_of settings.now bytes ≡ Err fault) (R.remaining reader)) }
+    ensures untouched { IfErr result
+        (LeavesAsItWas (W.contents writer.old) (W.contents writer.new)) }
+{
+    replay_on(alloc, SerialBench::new(alloc)?, reader, writer, settings)
+}

@@ -1,0 +1,76 @@
+//! A replay on one thread, row by row.
+
+use crate::line::Line;
+use crate::replay::{Replay, room_for_lines};
+use device_bench::{DeviceCounts, ReplayBench, SerialBench};
+use device_rows::Row;
+use replay_text::ReplayFault;
+use replay_words::Settings;
+use std::alloc::{AllocError, Global};
+
+/// A replay on one thread that is played row by row, and tells what stands behind each.
+#[derive(Drop)]
+pub struct SerialReplay {
+    replay: Replay<SerialBench>,
+}
+
+impl SerialReplay {
+    ghost use Rattle.std.specs.Prelude.{◌≡◌, ◌⊎◌, ◌≤◌, ◌<◌, ◌+◌, ℕ, [], List, Err, IfOk, IfErr, OnOk, length};
+    ghost use Rattle.device_rows.specs.Trace.{AcceptedAfter};
+    ghost use Rattle.device_rows.specs.declared.fault.TraceFault.TheVariants.{OutOfMemory};
+    ghost use Rattle.device_rows.specs.declared.row.Row.{Row};
+    ghost use Rattle.replay_words.specs.declared.settings.Settings.{Settings};
+    ghost use Rattle.replay_rows.specs.After.{IsAfter, counts_after, polled_after};
+    ghost use Rattle.replay_rows.specs.Replay.{after_all};
+    ghost use Rattle.replay_text.specs.declared.fault.ReplayFault.TheVariants.{Trace};
+
+    /// A replay of which no row was played, with room for what these rows will have polled.
+    pub fn new(alloc: Global, rows: &[Row]) -> Result<SerialReplay, AllocError>
+        ensures { IfOk result
+            (λ replay. (s : Settings) (rows : List Row) → IsAfter s rows 0 replay) }
+    {
+        Ok(SerialReplay {
+            replay: Replay::new(SerialBench::new(alloc)?, room_for_lines(alloc, rows)?),
+        })
+    }
+
+    /// Plays the row of that index of a trace, where those before it were played. After a fault what is kept is of no use.
+    pub fn play_row(
+        &mut self,
+        alloc: Global,
+        settings: &Settings,
+        rows: &[Row],
+        index: usize,
+    ) -> Result<(), ReplayFault>
+        requires accepted { AcceptedAfter [] rows.now }
+        requires count { length rows.now ≤ 100000 }
+        requires index { index < length rows.now }
+        requires after { IsAfter settings.now rows.now index self.old }
+        ensures after { OnOk result (IsAfter settings.now rows.now (index + 1) self.new) }
+        ensures fault { IfErr result
+            (λ fault. (fault ≡ Trace OutOfMemory) ⊎ (after_all settings.now rows.now ≡ Err fault)) }
+    {
+        self.replay
+            .play(alloc, settings, index as u32 + 1, &rows[index])?;
+        Ok(())
+    }
+
+    /// What the report of the rows so far tells of a device, or `None` where there is no such device.
+    pub fn counts(&self, device: u32) -> Option<DeviceCounts>
+        ensures { (s : Settings) (rows : List Row) (n : ℕ) → IsAfter s rows n self.now
+            → result ≡ counts_after s rows n device }
+    {
+        self.replay.bench.counts(device)
+    }
+
+    /// What the row of that number did, where it is the last one that was played, and polled.
+    pub fn polled(&self, number: u32) -> Option<Line>
+        ensures { (s : Settings) (rows : List Row) → IsAfter s rows number self.now
+            → result ≡ polled_after s rows number }
+    {
+        match self.replay.lines.last() {
+            Some(line) if line.row() == number => Some(*line),
+            _ => None,
+        }
+    }
+}

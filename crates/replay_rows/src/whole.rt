@@ -1,0 +1,45 @@
+//! A whole replay on a bench: from the bytes of a trace to the bytes of a report.
+
+ghost use Rattle.std.specs.Prelude.{◌≡◌, Ok, Err, IfErr, OnOk};
+ghost use Rattle.device_rows.specs.Places.{empty};
+ghost use Rattle.replay_text.specs.Outside.{IsOutside};
+ghost use Rattle.replay_text.specs.Written.{IsFaultBy, LeavesAsItWas, Writes};
+ghost use Rattle.replay_rows.specs.Answer.{replay_of};
+
+use crate::report::report_on;
+use device_bench::ReplayBench;
+use device_rows::read_trace;
+use replay_text::{ReplayFault, write_text};
+use replay_words::Settings;
+use std::alloc::Global;
+use std::io::{Read, Write};
+
+/// Plays a trace on an exact bench that has no devices yet, and writes the report of it.
+///
+/// Nothing is written before the whole trace is read and played, so on every fault but `OutputFailed` nothing was. After
+/// a failed write it isn't known how much went out. Want of memory may come before any other fault.
+pub fn replay_on<B: ReplayBench + Drop, R: Read + Drop, W: Write>(
+    alloc: Global,
+    bench: B,
+    reader: R,
+    writer: &mut W,
+    settings: &Settings,
+) -> Result<(), ReplayFault>
+    requires exact { B.Exact }
+    requires devices { B.devices bench ≡ empty }
+    requires transmits { B.shows bench empty }
+
+    // What is written is the report of the rows of the bytes read, and nothing else.
+    ensures written { OnOk result (Writes (λ bytes text. replay_of settings.now bytes ≡ Ok text)
+        (R.remaining reader) (W.contents writer.old) (W.contents writer.new)) }
+
+    // A fault is that of the bytes read, unless the reader, the memory or the writer failed.
+    ensures fault { IfErr result (IsFaultBy IsOutside
+        (λ bytes fault. replay_of settings.now bytes ≡ Err fault) (R.remaining reader)) }
+    ensures untouched { IfErr result
+        (LeavesAsItWas (W.contents writer.old) (W.contents writer.new)) }
+{
+    let trace = read_trace(alloc, reader)?;
+    let text = report_on(alloc, bench, settings, trace.version(), trace.rows())?;
+    write_text(writer, &text)
+}

@@ -1,0 +1,27 @@
+-- Lines of the report that every replay has. See docs/FORMATS.md, "The report".
+use Rattle.std.specs.Prelude.{ℕ, Bool, List, [], ◌∷◌, ◌++◌, Option, Some, None, codes, decimal, if◌then◌else◌}
+use Rattle.std.specs.Fmt.{signed_decimal}
+use Rattle.device_transmit.specs.declared.transmit.TxCounts.{TxCounts}
+
+-- words with a space between two of them
+abbrev pub words : List (List ℕ) → List ℕ
+words [] = []
+words (word ∷ []) = word
+words (word ∷ next ∷ more) = word ++ (32 ∷ words (next ∷ more))
+
+-- each line ends with a line feed
+abbrev pub ended : List ℕ → List ℕ
+ended line = line ++ codes "\n"
+
+abbrev pub flag : Bool → ℕ
+flag b = if b then 1 else 0
+
+-- its transmit side, only where that had a row
+abbrev pub tx_line : ℕ → TxCounts → List ℕ
+tx_line number counts = words (codes "tx" ∷ decimal number ∷ codes "sent" ∷ decimal counts.sent ∷ codes "held" ∷ decimal counts.held
+    ∷ codes "done" ∷ decimal counts.done ∷ codes "denied" ∷ decimal counts.denied ∷ codes "limit" ∷ decimal counts.state.limit
+    ∷ codes "avail" ∷ signed_decimal counts.state.avail ∷ codes "stopped" ∷ decimal (flag counts.state.stopped) ∷ [])
+
+abbrev pub tx_lines : ℕ → Option TxCounts → List ℕ
+tx_lines number None = []
+tx_lines number (Some counts) = ended (tx_line number counts)

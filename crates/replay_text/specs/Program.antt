@@ -1,0 +1,34 @@
+-- How a program that replays ends.
+use Rattle.std.specs.Prelude.{◌≡◌, ◌≢◌, ℕ, true, List, ◌++◌, Option, codes}
+use Rattle.std.specs.Io.KnownBytes.{Appends, Keeps}
+use Rattle.replay_text.specs.Fault.{line_of as replay_line, status_of as replay_status}
+use Rattle.replay_text.specs.declared.fault.ReplayFault.TheVariants.{OutputFailed}
+use Rattle.replay_text.specs.declared.program.Ending.{Ending}
+use Rattle.replay_text.specs.declared.program.ProgramFault.{ProgramFault}
+use Rattle.replay_text.specs.declared.program.ProgramFault.TheVariants.{Words, Replay}
+use Rattle.replay_words.specs.Words.{line_of as word_line, status_of as word_status}
+
+-- the line on standard error, and the exit status
+abbrev pub line_of : ProgramFault → List ℕ
+line_of (Words fault) = word_line fault
+line_of (Replay fault) = replay_line fault ++ codes "\n"
+
+abbrev pub status_of : ProgramFault → ℕ
+status_of (Words fault) = word_status fault
+status_of (Replay fault) = replay_status fault
+
+-- the line of this fault is all that went to standard error, where it could be told, and the status is its status
+pub record EndsBy (fault : ProgramFault) (errors_old errors_new : Option (List ℕ)) (ending : Ending) : Type 0 where
+  pub status : ending.status ≡ status_of fault
+  pub line : ending.told ≡ true → Appends errors_old errors_new (line_of fault)
+
+-- on each fault but a failed output nothing was written
+abbrev pub KeepsOutput : Option (List ℕ) → Option (List ℕ) → ProgramFault → Type 0
+KeepsOutput old new fault = fault ≢ Replay OutputFailed → Keeps old new
+
+-- the program failed by some fault that it can have; on each but a failed output nothing was written
+pub record FailedBy (can_be : ProgramFault → Type 0) (output_old output_new errors_old errors_new : Option (List ℕ)) (ending : Ending) : Type 0 where
+  pub fault : ProgramFault
+  pub why : can_be fault
+  pub untouched : KeepsOutput output_old output_new fault
+  pub ends : EndsBy fault errors_old errors_new ending

@@ -1,0 +1,17 @@
+-- What a call that makes a text of an input does to its output. Input and output are their bytes, where these are known.
+use Rattle.std.specs.Prelude.{◌≡◌, ◌≢◌, ◌⊎◌, ℕ, List, Option, Some}
+use Rattle.std.specs.Io.KnownBytes.{Appends, Keeps}
+use Rattle.replay_text.specs.declared.fault.ReplayFault.{ReplayFault}
+use Rattle.replay_text.specs.declared.fault.ReplayFault.TheVariants.{OutputFailed}
+
+-- what was written is a text of the bytes read, and nothing else
+abbrev pub Writes : (List ℕ → List ℕ → Type 0) → Option (List ℕ) → Option (List ℕ) → Option (List ℕ) → Type 0
+Writes IsText input old new = (bytes : List ℕ) → input ≡ Some bytes → (text : List ℕ) × IsText bytes text × Appends old new text
+
+-- a fault is one of the bytes read, or none of theirs
+abbrev pub IsFaultBy : (ReplayFault → Type 0) → (List ℕ → ReplayFault → Type 0) → Option (List ℕ) → ReplayFault → Type 0
+IsFaultBy IsOutside IsFault input fault = (bytes : List ℕ) → input ≡ Some bytes → IsOutside fault ⊎ IsFault bytes fault
+
+-- on each fault but a failed output nothing was written
+abbrev pub LeavesAsItWas : Option (List ℕ) → Option (List ℕ) → ReplayFault → Type 0
+LeavesAsItWas old new fault = fault ≢ OutputFailed → Keeps old new

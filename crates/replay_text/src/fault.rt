@@ -1,0 +1,150 @@
+//! Why a replay gave no report.
+
+ghost use Rattle.std.specs.Prelude.{◌≡◌, IfOk, string_bytes};
+ghost use Rattle.replay_text.specs.Fault.{line_of, number_of, status_of};
+
+use device_rows::TraceFault;
+use std::alloc::{AllocError, Global};
+use std::fmt;
+use thiserror::Error;
+
+/// Why a replay gave no report. Nothing was written, except as `OutputFailed` says.
+#[derive(Clone, Copy, Debug, PartialEq, Eq, Error)]
+pub enum ReplayFault {
+    /// 1 to 11: the text is no trace, the reader failed, or memory was refused, be it while the trace was read or later.
+    #[error(transparent)]
+    Trace(TraceFault),
+    /// 12: this row enables a device whose disable is pending still. Rows count from 1.
+    #[error("row {row} enables a device whose disable is pending still")]
+    Pending { row: u32 },
+    /// 13: more packets arrive at this device than its ring has places for. Only runs with threads are refused so, and the
+    /// lowest such device is named.
+    #[error("the ring of device {device} needs {needs} places")]
+    RingTooSmall { device: u32, needs: u32 },
+    /// 14: a gate shut a run with threads.
+    #[error("a gate was shut")]
+    GateShut,
+    /// 15: the writer failed. How much of the report went out isn't known.
+    #[error("the report could not be written")]
+    OutputFailed,
+    /// 16: a thread of a run could not be started.
+    #[error("a thread could not be started")]
+    SpawnFailed,
+}
+
+impl From<TraceFault> for ReplayFault {
+    ghost use Rattle.std.specs.Prelude.{◌≡◌};
+    ghost use Rattle.replay_text.specs.declared.fault.ReplayFault.TheVariants.{Trace};
+
+    ghost from_gives = { λ fault given. given ≡ Trace fault };
+
+    fn from(fault: TraceFault) -> ReplayFault {
+        ReplayFault::Trace(fault)
+    }
+}
+
+impl From<AllocError> for ReplayFault {
+    ghost use Rattle.std.specs.Prelude.{◌≡◌};
+    ghost use Rattle.device_rows.specs.declared.fault.TraceFault.TheVariants.{OutOfMemory};
+    ghost use Rattle.replay_text.specs.declared.fault.ReplayFault.TheVariants.{Trace};
+
+    ghost from_gives = { λ _ fault. fault ≡ Trace OutOfMemory };
+
+    fn from(_: AllocError) -> ReplayFault {
+        ReplayFault::Trace(TraceFault::OutOfMemory)
+    }
+}
+
+impl ReplayFault {
+    /// The number of this fault.
+    pub fn number(self) -> u8
+        ensures { result ≡ number_of self }
+    {
+        match self {
+            ReplayFault::Trace(fault) => fault.number(),
+            ReplayFault::Pending { .. } => 12,
+            ReplayFault::RingTooSmall { .. } => 13,
+            ReplayFault::GateShut => 14,
+            ReplayFault::OutputFailed => 15,
+            ReplayFault::SpawnFailed => 16,
+        }
+    }
+}
+
+// A fault of the trace as its line on standard error tells it.
+#[derive(Drop)]
+struct TraceLine<'a>(&'a TraceFault);
+
+impl fmt::Display for TraceLine<'_> {
+    ghost use Rattle.std.specs.Prelude.{Some};
+    ghost use Rattle.replay_text.specs.Fault.{trace_line};
+
+    ghost output = { λ line. Some (trace_line line.0.now) };
+
+    fn fmt<W: fmt::Write>(&self, f: &mut fmt::Formatter<W>) -> fmt::Result {
+        match self.0 {
+            TraceFault::BadHeader => write!(f, "trace fault 1 BadHeader row 0"),
+            TraceFault::BadFields { row } => write!(f, "trace fault 2 BadFields row {row}"),
+            TraceFault::BadNumber { row } => write!(f, "trace fault 3 BadNumber row {row}"),
+            TraceFault::BadEvent { row } => write!(f, "trace fault 4 BadEvent row {row}"),
+            TraceFault::OutOfRange { row } => write!(f, "trace fault 5 OutOfRange row {row}"),
+            TraceFault::UnknownDevice { row } => write!(f, "trace fault 6 UnknownDevice row {row}"),
+            TraceFault::OpenTwice { row } => write!(f, "trace fault 7 OpenTwice row {row}"),
+            TraceFault::WrongState { row } => write!(f, "trace fault 8 WrongState row {row}"),
+            TraceFault::TooManyRows => write!(f, "trace fault 9 TooManyRows row 100001"),
+            TraceFault::ReadFailed => write!(f, "trace fault 10 ReadFailed"),
+            TraceFault::OutOfMemory => write!(f, "memory fault 11 OutOfMemory"),
+        }
+    }
+}
+
+// A fault as its line on standard error tells it.
+#[derive(Drop)]
+struct FaultLine<'a>(&'a ReplayFault);
+
+impl fmt::Display for FaultLine<'_> {
+    ghost use Rattle.std.specs.Prelude.{Some};
+    ghost use Rattle.replay_text.specs.Fault.{line_of};
+
+    ghost output = { λ line. Some (line_of line.0.now) };
+
+    fn fmt<W: fmt::Write>(&self, f: &mut fmt::Formatter<W>) -> fmt::Result {
+        match self.0 {
+            ReplayFault::Trace(fault) => write!(f, "{}", TraceLine(fault)),
+            ReplayFault::Pending { row } => write!(f, "trace fault 12 Pending row {row}"),
+            ReplayFault::RingTooSmall { device, needs } => {
+                write!(
+                    f,
+                    "ring fault 13 RingTooSmall device {device} needs {needs}"
+                )
+            }
+            ReplayFault::GateShut => write!(f, "worker fault 14 GateShut"),
+            ReplayFault::OutputFailed => write!(f, "output fault 15 OutputFailed"),
+            ReplayFault::SpawnFailed => write!(f, "worker fault 16 SpawnFailed"),
+        }
+    }
+}
+
+ghost use Rattle.std.specs.Prelude.{◌++◌, codes};
+
+/// The line of a fault for standard error, line feed included. The only error is want of memory.
+pub fn fault_line(alloc: Global, fault: &ReplayFault) -> Result<String, AllocError>
+    ensures { IfOk result (λ line. string_bytes line ≡ line_of fault.now ++ codes "\n") }
+{
+    format!(in alloc; "{}\n", FaultLine(fault))
+}
+
+/// The exit status of a fault: 2 for the trace's own faults, 3 for a ring that is too small, 4 where memory, the output or the
+/// workers failed.
+pub fn status(fault: &ReplayFault) -> u8
+    ensures { result ≡ status_of fault.now }
+{
+    match fault {
+        ReplayFault::Trace(TraceFault::OutOfMemory)
+        | ReplayFault::GateShut
+        | ReplayFault::OutputFailed
+        | ReplayFault::SpawnFailed => 4,
+        ReplayFault::RingTooSmall { .. } => 3,
+        _ => 2,
+    }
+}

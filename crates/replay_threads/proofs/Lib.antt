@@ -1,0 +1,2 @@
+pub mod StationFacts
+pub mod OwnNumbers

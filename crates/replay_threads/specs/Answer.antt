@@ -1,0 +1,71 @@
+-- What a run of a text with threads answers: the threads report of its rows, or its first fault.
+use Rattle.std.specs.Prelude.{◌≡◌, ℕ, ◌+◌, List, Bool, Option, Some, None, Result, Ok, Err, length, nat_lt, option_map}
+use Rattle.std.specs.List.{find}
+use Rattle.device_rows.specs.Trace.{records_of, trace_of}
+use Rattle.device_rows.specs.declared.TraceFault.{TraceFault}
+use Rattle.device_rows.specs.declared.row.Row.{Row}
+use Rattle.replay_text.specs.Outside.{IsOutside as IsSerialOutside}
+use Rattle.replay_text.specs.declared.fault.ReplayFault.{ReplayFault}
+use Rattle.replay_text.specs.declared.fault.ReplayFault.TheVariants.{GateShut, RingTooSmall, SpawnFailed, Trace}
+use Rattle.device_rows.specs.declared.fault.TraceFault.TheVariants.{OutOfMemory}
+use Rattle.poll_workers.specs.declared.fault.WorkFault.{WorkFault}
+use Rattle.poll_workers.specs.declared.fault.WorkFault.TheVariants as work
+use Rattle.rx_ring.specs.declared.packet.Totals.{Totals}
+use Rattle.poll_interrupts.specs.Runs.{HasRun}
+use Rattle.device_script.specs.Script.{has_thread, opening_of, script_of}
+use Rattle.device_script.specs.ScriptShown.{Script, after, answer}
+use Rattle.replay_threads.specs.ThreadsReport.{arrived, opened, threads_report}
+use Rattle.replay_threads.specs.declared.polled.Polled.{Polled}
+
+-- the places of a device's receive ring
+abbrev pub places_by : Option Row → ℕ
+places_by None = 0
+places_by (Some opening) = opening.value
+
+-- more packets arrive at the device than its ring has places for
+abbrev pub overflows : List Row → ℕ → Bool
+overflows rows device = nat_lt (places_by (opening_of device rows)) (arrived device rows)
+
+-- the first device whose ring is too small
+abbrev pub ring_fault : List Row → Option ReplayFault
+ring_fault rows = option_map (λ device. RingTooSmall device (arrived device rows)) (find (overflows rows) (opened rows))
+
+abbrev pub unless_small : Option ReplayFault → List ℕ → Result (List ℕ) ReplayFault
+unless_small None text = Ok text
+unless_small (Some fault) text = Err fault
+
+abbrev pub answer_of : Result (List Row) TraceFault → Result (List ℕ) ReplayFault
+answer_of (Ok rows) = unless_small (ring_fault rows) (threads_report rows)
+answer_of (Err fault) = Err (Trace fault)
+
+abbrev pub threads_of : List ℕ → Result (List ℕ) ReplayFault
+threads_of bytes = answer_of (trace_of (records_of bytes))
+
+-- the reader, the memory, the writer or a thread failed; or the gate did, where it may be shut
+abbrev pub IsOutside : Type 0 → ReplayFault → Type 0
+IsOutside may_shut GateShut = may_shut
+IsOutside may_shut SpawnFailed = Unit {0}
+IsOutside may_shut fault = IsSerialOutside fault
+
+-- the fault of a run as the replay tells it; the numbers of devices are all different
+abbrev pub IsToldAs : WorkFault → ReplayFault → Type 0
+IsToldAs work.OutOfMemory told = told ≡ Trace OutOfMemory
+IsToldAs work.GateShut told = told ≡ GateShut
+IsToldAs work.SpawnFailed told = told ≡ SpawnFailed
+IsToldAs work.SameNumber told = ⊥
+
+-- the device as the rows tell of it, before its acts
+pub record IsDeviceOf (rows : List Row) (device : ℕ) (script : Script) : Type 0 where
+  pub opening : opening_of device rows ≡ Some script.opening
+  pub acts : script.rows ≡ script_of device rows
+  pub made : script.made ≡ 0
+
+-- what was polled of a device, and what is left, are the packets that arrived there, as its own acts had them
+pub record IsPolled (rows : List Row) (device : ℕ) (polled : Polled) : Type 0 where
+  pub same_device : polled.device ≡ device
+  pub sum : polled.polled + polled.left ≡ arrived device rows
+  pub script : Script
+  pub is : IsDeviceOf rows device script
+  pub totals : Totals
+  pub run : HasRun answer after script.opening.value (has_thread script.rows) script (length script.rows) totals
+  pub counts : (polled.polled ≡ totals.polled) × (polled.left ≡ totals.left)

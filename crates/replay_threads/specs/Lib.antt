@@ -1,0 +1,3 @@
+pub mod ThreadsReport
+pub mod Stations
+pub mod Answer

@@ -1,0 +1,56 @@
+-- The stations of the devices that rows open, and what a run made of them.
+use Rattle.std.specs.Prelude.{◌≡◌, ℕ, ◌+◌, ◌++◌, Bool, List, Option, Some, length, nat_lt, option_map, take}
+use Rattle.std.specs.List.{find}
+use Rattle.device_rows.specs.declared.row.Row.{Row}
+use Rattle.poll_interrupts.specs.declared.station.Finished.{Finished}
+use Rattle.poll_interrupts.specs.declared.station.Station.{Station}
+use Rattle.poll_interrupts.specs.Runs.{HasRun}
+use Rattle.replay_text.specs.declared.fault.ReplayFault.{ReplayFault}
+use Rattle.replay_text.specs.declared.fault.ReplayFault.TheVariants.{RingTooSmall}
+use Rattle.replay_words.specs.declared.settings.Settings.{Settings}
+use Rattle.poll_tasks.specs.declared.pace.Pace.{Pace}
+use Rattle.replay_text.specs.Lines.{ended, tx_lines}
+use Rattle.device_script.specs.Script.{has_thread, opening_of, rx_of, script_of, tx_after}
+use Rattle.device_script.specs.ScriptShown.{Script, after, answer}
+use Rattle.replay_threads.specs.declared.polled.Polled.{Polled}
+use Rattle.replay_threads.specs.ThreadsReport.{arrived, arrived_line, bytes}
+
+-- the station of a device, before its acts
+pub record IsStationOf (rows : List Row) (device : ℕ) (station : Station Script) : Type 0 where
+  pub its_number : station.number ≡ device
+  pub its_opening : opening_of device rows ≡ Some station.device.opening
+  pub its_rows : station.device.rows ≡ script_of device rows
+  pub its_made : station.device.made ≡ 0
+  pub its_capacity : station.capacity ≡ station.device.opening.value
+  pub its_thread : station.thread ≡ has_thread (script_of device rows)
+
+-- and after them, where its ring had a place for each packet
+pub record IsEndOf (rows : List Row) (device : ℕ) (end : Finished Script) : Type 0 where
+  pub its_number : end.number ≡ device
+  pub its_opening : opening_of device rows ≡ Some end.device.opening
+  pub its_rows : end.device.rows ≡ script_of device rows
+  pub its_made : end.device.made ≡ length end.device.rows
+  pub its_put : end.totals.put ≡ arrived device rows
+  pub its_bytes : end.totals.bytes ≡ bytes device rows
+  pub sum : end.totals.polled + end.totals.left ≡ end.totals.put
+  pub its_run : HasRun answer after end.device.opening.value (has_thread end.device.rows) (record end.device { made = 0 }) (length end.device.rows) end.totals
+
+-- its lines of the report
+abbrev pub end_lines : Finished Script → List ℕ
+end_lines end = ended (arrived_line end.number end.totals.put end.totals.bytes)
+    ++ tx_lines end.number (tx_after end.device.opening (take end.device.made end.device.rows))
+
+-- the first of the stations whose ring has fewer places than packets that arrive there
+abbrev pub is_small : Station Script → Bool
+is_small station = nat_lt station.capacity (length (rx_of station.device.rows))
+
+abbrev pub small_fault : List (Station Script) → Option ReplayFault
+small_fault stations = option_map (λ station. RingTooSmall station.number (length (rx_of station.device.rows))) (find is_small stations)
+
+-- what is told of its polls
+abbrev pub polled_of : Finished Script → Polled
+polled_of end = record { device = end.number; polled = end.totals.polled; left = end.totals.left }
+
+-- how pollers poll, by the settings
+abbrev pub pace_of : Settings → Pace
+pace_of settings = record { budget = settings.budget; weight = settings.weight; window = settings.window }

@@ -1,0 +1,45 @@
+-- The report of a run with threads, as a function of the rows: what arrived at each device, and its transmit side. It knows
+-- nothing of polls, and so of no thread. See docs/FORMATS.md, "The report".
+use Rattle.std.specs.Prelude.{ℕ, Bool, List, [], ◌∷◌, ◌++◌, Option, Some, None, codes, decimal, filter, flat_map, is_some, length, sum_by}
+use Rattle.std.specs.List.{range_with_len}
+use Rattle.device_rows.specs.declared.row.Row.{Row}
+use Rattle.device_transmit.specs.declared.transmit.TxCounts.{TxCounts}
+use Rattle.replay_text.specs.Lines.{ended, tx_lines, words}
+use Rattle.device_script.specs.Script.{opening_of, rx_of, script_of, tx_after}
+
+abbrev pub is_opened : List Row → ℕ → Bool
+is_opened rows device = is_some (opening_of device rows)
+
+-- the devices that the rows open, in rising order
+unfoldable pub opened : List Row → List ℕ
+opened rows = filter (is_opened rows) (range_with_len 1 16)
+
+-- ---- packets
+
+-- how many arrive at a device, and their bytes
+abbrev pub arrived : ℕ → List Row → ℕ
+arrived device rows = length (rx_of (script_of device rows))
+
+abbrev pub bytes : ℕ → List Row → ℕ
+bytes device rows = sum_by (λ row. row.value) (rx_of (script_of device rows))
+
+abbrev pub arrived_line : ℕ → ℕ → ℕ → List ℕ
+arrived_line device count sum = words (codes "device" ∷ decimal device ∷ codes "arrived" ∷ decimal count ∷ codes "bytes" ∷ decimal sum ∷ [])
+
+-- ---- the transmit side
+
+abbrev pub tx_by : Option Row → List Row → Option TxCounts
+tx_by None rows = None
+tx_by (Some opening) rows = tx_after opening rows
+
+-- ---- the report
+
+abbrev pub device_lines : List Row → ℕ → List ℕ
+device_lines rows device = ended (arrived_line device (arrived device rows) (bytes device rows))
+    ++ tx_lines device (tx_by (opening_of device rows) (script_of device rows))
+
+abbrev pub total_line : ℕ → List ℕ
+total_line devices = words (codes "total" ∷ codes "devices" ∷ decimal devices ∷ [])
+
+unfoldable pub threads_report : List Row → List ℕ
+threads_report rows = flat_map (device_lines rows) (opened rows) ++ ended (total_line (length (opened rows)))

@@ -1,0 +1,18 @@
+//! Behind the door `replay`: a replay of a trace with threads, and one by one thread over instances that threads could share.
+//!
+//! With threads: an interrupt worker for each device, pollers, and a thread for each device that is ever
+//! threaded. What is written is one function of the bytes read, whatever the threads do.
+//!
+//! `specs/ThreadsReport.antt` says what the report tells of the rows, and the contract of [`replay_threads`] says that it
+//! writes that. docs/FORMATS.md has the format.
+#![tactic(auto)]
+
+mod polled;
+mod report;
+mod shared;
+mod stations;
+mod threads;
+
+pub use polled::Polled;
+pub use shared::replay_shared;
+pub use threads::replay_threads;

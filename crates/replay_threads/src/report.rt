@@ -1,0 +1,57 @@
+//! The text of the report, and what is told of the polls beside it.
+
+ghost use Rattle.std.specs.Prelude.{◌≡◌, ◌++◌, IfOk, List, OnOk, flat_map, length, string_bytes, vec_items};
+ghost use Rattle.std.specs.List.{AllZip};
+ghost use Rattle.device_rows.specs.declared.row.Row.{Row};
+ghost use Rattle.replay_threads.specs.Stations.{IsEndOf, end_lines};
+ghost use Rattle.replay_threads.specs.ThreadsReport.{arrived_line, opened, threads_report, total_line};
+ghost use Rattle.replay_text.specs.Lines.{ended};
+
+use device_script::ScriptDevice;
+use poll_workers::Finished;
+use replay_text::add_transmit;
+use std::alloc::{AllocError, Global};
+
+// Adds the lines of a device: one, and a second where its transmit side had a row.
+fn add_end(text: &mut String, end: &Finished<ScriptDevice>) -> Result<(), AllocError>
+    ensures { OnOk result (string_bytes text.new ≡ string_bytes text.old ++ end_lines end.now) }
+{
+    writeln!(
+        text,
+        "device {} arrived {} bytes {}",
+        end.number, end.totals.put, end.totals.bytes
+    )?;
+    add_transmit(text, end.number, end.device.tx_counts())
+}
+
+fn add_ends(text: &mut String, ends: &[Finished<ScriptDevice>]) -> Result<(), AllocError>
+    ensures { OnOk result
+        (string_bytes text.new ≡ string_bytes text.old ++ flat_map end_lines ends.now) }
+{
+    for end in ends {
+        add_end(text, end)?;
+    }
+    Ok(())
+}
+
+fn add_total(text: &mut String, devices: usize) -> Result<(), AllocError>
+    ensures { OnOk result
+        (string_bytes text.new ≡ string_bytes text.old ++ ended (total_line devices)) }
+{
+    writeln!(text, "total devices {devices}")?;
+    Ok(())
+}
+
+/// The text of the report of devices that were run.
+pub(crate) fn report_of(
+    alloc: Global,
+    ends: &[Finished<ScriptDevice>],
+) -> Result<String, AllocError>
+    ensures { (rows : List Row) → AllZip (IsEndOf rows) (opened rows) ends.now
+        → IfOk result (λ text. string_bytes text ≡ threads_report rows) }
+{
+    let mut text = String::new(alloc);
+    add_ends(&mut text, ends)?;
+    add_total(&mut text, ends.len())?;
+    Ok(text)
+}

@@ -1,0 +1,39 @@
+//! A whole replay in shared mode.
+
+ghost use Rattle.std.specs.Prelude.{◌≡◌, Ok, Err, IfErr, OnOk};
+ghost use Rattle.replay_text.specs.Outside.{IsOutside};
+ghost use Rattle.replay_text.specs.Written.{IsFaultBy, LeavesAsItWas, Writes};
+ghost use Rattle.replay_rows.specs.Answer.{replay_of};
+
+use device_shared::shared_bench;
+use replay_rows::replay_on;
+use replay_text::ReplayFault;
+use replay_words::Settings;
+use std::alloc::Global;
+use std::io::{Read, Write};
+use std::sync::Wait;
+
+/// Plays a trace by one thread over instances that threads could share, and writes the report of it: that of serial mode.
+///
+/// Nothing is written before the whole trace is read and played and every instance is closed, so on every fault but
+/// `OutputFailed` nothing was. After a failed write it isn't known how much went out. Want of memory may come before any other
+/// fault.
+pub fn replay_shared<H: Wait + Copy + Drop, R: Read + Drop, W: Write>(
+    rt: H,
+    alloc: Global,
+    reader: R,
+    writer: &mut W,
+    settings: &Settings,
+) -> Result<(), ReplayFault>
+    // What is written is the report of the rows of the bytes read, and nothing else.
+    ensures written { OnOk result (Writes (λ bytes text. replay_of settings.now bytes ≡ Ok text)
+        (R.remaining reader) (W.contents writer.old) (W.contents writer.new)) }
+
+    // A fault is that of the bytes read, unless the reader, the memory or the writer failed.
+    ensures fault { IfErr result (IsFaultBy IsOutside
+        (λ bytes fault. replay_of settings.now bytes ≡ Err fault) (R.remaining reader)) }
+    ensures untouched { IfErr result
+        (LeavesAsItWas (W.contents writer.old) (W.contents writer.new)) }
+{
+    replay_on(alloc, shared_bench(rt, alloc)?, reader, writer, settings)
+}

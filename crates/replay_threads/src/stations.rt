@@ -1,0 +1,193 @@
+//! The stations of a trace, and their run.
+
+ghost use Rattle.std.specs.Prelude.{◌≡◌, ◌≢◌, ◌≤◌, ◌⊎◌, ◌+◌, ◌++◌, ◌∷◌, ℕ, [], List, None, Some, true, filter, IfErr, IfOk, IsSome, OnOk, length, vec_items, vec_len};
+ghost use Rattle.std.specs.List.{All, AllZip};
+ghost use Rattle.device_rows.specs.Range.{IsWithin};
+ghost use Rattle.device_rows.specs.Trace.{AcceptedAfter};
+ghost use Rattle.device_rows.specs.declared.row.Row.{Row};
+ghost use Rattle.poll_workers.specs.Finishes.{IsFinished};
+ghost use Rattle.poll_workers.specs.Numbers.{own_numbers};
+ghost use Rattle.poll_workers.specs.declared.fault.WorkFault.TheVariants.{GateShut, SameNumber};
+ghost use Rattle.poll_interrupts.specs.Opens.{IsStation};
+ghost use Rattle.replay_threads.specs.Answer.{IsOutside, IsToldAs, ring_fault};
+ghost use Rattle.device_script.specs.Script.{opening_of, rx_of, script_of};
+ghost use Rattle.device_script.specs.ScriptShown.{acts, after, answer};
+ghost use Rattle.replay_threads.specs.Stations.{IsEndOf, IsStationOf, is_small, pace_of, small_fault};
+ghost use Rattle.replay_threads.specs.ThreadsReport.{is_opened, opened};
+
+use device_rows::{PLACES, Row};
+use device_script::{ScriptDevice, opening_of, openings_of, scripts_of, take_script};
+use poll_workers::{Finished, Gate, Pace, Station, WorkFault, run_workers};
+use replay_text::ReplayFault;
+use replay_words::Settings;
+use std::alloc::{AllocError, Global};
+use std::sync::Wait;
+use std::thread::Threads;
+
+// The station of the device of this open row, with its rows behind that one.
+fn station_of(
+    alloc: Global,
+    number: u32,
+    opening: Row,
+    script: Vec<Row>,
+) -> Result<Station<ScriptDevice>, AllocError>
+    requires places { IsWithin 1 65536 opening.value }
+    requires count { length script.items ≤ 100000 }
+    requires number { IsWithin 1 16 number }
+    ensures station { (rows : List Row) → opening_of number rows ≡ Some opening
+        → script.items ≡ script_of number rows
+        → IfOk result (λ station. IsStationOf rows number station) }
+    ensures lawful { IfOk result (λ station. IsStation station) }
+{
+    let device = ScriptDevice::of(alloc, opening, script)?;
+    Ok(Station {
+        number,
+        capacity: device.capacity() as usize,
+        thread: device.is_threaded(),
+        device,
+    })
+}
+
+// Adds the station of a device with its script, where one of the open rows opens it.
+fn add_station(
+    alloc: Global,
+    openings: &[Row],
+    number: u32,
+    script: Vec<Row>,
+    stations: &mut Vec<Station<ScriptDevice>>,
+) -> Result<(), AllocError>
+    requires places { (opening : Row) → opening_of number openings.now ≡ Some opening
+        → IsWithin 1 65536 opening.value }
+    requires count { length script.items ≤ 100000 }
+    requires number { IsWithin 1 16 number }
+    ensures stations { OnOk result
+        ((rows : List Row) → opening_of number openings.now ≡ opening_of number rows
+        → script.items ≡ script_of number rows
+        → (devices : List ℕ) → AllZip (IsStationOf rows) devices (vec_items stations.old)
+        → AllZip (IsStationOf rows) (devices ++ filter (is_opened rows) (number ∷ []))
+        (vec_items stations.new)) }
+    ensures lawful { OnOk result
+        (All IsStation (vec_items stations.old) → All IsStation (vec_items stations.new)) }
+    ensures count { OnOk result (vec_len stations.new ≤ vec_len stations.old + 1) }
+{
+    if let Some(opening) = opening_of(openings, number) {
+        stations.push(station_of(alloc, number, opening, script)?)?;
+    }
+    Ok(())
+}
+
+// The stations of the devices that the rows open, in rising order of their numbers.
+fn stations_of(alloc: Global, rows: &[Row]) -> Result<Vec<Station<ScriptDevice>>, AllocError>
+    requires accepted { AcceptedAfter [] rows.now }
+    requires count { length rows.now ≤ 100000 }
+    ensures stations { IfOk result
+        (λ stations. AllZip (IsStationOf rows.now) (opened rows.now) (vec_items stations)) }
+    ensures lawful { IfOk result (λ stations. All IsStation (vec_items stations)) }
+    ensures count { IfOk result (λ stations. vec_len stations ≤ 16) }
+{
+    let openings = openings_of(alloc, rows)?;
+    let mut scripts = scripts_of(alloc, rows)?;
+    let mut stations = Vec::with_capacity(alloc, PLACES as usize)?;
+    for number in 1..PLACES {
+        let script = take_script(alloc, &mut scripts, number as usize - 1);
+        add_station(alloc, &openings, number, script, &mut stations)?;
+    }
+    Ok(stations)
+}
+
+fn is_small(station: &Station<ScriptDevice>) -> bool
+    ensures { result ≡ is_small station.now }
+{
+    station.capacity < station.device.packets() as usize
+}
+
+// The first of the stations whose ring has fewer places than packets that arrive there.
+fn ring_fault(stations: &[Station<ScriptDevice>]) -> Option<ReplayFault>
+    ensures { result ≡ small_fault stations.now }
+{
+    for station in stations {
+        if is_small(station) {
+            return Some(ReplayFault::RingTooSmall {
+                device: station.number,
+                needs: station.device.packets(),
+            });
+        }
+    }
+    None
+}
+
+// Why a run of workers was refused. The numbers of devices are all different.
+fn work_fault(fault: WorkFault) -> ReplayFault
+    requires { fault ≢ SameNumber }
+    ensures outside { IsOutside (fault ≡ GateShut) result }
+    ensures told { IsToldAs fault result }
+{
+    match fault {
+        WorkFault::OutOfMemory => AllocError.into(),
+        WorkFault::GateShut => ReplayFault::GateShut,
+        WorkFault::SpawnFailed => ReplayFault::SpawnFailed,
+        WorkFault::SameNumber => unreachable!(),
+    }
+}
+
+// The settings' budget, weight and window.
+fn pace_of(settings: &Settings) -> Pace
+    ensures { result ≡ pace_of settings.now }
+{
+    Pace {
+        budget: settings.budget,
+        weight: settings.weight,
+        window: settings.window,
+    }
+}
+
+// Runs the stations, paced as the settings say.
+fn run_stations<P, G>(
+    rt: &P,
+    alloc: Global,
+    stations: Vec<Station<ScriptDevice>>,
+    settings: &Settings,
+    gate: &G,
+) -> Result<Vec<Finished<ScriptDevice>>, ReplayFault>
+where
+    P: Threads + Wait + Sync,
+    G: Gate + Sync,
+    requires stations { All IsStation (vec_items stations) }
+    requires numbers { own_numbers (vec_items stations) ≡ true }
+    requires count { vec_len stations ≤ 16 }
+    ensures ends { IfOk result
+        (λ all. AllZip (IsFinished acts answer after) (vec_items stations) (vec_items all)) }
+    ensures fault { IfErr result (λ fault. IsOutside G.may_shut fault) }
+{
+    let pace = pace_of(settings);
+    match run_workers(rt, alloc, stations, settings.pollers, pace, gate) {
+        Ok(finished) => Ok(finished),
+        Err(fault) => Err(work_fault(fault)),
+    }
+}
+
+/// Runs the devices that the rows open, in rising order of their numbers.
+pub(crate) fn run_rows<P, G>(
+    rt: &P,
+    alloc: Global,
+    rows: &[Row],
+    settings: &Settings,
+    gate: &G,
+) -> Result<Vec<Finished<ScriptDevice>>, ReplayFault>
+where
+    P: Threads + Wait + Sync,
+    G: Gate + Sync,
+    requires accepted { AcceptedAfter [] rows.now }
+    requires count { length rows.now ≤ 100000 }
+    ensures ends { IfOk result
+        (λ all. AllZip (IsEndOf rows.now) (opened rows.now) (vec_items all)) }
+    ensures rings { OnOk result (ring_fault rows.now ≡ None) }
+    ensures fault { IfErr result
+        (λ fault. IsOutside G.may_shut fault ⊎ (ring_fault rows.now ≡ Some fault)) }
+{
+    let stations = stations_of(alloc, rows)?;
+    match ring_fault(&stations) {
+        Some(fault) => Err(fault),
+        None => run_stations(rt, alloc, stations, settings, gate),
+    }
+}

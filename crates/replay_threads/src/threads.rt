@@ -1,0 +1,114 @@
+//! A whole run with threads: from the bytes of a trace to the bytes of a report.
+
+ghost use Rattle.std.specs.Prelude.{◌≡◌, ◌≢◌, ◌⊎◌, ◌≤◌, [], ℕ, List, Ok, Err, Some, IfErr, IfOk, OnOk, length, map, vec_items};
+ghost use Rattle.std.specs.Io.KnownBytes.{Appends, Keeps};
+ghost use Rattle.std.specs.List.{AllZip};
+ghost use Rattle.device_rows.specs.Trace.{AcceptedAfter, records_of, trace_of};
+ghost use Rattle.device_rows.specs.declared.row.Row.{Row};
+ghost use Rattle.replay_threads.specs.Answer.{IsOutside, IsPolled, answer_of, threads_of};
+ghost use Rattle.replay_threads.specs.Stations.{polled_of};
+ghost use Rattle.replay_threads.specs.ThreadsReport.{opened};
+ghost use Rattle.replay_text.specs.declared.fault.ReplayFault.TheVariants.{OutputFailed};
+
+use crate::polled::Polled;
+use crate::report::report_of;
+use crate::stations::run_rows;
+use device_rows::{Row, read_trace};
+use device_script::ScriptDevice;
+use poll_workers::{Finished, Gate};
+use replay_text::{ReplayFault, write_text};
+use replay_words::Settings;
+use std::alloc::{AllocError, Global};
+use std::io::{Read, Write};
+use std::sync::Wait;
+use std::thread::Threads;
+
+// What is told of the polls of each device.
+fn all_polled(alloc: Global, ends: &[Finished<ScriptDevice>]) -> Result<Vec<Polled>, AllocError>
+    ensures { IfOk result (λ all. vec_items all ≡ map polled_of ends.now) }
+{
+    let mut all = Vec::with_capacity(alloc, ends.len())?;
+    for end in ends {
+        all.push(Polled {
+            device: end.number,
+            polled: end.totals.polled,
+            left: end.totals.left,
+        })?;
+    }
+    Ok(all)
+}
+
+// Runs the rows, and writes the report of them, all of it at once.
+fn write_report<P, W, G>(
+    rt: &P,
+    alloc: Global,
+    rows: &[Row],
+    writer: &mut W,
+    settings: &Settings,
+    gate: &G,
+) -> Result<Vec<Polled>, ReplayFault>
+where
+    P: Threads + Wait + Sync,
+    W: Write,
+    G: Gate + Sync,
+    requires accepted { AcceptedAfter [] rows.now }
+    requires count { length rows.now ≤ 100000 }
+    ensures written { OnOk result
+        ((text : List ℕ) × (answer_of (Ok rows.now) ≡ Ok text)
+        × Appends (W.contents writer.old) (W.contents writer.new) text) }
+    ensures polled { IfOk result
+        (λ all. AllZip (IsPolled rows.now) (opened rows.now) (vec_items all)) }
+    ensures fault { IfErr result
+        (λ fault. IsOutside G.may_shut fault ⊎ (answer_of (Ok rows.now) ≡ Err fault)) }
+    ensures untouched { IfErr result
+        (λ fault. fault ≢ OutputFailed → Keeps (W.contents writer.old) (W.contents writer.new)) }
+{
+    let ends = run_rows(rt, alloc, rows, settings, gate)?;
+    let text = report_of(alloc, ends.as_slice())?;
+    let polled = all_polled(alloc, ends.as_slice())?;
+    write_text(writer, &text)?;
+    Ok(polled)
+}
+
+/// Runs a trace with threads, and writes the report of it: an interrupt worker for each device makes its acts in order, and
+/// so many pollers as the settings ask for poll, with a thread of its own for each device that is ever threaded. The gate is
+/// asked before each act. The answer has what was polled of each device, in rising order of their numbers.
+///
+/// The report tells what arrived and the transmit sides, and rests on no setting. Softirq and kthread rows do nothing, a
+/// disable waits until its device is let go.
+///
+/// `RingTooSmall` comes before any worker starts, for the lowest device whose ring has fewer places than packets that arrive
+/// there; `GateShut` where the gate answers false, so never where that is always open; `SpawnFailed` where a thread can't be started. All threads have ended then.
+/// Nothing is written before the whole run is over, so on every fault but `OutputFailed` nothing was. After a failed write it
+/// isn't known how much went out. Want of memory may come before any other fault.
+pub fn replay_threads<P, R, W, G>(
+    rt: &P,
+    alloc: Global,
+    reader: R,
+    writer: &mut W,
+    settings: &Settings,
+    gate: &G,
+) -> Result<Vec<Polled>, ReplayFault>
+where
+    P: Threads + Wait + Sync,
+    R: Read + Drop,
+    W: Write,
+    G: Gate + Sync,
+    // What is written is the threads report of the rows of the bytes read, and nothing else.
+    ensures written { OnOk result ((bytes : List ℕ) → R.remaining reader ≡ Some bytes
+        → (text : List ℕ) × (threads_of bytes ≡ Ok text)
+        × Appends (W.contents writer.old) (W.contents writer.new) text) }
+    // Of each device that they open, what was polled and what is left are the packets that arrived.
+    ensures polled { IfOk result (λ all. (bytes : List ℕ) → R.remaining reader ≡ Some bytes
+        → (rows : List Row) × (trace_of (records_of bytes) ≡ Ok rows)
+        × AllZip (IsPolled rows) (opened rows) (vec_items all)) }
+    // A fault is that of the bytes read, unless the reader, the memory, the writer or a thread failed, or the gate, where that
+    // may be shut.
+    ensures fault { IfErr result (λ fault. (bytes : List ℕ) → R.remaining reader ≡ Some bytes
+        → IsOutside G.may_shut fault ⊎ (threads_of bytes ≡ Err fault)) }
+    ensures untouched { IfErr result
+        (λ fault. fault ≢ OutputFailed → Keeps (W.contents writer.old) (W.contents writer.new)) }
+{
+    let trace = read_trace(alloc, reader)?;
+    write_report(rt, alloc, trace.rows(), writer, settings, gate)
+}

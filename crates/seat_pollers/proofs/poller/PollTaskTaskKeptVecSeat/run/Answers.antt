@@ -1,5 +1,0 @@
-use Rattle.{std.proofs.Common.{refl, inl}, seat_pollers.proofs.SeatFacts.seats_stay}
-use Rattle.seat_pollers.proofs.poller.PollTaskTaskKeptVecSeat.run.Goals as goal
-
-pub returns-then-is_refused : goal.returns-then-is_refused
-returns-then-is_refused g c = record { same = seats_stay _; came = inl refl }

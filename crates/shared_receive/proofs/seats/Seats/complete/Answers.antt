@@ -1,7 +1,0 @@
-use Rattle.std.proofs.Common.{rules}
-use Rattle.shared_receive.proofs.seats.Seats.complete.Goals as goal
-
-pub returns-clause-acts : goal.returns-clause-acts
-returns-clause-acts g c =
-    let a = c.complete-posts.ensures.acts in
-    (a.0, a.1, search rules)

@@ -1,9 +1,0 @@
-use Rattle.std.proofs.Common.{refl}
-use Rattle.shared_receive.specs.Seats.{ctx_at}
-use Rattle.shared_receive.proofs.ActingFacts.{control_turn, quiet}
-use Rattle.shared_receive.proofs.seats.Seats.mark.Goals as goal
-
-pub returns-clause-acts : goal.returns-clause-acts
-returns-clause-acts c =
-    let e = c.mark.ensures in
-    control_turn c.args.self.interrupt c.args.self.turn _ _ c.in-On.is c.requires.seats (quiet _ _ (ctx_at c.in-On.posts) e.made e.packets) refl refl

@@ -1,5 +1,0 @@
-use Rattle.{std.proofs.Common.{◌≡◌, take}, threads_replay.specs.Script.openings_of}
-use Rattle.threads_replay.proofs.dealing.openings_of.Given as goal
-
-abbrev pub invariant-loop-row : goal.invariant-loop-row
-invariant-loop-row l = l.openings.items ≡ openings_of (take l.row-index l.rows)

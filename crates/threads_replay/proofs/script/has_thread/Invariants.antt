@@ -1,5 +1,0 @@
-use Rattle.{std.{proofs.Common.{◌≡◌, None, take}, specs.List.find}, threads_replay.specs.Script.makes_threaded}
-use Rattle.threads_replay.proofs.script.has_thread.Given as goal
-
-abbrev pub invariant-loop-row : goal.invariant-loop-row
-invariant-loop-row l = find makes_threaded (take l.row-index l.rows) ≡ None

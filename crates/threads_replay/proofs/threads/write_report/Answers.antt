@@ -1,7 +1,0 @@
-use Rattle.threads_replay.{specs.ThreadsReport.opened, proofs.StationFacts.all-polled}
-use Rattle.threads_replay.proofs.threads.write_report.Goals as goal
-
-pub returns-clause-polled : goal.returns-clause-polled
-returns-clause-polled g c =
-    rw (c.in_ok-polled.ensures, c.as_slice-2.ensures.value)
-    (all-polled c.args.rows.now (opened c.args.rows.now) _ c.in_ok-ends.ensures.ends)

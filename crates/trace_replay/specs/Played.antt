@@ -1,8 +1,0 @@
--- What a replay keeps, as plain data.
-use Rattle.devices.specs.Bench.{Devices}
-use Rattle.trace_replay.specs.ReplayState.{ReplayState}
-use Rattle.trace_replay.specs.declared.replay.Replay.{Replay}
-
--- the devices are those that its bench shows
-abbrev pub state_in : {B : Type 0} {polled shown : _} → (B → Devices) → Replay B polled shown → ReplayState
-state_in devices r = record { devices = devices r.bench; list = r.list; lines = r.lines.items }
