@@ -149,7 +149,7 @@ pub fn pass_shared<R: Threads + Wait + Copy + Drop + Send>(
     callers.push_reserved(first);
     callers.push_reserved(poller);
     let control = control.disable(&rt, &napi);
-    let closed = napi.close(callers, control);
+    let closed = napi_calls::close(napi, callers, control);
     let Ok(_ctx) = closed else { unreachable!() };
     Ok(tally)
 }

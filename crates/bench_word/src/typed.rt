@@ -132,7 +132,7 @@ pub fn make_typed_turns(
     callers.push_reserved(caller);
     callers.push_reserved(other);
     let control = control.disable(rt, &napi);
-    let closed = napi.close(callers, control);
+    let closed = napi_calls::close(napi, callers, control);
     let Ok(_ctx) = closed else { unreachable!() };
     Ok(tally)
 }

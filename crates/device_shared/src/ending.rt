@@ -29,7 +29,7 @@ pub(crate) fn close(
     callers.push_reserved(interrupt);
     callers.push_reserved(poller);
     callers.push_reserved(thread);
-    let closed = napi.close(callers, control);
+    let closed = napi_calls::close(napi, callers, control);
     let Ok(_ctx) = closed else { unreachable!() };
 }
 

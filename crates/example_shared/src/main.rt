@@ -123,7 +123,7 @@ fn main(rt: HostRuntime) -> Result<()> {
     callers.push_reserved(second);
     callers.push_reserved(poller);
     callers.push_reserved(own);
-    let closed = napi.close(callers, control);
+    let closed = napi_calls::close(napi, callers, control);
     let Ok(ctx) = closed else { unreachable!() };
     let Totals {
         put,

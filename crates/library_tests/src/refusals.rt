@@ -60,7 +60,7 @@ fn poll_packet(rt: &impl Abort, alloc: Global, bed: Bed) {
     };
     callers.push_reserved(first);
     callers.push_reserved(second);
-    let answer = napi.close(callers, control);
+    let answer = napi_calls::close(napi, callers, control);
     let Ok(ctx) = answer else {
         panic!(rt; "callers are missing")
     };
@@ -111,7 +111,7 @@ fn close_wants_all_callers(rt: HostRuntime) -> Result<(), Fail> {
         panic!(rt; "no memory")
     };
     callers.push_reserved(first);
-    let answer = napi.close(callers, control);
+    let answer = napi_calls::close(napi, callers, control);
     let Err(
         CloseBack {
             fault,

@@ -213,7 +213,7 @@ fn two_interrupts_and_a_poller(rt: HostRuntime) -> Result<(), Fail> {
     all.push_reserved(first);
     all.push_reserved(second);
     all.push_reserved(poller);
-    let answer = napi.close(all, control);
+    let answer = napi_calls::close(napi, all, control);
     let Ok(mut ctx) = answer else {
         panic!(rt; "callers are missing")
     };

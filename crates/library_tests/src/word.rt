@@ -124,7 +124,7 @@ fn end_of_three(opened: Opened) -> Option<Ended>
     passes.push(first).ok()?;
     passes.push(second).ok()?;
     passes.push(control).ok()?;
-    Some(table.end(passes))
+    Some(napi_word::end(table, passes))
 }
 
 // Two callers and a controller, who gives the instance free: what each found, and the end.

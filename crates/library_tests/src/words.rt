@@ -104,3 +104,9 @@ fn lines_and_statuses(rt: HostRuntime) {
     assert_eq!(rt; word_status(&WordFault::Usage), 64);
     assert_eq!(rt; word_status(&WordFault::OutOfMemory), 4);
 }
+
+#[test]
+fn faults_have_numbers(rt: HostRuntime) {
+    assert_eq!(rt; WordFault::Usage.number(), 1);
+    assert_eq!(rt; WordFault::OutOfMemory.number(), 2);
+}

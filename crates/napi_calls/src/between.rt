@@ -2,8 +2,8 @@
 
 /// Acts between the look and the exchange of one call, as another thread may. A call runs it once, where it gets that far.
 pub trait Between {
-    // What a run makes of itself.
-    ghost ran: { Self → Self → Type 0 };
+    // What a run makes of itself. An `impl` that tells nothing of it writes `run` alone.
+    ghost ran: { Self → Self → Type 0 } = { λ _ _. Unit {0} };
 
     /// Is run there.
     fn run(&mut self)

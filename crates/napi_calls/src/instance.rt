@@ -152,42 +152,46 @@ impl Napi {
         let seated = seat_callers(passes, seated);
         Ok((Napi { table, callers }, seated, control))
     }
+}
 
-    /// Closes a disabled instance (`netif_napi_del`) and hands out its poll context. Where callers are missing it is
-    /// refused by [`NotAll`](CloseFault::NotAll), and all three come back as they were.
-    ///
-    /// Here the one history is read off.
-    pub fn close(self, mut callers: Vec<Caller>, control: Control<Off>) -> Result<RxCtx, CloseBack>
-        requires callers { (k : ℕ) (c : Caller) → slice_get callers.items k ≡ Some c
-            → IsSeatOf self c.pass }
-        requires control { IsSeatOf self control.pass }
-        ensures fault { IfErr result
-            (λ b. (b.fault ≡ NotAll) × (length callers.items < callers_of self)) }
-        ensures back { IfErr result
-            (λ b. (b.napi ≡ self) × (b.callers ≡ callers) × (b.control ≡ control)) }
-        ensures closed { IfOk result (λ ctx. IsClosed self callers.items control.pass ctx) }
-        ensures ctx { IfOk result (λ ctx. ctx ≡ control.state.ctx) }
-    {
-        if callers.len() < self.callers as usize {
-            return Err(CloseBack {
-                fault: CloseFault::NotAll,
-                napi: self,
-                callers,
-                control,
-            });
-        }
-        let Napi { table, callers: _ } = self;
-        let Control {
-            pass,
-            state: Off { ctx },
-        } = control;
-        let mut gathering = table.gather(pass);
-        while let Some(caller) = callers.pop() {
-            let Caller { pass, number: _ } = caller;
-            table.join(&mut gathering, pass);
-        }
-        callers.destroy_empty();
-        let Ended { ctx: _left } = table.finish(gathering);
-        Ok(ctx)
+/// Closes a disabled instance (`netif_napi_del`) and hands out its poll context. Where callers are missing it is
+/// refused by [`NotAll`](CloseFault::NotAll), and all three come back as they were.
+///
+/// Here the one history is read off.
+pub fn close(
+    napi: Napi,
+    mut callers: Vec<Caller>,
+    control: Control<Off>,
+) -> Result<RxCtx, CloseBack>
+    requires callers { (k : ℕ) (c : Caller) → slice_get callers.items k ≡ Some c
+        → IsSeatOf napi c.pass }
+    requires control { IsSeatOf napi control.pass }
+    ensures fault { IfErr result
+        (λ b. (b.fault ≡ NotAll) × (length callers.items < callers_of napi)) }
+    ensures back { IfErr result
+        (λ b. (b.napi ≡ napi) × (b.callers ≡ callers) × (b.control ≡ control)) }
+    ensures closed { IfOk result (λ ctx. IsClosed napi callers.items control.pass ctx) }
+    ensures ctx { IfOk result (λ ctx. ctx ≡ control.state.ctx) }
+{
+    if callers.len() < napi.callers as usize {
+        return Err(CloseBack {
+            fault: CloseFault::NotAll,
+            napi,
+            callers,
+            control,
+        });
     }
+    let Napi { table, callers: _ } = napi;
+    let Control {
+        pass,
+        state: Off { ctx },
+    } = control;
+    let mut gathering = table.gather(pass);
+    while let Some(caller) = callers.pop() {
+        let Caller { pass, number: _ } = caller;
+        table.join(&mut gathering, pass);
+    }
+    callers.destroy_empty();
+    let Ended { ctx: _left } = table.finish(gathering);
+    Ok(ctx)
 }

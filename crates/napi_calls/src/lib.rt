@@ -4,7 +4,7 @@
 //! [`Napi::new`] makes an instance over a receive ring's poll context, disabled, with its callers and its controller. A
 //! [`Caller`] asks for polls and takes the instance to poll it; a [`Granted`] caller has to hand it over; [`Polling`] has
 //! the poll context, and so has a [`Busy`] caller, who busy polls; [`Control`] enables and disables the instance. Each is a seat of a thread of its own and must be
-//! spent: it goes into the next call, and at last into [`Napi::close`].
+//! spent: it goes into the next call, and at last into [`close`].
 //!
 //! Every call is a few atomic steps on one word, with no lock. Whatever the threads' schedule, these stand in one legal
 //! history of the one-thread object of `napi_model`. `specs/` says it: `Seats` what each value shows of that history,
@@ -33,7 +33,7 @@ pub use answers::{Completed, Sched, TryBusy, TryDone, TryPrep, TryStop, TryTake}
 pub use between::{Between, Nothing};
 pub use caller::meet;
 pub use fault::{CloseFault, NewFault};
-pub use instance::{CloseBack, NewBack, next_caller};
+pub use instance::{CloseBack, NewBack, close, next_caller};
 pub use kept::Kept;
 pub use sharing::{is_sent, is_shared};
 pub use surveying::{none_is_lost, one_acts_alone, survey, survey_busy, survey_polling};

@@ -115,22 +115,22 @@ impl StateTable {
             ctx: pick(found, slot),
         }
     }
+}
 
-    /// Closes the table by all its passes, and reads off its one history: it is legal, each pass's own list is exactly its
-    /// number's events in it, and the longest list shown is the whole of it. A pass keeps what it holds: one that has the
-    /// context out may be given too.
-    pub fn end(self, mut passes: Vec<Pass>) -> Ended
-        requires passes { (k : ℕ) (p : Pass) → slice_get passes.items k ≡ Some p → IsPassOf self p }
-        requires count { length passes.items ≡ controller_of_table self + 1 }
-        ensures { IsEnded self passes.items result.ctx }
-    {
-        let popped = passes.pop();
-        let Some(first) = popped else { unreachable!() };
-        let mut gathering = self.gather(first);
-        while let Some(pass) = passes.pop() {
-            self.join(&mut gathering, pass);
-        }
-        passes.destroy_empty();
-        self.finish(gathering)
+/// Closes the table by all its passes, and reads off its one history: it is legal, each pass's own list is exactly its
+/// number's events in it, and the longest list shown is the whole of it. A pass keeps what it holds: one that has the
+/// context out may be given too.
+pub fn end(table: StateTable, mut passes: Vec<Pass>) -> Ended
+    requires passes { (k : ℕ) (p : Pass) → slice_get passes.items k ≡ Some p → IsPassOf table p }
+    requires count { length passes.items ≡ controller_of_table table + 1 }
+    ensures { IsEnded table passes.items result.ctx }
+{
+    let popped = passes.pop();
+    let Some(first) = popped else { unreachable!() };
+    let mut gathering = table.gather(first);
+    while let Some(pass) = passes.pop() {
+        table.join(&mut gathering, pass);
     }
+    passes.destroy_empty();
+    table.finish(gathering)
 }

@@ -24,7 +24,7 @@ mod surveying;
 mod table;
 mod view;
 
-pub use ending::Ended;
+pub use ending::{Ended, end};
 pub use gathering::{Found, Gathering};
 pub use making::TableBack;
 pub use rule::InOneHistory;

@@ -64,7 +64,7 @@ impl Placed {
         callers.push_reserved(caller);
         callers.push_reserved(poller);
         callers.push_reserved(thread);
-        let closed = napi.close(callers, control);
+        let closed = napi_calls::close(napi, callers, control);
         let Ok(ctx) = closed else { unreachable!() };
         ctx
     }

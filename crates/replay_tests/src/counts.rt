@@ -31,7 +31,7 @@ fn instances_of_each_count(rt: HostRuntime) -> Result<(), Fail> {
             panic!(rt; "{callers} callers are refused")
         };
         assert_eq!(rt; seats.len(), callers as usize);
-        let closed = napi.close(seats, control);
+        let closed = napi_calls::close(napi, seats, control);
         let Ok(_ctx) = closed else {
             panic!(rt; "one of {callers} callers is missing")
         };

@@ -124,7 +124,7 @@ fn closed(
     };
     callers.push_reserved(first);
     callers.push_reserved(second);
-    let answer = napi.close(callers, control);
+    let answer = napi_calls::close(napi, callers, control);
     let Ok(ctx) = answer else {
         panic!(rt; "callers are missing")
     };

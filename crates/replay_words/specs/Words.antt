@@ -1,4 +1,4 @@
--- The words after the program's name: what they ask for, and the line and the exit status of each refusal.
+-- The words after the program's name: what they ask for, and the number, the line and the exit status of each refusal.
 use Rattle.std.specs.Prelude.{ℕ, [], ◌∷◌, ◌++◌, Bool, ◌&&◌, not, List, Option, Some, None, length, nat_le, if◌then◌else◌, codes, option_and_then, option_map, is_some, find, fold}
 use Rattle.std.specs.List.{list_any}
 use Rattle.std.specs.Str.{all_ascii_digits, bytes_eq}
@@ -10,6 +10,11 @@ use Rattle.replay_words.specs.declared.mode.Mode.TheVariants.{Serial, Shared, Th
 use Rattle.replay_words.specs.declared.settings.Settings.{Settings}
 use Rattle.replay_words.specs.declared.words.WordFault.{WordFault}
 use Rattle.replay_words.specs.declared.words.WordFault.TheVariants.{Usage, OutOfMemory}
+
+-- the number by which a refusal is known
+abbrev pub fault_number : WordFault → ℕ
+fault_number Usage = 1
+fault_number OutOfMemory = 2
 
 abbrev pub line_of : WordFault → List ℕ
 line_of Usage = codes "usage fault 64\n"

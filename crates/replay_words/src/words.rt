@@ -4,7 +4,7 @@ ghost use Rattle.std.specs.Prelude.{◌≡◌, ◌≤◌, ◌∷◌, Some, None,
 ghost use Rattle.std.specs.List.{list_any};
 ghost use Rattle.clap.specs.Words.{app_of, found_of, rows_of, rule_of};
 ghost use Rattle.replay_words.specs.Options.{asked_by, mode_in, number_in, option, read_by_clap, tool};
-ghost use Rattle.replay_words.specs.Words.{asked_for, asked_of, is_stray, line_of, mode_of, number_of, serial_asked_for, status_of};
+ghost use Rattle.replay_words.specs.Words.{asked_for, asked_of, fault_number, is_stray, line_of, mode_of, number_of, serial_asked_for, status_of};
 ghost use Rattle.replay_words.specs.declared.mode.Mode.TheVariants.{Serial};
 ghost use Rattle.replay_words.specs.declared.words.WordFault.TheVariants.{Usage};
 
@@ -18,13 +18,25 @@ use thiserror::Error;
 /// Why the words were refused. They are read before the trace, which then isn't.
 #[derive(Clone, Copy, Debug, PartialEq, Eq, Error)]
 pub enum WordFault {
-    /// 1: the words ask for nothing that the program does: a word that is no option or no value, an option that is there
-    /// twice or has no value, a value out of its range.
+    /// Number 1: the words ask for nothing that the program does: a word that is no option or no value, an option that is
+    /// there twice or has no value, a value out of its range.
     #[error("usage: napi_replay [--mode serial|shared|threads] [--pollers N] [--budget N] [--weight N] [--window N] < TRACE.csv")]
     Usage,
-    /// 2: memory was refused while they were read.
+    /// Number 2: memory was refused while they were read.
     #[error("out of memory")]
     OutOfMemory,
+}
+
+impl WordFault {
+    /// Its number: 1 `Usage`, 2 `OutOfMemory`.
+    pub fn number(&self) -> u32
+        ensures { result ≡ fault_number self.now }
+    {
+        match self {
+            WordFault::Usage => 1,
+            WordFault::OutOfMemory => 2,
+        }
+    }
 }
 
 /// The line of a refusal for standard error, line feed included.

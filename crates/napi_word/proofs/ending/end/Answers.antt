@@ -1,5 +1,5 @@
 use Rattle.{std.proofs.Common.{◌≡◌, ◌-◌, ℕ, List, [], ◌∷◌, ◌++◌, slice_get, length, take, sym, ap, ◌∙◌, subst, append_assoc, arith}, napi_word.{specs.{declared.table.Pass.Pass, Ends.Gathered}, proofs.Closing.get_mid}}
-use Rattle.napi_word.proofs.table.StateTable.end.Goals as goal
+use Rattle.napi_word.proofs.ending.end.Goals as goal
 
 pub gather-gathering-requires : goal.gather-gathering-requires
 gather-gathering-requires c =

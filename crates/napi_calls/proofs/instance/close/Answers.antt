@@ -1,6 +1,6 @@
 use Rattle.{std.proofs.Common.{◌≡◌, ◌-◌, ℕ, List, [], ◌∷◌, ◌++◌, length, take, sym, ap, ◌∙◌, subst, append_assoc, arith, rules}, napi_word.specs.Ends.Gathered, napi_calls.specs.{declared.types.Caller.Caller, Closed.seats_of}}
 use Rattle.napi_calls.proofs.{Fresh.here, Ending.{all_count, closed}}
-use Rattle.napi_calls.proofs.types.Napi.close.Goals as goal
+use Rattle.napi_calls.proofs.instance.close.Goals as goal
 
 pub join-requires-clause-pass : goal.join-requires-clause-pass
 join-requires-clause-pass c =
@@ -22,9 +22,9 @@ returns-clause-closed c =
     let seats = all_count c.args.callers.items c.args.control.pass in
     let ok = c.args.callers.ok.0 in
     let len = c.len.ensures in
-    let enough = c.if-len-self.false in
-    let made = c.args.self.count in
-    closed c.args.self c.args.callers.items c.args.control.pass c.finish-left.result.ctx c.args.control.controls
+    let enough = c.if-len-napi.false in
+    let made = c.args.napi.count in
+    closed c.args.napi c.args.callers.items c.args.control.pass c.finish-left.result.ctx c.args.control.controls
     (c.finish-left.ensures (seats_of c.args.callers.items ++ c.args.control.pass ∷ []) g (search (rules, arith, seats, ok, len, enough, made))) c.args.control.state.ctx c.args.control.has c.args.control.exact
 
 pub loop-caller-preserved : goal.loop-caller-preserved

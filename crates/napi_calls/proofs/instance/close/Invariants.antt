@@ -1,5 +1,5 @@
 use Rattle.{std.proofs.Common.{◌≡◌, List, [], ◌∷◌, ◌++◌}, napi_word.specs.Ends.{IsGatheredOf, Gathered}, napi_calls.specs.{declared.types.Caller.Caller, Closed.seats_of}}
-use Rattle.napi_calls.proofs.types.Napi.close.Given as goal
+use Rattle.napi_calls.proofs.instance.close.Given as goal
 
 abbrev pub invariant-loop-caller : goal.invariant-loop-caller
 invariant-loop-caller l =
