@@ -32,7 +32,7 @@ impl StateTable {
         requires rest { (first.holds ≡ Nothing) × (second.holds ≡ Nothing)
             × (third.holds ≡ Nothing) }
         ensures look { Makes last.old (Look result.3) stays last.new }
-        ensures quiet { (mine (view_of result.0) ≡ mine (view_of first))
+        ensures others { (mine (view_of result.0) ≡ mine (view_of first))
             × (mine (view_of result.1) ≡ mine (view_of second))
             × (mine (view_of result.2) ≡ mine (view_of third)) }
         ensures surveys { Surveys (controller_of (view_of last.old)) (number_of (view_of last.old))

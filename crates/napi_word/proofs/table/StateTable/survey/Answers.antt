@@ -195,8 +195,8 @@ returns-clause-look c =
     answers_step (c.decode_known-seen.ensures.inverse _ (sym u.2.word))
     (last_steps c.args.first c.args.second c.args.third c.args.last.now c.join_seat.new.seat.me c.join_seat-2.new.seat.me c.join_seat-3.new.seat.me j.2 k.2 l.2 c.load.result c.load.new.seat.me u.2 _ four (z.0 ∙ y.0 ∙ x.0 ∙ u.0 ∙ l.0 ∙ k.0 ∙ j.0) refl slot)
 
-pub returns-clause-quiet : goal.returns-clause-quiet
-returns-clause-quiet c =
+pub returns-clause-others : goal.returns-clause-others
+returns-clause-others c =
     let j = c.join_seat.ensures in
     let k = c.join_seat-2.ensures in
     let l = c.join_seat-3.ensures in
