@@ -1,9 +1,9 @@
 -- One of the seats acted alone, and then all met: what all of them know now.
 use Rattle.{std.proofs.Common.{◌≡◌, ◌∙◌, ◌≤◌, ℕ, zero, suc, List, [], ◌∷◌, ◌++◌, Option, Some, None, refl, sym, ap, subst, arith, ne_eqb, append-nil, append_assoc}}
 use Rattle.rx_ring.specs.{declared.{ends.RxCtx.RxCtx, packet.Packet.Packet}, Ends.{ring_name, received_list}}
-use Rattle.{napi_model.specs.{declared.{event.{Event.Event, Operation.Operation}, state.{Seen.Seen, State.State}}, Step.{opening, seen_of}, History.{LegalHistory, state_after}, Laws.IsSound}}
+use Rattle.{napi_model.specs.{declared.{event.{Event.Event, Operation.{Operation, TheVariants.Look}}, state.{Seen.Seen, State.State}}, Step.{event, opening, seen_of}, History.{LegalHistory, state_after}, Laws.IsSound}}
 use Rattle.napi_model.proofs.Owners.{opens_sound, sound_after}
-use Rattle.napi_word.{specs.{declared.{table.Pass.Pass, view.Delivery.Delivery}, Passes.{OwnsSlot, view_of}, View.{View, first_in, received_in, packets_of}, Surveys.{IsSurveyed, Surveys}}, proofs.Deliveries.some_is}
+use Rattle.napi_word.{specs.{declared.{table.Pass.Pass, view.Delivery.Delivery}, Passes.{OwnsSlot, view_of}, View.{View, first_in, received_in, packets_of}, Surveys.{IsSurveyed, Surveys}}, proofs.{CatchingUp.state_looked, Deliveries.some_is}}
 use Rattle.napi_calls.{specs.{Alone.{AllShow, GrewBy, MakesAlone}, Knows.received_held, Made.events, Packets.{delivered, received_before}, Seats.{controller_of, ring_of, shown, state_of}, declared.types.Napi.Napi}, proofs.Alone.one_alone}
 use Rattle.device_shared.specs.{declared.seats.Seats.Seats, Acting.{Acts, CtxMoves, seat_at}, Meeting.{Meets, passes_of}, Seats.{IsSeatAt, ShowAll, control_of, ctx_of, poller_of, received_by, state_in, thread_of}}
 
@@ -24,15 +24,21 @@ at_three p three = ap (λ (k : ℕ). state_after (opening k) (shown p)) three
 
 module _ (c : ℕ) (os : List Operation) (n : Napi) (h : List Event) (ds : List Delivery) (s0 s1 s2 : Seats) (x : Seen)
     (all : AllShow h ds s0.interrupt.pass (poller_of s0.turn) (thread_of s0.turn) (control_of s0.turn)) (a : Acts c os n s0 s1) (m : Meets s1 s2 x) where
-  abbrev s : Surveys 3 (passes_of s1) (passes_of s2)
+  abbrev s : Surveys 3 m.meet.looker x (passes_of s1) (passes_of s2)
   s = m.meet.surveys
 
-  grew : GrewBy c os a.packets h s.history ds s.deliveries s2.interrupt.pass (poller_of s2.turn) (thread_of s2.turn) (control_of s2.turn)
+  abbrev look : Event
+  look = event m.meet.looker (Look x)
+
+  abbrev whole : List Event
+  whole = s.found ++ look ∷ []
+
+  grew : GrewBy c os a.packets h s.found look ds s.deliveries s2.interrupt.pass (poller_of s2.turn) (thread_of s2.turn) (control_of s2.turn)
   grew = one_alone c os a.packets h ds s0.interrupt.pass (poller_of s0.turn) (thread_of s0.turn) (control_of s0.turn)
       s1.interrupt.pass (poller_of s1.turn) (thread_of s1.turn) (control_of s1.turn)
-      s2.interrupt.pass (poller_of s2.turn) (thread_of s2.turn) (control_of s2.turn) a.low all a.zeroth a.one a.two a.three s
+      s2.interrupt.pass (poller_of s2.turn) (thread_of s2.turn) (control_of s2.turn) m.meet.looker x a.low all a.zeroth a.one a.two a.three s
 
-  met : (k : ℕ) → k ≤ 3 → IsSurveyed s.history s.deliveries (seat_at k s1) (seat_at k s2)
+  met : (k : ℕ) → k ≤ 3 → IsSurveyed s.found look s.deliveries (seat_at k s1) (seat_at k s2)
   met zero low = s.each 0 s1.interrupt.pass s2.interrupt.pass refl refl
   met (suc zero) low = s.each 1 (poller_of s1.turn) (poller_of s2.turn) refl refl
   met (suc (suc zero)) low = s.each 2 (thread_of s1.turn) (thread_of s2.turn) refl refl
@@ -55,7 +61,7 @@ module _ (c : ℕ) (os : List Operation) (n : Napi) (h : List Event) (ds : List 
   abbrev r3 : Pass
   r3 = control_of s2.turn
 
-  shown_now : shown r3 ≡ s.history
+  shown_now : shown r3 ≡ whole
   shown_now = (met 3 (omega arith)).view.shown
 
   delivered_now : delivered r3 ≡ s.deliveries
@@ -70,10 +76,10 @@ module _ (c : ℕ) (os : List Operation) (n : Napi) (h : List Event) (ds : List 
     first_three = first_is 3 (omega arith);
     legal = subst (LegalHistory 3 (opening 3)) (sym shown_now) s.whole.legal;
     all = subst (λ (l : List Event). AllShow l (delivered r3) s2.interrupt.pass (poller_of s2.turn) (thread_of s2.turn) r3) (sym shown_now)
-        (subst (λ (l : List Delivery). AllShow s.history l s2.interrupt.pass (poller_of s2.turn) (thread_of s2.turn) r3) (sym delivered_now) grew.all);
+        (subst (λ (l : List Delivery). AllShow whole l s2.interrupt.pass (poller_of s2.turn) (thread_of s2.turn) r3) (sym delivered_now) grew.all);
   }
 
-  state_now : state_in s2 ≡ state_after (opening 3) s.history
+  state_now : state_in s2 ≡ state_after (opening 3) whole
   state_now = at_three r3 shows.all.three.controller ∙ ap (state_after (opening 3)) shown_now
 
   pub legal_now : LegalHistory 3 (state_after (opening 3) h) (events c os)
@@ -83,7 +89,7 @@ module _ (c : ℕ) (os : List Operation) (n : Napi) (h : List Event) (ds : List 
   leads_to = state_now ∙ grew.leads
 
   pub seen_now : x ≡ seen_of (state_in s2)
-  seen_now = m.meet.told ∙ ap seen_of (sym state_now)
+  seen_now = m.meet.told ∙ ap seen_of (sym (state_looked (opening 3) s.found m.meet.looker x)) ∙ ap seen_of (sym state_now)
 
   received_now : received_in (view_of r3) ≡ received_list s.first ++ packets_of s.deliveries
   received_now = received_from (view_of r3) s.first (first_is 3 (omega arith)) ∙ ap (λ (l : List Delivery). received_list s.first ++ packets_of l) delivered_now
@@ -99,7 +105,7 @@ module _ (c : ℕ) (os : List Operation) (n : Napi) (first : RxCtx) (s0 s1 s2 : 
   abbrev p3 : Pass
   p3 = control_of s0.turn
 
-  abbrev t : Surveys 3 (passes_of s1) (passes_of s2)
+  abbrev t : Surveys 3 m.meet.looker x (passes_of s1) (passes_of s2)
   t = m.meet.surveys
 
   -- it is the same context still, since who didn't act names it

@@ -1,5 +1,5 @@
 -- All that make calls on an instance meet.
-use Rattle.std.specs.Prelude.{◌≡◌, List, [], ◌∷◌}
+use Rattle.std.specs.Prelude.{◌≡◌, ℕ, List, [], ◌∷◌}
 use Rattle.napi_model.specs.History.{state_after}
 use Rattle.napi_model.specs.Step.{opening, seen_of}
 use Rattle.napi_model.specs.declared.state.Seen.{Seen}
@@ -17,10 +17,11 @@ posted interrupt posts control = interrupt.pass ∷ poller_post posts ∷ thread
 abbrev pub passes_of : Seats → List Pass
 passes_of s = s.interrupt.pass ∷ poller_of s.turn ∷ thread_of s.turn ∷ control_of s.turn ∷ []
 
--- these passes met, and this was seen of the state behind the whole history
+-- these passes met, by a look of one of them, and this was seen of the state behind the whole history
 pub record Meet (before after : List Pass) (seen : Seen) : Type 0 where
-  pub surveys : Surveys 3 before after
-  pub told : seen ≡ seen_of (state_after (opening 3) surveys.history)
+  pub looker : ℕ
+  pub surveys : Surveys 3 looker seen before after
+  pub told : seen ≡ seen_of (state_after (opening 3) surveys.found)
 
 -- all stay what they are
 pub record StayPosts (before after : Posts) : Type 0 where

@@ -60,7 +60,8 @@ fn meet_posts<S: Mode>(
 }
 
 impl Seats {
-    /// All meet. It is no event. Last comes what the state word tells of the state behind the whole history.
+    /// All meet, by a look of the controller or of whoever polls. Last comes its answer: what the state word tells of the state
+    /// behind the whole history.
     pub(crate) fn meet(self, napi: &Napi) -> (Seats, Seen)
         requires { AreSeats napi.now self }
         ensures { Meets self result.0 result.1 }

@@ -21,6 +21,8 @@ mod receive;
 #[cfg(test)]
 mod refusals;
 #[cfg(test)]
+mod surveys;
+#[cfg(test)]
 mod switching;
 #[cfg(test)]
 mod threads;

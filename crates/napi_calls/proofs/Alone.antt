@@ -1,8 +1,8 @@
 -- Between two surveys one caller alone made calls: the history grew by its operations.
 use Rattle.std.proofs.Common.{◌≡◌, ◌≢◌, ◌∙◌, ◌≤◌, MatchBool, nat_eq, ℕ, zero, suc, ◌<◌, Bool, true, false, List, [], ◌∷◌, ◌++◌, refl, sym, ap, subst, arith, append-nil, append_assoc, eqb, eqb-true, eq-eqb, ne_eqb, true≢false}
 use Rattle.{std.proofs.lemmas.List.append_cancel_left, napi_model.specs.{declared.{event.{Event.Event, Operation.{Operation, TheVariants.Look}}, state.{Seen.Seen, State.State}}, Step.{IsLegal, after, event, opening, seen_of}}}
-use Rattle.{napi_model.{specs.History.{LegalHistory, own, state_after}, proofs.Histories.{legal_back, own-append, state_after-append}}, napi_word.specs.{declared.{table.Pass.Pass, view.Delivery.Delivery}, View.{own_deliveries, packets_of}}}
-use Rattle.{napi_word.{specs.Surveys.{IsSurveyed, Surveys}, proofs.Deliveries.own_both}, napi_calls.specs.{Dealt.Delivers, Packets.delivered, Made.{Made, events}}, rx_ring.specs.declared.packet.Packet.Packet}
+use Rattle.{napi_model.{specs.History.{LegalHistory, own, state_after}, proofs.Histories.{legal_back, legal_front, own-append, state_after-append}}, napi_word.specs.{declared.{table.Pass.Pass, view.Delivery.Delivery}, View.{own_deliveries, packets_of}}}
+use Rattle.{napi_word.{specs.Surveys.{IsSurveyed, Surveys}, proofs.{CatchingUp.state_looked, Deliveries.own_both, Whole.front_none}}, napi_calls.specs.{Dealt.Delivers, Packets.delivered, Made.{Made, events}}, rx_ring.specs.declared.packet.Packet.Packet}
 use Rattle.napi_calls.{specs.{Seats.{controller_of, number_of, own_list, shown}, Alone.{AllShow, GrewBy, MakesAlone, NoneIsLost, OneActsAlone, Shows}}, proofs.Steps.prefix_trans}
 use mathlib.Core.List.{IsPrefix}
 
@@ -53,21 +53,21 @@ grows_by m = record { number = m.seat.number; controller = m.seat.controller; be
 pub grows_nothing : (p : Pass) → Grows p [] p
 grows_nothing p = record { number = refl; controller = refl; begins = ([], append-nil (shown p)); grown = sym (append-nil (own_list p)) }
 
-module _ (h h' : List Event) (ds : List Delivery) (c : ℕ) (p q r : Pass) (os : List Operation) (old : List Delivery) (s : Shows h old c p) (g : Grows p os q) (u : IsSurveyed h' ds q r) where
+module _ (h h' : List Event) (ds : List Delivery) (c : ℕ) (p q r : Pass) (os : List Operation) (old : List Delivery) (look : Event) (s : Shows h old c p) (g : Grows p os q) (u : IsSurveyed h' look ds q r) where
   pub own_then : own c h' ≡ own c h ++ events c os
   own_then =
-      ap (λ (n : ℕ). own n h') (sym (g.number ∙ s.number)) ∙ u.view.exact ∙ g.grown
+      ap (λ (n : ℕ). own n h') (sym (g.number ∙ s.number)) ∙ u.view.knew ∙ g.grown
       ∙ (λ i. sym s.exact i ++ events (s.number i) os)
 
   pub begins_then : IsPrefix h h'
   begins_then = subst (λ (l : List Event). IsPrefix l h') s.shows (prefix_trans (shown p) (shown q) h' g.begins u.view.begins)
 
-  pub shows_then : Shows h' ds c r
+  pub shows_then : Shows (h' ++ look ∷ []) ds c r
   shows_then = record {
     number = u.view.number ∙ g.number ∙ s.number;
     controller = u.view.controller ∙ g.controller ∙ s.controller;
     shows = u.view.shown;
-    exact = ap (λ (n : ℕ). own n h') (sym (g.number ∙ s.number)) ∙ u.view.exact ∙ sym u.view.mine;
+    exact = ap (λ (n : ℕ). own n (h' ++ look ∷ [])) (sym (g.number ∙ s.number)) ∙ u.view.exact;
     delivers = u.view.delivered;
   }
 
@@ -134,21 +134,21 @@ none_but c h h' a0 a1 a2 a3 few few' (suc (suc zero)) = a2
 none_but c h h' a0 a1 a2 a3 few few' (suc (suc (suc zero))) = a3
 none_but c h h' a0 a1 a2 a3 few few' (suc (suc (suc (suc n)))) = λ apart. few' (suc (suc (suc (suc n)))) (omega arith) ∙ sym (few (suc (suc (suc (suc n)))) (omega arith))
 
-module _ (c : ℕ) (os : List Operation) (packets : List Packet) (h h' : List Event) (old ds : List Delivery) where
+module _ (c : ℕ) (os : List Operation) (packets : List Packet) (h h' : List Event) (look : Event) (old ds : List Delivery) where
   -- who made nothing has its own list still
-  still : (n : ℕ) (p q r : Pass) → Shows h old n p → MakesAlone c os packets n p q → IsSurveyed h' ds q r → n ≢ c → own n h' ≡ own n h
+  still : (n : ℕ) (p q r : Pass) → Shows h old n p → MakesAlone c os packets n p q → IsSurveyed h' look ds q r → n ≢ c → own n h' ≡ own n h
   still n p q r s m u apart =
       let e : q ≡ p = rw (ne_eqb n c apart) at m in
-      own_then h h' ds n p p r [] old s (grows_nothing p) (subst (λ (x : Pass). IsSurveyed h' ds x r) e u) ∙ append-nil (own n h)
+      own_then h h' ds n p p r [] old look s (grows_nothing p) (subst (λ (x : Pass). IsSurveyed h' look ds x r) e u) ∙ append-nil (own n h)
 
-  quiet : (n : ℕ) (p q r : Pass) → Shows h old n p → MakesAlone c os packets n p q → IsSurveyed h' ds q r → n ≢ c → own_deliveries n ds ≡ own_deliveries n old
+  quiet : (n : ℕ) (p q r : Pass) → Shows h old n p → MakesAlone c os packets n p q → IsSurveyed h' look ds q r → n ≢ c → own_deliveries n ds ≡ own_deliveries n old
   quiet n p q r s m u apart =
       let e : q ≡ p = rw (ne_eqb n c apart) at m in
-      let v : IsSurveyed h' ds p r = subst (λ (x : Pass). IsSurveyed h' ds x r) e u in
+      let v : IsSurveyed h' look ds p r = subst (λ (x : Pass). IsSurveyed h' look ds x r) e u in
       ap (λ (k : ℕ). own_deliveries k ds) (sym s.number) ∙ v.view.delivered_exact ∙ (λ i. own_deliveries (s.number i) (s.delivers i))
 
   -- the one who acts
-  dealt_then : (n : ℕ) (p q r : Pass) → Shows h old n p → Made p os q × Delivers p packets q → IsSurveyed h' ds q r
+  dealt_then : (n : ℕ) (p q r : Pass) → Shows h old n p → Made p os q × Delivers p packets q → IsSurveyed h' look ds q r
       → packets_of (own_deliveries n ds) ≡ packets_of (own_deliveries n old) ++ packets
   dealt_then n p q r s m u =
       ap (λ (k : ℕ). packets_of (own_deliveries k ds)) (sym (m.0.seat.number ∙ s.number)) ∙ ap packets_of u.view.delivered_exact ∙ m.1
@@ -158,81 +158,86 @@ module _ (c : ℕ) (os : List Operation) (packets : List Packet) (h h' : List Ev
   grows_either true p q m = (os, grows_by m.0)
   grows_either false p q e = ([], subst (Grows p []) (sym e) (grows_nothing p))
 
-  begins_either : (n : ℕ) (p q r : Pass) → Shows h old n p → MakesAlone c os packets n p q → IsSurveyed h' ds q r → IsPrefix h h'
-  begins_either n p q r s m u = let g = grows_either (nat_eq n c) p q m in begins_then h h' ds n p q r g.0 old s g.1 u
+  begins_either : (n : ℕ) (p q r : Pass) → Shows h old n p → MakesAlone c os packets n p q → IsSurveyed h' look ds q r → IsPrefix h h'
+  begins_either n p q r s m u = let g = grows_either (nat_eq n c) p q m in begins_then h h' ds n p q r g.0 old look s g.1 u
 
-  shows_either : (n : ℕ) (p q r : Pass) → Shows h old n p → MakesAlone c os packets n p q → IsSurveyed h' ds q r → Shows h' ds n r
-  shows_either n p q r s m u = let g = grows_either (nat_eq n c) p q m in shows_then h h' ds n p q r g.0 old s g.1 u
+  shows_either : (n : ℕ) (p q r : Pass) → Shows h old n p → MakesAlone c os packets n p q → IsSurveyed h' look ds q r → Shows (h' ++ look ∷ []) ds n r
+  shows_either n p q r s m u = let g = grows_either (nat_eq n c) p q m in shows_then h h' ds n p q r g.0 old look s g.1 u
 
 module _ (os : List Operation) (packets : List Packet) (h : List Event) (old : List Delivery) (p0 p1 p2 p3 q0 q1 q2 q3 r0 r1 r2 r3 : Pass) (all : AllShow h old p0 p1 p2 p3)
-    (s : Surveys 3 (q0 ∷ q1 ∷ q2 ∷ q3 ∷ []) (r0 ∷ r1 ∷ r2 ∷ r3 ∷ [])) where
-  u0 : IsSurveyed s.history s.deliveries q0 r0
+    (looker : ℕ) (seen : Seen) (s : Surveys 3 looker seen (q0 ∷ q1 ∷ q2 ∷ q3 ∷ []) (r0 ∷ r1 ∷ r2 ∷ r3 ∷ [])) where
+  abbrev by : Event
+  by = event looker (Look seen)
+
+  u0 : IsSurveyed s.found by s.deliveries q0 r0
   u0 = s.each 0 q0 r0 refl refl
 
-  u1 : IsSurveyed s.history s.deliveries q1 r1
+  u1 : IsSurveyed s.found by s.deliveries q1 r1
   u1 = s.each 1 q1 r1 refl refl
 
-  u2 : IsSurveyed s.history s.deliveries q2 r2
+  u2 : IsSurveyed s.found by s.deliveries q2 r2
   u2 = s.each 2 q2 r2 refl refl
 
-  u3 : IsSurveyed s.history s.deliveries q3 r3
+  u3 : IsSurveyed s.found by s.deliveries q3 r3
   u3 = s.each 3 q3 r3 refl refl
 
   made_by : (c n : ℕ) (p q : Pass) → n ≡ c → MakesAlone c os packets n p q → Made p os q × Delivers p packets q
   made_by c n p q is m = rw (eq-eqb n c is) at m
 
   mine_at : (c : ℕ) → c ≤ 3 → MakesAlone c os packets 0 p0 q0 → MakesAlone c os packets 1 p1 q1 → MakesAlone c os packets 2 p2 q2 → MakesAlone c os packets 3 p3 q3
-      → own c s.history ≡ own c h ++ events c os
-  mine_at zero low m0 m1 m2 m3 = own_then h s.history s.deliveries 0 p0 q0 r0 os old all.zeroth (grows_by (made_by 0 0 p0 q0 refl m0).0) u0
-  mine_at (suc zero) low m0 m1 m2 m3 = own_then h s.history s.deliveries 1 p1 q1 r1 os old all.one (grows_by (made_by 1 1 p1 q1 refl m1).0) u1
-  mine_at (suc (suc zero)) low m0 m1 m2 m3 = own_then h s.history s.deliveries 2 p2 q2 r2 os old all.two (grows_by (made_by 2 2 p2 q2 refl m2).0) u2
-  mine_at (suc (suc (suc zero))) low m0 m1 m2 m3 = own_then h s.history s.deliveries 3 p3 q3 r3 os old all.three (grows_by (made_by 3 3 p3 q3 refl m3).0) u3
+      → own c s.found ≡ own c h ++ events c os
+  mine_at zero low m0 m1 m2 m3 = own_then h s.found s.deliveries 0 p0 q0 r0 os old by all.zeroth (grows_by (made_by 0 0 p0 q0 refl m0).0) u0
+  mine_at (suc zero) low m0 m1 m2 m3 = own_then h s.found s.deliveries 1 p1 q1 r1 os old by all.one (grows_by (made_by 1 1 p1 q1 refl m1).0) u1
+  mine_at (suc (suc zero)) low m0 m1 m2 m3 = own_then h s.found s.deliveries 2 p2 q2 r2 os old by all.two (grows_by (made_by 2 2 p2 q2 refl m2).0) u2
+  mine_at (suc (suc (suc zero))) low m0 m1 m2 m3 = own_then h s.found s.deliveries 3 p3 q3 r3 os old by all.three (grows_by (made_by 3 3 p3 q3 refl m3).0) u3
   mine_at (suc (suc (suc (suc n)))) low m0 m1 m2 m3 = absurd (omega (arith, low))
 
   dealt_at : (c : ℕ) → c ≤ 3 → MakesAlone c os packets 0 p0 q0 → MakesAlone c os packets 1 p1 q1 → MakesAlone c os packets 2 p2 q2 → MakesAlone c os packets 3 p3 q3
       → packets_of (own_deliveries c s.deliveries) ≡ packets_of (own_deliveries c old) ++ packets
-  dealt_at zero low m0 m1 m2 m3 = dealt_then 0 os packets h s.history old s.deliveries 0 p0 q0 r0 all.zeroth (made_by 0 0 p0 q0 refl m0) u0
-  dealt_at (suc zero) low m0 m1 m2 m3 = dealt_then 1 os packets h s.history old s.deliveries 1 p1 q1 r1 all.one (made_by 1 1 p1 q1 refl m1) u1
-  dealt_at (suc (suc zero)) low m0 m1 m2 m3 = dealt_then 2 os packets h s.history old s.deliveries 2 p2 q2 r2 all.two (made_by 2 2 p2 q2 refl m2) u2
-  dealt_at (suc (suc (suc zero))) low m0 m1 m2 m3 = dealt_then 3 os packets h s.history old s.deliveries 3 p3 q3 r3 all.three (made_by 3 3 p3 q3 refl m3) u3
+  dealt_at zero low m0 m1 m2 m3 = dealt_then 0 os packets h s.found by old s.deliveries 0 p0 q0 r0 all.zeroth (made_by 0 0 p0 q0 refl m0) u0
+  dealt_at (suc zero) low m0 m1 m2 m3 = dealt_then 1 os packets h s.found by old s.deliveries 1 p1 q1 r1 all.one (made_by 1 1 p1 q1 refl m1) u1
+  dealt_at (suc (suc zero)) low m0 m1 m2 m3 = dealt_then 2 os packets h s.found by old s.deliveries 2 p2 q2 r2 all.two (made_by 2 2 p2 q2 refl m2) u2
+  dealt_at (suc (suc (suc zero))) low m0 m1 m2 m3 = dealt_then 3 os packets h s.found by old s.deliveries 3 p3 q3 r3 all.three (made_by 3 3 p3 q3 refl m3) u3
   dealt_at (suc (suc (suc (suc n)))) low m0 m1 m2 m3 = absurd (omega (arith, low))
 
   -- who made nothing had seen all deliveries
-  seen_by : (n : ℕ) (p q r : Pass) → Shows h old n p → q ≡ p → IsSurveyed s.history s.deliveries q r → IsPrefix old s.deliveries
+  seen_by : (n : ℕ) (p q r : Pass) → Shows h old n p → q ≡ p → IsSurveyed s.found by s.deliveries q r → IsPrefix old s.deliveries
   seen_by n p q r sh e u = subst (λ (l : List Delivery). IsPrefix l s.deliveries) (ap delivered e ∙ sh.delivers) u.view.delivered_begins
 
   delivered_begins : (c : ℕ) → MakesAlone c os packets 0 p0 q0 → MakesAlone c os packets 1 p1 q1 → IsPrefix old s.deliveries
   delivered_begins zero m0 m1 = seen_by 1 p1 q1 r1 all.one m1 u1
   delivered_begins (suc n) m0 m1 = seen_by 0 p0 q0 r0 all.zeroth (rw (ne_eqb 0 (suc n) (λ (e : 0 ≡ suc n). absurd (omega (arith, e)))) at m0) u0
 
-  grew : (c : ℕ) → c ≤ 3 → MakesAlone c os packets 0 p0 q0 → MakesAlone c os packets 1 p1 q1 → MakesAlone c os packets 2 p2 q2 → MakesAlone c os packets 3 p3 q3 → GrewBy c os packets h s.history old s.deliveries r0 r1 r2 r3
+  grew : (c : ℕ) → c ≤ 3 → MakesAlone c os packets 0 p0 q0 → MakesAlone c os packets 1 p1 q1 → MakesAlone c os packets 2 p2 q2 → MakesAlone c os packets 3 p3 q3 → GrewBy c os packets h s.found by old s.deliveries r0 r1 r2 r3
   grew c low m0 m1 m2 m3 =
-      let h' = s.history in
+      let h' = s.found in
+      let legal = legal_front 3 (opening 3) h' (by ∷ []) s.whole.legal in
+      let few : (n : ℕ) → 3 < n → own n h' ≡ [] = λ n above. front_none (own n h') (own n (by ∷ [])) (sym (own-append n h' (by ∷ [])) ∙ s.whole.others n above) in
       let ds = s.deliveries in
-      let is : h' ≡ h ++ events c os = grown_by c h h' (events c os) (begins_either c os packets h h' old ds 0 p0 q0 r0 all.zeroth m0 u0)
-      (none_but c h h' (still c os packets h h' old ds 0 p0 q0 r0 all.zeroth m0 u0) (still c os packets h h' old ds 1 p1 q1 r1 all.one m1 u1)
-      (still c os packets h h' old ds 2 p2 q2 r2 all.two m2 u2) (still c os packets h h' old ds 3 p3 q3 r3 all.three m3 u3) all.others s.whole.others)
+      let is : h' ≡ h ++ events c os = grown_by c h h' (events c os) (begins_either c os packets h h' by old ds 0 p0 q0 r0 all.zeroth m0 u0)
+      (none_but c h h' (still c os packets h h' by old ds 0 p0 q0 r0 all.zeroth m0 u0) (still c os packets h h' by old ds 1 p1 q1 r1 all.one m1 u1)
+      (still c os packets h h' by old ds 2 p2 q2 r2 all.two m2 u2) (still c os packets h h' by old ds 3 p3 q3 r3 all.three m3 u3) all.others few)
       (mine_at c low m0 m1 m2 m3) in
       record {
         grown = is;
-        legal = legal_back 3 (opening 3) h (events c os) (subst (LegalHistory 3 (opening 3)) is s.whole.legal);
+        legal = legal_back 3 (opening 3) h (events c os) (subst (LegalHistory 3 (opening 3)) is legal);
         gave = gave_by c old ds packets (delivered_begins c m0 m1)
-            (none_dealt c old ds (quiet c os packets h h' old ds 0 p0 q0 r0 all.zeroth m0 u0) (quiet c os packets h h' old ds 1 p1 q1 r1 all.one m1 u1)
-            (quiet c os packets h h' old ds 2 p2 q2 r2 all.two m2 u2) (quiet c os packets h h' old ds 3 p3 q3 r3 all.three m3 u3) all.few s.whole.few)
+            (none_dealt c old ds (quiet c os packets h h' by old ds 0 p0 q0 r0 all.zeroth m0 u0) (quiet c os packets h h' by old ds 1 p1 q1 r1 all.one m1 u1)
+            (quiet c os packets h h' by old ds 2 p2 q2 r2 all.two m2 u2) (quiet c os packets h h' by old ds 3 p3 q3 r3 all.three m3 u3) all.few s.whole.few)
             (dealt_at c low m0 m1 m2 m3);
-        leads = ap (state_after (opening 3)) is ∙ state_after-append (opening 3) h (events c os);
+        leads = state_looked (opening 3) h' looker seen ∙ ap (state_after (opening 3)) is ∙ state_after-append (opening 3) h (events c os);
         all = record {
-          zeroth = shows_either c os packets h h' old ds 0 p0 q0 r0 all.zeroth m0 u0;
-          one = shows_either c os packets h h' old ds 1 p1 q1 r1 all.one m1 u1;
-          two = shows_either c os packets h h' old ds 2 p2 q2 r2 all.two m2 u2;
-          three = shows_either c os packets h h' old ds 3 p3 q3 r3 all.three m3 u3;
+          zeroth = shows_either c os packets h h' by old ds 0 p0 q0 r0 all.zeroth m0 u0;
+          one = shows_either c os packets h h' by old ds 1 p1 q1 r1 all.one m1 u1;
+          two = shows_either c os packets h h' by old ds 2 p2 q2 r2 all.two m2 u2;
+          three = shows_either c os packets h h' by old ds 3 p3 q3 r3 all.three m3 u3;
           others = s.whole.others;
           few = s.whole.few;
         };
       }
 
 pub one_alone : OneActsAlone
-one_alone c os packets h old p0 p1 p2 p3 q0 q1 q2 q3 r0 r1 r2 r3 low all m0 m1 m2 m3 s = grew os packets h old p0 p1 p2 p3 q0 q1 q2 q3 r0 r1 r2 r3 all s c low m0 m1 m2 m3
+one_alone c os packets h old p0 p1 p2 p3 q0 q1 q2 q3 r0 r1 r2 r3 looker seen low all m0 m1 m2 m3 s = grew os packets h old p0 p1 p2 p3 q0 q1 q2 q3 r0 r1 r2 r3 all looker seen s c low m0 m1 m2 m3
 
 -- ---- tries
 

@@ -1,17 +1,20 @@
 -- What a value knows after a survey.
-use Rattle.{std.proofs.Common.{◌≡◌, ℕ, Bool, true, List, Option, Some, None, refl, sym, ap, ◌∙◌, subst, eq-eqb}, rx_ring.specs.{declared.{ends.RxCtx.RxCtx, packet.Packet.Packet}, Ends.received_list}, napi_word.proofs.Deliveries.ring_as}
-use Rattle.{napi_model.specs.{declared.{event.Event.Event, state.{State.State, Place.Place}}, Step.opening, History.{LegalHistory, state_after, own}, Laws.is_owner}, napi_word.specs.declared.{table.Pass.Pass, view.Delivery.Delivery}}
-use Rattle.{napi_word.{specs.{View.Continues, Slot.has_slot, Passes.view_of, Surveys.{IsWhole, CatchesUp, IsSurveyed}}, proofs.Deliveries.{of_prefix, prefix_self}}, napi_calls.specs.Seats.{controller_of, number_of, shown, state_of}}
-use Rattle.{napi_calls.{specs.Knows.{own_place, Stands, BusyPolls, Controls, Has, held, received_held}, proofs.Standing.{is_kept, is_polling}}, napi_word.proofs.Deliveries.received_as}
+use Rattle.{std.proofs.Common.{◌≡◌, ℕ, Bool, true, List, [], ◌∷◌, ◌++◌, Option, Some, None, refl, sym, ap, ◌∙◌, subst, eq-eqb}, rx_ring.specs.{declared.{ends.RxCtx.RxCtx, packet.Packet.Packet}, Ends.received_list}, napi_word.proofs.Deliveries.ring_as}
+use Rattle.{napi_model.specs.{declared.{event.{Event.Event, Operation.TheVariants.Look}, state.{State.State, Seen.Seen, Place.Place}}, Step.{event, opening}, History.{LegalHistory, state_after, own}, Laws.is_owner}, napi_word.specs.declared.{table.Pass.Pass, view.Delivery.Delivery}}
+use Rattle.{napi_word.{specs.{View.Continues, Slot.has_slot, Passes.view_of, Surveys.{IsWhole, CatchesUp, IsSurveyed}}, proofs.{CatchingUp.state_looked, Deliveries.{of_prefix, prefix_self}}}, napi_calls.specs.Seats.{controller_of, number_of, state_of}}
+use Rattle.{napi_calls.{specs.Knows.{own_place, Stands, BusyPolls, Controls, Has, received_held}, proofs.Standing.{is_kept, is_polling}}, napi_word.proofs.Deliveries.received_as}
 use Rattle.napi_word.specs.View as view
 use Rattle.napi_model.specs.declared.state.Place.TheVariants as place
 
-module _ (k : ℕ) (h : List Event) (ds : List Delivery) (w : IsWhole k h ds) (p q : Pass) (s : IsSurveyed h ds p q) (led : controller_of p ≡ k) where
-  abbrev u : CatchesUp h ds (view_of p) (view_of q)
+module _ (k : ℕ) (h : List Event) (looker : ℕ) (seen : Seen) (ds : List Delivery) (w : IsWhole k (h ++ event looker (Look seen) ∷ []) ds) (p q : Pass) (s : IsSurveyed h (event looker (Look seen)) ds p q) (led : controller_of p ≡ k) where
+  abbrev whole : List Event
+  whole = h ++ event looker (Look seen) ∷ []
+
+  abbrev u : CatchesUp h (event looker (Look seen)) ds (view_of p) (view_of q)
   u = s.view
 
   state_is : state_of q ≡ state_after (opening (controller_of p)) h
-  state_is = λ i. state_after (opening (u.controller i)) (u.shown i)
+  state_is = (λ i. state_after (opening (u.controller i)) (u.shown i)) ∙ state_looked (opening (controller_of p)) h looker seen
 
   pub stands_up : {r : ℕ → Place} {c : ℕ} → Stands r c p → Stands r c q
   stands_up {r} {c} st =
@@ -22,8 +25,8 @@ module _ (k : ℕ) (h : List Event) (ds : List Delivery) (w : IsWhole k h ds) (p
       let place : is_owner c had ≡ true → now ≡ had = λ t. u.place (ap (λ (n : ℕ). is_owner n had) e ∙ t) in record {
         number = u.number ∙ e;
         legal = ∣ subst (λ (l : List Event). LegalHistory (controller_of q) (opening (controller_of q)) l) (sym u.shown)
-            (subst (λ (n : ℕ). LegalHistory n (opening n) h) (sym (u.controller ∙ led)) w.legal) ∣₁;
-        exact = ap (own c) u.shown ∙ ap (λ (n : ℕ). own n h) (sym e) ∙ u.exact ∙ sym u.mine;
+            (subst (λ (n : ℕ). LegalHistory n (opening n) whole) (sym (u.controller ∙ led)) w.legal) ∣₁;
+        exact = ap (own c) u.shown ∙ ap (λ (n : ℕ). own n whole) (sym e) ∙ u.exact;
         place = ap (λ (t : State). own_place c t.place) state_is ∙ is_kept c had now (is_owner c had) refl owner place ∙ st.place;
       }
 

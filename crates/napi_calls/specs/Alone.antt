@@ -4,8 +4,10 @@ use Rattle.rx_ring.specs.declared.packet.Packet.{Packet}
 use Rattle.napi_model.specs.declared.event.Event.{Event}
 use Rattle.napi_model.specs.declared.event.Call.{Call}
 use Rattle.napi_model.specs.declared.event.Operation.{Operation}
+use Rattle.napi_model.specs.declared.event.Operation.TheVariants.{Look}
+use Rattle.napi_model.specs.declared.state.Seen.{Seen}
 use Rattle.napi_model.specs.declared.state.State.{State}
-use Rattle.napi_model.specs.Step.{opening}
+use Rattle.napi_model.specs.Step.{event, opening}
 use Rattle.napi_model.specs.History.{LegalHistory, own, state_after}
 use Rattle.napi_word.specs.declared.table.Pass.{Pass}
 use Rattle.napi_word.specs.declared.view.Delivery.{Delivery}
@@ -37,21 +39,23 @@ pub record AllShow (h : List Event) (ds : List Delivery) (first second third las
 abbrev pub MakesAlone : ℕ → List Operation → List Packet → ℕ → Pass → Pass → Type 0
 MakesAlone c os packets n p q = MatchBool (nat_eq n c) (Made p os q × Delivers p packets q) (q ≡ p)
 
--- the history grew by just these, each legal in the state that it met, and the deliveries by just those packets; all seats show it
-pub record GrewBy (c : ℕ) (os : List Operation) (packets : List Packet) (h now : List Event) (ds later : List Delivery) (first second third last : Pass) : Type 0 where
-  pub grown : now ≡ h ++ events c os
+-- Until the survey's look the history grew by just these, each legal in the state that it met, and the deliveries by just those
+-- packets. The look is next and leaves the state, and all seats show it.
+pub record GrewBy (c : ℕ) (os : List Operation) (packets : List Packet) (h found : List Event) (look : Event) (ds later : List Delivery) (first second third last : Pass) : Type 0 where
+  pub grown : found ≡ h ++ events c os
   pub legal : LegalHistory 3 (state_after (opening 3) h) (events c os)
-  pub leads : state_after (opening 3) now ≡ state_after (state_after (opening 3) h) (events c os)
+  pub leads : state_after (opening 3) (found ++ look ∷ []) ≡ state_after (state_after (opening 3) h) (events c os)
   pub gave : packets_of later ≡ packets_of ds ++ packets
-  pub all : AllShow now later first second third last
+  pub all : AllShow (found ++ look ∷ []) later first second third last
 
--- law: where all seats show the whole history and all deliveries, and then one of them makes calls alone, a survey shows just these behind it
+-- law: where all seats show the whole history and all deliveries, and then one of them makes calls alone, a survey by whomever shows
+-- just these behind it, and its look
 abbrev pub OneActsAlone : Type 0
 OneActsAlone =
-    (c : ℕ) (os : List Operation) (packets : List Packet) (h : List Event) (ds : List Delivery) (first second third last first' second' third' last' a b d e : Pass)
+    (c : ℕ) (os : List Operation) (packets : List Packet) (h : List Event) (ds : List Delivery) (first second third last first' second' third' last' a b d e : Pass) (looker : ℕ) (seen : Seen)
     → c ≤ 3 → AllShow h ds first second third last
     → MakesAlone c os packets 0 first first' → MakesAlone c os packets 1 second second' → MakesAlone c os packets 2 third third' → MakesAlone c os packets 3 last last'
-    → (s : Surveys 3 (first' ∷ second' ∷ third' ∷ last' ∷ []) (a ∷ b ∷ d ∷ e ∷ [])) → GrewBy c os packets h s.history ds s.deliveries a b d e
+    → (s : Surveys 3 looker seen (first' ∷ second' ∷ third' ∷ last' ∷ []) (a ∷ b ∷ d ∷ e ∷ [])) → GrewBy c os packets h s.found (event looker (Look seen)) ds s.deliveries a b d e
 
 -- law: who acts alone loses no try, since nothing comes between its two looks
 abbrev pub NoneIsLost : Type 0

@@ -1,17 +1,21 @@
 //! All seats of an instance meet at once.
 ghost use Rattle.std.specs.Prelude.{◌≡◌, [], ◌∷◌, None};
+ghost use Rattle.napi_word.specs.Passes.{Makes};
+ghost use Rattle.napi_word.specs.Slot.{stays};
 ghost use Rattle.napi_word.specs.Surveys.{Surveys};
+ghost use Rattle.napi_model.specs.declared.event.Operation.TheVariants.{Look};
 ghost use Rattle.napi_model.specs.Step.{seen_of};
-ghost use Rattle.napi_calls.specs.Seats.{controller_of, state_of};
+ghost use Rattle.napi_calls.specs.Seats.{controller_of, number_of, own_list, state_of};
 ghost use Rattle.napi_calls.specs.Instance.{IsSeatOf};
+ghost use Rattle.napi_calls.specs.Made.{Made};
 
 use crate::types::{Busy, Caller, Control, Mode, Napi, Polling};
 use napi_model::Seen;
 use napi_word::Pass;
 
-/// The three callers of an instance and its controller meet at once, while none of them is within a call. Then each shows
-/// the whole history, in which there is no more of its own than it had made, and all deliveries. It is no event. Last comes
-/// what the state word tells of the state behind that history.
+/// The three callers of an instance and its controller meet at once, while none of them is within a call, and the controller
+/// makes a look, whose answer comes last. Then each shows the whole history, which ends in that look and in which there is no
+/// more of its own than it had made, and all deliveries.
 #[inline]
 pub fn survey<S: Mode>(
     napi: &Napi,
@@ -24,7 +28,11 @@ pub fn survey<S: Mode>(
     requires second { IsSeatOf napi.now second.pass }
     requires third { IsSeatOf napi.now third.pass }
     requires control { IsSeatOf napi.now control.old.pass }
-    ensures surveys { Surveys (controller_of control.old.pass)
+    ensures look { Made control.old.pass (Look result.3 ∷ []) control.new.pass }
+    ensures others { (own_list result.0.pass ≡ own_list first.pass)
+        × (own_list result.1.pass ≡ own_list second.pass)
+        × (own_list result.2.pass ≡ own_list third.pass) }
+    ensures surveys { Surveys (controller_of control.old.pass) (number_of control.old.pass) result.3
         (first.pass ∷ second.pass ∷ third.pass ∷ control.old.pass ∷ [])
         (result.0.pass ∷ result.1.pass ∷ result.2.pass ∷ control.new.pass ∷ []) }
     ensures word { result.3 ≡ seen_of (state_of control.new.pass) }
@@ -61,7 +69,7 @@ pub fn survey<S: Mode>(
 }
 
 /// As [`survey`], while one of the callers polls the instance: two others, the controller, who has nothing of the instance,
-/// and the one who polls meet at once. It is no event, and the poll context stays in its hands.
+/// and the one who polls meet at once, and whoever polls makes the look. The poll context stays in its hands.
 #[inline]
 pub fn survey_polling<S: Mode>(
     napi: &Napi,
@@ -75,7 +83,11 @@ pub fn survey_polling<S: Mode>(
     requires control { IsSeatOf napi.now control.pass }
     requires polling { IsSeatOf napi.now polling.pass }
     requires nothing { S.ctx control.state ≡ None }
-    ensures surveys { Surveys (controller_of polling.pass)
+    ensures look { Made polling.pass (Look result.4 ∷ []) result.3.pass }
+    ensures others { (own_list result.0.pass ≡ own_list first.pass)
+        × (own_list result.1.pass ≡ own_list second.pass)
+        × (own_list result.2.pass ≡ own_list control.pass) }
+    ensures surveys { Surveys (controller_of polling.pass) (number_of polling.pass) result.4
         (first.pass ∷ second.pass ∷ control.pass ∷ polling.pass ∷ [])
         (result.0.pass ∷ result.1.pass ∷ result.2.pass ∷ result.3.pass ∷ []) }
     ensures word { result.4 ≡ seen_of (state_of result.3.pass) }
@@ -106,7 +118,11 @@ pub fn survey_busy<S: Mode>(
     requires control { IsSeatOf napi.now control.pass }
     requires busy { IsSeatOf napi.now busy.pass }
     requires nothing { S.ctx control.state ≡ None }
-    ensures surveys { Surveys (controller_of busy.pass)
+    ensures look { Made busy.pass (Look result.4 ∷ []) result.3.pass }
+    ensures others { (own_list result.0.pass ≡ own_list first.pass)
+        × (own_list result.1.pass ≡ own_list second.pass)
+        × (own_list result.2.pass ≡ own_list control.pass) }
+    ensures surveys { Surveys (controller_of busy.pass) (number_of busy.pass) result.4
         (first.pass ∷ second.pass ∷ control.pass ∷ busy.pass ∷ [])
         (result.0.pass ∷ result.1.pass ∷ result.2.pass ∷ result.3.pass ∷ []) }
     ensures word { result.4 ≡ seen_of (state_of result.3.pass) }
@@ -123,7 +139,7 @@ pub fn survey_busy<S: Mode>(
     (first, second, control, busy, seen)
 }
 
-// Two callers and a controller who has nothing of the instance meet with the pass of who polls it.
+// Two callers and a controller who has nothing of the instance meet with the pass of who polls it, which looks.
 fn survey_beside<S: Mode>(
     napi: &Napi,
     first: Caller,
@@ -136,7 +152,11 @@ fn survey_beside<S: Mode>(
     requires control { IsSeatOf napi.now control.pass }
     requires last { IsSeatOf napi.now last.old }
     requires nothing { S.ctx control.state ≡ None }
-    ensures surveys { Surveys (controller_of last.old)
+    ensures look { Makes last.old (Look result.3) stays last.new }
+    ensures others { (own_list result.0.pass ≡ own_list first.pass)
+        × (own_list result.1.pass ≡ own_list second.pass)
+        × (own_list result.2.pass ≡ own_list control.pass) }
+    ensures surveys { Surveys (controller_of last.old) (number_of last.old) result.3
         (first.pass ∷ second.pass ∷ control.pass ∷ last.old ∷ [])
         (result.0.pass ∷ result.1.pass ∷ result.2.pass ∷ last.new ∷ []) }
     ensures word { result.3 ≡ seen_of (state_of last.new) }
@@ -169,8 +189,8 @@ fn survey_beside<S: Mode>(
 ghost use Rattle.napi_calls.specs.Alone.{NoneIsLost, OneActsAlone};
 
 /// The law of surveys: where three callers and the controller of an instance all show the whole history, and then one of them
-/// alone makes calls, the next survey shows just its operations behind it, each legal in the state that it met, and just the
-/// packets that it delivered behind those delivered before.
+/// alone makes calls, the next survey shows just its operations behind it, each legal in the state that it met, and then its
+/// own look, which changes no state; and just the packets that were delivered by those operations behind those before.
 pub fn one_acts_alone()
     ensures { OneActsAlone }
 {}

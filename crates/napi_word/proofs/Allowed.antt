@@ -6,7 +6,7 @@ use Rattle.{napi_word.proofs.{Keeps.{found, steps, grew, again}, Deliveries.{som
 use Rattle.{rx_ring.specs.{declared.packet.Packet.Packet, Ends.{ring_name, received_list}}, napi_model.specs.{History.{IsLegalFor, state_after}, declared.{state.{State.State as Napi, Place.Place, Seen.Seen}, event.Operation.Operation}}}
 use Rattle.{napi_model.{specs.{Step.{event, opening, seen_of, after_by}, Word.word_of}, proofs.Histories.state_after-snoc}, std.proofs.Common.{◌≡◌, ◌≢◌, ℕ, zero, set, length, [], ◌∷◌, ◌++◌, Option, Some, None, Bool, List, true, false}}
 use Rattle.{std.proofs.Common.{not, ◌&&◌, unwrap_or, refl, sym, ap, ◌∙◌, subst, inr, true≢false, arith}, atomic_table.specs.Table.{Me, Act, keeps, takes, gives, rest, put_back, homes_after, carried_after, Valid, Allows}}
-use mathlib.Core.{Option.Option as Maybe, List.IsPrefix}
+use mathlib.Core.{Option.{Option as Maybe, some-ne-none}, List.IsPrefix}
 use lib.ListN.{get_elem?}
 
 -- ---- marks
@@ -217,12 +217,12 @@ module _ (key : Key) (slots id : ℕ) (me : Me Content View) (one : slots ≡ 1)
         grown o.first (number_of me.0) r.history d a.ds ∷ [],
         a.act,
         a.valid,
-        inr (steps key s r id me.0 at o d a.ds g t.word t.legal a.more (homes_after s.homes me.1 a.act) a.home),
+        inr (steps key s r id me.0 at o d a.ds [] (λ k x is. absurd (some-ne-none x (sym is))) g t.word t.legal a.more (homes_after s.homes me.1 a.act) a.home),
         (
           x,
           found key s r id me.0 at o,
           (
-            grew key s r id me.0 at o d a.ds t.legal,
+            grew key s r id me.0 at o d a.ds [] t.legal,
             λ h' tie'. subst (λ (y : Holds). Tied (moved (m x) y) (grown o.first (number_of me.0) r.history d a.ds ∷ [], carried_after me.1 a.act)) (some_is (sym tie.marked ∙ tie'.marked)) a.tied,
             a.told,
           ),

@@ -1,48 +1,59 @@
--- All strands of one seat catch up with the whole history.
-use Rattle.std.proofs.Common.{◌≡◌, ◌≢◌, ℕ, zero, suc, List, [], ◌∷◌, ◌++◌, length, slice_get, slice_index, get_or, set, Some, None, Bool, true, unwrap_or, is_some, refl, sym, ap, ◌∙◌, subst, inr, ⊎_elim}
-use Rattle.{atomic_table.{specs.Table.{Me, keeps, Allows}, proofs.Lists.{at_longer, at_set}}, rx_ring.specs.{declared.{packet.Packet.Packet, ends.RxCtx.RxCtx}, Ends.received_list}, napi_model.specs.declared.event.Event.Event}
-use Rattle.{napi_model.specs.{declared.state.{State.State as Napi, Place.Place}, Step.{opening, seen_of}, History.{state_after, own}, Laws.is_owner, Word.word_of}, napi_word.specs.declared.view.{Key.Key, Strand.Strand, Delivery.Delivery}}
-use Rattle.napi_word.specs.{declared.{view.Holds.{Holds, TheVariants.Nothing}, table.Pass.Pass}, View.{View, is_pass, number_of, controller_of, first_in, received_in, delivered, own_deliveries, place_in, Continues}}
-use Rattle.napi_word.specs.{Slot.{Content, Carried, has_at, hold_of, has_slot, carried_received, Tied}, Rule.{Fits, Kept, Holding}, Surveys.{IsWhole, CatchesUp, Knew, surveyed, front, with_front, but_last, last_alone, caught_up}}
-use Rattle.napi_word.{specs.{Surveys.all_caught_up, Passes.{view_of, tie_of}}, proofs.{Splitting.{but_last_is, last_alone_is}, Places.has_same, Closing.is_pass_more, Deliveries.{prefix_self, of_prefix}, Allowed.{ring_kept, some_held}}}
-use Rattle.napi_word.proofs.{Allowed.hold_nothing, Keeps.{St, Open, opened, running, own_fits, owner_since, stand_since, disable_since}, Deliveries.{some_is, ring_as, received_as}}
+-- All strands of one seat catch up with the whole history by a look.
+use Rattle.std.proofs.Common.{◌≡◌, ◌≢◌, ℕ, zero, suc, List, [], ◌∷◌, ◌++◌, length, slice_get, Some, None, Bool, true, unwrap_or, is_some, refl, sym, ap, ◌∙◌, subst, inr, arith, true≢false}
+use Rattle.{atomic_table.{specs.Table.{Me, keeps, Allows}, proofs.Lists.at_longer}, rx_ring.specs.{declared.{packet.Packet.Packet, ends.RxCtx.RxCtx}, Ends.received_list}, napi_model.specs.declared.{event.{Event.Event, Operation.TheVariants.Look}, state.Seen.Seen}}
+use Rattle.{napi_model.{specs.{declared.state.{State.State as Napi, Place.Place}, Step.{event, opening, seen_of}, History.{LegalHistory, state_after, own}, Laws.is_owner}, proofs.Histories.{legal_snoc, state_after-snoc}}, napi_word.specs.declared.view.{Key.Key, Strand.Strand, Delivery.Delivery}}
+use Rattle.napi_word.specs.{declared.{view.Holds.{Holds, TheVariants.Nothing}, table.Pass.Pass}, View.{View, is_pass, mine, number_of, controller_of, first_in, received_in, own_deliveries, place_in, Continues}}
+use Rattle.napi_word.specs.{Slot.{Content, Carried, stays, has_at, is_given, one_if, hold_of, has_slot, carried_received, Tied}, Rule.{Fits, Kept, Holding}, Surveys.{IsWhole, CatchesUp, Knew, Surveyed, Surveys, front, with_front, but_last, last_alone, caught_up, looked, all_looked}}
+use Rattle.napi_word.{specs.{Surveys.all_caught_up, Passes.{Makes, SameTable, view_of, tie_of}}, proofs.{Splitting.{but_last_is, last_alone_is}, Owns.{own_mine, own_other}, Places.has_same, Closing.is_pass_more, Deliveries.{prefix_self, of_prefix, More, more_none, not_given, givers_snoc}, Allowed.{ring_kept, some_held}}}
+use Rattle.napi_word.proofs.{Allowed.hold_nothing, Keeps.{St, Open, opened, running, found, grown, steps, own_fits, owned, owner_since, stand_since, disable_since}, Deliveries.{some_is, ring_as, received_as}}
 use lib.ListN.{get_elem?}
 use mathlib.Core.Option as maybe
+use mathlib.Core.List.{IsPrefix}
 
 at_caught : (h : List Event) (ds : List Delivery) (v : View) (k : ℕ) (z : Strand) → get_elem? (all_caught_up h ds v) k ≡ maybe.some z → (x : Strand) × (get_elem? v k ≡ maybe.some x) × (caught_up h ds x ≡ z)
 at_caught h ds [] k z e = absurd (maybe.some-ne-none z (sym e))
 at_caught h ds (x ∷ xs) zero z e = (x, refl, maybe.some-injective _ _ e)
 at_caught h ds (x ∷ xs) (suc k) z e = at_caught h ds xs k z e
 
-module _ (key : Key) (s : St) (r : Kept key s) (id : ℕ) (v : View) (at : get_elem? s.views id ≡ maybe.some v) where
-  refreshed : (p : ℕ × ℕ) (x : Strand) → Fits key r.history r.deliveries r.seat p x → Fits key r.history r.deliveries r.seat p (caught_up r.history r.deliveries x)
-  refreshed p x f = record {
-    begins = prefix_self r.history;
-    delivered = prefix_self r.deliveries;
-    owned = λ c is. let w = f.owned c is in record { whole = w.whole; shown = w.whole; delivers = refl; has = λ there. refl; here = w.here; few = w.few };
-    controller = f.controller;
-    ring = f.ring;
-    begun = f.begun;
-  }
+module _ (key : Key) (s : St) (r : Kept key s) (id : ℕ) (v : View) (at : get_elem? s.views id ≡ maybe.some v) (o : Open v) where
+  abbrev state_found : Napi
+  state_found = state_after (opening key.controller) r.history
 
-  caught : Kept key record { words = set s.words 0 (get_or s.words 0 0); homes = s.homes; views = set s.views id (all_caught_up r.history r.deliveries v) }
-  caught = record {
-    history = r.history;
-    deliveries = r.deliveries;
-    seat = r.seat;
-    legal = r.legal;
-    word = subst (λ (ws : List ℕ). set ws 0 (get_or ws 0 0) ≡ word_of (seen_of (state_after (opening key.controller) r.history)) ∷ []) (sym r.word) refl;
-    slot = r.slot;
-    strands = λ j u there k z is. ⊎_elim
-        (λ (y : (j ≡ id) × (all_caught_up r.history r.deliveries v ≡ u)).
-        let x = at_caught r.history r.deliveries v k z (ap (λ (l : View). get_elem? l k) y.1 ∙ is) in
-        subst (λ (i : ℕ). Fits key r.history r.deliveries r.seat (i, k) z) (sym y.0) (subst (Fits key r.history r.deliveries r.seat (id, k)) x.2 (refreshed (id, k) x.0 (r.strands id v at k x.0 x.1))))
-        (λ (y : (j ≢ id) × (get_elem? s.views j ≡ maybe.some u)). r.strands j u y.1 k z is)
-        (at_set s.views id j (all_caught_up r.history r.deliveries v) u there);
-    few = r.few;
-    order = r.order;
-    few_deliver = r.few_deliver;
-  }
+  abbrev look_made : Event
+  look_made = event (number_of v) (Look (seen_of state_found))
+
+  abbrev all_made : List Event
+  all_made = r.history ++ look_made ∷ []
+
+  -- whoever looks is at the front alone
+  front_alone : (k : ℕ) (x : Strand) → get_elem? v k ≡ maybe.some x → x.number ≡ Some (number_of v) → k ≡ 0
+  front_alone k x is n = ap (λ (p : ℕ × ℕ). p.1) (sym ((r.strands id v at k x is).owned (number_of v) n).here ∙ (owned key s r id v at o).here)
+
+  behind : (k : ℕ) (x : Strand) → get_elem? o.extra k ≡ maybe.some x → get_elem? v (suc k) ≡ maybe.some x
+  behind k x is = ap (λ (l : View). get_elem? l (suc k)) o.is ∙ is
+
+  refreshed : (k : ℕ) (x : Strand) → get_elem? v (suc k) ≡ maybe.some x → Fits key all_made r.deliveries r.seat (id, suc k) (caught_up all_made r.deliveries x)
+  refreshed k x is =
+      let f = r.strands id v at (suc k) x is in record {
+        begins = prefix_self all_made;
+        delivered = prefix_self r.deliveries;
+        owned = λ c n.
+            let w = f.owned c n in
+            let other : number_of v ≢ c = λ same. absurd (omega (arith, front_alone (suc k) x is (n ∙ ap Some (sym same)))) in
+            let whole = own_other c r.history look_made other ∙ w.whole in
+            record { whole = whole; shown = whole; delivers = refl; has = λ there. refl; here = w.here; few = w.few };
+        controller = f.controller;
+        ring = f.ring;
+        begun = f.begun;
+      }
+
+  tail_fits : (k : ℕ) (z : Strand) → get_elem? (all_caught_up all_made r.deliveries o.extra) k ≡ maybe.some z → Fits key all_made r.deliveries r.seat (id, suc k) z
+  tail_fits k z is =
+      let x = at_caught all_made r.deliveries o.extra k z is in
+      subst (Fits key all_made r.deliveries r.seat (id, suc k)) x.2 (refreshed k x.0 (behind k x.0 x.1))
+
+  none_given : More state_found look_made r.deliveries r.deliveries
+  none_given = more_none state_found look_made r.deliveries (not_given (number_of v) state_found.place state_found.place refl)
 
   knew : (k : ℕ) (x : Strand) (c : ℕ) → get_elem? v k ≡ maybe.some x → x.number ≡ Some c → Knew key.controller r.history r.deliveries x c
   knew k x c e is =
@@ -60,35 +71,59 @@ module _ (key : Key) (s : St) (r : Kept key s) (id : ℕ) (v : View) (at : get_e
         disable = disable_since key s r (id, k) x f c is;
       }
 
-pub surveys : (key : Key) (slots id : ℕ) (me : Me Content View) → is_pass me.0 ≡ true → Allows (Holding key) slots id me 0 (λ n. n) (surveyed me)
+  whole_then : IsWhole key.controller all_made r.deliveries
+  whole_then =
+      let few = (owned key s r id v at o).few in record {
+        legal = legal_snoc key.controller (opening key.controller) r.history look_made r.legal (refl, tt);
+        others = λ c above. own_other c r.history look_made (λ (same : number_of v ≡ c). absurd (omega (arith, few, same, above))) ∙ r.few c above;
+        few = r.few_deliver;
+        order = none_given.order ∙ ap (λ (l : List ℕ). l ++ one_if (is_given state_found look_made) (number_of v)) r.order ∙ sym (givers_snoc (opening key.controller) r.history look_made);
+      }
+
+pub surveys : (key : Key) (slots id : ℕ) (me : Me Content View) → is_pass me.0 ≡ true → Allows (Holding key) slots id me 0 (λ n. n) (Surveyed me)
 surveys key slots id me p s holding len at fits =
     let r = running key s holding id me.0 at p in
     let o = opened me.0 p in
-    let same : controller_of me.0 ≡ key.controller = ap controller_of o.is ∙ (own_fits key s r id me.0 at o).controller in (
-      all_caught_up r.history r.deliveries me.0,
+    let same : controller_of me.0 ≡ key.controller = ap controller_of o.is ∙ (own_fits key s r id me.0 at o).controller in
+    let x = seen_of (state_after (opening key.controller) r.history) in
+    let e = event (number_of me.0) (Look x) in
+    let tail = all_caught_up (r.history ++ e ∷ []) r.deliveries o.extra in (
+      grown o.first (number_of me.0) r.history (Look x) r.deliveries ∷ tail,
       keeps,
       tt,
-      inr (caught key s r id me.0 at),
-      (
-        r.history,
-        r.deliveries,
-        subst (λ (k : ℕ). IsWhole k r.history r.deliveries) (sym same) record { legal = r.legal; others = r.few; few = r.few_deliver; order = r.order },
-        refl,
-        refl,
-        λ k x c e is. subst (λ (n : ℕ). Knew n r.history r.deliveries x c) (sym same) (knew key s r id me.0 at k x c e is),
-        ap (λ (ws : List ℕ). slice_index ws 0) r.word ∙ ap (λ (n : ℕ). word_of (seen_of (state_after (opening n) r.history))) (sym same),
-        (key.ring.value, λ k x e. (r.strands id me.0 at k x e).ring),
-      ),
+      inr (steps key s r id me.0 at o (Look x) r.deliveries tail (tail_fits key s r id me.0 at o) (λ n. n) refl (refl, tt) (none_given key s r id me.0 at o) s.homes r.slot),
+      record {
+        seen = x;
+        word = found key s r id me.0 at o;
+        found = r.history;
+        deliveries = r.deliveries;
+        told = ap (λ (k : ℕ). seen_of (state_after (opening k) r.history)) (sym same);
+        whole = subst (λ (k : ℕ). IsWhole k (r.history ++ e ∷ []) r.deliveries) (sym same) (whole_then key s r id me.0 at o);
+        view = ap (all_looked r.history e r.deliveries) (sym o.is);
+        slot = refl;
+        knew = λ k x c e is. subst (λ (n : ℕ). Knew n r.history r.deliveries x c) (sym same) (knew key s r id me.0 at o k x c e is);
+        once = front_alone key s r id me.0 at o;
+        seen_begins = λ k x e. (r.strands id me.0 at k x e).begins;
+        delivered_begins = λ k x e. (r.strands id me.0 at k x e).delivered;
+        first = key.ring.value;
+        firsts = λ k x e. (r.strands id me.0 at k x e).ring;
+      },
     )
 
 -- ---- what a view has of it
-pub catches_up : (k : ℕ) (h : List Event) (ds : List Delivery) (v w : View) (o : Open v) (more : View) → Knew k h ds o.first (number_of v) → w ≡ caught_up h ds o.first ∷ more → CatchesUp h ds v w
-catches_up k h ds v w o more n is = subst (λ (u : View). CatchesUp h ds u w) (sym o.is) (subst (λ (u : View). CatchesUp h ds (o.first ∷ o.extra) u) (sym is)
+
+-- a strand that shows the whole, with this own list
+abbrev pub shows_all : List Event → List Delivery → List Event → Strand → Strand
+shows_all h ds own x = record x { seen = h; mine = own; delivered = ds }
+
+pub catches_up : (k : ℕ) (h : List Event) (e : Event) (ds : List Delivery) (v w : View) (o : Open v) (list : List Event) (more : View) → Knew k h ds o.first (number_of v)
+    → own (number_of v) (h ++ e ∷ []) ≡ list → w ≡ shows_all (h ++ e ∷ []) ds list o.first ∷ more → CatchesUp h e ds v w
+catches_up k h e ds v w o list more n exact is = subst (λ (u : View). CatchesUp h e ds u w) (sym o.is) (subst (λ (u : View). CatchesUp h e ds (o.first ∷ o.extra) u) (sym is)
     record {
       shown = refl;
       begins = n.begins;
-      mine = refl;
-      exact = ap (λ (c : ℕ). own c h) (sym num) ∙ n.exact;
+      knew = ap (λ (c : ℕ). own c h) (sym num) ∙ n.exact;
+      exact = ap (λ (c : ℕ). own c (h ++ e ∷ [])) (sym num) ∙ exact;
       delivered = refl;
       delivered_begins = n.delivered;
       delivered_exact = subst (λ (c : ℕ). own_deliveries c ds ≡ own_deliveries c o.first.delivered) num n.delivers;
@@ -124,16 +159,58 @@ catches_up k h ds v w o more n is = subst (λ (u : View). CatchesUp h ds u w) (s
     seen : Napi
     seen = state_after (opening k) o.first.seen
 
+-- whoever looked made a step
+pub made_step : (h : List Event) (x : Seen) (ds : List Delivery) (p q : Pass) → IsWhole (controller_of (view_of p)) (h ++ event (number_of (view_of p)) (Look x) ∷ []) ds
+    → CatchesUp h (event (number_of (view_of p)) (Look x)) ds (view_of p) (view_of q) → mine (view_of q) ≡ mine (view_of p) ++ event (number_of (view_of p)) (Look x) ∷ []
+    → ((k : ℕ) (z : Strand) → get_elem? (view_of p) k ≡ maybe.some z → IsPrefix z.seen h) → ((k : ℕ) (z : Strand) → get_elem? (view_of p) k ≡ maybe.some z → IsPrefix z.delivered ds)
+    → SameTable p q → q.holds ≡ p.holds → q.seat.me.1 ≡ p.seat.me.1 → Makes p (Look x) stays q
+made_step h x ds p q whole u grows begins delivered_begins table holds slot = record {
+  table = table;
+  holds = holds;
+  event = record {
+    before = h;
+    begins = begins;
+    ends = u.shown;
+    legal = subst (LegalHistory k (opening k)) (sym u.shown) whole.legal;
+    grows = grows;
+    exact = ap (own (number_of (view_of p))) u.shown ∙ u.exact;
+    pass = u.pass;
+    number = u.number;
+    controller = u.controller;
+    ring = ring_as (view_of p) (view_of q) u.ring;
+    owner = u.owner;
+    place = u.place;
+    busy = u.busy;
+    disable = u.disable;
+  };
+  packets = record {
+    before = ds;
+    begins = delivered_begins;
+    exact = u.delivered_exact;
+    held = λ owns. sym (u.held owns);
+    first = u.ring;
+    shifts = (u.delivered, slot);
+  };
+}
+  where
+    k : ℕ
+    k = controller_of (view_of p)
+
 -- a slot that is held goes with it
 received_caught : (l : Carried) (hold : Holds) (v w : View) → hold_of l ≡ Some hold → (has_slot hold ≡ true → received_in w ≡ received_in v) → Continues (received_in v) (carried_received l v) → Continues (received_in w) (carried_received l w)
 received_caught [] hold v w e same p = of_prefix _ _ (prefix_self (received_in w))
 received_caught ((k, None) ∷ l) hold v w e same p = of_prefix _ _ (prefix_self (received_in w))
 received_caught ((k, Some x) ∷ l) hold v w e same p = subst (λ (xs : List Packet). Continues xs (received_list x)) (sym (same (some_held k x l e))) p
 
-pub tied_up : (h : List Event) (ds : List Delivery) (v w : View) (l : Carried) (hold : Holds) → CatchesUp h ds v w → Tied hold (v, l) → Tied hold (w, l)
-tied_up h ds v w l hold u tie = record {
+-- a look leaves the state
+pub state_looked : (s : Napi) (h : List Event) (c : ℕ) (x : Seen) → state_after s (h ++ event c (Look x) ∷ []) ≡ state_after s h
+state_looked s h c x = state_after-snoc s h (event c (Look x))
+
+pub tied_up : (h : List Event) (c : ℕ) (x : Seen) (ds : List Delivery) (v w : View) (l : Carried) (hold : Holds) → CatchesUp h (event c (Look x)) ds v w → Tied hold (v, l) → Tied hold (w, l)
+tied_up h c x ds v w l hold u tie = record {
   marked = tie.marked;
-  right = (λ i. has_at (u.number i) (state_after (opening (u.controller i)) (u.shown i)).place) ∙ has_same (number_of v) (state_after (opening (controller_of v)) h).place (place_in v) u.owner u.place ∙ tie.right;
+  right = (λ i. has_at (u.number i) (state_after (opening (u.controller i)) (u.shown i)).place) ∙ ap (λ (s : Napi). has_at (number_of v) s.place) (state_looked (opening (controller_of v)) h c x)
+      ∙ has_same (number_of v) (state_after (opening (controller_of v)) h).place (place_in v) u.owner u.place ∙ tie.right;
   ring = ring_kept l v w tie.ring (sym (ring_as v w u.ring));
   unmarked = tie.unmarked;
   received = received_caught l hold v w tie.marked (λ has. received_as v w u.ring (u.delivered ∙ sym (u.held (tie.right ∙ has)))) tie.received;
@@ -148,12 +225,27 @@ caught_more : (h : List Event) (ds : List Delivery) (l : View) (y : Strand) → 
 caught_more h ds [] y = refl
 caught_more h ds (x ∷ l) y = ap (λ (m : View). caught_up h ds x ∷ m) (caught_more h ds l y)
 
-module _ (v0 v1 v2 v3 : View) (o0 : Open v0) (o1 : Open v1) (o2 : Open v2) (o3 : Open v3) where
+looked_more : (h : List Event) (e : Event) (ds : List Delivery) (l : View) (y : Strand) → is_pass l ≡ true → all_looked h e ds (l ++ y ∷ []) ≡ all_looked h e ds l ++ caught_up (h ++ e ∷ []) ds y ∷ []
+looked_more h e ds [] y p = absurd (true≢false (sym p))
+looked_more h e ds (x ∷ l) y p = ap (λ (m : View). looked h e ds x ∷ m) (caught_more (h ++ e ∷ []) ds l y)
+
+-- what comes behind a pass is not at the front
+not_front : (l : View) → is_pass l ≡ true → length l ≢ 0
+not_front [] p e = true≢false (sym p)
+not_front (x ∷ xs) p e = absurd (omega (arith, e))
+
+module _ (v0 v1 v2 v3 : View) (o0 : Open v0) (o1 : Open v1) (o2 : Open v2) (o3 : Open v3) (pass : is_pass v3 ≡ true) where
   abbrev pub one : View
   one = v3 ++ o0.first ∷ []
 
   abbrev pub two : View
   two = one ++ o1.first ∷ []
+
+  pub one_pass : is_pass one ≡ true
+  one_pass = is_pass_more v3 (o0.first ∷ []) pass
+
+  pub two_pass : is_pass two ≡ true
+  two_pass = is_pass_more one (o1.first ∷ []) one_pass
 
   pub together : (a b j : View) → a ≡ with_front v3 v0 → b ≡ with_front a v1 → j ≡ with_front b v2 → j ≡ two ++ o2.first ∷ []
   together a b j e f g =
@@ -161,81 +253,112 @@ module _ (v0 v1 v2 v3 : View) (o0 : Open v0) (o1 : Open v1) (o2 : Open v2) (o3 :
       let two_is : b ≡ two = f ∙ ap (λ (l : View). with_front l v1) one_is ∙ ap (λ (l : View). one ++ front l) o1.is in
       g ∙ ap (λ (l : View). with_front l v2) two_is ∙ ap (λ (l : View). two ++ front l) o2.is
 
-  module _ (j : View) (is : j ≡ two ++ o2.first ∷ []) (h : List Event) (ds : List Delivery) (u : View) (caught : u ≡ all_caught_up h ds j) where
-    pub parts_two : u ≡ all_caught_up h ds two ++ caught_up h ds o2.first ∷ []
-    parts_two = caught ∙ ap (all_caught_up h ds) is ∙ caught_more h ds two o2.first
-
-    pub parts_one : but_last u ≡ all_caught_up h ds one ++ caught_up h ds o1.first ∷ []
-    parts_one = ap but_last parts_two ∙ but_last_is (all_caught_up h ds two) (caught_up h ds o2.first) ∙ caught_more h ds one o1.first
-
-    pub parts_none : but_last (but_last u) ≡ all_caught_up h ds v3 ++ caught_up h ds o0.first ∷ []
-    parts_none = ap but_last parts_one ∙ but_last_is (all_caught_up h ds one) (caught_up h ds o1.first) ∙ caught_more h ds v3 o0.first
-
-    pub rest_is : but_last (but_last (but_last u)) ≡ caught_up h ds o3.first ∷ all_caught_up h ds o3.extra
-    rest_is = ap but_last parts_none ∙ but_last_is (all_caught_up h ds v3) (caught_up h ds o0.first) ∙ ap (all_caught_up h ds) o3.is
-
-    pub third_is : last_alone u ≡ caught_up h ds o2.first ∷ []
-    third_is = ap last_alone parts_two ∙ last_alone_is (all_caught_up h ds two) (caught_up h ds o2.first)
-
-    pub second_is : last_alone (but_last u) ≡ caught_up h ds o1.first ∷ []
-    second_is = ap last_alone parts_one ∙ last_alone_is (all_caught_up h ds one) (caught_up h ds o1.first)
-
-    pub first_is : last_alone (but_last (but_last u)) ≡ caught_up h ds o0.first ∷ []
-    first_is = ap last_alone parts_none ∙ last_alone_is (all_caught_up h ds v3) (caught_up h ds o0.first)
-
+  module _ (j : View) (is : j ≡ two ++ o2.first ∷ []) where
     pub led_by : controller_of j ≡ controller_of v3
     led_by = ap controller_of is ∙ ap (λ (l : View). controller_of (((l ++ o0.first ∷ []) ++ o1.first ∷ []) ++ o2.first ∷ [])) o3.is ∙ sym (ap controller_of o3.is)
 
-    module _ (ring : RxCtx) (rings : (k : ℕ) (x : Strand) → get_elem? j k ≡ maybe.some x → x.ring ≡ ring) where
-      ring_at : (k : ℕ) (x : Strand) → get_elem? (two ++ o2.first ∷ []) k ≡ maybe.some x → x.ring ≡ ring
-      ring_at k x e = rings k x (ap (λ (l : View). get_elem? l k) is ∙ e)
+    pub looked_by : number_of j ≡ number_of v3
+    looked_by = ap number_of is ∙ ap (λ (l : View). number_of (((l ++ o0.first ∷ []) ++ o1.first ∷ []) ++ o2.first ∷ [])) o3.is ∙ sym (ap number_of o3.is)
 
+    -- where each strand is
+    at_third : get_elem? j (length two) ≡ maybe.some o2.first
+    at_third = ap (λ (l : View). get_elem? l (length two)) is ∙ at_length two o2.first
+
+    at_second : get_elem? j (length one) ≡ maybe.some o1.first
+    at_second = ap (λ (l : View). get_elem? l (length one)) is ∙ at_longer two (o2.first ∷ []) (length one) o1.first (at_length one o1.first)
+
+    at_first : get_elem? j (length v3) ≡ maybe.some o0.first
+    at_first = ap (λ (l : View). get_elem? l (length v3)) is ∙ at_longer two (o2.first ∷ []) (length v3) o0.first (at_longer one (o1.first ∷ []) (length v3) o0.first (at_length v3 o0.first))
+
+    pub at_last : (k : ℕ) (z : Strand) → get_elem? v3 k ≡ maybe.some z → get_elem? j k ≡ maybe.some z
+    at_last k z there = ap (λ (l : View). get_elem? l k) is ∙ at_longer two (o2.first ∷ []) k z (at_longer one (o1.first ∷ []) k z (at_longer v3 (o0.first ∷ []) k z there))
+
+    at_front : get_elem? j 0 ≡ maybe.some o3.first
+    at_front = at_last 0 o3.first (ap (λ (l : View). get_elem? l 0) o3.is)
+
+    module _ (ring : RxCtx) (rings : (k : ℕ) (x : Strand) → get_elem? j k ≡ maybe.some x → x.ring ≡ ring) where
       pub third_named : first_in v2 ≡ Some ring
-      third_named = ap first_in o2.is ∙ ap Some (ring_at (length two) o2.first (at_length two o2.first))
+      third_named = ap first_in o2.is ∙ ap Some (rings (length two) o2.first at_third)
 
       pub second_named : first_in v1 ≡ Some ring
-      second_named = ap first_in o1.is ∙ ap Some (ring_at (length one) o1.first (at_longer two (o2.first ∷ []) (length one) o1.first (at_length one o1.first)))
+      second_named = ap first_in o1.is ∙ ap Some (rings (length one) o1.first at_second)
 
       pub first_named : first_in v0 ≡ Some ring
-      first_named = ap first_in o0.is
-          ∙ ap Some (ring_at (length v3) o0.first (at_longer two (o2.first ∷ []) (length v3) o0.first (at_longer one (o1.first ∷ []) (length v3) o0.first (at_length v3 o0.first))))
+      first_named = ap first_in o0.is ∙ ap Some (rings (length v3) o0.first at_first)
 
       pub last_named : first_in v3 ≡ Some ring
-      last_named = ap first_in o3.is
-          ∙ ap Some (ring_at 0 o3.first (at_longer two (o2.first ∷ []) 0 o3.first (at_longer one (o1.first ∷ []) 0 o3.first (at_longer v3 (o0.first ∷ []) 0 o3.first (ap (λ (l : View). get_elem? l 0) o3.is)))))
+      last_named = ap first_in o3.is ∙ ap Some (rings 0 o3.first at_front)
 
-    module _ (knows : (k : ℕ) (x : Strand) (c : ℕ) → get_elem? j k ≡ maybe.some x → x.number ≡ Some c → Knew (controller_of j) h ds x c) where
-      knows_at : (k : ℕ) (x : Strand) (c : ℕ) → get_elem? (two ++ o2.first ∷ []) k ≡ maybe.some x → x.number ≡ Some c → Knew (controller_of v3) h ds x c
-      knows_at k x c e n = subst (λ (m : ℕ). Knew m h ds x c) led_by (knows k x c (ap (λ (l : View). get_elem? l k) is ∙ e) n)
+    module _ (h : List Event) (x : Seen) (ds : List Delivery) where
+      abbrev look_by : Event
+      look_by = event (number_of v3) (Look x)
 
-      pub third_knows : Knew (controller_of v3) h ds o2.first (number_of v2)
-      third_knows = knows_at (length two) o2.first (number_of v2) (at_length two o2.first) o2.numbered
+      abbrev all_by : List Event
+      all_by = h ++ look_by ∷ []
 
-      pub second_knows : Knew (controller_of v3) h ds o1.first (number_of v1)
-      second_knows = knows_at (length one) o1.first (number_of v1) (at_longer two (o2.first ∷ []) (length one) o1.first (at_length one o1.first)) o1.numbered
+      module _ (u : View) (caught : u ≡ all_looked h look_by ds j) where
+        pub parts_two : u ≡ all_looked h look_by ds two ++ caught_up all_by ds o2.first ∷ []
+        parts_two = caught ∙ ap (all_looked h look_by ds) is ∙ looked_more h look_by ds two o2.first two_pass
 
-      pub first_knows : Knew (controller_of v3) h ds o0.first (number_of v0)
-      first_knows = knows_at (length v3) o0.first (number_of v0)
-          (at_longer two (o2.first ∷ []) (length v3) o0.first (at_longer one (o1.first ∷ []) (length v3) o0.first (at_length v3 o0.first))) o0.numbered
+        pub parts_one : but_last u ≡ all_looked h look_by ds one ++ caught_up all_by ds o1.first ∷ []
+        parts_one = ap but_last parts_two ∙ but_last_is (all_looked h look_by ds two) (caught_up all_by ds o2.first) ∙ looked_more h look_by ds one o1.first one_pass
 
-      pub last_knows : Knew (controller_of v3) h ds o3.first (number_of v3)
-      last_knows = knows_at 0 o3.first (number_of v3)
-          (at_longer two (o2.first ∷ []) 0 o3.first (at_longer one (o1.first ∷ []) 0 o3.first (at_longer v3 (o0.first ∷ []) 0 o3.first (ap (λ (l : View). get_elem? l 0) o3.is)))) o3.numbered
+        pub parts_none : but_last (but_last u) ≡ all_looked h look_by ds v3 ++ caught_up all_by ds o0.first ∷ []
+        parts_none = ap but_last parts_one ∙ but_last_is (all_looked h look_by ds one) (caught_up all_by ds o1.first) ∙ looked_more h look_by ds v3 o0.first pass
 
-      pub third_catches : CatchesUp h ds v2 (last_alone u)
-      third_catches = catches_up (controller_of v3) h ds v2 (last_alone u) o2 [] third_knows third_is
+        pub rest_is : but_last (but_last (but_last u)) ≡ looked h look_by ds o3.first ∷ all_caught_up all_by ds o3.extra
+        rest_is = ap but_last parts_none ∙ but_last_is (all_looked h look_by ds v3) (caught_up all_by ds o0.first) ∙ ap (all_looked h look_by ds) o3.is
 
-      pub second_catches : CatchesUp h ds v1 (last_alone (but_last u))
-      second_catches = catches_up (controller_of v3) h ds v1 (last_alone (but_last u)) o1 [] second_knows second_is
+        pub third_is : last_alone u ≡ caught_up all_by ds o2.first ∷ []
+        third_is = ap last_alone parts_two ∙ last_alone_is (all_looked h look_by ds two) (caught_up all_by ds o2.first)
 
-      pub first_catches : CatchesUp h ds v0 (last_alone (but_last (but_last u)))
-      first_catches = catches_up (controller_of v3) h ds v0 (last_alone (but_last (but_last u))) o0 [] first_knows first_is
+        pub second_is : last_alone (but_last u) ≡ caught_up all_by ds o1.first ∷ []
+        second_is = ap last_alone parts_one ∙ last_alone_is (all_looked h look_by ds one) (caught_up all_by ds o1.first)
 
-      pub last_catches : CatchesUp h ds v3 (but_last (but_last (but_last u)))
-      last_catches = catches_up (controller_of v3) h ds v3 (but_last (but_last (but_last u))) o3 (all_caught_up h ds o3.extra) last_knows rest_is
+        pub first_is : last_alone (but_last (but_last u)) ≡ caught_up all_by ds o0.first ∷ []
+        first_is = ap last_alone parts_none ∙ last_alone_is (all_looked h look_by ds v3) (caught_up all_by ds o0.first)
 
-pub leads : (k : ℕ) (h : List Event) (ds : List Delivery) (v : View) (o : Open v) (c : ℕ) → Knew k h ds o.first c → controller_of v ≡ k
-leads k h ds v o c n = ap controller_of o.is ∙ n.controller
+        module _ (knows : (k : ℕ) (z : Strand) (c : ℕ) → get_elem? j k ≡ maybe.some z → z.number ≡ Some c → Knew (controller_of j) h ds z c)
+            (once : (k : ℕ) (z : Strand) → get_elem? j k ≡ maybe.some z → z.number ≡ Some (number_of j) → k ≡ 0) where
+          pub knows_at : (k : ℕ) (z : Strand) (c : ℕ) → get_elem? j k ≡ maybe.some z → z.number ≡ Some c → Knew (controller_of v3) h ds z c
+          knows_at k z c there n = subst (λ (m : ℕ). Knew m h ds z c) led_by (knows k z c there n)
+
+          -- whoever isn't at the front has another number
+          apart : (k : ℕ) (v : View) (o : Open v) → get_elem? j k ≡ maybe.some o.first → k ≢ 0 → number_of v3 ≢ number_of v
+          apart k v o there behind same = behind (once k o.first there (o.numbered ∙ ap Some (sym same ∙ sym looked_by)))
+
+          other_exact : (k : ℕ) (v : View) (o : Open v) → get_elem? j k ≡ maybe.some o.first → k ≢ 0 → own (number_of v) all_by ≡ o.first.mine
+          other_exact k v o there behind = own_other (number_of v) h look_by (apart k v o there behind) ∙ (knows_at k o.first (number_of v) there o.numbered).exact
+
+          other_catches : (k : ℕ) (v : View) (o : Open v) → get_elem? j k ≡ maybe.some o.first → k ≢ 0 → (w : View) → w ≡ caught_up all_by ds o.first ∷ [] → CatchesUp h look_by ds v w × (mine w ≡ mine v)
+          other_catches k v o there behind w back = (
+            catches_up (controller_of v3) h look_by ds v w o o.first.mine [] (knows_at k o.first (number_of v) there o.numbered) (other_exact k v o there behind) back,
+            ap mine back ∙ sym (ap mine o.is),
+          )
+
+          pub third_catches : CatchesUp h look_by ds v2 (last_alone u) × (mine (last_alone u) ≡ mine v2)
+          third_catches = other_catches (length two) v2 o2 at_third (not_front two two_pass) (last_alone u) third_is
+
+          pub second_catches : CatchesUp h look_by ds v1 (last_alone (but_last u)) × (mine (last_alone (but_last u)) ≡ mine v1)
+          second_catches = other_catches (length one) v1 o1 at_second (not_front one one_pass) (last_alone (but_last u)) second_is
+
+          pub first_catches : CatchesUp h look_by ds v0 (last_alone (but_last (but_last u))) × (mine (last_alone (but_last (but_last u))) ≡ mine v0)
+          first_catches = other_catches (length v3) v0 o0 at_first (not_front v3 pass) (last_alone (but_last (but_last u))) first_is
+
+          pub last_catches : CatchesUp h look_by ds v3 (but_last (but_last (but_last u))) × (mine (but_last (but_last (but_last u))) ≡ mine v3 ++ look_by ∷ [])
+          last_catches =
+              let knew = knows_at 0 o3.first (number_of v3) at_front o3.numbered in (
+                catches_up (controller_of v3) h look_by ds v3 (but_last (but_last (but_last u))) o3 (o3.first.mine ++ look_by ∷ []) (all_caught_up all_by ds o3.extra) knew
+                    (own_mine (number_of v3) h look_by refl ∙ ap (λ (l : List Event). l ++ look_by ∷ []) knew.exact) rest_is,
+                ap mine rest_is ∙ ap (λ (v : View). mine v ++ look_by ∷ []) (sym o3.is),
+              )
+
+          pub others_led : (controller_of v0 ≡ controller_of v3) × (controller_of v1 ≡ controller_of v3) × (controller_of v2 ≡ controller_of v3)
+          others_led = (
+            ap controller_of o0.is ∙ (knows_at (length v3) o0.first (number_of v0) at_first o0.numbered).controller,
+            ap controller_of o1.is ∙ (knows_at (length one) o1.first (number_of v1) at_second o1.numbered).controller,
+            ap controller_of o2.is ∙ (knows_at (length two) o2.first (number_of v2) at_third o2.numbered).controller,
+          )
 
 -- ---- of four passes
 pub of_four : (P : Pass → Type 0) (a b c d : Pass) → P a → P b → P c → P d → (i : ℕ) (p : Pass) → slice_get (a ∷ b ∷ c ∷ d ∷ []) i ≡ Some p → P p
@@ -253,10 +376,17 @@ of_both_four P a b c d a' b' c' d' x y z w (suc (suc zero)) p q e f = subst (λ 
 of_both_four P a b c d a' b' c' d' x y z w (suc (suc (suc zero))) p q e f = subst (λ (r : Pass). P r q) (some_is e) (subst (P d) (some_is f) w)
 of_both_four P a b c d a' b' c' d' x y z w (suc (suc (suc (suc i)))) p q e f = absurd (cc)
 
+-- ---- what was seen is what is answered
+pub answers_step : {p q : Pass} {x y : Seen} → y ≡ x → Makes p (Look x) stays q → Makes p (Look y) stays q
+answers_step {p} {q} e m = subst (λ (s : Seen). Makes p (Look s) stays q) (sym e) m
+
+pub answers_survey : {k c : ℕ} {x y : Seen} {before after : List Pass} → y ≡ x → Surveys k c x before after → Surveys k c y before after
+answers_survey {k} {c} {x} {y} {before} {after} e s = subst (λ (z : Seen). Surveys k c z before after) (sym e) s
+
 -- ---- a survey, step by step
-caught_pass : (h : List Event) (ds : List Delivery) (v : View) → is_pass v ≡ true → is_pass (all_caught_up h ds v) ≡ true
-caught_pass h ds [] p = p
-caught_pass h ds (x ∷ xs) p = p
+looked_pass : (h : List Event) (e : Event) (ds : List Delivery) (v : View) → is_pass v ≡ true → is_pass (all_looked h e ds v) ≡ true
+looked_pass h e ds [] p = p
+looked_pass h e ds (x ∷ xs) p = p
 
 at_rest : (p : Pass) → p.holds ≡ Nothing → Tied Nothing (view_of p, [])
 at_rest p none =
@@ -287,93 +417,109 @@ module _ (p0 p1 p2 p3 : Pass) (m1 m2 m3 : Me Content View) (e1 : m1 ≡ (with_fr
   third_pass = ap (λ (m : Me Content View). is_pass m.0) e3 ∙ is_pass_more m2.0 (front (view_of p2)) second_pass
 
   abbrev one_of : View
-  one_of = one (view_of p0) (view_of p1) (view_of p2) (view_of p3) q0 q1 q2 q3
+  one_of = one (view_of p0) (view_of p1) (view_of p2) (view_of p3) q0 q1 q2 q3 p3.is_pass
 
   abbrev two_of : View
-  two_of = two (view_of p0) (view_of p1) (view_of p2) (view_of p3) q0 q1 q2 q3
+  two_of = two (view_of p0) (view_of p1) (view_of p2) (view_of p3) q0 q1 q2 q3 p3.is_pass
 
   all_in : m3.0 ≡ two_of ++ q2.first ∷ []
-  all_in = together (view_of p0) (view_of p1) (view_of p2) (view_of p3) q0 q1 q2 q3 m1.0 m2.0 m3.0
+  all_in = together (view_of p0) (view_of p1) (view_of p2) (view_of p3) q0 q1 q2 q3 p3.is_pass m1.0 m2.0 m3.0
       (ap (λ (m : Me Content View). m.0) e1) (ap (λ (m : Me Content View). m.0) e2) (ap (λ (m : Me Content View). m.0) e3)
 
-  module _ (n : ℕ) (u : Me Content View) (t : surveyed m3 n u) where
-    abbrev hs : List Event
-    hs = t.0
+  led : controller_of m3.0 ≡ controller_of (view_of p3)
+  led = led_by (view_of p0) (view_of p1) (view_of p2) (view_of p3) q0 q1 q2 q3 p3.is_pass m3.0 all_in
 
-    abbrev es : List Delivery
-    es = t.1
+  number_led : number_of m3.0 ≡ number_of (view_of p3)
+  number_led = looked_by (view_of p0) (view_of p1) (view_of p2) (view_of p3) q0 q1 q2 q3 p3.is_pass m3.0 all_in
+
+  in_all : (k : ℕ) (z : Strand) → get_elem? (view_of p3) k ≡ maybe.some z → get_elem? m3.0 k ≡ maybe.some z
+  in_all = at_last (view_of p0) (view_of p1) (view_of p2) (view_of p3) q0 q1 q2 q3 p3.is_pass m3.0 all_in
+
+  module _ (n : ℕ) (u : Me Content View) (t : Surveyed m3 n u) where
+    abbrev pub hs : List Event
+    hs = t.found
+
+    abbrev pub es : List Delivery
+    es = t.deliveries
+
+    abbrev pub look_then : Event
+    look_then = event (number_of (view_of p3)) (Look t.seen)
+
+    abbrev pub whole_now : List Event
+    whole_now = hs ++ look_then ∷ []
 
     slot_then : u.1 ≡ p3.seat.me.1
-    slot_then = t.4 ∙ ap (λ (m : Me Content View). m.1) e3 ∙ ap (λ (m : Me Content View). m.1) e2 ∙ ap (λ (m : Me Content View). m.1) e1
+    slot_then = t.slot ∙ ap (λ (m : Me Content View). m.1) e3 ∙ ap (λ (m : Me Content View). m.1) e2 ∙ ap (λ (m : Me Content View). m.1) e1
 
-    pub caught_is : u.0 ≡ all_caught_up hs es two_of ++ caught_up hs es q2.first ∷ []
-    caught_is = parts_two (view_of p0) (view_of p1) (view_of p2) (view_of p3) q0 q1 q2 q3 m3.0 all_in hs es u.0 t.3
+    caught : u.0 ≡ all_looked hs look_then es m3.0
+    caught = t.view ∙ ap (λ (c : ℕ). all_looked hs (event c (Look t.seen)) es m3.0) number_led
+
+    pub caught_is : u.0 ≡ all_looked hs look_then es two_of ++ caught_up whole_now es q2.first ∷ []
+    caught_is = parts_two (view_of p0) (view_of p1) (view_of p2) (view_of p3) q0 q1 q2 q3 p3.is_pass m3.0 all_in hs t.seen es u.0 caught
 
     pub caught_is_pass : is_pass u.0 ≡ true
-    caught_is_pass = ap is_pass t.3 ∙ caught_pass hs es m3.0 third_pass
+    caught_is_pass = ap is_pass caught ∙ looked_pass hs look_then es m3.0 third_pass
 
     module _ (s1 : Me Content View) (f1 : s1 ≡ (but_last u.0, u.1)) where
-      pub second_left : s1.0 ≡ all_caught_up hs es one_of ++ caught_up hs es q1.first ∷ []
-      second_left = ap (λ (m : Me Content View). m.0) f1 ∙ parts_one (view_of p0) (view_of p1) (view_of p2) (view_of p3) q0 q1 q2 q3 m3.0 all_in hs es u.0 t.3
+      pub second_left : s1.0 ≡ all_looked hs look_then es one_of ++ caught_up whole_now es q1.first ∷ []
+      second_left = ap (λ (m : Me Content View). m.0) f1 ∙ parts_one (view_of p0) (view_of p1) (view_of p2) (view_of p3) q0 q1 q2 q3 p3.is_pass m3.0 all_in hs t.seen es u.0 caught
 
       pub second_left_pass : is_pass s1.0 ≡ true
-      second_left_pass = ap is_pass second_left ∙ is_pass_more (all_caught_up hs es one_of) (caught_up hs es q1.first ∷ []) (caught_pass hs es one_of (is_pass_more (view_of p3) (q0.first ∷ []) p3.is_pass))
+      second_left_pass = ap is_pass second_left ∙ is_pass_more (all_looked hs look_then es one_of) (caught_up whole_now es q1.first ∷ []) (looked_pass hs look_then es one_of (is_pass_more (view_of p3) (q0.first ∷ []) p3.is_pass))
 
       module _ (s2 : Me Content View) (f2 : s2 ≡ (but_last s1.0, s1.1)) where
         left_two : s2.0 ≡ but_last (but_last u.0)
         left_two = ap (λ (m : Me Content View). m.0) f2 ∙ ap (λ (m : Me Content View). but_last m.0) f1
 
-        pub first_left : s2.0 ≡ all_caught_up hs es (view_of p3) ++ caught_up hs es q0.first ∷ []
-        first_left = left_two ∙ parts_none (view_of p0) (view_of p1) (view_of p2) (view_of p3) q0 q1 q2 q3 m3.0 all_in hs es u.0 t.3
+        pub first_left : s2.0 ≡ all_looked hs look_then es (view_of p3) ++ caught_up whole_now es q0.first ∷ []
+        first_left = left_two ∙ parts_none (view_of p0) (view_of p1) (view_of p2) (view_of p3) q0 q1 q2 q3 p3.is_pass m3.0 all_in hs t.seen es u.0 caught
 
         pub first_left_pass : is_pass s2.0 ≡ true
-        first_left_pass = ap is_pass first_left ∙ is_pass_more (all_caught_up hs es (view_of p3)) (caught_up hs es q0.first ∷ []) (caught_pass hs es (view_of p3) p3.is_pass)
+        first_left_pass = ap is_pass first_left ∙ is_pass_more (all_looked hs look_then es (view_of p3)) (caught_up whole_now es q0.first ∷ []) (looked_pass hs look_then es (view_of p3) p3.is_pass)
 
-        pub first_back : (r : Me Content View) → r ≡ (last_alone s2.0, []) → CatchesUp hs es (view_of p0) r.0
-        first_back r e = subst (λ (w : View). CatchesUp hs es (view_of p0) w) (sym (ap (λ (m : Me Content View). m.0) e ∙ ap last_alone left_two))
-            (first_catches (view_of p0) (view_of p1) (view_of p2) (view_of p3) q0 q1 q2 q3 m3.0 all_in hs es u.0 t.3 t.5)
+        pub first_back : (r : Me Content View) → r ≡ (last_alone s2.0, []) → CatchesUp hs look_then es (view_of p0) r.0 × (mine r.0 ≡ mine (view_of p0))
+        first_back r e = subst (λ (w : View). CatchesUp hs look_then es (view_of p0) w × (mine w ≡ mine (view_of p0))) (sym (ap (λ (m : Me Content View). m.0) e ∙ ap last_alone left_two))
+            (first_catches (view_of p0) (view_of p1) (view_of p2) (view_of p3) q0 q1 q2 q3 p3.is_pass m3.0 all_in hs t.seen es u.0 caught t.knew t.once)
 
-        pub last_back : (s3 : Me Content View) → s3 ≡ (but_last s2.0, s2.1) → CatchesUp hs es (view_of p3) s3.0
-        last_back s3 e = subst (λ (w : View). CatchesUp hs es (view_of p3) w) (sym (ap (λ (m : Me Content View). m.0) e ∙ ap but_last left_two))
-            (last_catches (view_of p0) (view_of p1) (view_of p2) (view_of p3) q0 q1 q2 q3 m3.0 all_in hs es u.0 t.3 t.5)
+        pub last_back : (s3 : Me Content View) → s3 ≡ (but_last s2.0, s2.1) → CatchesUp hs look_then es (view_of p3) s3.0 × (mine s3.0 ≡ mine (view_of p3) ++ look_then ∷ [])
+        last_back s3 e = subst (λ (w : View). CatchesUp hs look_then es (view_of p3) w × (mine w ≡ mine (view_of p3) ++ look_then ∷ [])) (sym (ap (λ (m : Me Content View). m.0) e ∙ ap but_last left_two))
+            (last_catches (view_of p0) (view_of p1) (view_of p2) (view_of p3) q0 q1 q2 q3 p3.is_pass m3.0 all_in hs t.seen es u.0 caught t.knew t.once)
 
         pub last_slot : (s3 : Me Content View) → s3 ≡ (but_last s2.0, s2.1) → s3.1 ≡ p3.seat.me.1
         last_slot s3 e = ap (λ (m : Me Content View). m.1) e ∙ ap (λ (m : Me Content View). m.1) f2 ∙ ap (λ (m : Me Content View). m.1) f1 ∙ slot_then
 
         pub last_tied : (s3 : Me Content View) → s3 ≡ (but_last s2.0, s2.1) → Tied p3.holds s3
-        last_tied s3 e = subst (λ (l : Carried). Tied p3.holds (s3.0, l)) (sym (last_slot s3 e)) (tied_up hs es (view_of p3) s3.0 p3.seat.me.1 p3.holds (last_back s3 e) (tie_of p3))
+        last_tied s3 e = subst (λ (l : Carried). Tied p3.holds (s3.0, l)) (sym (last_slot s3 e)) (tied_up hs (number_of (view_of p3)) t.seen es (view_of p3) s3.0 p3.seat.me.1 p3.holds (last_back s3 e).0 (tie_of p3))
 
-      pub second_back : (r : Me Content View) → r ≡ (last_alone s1.0, []) → CatchesUp hs es (view_of p1) r.0
-      second_back r e = subst (λ (w : View). CatchesUp hs es (view_of p1) w) (sym (ap (λ (m : Me Content View). m.0) e ∙ ap (λ (m : Me Content View). last_alone m.0) f1))
-          (second_catches (view_of p0) (view_of p1) (view_of p2) (view_of p3) q0 q1 q2 q3 m3.0 all_in hs es u.0 t.3 t.5)
+      pub second_back : (r : Me Content View) → r ≡ (last_alone s1.0, []) → CatchesUp hs look_then es (view_of p1) r.0 × (mine r.0 ≡ mine (view_of p1))
+      second_back r e = subst (λ (w : View). CatchesUp hs look_then es (view_of p1) w × (mine w ≡ mine (view_of p1))) (sym (ap (λ (m : Me Content View). m.0) e ∙ ap (λ (m : Me Content View). last_alone m.0) f1))
+          (second_catches (view_of p0) (view_of p1) (view_of p2) (view_of p3) q0 q1 q2 q3 p3.is_pass m3.0 all_in hs t.seen es u.0 caught t.knew t.once)
 
-    pub third_back : (r : Me Content View) → r ≡ (last_alone u.0, []) → CatchesUp hs es (view_of p2) r.0
-    third_back r e = subst (λ (w : View). CatchesUp hs es (view_of p2) w) (sym (ap (λ (m : Me Content View). m.0) e))
-        (third_catches (view_of p0) (view_of p1) (view_of p2) (view_of p3) q0 q1 q2 q3 m3.0 all_in hs es u.0 t.3 t.5)
+    pub third_back : (r : Me Content View) → r ≡ (last_alone u.0, []) → CatchesUp hs look_then es (view_of p2) r.0 × (mine r.0 ≡ mine (view_of p2))
+    third_back r e = subst (λ (w : View). CatchesUp hs look_then es (view_of p2) w × (mine w ≡ mine (view_of p2))) (sym (ap (λ (m : Me Content View). m.0) e))
+        (third_catches (view_of p0) (view_of p1) (view_of p2) (view_of p3) q0 q1 q2 q3 p3.is_pass m3.0 all_in hs t.seen es u.0 caught t.knew t.once)
 
-    pub rest_tied : (p : Pass) → p.holds ≡ Nothing → (v : View) (r : Me Content View) → r ≡ (v, []) → CatchesUp hs es (view_of p) r.0 → Tied Nothing r
-    rest_tied p none v r e u = subst (λ (l : Carried). Tied Nothing (r.0, l)) (sym (ap (λ (m : Me Content View). m.1) e)) (tied_up hs es (view_of p) r.0 [] Nothing u (at_rest p none))
+    pub rest_tied : (p : Pass) → p.holds ≡ Nothing → (v : View) (r : Me Content View) → r ≡ (v, []) → CatchesUp hs look_then es (view_of p) r.0 → Tied Nothing r
+    rest_tied p none v r e u = subst (λ (l : Carried). Tied Nothing (r.0, l)) (sym (ap (λ (m : Me Content View). m.1) e)) (tied_up hs (number_of (view_of p3)) t.seen es (view_of p) r.0 [] Nothing u (at_rest p none))
 
-    pub whole_is : IsWhole (controller_of (view_of p3)) hs es
-    whole_is = subst (λ (k : ℕ). IsWhole k hs es) (led_by (view_of p0) (view_of p1) (view_of p2) (view_of p3) q0 q1 q2 q3 m3.0 all_in hs es u.0 t.3) t.2
+    pub whole_is : IsWhole (controller_of (view_of p3)) whole_now es
+    whole_is = subst (λ (y : ℕ × ℕ). IsWhole y.0 (hs ++ event y.1 (Look t.seen) ∷ []) es) (λ i. (led i, number_led i)) t.whole
 
-    abbrev pub ring_is : RxCtx
-    ring_is = t.7.0
-
-    pub all_named : (i : ℕ) (p : Pass) → slice_get (p0 ∷ p1 ∷ p2 ∷ p3 ∷ []) i ≡ Some p → first_in (view_of p) ≡ Some ring_is
-    all_named = of_four (λ p. first_in (view_of p) ≡ Some ring_is) p0 p1 p2 p3
-        (first_named (view_of p0) (view_of p1) (view_of p2) (view_of p3) q0 q1 q2 q3 m3.0 all_in hs es u.0 t.3 t.7.0 t.7.1)
-        (second_named (view_of p0) (view_of p1) (view_of p2) (view_of p3) q0 q1 q2 q3 m3.0 all_in hs es u.0 t.3 t.7.0 t.7.1)
-        (third_named (view_of p0) (view_of p1) (view_of p2) (view_of p3) q0 q1 q2 q3 m3.0 all_in hs es u.0 t.3 t.7.0 t.7.1)
-        (last_named (view_of p0) (view_of p1) (view_of p2) (view_of p3) q0 q1 q2 q3 m3.0 all_in hs es u.0 t.3 t.7.0 t.7.1)
+    pub all_named : (i : ℕ) (p : Pass) → slice_get (p0 ∷ p1 ∷ p2 ∷ p3 ∷ []) i ≡ Some p → first_in (view_of p) ≡ Some t.first
+    all_named = of_four (λ p. first_in (view_of p) ≡ Some t.first) p0 p1 p2 p3
+        (first_named (view_of p0) (view_of p1) (view_of p2) (view_of p3) q0 q1 q2 q3 p3.is_pass m3.0 all_in t.first t.firsts)
+        (second_named (view_of p0) (view_of p1) (view_of p2) (view_of p3) q0 q1 q2 q3 p3.is_pass m3.0 all_in t.first t.firsts)
+        (third_named (view_of p0) (view_of p1) (view_of p2) (view_of p3) q0 q1 q2 q3 p3.is_pass m3.0 all_in t.first t.firsts)
+        (last_named (view_of p0) (view_of p1) (view_of p2) (view_of p3) q0 q1 q2 q3 p3.is_pass m3.0 all_in t.first t.firsts)
 
     -- the word is that of the state behind the whole history
-    pub word_is : n ≡ word_of (seen_of (state_after (opening (controller_of (view_of p3))) hs))
-    word_is = t.6 ∙ ap (λ (k : ℕ). word_of (seen_of (state_after (opening k) hs))) (led_by (view_of p0) (view_of p1) (view_of p2) (view_of p3) q0 q1 q2 q3 m3.0 all_in hs es u.0 t.3)
+    pub told_is : t.seen ≡ seen_of (state_after (opening (controller_of (view_of p3))) whole_now)
+    told_is = t.told ∙ ap (λ (k : ℕ). seen_of (state_after (opening k) hs)) led ∙ ap seen_of (sym (state_looked (opening (controller_of (view_of p3))) hs (number_of (view_of p3)) t.seen))
 
     pub all_led : (i : ℕ) (p : Pass) → slice_get (p0 ∷ p1 ∷ p2 ∷ p3 ∷ []) i ≡ Some p → controller_of (view_of p) ≡ controller_of (view_of p3)
-    all_led = of_four (λ p. controller_of (view_of p) ≡ controller_of (view_of p3)) p0 p1 p2 p3
-        (leads (controller_of (view_of p3)) hs es (view_of p0) q0 (number_of (view_of p0)) (first_knows (view_of p0) (view_of p1) (view_of p2) (view_of p3) q0 q1 q2 q3 m3.0 all_in hs es u.0 t.3 t.5))
-        (leads (controller_of (view_of p3)) hs es (view_of p1) q1 (number_of (view_of p1)) (second_knows (view_of p0) (view_of p1) (view_of p2) (view_of p3) q0 q1 q2 q3 m3.0 all_in hs es u.0 t.3 t.5))
-        (leads (controller_of (view_of p3)) hs es (view_of p2) q2 (number_of (view_of p2)) (third_knows (view_of p0) (view_of p1) (view_of p2) (view_of p3) q0 q1 q2 q3 m3.0 all_in hs es u.0 t.3 t.5))
-        refl
+    all_led =
+        let l = others_led (view_of p0) (view_of p1) (view_of p2) (view_of p3) q0 q1 q2 q3 p3.is_pass m3.0 all_in hs t.seen es u.0 caught t.knew t.once in
+        of_four (λ p. controller_of (view_of p) ≡ controller_of (view_of p3)) p0 p1 p2 p3 l.0 l.1 l.2 refl
+
+    pub last_steps : (q : Pass) → CatchesUp hs look_then es (view_of p3) (view_of q) × (mine (view_of q) ≡ mine (view_of p3) ++ look_then ∷ []) → SameTable p3 q → q.holds ≡ p3.holds → q.seat.me.1 ≡ p3.seat.me.1 → Makes p3 (Look t.seen) stays q
+    last_steps q c table holds slot = made_step hs t.seen es p3 q whole_is c.0 c.1 (λ k z e. t.seen_begins k z (in_all k z e)) (λ k z e. t.delivered_begins k z (in_all k z e)) table holds slot

@@ -139,8 +139,8 @@ module _ (key : Key) (s : St) (r : Kept key s) (id : ℕ) (v : View) (at : get_e
   pub found : get_or s.words 0 0 ≡ word_of (seen_of now)
   found = ap (λ (ws : List ℕ). get_or ws 0 0) r.word
 
-  -- ---- one event more
-  module _ (d : Operation) (ds : List Delivery) where
+  -- ---- one event more, beside which other strands of the seat may have seen it
+  module _ (d : Operation) (ds : List Delivery) (tail : View) where
     abbrev e : Event
     e = event c d
 
@@ -148,7 +148,10 @@ module _ (key : Key) (s : St) (r : Kept key s) (id : ℕ) (v : View) (at : get_e
     next = grown o.first c h d ds
 
     abbrev w : View
-    w = next ∷ []
+    w = next ∷ tail
+
+    abbrev pub TailFits : Type 0
+    TailFits = (k : ℕ) (x : Strand) → get_elem? tail k ≡ maybe.some x → Fits key (h ++ e ∷ []) ds r.seat (id, suc k) x
 
     exact : own c (h ++ e ∷ []) ≡ o.first.mine ++ e ∷ []
     exact = own_mine c h e refl ∙ ap (λ (l : List Event). l ++ e ∷ []) owned.whole
@@ -174,8 +177,8 @@ module _ (key : Key) (s : St) (r : Kept key s) (id : ℕ) (v : View) (at : get_e
       begun = f.begun;
     }
 
-    next_fits : (k : ℕ) (x : Strand) → get_elem? w k ≡ maybe.some x → Fits key (h ++ e ∷ []) ds r.seat (id, k) x
-    next_fits zero x is = subst (Fits key (h ++ e ∷ []) ds r.seat (id, 0)) (maybe.some-injective _ _ is) record {
+    next_fits : TailFits → (k : ℕ) (x : Strand) → get_elem? w k ≡ maybe.some x → Fits key (h ++ e ∷ []) ds r.seat (id, k) x
+    next_fits fits zero x is = subst (Fits key (h ++ e ∷ []) ds r.seat (id, 0)) (maybe.some-injective _ _ is) record {
       begins = begins_self (h ++ e ∷ []);
       delivered = prefix_self ds;
       owned = λ n same. subst (Owned key (h ++ e ∷ []) ds r.seat (id, 0) next) (some_is (sym o.numbered ∙ same)) record { whole = exact; shown = exact; delivers = refl; has = λ there. refl; here = owned.here; few = owned.few };
@@ -183,11 +186,11 @@ module _ (key : Key) (s : St) (r : Kept key s) (id : ℕ) (v : View) (at : get_e
       ring = own_fits.ring;
       begun = own_fits.begun;
     }
-    next_fits (suc k) x is = absurd (maybe.some-ne-none x (sym is))
+    next_fits fits (suc k) x is = fits k x is
 
-    grows : IsLegalFor key.controller now e → More now e r.deliveries ds → (homes : Homes) → (is_out (after now e).place ≡ false → Home key.ring.value ds homes)
+    grows : TailFits → IsLegalFor key.controller now e → More now e r.deliveries ds → (homes : Homes) → (is_out (after now e).place ≡ false → Home key.ring.value ds homes)
         → Kept key record { words = word_of (seen_of (after now e)) ∷ []; homes = homes; views = set s.views id w }
-    grows legal more homes slot = record {
+    grows fits legal more homes slot = record {
       history = h ++ e ∷ [];
       deliveries = ds;
       seat = r.seat;
@@ -195,7 +198,7 @@ module _ (key : Key) (s : St) (r : Kept key s) (id : ℕ) (v : View) (at : get_e
       word = ap (λ (u : Napi). word_of (seen_of u) ∷ []) (sym (state_after-snoc (opening key.controller) h e));
       slot = subst (λ (u : Napi). is_out u.place ≡ false → Home key.ring.value ds homes) (sym (state_after-snoc (opening key.controller) h e)) slot;
       strands = λ j u there k x is. ⊎_elim
-          (λ (y : (j ≡ id) × (w ≡ u)). subst (λ (i : ℕ). Fits key (h ++ e ∷ []) ds r.seat (i, k) x) (sym y.0) (next_fits k x (ap (λ (z : View). get_elem? z k) y.1 ∙ is)))
+          (λ (y : (j ≡ id) × (w ≡ u)). subst (λ (i : ℕ). Fits key (h ++ e ∷ []) ds r.seat (i, k) x) (sym y.0) (next_fits fits k x (ap (λ (z : View). get_elem? z k) y.1 ∙ is)))
           (λ (y : (j ≢ id) × (get_elem? s.views j ≡ maybe.some u)). others legal more j k y.0 x (r.strands j u y.1 k x is))
           (at_set s.views id j w u there);
       few = λ n above. own_other n h e (λ (same : c ≡ n). let low = owned.few in absurd (omega arith)) ∙ r.few n above;
@@ -204,11 +207,11 @@ module _ (key : Key) (s : St) (r : Kept key s) (id : ℕ) (v : View) (at : get_e
     }
 
     -- the word becomes f of what it was, which is the word of the state after
-    pub steps : (f : ℕ → ℕ) → f (word_of (seen_of now)) ≡ word_of (seen_of (after now e)) → IsLegalFor key.controller now e → More now e r.deliveries ds
+    pub steps : TailFits → (f : ℕ → ℕ) → f (word_of (seen_of now)) ≡ word_of (seen_of (after now e)) → IsLegalFor key.controller now e → More now e r.deliveries ds
         → (homes : Homes) → (is_out (after now e).place ≡ false → Home key.ring.value ds homes)
         → Kept key record { words = set s.words 0 (f (get_or s.words 0 0)); homes = homes; views = set s.views id w }
-    steps f is legal more homes slot = subst (λ (ws : List ℕ). Kept key record { words = set ws 0 (f (get_or ws 0 0)); homes = homes; views = set s.views id w }) (sym r.word)
-        (subst (λ (n : ℕ). Kept key record { words = n ∷ []; homes = homes; views = set s.views id w }) (sym is) (grows legal more homes slot))
+    steps fits f is legal more homes slot = subst (λ (ws : List ℕ). Kept key record { words = set ws 0 (f (get_or ws 0 0)); homes = homes; views = set s.views id w }) (sym r.word)
+        (subst (λ (n : ℕ). Kept key record { words = n ∷ []; homes = homes; views = set s.views id w }) (sym is) (grows fits legal more homes slot))
 
     pub grew : IsLegalFor key.controller now e → Steps v d w
     grew legal = record {

@@ -20,7 +20,7 @@ shorter_begins (x ∷ xs) (y ∷ ys) (z ∷ zs) a b le =
     let head : x ≡ y = cc in
     (tail.0, λ i. head i ∷ tail.1 i)
 
-front_none : {A : Type 0} (us vs : List A) → us ++ vs ≡ [] → us ≡ []
+pub front_none : {A : Type 0} (us vs : List A) → us ++ vs ≡ [] → us ≡ []
 front_none [] vs e = refl
 front_none (u ∷ us) vs e = absurd (cc)
 

@@ -1,12 +1,14 @@
--- A survey: all passes of a table meet at once. Then each shows the whole history and all deliveries.
+-- A survey: all passes of a table meet at once, and one of them looks. Then each shows the whole history and all deliveries.
 use Rattle.std.specs.Prelude.{◌≡◌, ℕ, ◌<◌, true, List, [], ◌∷◌, ◌++◌, slice_get, Some}
 use mathlib.Core.Option as maybe
 use mathlib.Core.List.{IsPrefix}
 use lib.ListN.{get_elem?}
 use Rattle.atomic_table.specs.Table.{Me}
 use Rattle.rx_ring.specs.declared.ends.RxCtx.{RxCtx}
+use Rattle.napi_model.specs.declared.state.Seen.{Seen}
 use Rattle.napi_model.specs.declared.event.Event.{Event}
-use Rattle.napi_model.specs.Step.{opening, seen_of}
+use Rattle.napi_model.specs.declared.event.Operation.TheVariants.{Look}
+use Rattle.napi_model.specs.Step.{event, opening, seen_of}
 use Rattle.napi_model.specs.Word.{word_of}
 use Rattle.napi_model.specs.History.{LegalHistory, state_after, own}
 use Rattle.napi_model.specs.Laws.{is_owner}
@@ -27,12 +29,13 @@ pub record IsWhole (k : ℕ) (h : List Event) (ds : List Delivery) : Type 0 wher
   -- there is one delivery for each event that gave the context away
   pub order : deliverers ds ≡ givers (opening k) h
 
--- a view before and after it: it has caught up with the whole, in which there was no more of its own
-pub record CatchesUp (h : List Event) (ds : List Delivery) (v w : View) : Type 0 where
-  pub shown : view.shown w ≡ h
-  pub begins : IsPrefix (view.shown v) h
-  pub mine : view.mine w ≡ view.mine v
-  pub exact : own (number_of v) h ≡ view.mine v
+-- a view before and after it: it has caught up with the whole, which is what the look e found and then the look; in what it found
+-- there was no more of the pass's own
+pub record CatchesUp (found : List Event) (e : Event) (ds : List Delivery) (v w : View) : Type 0 where
+  pub shown : view.shown w ≡ found ++ e ∷ []
+  pub begins : IsPrefix (view.shown v) found
+  pub knew : own (number_of v) found ≡ view.mine v
+  pub exact : own (number_of v) (found ++ e ∷ []) ≡ view.mine w
   pub delivered : view.delivered w ≡ ds
   pub delivered_begins : IsPrefix (view.delivered v) ds
   pub delivered_exact : own_deliveries (number_of v) ds ≡ own_deliveries (number_of v) (view.delivered v)
@@ -44,30 +47,32 @@ pub record CatchesUp (h : List Event) (ds : List Delivery) (v w : View) : Type 0
   pub controller : controller_of w ≡ controller_of v
   pub ring : first_in w ≡ first_in v
   -- and so does what others can't change
-  pub owner : is_owner (number_of v) (state_at v h).place ≡ is_owner (number_of v) (place_in v)
-  pub place : is_owner (number_of v) (place_in v) ≡ true → (state_at v h).place ≡ place_in v
-  pub busy : is_owner (number_of v) (place_in v) ≡ true → (state_at v h).flags.in_busy_poll ≡ busy_in v
-  pub disable : number_of v ≡ controller_of v → (state_at v h).flags.disable ≡ disable_in v
+  pub owner : is_owner (number_of v) (state_at v found).place ≡ is_owner (number_of v) (place_in v)
+  pub place : is_owner (number_of v) (place_in v) ≡ true → (state_at v found).place ≡ place_in v
+  pub busy : is_owner (number_of v) (place_in v) ≡ true → (state_at v found).flags.in_busy_poll ≡ busy_in v
+  pub disable : number_of v ≡ controller_of v → (state_at v found).flags.disable ≡ disable_in v
 
 -- a pass before and after it: it is the same one, and holds what it held
-pub record IsSurveyed (h : List Event) (ds : List Delivery) (p q : Pass) : Type 0 where
+pub record IsSurveyed (found : List Event) (e : Event) (ds : List Delivery) (p q : Pass) : Type 0 where
   pub table : SameTable p q
   pub holds : q.holds ≡ p.holds
   pub slot : q.seat.me.1 ≡ p.seat.me.1
-  pub view : CatchesUp h ds (view_of p) (view_of q)
+  pub view : CatchesUp found e ds (view_of p) (view_of q)
 
--- these passes of the table whose controller has this number were surveyed
-pub record Surveys (k : ℕ) (before after : List Pass) : Type 0 where
-  pub history : List Event
+-- these passes of the table whose controller has number k were surveyed, by a look of number c that answered x
+pub record Surveys (k c : ℕ) (x : Seen) (before after : List Pass) : Type 0 where
+  -- the whole history, as the look found it
+  pub found : List Event
   pub deliveries : List Delivery
-  pub whole : IsWhole k history deliveries
+  -- the look is the next event
+  pub whole : IsWhole k (found ++ event c (Look x) ∷ []) deliveries
   pub controllers : (i : ℕ) (p : Pass) → slice_get before i ≡ Some p → controller_of (view_of p) ≡ k
   -- all name the same context as the one that was handed in
   pub first : RxCtx
   pub firsts : (i : ℕ) (p : Pass) → slice_get before i ≡ Some p → first_in (view_of p) ≡ Some first
-  pub each : (i : ℕ) (p q : Pass) → slice_get before i ≡ Some p → slice_get after i ≡ Some q → IsSurveyed history deliveries p q
+  pub each : (i : ℕ) (p q : Pass) → slice_get before i ≡ Some p → slice_get after i ≡ Some q → IsSurveyed found (event c (Look x)) deliveries p q
 
--- ---- how it is made: the strands come together, catch up by one load, and part again
+-- ---- how it is made: the strands come together, catch up by one look, and part again
 
 -- a pass's own strand alone
 abbrev pub front : View → View
@@ -107,11 +112,31 @@ pub record Knew (k : ℕ) (h : List Event) (ds : List Delivery) (x : Strand) (c 
   pub busy : is_owner c (state_after (opening k) x.seen).place ≡ true → (state_after (opening k) h).flags.in_busy_poll ≡ (state_after (opening k) x.seen).flags.in_busy_poll
   pub disable : c ≡ k → (state_after (opening k) h).flags.disable ≡ (state_after (opening k) x.seen).flags.disable
 
--- a load that is no event, by which all strands of a seat catch up; the word that it finds is that of the state then
-abbrev pub surveyed : Me Content View → ℕ → Me Content View → Type 0
-surveyed me n me' =
-    (h : List Event) × (ds : List Delivery) × IsWhole (controller_of me.0) h ds
-    × (me'.0 ≡ all_caught_up h ds me.0) × (me'.1 ≡ me.1)
-    × ((k : ℕ) (x : Strand) (c : ℕ) → get_elem? me.0 k ≡ maybe.some x → x.number ≡ Some c → Knew (controller_of me.0) h ds x c)
-    × (n ≡ word_of (seen_of (state_after (opening (controller_of me.0)) h)))
-    × ((ring : RxCtx) × ((k : ℕ) (x : Strand) → get_elem? me.0 k ≡ maybe.some x → x.ring ≡ ring))
+-- a seat's own strand made the look e
+abbrev pub looked : List Event → Event → List Delivery → Strand → Strand
+looked found e ds x = record x { seen = found ++ e ∷ []; mine = x.mine ++ e ∷ []; delivered = ds }
+
+-- and its others have caught up with it
+abbrev pub all_looked : List Event → Event → List Delivery → View → View
+all_looked found e ds [] = []
+all_looked found e ds (x ∷ xs) = looked found e ds x ∷ all_caught_up (found ++ e ∷ []) ds xs
+
+-- a look of a seat's own number, with which all strands of the seat catch up
+pub record Surveyed (me : Me Content View) (n : ℕ) (me' : Me Content View) : Type 0 where
+  pub seen : Seen
+  pub word : n ≡ word_of seen
+  pub found : List Event
+  pub deliveries : List Delivery
+  -- what was seen is the state then
+  pub told : seen ≡ seen_of (state_after (opening (controller_of me.0)) found)
+  pub whole : IsWhole (controller_of me.0) (found ++ event (number_of me.0) (Look seen) ∷ []) deliveries
+  pub view : me'.0 ≡ all_looked found (event (number_of me.0) (Look seen)) deliveries me.0
+  pub slot : me'.1 ≡ me.1
+  pub knew : (k : ℕ) (x : Strand) (c : ℕ) → get_elem? me.0 k ≡ maybe.some x → x.number ≡ Some c → Knew (controller_of me.0) found deliveries x c
+  -- whoever looks is there once
+  pub once : (k : ℕ) (x : Strand) → get_elem? me.0 k ≡ maybe.some x → x.number ≡ Some (number_of me.0) → k ≡ 0
+  -- all strands, with a number or not, had seen a beginning, and name the same context
+  pub seen_begins : (k : ℕ) (x : Strand) → get_elem? me.0 k ≡ maybe.some x → IsPrefix x.seen found
+  pub delivered_begins : (k : ℕ) (x : Strand) → get_elem? me.0 k ≡ maybe.some x → IsPrefix x.delivered deliveries
+  pub first : RxCtx
+  pub firsts : (k : ℕ) (x : Strand) → get_elem? me.0 k ≡ maybe.some x → x.ring ≡ first

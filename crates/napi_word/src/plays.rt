@@ -1,7 +1,7 @@
 //! What each step tells: its operation and its move of the slot, by the word that it finds.
 ghost use Rattle.napi_word.specs.Rule.{left_of, right_of, note_of, joined, spent};
 ghost use Rattle.napi_word.specs.Told.{told, exchanged, begun, laid_down};
-ghost use Rattle.napi_word.specs.Surveys.{surveyed, with_front, but_last, last_alone};
+ghost use Rattle.napi_word.specs.Surveys.{Surveyed, with_front, but_last, last_alone};
 
 use crate::view::View;
 use atomic_table::{Join, Play, Split};
@@ -316,9 +316,9 @@ impl Split<View> for PartsLast {
     ghost right = { last_alone };
 }
 
-/// All strands of a seat see the whole history. No event.
+/// A look of the seat's own strand, with which its other strands catch up.
 pub(crate) struct Surveying;
 
 impl Play<Option<RxCtx>, View> for Surveying {
-    ghost then = { λ s. surveyed };
+    ghost then = { λ s. Surveyed };
 }

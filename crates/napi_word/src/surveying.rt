@@ -1,9 +1,11 @@
 //! All passes of a table meet at once.
 ghost use Rattle.std.specs.Prelude.{◌≡◌, [], ◌∷◌};
-ghost use Rattle.napi_word.specs.declared.view.Holds.TheVariants.{Nothing};
+ghost use Rattle.napi_model.specs.declared.event.Operation.TheVariants.{Look};
 ghost use Rattle.napi_model.specs.Step.{seen_of};
-ghost use Rattle.napi_word.specs.View.{controller_of, state_in};
-ghost use Rattle.napi_word.specs.Passes.{view_of, IsPassOf};
+ghost use Rattle.napi_word.specs.declared.view.Holds.TheVariants.{Nothing};
+ghost use Rattle.napi_word.specs.View.{controller_of, mine, number_of, state_in};
+ghost use Rattle.napi_word.specs.Slot.{stays};
+ghost use Rattle.napi_word.specs.Passes.{view_of, IsPassOf, Makes};
 ghost use Rattle.napi_word.specs.Surveys.{Surveys};
 
 use crate::plays::{PartsLast, Surveying, TakesFront};
@@ -12,8 +14,9 @@ use crate::view::Holds;
 use napi_model::{Seen, decode_known};
 
 impl StateTable {
-    /// Three callers and the controller of a table meet at once. Then each shows the whole history, in which its own list is
-    /// exact, and all deliveries. It is no event, and writes nothing. Last comes what the word tells of the state behind it.
+    /// Four passes of a table meet at once, three callers at rest and `last`, and `last` makes a look, whose answer comes last.
+    /// Then each shows the whole history, which ends in that look and in which its own list is exact, and all deliveries.
+    /// Nothing is written.
     #[inline]
     pub fn survey(
         &self,
@@ -28,7 +31,12 @@ impl StateTable {
         requires last { IsPassOf self.now last.old }
         requires rest { (first.holds ≡ Nothing) × (second.holds ≡ Nothing)
             × (third.holds ≡ Nothing) }
-        ensures surveys { Surveys (controller_of (view_of last.old))
+        ensures look { Makes last.old (Look result.3) stays last.new }
+        ensures others { (mine (view_of result.0) ≡ mine (view_of first))
+            × (mine (view_of result.1) ≡ mine (view_of second))
+            × (mine (view_of result.2) ≡ mine (view_of third)) }
+        ensures surveys { Surveys (controller_of (view_of last.old)) (number_of (view_of last.old))
+            result.3
             (first ∷ second ∷ third ∷ last.old ∷ [])
             (result.0 ∷ result.1 ∷ result.2 ∷ last.new ∷ []) }
         ensures word { result.3 ≡ seen_of (state_in (view_of last.new)) }

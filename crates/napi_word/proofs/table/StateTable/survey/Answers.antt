@@ -1,6 +1,6 @@
-use Rattle.{std.proofs.Common.{ℕ, List, Some, ap, ◌∙◌, sym, refl}, atomic_table.specs.Table.Me, napi_model.specs.{declared.event.Event.Event, Step.{opening, seen_of}, History.state_after}, napi_word.specs.declared.table.Pass.Pass}
-use Rattle.napi_word.{specs.{View.View, Slot.Content, Surveys.IsSurveyed}, proofs.{Said.one_there, Allowed.hold_nothing, Splitting.{joins_front, parts_last_of}}}
-use Rattle.napi_word.proofs.CatchingUp.{surveys, first_pass, second_pass, third_pass, caught_is, caught_is_pass, second_left, second_left_pass, first_left, first_left_pass, first_back, second_back, third_back, last_back, last_slot, last_tied, rest_tied, whole_is, word_is, all_led, all_named, of_both_four}
+use Rattle.{std.proofs.Common.{ℕ, List, Some, ap, ◌∙◌, sym, refl}, atomic_table.specs.Table.Me, napi_model.specs.{declared.{event.{Event.Event, Operation.TheVariants.Look}}, Step.{event, opening, seen_of}, History.state_after}, napi_word.specs.declared.table.Pass.Pass}
+use Rattle.napi_word.{specs.{View.{View, number_of}, Passes.view_of, Slot.Content, Surveys.IsSurveyed}, proofs.{Said.one_there, Allowed.hold_nothing, Splitting.{joins_front, parts_last_of}}}
+use Rattle.napi_word.proofs.CatchingUp.{answers_step, answers_survey, surveys, first_pass, second_pass, third_pass, caught_is, caught_is_pass, second_left, second_left_pass, first_left, first_left_pass, first_back, second_back, third_back, last_back, last_slot, last_tied, rest_tied, last_steps, whole_is, told_is, all_led, all_named, of_both_four}
 use Rattle.napi_word.proofs.table.StateTable.survey.Goals as goal
 
 pub join_seat-requires : goal.join_seat-requires
@@ -94,7 +94,7 @@ invariant_of-last c =
     let z = c.split_seat-first.ensures in
     let tie = last_tied c.args.first c.args.second c.args.third c.args.last.now c.join_seat.new.seat.me c.join_seat-2.new.seat.me c.join_seat-3.new.seat.me j.2 k.2 l.2 c.load.result c.load.new.seat.me u.2 c.split_seat-third.new.seat.me x.2 c.split_seat-second.new.seat.me y.2 c.split_seat-first.new.seat.me z.2 in
     let is = last_back c.args.first c.args.second c.args.third c.args.last.now c.join_seat.new.seat.me c.join_seat-2.new.seat.me c.join_seat-3.new.seat.me j.2 k.2 l.2 c.load.result c.load.new.seat.me u.2 c.split_seat-third.new.seat.me x.2 c.split_seat-second.new.seat.me y.2 c.split_seat-first.new.seat.me z.2 in
-    record { is_pass = is.pass; marked = tie.marked; right = tie.right; ring = tie.ring; unmarked = tie.unmarked; received = tie.received }
+    record { is_pass = is.0.pass; marked = tie.marked; right = tie.right; ring = tie.ring; unmarked = tie.unmarked; received = tie.received }
 
 pub invariant_of-result : goal.invariant_of-result
 invariant_of-result c =
@@ -106,8 +106,8 @@ invariant_of-result c =
     let y = c.split_seat-second.ensures in
     let z = c.split_seat-first.ensures in
     let is = first_back c.args.first c.args.second c.args.third c.args.last.now c.join_seat.new.seat.me c.join_seat-2.new.seat.me c.join_seat-3.new.seat.me j.2 k.2 l.2 c.load.result c.load.new.seat.me u.2 c.split_seat-third.new.seat.me x.2 c.split_seat-second.new.seat.me y.2 c.split_seat-first.result.me z.4 in
-    let tie = rest_tied c.args.first c.args.second c.args.third c.args.last.now c.join_seat.new.seat.me c.join_seat-2.new.seat.me c.join_seat-3.new.seat.me j.2 k.2 l.2 c.load.result c.load.new.seat.me u.2 c.args.first c.requires.rest.0 _ c.split_seat-first.result.me z.4 is in
-    record { is_pass = is.pass; marked = tie.marked; right = tie.right; ring = tie.ring; unmarked = tie.unmarked; received = tie.received }
+    let tie = rest_tied c.args.first c.args.second c.args.third c.args.last.now c.join_seat.new.seat.me c.join_seat-2.new.seat.me c.join_seat-3.new.seat.me j.2 k.2 l.2 c.load.result c.load.new.seat.me u.2 c.args.first c.requires.rest.0 _ c.split_seat-first.result.me z.4 is.0 in
+    record { is_pass = is.0.pass; marked = tie.marked; right = tie.right; ring = tie.ring; unmarked = tie.unmarked; received = tie.received }
 
 pub invariant_of-result-2 : goal.invariant_of-result-2
 invariant_of-result-2 c =
@@ -118,8 +118,8 @@ invariant_of-result-2 c =
     let x = c.split_seat-third.ensures in
     let y = c.split_seat-second.ensures in
     let is = second_back c.args.first c.args.second c.args.third c.args.last.now c.join_seat.new.seat.me c.join_seat-2.new.seat.me c.join_seat-3.new.seat.me j.2 k.2 l.2 c.load.result c.load.new.seat.me u.2 c.split_seat-third.new.seat.me x.2 c.split_seat-second.result.me y.4 in
-    let tie = rest_tied c.args.first c.args.second c.args.third c.args.last.now c.join_seat.new.seat.me c.join_seat-2.new.seat.me c.join_seat-3.new.seat.me j.2 k.2 l.2 c.load.result c.load.new.seat.me u.2 c.args.second c.requires.rest.1 _ c.split_seat-second.result.me y.4 is in
-    record { is_pass = is.pass; marked = tie.marked; right = tie.right; ring = tie.ring; unmarked = tie.unmarked; received = tie.received }
+    let tie = rest_tied c.args.first c.args.second c.args.third c.args.last.now c.join_seat.new.seat.me c.join_seat-2.new.seat.me c.join_seat-3.new.seat.me j.2 k.2 l.2 c.load.result c.load.new.seat.me u.2 c.args.second c.requires.rest.1 _ c.split_seat-second.result.me y.4 is.0 in
+    record { is_pass = is.0.pass; marked = tie.marked; right = tie.right; ring = tie.ring; unmarked = tie.unmarked; received = tie.received }
 
 pub invariant_of-result-3 : goal.invariant_of-result-3
 invariant_of-result-3 c =
@@ -129,8 +129,8 @@ invariant_of-result-3 c =
     let u = c.load.ensures in
     let x = c.split_seat-third.ensures in
     let is = third_back c.args.first c.args.second c.args.third c.args.last.now c.join_seat.new.seat.me c.join_seat-2.new.seat.me c.join_seat-3.new.seat.me j.2 k.2 l.2 c.load.result c.load.new.seat.me u.2 c.split_seat-third.result.me x.4 in
-    let tie = rest_tied c.args.first c.args.second c.args.third c.args.last.now c.join_seat.new.seat.me c.join_seat-2.new.seat.me c.join_seat-3.new.seat.me j.2 k.2 l.2 c.load.result c.load.new.seat.me u.2 c.args.third c.requires.rest.2 _ c.split_seat-third.result.me x.4 is in
-    record { is_pass = is.pass; marked = tie.marked; right = tie.right; ring = tie.ring; unmarked = tie.unmarked; received = tie.received }
+    let tie = rest_tied c.args.first c.args.second c.args.third c.args.last.now c.join_seat.new.seat.me c.join_seat-2.new.seat.me c.join_seat-3.new.seat.me j.2 k.2 l.2 c.load.result c.load.new.seat.me u.2 c.args.third c.requires.rest.2 _ c.split_seat-third.result.me x.4 is.0 in
+    record { is_pass = is.0.pass; marked = tie.marked; right = tie.right; ring = tie.ring; unmarked = tie.unmarked; received = tie.received }
 
 pub returns-clause-surveys : goal.returns-clause-surveys
 returns-clause-surveys c =
@@ -151,27 +151,22 @@ returns-clause-surveys c =
     let none0 = hold_nothing c.args.first.seat.me.1 (c.args.first.marked ∙ ap Some r.rest.0) in
     let none1 = hold_nothing c.args.second.seat.me.1 (c.args.second.marked ∙ ap Some r.rest.1) in
     let none2 = hold_nothing c.args.third.seat.me.1 (c.args.third.marked ∙ ap Some r.rest.2) in
-    record {
-      history = u.2.0;
-      deliveries = u.2.1;
+    answers_survey (c.decode_known-seen.ensures.inverse _ (sym u.2.word)) record {
+      found = u.2.found;
+      deliveries = u.2.deliveries;
       whole = whole_is c.args.first c.args.second c.args.third c.args.last.now c.join_seat.new.seat.me c.join_seat-2.new.seat.me c.join_seat-3.new.seat.me j.2 k.2 l.2 c.load.result c.load.new.seat.me u.2;
       controllers = all_led c.args.first c.args.second c.args.third c.args.last.now c.join_seat.new.seat.me c.join_seat-2.new.seat.me c.join_seat-3.new.seat.me j.2 k.2 l.2 c.load.result c.load.new.seat.me u.2;
-      first = u.2.7.0;
+      first = u.2.first;
       firsts = all_named c.args.first c.args.second c.args.third c.args.last.now c.join_seat.new.seat.me c.join_seat-2.new.seat.me c.join_seat-3.new.seat.me j.2 k.2 l.2 c.load.result c.load.new.seat.me u.2;
-      each = of_both_four (IsSurveyed u.2.0 u.2.1) c.args.first c.args.second c.args.third c.args.last.now _ _ _ _
-          (record { table = z.3 ∙ y.0 ∙ x.0 ∙ table ∙ sym r.first; holds = sym r.rest.0; slot = ap (λ (m : Me Content View). m.1) z.4 ∙ sym none0; view = one })
-          (record { table = y.3 ∙ x.0 ∙ table ∙ sym r.second; holds = sym r.rest.1; slot = ap (λ (m : Me Content View). m.1) y.4 ∙ sym none1; view = two })
-          (record { table = x.3 ∙ table ∙ sym r.third; holds = sym r.rest.2; slot = ap (λ (m : Me Content View). m.1) x.4 ∙ sym none2; view = three })
-          (record { table = z.0 ∙ y.0 ∙ x.0 ∙ u.0 ∙ l.0 ∙ k.0 ∙ j.0; holds = refl; slot = slot; view = four });
+      each = of_both_four (IsSurveyed u.2.found (event (number_of (view_of c.args.last.now)) (Look u.2.seen)) u.2.deliveries) c.args.first c.args.second c.args.third c.args.last.now _ _ _ _
+          (record { table = z.3 ∙ y.0 ∙ x.0 ∙ table ∙ sym r.first; holds = sym r.rest.0; slot = ap (λ (m : Me Content View). m.1) z.4 ∙ sym none0; view = one.0 })
+          (record { table = y.3 ∙ x.0 ∙ table ∙ sym r.second; holds = sym r.rest.1; slot = ap (λ (m : Me Content View). m.1) y.4 ∙ sym none1; view = two.0 })
+          (record { table = x.3 ∙ table ∙ sym r.third; holds = sym r.rest.2; slot = ap (λ (m : Me Content View). m.1) x.4 ∙ sym none2; view = three.0 })
+          (record { table = z.0 ∙ y.0 ∙ x.0 ∙ u.0 ∙ l.0 ∙ k.0 ∙ j.0; holds = refl; slot = slot; view = four.0 });
     }
 
 pub decode_known-seen-requires : goal.decode_known-seen-requires
-decode_known-seen-requires c =
-    let j = c.join_seat.ensures in
-    let k = c.join_seat-2.ensures in
-    let l = c.join_seat-3.ensures in
-    let u = c.load.ensures in
-    (_, sym (word_is c.args.first c.args.second c.args.third c.args.last.now c.join_seat.new.seat.me c.join_seat-2.new.seat.me c.join_seat-3.new.seat.me j.2 k.2 l.2 c.load.result c.load.new.seat.me u.2))
+decode_known-seen-requires c = (c.load.ensures.2.seen, sym c.load.ensures.2.word)
 
 pub returns-clause-word : goal.returns-clause-word
 returns-clause-word c =
@@ -182,6 +177,34 @@ returns-clause-word c =
     let x = c.split_seat-third.ensures in
     let y = c.split_seat-second.ensures in
     let z = c.split_seat-first.ensures in
-    let word = word_is c.args.first c.args.second c.args.third c.args.last.now c.join_seat.new.seat.me c.join_seat-2.new.seat.me c.join_seat-3.new.seat.me j.2 k.2 l.2 c.load.result c.load.new.seat.me u.2 in
     let four = last_back c.args.first c.args.second c.args.third c.args.last.now c.join_seat.new.seat.me c.join_seat-2.new.seat.me c.join_seat-3.new.seat.me j.2 k.2 l.2 c.load.result c.load.new.seat.me u.2 c.split_seat-third.new.seat.me x.2 c.split_seat-second.new.seat.me y.2 c.split_seat-first.new.seat.me z.2 in
-    c.decode_known-seen.ensures.inverse _ (sym word) ∙ sym (ap (λ (t : ℕ × List Event). seen_of (state_after (opening t.0) t.1)) (λ i. (four.controller i, four.shown i)))
+    c.decode_known-seen.ensures.inverse _ (sym u.2.word) ∙ told_is c.args.first c.args.second c.args.third c.args.last.now c.join_seat.new.seat.me c.join_seat-2.new.seat.me c.join_seat-3.new.seat.me j.2 k.2 l.2 c.load.result c.load.new.seat.me u.2
+    ∙ sym (ap (λ (t : ℕ × List Event). seen_of (state_after (opening t.0) t.1)) (λ i. (four.0.controller i, four.0.shown i)))
+
+pub returns-clause-look : goal.returns-clause-look
+returns-clause-look c =
+    let j = c.join_seat.ensures in
+    let k = c.join_seat-2.ensures in
+    let l = c.join_seat-3.ensures in
+    let u = c.load.ensures in
+    let x = c.split_seat-third.ensures in
+    let y = c.split_seat-second.ensures in
+    let z = c.split_seat-first.ensures in
+    let four = last_back c.args.first c.args.second c.args.third c.args.last.now c.join_seat.new.seat.me c.join_seat-2.new.seat.me c.join_seat-3.new.seat.me j.2 k.2 l.2 c.load.result c.load.new.seat.me u.2 c.split_seat-third.new.seat.me x.2 c.split_seat-second.new.seat.me y.2 c.split_seat-first.new.seat.me z.2 in
+    let slot = last_slot c.args.first c.args.second c.args.third c.args.last.now c.join_seat.new.seat.me c.join_seat-2.new.seat.me c.join_seat-3.new.seat.me j.2 k.2 l.2 c.load.result c.load.new.seat.me u.2 c.split_seat-third.new.seat.me x.2 c.split_seat-second.new.seat.me y.2 c.split_seat-first.new.seat.me z.2 in
+    answers_step (c.decode_known-seen.ensures.inverse _ (sym u.2.word))
+    (last_steps c.args.first c.args.second c.args.third c.args.last.now c.join_seat.new.seat.me c.join_seat-2.new.seat.me c.join_seat-3.new.seat.me j.2 k.2 l.2 c.load.result c.load.new.seat.me u.2 _ four (z.0 ∙ y.0 ∙ x.0 ∙ u.0 ∙ l.0 ∙ k.0 ∙ j.0) refl slot)
+
+pub returns-clause-others : goal.returns-clause-others
+returns-clause-others c =
+    let j = c.join_seat.ensures in
+    let k = c.join_seat-2.ensures in
+    let l = c.join_seat-3.ensures in
+    let u = c.load.ensures in
+    let x = c.split_seat-third.ensures in
+    let y = c.split_seat-second.ensures in
+    let z = c.split_seat-first.ensures in (
+      (first_back c.args.first c.args.second c.args.third c.args.last.now c.join_seat.new.seat.me c.join_seat-2.new.seat.me c.join_seat-3.new.seat.me j.2 k.2 l.2 c.load.result c.load.new.seat.me u.2 c.split_seat-third.new.seat.me x.2 c.split_seat-second.new.seat.me y.2 c.split_seat-first.result.me z.4).1,
+      (second_back c.args.first c.args.second c.args.third c.args.last.now c.join_seat.new.seat.me c.join_seat-2.new.seat.me c.join_seat-3.new.seat.me j.2 k.2 l.2 c.load.result c.load.new.seat.me u.2 c.split_seat-third.new.seat.me x.2 c.split_seat-second.result.me y.4).1,
+      (third_back c.args.first c.args.second c.args.third c.args.last.now c.join_seat.new.seat.me c.join_seat-2.new.seat.me c.join_seat-3.new.seat.me j.2 k.2 l.2 c.load.result c.load.new.seat.me u.2 c.split_seat-third.result.me x.4).1,
+    )

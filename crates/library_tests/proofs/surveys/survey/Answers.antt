@@ -1,0 +1,12 @@
+use Rattle.{std.proofs.Common.{[], ◌∷◌, ◌++◌, ◌∙◌, arith}, napi_model.specs.{declared.event.Operation.TheVariants.Look, Step.event}, napi_word.specs.View.{mine, number_of}}
+use Rattle.library_tests.proofs.surveys.survey.Goals as goal
+
+pub survey-first-requires-clause-rest : goal.survey-first-requires-clause-rest
+survey-first-requires-clause-rest c =
+    let o = c.in_ok-table.ensures in
+    (o.first.others (omega arith), o.second.others (omega arith), o.third.others (omega arith))
+
+pub returns-clause-control : goal.returns-clause-control
+returns-clause-control c =
+    let o = c.in_ok-table.ensures in
+    c.survey-first.ensures.look.event.grows ∙ (λ i. mine (o.control.view i) ++ event (number_of (o.control.view i)) (Look c.survey-first.result.3) ∷ [])
