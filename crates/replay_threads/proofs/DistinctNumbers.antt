@@ -1,5 +1,5 @@
 -- Stations in rising order of their numbers.
-use Rattle.std.{proofs.{Common.{◌≡◌, ◌∙◌, ℕ, zero, suc, ◌+◌, ◌<◌, ◌≤◌, Bool, true, false, List, [], ◌∷◌, ap, refl, arith}, lemmas.Bool.ne_eqb}, specs.{Prelude.{◌==◌, ◌&&◌, ◌||◌, not, filter}, List.{AllZip, list_any, range_with_len}}}
+use Rattle.std.{proofs.{Common.{◌≡◌, ◌∙◌, ℕ, zero, suc, ◌+◌, ◌<◌, Bool, true, false, List, [], ◌∷◌, ap, refl, arith}, lemmas.Bool.ne_eqb}, specs.{Prelude.{◌==◌, filter}, List.{AllZip, list_any, range_with_len}}}
 use Rattle.{poll_interrupts.specs.declared.station.Station.Station, poll_workers.specs.Numbers.{are_distinct, have_distinct_numbers, numbers_of}}
 
 -- none of the numbers from here on is a lower one
