@@ -51,7 +51,7 @@ fn with<'a>(
     requires number { (1 ≤ number) × (number ≤ 16) }
     ensures all { IfOk result (λ v. All IsStation v.items) }
     ensures numbers { IfOk result
-        (λ v. numbers_of v.items ≡ numbers_of stations.items ++ number ∷ []) }
+        (λ v. numbers_of v.items ≡ numbers_of stations.entry.items ++ number ∷ []) }
 {
     stations.push(Station {
         number,
