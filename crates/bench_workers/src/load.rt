@@ -1,7 +1,8 @@
 //! What a run is given.
 
-ghost use Rattle.std.specs.Prelude.{◌≡◌, ◌≤◌, ◌<◌, ◌+◌, ◌*◌, IfOk, vec_items, vec_len};
+ghost use Rattle.std.specs.Prelude.{◌≡◌, ◌≤◌, ◌<◌, ◌+◌, ◌*◌, IfOk, IsTrue, vec_items};
 ghost use Rattle.std.specs.List.{All};
+ghost use Rattle.poll_workers.specs.Numbers.{have_distinct_numbers};
 ghost use Rattle.poll_workers.specs.Opens.{IsStation};
 
 use anyhow::{Context, Result, ensure};
@@ -105,7 +106,7 @@ impl Load {
     /// The devices, each with a ring that holds all its packets; every second one has a thread of its own.
     pub fn stations(&self, alloc: Global) -> Result<Vec<Station<ActList>>, AllocError>
         ensures all { IfOk result (λ v. All IsStation (vec_items v)) }
-        ensures count { IfOk result (λ v. vec_len v ≤ 16) }
+        ensures numbers { IfOk result (λ v. IsTrue (have_distinct_numbers (vec_items v))) }
     {
         let mut stations = Vec::new(alloc);
         for number in 1..=self.devices {

@@ -12,22 +12,31 @@ use anyhow::{Result, ensure};
 use count::Count;
 use gate::HoldsFirst;
 use load::Load;
-use poll_workers::{Pace, run_workers};
+use poll_workers::run_workers;
 use std::env;
 use std::time::Instant;
 
-const PACE: Pace = Pace {
-    budget: 300,
-    weight: 64,
-    window: 1024,
-};
+const BUDGET: u32 = 300;
+
+const WEIGHT: u32 = 64;
+
+const WINDOW: u32 = 1024;
 
 fn main(rt: HostRuntime) -> Result<()> {
     let load = Load::of_words(env::args(&rt)?)?;
     let stations = load.stations(rt.alloc())?;
     let gate = HoldsFirst::new(rt, load.hold);
     let start = Instant::now(&rt)?;
-    let finished = run_workers(&rt, rt.alloc(), stations, load.pollers, PACE, &gate)?;
+    let finished = run_workers(
+        &rt,
+        rt.alloc(),
+        stations,
+        load.pollers,
+        BUDGET,
+        WEIGHT,
+        WINDOW,
+        &gate,
+    )?;
     let spent = start.elapsed(&rt)?.as_nanos();
     let mut count = Count::default();
     for one in finished {

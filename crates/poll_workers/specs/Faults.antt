@@ -1,19 +1,17 @@
 -- Why a run gave nothing, by number, and which fault is told.
 use Rattle.std.specs.Prelude.{ℕ, Bool, true, false, Result, Ok, Err, if◌then◌else◌}
 use Rattle.poll_workers.specs.declared.fault.WorkFault.{WorkFault}
-use Rattle.poll_workers.specs.declared.fault.WorkFault.TheVariants.{OutOfMemory, GateShut, SpawnFailed, SameNumber}
+use Rattle.poll_workers.specs.declared.fault.WorkFault.TheVariants.{OutOfMemory, GateShut, SpawnFailed}
 
 abbrev pub number_of : WorkFault → ℕ
 number_of OutOfMemory = 1
 number_of GateShut = 2
 number_of SpawnFailed = 3
-number_of SameNumber = 4
 
 abbrev pub is_memory : WorkFault → Bool
 is_memory OutOfMemory = true
 is_memory GateShut = false
 is_memory SpawnFailed = false
-is_memory SameNumber = false
 
 -- memory was refused to some crew
 abbrev pub wants_memory : {A : Type 0} → Result A WorkFault → Bool
@@ -31,4 +29,3 @@ abbrev pub IsCrewFault : WorkFault → Type 0
 IsCrewFault OutOfMemory = Unit {0}
 IsCrewFault GateShut = ⊥
 IsCrewFault SpawnFailed = Unit {0}
-IsCrewFault SameNumber = ⊥

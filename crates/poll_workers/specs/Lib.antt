@@ -5,4 +5,3 @@ pub mod Finishes
 pub use Rattle.poll_interrupts.specs.Acts
 pub use Rattle.poll_interrupts.specs.Runs
 pub use Rattle.poll_interrupts.specs.Opens
-pub use Rattle.poll_tasks.specs.Paces

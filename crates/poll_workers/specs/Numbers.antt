@@ -1,9 +1,15 @@
 -- Stations each of which has a number of its own.
-use Rattle.std.specs.Prelude.{◌==◌, ◌&&◌, not, Bool, true, List, [], ◌∷◌}
+use Rattle.std.specs.Prelude.{◌==◌, ◌&&◌, ℕ, not, Bool, true, List, [], ◌∷◌, map}
 use Rattle.std.specs.List.{list_any}
 use Rattle.poll_interrupts.specs.declared.station.Station.{Station}
 
--- the number of each is that of no other
-abbrev pub own_numbers : {D : Type 0} → List (Station D) → Bool
-own_numbers [] = true
-own_numbers (station ∷ stations) = not (list_any (λ other. other.number == station.number) stations) && own_numbers stations
+-- no number stands twice
+abbrev pub are_distinct : List ℕ → Bool
+are_distinct [] = true
+are_distinct (n ∷ ns) = not (list_any (λ m. m == n) ns) && are_distinct ns
+
+abbrev pub numbers_of : {D : Type 0} → List (Station D) → List ℕ
+numbers_of stations = map (λ station. station.number) stations
+
+abbrev pub have_distinct_numbers : {D : Type 0} → List (Station D) → Bool
+have_distinct_numbers stations = are_distinct (numbers_of stations)

@@ -17,13 +17,10 @@ pub enum WorkFault {
     /// A thread could not be started.
     #[error("work fault 3 SpawnFailed")]
     SpawnFailed,
-    /// Two stations have one number.
-    #[error("work fault 4 SameNumber")]
-    SameNumber,
 }
 
 impl WorkFault {
-    /// Its number: 1 `OutOfMemory`, 2 `GateShut`, 3 `SpawnFailed`, 4 `SameNumber`.
+    /// Its number: 1 `OutOfMemory`, 2 `GateShut`, 3 `SpawnFailed`.
     pub fn number(&self) -> u32
         ensures { result ≡ number_of self.now }
     {
@@ -31,7 +28,6 @@ impl WorkFault {
             WorkFault::OutOfMemory => 1,
             WorkFault::GateShut => 2,
             WorkFault::SpawnFailed => 3,
-            WorkFault::SameNumber => 4,
         }
     }
 }

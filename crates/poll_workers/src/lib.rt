@@ -8,6 +8,7 @@ mod run;
 mod spreading;
 
 pub use fault::WorkFault;
+pub use numbers::have_distinct_numbers;
 pub use poll_interrupts::{Act, ActList, Device, Finished, Station};
-pub use poll_tasks::{Gate, OpenGate, Pace};
+pub use poll_tasks::{Gate, OpenGate};
 pub use run::run_workers;

@@ -2,20 +2,23 @@
 
 ghost use Rattle.std.specs.Prelude.{◌≡◌, ◌==◌};
 ghost use Rattle.std.specs.List.{list_any};
-ghost use Rattle.poll_workers.specs.Numbers.{own_numbers};
+ghost use Rattle.poll_workers.specs.Numbers.{have_distinct_numbers, numbers_of};
 
 use poll_interrupts::Station;
 
 // Whether one of the stations has the number.
 fn is_among<D: Drop>(number: u32, stations: &[Station<D>]) -> bool
-    ensures { result ≡ list_any (λ other. other.number == number) stations.now }
+    ensures { result ≡ list_any (λ other. other == number) (numbers_of stations.now) }
 {
-    stations.iter().any(|other| other.number == number)
+    stations
+        .iter()
+        .map(|station| station.number)
+        .any(|other| other == number)
 }
 
-/// Whether the number of each station is its own.
-pub(crate) fn have_own_numbers<D: Drop>(stations: &[Station<D>]) -> bool
-    ensures { result ≡ own_numbers stations.now }
+/// Whether no two stations have one number, as `run_workers` asks. None, and one alone, have distinct numbers.
+pub fn have_distinct_numbers<D: Drop>(stations: &[Station<D>]) -> bool
+    ensures { result ≡ have_distinct_numbers stations.now }
 {
     let mut rest = stations;
     for _ in 0..stations.len() {

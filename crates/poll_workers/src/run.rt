@@ -1,19 +1,18 @@
 //! A run of all stations.
 
-ghost use Rattle.std.specs.Prelude.{◌≡◌, ◌≤◌, ◌<◌, ◌+◌, ◌↔◌, IfErr, IfOk, IsErrOf, Ok, false, vec_items, vec_len, vec_capacity};
+ghost use Rattle.std.specs.Prelude.{◌≡◌, ◌≤◌, ◌<◌, ◌+◌, IfErr, IfOk, IsErrOf, IsTrue, Ok, vec_items, vec_len, vec_capacity};
 ghost use Rattle.std.specs.List.{All, AllZip};
 ghost use Rattle.std.specs.Thread.{IsSend, IsSync};
 ghost use Rattle.poll_interrupts.specs.Deals.{IsDealt};
 ghost use Rattle.poll_workers.specs.Finishes.{IsFinished};
-ghost use Rattle.poll_workers.specs.declared.fault.WorkFault.TheVariants.{GateShut, OutOfMemory, SameNumber};
+ghost use Rattle.poll_workers.specs.declared.fault.WorkFault.TheVariants.{GateShut, OutOfMemory};
 ghost use Rattle.poll_workers.specs.Faults.{IsCrewFault, told};
-ghost use Rattle.poll_workers.specs.Numbers.{own_numbers};
+ghost use Rattle.poll_workers.specs.Numbers.{have_distinct_numbers};
 ghost use Rattle.poll_interrupts.specs.Opens.{IsStation};
 ghost use Rattle.poll_tasks.specs.Paces.{IsLawful};
 
 use crate::crew::run_crew;
 use crate::fault::WorkFault;
-use crate::numbers::have_own_numbers;
 use poll_interrupts::{Dealt, Device, Finished, Station, deal, merge};
 use poll_tasks::{Gate, Pace, Setting, Signals, Watch};
 use std::alloc::{AllocError, Global};
@@ -115,21 +114,27 @@ fn tell<T: Drop>(came: Result<T, WorkFault>, refused: bool, shut: bool) -> Resul
     }
 }
 
-/// Runs the devices of the stations, each in a thread of its own that makes its acts in order, as interrupts of a shared
-/// instance, with so many pollers, 1 to 8, and with the threads of those stations that have one. At the end each device is
-/// disabled, its instance closed, and its ring read off. The answer has the devices in the order of the stations.
+/// Runs the devices of the stations side by side, each in a thread of its own, which makes its acts in order as interrupts of
+/// an instance of its own. Station `number` is polled by poller `(number - 1) mod pollers`, in runs over that one's list
+/// (`net_rx_action`), and by its own thread while THREADED is set, where it has one (`napi_threaded_poll`). At the end each
+/// device is disabled, its instance closed, and its ring read off. The answer has the devices in the order of the stations;
+/// of no stations it is empty.
 ///
-/// Station `number` is polled by poller `(number - 1) mod pollers`.
+/// `pollers` is 1 to 8. A run stops behind `budget` packets, 1 to 65535 (`netdev_budget`), or `window` polls, 1 to 65535; a
+/// thread's turn is at most `window` polls too. One poll gives at most `weight` packets, 1 to 64. Each station has a number
+/// of its own in 1 to 16 ([`have_distinct_numbers`](crate::have_distinct_numbers) tells) and 1 to 65536 places.
 ///
-/// Refused by `SameNumber` (4) exactly where two stations have one number: nothing is begun then. Refused by `OutOfMemory`
-/// (1) where memory is, by `SpawnFailed` (3) where a thread can't be started, and by `GateShut` (2) where the gate answers
-/// false. All threads that were started have ended then, and all instances are closed.
+/// Refused by `OutOfMemory` (1) where memory is, by `SpawnFailed` (3) where a thread can't be started, and by `GateShut` (2)
+/// where the gate answers false, the first two before the third. All threads that were started have then been joined, all
+/// instances are closed, and the stations are dropped.
 pub fn run_workers<R, D, G>(
     rt: &R,
     alloc: Global,
     stations: Vec<Station<D>>,
     pollers: u32,
-    pace: Pace,
+    budget: u32,
+    weight: u32,
+    window: u32,
     gate: &G,
 ) -> Result<Vec<Finished<D>>, WorkFault>
 where
@@ -137,26 +142,28 @@ where
     D: Device + Drop + Send,
     G: Gate + Sync,
     requires stations { All IsStation (vec_items stations) }
-    requires count { vec_len stations ≤ 16 }
+    requires numbers { IsTrue (have_distinct_numbers (vec_items stations)) }
     requires pollers { (1 ≤ pollers) × (pollers ≤ 8) }
-    requires pace { IsLawful pace }
+    requires budget { (1 ≤ budget) × (budget ≤ 65535) }
+    requires weight { (1 ≤ weight) × (weight ≤ 64) }
+    requires window { (1 ≤ window) × (window ≤ 65535) }
     // Each device made all its acts, each once and in order; what was put was polled or is left.
     ensures finished { IfOk result
         (λ all. AllZip (IsFinished D.acts D.answer D.after) (vec_items stations) (vec_items all)) }
-    ensures numbers { IsErrOf result SameNumber ↔ (own_numbers (vec_items stations) ≡ false) }
     // So never with a gate that is always open.
     ensures gate { IsErrOf result GateShut → G.may_shut }
 {
-    if !have_own_numbers(stations.as_slice()) {
-        return Err(WorkFault::SameNumber);
-    }
     let watch = Watch::new(gate);
     let signals = Signals::new();
     let setting = Setting {
         rt,
         gate: &watch,
         signals: &signals,
-        pace,
+        pace: Pace {
+            budget,
+            weight,
+            window,
+        },
     };
     let came = run_crews(&setting, alloc, 0, pollers, stations);
     tell(came, signals.is_refused(), watch.is_shut())

@@ -1,15 +1,17 @@
 //! What is made for a count is made for each count that it takes, where memory is there: no clause can say that.
 
-ghost use Rattle.std.specs.Prelude.{◌≡◌, ◌≤◌, IfOk, vec_items, vec_len};
+ghost use Rattle.std.specs.Prelude.{◌≤◌, IfOk, IsTrue, vec_items};
 ghost use Rattle.std.specs.List.{All};
 ghost use Rattle.poll_interrupts.specs.Opens.{IsStation};
+ghost use Rattle.poll_workers.specs.Numbers.{have_distinct_numbers};
 
+use crate::gates::run;
 use device_bench::{ReplayBench, SerialBench};
 use device_shared::shared_bench;
 use napi_calls::Napi;
 use poll_list::shared_list;
 use poll_runs::{PollList, SoftList};
-use poll_workers::{ActList, OpenGate, Pace, Station, run_workers};
+use poll_workers::{ActList, OpenGate, Station};
 use rx_ring::{Packet, ring};
 use std::alloc::{AllocError, Global};
 use std::sync::Wait;
@@ -93,7 +95,7 @@ fn benches_of_sixteen_devices(rt: HostRuntime) -> Result<(), Fail> {
 fn stations_of(alloc: Global, count: u32) -> Result<Vec<Station<ActList>>, AllocError>
     requires { count ≤ 16 }
     ensures all { IfOk result (λ v. All IsStation (vec_items v)) }
-    ensures len { IfOk result (λ v. vec_len v ≡ count) }
+    ensures numbers { IfOk result (λ v. IsTrue (have_distinct_numbers (vec_items v))) }
 {
     let mut stations = Vec::new(alloc);
     for index in 0..count {
@@ -117,13 +119,8 @@ fn run_idle<R: Threads + Wait + Sync>(
     requires count { count ≤ 16 }
     requires pollers { (1 ≤ pollers) × (pollers ≤ 8) }
 {
-    let pace = Pace {
-        budget: 300,
-        weight: 64,
-        window: 1024,
-    };
     let stations = stations_of(alloc, count)?;
-    Ok(run_workers(rt, alloc, stations, pollers, pace, &OpenGate)?.len())
+    Ok(run(rt, alloc, stations, pollers, &OpenGate)?.len())
 }
 
 // Runs of 1 to 16 stations, by one poller and by 1 to 8.

@@ -1,10 +1,14 @@
 //! Runs of workers and pollers. Gates show that they run side by side.
 
-ghost use Rattle.std.specs.Prelude.{◌≡◌, ◌≤◌, ◌+◌, IfOk, vec_len};
+ghost use Rattle.std.specs.Prelude.{◌≡◌, ◌≤◌, ◌∷◌, ◌++◌, [], IfOk, IsTrue};
 ghost use Rattle.std.specs.List.{All};
 ghost use Rattle.poll_interrupts.specs.Opens.{IsStation};
+ghost use Rattle.poll_workers.specs.Numbers.{have_distinct_numbers, numbers_of};
 
-use poll_workers::{Act, ActList, Finished, Gate, OpenGate, Pace, Station, WorkFault, run_workers};
+use poll_workers::{
+    Act, ActList, Device, Finished, Gate, OpenGate, Station, WorkFault, have_distinct_numbers,
+    run_workers,
+};
 use rx_ring::Packet;
 use std::alloc::{AllocError, Global};
 use std::process::Abort;
@@ -22,11 +26,24 @@ fn receive(acts: &mut Vec<Act>, packets: u64) -> Result<(), AllocError> {
     Ok(())
 }
 
-const PACE: Pace = Pace {
-    budget: 300,
-    weight: 64,
-    window: 1024,
-};
+/// Runs the stations by so many pollers, with the usual budget, weight and window.
+pub(crate) fn run<R, D, G>(
+    rt: &R,
+    alloc: Global,
+    stations: Vec<Station<D>>,
+    pollers: u32,
+    gate: &G,
+) -> Result<Vec<Finished<D>>, WorkFault>
+where
+    R: Threads + Wait + Sync,
+    D: Device + Drop + Send,
+    G: Gate + Sync,
+    requires stations { All IsStation stations.items }
+    requires numbers { IsTrue (have_distinct_numbers stations.items) }
+    requires pollers { (1 ≤ pollers) × (pollers ≤ 8) }
+{
+    run_workers(rt, alloc, stations, pollers, 300, 64, 1024, gate)
+}
 
 /// How often a gate looks before it gives up: some seconds long, so that a run that waits for ever ends all the same.
 pub(crate) const LOOKS: u32 = 20_000_000;
@@ -158,7 +175,8 @@ fn with(
     requires number { (1 ≤ number) × (number ≤ 16) }
     requires capacity { (1 ≤ capacity) × (capacity ≤ 65536) }
     ensures all { IfOk result (λ v. All IsStation v.items) }
-    ensures len { IfOk result (λ v. vec_len v ≡ vec_len stations + 1) }
+    ensures numbers { IfOk result
+        (λ v. numbers_of v.items ≡ numbers_of stations.items ++ number ∷ []) }
 {
     stations.push(Station {
         number,
@@ -172,7 +190,7 @@ fn with(
 // Two devices with so many packets each, the first one with a thread of its own where it is asked for.
 fn two(alloc: Global, packets: u64, thread: bool) -> Result<Vec<Station<ActList>>, AllocError>
     ensures all { IfOk result (λ v. All IsStation v.items) }
-    ensures len { IfOk result (λ v. vec_len v ≡ 2) }
+    ensures numbers { IfOk result (λ v. numbers_of v.items ≡ 2 ∷ 1 ∷ []) }
 {
     let mut first = vec![in alloc; Act::SetThreaded(thread)]?;
     receive(&mut first, packets)?;
@@ -201,7 +219,7 @@ fn run_twice_500<R: Threads + Wait + Sync>(
 {
     let stations = with(Vec::new(alloc), 2, 1000, false, twice_500(alloc)?)?;
     let stations = with(stations, 1, 1000, false, twice_500(alloc)?)?;
-    Ok(run_workers(rt, alloc, stations, pollers, PACE, &OpenGate)?)
+    Ok(run(rt, alloc, stations, pollers, &OpenGate)?)
 }
 
 // What each device's ring came to: the packets put, those polled with those left, and all their bytes.
@@ -217,7 +235,7 @@ fn add_totals(rt: &impl Abort, done: &[Finished<ActList>], packets: u64) {
 #[test]
 fn nothing_is_run_without_stations(rt: HostRuntime) -> Result<(), Fail> {
     let none: Vec<Station<ActList>> = Vec::new(rt.alloc());
-    let done = run_workers(&rt, rt.alloc(), none, 8, PACE, &OpenGate)?;
+    let done = run(&rt, rt.alloc(), none, 8, &OpenGate)?;
     assert_eq!(rt; done.len(), 0);
     Ok(())
 }
@@ -239,7 +257,7 @@ fn each_packet_is_polled_or_left(rt: HostRuntime) -> Result<(), Fail> {
 fn what_was_put_is_polled(rt: HostRuntime) -> Result<(), Fail> {
     for thread in [false, true] {
         let stations = two(rt.alloc(), 63, thread)?;
-        let done = run_workers(&rt, rt.alloc(), stations, 1, PACE, &OpenGate)?;
+        let done = run(&rt, rt.alloc(), stations, 1, &OpenGate)?;
         assert_eq!(rt; done.len(), 2);
         for finished in done {
             let totals = finished.totals;
@@ -261,7 +279,7 @@ fn threads_run_side_by_side(rt: HostRuntime) -> Result<(), Fail> {
     ] {
         let gate = Together::new(first, second);
         let stations = two(rt.alloc(), 50, true)?;
-        let done = run_workers(&rt, rt.alloc(), stations, 2, PACE, &gate)?;
+        let done = run(&rt, rt.alloc(), stations, 2, &gate)?;
         add_totals(&rt, done.as_slice(), 50);
     }
     Ok(())
@@ -272,25 +290,33 @@ fn threads_run_side_by_side(rt: HostRuntime) -> Result<(), Fail> {
 fn a_gate_shuts_the_run(rt: HostRuntime) -> Result<(), Fail> {
     for (worker, act) in [(1, 0), (1, 1), (2, 7), (1, 10), (100, 0), (201, 0)] {
         let stations = two(rt.alloc(), 10, true)?;
-        let done = run_workers(&rt, rt.alloc(), stations, 1, PACE, &ShutAt { worker, act });
+        let done = run(&rt, rt.alloc(), stations, 1, &ShutAt { worker, act });
         assert!(rt; matches!(done, Err(WorkFault::GateShut)));
     }
     Ok(())
 }
 
-// Two stations of one number are refused at once, by a fault with its number and its text.
+// A second station of one number is told.
 #[test]
-fn stations_of_one_number_are_refused(rt: HostRuntime) -> Result<(), Fail> {
-    let stations = two(rt.alloc(), 10, true)?;
+fn numbers_are_told_apart(rt: HostRuntime) -> Result<(), Fail> {
+    let stations = two(rt.alloc(), 0, false)?;
+    assert!(rt; have_distinct_numbers(&stations));
     let stations = with(stations, 2, 1000, false, Vec::new(rt.alloc()))?;
-    let Err(fault) = run_workers(&rt, rt.alloc(), stations, 2, PACE, &OpenGate) else {
-        panic!(rt; "ran two stations of one number");
-    };
-    assert_eq!(rt; fault.number(), 4);
-    assert_eq!(rt;
-        format!(in rt.alloc(); "{fault}")?.as_str(),
-        "work fault 4 SameNumber"
-    );
+    assert!(rt; !have_distinct_numbers(&stations));
+    Ok(())
+}
+
+// Each fault has its number and its text.
+#[test]
+fn faults_are_told(rt: HostRuntime) -> Result<(), Fail> {
+    for (fault, number, text) in [
+        (WorkFault::OutOfMemory, 1, "work fault 1 OutOfMemory"),
+        (WorkFault::GateShut, 2, "work fault 2 GateShut"),
+        (WorkFault::SpawnFailed, 3, "work fault 3 SpawnFailed"),
+    ] {
+        assert_eq!(rt; fault.number(), number);
+        assert_eq!(rt; format!(in rt.alloc(); "{fault}")?.as_str(), text);
+    }
     Ok(())
 }
 
@@ -304,7 +330,7 @@ fn a_disable_waits_for_a_poller_at_the_gate(rt: HostRuntime) -> Result<(), Fail>
         acts.push(Act::Nothing)?;
         let stations = with(Vec::new(rt.alloc()), 1, 4, thread, acts)?;
         let gate = HoldsPoller::new(poller, 1, 2);
-        let done = run_workers(&rt, rt.alloc(), stations, 1, PACE, &gate)?;
+        let done = run(&rt, rt.alloc(), stations, 1, &gate)?;
         assert_eq!(rt; done.len(), 1);
         for finished in done {
             let totals = finished.totals;
@@ -333,7 +359,7 @@ fn a_poller_goes_on_behind_a_shut_gate(rt: HostRuntime) -> Result<(), Fail> {
         acts.push(Act::Disable)?;
         let stations = with(Vec::new(rt.alloc()), 1, 4, thread, acts)?;
         let gate = ShutsPoller(HoldsPoller::new(poller, 1, 2));
-        let done = run_workers(&rt, rt.alloc(), stations, 1, PACE, &gate);
+        let done = run(&rt, rt.alloc(), stations, 1, &gate);
         assert!(rt; matches!(done, Err(WorkFault::GateShut)));
     }
     Ok(())

@@ -1,12 +1,13 @@
 //! What is still done once a gate is shut.
 
-ghost use Rattle.std.specs.Prelude.{◌≡◌, IfOk, vec_len, ◌≤◌, ◌+◌};
+ghost use Rattle.std.specs.Prelude.{◌≡◌, ◌≤◌, ◌∷◌, ◌++◌, [], IfOk};
 ghost use Rattle.std.specs.List.{All};
 ghost use Rattle.poll_interrupts.specs.Opens.{IsStation};
+ghost use Rattle.poll_workers.specs.Numbers.{numbers_of};
 
-use crate::gates::ShutAt;
+use crate::gates::{ShutAt, run};
 use crate::pacing::{LONG, comes};
-use poll_workers::{Act, Device, Gate, OpenGate, Pace, Station, WorkFault, run_workers};
+use poll_workers::{Act, Device, Gate, OpenGate, Station, WorkFault};
 use std::alloc::{AllocError, Global};
 use std::sync::atomic::{AtomicU32, Ordering};
 use std::test::Fail;
@@ -14,12 +15,6 @@ use std::test::Fail;
 const ACTS: u32 = 10;
 
 const HALF: u32 = 5;
-
-const PACE: Pace = Pace {
-    budget: 300,
-    weight: 64,
-    window: 1024,
-};
 
 /// A device of ten acts that do nothing, which counts them.
 #[derive(Drop)]
@@ -55,7 +50,8 @@ fn with<'a>(
     requires all { All IsStation stations.items }
     requires number { (1 ≤ number) × (number ≤ 16) }
     ensures all { IfOk result (λ v. All IsStation v.items) }
-    ensures len { IfOk result (λ v. vec_len v ≡ vec_len stations.entry + 1) }
+    ensures numbers { IfOk result
+        (λ v. numbers_of v.items ≡ numbers_of stations.entry.items ++ number ∷ []) }
 {
     stations.push(Station {
         number,
@@ -73,7 +69,7 @@ fn two<'a>(
     second: &'a AtomicU32,
 ) -> Result<Vec<Station<Counting<'a>>>, AllocError>
     ensures all { IfOk result (λ v. All IsStation v.items) }
-    ensures len { IfOk result (λ v. vec_len v ≡ 2) }
+    ensures numbers { IfOk result (λ v. numbers_of v.items ≡ 1 ∷ 2 ∷ []) }
 {
     let stations = with(Vec::new(alloc), 1, first)?;
     with(stations, 2, second)
@@ -86,7 +82,7 @@ fn no_act_is_made_behind_a_shut_gate(rt: HostRuntime) -> Result<(), Fail> {
         let made = [AtomicU32::new(0), AtomicU32::new(0)];
         let stations = two(rt.alloc(), &made[0], &made[1])?;
         let gate = ShutAt { worker: 1, act };
-        let done = run_workers(&rt, rt.alloc(), stations, 2, PACE, &gate);
+        let done = run(&rt, rt.alloc(), stations, 2, &gate);
         assert!(rt; matches!(done, Err(WorkFault::GateShut)));
         assert_eq!(rt; made[0].load(Ordering::SeqCst), act);
         assert!(rt; made[1].load(Ordering::SeqCst) <= ACTS);
@@ -121,7 +117,7 @@ fn a_shut_gate_stops_the_others(rt: HostRuntime) -> Result<(), Fail> {
     let gate = ShutFirst {
         shut: AtomicU32::new(0),
     };
-    let done = run_workers(&rt, rt.alloc(), stations, 2, PACE, &gate);
+    let done = run(&rt, rt.alloc(), stations, 2, &gate);
     assert!(rt; matches!(done, Err(WorkFault::GateShut)));
     assert_eq!(rt; made[0].load(Ordering::SeqCst), 0);
     assert!(rt; made[1].load(Ordering::SeqCst) <= 1);
@@ -163,7 +159,7 @@ fn a_gate_shut_for_a_poller_stops_the_workers(rt: HostRuntime) -> Result<(), Fai
             half: AtomicU32::new(0),
             shut: AtomicU32::new(0),
         };
-        let done = run_workers(&rt, rt.alloc(), stations, 2, PACE, &gate);
+        let done = run(&rt, rt.alloc(), stations, 2, &gate);
         assert!(rt; matches!(done, Err(WorkFault::GateShut)));
         assert_eq!(rt; made[0].load(Ordering::SeqCst), HALF + 1);
     }
@@ -175,7 +171,7 @@ fn a_gate_shut_for_a_poller_stops_the_workers(rt: HostRuntime) -> Result<(), Fai
 fn each_act_is_made_once(rt: HostRuntime) -> Result<(), Fail> {
     let made = [AtomicU32::new(0), AtomicU32::new(0)];
     let stations = two(rt.alloc(), &made[0], &made[1])?;
-    let done = run_workers(&rt, rt.alloc(), stations, 2, PACE, &OpenGate)?;
+    let done = run(&rt, rt.alloc(), stations, 2, &OpenGate)?;
     assert_eq!(rt; done.len(), 2);
     for made in &made {
         assert_eq!(rt; made.load(Ordering::SeqCst), ACTS);

@@ -1,2 +1,2 @@
 pub mod StationFacts
-pub mod OwnNumbers
+pub mod DistinctNumbers

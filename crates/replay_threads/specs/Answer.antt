@@ -47,12 +47,11 @@ IsOutside may_shut GateShut = may_shut
 IsOutside may_shut SpawnFailed = Unit {0}
 IsOutside may_shut fault = IsSerialOutside fault
 
--- the fault of a run as the replay tells it; the numbers of devices are all different
+-- the fault of a run as the replay tells it
 abbrev pub IsToldAs : WorkFault → ReplayFault → Type 0
 IsToldAs work.OutOfMemory told = told ≡ Trace OutOfMemory
 IsToldAs work.GateShut told = told ≡ GateShut
 IsToldAs work.SpawnFailed told = told ≡ SpawnFailed
-IsToldAs work.SameNumber told = ⊥
 
 -- the device as the rows tell of it, before its acts
 pub record IsDeviceOf (rows : List Row) (device : ℕ) (script : Script) : Type 0 where

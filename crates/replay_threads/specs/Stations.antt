@@ -7,8 +7,6 @@ use Rattle.poll_interrupts.specs.declared.station.Station.{Station}
 use Rattle.poll_interrupts.specs.Runs.{HasRun}
 use Rattle.replay_text.specs.declared.fault.ReplayFault.{ReplayFault}
 use Rattle.replay_text.specs.declared.fault.ReplayFault.TheVariants.{RingTooSmall}
-use Rattle.replay_words.specs.declared.settings.Settings.{Settings}
-use Rattle.poll_tasks.specs.declared.pace.Pace.{Pace}
 use Rattle.replay_text.specs.Lines.{ended, tx_lines}
 use Rattle.device_script.specs.Script.{has_thread, opening_of, rx_of, script_of, tx_after}
 use Rattle.device_script.specs.ScriptShown.{Script, after, answer}
@@ -50,7 +48,3 @@ small_fault stations = option_map (λ station. RingTooSmall station.number (leng
 -- what is told of its polls
 abbrev pub polled_of : Finished Script → Polled
 polled_of end = record { device = end.number; polled = end.totals.polled; left = end.totals.left }
-
--- how pollers poll, by the settings
-abbrev pub pace_of : Settings → Pace
-pace_of settings = record { budget = settings.budget; weight = settings.weight; window = settings.window }

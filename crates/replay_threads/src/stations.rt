@@ -1,23 +1,23 @@
 //! The stations of a trace, and their run.
 
-ghost use Rattle.std.specs.Prelude.{◌≡◌, ◌≢◌, ◌≤◌, ◌⊎◌, ◌+◌, ◌++◌, ◌∷◌, ℕ, [], List, None, Some, true, filter, IfErr, IfOk, IsSome, OnOk, length, vec_items, vec_len};
+ghost use Rattle.std.specs.Prelude.{◌≡◌, ◌≤◌, ◌⊎◌, ◌+◌, ◌++◌, ◌∷◌, ℕ, [], List, None, Some, filter, IfErr, IfOk, IsSome, IsTrue, OnOk, length, vec_items};
 ghost use Rattle.std.specs.List.{All, AllZip};
 ghost use Rattle.device_rows.specs.Range.{IsWithin};
 ghost use Rattle.device_rows.specs.Trace.{AcceptedAfter};
 ghost use Rattle.device_rows.specs.declared.row.Row.{Row};
 ghost use Rattle.poll_workers.specs.Finishes.{IsFinished};
-ghost use Rattle.poll_workers.specs.Numbers.{own_numbers};
-ghost use Rattle.poll_workers.specs.declared.fault.WorkFault.TheVariants.{GateShut, SameNumber};
+ghost use Rattle.poll_workers.specs.Numbers.{have_distinct_numbers};
+ghost use Rattle.poll_workers.specs.declared.fault.WorkFault.TheVariants.{GateShut};
 ghost use Rattle.poll_interrupts.specs.Opens.{IsStation};
 ghost use Rattle.replay_threads.specs.Answer.{IsOutside, IsToldAs, ring_fault};
 ghost use Rattle.device_script.specs.Script.{opening_of, rx_of, script_of};
 ghost use Rattle.device_script.specs.ScriptShown.{acts, after, answer};
-ghost use Rattle.replay_threads.specs.Stations.{IsEndOf, IsStationOf, is_small, pace_of, small_fault};
+ghost use Rattle.replay_threads.specs.Stations.{IsEndOf, IsStationOf, is_small, small_fault};
 ghost use Rattle.replay_threads.specs.ThreadsReport.{is_opened, opened};
 
 use device_rows::{PLACES, Row};
 use device_script::{ScriptDevice, opening_of, openings_of, scripts_of, take_script};
-use poll_workers::{Finished, Gate, Pace, Station, WorkFault, run_workers};
+use poll_workers::{Finished, Gate, Station, WorkFault, run_workers};
 use replay_text::ReplayFault;
 use replay_words::Settings;
 use std::alloc::{AllocError, Global};
@@ -68,7 +68,6 @@ fn add_station(
         (vec_items stations.new)) }
     ensures lawful { OnOk result
         (All IsStation (vec_items stations.old) → All IsStation (vec_items stations.new)) }
-    ensures count { OnOk result (vec_len stations.new ≤ vec_len stations.old + 1) }
 {
     if let Some(opening) = opening_of(openings, number) {
         stations.push(station_of(alloc, number, opening, script)?)?;
@@ -83,7 +82,6 @@ fn stations_of(alloc: Global, rows: &[Row]) -> Result<Vec<Station<ScriptDevice>>
     ensures stations { IfOk result
         (λ stations. AllZip (IsStationOf rows.now) (opened rows.now) (vec_items stations)) }
     ensures lawful { IfOk result (λ stations. All IsStation (vec_items stations)) }
-    ensures count { IfOk result (λ stations. vec_len stations ≤ 16) }
 {
     let openings = openings_of(alloc, rows)?;
     let mut scripts = scripts_of(alloc, rows)?;
@@ -116,9 +114,8 @@ fn ring_fault(stations: &[Station<ScriptDevice>]) -> Option<ReplayFault>
     None
 }
 
-// Why a run of workers was refused. The numbers of devices are all different.
+// Why a run of workers was refused.
 fn work_fault(fault: WorkFault) -> ReplayFault
-    requires { fault ≢ SameNumber }
     ensures outside { IsOutside (fault ≡ GateShut) result }
     ensures told { IsToldAs fault result }
 {
@@ -126,19 +123,14 @@ fn work_fault(fault: WorkFault) -> ReplayFault
         WorkFault::OutOfMemory => AllocError.into(),
         WorkFault::GateShut => ReplayFault::GateShut,
         WorkFault::SpawnFailed => ReplayFault::SpawnFailed,
-        WorkFault::SameNumber => unreachable!(),
     }
 }
 
 // The settings' budget, weight and window.
-fn pace_of(settings: &Settings) -> Pace
-    ensures { result ≡ pace_of settings.now }
+fn pace_of(settings: &Settings) -> (u32, u32, u32)
+    ensures { result ≡ (settings.now.budget, settings.now.weight, settings.now.window) }
 {
-    Pace {
-        budget: settings.budget,
-        weight: settings.weight,
-        window: settings.window,
-    }
+    (settings.budget, settings.weight, settings.window)
 }
 
 // Runs the stations, paced as the settings say.
@@ -153,14 +145,14 @@ where
     P: Threads + Wait + Sync,
     G: Gate + Sync,
     requires stations { All IsStation (vec_items stations) }
-    requires numbers { own_numbers (vec_items stations) ≡ true }
-    requires count { vec_len stations ≤ 16 }
+    requires numbers { IsTrue (have_distinct_numbers (vec_items stations)) }
     ensures ends { IfOk result
         (λ all. AllZip (IsFinished acts answer after) (vec_items stations) (vec_items all)) }
     ensures fault { IfErr result (λ fault. IsOutside G.may_shut fault) }
 {
-    let pace = pace_of(settings);
-    match run_workers(rt, alloc, stations, settings.pollers, pace, gate) {
+    let (budget, weight, window) = pace_of(settings);
+    let pollers = settings.pollers;
+    match run_workers(rt, alloc, stations, pollers, budget, weight, window, gate) {
         Ok(finished) => Ok(finished),
         Err(fault) => Err(work_fault(fault)),
     }

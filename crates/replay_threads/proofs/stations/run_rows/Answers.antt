@@ -1,10 +1,10 @@
-use Rattle.{std.proofs.Common.{◌≡◌, ◌∙◌, None, Some, inr, sym, vec_items}, replay_threads.{specs.{Stations.{small_fault, IsStationOf}, ThreadsReport.{is_opened, opened}}, proofs.OwnNumbers.own-numbers-rise}}
+use Rattle.{std.proofs.Common.{◌≡◌, ◌∙◌, None, Some, inr, sym, vec_items}, replay_threads.{specs.{Stations.{small_fault, IsStationOf}, ThreadsReport.{is_opened, opened}}, proofs.DistinctNumbers.rising-numbers}}
 use Rattle.replay_threads.proofs.StationFacts.{ends-if-ok, ring-of, rings-if-ok}
 use Rattle.replay_threads.proofs.stations.run_rows.Goals as goal
 
 pub run_stations-requires-clause-numbers : goal.run_stations-requires-clause-numbers
 unfolding opened
-run_stations-requires-clause-numbers g c κs within = own-numbers-rise (IsStationOf c.args.rows.now) (λ number station of. of.its_number) (is_opened c.args.rows.now) 16 1 (vec_items c.in_ok-stations.stations) c.in_ok-stations.ensures.stations
+run_stations-requires-clause-numbers g c κs within = rising-numbers (IsStationOf c.args.rows.now) (λ number station of. of.its_number) (is_opened c.args.rows.now) 16 1 (vec_items c.in_ok-stations.stations) c.in_ok-stations.ensures.stations
 
 pub returns-in-Some-clause-fault : goal.returns-in-Some-clause-fault
 returns-in-Some-clause-fault g c =

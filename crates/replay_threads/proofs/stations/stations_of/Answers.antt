@@ -18,7 +18,6 @@ loop-number-preserved c =
       of = rw (opened-more c.args.rows.now c.loop-number.number (omega arith)) (c.in_ok-add_station.ensures.stations c.args.rows.now (opening-among c.args.rows.now _ c.loop-number.number (c.deref.ensures.value ∙ c.in_ok-openings.ensures))
           (script-at c.args.rows.now (lists c.loop-number.scripts) c.loop-number.number _ (omega arith) (omega arith) c.take_script-script.ensures.script now.scripts) _ now.of);
       lawful = c.in_ok-add_station.ensures.lawful now.lawful;
-      few = (let more = c.in_ok-add_station.ensures.count in let was = now.few in omega (arith, more, was));
       scripts = λ place later below. rw c.take_script-script.ensures.scripts (get_or-set_other (lists c.loop-number.scripts) (c.loop-number.number - 1) place [] [] (omega (arith, later)) ∙ now.scripts place (omega (arith, later)) below);
       count = c.take_script-script.ensures.count ∙ now.count;
     }

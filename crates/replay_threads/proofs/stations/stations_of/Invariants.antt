@@ -6,7 +6,6 @@ abbrev pub invariant-loop-number : goal.invariant-loop-number
 invariant-loop-number l = record {
   of : AllZip (IsStationOf l.rows) (filter (is_opened l.rows) (range_with_len 1 (l.number - 1))) (vec_items l.stations);
   lawful : All IsStation (vec_items l.stations);
-  few : vec_len l.stations < l.number;
   scripts : (place : ℕ) → l.number ≤ place + 1 → place < 16 → slice_index_or (lists l.scripts) place [] ≡ script_of (place + 1) l.rows;
   count : vec_len l.scripts ≡ 16;
 }
