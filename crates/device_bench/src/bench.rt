@@ -142,8 +142,8 @@ impl<S: SpentSide, O: Opener<S> + Drop> DeviceBench<S, O> {
         DeviceBench::over(alloc, O::from(kit))
     }
 
-    /// Ends the receive side of each device, which may wait. It takes no memory. Answers what was counted of each ring, in
-    /// the place of its device's number.
+    /// Ends the receive side of each device, which may wait. It takes no memory, and may be called in any state, after a fault
+    /// too. Answers what was counted of each ring, in the place of its device's number.
     pub fn end(self) -> [Option<Totals>; PLACES as usize]
         ensures { AllEnded S.ended (devices_of self) result }
     {

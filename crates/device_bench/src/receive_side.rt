@@ -145,7 +145,8 @@ pub trait SpentSide: ReceiveSide {
     /// `ended side totals`: a side that showed this was ended, and these are the counts of its ring.
     ghost ended: { ReceiveView → Totals → Type 0 };
 
-    /// Takes the instance out of use, and polls what the ring holds. Answers what was counted of the ring.
+    /// Waits until nobody has the instance, takes it out of use, and polls what the ring holds. Answers what was counted of
+    /// the ring.
     fn end(self) -> Totals
         ensures { ended (Self.side self) result };
 }

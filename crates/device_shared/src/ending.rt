@@ -52,18 +52,15 @@ pub(crate) fn empty(input: &mut RxIn, ctx: &mut RxCtx)
     let mut batch = Batch::new();
     loop {
         beside(input, ctx);
-        if ctx.poll(MAX_WEIGHT, &mut batch) == 0 {
+        let given = ctx.poll(MAX_WEIGHT, &mut batch);
+        if given == 0 {
             return;
         }
     }
 }
 
 /// Everybody lets go of the instance, and the controller disables it.
-pub(crate) fn disable<R: Wait>(
-    rt: &R,
-    napi: &Napi,
-    turn: Turn,
-) -> (Caller, Caller, Control<Off>)
+pub(crate) fn disable<R: Wait>(rt: &R, napi: &Napi, turn: Turn) -> (Caller, Caller, Control<Off>)
     requires { AreTurned napi.now turn }
     ensures poller { IsSeatAt napi.now result.0.pass }
     ensures thread { IsSeatAt napi.now result.1.pass }

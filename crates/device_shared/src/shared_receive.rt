@@ -201,9 +201,8 @@ impl<R: Wait + Drop> SpentSide for SharedReceive<R> {
             seen: _,
             put: _,
         } = self;
-        let Some(Seats { interrupt, turn }) = seats else {
-            unreachable!()
-        };
+        let Some(seats) = seats else { unreachable!() };
+        let Seats { interrupt, turn } = seats;
         let (poller, thread, control) = disable(&rt, &napi, turn);
         let mut ctx = close(napi, interrupt, poller, thread, control, callers);
         empty(&mut input, &mut ctx);
