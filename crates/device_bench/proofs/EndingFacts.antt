@@ -1,7 +1,7 @@
 -- The devices of a bench are ended one after the other, the last one first.
-use Rattle.{std.proofs.{Common.{◌≡◌, ◌≢◌, ◌∙◌, ◌<◌, ◌≤◌, ◌+◌, ℕ, zero, suc, Bool, true, false, Option, Some, None, [], ◌∷◌, ◌++◌, length, length-append, length-set, get_or-set_other, replicate, slice_set, ap, subst, refl, sym, arith}, lemmas.Bool.{eqb-true, eqb-false}}}
+use Rattle.{std.proofs.{Common.{◌≡◌, ◌≢◌, ◌∙◌, ◌<◌, ◌≤◌, ◌+◌, ℕ, zero, suc, Bool, true, false, Option, Some, None, [], ◌∷◌, ◌++◌, length, length-append, length-set, get_or-set_other, replicate, slice_set, ap, refl, arith}, lemmas.Bool.{eqb-true, eqb-false}}}
 use Rattle.std.specs.Prelude.{◌==◌}
-use Rattle.{rx_ring.specs.declared.packet.Totals.Totals, device_rows.{specs.Places.{Places, at}, proofs.PlaceFacts.at-set}}
+use Rattle.{rx_ring.specs.declared.packet.Totals.Totals, device_rows.specs.Places.{Places, at}}
 use Rattle.device_bench.{specs.{Bench.Devices, Device.side_of, DeviceView.DeviceView, Ending.{AllEnded, IsEndedAt}, Receive.ReceiveView}, proofs.BenchFacts.at-beyond}
 
 -- those from here on were ended, and those before them are left

@@ -1,7 +1,7 @@
 -- How a side ends.
-use Rattle.{std.proofs.{Common.{◌≡◌, ◌≢◌, ◌∙◌, ℕ, ◌-◌, ◌<◌, ◌≤◌, List, [], ◌∷◌, ◌++◌, length, drop, take, min, Some, refl, sym, ap, subst, arith}, lemmas.List.{append-nil, drop_all, length-append, length-drop, length-take, take-append-drop}, Math.Seq.drop-append_seam}}
-use Rattle.rx_ring.specs.{declared.{ends.{RxCtx.RxCtx, RxIn.RxIn}, packet.{Packet.Packet, Totals.Totals}}, Ends.{GivesNext, IsOneRing, Meets, SameCtx, SameIn, put_list, received_list, ring_name, ring_of}, ReceiveRing.{ReceiveRing, capped, held_of, totals_of}}
-use Rattle.{napi_model.specs.{History.state_after, Step.opening}, napi_word.{specs.declared.table.Pass.Pass, proofs.Deliveries.some_is}, device_bench.specs.Receive.ReceiveView}
+use Rattle.std.proofs.{Common.{◌≡◌, ◌∙◌, ℕ, List, [], ◌∷◌, length, take, Some, refl, sym, ap, subst, arith}, lemmas.List.{append-nil, length-drop, take-append-drop}}
+use Rattle.rx_ring.specs.{declared.{ends.{RxCtx.RxCtx, RxIn.RxIn}, packet.{Packet.Packet, Totals.Totals}}, Ends.{IsOneRing, SameCtx, SameIn, put_list, received_list, ring_name, ring_of}, ReceiveRing.{capped, held_of, totals_of}}
+use Rattle.{napi_word.{specs.declared.table.Pass.Pass, proofs.Deliveries.some_is}, device_bench.specs.Receive.ReceiveView}
 use Rattle.napi_calls.{specs.{Closed.IsClosed, Seats.shown, declared.types.{Caller.Caller, Napi.Napi}}, proofs.{Dealing.named_ring, Steps.prefix_trans}}
 use Rattle.napi_calls.specs.Seats as seats
 use Rattle.napi_model.specs.declared.state.Seen.{Seen}
