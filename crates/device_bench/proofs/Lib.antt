@@ -2,6 +2,7 @@ pub mod BenchFacts
 pub mod BusyFacts
 pub mod CompletionFacts
 pub mod DeviceFacts
+pub mod EndingFacts
 pub mod InstanceFacts
 pub mod SideFacts
 pub mod ThreadFacts

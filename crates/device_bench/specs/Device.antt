@@ -18,7 +18,7 @@ use Rattle.poll_runs.specs.declared.bench.Next.TheVariants as next
 use Rattle.poll_runs.specs.declared.bench.Once.{Once}
 use Rattle.device_transmit.specs.Counter.{raised}
 use Rattle.device_bench.specs.DeviceView.{DeviceView}
-use Rattle.device_bench.specs.Receive.{is_control, kind_for}
+use Rattle.device_bench.specs.Receive.{ReceiveView, is_control, kind_for}
 use Rattle.device_bench.specs.declared.counts.DeviceCounts.{DeviceCounts}
 use Rattle.device_bench.specs.declared.counts.DeviceState.{DeviceState}
 use Rattle.device_bench.specs.declared.counts.TheConstants.DeviceCounts.{OPENED}
@@ -28,6 +28,10 @@ use Rattle.device_bench.specs.declared.device.TheConstants.{CONTROLLER, INTERRUP
 -- the device after a caller's operation on its instance
 abbrev pub made : ℕ → Operation → DeviceView → DeviceView
 made caller operation d = record d { napi = after d.napi (event caller operation) }
+
+-- its receive side
+abbrev pub side_of : DeviceView → ReceiveView
+side_of d = record { napi = d.napi; packets = d.packets; capacity = d.capacity }
 
 -- an empty ring of that many places, and an instance that is made and enabled, not threaded
 abbrev pub opened : ℕ → DeviceView

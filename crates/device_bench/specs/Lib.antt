@@ -4,6 +4,7 @@ pub mod Counts
 pub mod Device
 pub mod DeviceBench
 pub mod DeviceView
+pub mod Ending
 pub mod Instance
 pub mod Kept
 pub mod Owner

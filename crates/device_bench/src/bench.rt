@@ -5,13 +5,14 @@ ghost use Rattle.device_bench.specs.Kept.{IsKept};
 
 use crate::counts::DeviceCounts;
 use crate::device::Device;
-use crate::receive_side::{Opener, ReceiveSide};
+use crate::receive_side::{Opener, ReceiveSide, SpentSide};
 use crate::replay_bench::ReplayBench;
 use crate::serial_receive::{SerialOpener, SerialReceive};
 use device_rows::PLACES;
 use device_transmit::{Transmit, TransmitSides};
 use napi_model::Kind;
 use poll_runs::{Bench, BusyReport, Next, Once, ShownBench, ThreadReport};
+use rx_ring::Totals;
 use std::alloc::{AllocError, Global};
 use std::mem;
 
@@ -121,6 +122,45 @@ impl<S: ReceiveSide, O: Opener<S>> DeviceBench<S, O> {
             }
         }
         false
+    }
+}
+
+impl<S: SpentSide, O: Opener<S> + Drop> DeviceBench<S, O> {
+    ghost use Rattle.std.specs.Prelude.{IfOk};
+    ghost use Rattle.device_rows.specs.Places.{empty};
+    ghost use Rattle.device_bench.specs.DeviceBench.{ShowsTransmits, devices_of};
+    ghost use Rattle.device_bench.specs.Ending.{AllEnded};
+
+    /// A bench without devices, which has to be ended. Its places are made here, so that no call but `attach` takes memory.
+    /// `kit` is what its opener is made of.
+    pub fn new<K>(kit: K, alloc: Global) -> Result<DeviceBench<S, O>, AllocError>
+    where
+        O: From<K>,
+        ensures devices { IfOk result (λ bench. devices_of bench ≡ empty) }
+        ensures transmits { IfOk result (λ bench. ShowsTransmits bench empty) }
+    {
+        DeviceBench::over(alloc, O::from(kit))
+    }
+
+    /// Ends the receive side of each device, which may wait. It takes no memory, and may be called in any state, after a fault
+    /// too. Answers what was counted of each ring, in the place of its device's number.
+    pub fn end(self) -> [Option<Totals>; PLACES as usize]
+        ensures { AllEnded S.ended (devices_of self) result }
+    {
+        let DeviceBench {
+            opener: _,
+            mut devices,
+            transmits: _,
+            unsettled: _,
+        } = self;
+        let mut ends = [None; PLACES as usize];
+        while let Some(place) = devices.pop() {
+            if let Some(device) = place {
+                ends[devices.len()] = Some(device.end());
+            }
+        }
+        devices.destroy_empty();
+        ends
     }
 }
 

@@ -2,20 +2,21 @@
 
 ghost use Rattle.std.specs.Prelude.{◌≡◌, ◌≤◌, ◌<◌, ◌^◌, true};
 ghost use Rattle.device_bench.specs.BusyPolling.{polled_busily};
-ghost use Rattle.device_bench.specs.Device.{after_disable, after_enable, after_packet, after_request, after_threaded, bytes_given, completed_told, given, is_pending, opened, polled, polled_by_thread, polled_once, settled, state_of};
+ghost use Rattle.device_bench.specs.Device.{after_disable, after_enable, after_packet, after_request, after_threaded, bytes_given, completed_told, given, is_pending, opened, polled, polled_by_thread, polled_once, settled, side_of, state_of};
 ghost use Rattle.device_bench.specs.Counts.{counts_of};
 ghost use Rattle.device_bench.specs.Receive.{is_polling, opened_side};
 ghost use Rattle.device_rows.specs.Range.{IsWithin};
 ghost use Rattle.poll_runs.specs.Thread.{IsThreadPolling};
 
 use crate::counts::{DeviceCounts, DeviceState};
-use crate::receive_side::ReceiveSide;
+use crate::receive_side::{ReceiveSide, SpentSide};
 use device_transmit::TxCounts;
 use napi_model::{Kind, Prep, encode};
 use poll_runs::{
     BusyInstance, BusyReport, Instance, Once, ThreadReport, poll_busy_of, poll_once_of,
     poll_thread_of,
 };
+use rx_ring::Totals;
 use std::marker::Model;
 
 /// The caller that the interrupt of a device is.
@@ -218,6 +219,20 @@ impl<S: ReceiveSide> Device<S> {
         ensures report { result ≡ (polled_busily rounds weight self.old).0 }
     {
         poll_busy_of(self, rounds, weight, &mut Load::NONE)
+    }
+}
+
+impl<S: SpentSide> Device<S> {
+    /// Ends the device's receive side.
+    pub(crate) fn end(self) -> Totals
+        ensures { S.ended (side_of self) result }
+    {
+        let Device {
+            side,
+            threaded: _,
+            told: _,
+        } = self;
+        side.end()
     }
 }
 

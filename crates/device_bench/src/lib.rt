@@ -13,6 +13,6 @@ mod serial_receive;
 
 pub use bench::{DeviceBench, SerialBench};
 pub use counts::{DeviceCounts, DeviceState};
-pub use receive_side::{Opener, ReceiveSide};
+pub use receive_side::{Opener, ReceiveSide, SpentSide};
 pub use replay_bench::ReplayBench;
 pub use serial_receive::{SerialOpener, SerialReceive};

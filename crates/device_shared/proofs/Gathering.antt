@@ -19,7 +19,7 @@ ring_from p first e = by (view_of p) e
     by [] e = absurd (cc e)
     by (x ∷ xs) e = ap (λ (c : RxCtx). Some (ring_name c)) (some_is e)
 
-at_three : (p : Pass) → controller_of p ≡ 3 → state_of p ≡ state_after (opening 3) (shown p)
+pub at_three : (p : Pass) → controller_of p ≡ 3 → state_of p ≡ state_after (opening 3) (shown p)
 at_three p three = ap (λ (k : ℕ). state_after (opening k) (shown p)) three
 
 module _ (c : ℕ) (os : List Operation) (n : Napi) (h : List Event) (ds : List Delivery) (s0 s1 s2 : Seats) (x : Seen)

@@ -1,5 +1,6 @@
 pub mod Orders
 pub mod ActingFacts
+pub mod EndingFacts
 pub mod Gathering
 pub mod ReceivingFacts
 pub mod Reading

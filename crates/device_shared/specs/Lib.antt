@@ -3,3 +3,4 @@ pub mod Acting
 pub mod Meeting
 pub mod Receiving
 pub mod SharedReceive
+pub mod Ending

@@ -1,17 +1,21 @@
-//! How the instance of a receive side ends.
+//! How the instance of a receive side ends, and its ring.
 
-ghost use Rattle.std.specs.Prelude.{length, vec_capacity};
+ghost use Rattle.std.specs.Prelude.{◌≡◌, [], ◌∷◌, length, vec_capacity};
+ghost use Rattle.napi_calls.specs.Closed.{IsClosed};
 ghost use Rattle.napi_calls.specs.Instance.{IsSeatOf, callers_of};
-ghost use Rattle.device_shared.specs.Seats.{ArePosts, AreTurned, IsSeatAt, enabled_pass};
+ghost use Rattle.rx_ring.specs.Ends.{IsOneRing, SameCtx, SameIn, put_list, received_list};
+ghost use Rattle.device_shared.specs.Ending.{IsLater};
+ghost use Rattle.device_shared.specs.Seats.{ArePosts, AreTurned, IsSeatAt, control_of, enabled_pass};
 ghost use Rattle.device_shared.specs.SharedReceive.{HasRoom};
 
 use crate::acting::{complete, try_at_rest};
 use crate::seats::{Enabled, Posts, Turn};
 use napi_calls::{Caller, Control, Napi, Off};
 use napi_model::Kind;
+use rx_ring::{Batch, MAX_WEIGHT, RxCtx, RxIn, beside};
 use std::sync::Wait;
 
-/// Closes an instance that the controller has.
+/// Closes an instance that the controller has, and hands out its poll context.
 pub(crate) fn close(
     napi: Napi,
     interrupt: Caller,
@@ -19,18 +23,58 @@ pub(crate) fn close(
     thread: Caller,
     control: Control<Off>,
     mut callers: Vec<Caller>,
-)
+) -> RxCtx
     requires interrupt { IsSeatOf napi interrupt.pass }
     requires poller { IsSeatOf napi poller.pass }
     requires thread { IsSeatOf napi thread.pass }
     requires control { IsSeatOf napi control.pass }
     requires room { HasRoom (callers_of napi) (length callers.items) (vec_capacity callers) }
+    ensures closed { IsClosed
+        napi (interrupt ∷ poller ∷ thread ∷ []) control.pass result }
+    ensures ctx { result ≡ control.state.ctx }
 {
     callers.push_reserved(interrupt);
     callers.push_reserved(poller);
     callers.push_reserved(thread);
     let closed = napi_calls::close(napi, callers, control);
-    let Ok(_ctx) = closed else { unreachable!() };
+    let Ok(ctx) = closed else { unreachable!() };
+    ctx
+}
+
+/// Polls all that the ring of both ends holds.
+pub(crate) fn empty(input: &mut RxIn, ctx: &mut RxCtx)
+    requires { IsOneRing input.old ctx.old }
+    ensures input { SameIn input.old input.new }
+    ensures ctx { SameCtx ctx.old ctx.new }
+    ensures put { put_list input.new ≡ put_list input.old }
+    ensures polled { received_list ctx.new ≡ put_list input.old }
+{
+    let mut batch = Batch::new();
+    loop {
+        beside(input, ctx);
+        let given = ctx.poll(MAX_WEIGHT, &mut batch);
+        if given == 0 {
+            return;
+        }
+    }
+}
+
+/// Everybody lets go of the instance, and the controller disables it.
+pub(crate) fn disable<R: Wait>(rt: &R, napi: &Napi, turn: Turn) -> (Caller, Caller, Control<Off>)
+    requires { AreTurned napi.now turn }
+    ensures poller { IsSeatAt napi.now result.0.pass }
+    ensures thread { IsSeatAt napi.now result.1.pass }
+    ensures control { IsSeatAt napi.now result.2.pass }
+    ensures later { IsLater (control_of turn) result.2.pass }
+{
+    let mut turn = turn;
+    for _ in rt.forever() {
+        match turn {
+            Turn::Off(poller, thread, control) => return (poller, thread, control),
+            Turn::On(posts, enabled) => turn = Turn::leave(posts, enabled, rt, napi),
+        }
+    }
+    unreachable!()
 }
 
 impl Posts {
@@ -65,7 +109,8 @@ impl Turn {
     pub(crate) fn leave<R: Wait>(posts: Posts, enabled: Enabled, rt: &R, napi: &Napi) -> Turn
         requires posts { ArePosts napi.now posts }
         requires control { IsSeatAt napi.now (enabled_pass enabled) }
-        ensures { AreTurned napi.now result }
+        ensures turned { AreTurned napi.now result }
+        ensures later { IsLater (enabled_pass enabled) (control_of result) }
     {
         match posts.release(rt, napi) {
             Posts::Rest(poller, thread) => match enabled {

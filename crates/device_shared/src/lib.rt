@@ -16,6 +16,6 @@ mod receiving;
 mod seats;
 mod shared_receive;
 
-pub use bench::{SharedBench, shared_bench};
+pub use bench::SharedBench;
 pub use opening::SharedOpener;
 pub use shared_receive::SharedReceive;

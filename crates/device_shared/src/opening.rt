@@ -16,9 +16,8 @@ pub struct SharedOpener<R: Drop> {
     rt: R,
 }
 
-impl<R: Wait + Copy + Drop> SharedOpener<R> {
-    /// An opener whose receive sides would wait with `rt`.
-    pub fn new(rt: R) -> SharedOpener<R> {
+impl<R: Wait + Copy + Drop> From<R> for SharedOpener<R> {
+    fn from(rt: R) -> SharedOpener<R> {
         SharedOpener { rt }
     }
 }

@@ -6,20 +6,21 @@ ghost use Rattle.device_shared.specs.Seats.{AreSeats};
 ghost use Rattle.device_shared.specs.SharedReceive.{bytes_each};
 ghost use Rattle.device_shared.specs.declared.seats.Seats.{Seats};
 
-use crate::ending::close;
+use crate::ending::{close, disable, empty};
 use crate::places::{put_back, take_out};
-use crate::seats::{Seats, Turn};
-use device_bench::ReceiveSide;
+use crate::seats::Seats;
+use device_bench::{ReceiveSide, SpentSide};
 use napi_calls::{Caller, Napi};
 use napi_model::{Kind, Prep, Seen};
-use rx_ring::{Batch, Packet, RxIn};
+use rx_ring::{Batch, Packet, RxIn, Totals, finish};
 use std::marker::Model;
 use std::sync::Wait;
 
 /// A receive ring and a NAPI instance that threads could share, with all that make calls on it in one hand. They meet behind
 /// each call, so that each call finds the whole history of the instance.
 ///
-/// Dropped, it polls until nobody has the instance, and closes it.
+/// It must be spent: [`end`](SpentSide::end) waits until nobody has the instance, disables and closes it, and polls what the
+/// ring holds.
 pub struct SharedReceive<R: Wait + Drop> {
     pub(crate) rt: R,
     pub(crate) napi: Napi,
@@ -54,42 +55,6 @@ impl<R: Wait + Drop> Model for SharedReceive<R> {
 
     ghost invariant = { λ s. IsWholeAt s.napi s.seats s.input s.held s.capacity s.seen
         × HasRoom (callers_of s.napi) (length s.callers.items) (vec_capacity s.callers) };
-}
-
-impl<R: Wait + Drop> Drop for SharedReceive<R> {
-    fn drop(self) {
-        let SharedReceive {
-            rt,
-            napi,
-            seats,
-            callers,
-            input: _,
-            batch: _,
-            held: _,
-            capacity: _,
-            seen: _,
-            put: _,
-        } = self;
-        let Some(
-            Seats {
-                interrupt,
-                mut turn,
-            },
-        ) = seats
-        else {
-            unreachable!()
-        };
-        for _ in rt.forever() {
-            match turn {
-                Turn::Off(poller, thread, control) => {
-                    close(napi, interrupt, poller, thread, control, callers);
-                    return;
-                }
-                Turn::On(posts, enabled) => turn = Turn::leave(posts, enabled, &rt, &napi),
-            }
-        }
-        unreachable!()
-    }
 }
 
 // All meet, and come back to their place.
@@ -215,6 +180,33 @@ impl<R: Wait + Drop> ReceiveSide for SharedReceive<R> {
         let seats = take_out(&mut self.seats);
         let seats = seats.set_threaded(&self.napi, threaded);
         keep(&self.napi, &mut self.seats, &mut self.seen, seats);
+    }
+}
+
+impl<R: Wait + Drop> SpentSide for SharedReceive<R> {
+    ghost use Rattle.device_shared.specs.Ending.{IsEnded};
+
+    ghost ended = { IsEnded };
+
+    fn end(self) -> Totals {
+        let SharedReceive {
+            rt,
+            napi,
+            seats,
+            callers,
+            mut input,
+            batch: _,
+            held: _,
+            capacity: _,
+            seen: _,
+            put: _,
+        } = self;
+        let Some(seats) = seats else { unreachable!() };
+        let Seats { interrupt, turn } = seats;
+        let (poller, thread, control) = disable(&rt, &napi, turn);
+        let mut ctx = close(napi, interrupt, poller, thread, control, callers);
+        empty(&mut input, &mut ctx);
+        finish(input, ctx)
     }
 }
 

@@ -255,6 +255,7 @@ impl<B: ReplayBench> Replay<B> {
     ghost use Rattle.std.specs.Prelude.{◌≡◌, ◌++◌, IfOk, OnOk, string_bytes};
     ghost use Rattle.device_transmit.specs.Transmits.{Transmits};
     ghost use Rattle.replay_rows.specs.Played.{state_in};
+    ghost use Rattle.replay_rows.specs.Replay.{start};
     ghost use Rattle.replay_rows.specs.Report.{counts_of, lines_below, text_of};
 
     // Adds the lines of each device, in rising order of their numbers.
@@ -284,30 +285,61 @@ impl<B: ReplayBench> Replay<B> {
         add_totals(&mut text, &totals)?;
         Ok(text)
     }
+
+    /// Plays the rows of a trace on an exact bench that has no devices yet, and gives the text of their report, as a trace of
+    /// this version has it.
+    ///
+    /// The faults are want of memory, and an enable row whose disable is pending still.
+    fn report_rows(
+        &mut self,
+        alloc: Global,
+        settings: &Settings,
+        version: u32,
+        rows: &[Row],
+    ) -> Result<String, ReplayFault>
+        requires accepted { AcceptedAfter [] rows.now }
+        requires count { length rows.now ≤ 100000 }
+        requires exact { B.Exact }
+        requires start { state_in B.devices self.old ≡ start }
+        requires transmits { B.shows self.old.bench empty }
+        ensures report { IfOk result
+            (λ text. serial_report settings.now version rows.now ≡ Ok (string_bytes text)) }
+        ensures fault { IfErr result (λ fault. IsOutside fault
+            ⊎ (serial_report settings.now version rows.now ≡ Err fault)) }
+    {
+        self.lines = room_for_lines(alloc, rows)?;
+        self.play_rows(alloc, settings, rows)?;
+        Ok(self.report(alloc, version)?)
+    }
 }
 
-/// Plays the rows of a trace on an exact bench that has no devices yet, and gives the text of their report, as a trace of this
-/// version has it.
+/// Plays the rows of a trace on an exact bench that has no devices yet. Gives the bench back, and the text of the rows'
+/// report, as a trace of this version has it.
 ///
 /// The faults are want of memory, and an enable row whose disable is pending still.
-pub(crate) fn report_on<B: ReplayBench + Drop>(
+pub(crate) fn report_on<B: ReplayBench>(
     alloc: Global,
     bench: B,
     settings: &Settings,
     version: u32,
     rows: &[Row],
-) -> Result<String, ReplayFault>
+) -> (B, Result<String, ReplayFault>)
     requires accepted { AcceptedAfter [] rows.now }
     requires count { length rows.now ≤ 100000 }
     requires exact { B.Exact }
     requires devices { B.devices bench ≡ empty }
     requires transmits { B.shows bench empty }
-    ensures report { IfOk result
+    ensures report { IfOk result.1
         (λ text. serial_report settings.now version rows.now ≡ Ok (string_bytes text)) }
-    ensures fault { IfErr result
+    ensures fault { IfErr result.1
         (λ fault. IsOutside fault ⊎ (serial_report settings.now version rows.now ≡ Err fault)) }
 {
-    let mut replay = Replay::new(bench, room_for_lines(alloc, rows)?);
-    replay.play_rows(alloc, settings, rows)?;
-    Ok(replay.report(alloc, version)?)
+    let mut replay = Replay::new(bench, Vec::new(alloc));
+    let text = replay.report_rows(alloc, settings, version, rows);
+    let Replay {
+        bench,
+        list: _,
+        lines: _,
+    } = replay;
+    (bench, text)
 }

@@ -32,5 +32,7 @@ pub fn replay_serial<R: Read + Drop, W: Write>(
     ensures untouched { IfErr result
         (LeavesAsItWas (W.contents writer.old) (W.contents writer.new)) }
 {
-    replay_on(alloc, SerialBench::new(alloc)?, reader, writer, settings)
+    let bench = SerialBench::new(alloc)?;
+    let (_, replayed) = replay_on(alloc, bench, reader, writer, settings);
+    replayed
 }

@@ -14,32 +14,38 @@ use replay_words::Settings;
 use std::alloc::Global;
 use std::io::{Read, Write};
 
-/// Plays a trace on an exact bench that has no devices yet, and writes the report of it.
+/// Plays a trace on an exact bench that has no devices yet, and writes the report of it. The bench comes back.
 ///
 /// Nothing is written before the whole trace is read and played, so on every fault but `OutputFailed` nothing was. After
 /// a failed write it isn't known how much went out. Want of memory may come before any other fault.
-pub fn replay_on<B: ReplayBench + Drop, R: Read + Drop, W: Write>(
+pub fn replay_on<B: ReplayBench, R: Read + Drop, W: Write>(
     alloc: Global,
     bench: B,
     reader: R,
     writer: &mut W,
     settings: &Settings,
-) -> Result<(), ReplayFault>
+) -> (B, Result<(), ReplayFault>)
     requires exact { B.Exact }
     requires devices { B.devices bench ≡ empty }
     requires transmits { B.shows bench empty }
 
     // What is written is the report of the rows of the bytes read, and nothing else.
-    ensures written { OnOk result (Writes (λ bytes text. replay_of settings.now bytes ≡ Ok text)
+    ensures written { OnOk result.1 (Writes (λ bytes text. replay_of settings.now bytes ≡ Ok text)
         (R.remaining reader) (W.contents writer.old) (W.contents writer.new)) }
 
     // A fault is that of the bytes read, unless the reader, the memory or the writer failed.
-    ensures fault { IfErr result (IsFaultBy IsOutside
+    ensures fault { IfErr result.1 (IsFaultBy IsOutside
         (λ bytes fault. replay_of settings.now bytes ≡ Err fault) (R.remaining reader)) }
-    ensures untouched { IfErr result
+    ensures untouched { IfErr result.1
         (LeavesAsItWas (W.contents writer.old) (W.contents writer.new)) }
 {
-    let trace = read_trace(alloc, reader)?;
-    let text = report_on(alloc, bench, settings, trace.version(), trace.rows())?;
-    write_text(writer, &text)
+    let (bench, text) = match read_trace(alloc, reader) {
+        Ok(trace) => report_on(alloc, bench, settings, trace.version(), trace.rows()),
+        Err(fault) => (bench, Err(fault.into())),
+    };
+    let replayed = match text {
+        Ok(text) => write_text(writer, &text),
+        Err(fault) => Err(fault),
+    };
+    (bench, replayed)
 }

@@ -7,7 +7,7 @@ ghost use Rattle.poll_workers.specs.Numbers.{have_distinct_numbers};
 
 use crate::gates::run;
 use device_bench::{ReplayBench, SerialBench};
-use device_shared::shared_bench;
+use device_shared::SharedBench;
 use napi_calls::Napi;
 use poll_list::shared_list;
 use poll_runs::{PollList, SoftList};
@@ -85,9 +85,11 @@ fn benches_of_sixteen_devices(rt: HostRuntime) -> Result<(), Fail> {
     let mut serial = SerialBench::new(rt.alloc())?;
     attach_each(rt.alloc(), &mut serial)?;
     assert_eq!(rt; serial.attached(), 16);
-    let mut shared = shared_bench(&rt, rt.alloc())?;
+    let mut shared = SharedBench::new(&rt, rt.alloc())?;
     assert_eq!(rt; attach_each(rt.alloc(), &mut shared), Ok(()));
     assert_eq!(rt; shared.attached(), 16);
+    let ends = shared.end();
+    assert_eq!(rt; ends.iter().flatten().count(), 16);
     Ok(())
 }
 

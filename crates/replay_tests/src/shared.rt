@@ -1,10 +1,12 @@
 //! Whole replays over instances that threads could share, beside those on one thread; and the end of a bench.
 
 use device_bench::ReplayBench;
-use device_shared::shared_bench;
+use device_rows::TraceFault;
+use device_shared::SharedBench;
 use napi_model::Kind;
 use poll_runs::{Bench, Next};
 use replay_rows::replay_serial;
+use replay_text::ReplayFault;
 use replay_threads::replay_shared;
 use replay_words::Settings;
 use std::alloc::{AllocError, Global};
@@ -168,7 +170,7 @@ fn packets_of<B: ReplayBench>(bench: &B, device: u32) -> Option<(u64, u64, u64, 
 // What arrived is polled or left. Then the bench ends, whose instances are handed over, repolled, to be disabled or disabled.
 #[test]
 fn packets_at_the_end(rt: HostRuntime) -> Result<(), Fail> {
-    let mut bench = shared_bench(&rt, rt.alloc())?;
+    let mut bench = SharedBench::new(&rt, rt.alloc())?;
     for device in [2, 3, 5, 7, 16] {
         assert_eq!(rt; bench.attach(rt.alloc(), device, 4, 0), Ok(()));
     }
@@ -208,14 +210,30 @@ fn packets_at_the_end(rt: HostRuntime) -> Result<(), Fail> {
         };
         assert_eq!(rt; packets_of(&bench, number), wanted, "of device {number}");
     }
-    drop(bench);
+    // Its end polls what is left.
+    let ends = bench.end();
+    for (number, end) in ends.iter().enumerate() {
+        let wanted = match number {
+            2 => Some((2, 2, 0, 160)),
+            3 => Some((1, 1, 0, 7)),
+            5 => Some((1, 1, 0, 8)),
+            7 => Some((3, 3, 0, 60)),
+            16 => Some((1, 1, 0, 9)),
+            _ => None,
+        };
+        let counted = match end {
+            Some(totals) => Some((totals.put, totals.polled, totals.left, totals.bytes)),
+            None => None,
+        };
+        assert_eq!(rt; counted, wanted, "of device {number}");
+    }
     Ok(())
 }
 
 // One more device, and one that is there already, leave a device as it was.
 #[test]
 fn another_device_stays(rt: HostRuntime) -> Result<(), Fail> {
-    let mut bench = shared_bench(&rt, rt.alloc())?;
+    let mut bench = SharedBench::new(&rt, rt.alloc())?;
     assert_eq!(rt; bench.attach(rt.alloc(), 1, 4, 0), Ok(()));
     bench.arrive(1, 100);
     bench.send(1, 1500);
@@ -225,5 +243,22 @@ fn another_device_stays(rt: HostRuntime) -> Result<(), Fail> {
     assert_eq!(rt; bench.attach(rt.alloc(), 3, 65536, 5), Ok(()));
     assert_eq!(rt; bench.counts(1), before);
     assert_eq!(rt; bench.attached(), 2);
+    let ends = bench.end();
+    assert_eq!(rt; ends[2], None);
     Ok(())
+}
+
+// A fault in mid-trace ends the bench, with a packet in a ring and a disable that is pending, and is answered; so is want of
+// memory, wherever it comes (`rt try --test --fail-alloc 1`, to 40), and the next replay goes through.
+#[test]
+fn fault_in_mid_trace(rt: HostRuntime) {
+    let text = "moment,device,event,value\n0,1,open,4\n1,1,rx,100\n2,1,disable,0\n3,1,enable,0\n";
+    let settings = Settings::default();
+    let mut report = Vec::new(rt.alloc());
+    let mut answer = replay_shared(&rt, rt.alloc(), text.as_bytes(), &mut report, &settings);
+    if answer == Err(ReplayFault::Trace(TraceFault::OutOfMemory)) {
+        answer = replay_shared(&rt, rt.alloc(), text.as_bytes(), &mut report, &settings);
+    }
+    assert_eq!(rt; answer, Err(ReplayFault::Pending { row: 4 }));
+    assert!(rt; report.is_empty());
 }

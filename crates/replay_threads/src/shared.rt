@@ -5,7 +5,7 @@ ghost use Rattle.replay_text.specs.Outside.{IsOutside};
 ghost use Rattle.replay_text.specs.Written.{IsFaultBy, LeavesAsItWas, Writes};
 ghost use Rattle.replay_rows.specs.Answer.{replay_of};
 
-use device_shared::shared_bench;
+use device_shared::SharedBench;
 use replay_rows::replay_on;
 use replay_text::ReplayFault;
 use replay_words::Settings;
@@ -15,9 +15,9 @@ use std::sync::Wait;
 
 /// Plays a trace by one thread over instances that threads could share, and writes the report of it: that of serial mode.
 ///
-/// Nothing is written before the whole trace is read and played and every instance is closed, so on every fault but
-/// `OutputFailed` nothing was. After a failed write it isn't known how much went out. Want of memory may come before any other
-/// fault.
+/// Nothing is written before the whole trace is read and played, so on every fault but `OutputFailed` nothing was. After a
+/// failed write it isn't known how much went out. Want of memory may come before any other fault. At the end, after a fault
+/// too, the bench is ended, which may wait: each instance is closed, and what its ring holds is polled.
 pub fn replay_shared<H: Wait + Copy + Drop, R: Read + Drop, W: Write>(
     rt: H,
     alloc: Global,
@@ -35,5 +35,8 @@ pub fn replay_shared<H: Wait + Copy + Drop, R: Read + Drop, W: Write>(
     ensures untouched { IfErr result
         (LeavesAsItWas (W.contents writer.old) (W.contents writer.new)) }
 {
-    replay_on(alloc, shared_bench(rt, alloc)?, reader, writer, settings)
+    let bench = SharedBench::new(rt, alloc)?;
+    let (bench, replayed) = replay_on(alloc, bench, reader, writer, settings);
+    let _ = bench.end();
+    replayed
 }

@@ -1,0 +1,83 @@
+-- The devices of a bench are ended one after the other, the last one first.
+use Rattle.{std.proofs.{Common.{◌≡◌, ◌≢◌, ◌∙◌, ◌<◌, ◌≤◌, ◌+◌, ℕ, zero, suc, Bool, true, false, Option, Some, None, [], ◌∷◌, ◌++◌, length, length-append, length-set, get_or-set_other, replicate, slice_set, ap, refl, arith}, lemmas.Bool.{eqb-true, eqb-false}}}
+use Rattle.std.specs.Prelude.{◌==◌}
+use Rattle.{rx_ring.specs.declared.packet.Totals.Totals, device_rows.specs.Places.{Places, at}}
+use Rattle.device_bench.{specs.{Bench.Devices, Device.side_of, DeviceView.DeviceView, Ending.{AllEnded, IsEndedAt}, Receive.ReceiveView}, proofs.BenchFacts.at-beyond}
+
+-- those from here on were ended, and those before them are left
+pub record EndedFrom (ended : ReceiveView → Totals → Type 0) (all left : Devices) (ends : Places Totals) : Type 0 where
+  pub places : length ends ≡ 17
+  pub most : length left ≤ 17
+  pub same : (number : ℕ) → number < length left → at number all ≡ at number left
+  pub none : (number : ℕ) → number < length left → at number ends ≡ None
+  pub done : (number : ℕ) → length left ≤ number → IsEndedAt ended (at number all) (at number ends)
+
+-- what stands behind a list, and before its end
+at-last : {A : Type 0} → (xs : Places A) (x : Option A) → at (length xs) (xs ++ x ∷ []) ≡ x
+at-last [] x = refl
+at-last (y ∷ xs) x = at-last xs x
+
+at-before : {A : Type 0} → (xs ys : Places A) (number : ℕ) → number < length xs → at number (xs ++ ys) ≡ at number xs
+at-before [] ys number below = absurd (omega (arith, below))
+at-before (x ∷ xs) ys zero below = refl
+at-before (x ∷ xs) ys (suc number) below = at-before xs ys number (omega (arith, below))
+
+none-at : {A : Type 0} → (count number : ℕ) → at {A = A} number (replicate count None) ≡ None
+none-at (suc count) (suc number) = none-at count number
+none-at count number = refl
+
+module _ (ended : ReceiveView → Totals → Type 0) (all : Devices) where
+  pub ended-none : length all ≡ 17 → EndedFrom ended all all (replicate 17 None)
+  ended-none places = record {
+    places = refl;
+    most = omega (arith, places);
+    same = λ number below. refl;
+    none = λ number below. none-at 17 number;
+    done = λ number beyond. rw (at-beyond number all beyond, none-at {A = Totals} 17 number) tt;
+  }
+
+  module _ (left left' : Devices) (place : Option DeviceView) (ends ends' : Places Totals) (more : left ≡ left' ++ place ∷ []) (was : EndedFrom ended all left ends) where
+    longer : length left ≡ length left' + 1
+    longer = ap length more ∙ length-append left' (place ∷ [])
+
+    place-is : at (length left') all ≡ place
+    place-is = was.same (length left') (omega (arith, longer)) ∙ ap (λ (l : Devices). at (length left') l) more ∙ at-last left' place
+
+    same-still : (number : ℕ) → number < length left' → at number all ≡ at number left'
+    same-still number below = was.same number (omega (arith, longer, below)) ∙ ap (λ (l : Devices). at number l) more ∙ at-before left' (place ∷ []) number below
+
+    pub ended-next : (answer : Option Totals) → IsEndedAt ended place answer → length ends' ≡ 17 → at (length left') ends' ≡ answer
+        → ((number : ℕ) → number ≢ length left' → at number ends' ≡ at number ends) → EndedFrom ended all left' ends'
+    ended-next answer here places now others = record {
+      places = places;
+      most = omega (arith, longer, was.most);
+      same = same-still;
+      none = λ number below. others number (omega (arith, below)) ∙ was.none number (omega (arith, longer, below));
+      done = λ number beyond. by number beyond (number == length left') refl;
+    }
+      where
+        by : (number : ℕ) → length left' ≤ number → (b : Bool) → (number == length left') ≡ b → IsEndedAt ended (at number all) (at number ends')
+        by number beyond true e = rw (eqb-true number (length left') e, place-is, now) here
+        by number beyond false e =
+            let apart : number ≢ length left' = eqb-false number (length left') e in
+            rw (others number apart) (was.done number (omega (arith, longer, beyond, apart)))
+
+    pub ended-absent : place ≡ None → ends' ≡ ends → EndedFrom ended all left' ends'
+    ended-absent absent same =
+        ended-next None (rw absent tt) (ap length same ∙ was.places) (ap (λ (l : Places Totals). at (length left') l) same ∙ was.none (length left') (omega (arith, longer)))
+        (λ number apart. ap (λ (l : Places Totals). at number l) same)
+
+    pub ended-present : (d : DeviceView) (totals : Totals) → place ≡ Some d → ended (side_of d) totals → ends' ≡ slice_set ends (length left') (Some totals) → EndedFrom ended all left' ends'
+    ended-present d totals present is set =
+        let below : length left' < length ends = omega (arith, longer, was.most, was.places) in
+        ended-next (Some totals) (rw present is) (ap length set ∙ length-set ends (length left') (Some totals) ∙ was.places)
+        (ap (λ (l : Places Totals). at (length left') l) set ∙ at-same ends (length left') (Some totals) below)
+        (λ number apart. ap (λ (l : Places Totals). at number l) set ∙ get_or-set_other ends (length left') number (Some totals) None apart)
+      where
+        at-same : (xs : Places Totals) (n : ℕ) (y : Option Totals) → n < length xs → at n (slice_set xs n y) ≡ y
+        at-same [] n y below = absurd (omega (arith, below))
+        at-same (x ∷ xs) zero y below = refl
+        at-same (x ∷ xs) (suc n) y below = at-same xs n y (omega (arith, below))
+
+  pub ended-all : (left : Devices) (ends : Places Totals) → length left ≡ 0 → EndedFrom ended all left ends → AllEnded ended all ends
+  ended-all left ends none was number = was.done number (omega (arith, none))

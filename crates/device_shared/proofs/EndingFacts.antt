@@ -1,0 +1,69 @@
+-- How a side ends.
+use Rattle.std.proofs.{Common.{◌≡◌, ◌∙◌, ℕ, List, [], ◌∷◌, length, take, Some, refl, sym, ap, subst, arith}, lemmas.List.{append-nil, length-drop, take-append-drop}}
+use Rattle.rx_ring.specs.{declared.{ends.{RxCtx.RxCtx, RxIn.RxIn}, packet.{Packet.Packet, Totals.Totals}}, Ends.{IsOneRing, SameCtx, SameIn, put_list, received_list, ring_name, ring_of}, ReceiveRing.{capped, held_of, totals_of}}
+use Rattle.{napi_word.{specs.declared.table.Pass.Pass, proofs.Deliveries.some_is}, device_bench.specs.Receive.ReceiveView}
+use Rattle.napi_calls.{specs.{Closed.IsClosed, Seats.shown, declared.types.{Caller.Caller, Napi.Napi}}, proofs.{Dealing.named_ring, Steps.prefix_trans}}
+use Rattle.napi_calls.specs.Seats as seats
+use Rattle.napi_model.specs.declared.state.Seen.{Seen}
+use Rattle.device_shared.specs.{declared.seats.Seats.Seats, Ending.{IsEnded, IsLater}, Seats.{control_of, received_by}, SharedReceive.{IsWhole, left_in}}
+use Rattle.device_shared.proofs.{Gathering.{at_three, ring_from}, RingFacts.{one_still, side_at}}
+
+-- ---- one seat, and one ring, at several moments
+
+pub later_same : (p : Pass) → IsLater p p
+later_same p = record { begins = ([], append-nil (shown p)); ring = refl }
+
+pub later_then : (p q r : Pass) → IsLater p q → IsLater q r → IsLater p r
+later_then p q r a b = record { begins = prefix_trans (shown p) (shown q) (shown r) a.begins b.begins; ring = b.ring ∙ a.ring }
+
+pub ring_still : (input input' : RxIn) (x x' : RxCtx) → SameIn input input' → SameCtx x x' → IsOneRing input x → IsOneRing input' x'
+ring_still input input' x x' a b one =
+    let still = one_still input input' x a one in
+    (b.0.0 ∙ still.0, b.0.1 ∙ still.1, b.0.2 ∙ still.2, b.0.3 ∙ still.3)
+
+-- ---- a side ended
+
+module _ (n : Napi) (s : Seats) (input : RxIn) (held_many capacity : ℕ) (seen : Seen) (w : IsWhole n s input held_many capacity seen)
+    (control : Pass) (later : IsLater (control_of s.turn) control) where
+  -- the context that the controller has is that of this ring
+  pub ring_closed : (ctx own : RxCtx) → ctx ≡ own → seats.ring_of control ≡ Some (ring_name own) → IsOneRing input ctx
+  ring_closed ctx own same has =
+      let named : ring_name w.first ≡ ring_name own = some_is (sym (ring_from (control_of s.turn) w.first w.gathered.show.first_three) ∙ sym later.ring ∙ has) in
+      subst (IsOneRing input) (sym same) (named_ring input w.first own w.one named)
+
+  module _ (a b c : Caller) (ctx : RxCtx) (cl : IsClosed n (a ∷ b ∷ c ∷ []) control ctx) (one : IsOneRing input ctx) (input' : RxIn) (last : RxCtx) (same : SameCtx ctx last)
+      (put : put_list input' ≡ put_list input) (polled : received_list last ≡ put_list input) (totals : Totals) (are : totals ≡ totals_of (ring_of input' last)) where
+    ring_is : ring_of input' last ≡ ring_of input last
+    ring_is = ap (λ (l : List Packet). record { put = l; received = received_list last }) put
+
+    none_left : totals.left ≡ 0
+    none_left =
+        let none : length (held_of (ring_of input last)) ≡ 0 = length-drop (length (received_list last)) (put_list input) ∙ omega (arith, ap length polled) in
+        ap (λ (t : Totals). t.left) (are ∙ ap totals_of ring_is) ∙ ap capped none
+
+    pub side_ended : (now : ReceiveView) → side_at (Some s) input capacity ≡ now → IsEnded now totals
+    side_ended now view =
+        let from = control_of s.turn in
+        let to = prefix_trans (shown from) (shown control) cl.history later.begins (cl.is.begins 3 control refl) in
+        subst (λ (v : ReceiveView). IsEnded v totals) view (record {
+          napi = n;
+          callers = a ∷ b ∷ c ∷ [];
+          control = control;
+          ctx = ctx;
+          closed = cl;
+          before = shown from;
+          rest = to.0;
+          history = sym to.1;
+          state = sym (at_three from w.gathered.show.seats.three.controller);
+          input = input;
+          one = one;
+          front = take (length (received_by s)) (put_list input);
+          held = left_in input s;
+          put = sym (take-append-drop (length (received_by s)) (put_list input));
+          held_is = refl;
+          last = last;
+          same = same;
+          polled = polled;
+          totals_are = are ∙ ap totals_of ring_is;
+          none_left = none_left;
+        })
