@@ -85,8 +85,8 @@ pub(crate) fn add_line(
     counts: Option<DeviceCounts>,
     polled: Option<Line>,
 ) -> Result<(), AllocError>
-    ensures { OnOk result
-        (string_bytes text.new ≡ string_bytes text.old ++ line_of number row.now used counts polled) }
+    ensures { OnOk result (string_bytes text.new
+        ≡ string_bytes text.old ++ line_of number row.now used counts polled) }
 {
     add_row(text, number, row)?;
     add_device(text, counts)?;

@@ -2,11 +2,10 @@ use Rattle.{std.proofs.Common.{◌∙◌, sym, arith}, device_script.{specs.Scri
 use Rattle.device_script.proofs.script.ScriptDevice.new.Goals as goal
 
 pub of-requires-clause-places : goal.of-requires-clause-places
-of-requires-clause-places c =
-    opened-within _ c.args.trace.now.rows c.args.device c.in-Some.opening c.args.trace.now.type_inv (sym c.opening_of.ensures ∙ c.in-Some.is)
+of-requires-clause-places c = opened-within _ c.rows-rows.result.now c.args.device c.in-Some.opening c.rows-rows.ensures.accepted (sym c.opening_of.ensures ∙ c.in-Some.is)
 
 pub of-requires-clause-count : goal.of-requires-clause-count
 of-requires-clause-count c =
-    let long = filter-long (is_act_of c.args.device) c.args.trace.now.rows in
-    let all = c.rows.ensures.count in
+    let long = filter-long (is_act_of c.args.device) c.rows-rows.result.now in
+    let all = c.rows-rows.ensures.count in
     rw c.in_ok-script_of.ensures (omega (arith, long, all))
