@@ -110,6 +110,7 @@ attached places = length (filter is_some places)
 abbrev pub HaveSides : {A : Type 0} → Places A → Transmits → Type 0
 HaveSides devices all = (number : ℕ) → is_some (at number all) ≡ is_some (at number devices)
 
-abbrev pub counts_at : Option DeviceView → Option TxCounts → Option DeviceCounts
+-- of a device, where there is one
+abbrev pub counts_at : Option DeviceView → TxCounts → Option DeviceCounts
 counts_at None tx = None
 counts_at (Some d) tx = Some (counts_of d tx)

@@ -1,5 +1,5 @@
 -- What the report tells of a device.
-use Rattle.std.specs.Prelude.{Option, length}
+use Rattle.std.specs.Prelude.{length}
 use Rattle.napi_model.specs.Step.{seen_of}
 use Rattle.napi_model.specs.Word.{word_of}
 use Rattle.device_bench.specs.Device.{state_of}
@@ -8,7 +8,7 @@ use Rattle.device_bench.specs.declared.counts.DeviceCounts.{DeviceCounts}
 use Rattle.device_transmit.specs.declared.transmit.TxCounts.{TxCounts}
 
 -- what a device counted, what its ring holds, its state word, and its transmit side
-abbrev pub counts_of : DeviceView → Option TxCounts → DeviceCounts
+abbrev pub counts_of : DeviceView → TxCounts → DeviceCounts
 counts_of d tx = record d.told {
   state = state_of d;
   left = length d.packets;

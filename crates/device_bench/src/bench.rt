@@ -297,15 +297,19 @@ impl<S: ReceiveSide, O: Opener<S>> ReplayBench for DeviceBench<S, O> {
         self.taken_places()
     }
 
-    fn counts(&self, device: u32) -> Option<DeviceCounts> {
-        if device >= PLACES {
-            return None;
-        }
-        let transmit = self.transmits.counts(device);
-        match &self.devices[device as usize] {
-            Some(device) => Some(device.counts(transmit)),
-            None => None,
-        }
+    fn is_attached(&self, device: u32) -> bool {
+        matches!(self.devices.get(device as usize), Some(Some(_)))
+    }
+
+    fn counts(&self, device: u32) -> DeviceCounts {
+        let Some(Some(opened)) = self.devices.get(device as usize) else {
+            unreachable!();
+        };
+        opened.counts(self.transmits.counts(device))
+    }
+
+    fn uses_transmit(&self, device: u32) -> bool {
+        self.transmits.is_used(device)
     }
 
     ghost polled = { λ before after number weight once is. is };

@@ -44,12 +44,13 @@ pub struct DeviceCounts {
     pub held: u64,
     /// The state word.
     pub word: u64,
-    /// The transmit side, where the device had a tx or done row.
-    pub tx: Option<TxCounts>,
+    /// The transmit side.
+    pub tx: TxCounts,
 }
 
 impl DeviceCounts {
-    /// What is told of a device without packets, to which nothing has happened and whose state word is 0.
+    /// What is told of a device without packets and without a transmit side, to which nothing has happened and whose state
+    /// word is 0.
     pub const OPENED: DeviceCounts = DeviceCounts {
         state: DeviceState::On,
         arrived: 0,
@@ -65,6 +66,6 @@ impl DeviceCounts {
         released: 0,
         held: 0,
         word: 0,
-        tx: None,
+        tx: TxCounts::NONE,
     };
 }

@@ -69,7 +69,7 @@ impl<S: ReceiveSide> Device<S> {
     }
 
     /// What the report tells of the device, with that of its transmit side.
-    pub(crate) fn counts(&self, tx: Option<TxCounts>) -> DeviceCounts
+    pub(crate) fn counts(&self, tx: TxCounts) -> DeviceCounts
         ensures { result ≡ counts_of self.now tx }
     {
         DeviceCounts {

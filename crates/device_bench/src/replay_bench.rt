@@ -1,8 +1,8 @@
 //! What the rows of a trace play on.
 
-ghost use Rattle.std.specs.Prelude.{◌≡◌, ◌≤◌, ◌+◌, ℕ, is_some, not, IfSome, OnErr, OnOk};
+ghost use Rattle.std.specs.Prelude.{◌≡◌, ◌≤◌, ◌+◌, ℕ, Some, is_some, not, true, OnErr, OnOk};
 ghost use Rattle.device_bench.specs.Bench.{AreBusyPolls, ArePolls, AreThreadPolls, Devices, all_settled, arrived, attached, counts_at, handed_by};
-ghost use Rattle.device_transmit.specs.Transmits.{Changes, Keeps, Transmits, tx_counts_of};
+ghost use Rattle.device_transmit.specs.Transmits.{Changes, Keeps, Transmits, is_used, tx_counts_of};
 ghost use Rattle.device_bench.specs.Device.{after_disable, after_enable, after_threaded, opened};
 ghost use Rattle.device_bench.specs.Kept.{is_pending_at};
 ghost use Rattle.device_rows.specs.Places.{added, at, changed};
@@ -107,15 +107,23 @@ pub trait ReplayBench: Bench {
         ensures devices { Exact → result ≡ attached (devices self.now) }
         ensures transmits { (all : Transmits) → shows self.now all → result ≡ attached all };
 
-    /// What the report tells of a device, or `None` where there is no such device. Each device has its transmit side from
-    /// `attach` on.
-    fn counts(&self, device: u32) -> Option<DeviceCounts>
-        ensures devices { Exact → (all : Transmits) → shows self.now all
-            → result ≡ counts_at (at device (devices self.now)) (tx_counts_of (at device all)) }
-        ensures attached { (all : Transmits) → shows self.now all
-            → is_some result ≡ is_some (at device all) }
+    /// Whether a device is attached.
+    fn is_attached(&self, device: u32) -> bool
+        ensures devices { result ≡ is_some (at device (devices self.now)) }
         ensures transmits { (all : Transmits) → shows self.now all
-            → IfSome result (λ counts. counts.tx ≡ tx_counts_of (at device all)) };
+            → result ≡ is_some (at device all) };
+
+    /// What the report tells of an attached device. Each has its transmit side from `attach` on.
+    fn counts(&self, device: u32) -> DeviceCounts
+        requires attached { is_some (at device (devices self.now)) ≡ true }
+        ensures devices { Exact → (all : Transmits) → shows self.now all → Some result
+            ≡ counts_at (at device (devices self.now)) (tx_counts_of (at device all)) }
+        ensures transmits { (all : Transmits) → shows self.now all
+            → result.tx ≡ tx_counts_of (at device all) };
+
+    /// Whether an attached device had a tx or done row, where the report tells of its transmit side.
+    fn uses_transmit(&self, device: u32) -> bool
+        ensures { (all : Transmits) → shows self.now all → result ≡ is_used (at device all) };
 
     /// What a poll from the list is.
     ghost polled: { ArePolls Exact devices shows waiting Self.polls };

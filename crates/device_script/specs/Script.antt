@@ -1,11 +1,10 @@
 -- What the rows of a trace say of one device: filters over the rows, which know nothing of polls.
 use Rattle.std.specs.Prelude.{is_some, ℕ, ◌+◌, ◌==◌, ◌&&◌, Bool, true, false, not, List, [], ◌∷◌, Option, Some, None, filter, length, slice_get, take}
 use Rattle.std.specs.List.{find}
-use Rattle.device_transmit.specs.Transmit.{TransmitView, after_finish, after_tx, opened_transmit, tx_counts}
+use Rattle.device_transmit.specs.Transmit.{TransmitView, after_finish, after_tx, opened_transmit}
 use Rattle.device_rows.specs.declared.event.Event.{Event}
 use Rattle.device_rows.specs.declared.event.Event.TheVariants as event
 use Rattle.device_rows.specs.declared.row.Row.{Row}
-use Rattle.device_transmit.specs.declared.transmit.TxCounts.{TxCounts}
 use Rattle.poll_interrupts.specs.declared.acts.Act.{Act}
 use Rattle.poll_interrupts.specs.declared.acts.Act.TheVariants as act
 
@@ -83,6 +82,6 @@ abbrev pub transmit_after : List Row → TransmitView → TransmitView
 transmit_after [] t = t
 transmit_after (row ∷ rows) t = transmit_after rows (transmit_by row.event row t)
 
--- what the report tells of the transmit side of a device that this row opened, after these rows of its script
-abbrev pub tx_after : Row → List Row → Option TxCounts
-tx_after opening rows = tx_counts (transmit_after rows (opened_transmit opening.value opening.moment))
+-- the transmit side of a device that this row opened, after these rows of its script
+abbrev pub side_after : Row → List Row → TransmitView
+side_after opening rows = transmit_after rows (opened_transmit opening.value opening.moment)

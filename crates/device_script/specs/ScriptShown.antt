@@ -1,11 +1,11 @@
 -- A device of a script, as contracts see it.
 use Rattle.std.specs.Prelude.{◌≡◌, ◌≤◌, ℕ, ◌+◌, ◌==◌, List, if◌then◌else◌, length, take}
-use Rattle.device_transmit.specs.Transmit.{ShowsTransmit, opened_transmit}
+use Rattle.device_transmit.specs.Transmit.{ShowsTransmit, TransmitView}
 use Rattle.device_rows.specs.declared.row.Row.{Row}
 use Rattle.device_transmit.specs.declared.transmit.Transmit.{Transmit}
 use Rattle.poll_interrupts.specs.declared.acts.Act.{Act}
 use Rattle.poll_interrupts.specs.declared.acts.Act.TheVariants as act
-use Rattle.device_script.specs.Script.{act_at, rx_of, transmit_after}
+use Rattle.device_script.specs.Script.{act_at, rx_of, side_after}
 
 pub record Script : Type 0 where
   -- the row that opened the device
@@ -25,9 +25,13 @@ answer script k = if k == script.made then act_at script.rows k else act.Nothing
 abbrev pub after : Script → ℕ → Script
 after script k = if k == script.made then record script { made = script.made + 1 } else script
 
+-- its transmit side after the acts that were made
+abbrev pub side_of : Script → TransmitView
+side_of script = side_after script.opening (take script.made script.rows)
+
 -- the transmit side is that of the rows so far, whose packets were counted
 pub record IsKept (opening : Row) (rows : List Row) (made counted : ℕ) (side : Transmit) : Type 0 where
   pub few : length rows ≤ 100000
   pub within : made ≤ length rows
   pub packets : counted ≡ length (rx_of (take made rows))
-  pub transmit : ShowsTransmit side (transmit_after (take made rows) (opened_transmit opening.value opening.moment))
+  pub transmit : ShowsTransmit side (side_after opening (take made rows))

@@ -2,12 +2,12 @@
 
 ghost use Rattle.std.specs.Prelude.{◌≡◌, ◌≤◌, ◌<◌, ◌+◌, ◌^◌, ℕ, List, [], ◌∷◌, Some, IfOk, OnOk, IsSome, filter, length, take};
 ghost use Rattle.device_rows.specs.Range.{IsWithin};
-ghost use Rattle.device_rows.specs.Trace.{AcceptedAfter};
-ghost use Rattle.device_transmit.specs.Transmit.{ShowsTransmit, TransmitView};
-ghost use Rattle.device_script.specs.Script.{act_of, has_thread, is_rx, makes_threaded, opening_of, rx_of, script_of, transmit_by, tx_after};
+ghost use Rattle.device_transmit.specs.Transmit.{ShowsTransmit, TransmitView, tx_counts};
+ghost use Rattle.device_script.specs.Script.{act_of, has_thread, is_rx, makes_threaded, opening_of, rx_of, script_of, transmit_by};
+ghost use Rattle.device_script.specs.ScriptShown.{side_of};
 
 use crate::dealing::{is_act_of, opens};
-use device_rows::{Event, Row};
+use device_rows::{Event, Row, Trace};
 use device_transmit::{Transmit, TxCounts};
 use poll_interrupts::{Act, Device};
 use rx_ring::Packet;
@@ -126,15 +126,15 @@ fn play(row: Row, packets: &mut u64, transmit: &mut Transmit) -> Act
 }
 
 impl ScriptDevice {
-    /// The device of these rows, before its acts. The only error is want of memory.
-    pub fn new(alloc: Global, rows: &[Row], device: u32) -> Result<ScriptDevice, AllocError>
-        requires accepted { AcceptedAfter [] rows.now }
-        requires count { length rows.now ≤ 100000 }
-        requires opened { IsSome (opening_of device rows.now) }
-        ensures opening { IfOk result (λ script. opening_of device rows.now ≡ Some script.opening) }
-        ensures rows { IfOk result (λ script. script.rows ≡ script_of device rows.now) }
+    /// The device of that number of a trace, which opens it, before its acts. The only error is want of memory.
+    pub fn new(alloc: Global, trace: &Trace, device: u32) -> Result<ScriptDevice, AllocError>
+        requires opened { IsSome (opening_of device trace.now.rows) }
+        ensures opening { IfOk result
+            (λ script. opening_of device trace.now.rows ≡ Some script.opening) }
+        ensures rows { IfOk result (λ script. script.rows ≡ script_of device trace.now.rows) }
         ensures made { IfOk result (λ script. script.made ≡ 0) }
     {
+        let rows = trace.rows();
         let Some(opening) = opening_of(rows, device) else {
             unreachable!()
         };
@@ -179,11 +179,18 @@ impl ScriptDevice {
         has_thread(self.rows.as_slice())
     }
 
-    /// What the report tells of the device's transmit side after the acts that were made, where one was a tx or done row.
-    pub fn tx_counts(&self) -> Option<TxCounts>
-        ensures { result ≡ tx_after self.now.opening (take self.now.made self.now.rows) }
+    /// What is told of the device's transmit side after the acts that were made.
+    pub fn tx_counts(&self) -> TxCounts
+        ensures { result ≡ tx_counts (side_of self.now) }
     {
         self.transmit.counts()
+    }
+
+    /// Whether one of the acts that were made was a tx or done row, where the report tells of the transmit side.
+    pub fn uses_transmit(&self) -> bool
+        ensures { result ≡ (side_of self.now).used }
+    {
+        self.transmit.is_used()
     }
 }
 

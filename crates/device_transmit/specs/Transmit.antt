@@ -1,5 +1,5 @@
 -- The transmit side of a device: its queue, and what became of its tx and done rows. It knows nothing of polls.
-use Rattle.std.specs.Prelude.{◌≡◌, ℕ, Bool, true, false, Option, Some, None, if◌then◌else◌}
+use Rattle.std.specs.Prelude.{◌≡◌, ℕ, Bool, true, false, Option, Some, None}
 use Rattle.dql_core.specs.Bounds.{DQL_MAX_LIMIT}
 use Rattle.dql_core.specs.Limit.{opening}
 use Rattle.device_transmit.specs.Counter.{raised}
@@ -51,10 +51,9 @@ done_unless (Some fault) count moment t = record t { denied = raised t.denied 1;
 abbrev pub after_finish : ℕ → ℕ → TransmitView → TransmitView
 after_finish count moment t = done_unless (done_fault t.queue count) count moment t
 
--- what the report tells of it, where there was a row
-abbrev pub tx_counts : TransmitView → Option TxCounts
-tx_counts t =
-    if t.used then Some (record { sent = t.sent; held = t.held; done = t.done; denied = t.denied; state = state_of t.queue }) else None
+-- what is told of it
+abbrev pub tx_counts : TransmitView → TxCounts
+tx_counts t = record { sent = t.sent; held = t.held; done = t.done; denied = t.denied; state = state_of t.queue }
 
 -- what is kept shows this: the ring shows the queue, which counts more than 32 bits hold
 pub record ShowsTransmit (kept : Transmit) (t : TransmitView) : Type 0 where

@@ -1,8 +1,9 @@
 -- The transmit sides of devices, by their numbers, and what calls do to them.
-use Rattle.std.specs.Prelude.{Option, Some, None}
+use Rattle.std.specs.Prelude.{Bool, false, Option, Some, None}
 use Rattle.device_rows.specs.Places.{Places}
 use Rattle.device_transmit.specs.Transmit.{TransmitView, tx_counts}
 use Rattle.device_transmit.specs.declared.transmit.TxCounts.{TxCounts}
+use Rattle.device_transmit.specs.declared.transmit.TheConstants.TxCounts.{NONE}
 
 abbrev pub Transmits : Type 0
 Transmits = Places TransmitView
@@ -15,7 +16,12 @@ Changes shows change old new = (all : Transmits) → shows old all → shows new
 abbrev pub Keeps : {B : Type 0} → (B → Transmits → Type 0) → B → B → Type 0
 Keeps shows old new = Changes shows (λ all. all) old new
 
--- what the report tells of a side, where there is one
-abbrev pub tx_counts_of : Option TransmitView → Option TxCounts
-tx_counts_of None = None
+-- what is told of a side, zeros where there is none
+abbrev pub tx_counts_of : Option TransmitView → TxCounts
+tx_counts_of None = NONE
 tx_counts_of (Some t) = tx_counts t
+
+-- whether there is a side that had a tx or done row
+abbrev pub is_used : Option TransmitView → Bool
+is_used None = false
+is_used (Some t) = t.used

@@ -16,7 +16,7 @@ pub struct TransmitSides {
 
 impl TransmitSides {
     ghost use Rattle.std.specs.Prelude.{IfOk};
-    ghost use Rattle.device_transmit.specs.Transmits.{Changes, Transmits, tx_counts_of};
+    ghost use Rattle.device_transmit.specs.Transmits.{Changes, Transmits, is_used, tx_counts_of};
     ghost use Rattle.device_rows.specs.Places.{added, at, changed, empty};
     ghost use Rattle.device_rows.specs.Range.{IsWithin};
     ghost use Rattle.device_transmit.specs.Sides.{ShowsSides};
@@ -68,17 +68,24 @@ impl TransmitSides {
         }
     }
 
-    /// What the report tells of a side, where it had a row.
-    pub fn counts(&self, device: u32) -> Option<TxCounts>
+    /// What is told of a side, zeros where there is none.
+    pub fn counts(&self, device: u32) -> TxCounts
         ensures { (all : Transmits) → ShowsSides self.now all
             → result ≡ tx_counts_of (at device all) }
     {
-        if device >= PLACES {
-            return None;
+        match self.of.get(device as usize) {
+            Some(Some(transmit)) => transmit.counts(),
+            _ => TxCounts::NONE,
         }
-        match &self.of[device as usize] {
-            Some(transmit) => transmit.counts(),
-            None => None,
+    }
+
+    /// Whether there is a side that had a tx or done row.
+    pub fn is_used(&self, device: u32) -> bool
+        ensures { (all : Transmits) → ShowsSides self.now all → result ≡ is_used (at device all) }
+    {
+        match self.of.get(device as usize) {
+            Some(Some(transmit)) => transmit.is_used(),
+            _ => false,
         }
     }
 }

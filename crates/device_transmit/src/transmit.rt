@@ -37,6 +37,23 @@ pub struct TxCounts {
     pub state: TxState,
 }
 
+impl TxCounts {
+    /// What is told where there is no transmit side.
+    pub const NONE: TxCounts = TxCounts {
+        sent: 0,
+        held: 0,
+        done: 0,
+        denied: 0,
+        state: TxState {
+            queued: 0,
+            completed: 0,
+            limit: 0,
+            avail: 0,
+            stopped: false,
+        },
+    };
+}
+
 impl Transmit {
     /// A new ring of that many places, under a limit of the kernel's bounds that starts at that moment.
     pub fn open(alloc: Global, capacity: u32, moment: u64) -> Result<Transmit, AllocError>
@@ -85,19 +102,23 @@ impl Transmit {
         }
     }
 
-    /// What the report tells of it, where it had a row.
-    pub fn counts(&self) -> Option<TxCounts>
+    /// What is told of it.
+    pub fn counts(&self) -> TxCounts
         ensures { (view : TransmitView) → ShowsTransmit self.now view → result ≡ tx_counts view }
     {
-        if !self.used {
-            return None;
-        }
-        Some(TxCounts {
+        TxCounts {
             sent: self.sent,
             held: self.held,
             done: self.done,
             denied: self.denied,
             state: self.ring.state(),
-        })
+        }
+    }
+
+    /// Whether it had a tx or done row, where the report tells of it.
+    pub fn is_used(&self) -> bool
+        ensures { (view : TransmitView) → ShowsTransmit self.now view → result ≡ view.used }
+    {
+        self.used
     }
 }

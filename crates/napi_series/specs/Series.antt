@@ -1,16 +1,15 @@
 -- The series of a trace: a CSV line behind each row, or behind each Nth one, with the values that the report of the rows so
 -- far would have.
-use Rattle.std.specs.Prelude.{ℕ, zero, suc, ◌+◌, ◌%◌, ◌==◌, List, [], ◌∷◌, ◌++◌, Option, Some, None, Result, Ok, Err, codes, decimal, flat_map, if◌then◌else◌, length}
+use Rattle.std.specs.Prelude.{ℕ, zero, suc, ◌+◌, ◌%◌, ◌==◌, Bool, true, List, [], ◌∷◌, ◌++◌, Option, Some, None, Result, Ok, Err, codes, decimal, flat_map, if◌then◌else◌, length}
 use Rattle.std.specs.Fmt.{signed_decimal}
 use Rattle.std.specs.List.{slice_get}
 use Rattle.device_rows.specs.Trace.{records_of, trace_of}
 use Rattle.device_bench.specs.declared.counts.DeviceCounts.{DeviceCounts}
 use Rattle.device_rows.specs.declared.fault.TraceFault.{TraceFault}
 use Rattle.device_rows.specs.declared.row.Row.{Row}
-use Rattle.device_transmit.specs.declared.transmit.TxCounts.{TxCounts}
 use Rattle.dql_core.specs.Counter.{distance_of}
 use Rattle.replay_words.specs.declared.settings.Settings.{Settings}
-use Rattle.replay_rows.specs.After.{counts_after, polled_after}
+use Rattle.replay_rows.specs.After.{counts_after, is_used_after, polled_after}
 use Rattle.replay_rows.specs.Replay.{after_all}
 use Rattle.replay_text.specs.Lines.{flag}
 use Rattle.replay_rows.specs.Report.{state_word}
@@ -38,14 +37,11 @@ device_fields (Some counts) = fields (state_word counts.state ∷ decimal counts
 
 -- its transmit side, where that had a row: the bytes in flight (sent and not complete), the limit, the bytes that may still be
 -- queued, whether the queue is stopped
-abbrev pub queue_fields : Option TxCounts → List ℕ
-queue_fields None = codes ",,,,"
-queue_fields (Some tx) = fields (decimal (distance_of tx.state.queued tx.state.completed) ∷ decimal tx.state.limit ∷ signed_decimal tx.state.avail
-    ∷ decimal (flag tx.state.stopped) ∷ [])
-
-abbrev pub queue_of : Option DeviceCounts → Option TxCounts
-queue_of None = None
-queue_of (Some counts) = counts.tx
+abbrev pub queue_fields : Bool → Option DeviceCounts → List ℕ
+queue_fields true (Some counts) =
+    let queue = counts.tx.state in
+    fields (decimal (distance_of queue.queued queue.completed) ∷ decimal queue.limit ∷ signed_decimal queue.avail ∷ decimal (flag queue.stopped) ∷ [])
+queue_fields _ counts = codes ",,,,"
 
 -- what a row that polled did; a thread's polling is never squeezed, nor is busy polling
 abbrev pub run_fields : Option Line → List ℕ
@@ -55,13 +51,13 @@ run_fields (Some (Kthread row device report)) = fields (decimal report.polls ∷
 run_fields (Some (Busy row device report)) = fields (decimal report.polls ∷ decimal report.work ∷ [] ∷ [])
 
 -- the line of a row
-abbrev pub line_of : ℕ → Row → Option DeviceCounts → Option Line → List ℕ
-line_of n row counts polled = row_fields n row ++ (device_fields counts ++ (queue_fields (queue_of counts) ++ (run_fields polled ++ codes "\n")))
+abbrev pub line_of : ℕ → Row → Bool → Option DeviceCounts → Option Line → List ℕ
+line_of n row used counts polled = row_fields n row ++ (device_fields counts ++ (queue_fields used counts ++ (run_fields polled ++ codes "\n")))
 
 -- the line behind the first n rows, of which this is the last
 abbrev pub line_after : Settings → List Row → ℕ → Option Row → List ℕ
 line_after s rows n None = []
-line_after s rows n (Some row) = line_of n row (counts_after s rows n row.device) (polled_after s rows n)
+line_after s rows n (Some row) = line_of n row (is_used_after rows n row.device) (counts_after s rows n row.device) (polled_after s rows n)
 
 -- the same, where row n has one
 abbrev pub part_after : Settings → ℕ → List Row → ℕ → Option Row → List ℕ

@@ -5,7 +5,6 @@ ghost use Rattle.napi_series.specs.Series.{device_fields, line_of, queue_fields,
 
 use device_bench::DeviceCounts;
 use device_rows::Row;
-use device_transmit::TxCounts;
 use replay_rows::{Line, state_word};
 use std::alloc::AllocError;
 
@@ -35,19 +34,23 @@ fn add_device(text: &mut String, counts: Option<DeviceCounts>) -> Result<(), All
     Ok(())
 }
 
-fn add_queue(text: &mut String, counts: Option<TxCounts>) -> Result<(), AllocError>
-    ensures { OnOk result (string_bytes text.new ≡ string_bytes text.old ++ queue_fields counts) }
+fn add_queue(text: &mut String, used: bool, counts: Option<DeviceCounts>) -> Result<(), AllocError>
+    ensures { OnOk result
+        (string_bytes text.new ≡ string_bytes text.old ++ queue_fields used counts) }
 {
     match counts {
-        Some(counts) => write!(
-            text,
-            ",{},{},{},{}",
-            counts.state.queued.wrapping_sub(counts.state.completed),
-            counts.state.limit,
-            counts.state.avail,
-            u8::from(counts.state.stopped)
-        )?,
-        None => text.push_str(",,,,")?,
+        Some(counts) if used => {
+            let queue = counts.tx.state;
+            write!(
+                text,
+                ",{},{},{},{}",
+                queue.queued.wrapping_sub(queue.completed),
+                queue.limit,
+                queue.avail,
+                u8::from(queue.stopped)
+            )?
+        }
+        _ => text.push_str(",,,,")?,
     }
     Ok(())
 }
@@ -78,15 +81,16 @@ pub(crate) fn add_line(
     text: &mut String,
     number: u32,
     row: &Row,
+    used: bool,
     counts: Option<DeviceCounts>,
     polled: Option<Line>,
 ) -> Result<(), AllocError>
-    ensures { OnOk result
-        (string_bytes text.new ≡ string_bytes text.old ++ line_of number row.now counts polled) }
+    ensures { OnOk result (string_bytes text.new
+        ≡ string_bytes text.old ++ line_of number row.now used counts polled) }
 {
     add_row(text, number, row)?;
     add_device(text, counts)?;
-    add_queue(text, counts.and_then(|counts| counts.tx))?;
+    add_queue(text, used, counts)?;
     add_run(text, polled)?;
     text.push_str("\n")?;
     Ok(())

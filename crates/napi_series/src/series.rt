@@ -47,6 +47,7 @@ fn add_part(
         text,
         number,
         row,
+        replay.uses_transmit(row.device),
         replay.counts(row.device),
         replay.polled(number),
     )

@@ -1,8 +1,9 @@
 -- A replay whose first n rows were played, none of them refused, and what it tells.
-use Rattle.std.specs.Prelude.{◌≡◌, ℕ, List, Option, None, Result, Ok, Err, take}
-use Rattle.device_transmit.specs.Transmits.{Transmits}
+use Rattle.std.specs.Prelude.{◌≡◌, ℕ, Bool, List, Option, None, Result, Ok, Err, take}
+use Rattle.device_transmit.specs.Transmits.{Transmits, is_used}
 use Rattle.device_bench.specs.DeviceBench.{ShowsTransmits, devices_of}
 use Rattle.device_bench.specs.declared.counts.DeviceCounts.{DeviceCounts}
+use Rattle.device_rows.specs.Places.{at}
 use Rattle.device_rows.specs.declared.row.Row.{Row}
 use Rattle.replay_rows.specs.Played.{state_in}
 use Rattle.replay_rows.specs.Replay.{after_all}
@@ -25,6 +26,10 @@ counts_in (Err fault) transmits device = None
 
 abbrev pub counts_after : Settings → List Row → ℕ → ℕ → Option DeviceCounts
 counts_after s rows n device = counts_in (after_all s (take n rows)) (transmits_of (take n rows)) device
+
+-- whether it tells of the device's transmit side
+abbrev pub is_used_after : List Row → ℕ → ℕ → Bool
+is_used_after rows n device = is_used (at device (transmits_of (take n rows)))
 
 -- what row n did by the report of the first n rows, where it polled
 abbrev pub polled_in : Result ReplayState ReplayFault → ℕ → Option Line

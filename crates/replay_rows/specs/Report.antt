@@ -1,6 +1,6 @@
 -- The report's text, word by word. See docs/FORMATS.md, "The report".
-use Rattle.std.specs.Prelude.{ℕ, zero, suc, ◌-◌, ◌==◌, length, slice_get, List, [], ◌∷◌, ◌++◌, Option, Some, None, Result, Ok, Err, codes, decimal, flat_map, if◌then◌else◌, sum_by}
-use Rattle.device_transmit.specs.Transmits.{Transmits, tx_counts_of}
+use Rattle.std.specs.Prelude.{ℕ, zero, suc, ◌-◌, ◌==◌, Bool, length, slice_get, List, [], ◌∷◌, ◌++◌, Option, Some, None, Result, Ok, Err, codes, decimal, flat_map, if◌then◌else◌, sum_by}
+use Rattle.device_transmit.specs.Transmits.{Transmits, is_used, tx_counts_of}
 use Rattle.device_bench.specs.Bench.{attached, counts_at}
 use Rattle.device_rows.specs.Places.{at}
 use Rattle.replay_rows.specs.Replay.{after_all}
@@ -45,10 +45,11 @@ abbrev pub napi_line : ℕ → ℕ → DeviceCounts → List ℕ
 napi_line version number counts = words (codes "napi" ∷ decimal number ∷ codes "granted" ∷ decimal counts.granted ∷ codes "missed" ∷ decimal counts.missed
     ∷ codes "disabled" ∷ decimal counts.disabled ∷ codes "again" ∷ decimal counts.again ∷ codes "released" ∷ decimal counts.released ∷ codes "word" ∷ decimal counts.word ∷ []) ++ held_part version counts.held
 
--- the lines of a device, where there is one
-abbrev pub device_lines : ℕ → ℕ → Option DeviceCounts → List ℕ
-device_lines version number None = []
-device_lines version number (Some counts) = ended (device_line number counts) ++ (ended (napi_line version number counts) ++ tx_lines number counts.tx)
+-- the lines of a device, where there is one: the third one only where its transmit side had a row
+abbrev pub device_lines : ℕ → ℕ → Bool → Option DeviceCounts → List ℕ
+device_lines version number used None = []
+device_lines version number used (Some counts) =
+    ended (device_line number counts) ++ (ended (napi_line version number counts) ++ tx_lines number used counts.tx)
 
 -- the numbers, each after a space
 abbrev pub spaced : List ℕ → List ℕ
@@ -94,22 +95,26 @@ if_of_row n (Some line) = if row_of line == n then Some line else None
 abbrev pub polled_by : ℕ → ReplayState → Option Line
 polled_by n w = if_of_row n (slice_get w.lines (length w.lines - 1))
 
--- the lines of the devices whose numbers are below n, in rising order, by what is told of each number
-unfoldable pub lines_below : ℕ → (ℕ → Option DeviceCounts) → ℕ → List ℕ
-lines_below version told zero = []
-lines_below version told (suc n) = lines_below version told n ++ device_lines version n (told n)
+-- the lines of device n
+abbrev pub lines_of : ℕ → ReplayState → Transmits → ℕ → List ℕ
+lines_of version w transmits n = device_lines version n (is_used (at n transmits)) (counts_of w transmits n)
+
+-- those of the devices whose numbers are below n, in rising order, by the lines of each
+unfoldable pub lines_below : (ℕ → List ℕ) → ℕ → List ℕ
+lines_below device zero = []
+lines_below device (suc n) = lines_below device n ++ device n
 
 -- The line of each row that polls in order, the lines of each device in rising order of their numbers, the poll list, the
 -- totals.
-unfoldable pub text_by : ℕ → List Line → (ℕ → Option DeviceCounts) → List ℕ → ℕ → List ℕ
-text_by version lines told list devices = flat_map (λ line. ended (poll_line line)) lines
-    ++ (lines_below version told 17
+unfoldable pub text_by : List Line → (ℕ → List ℕ) → List ℕ → ℕ → List ℕ
+text_by lines device list devices = flat_map (λ line. ended (poll_line line)) lines
+    ++ (lines_below device 17
     ++ (ended (list_line list)
     ++ ended (total_line (totals_of devices lines))))
 
 -- the text of a replay as plain data
 abbrev pub text_of : ℕ → ReplayState → Transmits → List ℕ
-text_of version w transmits = text_by version w.lines (counts_of w transmits) w.list (attached w.devices)
+text_of version w transmits = text_by w.lines (lines_of version w transmits) w.list (attached w.devices)
 
 -- the serial report: the text of what the rows of a trace of this version make, or the fault of the first enable row that is early
 abbrev pub report_of : ℕ → Transmits → Result ReplayState ReplayFault → Result (List ℕ) ReplayFault

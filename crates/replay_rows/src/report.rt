@@ -1,10 +1,10 @@
 //! The report: the rows are played, and what they did becomes its text, in every mode that plays rows.
 
-ghost use Rattle.std.specs.Prelude.{◌≡◌, ◌⊎◌, ◌+◌, ◌^◌, ◌<◌, ◌≤◌, ◌++◌, [], Ok, Err, IfErr, IfOk, OnOk, flat_map, length, string_bytes};
+ghost use Rattle.std.specs.Prelude.{◌≡◌, ◌⊎◌, ◌+◌, ◌^◌, ◌<◌, ◌≤◌, ◌++◌, [], Ok, Err, Some, IfErr, IfOk, OnOk, flat_map, length, string_bytes};
 ghost use Rattle.device_rows.specs.Places.{empty};
 ghost use Rattle.device_rows.specs.Trace.{AcceptedAfter};
 ghost use Rattle.replay_rows.specs.Report.{device_line, device_lines, held_part, list_line, napi_line, of_run, poll_line, serial_report, spaced, state_word, total_line, totals_of};
-ghost use Rattle.replay_text.specs.Lines.{ended, flag, tx_line, tx_lines};
+ghost use Rattle.replay_text.specs.Lines.{ended, flag, tx_line};
 ghost use Rattle.replay_text.specs.Outside.{IsOutside};
 
 use crate::line::Line;
@@ -64,22 +64,23 @@ fn add_line(text: &mut String, line: &Line) -> Result<(), AllocError>
     Ok(())
 }
 
-// Adds the lines of a device, where there is one: two, and a third one where its transmit side had a row.
+// Adds the lines of a device: two, and a third one where its transmit side had a row.
 fn add_device(
     text: &mut String,
     version: u32,
     number: u32,
-    counts: Option<DeviceCounts>,
+    used: bool,
+    counts: &DeviceCounts,
 ) -> Result<(), AllocError>
-    ensures { OnOk result
-        (string_bytes text.new ≡ string_bytes text.old ++ device_lines version number counts) }
+    ensures { OnOk result (string_bytes text.new
+        ≡ string_bytes text.old ++ device_lines version number used (Some counts.now)) }
 {
-    let Some(counts) = counts else {
-        return Ok(());
-    };
-    add_device_line(text, number, &counts)?;
-    add_napi_line(text, version, number, &counts)?;
-    add_transmit(text, number, counts.tx)
+    add_device_line(text, number, counts)?;
+    add_napi_line(text, version, number, counts)?;
+    if used {
+        add_transmit(text, number, &counts.tx)?;
+    }
+    Ok(())
 }
 
 /// The word of a device's state.
@@ -256,16 +257,19 @@ impl<B: ReplayBench> Replay<B> {
     ghost use Rattle.device_transmit.specs.Transmits.{Transmits};
     ghost use Rattle.replay_rows.specs.Played.{state_in};
     ghost use Rattle.replay_rows.specs.Replay.{start};
-    ghost use Rattle.replay_rows.specs.Report.{counts_of, lines_below, text_of};
+    ghost use Rattle.replay_rows.specs.Report.{lines_below, lines_of, text_of};
 
     // Adds the lines of each device, in rising order of their numbers.
     fn add_devices(&self, version: u32, text: &mut String) -> Result<(), AllocError>
         ensures { B.Exact → (all : Transmits) → B.shows self.now.bench all
             → OnOk result (string_bytes text.new ≡ string_bytes text.old
-            ++ lines_below version (counts_of (state_in B.devices self.now) all) 17) }
+            ++ lines_below (lines_of version (state_in B.devices self.now) all) 17) }
     {
         for number in 0..PLACES {
-            add_device(text, version, number, self.bench.counts(number))?;
+            if self.bench.is_attached(number) {
+                let used = self.bench.uses_transmit(number);
+                add_device(text, version, number, used, &self.bench.counts(number))?;
+            }
         }
         Ok(())
     }

@@ -20,7 +20,7 @@ impl SerialReplay {
     ghost use Rattle.device_rows.specs.declared.fault.TraceFault.TheVariants.{OutOfMemory};
     ghost use Rattle.device_rows.specs.declared.row.Row.{Row};
     ghost use Rattle.replay_words.specs.declared.settings.Settings.{Settings};
-    ghost use Rattle.replay_rows.specs.After.{IsAfter, counts_after, polled_after};
+    ghost use Rattle.replay_rows.specs.After.{IsAfter, counts_after, is_used_after, polled_after};
     ghost use Rattle.replay_rows.specs.Replay.{after_all};
     ghost use Rattle.replay_text.specs.declared.fault.ReplayFault.TheVariants.{Trace};
 
@@ -60,7 +60,18 @@ impl SerialReplay {
         ensures { (s : Settings) (rows : List Row) (n : ℕ) → IsAfter s rows n self.now
             → result ≡ counts_after s rows n device }
     {
-        self.replay.bench.counts(device)
+        if !self.replay.bench.is_attached(device) {
+            return None;
+        }
+        Some(self.replay.bench.counts(device))
+    }
+
+    /// Whether the report of the rows so far tells of the device's transmit side, which had one of them then.
+    pub fn uses_transmit(&self, device: u32) -> bool
+        ensures { (s : Settings) (rows : List Row) (n : ℕ) → IsAfter s rows n self.now
+            → result ≡ is_used_after rows n device }
+    {
+        self.replay.bench.uses_transmit(device)
     }
 
     /// What the row of that number did, where it is the last one that was played, and polled.

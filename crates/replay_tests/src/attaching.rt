@@ -1,5 +1,6 @@
 //! Devices whose memory is refused.
 
+use crate::sides::told_of;
 use device_bench::{ReplayBench, SerialBench};
 use std::test::Fail;
 
@@ -10,14 +11,14 @@ fn attached_again(rt: HostRuntime) -> Result<(), Fail> {
     let mut bench = SerialBench::new(rt.alloc())?;
     bench.attach(rt.alloc(), 1, 256, 0)?;
     bench.arrive(1, 100);
-    let before = bench.counts(1);
+    let before = told_of(&bench, 1);
     if bench.attach(rt.alloc(), 2, 4, 0).is_err() {
-        assert_eq!(rt; bench.counts(2), None);
+        assert!(rt; !bench.is_attached(2));
         bench.attach(rt.alloc(), 2, 4, 0)?;
     }
-    assert!(rt; bench.counts(2).is_some());
+    assert!(rt; bench.is_attached(2));
     let _ = bench.attach(rt.alloc(), 1, 4, 0);
-    assert_eq!(rt; bench.counts(1), before);
+    assert_eq!(rt; told_of(&bench, 1), before);
     assert_eq!(rt; bench.attached(), 2);
     Ok(())
 }

@@ -27,6 +27,8 @@ mod shut;
 #[cfg(test)]
 mod side_by_side;
 #[cfg(test)]
+mod sides;
+#[cfg(test)]
 mod threads;
 #[cfg(test)]
 mod totals;

@@ -1,5 +1,6 @@
 //! Whole replays over instances that threads could share, beside those on one thread; and the end of a bench.
 
+use crate::sides::told_of;
 use device_bench::ReplayBench;
 use device_rows::TraceFault;
 use device_shared::SharedBench;
@@ -161,7 +162,7 @@ fn shared_as_serial_behind_each_row(rt: HostRuntime) -> Result<(), Fail> {
 
 // What is told of a device's packets: how many arrived, how many were polled, their bytes, and how many are left.
 fn packets_of<B: ReplayBench>(bench: &B, device: u32) -> Option<(u64, u64, u64, u64)> {
-    match bench.counts(device) {
+    match told_of(bench, device) {
         Some(told) => Some((told.arrived, told.polled, told.bytes, told.left)),
         None => None,
     }
@@ -237,11 +238,12 @@ fn another_device_stays(rt: HostRuntime) -> Result<(), Fail> {
     assert_eq!(rt; bench.attach(rt.alloc(), 1, 4, 0), Ok(()));
     bench.arrive(1, 100);
     bench.send(1, 1500);
-    let before = bench.counts(1);
+    assert!(rt; bench.uses_transmit(1));
+    let before = told_of(&bench, 1);
     // A device that is there stays as it is.
     assert_eq!(rt; bench.attach(rt.alloc(), 1, 8, 5), Ok(()));
     assert_eq!(rt; bench.attach(rt.alloc(), 3, 65536, 5), Ok(()));
-    assert_eq!(rt; bench.counts(1), before);
+    assert_eq!(rt; told_of(&bench, 1), before);
     assert_eq!(rt; bench.attached(), 2);
     let ends = bench.end();
     assert_eq!(rt; ends[2], None);

@@ -1,5 +1,5 @@
 -- Lines of the report that every replay has. See docs/FORMATS.md, "The report".
-use Rattle.std.specs.Prelude.{ℕ, Bool, List, [], ◌∷◌, ◌++◌, Option, Some, None, codes, decimal, if◌then◌else◌}
+use Rattle.std.specs.Prelude.{ℕ, Bool, List, [], ◌∷◌, ◌++◌, codes, decimal, if◌then◌else◌}
 use Rattle.std.specs.Fmt.{signed_decimal}
 use Rattle.device_transmit.specs.declared.transmit.TxCounts.{TxCounts}
 
@@ -16,12 +16,12 @@ ended line = line ++ codes "\n"
 abbrev pub flag : Bool → ℕ
 flag b = if b then 1 else 0
 
--- its transmit side, only where that had a row
+-- the transmit side of a device
 abbrev pub tx_line : ℕ → TxCounts → List ℕ
 tx_line number counts = words (codes "tx" ∷ decimal number ∷ codes "sent" ∷ decimal counts.sent ∷ codes "held" ∷ decimal counts.held
     ∷ codes "done" ∷ decimal counts.done ∷ codes "denied" ∷ decimal counts.denied ∷ codes "limit" ∷ decimal counts.state.limit
     ∷ codes "avail" ∷ signed_decimal counts.state.avail ∷ codes "stopped" ∷ decimal (flag counts.state.stopped) ∷ [])
 
-abbrev pub tx_lines : ℕ → Option TxCounts → List ℕ
-tx_lines number None = []
-tx_lines number (Some counts) = ended (tx_line number counts)
+-- only where that had a row
+abbrev pub tx_lines : ℕ → Bool → TxCounts → List ℕ
+tx_lines number used counts = if used then ended (tx_line number counts) else []

@@ -2,7 +2,7 @@
 
 ghost use Rattle.std.specs.Prelude.{◌≡◌, ◌++◌, IfErr, OnOk, string_bytes};
 ghost use Rattle.std.specs.Io.KnownBytes.{Appends};
-ghost use Rattle.replay_text.specs.Lines.{ended, tx_line, tx_lines};
+ghost use Rattle.replay_text.specs.Lines.{ended, tx_line};
 ghost use Rattle.replay_text.specs.declared.fault.ReplayFault.TheVariants.{OutputFailed};
 
 use crate::fault::ReplayFault;
@@ -10,22 +10,8 @@ use device_transmit::TxCounts;
 use std::alloc::AllocError;
 use std::io::Write;
 
-/// Adds the line of a device's transmit side, where that had a row. The only error is want of memory.
-pub fn add_transmit(
-    text: &mut String,
-    number: u32,
-    counts: Option<TxCounts>,
-) -> Result<(), AllocError>
-    ensures { OnOk result
-        (string_bytes text.new ≡ string_bytes text.old ++ tx_lines number counts) }
-{
-    match counts {
-        Some(counts) => add_tx_line(text, number, &counts),
-        None => Ok(()),
-    }
-}
-
-fn add_tx_line(text: &mut String, number: u32, counts: &TxCounts) -> Result<(), AllocError>
+/// Adds the line of a device's transmit side. The only error is want of memory.
+pub fn add_transmit(text: &mut String, number: u32, counts: &TxCounts) -> Result<(), AllocError>
     ensures { OnOk result
         (string_bytes text.new ≡ string_bytes text.old ++ ended (tx_line number counts.now)) }
 {

@@ -22,18 +22,6 @@ value-small Enable v h = let none = eqb-true v 0 h in omega (arith, none)
 value-small Threaded v h = let most = leb-true v 1 h in omega (arith, most)
 value-small Busy v h = let most = leb-true v 65535 (and_parts (leb 1 v) (leb v 65535) h).1 in omega (arith, most)
 
-open-large : (e : Event) (v : ℕ) → is_open e ≡ true → value_fits e v ≡ true → (1 ≤ v) × (v ≤ 65536)
-open-large Opened v o h = let both = and_parts (leb 1 v) (leb v 65536) h in (leb-true 1 v both.0, leb-true v 65536 both.1)
-open-large Rx v o h = cc o
-open-large Tx v o h = cc o
-open-large Finish v o h = cc o
-open-large Softirq v o h = cc o
-open-large Kthread v o h = cc o
-open-large Disable v o h = cc o
-open-large Enable v o h = cc o
-open-large Threaded v o h = cc o
-open-large Busy v o h = cc o
-
 abbrev IsSmall : Row → Type 0
 IsSmall row = row.value ≤ 65536
 
@@ -50,20 +38,7 @@ bytes-small rows device h few =
     let short = filter-long (is_act_of device) rows in
     omega (arith, sum, long, short, few)
 
-and-front : (a b : Bool) → (a && b) ≡ true → a ≡ true
-and-front true b e = refl
-and-front false b e = e
-
--- an open row has places in their range
-pub opened-within : (earlier rows : List Row) (device : ℕ) (row : Row) → AcceptedAfter earlier rows → find (opens device) rows ≡ Some row → (1 ≤ row.value) × (row.value ≤ 65536)
-opened-within earlier [] device row h e = cc e
-opened-within earlier (r ∷ rs) device row h e = by (opens device r) refl (opened-within (earlier ++ r ∷ []) rs device row h.1)
-  where
-    by : (b : Bool) → opens device r ≡ b → (find (opens device) rs ≡ Some row → (1 ≤ row.value) × (row.value ≤ 65536)) → (1 ≤ row.value) × (row.value ≤ 65536)
-    by true o go =
-        let same : r ≡ row = cc (rw o at e) in
-        subst (λ (x : Row). (1 ≤ x.value) × (x.value ≤ 65536)) same (open-large r.event r.value (and-front (is_open r.event) (r.device == device) o) h.0.value)
-    by false o go = go (rw o at e)
+-- ---- the open row of a device
 
 -- it is found among the open rows
 pub opening-among : (rows openings : List Row) (device : ℕ) → openings ≡ openings_of rows → opening_of device openings ≡ opening_of device rows

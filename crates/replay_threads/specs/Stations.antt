@@ -7,11 +7,11 @@ use Rattle.poll_interrupts.specs.declared.station.Station.{Station}
 use Rattle.poll_interrupts.specs.Runs.{HasRun}
 use Rattle.replay_text.specs.declared.fault.ReplayFault.{ReplayFault}
 use Rattle.replay_text.specs.declared.fault.ReplayFault.TheVariants.{RingTooSmall}
-use Rattle.replay_text.specs.Lines.{ended, tx_lines}
-use Rattle.device_script.specs.Script.{has_thread, opening_of, rx_of, script_of, tx_after}
-use Rattle.device_script.specs.ScriptShown.{Script, after, answer}
+use Rattle.replay_text.specs.Lines.{ended}
+use Rattle.device_script.specs.Script.{has_thread, opening_of, rx_of, script_of}
+use Rattle.device_script.specs.ScriptShown.{Script, after, answer, side_of}
 use Rattle.replay_threads.specs.declared.polled.Polled.{Polled}
-use Rattle.replay_threads.specs.ThreadsReport.{arrived, arrived_line, bytes}
+use Rattle.replay_threads.specs.ThreadsReport.{arrived, arrived_line, bytes, side_lines}
 
 -- the station of a device, before its acts
 pub record IsStationOf (rows : List Row) (device : ℕ) (station : Station Script) : Type 0 where
@@ -36,7 +36,7 @@ pub record IsEndOf (rows : List Row) (device : ℕ) (end : Finished Script) : Ty
 -- its lines of the report
 abbrev pub end_lines : Finished Script → List ℕ
 end_lines end = ended (arrived_line end.number end.totals.put end.totals.bytes)
-    ++ tx_lines end.number (tx_after end.device.opening (take end.device.made end.device.rows))
+    ++ side_lines end.number (side_of end.device)
 
 -- the first of the stations whose ring has fewer places than packets that arrive there
 abbrev pub is_small : Station Script → Bool

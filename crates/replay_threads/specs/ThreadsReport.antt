@@ -3,9 +3,9 @@
 use Rattle.std.specs.Prelude.{ℕ, Bool, List, [], ◌∷◌, ◌++◌, Option, Some, None, codes, decimal, filter, flat_map, is_some, length, sum_by}
 use Rattle.std.specs.List.{range_with_len}
 use Rattle.device_rows.specs.declared.row.Row.{Row}
-use Rattle.device_transmit.specs.declared.transmit.TxCounts.{TxCounts}
+use Rattle.device_transmit.specs.Transmit.{TransmitView, tx_counts}
 use Rattle.replay_text.specs.Lines.{ended, tx_lines, words}
-use Rattle.device_script.specs.Script.{opening_of, rx_of, script_of, tx_after}
+use Rattle.device_script.specs.Script.{opening_of, rx_of, script_of, side_after}
 
 abbrev pub is_opened : List Row → ℕ → Bool
 is_opened rows device = is_some (opening_of device rows)
@@ -28,15 +28,18 @@ arrived_line device count sum = words (codes "device" ∷ decimal device ∷ cod
 
 -- ---- the transmit side
 
-abbrev pub tx_by : Option Row → List Row → Option TxCounts
-tx_by None rows = None
-tx_by (Some opening) rows = tx_after opening rows
+abbrev pub side_lines : ℕ → TransmitView → List ℕ
+side_lines device side = tx_lines device side.used (tx_counts side)
+
+abbrev pub side_lines_by : ℕ → Option Row → List Row → List ℕ
+side_lines_by device None rows = []
+side_lines_by device (Some opening) rows = side_lines device (side_after opening rows)
 
 -- ---- the report
 
 abbrev pub device_lines : List Row → ℕ → List ℕ
 device_lines rows device = ended (arrived_line device (arrived device rows) (bytes device rows))
-    ++ tx_lines device (tx_by (opening_of device rows) (script_of device rows))
+    ++ side_lines_by device (opening_of device rows) (script_of device rows)
 
 abbrev pub total_line : ℕ → List ℕ
 total_line devices = words (codes "total" ∷ codes "devices" ∷ decimal devices ∷ [])

@@ -21,7 +21,10 @@ fn add_end(text: &mut String, end: &Finished<ScriptDevice>) -> Result<(), AllocE
         "device {} arrived {} bytes {}",
         end.number, end.totals.put, end.totals.bytes
     )?;
-    add_transmit(text, end.number, end.device.tx_counts())
+    if end.device.uses_transmit() {
+        add_transmit(text, end.number, &end.device.tx_counts())?;
+    }
+    Ok(())
 }
 
 fn add_ends(text: &mut String, ends: &[Finished<ScriptDevice>]) -> Result<(), AllocError>

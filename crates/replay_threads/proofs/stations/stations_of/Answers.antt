@@ -1,5 +1,5 @@
 use Rattle.{std.{proofs.{Common.{◌≡◌, ◌∙◌, ◌-◌, [], subst, sym, arith, vec_items, ℕ}, lemmas.List.get_or-set_other}, specs.{Prelude.filter, List.{AllZip, range_with_len}}}, device_script.specs.{Dealing.lists, Script.is_act_of}}
-use Rattle.{replay_threads.{specs.{Stations.IsStationOf, ThreadsReport.{is_opened, opened}}, proofs.StationFacts.{opened-more, opened-within, opening-among, script-at}}, device_script.proofs.Rows.filter-long}
+use Rattle.{replay_threads.{specs.{Stations.IsStationOf, ThreadsReport.{is_opened, opened}}, proofs.StationFacts.{opened-more, opening-among, script-at}}, device_script.proofs.{OpeningFacts.opened-within, Rows.filter-long}}
 use Rattle.replay_threads.proofs.stations.stations_of.Goals as goal
 
 pub add_station-requires-clause-places : goal.add_station-requires-clause-places

@@ -1,12 +1,28 @@
-use Rattle.{std.proofs.Common.{◌≡◌, ◌+◌, append_assoc, append-nil, suc, arith, sym}, replay_rows.specs.Report.lines_below}
+use Rattle.{std.proofs.Common.{◌≡◌, ◌∙◌, ◌+◌, ◌++◌, ℕ, List, append_assoc, append-nil, Some, suc, ap, arith, string_bytes, sym}, device_bench.specs.Bench.counts_at, device_rows.{specs.Places.at, proofs.PlaceFacts.none-of}}
+use Rattle.{device_transmit.specs.Transmits.{is_used, tx_counts_of}, replay_rows.specs.{Played.state_in, Report.{counts_of, device_lines, lines_below, lines_of}}}
+use Rattle.replay_rows.proofs.replay.Replay.add_devices.Goals.{then-is_attached+in_ok-add_device, else-is_attached}
 use Rattle.replay_rows.proofs.replay.Replay.add_devices.Goals as goal
 
 pub loop-number-init : goal.loop-number-init
 unfolding lines_below
 loop-number-init g c = λ stated all shows. sym (simp append-nil)
 
+one-more : (old new start below here : List ℕ) → new ≡ old ++ here → old ≡ start ++ below → new ≡ start ++ (below ++ here)
+one-more old new start below here more before = more ∙ rw before (append_assoc start below here)
+
 pub loop-number-preserved : goal.loop-number-preserved
 unfolding lines_below
 loop-number-preserved g c = λ stated all shows.
-    let next : c.loop-number.number + 1 ≡ suc c.loop-number.number = omega arith in
-    rw (next, c.in_ok-add_device.ensures, c.counts.ensures.devices stated all shows, c.loop-number.invariant stated all shows) (simp append_assoc)
+    let number = c.loop-number.number in
+    let version = c.args.version in
+    let next : number + 1 ≡ suc number = omega arith in
+    let before = c.loop-number.invariant stated all shows in
+    elim c.if-is_attached.branch [
+      | then-is_attached+in_ok-add_device w ↦
+          let here : device_lines version number w.uses_transmit-used.result (Some w.counts.result) ≡ lines_of version (state_in g.B.ReplayBench.devices c.args.self.now) all number =
+          ap (λ o. device_lines version number w.uses_transmit-used.result o) (w.counts.ensures.devices stated all shows)
+          ∙ ap (λ used. device_lines version number used (counts_of (state_in g.B.ReplayBench.devices c.args.self.now) all number)) (w.uses_transmit-used.ensures all shows) in
+          rw (next, w.text-is) (one-more _ _ _ _ _ (w.in_ok-add_device.ensures ∙ ap (λ (l : List ℕ). string_bytes c.loop-number.text ++ l) here) before)
+      | else-is_attached w ↦
+          rw (next, w.text-is, before, none-of _ (sym c.is_attached.ensures.devices ∙ w.if-is_attached.false)) (simp append-nil)
+    ]

@@ -1,4 +1,4 @@
-use Rattle.{std.specs.Prelude.flat_map, device_bench.specs.Bench.attached, replay_rows.specs.{Played.state_in, Report.{counts_of, lines_below, list_line, poll_line, text_by, total_line, totals_of}}, replay_text.specs.Lines.ended}
+use Rattle.{std.specs.Prelude.flat_map, device_bench.specs.Bench.attached, replay_rows.specs.{Played.state_in, Report.{lines_below, lines_of, list_line, poll_line, text_by, total_line, totals_of}}, replay_text.specs.Lines.ended}
 use Rattle.replay_rows.proofs.PlayFacts.{four-parts}
 use Rattle.replay_rows.proofs.replay.Replay.report.Goals as goal
 
@@ -19,6 +19,6 @@ returns g c stated all shows =
     )
     (four-parts
     (flat_map (λ line. ended (poll_line line)) c.args.self.now.lines.items)
-    (lines_below c.args.version (counts_of (state_in g.B.ReplayBench.devices c.args.self.now) all) 17)
+    (lines_below (lines_of c.args.version (state_in g.B.ReplayBench.devices c.args.self.now) all) 17)
     (ended (list_line c.args.self.now.list))
     (ended (total_line (totals_of (attached (g.B.ReplayBench.devices c.args.self.now.bench)) c.args.self.now.lines.items))))
