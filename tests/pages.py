@@ -118,16 +118,28 @@ def crate_files(page):
                 yield f"{crate} has no {name}"
 
 
+def doors():
+    """The door of each crate that stands behind one, by its first line."""
+    found = {}
+    for name in needs_of_crates():
+        first = TOP / "crates" / name / "src/lib.rt"
+        if first.exists() and (door := re.match(r"//! Behind the door `(\w+)`", first.read_text())):
+            found[name] = door[1]
+    return found
+
+
 def crate_picture(picture):
-    """Each crate of the library and each program stands in the picture, and each arrow is from what a crate stands on."""
-    needs = needs_of_crates()
+    """Each crate of the library and each program stands in the picture, and each arrow is from what a crate, or one behind it if it is a
+    door, stands on."""
+    needs, door = needs_of_crates(), doors()
     text = picture.read_text()
     for name in needs:
-        if not name.startswith(("bench_", "example_", "library_tests", "replay_tests")) and not re.search(rf"\b{name}\b", text):
+        if not name.startswith(("bench_", "example_", "uses_")) and not name.endswith("_tests") and not re.search(rf"\b{name}\b", text):
             yield f"{name} isn't in it"
+    stands = {(door.get(low, low), door.get(high, high)) for high in needs for low in needs[high]}
     arrows = re.findall(r"(\w+) -> (\w+)", text)
     for low, high in arrows:
-        if low not in needs.get(high, []):
+        if (low, high) not in stands:
             yield f"{high} doesn't stand on {low}"
     if not arrows:
         yield "it has no arrow"
