@@ -15,6 +15,9 @@ TOP = pathlib.Path(__file__).resolve().parent.parent
 # What is made, or stands in somebody else's folder.
 MADE = re.compile(r"(^|/)out(/|$)|include/linux/|crates/first|NAME|FOLDER|FILE|PROGRAM|TRACE|\.\.\./|^\.\.?/\.\./|[*<>{}$]|^/")
 
+# Crates that use the library's doors, beside those named for tests.
+USERS = ("bench_", "example_", "uses_")
+
 # Words in code that are others': the kernel's, a file format's, an instruction's, and what stands for a file.
 OUTSIDE = {"time_after", "softnet_stat", "virtio_net", "sysexits", "btr", "mb", "MACHINES"}
 
@@ -128,13 +131,22 @@ def doors():
     return found
 
 
+def door_rules(_page):
+    """A crate behind a door bears the door's prefix; tests, examples, benches and users name none."""
+    needs, door = needs_of_crates(), doors()
+    yield from (f"{name} hasn't the prefix of {door[name]}" for name in door if name.split("_")[0] != door[name].split("_")[0])
+    for name in needs:
+        if name.startswith(USERS) or name.endswith("_tests"):
+            yield from (f"{name} names {low}, which stands behind {door[low]}" for low in needs[name] if low in door)
+
+
 def crate_picture(picture):
     """Each crate of the library and each program stands in the picture, and each arrow is from what a crate, or one behind it if it is a
     door, stands on."""
     needs, door = needs_of_crates(), doors()
     text = picture.read_text()
     for name in needs:
-        if not name.startswith(("bench_", "example_", "uses_")) and not name.endswith("_tests") and not re.search(rf"\b{name}\b", text):
+        if not name.startswith(USERS) and not name.endswith("_tests") and not re.search(rf"\b{name}\b", text):
             yield f"{name} isn't in it"
     stands = {(door.get(low, low), door.get(high, high)) for high in needs for low in needs[high]}
     arrows = re.findall(r"(\w+) -> (\w+)", text)
@@ -230,7 +242,7 @@ def checks(pages):
             yield page, names(page)
     for check, name in ((places, "docs/WORKING.md"), (longest_chain, "docs/WORKING.md"), (scripts_told, "docs/TESTS.md"),
                         (crate_rows, "docs/CRATES.md"), (cited_lemmas, "docs/CRATES.md"), (crate_files, "docs/CRATES.md"),
-                        (crate_picture, "docs/pictures/crates.dot")):
+                        (door_rules, "docs/CRATES.md"), (crate_picture, "docs/pictures/crates.dot")):
         yield TOP / name, check(TOP / name)
     yield from commands(pages + sorted((TOP / "docs/man").iterdir()))
 
