@@ -10,7 +10,6 @@ import sys
 WIDEST_CLAUSE = 100
 LONGEST_FUNCTION = 40
 LONGEST_FILE = 800
-ALL_TESTS = ("library_tests", "replay_tests")
 COLUMNS = ("code", "contracts", "tests", "specs", "proofs", "edits", "functions", "clause", "function")
 FUNCTION = re.compile(r'(?:pub(?:\([\w:]+\))? )?(?:const )?(?:unsafe )?(?:extern "C" )?fn (\w+)')
 CLAUSE = re.compile(r"(requires|ensures)\b ?\*?(\w+)?")
@@ -72,7 +71,7 @@ class Source:
     def __init__(self, crate, path):
         self.crate = crate
         self.path = path
-        self.is_test = crate.name in ALL_TESTS or any(part.endswith("tests") for part in (path.stem, path.parent.name))
+        self.is_test = crate.name.startswith("uses_") or any(part.endswith("tests") for part in (crate.name, path.stem, path.parent.name))
         self.depth = 0
         self.functions = []
         self.ghost = 0       # how many brackets of a clause or of a ghost item are open

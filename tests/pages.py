@@ -15,6 +15,9 @@ TOP = pathlib.Path(__file__).resolve().parent.parent
 # What is made, or stands in somebody else's folder.
 MADE = re.compile(r"(^|/)out(/|$)|include/linux/|crates/first|NAME|FOLDER|FILE|PROGRAM|TRACE|\.\.\./|^\.\.?/\.\./|[*<>{}$]|^/")
 
+# Crates that use the library's doors, beside those named for tests.
+USERS = ("bench_", "example_", "uses_")
+
 # Words in code that are others': the kernel's, a file format's, an instruction's, and what stands for a file.
 OUTSIDE = {"time_after", "softnet_stat", "virtio_net", "sysexits", "btr", "mb", "MACHINES"}
 
@@ -68,10 +71,10 @@ def needs_of_crates():
 
 
 def crate_rows(page):
-    """Each crate has its row in this page, and each row is a crate's."""
+    """Each crate has its row in this page, and each row is a crate's; the crates `uses_..` have one together."""
     table = page.read_text().split("## All crates")[1].split("\n## ")[0]
     rows = re.findall(r"^\| `(\w+)` \|", table, re.M)
-    for name in sorted(set(needs_of_crates()) ^ set(rows)):
+    for name in sorted({name for name in needs_of_crates() if not name.startswith("uses_")} ^ set(rows)):
         yield f"{name} is in one of crates.txt and its table, and not in the other"
 
 
@@ -118,16 +121,37 @@ def crate_files(page):
                 yield f"{crate} has no {name}"
 
 
+def doors():
+    """The door of each crate that stands behind one, by its first line."""
+    found = {}
+    for name in needs_of_crates():
+        first = TOP / "crates" / name / "src/lib.rt"
+        if first.exists() and (door := re.match(r"//! Behind the door `(\w+)`", first.read_text())):
+            found[name] = door[1]
+    return found
+
+
+def door_rules(_page):
+    """A crate behind a door bears the door's prefix; tests, examples, benches and users name none."""
+    needs, door = needs_of_crates(), doors()
+    yield from (f"{name} hasn't the prefix of {door[name]}" for name in door if name.split("_")[0] != door[name].split("_")[0])
+    for name in needs:
+        if name.startswith(USERS) or name.endswith("_tests"):
+            yield from (f"{name} names {low}, which stands behind {door[low]}" for low in needs[name] if low in door)
+
+
 def crate_picture(picture):
-    """Each crate of the library and each program stands in the picture, and each arrow is from what a crate stands on."""
-    needs = needs_of_crates()
+    """Each crate of the library and each program stands in the picture, and each arrow is from what a crate, or one behind it if it is a
+    door, stands on."""
+    needs, door = needs_of_crates(), doors()
     text = picture.read_text()
     for name in needs:
-        if not name.startswith(("bench_", "example_", "library_tests", "replay_tests")) and not re.search(rf"\b{name}\b", text):
+        if not name.startswith(USERS) and not name.endswith("_tests") and not re.search(rf"\b{name}\b", text):
             yield f"{name} isn't in it"
+    stands = {(door.get(low, low), door.get(high, high)) for high in needs for low in needs[high]}
     arrows = re.findall(r"(\w+) -> (\w+)", text)
     for low, high in arrows:
-        if low not in needs.get(high, []):
+        if (low, high) not in stands:
             yield f"{high} doesn't stand on {low}"
     if not arrows:
         yield "it has no arrow"
@@ -218,7 +242,7 @@ def checks(pages):
             yield page, names(page)
     for check, name in ((places, "docs/WORKING.md"), (longest_chain, "docs/WORKING.md"), (scripts_told, "docs/TESTS.md"),
                         (crate_rows, "docs/CRATES.md"), (cited_lemmas, "docs/CRATES.md"), (crate_files, "docs/CRATES.md"),
-                        (crate_picture, "docs/pictures/crates.dot")):
+                        (door_rules, "docs/CRATES.md"), (crate_picture, "docs/pictures/crates.dot")):
         yield TOP / name, check(TOP / name)
     yield from commands(pages + sorted((TOP / "docs/man").iterdir()))
 

@@ -153,7 +153,7 @@ def main():
     verdicts = {name: judge_crate(name, bullets) for name, bullets in parts.items()}
     listed = re.findall(r"^(\w+)(?: staticlib)?:", pathlib.Path("crates.txt").read_text(), re.M)
     for name in listed:
-        if not name.startswith(("bench_", "example_")) and name not in parts:
+        if not name.startswith(("bench_", "example_", "uses_")) and name not in parts:
             missing = [f for f in read_crate(pathlib.Path("crates", name)) if f.public]
             verdicts[name] = ["it has no heading"] if missing else []
     files = [path for path in pathlib.Path("crates").rglob("*") if path.suffix in (".rt", ".antt") and "out" not in path.parts]
