@@ -15,6 +15,8 @@ mod gates;
 #[cfg(test)]
 mod listing;
 #[cfg(test)]
+mod long;
+#[cfg(test)]
 mod pacing;
 #[cfg(test)]
 mod polling;
