@@ -3,6 +3,8 @@
 #![tactic(auto)]
 
 #[cfg(test)]
+mod at_each_act;
+#[cfg(test)]
 mod attaching;
 #[cfg(test)]
 mod counts;
@@ -19,7 +21,11 @@ mod long;
 #[cfg(test)]
 mod pacing;
 #[cfg(test)]
+mod places;
+#[cfg(test)]
 mod polling;
+#[cfg(test)]
+mod prefixes;
 #[cfg(test)]
 mod reading;
 #[cfg(test)]
@@ -32,3 +38,5 @@ mod side_by_side;
 mod threads;
 #[cfg(test)]
 mod totals;
+#[cfg(test)]
+mod worked;
