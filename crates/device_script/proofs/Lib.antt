@@ -1,3 +1,4 @@
 pub mod DealFacts
+pub mod OpeningFacts
 pub mod Rows
 pub mod ScriptFacts

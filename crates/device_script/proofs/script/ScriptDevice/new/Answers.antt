@@ -1,4 +1,4 @@
-use Rattle.{std.proofs.Common.{◌∙◌, sym, arith}, device_script.{specs.Script.is_act_of, proofs.{Rows.filter-long, StationFacts.opened-within}}}
+use Rattle.{std.proofs.Common.{◌∙◌, sym, arith}, device_script.{specs.Script.is_act_of, proofs.{OpeningFacts.opened-within, Rows.filter-long}}}
 use Rattle.device_script.proofs.script.ScriptDevice.new.Goals as goal
 
 pub of-requires-clause-places : goal.of-requires-clause-places
