@@ -6,7 +6,10 @@ use device_rows::TraceFault;
 use replay_text::ReplayFault;
 use replay_words::Mode;
 use std::alloc::{AllocError, Global};
+use std::process::Abort;
+use std::sync::Wait;
 use std::test::Fail;
+use std::thread::Threads;
 
 // 129 packets, a run, a disable, and a run: rows 2 to 130, 131, 132 and 133.
 const ROWS: [(u32, &str); 3] = [
@@ -163,26 +166,41 @@ fn report_of(alloc: Global, mode: Mode, last: Last) -> Result<String, AllocError
     }
 }
 
-#[test]
-fn every_prefix(rt: HostRuntime) -> Result<(), Fail> {
-    let text = text_of(rt.alloc(), &ROWS)?;
+fn every_prefix<P: Threads + Wait + Abort + Sync>(
+    rt: &P,
+    alloc: Global,
+    mode: Mode,
+) -> Result<(), Fail> {
+    let text = text_of(alloc, &ROWS)?;
     let bytes = text.as_bytes();
     for end in 0..bytes.len() + 1 {
         let prefix = &bytes[..end];
         let last = Last::of(prefix);
-        let fault = last.fault();
-        for (mode, _) in MODES {
-            let mut report = Vec::new(rt.alloc());
-            let answer = replay_in(&rt, rt.alloc(), mode, prefix, &mut report);
-            let wanted = match fault {
-                Some(fault) => (Err(ReplayFault::Trace(fault)), String::new(rt.alloc())),
-                None => (Ok(()), report_of(rt.alloc(), mode, last)?),
-            };
-            assert_eq!(rt; answer, wanted.0, "{end} bytes");
-            assert_eq!(rt; report.as_slice(), wanted.1.as_bytes(), "{end} bytes");
-        }
+        let wanted = match last.fault() {
+            Some(fault) => (Err(ReplayFault::Trace(fault)), String::new(alloc)),
+            None => (Ok(()), report_of(alloc, mode, last)?),
+        };
+        let mut report = Vec::new(alloc);
+        let answer = replay_in(rt, alloc, mode, prefix, &mut report);
+        assert_eq!(rt; answer, wanted.0, "{end} bytes");
+        assert_eq!(rt; report.as_slice(), wanted.1.as_bytes(), "{end} bytes");
     }
     Ok(())
+}
+
+#[test]
+fn serial(rt: HostRuntime) -> Result<(), Fail> {
+    every_prefix(&rt, rt.alloc(), Mode::Serial)
+}
+
+#[test]
+fn shared(rt: HostRuntime) -> Result<(), Fail> {
+    every_prefix(&rt, rt.alloc(), Mode::Shared)
+}
+
+#[test]
+fn threads(rt: HostRuntime) -> Result<(), Fail> {
+    every_prefix(&rt, rt.alloc(), Mode::Threads)
 }
 
 // A byte that begins no character is no event.
