@@ -169,9 +169,11 @@ awk 'BEGIN { print "moment,device,event,value"; for (i = 1; i < 17; i++) print "
 { cat "$scratch/long.csv"; echo '1,0,softirq,0'; } > "$scratch/longer.csv"
 printf 'moment,device,event,value\n0,1,open,4\n1,1,rx,10\n1,1,disable,0\n1,1,enable,0\n' > "$scratch/pending.csv"
 printf 'moment,device,event,value\n0,1,open,4\n0,1,open,4\n' > "$scratch/twice.csv"
+{ cat "$top/examples/two-packets.csv" && head -c 70000000 /dev/zero | tr '\0' '\n'; } > "$scratch/blank.csv"
+{ printf 'moment,device,event,value\n0,1,open,4\n1,1,rx,' && head -c 70000000 /dev/zero | tr '\0' 7; } > "$scratch/field.csv"
 if "$top/scripts/build.sh" napi_serial > "$scratch/log" 2>&1; then
     check 'the replay compiles' compile gcc "$top/tests/c/replay.c" "$scratch/replay" -O2
-    for trace in "$top"/examples/*.csv "$scratch"/{long,longer,pending,twice}.csv; do
+    for trace in "$top"/examples/*.csv "$scratch"/{long,longer,pending,twice,blank,field}.csv; do
         check "the replay of $(basename "$trace")" as_the_tool "$scratch/replay" "$trace" 300 64 1024
         check "the replay of $(basename "$trace"), other settings" as_the_tool "$scratch/replay" "$trace" 7 3 5
     done

@@ -99,17 +99,35 @@ inputs() {
         run bash -c "'$top/replay' $how" '' "$scratch/bad.csv"
         check "a last line without its end, $how" is "$status $(grep -c "line 2, '0,1': a row has four fields" "$scratch/err")" '2 1'
     done
+    local lines='memory fault 11 OutOfMemory
+replay: it: it takes more memory than the program may have'
     for how in '< /dev/zero' '/dev/zero' '< <(tr "\0" x < /dev/zero)'; do
-        # The program and what tells of it together, as one that keeps all would end.
-        run bash -c "ulimit -v 1500000; '$top/replay' $how"
-        check "an input without end, $how" is "$status $(sed 's,^replay: [^:]*,replay: it,' "$scratch/err")" '2 trace fault 10 ReadFailed
-replay: it: a read of it failed, or it has over 64 MiB'
+        run timeout 60 "$BASH" -c "'$top/replay' $how"
+        check "an input without end, $how" is "$status $(sed 's,^replay: [^:]*,replay: it,' "$scratch/err")" "4 $lines, 8192 MiB (REPLAY_MEMORY sets that)"
+        # What tells of it is bounded here too, as one that keeps all would end.
+        run env REPLAY_MEMORY=200 bash -c "ulimit -v 1500000; '$top/replay' $how"
+        check "an input without end in 200 MiB, $how" is "$status $(sed 's,^replay: [^:]*,replay: it,' "$scratch/err")" "4 $lines, 200 MiB (REPLAY_MEMORY sets that)"
     done
+    for memory in 0 1k -1 ' ' 12345678; do
+        run env REPLAY_MEMORY="$memory" "$top/replay" "$top/examples/two-packets.csv"
+        check "memory $memory" is "$status $(wc -l < "$scratch/err") $(wc -c < "$scratch/out")" '64 1 0'
+    done
+    run env REPLAY_MEMORY=unlimited "$top/replay" "$top/examples/two-packets.csv"
+    check 'memory without a bound' is "$status $(cmp "$scratch/out" <("$top/replay" "$top/examples/two-packets.csv"))" '0 '
+    for how in '< "$1"' '<(cat "$1")' '"$1"'; do
+        { cat "$top/examples/two-packets.csv" && head -c 70000000 /dev/zero | tr '\0' '\n'; } > "$scratch/blank.csv"
+        run bash -c "'$top/replay' $how" '' "$scratch/blank.csv"
+        check "70 MB of empty lines, $how" is "$status $(cmp "$scratch/out" <("$top/replay" "$top/examples/two-packets.csv"))" '0 '
+        { printf 'moment,device,event,value\n0,1,open,4\n1,1,rx,' && head -c 70000000 /dev/zero | tr '\0' 7; } > "$scratch/field.csv"
+        run bash -c "'$top/replay' $how" '' "$scratch/field.csv"
+        check "a field of 70 MB, $how" is "$status $(head -n 1 "$scratch/err")" '2 trace fault 3 BadNumber row 2'
+    done
+    rm -f "$scratch/blank.csv" "$scratch/field.csv"
     command -v python3 > /dev/null || return 0
     for how in '' --rows; do
         run python3 "$top/tests/half_read.py" $how "$top/replay"
         check "half of a trace is no trace $how" is "$status $(cat "$scratch/out" "$scratch/err")" '2 trace fault 10 ReadFailed
-replay: standard input: a read of it failed, or it has over 64 MiB'
+replay: standard input: a read of it failed'
     done
 }
 

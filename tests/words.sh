@@ -119,7 +119,7 @@ broken() {
 from_folder() { "$@" < "$folder"; }
 exec 9< "/proc/$$/mem"
 from_memory() { "$@" <&9; }
-# Memory is bounded, since a record without end is read no further than any trace goes.
+# Memory is bounded, which a record without end takes.
 from_zeros() { (ulimit -v 1500000 && exec "$@" < /dev/zero); }
 from_line() { tr '\0' x < /dev/zero 2> /dev/null | (ulimit -v 1500000 && exec "$@"); }
 from_row() { { printf 'moment,device,event,value\n' && tr '\0' 7 < /dev/zero; } 2> /dev/null | (ulimit -v 1500000 && exec "$@"); }
@@ -131,13 +131,14 @@ from_short_pipe() { printf 'moment,dev' | "$@"; }
 want 2 'trace fault 10 ReadFailed'
 broken 'a folder as input' from_folder
 broken 'memory that nobody may read' from_memory
-broken 'zeros without end' from_zeros
-broken 'a line without end' from_line
-broken 'a row without end' from_row
 if command -v python3 > /dev/null; then
     broken 'a read that fails within a row' from_half
     broken 'a read that fails behind a row' from_half_of_the_rows
 fi
+want 4 'memory fault 11 OutOfMemory'
+broken 'zeros without end' from_zeros
+broken 'a line without end' from_line
+broken 'a row without end' from_row
 # What a pipe that is closed in the middle of a row has of it is a row of too few fields.
 want 2 'trace fault 2 BadFields row 3'
 broken 'a pipe that is closed in the middle of a row' from_pipe

@@ -6,7 +6,7 @@
 #include <stdlib.h>
 #include <string.h>
 
-enum { MOST_BYTES = 1 << 26, GUARD = 0xA5 };
+enum { MOST_BYTES = 1 << 27, GUARD = 0xA5 };
 
 static void want(bool holds, const char *what) {
     if (holds) return;

@@ -4,7 +4,6 @@
 //! that it answers so. docs/FORMATS.md has the format.
 #![tactic(auto)]
 
-mod bounded;
 mod digits;
 mod event;
 mod fault;
@@ -15,7 +14,6 @@ mod row;
 mod switch;
 mod trace;
 
-pub use bounded::MOST_BYTES;
 pub use event::Event;
 pub use fault::TraceFault;
 pub use laws::{first_fault_stands, first_records_decide};

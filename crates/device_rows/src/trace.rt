@@ -12,7 +12,6 @@ ghost use Rattle.device_rows.specs.Trace.{AcceptedAfter, TraceView, records_of, 
 ghost use Rattle.device_rows.specs.declared.trace.Next.TheVariants as next;
 ghost use Rattle.device_rows.specs.declared.row.Row.{Row};
 
-use crate::bounded::Bounded;
 use crate::digits::DigitTable;
 use crate::fault::TraceFault;
 use crate::record::{add_short_row, row_of, version_of};
@@ -172,9 +171,9 @@ fn add_next(
     add_row(version, number, fields, switches, rows)
 }
 
-/// Reads the rows of a trace, or its first fault. It asks for at most 100002 records, so it ends, and for no more once the
-/// source has given over [`MOST_BYTES`](crate::MOST_BYTES): that is `ReadFailed`. The reader is read ahead of the row that
-/// decides, and a failure met there is the answer. On a fault nothing is kept.
+/// Reads the rows of a trace, or its first fault. It asks for at most 100002 records, of any length, so it ends where each of
+/// them does. The reader is read ahead of the row that decides, and a failure met there is the answer. On a fault nothing is
+/// kept.
 pub fn read_trace<R: Read + Drop>(alloc: Global, source: R) -> Result<Trace, TraceFault>
     // The rows are those of the bytes read, where these are known.
     ensures rows { IfOk result
@@ -187,7 +186,7 @@ pub fn read_trace<R: Read + Drop>(alloc: Global, source: R) -> Result<Trace, Tra
     ensures fault { IfErr result (λ fault. (bytes : List ℕ) → R.remaining source ≡ Some bytes
         → IsReadFailure fault ⊎ (trace_of (records_of bytes) ≡ Err fault)) }
 {
-    let mut reader = reader_of(alloc, Bounded::new(source));
+    let mut reader = reader_of(alloc, source);
     let Ok(mut fields) = ByteRecord::with_capacity(alloc, RECORD_BYTES, 4) else {
         return Err(TraceFault::OutOfMemory);
     };

@@ -7,6 +7,7 @@ ghost use Rattle.napi_model.specs.declared.state.Kind.TheVariants as kind;
 ghost use Rattle.napi_model.specs.declared.event.Prep.TheVariants as prep;
 ghost use Rattle.napi_model.specs.declared.event.Done.TheVariants as done;
 ghost use Rattle.napi_model.specs.declared.event.Operation.TheVariants.{Look, Schedule, Hand, Take, Complete, MarkDisable, TakeDisable, Unmark};
+ghost use Rattle.napi_model.specs.Word.{word_of};
 ghost use Rattle.napi_calls.specs.declared.types.Caller.{Caller};
 ghost use Rattle.napi_calls.specs.Instance.{IsSeatOf, IsNewSeat, callers_of, first_of_instance};
 ghost use Rattle.napi_calls.specs.Seats.{IsInputOf};
@@ -92,12 +93,17 @@ pub fn make_bed(rt: &impl Abort, alloc: Global) -> Bed
     seat_two(rt, input, napi, callers, control)
 }
 
-/// The word that a caller looks at.
-pub fn word(napi: &Napi, caller: &mut Caller) -> u64
+/// A look, which has to tell this word.
+pub fn looked(rt: &impl Abort, napi: &Napi, caller: &mut Caller, word: u64)
     requires { IsSeatOf napi.now caller.old.pass }
-    ensures { IsSeatOf napi.now caller.new.pass }
+    ensures seat { IsSeatOf napi.now caller.new.pass }
+    ensures made { (x : Seen) × (word_of x ≡ word)
+        × Made caller.old.pass (Look x ∷ []) caller.new.pass }
 {
-    encode(caller.look(napi))
+    let found = encode(caller.look(napi));
+    if found != word {
+        panic!(rt; "the word is {found} and not {word}")
+    }
 }
 
 /// Enables the instance, which has to be decided at the first try.

@@ -87,25 +87,29 @@ impl Write for FailingWriter {
     }
 }
 
-/// Gives a front, and then the same bytes for ever.
+/// Gives a front, and then the same bytes again and again, so many in all.
 #[derive(Drop)]
-pub(crate) struct EndlessReader<'a> {
+pub(crate) struct LongReader<'a> {
     /// What comes first.
     pub(crate) front: &'static [u8],
     /// What comes then, again and again.
     pub(crate) again: &'static [u8],
+    /// How many bytes are left to give.
+    pub(crate) left: u64,
     /// How many bytes were given.
     pub(crate) given: &'a mut u64,
 }
 
-impl Read for EndlessReader<'_> {
+impl Read for LongReader<'_> {
     fn read(&mut self, buf: &mut [u8]) -> io::Result<usize> {
         if self.front.is_empty() {
             self.front = self.again;
         }
-        let count = self.front.len().min(buf.len());
+        let left = self.left.min(buf.len() as u64) as usize;
+        let count = self.front.len().min(left);
         buf[..count].copy_from_slice(&self.front[..count]);
         self.front = &self.front[count..];
+        self.left -= count as u64;
         *self.given = self.given.saturating_add(count as u64);
         Ok(count)
     }

@@ -1,9 +1,9 @@
 //! What each mode gives where its reader or its writer fails, and the lines of what no run of the program shows.
 
 use crate::ends::{
-    EndlessReader, FailingReader, FailingWriter, ONE_PACKET, ONE_PACKET_REPORT, ONE_PACKET_THREADS,
+    FailingReader, FailingWriter, ONE_PACKET, ONE_PACKET_REPORT, ONE_PACKET_THREADS,
 };
-use device_rows::{TraceFault, read_trace};
+use device_rows::TraceFault;
 use poll_workers::OpenGate;
 use replay_rows::replay_serial;
 use replay_text::{ProgramFault, ReplayFault, end_by, fault_line, status};
@@ -15,13 +15,13 @@ use std::sync::Wait;
 use std::test::Fail;
 use std::thread::Threads;
 
-const MODES: [(Mode, &str); 3] = [
+pub(crate) const MODES: [(Mode, &str); 3] = [
     (Mode::Serial, ONE_PACKET_REPORT),
     (Mode::Shared, ONE_PACKET_REPORT),
     (Mode::Threads, ONE_PACKET_THREADS),
 ];
 
-fn replay_in<P: Threads + Wait + Sync, R: Read + Drop, W: Write>(
+pub(crate) fn replay_in<P: Threads + Wait + Sync, R: Read + Drop, W: Write>(
     rt: &P,
     alloc: Global,
     mode: Mode,
@@ -96,35 +96,6 @@ fn faulty_traces(rt: HostRuntime) {
             Err(ReplayFault::Trace(TraceFault::WrongState { row: 2 }))
         );
     }
-}
-
-// The reader is asked for the header, 100001 rows and what one look ahead takes, and for no more.
-#[test]
-fn endless_input(rt: HostRuntime) {
-    let mut given = 0u64;
-    let reader = EndlessReader {
-        front: b"moment,device,event,value\n0,1,open,4\n",
-        again: b"1,1,rx,100\n",
-        given: &mut given,
-    };
-    let answer = read_trace(rt.alloc(), reader);
-    assert_eq!(rt; answer.err(), Some(TraceFault::TooManyRows));
-    let most = 26 + 11 * 100_001;
-    assert!(rt; most <= given && given <= most + 16_384, "{given} bytes");
-}
-
-// A record without end is read no further than any trace goes: 64 MiB, and what one look ahead takes.
-#[test]
-fn endless_record(rt: HostRuntime) {
-    let mut given = 0;
-    let source = EndlessReader {
-        front: b"moment,device,event,value\n0,1,open,4\n",
-        again: &[b'7'; 4096],
-        given: &mut given,
-    };
-    let read = read_trace(rt.alloc(), source);
-    assert_eq!(rt; read.err(), Some(TraceFault::ReadFailed));
-    assert!(rt; given > 67108864 && given < 67108864 + 1048576);
 }
 
 // The status is that of the fault also where its line can't be told.

@@ -3,6 +3,8 @@
 #![tactic(auto)]
 
 #[cfg(test)]
+mod at_each_act;
+#[cfg(test)]
 mod attaching;
 #[cfg(test)]
 mod counts;
@@ -15,9 +17,15 @@ mod gates;
 #[cfg(test)]
 mod listing;
 #[cfg(test)]
+mod long;
+#[cfg(test)]
 mod pacing;
 #[cfg(test)]
+mod places;
+#[cfg(test)]
 mod polling;
+#[cfg(test)]
+mod prefixes;
 #[cfg(test)]
 mod reading;
 #[cfg(test)]
@@ -32,3 +40,5 @@ mod sides;
 mod threads;
 #[cfg(test)]
 mod totals;
+#[cfg(test)]
+mod worked;

@@ -1,0 +1,81 @@
+//! Inputs of any length: what is read of them, and that no length is a fault.
+
+use crate::ends::LongReader;
+use crate::failing::{MODES, replay_in};
+use device_rows::{TraceFault, read_trace};
+use replay_text::ReplayFault;
+use std::test::Fail;
+
+// More than any trace that isn't padded has.
+const LONG: u64 = 70_000_000;
+
+// The reader is asked for the header, 100001 rows and what one look ahead takes, and for no more.
+#[test]
+fn endless_input(rt: HostRuntime) {
+    let mut given = 0;
+    let reader = LongReader {
+        front: b"moment,device,event,value\n0,1,open,4\n",
+        again: b"1,1,rx,100\n",
+        left: u64::MAX,
+        given: &mut given,
+    };
+    let answer = read_trace(rt.alloc(), reader);
+    assert_eq!(rt; answer.err(), Some(TraceFault::TooManyRows));
+    let most = 26 + 11 * 100_001;
+    assert!(rt; most <= given && given <= most + 16_384, "{given} bytes");
+}
+
+// Empty lines are no records, however many there are.
+#[test]
+fn long_blank(rt: HostRuntime) -> Result<(), Fail> {
+    for (mode, report) in MODES {
+        let mut given = 0;
+        let reader = LongReader {
+            front: b"moment,device,event,value\n0,1,open,4\n1,1,rx,100\n2,0,softirq,0\n",
+            again: b"\n\r\n\n\n\r\n\n\n\r\n\n\n\n\n\n",
+            left: LONG,
+            given: &mut given,
+        };
+        let mut text = Vec::new(rt.alloc());
+        let answer = replay_in(&rt, rt.alloc(), mode, reader, &mut text);
+        assert_eq!(rt; answer, Ok(()));
+        assert_eq!(rt; text.as_slice(), report.as_bytes());
+        assert_eq!(rt; given, LONG);
+    }
+    Ok(())
+}
+
+// A field of any length has the fault of its row.
+#[test]
+fn long_fields(rt: HostRuntime) {
+    let fronts: [(&[u8], TraceFault); 4] = [
+        (
+            b"moment,device,event,value\n",
+            TraceFault::BadFields { row: 1 },
+        ),
+        (
+            b"moment,device,event,value\n0,1,open,4\n1,1,",
+            TraceFault::BadFields { row: 2 },
+        ),
+        (
+            b"moment,device,event,value\n0,1,open,4\n1,1,rx,",
+            TraceFault::BadNumber { row: 2 },
+        ),
+        (b"moment,device,event,value,", TraceFault::BadHeader),
+    ];
+    for (front, fault) in fronts {
+        for (mode, _) in MODES {
+            let mut given = 0;
+            let reader = LongReader {
+                front,
+                again: &[b'7'; 4096],
+                left: LONG,
+                given: &mut given,
+            };
+            let mut text = Vec::new(rt.alloc());
+            let answer = replay_in(&rt, rt.alloc(), mode, reader, &mut text);
+            assert_eq!(rt; answer, Err(ReplayFault::Trace(fault)));
+            assert!(rt; text.is_empty());
+        }
+    }
+}
