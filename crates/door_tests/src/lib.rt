@@ -1,0 +1,12 @@
+//! Tests of the library's doors, by crates that a user names: each call once, with its arguments in their order, and each enum
+//! whole, so that a call or a variant that comes or goes is seen here. Nothing but tests stands here.
+#![tactic(auto)]
+
+#[cfg(test)]
+mod limits;
+#[cfg(test)]
+mod model;
+#[cfg(test)]
+mod receive;
+#[cfg(test)]
+mod transmit;
