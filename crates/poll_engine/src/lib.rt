@@ -13,6 +13,6 @@ pub use poll_runs::{
     ShownBench, SoftList, ThreadReport, no_other_arrivals, plain_list_afterwards, poll_busy_of,
     poll_once_of, poll_thread_of, run_is_function, run_is_shown, run_softirq, runs_agree,
 };
-pub use poll_shared::{busy_instance, poll_instance};
+pub use poll_shared::{busy_instance, poll_instance, poll_instance_by_thread};
 pub use poll_tasks::{Gate, OpenGate, Pace};
 pub use poll_workers::{WorkFault, run_workers};
