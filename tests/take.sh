@@ -1,7 +1,7 @@
 #!/usr/bin/env bash
-# scripts/take.sh: what it takes and what it refuses, and a program over a library that was taken, proved and run in the repository
-# that took it. That is `poll_engine` where the libraries below it stand here, as the gate leaves them, so that they are proved no
-# second time; else `dql_core`, from nothing. The last line is `N passed, M failed`.
+# scripts/take.sh: what it takes and what it refuses, and a program over `poll_engine`, proved and run in the repository that took
+# it. Libraries that stand here, built by `rt`, are lent to that repository, and the rest is proved there from nothing, which takes
+# some minutes. `rt ci` leaves none that `rt` takes. The last line is `N passed, M failed`.
 set -uo pipefail
 unset CDPATH
 top=$(dirname "$(dirname "$(readlink -f "$0")")")
@@ -55,18 +55,19 @@ is_closed() {
     done < "$to/crates.txt"
 }
 
-# lend: the libraries that stand here, for the crates that were taken. `rt` takes one that was built of the same sources.
+# lend: the libraries that stand here, for the crates that were taken. Each has a stamp, the sum of what it was built of, and `rt`
+# builds one anew whose stamp isn't that of the sources.
 lend() {
     local name
     while read -r name; do
-        [ -e "$top/crates/$name/out/rlib/stamp" ] || { echo "take: crates/$name isn't built here, so a smaller library is tried"; return 1; }
-        mkdir -p "$to/crates/$name/out" && cp -a "$top/crates/$name/out/rlib" "$to/crates/$name/out/" || return 1
+        [ -e "$top/crates/$name/out/rlib/stamp" ] || continue
+        mkdir "$to/crates/$name/out" && cp -a "$top/crates/$name/out/rlib" "$to/crates/$name/out/" || return 1
     done < "$scratch/taken"
 }
 
-# prints_when_proved CRATE LINE: `rt run` there proves it, builds it and prints the line.
+# prints_when_proved CRATE LINE: `rt run` there proves it and all below it, builds it and prints the line.
 prints_when_proved() {
-    [ "$(cd "$to/crates/$1" && timeout 900 rt run 2> "$scratch/said")" = "$2" ] || { tail -n 20 "$scratch/said"; return 1; }
+    [ "$(cd "$to/crates/$1" && timeout 1h rt run 2> "$scratch/said")" = "$2" ] || { tail -n 20 "$scratch/said"; return 1; }
 }
 
 # begin: an empty repository in place of the last one.
@@ -112,13 +113,27 @@ check 'a line of that name with other words' leaves_as_it_was 65 take tx_ring "$
 begin
 tells poll_engine
 cp "$top/HANDLES" "$to/HANDLES"
-if lend; then
-    with_program listed poll_engine << 'END'
-//! Three numbers on a poll list, and what is left of them.
+check 'what is built here is lent' lend
+with_program listed poll_engine << 'END'
+//! Three numbers on a poll list, the first of them polled, and how its poll ends.
 #![tactic(auto)]
 
+ghost use Rattle.std.specs.Prelude.{◌≡◌};
+ghost use Rattle.poll_engine.specs.Next.TheVariants.{Repoll};
+
 use anyhow::Result;
-use poll_engine::SoftList;
+use poll_engine::{Next, SoftList};
+
+// A poll that used its whole weight is to be made again, and no other.
+fn next_of(work: u32, weight: u32) -> Next
+    ensures { result ≡ Repoll → work ≡ weight }
+{
+    if work == weight {
+        Next::Repoll
+    } else {
+        Next::Gone
+    }
+}
 
 fn main(rt: HostRuntime) -> Result<()> {
     let mut list = SoftList::new();
@@ -126,30 +141,12 @@ fn main(rt: HostRuntime) -> Result<()> {
         let _ = list.push(id);
     }
     let first = list.pop_front();
+    let next = next_of(64, 64);
     let left = list.ids().len();
-    println!(rt; "{first:?}, {left} more")?;
+    println!(rt; "{first:?} {next:?}, {left} more")?;
     Ok(())
 }
 END
-    check 'a program over poll_engine is proved there' prints_when_proved listed 'Some(1), 2 more'
-else
-    begin
-    tells dql_core
-    with_program limited dql_core << 'END'
-//! A queue limit, and what is available of it.
-#![tactic(auto)]
-
-use anyhow::Result;
-use dql_core::Dql;
-
-fn main(rt: HostRuntime) -> Result<()> {
-    let mut limit = Dql::new(1000, 2000, 1000, 0)?;
-    limit.queued(300)?;
-    println!(rt; "{}", limit.avail())?;
-    Ok(())
-}
-END
-    check 'a program over dql_core is proved there, from nothing' prints_when_proved limited 700
-fi
+check 'a program over poll_engine is proved there' prints_when_proved listed 'Some(1) Repoll, 2 more'
 
 sum_up

@@ -24,7 +24,11 @@ impl Bench for Cards {
         self.packets -= work;
         Once {
             work,
-            next: if work == weight { Next::Repoll } else { Next::Gone },
+            next: if work == weight {
+                Next::Repoll
+            } else {
+                Next::Gone
+            },
         }
     }
 
@@ -61,6 +65,12 @@ fn each_end_of_a_poll(rt: HostRuntime) {
         Next::Repoll,
     ]
     .map(next_name);
-    let wanted = ["absent", "gone", "again by the list", "again by the thread", "repoll"];
+    let wanted = [
+        "absent",
+        "gone",
+        "again by the list",
+        "again by the thread",
+        "repoll",
+    ];
     assert_eq!(rt; names, wanted);
 }

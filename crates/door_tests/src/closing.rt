@@ -55,12 +55,15 @@ fn a_caller_is_missing(rt: HostRuntime) {
     };
     callers.push_reserved(first);
     let answer = napi.close(callers, control);
-    let Err(CloseBack {
-        fault,
-        napi,
-        mut callers,
-        control,
-    }) = answer else {
+    let Err(
+        CloseBack {
+            fault,
+            napi,
+            mut callers,
+            control,
+        },
+    ) = answer
+    else {
         panic!(rt; "closed")
     };
     assert_eq!(rt; fault_name(fault), ("NotAll", 1));

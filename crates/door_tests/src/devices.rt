@@ -42,8 +42,16 @@ fn fault_name(fault: TraceFault) -> (&'static str, u32, u8) {
 fn a_trace_is_read(rt: HostRuntime) -> Result<(), Fail> {
     let trace: Trace = read_trace(rt.alloc(), TRACE.as_bytes())?;
     assert_eq!(rt; trace.version(), 2);
-    let words = ["open", "rx", "softirq", "tx", "done", "disable", "enable", "threaded", "kthread", "busy"];
-    assert!(rt; trace.rows().iter().map(|row| event_name(row.event)).eq(words));
+    let words = [
+        "open", "rx", "softirq", "tx", "done", "disable", "enable", "threaded", "kthread", "busy",
+    ];
+    assert!(rt;
+        trace
+            .rows()
+            .iter()
+            .map(|row| event_name(row.event))
+            .eq(words)
+    );
     let first = Row {
         moment: 0,
         device: 1,
@@ -63,7 +71,10 @@ fn each_fault_of_a_trace(rt: HostRuntime) -> Result<(), Fail> {
         (TraceFault::BadNumber { row: 2 }, ("BadNumber", 2, 3)),
         (TraceFault::BadEvent { row: 2 }, ("BadEvent", 2, 4)),
         (TraceFault::OutOfRange { row: 2 }, ("OutOfRange", 2, 5)),
-        (TraceFault::UnknownDevice { row: 2 }, ("UnknownDevice", 2, 6)),
+        (
+            TraceFault::UnknownDevice { row: 2 },
+            ("UnknownDevice", 2, 6),
+        ),
         (TraceFault::OpenTwice { row: 2 }, ("OpenTwice", 2, 7)),
         (TraceFault::WrongState { row: 2 }, ("WrongState", 2, 8)),
         (TraceFault::TooManyRows, ("TooManyRows", 0, 9)),
@@ -90,6 +101,9 @@ fn rows_play_on_a_bench(rt: HostRuntime) -> Result<(), Fail> {
     bench.set_threaded(1, true);
     assert_eq!(rt; bench.poll_thread(1, 64, 1024).polls, 0);
     let report = bench.busy_poll(1, 64, 2);
-    assert_eq!(rt; (report.polls, report.held, report.next), (3, 2, Next::Gone));
+    assert_eq!(rt;
+        (report.polls, report.held, report.next),
+        (3, 2, Next::Gone)
+    );
     Ok(())
 }

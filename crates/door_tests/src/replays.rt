@@ -64,7 +64,14 @@ fn a_trace_is_played_in_each_mode(rt: HostRuntime) -> Result<(), Fail> {
     replay_shared(&rt, rt.alloc(), ARRIVAL.as_bytes(), &mut text, &settings)?;
     assert_eq!(rt; text.as_slice(), ARRIVAL_REPORT.as_bytes());
     let mut text = Vec::new(rt.alloc());
-    let all = replay_threads(&rt, rt.alloc(), ARRIVAL.as_bytes(), &mut text, &settings, &OpenGate)?;
+    let all = replay_threads(
+        &rt,
+        rt.alloc(),
+        ARRIVAL.as_bytes(),
+        &mut text,
+        &settings,
+        &OpenGate,
+    )?;
     assert_eq!(rt; text.as_slice(), ARRIVAL_THREADS.as_bytes());
     for one in all {
         let Polled {
@@ -83,12 +90,24 @@ fn each_fault_of_a_replay(rt: HostRuntime) -> Result<(), Fail> {
     let mut text = Vec::new(rt.alloc());
     let fault = replay_serial(rt.alloc(), b"".as_slice(), &mut text, &settings);
     let fault = fault.err().ok_or("played")?;
-    assert_eq!(rt; fault_line(rt.alloc(), &fault)?.as_str(), "trace fault 1 BadHeader row 0\n");
+    assert_eq!(rt;
+        fault_line(rt.alloc(), &fault)?.as_str(),
+        "trace fault 1 BadHeader row 0\n"
+    );
     assert_eq!(rt; fault_name(fault), ("Trace", 1, 2));
     for (fault, wanted) in [
-        (ReplayFault::Trace(TraceFault::OutOfMemory), ("Trace", 11, 4)),
+        (
+            ReplayFault::Trace(TraceFault::OutOfMemory),
+            ("Trace", 11, 4),
+        ),
         (ReplayFault::Pending { row: 4 }, ("Pending", 4, 2)),
-        (ReplayFault::RingTooSmall { device: 1, needs: 9 }, ("RingTooSmall", 9, 3)),
+        (
+            ReplayFault::RingTooSmall {
+                device: 1,
+                needs: 9,
+            },
+            ("RingTooSmall", 9, 3),
+        ),
         (ReplayFault::GateShut, ("GateShut", 0, 4)),
         (ReplayFault::OutputFailed, ("OutputFailed", 0, 4)),
         (ReplayFault::SpawnFailed, ("SpawnFailed", 0, 4)),

@@ -35,7 +35,10 @@ fn an_instance_is_polled(rt: HostRuntime) {
     let (second, once) = poll_instance(&rt, &napi, second, 64, true, &mut batch);
     assert_eq!(rt; (once.work, once.next), (0, Next::Absent));
     let (second, report) = busy_instance(&rt, &napi, second, 2, 64, &mut batch);
-    assert_eq!(rt; (report.polls, report.held, report.next), (3, 2, Next::Gone));
+    assert_eq!(rt;
+        (report.polls, report.held, report.next),
+        (3, 2, Next::Gone)
+    );
     let control = control.disable(&rt, &napi);
     closed(&rt, rt.alloc(), napi, first, second, control);
 }

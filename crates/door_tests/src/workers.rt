@@ -49,14 +49,26 @@ impl Gate for ShutGate {
 
 #[test]
 fn a_device_tells_its_acts(rt: HostRuntime) -> Result<(), Fail> {
-    let acts = [ARRIVAL, Act::Disable, Act::Enable, Act::SetThreaded(true), Act::Nothing];
+    let acts = [
+        ARRIVAL,
+        Act::Disable,
+        Act::Enable,
+        Act::SetThreaded(true),
+        Act::Nothing,
+    ];
     let mut device = ActList::new(Vec::from_array(rt.alloc(), acts)?);
     assert_eq!(rt; device.acts(), 5);
     if 0 < device.acts() {
         assert_eq!(rt; act_name(device.act(0)), ("arrive", 7));
     }
     let names = acts.map(act_name);
-    let wanted = [("arrive", 7), ("disable", 0), ("enable", 0), ("threaded", 1), ("nothing", 0)];
+    let wanted = [
+        ("arrive", 7),
+        ("disable", 0),
+        ("enable", 0),
+        ("threaded", 1),
+        ("nothing", 0),
+    ];
     assert_eq!(rt; names, wanted);
     Ok(())
 }
@@ -83,7 +95,10 @@ fn stations_are_run(rt: HostRuntime) -> Result<(), Fail> {
             left,
             bytes,
         } = totals;
-        assert_eq!(rt; (number, put, polled.saturating_add(left), bytes), (1, 1, 1, 60));
+        assert_eq!(rt;
+            (number, put, polled.saturating_add(left), bytes),
+            (1, 1, 1, 60)
+        );
     }
     Ok(())
 }
@@ -98,7 +113,9 @@ fn a_gate_is_shut(rt: HostRuntime) -> Result<(), Fail> {
         device: ActList::new(vec![in rt.alloc(); ARRIVAL]?),
     };
     let stations = vec![in rt.alloc(); station]?;
-    let shut = run_workers(&rt, rt.alloc(), stations, 1, PACE, &ShutGate).err().ok_or("ran")?;
+    let shut = run_workers(&rt, rt.alloc(), stations, 1, PACE, &ShutGate)
+        .err()
+        .ok_or("ran")?;
     assert_eq!(rt; fault_name(shut), ("GateShut", 2));
     for (fault, wanted) in [
         (WorkFault::OutOfMemory, ("OutOfMemory", 1)),
