@@ -33,6 +33,4 @@ mod transmit;
 #[cfg(test)]
 mod waiting;
 #[cfg(test)]
-mod word;
-#[cfg(test)]
 mod workers;
