@@ -5,7 +5,7 @@ ghost use Rattle.napi_model.specs.Serial.{state_of};
 
 use anyhow::Result;
 use napi_model::{Done, Kind, Prep, SerialNapi};
-use poll_runs::{Bench, BusyReport, Next, Once, ThreadReport};
+use poll_engine::{Bench, BusyReport, Next, Once, ThreadReport};
 use rx_ring::{Batch, Packet, RxCtx, RxIn, ring};
 use std::alloc::Global;
 

@@ -2,7 +2,7 @@
 
 use crate::cards::{Cards, DEVICES};
 use anyhow::Result;
-use poll_runs::{PlainList, PollList, run_softirq};
+use poll_engine::{PlainList, PollList, run_softirq};
 use rx_ring::Packet;
 use std::alloc::Global;
 use std::time::{Clock, Instant};

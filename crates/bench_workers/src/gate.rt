@@ -1,6 +1,6 @@
 //! The gate of a run.
 
-use poll_workers::Gate;
+use poll_engine::Gate;
 use std::thread;
 use std::time::{Clock, Duration};
 

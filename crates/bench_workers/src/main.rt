@@ -12,7 +12,7 @@ use anyhow::{Result, ensure};
 use count::Count;
 use gate::HoldsFirst;
 use load::Load;
-use poll_workers::run_workers;
+use poll_engine::{have_distinct_numbers, run_workers};
 use std::env;
 use std::time::Instant;
 
@@ -25,6 +25,7 @@ const WINDOW: u32 = 1024;
 fn main(rt: HostRuntime) -> Result<()> {
     let load = Load::of_words(env::args(&rt)?)?;
     let stations = load.stations(rt.alloc())?;
+    ensure!(have_distinct_numbers(&stations), "two devices have one number");
     let gate = HoldsFirst::new(rt, load.hold);
     let start = Instant::now(&rt)?;
     let finished = run_workers(

@@ -11,5 +11,5 @@ pub use device_rows::{
     Event, Row, Trace, TraceFault, first_fault_stands, first_records_decide, read_trace,
 };
 pub use device_script::{ScriptDevice, opening_of};
-pub use device_shared::{SharedBench, shared_bench};
+pub use device_shared::SharedBench;
 pub use device_transmit::TxCounts;

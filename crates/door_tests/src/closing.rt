@@ -1,9 +1,9 @@
-//! `napi_calls`: how an instance is closed. A module of its own, as the call's form may change.
+//! `napi_calls`: how an instance is closed.
 
 ghost use Rattle.napi_calls.specs.Instance.{IsSeatOf};
 
 use crate::calls::{Bed, make_bed};
-use napi_calls::{Caller, CloseBack, CloseFault, Control, Napi, Off};
+use napi_calls::{Caller, CloseBack, CloseFault, Control, Napi, Off, close};
 use std::alloc::Global;
 use std::process::Abort;
 
@@ -33,7 +33,7 @@ pub(crate) fn closed(
     };
     callers.push_reserved(first);
     callers.push_reserved(second);
-    let answer = napi.close(callers, control);
+    let answer = close(napi, callers, control);
     let Ok(_ctx) = answer else {
         panic!(rt; "callers are missing")
     };
@@ -54,7 +54,7 @@ fn a_caller_is_missing(rt: HostRuntime) {
         panic!(rt; "no memory")
     };
     callers.push_reserved(first);
-    let answer = napi.close(callers, control);
+    let answer = close(napi, callers, control);
     let Err(
         CloseBack {
             fault,

@@ -1,4 +1,4 @@
-//! `device_model`: what is counted of a device. A module of its own, as the shape of its counts may change.
+//! `device_model`: what is counted of a device.
 
 use device_model::{DeviceCounts, DeviceState, ReplayBench, SerialBench, TxCounts};
 use std::test::Fail;
@@ -47,9 +47,10 @@ fn a_device_is_counted(rt: HostRuntime) -> Result<(), Fail> {
         released: 0,
         held: 0,
         word: 4_294_967_297,
-        tx: Some(tx),
+        tx,
     };
-    assert_eq!(rt; bench.counts(1), Some(counts));
+    assert!(rt; bench.is_attached(1));
+    assert_eq!(rt; bench.counts(1), counts);
     let names = [DeviceState::On, DeviceState::Off, DeviceState::Pending].map(state_name);
     assert_eq!(rt; names, ["on", "off", "pending"]);
     Ok(())

@@ -29,12 +29,12 @@ fn fault_name(fault: ReplayFault) -> (&'static str, u32, u8) {
     (name, of, status(&fault))
 }
 
-fn word_fault_name(fault: WordFault) -> (&'static str, u8) {
+fn word_fault_name(fault: WordFault) -> (&'static str, u32, u8) {
     let name = match fault {
         WordFault::Usage => "Usage",
         WordFault::OutOfMemory => "OutOfMemory",
     };
-    (name, word_status(&fault))
+    (name, fault.number(), word_status(&fault))
 }
 
 #[test]
@@ -47,9 +47,9 @@ fn words_are_read(rt: HostRuntime) -> Result<(), Fail> {
     assert_eq!(rt; mode_name(mode), "threads");
     let help = String::from_str(rt.alloc(), "--help")?;
     let fault = parse_words(rt.alloc(), &[help]).err().ok_or("taken")?;
-    assert_eq!(rt; word_fault_name(fault), ("Usage", 64));
+    assert_eq!(rt; word_fault_name(fault), ("Usage", 1, 64));
     assert_eq!(rt; word_line(&fault), "usage fault 64\n");
-    assert_eq!(rt; word_fault_name(WordFault::OutOfMemory), ("OutOfMemory", 4));
+    assert_eq!(rt; word_fault_name(WordFault::OutOfMemory), ("OutOfMemory", 2, 4));
     assert_eq!(rt; mode_name(Mode::Shared), "shared");
     Ok(())
 }

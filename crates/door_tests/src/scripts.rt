@@ -1,4 +1,4 @@
-//! `device_model`: a device whose acts are its rows. A module of its own, as its calls may change.
+//! `device_model`: a device whose acts are its rows.
 
 use crate::texts::TRACE;
 use device_model::{ScriptDevice, opening_of, read_trace};
@@ -12,8 +12,8 @@ fn a_device_makes_its_rows(rt: HostRuntime) -> Result<(), Fail> {
     if opening.is_none() {
         return Err("not opened".into());
     }
-    let mut device = ScriptDevice::new(rt.alloc(), trace.rows(), 1)?;
-    assert_eq!(rt; device.tx_counts(), None);
+    let mut device = ScriptDevice::new(rt.alloc(), &trace, 1)?;
+    assert_eq!(rt; device.tx_counts().sent, 0);
     if 0 < device.acts() {
         assert!(rt; matches!(device.act(0), Act::Arrive(_)));
     }

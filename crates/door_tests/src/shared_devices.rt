@@ -1,7 +1,8 @@
-//! `device_model`: the bench over instances that threads could share. A module of its own, as how it is made and ended may change.
+//! `device_model`: the bench over instances that threads could share.
 
-use device_model::{ReplayBench, SharedBench, shared_bench};
+use device_model::{ReplayBench, SharedBench};
 use poll_engine::{Bench, Next};
+use rx_ring::Totals;
 use std::sync::Wait;
 use std::test::Fail;
 
@@ -13,8 +14,19 @@ fn arrives_and_is_polled<R: Wait + Copy + Drop>(bench: &mut SharedBench<R>) -> (
 
 #[test]
 fn rows_play_on_a_shared_bench(rt: HostRuntime) -> Result<(), Fail> {
-    let mut bench = shared_bench(rt, rt.alloc())?;
-    bench.attach(rt.alloc(), 1, 4, 0)?;
-    assert_eq!(rt; arrives_and_is_polled(&mut bench), (1, Next::Gone));
+    let mut bench = SharedBench::new(rt, rt.alloc())?;
+    let attached = bench.attach(rt.alloc(), 1, 4, 0);
+    let polled = arrives_and_is_polled(&mut bench);
+    bench.arrive(1, 60);
+    let ends = bench.end();
+    attached?;
+    assert_eq!(rt; polled, (1, Next::Gone));
+    let totals = Totals {
+        put: 2,
+        polled: 2,
+        left: 0,
+        bytes: 160,
+    };
+    assert_eq!(rt; ends[1], Some(totals));
     Ok(())
 }

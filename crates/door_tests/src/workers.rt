@@ -1,7 +1,8 @@
 //! `poll_engine`: a run with threads, gates and devices.
 
 use poll_engine::{
-    Act, ActList, Device, Finished, Gate, OpenGate, Pace, Station, WorkFault, run_workers,
+    Act, ActList, Device, Finished, Gate, OpenGate, Station, WorkFault, have_distinct_numbers,
+    run_workers,
 };
 use rx_ring::{Packet, Totals};
 use std::test::Fail;
@@ -11,7 +12,6 @@ fn fault_name(fault: WorkFault) -> (&'static str, u32) {
         WorkFault::OutOfMemory => "OutOfMemory",
         WorkFault::GateShut => "GateShut",
         WorkFault::SpawnFailed => "SpawnFailed",
-        WorkFault::SameNumber => "SameNumber",
     };
     (name, fault.number())
 }
@@ -30,12 +30,6 @@ const ARRIVAL: Act = Act::Arrive(Packet {
     number: 7,
     bytes: 60,
 });
-
-const PACE: Pace = Pace {
-    budget: 300,
-    weight: 64,
-    window: 1024,
-};
 
 /// Shuts every run.
 #[derive(Drop)]
@@ -82,7 +76,8 @@ fn stations_are_run(rt: HostRuntime) -> Result<(), Fail> {
         device: ActList::new(vec![in rt.alloc(); ARRIVAL]?),
     };
     let stations = vec![in rt.alloc(); station]?;
-    let all = run_workers(&rt, rt.alloc(), stations, 1, PACE, &OpenGate)?;
+    assert!(rt; have_distinct_numbers(&stations));
+    let all = run_workers(&rt, rt.alloc(), stations, 1, 300, 64, 1024, &OpenGate)?;
     for one in all {
         let Finished {
             number,
@@ -113,14 +108,13 @@ fn a_gate_is_shut(rt: HostRuntime) -> Result<(), Fail> {
         device: ActList::new(vec![in rt.alloc(); ARRIVAL]?),
     };
     let stations = vec![in rt.alloc(); station]?;
-    let shut = run_workers(&rt, rt.alloc(), stations, 1, PACE, &ShutGate)
+    let shut = run_workers(&rt, rt.alloc(), stations, 1, 300, 64, 1024, &ShutGate)
         .err()
         .ok_or("ran")?;
     assert_eq!(rt; fault_name(shut), ("GateShut", 2));
     for (fault, wanted) in [
         (WorkFault::OutOfMemory, ("OutOfMemory", 1)),
         (WorkFault::SpawnFailed, ("SpawnFailed", 3)),
-        (WorkFault::SameNumber, ("SameNumber", 4)),
     ] {
         assert_eq!(rt; fault_name(fault), wanted);
     }

@@ -8,11 +8,11 @@ use Rattle.napi_model.specs.declared.event.Operation.{Operation}
 use Rattle.napi_model.specs.declared.event.Operation.TheVariants as operation
 use Rattle.napi_model.specs.declared.state.Kind.TheVariants as kind
 use Rattle.napi_model.specs.declared.state.State.{State}
-use Rattle.poll_runs.specs.BusyPolling.{no_report}
-use Rattle.poll_runs.specs.declared.bench.BusyReport.{BusyReport}
-use Rattle.poll_runs.specs.declared.bench.Next.{Next}
-use Rattle.poll_runs.specs.declared.bench.Next.TheVariants as next
-use Rattle.poll_runs.specs.declared.bench.Once.{Once}
+use Rattle.poll_engine.specs.BusyPolling.{no_report}
+use Rattle.poll_engine.specs.BusyReport.{BusyReport}
+use Rattle.poll_engine.specs.Next.{Next}
+use Rattle.poll_engine.specs.Next.TheVariants as next
+use Rattle.poll_engine.specs.Once.{Once}
 use Rattle.rx_ring.specs.Ends.{ring_of}
 use Rattle.rx_ring.specs.ReceiveRing.{ReceiveRing, held_of}
 use Rattle.rx_ring.specs.declared.packet.Packet.{Packet}

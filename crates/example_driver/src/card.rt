@@ -7,7 +7,7 @@ ghost use Rattle.napi_model.specs.Serial.{state_of};
 use anyhow::Result;
 use dql_core::{Dql, MAX_LIMIT};
 use napi_model::{Kind, Prep, SerialNapi};
-use poll_runs::Bench;
+use poll_engine::Bench;
 use rx_ring::{Batch, Packet, RxCtx, RxIn, ring};
 use std::alloc::Global;
 use tx_ring::{TxRing, TxState};

@@ -11,7 +11,7 @@ use crate::card::{CARD, Card, Driver};
 use crate::quiet::QuietBench;
 use crate::stated::StatedBench;
 use anyhow::Result;
-use poll_runs::{PlainList, PollList, run_softirq};
+use poll_engine::{PlainList, PollList, run_softirq};
 
 /// The numbers of a run (`net.core.netdev_budget`, `NAPI_POLL_WEIGHT`, and polls in place of the kernel's 2 ms).
 const BUDGET: u32 = 128;

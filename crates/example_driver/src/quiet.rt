@@ -4,7 +4,7 @@
 
 use crate::card::{CARD, Card, Driver, POLLER};
 use napi_model::{Done, Kind};
-use poll_runs::{Bench, BusyReport, Next, Once, ThreadReport};
+use poll_engine::{Bench, BusyReport, Next, Once, ThreadReport};
 
 /// A bench of one card.
 #[derive(Drop)]

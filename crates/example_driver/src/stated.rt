@@ -9,7 +9,7 @@ ghost use Rattle.example_driver.specs.declared.card.TheConstants.{POLLER};
 
 use crate::card::{CARD, Card, Driver, POLLER};
 use napi_model::{Done, Kind};
-use poll_runs::{Bench, BusyReport, Next, Once, ThreadReport};
+use poll_engine::{Bench, BusyReport, Next, Once, ThreadReport};
 use rx_ring::beside;
 
 /// A bench of one card.

@@ -32,5 +32,3 @@ mod transmit;
 mod turns;
 #[cfg(test)]
 mod word;
-#[cfg(test)]
-mod words;

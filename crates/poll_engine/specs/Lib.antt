@@ -23,8 +23,6 @@ pub use Rattle.poll_list.specs.declared.list_in.ListIn
 pub use Rattle.poll_list.specs.declared.shared.SharedList
 pub use Rattle.poll_shared.specs.SharedBusy
 pub use Rattle.poll_shared.specs.SharedPolling
-pub use Rattle.poll_tasks.specs.Paces
-pub use Rattle.poll_tasks.specs.declared.pace.Pace
 pub use Rattle.poll_interrupts.specs.Acts
 pub use Rattle.poll_interrupts.specs.Opens
 pub use Rattle.poll_interrupts.specs.Runs

@@ -1,10 +1,8 @@
 //! Gates that are asked at each act, and a gate that must not be asked.
 
 use crate::threads::{settings_of, text_of};
-use poll_workers::Gate;
-use replay_text::ReplayFault;
-use replay_threads::replay_threads;
-use replay_words::Settings;
+use poll_engine::Gate;
+use replay::{ReplayFault, Settings, replay_threads};
 use std::alloc::Global;
 use std::sync::Wait;
 use std::sync::atomic::{AtomicU32, AtomicU64, Ordering};

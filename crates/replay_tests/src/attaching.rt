@@ -1,7 +1,7 @@
 //! Devices whose memory is refused.
 
 use crate::sides::told_of;
-use device_bench::{ReplayBench, SerialBench};
+use device_model::{ReplayBench, SerialBench};
 use std::test::Fail;
 
 // Where memory is refused (`rt try --test --fail-alloc 5`, to 8) nothing changed, and the next call attaches the device. One

@@ -2,16 +2,13 @@
 
 ghost use Rattle.std.specs.Prelude.{◌≤◌, IfOk, IsTrue, vec_items};
 ghost use Rattle.std.specs.List.{All};
-ghost use Rattle.poll_interrupts.specs.Opens.{IsStation};
-ghost use Rattle.poll_workers.specs.Numbers.{have_distinct_numbers};
+ghost use Rattle.poll_engine.specs.Opens.{IsStation};
+ghost use Rattle.poll_engine.specs.Numbers.{have_distinct_numbers};
 
 use crate::gates::run;
-use device_bench::{ReplayBench, SerialBench};
-use device_shared::SharedBench;
+use device_model::{ReplayBench, SerialBench, SharedBench};
 use napi_calls::Napi;
-use poll_list::shared_list;
-use poll_runs::{PollList, SoftList};
-use poll_workers::{ActList, OpenGate, Station};
+use poll_engine::{ActList, OpenGate, PollList, SoftList, Station, shared_list};
 use rx_ring::{Packet, ring};
 use std::alloc::{AllocError, Global};
 use std::sync::Wait;
@@ -96,8 +93,7 @@ fn benches_of_sixteen_devices(rt: HostRuntime) -> Result<(), Fail> {
 // So many stations without an act, each with a thread of its own.
 fn stations_of(alloc: Global, count: u32) -> Result<Vec<Station<ActList>>, AllocError>
     requires { count ≤ 16 }
-    ensures all { IfOk result (λ v. All IsStation (vec_items v)) }
-    ensures numbers { IfOk result (λ v. IsTrue (have_distinct_numbers (vec_items v))) }
+    ensures { IfOk result (λ v. All IsStation (vec_items v)) }
 {
     let mut stations = Vec::new(alloc);
     for index in 0..count {
@@ -122,6 +118,9 @@ fn run_idle<R: Threads + Wait + Sync>(
     requires pollers { (1 ≤ pollers) × (pollers ≤ 8) }
 {
     let stations = stations_of(alloc, count)?;
+    if !have_distinct_numbers(&stations) {
+        return Err("two stations have one number".into());
+    }
     Ok(run(rt, alloc, stations, pollers, &OpenGate)?.len())
 }
 

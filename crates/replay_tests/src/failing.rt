@@ -3,12 +3,10 @@
 use crate::ends::{
     FailingReader, FailingWriter, ONE_PACKET, ONE_PACKET_REPORT, ONE_PACKET_THREADS,
 };
-use device_rows::TraceFault;
-use poll_workers::OpenGate;
-use replay_rows::replay_serial;
-use replay_text::{ProgramFault, ReplayFault, end_by, fault_line, status};
-use replay_threads::{replay_shared, replay_threads};
-use replay_words::{Mode, Settings};
+use device_model::TraceFault;
+use poll_engine::OpenGate;
+use replay::{Mode, ReplayFault, Settings, fault_line, replay_serial, replay_shared, replay_threads, status};
+use replay_text::{ProgramFault, end_by};
 use std::alloc::Global;
 use std::io::{Read, Write};
 use std::sync::Wait;

@@ -42,3 +42,5 @@ mod threads;
 mod totals;
 #[cfg(test)]
 mod worked;
+#[cfg(test)]
+mod words;

@@ -1,10 +1,9 @@
 //! The poll list to which other threads push.
 
 ghost use Rattle.std.specs.Prelude.{◌≡◌, [], ◌∷◌, IfOk};
-ghost use Rattle.poll_list.specs.SharedList.{IsInOf, IsNewList, in_hand, pushed_by};
+ghost use Rattle.poll_engine.specs.SharedLists.{IsInOf, IsNewList, in_hand, pushed_by};
 
-use poll_list::{ListFault, ListIn, SharedList, end_list, shared_list};
-use poll_runs::{PollList, SoftList};
+use poll_engine::{ListFault, ListIn, PollList, SharedList, SoftList, end_list, shared_list};
 use std::alloc::Global;
 use std::sync::Wait;
 use std::test::Fail;

@@ -2,8 +2,8 @@
 
 use crate::ends::LongReader;
 use crate::failing::{MODES, replay_in};
-use device_rows::{TraceFault, read_trace};
-use replay_text::ReplayFault;
+use device_model::{TraceFault, read_trace};
+use replay::ReplayFault;
 use std::test::Fail;
 
 // More than any trace that isn't padded has.

@@ -4,10 +4,8 @@ ghost use Rattle.std.specs.Prelude.{◌≤◌};
 
 use crate::gates::{HoldsPoller, LOOKS};
 use crate::threads::{HEADER, settings_of, text_of};
-use poll_workers::Gate;
-use replay_text::ReplayFault;
-use replay_threads::{Polled, replay_threads};
-use replay_words::Settings;
+use poll_engine::Gate;
+use replay::{Polled, ReplayFault, Settings, replay_threads};
 use std::alloc::{AllocError, Global};
 use std::sync::Wait;
 use std::sync::atomic::{AtomicBool, AtomicU32, Ordering};

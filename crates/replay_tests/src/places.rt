@@ -1,6 +1,6 @@
 //! What is refused for want of places: a ring that has none, and one push more than a list has places.
 
-use poll_runs::SoftList;
+use poll_engine::SoftList;
 use rx_ring::{RingFault, ring};
 use std::test::Fail;
 

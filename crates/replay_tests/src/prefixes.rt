@@ -2,9 +2,8 @@
 
 use crate::failing::{MODES, replay_in};
 use crate::threads::{HEADER, text_of};
-use device_rows::TraceFault;
-use replay_text::ReplayFault;
-use replay_words::Mode;
+use device_model::TraceFault;
+use replay::{Mode, ReplayFault};
 use std::alloc::{AllocError, Global};
 use std::process::Abort;
 use std::sync::Wait;

@@ -1,6 +1,6 @@
 //! How the records of a trace may be written, and what a reader makes of bytes that are none.
 
-use device_rows::{Event, Row, Trace, TraceFault, read_trace};
+use device_model::{Event, Row, Trace, TraceFault, read_trace};
 use std::alloc::Global;
 use std::test::Fail;
 

@@ -1,15 +1,10 @@
 //! Whole replays over instances that threads could share, beside those on one thread; and the end of a bench.
 
 use crate::sides::told_of;
-use device_bench::ReplayBench;
-use device_rows::TraceFault;
-use device_shared::SharedBench;
+use device_model::{ReplayBench, SharedBench, TraceFault};
 use napi_model::Kind;
-use poll_runs::{Bench, Next};
-use replay_rows::replay_serial;
-use replay_text::ReplayFault;
-use replay_threads::replay_shared;
-use replay_words::Settings;
+use poll_engine::{Bench, Next};
+use replay::{ReplayFault, Settings, replay_serial, replay_shared};
 use std::alloc::{AllocError, Global};
 use std::test::Fail;
 

@@ -2,12 +2,12 @@
 
 ghost use Rattle.std.specs.Prelude.{◌≡◌, ◌≤◌, ◌∷◌, ◌++◌, [], IfOk};
 ghost use Rattle.std.specs.List.{All};
-ghost use Rattle.poll_interrupts.specs.Opens.{IsStation};
-ghost use Rattle.poll_workers.specs.Numbers.{numbers_of};
+ghost use Rattle.poll_engine.specs.Opens.{IsStation};
+ghost use Rattle.poll_engine.specs.Numbers.{numbers_of};
 
 use crate::gates::{ShutAt, run};
 use crate::pacing::{LONG, comes};
-use poll_workers::{Act, Device, Gate, OpenGate, Station, WorkFault};
+use poll_engine::{Act, Device, Gate, OpenGate, Station, WorkFault};
 use std::alloc::{AllocError, Global};
 use std::sync::atomic::{AtomicU32, Ordering};
 use std::test::Fail;
@@ -23,7 +23,7 @@ struct Counting<'a> {
 }
 
 impl Device for Counting<'_> {
-    ghost use Rattle.poll_interrupts.specs.declared.acts.Act.TheVariants.{Nothing};
+    ghost use Rattle.poll_engine.specs.Act.TheVariants.{Nothing};
 
     ghost acts = { λ _. 10 };
 

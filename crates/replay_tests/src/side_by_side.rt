@@ -2,9 +2,8 @@
 
 use crate::gates::{HoldsPoller, ShutAt, Together};
 use crate::threads::{settings_of, text_of};
-use poll_workers::Gate;
-use replay_text::ReplayFault;
-use replay_threads::replay_threads;
+use poll_engine::Gate;
+use replay::{ReplayFault, replay_threads};
 use std::alloc::Global;
 use std::sync::Wait;
 use std::test::Fail;

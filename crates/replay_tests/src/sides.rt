@@ -1,9 +1,7 @@
 //! What is told of a device, and of its transmit side.
 
-use device_bench::{DeviceCounts, ReplayBench, SerialBench};
-use device_rows::read_trace;
-use device_script::{ScriptDevice, opening_of};
-use poll_interrupts::{Act, Device};
+use device_model::{DeviceCounts, ReplayBench, ScriptDevice, SerialBench, opening_of, read_trace};
+use poll_engine::{Act, Device};
 use std::test::Fail;
 
 /// What is told of a device, where it is attached.

@@ -1,9 +1,7 @@
 //! Replays with threads: what is polled, and what a gate that is shut gives.
 
-use poll_workers::{Gate, OpenGate};
-use replay_text::ReplayFault;
-use replay_threads::{Polled, replay_threads};
-use replay_words::Settings;
+use poll_engine::{Gate, OpenGate};
+use replay::{Polled, ReplayFault, Settings, replay_threads};
 use std::alloc::{AllocError, Global};
 use std::sync::Wait;
 use std::test::Fail;

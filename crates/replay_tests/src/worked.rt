@@ -1,11 +1,8 @@
 //! Traces with what each mode answers, worked by hand: the report, or the line of the fault. They are read from memory, and the
 //! reports are written to memory.
 
-use poll_workers::OpenGate;
-use replay_rows::replay_serial;
-use replay_text::{ReplayFault, fault_line, status};
-use replay_threads::{replay_shared, replay_threads};
-use replay_words::{Mode, Settings};
+use poll_engine::OpenGate;
+use replay::{Mode, ReplayFault, Settings, fault_line, replay_serial, replay_shared, replay_threads, status};
 use std::alloc::{AllocError, Global};
 use std::sync::Wait;
 use std::test::Fail;

@@ -1,8 +1,5 @@
-use Rattle.{std.{proofs.Common.vec_items, specs.List.All}, poll_workers.{specs.Opens.IsStation, proofs.NumberFacts.AreBelow}}
+use Rattle.{std.{proofs.Common.vec_items, specs.List.All}, poll_engine.specs.Opens.IsStation}
 use Rattle.bench_workers.proofs.load.Load.stations.Given as goal
 
 abbrev pub invariant-loop-number : goal.invariant-loop-number
-invariant-loop-number l = record {
-  all : All IsStation (vec_items l.stations);
-  numbers : AreBelow l.number (vec_items l.stations);
-}
+invariant-loop-number l = All IsStation (vec_items l.stations)

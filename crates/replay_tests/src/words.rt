@@ -1,6 +1,6 @@
 //! Tests of the words after the program's name.
 
-use replay_words::{Mode, Settings, WordFault, parse_words, word_line, word_status};
+use replay::{Mode, Settings, WordFault, parse_words, word_line, word_status};
 use std::alloc::Global;
 use std::test::Fail;
 
