@@ -1,5 +1,5 @@
-use Rattle.{std.proofs.Common.{◌≡◌, ◌∙◌, ◌+◌, ◌++◌, ℕ, List, append_assoc, append-nil, Some, suc, ap, arith, string_bytes, sym}, device_bench.specs.Bench.counts_at, device_rows.{specs.Places.at, proofs.PlaceFacts.none-of}}
-use Rattle.{device_transmit.specs.Transmits.{is_used, tx_counts_of}, replay_rows.specs.{Played.state_in, Report.{counts_of, device_lines, lines_below, lines_of}}}
+use Rattle.{std.proofs.Common.{◌≡◌, ◌∙◌, ◌+◌, ◌++◌, ℕ, List, append_assoc, append-nil, Some, suc, ap, arith, string_bytes, sym}, device_rows.proofs.PlaceFacts.none-of}
+use Rattle.replay_rows.specs.{Played.state_in, Report.{counts_of, device_lines, lines_below, lines_of}}
 use Rattle.replay_rows.proofs.replay.Replay.add_devices.Goals.{then-is_attached+in_ok-add_device, else-is_attached}
 use Rattle.replay_rows.proofs.replay.Replay.add_devices.Goals as goal
 
