@@ -25,7 +25,10 @@ const WINDOW: u32 = 1024;
 fn main(rt: HostRuntime) -> Result<()> {
     let load = Load::of_words(env::args(&rt)?)?;
     let stations = load.stations(rt.alloc())?;
-    ensure!(have_distinct_numbers(&stations), "two devices have one number");
+    ensure!(
+        have_distinct_numbers(&stations),
+        "two devices have one number"
+    );
     let gate = HoldsFirst::new(rt, load.hold);
     let start = Instant::now(&rt)?;
     let finished = run_workers(

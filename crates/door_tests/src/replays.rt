@@ -49,7 +49,10 @@ fn words_are_read(rt: HostRuntime) -> Result<(), Fail> {
     let fault = parse_words(rt.alloc(), &[help]).err().ok_or("taken")?;
     assert_eq!(rt; word_fault_name(fault), ("Usage", 1, 64));
     assert_eq!(rt; word_line(&fault), "usage fault 64\n");
-    assert_eq!(rt; word_fault_name(WordFault::OutOfMemory), ("OutOfMemory", 2, 4));
+    assert_eq!(rt;
+        word_fault_name(WordFault::OutOfMemory),
+        ("OutOfMemory", 2, 4)
+    );
     assert_eq!(rt; mode_name(Mode::Shared), "shared");
     Ok(())
 }

@@ -5,7 +5,9 @@ use crate::ends::{
 };
 use device_model::TraceFault;
 use poll_engine::OpenGate;
-use replay::{Mode, ReplayFault, Settings, fault_line, replay_serial, replay_shared, replay_threads, status};
+use replay::{
+    Mode, ReplayFault, Settings, fault_line, replay_serial, replay_shared, replay_threads, status,
+};
 use replay_text::{ProgramFault, end_by};
 use std::alloc::Global;
 use std::io::{Read, Write};

@@ -5,7 +5,10 @@ ghost use Rattle.std.specs.List.{All};
 ghost use Rattle.poll_engine.specs.Opens.{IsStation};
 ghost use Rattle.poll_engine.specs.Numbers.{have_distinct_numbers, numbers_of};
 
-use poll_engine::{Act, ActList, Device, Finished, Gate, OpenGate, Station, WorkFault, have_distinct_numbers, run_workers};
+use poll_engine::{
+    Act, ActList, Device, Finished, Gate, OpenGate, Station, WorkFault, have_distinct_numbers,
+    run_workers,
+};
 use rx_ring::Packet;
 use std::alloc::{AllocError, Global};
 use std::process::Abort;

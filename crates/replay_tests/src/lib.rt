@@ -41,6 +41,6 @@ mod threads;
 #[cfg(test)]
 mod totals;
 #[cfg(test)]
-mod worked;
-#[cfg(test)]
 mod words;
+#[cfg(test)]
+mod worked;

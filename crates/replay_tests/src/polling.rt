@@ -8,7 +8,9 @@ ghost use Rattle.napi_calls.specs.Instance.{IsSeatOf, ring_of_instance};
 
 use napi_calls::{Caller, Control, Napi, Off, Sched, TryTake};
 use napi_model::{Kind, encode};
-use poll_engine::{BusyReport, Next, Once, ThreadReport, busy_instance, poll_instance, poll_instance_by_thread};
+use poll_engine::{
+    BusyReport, Next, Once, ThreadReport, busy_instance, poll_instance, poll_instance_by_thread,
+};
 use rx_ring::{Batch, Packet, RxCtx, RxIn, finish, ring};
 use std::alloc::Global;
 use std::process::Abort;

@@ -2,7 +2,9 @@
 //! reports are written to memory.
 
 use poll_engine::OpenGate;
-use replay::{Mode, ReplayFault, Settings, fault_line, replay_serial, replay_shared, replay_threads, status};
+use replay::{
+    Mode, ReplayFault, Settings, fault_line, replay_serial, replay_shared, replay_threads, status,
+};
 use std::alloc::{AllocError, Global};
 use std::sync::Wait;
 use std::test::Fail;
