@@ -1,13 +1,14 @@
 #!/usr/bin/env bash
 # scripts/take.sh: what it takes and what it refuses, and a program over `poll_engine`, proved and run in the repository that took
-# it. Libraries that stand here, built by `rt`, are lent to that repository, and the rest is proved there from nothing, which takes
-# some minutes. `rt ci` leaves none that `rt` takes. The last line is `N passed, M failed`.
+# it. Libraries that stand here, or in the checkout LENDS, built by `rt`, are lent to that repository, and the rest is proved there
+# from nothing, which takes some minutes. `rt ci` leaves none that `rt` takes. The last line is `N passed, M failed`.
 set -uo pipefail
 unset CDPATH
 top=$(dirname "$(dirname "$(readlink -f "$0")")")
 scratch=$(mktemp -d)
 trap 'rm -rf "$scratch"' EXIT
 to=$scratch/repository
+lends=${LENDS:-$top}
 . "$top/scripts/checks.sh"
 
 take() { "$top/scripts/take.sh" "$@"; }
@@ -55,13 +56,13 @@ is_closed() {
     done < "$to/crates.txt"
 }
 
-# lend: the libraries that stand here, for the crates that were taken. Each has a stamp, the sum of what it was built of, and `rt`
+# lend: the libraries that stand there, for the crates that were taken. Each has a stamp, the sum of what it was built of, and `rt`
 # builds one anew whose stamp isn't that of the sources.
 lend() {
     local name
     while read -r name; do
-        [ -e "$top/crates/$name/out/rlib/stamp" ] || continue
-        mkdir "$to/crates/$name/out" && cp -a "$top/crates/$name/out/rlib" "$to/crates/$name/out/" || return 1
+        [ -e "$lends/crates/$name/out/rlib/stamp" ] || continue
+        mkdir "$to/crates/$name/out" && cp -a "$lends/crates/$name/out/rlib" "$to/crates/$name/out/" || return 1
     done < "$scratch/taken"
 }
 

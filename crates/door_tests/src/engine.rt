@@ -88,13 +88,15 @@ fn a_list_that_threads_share(rt: HostRuntime) -> Result<(), Fail> {
 // The end without its one end that pushes is refused, and with it answers what is left.
 #[test]
 fn a_shared_list_ends(rt: HostRuntime) -> Result<(), Fail> {
-    let (list, ins) = shared_list(&rt, rt.alloc(), 1)?;
-    let Err(back) = end_list(list, Vec::new(rt.alloc())) else {
+    let (list, mut ins) = shared_list(&rt, rt.alloc(), 1)?;
+    let end = ins.pop().ok_or("no end")?;
+    let Err(mut back) = end_list(list, ins) else {
         panic!(rt; "ended without its end");
     };
     assert_eq!(rt; fault_name(back.fault), ("NotAll", 3));
     assert_eq!(rt; back.ins.len(), 0);
-    let left = end_list(back.list, ins).ok().ok_or("not all")?;
+    back.ins.push(end).ok().ok_or("no memory")?;
+    let left = end_list(back.list, back.ins).ok().ok_or("not all")?;
     assert_eq!(rt; left.ids().len(), 0);
     Ok(())
 }

@@ -8,7 +8,9 @@ ghost use Rattle.poll_engine.specs.Numbers.{have_distinct_numbers};
 use crate::gates::run;
 use device_model::{ReplayBench, SerialBench, SharedBench};
 use napi_calls::Napi;
-use poll_engine::{ActList, OpenGate, PollList, SoftList, Station, shared_list};
+use poll_engine::{
+    ActList, OpenGate, PollList, SoftList, Station, have_distinct_numbers, shared_list,
+};
 use rx_ring::{Packet, ring};
 use std::alloc::{AllocError, Global};
 use std::sync::Wait;
