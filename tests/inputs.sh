@@ -103,7 +103,7 @@ inputs() {
 replay: it: it takes more memory than the program may have'
     for how in '< /dev/zero' '/dev/zero' '< <(tr "\0" x < /dev/zero)'; do
         run timeout 60 "$BASH" -c "'$top/replay' $how"
-        check "an input without end, $how" is "$status $(sed 's,^replay: [^:]*,replay: it,' "$scratch/err")" "4 $lines, 8192 MiB (REPLAY_MEMORY sets that)"
+        check "an input without end, $how" is "$status $(sed 's,^replay: [^:]*,replay: it,' "$scratch/err")" "4 $lines, 2048 MiB (REPLAY_MEMORY sets that)"
         # What tells of it is bounded here too, as one that keeps all would end.
         run env REPLAY_MEMORY=200 bash -c "ulimit -v 1500000; '$top/replay' $how"
         check "an input without end in 200 MiB, $how" is "$status $(sed 's,^replay: [^:]*,replay: it,' "$scratch/err")" "4 $lines, 200 MiB (REPLAY_MEMORY sets that)"

@@ -55,6 +55,7 @@ fn scripted(rt: HostRuntime) -> Result<(), Fail> {
     assert!(rt; !device.uses_transmit());
     assert_eq!(rt; device.tx_counts().sent, 0);
     for k in 1..4 {
+        assert!(rt; k < device.acts());
         assert_eq!(rt; device.act(k), Act::Nothing);
         assert!(rt; device.uses_transmit());
     }
