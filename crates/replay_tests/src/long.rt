@@ -6,8 +6,8 @@ use device_model::{TraceFault, read_trace};
 use replay::ReplayFault;
 use std::test::Fail;
 
-// More than any trace that isn't padded has.
-const LONG: u64 = 70_000_000;
+// More than a reader's buffer holds, many times. The built program is given 70 MB by `tests/inputs.sh`.
+const LONG: u64 = 1_000_000;
 
 // The reader is asked for the header, 100001 rows and what one look ahead takes, and for no more.
 #[test]
