@@ -33,4 +33,6 @@ mod transmit;
 #[cfg(test)]
 mod waiting;
 #[cfg(test)]
+mod word;
+#[cfg(test)]
 mod workers;
