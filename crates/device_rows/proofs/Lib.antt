@@ -1,6 +1,7 @@
 pub mod Accepted
 pub mod DecidingFacts
 pub mod DigitFacts
+pub mod JoinFacts
 pub mod NumeralFacts
 pub mod PlaceFacts
 pub mod RecordsFacts

@@ -15,16 +15,13 @@ use crate::row::Row;
 use crate::switch::Switches;
 use csv::ByteRecord;
 
-// The number that the first `count` bytes of a field write, 0 where these are none, if all of them are digits. A u64 holds
-// it. Inlined for its callers' sake: one that tells `count` gets a row of steps in place of a loop.
-#[inline(always)]
-fn number_below_20(digits: &[u8], count: usize) -> Option<u64>
-    requires count { count ≡ length digits.now }
-    requires few { count ≤ 19 }
+// The number that a field writes, 0 where it is empty, if all of its bytes are digits. A u64 holds it.
+fn number_below_20(digits: &[u8]) -> Option<u64>
+    requires few { length digits.now ≤ 19 }
     ensures { result ≡ (if all_ascii_digits digits.now then Some (numeral digits.now) else None) }
 {
     let mut number = 0;
-    for place in 0..count {
+    for place in 0..digits.len() {
         let byte = digits[place];
         if !byte.is_ascii_digit() {
             return None;
@@ -42,23 +39,52 @@ fn number_below_21(field: &[u8]) -> Option<u128>
     if front.len() > 19 {
         return None;
     }
-    let number = number_below_20(front, front.len())?;
+    let number = number_below_20(front)?;
     if !last.is_ascii_digit() {
         return None;
     }
     Some(u128::from(number) * 10 + u128::from(*last - b'0'))
 }
 
-// The number that one to nineteen digits write.
+// The number that one to twelve digits write.
+#[inline(always)]
+fn front_number(table: &DigitTable, field: &[u8]) -> Option<u64>
+    requires few { length field.now ≤ 12 }
+    ensures digits { IfSome result (λ number. all_ascii_digits field.now ≡ true) }
+    ensures number { IfSome result (λ number. number ≡ numeral field.now) }
+{
+    if field.len() <= 8 {
+        let number = table.number(field);
+        if number >= NO_NUMBER {
+            return None;
+        }
+        return Some(u64::from(number));
+    }
+    let (top, low) = field.split_at(field.len() - 8);
+    let high = table.number(top);
+    let low = table.number(low);
+    if high >= NO_NUMBER || low >= NO_NUMBER {
+        return None;
+    }
+    Some(u64::from(high) * 100000000 + u64::from(low))
+}
+
+// The number that nine to twenty digits write, eight at a time, where 64 bits hold it.
 #[inline(never)]
-fn long_number(field: &[u8]) -> Option<u64>
+fn long_number(table: &DigitTable, field: &[u8]) -> Option<u64>
     ensures { IfSome result
         (λ number. (is_numeral field.now ≡ true) × (number ≡ numeral field.now)) }
 {
-    match field.len() {
-        1..=19 => number_below_20(field, field.len()),
-        _ => None,
+    if field.len() < 9 || field.len() > 20 {
+        return None;
     }
+    let (front, last) = field.split_at(field.len() - 8);
+    let high = front_number(table, front)?;
+    let low = table.number(last);
+    if low >= NO_NUMBER {
+        return None;
+    }
+    high.checked_mul(100000000)?.checked_add(u64::from(low))
 }
 
 // Whether a row of this event may name this device, and bear this value.
@@ -143,7 +169,7 @@ fn add_at(
     true
 }
 
-// Adds the row of a record as `add_short_row` does, if its moment has up to nineteen digits.
+// Adds the row of a record as `add_short_row` does, if its moment has nine to twenty digits.
 #[inline(never)]
 fn add_long(
     table: &DigitTable,
@@ -163,7 +189,7 @@ fn add_long(
     let Some(four) = four_of(fields) else {
         return false;
     };
-    match long_number(four.0) {
+    match long_number(table, four.0) {
         Some(moment) => add_at(table, switches, version, moment, four, rows),
         None => false,
     }
