@@ -279,7 +279,7 @@ def judge_list(entries, wrong):
 
 
 def first_program(copy, path):
-    """What is wrong with the first program of docs/LIBRARY.md: its lines of shell, its text, and what it prints."""
+    """What is wrong with the first program of napi_model's page: its lines of shell, its text, and what it prints."""
     page = list(blocks(path.read_text()))
     place = next(at for at, block in enumerate(page) if block[0] == "git init .")
     shell, text, printed = page[place : place + 3]
@@ -292,7 +292,7 @@ def first_program(copy, path):
         return
     (mine / "crates/first/src/main.rt").write_text("\n".join(text).rstrip() + "\n")
     if not shutil.which("rt"):
-        print("passed over: the first program of docs/LIBRARY.md: there is no rt")
+        print("passed over: the first program of napi_model's page: there is no rt")
         return
     ended = copy.run("rt try", mine / "crates/first")
     if ended.returncode != 0 or ended.stdout.split() != " ".join(printed).split():
