@@ -187,6 +187,17 @@ def synopsis(command):
             yield f"{command}: {words[0]} tells nothing of {option}"
 
 
+def by_hand(command):
+    """What is wrong with a command that isn't run: what proves, `rt ci` runs; what measures takes minutes; what installs takes rights.
+    The kit has the first, and the second is there."""
+    program, word = (re.sub(r"^(\w+=\S+ )+", "", command).split() + [""])[:2]
+    if program == "rt" and shutil.which("rt"):
+        if word not in subprocess.run(["rt", "help"], capture_output=True, text=True, check=True).stdout:
+            yield f"{command}: rt has no {word}"
+    elif "/" in program and not (TOP / program).is_file():
+        yield f"{command}: there is no {program}"
+
+
 class Copy:
     """A copy of the repository, with the programs that the checkout has built, in which commands run and leave what they write."""
 
@@ -266,6 +277,8 @@ def judge_page(copy, entries, path):
             yield from play(copy, command, wanted, entry)
         elif SYNOPSIS.search(command):
             yield from synopsis(command)
+        elif re.match(r"rt |(\w+=\S+ )*bench/|apt ", command):
+            yield from by_hand(command)
         else:
             yield f"{command} is neither run nor listed in tests/commands.txt"
 
