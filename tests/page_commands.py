@@ -277,7 +277,7 @@ def judge_page(copy, entries, path):
             yield from play(copy, command, wanted, entry)
         elif SYNOPSIS.search(command):
             yield from synopsis(command)
-        elif re.match(r"rt |(\w+=\S+ )*bench/|apt ", command):
+        elif re.match(r"(rt|apt|git grep|head) |(\w+=\S+ )*bench/", command):
             yield from by_hand(command)
         else:
             yield f"{command} is neither run nor listed in tests/commands.txt"

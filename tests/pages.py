@@ -78,7 +78,7 @@ def names(page):
     # That page names the kernel's functions, rule by rule.
     known = source_words() | OUTSIDE
     for code in re.findall(r"`([^`\n]+)`", "" if page.name == "RULES.md" else page.read_text()):
-        for word in re.findall(r"[A-Za-z_]\w+", code):
+        for word in re.findall(r"[A-Za-z_]\w+", "" if re.match(r"(rt|git) ", code) else code):
             if word not in known and not (word.endswith("_") and any(name.startswith(word) for name in known)):
                 yield f"no source has {word}"
 
@@ -177,16 +177,17 @@ def scripts_told(_page):
 
 
 def places(page):
-    """The files of a row of the table of places: what follows a crate's file stands in that crate."""
+    """A row of the table of places names files that are there; they have the word that finds the rest, and others have it too."""
     table = page.read_text().split("## Where things go")[1].split("\n## ")[0]
     for row in table.splitlines():
-        crate = None
-        for name in re.findall(r"`([\w./-]+\.(?:antt|rt|awk|py|sh|md))`", row):
-            crate = found[0] if (found := re.match(r"crates/\w+", name)) else crate
-            if crate is None and name.startswith(("src/", "specs/")):
-                continue
-            if not any((TOP / one).exists() for one in (name, f"{crate}/{name}", f"{crate}/src/{name}", f"{crate}/specs/{name}")):
-                yield f"there is no {name}"
+        named = [name for name in re.findall(r"`([\w./-]+/[\w./-]+)`", row) if "NAME" not in name and not name.endswith("/")]
+        yield from (f"there is no {name}" for name in named if not (TOP / name).exists() and not MADE.search(name))
+        if found := re.search(r"`(git grep [^`]+)`", row):
+            ended = subprocess.run(["bash", "-c", found[1].replace("\\|", "|")], cwd=TOP, capture_output=True, text=True)
+            have = ended.stdout.split()
+            yield from (f"{found[1]} doesn't find {name}" for name in named if name not in have and "." in name)
+            if len(have) <= len(named):
+                yield f"{found[1]} finds nothing else"
 
 
 def commands(all_pages):
