@@ -187,6 +187,17 @@ def synopsis(command):
             yield f"{command}: {words[0]} tells nothing of {option}"
 
 
+def by_hand(command):
+    """What is wrong with a command that isn't run: what proves, `rt ci` runs; what measures takes minutes; what installs takes rights.
+    The kit has the first, and the second is there."""
+    program, word = (re.sub(r"^(\w+=\S+ )+", "", command).split() + [""])[:2]
+    if program == "rt" and shutil.which("rt"):
+        if word not in subprocess.run(["rt", "help"], capture_output=True, text=True, check=True).stdout:
+            yield f"{command}: rt has no {word}"
+    elif "/" in program and not (TOP / program).is_file():
+        yield f"{command}: there is no {program}"
+
+
 class Copy:
     """A copy of the repository, with the programs that the checkout has built, in which commands run and leave what they write."""
 
@@ -266,6 +277,8 @@ def judge_page(copy, entries, path):
             yield from play(copy, command, wanted, entry)
         elif SYNOPSIS.search(command):
             yield from synopsis(command)
+        elif re.match(r"(rt|apt|git grep|head) |(\w+=\S+ )*bench/", command):
+            yield from by_hand(command)
         else:
             yield f"{command} is neither run nor listed in tests/commands.txt"
 
@@ -279,7 +292,7 @@ def judge_list(entries, wrong):
 
 
 def first_program(copy, path):
-    """What is wrong with the first program of docs/LIBRARY.md: its lines of shell, its text, and what it prints."""
+    """What is wrong with the first program of napi_model's page: its lines of shell, its text, and what it prints."""
     page = list(blocks(path.read_text()))
     place = next(at for at, block in enumerate(page) if block[0] == "git init .")
     shell, text, printed = page[place : place + 3]
@@ -292,7 +305,7 @@ def first_program(copy, path):
         return
     (mine / "crates/first/src/main.rt").write_text("\n".join(text).rstrip() + "\n")
     if not shutil.which("rt"):
-        print("passed over: the first program of docs/LIBRARY.md: there is no rt")
+        print("passed over: the first program of napi_model's page: there is no rt")
         return
     ended = copy.run("rt try", mine / "crates/first")
     if ended.returncode != 0 or ended.stdout.split() != " ".join(printed).split():

@@ -1,8 +1,5 @@
-"""The pages as they are read: their sentences (plain.py), the shape of the first page, links and headings, pictures, the site of all
-pages, and the manual pages.
-
-What needs pandoc, dot or man is passed over where these aren't installed, and says so.
-"""
+"""The pictures beside their texts, the site of all pages, and the manual pages; what needs pandoc, dot or man is passed over if these
+aren't installed, and says so."""
 import html
 import html.parser
 import os
@@ -10,16 +7,11 @@ import pathlib
 import re
 import shutil
 import subprocess
-import sys
 import tempfile
 import urllib.parse
 
-import plain
-
 TOP = pathlib.Path(__file__).resolve().parent.parent
 MANUALS = sorted((TOP / "docs/man").iterdir())
-README_LINES, README_WORDS = 120, 1050
-PARAGRAPH = 290  # characters: two lines of a wide window
 
 
 def run(*words, **others):
@@ -32,55 +24,6 @@ def is_missing(program, what):
         return False
     print(f"passed over: {what}: there is no {program}")
     return True
-
-
-def pages():
-    return [TOP / name for name in run("git", "ls-files", "*.md").stdout.split()]
-
-
-def headings(page):
-    """The anchors of a page's headings, as they are made of their words."""
-    found = []
-    for words in re.findall(r"^#+ (.*)$", page.read_text(), re.M):
-        anchor = re.sub(r"[^\w\- ]", "", words.lower()).replace(" ", "-")
-        count = sum(1 for name in found if re.fullmatch(re.escape(anchor) + r"(-\d+)?", name))
-        found.append(f"{anchor}-{count}" if count else anchor)
-    return found
-
-
-def links(page):
-    """Links of a page whose file or heading isn't there."""
-    for name, anchor in re.findall(r"\]\(([^)#\s]*)(?:#([^)\s]*))?\)", plain.without_code(page.read_text())):
-        if re.match(r"[a-z]+:", name):
-            continue
-        there = page.parent / name if name else page
-        if not there.exists():
-            yield f"there is no {name}"
-        elif anchor and anchor not in headings(there):
-            yield f"{name} has no heading #{anchor}"
-
-
-def first_page(page):
-    """The first page is short: in lines, in words beside its commands, in what it says of proofs. Its pictures are first that of the
-    crates, then one of an example that docs/EXAMPLES.md has."""
-    text = page.read_text()
-    lines, words = text.count("\n"), len(re.sub(r"^    .*$", "", text, flags=re.M).split())
-    if lines > README_LINES or words > README_WORDS:
-        yield f"{lines} lines and {words} words, of at most {README_LINES} and {README_WORDS}"
-    proved = text.split("## What is proved")[1].split("\n## ")[0]
-    bullets = re.findall(r"^- (.*)$", proved, re.M)
-    if len(bullets) != 8:
-        yield f"{len(bullets)} bullets of what is proved"
-    for bullet in bullets:
-        if len(list(plain.sentences(bullet))) != 1 or "](docs/PROVED.md#" not in bullet:
-            yield f"no sentence with its link: {bullet}"
-    for name in ("Only tested", "Neither", "Trusted"):
-        found = [one for one in re.sub(r"\]\([^)]*\)", "]", proved).split("\n\n") if re.match(rf"\*\*\[?{name}", one)]
-        if len(found) != 1 or len(found[0]) > PARAGRAPH:
-            yield f"{name}: {[len(one) for one in found]} characters, of at most {PARAGRAPH}"
-    pictures = re.findall(r"!\[[^]]*\]\(([^)]+)\)", text)
-    if pictures[0] != "docs/pictures/crates.svg" or f"](../{pictures[1]})" not in (TOP / "docs/EXAMPLES.md").read_text():
-        yield f"its first pictures are {pictures[:2]}"
 
 
 def marks(_folder):
@@ -138,7 +81,7 @@ def dead_ends(site, path, readers):
             yield f"{path.relative_to(site)} leads to {lead}, where there is no such heading"
 
 
-def site(script):
+def site(script, pages):
     """What is wrong with the site: pages that it lacks, and links and pictures in it that lead nowhere."""
     if is_missing("pandoc", "whether the site of all pages is whole"):
         return
@@ -149,12 +92,12 @@ def site(script):
             yield f"status {ended.returncode}: {ended.stderr}"
             return
         readers = {path: Reader(path) for path in made.rglob("*.html")}
-        if len(readers) != len(pages()) + len(MANUALS):
-            yield f"{len(readers)} pages, of {len(pages()) + len(MANUALS)}"
-        for page in pages():
+        if len(readers) != len(pages) + len(MANUALS):
+            yield f"{len(readers)} pages, of {len(pages) + len(MANUALS)}"
+        for page in pages:
             name = page.relative_to(TOP).with_suffix(".html")
             path = made / (name.with_name("index.html") if page.name == "README.md" else name)
-            if path not in readers or readers[path].words < len(plain.prose(page.read_text()).split()) / 2:
+            if path not in readers or readers[path].words < len(page.read_text().split()) / 3:
                 yield f"{path.relative_to(made)} isn't there, or has lost its text"
         for path in readers:
             yield from dead_ends(made, path, readers)
@@ -232,32 +175,12 @@ def whole_manual(manual):
             yield f"it lacks the event {event}"
 
 
-def checks():
+def checks(pages):
     """Pairs of a file and what is wrong with it."""
-    for page in pages():
-        yield page, links(page)
-        yield page, plain.plain(page.read_text())
-    yield TOP / "tests/plain.py", plain.samples()
-    yield TOP / "README.md", first_page(TOP / "README.md")
     for check in (marks, drawings):
         yield TOP / "docs/pictures", check(TOP / "docs/pictures")
-    for check in (site, site_refusals):
-        yield TOP / "scripts/site.sh", check(TOP / "scripts/site.sh")
+    yield TOP / "scripts/site.sh", site(TOP / "scripts/site.sh", pages)
+    yield TOP / "scripts/site.sh", site_refusals(TOP / "scripts/site.sh")
     for manual in MANUALS:
         yield manual, manual_warnings(manual)
     yield TOP / "docs/man/napi_replay.1", whole_manual(TOP / "docs/man/napi_replay.1")
-
-
-def main():
-    passed, failed = 0, 0
-    for path, wrong in checks():
-        lines = list(wrong)
-        passed, failed = passed + (not lines), failed + bool(lines)
-        for line in lines:
-            print(f"{path.relative_to(TOP)}: {line}", flush=True)
-    print(f"{passed} passed, {failed} failed")
-    return failed != 0
-
-
-if __name__ == "__main__":
-    sys.exit(main())

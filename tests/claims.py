@@ -1,0 +1,69 @@
+"""What pages claim beside the sources: each function and clause that a claim names is there.
+
+A claim is a bullet of a door's page under a heading of what is proved. Its last lines name the contracts that carry it, as
+`` `Type::call`: `clause`, `clause`; `other` ``; a function without clauses behind it has one contract without a name.
+"""
+import pathlib
+import re
+
+FUNCTION = re.compile(r'( *)(?:pub(?:\(crate\))? )?(?:const )?(?:unsafe )?(?:extern "C" )?fn (\w+)')
+OWNER = re.compile(r"(?:unsafe )?impl(?:<.*?>)? (?:.* for )?(?:&'?\w* ?)?(\w+)|(?:pub )?trait (\w+)")
+
+
+def clauses_of(path):
+    """Pairs of a function of a file, alone and with its type before it, and the names of its clauses."""
+    owner, names, indent = None, None, ""
+    for line in path.read_text().splitlines():
+        if not line.startswith(" ") and (place := OWNER.match(line)):
+            owner = place[1] or place[2]
+        elif line == "}":
+            owner = None
+        if start := FUNCTION.match(line):
+            indent, names = start[1], set()
+            yield start[2], names
+            if indent and owner:
+                yield f"{owner}::{start[2]}", names
+        if names is not None:
+            if clause := re.match(r"\s*ensures (?:(\w+) )?\{", line):
+                names.add(clause[1] or "")
+            if line == indent + "{" or line.endswith(";"):
+                names = None
+
+
+def functions(crates):
+    """All functions of these crates by their names, each with the clauses of all that bear it."""
+    found = {}
+    for crate in crates:
+        for path in pathlib.Path("crates", crate, "src").rglob("*.rt"):
+            for name, names in clauses_of(path):
+                found.setdefault(name, []).append(names)
+    return {name: set().union(*sets) for name, sets in found.items()}
+
+
+def claims(text):
+    """The claims of a page, each its bullet's lines."""
+    for part in re.split(r"^## ", text, flags=re.M)[1:]:
+        if "roved" in part.splitlines()[0]:
+            for bullet in re.split(r"^- ", part, flags=re.M)[1:]:
+                yield bullet.split("\n\n")[0].splitlines()
+
+
+def judge(page, crates):
+    """What is wrong with the claims of a page over these crates."""
+    known, count = functions(crates), 0
+    for bullet in claims(page.read_text()):
+        count += 1
+        at = next((place for place, line in enumerate(bullet) if place and line.strip().startswith("`")), None)
+        if at is None:
+            yield f"no contract carries: {bullet[0]}"
+            continue
+        for part in " ".join(line.strip() for line in bullet[at:]).rstrip(".").split(";"):
+            call, *clauses = re.findall(r"`([^`]+)`", part)
+            if call not in known:
+                yield f"there is no function {call}"
+            elif not clauses and not known[call]:
+                yield f"{call} has no contract that could carry a claim"
+            else:
+                yield from (f"{call} has no clause {clause}" for clause in clauses if clause not in known[call])
+    if not count:
+        yield "it has no claims"
