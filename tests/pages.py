@@ -169,11 +169,10 @@ def crate_picture(picture):
 
 
 def scripts_told(_page):
-    """Each script says at its head what it does, by its name."""
+    """Each script says at its head what it does."""
     for name in listed("bench/*.sh", "examples/*.sh", "scripts/*.sh", "tests/*.sh"):
-        head = "".join(line for line in (TOP / name).read_text().splitlines(True)[:20] if line.startswith("#"))
-        if name.count("/") == 1 and pathlib.Path(name).name not in head and "For " not in head:
-            yield f"the head of {name} doesn't say what it is"
+        if not re.match(r"#( [A-Z./a-z]|!.*\n# )", (TOP / name).read_text()):
+            yield f"{name} has no head"
 
 
 def places(page):
