@@ -2,7 +2,8 @@
 
 A command of a page is a line of a block that begins with a program's name, a line `$ COMMAND` with what it prints below it, or
 text in code of two words and more, of which the first one is a program's name. What stands behind three spaces, or behind `#`,
-is a remark. A synopsis, as `tools/raise TRACE WORD ..`, is held against the program's usage text.
+is a remark. A synopsis, as `tools/raise TRACE WORD ..`, is held against the program's usage text. What proves, measures or installs
+is run by hand: there has to be such a command.
 """
 import os
 import pathlib
@@ -14,25 +15,24 @@ import tempfile
 TOP = pathlib.Path(__file__).resolve().parent.parent
 LIST = TOP / "tests/commands.txt"
 LONGEST = 900  # seconds; nothing is judged by its time
-PROGRAMS = {"rt", "cc", "gcc", "g++", "clang", "clang++", "c++", "make", "cmake", "ctest", "cargo", "rustc", "python3", "bash", "sh", "awk",
-            "sbatch", "trace-cmd", "apt", "apt-get", "git", "cp", "mv", "rm", "mkdir", "cd", "printf", "echo", "cat", "pkg-config", "valgrind",
-            "gnuplot", "man", "ip", "ethtool", "taskset", "tcpdump", "parallel", "perf", "sudo", "export", "curl", "ns3", "tar", "diff",
-            "napi_replay", "napi_series", "napi_serial"}
+PROGRAMS = set("""rt cc gcc g++ clang clang++ c++ make cmake ctest cargo rustc python3 bash sh awk sbatch trace-cmd apt apt-get git cp mv rm
+    mkdir cd printf echo cat head pkg-config valgrind gnuplot man ip ethtool taskset tcpdump parallel perf sudo export curl ns3 tar diff
+    napi_replay napi_series napi_serial""".split())
 FOLDERS = r"(?:\./|\.\./)*(?:bench|crates|bindings|examples|scripts|tests|tools)/[\w./-]+"
+SETTINGS = re.compile(r"^([A-Z_]+=\S+ )+")
 SYNOPSIS = re.compile(r"\[[A-Z-]| \.\.(?: |$)|\.\.\]| \| -|[A-Z]\|[A-Z]")
+BY_HAND = re.compile(r"(rt|apt|git grep|head) |bench/|scripts/surface")
+KEYS = {"run", "first", "into", "needs", "prints", "in", "by", "not"}
 
 
 def begins_a_command(text):
     """Whether the first word is a program's; settings of variables may stand before it."""
-    words = text.split()
-    while words and re.match(r"[A-Z_]+=\S*$", words[0]):
-        words.pop(0)
+    words = SETTINGS.sub("", text).split()
     if not words:
         return False
-    first = words[0]
-    if first in PROGRAMS or re.match(r"\./(replay|test)$", first):
+    if words[0] in PROGRAMS or re.match(r"\./(replay|test)$", words[0]):
         return True
-    return bool(re.fullmatch(FOLDERS, first)) and (len(words) > 1 or first.endswith(".sh")) and not first.endswith((".py", ".rt", ".md"))
+    return bool(re.fullmatch(FOLDERS, words[0])) and (len(words) > 1 or words[0].endswith(".sh")) and not words[0].endswith((".py", ".rt", ".md"))
 
 
 def plain(line):
@@ -65,40 +65,26 @@ def blocks(text):
 def joined(lines):
     """The lines of a block as commands: one goes on behind a backslash, in quotes, and to the end of a text behind `<<`."""
     held = ""
-    for line in lines:
+    for line in lines + [""]:
         held = f"{held}\n{line}" if held else line
         text = re.search(r"<<-?\s*'?(\w+)'?", held)
         is_open = held.count("'") % 2 or held.endswith("\\") or (text and held.rsplit("\n", 1)[-1].strip() != text[1])
-        if not is_open and held.strip():
-            yield held
+        if not is_open:
+            if held.strip() and not held.lstrip().startswith("#"):
+                yield plain(held)
             held = ""
-    if held.strip():
-        yield held
 
 
 def commands_of_block(block):
     """Pairs of a command as it is listed, and what it prints by the page; nothing where the page doesn't show it."""
-    lines = [line.rstrip() for line in block]
-    while lines and not lines[-1]:
-        lines.pop()
-    if not lines:
-        return
+    lines = "\n".join(line.rstrip() for line in block).rstrip("\n").splitlines()
     if any(line.startswith("$ ") for line in lines):
-        command = None
-        for line in lines:
-            if line.startswith("$ "):
-                if command:
-                    yield command, wanted
-                command, wanted = plain(line[2:]), []
-            elif command:
-                wanted.append(line)
-        yield command, wanted
-    elif lines[0].startswith(("#!", "set -")):
+        for part in re.split(r"^\$ ", "\n".join(lines), flags=re.M)[1:]:
+            yield plain(part.splitlines()[0]), part.splitlines()[1:]
+    elif lines and lines[0].startswith(("#!", "set -")):
         yield f"{lines[0]}; {lines[1]} ..", None
-    elif begins_a_command(lines[0]):
-        for command in joined(lines):
-            if not command.lstrip().startswith("#"):
-                yield plain(command), None
+    elif lines and begins_a_command(lines[0]):
+        yield from ((command, None) for command in joined(lines))
 
 
 def commands_of_page(path):
@@ -108,9 +94,7 @@ def commands_of_page(path):
         text = text.replace("\\-", "-").replace("\\(aq", "'").replace("\\e", "\\")
         for block in re.findall(r"^\.EX\n(.*?)^\.EE$", text, re.M | re.S):
             yield from commands_of_block(block.splitlines())
-        for line in re.findall(r"^\.B (.*)$", text, re.M):
-            if begins_a_command(line) and " " in line:
-                yield plain(line), None
+        yield from ((plain(line), None) for line in re.findall(r"^\.B (.*)$", text, re.M) if begins_a_command(line) and " " in line)
         return
     shown = set()
     for block in blocks(text):
@@ -124,73 +108,42 @@ def commands_of_page(path):
                     yield code, None
 
 
-class Entry:
-    """An entry of the list: a command, and below it what is to be done with it."""
-
-    def __init__(self, command):
-        self.command = command
-        self.keys = {}
-        self.is_used = False
-
-    def __getattr__(self, key):
-        return self.keys.get(key)
-
-
-KEYS = {"run", "first", "into", "needs", "prints", "in", "by", "not"}
-
-
 def read_list():
-    """The entries by their commands, and what is wrong with the list itself."""
+    """What is to be done with each command of the list, as its keys; and what is wrong with the list itself."""
     entries, wrong = {}, []
     for line in LIST.read_text().splitlines():
-        if not line.strip() or line.startswith("# ") or line == "#":
+        if not line.strip() or line.startswith("#") and not line.startswith("#!"):
             continue
         if not line.startswith(" "):
-            entry = Entry(line.strip())
-            if entry.command in entries:
-                wrong.append(f"{entry.command} stands twice")
-            entries[entry.command] = entry
+            wrong += [f"{line} stands twice"] if line in entries else []
+            entry = entries[line] = {"command": line}
             continue
         key, _, value = line.strip().partition(":")
-        if key not in KEYS or key in entry.keys:
-            wrong.append(f"{entry.command}: {key} is no key of an entry, or stands twice")
-        entry.keys[key] = value.strip()
-    for entry in entries.values():
-        if len({"run", "by", "not"} & set(entry.keys)) != 1 or entry.keys.get("not") == "":
-            wrong.append(f"{entry.command}: it is either run, or by another test, or not with a reason")
-        if entry.by:
-            name, _, word = entry.by.partition(" ")
-            if not (TOP / name).is_file() or not word or word not in (TOP / name).read_text():
-                wrong.append(f"{entry.command}: {name} has no {word or 'word that is named'}")
+        if key not in KEYS or key in entry:
+            wrong.append(f"{entry['command']}: {key} is no key of an entry, or stands twice")
+        entry[key] = value.strip()
+    for command, entry in entries.items():
+        if len({"run", "by", "not"} & set(entry)) != 1 or entry.get("not") == "":
+            wrong.append(f"{command}: it is either run, or by another test, or not with a reason")
+        name, _, word = entry.get("by", "").partition(" ")
+        if name and (not (TOP / name).is_file() or not word or word not in (TOP / name).read_text()):
+            wrong.append(f"{command}: {name} has no {word or 'word that is named'}")
     return entries, wrong
 
 
-def usage_text(program):
-    """What a program tells of its words: its text, and for a built one that of the launcher."""
-    name = re.sub(r"^(\./|\.\./)+", "", program)
-    if name.startswith("napi_"):
-        name = "replay"
-    path = TOP / name
-    return path.read_text() if path.is_file() else ""
-
-
 def synopsis(command):
-    """What is wrong with a synopsis: each of its options stands in the program's usage text."""
-    words = [word for word in command.split() if not re.match(r"\[?[A-Z]+=", word)]
-    if words[0] == "rt":
-        return
-    text = usage_text(words[0])
-    if not text:
-        yield f"{command}: there is no {words[0]}"
-    for option in re.findall(r"--[\w-]+", command):
-        if option not in text:
-            yield f"{command}: {words[0]} tells nothing of {option}"
+    """What is wrong with a synopsis: each of its options stands in the program's usage text; for a built one that of the launcher."""
+    name = re.sub(r"^(\./|\.\./)+", "", SETTINGS.sub("", command).split()[0])
+    path = TOP / ("replay" if name.startswith("napi_") else name)
+    if name != "rt" and not path.is_file():
+        yield f"{command}: there is no {name}"
+    elif name != "rt":
+        yield from (f"{command}: {name} tells nothing of {option}" for option in re.findall(r"--[\w-]+", command) if option not in path.read_text())
 
 
 def by_hand(command):
-    """What is wrong with a command that isn't run: what proves, `rt ci` runs; what measures takes minutes; what installs takes rights.
-    The kit has the first, and the second is there."""
-    program, word = (re.sub(r"^(\w+=\S+ )+", "", command).split() + [""])[:2]
+    """What is wrong with a command that is run by hand: the kit has it, or the script is there."""
+    program, word = (SETTINGS.sub("", command).split() + [""])[:2]
     if program == "rt" and shutil.which("rt"):
         if word not in subprocess.run(["rt", "help"], capture_output=True, text=True, check=True).stdout:
             yield f"{command}: rt has no {word}"
@@ -204,17 +157,15 @@ class Copy:
     def __init__(self):
         self.room = pathlib.Path(tempfile.mkdtemp())
         self.top = self.room / "fintaqush"
+        (self.room / "bin").mkdir()
         listed = subprocess.run(["git", "ls-files", "-z"], cwd=TOP, capture_output=True, text=True, check=True)
-        for name in filter(None, listed.stdout.split("\0")):
+        built = [f"crates/{name}/out/{name}" for name in ("napi_replay", "napi_series", "napi_serial")]
+        for name in [*filter(None, listed.stdout.split("\0")), *built]:
             if (TOP / name).exists():
                 (self.top / name).parent.mkdir(parents=True, exist_ok=True)
                 shutil.copy2(TOP / name, self.top / name, follow_symlinks=False)
-        for program in programs():
-            built = f"crates/{program}/out/{program}"
-            (self.top / built).parent.mkdir(parents=True, exist_ok=True)
-            shutil.copy(TOP / built, self.top / built)
-            (self.room / "bin").mkdir(exist_ok=True)
-            (self.room / "bin" / program).symlink_to(self.top / built)
+        for name in built:
+            (self.room / "bin" / pathlib.Path(name).name).symlink_to(self.top / name)
 
     def run(self, command, folder=""):
         """Runs a command at the top of the copy, or in a folder of it."""
@@ -227,16 +178,6 @@ class Copy:
         shutil.rmtree(self.room)
 
 
-def programs():
-    """The programs of the replay that stand here, by their crates."""
-    return [name for name in ("napi_replay", "napi_series", "napi_serial") if (TOP / "crates" / name / "src/main.rt").exists()]
-
-
-def missing(entry):
-    """The programs that a command needs and that aren't installed."""
-    return [name for name in (entry.needs or "").split() if not shutil.which(name)]
-
-
 def is_shown(wanted, printed):
     """Whether what was printed is what a page shows, where a remark may stand behind three spaces."""
     return len(wanted) == len(printed) and all(line == one or re.split(r" {3,}", line)[0] == one for line, one in zip(wanted, printed))
@@ -245,40 +186,38 @@ def is_shown(wanted, printed):
 def play(copy, command, wanted, entry):
     """What is wrong with a run: its status, what it prints where a page shows it, and what the list says of its output."""
     text = command
-    for name, _, value in (one.partition("=") for one in ((entry and entry.run) or "").split()):
+    for name, _, value in (one.partition("=") for one in entry.get("run", "").split()):
         if name not in text:
             yield f"{command} has no {name}"
         text = text.replace(name, value)
-    if entry and entry.first:
-        text = f"set -e; {entry.first}\n{text}"
-    if entry and entry.into:
-        text = f"{text} | {entry.into}"
-    ended = copy.run(text, (entry and entry.keys.get("in")) or "")
+    text = f"set -e; {entry['first']}\n{text}" if "first" in entry else text
+    text = f"{text} | {entry['into']}" if "into" in entry else text
+    ended = copy.run(text, entry.get("in", ""))
     printed = [line.rstrip() for line in ended.stdout.splitlines()]
     if ended.returncode != 0:
         yield f"{command}: status {ended.returncode}: {ended.stderr.strip()[-2000:]}"
     elif wanted and not is_shown(wanted, printed):
         yield f"{command} prints {printed}"
-    elif entry and entry.prints and not re.search(entry.prints, ended.stdout):
-        yield f"{command} prints nothing like {entry.prints}: {printed[-5:]}"
+    elif "prints" in entry and not re.search(entry["prints"], ended.stdout):
+        yield f"{command} prints nothing like {entry['prints']}: {printed[-5:]}"
 
 
 def judge_page(copy, entries, path):
     """What is wrong with the commands of a page."""
     for command, wanted in commands_of_page(path):
-        entry = entries.get(command)
-        if entry:
-            entry.is_used = True
-        if entry and (entry.by or entry.keys.get("not")):
+        entry = entries.get(command, {})
+        entry["is_used"] = True
+        missing = [name for name in entry.get("needs", "").split() if not shutil.which(name)]
+        if "by" in entry or "not" in entry:
             continue
-        if entry and missing(entry):
-            print(f"passed over: {command}: there is no {' and no '.join(missing(entry))}")
-        elif entry or wanted is not None:
+        if missing:
+            print(f"passed over: {command}: there is no {' and no '.join(missing)}")
+        elif "command" in entry or wanted is not None:
             yield from play(copy, command, wanted, entry)
+        elif BY_HAND.match(SETTINGS.sub("", command)):
+            yield from by_hand(command)
         elif SYNOPSIS.search(command):
             yield from synopsis(command)
-        elif re.match(r"(rt|apt|git grep|head) |(\w+=\S+ )*bench/", command):
-            yield from by_hand(command)
         else:
             yield f"{command} is neither run nor listed in tests/commands.txt"
 
@@ -286,26 +225,23 @@ def judge_page(copy, entries, path):
 def judge_list(entries, wrong):
     """What is wrong with the list, once all pages were judged."""
     yield from wrong
-    for entry in entries.values():
-        if not entry.is_used:
-            yield f"no page has {entry.command}"
+    yield from (f"no page has {command}" for command, entry in entries.items() if "is_used" not in entry)
 
 
 def first_program(copy, path):
-    """What is wrong with the first program of napi_model's page: its lines of shell, its text, and what it prints."""
+    """What is wrong with the first program: its lines of shell, its text, and what it prints."""
     page = list(blocks(path.read_text()))
     place = next(at for at, block in enumerate(page) if block[0] == "git init .")
     shell, text, printed = page[place : place + 3]
     mine = copy.room / "mine"
     mine.mkdir()
-    script = "set -e\n" + "\n".join(shell)
-    made = copy.run(script, mine)
+    made = copy.run("set -e\n" + "\n".join(shell), mine)
     if made.returncode != 0:
         yield f"{shell}: {made.stderr.strip()}"
         return
     (mine / "crates/first/src/main.rt").write_text("\n".join(text).rstrip() + "\n")
     if not shutil.which("rt"):
-        print("passed over: the first program of napi_model's page: there is no rt")
+        print("passed over: the first program: there is no rt")
         return
     ended = copy.run("rt try", mine / "crates/first")
     if ended.returncode != 0 or ended.stdout.split() != " ".join(printed).split():
@@ -314,12 +250,9 @@ def first_program(copy, path):
 
 def first_trace(copy, path):
     """What is wrong with the trace and the report at the head of docs/FORMATS.md: they are an example's."""
-    page = ["\n".join(block).strip() + "\n" for block in blocks(path.read_text())]
-    trace, report = page[0], page[1]
-    if trace != (TOP / "examples/two-packets.csv").read_text():
-        yield "its first trace isn't examples/two-packets.csv"
-    if copy.run("./replay examples/two-packets.csv").stdout != report:
-        yield "its first report isn't that of examples/two-packets.csv"
+    trace, report = ["\n".join(block).strip() + "\n" for block in blocks(path.read_text())][:2]
+    if trace != (TOP / "examples/two-packets.csv").read_text() or copy.run("./replay examples/two-packets.csv").stdout != report:
+        yield "its first trace and report aren't those of examples/two-packets.csv"
 
 
 def first_edit(_copy, path):

@@ -1,7 +1,4 @@
-"""The pictures beside their texts, the site of all pages, and the manual pages; what needs pandoc, dot or man is passed over if these
-aren't installed, and says so."""
-import html
-import html.parser
+"""The pictures beside their texts, the site of all pages, and the manual pages."""
 import os
 import pathlib
 import re
@@ -26,63 +23,15 @@ def is_missing(program, what):
     return True
 
 
-def marks(_folder):
+def marks():
     """Pictures that aren't drawn from their texts as they are, by the checksums that they keep."""
     ended = run("scripts/pictures.sh", "--check")
     if ended.returncode != 0:
         yield ended.stdout + ended.stderr
 
 
-def labels(picture):
-    return sorted(map(html.unescape, re.findall(r"<text[^>]*>([^<]*)</text>", picture)))
-
-
-def drawings(folder):
-    """Pictures that other words stand in than dot draws now."""
-    if is_missing("dot", "whether dot draws the pictures"):
-        return
-    for text in sorted(folder.glob("*.dot")):
-        drawn = run("dot", "-Tsvg", str(text))
-        if drawn.returncode != 0:
-            yield f"{text.name}: {drawn.stderr}"
-        elif labels(drawn.stdout) != labels(text.with_suffix(".svg").read_text()):
-            yield f"{text.name}: other words than in its picture"
-
-
-class Reader(html.parser.HTMLParser):
-    """What a page of the site leads to, and the anchors that it has."""
-
-    def __init__(self, path):
-        super().__init__()
-        self.leads, self.anchors, self.words = [], set(), 0
-        self.feed(path.read_text())
-
-    def handle_starttag(self, tag, attributes):
-        for name, value in attributes:
-            if name in ("href", "src") and value:
-                self.leads.append(value)
-            if name == "id":
-                self.anchors.add(value)
-
-    def handle_data(self, data):
-        self.words += len(data.split())
-
-
-def dead_ends(site, path, readers):
-    """Links and pictures of a page of the site that lead nowhere."""
-    for lead in readers[path].leads:
-        name, _, anchor = urllib.parse.unquote(lead).partition("#")
-        if re.match(r"[a-z]+:", name):
-            continue
-        there = (path.parent / name).resolve() if name else path
-        if not there.exists() or not there.is_relative_to(site):
-            yield f"{path.relative_to(site)} leads to {lead}, which isn't there"
-        elif anchor and there in readers and anchor not in readers[there].anchors:
-            yield f"{path.relative_to(site)} leads to {lead}, where there is no such heading"
-
-
 def site(script, pages):
-    """What is wrong with the site: pages that it lacks, and links and pictures in it that lead nowhere."""
+    """What is wrong with the site: pages that it lacks or that lost their text, and links in it that lead nowhere."""
     if is_missing("pandoc", "whether the site of all pages is whole"):
         return
     with tempfile.TemporaryDirectory() as room:
@@ -91,16 +40,18 @@ def site(script, pages):
         if ended.returncode != 0:
             yield f"status {ended.returncode}: {ended.stderr}"
             return
-        readers = {path: Reader(path) for path in made.rglob("*.html")}
-        if len(readers) != len(pages) + len(MANUALS):
-            yield f"{len(readers)} pages, of {len(pages) + len(MANUALS)}"
+        texts = {path: path.read_text() for path in made.rglob("*.html")}
+        if len(texts) != len(pages) + len(MANUALS):
+            yield f"{len(texts)} pages, of {len(pages) + len(MANUALS)}"
         for page in pages:
             name = page.relative_to(TOP).with_suffix(".html")
             path = made / (name.with_name("index.html") if page.name == "README.md" else name)
-            if path not in readers or readers[path].words < len(page.read_text().split()) / 3:
+            if len(re.sub(r"<[^>]*>", " ", texts.get(path, "")).split()) < len(page.read_text().split()) / 3:
                 yield f"{path.relative_to(made)} isn't there, or has lost its text"
-        for path in readers:
-            yield from dead_ends(made, path, readers)
+        for path, text in texts.items():
+            for lead in re.findall(r"""(?:href|src)=["']([^"'#]+)""", text):
+                if not re.match(r"[a-z]+:", lead) and not (path.parent / urllib.parse.unquote(lead)).exists():
+                    yield f"{path.relative_to(made)} leads to {lead}, which isn't there"
         again = run(script, str(made))
         if again.returncode != 73 or "isn't empty" not in again.stderr:
             yield f"a folder that is filled is overwritten: status {again.returncode}"
@@ -177,8 +128,7 @@ def whole_manual(manual):
 
 def checks(pages):
     """Pairs of a file and what is wrong with it."""
-    for check in (marks, drawings):
-        yield TOP / "docs/pictures", check(TOP / "docs/pictures")
+    yield TOP / "docs/pictures", marks()
     yield TOP / "scripts/site.sh", site(TOP / "scripts/site.sh", pages)
     yield TOP / "scripts/site.sh", site_refusals(TOP / "scripts/site.sh")
     for manual in MANUALS:
