@@ -5,8 +5,8 @@ import re
 
 
 def plain(text):
-    """A text as a manual page has it."""
-    return re.sub(r"^([.'])", r"\\&\1", text.replace("\\", "\\e").replace("-", "\\-"), flags=re.M)
+    """A text as a manual page has it: of an installed tool, without the checkout's folder."""
+    return re.sub(r"^([.'])", r"\\&\1", text.replace("tools/", "").replace("\\", "\\e").replace("-", "\\-"), flags=re.M)
 
 
 def paragraphs(text):
