@@ -1,12 +1,14 @@
 #!/usr/bin/env bash
 # scripts/install.sh [--library] [--uninstall] PREFIX: installs the C library, static and shared, with its headers, its pkg-config
-# and CMake files and its manual page, and the replay tool with the tools that stand alone. What isn't built yet is proved and built
-# first. --library leaves the replay and its tools out, which take most of the time. With DESTDIR set, all goes below that folder,
-# for PREFIX. --uninstall removes what an install put there, and nothing else.
+# and CMake files and its manual page, and the programs and tools with theirs. What isn't built yet is proved and built first.
+# --library leaves programs and tools out, which take most of the time. With DESTDIR set, all goes below that folder, for PREFIX.
+# --uninstall removes what an install put there, and nothing else. --programs tells the programs' names, and does nothing.
 # Exit status: 0 done; 64 the words are wrong; 69 a program is missing; 70 something couldn't be built; 73 it can't be written there.
 set -euo pipefail
 unset CDPATH
 top=$(dirname "$(dirname "$(readlink -f "${BASH_SOURCE[0]}")")")
+# each with its crate of that name; one without a manual page of its own has napi_replay's
+programs=(napi_replay napi_serial napi_series)
 prefix=
 is_library=
 is_uninstall=
@@ -20,6 +22,7 @@ stop() {
 
 for word in "$@"; do
     case $word in
+        --programs) printf '%s\n' "${programs[@]}"; exit 0 ;;
         --library) is_library=yes ;;
         --uninstall) is_uninstall=yes ;;
         /*) [ -z "$prefix" ] || stop 64 'one PREFIX only'
@@ -35,13 +38,26 @@ major=${version%%.*}
 library_files=(lib/libfintaqush.a "lib/libfintaqush.so.$version" "lib/libfintaqush.so.$major" lib/libfintaqush.so
     include/fintaqush.h include/fintaqush.hpp include/fintaqush_tsan.h lib/pkgconfig/fintaqush.pc
     lib/cmake/Fintaqush/FintaqushConfig.cmake lib/cmake/Fintaqush/FintaqushConfigVersion.cmake share/man/man3/fintaqush.3)
-tool_files=(bin/napi_replay bin/report2json bin/from-ftrace share/man/man1/napi_replay.1)
+tools=() # the tools; and, with them, all that they run from
+parts=()
+for file in "$top"/tools/*; do
+    [ -f "$file" ] || continue
+    parts+=("tools/${file##*/}")
+    [ ! -x "$file" ] || tools+=("${file##*/}")
+done
+parts+=(scripts/words.awk)
+home=lib/fintaqush # where they lie, as in a checkout
+tool_files=("${programs[@]/#/bin/}" "${tools[@]/#/bin/}" "${parts[@]/#/$home/}")
+for name in "${programs[@]}" "${tools[@]}"; do
+    tool_files+=("share/man/man1/$name.1")
+done
 
 if [ -n "$is_uninstall" ]; then
     for file in "${library_files[@]}" "${tool_files[@]}"; do
         rm -f "$to/$file"
     done
-    rmdir "$to/lib/cmake/Fintaqush" 2> /dev/null || true
+    rm -rf "$to/$home/tools/__pycache__" # Python's, of these files
+    rmdir "$to/lib/cmake/Fintaqush" "$to/$home"/{tools,scripts} "$to/$home" 2> /dev/null || true
     exit 0
 fi
 
@@ -54,7 +70,7 @@ command -v "$cc" > /dev/null || stop 69 "there is no $cc, which makes the shared
 echo '{ global: fq_*; local: *; };' > "$scratch/exports"
 "$cc" -shared -Wl,-soname,"libfintaqush.so.$major" -Wl,--version-script="$scratch/exports" -Wl,--whole-archive \
     "$scratch/libfintaqush.a" -Wl,--no-whole-archive -o "$scratch/libfintaqush.so.$version" || stop 70 "the shared library couldn't be made"
-[ -n "$is_library" ] || "$top/scripts/build.sh" napi_replay || stop 70 "napi_replay couldn't be built"
+[ -n "$is_library" ] || "$top/scripts/build.sh" "${programs[@]}" || stop 70 "the programs couldn't be built"
 
 sed -e "s|@PREFIX@|$prefix|" -e "s|@VERSION@|$version|" > "$scratch/fintaqush.pc" << 'END'
 prefix=@PREFIX@
@@ -113,8 +129,18 @@ put 644 "$scratch/FintaqushConfig.cmake" lib/cmake/Fintaqush/FintaqushConfig.cma
 put 644 "$scratch/FintaqushConfigVersion.cmake" lib/cmake/Fintaqush/FintaqushConfigVersion.cmake
 put 644 "$top/docs/man/fintaqush.3" share/man/man3/fintaqush.3
 if [ -z "$is_library" ]; then
-    put 755 "$top/crates/napi_replay/out/napi_replay" bin/napi_replay
-    put 755 "$top/tools/report2json" bin/report2json
-    put 755 "$top/tools/from-ftrace" bin/from-ftrace
-    put 644 "$top/docs/man/napi_replay.1" share/man/man1/napi_replay.1
+    for name in "${programs[@]}"; do
+        page=$top/docs/man/$name.1
+        [ -e "$page" ] || { page=$scratch/page && echo '.so man1/napi_replay.1' > "$page"; }
+        put 755 "$top/crates/$name/out/$name" "bin/$name"
+        put 644 "$page" "share/man/man1/$name.1"
+    done
+    for file in "${parts[@]}"; do
+        put "$(stat -c %a "$top/$file")" "$top/$file" "$home/$file"
+    done
+    for name in "${tools[@]}"; do
+        "$top/tools/$name" --manual > "$scratch/page" || stop 70 "the manual page of $name couldn't be made, by python3"
+        put 644 "$scratch/page" "share/man/man1/$name.1"
+        ln -sf "../$home/tools/$name" "$to/bin/$name"
+    done
 fi

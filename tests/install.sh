@@ -1,6 +1,7 @@
 #!/usr/bin/env bash
-# scripts/install.sh: into a prefix and below a DESTDIR; programs that find the library by pkg-config and by CMake; and all of it
-# removed again. The last line is `N passed, M failed`. The replay is installed too where it is built already.
+# scripts/install.sh: into a prefix and below a DESTDIR; programs that find the library by pkg-config and by CMake; each program and
+# tool as it is installed, from another folder; and all of it removed again. scripts/package.sh likewise, in a root of its own. What
+# needs a program that isn't installed is passed over, and says so. The last line is `N passed, M failed`.
 set -uo pipefail
 unset CDPATH
 top=$(dirname "$(dirname "$(readlink -f "$0")")")
@@ -52,26 +53,76 @@ END
 
 is_empty_of_files() { [ -z "$(find "$1" -type f -o -type l)" ]; }
 
-words=(--library)
-[ ! -x "$top/crates/napi_replay/out/napi_replay" ] || words=()
+version=$(sed -n 's/^#define FQ_VERSION "\(.*\)"$/\1/p' "$top/include/fintaqush.h")
+unset PROGRAM SERIES
+
+# there COMMAND ..: in a folder that has nothing to do with it.
+there() {
+    rm -rf "$scratch/there"
+    mkdir "$scratch/there" && cd "$scratch/there" && "$@"
+}
+
+# program_runs BIN NAME: its example gives what it has to.
+program_runs() { "$1/$2" < "$top/crates/$2/stdin" | diff - "$top/crates/$2/stdout"; }
+
+# tool_starts BIN NAME
+tool_starts() { [ "$("$1/$2" --version)" = "$2 of Fintaqush $version" ] && "$1/$2" --help | grep -q "^usage: $2"; }
+
+# tools_work BIN: what they do by the programs beside them, and what they read.
+tools_work() {
+    local trace=$top/examples/linux-veth-bursts.csv words='--budget 16 --weight 8'
+    # shellcheck disable=SC2086 # words
+    "$1/raise" "$trace" $words > raised.csv && "$1/napi_serial" $words < raised.csv | grep '^total .* work 15245 ' &&
+        "$1/compare-runs" "$trace" --raise $words -- --budget 300 > table && "$1/plot" "$trace" --script | grep -q '^plot ' &&
+        "$1/steps" "$top/examples/two-packets.csv" --out page.html && "$1/sweep" "$top/examples/bursts.csv" --out rows.csv &&
+        "$1/napi_replay" < "$trace" | "$1/report2json" > report.json && "$1/compare-recording" "${trace%.csv}" > compared &&
+        "$1/from-ftrace" "$top/tests/tools/soft-tcp.txt" made $(printf -- '--pair va%d:vb%d ' 1 1 2 2 3 3 4 4 5 5 6 6) &&
+        diff made.csv "$top/tests/tools/soft-tcp.csv" && "$1/traffic" | "$1/napi_serial" > report &&
+        echo '1.000000 02:00:00:00:00:02 > 02:00:00:00:00:01, ethertype IPv4 (0x0800), length 60: UDP' | "$1/from-pcap" - captured &&
+        { "$1/raise" "$trace" --buget 3; [ "$?" = 2 ]; }
+}
+
+# pages_are_whole FOLDER: each manual page is read without a warning, and each program and tool beside it has one.
+pages_are_whole() {
+    local page name
+    for name in "$1"/bin/*; do
+        [ -e "$1/share/man/man1/${name##*/}.1" ] || { echo "$name has no manual page"; return 1; }
+    done
+    for page in "$1"/share/man/man?/*; do
+        [ -z "$(LC_ALL=C.UTF-8 MANPATH=$1/share/man MANWIDTH=80 man --warnings -l "$page" 2>&1 > "$scratch/page")" ] && [ -s "$scratch/page" ] ||
+            { echo "$page"; return 1; }
+    done
+}
+
+# has_version FILE: it tells the header's, and no other.
+has_version() { [ "$(grep -oE '(Fintaqush |^version = "|^## )[0-9]+\.[0-9]+\.[0-9]+' "$1" | sed 's/.*[ "]//' | head -n 1)" = "$version" ]; }
+
+check 'the programs are built' "$top/scripts/build.sh" $("$top/scripts/install.sh" --programs)
+for file in CHANGELOG.md bindings/rust/Cargo.toml docs/man/*; do
+    check "the version in $file" has_version "$top/$file"
+done
 check 'a relative prefix is refused' ends_with 64 install prefix
 check 'no prefix is refused' ends_with 64 install --library
-check 'installs' install "${words[@]}" "$prefix"
+check 'installs' install "$prefix"
 export PKG_CONFIG_PATH=$prefix/lib/pkgconfig
 if command -v pkg-config > /dev/null; then
     check 'a program by pkg-config' linked
     check 'its library is the shared one' needs "$scratch/threads" libfintaqush.so.1
     check 'a static program by pkg-config' linked -static
-    check 'the version' [ "$(pkg-config --modversion fintaqush)" = "$(sed -n 's/^#define FQ_VERSION "\(.*\)"$/\1/p' "$top/include/fintaqush.h")" ]
+    check 'the version' [ "$(pkg-config --modversion fintaqush)" = "$version" ]
 fi
 check 'the shared library needs libc alone' needs_libc_alone "$prefix/lib/libfintaqush.so"
 check 'the shared library gives the calls alone' exports_calls_alone "$prefix/lib/libfintaqush.so"
 if command -v cmake > /dev/null; then
     check 'programs by CMake' by_cmake
 fi
-if [ "${#words[@]}" = 0 ]; then
-    check 'the replay' sh -c '"$1/bin/napi_replay" < "$2" | diff - "$3"' sh "$prefix" "$top/crates/napi_replay/stdin" "$top/crates/napi_replay/stdout"
-fi
+for file in "$prefix"/bin/*; do
+    name=${file##*/}
+    case $name in napi_*) check "$name" there program_runs "$prefix/bin" "$name" ;; *) check "$name" there tool_starts "$prefix/bin" "$name" ;; esac
+done
+check 'no tool is left out' [ "$(ls "$prefix/bin" | grep -cv '^napi_')" = "$(find "$top/tools" -maxdepth 1 -type f -perm -100 | wc -l)" ]
+check 'the tools work' there tools_work "$prefix/bin"
+if command -v man > /dev/null; then check 'manual pages' pages_are_whole "$prefix"; else echo 'passed over: manual pages: there is no man'; fi
 touch "$prefix/lib/another"
 check 'uninstalls' install --uninstall "$prefix"
 check 'what others put there stays' [ -e "$prefix/lib/another" ]
@@ -81,5 +132,26 @@ check 'installs below DESTDIR' env DESTDIR="$scratch/stage" "$top/scripts/instal
 check 'with paths of the prefix' grep -q '^prefix=/usr$' "$scratch/stage/usr/lib/pkgconfig/fintaqush.pc"
 check 'uninstalls below DESTDIR' env DESTDIR="$scratch/stage" "$top/scripts/install.sh" --uninstall /usr
 check 'nothing is left there' is_empty_of_files "$scratch/stage"
+
+# by_dpkg WORD ..: in a root of its own, which has none of what it depends on.
+by_dpkg() { dpkg --root="$scratch/root" --force-not-root --force-depends --force-script-chrootless --log=/dev/null "$@"; }
+
+if command -v dpkg-deb > /dev/null; then
+    package=$scratch/fintaqush_${version}_$(dpkg --print-architecture).deb
+    mkdir -p "$scratch/root/var/lib/dpkg"/{info,updates}
+    : > "$scratch/root/var/lib/dpkg/status"
+    check 'a folder that is missing is refused' ends_with 73 "$top/scripts/package.sh" "$scratch/none"
+    check 'a package' "$top/scripts/package.sh" "$scratch"
+    check 'it is installed' by_dpkg -i "$package"
+    for name in $("$top/scripts/install.sh" --programs); do
+        check "$name of the package" there program_runs "$scratch/root/usr/bin" "$name"
+    done
+    check 'the tools of the package' there tools_work "$scratch/root/usr/bin"
+    check 'its files are whole' sh -c '[ -z "$(dpkg --root="$1" --verify fintaqush)" ]' sh "$scratch/root"
+    check 'it is removed' by_dpkg -r fintaqush
+    check 'nothing of it is left' is_empty_of_files "$scratch/root/usr"
+else
+    echo 'passed over: the package: there is no dpkg-deb'
+fi
 
 sum_up

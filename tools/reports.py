@@ -1,8 +1,6 @@
 """The report of napi_replay, read: docs/FORMATS.md, "The report"."""
 
-import re
-
-from toolbox import Refusal
+from toolbox import Refusal, is_number
 
 # docs/FORMATS.md, "The state word".
 BITS = {0: "SCHED", 1: "MISSED", 2: "DISABLE", 3: "NPSVC", 6: "IN_BUSY_POLL", 8: "THREADED", 9: "SCHED_THREADED", 32: "QUEUED",
@@ -21,7 +19,8 @@ SHAPES = [shape.split() for shape in (
     "total devices N runs N polls N work N squeezed N",
     "total devices N",
 )]
-VALUES = {"N": r"\d+", "Z": r"-?\d+", "ROW": r"\d+", "DEVICE": r"\d+", "FLAG": "[01]", "STATE": "on|off|pending"}
+VALUES = {"N": is_number, "Z": lambda text: is_number(text.removeprefix("-")), "ROW": is_number, "DEVICE": is_number,
+          "FLAG": ("0", "1").__contains__, "STATE": ("on", "off", "pending").__contains__}
 ROWS = ("softirq", "kthread", "busy")
 
 
@@ -42,13 +41,13 @@ def value_of(kind, text):
 def is_of(shape, words):
     """Whether the words of a line are of this shape."""
     return len(shape) == len(words) and all(
-        re.fullmatch(VALUES[part], word, re.ASCII) if part in VALUES else part == word for part, word in zip(shape, words))
+        VALUES[part](word) if part in VALUES else part == word for part, word in zip(shape, words))
 
 
 def object_of(line):
     """The object of a line of a report."""
     words = line.split(" ")
-    if words[0] == "list" and all(word.isascii() and word.isdigit() for word in words[1:]):
+    if words[0] == "list" and all(map(is_number, words[1:])):
         return {"line": "list", "devices": [int(word) for word in words[1:]]}
     shape = next((shape for shape in SHAPES if is_of(shape, words)), None)
     if shape is None:
@@ -60,6 +59,17 @@ def object_of(line):
     if "word" in told:
         told["flags"] = names_of(told["word"])
     return told
+
+
+def json_of(value):
+    """An object, or a value in it, as JSON, whose own module takes long to start: no text here has a letter that it would escape."""
+    if isinstance(value, dict):
+        return "{" + ", ".join(f'"{name}": {json_of(each)}' for name, each in value.items()) + "}"
+    if isinstance(value, list):
+        return "[" + ", ".join(map(json_of, value)) + "]"
+    if isinstance(value, bool):
+        return "true" if value else "false"
+    return f'"{value}"' if isinstance(value, str) else str(value)
 
 
 def objects_of(text):

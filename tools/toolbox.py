@@ -1,25 +1,50 @@
-"""What the tools of this folder share: refusals by a line, files that are written whole, traces and their rows, and the programs."""
+"""What the tools of this folder share: refusals by a line, signals, files that are written whole, words, traces, and the programs.
 
-import argparse
-import contextlib
+A tool imports it first, and it imports nothing that takes long: Ctrl-C ends a tool without a traceback while the rest is imported,
+and `run_tool` takes signals from then on.
+"""
+
 import os
-import re
 import signal
-import stat
-import subprocess
 import sys
-import tempfile
-from pathlib import Path
 
-TOP = Path(__file__).resolve().parent.parent
+if signal.getsignal(signal.SIGINT) is signal.default_int_handler:  # and not ignored
+    signal.signal(signal.SIGINT, signal.SIG_DFL)
+
+TOP = os.path.dirname(os.path.dirname(os.path.realpath(__file__)))
+# The checkout; or the prefix that this is installed in, as PREFIX/lib/fintaqush/tools.
+HOME = TOP if os.path.isdir(f"{TOP}/crates") else os.path.dirname(os.path.dirname(TOP))
 MOST_ROWS = 100000
+MOST_DEVICES = 16
 MOST_BYTES = 64 * 1024 * 1024  # of a trace or a report; the greatest trace has 7 MB
 HEADERS = {"moment,device,event,value": 1, "moment,device,event,value,2": 2}
 RANGES = {"budget": 65535, "weight": 64, "window": 65535}  # docs/FORMATS.md, "The words"
+TICKS = {"ms": 1000, "us": 1000000}  # moments of a second
+
+unfinished = set()  # the files that are being written
+running = set()  # the programs of ours that are at work
 
 
 class Refusal(Exception):
     """What a tool doesn't do, and why."""
+
+
+class Interrupted(BaseException):
+    """A signal, by its number, that ends the tool."""
+
+
+class Signals:
+    """The first signal ends the tool; a later one doesn't disturb what it still puts away."""
+
+    is_over = False
+
+    @classmethod
+    def take(cls, number, _frame):
+        if not cls.is_over:
+            cls.is_over = True
+            for process in list(running):
+                process.kill()
+            raise Interrupted(number)
 
 
 def shown(name):
@@ -31,95 +56,121 @@ def shown(name):
 
 def say(tool, text):
     """A line on standard error, where somebody reads that."""
-    with contextlib.suppress(OSError, ValueError):
-        print(f"{tool}: {text}", file=sys.stderr, flush=True)
-
-
-def ended_by(main):
-    """The status that a tool ends with; argparse ends by an exception of its own."""
     try:
-        return main() or 0
-    except SystemExit as ended:
-        return ended.code or 0
+        if sys.stderr is not None:
+            print(f"{tool}: {text}", file=sys.stderr, flush=True)
+    except (OSError, ValueError):
+        pass
 
 
-def let_go():
-    """What can't be written now goes nowhere: the interpreter tries once more as it ends, and would complain."""
-    for stream in (sys.stdout, sys.stderr):
-        try:
-            if stream is not None:
-                stream.flush()
-        except (OSError, ValueError):
-            with contextlib.suppress(OSError, ValueError):
-                os.dup2(os.open(os.devnull, os.O_WRONLY), stream.fileno())
+def why(error):
+    """An error in a line. What nobody thought of is one too, with where it was."""
+    if isinstance(error, Refusal):
+        return str(error)
+    if isinstance(error, MemoryError):
+        return "there isn't enough memory"
+    if isinstance(error, UnicodeDecodeError):
+        return "what it reads is no UTF-8"
+    if isinstance(error, OSError):
+        told = error.strerror or str(error)
+        return told if error.filename is None else f"{shown(error.filename)}: {told}"
+    place = error.__traceback__
+    while place.tb_next:
+        place = place.tb_next
+    at = f"{os.path.basename(place.tb_frame.f_code.co_filename)}:{place.tb_lineno}"
+    return f"a mistake of its own at {at}: {type(error).__name__}: {shown(error)[:200]}"
 
 
-def run_tool(tool, main):
-    """Runs a tool: what it refuses and what the system refuses is a line, with status 1; an interruption has status 130."""
-    status = 1
+sys.excepthook = lambda _kind, error, _trace: say(os.path.basename(sys.argv[0]), why(error))  # before `run_tool`
+
+
+def ended(tool, main):
+    """The status that a tool ends with, once all that it wrote is out."""
     try:
-        if signal.getsignal(signal.SIGINT) is signal.SIG_DFL:  # as early.py left it
-            signal.signal(signal.SIGINT, signal.default_int_handler)
+        for number in (signal.SIGINT, signal.SIGTERM, signal.SIGHUP):
+            if signal.getsignal(number) is signal.SIG_DFL:
+                signal.signal(number, Signals.take)
         if sys.stderr is not None:
             sys.stderr.reconfigure(errors="backslashreplace")
         if sys.stdout is None:
             raise Refusal("standard output is closed")
-        # A text of argparse's has to fail at the flush, as argparse passes over a write that fails.
-        sys.stdout.reconfigure(errors="surrogateescape", write_through=False)
-        ended = ended_by(main)
+        # Python's own, with PYTHONUNBUFFERED, takes a write that was cut short for a whole one.
+        sys.stdout = open(1, "w", encoding="utf-8", errors="surrogateescape", newline="", closefd=False)
+        try:
+            status = main() or 0
+        except SystemExit as by_argparse:
+            status = by_argparse.code or 0
         sys.stdout.flush()
-        status = ended  # only now, as what is still to be written may fail
-    except Refusal as error:
-        say(tool, error)
-    except KeyboardInterrupt:
-        say(tool, "interrupted")
-        status = 128 + signal.SIGINT
+        return status
     except BrokenPipeError:
+        return 1
+    except Exception as error:
+        say(tool, why(error))
+        return 1
+
+
+def run_tool(tool, main):
+    """Runs a tool: what it refuses and what the system refuses is a line, with status 1. A signal ends it by a line, with 128 and
+    its number as the status, and leaves no file and no program behind."""
+    status = 1
+    try:
+        status = ended(tool, main)
+        Signals.is_over = True
+    except Interrupted as signalled:
+        say(tool, "interrupted")
+        status = 128 + signalled.args[0]
+    for name in unfinished:
+        unlink(name)
+    os._exit(status)  # what can't be written now isn't tried once more
+
+
+def unlink(name):
+    """Takes a file away, if it is there."""
+    try:
+        os.unlink(name)
+    except OSError:
         pass
-    except UnicodeDecodeError:
-        say(tool, "what it reads is no UTF-8")
-    except RecursionError:
-        say(tool, "what it reads is nested too deep")
-    except OSError as error:
-        say(tool, f"{shown(error.filename)}: {error.strerror}" if error.filename is not None else error.strerror or error)
-    signal.signal(signal.SIGINT, signal.SIG_IGN)  # all is said
-    let_go()
-    sys.exit(status)
 
 
 def check_target(path, replaces=True):
     """Refuses a name that `whole_file` couldn't write to. A tool that works long asks before it does."""
-    path = Path(path)
-    if path.is_dir():
+    folder = os.path.dirname(path) or "."
+    if os.path.isdir(path):
         raise Refusal(f"{shown(path)}: this is a folder")
     if not replaces and os.path.lexists(path):
         raise Refusal(f"{shown(path)} is there, and isn't overwritten")
-    if not path.parent.is_dir():
-        raise Refusal(f"{shown(path.parent)}: there is no such folder")
-    if path.exists() and not path.is_file():
+    if not os.path.isdir(folder):
+        raise Refusal(f"{shown(folder)}: there is no such folder")
+    if os.path.exists(path) and not os.path.isfile(path):
         raise Refusal(f"{shown(path)}: this is no regular file")
 
 
-@contextlib.contextmanager
-def whole_file(path, replaces=True):
+class whole_file:
     """The name of a new file beside `path`, which takes its place once all of it is there. After a failure nothing has changed.
     Unless it may replace one, a file that is there is kept, and is a refusal."""
-    check_target(path, replaces)
-    path = Path(path)
-    handle, new = tempfile.mkstemp(prefix=".new-", suffix=path.suffix, dir=path.parent)
-    os.close(handle)
-    try:
-        yield Path(new)
-        mask = os.umask(0)
-        os.umask(mask)
-        os.chmod(new, stat.S_IMODE(path.stat().st_mode) if path.exists() else 0o666 & ~mask)
-        if replaces:
-            os.replace(new, path)
-        else:
-            os.link(new, path)  # which fails where somebody made it meanwhile
-    finally:
-        with contextlib.suppress(FileNotFoundError):
-            os.unlink(new)
+
+    def __init__(self, path, replaces=True):
+        check_target(path, replaces)
+        folder, end = os.path.dirname(path), os.path.splitext(path)[1]
+        self.path, self.replaces = path, replaces
+        self.new = os.path.join(folder, f".new-{os.getpid()}-{os.urandom(6).hex()}{end}")
+
+    def __enter__(self):
+        unfinished.add(self.new)
+        os.close(os.open(self.new, os.O_WRONLY | os.O_CREAT | os.O_EXCL, 0o666))
+        return self.new
+
+    def __exit__(self, kind, _error, _trace):
+        try:
+            if kind is None and self.replaces:
+                if os.path.exists(self.path):
+                    os.chmod(self.new, os.stat(self.path).st_mode & 0o7777)
+                os.replace(self.new, self.path)
+            elif kind is None:
+                os.link(self.new, self.path)  # which fails where somebody made it meanwhile
+        finally:
+            unlink(self.new)
+            unfinished.discard(self.new)
 
 
 def write_whole(path, text, replaces=True):
@@ -131,8 +182,21 @@ def write_whole(path, text, replaces=True):
             os.fsync(file.fileno())
 
 
+def write_all(texts):
+    """Writes new files, by their names: all of them, or none."""
+    made = []
+    try:
+        for path, text in texts.items():
+            write_whole(path, text, replaces=False)
+            made.append(path)
+    except BaseException:
+        for path in made:
+            unlink(path)
+        raise
+
+
 def write_out(path, text):
-    """The same, or to standard output where no file is named."""
+    """Writes a text whole to a file, or to standard output where none is named."""
     if path:
         write_whole(path, text)
     else:
@@ -140,87 +204,148 @@ def write_out(path, text):
         sys.stdout.flush()
 
 
+def check_input(path):
+    """Refuses a name of no file. `-` is standard input."""
+    if path == "-" and sys.stdin is None:
+        raise Refusal("standard input is closed")
+    if path != "-" and os.path.isdir(path):
+        raise Refusal(f"{shown(path)}: this is a folder, not a trace")
+    if path != "-" and not os.path.exists(path):
+        raise Refusal(f"{shown(path)}: there is no such file")
+
+
 def read_bytes(path):
     """What is in a file, or on standard input for `-`; more than any trace has is refused."""
-    if path == "-":
-        if sys.stdin is None:
-            raise Refusal("standard input is closed")
-        text = sys.stdin.buffer.read(MOST_BYTES + 1)
-    else:
-        if os.path.isdir(path):
-            raise Refusal(f"{shown(path)}: this is a folder, not a trace")
-        if not os.path.exists(path):
-            raise Refusal(f"{shown(path)}: there is no such file")
-        with open(path, "rb") as file:
-            text = file.read(MOST_BYTES + 1)
+    check_input(path)
+    with open(0 if path == "-" else path, "rb", closefd=path != "-") as file:
+        text = file.read(MOST_BYTES + 1)
     if len(text) > MOST_BYTES:
         raise Refusal(f"{shown(path)}: longer than any trace, over {MOST_BYTES >> 20} MiB")
     return text
 
 
-def program(name, named=None):
-    """A program of this checkout, built where that is needed; or the one that is named, or that PROGRAM names (SERIES, for
-    napi_series)."""
-    named = named or os.environ.get({"napi_serial": "PROGRAM", "napi_series": "SERIES"}[name])
-    if named:
-        if not (os.path.isfile(named) and os.access(named, os.X_OK)):
-            raise Refusal(f"{shown(named)}: this is no program")
-        return os.path.abspath(named)
-    made = TOP / f"crates/{name}/out/{name}"
-    if subprocess.run([TOP / "scripts/build.sh", name], check=False, stdin=subprocess.DEVNULL).returncode != 0:
-        raise Refusal(f"{name} couldn't be built")
-    return str(made)
+def is_number(text, most=2**64 - 1):
+    """Whether a text is a whole number, of at most that. Python has none of over 4300 digits."""
+    return text.isascii() and text.isdigit() and len(text) <= 20 and int(text) <= most
 
 
-def played(made, words, text):
-    """A program of ours with these words and this input, as it ended. Ctrl-C goes to it too, and ends both."""
-    done = subprocess.run([made, *words], input=text, capture_output=True, check=False)
-    if done.returncode == -signal.SIGINT:
-        raise KeyboardInterrupt
-    return done
+def version():
+    """The version, which the header has."""
+    with open(f"{HOME}/include/fintaqush.h", encoding="utf-8") as header:
+        return next(line.split('"')[1] for line in header if line.startswith("#define FQ_VERSION "))
 
 
-def why_refused(words):
-    """What is wrong with words that the replay refused, as the launcher tells it, without its own options."""
-    done = subprocess.run(["awk", "-f", TOP / "scripts/words.awk", "--", *words], stdin=subprocess.DEVNULL, capture_output=True,
-                          text=True, check=False, env={**os.environ, "LC_ALL": "C"}, errors="surrogateescape")
-    return done.stdout.strip().split(": they are --")[0]
+def parser_of(text, **others):
+    """What reads a tool's words, none of them shortened, and tells them."""
+    import argparse
+    parser = argparse.ArgumentParser(description=text, formatter_class=argparse.RawDescriptionHelpFormatter, allow_abbrev=False, **others)
+    parser.add_argument("--version", action="version", version=f"{parser.prog} of Fintaqush {version()}", help="tell the version")
+    if sys.argv[1:] == ["--manual"] and text:
+        from manual import print_page  # once it has all its words
+        parser.parse_args = parser.parse_known_args = lambda *_: print_page(parser, version())
+    return parser
 
 
-def run_program(made, words, text):
-    """What a program of ours writes for these words and this input; a fault of it is a refusal."""
-    done = played(made, words, text)
-    if done.returncode != 0:
-        told = done.stderr.decode("utf-8", "replace").strip().splitlines()
-        why = why_refused(words) if done.returncode == 64 else ""
-        raise Refusal(shown(told[-1] + (why and f": {why}")) if told else f"{shown(made)} ended with status {done.returncode}")
-    return done.stdout.decode("ascii")
+def wrong(text, wanted):
+    """What a reader of an option's value raises."""
+    import argparse
+    return argparse.ArgumentTypeError(f"{shown(text)[:40]!r} isn't {wanted}")
 
 
-def value(name):
-    """The reader of an option's number, as the replay has it."""
+def number(low, high):
+    """The reader of an option's whole number."""
     def read(text):
-        if not re.fullmatch(r"[0-9]{1,5}", text) or not 1 <= int(text) <= RANGES[name]:
-            raise argparse.ArgumentTypeError(f"{text!r} isn't a number from 1 to {RANGES[name]}")
-        return text
+        if not (is_number(text) and low <= int(text) <= high):
+            raise wrong(text, f"a number from {low} to {high}")
+        return int(text)
+    return read
+
+
+def pair(sign, example, low=1):
+    """The reader of two numbers, the first one no greater than the second."""
+    def read(text):
+        first, _, last = text.partition(sign)
+        if not (is_number(first) and is_number(last) and low <= int(first) <= int(last) <= 10**9):
+            raise wrong(text, f"as {example}")
+        return int(first), int(last)
     return read
 
 
 def add_settings(parser):
     """The options of a run."""
     for name, usual in (("budget", 300), ("weight", 64), ("window", 1024)):
-        parser.add_argument(f"--{name}", type=value(name), metavar="N", help=f"1 to {RANGES[name]} ({usual})")
+        parser.add_argument(f"--{name}", type=number(1, RANGES[name]), metavar="N", help=f"1 to {RANGES[name]} ({usual})")
 
 
 def settings_of(words):
     """The words of the replay for these options."""
-    return [word for name in RANGES if getattr(words, name) for word in (f"--{name}", getattr(words, name))]
+    return [word for name in RANGES if getattr(words, name) for word in (f"--{name}", str(getattr(words, name)))]
+
+
+def add_program(parser):
+    """The option for another build of the replay."""
+    parser.add_argument("--program", help="another build of napi_serial or napi_replay; where none is named, it is built if need be")
+
+
+def add_out(parser, what):
+    """The option for the file that is written."""
+    parser.add_argument("--out", metavar="FILE", help=f"the file for the {what} (standard output)")
+
+
+def program(name, named=None):
+    """A program of ours, built where that is needed; or the one that is named, or that PROGRAM names (SERIES, for napi_series)."""
+    named = named or os.environ.get({"napi_serial": "PROGRAM", "napi_series": "SERIES"}[name])
+    made = f"{TOP}/crates/{name}/out/{name}"
+    if named or HOME != TOP:
+        made = os.path.abspath(named or f"{HOME}/bin/{name}")
+        if not (os.path.isfile(made) and os.access(made, os.X_OK)):
+            raise Refusal(f"{shown(named or made)}: this is no program")
+    else:
+        import subprocess
+        if subprocess.run([f"{TOP}/scripts/build.sh", name], check=False, stdin=subprocess.DEVNULL).returncode != 0:
+            raise Refusal(f"{name} couldn't be built")
+    return made
+
+
+def played(made, words, text):
+    """A program of ours with these words and this input, as it ended: its status, and the bytes of its two outputs."""
+    import subprocess
+    with subprocess.Popen([made, *words], stdin=subprocess.PIPE, stdout=subprocess.PIPE, stderr=subprocess.PIPE) as process:
+        running.add(process)
+        try:
+            out, said = process.communicate(text)
+        except BaseException:
+            process.kill()
+            raise
+        finally:
+            running.discard(process)
+    if process.returncode == -signal.SIGINT or Signals.is_over:
+        raise Interrupted(signal.SIGINT)
+    return process.returncode, out, said
+
+
+def why_refused(words):
+    """What is wrong with words that the replay refused, as the launcher tells it, without its own options."""
+    import subprocess
+    done = subprocess.run(["awk", "-f", f"{TOP}/scripts/words.awk", "--", *words], stdin=subprocess.DEVNULL, capture_output=True,
+                          text=True, check=False, env={**os.environ, "LC_ALL": "C"}, errors="surrogateescape")
+    return done.stdout.strip().split(": they are --")[0]
+
+
+def run_program(made, words, text):
+    """What a program of ours writes for these words and this input; a fault of it is a refusal."""
+    status, out, said = played(made, words, text)
+    if status != 0:
+        told = said.decode("utf-8", "replace").strip().splitlines()
+        wrong_word = why_refused(words) if status == 64 else ""
+        raise Refusal(shown(told[-1] + (wrong_word and f": {wrong_word}")) if told else f"{shown(made)} ended with status {status}")
+    return out.decode("ascii")
 
 
 def records_of(text):
     """The header and the rows of a trace that the replay took, each as its four fields. Of such a trace no field has a quote,
     a comma or the end of a line in it."""
-    lines = [line for line in re.split(r"[\r\n]+", text.decode("utf-8-sig")) if line]
+    lines = [line for line in text.decode("utf-8-sig").replace("\r", "\n").split("\n") if line]
     records = [[field.strip('"') for field in line.split(",")] for line in lines]
     return ",".join(records[0]), records[1:]
 
@@ -255,5 +380,5 @@ def trace_text(rows, version=1):
     header = next(header for header, number in HEADERS.items() if number == version)
     lines = [",".join(map(str, row)) for row in rows]
     if len(lines) > MOST_ROWS:
-        raise Refusal(f"{len(lines)} rows, and a trace has at most {MOST_ROWS}: ask for fewer packets or a shorter time")
+        raise Refusal(f"{len(lines)} rows, and a trace has at most {MOST_ROWS}: take some of them, or a shorter time")
     return "".join(f"{line}\n" for line in [header, *lines])

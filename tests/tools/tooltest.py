@@ -21,7 +21,7 @@ def run(tool, *words, text=None, path=None, folder=None, **variables):
     if path is not None:
         environment["PATH"] = path
     words = [word if isinstance(word, bytes) else str(word) for word in words]
-    return subprocess.run([sys.executable, TOP / "tools" / tool, *words], input=text, capture_output=True, text=True, check=False,
+    return subprocess.run([sys.executable, "-BES", TOP / "tools" / tool, *words], input=text, capture_output=True, text=True, check=False,
                           env=environment, cwd=folder, errors="surrogateescape", timeout=600)
 
 
