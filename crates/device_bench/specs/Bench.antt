@@ -40,17 +40,17 @@ once_of weight (Some d) = (polled_once weight d).0
 abbrev pub polled_at : Devices → ℕ → ℕ → Once × Devices
 polled_at devices number weight = (once_of weight (at number devices), changed (λ d. (polled_once weight d).1) number devices)
 
--- a poll from the list, by what a bench shows: where it is exact, answer and devices afterwards are this function's
-pub record IsPoll {B : Type 0} (Exact : Type 0) (devices : B → Devices) (shows : B → Transmits → Type 0) (waiting : B → ℕ)
+-- a poll from the list, by what a bench shows: answer and devices afterwards are this function's
+pub record IsPoll {B : Type 0} (devices : B → Devices) (shows : B → Transmits → Type 0) (waiting : B → ℕ)
     (before : B) (number weight : ℕ) (once : Once) (after : B) : Type 0 where
-  pub exact : Exact → (once ≡ (polled_at (devices before) number weight).0) × (devices after ≡ (polled_at (devices before) number weight).1)
+  pub exact : (once ≡ (polled_at (devices before) number weight).0) × (devices after ≡ (polled_at (devices before) number weight).1)
   pub transmits : Keeps shows before after
   pub waits : waiting before ≤ waiting after + leaves once.next
 
 -- that the polls from the list, of a bench that states them so, are these
-abbrev pub ArePolls : {B : Type 0} → Type 0 → (B → Devices) → (B → Transmits → Type 0) → (B → ℕ) → (B → ℕ → ℕ → Once → B → Type 0) → Type 0
-ArePolls {B} Exact devices shows waiting polls =
-    (before after : B) (number weight : ℕ) (once : Once) → polls before number weight once after → IsPoll Exact devices shows waiting before number weight once after
+abbrev pub ArePolls : {B : Type 0} → (B → Devices) → (B → Transmits → Type 0) → (B → ℕ) → (B → ℕ → ℕ → Once → B → Type 0) → Type 0
+ArePolls {B} devices shows waiting polls =
+    (before after : B) (number weight : ℕ) (once : Once) → polls before number weight once after → IsPoll devices shows waiting before number weight once after
 
 abbrev pub thread_polls_of : ℕ → ℕ → Option DeviceView → List Once
 thread_polls_of weight most None = []
@@ -60,16 +60,16 @@ thread_polls_of weight most (Some d) = (polled_by_thread most weight d).0
 abbrev pub thread_polled_at : Devices → ℕ → ℕ → ℕ → Devices
 thread_polled_at devices number weight most = changed (λ d. (polled_by_thread most weight d).1) number devices
 
-pub record IsThreadPolls {B : Type 0} (Exact : Type 0) (devices : B → Devices) (shows : B → Transmits → Type 0) (waiting : B → ℕ)
+pub record IsThreadPolls {B : Type 0} (devices : B → Devices) (shows : B → Transmits → Type 0) (waiting : B → ℕ)
     (before : B) (number weight most : ℕ) (polls : List Once) (after : B) : Type 0 where
-  pub exact : Exact → (polls ≡ thread_polls_of weight most (at number (devices before))) × (devices after ≡ thread_polled_at (devices before) number weight most)
+  pub exact : (polls ≡ thread_polls_of weight most (at number (devices before))) × (devices after ≡ thread_polled_at (devices before) number weight most)
   pub transmits : Keeps shows before after
   pub waits : waiting before + count (is_left_to_list (last_next polls)) ≤ waiting after
 
-abbrev pub AreThreadPolls : {B : Type 0} → Type 0 → (B → Devices) → (B → Transmits → Type 0) → (B → ℕ) → (B → ℕ → ℕ → ℕ → List Once → B → Type 0) → Type 0
-AreThreadPolls {B} Exact devices shows waiting polls =
+abbrev pub AreThreadPolls : {B : Type 0} → (B → Devices) → (B → Transmits → Type 0) → (B → ℕ) → (B → ℕ → ℕ → ℕ → List Once → B → Type 0) → Type 0
+AreThreadPolls {B} devices shows waiting polls =
     (before after : B) (number weight most : ℕ) (all : List Once) → polls before number weight most all after
-    → IsThreadPolls Exact devices shows waiting before number weight most all after
+    → IsThreadPolls devices shows waiting before number weight most all after
 
 -- the same of busy polling
 abbrev pub busy_report_of : ℕ → ℕ → Option DeviceView → BusyReport
@@ -79,16 +79,16 @@ busy_report_of weight rounds (Some d) = (polled_busily rounds weight d).0
 abbrev pub busily_polled_at : Devices → ℕ → ℕ → ℕ → Devices
 busily_polled_at devices number weight rounds = changed (λ d. (polled_busily rounds weight d).1) number devices
 
-pub record IsBusyPoll {B : Type 0} (Exact : Type 0) (devices : B → Devices) (shows : B → Transmits → Type 0) (waiting : B → ℕ)
+pub record IsBusyPoll {B : Type 0} (devices : B → Devices) (shows : B → Transmits → Type 0) (waiting : B → ℕ)
     (before : B) (number weight rounds : ℕ) (report : BusyReport) (after : B) : Type 0 where
-  pub exact : Exact → (report ≡ busy_report_of weight rounds (at number (devices before))) × (devices after ≡ busily_polled_at (devices before) number weight rounds)
+  pub exact : (report ≡ busy_report_of weight rounds (at number (devices before))) × (devices after ≡ busily_polled_at (devices before) number weight rounds)
   pub transmits : Keeps shows before after
   pub waits : waiting before + count (is_left_to_list report.next) ≤ waiting after
 
-abbrev pub AreBusyPolls : {B : Type 0} → Type 0 → (B → Devices) → (B → Transmits → Type 0) → (B → ℕ) → (B → ℕ → ℕ → ℕ → BusyReport → B → Type 0) → Type 0
-AreBusyPolls {B} Exact devices shows waiting polls =
+abbrev pub AreBusyPolls : {B : Type 0} → (B → Devices) → (B → Transmits → Type 0) → (B → ℕ) → (B → ℕ → ℕ → ℕ → BusyReport → B → Type 0) → Type 0
+AreBusyPolls {B} devices shows waiting polls =
     (before after : B) (number weight rounds : ℕ) (report : BusyReport) → polls before number weight rounds report after
-    → IsBusyPoll Exact devices shows waiting before number weight rounds report after
+    → IsBusyPoll devices shows waiting before number weight rounds report after
 
 -- ---- disabling
 

@@ -9,9 +9,6 @@ use Rattle.napi_model.specs.declared.event.Prep.{Prep}
 use Rattle.napi_model.specs.declared.event.Prep.TheVariants.{Granted, Missed, Disabled}
 use Rattle.napi_model.specs.declared.state.Kind.{Kind}
 use Rattle.napi_model.specs.declared.state.Kind.TheVariants as kind
-use Rattle.napi_model.specs.declared.state.Place.{Place}
-use Rattle.napi_model.specs.declared.state.Place.TheVariants.{Control}
-use Rattle.napi_model.specs.declared.state.State.{State}
 use Rattle.poll_runs.specs.Thread.{is_for_thread}
 use Rattle.poll_runs.specs.declared.bench.Next.{Next}
 use Rattle.poll_runs.specs.declared.bench.Next.TheVariants as next

@@ -4,14 +4,12 @@ use Rattle.napi_model.specs.Step.{Polls, take_reply}
 use Rattle.napi_model.specs.declared.event.Operation.TheVariants as operation
 use Rattle.napi_model.specs.declared.state.Kind.{Kind}
 use Rattle.napi_model.specs.declared.state.Kind.TheVariants as kind
-use Rattle.napi_model.specs.declared.state.Place.{Place}
-use Rattle.napi_model.specs.declared.state.Place.TheVariants.{Polling}
 use Rattle.poll_runs.specs.Polling.{next_of}
 use Rattle.device_bench.specs.BusyPolling.{begun, held, is_idle, stopped}
 use Rattle.device_bench.specs.Device.{bytes_given, completed, given, made, polled}
 use Rattle.device_bench.specs.DeviceView.{DeviceView}
 use Rattle.device_bench.specs.Receive.{poller_in, taker_of}
-use Rattle.device_bench.specs.declared.device.TheConstants.{POLLER, THREAD}
+use Rattle.device_bench.specs.declared.device.TheConstants.{POLLER}
 
 abbrev pub poller_of : DeviceView → ℕ
 poller_of d = poller_in d.napi.place

@@ -1,6 +1,6 @@
 -- A device's receive side in the sight of one thread: the state of its instance and what its ring holds, and what its calls make
 -- of these.
-use Rattle.std.specs.Prelude.{◌≡◌, ℕ, Bool, true, false, List, [], ◌∷◌, ◌++◌, length, drop, take, sum, min, nat_lt, Option, Some, None, if◌then◌else◌}
+use Rattle.std.specs.Prelude.{ℕ, Bool, true, false, List, [], ◌∷◌, ◌++◌, length, take, sum, min, nat_lt, Option, Some, None, if◌then◌else◌}
 use Rattle.napi_model.specs.Step.{after, event, opening}
 use Rattle.napi_model.specs.declared.event.Done.{Done}
 use Rattle.napi_model.specs.declared.event.Done.TheVariants.{Released, Again, Held}

@@ -165,15 +165,14 @@ impl<S: SpentSide, O: Opener<S> + Drop> DeviceBench<S, O> {
 }
 
 impl<S: ReceiveSide, O: Opener<S>> Bench for DeviceBench<S, O> {
-    ghost use Rattle.std.specs.Prelude.{⊤};
     ghost use Rattle.device_bench.specs.Bench.{IsBusyPoll, IsPoll, IsThreadPolls};
     ghost use Rattle.device_bench.specs.DeviceBench.{ShowsTransmits, devices_of, waiting_of};
 
-    ghost polls = { IsPoll ⊤ devices_of ShowsTransmits waiting_of };
+    ghost polls = { IsPoll devices_of ShowsTransmits waiting_of };
 
-    ghost thread_polls = { IsThreadPolls ⊤ devices_of ShowsTransmits waiting_of };
+    ghost thread_polls = { IsThreadPolls devices_of ShowsTransmits waiting_of };
 
-    ghost busy_polls = { IsBusyPoll ⊤ devices_of ShowsTransmits waiting_of };
+    ghost busy_polls = { IsBusyPoll devices_of ShowsTransmits waiting_of };
 
     fn poll_once(&mut self, id: u32, weight: u32) -> Once {
         if id < PLACES {
@@ -211,10 +210,7 @@ impl<S: ReceiveSide, O: Opener<S>> Bench for DeviceBench<S, O> {
 }
 
 impl<S: ReceiveSide, O: Opener<S>> ReplayBench for DeviceBench<S, O> {
-    ghost use Rattle.std.specs.Prelude.{⊤};
     ghost use Rattle.device_bench.specs.DeviceBench.{ShowsTransmits, devices_of, waiting_of};
-
-    ghost Exact = { ⊤ };
 
     ghost devices = { devices_of };
 

@@ -18,12 +18,9 @@ use std::alloc::{AllocError, Global};
 /// At most sixteen devices by their numbers, on which the rows of a trace play. A call on a number that has no device
 /// changes nothing.
 ///
-/// A bench states by ghost members what it shows of itself, and whether it is exact: that each call makes of its devices
-/// exactly what the rules make of them. The transmit sides are exact in every bench.
+/// A bench states by ghost members what it shows of itself: each call makes of its devices and transmit sides exactly
+/// what the rules make of them.
 pub trait ReplayBench: Bench {
-    /// That the bench is exact. One that isn't states what nothing meets.
-    ghost Exact: { Type 0 };
-
     /// The devices, by their numbers.
     ghost devices: { Self → Devices };
 
@@ -36,9 +33,9 @@ pub trait ReplayBench: Bench {
     /// A packet of that many bytes arrives at a device. The answer is to whom its instance was handed by that; handed to
     /// the list, its number is still to be pushed (`napi_schedule`).
     fn arrive(&mut self, device: u32, bytes: u32) -> Option<Kind>
-        ensures devices { Exact → devices self.new ≡ arrived device bytes (devices self.old) }
+        ensures devices { devices self.new ≡ arrived device bytes (devices self.old) }
         ensures transmits { Keeps shows self.old self.new }
-        ensures kind { Exact → result ≡ handed_by bytes (at device (devices self.old)) }
+        ensures kind { result ≡ handed_by bytes (at device (devices self.old)) }
         ensures waiting { waiting self.old + count (is_listed result) ≤ waiting self.new };
 
     /// Makes a device with a receive ring and a transmit ring of that many places, both empty, a queue limit that starts at
@@ -53,7 +50,7 @@ pub trait ReplayBench: Bench {
     ) -> Result<(), AllocError>
         requires device { IsWithin 1 16 device }
         requires capacity { IsWithin 1 65536 capacity }
-        ensures devices { Exact → OnOk result
+        ensures devices { OnOk result
             (devices self.new ≡ added device (opened capacity) (devices self.old)) }
         ensures transmits { OnOk result
             (Changes shows (added device (opened_transmit capacity moment)) self.old self.new) }
@@ -62,20 +59,20 @@ pub trait ReplayBench: Bench {
 
     /// A packet of that many bytes is sent, or held back and counted (`netdev_tx_sent_queue`).
     fn send(&mut self, device: u32, bytes: u32)
-        ensures devices { Exact → devices self.new ≡ devices self.old }
+        ensures devices { devices self.new ≡ devices self.old }
         ensures transmits { Changes shows (changed (after_tx bytes) device) self.old self.new }
         ensures waiting { waiting self.new ≡ waiting self.old };
 
     /// That many packets are complete, or too many and counted (`netdev_tx_completed_queue`).
     fn done(&mut self, device: u32, count: u32, moment: u64)
-        ensures devices { Exact → devices self.new ≡ devices self.old }
+        ensures devices { devices self.new ≡ devices self.old }
         ensures transmits { Changes shows
             (changed (after_finish count moment) device) self.old self.new }
         ensures waiting { waiting self.new ≡ waiting self.old };
 
     /// Marks a device that is on for disabling; `settle` tries it (`napi_disable`).
     fn disable(&mut self, device: u32)
-        ensures devices { Exact → devices self.new
+        ensures devices { devices self.new
             ≡ changed after_disable device (devices self.old) }
         ensures transmits { Keeps shows self.old self.new }
         ensures waiting { waiting self.new ≡ waiting self.old };
@@ -83,28 +80,28 @@ pub trait ReplayBench: Bench {
     /// Enables a device that is off with its threaded setting (`napi_enable`). The answer is false where its disable is
     /// pending still.
     fn enable(&mut self, device: u32) -> bool
-        ensures devices { Exact → devices self.new
+        ensures devices { devices self.new
             ≡ changed after_enable device (devices self.old) }
         ensures transmits { Keeps shows self.old self.new }
-        ensures answer { Exact → result ≡ not (is_pending_at (at device (devices self.old))) }
+        ensures answer { result ≡ not (is_pending_at (at device (devices self.old))) }
         ensures waiting { waiting self.new ≡ waiting self.old };
 
     /// Sets the threaded setting of a device, and THREADED at once (`dev_set_threaded`).
     fn set_threaded(&mut self, device: u32, threaded: bool)
-        ensures devices { Exact → devices self.new
+        ensures devices { devices self.new
             ≡ changed (after_threaded threaded) device (devices self.old) }
         ensures transmits { Keeps shows self.old self.new }
         ensures waiting { waiting self.new ≡ waiting self.old };
 
     /// Tries each disable that is pending once, in rising order of the devices (the loop of `napi_disable`).
     fn settle(&mut self)
-        ensures devices { Exact → devices self.new ≡ all_settled (devices self.old) }
+        ensures devices { devices self.new ≡ all_settled (devices self.old) }
         ensures transmits { Keeps shows self.old self.new }
         ensures waiting { waiting self.new ≡ waiting self.old };
 
     /// How many devices there are.
     fn attached(&self) -> usize
-        ensures devices { Exact → result ≡ attached (devices self.now) }
+        ensures devices { result ≡ attached (devices self.now) }
         ensures transmits { (all : Transmits) → shows self.now all → result ≡ attached all };
 
     /// Whether a device is attached.
@@ -116,7 +113,7 @@ pub trait ReplayBench: Bench {
     /// What the report tells of an attached device. Each has its transmit side from `attach` on.
     fn counts(&self, device: u32) -> DeviceCounts
         requires attached { is_some (at device (devices self.now)) ≡ true }
-        ensures devices { Exact → (all : Transmits) → shows self.now all → Some result
+        ensures devices { (all : Transmits) → shows self.now all → Some result
             ≡ counts_at (at device (devices self.now)) (tx_counts_of (at device all)) }
         ensures transmits { (all : Transmits) → shows self.now all
             → result.tx ≡ tx_counts_of (at device all) };
@@ -126,13 +123,13 @@ pub trait ReplayBench: Bench {
         ensures { (all : Transmits) → shows self.now all → result ≡ is_used (at device all) };
 
     /// What a poll from the list is.
-    ghost polled: { ArePolls Exact devices shows waiting Self.polls };
+    ghost polled: { ArePolls devices shows waiting Self.polls };
 
     /// What the polling of a device by its thread is.
-    ghost thread_polled: { AreThreadPolls Exact devices shows waiting Self.thread_polls };
+    ghost thread_polled: { AreThreadPolls devices shows waiting Self.thread_polls };
 
     /// What busy polling of a device is.
-    ghost busily_polled: { AreBusyPolls Exact devices shows waiting Self.busy_polls };
+    ghost busily_polled: { AreBusyPolls devices shows waiting Self.busy_polls };
 
     /// Each number waits once at most.
     ghost few: { (bench : Self) → waiting bench ≤ 17 };

@@ -9,12 +9,12 @@ use Rattle.napi_model.specs.declared.state.Kind.TheVariants as kind
 abbrev pub Leads : {B : Type 0} → (B → ℕ → ℕ → Once → B → Type 0) → Settings → B → List Poll → B → Type 0
 Leads relation s before polls after = Chain (At relation s.weight) before polls after
 
-pub transmits-stay : {B : Type 0} (Exact : Type 0) (devices : B → Devices) (shows : B → Transmits → Type 0) (waiting : B → ℕ) (relation : B → ℕ → ℕ → Once → B → Type 0)
-    → ArePolls Exact devices shows waiting relation → (s : Settings) (before after : B) (polls : List Poll) → Leads relation s before polls after → Keeps shows before after
-transmits-stay Exact devices shows waiting relation are s before after [] leads all shown = rw leads shown
-transmits-stay Exact devices shows waiting relation are s before after (poll ∷ polls) leads all shown =
+pub transmits-stay : {B : Type 0} (devices : B → Devices) (shows : B → Transmits → Type 0) (waiting : B → ℕ) (relation : B → ℕ → ℕ → Once → B → Type 0)
+    → ArePolls devices shows waiting relation → (s : Settings) (before after : B) (polls : List Poll) → Leads relation s before polls after → Keeps shows before after
+transmits-stay devices shows waiting relation are s before after [] leads all shown = rw leads shown
+transmits-stay devices shows waiting relation are s before after (poll ∷ polls) leads all shown =
     let is = are before leads.0 poll.id s.weight poll.once leads.1 in
-    transmits-stay Exact devices shows waiting relation are s leads.0 after polls leads.2 all (is.transmits all shown)
+    transmits-stay devices shows waiting relation are s leads.0 after polls leads.2 all (is.transmits all shown)
 
 -- what a run over the devices and a list of one thread is
 pub record IsRunOf (s : Settings) (devices : Devices) (list : List ℕ) (after : Devices) (left : List ℕ) (report : RunReport) : Type 0 where
@@ -23,11 +23,11 @@ pub record IsRunOf (s : Settings) (devices : Devices) (list : List ℕ) (after :
   pub reported : report ≡ run_report s.budget s.window (run_of s devices list).0.polls
 
 -- by the law of runs over what a bench shows, its devices
-pub only-run : {B : Type 0} (Exact : Type 0) (devices : B → Devices) (shows : B → Transmits → Type 0) (waiting : B → ℕ) (relation : B → ℕ → ℕ → Once → B → Type 0)
-    → ArePolls Exact devices shows waiting relation → Exact → (s : Settings) (before after : B) (list left : List ℕ) (polls : List Poll) (report : RunReport)
+pub only-run : {B : Type 0} (devices : B → Devices) (shows : B → Transmits → Type 0) (waiting : B → ℕ) (relation : B → ℕ → ℕ → Once → B → Type 0)
+    → ArePolls devices shows waiting relation → (s : Settings) (before after : B) (list left : List ℕ) (polls : List Poll) (report : RunReport)
     → Leads relation s before polls after → IsPlainRun s.budget s.window list polls left report → IsRunOf s (devices before) list (devices after) left report
-only-run Exact devices shows waiting relation are stated s before after list left polls report leads run =
-    let is = run-is-shown relation devices polled_at (λ b a id weight once h. (are b a id weight once h).exact stated) s.budget s.weight s.window s.budget_in.0 s.window_in.0 before after list left polls report leads run in
+only-run devices shows waiting relation are s before after list left polls report leads run =
+    let is = run-is-shown relation devices polled_at (λ b a id weight once h. (are b a id weight once h).exact) s.budget s.weight s.window s.budget_in.0 s.window_in.0 before after list left polls report leads run in
     record { devices_after = is.1; list_after = is.2; reported = is.3 }
 
 -- ---- room on the list
@@ -35,14 +35,14 @@ only-run Exact devices shows waiting relation are stated s before after list lef
 leavers : List Poll → ℕ
 leavers polls = sum_by (λ poll. leaves poll.once.next) polls
 
-waits-less : {B : Type 0} (Exact : Type 0) (devices : B → Devices) (shows : B → Transmits → Type 0) (waiting : B → ℕ) (relation : B → ℕ → ℕ → Once → B → Type 0)
-    → ArePolls Exact devices shows waiting relation → (s : Settings) (before after : B) (polls : List Poll) → Leads relation s before polls after
+waits-less : {B : Type 0} (devices : B → Devices) (shows : B → Transmits → Type 0) (waiting : B → ℕ) (relation : B → ℕ → ℕ → Once → B → Type 0)
+    → ArePolls devices shows waiting relation → (s : Settings) (before after : B) (polls : List Poll) → Leads relation s before polls after
     → waiting before ≤ waiting after + leavers polls
 unfolding leavers
-waits-less Exact devices shows waiting relation are s before after [] leads = rw leads (omega arith)
-waits-less Exact devices shows waiting relation are s before after (poll ∷ polls) leads =
+waits-less devices shows waiting relation are s before after [] leads = rw leads (omega arith)
+waits-less devices shows waiting relation are s before after (poll ∷ polls) leads =
     let is = are before leads.0 poll.id s.weight poll.once leads.1 in
-    omega (arith, is.waits, waits-less Exact devices shows waiting relation are s leads.0 after polls leads.2, sum_by-cons (λ (p : Poll). leaves p.once.next) poll polls)
+    omega (arith, is.waits, waits-less devices shows waiting relation are s leads.0 after polls leads.2, sum_by-cons (λ (p : Poll). leaves p.once.next) poll polls)
 
 one-goes : (id : ℕ) (next : Next) → length (cond (is_arrival next) (id ∷ []) []) + length (cond (is_repoll next) (id ∷ []) []) + leaves next ≡ 1
 one-goes id Absent = refl
@@ -68,10 +68,10 @@ each-goes (poll ∷ polls) =
       each-goes polls,
     ))
 
-pub run-room : {B : Type 0} (Exact : Type 0) (devices : B → Devices) (shows : B → Transmits → Type 0) (waiting : B → ℕ) (relation : B → ℕ → ℕ → Once → B → Type 0)
-    → ArePolls Exact devices shows waiting relation → (s : Settings) (before after : B) (list left : List ℕ) (polls : List Poll) (report : RunReport)
+pub run-room : {B : Type 0} (devices : B → Devices) (shows : B → Transmits → Type 0) (waiting : B → ℕ) (relation : B → ℕ → ℕ → Once → B → Type 0)
+    → ArePolls devices shows waiting relation → (s : Settings) (before after : B) (list left : List ℕ) (polls : List Poll) (report : RunReport)
     → Leads relation s before polls after → IsPlainRun s.budget s.window list polls left report → length list ≤ waiting before → length left ≤ waiting after
-run-room Exact devices shows waiting relation are s before after list left polls report leads run room =
+run-room devices shows waiting relation are s before after list left polls report leads run room =
     let afterwards = list-afterwards s.budget s.window list left polls report run in
     let all : List ℕ = list ++ arrivals polls in
     let polled : length (ids polls) ≡ length (take (length polls) all) = ap length afterwards.0 in
@@ -87,5 +87,5 @@ run-room Exact devices shows waiting relation are s before after list left polls
       length-append list (arrivals polls),
       length-append (drop (length polls) all) (repolled polls),
       each-goes polls,
-      waits-less Exact devices shows waiting relation are s before after polls leads,
+      waits-less devices shows waiting relation are s before after polls leads,
     )

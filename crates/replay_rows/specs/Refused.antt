@@ -10,11 +10,11 @@ use Rattle.replay_text.specs.declared.fault.ReplayFault.{ReplayFault}
 use Rattle.replay_text.specs.declared.fault.ReplayFault.TheVariants.{Pending, Trace}
 use Rattle.replay_words.specs.declared.settings.Settings.{Settings}
 
--- memory was refused, or an enable row met a disable that was pending; on an exact bench that is the rows' own fault
-abbrev pub IsRefused : Type 0 → Settings → List Row → ReplayFault → Type 0
-IsRefused Exact s rows fault = (fault ≡ Trace OutOfMemory) ⊎ (Exact → (version : ℕ) → serial_report s version rows ≡ Err fault)
+-- memory was refused, or an enable row met a disable that was pending, which is the rows' own fault
+abbrev pub IsRefused : Settings → List Row → ReplayFault → Type 0
+IsRefused s rows fault = (fault ≡ Trace OutOfMemory) ⊎ ((version : ℕ) → serial_report s version rows ≡ Err fault)
 
 -- why row n, with this behind the rows before it, was refused
-abbrev pub IsRefusedAt : Type 0 → ℕ → Row → ReplayState → ReplayFault → Type 0
-IsRefusedAt Exact n row w fault =
-    (fault ≡ Trace OutOfMemory) ⊎ ((row.event ≡ Enable) × (fault ≡ Pending n) × (Exact → is_early row.event row.device w ≡ true))
+abbrev pub IsRefusedAt : ℕ → Row → ReplayState → ReplayFault → Type 0
+IsRefusedAt n row w fault =
+    (fault ≡ Trace OutOfMemory) ⊎ ((row.event ≡ Enable) × (fault ≡ Pending n) × (is_early row.event row.device w ≡ true))

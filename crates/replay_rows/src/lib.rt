@@ -1,7 +1,7 @@
 //! Behind the door `replay`: a whole replay of a trace of network events through the packet polling core, from the bytes of the trace
 //! to the bytes of the report, or the line and the exit status of a fault.
 //!
-//! [`replay_serial`] replays on one thread, and [`replay_on`] on any exact bench. [`SerialReplay`] plays row by row, for programs
+//! [`replay_serial`] replays on one thread, and [`replay_on`] on any bench. [`SerialReplay`] plays row by row, for programs
 //! that look at what stands behind each.
 #![tactic(auto)]
 

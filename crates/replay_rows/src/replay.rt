@@ -65,7 +65,7 @@ impl<B: ReplayBench> Replay<B> {
 
     // A packet. Where that hands the device to the list, its number is put there.
     fn rx(&mut self, device: u32, bytes: u32)
-        ensures state { B.Exact → state_in B.devices self.new
+        ensures state { state_in B.devices self.new
             ≡ with_packet device bytes (state_in B.devices self.old) }
         ensures transmits { Keeps B.shows self.old.bench self.new.bench }
         ensures lines { self.new.lines ≡ self.old.lines }
@@ -89,7 +89,7 @@ impl<B: ReplayBench> Replay<B> {
 
     // One run over the poll list.
     fn run(&mut self, settings: &Settings, row: u32) -> Line
-        ensures state { B.Exact → with_line result (state_in B.devices self.new)
+        ensures state { with_line result (state_in B.devices self.new)
             ≡ with_run settings.now row (state_in B.devices self.old) }
         ensures lines { self.new.lines ≡ self.old.lines }
         ensures transmits { Keeps B.shows self.old.bench self.new.bench }
@@ -106,7 +106,7 @@ impl<B: ReplayBench> Replay<B> {
 
     // The device's thread polls it.
     fn poll_thread(&mut self, settings: &Settings, row: u32, device: u32) -> Line
-        ensures state { B.Exact → with_line result (state_in B.devices self.new)
+        ensures state { with_line result (state_in B.devices self.new)
             ≡ with_thread settings.now row device (state_in B.devices self.old) }
         ensures lines { self.new.lines ≡ self.old.lines }
         ensures transmits { Keeps B.shows self.old.bench self.new.bench }
@@ -125,7 +125,7 @@ impl<B: ReplayBench> Replay<B> {
     // The device is busy polled.
     fn busy_poll(&mut self, settings: &Settings, row: u32, device: u32, rounds: u32) -> Line
         requires { IsWithin 1 65535 rounds }
-        ensures state { B.Exact → with_line result (state_in B.devices self.new)
+        ensures state { with_line result (state_in B.devices self.new)
             ≡ with_busy settings.now row device rounds (state_in B.devices self.old) }
         ensures lines { self.new.lines ≡ self.old.lines }
         ensures transmits { Keeps B.shows self.old.bench self.new.bench }
@@ -161,13 +161,13 @@ impl<B: ReplayBench> Replay<B> {
     ) -> Result<(), ReplayFault>
         requires device { device_fits row.now.event row.now.device ≡ true }
         requires value { value_fits row.now.event row.now.value ≡ true }
-        ensures on_time { B.Exact → OnOk result
+        ensures on_time { OnOk result
             (is_early row.now.event row.now.device (state_in B.devices self.old) ≡ false) }
-        ensures state { B.Exact → OnOk result (state_in B.devices self.new
+        ensures state { OnOk result (state_in B.devices self.new
             ≡ after_event settings.now number row.now.event row.now
             (state_in B.devices self.old)) }
         ensures fault { IfErr result
-            (IsRefusedAt B.Exact number row.now (state_in B.devices self.old)) }
+            (IsRefusedAt number row.now (state_in B.devices self.old)) }
         ensures transmits { OnOk result
             (Changes B.shows (after_transmit row.now) self.old.bench self.new.bench) }
         ensures lines { OnOk result
@@ -211,12 +211,12 @@ impl<B: ReplayBench> Replay<B> {
     ) -> Result<(), ReplayFault>
         requires device { device_fits row.now.event row.now.device ≡ true }
         requires value { value_fits row.now.event row.now.value ≡ true }
-        ensures on_time { B.Exact → OnOk result
+        ensures on_time { OnOk result
             (is_early row.now.event row.now.device (state_in B.devices self.old) ≡ false) }
-        ensures state { B.Exact → OnOk result (state_in B.devices self.new
+        ensures state { OnOk result (state_in B.devices self.new
             ≡ after_row settings.now number row.now (state_in B.devices self.old)) }
         ensures fault { IfErr result
-            (IsRefusedAt B.Exact number row.now (state_in B.devices self.old)) }
+            (IsRefusedAt number row.now (state_in B.devices self.old)) }
         ensures transmits { OnOk result
             (Changes B.shows (after_transmit row.now) self.old.bench self.new.bench) }
         ensures lines { OnOk result
@@ -236,14 +236,14 @@ impl<B: ReplayBench> Replay<B> {
     ) -> Result<(), ReplayFault>
         requires accepted { AcceptedAfter [] rows.now }
         requires count { length rows.now ≤ 100000 }
-        requires start { B.Exact → state_in B.devices self.old ≡ start }
+        requires start { state_in B.devices self.old ≡ start }
         requires lines { self.old.lines.items ≡ [] }
-        ensures state { B.Exact → OnOk result
+        ensures state { OnOk result
             (after_all settings.now rows.now ≡ Ok (state_in B.devices self.new)) }
         ensures transmits { OnOk result
             (Changes B.shows (after_transmits rows.now) self.old.bench self.new.bench) }
         ensures lines { OnOk result (length self.new.lines.items ≤ 100000) }
-        ensures fault { IfErr result (IsRefused B.Exact settings.now rows.now) }
+        ensures fault { IfErr result (IsRefused settings.now rows.now) }
     {
         for (i, row) in rows.iter().enumerate() {
             self.play(alloc, settings, i as u32 + 1, row)?;

@@ -261,7 +261,7 @@ impl<B: ReplayBench> Replay<B> {
 
     // Adds the lines of each device, in rising order of their numbers.
     fn add_devices(&self, version: u32, text: &mut String) -> Result<(), AllocError>
-        ensures { B.Exact → (all : Transmits) → B.shows self.now.bench all
+        ensures { (all : Transmits) → B.shows self.now.bench all
             → OnOk result (string_bytes text.new ≡ string_bytes text.old
             ++ lines_below (lines_of version (state_in B.devices self.now) all) 17) }
     {
@@ -278,7 +278,7 @@ impl<B: ReplayBench> Replay<B> {
     #[tactic(auto, unfolding(crate::specs::Report::text_by))]
     fn report(&self, alloc: Global, version: u32) -> Result<String, AllocError>
         requires { length self.now.lines.items ≤ 100000 }
-        ensures { B.Exact → (all : Transmits) → B.shows self.now.bench all → IfOk result
+        ensures { (all : Transmits) → B.shows self.now.bench all → IfOk result
             (λ text. string_bytes text ≡ text_of version (state_in B.devices self.now) all) }
     {
         let mut text = String::new(alloc);
@@ -290,7 +290,7 @@ impl<B: ReplayBench> Replay<B> {
         Ok(text)
     }
 
-    /// Plays the rows of a trace on an exact bench that has no devices yet, and gives the text of their report, as a trace of
+    /// Plays the rows of a trace on a bench that has no devices yet, and gives the text of their report, as a trace of
     /// this version has it.
     ///
     /// The faults are want of memory, and an enable row whose disable is pending still.
@@ -303,7 +303,6 @@ impl<B: ReplayBench> Replay<B> {
     ) -> Result<String, ReplayFault>
         requires accepted { AcceptedAfter [] rows.now }
         requires count { length rows.now ≤ 100000 }
-        requires exact { B.Exact }
         requires start { state_in B.devices self.old ≡ start }
         requires transmits { B.shows self.old.bench empty }
         ensures report { IfOk result
@@ -317,7 +316,7 @@ impl<B: ReplayBench> Replay<B> {
     }
 }
 
-/// Plays the rows of a trace on an exact bench that has no devices yet. Gives the bench back, and the text of the rows'
+/// Plays the rows of a trace on a bench that has no devices yet. Gives the bench back, and the text of the rows'
 /// report, as a trace of this version has it.
 ///
 /// The faults are want of memory, and an enable row whose disable is pending still.
@@ -330,7 +329,6 @@ pub(crate) fn report_on<B: ReplayBench>(
 ) -> (B, Result<String, ReplayFault>)
     requires accepted { AcceptedAfter [] rows.now }
     requires count { length rows.now ≤ 100000 }
-    requires exact { B.Exact }
     requires devices { B.devices bench ≡ empty }
     requires transmits { B.shows bench empty }
     ensures report { IfOk result.1

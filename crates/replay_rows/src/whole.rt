@@ -14,7 +14,7 @@ use replay_words::Settings;
 use std::alloc::Global;
 use std::io::{Read, Write};
 
-/// Plays a trace on an exact bench that has no devices yet, and writes the report of it. The bench comes back.
+/// Plays a trace on a bench that has no devices yet, and writes the report of it. The bench comes back.
 ///
 /// Nothing is written before the whole trace is read and played, so on every fault but `OutputFailed` nothing was. After
 /// a failed write it isn't known how much went out. Want of memory may come before any other fault.
@@ -25,7 +25,6 @@ pub fn replay_on<B: ReplayBench, R: Read + Drop, W: Write>(
     writer: &mut W,
     settings: &Settings,
 ) -> (B, Result<(), ReplayFault>)
-    requires exact { B.Exact }
     requires devices { B.devices bench ≡ empty }
     requires transmits { B.shows bench empty }
 

@@ -1,4 +1,4 @@
-use Rattle.{std.proofs.Common.{◌≡◌, ◌∙◌, ◌<◌, Option, Some, None, ap, length, refl, sym, arith}, device_rows.{specs.Places.{at, added_at}, proofs.PlaceFacts.{at-index, none-of}}, device_bench.proofs.{BenchFacts.kept-opened, Waiting.waiting-added}}
+use Rattle.{std.proofs.Common.{◌≡◌, ◌∙◌, ◌<◌, Some, None, ap, length, refl, sym, arith}, device_rows.{specs.Places.{at}, proofs.PlaceFacts.{at-index, none-of}}, device_bench.proofs.{BenchFacts.kept-opened, Waiting.waiting-added}}
 use Rattle.device_bench.specs.DeviceView.{DeviceView}
 use Rattle.device_bench.proofs.bench.DeviceBench.keep.Goals as goal
 

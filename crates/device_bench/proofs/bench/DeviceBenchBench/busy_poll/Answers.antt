@@ -18,7 +18,7 @@ returns-in-Some g c =
     let keeps = busy-keeps c.args.rounds c.args.weight c.in-Some.device (sound-at _ _ c.args.id _ c.args.self.now.kept here) in
     record {
       leads = record {
-        exact = λ stated. (rw (here, c.busy_poll.ensures.report) refl, rw (here, c.busy_poll.ensures.device) refl);
+        exact = (rw (here, c.busy_poll.ensures.report) refl, rw (here, c.busy_poll.ensures.device) refl);
         transmits = λ all shown. record { sides = shown.sides; each = sides-set _ all c.args.id _ (ap is_some (sym here)) shown.each };
         waits = waiting-more c.args.self.now.devices.items c.args.id _ c.in-Some.device c.busy_poll.new.self here (rw (c.busy_poll.ensures.device, c.busy_poll.ensures.report) keeps.listed);
       };

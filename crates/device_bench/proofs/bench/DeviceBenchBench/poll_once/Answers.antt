@@ -17,7 +17,7 @@ returns-in-Some-clause-leads g c =
     at-index _ c.args.id _ (omega (arith, c.args.self.now.kept.places)) (sym c.index_mut.ensures.value) ∙ c.in-Some.is in
     let keeps = once-keeps c.args.weight c.in-Some.device (sound-at _ _ c.args.id _ c.args.self.now.kept here) in
     record {
-      exact = λ stated. (rw here c.poll_once.ensures.once, rw (here, c.poll_once.ensures.device) refl);
+      exact = (rw here c.poll_once.ensures.once, rw (here, c.poll_once.ensures.device) refl);
       transmits = λ all shown. record { sides = shown.sides; each = sides-set _ all c.args.id _ (ap is_some (sym here)) shown.each };
       waits = waiting-less c.args.self.now.devices.items c.args.id _ c.in-Some.device c.poll_once.new.self here
           (rw (c.poll_once.ensures.device, c.poll_once.ensures.once) keeps.listed);

@@ -18,7 +18,7 @@ returns-in-Some g c =
     let keeps = thread-keeps c.args.most c.args.weight c.in-Some.device (sound-at _ _ c.args.id _ c.args.self.now.kept here) in (
       (polled_by_thread c.args.most c.args.weight c.in-Some.device).0,
       record {
-        exact = λ stated. (rw here refl, rw (here, c.poll_thread.ensures.device) refl);
+        exact = (rw here refl, rw (here, c.poll_thread.ensures.device) refl);
         transmits = λ all shown. record { sides = shown.sides; each = sides-set _ all c.args.id _ (ap is_some (sym here)) shown.each };
         waits = waiting-more c.args.self.now.devices.items c.args.id _ c.in-Some.device c.poll_thread.new.self here (rw c.poll_thread.ensures.device keeps.listed);
       },
@@ -32,7 +32,7 @@ returns-in_default g c =
     let back : slice_set c.args.self.now.devices.items c.args.id c.index_mut.result.now ≡ c.args.self.now.devices.items = set-back _ c.args.id _ below here in (
       [],
       record {
-        exact = λ stated. (search rules, search rules);
+        exact = (search rules, search rules);
         transmits = λ all shown. record { sides = shown.sides; each = rw back shown.each };
         waits = search (rules, back);
       },

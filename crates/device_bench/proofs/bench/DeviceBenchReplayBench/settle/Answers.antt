@@ -3,7 +3,7 @@ use Rattle.device_bench.proofs.bench.DeviceBenchReplayBench.settle.Goals.{then-s
 use Rattle.device_bench.proofs.bench.DeviceBenchReplayBench.settle.Goals as goal
 
 pub returns-then-not-self-clause-devices : goal.returns-then-not-self-clause-devices
-returns-then-not-self-clause-devices g c stated = sym (settled-off _ _ c.args.self.now.kept c.if-not-self.true)
+returns-then-not-self-clause-devices g c = sym (settled-off _ _ c.args.self.now.kept c.if-not-self.true)
 
 pub loop-device-init : goal.loop-device-init
 loop-device-init g c = record {
@@ -27,7 +27,7 @@ loop-device-preserved g c = record {
 }
 
 pub returns-clause-devices : goal.returns-clause-devices
-returns-clause-devices g c stated = c.loop-device.invariant.devices ∙ settled-all c.loop-device.device _ (omega (arith, c.args.self.now.kept.places, c.loop-device-test.false))
+returns-clause-devices g c = c.loop-device.invariant.devices ∙ settled-all c.loop-device.device _ (omega (arith, c.args.self.now.kept.places, c.loop-device-test.false))
 
 pub invariant_of-self : goal.invariant_of-self
 invariant_of-self g c = record {
@@ -40,7 +40,7 @@ invariant_of-self g c = record {
 }
 
 pub returns-clause-waiting : goal.returns-clause-waiting
-returns-clause-waiting g c = ap waiting (returns-clause-devices g c tt) ∙ waiting-settled _ _ c.args.self.now.kept
+returns-clause-waiting g c = ap waiting (returns-clause-devices g c) ∙ waiting-settled _ _ c.args.self.now.kept
 
 pub returns-clause-transmits : goal.returns-clause-transmits
-returns-clause-transmits g c all shown = record { sides = rw c.loop-device.invariant.transmits shown.sides; each = rw (returns-clause-devices g c tt) (sides-settled _ all shown.each) }
+returns-clause-transmits g c all shown = record { sides = rw c.loop-device.invariant.transmits shown.sides; each = rw (returns-clause-devices g c) (sides-settled _ all shown.each) }

@@ -1,4 +1,4 @@
-use Rattle.{std.proofs.Common.{◌∙◌, ap}, device_bench.{specs.{DeviceView.DeviceView, Receive.poller_in}, proofs.CompletionFacts.completes-as}}
+use Rattle.{std.proofs.Common.{◌∙◌, ap}, device_bench.{specs.{DeviceView.DeviceView}, proofs.CompletionFacts.completes-as}}
 use Rattle.device_bench.proofs.device.DeviceInstance.complete.Goals as goal
 
 pub returns-clause-leads : goal.returns-clause-leads

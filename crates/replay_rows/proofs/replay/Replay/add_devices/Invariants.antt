@@ -2,5 +2,5 @@ use Rattle.{std.proofs.Common.{◌≡◌, ◌++◌, string_bytes}, device_transm
 use Rattle.replay_rows.proofs.replay.Replay.add_devices.Given as goal
 
 abbrev pub invariant-loop-number : goal.invariant-loop-number
-invariant-loop-number g l = g.B.ReplayBench.Exact → (all : Transmits) → g.B.ReplayBench.shows l.self.bench all
+invariant-loop-number g l = (all : Transmits) → g.B.ReplayBench.shows l.self.bench all
     → string_bytes l.text ≡ string_bytes l.initial.text ++ lines_below (lines_of l.version (state_in g.B.ReplayBench.devices l.self) all) l.number

@@ -16,8 +16,7 @@ pub loop-i-preserved : goal.loop-i-preserved
 loop-i-preserved g c =
     let below : c.loop-i.i < length c.args.rows.now = omega arith in
     record {
-      played = λ stated.
-          played-more c.args.settings.now c.args.rows.now c.loop-i.i none _ _ below (c.loop-i.invariant.played stated) (c.in_ok-play.ensures.on_time stated) (c.in_ok-play.ensures.state stated);
+      played = played-more c.args.settings.now c.args.rows.now c.loop-i.i none _ _ below (c.loop-i.invariant.played) (c.in_ok-play.ensures.on_time) (c.in_ok-play.ensures.state);
       transmits = λ all shown. subst (g.B.ReplayBench.shows c.play.new.self.bench) (sym (after_transmits-more c.args.rows.now all c.loop-i.i none below))
           (c.in_ok-play.ensures.transmits (after_transmits (take c.loop-i.i c.args.rows.now) all) (c.loop-i.invariant.transmits all shown));
       lines = omega (arith, c.in_ok-play.ensures.lines, c.loop-i.invariant.lines);
@@ -30,5 +29,5 @@ returns-in_err-play-clause-fault g c =
     rw (p.1, p.2)
     (elim c.in_err-play.ensures.fault [
       | inl memory ↦ inl memory
-      | inr early ↦ inr (λ stated. rw early.1 (report-early c.args.settings.now c.args.rows.now _ (played-early c.args.settings.now c.args.rows.now c.loop-i.i none _ below (c.loop-i.invariant.played stated) (early.2 stated))))
+      | inr early ↦ inr (rw early.1 (report-early c.args.settings.now c.args.rows.now _ (played-early c.args.settings.now c.args.rows.now c.loop-i.i none _ below (c.loop-i.invariant.played) early.2)))
     ])

@@ -3,7 +3,7 @@ use Rattle.replay_rows.proofs.replay.Replay.play_rows.Given as goal
 
 abbrev pub invariant-loop-i : goal.invariant-loop-i
 invariant-loop-i g l = record {
-  played : g.B.ReplayBench.Exact → after_rows l.settings 1 (take l.i l.rows) start ≡ Ok (state_in g.B.ReplayBench.devices l.self);
+  played : after_rows l.settings 1 (take l.i l.rows) start ≡ Ok (state_in g.B.ReplayBench.devices l.self);
   transmits : Changes g.B.ReplayBench.shows (after_transmits (take l.i l.rows)) l.fn.self.bench l.self.bench;
   lines : length l.self.lines.items ≤ l.i;
 }

@@ -4,15 +4,15 @@ use Rattle.replay_rows.proofs.replay.Replay.report.Goals as goal
 
 pub returns : goal.returns
 unfolding text_by
-returns g c stated all shows =
+returns g c all shows =
     rw (
       c.in_ok-add_totals.ensures,
       c.in_ok-add_list.ensures,
-      c.in_ok-add_devices.ensures stated all shows,
+      c.in_ok-add_devices.ensures all shows,
       c.in_ok-add_lines.ensures,
       c.new-text.ensures.bytes,
       c.of-totals.ensures,
-      c.attached.ensures.devices stated,
+      c.attached.ensures.devices,
       c.ids.ensures.ids,
       c.as_slice.ensures.value,
       c.as_slice-2.ensures.value,

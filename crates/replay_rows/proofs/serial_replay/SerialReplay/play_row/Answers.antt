@@ -15,7 +15,7 @@ play-requires-clause-value c = (accepted-at _ c.args.rows.now c.args.index none 
 pub returns-clause-after : goal.returns-clause-after
 returns-clause-after c =
     record {
-      state = played-more c.args.settings.now c.args.rows.now c.args.index none _ _ c.requires.index c.requires.after.state (c.in_ok-play.ensures.on_time _) (c.in_ok-play.ensures.state _);
+      state = played-more c.args.settings.now c.args.rows.now c.args.index none _ _ c.requires.index c.requires.after.state c.in_ok-play.ensures.on_time c.in_ok-play.ensures.state;
       transmits = subst (ShowsTransmits c.play.new.self.bench) (sym (after_transmits-more c.args.rows.now empty c.args.index none c.requires.index))
           (c.in_ok-play.ensures.transmits (after_transmits (take c.args.index c.args.rows.now) empty) c.requires.after.transmits);
     }
@@ -26,5 +26,5 @@ returns-in_err-play-clause-fault c =
     rw (p.1, p.2)
     (elim c.in_err-play.ensures.fault [
       | inl memory ↦ inl memory
-      | inr early ↦ inr (rw early.1 (played-early c.args.settings.now c.args.rows.now c.args.index none _ c.requires.index c.requires.after.state (early.2 _)))
+      | inr early ↦ inr (rw early.1 (played-early c.args.settings.now c.args.rows.now c.args.index none _ c.requires.index c.requires.after.state early.2))
     ])
