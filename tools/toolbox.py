@@ -182,8 +182,7 @@ def played(made, words, text):
 
 def why_refused(words):
     """What is wrong with words that the replay refused, as the launcher tells it, without its own options."""
-    done = subprocess.run(["awk", "-f", TOP / "scripts/words.awk", "--", *words], stdin=subprocess.DEVNULL, capture_output=True,
-                          text=True, check=False, env={**os.environ, "LC_ALL": "C"}, errors="surrogateescape")
+    done = subprocess.run([sys.executable, TOP / "scripts/words.py", *words], capture_output=True, text=True, check=False)
     return done.stdout.strip().split(": they are --")[0]
 
 
