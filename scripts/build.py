@@ -1,5 +1,5 @@
-"""Proves and builds programs of this checkout, and archives for C, with all that they stand on, where that isn't done yet or a source
-has changed since: for ./replay, and by build.sh for scripts.
+"""Proves and builds crates of this checkout with all that they stand on, where that isn't done yet or a source has changed since: for
+./replay, and by build.sh for scripts.
 
 `rt` locks its crate and every crate below, so two libraries over the same ones would wait for each other. Each crate is
 therefore built in a lane: a folder with its sources and those below it, the libraries there as hard links, and its own `out/`,
@@ -20,9 +20,8 @@ TOP = os.path.dirname(os.path.dirname(os.path.realpath(__file__)))
 CRATES = f"{TOP}/crates"
 PARTS = ("src", "specs", "proofs")
 # Where git doesn't look, or, in what is no clone, where caches are.
-LANES = f"{TOP}/.git/lanes"
-if not os.path.isdir(f"{TOP}/.git"):
-    LANES = f"{os.environ.get('XDG_CACHE_HOME') or os.path.expanduser('~/.cache')}/fintaqush/{TOP.replace('/', '%')}"
+CACHE = f"{os.environ.get('XDG_CACHE_HOME') or os.path.expanduser('~/.cache')}/fintaqush/{TOP.replace('/', '%')}"
+LANES = f"{TOP}/.git/lanes" if os.path.isdir(f"{TOP}/.git") else CACHE
 LANE_MEMORY = 2_500_000  # kB, which a check may take
 
 
@@ -36,7 +35,7 @@ def say(line):
 
 
 def end_by(call, *given):
-    """Ends this process as the call ends: by its status, or by a line and a status; also where a signal comes."""
+    """Ends this process as the call ends, by its status or by a line and a status; or by a signal's."""
     signals = [it for it in (signal.SIGINT, signal.SIGTERM, signal.SIGHUP) if signal.getsignal(it) != signal.SIG_IGN]
 
     def interrupt(number, _):
@@ -72,8 +71,15 @@ def is_program(name):
     return os.path.exists(f"{CRATES}/{name}/src/main.rt")
 
 
-def made(name, crates=CRATES):
-    return f"{crates}/{name}/out/{name if is_program(name) else f'lib{name}.a'}"
+def lane(name, path=""):
+    """The crate's own folder in its lane, or a file there."""
+    return f"{LANES}/{name}/crates/{name}/{path}"
+
+
+def made(name):
+    """What a build makes of the crate, in its folder: a program, an archive for C, or a library, which has a stamp."""
+    is_archive = " staticlib" in rows()[name][0].partition(":")[0]
+    return f"out/{name}" if is_program(name) else f"out/lib{name}.a" if is_archive else "out/rlib/stamp"
 
 
 def texts(name):
@@ -83,13 +89,27 @@ def texts(name):
             yield from (os.stat(path) for path in (folder, *(f"{folder}/{it}" for it in names)))
 
 
-def is_built(name):
-    """Whether it stands, and nothing that it is made of is newer. Folders count too: one that has lost a file is newer."""
+def is_as_new(name, path):
+    """Whether nothing that it is made of is newer. Folders count too: one that has lost a file is newer."""
     try:
         parts = [os.stat(f"{TOP}/crates.txt"), *(it for crate in (*below(name), name) for it in texts(crate))]
-        return max(it.st_mtime_ns for it in parts) <= os.stat(made(name)).st_mtime_ns
+        return max(it.st_mtime_ns for it in parts) <= os.stat(path).st_mtime_ns
     except OSError:
         return False
+
+
+def is_built(name):
+    """A library stands in its lane alone, from where `rt` takes it; all else in the checkout, for scripts."""
+    return is_as_new(name, lane(name, made(name)) if made(name).endswith("stamp") else f"{CRATES}/{name}/{made(name)}")
+
+
+def leave(name):
+    """Puts a program or an archive from its lane into the checkout."""
+    to = f"{CRATES}/{name}/{made(name)}"
+    if not to.endswith("stamp"):
+        os.makedirs(os.path.dirname(to), exist_ok=True)
+        shutil.copy2(lane(name, made(name)), f"{to}.new")
+        os.replace(f"{to}.new", to)
 
 
 def link(source, to):
@@ -102,7 +122,7 @@ def link(source, to):
 def lay(name):
     """Lays the crate's lane, in which all below it stands built."""
     crates = f"{LANES}/{name}/crates"
-    os.makedirs(f"{crates}/{name}/out", exist_ok=True)
+    os.makedirs(lane(name, "out"), exist_ok=True)
     for old in os.scandir(crates):
         for part in PARTS if old.name == name else ("",):
             shutil.rmtree(f"{old.path}/{part}", ignore_errors=True)
@@ -110,7 +130,7 @@ def lay(name):
         for part in filter(lambda it: os.path.isdir(f"{CRATES}/{crate}/{it}"), PARTS):
             shutil.copytree(f"{CRATES}/{crate}/{part}", f"{crates}/{crate}/{part}")
         if crate != name:
-            shutil.copytree(f"{LANES}/{crate}/crates/{crate}/out/rlib", f"{crates}/{crate}/out/rlib", copy_function=link)
+            shutil.copytree(lane(crate, "out/rlib"), f"{crates}/{crate}/out/rlib", copy_function=link)
     with open(f"{LANES}/{name}/crates.txt", "w", encoding="utf-8") as file:
         file.writelines(rows()[crate][0] for crate in (*below(name), name))
 
@@ -125,8 +145,7 @@ def begin(name, pace):
             with open(f"{folder}/args", encoding="utf-8") as file:
                 command += file.read().splitlines()
     with open(f"{LANES}/{name}/log", "wb") as log, open(given, "rb") as source:
-        return subprocess.Popen(command, stdin=source, stdout=log, stderr=log, cwd=f"{LANES}/{name}/crates/{name}",
-                                preexec_fn=lambda: os.nice(min(3 * pace, 19)))
+        return subprocess.Popen(command, stdin=source, stdout=log, stderr=log, cwd=lane(name), preexec_fn=lambda: os.nice(min(3 * pace, 19)))
 
 
 def told(name):
@@ -136,7 +155,7 @@ def told(name):
 
 class Build:
     def __init__(self, asked):
-        self.asked, self.begun, self.done, self.at_work, self.since = asked, [], set(), {}, time.time_ns()
+        self.asked, self.begun, self.shown, self.done, self.at_work, self.since = asked, [], [], set(), {}, time.time_ns()
         crates = dict.fromkeys(it for name in asked for it in (*below(name), name))
         with open("/proc/meminfo", encoding="ascii") as file:
             self.lanes = min(max(int(re.search(r"MemAvailable: *(\d+)", file.read())[1]) // LANE_MEMORY, 1), 3)
@@ -149,12 +168,12 @@ class Build:
         self.crates = sorted(crates, key=chain, reverse=True)
 
     def run(self):
-        new = sum(not os.path.exists(f"{LANES}/{it}/crates/{it}/out/incremental") for it in self.crates)
+        new = sum(not os.path.exists(lane(it, "out/incremental")) for it in self.crates)
         takes = f", {new} for the first time: on 4 cores some {(new * 20 + 59) // 60} minutes, {new * 250} MB of disk and up to 7 GB of memory"
         say(f"proving and building {' and '.join(self.asked)} and what they stand on, {len(self.crates)} crates{takes if new else ''}")
         for name in self.asked:  # so that no old one answers for new sources
             with contextlib.suppress(FileNotFoundError):
-                os.remove(made(name))
+                os.remove(f"{CRATES}/{name}/{made(name)}")
         try:
             while not self.done.issuperset(self.asked):
                 self.step()
@@ -184,9 +203,8 @@ class Build:
             self.done.add(name)
             if name in self.asked:
                 # As old as the build: what was changed meanwhile is newer.
-                shutil.copy2(made(name, f"{LANES}/{name}/crates"), f"{made(name)}.new")
-                os.utime(f"{made(name)}.new", ns=(self.since, self.since))
-                os.replace(f"{made(name)}.new", made(name))
+                os.utime(lane(name, made(name)), ns=(self.since, self.since))
+                leave(name)
         elif self.lanes > 1 and "was killed, most likely for memory" in told(name):
             self.lanes = 1  # and it is begun again, alone
         else:
@@ -201,7 +219,7 @@ class Build:
         line = f"crate {len(self.begun)} of {len(self.crates)} ({' '.join(self.at_work)}), {checked} of {of} functions checked, {minutes}:{seconds:02}"
         if os.isatty(2):
             os.write(2, f"\r\033[Kreplay: {line}"[:82].encode())
-        elif self.begun != self.__dict__.get("shown"):
+        elif self.begun != self.shown:
             say(line)
         self.shown = self.begun[:]
 
@@ -211,10 +229,10 @@ def need_rt():
         raise Stop(69, "there is no rt on PATH, which proves and builds the program: see 'What it needs' in README.md")
 
 
-def turn(names):
+def take_turn(names):
     """One build at a time in a checkout: a second one waits, and mostly finds all built then."""
     try:
-        for folder in (*(os.path.dirname(made(it)) for it in names), LANES):
+        for folder in (*(f"{CRATES}/{it}/out" for it in names), LANES):
             os.makedirs(folder, exist_ok=True)
             lock = open(f"{folder}/build.lock", "ab")
         open(f"{LANES}/MODULE.bazel", "ab").close()  # `rt ci` passes over a folder that has this
@@ -236,10 +254,11 @@ def build(names):
     if all(map(is_built, names)):
         return 0
     need_rt()
-    with turn(names):
-        names = [it for it in names if not is_built(it)]
+    with take_turn(names):
         try:
-            if names:
+            for name in [it for it in names if not is_built(it) and is_as_new(it, lane(it, made(it)))]:
+                leave(name)
+            if names := [it for it in names if not is_built(it)]:
                 Build(names).run()
         except (OSError, shutil.Error) as error:
             raise Stop(70, f"the build failed: {error}") from None
