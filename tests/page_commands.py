@@ -168,8 +168,8 @@ def read_list():
 def usage_text(program):
     """What a program tells of its words: its text, and for a built one that of the launcher."""
     name = re.sub(r"^(\./|\.\./)+", "", program)
-    if name.startswith("napi_"):
-        name = "replay"
+    if name == "replay" or name.startswith("napi_"):
+        name = "docs/usage.txt"
     path = TOP / name
     return path.read_text() if path.is_file() else ""
 
