@@ -12,7 +12,7 @@ import sys
 import threading
 
 sys.path.insert(0, os.path.dirname(os.path.realpath(__file__)))
-from build import TOP, Stop, build, end_by, is_built, need_rt, say  # noqa: E402
+from build import TOP, Stop, build, crates, end_by, need_rt, say  # noqa: E402
 from words import RANGES, judge  # noqa: E402
 
 MOST_EXPLAINED = 8 << 20  # no trace is longer unless it is padded
@@ -44,7 +44,7 @@ def version():
     def told(*command):
         return shutil.which(command[0]) and subprocess.run(command, capture_output=True, text=True, check=False).stdout.strip()
 
-    serial, every = ("proved and built" if is_built(name) else "not built here yet" for name in ("napi_serial", "napi_replay"))
+    serial, every = ("proved and built" if crates()[name].is_built() else "not built here yet" for name in ("napi_serial", "napi_replay"))
     return (f"replay of Fintaqush: the NAPI polling of Linux 6.6, traces of version 1 and 2\n"
             f"sources: {told('git', '-C', TOP, 'describe', '--always', '--dirty') or 'no git history here'}\n"
             f"program of serial mode: {serial}\nprogram of every mode: {every}\nkit: {told('rt', 'version') or 'no rt on PATH'}\n")
@@ -159,7 +159,7 @@ class Call:
         if "--unproved" in self.own:
             say("an unproved run: the program is made anew each time and nothing is checked (up to a minute)")
             return self.unproved("this was an UNPROVED run").status
-        if not is_built(self.program):
+        if not crates()[self.program].is_built():
             self.refuse_words()
             if os.isatty(1) and shutil.which("rt"):
                 return self.answer_first()
