@@ -45,7 +45,7 @@ for file in "$top"/tools/*; do
     parts+=("tools/${file##*/}")
     [ ! -x "$file" ] || tools+=("${file##*/}")
 done
-parts+=(scripts/words.awk)
+parts+=(scripts/words.py)
 home=lib/fintaqush # where they lie, as in a checkout
 tool_files=("${programs[@]/#/bin/}" "${tools[@]/#/bin/}" "${parts[@]/#/$home/}")
 for name in "${programs[@]}" "${tools[@]}"; do

@@ -134,7 +134,7 @@ def read_list():
 def synopsis(command):
     """What is wrong with a synopsis: each of its options stands in the program's usage text; for a built one that of the launcher."""
     name = re.sub(r"^(\./|\.\./)+", "", SETTINGS.sub("", command).split()[0])
-    path = TOP / ("replay" if name.startswith("napi_") else name)
+    path = TOP / ("docs/usage.txt" if name == "replay" or name.startswith("napi_") else name)
     if name != "rt" and not path.is_file():
         yield f"{command}: there is no {name}"
     elif name != "rt":

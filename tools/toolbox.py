@@ -327,8 +327,7 @@ def played(made, words, text):
 def why_refused(words):
     """What is wrong with words that the replay refused, as the launcher tells it, without its own options."""
     import subprocess
-    done = subprocess.run(["awk", "-f", f"{TOP}/scripts/words.awk", "--", *words], stdin=subprocess.DEVNULL, capture_output=True,
-                          text=True, check=False, env={**os.environ, "LC_ALL": "C"}, errors="surrogateescape")
+    done = subprocess.run([sys.executable, f"{TOP}/scripts/words.py", *words], stdin=subprocess.DEVNULL, capture_output=True, text=True, check=False)
     return done.stdout.strip().split(": they are --")[0]
 
 

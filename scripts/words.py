@@ -1,0 +1,46 @@
+"""words.py WORD ..: what is wrong with the first bad one of these words for the replay program, its range and the nearest option;
+nothing where the program takes them all."""
+import re
+import sys
+
+MOST = {"--pollers": 8, "--budget": 65535, "--weight": 64, "--window": 65535}
+MODES = ("serial", "shared", "threads")
+RANGES = {"--mode": "serial, shared or threads"} | {option: f"a whole number, 1..={most}" for option, most in MOST.items()}
+OPTIONS = ("--mode", "--pollers", "--budget", "--weight", "--window", "--unproved", "--json", "--build", "--version", "--help")
+
+
+def shown(word):
+    word = re.sub("[^ -~]", "?", word)
+    return f"'{word[:38]}..'" if len(word) > 40 else f"'{word}'"
+
+
+def nearest(word, options):
+    """The one that it begins, or is least far from, if that isn't far."""
+    import difflib
+    begun = [it for it in options if len(word) > 2 and it.startswith(word)]
+    return next(iter(begun + difflib.get_close_matches(word.lower(), options, 1, 0.75)), "")
+
+
+def judge(words):
+    rest, seen = iter(words), set()
+    for word in rest:
+        option, is_given, value = word.partition("=") if word.startswith("--") else (word, "", "")
+        near = nearest(option, OPTIONS)
+        if option not in RANGES and near:
+            return f"{shown(option)} is no option: is {near} meant{', ' + RANGES[near] if near in RANGES else ''}?"
+        if option not in RANGES:
+            return f"{shown(option)} is no option: they are {' '.join(OPTIONS)}"
+        if option in seen:
+            return f"{option} is given twice"
+        seen.add(option)
+        value = value if is_given else next(rest, None)
+        if value is None:
+            return f"{option} has no value: {RANGES[option]}"
+        if value not in MODES if option == "--mode" else not (re.fullmatch("[0-9]{1,5}", value) and 1 <= int(value) <= MOST[option]):
+            near = option == "--mode" and nearest(value, MODES)
+            return f"{option} {shown(value)}: its value is {RANGES[option]}{f'; is {near} meant?' if near else ''}"
+    return ""
+
+
+if __name__ == "__main__":
+    print(judge(sys.argv[1:]))
