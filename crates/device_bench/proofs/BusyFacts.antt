@@ -1,11 +1,11 @@
 -- Busy polling of a device by the calls of its trait is the function that the rules say, and what it keeps.
-use Rattle.{std.{proofs.Common.{◌≡◌, ◌∙◌, ℕ, zero, suc, Bool, true, false, List, [], ◌∷◌, Some, None, MatchBool, ap, length, refl, sym, subst, arith}, specs.Prelude.{◌||◌, if◌then◌else◌, not}}, napi_model.specs.Step.is_handed}
+use Rattle.{std.{proofs.Common.{◌≡◌, ◌∙◌, ℕ, zero, suc, Bool, true, false, List, [], ◌∷◌, Option, Some, None, MatchBool, ap, length, refl, sym, subst, arith}, specs.Prelude.{◌||◌, if◌then◌else◌, not}}, napi_model.specs.{Step.{complete_reply, is_handed}, declared.state.Kind.Kind}}
 use Rattle.{napi_model.specs.declared.state.State.State, poll_runs.specs.{BusyPolling.{Given, busy_report, is_below, no_report}, Polling.{is_absent, next_of}, Polls.{Chain, is_arrival, is_repoll}, declared.bench.BusyReport.BusyReport}}
 use Rattle.{poll_runs.specs.declared.bench.Next.{Next, TheVariants.{Absent, Gone, Again, Repoll}}, device_bench.specs.BusyPolling.{after_last, after_round, begun, gives, held_if, left_by, polled_busily, rounds_of, stopped}}
-use Rattle.device_bench.specs.{Device.{after_done, completed, is_pending, made, polled}, DeviceView.DeviceView, Instance.{BusyTakes, Completes, Gives, Holds, Requeues, Stops, poller_of}, Kept.is_sound}
-use Rattle.{device_bench.{specs.{Waiting.{count, is_left_to_list, waits}, declared.device.TheConstants.POLLER}, proofs.DeviceFacts.{Keeps, completed-leaves, unheld}}, napi_model.specs.declared.event.{Done.Done, Operation.Operation}}
+use Rattle.device_bench.specs.{Device.{completed, is_pending, made, polled}, DeviceView.DeviceView, Instance.{BusyTakes, Completes, Gives, Holds, Requeues, Stops, poller_of}, Kept.is_sound}
+use Rattle.{device_bench.{specs.{Waiting.{count, is_left_to_list, waits}, declared.device.TheConstants.POLLER}, proofs.DeviceFacts.{Keeps, completed-leaves, unheld}}, napi_model.specs.declared.event.Operation.Operation}
 use Rattle.napi_model.specs.declared.state.Kind.TheVariants as kind
-use Rattle.device_bench.specs.Receive.{poller_in}
+use Rattle.device_bench.specs.Receive.{handed_again, poller_in}
 use Rattle.poll_runs.specs.BusyPolling as rule
 
 abbrev Round : ℕ → DeviceView → Given ℕ → DeviceView → Type 0
@@ -35,15 +35,15 @@ rounds_are weight d (poll ∷ rounds) e c =
     (rw r.0 (ap (λ (l : List (Given ℕ)). gives weight d ∷ l) on.0), on.1)
 
 -- polls and held completions leave the instance as it was
-held_napi : (below : Bool) (d : DeviceView) → (held_if below d).napi ≡ d.napi
+held_napi : (below : Bool) (d : DeviceView) → (held_if below d).side.napi ≡ d.side.napi
 held_napi true d = refl
 held_napi false d = refl
 
-round_napi : (weight : ℕ) (d : DeviceView) → (after_round weight d).napi ≡ d.napi
+round_napi : (weight : ℕ) (d : DeviceView) → (after_round weight d).side.napi ≡ d.side.napi
 unfolding after_round polled
 round_napi weight d = held_napi (is_below weight (gives weight d)) (polled weight d)
 
-rounds_napi : (count weight : ℕ) (d : DeviceView) → (rounds_of count weight d).1.napi ≡ d.napi
+rounds_napi : (count weight : ℕ) (d : DeviceView) → (rounds_of count weight d).1.side.napi ≡ d.side.napi
 unfolding rounds_of
 rounds_napi zero weight d = refl
 rounds_napi (suc count) weight d = rounds_napi count weight (after_round weight d) ∙ round_napi weight d
@@ -77,7 +77,7 @@ busily_is weight many d packets report packets' e b = by (is_absent report.next)
         let stop : p.stopped ≡ stopped (rounds_of many weight (begun d)).1 = p.stops_is ∙ ap (λ (x : DeviceView). stopped x) all.1 in
         let last : b.1 ≡ gives weight p.stopped = given_eq b.1 _ _ p.gives_last.0 p.gives_last.2 in
         let who : poller_of p.given ≡ POLLER =
-        ap (λ (x : DeviceView). poller_of x) p.gives_last.1 ∙ ap (λ (x : DeviceView). poller_in x.napi.place) stop ∙ ap (λ (x : State). poller_in x.place) (rounds_napi many weight (begun d)) in
+        ap (λ (x : DeviceView). poller_of x) p.gives_last.1 ∙ ap (λ (x : DeviceView). poller_in x.side.napi.place) stop ∙ ap (λ (x : State). poller_in x.place) (rounds_napi many weight (begun d)) in
         let end = left_is (is_below weight b.1) p.given report.next e who p.leaves in
         let end' = subst (λ (x : DeviceView). (report.next ≡ (left_by (is_below weight b.1) x).0) × (e ≡ (left_by (is_below weight b.1) x).1)) p.gives_last.1 end in
         let told : (report ≡ (after_last weight b.0 p.stopped).0) × (e ≡ (after_last weight b.0 p.stopped).1) =
@@ -88,14 +88,13 @@ busily_is weight many d packets report packets' e b = by (is_absent report.next)
 
 -- ---- what it keeps
 
-completed_next : (d : DeviceView) → d.napi.flags.in_busy_poll ≡ false → is_repoll (completed POLLER d).0 ≡ false
+completed_next : (d : DeviceView) → is_repoll (completed POLLER d).0 ≡ false
 unfolding completed
-completed_next d e = by d.napi.flags.missed e
+completed_next d = by (handed_again (complete_reply d.side.napi) d.side.napi)
   where
-    by : (missed : Bool) → d.napi.flags.in_busy_poll ≡ false
-        → is_repoll (after_done POLLER (if d.napi.flags.in_busy_poll then Done.Held else (if missed then Done.Again else Done.Released)) d).0 ≡ false
-    by true e = rw e refl
-    by false e = rw e refl
+    by : (again : Option Kind) → is_repoll (next_of again) ≡ false
+    by None = refl
+    by (Some k) = refl
 
 -- the last poll leaves an instance that it has in hand
 record LeavesLast (g e : DeviceView) (next : Next) : Type 0 where
@@ -103,11 +102,11 @@ record LeavesLast (g e : DeviceView) (next : Next) : Type 0 where
   pending : is_pending e ≡ is_pending g
   listed : waits (Some e) ≡ count (is_left_to_list next)
 
-left-leaves : (below : Bool) (g : DeviceView) → g.napi.flags.sched ≡ true → g.napi.flags.in_busy_poll ≡ false → is_handed kind.List g.napi.place ≡ false → LeavesLast g (left_by below g).1 (left_by below g).0
-left-leaves false g sched idle off = record { sound = sched; pending = refl; listed = refl }
-left-leaves true g sched idle off =
+left-leaves : (below : Bool) (g : DeviceView) → g.side.napi.flags.sched ≡ true → is_handed kind.List g.side.napi.place ≡ false → LeavesLast g (left_by below g).1 (left_by below g).0
+left-leaves false g sched off = record { sound = sched; pending = refl; listed = refl }
+left-leaves true g sched off =
     let left = completed-leaves POLLER g (record { sched = sched; off = off }) in
-    record { sound = left.sound; pending = left.pending; listed = left.listed ∙ ap count (or_false (is_arrival (completed POLLER g).0) (is_repoll (completed POLLER g).0) (completed_next g idle)) }
+    record { sound = left.sound; pending = left.pending; listed = left.listed ∙ ap count (or_false (is_arrival (completed POLLER g).0) (is_repoll (completed POLLER g).0) (completed_next g)) }
   where
     or_false : (a b : Bool) → b ≡ false → a ≡ (a || b)
     or_false true b e = refl
@@ -115,7 +114,7 @@ left-leaves true g sched idle off =
 
 pub busy-keeps : (rounds weight : ℕ) (d : DeviceView) → is_sound d ≡ true → let after = polled_busily rounds weight d in Keeps d after.1 (count (is_left_to_list after.0.next))
 unfolding polled_busily polled
-busy-keeps rounds weight d sound = by d.napi.flags.disable d.napi.flags.sched d.napi.flags.in_busy_poll refl refl
+busy-keeps rounds weight d sound = by d.side.napi.flags.disable d.side.napi.flags.sched d.side.napi.flags.in_busy_poll refl refl
   where
     all : List (Given ℕ) × DeviceView
     all = rounds_of rounds weight (begun d)
@@ -123,17 +122,17 @@ busy-keeps rounds weight d sound = by d.napi.flags.disable d.napi.flags.sched d.
     last : DeviceView
     last = polled weight (stopped all.1)
 
-    by : (disable sched busy : Bool) → d.napi.flags.disable ≡ disable → d.napi.flags.sched ≡ sched
+    by : (disable sched busy : Bool) → d.side.napi.flags.disable ≡ disable → d.side.napi.flags.sched ≡ sched
         → let after = if◌then◌else◌ {A = BusyReport × DeviceView} (not (disable || (sched || busy))) (after_last weight all.0 (stopped all.1)) (no_report, d) in
         Keeps d after.1 (count (is_left_to_list after.0.next))
     by true sched busy off idle = record { sound = sound; pending = refl; listed = omega arith }
     by false true busy off idle = record { sound = sound; pending = refl; listed = omega arith }
     by false false true off idle = record { sound = sound; pending = refl; listed = omega arith }
     by false false false off idle =
-        let same : all.1.napi ≡ (begun d).napi = rounds_napi rounds weight (begun d) in
-        let left = left-leaves (is_below weight (gives weight (stopped all.1))) last (ap (λ (s : State). s.flags.sched) same) refl (ap (λ (s : State). is_handed kind.List s.place) same) in
+        let same : all.1.side.napi ≡ (begun d).side.napi = rounds_napi rounds weight (begun d) in
+        let left = left-leaves (is_below weight (gives weight (stopped all.1))) last (ap (λ (s : State). s.flags.sched) same) (ap (λ (s : State). is_handed kind.List s.place) same) in
         record {
           sound = left.sound;
           pending = left.pending ∙ ap (λ (s : State). s.flags.disable) same;
-          listed = rw (unheld d.napi.place d.napi.flags.sched sound idle) (omega (arith, left.listed));
+          listed = rw (unheld d.side.napi.place d.side.napi.flags.sched sound idle) (omega (arith, left.listed));
         }

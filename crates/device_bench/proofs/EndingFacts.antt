@@ -2,7 +2,7 @@
 use Rattle.{std.proofs.{Common.{◌≡◌, ◌≢◌, ◌∙◌, ◌<◌, ◌≤◌, ◌+◌, ℕ, zero, suc, Bool, true, false, Option, Some, None, [], ◌∷◌, ◌++◌, length, length-append, length-set, get_or-set_other, replicate, slice_set, ap, refl, arith}, lemmas.Bool.{eqb-true, eqb-false}}}
 use Rattle.std.specs.Prelude.{◌==◌}
 use Rattle.{rx_ring.specs.declared.packet.Totals.Totals, device_rows.specs.Places.{Places, at}}
-use Rattle.device_bench.{specs.{Bench.Devices, Device.side_of, DeviceView.DeviceView, Ending.{AllEnded, IsEndedAt}, Receive.ReceiveView}, proofs.BenchFacts.at-beyond}
+use Rattle.device_bench.{specs.{Bench.Devices, DeviceView.DeviceView, Ending.{AllEnded, IsEndedAt}, Receive.ReceiveView}, proofs.BenchFacts.at-beyond}
 
 -- those from here on were ended, and those before them are left
 pub record EndedFrom (ended : ReceiveView → Totals → Type 0) (all left : Devices) (ends : Places Totals) : Type 0 where
@@ -67,7 +67,7 @@ module _ (ended : ReceiveView → Totals → Type 0) (all : Devices) where
         ended-next None (rw absent tt) (ap length same ∙ was.places) (ap (λ (l : Places Totals). at (length left') l) same ∙ was.none (length left') (omega (arith, longer)))
         (λ number apart. ap (λ (l : Places Totals). at number l) same)
 
-    pub ended-present : (d : DeviceView) (totals : Totals) → place ≡ Some d → ended (side_of d) totals → ends' ≡ slice_set ends (length left') (Some totals) → EndedFrom ended all left' ends'
+    pub ended-present : (d : DeviceView) (totals : Totals) → place ≡ Some d → ended d.side totals → ends' ≡ slice_set ends (length left') (Some totals) → EndedFrom ended all left' ends'
     ended-present d totals present is set =
         let below : length left' < length ends = omega (arith, longer, was.most, was.places) in
         ended-next (Some totals) (rw present is) (ap length set ∙ length-set ends (length left') (Some totals) ∙ was.places)

@@ -1,6 +1,5 @@
 pub mod BenchFacts
 pub mod BusyFacts
-pub mod CompletionFacts
 pub mod DeviceFacts
 pub mod EndingFacts
 pub mod InstanceFacts

@@ -10,7 +10,7 @@ waiting-empty = refl
 -- at most as many as there are places
 waits-one : (o : Option DeviceView) → waits o ≤ 1
 waits-one None = omega arith
-waits-one (Some d) = by (is_handed Kind.List d.napi.place)
+waits-one (Some d) = by (is_handed Kind.List d.side.napi.place)
   where
     by : (b : Bool) → if◌then◌else◌ {A = ℕ} b 1 0 ≤ 1
     by true = omega arith

@@ -1,5 +1,5 @@
 -- Busy polling of a device (`napi_busy_loop` and `busy_poll_stop`), by the rule that `poll_runs` states.
-use Rattle.std.specs.Prelude.{ℕ, zero, suc, ◌||◌, not, Bool, true, false, List, [], ◌∷◌, if◌then◌else◌}
+use Rattle.std.specs.Prelude.{ℕ, zero, suc, Bool, true, false, List, [], ◌∷◌, if◌then◌else◌}
 use Rattle.napi_model.specs.declared.event.Done.TheVariants.{Held}
 use Rattle.napi_model.specs.declared.event.Operation.TheVariants as operation
 use Rattle.napi_model.specs.declared.state.Kind.TheVariants as kind
@@ -8,17 +8,14 @@ use Rattle.poll_runs.specs.declared.bench.BusyReport.{BusyReport}
 use Rattle.poll_runs.specs.declared.bench.Next.{Next}
 use Rattle.poll_runs.specs.declared.bench.Next.TheVariants as next
 use Rattle.device_transmit.specs.Counter.{raised}
-use Rattle.device_bench.specs.Device.{bytes_given, completed, given, made, polled}
+use Rattle.device_bench.specs.Device.{completed, made, polled}
 use Rattle.device_bench.specs.DeviceView.{DeviceView}
+use Rattle.device_bench.specs.Receive.{bytes_of, given_of, is_idle}
 use Rattle.device_bench.specs.declared.device.TheConstants.{POLLER}
-
--- nobody has the instance, and it isn't being disabled
-abbrev pub is_idle : DeviceView → Bool
-is_idle d = not (d.napi.flags.disable || (d.napi.flags.sched || d.napi.flags.in_busy_poll))
 
 -- what a poll gives: the bytes of its packets, and their number
 abbrev pub gives : ℕ → DeviceView → Given ℕ
-gives weight d = record { packets = bytes_given weight d; work = given weight d }
+gives weight d = record { packets = bytes_of weight d.side; work = given_of weight d.side }
 
 -- a completion that is held
 abbrev pub held : DeviceView → DeviceView
@@ -57,4 +54,4 @@ after_last weight rounds d =
 -- an instance that is idle is busy polled for so many rounds
 unfoldable pub polled_busily : ℕ → ℕ → DeviceView → BusyReport × DeviceView
 polled_busily count weight d =
-    if is_idle d then (let all = rounds_of count weight (begun d) in after_last weight all.0 (stopped all.1)) else (no_report, d)
+    if is_idle d.side.napi then (let all = rounds_of count weight (begun d) in after_last weight all.0 (stopped all.1)) else (no_report, d)

@@ -11,7 +11,7 @@ use Rattle.device_transmit.specs.declared.transmit.TxCounts.{TxCounts}
 abbrev pub counts_of : DeviceView → TxCounts → DeviceCounts
 counts_of d tx = record d.told {
   state = state_of d;
-  left = length d.packets;
-  word = word_of (seen_of d.napi);
+  left = length d.side.packets;
+  word = word_of (seen_of d.side.napi);
   tx = tx;
 }

@@ -1,90 +1,70 @@
 -- What rows and polls do to a device.
-use Rattle.std.specs.Prelude.{ℕ, zero, suc, ◌==◌, ◌&&◌, not, min, Bool, true, false, List, [], ◌∷◌, ◌++◌, length, take, drop, sum, Option, Some, None, if◌then◌else◌, nat_lt}
-use Rattle.napi_model.specs.Step.{after, complete_reply, event, opening, schedule_reply, take_disable_reply, take_reply}
-use Rattle.napi_model.specs.declared.event.Done.{Done}
-use Rattle.napi_model.specs.declared.event.Done.TheVariants.{Released, Again, Held}
+use Rattle.std.specs.Prelude.{ℕ, zero, suc, ◌==◌, ◌&&◌, not, Bool, true, false, List, [], ◌∷◌, drop, Option, None, is_some, if◌then◌else◌}
+use Rattle.napi_model.specs.Step.{after, complete_reply, event, schedule_reply, take_disable_reply, take_reply}
 use Rattle.napi_model.specs.declared.event.Operation.{Operation}
 use Rattle.napi_model.specs.declared.event.Operation.TheVariants as operation
 use Rattle.napi_model.specs.declared.event.Prep.{Prep}
 use Rattle.napi_model.specs.declared.event.Prep.TheVariants.{Granted, Missed, Disabled}
 use Rattle.napi_model.specs.declared.state.Kind.{Kind}
 use Rattle.napi_model.specs.declared.state.Kind.TheVariants as kind
+use Rattle.napi_model.specs.declared.state.State.{State}
+use Rattle.poll_runs.specs.Polling.{next_of}
 use Rattle.poll_runs.specs.Thread.{is_for_thread}
 use Rattle.poll_runs.specs.declared.bench.Next.{Next}
 use Rattle.poll_runs.specs.declared.bench.Next.TheVariants as next
 use Rattle.poll_runs.specs.declared.bench.Once.{Once}
 use Rattle.device_transmit.specs.Counter.{raised}
 use Rattle.device_bench.specs.DeviceView.{DeviceView}
-use Rattle.device_bench.specs.Receive.{ReceiveView, is_control, kind_for}
+use Rattle.device_bench.specs.Receive.{bytes_of, done_by, given_of, handed_again, handed_on, has_place, is_control, opened_side, put_if, requested, tried_by}
 use Rattle.device_bench.specs.declared.counts.DeviceCounts.{DeviceCounts}
 use Rattle.device_bench.specs.declared.counts.DeviceState.{DeviceState}
 use Rattle.device_bench.specs.declared.counts.TheConstants.DeviceCounts.{OPENED}
 use Rattle.device_bench.specs.declared.counts.DeviceState.TheVariants as state
-use Rattle.device_bench.specs.declared.device.TheConstants.{CONTROLLER, INTERRUPT, POLLER, THREAD}
+use Rattle.device_bench.specs.declared.device.TheConstants.{CONTROLLER, POLLER, THREAD}
+
+-- its instance comes into this state
+abbrev pub with_napi : State → DeviceView → DeviceView
+with_napi napi d = record d { side = record d.side { napi = napi } }
 
 -- the device after a caller's operation on its instance
 abbrev pub made : ℕ → Operation → DeviceView → DeviceView
-made caller operation d = record d { napi = after d.napi (event caller operation) }
+made caller operation d = with_napi (after d.side.napi (event caller operation)) d
 
--- its receive side
-abbrev pub side_of : DeviceView → ReceiveView
-side_of d = record { napi = d.napi; packets = d.packets; capacity = d.capacity }
-
--- an empty ring of that many places, and an instance that is made and enabled, not threaded
 abbrev pub opened : ℕ → DeviceView
-opened capacity = record {
-  napi = after (opening CONTROLLER) (event CONTROLLER (operation.Enable false));
-  threaded = false;
-  packets = [];
-  capacity = capacity;
-  told = OPENED;
-}
-
--- ---- the hand-over: to the thread where THREADED is set, else to the poll list (`____napi_schedule`)
-
-unfoldable pub handed_over : ℕ → DeviceView → DeviceView
-handed_over caller d = made caller (operation.Hand (kind_for d.napi)) d
+opened capacity = record { side = opened_side capacity; threaded = false; told = OPENED }
 
 -- ---- a packet
 
--- the interrupt asks for a poll (`napi_schedule_prep`); granted, it hands the instance over
+-- an answer to the interrupt is counted
+abbrev pub asked_told : Prep → DeviceCounts → DeviceCounts
+asked_told Granted t = record t { granted = raised t.granted 1 }
+asked_told Missed t = record t { missed = raised t.missed 1 }
+asked_told Disabled t = record t { disabled = raised t.disabled 1 }
+
+-- the interrupt asks for a poll, and has this answer
 abbrev pub after_reply : Prep → DeviceView → Option Kind × DeviceView
-after_reply Granted d =
-    let granted = record (made INTERRUPT (operation.Schedule Granted) d) { told = record d.told { granted = raised d.told.granted 1 } } in
-    (Some (kind_for granted.napi), handed_over INTERRUPT granted)
-after_reply Missed d = (None, record (made INTERRUPT (operation.Schedule Missed) d) { told = record d.told { missed = raised d.told.missed 1 } })
-after_reply Disabled d = (None, record (made INTERRUPT (operation.Schedule Disabled) d) { told = record d.told { disabled = raised d.told.disabled 1 } })
+after_reply reply d = (handed_on reply d.side.napi, record (with_napi (requested reply d.side.napi) d) { told = asked_told reply d.told })
 
 unfoldable pub after_request : DeviceView → Option Kind × DeviceView
-after_request d = after_reply (schedule_reply d.napi) d
-
-abbrev pub has_room : DeviceView → Bool
-has_room d = nat_lt (length d.packets) d.capacity
+after_request d = after_reply (schedule_reply d.side.napi) d
 
 -- A packet is put into the ring, and the interrupt asks for a poll; where there is no room it is dropped. To whom the
 -- instance was handed by that, and the device afterwards.
 unfoldable pub after_packet : ℕ → DeviceView → Option Kind × DeviceView
 after_packet bytes d =
     let counted = record d { told = record d.told { arrived = raised d.told.arrived 1 } } in
-    if has_room d then after_request (record counted { packets = d.packets ++ bytes ∷ [] })
+    if has_place d.side then after_request (record counted { side = put_if true bytes d.side })
     else (None, record counted { told = record counted.told { dropped = raised d.told.dropped 1 } })
 
 -- ---- a poll of an instance that is in its poller's hands
 
--- a poll gives the ring's next packets, at most the weight
-abbrev pub given : ℕ → DeviceView → ℕ
-given weight d = min weight (length d.packets)
-
--- the bytes of these packets
-abbrev pub bytes_given : ℕ → DeviceView → ℕ
-bytes_given weight d = sum (take (given weight d) d.packets)
-
+-- a poll takes the ring's next packets, and is counted
 unfoldable pub polled : ℕ → DeviceView → DeviceView
 polled weight d = record d {
-  packets = drop (given weight d) d.packets;
+  side = record d.side { packets = drop (given_of weight d.side) d.side.packets };
   told = record d.told {
-    polled = raised d.told.polled (given weight d);
-    bytes = raised d.told.bytes (bytes_given weight d);
+    polled = raised d.told.polled (given_of weight d.side);
+    bytes = raised d.told.bytes (bytes_of weight d.side);
     polls = raised d.told.polls 1;
   };
 }
@@ -94,22 +74,17 @@ abbrev pub completed_told : Bool → DeviceCounts → DeviceCounts
 completed_told true t = record t { again = raised t.again 1 }
 completed_told false t = record t { released = raised t.released 1 }
 
--- a completion (`napi_complete_done`); where a request was missed, the poller owns the instance again and hands it over;
--- what is busy polled stays in its hands
-abbrev pub after_done : ℕ → Done → DeviceView → Next × DeviceView
-after_done poller Released d = (next.Gone, record (made poller (operation.Complete Released) d) { told = record d.told { released = raised d.told.released 1 } })
-after_done poller Again d =
-    let again = record (made poller (operation.Complete Again) d) { told = record d.told { again = raised d.told.again 1 } } in
-    (next.Again (kind_for again.napi), handed_over poller again)
-after_done poller Held d = (next.Repoll, d)
-
+-- a completion by this poller, who doesn't busy poll
 unfoldable pub completed : ℕ → DeviceView → Next × DeviceView
-completed poller d = after_done poller (complete_reply d.napi) d
+completed poller d =
+    let done = complete_reply d.side.napi in
+    let again = handed_again done d.side.napi in
+    (next_of again, record (with_napi (done_by poller done d.side.napi) d) { told = completed_told (is_some again) d.told })
 
 -- With work below the weight the driver completes. With work equal to it the core completes an instance that is being
 -- disabled; any other is to be polled again, and is in its poller's hands still.
 abbrev pub asks_again : ℕ → ℕ → DeviceView → Bool
-asks_again work weight d = work == weight && not d.napi.flags.disable
+asks_again work weight d = work == weight && not d.side.napi.flags.disable
 
 abbrev pub ended_by : Bool → ℕ → DeviceView → Next × DeviceView
 ended_by true poller d = (next.Repoll, d)
@@ -121,8 +96,8 @@ ended poller work weight d = ended_by (asks_again work weight d) poller d
 -- one poll (`__napi_poll`): what it did, and the device afterwards
 abbrev pub after_poll : ℕ → ℕ → DeviceView → Once × DeviceView
 after_poll poller weight d =
-    let end = ended poller (given weight d) weight (polled weight d) in
-    (record { work = given weight d; next = end.0 }, end.1)
+    let end = ended poller (given_of weight d.side) weight (polled weight d) in
+    (record { work = given_of weight d.side; next = end.0 }, end.1)
 
 abbrev pub taken : ℕ → Kind → DeviceView → DeviceView
 taken poller kind d = made poller (operation.Take kind true) d
@@ -144,7 +119,7 @@ after_take true weight d =
 
 -- the instance is taken from the list and polled once, if it is there
 unfoldable pub polled_once : ℕ → DeviceView → Once × DeviceView
-polled_once weight d = after_take (take_reply kind.List d.napi) weight d
+polled_once weight d = after_take (take_reply kind.List d.side.napi) weight d
 
 -- ---- the thread's polling (`napi_threaded_poll`)
 
@@ -174,13 +149,13 @@ thread_polls (suc most) weight d =
 -- the thread takes the instance, if it was handed to it, and polls it
 unfoldable pub polled_by_thread : ℕ → ℕ → DeviceView → List Once × DeviceView
 polled_by_thread most weight d =
-    if take_reply kind.Thread d.napi then thread_polls most weight (taken THREAD kind.Thread d) else ([], d)
+    if take_reply kind.Thread d.side.napi then thread_polls most weight (taken THREAD kind.Thread d) else ([], d)
 
 -- ---- disabling and enabling (`napi_disable`, `napi_enable`, `dev_set_threaded`)
 
 -- on, being disabled, or off
 abbrev pub state_of : DeviceView → DeviceState
-state_of d = if d.napi.flags.disable then state.Pending else (if is_control d.napi.place then state.Off else state.On)
+state_of d = if d.side.napi.flags.disable then state.Pending else (if is_control d.side.napi.place then state.Off else state.On)
 
 -- a device that is on is marked for disabling
 abbrev pub disabled_from : DeviceState → DeviceView → DeviceView
@@ -191,13 +166,9 @@ disabled_from state.Pending d = d
 unfoldable pub after_disable : DeviceView → DeviceView
 after_disable d = disabled_from (state_of d) d
 
--- one try of a pending disable: where nobody has the instance, the controller takes it, and the mark is cleared
-abbrev pub tried : Bool → DeviceView → DeviceView
-tried false d = made CONTROLLER (operation.TakeDisable false) d
-tried true d = made CONTROLLER operation.Unmark (made CONTROLLER (operation.TakeDisable true) d)
-
+-- a pending disable is tried once
 unfoldable pub settled : DeviceView → DeviceView
-settled d = if d.napi.flags.disable then tried (take_disable_reply d.napi) d else d
+settled d = if d.side.napi.flags.disable then with_napi (tried_by (take_disable_reply d.side.napi) d.side.napi) d else d
 
 -- a device that is off is enabled with its threaded setting
 abbrev pub enabled_from : DeviceState → DeviceView → DeviceView
@@ -209,7 +180,7 @@ unfoldable pub after_enable : DeviceView → DeviceView
 after_enable d = enabled_from (state_of d) d
 
 abbrev pub is_pending : DeviceView → Bool
-is_pending d = d.napi.flags.disable
+is_pending d = d.side.napi.flags.disable
 
 -- the threaded setting, and THREADED at once
 unfoldable pub after_threaded : Bool → DeviceView → DeviceView

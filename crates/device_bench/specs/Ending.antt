@@ -3,13 +3,12 @@ use Rattle.std.specs.Prelude.{ℕ, Option, Some, None}
 use Rattle.rx_ring.specs.declared.packet.Totals.{Totals}
 use Rattle.device_rows.specs.Places.{Places, at}
 use Rattle.device_bench.specs.Bench.{Devices}
-use Rattle.device_bench.specs.Device.{side_of}
 use Rattle.device_bench.specs.DeviceView.{DeviceView}
 use Rattle.device_bench.specs.Receive.{ReceiveView}
 
 -- a device was ended; where there is none, nothing was counted
 abbrev pub IsEndedAt : (ReceiveView → Totals → Type 0) → Option DeviceView → Option Totals → Type 0
-IsEndedAt ended (Some d) (Some totals) = ended (side_of d) totals
+IsEndedAt ended (Some d) (Some totals) = ended d.side totals
 IsEndedAt ended None None = Unit {0}
 IsEndedAt ended (Some d) None = ⊥
 IsEndedAt ended None (Some totals) = ⊥

@@ -5,31 +5,31 @@ use Rattle.napi_model.specs.declared.event.Operation.TheVariants as operation
 use Rattle.napi_model.specs.declared.state.Kind.{Kind}
 use Rattle.napi_model.specs.declared.state.Kind.TheVariants as kind
 use Rattle.poll_runs.specs.Polling.{next_of}
-use Rattle.device_bench.specs.BusyPolling.{begun, held, is_idle, stopped}
-use Rattle.device_bench.specs.Device.{bytes_given, completed, given, made, polled}
+use Rattle.device_bench.specs.BusyPolling.{begun, held, stopped}
+use Rattle.device_bench.specs.Device.{completed, made, polled}
 use Rattle.device_bench.specs.DeviceView.{DeviceView}
-use Rattle.device_bench.specs.Receive.{poller_in, taker_of}
+use Rattle.device_bench.specs.Receive.{bytes_of, given_of, is_idle, poller_in, taker_of}
 use Rattle.device_bench.specs.declared.device.TheConstants.{POLLER}
 
 abbrev pub poller_of : DeviceView → ℕ
-poller_of d = poller_in d.napi.place
+poller_of d = poller_in d.side.napi.place
 
 abbrev pub IsPolled : DeviceView → Type 0
-IsPolled d = Polls (poller_of d) false d.napi
+IsPolled d = Polls (poller_of d) false d.side.napi
 
 -- the poller busy polls it
 abbrev pub IsPolledBusily : DeviceView → Type 0
-IsPolledBusily d = Polls POLLER true d.napi
+IsPolledBusily d = Polls POLLER true d.side.napi
 
 abbrev pub Takes : DeviceView → Kind → Bool → DeviceView → Type 0
-Takes d k taken e = (taken ≡ take_reply k d.napi) × (e ≡ made (taker_of k) (operation.Take k taken) d)
+Takes d k taken e = (taken ≡ take_reply k d.side.napi) × (e ≡ made (taker_of k) (operation.Take k taken) d)
 
 -- a poll gives so many packets, of so many bytes
 abbrev pub Gives : DeviceView → ℕ → ℕ → ℕ → DeviceView → Type 0
-Gives d weight bytes work e = (work ≡ given weight d) × (e ≡ polled weight d) × (bytes ≡ bytes_given weight d)
+Gives d weight bytes work e = (work ≡ given_of weight d.side) × (e ≡ polled weight d) × (bytes ≡ bytes_of weight d.side)
 
 abbrev pub Looks : DeviceView → Bool → DeviceView → Type 0
-Looks d disabling e = (disabling ≡ d.napi.flags.disable) × (e ≡ d)
+Looks d disabling e = (disabling ≡ d.side.napi.flags.disable) × (e ≡ d)
 
 abbrev pub Requeues : DeviceView → DeviceView → Type 0
 Requeues d e = e ≡ made (poller_of d) (operation.Hand kind.List) d
@@ -38,7 +38,7 @@ abbrev pub Completes : DeviceView → Option Kind → DeviceView → Type 0
 Completes d again e = (next_of again ≡ (completed (poller_of d) d).0) × (e ≡ (completed (poller_of d) d).1)
 
 abbrev pub BusyTakes : DeviceView → Bool → DeviceView → Type 0
-BusyTakes d taken e = (taken ≡ is_idle d) × (e ≡ (if taken then begun d else d))
+BusyTakes d taken e = (taken ≡ is_idle d.side.napi) × (e ≡ (if taken then begun d else d))
 
 abbrev pub Holds : DeviceView → DeviceView → Type 0
 Holds d e = e ≡ held d

@@ -13,7 +13,7 @@ is_held Nobody = false
 is_held _ = true
 
 abbrev pub is_sound : DeviceView → Bool
-is_sound d = not (is_held d.napi.place) || d.napi.flags.sched
+is_sound d = not (is_held d.side.napi.place) || d.side.napi.flags.sched
 
 abbrev pub is_sound_at : Option DeviceView → Bool
 is_sound_at None = true

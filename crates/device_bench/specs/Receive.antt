@@ -1,6 +1,6 @@
 -- A device's receive side in the sight of one thread: the state of its instance and what its ring holds, and what its calls make
 -- of these.
-use Rattle.std.specs.Prelude.{ℕ, Bool, true, false, List, [], ◌∷◌, ◌++◌, length, take, sum, min, nat_lt, Option, Some, None, if◌then◌else◌}
+use Rattle.std.specs.Prelude.{ℕ, Bool, true, false, not, ◌||◌, List, [], ◌∷◌, ◌++◌, length, take, sum, min, nat_lt, Option, Some, None, if◌then◌else◌}
 use Rattle.napi_model.specs.Step.{after, event, opening}
 use Rattle.napi_model.specs.declared.event.Done.{Done}
 use Rattle.napi_model.specs.declared.event.Done.TheVariants.{Released, Again, Held}
@@ -99,6 +99,10 @@ is_control _ = false
 abbrev pub tried_by : Bool → State → State
 tried_by true s = after (after s (event CONTROLLER (operation.TakeDisable true))) (event CONTROLLER operation.Unmark)
 tried_by false s = after s (event CONTROLLER (operation.TakeDisable false))
+
+-- nobody has the instance, and it isn't being disabled
+abbrev pub is_idle : State → Bool
+is_idle s = not (s.flags.disable || (s.flags.sched || s.flags.in_busy_poll))
 
 -- an instance that is idle is taken to busy poll it (`napi_busy_loop`)
 abbrev pub busy_taken : Bool → State → State

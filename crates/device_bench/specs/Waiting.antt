@@ -14,7 +14,7 @@ count b = if b then 1 else 0
 -- a device waits on the list from its hand-over to the list until it is taken
 abbrev pub waits : Option DeviceView → ℕ
 waits None = 0
-waits (Some d) = count (is_handed kind.List d.napi.place)
+waits (Some d) = count (is_handed kind.List d.side.napi.place)
 
 unfoldable pub waiting : Places DeviceView → ℕ
 waiting devices = sum_by waits devices

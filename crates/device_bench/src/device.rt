@@ -2,9 +2,9 @@
 
 ghost use Rattle.std.specs.Prelude.{◌≡◌, ◌≤◌, ◌<◌, ◌^◌, true};
 ghost use Rattle.device_bench.specs.BusyPolling.{polled_busily};
-ghost use Rattle.device_bench.specs.Device.{after_disable, after_enable, after_packet, after_request, after_threaded, bytes_given, completed_told, given, is_pending, opened, polled, polled_by_thread, polled_once, settled, side_of, state_of};
+ghost use Rattle.device_bench.specs.Device.{after_disable, after_enable, after_packet, after_request, after_threaded, completed_told, is_pending, opened, polled, polled_by_thread, polled_once, settled, state_of};
 ghost use Rattle.device_bench.specs.Counts.{counts_of};
-ghost use Rattle.device_bench.specs.Receive.{is_polling, opened_side};
+ghost use Rattle.device_bench.specs.Receive.{bytes_of, given_of, is_polling, opened_side};
 ghost use Rattle.device_rows.specs.Range.{IsWithin};
 ghost use Rattle.poll_runs.specs.Thread.{IsThreadPolling};
 
@@ -45,13 +45,7 @@ impl<S: ReceiveSide> Model for Device<S> {
 
     ghost Value = { DeviceView };
 
-    ghost view = { λ d. record {
-      napi = (S.side d.side).napi;
-      threaded = d.threaded;
-      packets = (S.side d.side).packets;
-      capacity = (S.side d.side).capacity;
-      told = d.told;
-    } };
+    ghost view = { λ d. record { side = S.side d.side; threaded = d.threaded; told = d.told } };
 }
 
 impl<S: ReceiveSide> Device<S> {
@@ -177,10 +171,10 @@ impl<S: ReceiveSide> Device<S> {
     #[tactic(auto, unfolding(crate::specs::Device::polled))]
     fn receive(&mut self, weight: u32, load: &mut Load) -> u32
         requires weight { IsWithin 1 64 weight }
-        requires polled { is_polling self.old.napi.place ≡ true }
+        requires polled { is_polling self.old.side.napi.place ≡ true }
         ensures device { self.new ≡ polled weight self.old }
-        ensures work { result ≡ given weight self.old }
-        ensures bytes { load.new ≡ bytes_given weight self.old }
+        ensures work { result ≡ given_of weight self.old.side }
+        ensures bytes { load.new ≡ bytes_of weight self.old.side }
     {
         let (count, bytes) = self.side.receive(weight);
         load.bytes = bytes;
@@ -225,7 +219,7 @@ impl<S: ReceiveSide> Device<S> {
 impl<S: SpentSide> Device<S> {
     /// Ends the device's receive side.
     pub(crate) fn end(self) -> Totals
-        ensures { S.ended (side_of self) result }
+        ensures { S.ended self.side result }
     {
         let Device {
             side,
@@ -272,6 +266,7 @@ impl<S: ReceiveSide> Instance for Device<S> {
         self.side.requeue();
     }
 
+    #[tactic(auto, unfolding(crate::specs::Device::completed))]
     fn complete(&mut self) -> Option<Kind> {
         let again = self.side.complete();
         count_completion(&mut self.told, again.is_some());

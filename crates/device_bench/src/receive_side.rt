@@ -1,11 +1,11 @@
 //! What a device stands on: its receive ring, and its instance with all that make calls on it.
 
-ghost use Rattle.std.specs.Prelude.{◌≡◌, ◌≤◌, ◌<◌, ◌^◌, not, ◌||◌, false, true, length, drop, IfOk};
+ghost use Rattle.std.specs.Prelude.{◌≡◌, ◌≤◌, ◌<◌, ◌^◌, false, true, length, drop, IfOk};
 ghost use Rattle.napi_model.specs.Step.{Polls, after, complete_reply, event, schedule_reply, seen_of, take_disable_reply, take_reply};
 ghost use Rattle.napi_model.specs.declared.event.Operation.TheVariants as operation;
 ghost use Rattle.napi_model.specs.declared.state.Kind.TheVariants as kind;
 ghost use Rattle.device_bench.specs.declared.device.TheConstants.{CONTROLLER, POLLER};
-ghost use Rattle.device_bench.specs.Receive.{ReceiveView, busy_taken, bytes_of, done_by, given_of, handed_again, handed_on, has_place, is_control, is_polling, opened_side, poller_in, put_if, requested, taker_of, tried_by};
+ghost use Rattle.device_bench.specs.Receive.{ReceiveView, busy_taken, bytes_of, done_by, given_of, handed_again, handed_on, has_place, is_control, is_idle, is_polling, opened_side, poller_in, put_if, requested, taker_of, tried_by};
 ghost use Rattle.device_rows.specs.Range.{IsWithin};
 ghost use Rattle.rx_ring.specs.declared.packet.Totals.{Totals};
 
@@ -90,8 +90,7 @@ pub trait ReceiveSide {
     /// The poller takes an instance that is idle, to busy poll it (`napi_busy_loop`). False says that it isn't idle, and
     /// nothing changed.
     fn busy_take(&mut self) -> bool
-        ensures reply { result ≡ not ((side self.old).napi.flags.disable
-            || ((side self.old).napi.flags.sched || (side self.old).napi.flags.in_busy_poll)) }
+        ensures reply { result ≡ is_idle (side self.old).napi }
         ensures side { side self.new ≡ record (side self.old) {
           napi = busy_taken result (side self.old).napi;
         } };
