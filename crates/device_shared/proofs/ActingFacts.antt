@@ -5,7 +5,7 @@ use Rattle.napi_model.specs.declared.state.Kind.TheVariants as kind
 use Rattle.{napi_word.specs.{declared.table.Pass.Pass, Slot.has_slot, View.own_deliveries}, device_bench.specs.Receive.taker_of}
 use Rattle.napi_calls.specs.{Made.Made, Knows.{Has, Stands}, Dealt.Delivers, Packets.{Quiet, IsFresh, HoldsOn, polled}, declared.types.{Napi.Napi, Caller.Caller}}
 use Rattle.napi_calls.proofs.{Dealing.delivers_none, Making.nothing}
-use Rattle.device_shared.specs.{Acting.{CtxMoves, PostsAct, Acts, TurnTakes, nobody}, Seats.{IsSeatAt, ArePosts, AreSeats, poller_post, thread_post, ctx_at, polls_at, poller_of, thread_of, control_of, ctx_of}}
+use Rattle.device_shared.specs.{Acting.{CtxMoves, Acts, TurnTakes, at_rest, nobody}, Seats.{IsSeatAt, AreSeats, poller_post, thread_post, ctx_at, polls_at, poller_of, thread_of, control_of, ctx_of, role_of}}
 use Rattle.device_shared.specs.declared.seats.{Posts.{Posts, TheVariants.{Rest, ListPolls, ThreadPolls, PollsBusily}}, Enabled.Enabled, Turn.Turn, Seats.Seats}
 use Rattle.device_shared.specs.declared.seats.Turn.TheVariants as turn
 
@@ -39,28 +39,6 @@ held p q x y m h e = record { made = m; gave = delivers_none p q (λ i. own_deli
 pub given : {os : List Operation} (p q : Pass) (x : RxCtx) → Made p os q → Delivers p (polled p x) q → Has p (Some x) → Moved os (polled p x) p q (Some x) None
 given p q x m d has = record { made = m; gave = d; moves = (refl, has.received) }
 
--- ---- one of the two that poll
-
-pub first_acts : {n : Napi} {os : List Operation} {packets : List Packet} (before after : Posts) → ArePosts n before
-    → Moved os packets (poller_post before) (poller_post after) (ctx_at before) (ctx_at after) → thread_post after ≡ thread_post before → PostsAct 1 os n before after
-first_acts {n} {os} {packets} before after s m same = record {
-  packets = packets;
-  one = (m.made, m.gave);
-  two = same;
-  moves = m.moves;
-  posts = record { one = seat_made s.one m.made; two = subst (IsSeatAt n) (sym same) s.two };
-}
-
-pub second_acts : {n : Napi} {os : List Operation} {packets : List Packet} (before after : Posts) → ArePosts n before
-    → Moved os packets (thread_post before) (thread_post after) (ctx_at before) (ctx_at after) → poller_post after ≡ poller_post before → PostsAct 2 os n before after
-second_acts {n} {os} {packets} before after s m same = record {
-  packets = packets;
-  one = same;
-  two = (m.made, m.gave);
-  moves = m.moves;
-  posts = record { one = subst (IsSeatAt n) (sym same) s.one; two = seat_made s.two m.made };
-}
-
 -- nobody calls
 pub poller_rests : (posts : Posts) → Moved [] [] (poller_post posts) (poller_post posts) (ctx_at posts) (ctx_at posts)
 poller_rests (Rest p t) = idle None p.stands
@@ -74,15 +52,15 @@ thread_rests (ListPolls w t) = idle (Some w.ctx) t.stands
 thread_rests (ThreadPolls p w) = idle (Some w.ctx) w.stands
 thread_rests (PollsBusily b t) = idle (Some b.ctx) t.stands
 
-pub none_acts : {n : Napi} (k : Kind) (posts : Posts) → ArePosts n posts → PostsAct (taker_of k) [] n posts posts
-none_acts kind.List posts s = first_acts posts posts s (poller_rests posts) refl
-none_acts kind.Thread posts s = second_acts posts posts s (thread_rests posts) refl
-
 pub not_rest : (posts : Posts) → ((p t : Caller) → posts ≡ Rest p t → ⊥) → nobody (polls_at posts) ≡ false
 not_rest (Rest p t) none = absurd (none p t refl)
 not_rest (ListPolls w t) none = refl
 not_rest (ThreadPolls p w) none = refl
 not_rest (PollsBusily b t) none = refl
+
+pub not_on : (t : Turn) → ((posts : Posts) (e : Enabled) → t ≡ turn.On posts e → ⊥) → at_rest (role_of t) ≡ false
+not_on (turn.Off p t c) none = refl
+not_on (turn.On posts e) none = absurd (none posts e refl)
 
 -- ---- one of the four
 
@@ -140,14 +118,6 @@ module _ {n : Napi} {os : List Operation} {packets : List Packet} (i : Caller) (
     moves = m.moves;
     seats = record { zeroth = seats.zeroth; one = subst (IsSeatAt n) (sym one) seats.one; two = subst (IsSeatAt n) (sym two) seats.two; three = seat_made seats.three m.made };
   })
-
--- what one of the two that poll made, where it is their turn
-pub posts_turn : {n : Napi} {os : List Operation} (k : Kind) (i : Caller) (t : Turn) (before after : Posts) (e : Enabled) → t ≡ turn.On before e → AreSeats n (with_turn i t)
-    → PostsAct (taker_of k) os n before after → Acts (taker_of k) os n (with_turn i t) (with_turn i (turn.On after e))
-posts_turn kind.List i t before after e was s a =
-    first_turn i t (turn.On before e) (turn.On after e) was s (record { made = a.one.0; gave = a.one.1; moves = a.moves }) a.two refl
-posts_turn kind.Thread i t before after e was s a =
-    second_turn i t (turn.On before e) (turn.On after e) was s (record { made = a.two.0; gave = a.two.1; moves = a.moves }) a.one refl
 
 -- nobody calls
 pub none_turn : {n : Napi} (k : Kind) (i : Caller) (t : Turn) → AreSeats n (with_turn i t) → Acts (taker_of k) [] n (with_turn i t) (with_turn i t)

@@ -20,9 +20,8 @@ use Rattle.napi_calls.specs.declared.types.Napi.{Napi}
 use Rattle.poll_shared.specs.SharedPolling.{HandsTo}
 use Rattle.poll_shared.specs.SharedBusy.{BusyTakesBy}
 use Rattle.device_shared.specs.declared.seats.Seats.{Seats}
-use Rattle.device_shared.specs.declared.seats.Posts.{Posts}
 use Rattle.device_shared.specs.declared.seats.Turn.{Turn}
-use Rattle.device_shared.specs.Seats.{ArePosts, AreSeats, Role, control_of, ctx_at, ctx_of, poller_of, poller_post, thread_of, thread_post}
+use Rattle.device_shared.specs.Seats.{AreSeats, Role, control_of, ctx_of, poller_of, thread_of}
 
 abbrev pub seat_at : ℕ → Seats → Pass
 seat_at zero s = s.interrupt.pass
@@ -37,18 +36,6 @@ CtxMoves packets p q None None = packets ≡ []
 CtxMoves packets p q (Some x) (Some y) = (packets ≡ []) × (y ≡ x)
 CtxMoves packets p q None (Some x) = (packets ≡ []) × (received_list x ≡ received_before q) × OwnsSlot q
 CtxMoves packets p q (Some x) None = (packets ≡ polled p x) × Continues (received_before p) (received_list x)
-
-abbrev pub post_at : ℕ → Posts → Pass
-post_at (suc zero) posts = poller_post posts
-post_at _ posts = thread_post posts
-
--- one of the two that poll made these, and the other nothing
-pub record PostsAct (c : ℕ) (os : List Operation) (n : Napi) (before after : Posts) : Type 0 where
-  pub packets : List Packet
-  pub one : MakesAlone c os packets 1 (poller_post before) (poller_post after)
-  pub two : MakesAlone c os packets 2 (thread_post before) (thread_post after)
-  pub moves : CtxMoves packets (post_at c before) (post_at c after) (ctx_at before) (ctx_at after)
-  pub posts : ArePosts n after
 
 -- the one of this number made these operations, and the others did nothing
 pub record Acts (c : ℕ) (os : List Operation) (n : Napi) (before after : Seats) : Type 0 where

@@ -4,10 +4,8 @@ use Rattle.rx_ring.specs.declared.ends.RxCtx.{RxCtx}
 use Rattle.rx_ring.specs.declared.ends.RxIn.{RxIn}
 use Rattle.rx_ring.specs.declared.packet.Packet.{Packet}
 use Rattle.rx_ring.specs.Ends.{SameIn, capacity_of, free_of, put_list, received_list}
-use Rattle.napi_calls.specs.Seats.{IsInputOf}
-use Rattle.device_shared.specs.declared.seats.Posts.{Posts}
 use Rattle.device_shared.specs.declared.seats.Seats.{Seats}
-use Rattle.device_shared.specs.Seats.{control_of, ctx_at, ctx_of, poller_of, poller_post, thread_of, thread_post}
+use Rattle.device_shared.specs.Seats.{control_of, ctx_of, poller_of, thread_of}
 
 -- a context gives the next packets of all that were put, as many as its weight allows, and then each place is known to be free
 -- that holds no packet
@@ -18,21 +16,7 @@ pub record ReceivesNext (weight : ℕ) (input : RxIn) (ctx : RxCtx) (input' : Rx
   pub received : received_list ctx' ≡ received_list ctx ++ given
   pub free : capacity_of input ≤ free_of input' + length (drop (length (received_list ctx')) (put_list input))
 
--- this end puts packets into the ring of those who poll
-pub record FeedsPosts (input : RxIn) (posts : Posts) : Type 0 where
-  pub one : IsInputOf input (poller_post posts)
-  pub two : IsInputOf input (thread_post posts)
-
 -- who polls receives the next packets; nobody made an event
-pub record PostsReceive (weight : ℕ) (input : RxIn) (before : Posts) (input' : RxIn) (after : Posts) (given : List Packet) : Type 0 where
-  pub one : poller_post after ≡ poller_post before
-  pub two : thread_post after ≡ thread_post before
-  pub ctx : RxCtx
-  pub had : ctx_at before ≡ Some ctx
-  pub ctx' : RxCtx
-  pub has : ctx_at after ≡ Some ctx'
-  pub next : ReceivesNext weight input ctx input' ctx' given
-
 pub record SeatsReceive (weight : ℕ) (input : RxIn) (before : Seats) (input' : RxIn) (after : Seats) (given : List Packet) : Type 0 where
   pub zeroth : after.interrupt.pass ≡ before.interrupt.pass
   pub one : poller_of after.turn ≡ poller_of before.turn

@@ -1,25 +1,24 @@
 //! The calls on an instance, of which each is made by one of those in the hand alone.
 
-ghost use Rattle.std.specs.Prelude.{◌≡◌, [], ◌∷◌, List, ℕ, None, Some, if◌then◌else◌, true, false};
+ghost use Rattle.std.specs.Prelude.{◌≡◌, [], ◌∷◌, List, None, Some, if◌then◌else◌, true, false};
 ghost use Rattle.napi_model.specs.declared.event.Done.TheVariants.{Held};
 ghost use Rattle.napi_model.specs.declared.event.Operation.{Operation};
 ghost use Rattle.napi_model.specs.declared.event.Operation.TheVariants as operation;
 ghost use Rattle.napi_model.specs.declared.state.Kind.TheVariants as kind;
-ghost use Rattle.napi_calls.specs.Dealt.{Delivers};
 ghost use Rattle.napi_calls.specs.Instance.{IsSeatOf};
 ghost use Rattle.napi_calls.specs.Made.{Made};
-ghost use Rattle.napi_calls.specs.Packets.{Quiet, polled};
+ghost use Rattle.napi_calls.specs.Packets.{Quiet};
 ghost use Rattle.poll_runs.specs.Polling.{next_of};
 ghost use Rattle.poll_shared.specs.SharedPolling.{EndsBy};
 ghost use Rattle.device_bench.specs.Receive.{taker_of};
 ghost use Rattle.poll_shared.specs.SharedBusy.{StopsBy};
-ghost use Rattle.device_shared.specs.Acting.{Acts, AsksBy, EnablesBy, IsMarked, IsUnmarked, MayComplete, PolledBy, PostsAct, TakesBusilyBy, TakesBy, TriesBy, TurnTakes, at_rest, left_by, marked, nobody, polled_by, poller_by, who_polls};
-ghost use Rattle.device_shared.specs.Seats.{ArePosts, AreSeats, control_of, enabled_pass, is_marked, poller_of, polls_at, role_of, thread_of};
+ghost use Rattle.device_shared.specs.Acting.{Acts, AsksBy, EnablesBy, IsMarked, IsUnmarked, MayComplete, PolledBy, TakesBusilyBy, TakesBy, TriesBy, TurnTakes, at_rest, left_by, marked, polled_by, poller_by};
+ghost use Rattle.device_shared.specs.Seats.{AreSeats, control_of, enabled_pass, is_marked, poller_of, role_of, thread_of};
 
 use crate::seats::{Enabled, Posts, Seats, Turn};
-use napi_calls::{Caller, Completed, Control, Marked, Napi, Polling, Sched, TryTake};
+use napi_calls::{Caller, Control, Marked, Napi, Sched, TryTake};
 use napi_model::{Kind, Prep};
-use poll_shared::hand_over;
+use poll_shared::{complete, hand_over};
 use std::sync::Wait;
 
 // The interrupt asks for a poll; granted, it hands the instance over.
@@ -36,128 +35,6 @@ fn ask<R: Wait>(rt: &R, napi: &Napi, caller: Caller) -> (Caller, Prep, Option<Ki
         }
         Sched::Missed(caller) => (caller, Prep::Missed, None),
         Sched::Disabled(caller) => (caller, Prep::Disabled, None),
-    }
-}
-
-/// Who polls completes, and hands over what it is granted again.
-pub(crate) fn complete<R: Wait>(rt: &R, napi: &Napi, polling: Polling) -> (Caller, Option<Kind>)
-    requires { IsSeatOf napi.now polling.pass }
-    ensures ends { (os : List Operation) × Made polling.pass os result.0.pass
-        × EndsBy true (next_of result.1) os }
-    ensures packets { Delivers polling.pass (polled polling.pass polling.ctx) result.0.pass }
-{
-    match polling.complete(rt, napi) {
-        Completed::Released(caller) => (caller, None),
-        Completed::Again(granted) => {
-            let (caller, kind) = hand_over(napi, granted, true);
-            (caller, Some(kind))
-        }
-    }
-}
-
-impl Posts {
-    // The poller looks for the instance on the list, or the device's thread for what was handed to it, unless one has it.
-    fn take(self, napi: &Napi, kind: Kind) -> (Posts, bool)
-        requires { ArePosts napi.now self }
-        ensures acts { (os : List Operation) × TakesBy (nobody (polls_at self)) kind result.1 os
-            × PostsAct (taker_of kind) os napi.now self result.0 }
-        ensures polls { polls_at result.0
-            ≡ (if result.1 then Some (taker_of kind, false) else polls_at self) }
-    {
-        match self {
-            Posts::Rest(poller, thread) => match kind {
-                Kind::List => match poller.take(napi, kind) {
-                    Ok(polling) => (Posts::ListPolls(polling, thread), true),
-                    Err(poller) => (Posts::Rest(poller, thread), false),
-                },
-                Kind::Thread => match thread.take(napi, kind) {
-                    Ok(polling) => (Posts::ThreadPolls(poller, polling), true),
-                    Err(thread) => (Posts::Rest(poller, thread), false),
-                },
-            },
-            posts => (posts, false),
-        }
-    }
-
-    // Who polls it hands it to the list again.
-    fn requeue(self, napi: &Napi) -> Posts
-        requires posts { ArePosts napi.now self }
-        requires polls { (c : ℕ) × (polls_at self ≡ Some (c, false)) }
-        ensures acts { PostsAct (who_polls (polls_at self))
-            (operation.Hand kind.List ∷ []) napi.now self result }
-        ensures polls { polls_at result ≡ None }
-    {
-        match self {
-            Posts::ListPolls(polling, thread) => Posts::Rest(polling.requeue(napi), thread),
-            Posts::ThreadPolls(poller, polling) => Posts::Rest(poller, polling.requeue(napi)),
-            _ => unreachable!(),
-        }
-    }
-
-    // Who polls it completes it, and hands over what it is granted again.
-    fn complete<R: Wait>(self, rt: &R, napi: &Napi) -> (Posts, Option<Kind>)
-        requires posts { ArePosts napi.now self }
-        requires polls { (c : ℕ) × (polls_at self ≡ Some (c, false)) }
-        ensures acts { (os : List Operation) × EndsBy true (next_of result.1) os
-            × PostsAct (who_polls (polls_at self)) os napi.now self result.0 }
-        ensures polls { polls_at result.0 ≡ None }
-    {
-        match self {
-            Posts::ListPolls(polling, thread) => {
-                let (poller, again) = complete(rt, napi, polling);
-                (Posts::Rest(poller, thread), again)
-            }
-            Posts::ThreadPolls(poller, polling) => {
-                let (thread, again) = complete(rt, napi, polling);
-                (Posts::Rest(poller, thread), again)
-            }
-            _ => unreachable!(),
-        }
-    }
-
-    // The poller tries to take an instance that is idle, to busy poll it.
-    fn busy_take<R: Wait>(self, rt: &R, napi: &Napi) -> (Posts, bool)
-        requires { ArePosts napi.now self }
-        ensures acts { (os : List Operation) × TakesBusilyBy (nobody (polls_at self)) result.1 os
-            × PostsAct 1 os napi.now self result.0 }
-        ensures polls { polls_at result.0 ≡ (if result.1 then Some (1, true) else polls_at self) }
-    {
-        match self {
-            Posts::Rest(poller, thread) => match poller.busy(rt, napi) {
-                Ok(busy) => (Posts::PollsBusily(busy, thread), true),
-                Err(poller) => (Posts::Rest(poller, thread), false),
-            },
-            posts => (posts, false),
-        }
-    }
-
-    // The poller, who busy polls it, completes a poll.
-    fn hold(self, napi: &Napi) -> Posts
-        requires posts { ArePosts napi.now self }
-        requires polls { polls_at self ≡ Some (1, true) }
-        ensures acts { PostsAct 1 (operation.Complete Held ∷ []) napi.now self result }
-        ensures polls { polls_at result ≡ polls_at self }
-    {
-        match self {
-            Posts::PollsBusily(mut busy, thread) => {
-                busy.complete_held(napi);
-                Posts::PollsBusily(busy, thread)
-            }
-            _ => unreachable!(),
-        }
-    }
-
-    // The poller stops busy polling.
-    fn stop<R: Wait>(self, rt: &R, napi: &Napi) -> Posts
-        requires posts { ArePosts napi.now self }
-        requires polls { polls_at self ≡ Some (1, true) }
-        ensures acts { (os : List Operation) × StopsBy os × PostsAct 1 os napi.now self result }
-        ensures polls { polls_at result ≡ Some (1, false) }
-    {
-        match self {
-            Posts::PollsBusily(busy, thread) => Posts::ListPolls(busy.stop(rt, napi), thread),
-            _ => unreachable!(),
-        }
     }
 }
 
@@ -238,14 +115,39 @@ impl Seats {
             then polled_by (taker_of kind) false (role_of self.turn) else role_of self.turn) }
     {
         let Seats { interrupt, turn } = self;
-        let (turn, taken) = match turn {
-            Turn::On(posts, enabled) => {
-                let (posts, taken) = posts.take(napi, kind);
-                (Turn::On(posts, enabled), taken)
-            }
-            Turn::Off(poller, thread, control) => (Turn::Off(poller, thread, control), false),
+        let (posts, enabled) = match turn {
+            Turn::On(posts, enabled) => (posts, enabled),
+            turn => return (Seats { interrupt, turn }, false),
         };
-        (Seats { interrupt, turn }, taken)
+        let (poller, thread) = match posts {
+            Posts::Rest(poller, thread) => (poller, thread),
+            posts => {
+                let turn = Turn::On(posts, enabled);
+                return (Seats { interrupt, turn }, false);
+            }
+        };
+        match kind {
+            Kind::List => match poller.take(napi, kind) {
+                Ok(polling) => {
+                    let turn = Turn::On(Posts::ListPolls(polling, thread), enabled);
+                    (Seats { interrupt, turn }, true)
+                }
+                Err(poller) => {
+                    let turn = Turn::On(Posts::Rest(poller, thread), enabled);
+                    (Seats { interrupt, turn }, false)
+                }
+            },
+            Kind::Thread => match thread.take(napi, kind) {
+                Ok(polling) => {
+                    let turn = Turn::On(Posts::ThreadPolls(poller, polling), enabled);
+                    (Seats { interrupt, turn }, true)
+                }
+                Err(thread) => {
+                    let turn = Turn::On(Posts::Rest(poller, thread), enabled);
+                    (Seats { interrupt, turn }, false)
+                }
+            },
+        }
     }
 
     /// Who polls the instance hands it to the list again.
@@ -257,10 +159,15 @@ impl Seats {
         ensures role { role_of result.turn ≡ left_by (role_of self.turn) }
     {
         let Seats { interrupt, turn } = self;
-        let turn = match turn {
-            Turn::On(posts, enabled) => Turn::On(posts.requeue(napi), enabled),
+        let Turn::On(posts, enabled) = turn else {
+            unreachable!()
+        };
+        let (poller, thread) = match posts {
+            Posts::ListPolls(polling, thread) => (polling.requeue(napi), thread),
+            Posts::ThreadPolls(poller, polling) => (poller, polling.requeue(napi)),
             _ => unreachable!(),
         };
+        let turn = Turn::On(Posts::Rest(poller, thread), enabled);
         Seats { interrupt, turn }
     }
 
@@ -273,13 +180,21 @@ impl Seats {
         ensures role { role_of result.0.turn ≡ left_by (role_of self.turn) }
     {
         let Seats { interrupt, turn } = self;
-        let (turn, again) = match turn {
-            Turn::On(posts, enabled) => {
-                let (posts, again) = posts.complete(rt, napi);
-                (Turn::On(posts, enabled), again)
+        let Turn::On(posts, enabled) = turn else {
+            unreachable!()
+        };
+        let (poller, thread, again) = match posts {
+            Posts::ListPolls(polling, thread) => {
+                let (poller, again) = complete(rt, napi, polling, true);
+                (poller, thread, again)
+            }
+            Posts::ThreadPolls(poller, polling) => {
+                let (thread, again) = complete(rt, napi, polling, true);
+                (poller, thread, again)
             }
             _ => unreachable!(),
         };
+        let turn = Turn::On(Posts::Rest(poller, thread), enabled);
         (Seats { interrupt, turn }, again)
     }
 
@@ -293,14 +208,27 @@ impl Seats {
             ≡ (if result.1 then polled_by 1 true (role_of self.turn) else role_of self.turn) }
     {
         let Seats { interrupt, turn } = self;
-        let (turn, taken) = match turn {
-            Turn::On(posts, enabled) => {
-                let (posts, taken) = posts.busy_take(rt, napi);
-                (Turn::On(posts, enabled), taken)
-            }
-            Turn::Off(poller, thread, control) => (Turn::Off(poller, thread, control), false),
+        let (posts, enabled) = match turn {
+            Turn::On(posts, enabled) => (posts, enabled),
+            turn => return (Seats { interrupt, turn }, false),
         };
-        (Seats { interrupt, turn }, taken)
+        let (poller, thread) = match posts {
+            Posts::Rest(poller, thread) => (poller, thread),
+            posts => {
+                let turn = Turn::On(posts, enabled);
+                return (Seats { interrupt, turn }, false);
+            }
+        };
+        match poller.busy(rt, napi) {
+            Ok(busy) => {
+                let turn = Turn::On(Posts::PollsBusily(busy, thread), enabled);
+                (Seats { interrupt, turn }, true)
+            }
+            Err(poller) => {
+                let turn = Turn::On(Posts::Rest(poller, thread), enabled);
+                (Seats { interrupt, turn }, false)
+            }
+        }
     }
 
     /// The poller, who busy polls the instance, completes a poll.
@@ -311,10 +239,14 @@ impl Seats {
         ensures role { role_of result.turn ≡ role_of self.turn }
     {
         let Seats { interrupt, turn } = self;
-        let turn = match turn {
-            Turn::On(posts, enabled) => Turn::On(posts.hold(napi), enabled),
-            _ => unreachable!(),
+        let Turn::On(posts, enabled) = turn else {
+            unreachable!()
         };
+        let Posts::PollsBusily(mut busy, thread) = posts else {
+            unreachable!()
+        };
+        busy.complete_held(napi);
+        let turn = Turn::On(Posts::PollsBusily(busy, thread), enabled);
         Seats { interrupt, turn }
     }
 
@@ -326,10 +258,13 @@ impl Seats {
         ensures role { role_of result.turn ≡ polled_by 1 false (role_of self.turn) }
     {
         let Seats { interrupt, turn } = self;
-        let turn = match turn {
-            Turn::On(posts, enabled) => Turn::On(posts.stop(rt, napi), enabled),
-            _ => unreachable!(),
+        let Turn::On(posts, enabled) = turn else {
+            unreachable!()
         };
+        let Posts::PollsBusily(busy, thread) = posts else {
+            unreachable!()
+        };
+        let turn = Turn::On(Posts::ListPolls(busy.stop(rt, napi), thread), enabled);
         Seats { interrupt, turn }
     }
 

@@ -8,10 +8,11 @@ ghost use Rattle.device_shared.specs.Ending.{IsLater};
 ghost use Rattle.device_shared.specs.Seats.{ArePosts, AreTurned, IsSeatAt, control_of, enabled_pass};
 ghost use Rattle.device_shared.specs.SharedReceive.{HasRoom};
 
-use crate::acting::{complete, try_at_rest};
+use crate::acting::try_at_rest;
 use crate::seats::{Enabled, Posts, Turn};
 use napi_calls::{Caller, Control, Napi, Off};
 use napi_model::Kind;
+use poll_shared::complete;
 use rx_ring::{Batch, MAX_WEIGHT, RxCtx, RxIn, beside};
 use std::sync::Wait;
 
@@ -92,11 +93,11 @@ impl Posts {
                 },
             },
             Posts::ListPolls(polling, thread) => {
-                let (poller, _) = complete(rt, napi, polling);
+                let (poller, _) = complete(rt, napi, polling, true);
                 Posts::Rest(poller, thread)
             }
             Posts::ThreadPolls(poller, polling) => {
-                let (thread, _) = complete(rt, napi, polling);
+                let (thread, _) = complete(rt, napi, polling, true);
                 Posts::Rest(poller, thread)
             }
             Posts::PollsBusily(busy, thread) => Posts::ListPolls(busy.stop(rt, napi), thread),

@@ -1,11 +1,9 @@
 //! How a receive side is opened.
 
-ghost use Rattle.std.specs.Prelude.{◌≡◌, ◌≤◌, ◌++◌, [], ◌∷◌, length, vec_capacity};
-
 use crate::seats::{Seats, Turn};
 use crate::shared_receive::SharedReceive;
 use device_bench::Opener;
-use napi_calls::{Caller, Napi, NewBack};
+use napi_calls::{Napi, NewBack, next_caller};
 use rx_ring::{Batch, RingFault, ring};
 use std::alloc::{AllocError, Global};
 use std::sync::Wait;
@@ -22,17 +20,6 @@ impl<R: Wait + Copy + Drop> From<R> for SharedOpener<R> {
     }
 }
 
-// The last of an instance's callers.
-fn pop(callers: &mut Vec<Caller>) -> Caller
-    requires some { 1 ≤ length callers.old.items }
-    ensures last { callers.old.items ≡ callers.new.items ++ result ∷ [] }
-    ensures room { vec_capacity callers.new ≡ vec_capacity callers.old }
-{
-    let popped = callers.pop();
-    let Some(caller) = popped else { unreachable!() };
-    caller
-}
-
 impl<R: Wait + Copy + Drop> Opener<SharedReceive<R>> for SharedOpener<R> {
     fn open(&self, alloc: Global, capacity: u32) -> Result<SharedReceive<R>, AllocError> {
         let (mut input, ctx) = match ring(alloc, capacity as usize) {
@@ -46,9 +33,9 @@ impl<R: Wait + Copy + Drop> Opener<SharedReceive<R>> for SharedOpener<R> {
         };
         // So each place is known to be free.
         control.beside(&mut input);
-        let thread = pop(&mut callers);
-        let poller = pop(&mut callers);
-        let interrupt = pop(&mut callers);
+        let thread = next_caller(&napi, &mut callers);
+        let poller = next_caller(&napi, &mut callers);
+        let interrupt = next_caller(&napi, &mut callers);
         let turn = Turn::Off(poller, thread, control);
         let (seats, _) = Seats { interrupt, turn }.meet(&napi);
         let (seats, seen) = seats.enable(&self.rt, &napi, false).meet(&napi);

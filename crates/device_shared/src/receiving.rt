@@ -1,10 +1,10 @@
 //! A poll while both ends of the ring are in one hand.
 
-ghost use Rattle.std.specs.Prelude.{◌≡◌, ◌≤◌, ℕ, Bool, is_some, true};
+ghost use Rattle.std.specs.Prelude.{◌≡◌, ◌≤◌, ℕ, Bool};
 ghost use Rattle.napi_calls.specs.Seats.{IsInputOf};
 ghost use Rattle.device_shared.specs.Acting.{PolledBy};
-ghost use Rattle.device_shared.specs.Receiving.{FeedsPosts, PostsReceive, ReceivesNext, SeatsReceive};
-ghost use Rattle.device_shared.specs.Seats.{poller_of, polls_at, role_of, thread_of};
+ghost use Rattle.device_shared.specs.Receiving.{ReceivesNext, SeatsReceive};
+ghost use Rattle.device_shared.specs.Seats.{poller_of, role_of, thread_of};
 
 use crate::seats::{Posts, Seats, Turn};
 use napi_calls::{Busy, Polling};
@@ -36,16 +36,21 @@ fn poll_busily(busy: &mut Busy, input: &mut RxIn, weight: usize, batch: &mut Bat
     busy.beside(input);
 }
 
-impl Posts {
-    // Who polls the instance polls the ring.
-    fn receive(self, input: &mut RxIn, weight: usize, batch: &mut Batch) -> Posts
-        requires input { FeedsPosts input.old self }
+impl Seats {
+    /// Who polls the instance polls the ring. It is no event.
+    pub(crate) fn receive(self, input: &mut RxIn, weight: usize, batch: &mut Batch) -> Seats
+        requires one { IsInputOf input.old (poller_of self.turn) }
+        requires two { IsInputOf input.old (thread_of self.turn) }
         requires weight { (1 ≤ weight) × (weight ≤ MAX_WEIGHT) }
-        requires polls { is_some (polls_at self) ≡ true }
-        ensures next { PostsReceive weight input.old self input.new result batch.new.items }
-        ensures polls { polls_at result ≡ polls_at self }
+        requires polls { (c : ℕ) × (b : Bool) × PolledBy c b (role_of self.turn) }
+        ensures next { SeatsReceive weight input.old self input.new result batch.new.items }
+        ensures role { role_of result.turn ≡ role_of self.turn }
     {
-        match self {
+        let Seats { interrupt, turn } = self;
+        let Turn::On(posts, enabled) = turn else {
+            unreachable!()
+        };
+        let posts = match posts {
             Posts::ListPolls(mut polling, thread) => {
                 poll(&mut polling, input, weight, batch);
                 Posts::ListPolls(polling, thread)
@@ -59,25 +64,8 @@ impl Posts {
                 Posts::PollsBusily(busy, thread)
             }
             _ => unreachable!(),
-        }
-    }
-}
-
-impl Seats {
-    /// Who polls the instance polls the ring. It is no event.
-    pub(crate) fn receive(self, input: &mut RxIn, weight: usize, batch: &mut Batch) -> Seats
-        requires one { IsInputOf input.old (poller_of self.turn) }
-        requires two { IsInputOf input.old (thread_of self.turn) }
-        requires weight { (1 ≤ weight) × (weight ≤ MAX_WEIGHT) }
-        requires polls { (c : ℕ) × (b : Bool) × PolledBy c b (role_of self.turn) }
-        ensures next { SeatsReceive weight input.old self input.new result batch.new.items }
-        ensures role { role_of result.turn ≡ role_of self.turn }
-    {
-        let Seats { interrupt, turn } = self;
-        let turn = match turn {
-            Turn::On(posts, enabled) => Turn::On(posts.receive(input, weight, batch), enabled),
-            _ => unreachable!(),
         };
+        let turn = Turn::On(posts, enabled);
         Seats { interrupt, turn }
     }
 }

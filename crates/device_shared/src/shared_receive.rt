@@ -1,9 +1,8 @@
 //! The receive side of a device over an instance that threads could share.
 
-ghost use Rattle.std.specs.Prelude.{◌≡◌, ◌<◌, ◌≤◌, ◌^◌, ◌++◌, [], ◌∷◌, false, is_some, length, sum, Some};
+ghost use Rattle.std.specs.Prelude.{◌≡◌, false, is_some, Some};
 ghost use Rattle.device_shared.specs.Meeting.{Meets};
 ghost use Rattle.device_shared.specs.Seats.{AreSeats};
-ghost use Rattle.device_shared.specs.SharedReceive.{bytes_each};
 ghost use Rattle.device_shared.specs.declared.seats.Seats.{Seats};
 
 use crate::ending::{close, disable, empty};
@@ -12,7 +11,7 @@ use crate::seats::Seats;
 use device_bench::{ReceiveSide, SpentSide};
 use napi_calls::{Caller, Napi};
 use napi_model::{Kind, Prep, Seen};
-use rx_ring::{Batch, Packet, RxIn, Totals, finish};
+use rx_ring::{Batch, Packet, RxIn, Totals, batch_bytes, finish};
 use std::marker::Model;
 use std::sync::Wait;
 
@@ -122,7 +121,7 @@ impl<R: Wait + Drop> ReceiveSide for SharedReceive<R> {
         put_back(&mut self.seats, seats);
         let given = self.batch.len();
         self.held -= given;
-        (given as u32, byte_sum(self.batch.as_slice()))
+        (given as u32, batch_bytes(&self.batch))
     }
 
     fn requeue(&mut self) {
@@ -208,17 +207,4 @@ impl<R: Wait + Drop> SpentSide for SharedReceive<R> {
         empty(&mut input, &mut ctx);
         finish(input, ctx)
     }
-}
-
-// The bytes of a batch of packets together.
-fn byte_sum(batch: &[Packet]) -> u64
-    requires { length batch.now ≤ 64 }
-    ensures sum { result ≡ sum (bytes_each batch.now) }
-    ensures bound { result < 2 ^ 38 }
-{
-    let mut sum = 0;
-    for packet in batch {
-        sum += u64::from(packet.bytes);
-    }
-    sum
 }

@@ -1,5 +1,5 @@
 //! An instance is made, and closed.
-ghost use Rattle.std.specs.Prelude.{◌≡◌, ◌≢◌, ◌<◌, ◌≤◌, ◌+◌, ◌-◌, ℕ, [], length, IfOk, IfErr, Some, slice_get, false, vec_capacity};
+ghost use Rattle.std.specs.Prelude.{◌≡◌, ◌≢◌, ◌<◌, ◌≤◌, ◌+◌, ◌-◌, ℕ, [], ◌∷◌, ◌++◌, length, IfOk, IfErr, Some, slice_get, false, vec_capacity};
 ghost use Rattle.rx_ring.specs.declared.ends.RxCtx.{RxCtx};
 ghost use Rattle.napi_word.specs.declared.table.Pass.{Pass};
 ghost use Rattle.napi_word.specs.declared.table.StateTable.{StateTable};
@@ -43,7 +43,7 @@ pub fn next_caller(napi: &Napi, callers: &mut Vec<Caller>) -> Caller
     requires seats { (k : ℕ) (c : Caller) → slice_get callers.old.items k ≡ Some c
         → IsSeatOf napi.now c.pass }
     ensures caller { IsSeatOf napi.now result.pass }
-    ensures left { length callers.new.items + 1 ≡ length callers.old.items }
+    ensures left { callers.old.items ≡ callers.new.items ++ result ∷ [] }
     ensures seats { (k : ℕ) (c : Caller) → slice_get callers.new.items k ≡ Some c
         → IsSeatOf napi.now c.pass }
     ensures room { vec_capacity callers.new ≡ vec_capacity callers.old }

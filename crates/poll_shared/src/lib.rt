@@ -4,5 +4,5 @@
 mod seat;
 mod shared_instance;
 
-pub use seat::{Seat, hand_over};
+pub use seat::{complete, hand_over};
 pub use shared_instance::{busy_instance, poll_instance, poll_instance_by_thread};

@@ -1,7 +1,6 @@
 //! A caller's seat at an instance that threads share, in the sight of one that polls it.
 
-ghost use Rattle.std.specs.Prelude.{◌≡◌, ◌<◌, ◌^◌, List};
-ghost use Rattle.rx_ring.specs.ReceiveRing.{bytes_of};
+ghost use Rattle.std.specs.Prelude.{◌≡◌, List};
 ghost use Rattle.napi_model.specs.declared.event.Operation.{Operation};
 ghost use Rattle.napi_calls.specs.Dealt.{Delivers};
 ghost use Rattle.napi_calls.specs.Instance.{IsSeatOf};
@@ -13,7 +12,7 @@ ghost use Rattle.poll_shared.specs.SharedPolling.{EndsBy, HandsTo, kind_for};
 use napi_calls::{Busy, Caller, Completed, Granted, Napi, Polling};
 use napi_model::{Flags, Kind};
 use poll_runs::{BusyInstance, Instance};
-use rx_ring::{Batch, RxCounts};
+use rx_ring::{Batch, batch_bytes};
 use std::mem;
 use std::sync::Wait;
 
@@ -26,7 +25,7 @@ pub(crate) enum Hold {
 }
 
 /// The seat, by which the caller polls as an [`Instance`] does. It must be spent by [`rise`](Seat::rise).
-pub struct Seat<'a, R> {
+pub(crate) struct Seat<'a, R> {
     pub(crate) rt: &'a R,
     pub(crate) napi: &'a Napi,
     pub(crate) thread: bool,
@@ -60,8 +59,14 @@ pub fn hand_over(napi: &Napi, mut granted: Granted, thread: bool) -> (Caller, Ki
     (granted.hand(napi, kind), kind)
 }
 
-// Completes the instance, and hands it over where it is granted again; to whom.
-fn complete<R: Wait>(rt: &R, napi: &Napi, polling: Polling, thread: bool) -> (Caller, Option<Kind>)
+/// Completes an instance (`napi_complete_done`), and hands it over, as [`hand_over`] does, where it is granted again. Answers to
+/// whom: `None` where it was released.
+pub fn complete<R: Wait>(
+    rt: &R,
+    napi: &Napi,
+    polling: Polling,
+    thread: bool,
+) -> (Caller, Option<Kind>)
     requires { IsSeatOf napi.now polling.pass }
     ensures made { (os : List Operation) × Made polling.pass os result.0.pass
         × EndsBy thread (next_of result.1) os }
@@ -78,41 +83,11 @@ fn complete<R: Wait>(rt: &R, napi: &Napi, polling: Polling, thread: bool) -> (Ca
 
 impl<'a, R: Wait> Seat<'a, R> {
     ghost use Rattle.std.specs.Prelude.{◌≡◌};
-    ghost use Rattle.napi_calls.specs.declared.types.Polling.{Polling};
     ghost use Rattle.poll_shared.specs.Seat.{seat_in_busy, seat_in_hand, seat_rests};
     ghost use Rattle.poll_shared.specs.declared.seat.Hold.TheVariants.{Rests, Polls, PollsBusily, Gone};
-    ghost use Rattle.rx_ring.specs.Ends.{polls_of, received_list};
-    ghost use Rattle.rx_ring.specs.ReceiveRing.{counts_of};
-
-    /// The caller sits down. Where `thread` is true the instance has a thread of its own, to which it is handed after `Again`
-    /// where THREADED is seen; else every handing is to the list.
-    pub fn sit(rt: &'a R, napi: &'a Napi, thread: bool, caller: Caller) -> Seat<'a, R>
-        ensures napi { result.napi.now ≡ napi.now }
-        ensures thread { result.thread ≡ thread }
-        ensures hold { result.hold ≡ Rests caller }
-    {
-        Seat {
-            rt,
-            napi,
-            thread,
-            hold: Hold::Rests(caller),
-        }
-    }
-
-    /// What is counted of the polls of the instance so far.
-    pub fn counts(&self) -> RxCounts
-        requires { seat_in_hand self.now }
-        ensures { (polling : Polling) → self.now.hold ≡ Polls polling
-            → result ≡ counts_of (polls_of polling.ctx) (received_list polling.ctx) }
-    {
-        match &self.hold {
-            Hold::Polls(polling) => polling.counts(),
-            _ => unreachable!(),
-        }
-    }
 
     /// The caller, who polls no more.
-    pub fn rise(self) -> Caller
+    pub(crate) fn rise(self) -> Caller
         requires { seat_rests self }
         ensures { self.entry.hold ≡ Rests result }
     {
@@ -235,18 +210,6 @@ impl<'a, R: Wait> Instance for Seat<'a, R> {
     }
 }
 
-// The bytes of the packets of a batch.
-fn bytes_in(batch: &Batch) -> u64
-    ensures sum { result ≡ bytes_of batch.now.items }
-    ensures bound { result < 2 ^ 38 }
-{
-    let mut bytes = 0;
-    for packet in batch.as_slice() {
-        bytes += u64::from(packet.bytes);
-    }
-    bytes
-}
-
 impl<'a, R: Wait> BusyInstance for Seat<'a, R> {
     ghost use Rattle.rx_ring.specs.ReceiveRing.{bytes_of};
     ghost use Rattle.poll_shared.specs.Seat.{SeatBusyTakes, SeatHolds, SeatStops, seat_in_busy};
@@ -293,6 +256,6 @@ impl<'a, R: Wait> BusyInstance for Seat<'a, R> {
     }
 
     fn bytes_of(batch: &Batch) -> u64 {
-        bytes_in(batch)
+        batch_bytes(batch)
     }
 }

@@ -5,7 +5,7 @@ ghost use mathlib.Core.List.{IsPrefix};
 ghost use Rattle.rtrb.specs.Ring.{sent, received, known_items, known_free, producer_capacity, SameConsumer};
 ghost use Rattle.rx_ring.specs.ReceiveRing.{NAPI_POLL_WEIGHT, capped, bytes_of};
 
-use crate::packet::{Batch, MAX_WEIGHT, Packet, RxCounts};
+use crate::packet::{Batch, MAX_WEIGHT, Packet, RxCounts, batch_bytes};
 use rtrb::{Consumer, Producer, PushError};
 
 /// The end at which packets are put in: the interrupt's. It may go to a thread of its own.
@@ -158,7 +158,7 @@ fn take_known(consumer: &mut Consumer<Packet>, count: usize, bytes: u64, batch: 
     let Ok(()) = consumer.pop_entire_slice(batch.as_mut_slice()) else {
         unreachable!();
     };
-    add_bytes(batch.as_slice(), bytes)
+    bytes.saturating_add(batch_bytes(batch))
 }
 
 const BLANKS: [Packet; MAX_WEIGHT] = [Packet {
@@ -177,15 +177,4 @@ fn resize(batch: &mut Batch, count: usize)
             unreachable!();
         };
     }
-}
-
-// The bytes counted so far and those of these packets.
-fn add_bytes(packets: &[Packet], bytes: u64) -> u64
-    ensures { result ≡ capped (bytes + bytes_of packets.now) }
-{
-    let mut bytes = bytes;
-    for packet in packets {
-        bytes = bytes.saturating_add(u64::from(packet.bytes));
-    }
-    bytes
 }

@@ -14,5 +14,5 @@ mod pair;
 
 pub use ends::{RxCtx, RxIn};
 pub use fault::RingFault;
-pub use packet::{Batch, MAX_WEIGHT, Packet, RxCounts, Totals};
+pub use packet::{Batch, MAX_WEIGHT, Packet, RxCounts, Totals, batch_bytes};
 pub use pair::{MAX_CAPACITY, beside, finish, names_tell_rings, ring};

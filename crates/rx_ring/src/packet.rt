@@ -1,5 +1,8 @@
 //! Packets, the batches that polls give, and what is counted of them.
 
+ghost use Rattle.std.specs.Prelude.{◌≡◌, ◌<◌, ◌^◌};
+ghost use Rattle.rx_ring.specs.ReceiveRing.{bytes_of};
+
 use arrayvec::ArrayVec;
 
 /// A packet, as far as the ring is concerned.
@@ -17,6 +20,18 @@ pub const MAX_WEIGHT: usize = 64;
 
 /// What one poll gave. It has room for a poll of the greatest weight, and takes no memory.
 pub type Batch = ArrayVec<Packet, MAX_WEIGHT>;
+
+/// The bytes of a batch's packets together.
+pub fn batch_bytes(batch: &Batch) -> u64
+    ensures sum { result ≡ bytes_of batch.now.items }
+    ensures bound { result < 2 ^ 38 }
+{
+    let mut bytes = 0;
+    for packet in batch.as_slice() {
+        bytes += u64::from(packet.bytes);
+    }
+    bytes
+}
 
 /// What is counted of a context's polls. Each count stays at its greatest value.
 #[derive(Clone, Copy, Debug, PartialEq, Eq)]

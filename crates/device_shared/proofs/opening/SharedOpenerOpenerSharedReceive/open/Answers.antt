@@ -13,10 +13,10 @@ meet-seats-requires g c =
     let e = c.in-Ok-new.ensures in
     let made = c.in-Ok-new.made in
     let given = c.beside.new.self.state.ctx in
-    let t0 : Seats = record { interrupt = c.pop-interrupt.result; turn = turn.Off c.pop-poller.result c.pop-thread.result c.beside.new.self } in
-    let k = are_new made.0 t0 given made.1.items c.pop-thread.new.callers.items c.pop-poller.new.callers.items c.pop-interrupt.new.callers.items
-    c.pop-interrupt.result c.pop-poller.result c.pop-thread.result made.2.pass
-    c.pop-thread.ensures.last c.pop-poller.ensures.last c.pop-interrupt.ensures.last e.count.2 e.count.1 e.callers e.control c.beside.ensures.pass refl refl refl refl refl in
+    let t0 : Seats = record { interrupt = c.next_caller-interrupt.result; turn = turn.Off c.next_caller-poller.result c.next_caller-thread.result c.beside.new.self } in
+    let k = are_new made.0 t0 given made.1.items c.next_caller-thread.new.callers.items c.next_caller-poller.new.callers.items c.next_caller-interrupt.new.callers.items
+    c.next_caller-interrupt.result c.next_caller-poller.result c.next_caller-thread.result made.2.pass
+    c.next_caller-thread.ensures.left c.next_caller-poller.ensures.left c.next_caller-interrupt.ensures.left e.count.2 e.count.1 e.callers e.control c.beside.ensures.pass refl refl refl refl refl in
     new_seats made.0 t0 given k
 
 pub enable-requires-clause-seats : goal.enable-requires-clause-seats
@@ -24,10 +24,10 @@ enable-requires-clause-seats g c =
     let e = c.in-Ok-new.ensures in
     let made = c.in-Ok-new.made in
     let given = c.beside.new.self.state.ctx in
-    let t0 : Seats = record { interrupt = c.pop-interrupt.result; turn = turn.Off c.pop-poller.result c.pop-thread.result c.beside.new.self } in
-    let k = are_new made.0 t0 given made.1.items c.pop-thread.new.callers.items c.pop-poller.new.callers.items c.pop-interrupt.new.callers.items
-    c.pop-interrupt.result c.pop-poller.result c.pop-thread.result made.2.pass
-    c.pop-thread.ensures.last c.pop-poller.ensures.last c.pop-interrupt.ensures.last e.count.2 e.count.1 e.callers e.control c.beside.ensures.pass refl refl refl refl refl in
+    let t0 : Seats = record { interrupt = c.next_caller-interrupt.result; turn = turn.Off c.next_caller-poller.result c.next_caller-thread.result c.beside.new.self } in
+    let k = are_new made.0 t0 given made.1.items c.next_caller-thread.new.callers.items c.next_caller-poller.new.callers.items c.next_caller-interrupt.new.callers.items
+    c.next_caller-interrupt.result c.next_caller-poller.result c.next_caller-thread.result made.2.pass
+    c.next_caller-thread.ensures.left c.next_caller-poller.ensures.left c.next_caller-interrupt.ensures.left e.count.2 e.count.1 e.callers e.control c.beside.ensures.pass refl refl refl refl refl in
     let met = c.meet-seats.ensures in
     (met_show made.0 t0 given k c.meet-seats.result.0 c.meet-seats.result.1 met).seats
 
@@ -39,10 +39,10 @@ invariant_of-result g c =
     let e = c.in-Ok-new.ensures in
     let made = c.in-Ok-new.made in
     let given = c.beside.new.self.state.ctx in
-    let t0 : Seats = record { interrupt = c.pop-interrupt.result; turn = turn.Off c.pop-poller.result c.pop-thread.result c.beside.new.self } in
-    let k = are_new made.0 t0 given made.1.items c.pop-thread.new.callers.items c.pop-poller.new.callers.items c.pop-interrupt.new.callers.items
-    c.pop-interrupt.result c.pop-poller.result c.pop-thread.result made.2.pass
-    c.pop-thread.ensures.last c.pop-poller.ensures.last c.pop-interrupt.ensures.last e.count.2 e.count.1 e.callers e.control c.beside.ensures.pass refl refl refl refl refl in
+    let t0 : Seats = record { interrupt = c.next_caller-interrupt.result; turn = turn.Off c.next_caller-poller.result c.next_caller-thread.result c.beside.new.self } in
+    let k = are_new made.0 t0 given made.1.items c.next_caller-thread.new.callers.items c.next_caller-poller.new.callers.items c.next_caller-interrupt.new.callers.items
+    c.next_caller-interrupt.result c.next_caller-poller.result c.next_caller-thread.result made.2.pass
+    c.next_caller-thread.ensures.left c.next_caller-poller.ensures.left c.next_caller-interrupt.ensures.left e.count.2 e.count.1 e.callers e.control c.beside.ensures.pass refl refl refl refl refl in
     let met = c.meet-seats.ensures in
     let a = c.enable.ensures.acts in
     let m = c.beside.ensures.meets in
@@ -52,8 +52,8 @@ invariant_of-result g c =
     let empty : put_list c.beside.new.input ≡ [] = ap (λ (r : ReceiveRing). r.put) m.same_lists ∙ ends.empty.0 in
     let held : length (drop (length (received_list made.2.state.ctx)) (put_list c.in-Ok.ends.0)) ≡ 0 = rw (got, ends.empty.0) refl in
     let free : c.args.capacity ≤ free_of c.beside.new.input = omega (arith, m.free, held, ends.capacity) in
-    let left = none_left made.1.items c.pop-thread.new.callers.items c.pop-poller.new.callers.items c.pop-interrupt.new.callers.items c.pop-interrupt.result c.pop-poller.result c.pop-thread.result
-    c.pop-thread.ensures.last c.pop-poller.ensures.last c.pop-interrupt.ensures.last e.count.2 in
+    let left = none_left made.1.items c.next_caller-thread.new.callers.items c.next_caller-poller.new.callers.items c.next_caller-interrupt.new.callers.items c.next_caller-interrupt.result c.next_caller-poller.result c.next_caller-thread.result
+    c.next_caller-thread.ensures.left c.next_caller-poller.ensures.left c.next_caller-interrupt.ensures.left e.count.2 in
     let one = one_still c.in-Ok.ends.0 c.beside.new.input c.in-Ok.ends.1 m.same_input ends.one in (
       opened_whole made.0 t0 given k c.meet-seats.result.0 c.meet-seats.result.1 met c.beside.new.input c.args.capacity a.0 c.enable.result c.meet-seats-2.result.0 c.meet-seats-2.result.1
           a.2 c.meet-seats-2.ensures a.1 c.enable.ensures.role c.in-Ok.ends.1 e.ring one (m.same_input.1 ∙ ends.capacity) empty none free,
@@ -65,10 +65,10 @@ returns g c =
     let e = c.in-Ok-new.ensures in
     let made = c.in-Ok-new.made in
     let given = c.beside.new.self.state.ctx in
-    let t0 : Seats = record { interrupt = c.pop-interrupt.result; turn = turn.Off c.pop-poller.result c.pop-thread.result c.beside.new.self } in
-    let k = are_new made.0 t0 given made.1.items c.pop-thread.new.callers.items c.pop-poller.new.callers.items c.pop-interrupt.new.callers.items
-    c.pop-interrupt.result c.pop-poller.result c.pop-thread.result made.2.pass
-    c.pop-thread.ensures.last c.pop-poller.ensures.last c.pop-interrupt.ensures.last e.count.2 e.count.1 e.callers e.control c.beside.ensures.pass refl refl refl refl refl in
+    let t0 : Seats = record { interrupt = c.next_caller-interrupt.result; turn = turn.Off c.next_caller-poller.result c.next_caller-thread.result c.beside.new.self } in
+    let k = are_new made.0 t0 given made.1.items c.next_caller-thread.new.callers.items c.next_caller-poller.new.callers.items c.next_caller-interrupt.new.callers.items
+    c.next_caller-interrupt.result c.next_caller-poller.result c.next_caller-thread.result made.2.pass
+    c.next_caller-thread.ensures.left c.next_caller-poller.ensures.left c.next_caller-interrupt.ensures.left e.count.2 e.count.1 e.callers e.control c.beside.ensures.pass refl refl refl refl refl in
     let met = c.meet-seats.ensures in
     let a = c.enable.ensures.acts in
     let m = c.beside.ensures.meets in

@@ -1,5 +1,5 @@
-use Rattle.{std.proofs.Common.{◌∙◌, List, ap, sum}, rx_ring.specs.declared.packet.Packet.Packet, device_bench.specs.Receive.{ReceiveView, is_polling}}
-use Rattle.device_shared.{specs.{Seats.{role_of, state_in}, SharedReceive.bytes_each}, proofs.{Reading.polling_of, RingFacts.{bytes_given, input_of_two, received_side, received_whole, side_in, whole_in}}}
+use Rattle.{std.proofs.Common.{◌∙◌, ap}, device_bench.specs.Receive.{ReceiveView, is_polling}}
+use Rattle.device_shared.{specs.Seats.{role_of, state_in}, proofs.{Reading.polling_of, RingFacts.{bytes_given, input_of_two, received_side, received_whole, side_in, whole_in}}}
 use Rattle.device_shared.proofs.shared_receive.SharedReceiveReceiveSide.receive.Goals as goal
 
 pub receive-seats-requires-clause-one : goal.receive-seats-requires-clause-one
@@ -42,8 +42,7 @@ returns-clause-bytes g c =
     let r = c.receive-seats in
     let w = whole_in i.napi i.seats s i.input i.held i.capacity i.seen c.take_out-seats.ensures.was c.self.invariant.0 in
     let view = side_in i.seats s i.input i.capacity c.args.self.now c.take_out-seats.ensures.was c.self.view_is in
-    c.byte_sum.ensures.sum ∙ ap (λ (l : List Packet). sum (bytes_each l)) c.as_slice.ensures.value
-    ∙ bytes_given i.napi c.args.weight s r.result i.input r.new.input r.new.batch.items i.held i.capacity i.seen w r.ensures.next c.args.self.now view
+    c.batch_bytes.ensures.sum ∙ bytes_given i.napi c.args.weight s r.result i.input r.new.input r.new.batch.items i.held i.capacity i.seen w r.ensures.next c.args.self.now view
 
 pub returns-clause-side : goal.returns-clause-side
 returns-clause-side g c =

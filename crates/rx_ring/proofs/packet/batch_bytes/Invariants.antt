@@ -1,5 +1,5 @@
 use Rattle.{std.proofs.Common.{◌≡◌, ◌+◌, ◌*◌, ◌≤◌, drop}, rx_ring.specs.ReceiveRing.bytes_of}
-use Rattle.poll_shared.proofs.seat.bytes_in.Given as goal
+use Rattle.rx_ring.proofs.packet.batch_bytes.Given as goal
 
 abbrev pub invariant-loop-packet : goal.invariant-loop-packet
 invariant-loop-packet l = record {
