@@ -1,6 +1,6 @@
 #!/usr/bin/env bash
 # Times pairs of `queued` and `completed` beside Linux's own text of them: `lib/dynamic_queue_limits.c` with its header, taken
-# into a scratch folder out of Debian's package linux-source-6.12, or out of the folder LINUX of sources, and compiled there
+# by scripts/linux_source.sh out of Debian's package linux-source-6.12, or out of the folder LINUX of sources, and compiled
 # by cc -O2 with kernel_limits.c, which stands in for the kernel's headers. Nothing of it is kept. crates/bench_limits makes the
 # same calls; both print the same counts, which are compared. Three rounds in turn; the best time of each is shown. Where
 # neither the package nor a folder is at hand it says so, with status 0: then nothing was compared.
@@ -19,24 +19,7 @@ work=$(mktemp -d)
 trap 'rm -rf "$work"' EXIT
 files=(lib/dynamic_queue_limits.c include/linux/dynamic_queue_limits.h)
 
-# fetch: the two files of Debian's package, in the scratch folder.
-fetch() {
-    command -v apt-get > /dev/null && command -v dpkg-deb > /dev/null || return 1
-    (cd "$work" && apt-get download linux-source-6.12 > fetch.log 2>&1) || return 1
-    dpkg-deb --fsys-tarfile "$work"/linux-source-6.12_*.deb | tar -x -C "$work" ./usr/src/linux-source-6.12.tar.xz
-    tar -x -J -f "$work/usr/src/linux-source-6.12.tar.xz" -C "$work" --strip-components=1 "${files[@]/#/linux-source-6.12/}"
-}
-
-if [ -n "${LINUX:-}" ]; then
-    for file in "${files[@]}"; do
-        [ -f "$LINUX/$file" ] || refuse "LINUX is '$LINUX', which has no $file"
-        mkdir -p "$work/$(dirname "$file")"
-        cp "$LINUX/$file" "$work/$file"
-    done
-elif ! fetch; then
-    echo 'linux-source-6.12 is not at hand, and LINUX names no sources: nothing was compared'
-    exit 0
-fi
+"$bench/../scripts/linux_source.sh" 6.12 "$work" "${files[@]}" || { [ $? = 69 ] && exit 0 || exit 64; }
 
 "$bench/../scripts/build.sh" bench_limits
 cp "$bench/../crates/bench_limits/out/bench_limits" "$work/dql_core"

@@ -118,6 +118,7 @@ class Trace:
         return "\n".join([header] + self.lines) + "\n"
 
 
-if len(sys.argv) not in (2, 3) or not sys.argv[1].isdigit() or sys.argv[2:] not in ([], ["1"], ["2"]):
-    sys.exit(__doc__)
-sys.stdout.write(Trace(int(sys.argv[1]), int((sys.argv[2:] or ["1"])[0])).text())
+if __name__ == "__main__":
+    if len(sys.argv) not in (2, 3) or not sys.argv[1].isdigit() or sys.argv[2:] not in ([], ["1"], ["2"]):
+        sys.exit(__doc__)
+    sys.stdout.write(Trace(int(sys.argv[1]), int((sys.argv[2:] or ["1"])[0])).text())

@@ -3,11 +3,12 @@
 
 Serial mode is the judge of shared mode, and of SERIAL, which has serial mode alone: the runs of runs.txt, and random traces of
 both versions by several settings. Of a trace that is cut anywhere, the rules of docs/FORMATS.md, written down here anew, say whether it has a fault, and which."""
-import itertools
 import os
 import re
 import subprocess
 import sys
+
+from runs import runs
 
 TESTS = os.path.dirname(os.path.abspath(__file__))
 PROGRAM, SERIAL = sys.argv[1:]
@@ -108,21 +109,6 @@ def cut_traces():
         judge("cut traces, %s mode" % mode, not wrong, "cut behind byte %s" % wrong[:8])
         for text, line in NAMED_CUTS:
             judge("%r, %s mode" % (text[-12:], mode), play(text.encode(), ["--mode", mode]) == (2, b"", (line + "\n").encode()))
-
-
-def runs():
-    """The runs of runs.txt: name, words, input."""
-    name, words, text = None, [], []
-    for line in itertools.chain(open(os.path.join(TESTS, "runs.txt"), errors="surrogateescape"), ["run"]):
-        kind, _, rest = line.rstrip("\n").partition(" ")
-        if kind == "run":
-            if name:
-                yield name, words, "".join(text).encode(errors="surrogateescape")
-            name, words, text = rest, [], []
-        elif kind == "word":
-            words.append(rest)
-        elif kind == "in" or kind.startswith("in*"):
-            text.append((rest + "\n") * int(kind[3:] or 1))
 
 
 def without_pollers(words):

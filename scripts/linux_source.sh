@@ -1,0 +1,41 @@
+#!/usr/bin/env bash
+# scripts/linux_source.sh VERSION FOLDER FILE ..: puts these files of Linux's sources into FOLDER: out of the folder LINUX, if
+# that is set, else out of Debian's package linux-source-VERSION by apt-get. What was taken from a package is kept in out/, where
+# git doesn't look, so that it is fetched once; nothing of it belongs to the repository.
+# Exit status: 0; 64 LINUX has no such file; 69 there is no package, and LINUX isn't set.
+set -euo pipefail
+unset CDPATH
+top=$(dirname "$(dirname "$(readlink -f "${BASH_SOURCE[0]}")")")
+# shellcheck source=scripts/arguments.sh
+. "$top/scripts/arguments.sh"
+version=$1
+folder=$2
+shift 2
+kept=$top/out/linux-$version
+
+# fetch FILE ..: these files of Debian's package.
+fetch() {
+    command -v apt-get > /dev/null && command -v dpkg-deb > /dev/null || return 1
+    work=$(mktemp -d)
+    trap 'rm -rf "$work"' EXIT
+    (cd "$work" && apt-get download "linux-source-$version" > fetch.log 2>&1) || return 1
+    dpkg-deb --fsys-tarfile "$work"/linux-source-*.deb | tar -x -C "$work" "./usr/src/linux-source-$version.tar.xz"
+    mkdir -p "$work/files" "$kept"
+    tar -x -J -f "$work/usr/src/linux-source-$version.tar.xz" -C "$work/files" --strip-components=1 --occurrence "${@/#/linux-source-$version/}"
+    cp -r "$work/files/." "$kept"
+}
+
+from=${LINUX:-$kept}
+missing=()
+for file in "$@"; do [ -f "$from/$file" ] || missing+=("$file"); done
+if [ "${#missing[@]}" != 0 ]; then
+    [ -z "${LINUX:-}" ] || refuse "LINUX is '$LINUX', which has no ${missing[*]}"
+    if ! fetch "$@"; then
+        echo "linux-source-$version is not at hand, and LINUX names no sources: nothing was compared"
+        exit 69
+    fi
+fi
+for file in "$@"; do
+    mkdir -p "$folder/$(dirname "$file")"
+    cp "$from/$file" "$folder/$file"
+done

@@ -1,0 +1,96 @@
+#!/usr/bin/env bash
+# tests/kernel.sh: Linux's own functions beside the program. They are taken by their names out of Debian's packages
+# linux-source-6.12 and, for the queue limit, linux-source-6.1 (or all of them out of the folder LINUX of sources) into a scratch
+# folder, built there over tests/kernel/, and play the same traces as napi_serial: each report has to be the same, byte by byte.
+# A report that isn't is shown with its smallest trace. Where the sources aren't at hand it says so, and passes over it. Nothing of
+# the kernel's is kept in the repository. The last line is `N passed, M failed`. Needs python3 and a C compiler.
+#
+# usage: [LINUX=FOLDER] tests/kernel.sh [--traces N] [--small ROWS] [--seed N]
+#   --traces N    random traces (5000)
+#   --small ROWS  all traces of up to so many rows behind the first ones (4)
+#   --seed N      the first random trace (1)
+# PROGRAM=FILE names another build of napi_serial.
+set -uo pipefail
+unset CDPATH
+top=$(dirname "$(dirname "$(readlink -f "$0")")")
+kernel=$top/tests/kernel
+scratch=$(mktemp -d)
+trap 'rm -rf "$scratch"' EXIT
+# shellcheck source=scripts/checks.sh
+. "$top/scripts/checks.sh"
+
+pass_over() {
+    echo "kernel: passed over: $*"
+    echo '0 passed, 0 failed'
+    exit 0
+}
+command -v python3 > /dev/null || pass_over 'there is no python3'
+command -v cc > /dev/null || pass_over 'there is no C compiler'
+limit=(lib/dynamic_queue_limits.c include/linux/dynamic_queue_limits.h)
+"$top/scripts/linux_source.sh" 6.12 "$scratch/6.12" Makefile net/core/dev.c include/linux/{netdevice,list}.h "${limit[@]}" || {
+    [ $? = 69 ] || exit 1
+    pass_over 'there are no sources of Linux'
+}
+# Kernels after 6.6 detect stalls of a queue; this stays off here, so a limit of theirs stands in where 6.1's isn't at hand.
+"$top/scripts/linux_source.sh" 6.1 "$scratch/6.1" Makefile "${limit[@]}" > /dev/null || cp -r "$scratch/6.12" "$scratch/6.1"
+
+release() { sed -n 's/^\(VERSION\|PATCHLEVEL\|SUBLEVEL\) = //p' "$scratch/$1/Makefile" | paste -s -d .; }
+
+# take NAME WORD ..: what extract.py takes out of the sources of 6.12, as NAME.
+take() { python3 -B "$kernel/extract.py" "$scratch/6.12" "${@:2}" > "$scratch/$1"; }
+
+extract() {
+    take lists.h include/linux/list.h: LIST_HEAD_INIT LIST_HEAD list_entry list_first_entry list_next_entry list_is_head list_entry_is_head \
+        list_for_each_entry INIT_LIST_HEAD __list_add list_add_tail __list_del __list_del_entry list_empty list_del_init __list_splice \
+        list_splice list_splice_tail list_splice_init list_splice_tail_init &&
+        take instances.h include/linux/netdevice.h: NAPI_STATE_SCHED NAPIF_STATE_SCHED napi_disable_pending napi_prefer_busy_poll \
+            napi_is_scheduled net/core/dev.c: ____napi_schedule __napi_schedule napi_schedule_prep napi_complete_done &&
+        take polls.h include/linux/netdevice.h: napi_complete napi_schedule net/core/dev.c: NAPI_F_PREFER_BUSY_POLL __busy_poll_stop \
+            busy_poll_stop __napi_busy_loop napi_busy_loop napi_kthread_create netif_napi_add_weight dev_set_threaded napi_disable \
+            napi_enable __napi_poll napi_poll napi_thread_wait napi_threaded_poll_loop napi_threaded_poll net_rx_action &&
+        take queues.h include/linux/netdevice.h: __QUEUE_STATE_DRV_XOFF netdev_tx_sent_queue netdev_tx_completed_queue
+}
+
+# stand_in: what the headers hold that the queue limit names is in stubs.h; they themselves are empty.
+stand_in() {
+    sed -n 's/^#include <\(.*\)>.*/\1/p' "$scratch/6.1"/{lib/*.c,include/linux/dynamic*.h} | sort -u | while read -r header; do
+        [ "$header" != linux/dynamic_queue_limits.h ] || continue
+        mkdir -p "$scratch/stand_in/$(dirname "$header")"
+        : > "$scratch/stand_in/$header"
+    done
+}
+
+# build NAME: the functions that lie in the scratch folder, as a program.
+build() {
+    cc -O1 -w -D_GNU_SOURCE -I "$scratch" -I "$scratch/stand_in" -I "$scratch/6.1/include" -include "$kernel/stubs.h" \
+        -o "$scratch/$1" "$kernel/devices.c" "$scratch/6.1/lib/dynamic_queue_limits.c"
+}
+
+# differs NAME FILE FROM TO: the functions with one change, planted in FILE, give another report.
+differs() {
+    local name=$1 file=$scratch/$2
+    cp "$file" "$scratch/kept"
+    [ "$(grep -c -F -- "$3" "$file")" = 1 ] && awk -v from="$3" -v to="$4" \
+        '(at = index($0, from)) { $0 = substr($0, 1, at - 1) to substr($0, at + length(from)) } { print }' "$scratch/kept" > "$file" &&
+        build "$name" && ! compare "$scratch/$name" --small 3 --traces 200 --stop > "$scratch/$name.log" && grep -q 'differs; its smallest trace' "$scratch/$name.log"
+    local status=$?
+    cp "$scratch/kept" "$file"
+    return "$status"
+}
+
+# compare KERNEL WORD ..: napi_serial beside these functions.
+compare() { python3 -B "$kernel/compare.py" "${PROGRAM:-$top/crates/napi_serial/out/napi_serial}" "$@"; }
+
+check 'each function is found by its name' extract
+stand_in
+check 'they are built over stubs' build linux
+[ -n "${PROGRAM:-}" ] || check 'napi_serial stands' "$top/scripts/build.sh" napi_serial
+[ "$failed" = 0 ] || { sum_up; exit 1; }
+echo "net/core/dev.c of Linux $(release 6.12), lib/dynamic_queue_limits.c of Linux $(release 6.1)"
+check 'each report is the same' compare "$scratch/linux" "$@"
+cat "$scratch/log"
+check 'a name that is not there is told' eval '! take none.h net/core/dev.c: napi_schedule_prep napi_no_such_function'
+check 'a request that is not missed is seen' differs request-not-missed instances.h 'NAPIF_STATE_SCHED) / NAPIF_STATE_SCHED *' 'NAPIF_STATE_SCHED) / NAPIF_STATE_SCHED * 0 *'
+check 'a repoll in front of what arrived is seen' differs repolls-before-arrivals polls.h 'list_splice_tail(&repoll, &list)' 'list_splice(&repoll, &list)'
+check 'a slack of the new limit is seen' differs slack-from-new-limit 6.1/lib/dynamic_queue_limits.c 'slack = POSDIFF(limit + dql->prev_ovlimit,' 'slack = POSDIFF(limit,'
+sum_up

@@ -1,0 +1,42 @@
+#!/usr/bin/env python3
+"""Takes definitions out of Linux's sources by their names, and prints them in the order that is asked for.
+
+usage: extract.py FOLDER FILE: NAME .. [FILE: NAME ..] ..
+
+A name is a function's, a macro's, or that of the first constant of an enum. One that isn't there exactly once is told, with
+status 1, and nothing is printed.
+"""
+import pathlib
+import re
+import sys
+
+FORMS = [
+    r"^[a-z](?:[^\n;=]|,\n)*?\b{}\([^;{{}}]*\)\n\{{\n.*?^\}}\n",  # a function
+    r"^#define {}\b(?:[^\n]*\\\n)*[^\n]*\n",
+    r"^enum (?:\w+ )?\{{\n\s*{}\b.*?^\}};\n",
+]
+
+
+def definition(text, name):
+    """The one definition of that name, or None."""
+    found = [match[0] for form in FORMS for match in re.finditer(form.format(re.escape(name)), text, re.M | re.S)]
+    return found[0] if len(found) == 1 else None
+
+
+def main(words):
+    folder, text, file, parts = pathlib.Path(words[0]), "", "", []
+    for word in words[1:]:
+        if word.endswith(":"):
+            file = word[:-1]
+            text = (folder / file).read_text()
+            continue
+        part = definition(text, word)
+        if part is None:
+            sys.exit(f"{file} has no {word}, or more than one")
+        parts.append(part)
+    print("\n".join(parts), end="")
+
+
+if len(sys.argv) < 4:
+    sys.exit(__doc__)
+main(sys.argv[1:])

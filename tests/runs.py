@@ -1,0 +1,20 @@
+"""The runs of runs.txt, for the scripts that play them."""
+import itertools
+import os
+
+TESTS = os.path.dirname(os.path.abspath(__file__))
+
+
+def runs():
+    """The runs of runs.txt: name, words, input."""
+    name, words, text = None, [], []
+    for line in itertools.chain(open(os.path.join(TESTS, "runs.txt"), errors="surrogateescape"), ["run"]):
+        kind, _, rest = line.rstrip("\n").partition(" ")
+        if kind == "run":
+            if name:
+                yield name, words, "".join(text).encode(errors="surrogateescape")
+            name, words, text = rest, [], []
+        elif kind == "word":
+            words.append(rest)
+        elif kind == "in" or kind.startswith("in*"):
+            text.append((rest + "\n") * int(kind[3:] or 1))
