@@ -1,6 +1,6 @@
 /* The loops of the waiting forms against each other, on the word of one instance: two schedulers, a poller, and a controller
-   that disables and enables. Each line names the crate's file and the function that it stands for; tests/models.sh checks it, and
-   that these functions are as they were when the model was last read beside them (stands_for.txt).
+   that disables and enables. A line names the crate's file and the function that it stands for, unless it only counts;
+   tests/models.sh checks that these functions are as they were when the model was last read beside them (stands_for.txt).
 
    ENDLESS 1: the schedulers ask for polls for ever, each poll may give its whole weight, and each disable has to end.
    ENDLESS 0: each scheduler asks ASKS times, REPOLLS polls give their whole weight, and all have to end.
@@ -32,7 +32,7 @@ bool is_polled, is_controlled = true;
 byte schedulers_ended; bool told, poller_ended, controller_ended;
 
 /* Moves the word from `seen` to `wanted`, and then `owner` is so; `won` tells whether nobody was faster. */
-#define exchange(wanted, owner) atomic { won = (word == seen); if :: won -> word = wanted; owner :: else fi }  /* kit atomic_table compare_exchange */
+#define exchange(wanted, owner) atomic { won = (word == seen); if :: won -> word = wanted; owner :: else fi }    /* kit atomic_table compare_exchange */
 
 proctype Scheduler() {
     byte asks, seen; bool won;

@@ -1,6 +1,6 @@
 /* How the threads of run_workers sleep and wake: WORKERS workers, of which worker 0 has a thread of its instance's own where
-   WITH_THREAD is 1, and one poller. Each line names the crate's file and the function that it stands for; tests/models.sh checks it, and that these
-   functions are as they were when the model was last read beside them (stands_for.txt).
+   WITH_THREAD is 1, and one poller. A line names the crate's file and the function that it stands for, unless it only counts;
+   tests/models.sh checks that these functions are as they were when the model was last read beside them (stands_for.txt).
 
    Left out, so that the states are few: a waiting call that tries again is one step (waiting.pml has these loops); the weight,
    the ring's places and the window of a list are 1; memory is sequentially consistent; memory is never refused.

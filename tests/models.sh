@@ -81,7 +81,7 @@ search() {
 plan() {
     cat << 'PLAN'
 one-worker wake.pml -DWORKERS=1,-DACTS=3 safe ends polled
-two-workers wake.pml -DWORKERS=2,-DACTS=2 safe ends polled
+two-workers wake.pml -DWORKERS=2,-DACTS=2,-DWITH_THREAD=0 safe ends polled
 finite waiting.pml -DENDLESS=0,-DDISABLES=1,-DREPOLLS=1 safe ends taken
 endless waiting.pml -DENDLESS=1 safe taken
 a-thread-that-isnt-woken wake.pml -DACTS=2,-DFAULT=1 refused polled
