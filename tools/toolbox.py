@@ -322,10 +322,11 @@ def begun(command, among, **ends):
         among.add(process)
     finally:
         Signals.begins = not is_main and Signals.begins
+    if Signals.is_over or is_main and Signals.waiting:
+        process.terminate() if among is not running else process.kill()
+        process.wait()
     if is_main and Signals.waiting:
         Signals.take(Signals.waiting)
-    if Signals.is_over and among is running:
-        process.kill()
     return process
 
 
