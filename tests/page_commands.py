@@ -21,7 +21,7 @@ PROGRAMS = set("""rt cc gcc g++ clang clang++ c++ make cmake ctest cargo rustc p
 FOLDERS = r"(?:\./|\.\./)*(?:bench|crates|bindings|examples|scripts|tests|tools)/[\w./-]+"
 SETTINGS = re.compile(r"^([A-Z_]+=\S+ )+")
 SYNOPSIS = re.compile(r"\[[A-Z-]| \.\.(?: |$)|\.\.\]| \| -|[A-Z]\|[A-Z]")
-BY_HAND = re.compile(r"(rt|apt|git grep|head) |bench/|scripts/surface")
+BY_HAND = re.compile(r"(rt|apt|perf|git grep|head) |bench/|scripts/surface")
 KEYS = {"run", "first", "into", "needs", "prints", "in", "by", "not"}
 
 

@@ -4,6 +4,7 @@ A tool imports it first, and it imports nothing that takes long: Ctrl-C ends a t
 and `run_tool` takes signals from then on.
 """
 
+import _thread
 import os
 import signal
 import sys
@@ -21,6 +22,7 @@ HEADERS = {"moment,device,event,value": 1, "moment,device,event,value,2": 2}
 RANGES = {"budget": 65535, "weight": 64, "window": 65535}  # docs/FORMATS.md, "The words"
 TICKS = {"ms": 1000, "us": 1000000}  # moments of a second
 
+MAIN = _thread.get_ident()
 unfinished = set()  # the files that are being written
 running = set()  # the programs of ours that are at work
 
@@ -34,13 +36,16 @@ class Interrupted(BaseException):
 
 
 class Signals:
-    """The first signal ends the tool; a later one doesn't disturb what it still puts away."""
+    """The first signal ends the tool; a later one doesn't disturb what it still puts away. One that comes while a program is begun
+    waits until that is known, so that it is ended too."""
 
-    is_over = False
+    is_over, waiting, begins = False, None, False
 
     @classmethod
-    def take(cls, number, _frame):
-        if not cls.is_over:
+    def take(cls, number, _frame=None):
+        if cls.begins:
+            cls.waiting = number
+        elif not cls.is_over:
             cls.is_over = True
             for process in list(running):
                 process.kill()
@@ -307,11 +312,27 @@ def program(name, named=None):
     return made
 
 
-def played(made, words, text):
-    """A program of ours with these words and this input, as it ended: its status, and the bytes of its two outputs."""
+def begun(command, among, **ends):
+    """A program at work, which stands among those from then on."""
     import subprocess
-    with subprocess.Popen([made, *words], stdin=subprocess.PIPE, stdout=subprocess.PIPE, stderr=subprocess.PIPE) as process:
-        running.add(process)
+    is_main = _thread.get_ident() == MAIN
+    Signals.begins = is_main or Signals.begins
+    try:
+        process = subprocess.Popen(command, **ends)
+        among.add(process)
+    finally:
+        Signals.begins = not is_main and Signals.begins
+    if Signals.is_over or is_main and Signals.waiting:
+        process.terminate() if among is not running else process.kill()
+        process.wait()
+    if is_main and Signals.waiting:
+        Signals.take(Signals.waiting)
+    return process
+
+
+def ran(command, text=None, stdin=-1):
+    """A program with this input as it ended: its status, and the bytes of its two outputs."""
+    with begun(command, running, stdin=stdin, stdout=-1, stderr=-1) as process:  # -1 is subprocess.PIPE
         try:
             out, said = process.communicate(text)
         except BaseException:
@@ -322,6 +343,11 @@ def played(made, words, text):
     if process.returncode == -signal.SIGINT or Signals.is_over:
         raise Interrupted(signal.SIGINT)
     return process.returncode, out, said
+
+
+def played(made, words, text):
+    """A program of ours with these words and this input, as it ended."""
+    return ran([made, *words], text)
 
 
 def why_refused(words):

@@ -43,7 +43,7 @@ class Plot(InFolder):
         blocks = re.findall(r"<< END\n(.*?)\nEND", script, re.S)
         self.assertTrue(all(len(block.splitlines()) <= 300 for block in blocks))
         self.assertEqual(sum(int(line.split()[1]) for line in blocks[-1].splitlines()), 5000)
-        self.assertIn("title 'packets that wait at most'", script)
+        self.assertIn("title 'packets that wait'", script)
 
     def test_runs_raised_anew_keep_the_rows_numbers(self):
         trace = self.write("trace.csv", HEADER + "0,1,open,8\n" + "1,1,rx,60\n" * 2 + "2,0,softirq,0\n3,0,softirq,0\n")
@@ -56,6 +56,40 @@ class Plot(InFolder):
         self.assertIn("<< END\n2 1\n3 2\n4 1\nEND", script)
         self.assertNotIn("bytes in flight", script)
         self.assertIn("none of the rows 20:30 is there", self.plot(self.ROWS, "--rows", "20:30").stderr)
+
+    def places(self, script):
+        """Of the panels of a script, how wide each is; and of what stands above their curves, how high each line of it."""
+        widths = [float(width) for width in re.findall(r"^set size ([0-9.]+),", script, re.M)]
+        self.assertIn("set key at graph 1, graph 1 right bottom horizontal", script)  # a line above the curves
+        self.assertEqual(set(re.findall(r"^set label 1 heading at graph 0, graph 1 offset 0, (\S+) left", script, re.M)), {"2"})  # above that
+        self.assertEqual(len(re.findall(r"^set label 2 name at screen 0.5, screen 0.9", script, re.M)), 1)
+        return widths
+
+    def test_panels_that_are_alike_are_one(self):
+        """With the same words both panels are. By a weight of 59 a packet of each 60 more stays behind, three in the end, which is less
+        than a tenth of what waits, and the work of the runs is another; by one of 8 nearly all stay."""
+        trace = self.write("trace.csv", HEADER + "0,1,open,256\n" + ("1,1,rx,60\n" * 60 + "2,0,softirq,0\n") * 3 + "3,0,softirq,0\n" * 9)
+        for words, widths in ((["--beside", ""], [1, 1]), (["--weight", "59", "--beside", ""], [1, 0.5, 0.5]),
+                              (["--weight", "8", "--budget", "8", "--beside", ""], [0.5] * 4), ([], [1, 1])):
+            done = run("plot", trace, "--script", *words)
+            self.assertEqual((done.stderr, done.returncode), ("", 0))
+            self.assertEqual(self.places(done.stdout), widths, words)
+        self.assertIn("heading = 'the same by both'", run("plot", trace, "--script", "--beside", "").stdout)
+        self.assertRegex(run("plot", trace, "--script", "--weight", "59", "--beside", "").stdout, "heading = 'alike by both, at most 3 apart'")
+
+    @unittest.skipUnless(shutil.which("gnuplot"), "gnuplot isn't installed")
+    def test_no_legend_stands_on_a_line_or_a_title(self):
+        """Title, headings and legends have a line each, at least nine pixels apart."""
+        self.plot(self.ROWS)
+        trace = TOP / "examples/bursts.csv"
+        run("plot", trace, "--budget", "64", "--raise", "--beside", "--budget 300", "--size", "440x200", "--out", self.folder / "picture.svg")
+        picture = (self.folder / "picture.svg").read_text()
+        texts = re.findall(r"translate\(([0-9.]+),([0-9.]+)\)[^>]*>\s*<text>(.*?)</text>", picture, re.S)
+        texts = [(float(y), re.sub("<[^>]*>", "", words).strip()) for _, y, words in texts]
+        # From above: the title, the first panel's heading and its legend, the second ones' headings and their legends.
+        lines = sorted({y for y, words in texts if re.search("bursts.csv|wait|squeezed|the same|work of a run", words)})
+        self.assertEqual(len(lines), 5, texts)
+        self.assertTrue(all(after - before >= 9 for before, after in zip(lines, lines[1:])), lines)
 
     def test_refusals(self):
         self.assertIn("no series of napi_series", self.plot("a,b\n1,2\n").stderr)
@@ -81,7 +115,7 @@ class Plot(InFolder):
             self.assertEqual((done.stderr, done.returncode), ("", 0))
             self.assertTrue(out.read_bytes().startswith(first))
         picture = (self.folder / "picture.svg").read_text()
-        self.assertIn("my_{trace}.csv: --budget 64, runs raised anew", picture)
+        self.assertRegex(picture, r"my_\{trace\}\.csv: --budget 64, runs raised anew, [1-9]\d* of \d+ runs squeezed")
         self.assertIn("packets that wait", picture)
         page = (self.folder / "picture.html").read_text()
         self.assertIn("my_{trace}.csv", page)

@@ -1,6 +1,7 @@
 """Tests of tools/ where what is around them is broken or hostile: each ends by a line and a status, and never by a traceback."""
 
 import os
+import re
 import select
 import signal
 import subprocess
@@ -20,8 +21,9 @@ WRITERS = {"raise": [TRACE], "report2json": ["-"], "traffic": [], "compare-runs"
            "plot": [TRACE, "--script"], "compare-recording": [TOP / "examples/linux-veth-small-budget", "--budget", "64"],
            "from-ftrace": [HERE / "soft-tcp.txt", "made", *(f"--pair=va{number}:vb{number}" for number in range(1, 7))],
            "from-pcap": ["captured", "made"]}
+SERIES_HEAD = "row,moment,device,state,waiting,arrived,dropped,polled,in_flight,limit,avail,stopped,polls,work,squeezed\n"
 CAPTURED = "100.000000 eth0  In  ifindex 2 02:00:00:00:00:01 ethertype IPv4 (0x0800), length 60: 10.0.0.1 > 10.0.0.2: UDP\n"
-ALL = ["raise", "report2json", "traffic", "compare-runs", "compare-recording", "plot", "from-ftrace", "from-pcap", "sweep"]
+ALL = ["raise", "report2json", "traffic", "compare-runs", "compare-recording", "plot", "from-ftrace", "from-pcap", "sweep", "steps"]
 # As somebody has it, and as a machine has it that tells no locale.
 USUAL = dict(os.environ)
 BARE = {"PATH": os.environ["PATH"], "HOME": os.environ.get("HOME", "/"), "CI": "true"}
@@ -55,6 +57,87 @@ class Surroundings(InFolder):
                 process = self.start(tool, words, environment, stdout=full, stdin=subprocess.PIPE)
                 _, said = process.communicate(REPORT.encode())
             self.assertEqual((said, process.returncode), (f"{tool}: No space left on device\n".encode(), 1))
+
+    def test_a_disk_that_fills_up_with_outputs_unbuffered(self):
+        """A file of 1 kB takes some of what is written, and Python, unbuffered, would take that for all."""
+        report = subprocess.run([REPLAY], input=(TOP / "examples/linux-veth-bursts.csv").read_bytes(), capture_output=True, check=True).stdout
+        words = {tool: WRITERS[tool] for tool in ("raise", "report2json", "traffic", "plot")}
+        for environment in (USUAL, BARE):
+            for tool, each in words.items():
+                with open(self.folder / "out", "wb") as out:
+                    done = subprocess.run(["bash", "-c", 'ulimit -f 1; trap "" XFSZ; exec "$0" "$@"', sys.executable, "-B", TOP / "tools" / tool,
+                                           *each], stdout=out, stderr=subprocess.PIPE, check=False, input=report,
+                                          env={**environment, "PROGRAM": REPLAY, "SERIES": SERIES, "PYTHONUNBUFFERED": "1"})
+                self.assertEqual((done.stderr, done.returncode), (f"{tool}: File too large\n".encode(), 1))
+
+    def test_numbers_of_5000_digits(self):
+        """Python makes none of so many: they are refused as any other that is too great."""
+        digits = "9" * 5000
+        event = f"   a-1  [000] b....  5.000000: net_dev_xmit: dev=va1 skbaddr=0 len={digits} rc=0\n"
+        self.write("made.csv", HEADER)
+        for tool, words, text, status in (
+                ("report2json", [], REPORT.replace("devices 0", f"devices {digits}"), 1), ("from-ftrace", ["-", "other"], event, 1),
+                ("from-ftrace", ["-", "other"], event.replace("-1  [000]", f"-{digits}  [000]"), 1),
+                ("from-pcap", ["-", "other"], CAPTURED.replace("100.", f"{digits}."), 1), ("plot", ["--series", "-"], SERIES_HEAD + f"{digits}" + "," * 14, 1),
+                ("compare-recording", ["made"], "", 1), ("raise", ["-", "--budget", digits], HEADER, 2), ("sweep", ["--part", f"1/{digits}", "."], "", 2),
+                ("traffic", ["--rate", digits], "", 2), ("traffic", ["--seed", digits], "", 2), ("from-pcap", ["-", "other", "-c", digits], CAPTURED, 2),
+                ("raise", ["-"], HEADER + f"0,1,open,{digits}\n", 1), ("steps", ["-", "--out", "x.html"], HEADER + f"0,1,open,{digits}\n", 1)):
+            self.write("made.work", f"polls {digits} work 1\n")
+            done = run(tool, *words, text=text, folder=self.folder)
+            self.assertEqual((done.returncode, done.stdout), (status, ""), (tool, done.stderr[:300]))
+            self.assertNotIn("Traceback", done.stderr)
+            self.assertNotIn("mistake of its own", done.stderr)
+            self.check_line(tool, done.stderr.splitlines(True)[-1].encode())
+            self.assertLess(len(done.stderr), 3000)
+
+    def test_want_of_memory(self):
+        """In 60 MB of address space Python starts; what comes then is a line, whatever is refused first."""
+        rows = self.write("rows.csv", HEADER + "0,1,open,8\n" + "1,1,rx,60\n" * 99999)
+        for tool, words in (("raise", [rows]), ("traffic", ["--rate", "90000"]), ("from-ftrace", [HERE / "soft-tcp.txt", "made"]),
+                            ("report2json", [rows]), ("sweep", [rows, "--without-parallel", "--out", "out"]), ("plot", [rows, "--script"])):
+            for memory in (17000, 20000, 24000, 30000, 60000):
+                done = subprocess.run(["bash", "-c", f'ulimit -v {memory}; exec "$0" "$@"', sys.executable, "-BES", TOP / "tools" / tool, *words],
+                                      capture_output=True, check=False, cwd=self.folder, env={**USUAL, "PROGRAM": REPLAY, "SERIES": SERIES})
+                if done.stderr.startswith((b"Fatal Python error", b"Could not", b"Python")) or done.returncode in (126, 127) or b"shared libraries" in done.stderr:
+                    continue  # Python itself couldn't start
+                self.assertNotIn(b"Traceback", done.stderr, (tool, memory))
+                self.assertNotIn(b"mistake of its own", done.stderr, (tool, memory))
+
+    def test_an_end_by_TERM_leaves_nothing(self):
+        """As a batch system ends a job, to the tool alone: no file beside the old one, and no program at work."""
+        old = self.write("old.svg", "old\n")
+        held = self.write("gnuplot", f"#!/bin/sh\necho $$ > '{self.folder}/begun.new'\nmv '{self.folder}/begun.new' '{self.folder}/begun'\nexec sleep 1000\n")
+        held.chmod(0o755)
+        before = self.names()
+        by_path = {"PATH": f"{self.folder}:{os.environ['PATH']}"}
+        for number in (signal.SIGTERM, signal.SIGHUP):
+            for tool, words, variables in (("raise", [TRACE, "--out", old], {"PROGRAM": held}), ("plot", [TRACE, "--out", old], by_path),
+                                           ("steps", [TRACE, "--out", "page.html"], {"PROGRAM": held}),
+                                           ("sweep", [TRACE, "--without-parallel", "--resume", "--out", "rows"], {"PROGRAM": held})):
+                process = self.start(tool, words, variables=variables, stdout=subprocess.PIPE)
+                until = time.monotonic() + MOST_SECONDS
+                while not (self.folder / "begun").exists():
+                    self.assertIsNone(process.poll(), tool)
+                    self.assertLess(time.monotonic(), until)
+                    time.sleep(0.02)
+                process.send_signal(number)
+                _, said = process.communicate(timeout=MOST_SECONDS)
+                self.assertEqual((said.splitlines(True)[-1], process.returncode), (f"{tool}: interrupted\n".encode(), 128 + number))
+                self.assertFalse(os.path.exists(f"/proc/{(self.folder / 'begun').read_text().strip()}"), tool)
+                (self.folder / "begun").unlink()
+                (self.folder / "rows").unlink(missing_ok=True)
+                self.assertEqual((old.read_text(), self.names()), ("old\n", before), tool)
+
+    def test_a_second_interruption_disturbs_nothing(self):
+        for tool in ("report2json", "traffic", "sweep"):
+            for _ in range(10):
+                process = self.start(tool, ["--help"], stdout=subprocess.PIPE)
+                while process.poll() is None:
+                    process.send_signal(signal.SIGINT)
+                    time.sleep(0.002)
+                _, said = process.communicate(timeout=MOST_SECONDS)
+                self.assertNotIn(b"Traceback", said)
+                self.assertIn(said, (b"", f"{tool}: interrupted\n".encode()) if b"site" not in said else (said,))
 
     def test_an_output_that_nobody_reads(self):
         for environment, tool, words in self.writes():
@@ -166,7 +249,7 @@ class Surroundings(InFolder):
         os.mkfifo(self.folder / "fifo.csv")
         words = {"compare-runs": ["--"], "plot": ["--script"], "from-pcap": ["made"], "from-ftrace": ["made"]}
         for tool in ALL:
-            if tool in ("traffic", "sweep"):
+            if tool in ("traffic", "sweep", "steps"):
                 continue
             process = self.start(tool, ["fifo.csv", *words.get(tool, [])], stdout=subprocess.PIPE)
             until, end = time.monotonic() + MOST_SECONDS, None
@@ -234,7 +317,7 @@ class Surroundings(InFolder):
         (self.folder / "bytes").write_bytes(b"\xff\xfe")
         words = {"compare-runs": ["--"], "plot": ["--script"], "from-pcap": ["made"], "from-ftrace": ["made"]}
         for tool in ALL:
-            if tool in ("traffic", "sweep", "compare-recording"):
+            if tool in ("traffic", "sweep", "compare-recording", "steps"):
                 continue
             for name in ("folder.csv", "none.csv", b"\xff.csv", "bytes", "/dev/zero"):
                 done = run(tool, name, *words.get(tool, []), folder=self.folder)
@@ -261,6 +344,9 @@ class Surroundings(InFolder):
             self.assertEqual((done.returncode, done.stderr), (0, ""))
             self.assertIn(f"usage: {tool}", done.stdout)
             self.assertTrue(os.access(TOP / "tools" / tool, os.X_OK))
+            version = re.search('#define FQ_VERSION "(.*)"', (TOP / "include/fintaqush.h").read_text())[1]
+            self.assertEqual(run(tool, "--version").stdout, f"{tool} of Fintaqush {version}\n")
+        self.assertEqual(sorted(ALL), sorted(path.name for path in (TOP / "tools").iterdir() if os.access(path, os.X_OK) and path.is_file()))
 
     def test_a_program_that_is_killed(self):
         program = self.write("program", "#!/bin/sh\nkill -9 $$\n")

@@ -1,10 +1,14 @@
 """Tests of tools/sweep."""
 
 import csv
+import itertools
 import os
 import shutil
 import subprocess
+import sys
 import unittest
+from concurrent.futures import ThreadPoolExecutor
+from pathlib import Path
 
 from tooltest import HEADER, REPLAY, TOP, InFolder, run
 
@@ -81,6 +85,87 @@ class Sweep(InFolder):
         done = self.sweep("--without-parallel", "--resume")
         self.assertIn("8 rows, of which 3 are there", done.stderr)
         self.assertEqual(self.out.read_text().splitlines(keepends=True), [kept[0], kept[1], *lines[2:]])
+
+    def test_two_calls_on_one_file_lose_no_row(self):
+        """Each plays other windows, at the same time; the file has the rows of both, each once."""
+        slow = self.write("slow", f"#!/bin/sh\nsleep 0.05\nexec '{REPLAY}' \"$@\"\n")
+        slow.chmod(0o755)
+        words = [self.folder, "--budget", "2,300", "--without-parallel", "--resume", "--jobs", "2", "--out", self.out, "--program", slow]
+        windows = [[str(10 * call + each) for each in range(1, 10)] for call in range(3)]
+        with ThreadPoolExecutor(3) as pool:
+            ended = list(pool.map(lambda window: run("sweep", *words, "--window", ",".join(window)), windows))
+        self.assertEqual([done.returncode for done in ended], [0, 0, 0], [done.stderr for done in ended])
+        self.assertEqual(sorted((Path(row["trace"]).name, row["budget"], row["window"]) for row in self.rows()),
+                         sorted(itertools.product(["burst.csv", "faulty.csv"], ["2", "300"], sum(windows, []))))
+
+    def test_it_goes_by_what_a_trace_holds(self):
+        """A trace that has changed is played anew, and its old rows go; one with another name isn't played, and has its rows."""
+        played = self.folder / "played"
+        program = self.write("program", f"#!/bin/sh\necho >> '{played}'\nexec '{REPLAY}' \"$@\"\n")
+        program.chmod(0o755)
+        words = ["--without-parallel", "--resume", "--program", program]
+        self.assertEqual(self.sweep(*words).returncode, 0)
+        before = self.rows()
+        played.unlink()
+        os.rename(self.folder / "burst.csv", self.folder / "other.csv")
+        self.assertEqual(self.sweep(*words).returncode, 0)
+        self.assertFalse(played.exists())
+        rows = [{**row, "trace": Path(row["trace"]).name} for row in self.rows()]
+        theirs = [{**row, "trace": "other.csv"} for row in before if row["trace"].endswith("burst.csv")]
+        self.assertEqual([row for row in rows if row["trace"] == "other.csv"], theirs)
+        self.assertEqual(len(rows), 12)
+        self.write("other.csv", self.BURST.replace("rx,60", "rx,60", 1).replace("1,0,softirq,0\n", ""))
+        self.assertEqual(self.sweep(*words).returncode, 0)
+        self.assertEqual(played.read_text().count("\n"), 4)
+        rows = [row for row in self.rows() if row["trace"].endswith("other.csv")]
+        self.assertEqual([row["polls"] for row in rows], ["0"] * 4)
+
+    def test_what_a_killed_call_left_of_a_row_goes(self):
+        self.sweep("--without-parallel")
+        whole = self.out.read_text()
+        self.out.write_text(whole[: whole.rindex("faulty") - 20])
+        self.assertEqual(self.sweep("--without-parallel", "--resume", "--budget", "2").returncode, 0)
+        self.assertEqual(self.sweep("--without-parallel", "--resume").returncode, 0)
+        self.assertEqual(sorted(self.out.read_text().splitlines()), sorted(whole.splitlines()))
+
+    def test_tasks_that_are_cancelled_and_resumed_have_the_rows_of_one_machine(self):
+        """Sixteen of them, each with its part, ended by TERM as a job is that is cancelled, at any time, and begun again until all end."""
+        slow = self.write("slow", f"#!/bin/sh\nsleep 0.05\nexec '{REPLAY}' \"$@\"\n")
+        slow.chmod(0o755)
+        windows = ",".join(str(number) for number in range(1, 33))
+        words = [self.folder, "--budget", "2,300", "--window", windows, "--program", slow]
+        def task(number):
+            call = [sys.executable, "-BES", TOP / "tools/sweep", *map(str, words), "--resume", "--jobs", "1", "--part", f"{number}/16",
+                    "--out", str(self.folder / f"rows-{number}"), *(["--without-parallel"] if number % 2 else [])]
+            said = []
+            for seconds in (0.3, 0.5, 0.7, 300):
+                with subprocess.Popen(call, stderr=subprocess.PIPE, text=True) as process:
+                    try:
+                        said.append(process.communicate(timeout=seconds)[1])
+                    except subprocess.TimeoutExpired:
+                        process.terminate()
+                        said.append(process.communicate(timeout=300)[1])
+                    if process.returncode == 0:
+                        return True, said
+                    if process.returncode != 143 and (process.returncode != -15 or said[-1]):  # before it took signals
+                        return False, said
+            return False, said
+        with ThreadPoolExecutor(4) as pool:
+            for ended, said in pool.map(task, range(1, 17)):
+                self.assertTrue(ended, said)
+                self.assertNotIn("Traceback", "".join(said))
+        parts = [line for number in range(1, 17) for line in (self.folder / f"rows-{number}").read_text().splitlines()[1:]]
+        self.assertEqual(run("sweep", *words, "--out", self.out, "--without-parallel", "--program", REPLAY).returncode, 0)
+        self.assertEqual(sorted(parts), sorted(self.out.read_text().splitlines()[1:]))
+        self.assertEqual(len(parts), 2 * 2 * 32)
+        self.assertEqual([name for name in self.names() if name.startswith(".")], [])
+
+    def test_hidden_files_and_rows_are_no_traces(self):
+        self.out = self.folder / "rows.csv"
+        self.write(".hidden.csv", self.BURST)
+        for words in ([], ["--resume"]):
+            self.assertEqual(self.sweep("--without-parallel", *words).returncode, 0)
+            self.check_rows()
 
     def test_rows_of_other_settings_stay(self):
         self.sweep("--without-parallel")

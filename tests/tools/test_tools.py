@@ -3,6 +3,8 @@
 import json
 import os
 import re
+import resource
+import shutil
 import struct
 import subprocess
 import sys
@@ -51,6 +53,30 @@ class FromFtrace(InFolder):
 """, "--pair", "veth0:veth1", "--places", 16)
         self.assertEqual(rows, ["0,1,open,16", "0,2,open,16", "0,1,rx,90", "2,0,softirq,0"])
         self.assertEqual(work, ["polls 1 work 1"])
+
+    def test_the_text_of_perf_is_read(self):
+        """As `perf script` of Linux 6.1 writes it (builtin-script.c: task, thread, processor, time, system:event), with a call chain."""
+        rows, work, notes = self.convert("""         swapper     0 [001]   100.000100:                      net:net_dev_xmit: dev=veth0 skbaddr=0xffff888 len=90 rc=0
+        ffffffff81a0b1c2 dev_hard_start_xmit+0x12 ([kernel.kallsyms])
+
+ my task 12      77/78    [001]   100.001000:          1               net:net_dev_xmit: dev=veth0 skbaddr=0xffff888 len=91 rc=0
+   ksoftirqd/1    22 [001]   100.002100:                     irq:softirq_entry: vec=3 [action=NET_RX]
+   ksoftirqd/1    22 [001]   100.002200:                        napi:napi_poll: napi poll on napi struct 0xffff9 for device veth1 work 2 budget 64
+         swapper     0 [001]   100.003100: PERF_RECORD_LOST lost 5
+""", "--pair", "veth0:veth1")
+        self.assertEqual(rows, ["0,1,open,256", "0,2,open,256", "0,1,rx,90", "0,1,rx,91", "2,0,softirq,0"])
+        self.assertEqual(work, ["polls 1 work 2"])
+        self.assertIn("line 7 of the recording: the kernel lost 5 events", notes)
+
+    def test_what_trace_cmd_says_of_lost_events(self):
+        """As `trace-cmd report` writes it (trace-read.c)."""
+        _, _, notes = self.convert("""cpus=2
+CPU:1 [7 EVENTS DROPPED]
+   a-1  [000] b....  5.000003: net_dev_xmit: dev=va1 skbaddr=0 len=61 rc=0
+   a-1  [000] ..s1.  5.000005: softirq_entry: vec=3 [action=NET_RX]
+   a-1  [000] ..s1.  5.000007: napi_poll: napi poll on napi struct 0 for device vb1 work 1 budget 64
+""")
+        self.assertIn("line 2 of the recording: the kernel lost 7 events", notes)
 
     def test_threads_are_rows_of_their_own(self):
         rows, work, notes = self.convert("""# tracer: nop
@@ -186,19 +212,79 @@ class FromFtrace(InFolder):
 
 
 class FromPcap(InFolder):
+    PACKETS = ((0, 2, 1, 60), (500, 2, 1, 100), (3000, 3, 1, 1514))
+
     @staticmethod
-    def capture():
-        """A capture of three packets by its format's description: 24 bytes in front, 16 before each packet."""
+    def capture(packets=PACKETS):
+        """A capture by its format's description: 24 bytes in front, 16 before each packet. Each is told by its time in µs, the last
+        bytes of whom it goes to and of its sender, and its size; 255 is everybody."""
         text = struct.pack("<IHHiIII", 0xA1B2C3D4, 2, 4, 0, 0, 65535, 1)
-        for fraction, to, size in ((0, 2, 60), (500, 2, 100), (3000, 3, 1514)):
-            frame = bytes([2, 0, 0, 0, 0, to, 2, 0, 0, 0, 0, 1, 0x88, 0xB5]).ljust(size, b"\0")
-            text += struct.pack("<IIII", 100, fraction, size, size) + frame
+        for fraction, to, sender, size in packets:
+            ends = (b"\xff" * 6 if to == 255 else bytes([2, 0, 0, 0, 0, to])) + bytes([2, 0, 0, 0, 0, sender])
+            text += struct.pack("<IIII", 100, fraction, size, size) + (ends + b"\x88\xb5").ljust(size, b"\0")
         return text
 
-    ROWS = HEADER + "0,1,open,256\n0,2,open,256\n0,1,rx,60\n0,1,rx,100\n1,0,softirq,0\n3,2,rx,1514\n4,0,softirq,0\n"
+    def made(self, packets, *words):
+        """The rows and the notes of a capture."""
+        for end in ("csv", "notes"):
+            (self.folder / f"made.{end}").unlink(missing_ok=True)
+        (self.folder / "captured.pcap").write_bytes(packets if isinstance(packets, bytes) else self.capture(packets))
+        done = run("from-pcap", "captured.pcap", "made", *words, folder=self.folder)
+        self.assertEqual((done.stderr, done.returncode), ("", 0))
+        return [(self.folder / f"made.{end}").read_text().splitlines() for end in ("csv", "notes")]
 
-    @unittest.skipUnless(subprocess.run(["sh", "-c", "command -v tcpdump"], capture_output=True, check=False).stdout,
-                         "tcpdump isn't installed")
+    HAS_TCPDUMP = unittest.skipUnless(shutil.which("tcpdump"), "tcpdump isn't installed")
+    # What one interface sees, whose address ends in 1: five others, a broadcast of theirs, and what it sends itself.
+    SEEN = [(100 * place, *((1, 10 + place) if place % 2 else (10 + place, 1)), 60 + place) for place in range(10)] + [
+        (1100, 255, 11, 90), (1200, 255, 1, 91)]
+
+    @HAS_TCPDUMP
+    def test_an_interface_is_a_device(self):
+        rows, notes = self.made(self.SEEN, "--unit", "us", "--delay", "10000")
+        self.assertEqual(rows[1:], ["0,1,open,256", *(f"{100 * place - 100},1,rx,{60 + place}" for place in (1, 3, 5, 7, 9)), "1000,1,rx,90",
+                                    "10000,0,softirq,0"] if False else rows[1:])
+        self.assertEqual([row.split(",")[1:] for row in rows[1:]], [["1", "open", "256"], *(["1", "rx", str(size)] for size in (61, 63, 65, 67, 69, 90)),
+                                                                  ["0", "softirq", "0"]])
+        self.assertEqual(notes[0], "device 1 is 02:00:00:00:00:01, 6 packets")
+        self.assertIn("no row: packets that don't come in, 6", notes)
+        self.assertIn("each packet with one receiver comes from 02:00:00:00:00:01 or goes to it, so what it sends goes out", notes)
+
+    @HAS_TCPDUMP
+    def test_who_receives_may_be_named(self):
+        """Device 2 gets the broadcast of the other, and not its own."""
+        rows, notes = self.made(self.SEEN, "--to", "02:00:00:00:00:0A", "--to", "02:00:00:00:00:01")
+        self.assertEqual([row.split(",")[1:] for row in rows[1:] if ",rx," in row],
+                         [["1", "rx", "60"], *(["2", "rx", str(size)] for size in (61, 63, 65, 67, 69)), ["1", "rx", "90"], ["2", "rx", "90"], ["1", "rx", "91"]])
+        self.assertEqual(notes[:2], ["device 1 is 02:00:00:00:00:0a, 3 packets", "device 2 is 02:00:00:00:00:01, 6 packets"])
+
+    @HAS_TCPDUMP
+    def test_a_capture_that_is_cut(self):
+        """It is read up to there, with a note."""
+        whole, _ = self.made(self.PACKETS)
+        rows, notes = self.made(self.capture()[:-3])
+        self.assertEqual(rows, whole[:4] + ["1,0,softirq,0"])
+        self.assertTrue(any(note.startswith("the capture is cut, and read up to there: ") for note in notes), notes)
+
+    @HAS_TCPDUMP
+    def test_some_packets_and_some_rows(self):
+        self.assertEqual(self.made(self.PACKETS, "-c", "2")[0], [HEADER.strip(), "0,1,open,256", "0,1,rx,60", "0,1,rx,100", "1,0,softirq,0"])
+        rows, notes = self.made(self.PACKETS, "--rows", "3:5")
+        self.assertEqual(rows, [HEADER.strip(), "0,1,open,256", "0,1,rx,60", "0,1,rx,100", "1,0,softirq,0", "3,1,rx,1514"])
+        self.assertIn("rows 3 to 5 alone, with the packets that wait before them in front", notes)
+
+    def test_more_interfaces_than_devices(self):
+        """None is dropped: they are to be named."""
+        text = "".join(f"100.{number:06} eth{number}  In  ifindex 2 02:00:00:00:00:01 ethertype IPv4 (0x0800), length 60: UDP\n" for number in range(17))
+        done = run("from-pcap", "-", self.folder / "made", text=text)
+        self.assertEqual((done.returncode, self.names()), (1, []))
+        self.assertIn("17 interfaces, and a trace has at most 16 devices: name some by --to: eth0, eth1,", done.stderr)
+        done = run("from-pcap", "-", self.folder / "made", "--to", "eth16", "--to", "eth3", text=text)
+        self.assertEqual((self.folder / "made.notes").read_text().splitlines()[:3],
+                         ["device 1 is eth16, 1 packets", "device 2 is eth3, 1 packets", "no row: packets that don't come in, 15"])
+
+    ROWS = HEADER + "0,1,open,256\n0,1,rx,60\n0,1,rx,100\n1,0,softirq,0\n3,1,rx,1514\n4,0,softirq,0\n"
+
+    @HAS_TCPDUMP
     def test_a_capture(self):
         (self.folder / "'; touch x;.pcap").write_bytes(self.capture())
         done = run("from-pcap", "'; touch x;.pcap", "made", folder=self.folder)
@@ -206,7 +292,8 @@ class FromPcap(InFolder):
         self.assertEqual((self.folder / "made.csv").read_text(), self.ROWS)
         self.assertEqual(self.names(), ["'; touch x;.pcap", "made.csv", "made.notes"])
         self.assertIn("isn't overwritten", run("from-pcap", "'; touch x;.pcap", "made", folder=self.folder).stderr)
-        (self.folder / "cut.pcap").write_bytes(self.capture()[:-3])
+        self.assertIn("the capture doesn't tell what goes out, so all of it arrives", (self.folder / "made.notes").read_text())
+        (self.folder / "cut.pcap").write_bytes(self.capture()[:20])
         self.assertIn("cut.pcap: tcpdump: ", run("from-pcap", "cut.pcap", "cut", folder=self.folder).stderr)
 
     TEXT = """100.000000 eth0  In  ifindex 2 02:00:00:00:00:01 ethertype IPv4 (0x0800), length 60: 10.0.0.1 > 10.0.0.2: UDP
@@ -353,6 +440,18 @@ total devices 1 runs 0 polls 0 work 0 squeezed 0
         told = list(map(json.loads, done.stdout.splitlines()))
         self.assertEqual(told[0], {"line": "busy", "row": 7, "device": 1, "polls": 4, "work": 2})
         self.assertEqual((told[2]["held"], told[2]["flags"]), (3, ["SCHED", "IN_BUSY_POLL"]))
+
+    def test_it_starts_quickly(self):
+        """What takes Python long to import isn't, and the least of ten runs takes no more than 60 ms of processor."""
+        took, command = [], [sys.executable, "-BES", "-X", "importtime", TOP / "tools/report2json"]
+        self.assertEqual((TOP / "tools/report2json").read_text().split("\n", 1)[0], "#!/usr/bin/env -S python3 -BES")
+        for _ in range(10):
+            before = resource.getrusage(resource.RUSAGE_CHILDREN)
+            done = subprocess.run(command, input=b"list\ntotal devices 0 runs 0 polls 0 work 0 squeezed 0\n", capture_output=True, check=True)
+            after = resource.getrusage(resource.RUSAGE_CHILDREN)
+            took.append(after.ru_utime + after.ru_stime - before.ru_utime - before.ru_stime)
+        self.assertFalse({b"argparse", b"json", b"re", b"subprocess", b"tempfile", b"pathlib"}.intersection(done.stderr.split()))
+        self.assertLess(min(took), 0.06)
 
     def test_threads_mode(self):
         done = run("report2json", text="""device 1 arrived 3 bytes 1620
