@@ -28,7 +28,7 @@ command -v python3 > /dev/null || pass_over 'there is no python3'
 command -v cc > /dev/null || pass_over 'there is no C compiler'
 limit=(lib/dynamic_queue_limits.c include/linux/dynamic_queue_limits.h)
 "$top/scripts/linux_source.sh" 6.12 "$scratch/6.12" Makefile net/core/dev.c include/linux/{netdevice,list}.h "${limit[@]}" || {
-    [ $? = 69 ] || exit 1
+    [ $? = 69 ] || { echo "0 passed, 1 failed"; exit 1; }
     pass_over 'there are no sources of Linux'
 }
 # Kernels after 6.6 detect stalls of a queue; this stays off here, so a limit of theirs stands in where 6.1's isn't at hand.
