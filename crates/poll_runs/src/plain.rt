@@ -55,11 +55,17 @@ impl PollList for PlainList {
     }
 
     fn splice(&mut self, to: &mut SoftList) -> usize {
+        if self.entries.is_empty() {
+            return 0;
+        }
         std::mem::swap(&mut self.entries, to);
         to.ids().len()
     }
 
     fn put_back(&mut self, mut rest: SoftList, repoll: SoftList) {
+        if rest.is_empty() && repoll.is_empty() {
+            return;
+        }
         rest.append_all(&self.entries);
         rest.append_all(&repoll);
         self.entries = rest;
