@@ -1,6 +1,7 @@
 #!/bin/sh
 # Refuses each allocation, each read, each write and each start of a thread of the replay program in turn, in each of its
-# modes, or in those that are named. Each refusal has to give its line, its exit status and no report.
+# modes, or in those that are named. Each refusal has to give its line, its exit status and no report. The mode `calls` is for
+# `memory_tests`, where each call that was refused has to go through when it is made again.
 # bench/refusals.sh [PROGRAM [MODE ..]]
 set -eu
 unset CDPATH
@@ -23,11 +24,15 @@ cat > "$folder/refuse.c" <<'END'
 #include <errno.h>
 #include <fcntl.h>
 #include <pthread.h>
+#include <stdio.h>
 #include <stdlib.h>
 #include <unistd.h>
 
 struct calls { const char *name; long made; };
 static struct calls memory = {"REFUSE_MEMORY", 0}, reads = {"REFUSE_READ", 0}, writes = {"REFUSE_WRITE", 0}, threads = {"REFUSE_THREAD", 0};
+
+// Threads that were started and not joined.
+static long left = 0;
 
 // The file REFUSED is there once a call was refused.
 static int refuses(struct calls *calls) {
@@ -64,7 +69,18 @@ int pthread_create(pthread_t *thread, const pthread_attr_t *attributes, void *(*
     static int (*next)(pthread_t *, const pthread_attr_t *, void *(*)(void *), void *);
     if (!next) next = (int (*)(pthread_t *, const pthread_attr_t *, void *(*)(void *), void *))dlsym(RTLD_NEXT, "pthread_create");
     if (refuses(&threads)) return EAGAIN;
-    return next(thread, attributes, run, given);
+    int failed = next(thread, attributes, run, given);
+    if (!failed) __atomic_add_fetch(&left, 1, __ATOMIC_SEQ_CST);
+    return failed;
+}
+int pthread_join(pthread_t thread, void **answer) {
+    static int (*next)(pthread_t, void **);
+    if (!next) next = (int (*)(pthread_t, void **))dlsym(RTLD_NEXT, "pthread_join");
+    __atomic_sub_fetch(&left, 1, __ATOMIC_SEQ_CST);
+    return next(thread, answer);
+}
+__attribute__((destructor)) static void tell_left(void) {
+    if (left) dprintf(2, "%ld threads aren't joined\n", left);
 }
 END
 cc -O1 -shared -fPIC -o "$folder/refuse.so" "$folder/refuse.c" -ldl
@@ -156,7 +172,30 @@ refuse_ends() {
     [ "$status" = 4 ] && [ "$(cat "$folder/err")" = 'output fault 15 OutputFailed' ] || fail "$mode: a device that is full is written"
 }
 
+# Until the program makes no allocation with that number: the report is as ever, but for the call that was refused.
+refuse_calls() {
+    "$program" > "$folder/report"
+    count=0
+    refuse REFUSE_MEMORY 1
+    while [ -e "$folder/refused" ]; do
+        count=$((count + 1))
+        [ "$status" = 0 ] && [ ! -s "$folder/err" ] && sed 's/, refused once$//' "$folder/out" | cmp -s - "$folder/report" || {
+            cat "$folder/out" "$folder/err" >&2
+            fail "$mode REFUSE_MEMORY=$count: status $status"
+        }
+        sed -n '/, refused once$/p' "$folder/out" >> "$folder/calls"
+        refuse REFUSE_MEMORY $((count + 1))
+    done
+    sort -u "$folder/calls" > "$folder/refused"
+    sed 's/$/, refused once/' "$folder/report" | sort | cmp -s - "$folder/refused" || fail "$mode: not each call was refused"
+    echo "$mode: $count allocations refused"
+}
+
 for mode in "$@"; do
+    if [ "$mode" = calls ]; then
+        refuse_calls
+        continue
+    fi
     refuse_all
     refuse_ends
 done
