@@ -1,1 +1,2 @@
 pub mod OwnLists
+pub mod Controller

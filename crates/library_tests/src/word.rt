@@ -12,23 +12,23 @@ ghost use Rattle.napi_word.specs.Ends.{IsEnded};
 ghost use Rattle.napi_word.specs.Runs.{HasOwnLists};
 
 use napi_model::{Prep, Seen, decode, encode};
-use napi_word::{Ended, Pass, StateTable, TableBack};
-use rx_ring::{Batch, Packet, RxCtx, ring};
+use napi_word::{Ended, Pass, StateTable};
+use rx_ring::{RxCtx, ring};
 use std::alloc::Global;
 use std::test::Fail;
 use std::thread::join;
 
 // A table with two callers, 0 and 1, and the controller 2: the three passes, and the vector that they lay in.
 #[derive(Drop)]
-struct Opened {
-    table: StateTable,
-    first: Pass,
-    second: Pass,
-    control: Pass,
-    room: Vec<Pass>,
+pub(crate) struct Opened {
+    pub(crate) table: StateTable,
+    pub(crate) first: Pass,
+    pub(crate) second: Pass,
+    pub(crate) control: Pass,
+    pub(crate) room: Vec<Pass>,
 }
 
-fn table_of_two(alloc: Global, ctx: RxCtx) -> Option<Opened>
+pub(crate) fn table_of_two(alloc: Global, ctx: RxCtx) -> Option<Opened>
     ensures first { IfSome result (λ o. IsNew o.table 2 ctx 0 o.first) }
     ensures second { IfSome result (λ o. IsNew o.table 2 ctx 1 o.second) }
     ensures control { IfSome result (λ o. IsNew o.table 2 ctx 2 o.control) }
@@ -105,7 +105,7 @@ fn swaps(table: &StateTable, first: &mut Pass, second: &mut Pass) -> Option<(See
 }
 
 // The end of a table of three: the own list of each caller is the events of its number in the one history.
-fn end_of_three(opened: Opened) -> Option<Ended>
+pub(crate) fn end_of_three(opened: Opened) -> Option<Ended>
     requires first { IsPassOf opened.table opened.first }
     requires second { IsPassOf opened.table opened.second }
     requires control { IsPassOf opened.table opened.control }
@@ -155,28 +155,6 @@ fn lost_exchange(alloc: Global, ctx: RxCtx) -> Option<Lost>
         last,
         ended,
     })
-}
-
-// With each allocation refused in turn (`rt try --test --fail-alloc N`) the context comes back, with what its ring holds.
-#[test]
-fn memory_is_there_or_refused(rt: HostRuntime) -> Result<(), Fail> {
-    let Ok((mut input, ctx)) = ring(rt.alloc(), 1) else {
-        return Ok(());
-    };
-    let packet = Packet {
-        number: 1,
-        bytes: 60,
-    };
-    assert_eq!(rt; input.put(packet), Ok(()));
-    match StateTable::new(rt.alloc(), ctx, 9) {
-        Ok((_table, passes)) => assert_eq!(rt; passes.len(), 9),
-        Err(TableBack { mut ctx }) => {
-            let mut batch = Batch::new();
-            assert_eq!(rt; ctx.poll(64, &mut batch), 1);
-            assert_eq!(rt; batch.as_slice(), [packet].as_slice());
-        }
-    }
-    Ok(())
 }
 
 #[test]

@@ -1,5 +1,6 @@
 //! Every prefix of a trace's bytes in each mode: the fault of the row that it cuts, or the report of the rows that it has.
 
+use crate::ends::HEADER;
 use crate::failing::{MODES, replay_in};
 use crate::worked::{ONE, joined};
 use device_model::TraceFault;

@@ -1,10 +1,9 @@
 //! How the records of a trace may be written, and what a reader makes of bytes that are none.
 
+use crate::ends::HEADER;
 use device_model::{Event, Row, Trace, TraceFault, read_trace};
 use std::alloc::Global;
 use std::test::Fail;
-
-const HEADER: &str = "moment,device,event,value\n";
 
 fn row(moment: u64, device: u32, event: Event, value: u32) -> Row {
     Row {
@@ -151,17 +150,5 @@ fn cut_texts(rt: HostRuntime) {
         let Ok(text) = text else { return };
         let answer = read_rows(rt.alloc(), text.as_str());
         assert_eq!(rt; answer.err(), Some(fault), "of {last:?}");
-    }
-}
-
-// With each allocation refused in turn (`rt try --test --fail-alloc N`) the answer is the fault.
-#[test]
-fn memory_is_there_or_refused(rt: HostRuntime) {
-    match read_trace(
-        rt.alloc(),
-        b"moment,device,event,value\n0,1,open,4\n1,1,rx,100\n".as_slice(),
-    ) {
-        Ok(trace) => assert_eq!(rt; trace.rows().len(), 2),
-        Err(fault) => assert_eq!(rt; fault, TraceFault::OutOfMemory),
     }
 }

@@ -1,6 +1,7 @@
 //! Traces with what each mode answers, worked by hand: the report, or the line of the fault. They are read from memory, and the
 //! reports are written to memory.
 
+use crate::ends::HEADER;
 use crate::failing::{MODES, replay_in};
 use replay::{Mode, ReplayFault, Settings, fault_line, status};
 use std::alloc::{AllocError, Global};
@@ -19,7 +20,7 @@ struct Case {
 }
 
 // The first records of the two versions.
-pub(crate) const ONE: (u32, &str) = (1, "moment,device,event,value\n");
+pub(crate) const ONE: (u32, &str) = (1, HEADER);
 
 const TWO: (u32, &str) = (1, "moment,device,event,value,2\n");
 
