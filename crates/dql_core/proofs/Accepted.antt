@@ -2,6 +2,16 @@
 use Rattle.std.proofs.Common.{◌≡◌, ℕ, ◌+◌, ◌<◌, ◌≤◌, Bool, true, false, cond, List, [], ◌∷◌, ◌++◌, length, take, get_or, Option, is_some, Result, Ok, Err, is_err, OnOk, OnErr, fold, ap, sym, refl, subst, ◌∙◌, length-append, arith}
 use Rattle.{std.{specs.{Int.from_bool, Result.result_err}, proofs.lemmas.List.{take_more, Sums.fold-append}}, dql_core.specs.Accepted.{accepted, after_all, after_call}}
 
+pub from_bool_most : (b : Bool) → from_bool b ≤ 1
+from_bool_most true = omega arith
+from_bool_most false = omega arith
+
+-- what a loop that makes the calls of a list keeps: what the object shows after i of them, and how many were refused
+pub record Makes {D S E F : Type 0} (fault : S → E → Option F) (after : S → E → S) (Shows : D → S → Type 0) (start now : D) (es : List E) (i refused : ℕ) : Type 0 where
+  pub state : (s : S) → Shows start s → Shows now (after_all fault after s (take i es))
+  pub count : (s : S) → Shows start s → refused + length (accepted fault after s (take i es)) ≡ i
+  pub fits : refused ≤ i
+
 module _ {S E F : Type 0} (fault : S → E → Option F) (after : S → E → S) where
   -- the call, if the state accepts it
   abbrev kept : S → E → List E
@@ -56,8 +66,7 @@ module _ {S E F : Type 0} (fault : S → E → Option F) (after : S → E → S)
   shows_after_call Shows old new s e (Err x) ok err same shown =
       subst (λ o. Shows new (cond (is_some o) s (after s e))) same (subst (λ d. Shows d s) (sym err) shown)
 
-  -- a step of a loop that makes the calls of a list: what the object shows
-  pub shows_more : {D R : Type 0} (Shows : D → S → Type 0) (old new : D) (s : S) (es : List E) (i : ℕ) (d : E) (r : Result R F) → i < length es
+  shows_more : {D R : Type 0} (Shows : D → S → Type 0) (old new : D) (s : S) (es : List E) (i : ℕ) (d : E) (r : Result R F) → i < length es
       → OnOk r (Shows new (after (after_all fault after s (take i es)) (get_or es i d))) → OnErr r (new ≡ old)
       → result_err r ≡ fault (after_all fault after s (take i es)) (get_or es i d)
       → Shows old (after_all fault after s (take i es)) → Shows new (after_all fault after s (take (i + 1) es))
@@ -68,13 +77,20 @@ module _ {S E F : Type 0} (fault : S → E → Option F) (after : S → E → S)
   refused_of s e (Ok x) same = ap (λ o. cond (is_some o) 1 0) same
   refused_of s e (Err x) same = ap (λ o. cond (is_some o) 1 0) same
 
-  -- the same step: how many calls were refused
-  pub count_more : {R : Type 0} (s : S) (es : List E) (i : ℕ) (d : E) (n : ℕ) (r : Result R F) → i < length es
+  count_more : {R : Type 0} (s : S) (es : List E) (i : ℕ) (d : E) (n : ℕ) (r : Result R F) → i < length es
       → result_err r ≡ fault (after_all fault after s (take i es)) (get_or es i d)
       → n + length (accepted fault after s (take i es)) ≡ i
       → (n + from_bool (is_err r)) + length (accepted fault after s (take (i + 1) es)) ≡ i + 1
   count_more s es i d n r h same was = refused_more s es i d n _ h was (refused_of _ _ r same)
 
-pub from_bool_most : (b : Bool) → from_bool b ≤ 1
-from_bool_most true = omega arith
-from_bool_most false = omega arith
+  -- one call more, by its clauses
+  pub makes_more : {D R : Type 0} (Shows : D → S → Type 0) (start old new : D) (es : List E) (i : ℕ) (d : E) (n one : ℕ) (r : Result R F) → i < length es
+      → ((s : S) → Shows old s → OnOk r (Shows new (after s (get_or es i d)))) → OnErr r (new ≡ old)
+      → ((s : S) → Shows old s → result_err r ≡ fault s (get_or es i d)) → one ≡ from_bool (is_err r)
+      → Makes fault after Shows start old es i n → Makes fault after Shows start new es (i + 1) (n + one)
+  makes_more Shows start old new es i d n one r h ok err same is was = record {
+    state = λ s shown.
+        let before = was.state s shown in shows_more Shows old new s es i d r h (ok _ before) err (same _ before) before;
+    count = λ s shown. rw is (count_more s es i d n r h (same _ (was.state s shown)) (was.count s shown));
+    fits = rw is (omega (arith, was.fits, from_bool_most (is_err r)));
+  }

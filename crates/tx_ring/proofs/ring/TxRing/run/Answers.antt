@@ -1,24 +1,14 @@
-use Rattle.{std.{proofs.Common.{◌≡◌, arith}, specs.Int.from_bool}, dql_core.proofs.Accepted.{shows_more, count_more, from_bool_most}, tx_ring.specs.{Ring.ShowsQueue, Queue.{fault_of, after}}}
+use Rattle.{std.{proofs.Common.{◌≡◌, arith}, specs.Int.from_bool}, dql_core.proofs.Accepted.{from_bool_most, makes_more}, tx_ring.specs.{Ring.ShowsQueue, Queue.{fault_of, after}}}
 use Rattle.tx_ring.proofs.ring.TxRing.run.Goals as goal
 
 pub loop-i-preserved : goal.loop-i-preserved
 loop-i-preserved c =
     let one : c.from-refused.result ≡ from_bool c.is_err.result = c.from-refused.ensures in
-    let most = from_bool_most c.is_err.result in
-    record {
-      state = λ t shown.
-          let before = c.loop-i.invariant.state t shown in
-          shows_more fault_of after ShowsQueue c.loop-i.self c.apply.new.self t c.args.events.now c.loop-i.i _ c.apply.result c.loop-i-test.true
-          (c.apply.ensures.ok _ before) c.apply.ensures.err (c.apply.ensures.fault _ before) before;
-      count = λ t shown.
-          let before = c.loop-i.invariant.state t shown in
-          rw (one, c.is_err.ensures.value) (count_more fault_of after t c.args.events.now c.loop-i.i _ c.loop-i.refused c.apply.result c.loop-i-test.true
-          (c.apply.ensures.fault _ before) (c.loop-i.invariant.count t shown));
-      fits = omega arith;
-    }
+    makes_more fault_of after ShowsQueue _ c.loop-i.self c.apply.new.self c.args.events.now c.loop-i.i _ c.loop-i.refused _ c.apply.result c.loop-i-test.true
+    c.apply.ensures.ok c.apply.ensures.err c.apply.ensures.fault (rw c.is_err.ensures.value at one) c.loop-i.invariant
 
 pub overflow_add-refused : goal.overflow_add-refused
 overflow_add-refused c =
     let one : c.from-refused.result ≡ from_bool c.is_err.result = c.from-refused.ensures in
     let most = from_bool_most c.is_err.result in
-    omega arith
+    omega (arith, c.loop-i.invariant.fits)
