@@ -1,3 +1,4 @@
+pub mod Adding
 pub mod Digits
 pub mod Fault
 pub mod Laws

@@ -1,13 +1,13 @@
 //! Reading a trace.
 
-ghost use Rattle.std.specs.Prelude.{◌≡◌, ◌≤◌, ◌<◌, ◌+◌, length, ◌⊎◌, ℕ, List, [], Option, Some, Ok, Err, IfOk, OnOk, IfErr, MatchResult, true, false, vec_capacity, vec_items, vec_len};
+ghost use Rattle.std.specs.Prelude.{◌≡◌, ◌≤◌, length, ◌⊎◌, ℕ, List, [], Option, Some, Ok, Err, IfOk, IfErr, MatchResult, true, false, vec_items};
 ghost use Rattle.csv.specs.Machine.{next_record};
 ghost use Rattle.csv.specs.Reading.{default_config, reader_state, records_from, strip_bom};
 ghost use Rattle.csv.specs.Records.{fields_of};
 ghost use Rattle.csv.specs.declared.parser.State.TheVariants as state;
 ghost use Rattle.device_rows.specs.Range.{IsWithin};
+ghost use Rattle.device_rows.specs.Adding.{AddsNext, CanAdd};
 ghost use Rattle.device_rows.specs.Source.{IsOpen, IsReadFailure, StandsAt, TakesNext};
-ghost use Rattle.device_rows.specs.Switch.{Tracks};
 ghost use Rattle.device_rows.specs.Trace.{AcceptedAfter, TraceView, records_of, rows_after, trace_of, version_in, with_row};
 ghost use Rattle.device_rows.specs.declared.trace.Next.TheVariants as next;
 ghost use Rattle.device_rows.specs.declared.row.Row.{Row};
@@ -119,20 +119,10 @@ fn add_row(
     switches: &mut Switches,
     rows: &mut Vec<Row>,
 ) -> Result<(), TraceFault>
-    requires number { number ≡ length (vec_items rows.old) + 1 }
-    requires room { vec_len rows.old < vec_capacity rows.old }
-    requires tracks { Tracks switches.old.of (vec_items rows.old) }
-    ensures rows { MatchResult result
-        (λ _. with_row version (vec_items rows.old) (fields_of fields.now)
-        ≡ Ok (vec_items rows.new))
+    requires { CanAdd number switches.old.of rows.old }
+    ensures { MatchResult result
+        (λ _. AddsNext version (fields_of fields.now) switches.new.of rows.old rows.new)
         (λ fault. with_row version (vec_items rows.old) (fields_of fields.now) ≡ Err fault) }
-    ensures tracks { OnOk result (Tracks switches.new.of (vec_items rows.new)) }
-    ensures accepted { OnOk result
-        (AcceptedAfter [] (vec_items rows.old) → AcceptedAfter [] (vec_items rows.new)) }
-    ensures count { OnOk result (vec_len rows.new ≡ vec_len rows.old + 1) }
-    ensures length { OnOk result
-        (length (vec_items rows.new) ≡ length (vec_items rows.old) + 1) }
-    ensures capacity { OnOk result (vec_capacity rows.new ≡ vec_capacity rows.old) }
 {
     let row = row_of(version, number, fields)?;
     switches.admit(number, row)?;
@@ -150,20 +140,10 @@ fn add_next(
     switches: &mut Switches,
     rows: &mut Vec<Row>,
 ) -> Result<(), TraceFault>
-    requires number { number ≡ length (vec_items rows.old) + 1 }
-    requires room { vec_len rows.old < vec_capacity rows.old }
-    requires tracks { Tracks switches.old.of (vec_items rows.old) }
-    ensures rows { MatchResult result
-        (λ _. with_row version (vec_items rows.old) (fields_of fields.now)
-        ≡ Ok (vec_items rows.new))
+    requires { CanAdd number switches.old.of rows.old }
+    ensures { MatchResult result
+        (λ _. AddsNext version (fields_of fields.now) switches.new.of rows.old rows.new)
         (λ fault. with_row version (vec_items rows.old) (fields_of fields.now) ≡ Err fault) }
-    ensures tracks { OnOk result (Tracks switches.new.of (vec_items rows.new)) }
-    ensures accepted { OnOk result
-        (AcceptedAfter [] (vec_items rows.old) → AcceptedAfter [] (vec_items rows.new)) }
-    ensures count { OnOk result (vec_len rows.new ≡ vec_len rows.old + 1) }
-    ensures length { OnOk result
-        (length (vec_items rows.new) ≡ length (vec_items rows.old) + 1) }
-    ensures capacity { OnOk result (vec_capacity rows.new ≡ vec_capacity rows.old) }
 {
     if add_short_row(table, switches, version, fields, rows) {
         return Ok(());

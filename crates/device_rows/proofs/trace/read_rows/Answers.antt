@@ -21,7 +21,14 @@ returns-in_err-add_next-clause-fault g c =
     let next = c.next_record.ensures.record found left at in
     let (rest, stands, one) = goes-on _ g.R.Read.remaining c.loop-before.reader c.next_record.new.reader (fields_of c.next_record.new.fields) c.loop-before.rows.items c.loop-before.before _ left (omega arith) next so_far in
     let room : nat_lt (length c.loop-before.rows.items) 100000 ≡ true = lt-ltb _ _ (omega (arith, c.loop-before.invariant.count)) in
-    inr (one ∙ rows-bad _ _ _ _ _ room c.in_err-add_next.ensures.rows))
+    inr (one ∙ rows-bad _ _ _ _ _ room c.in_err-add_next.ensures))
+
+pub add_next-requires : goal.add_next-requires
+add_next-requires g c = record {
+  number_is = omega (arith, c.loop-before.invariant.count);
+  room = omega (arith, c.loop-before.invariant.filled, c.loop-before.invariant.room);
+  tracks = c.loop-before.invariant.tracks;
+}
 
 pub loop-before-preserved : goal.loop-before-preserved
 loop-before-preserved g c =
@@ -31,7 +38,7 @@ loop-before-preserved g c =
       small = omega arith;
       room = omega (arith, c.in_ok-add_next.ensures.capacity, c.loop-before.invariant.room);
       filled = omega (arith, c.in_ok-add_next.ensures.count, c.loop-before.invariant.filled);
-      count = omega (arith, c.in_ok-add_next.ensures.length, c.loop-before.invariant.count);
+      count = omega (arith, c.in_ok-add_next.ensures.length_is, c.loop-before.invariant.count);
       accepted = c.in_ok-add_next.ensures.accepted c.loop-before.invariant.accepted;
       tracks = c.in_ok-add_next.ensures.tracks;
       goes_on = λ bytes start.
