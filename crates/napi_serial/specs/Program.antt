@@ -1,27 +1,21 @@
 -- The serial tool: what it writes and how it ends, of the words after its name and the bytes of its input.
-use Rattle.std.specs.Prelude.{◌≡◌, ◌⊎◌, ℕ, List, Option, Some, None, Ok, Err}
+use Rattle.std.specs.Prelude.{◌≡◌, ℕ, List, Option, Some, None, Ok, Err}
 use Rattle.replay_text.specs.Outside.{IsOutside}
-use Rattle.replay_text.specs.Written.{IsFaultBy}
+use Rattle.replay_text.specs.Program.{IsFaultOf, IsTextBy}
 use Rattle.replay_text.specs.declared.program.ProgramFault.{ProgramFault}
-use Rattle.replay_text.specs.declared.program.ProgramFault.TheVariants.{Words, Replay}
 use Rattle.replay_words.specs.Words.{Text, asked_of, serial_asked_for}
 use Rattle.replay_words.specs.declared.mode.Mode.TheVariants.{Serial}
 use Rattle.replay_words.specs.declared.settings.Settings.{Settings}
-use Rattle.replay_words.specs.declared.words.WordFault.TheVariants.{Usage, OutOfMemory}
 use Rattle.replay_rows.specs.Answer.{replay_of}
 
 -- the words ask for serial mode and these settings
 abbrev pub AskFor : List Text → Settings → Type 0
 AskFor words settings = serial_asked_for words ≡ Some (asked_of (Serial, settings))
 
--- the text is the report of these bytes by the settings that the words ask for
+-- the text is the report of these bytes
 abbrev pub IsReport : List Text → List ℕ → List ℕ → Type 0
-IsReport words bytes text = (settings : Settings) × AskFor words settings × (replay_of settings bytes ≡ Ok text)
+IsReport words = IsTextBy (AskFor words) (λ settings bytes text. replay_of settings bytes ≡ Ok text)
 
--- the fault is that of the words, or by the settings that they ask for that of the bytes, where these are known; else the
--- reader, the memory or the writer failed
+-- the fault is that of the words or of the bytes; else the reader, the memory or the writer failed
 abbrev pub IsFault : List Text → Option (List ℕ) → ProgramFault → Type 0
-IsFault words input (Words Usage) = serial_asked_for words ≡ None
-IsFault words input (Words OutOfMemory) = Unit {0}
-IsFault words input (Replay fault) =
-    (settings : Settings) × AskFor words settings × IsFaultBy IsOutside (λ bytes fault. replay_of settings bytes ≡ Err fault) input fault
+IsFault words = IsFaultOf (serial_asked_for words ≡ None) (AskFor words) (λ settings. IsOutside) (λ settings bytes fault. replay_of settings bytes ≡ Err fault)

@@ -32,7 +32,7 @@ pub(crate) fn parse_series_words(
     alloc: Global,
     words: &[String],
 ) -> Result<(u32, Settings), WordFault>
-    ensures asked { IfOk result (λ asked. AskFor (map string_bytes words.now) asked.0 asked.1) }
+    ensures asked { IfOk result (AskFor (map string_bytes words.now)) }
     ensures usage { result ≡ Err Usage → series_asked_for (map string_bytes words.now) ≡ None }
     ensures range { IfOk result (λ asked. 1 ≤ asked.0) }
 {

@@ -2,11 +2,14 @@
 use Rattle.std.specs.Prelude.{◌≡◌, ◌≢◌, ℕ, true, List, ◌++◌, Option, codes}
 use Rattle.std.specs.Io.KnownBytes.{Appends, Keeps}
 use Rattle.replay_text.specs.Fault.{line_of as replay_line, status_of as replay_status}
+use Rattle.replay_text.specs.Written.{IsFaultBy}
+use Rattle.replay_text.specs.declared.fault.ReplayFault.{ReplayFault}
 use Rattle.replay_text.specs.declared.fault.ReplayFault.TheVariants.{OutputFailed}
 use Rattle.replay_text.specs.declared.program.Ending.{Ending}
 use Rattle.replay_text.specs.declared.program.ProgramFault.{ProgramFault}
 use Rattle.replay_text.specs.declared.program.ProgramFault.TheVariants.{Words, Replay}
 use Rattle.replay_words.specs.Words.{line_of as word_line, status_of as word_status}
+use Rattle.replay_words.specs.declared.words.WordFault.TheVariants.{Usage, OutOfMemory}
 
 -- the line on standard error, and the exit status
 abbrev pub line_of : ProgramFault → List ℕ
@@ -16,6 +19,17 @@ line_of (Replay fault) = replay_line fault ++ codes "\n"
 abbrev pub status_of : ProgramFault → ℕ
 status_of (Words fault) = word_status fault
 status_of (Replay fault) = replay_status fault
+
+-- the text is one of the bytes, by what the words ask for
+abbrev pub IsTextBy : {A : Type 0} → (A → Type 0) → (A → List ℕ → List ℕ → Type 0) → List ℕ → List ℕ → Type 0
+IsTextBy {A} AskedFor IsText bytes text = (asked : A) × AskedFor asked × IsText asked bytes text
+
+-- the fault is that of the words or, by what they ask for, that of the bytes, where these are known; else it is none of theirs
+abbrev pub IsFaultOf : {A : Type 0} → Type 0 → (A → Type 0) → (A → ReplayFault → Type 0) → (A → List ℕ → ReplayFault → Type 0) → Option (List ℕ) → ProgramFault → Type 0
+IsFaultOf {A} Refused AskedFor IsOutside IsFault input (Words Usage) = Refused
+IsFaultOf {A} Refused AskedFor IsOutside IsFault input (Words OutOfMemory) = Unit {0}
+IsFaultOf {A} Refused AskedFor IsOutside IsFault input (Replay fault) =
+    (asked : A) × AskedFor asked × IsFaultBy (IsOutside asked) (IsFault asked) input fault
 
 -- the line of this fault is all that went to standard error, where it could be told, and the status is its status
 pub record EndsBy (fault : ProgramFault) (errors_old errors_new : Option (List ℕ)) (ending : Ending) : Type 0 where
