@@ -1,6 +1,6 @@
 -- Passes that met, in another order.
-use Rattle.{std.proofs.Common.{◌≡◌, ◌∙◌, ℕ, zero, suc, List, [], ◌∷◌, None, Some, refl, ap, subst}, std.specs.Prelude.slice_get}
-use Rattle.{napi_model.specs.{declared.{event.Operation.TheVariants.Look, state.Seen.Seen}, Step.{event, opening, seen_of}, History.state_after}, napi_word.{specs.{declared.table.Pass.Pass, Passes.view_of, View.first_in, Surveys.{IsSurveyed, Surveys}}, proofs.CatchingUp.state_looked}}
+use Rattle.{std.proofs.Common.{◌≡◌, ◌∙◌, ℕ, zero, suc, List, [], ◌∷◌, Some, refl, ap, subst, sym}, std.specs.Prelude.slice_get}
+use Rattle.{napi_model.specs.{declared.state.Seen.Seen, Step.{opening, seen_of}, History.state_after}, napi_word.{specs.{declared.table.Pass.Pass, Surveys.Surveys}, proofs.CatchingUp.state_looked}}
 use Rattle.{napi_calls.specs.Seats.{controller_of, state_of}, device_shared.specs.Meeting.Meet}
 
 -- what the word told is told of the state behind the whole history
@@ -11,76 +11,45 @@ told_by {k} {looker} {ps} {qs} {x} s i p q three was is seen =
     let number : controller_of q ≡ 3 = u.view.controller ∙ s.controllers i p was ∙ three in
     seen ∙ (λ j. seen_of (state_after (opening (number j)) (u.view.shown j))) ∙ ap seen_of (state_looked (opening 3) s.found looker x)
 
--- behind the four there is none
-pub nobody_there : (p : Pass) → None ≡ Some p → ⊥
-nobody_there p e = cc e
+-- the same passes in another order, which tells of each place where it was
+abbrev reordered : {k looker : ℕ} {x : Seen} {ps qs rs ts : List Pass} (from : ℕ → ℕ) → ((i : ℕ) → slice_get rs i ≡ slice_get ps (from i))
+    → ((i : ℕ) → slice_get ts i ≡ slice_get qs (from i)) → Surveys k looker x ps qs → Surveys k looker x rs ts
+reordered from was is s = record {
+  found = s.found;
+  deliveries = s.deliveries;
+  whole = s.whole;
+  controllers = λ i p e. s.controllers (from i) p (sym (was i) ∙ e);
+  first = s.first;
+  firsts = λ i p e. s.firsts (from i) p (sym (was i) ∙ e);
+  each = λ i p q e f. s.each (from i) p q (sym (was i) ∙ e) (sym (is i) ∙ f);
+}
 
-module _ {a b c d a' b' c' d' : Pass} {looker : ℕ} {x : Seen} where
-  -- the pass that came last has number 1
-  abbrev pub second_back : Surveys 3 looker x (a ∷ c ∷ d ∷ b ∷ []) (a' ∷ c' ∷ d' ∷ b' ∷ []) → Surveys 3 looker x (a ∷ b ∷ c ∷ d ∷ []) (a' ∷ b' ∷ c' ∷ d' ∷ [])
-  second_back s = record {
-    found = s.found;
-    deliveries = s.deliveries;
-    whole = s.whole;
-    controllers = controllers;
-    first = s.first;
-    firsts = firsts;
-    each = each;
-  }
-    where
-      controllers : (i : ℕ) (p : Pass) → slice_get (a ∷ b ∷ c ∷ d ∷ []) i ≡ Some p → controller_of p ≡ 3
-      controllers zero p e = s.controllers 0 p e
-      controllers (suc zero) p e = s.controllers 3 p e
-      controllers (suc (suc zero)) p e = s.controllers 1 p e
-      controllers (suc (suc (suc zero))) p e = s.controllers 2 p e
-      controllers (suc (suc (suc (suc i)))) p e = absurd (nobody_there p e)
+-- the second of four came last
+second_from : ℕ → ℕ
+second_from (suc zero) = 3
+second_from (suc (suc zero)) = 1
+second_from (suc (suc (suc zero))) = 2
+second_from i = i
 
-      firsts : (i : ℕ) (p : Pass) → slice_get (a ∷ b ∷ c ∷ d ∷ []) i ≡ Some p → first_in (view_of p) ≡ Some s.first
-      firsts zero p e = s.firsts 0 p e
-      firsts (suc zero) p e = s.firsts 3 p e
-      firsts (suc (suc zero)) p e = s.firsts 1 p e
-      firsts (suc (suc (suc zero))) p e = s.firsts 2 p e
-      firsts (suc (suc (suc (suc i)))) p e = absurd (nobody_there p e)
+second_last : (a b c d : Pass) (i : ℕ) → slice_get (a ∷ b ∷ c ∷ d ∷ []) i ≡ slice_get (a ∷ c ∷ d ∷ b ∷ []) (second_from i)
+second_last a b c d zero = refl
+second_last a b c d (suc zero) = refl
+second_last a b c d (suc (suc zero)) = refl
+second_last a b c d (suc (suc (suc zero))) = refl
+second_last a b c d (suc (suc (suc (suc i)))) = refl
 
-      each : (i : ℕ) (p q : Pass) → slice_get (a ∷ b ∷ c ∷ d ∷ []) i ≡ Some p → slice_get (a' ∷ b' ∷ c' ∷ d' ∷ []) i ≡ Some q → IsSurveyed s.found (event looker (Look x)) s.deliveries p q
-      each zero p q e f = s.each 0 p q e f
-      each (suc zero) p q e f = s.each 3 p q e f
-      each (suc (suc zero)) p q e f = s.each 1 p q e f
-      each (suc (suc (suc zero))) p q e f = s.each 2 p q e f
-      each (suc (suc (suc (suc i)))) p q e f = absurd (nobody_there p e)
+-- the third did
+third_from : ℕ → ℕ
+third_from (suc (suc zero)) = 3
+third_from (suc (suc (suc zero))) = 2
+third_from i = i
 
-  -- the two that came last have changed places
-  abbrev pub last_swapped : Surveys 3 looker x (a ∷ b ∷ d ∷ c ∷ []) (a' ∷ b' ∷ d' ∷ c' ∷ []) → Surveys 3 looker x (a ∷ b ∷ c ∷ d ∷ []) (a' ∷ b' ∷ c' ∷ d' ∷ [])
-  last_swapped s = record {
-    found = s.found;
-    deliveries = s.deliveries;
-    whole = s.whole;
-    controllers = controllers;
-    first = s.first;
-    firsts = firsts;
-    each = each;
-  }
-    where
-      controllers : (i : ℕ) (p : Pass) → slice_get (a ∷ b ∷ c ∷ d ∷ []) i ≡ Some p → controller_of p ≡ 3
-      controllers zero p e = s.controllers 0 p e
-      controllers (suc zero) p e = s.controllers 1 p e
-      controllers (suc (suc zero)) p e = s.controllers 3 p e
-      controllers (suc (suc (suc zero))) p e = s.controllers 2 p e
-      controllers (suc (suc (suc (suc i)))) p e = absurd (nobody_there p e)
-
-      firsts : (i : ℕ) (p : Pass) → slice_get (a ∷ b ∷ c ∷ d ∷ []) i ≡ Some p → first_in (view_of p) ≡ Some s.first
-      firsts zero p e = s.firsts 0 p e
-      firsts (suc zero) p e = s.firsts 1 p e
-      firsts (suc (suc zero)) p e = s.firsts 3 p e
-      firsts (suc (suc (suc zero))) p e = s.firsts 2 p e
-      firsts (suc (suc (suc (suc i)))) p e = absurd (nobody_there p e)
-
-      each : (i : ℕ) (p q : Pass) → slice_get (a ∷ b ∷ c ∷ d ∷ []) i ≡ Some p → slice_get (a' ∷ b' ∷ c' ∷ d' ∷ []) i ≡ Some q → IsSurveyed s.found (event looker (Look x)) s.deliveries p q
-      each zero p q e f = s.each 0 p q e f
-      each (suc zero) p q e f = s.each 1 p q e f
-      each (suc (suc zero)) p q e f = s.each 3 p q e f
-      each (suc (suc (suc zero))) p q e f = s.each 2 p q e f
-      each (suc (suc (suc (suc i)))) p q e f = absurd (nobody_there p e)
+third_last : (a b c d : Pass) (i : ℕ) → slice_get (a ∷ b ∷ c ∷ d ∷ []) i ≡ slice_get (a ∷ b ∷ d ∷ c ∷ []) (third_from i)
+third_last a b c d zero = refl
+third_last a b c d (suc zero) = refl
+third_last a b c d (suc (suc zero)) = refl
+third_last a b c d (suc (suc (suc zero))) = refl
+third_last a b c d (suc (suc (suc (suc i)))) = refl
 
 module _ {a b c d a' b' c' d' : Pass} {k looker : ℕ} {x : Seen} (three : k ≡ 3) where
   pub meet_straight : Surveys k looker x (a ∷ b ∷ c ∷ d ∷ []) (a' ∷ b' ∷ c' ∷ d' ∷ []) → x ≡ seen_of (state_of d') → Meet (a ∷ b ∷ c ∷ d ∷ []) (a' ∷ b' ∷ c' ∷ d' ∷ []) x
@@ -93,10 +62,10 @@ module _ {a b c d a' b' c' d' : Pass} {k looker : ℕ} {x : Seen} (three : k ≡
   meet_second_last s seen = by (subst (λ (n : ℕ). Surveys n looker x (a ∷ c ∷ d ∷ b ∷ []) (a' ∷ c' ∷ d' ∷ b' ∷ [])) three s)
     where
       by : Surveys 3 looker x (a ∷ c ∷ d ∷ b ∷ []) (a' ∷ c' ∷ d' ∷ b' ∷ []) → Meet (a ∷ b ∷ c ∷ d ∷ []) (a' ∷ b' ∷ c' ∷ d' ∷ []) x
-      by t = record { looker = looker; surveys = second_back t; told = told_by t 3 b b' refl refl refl seen }
+      by t = record { looker = looker; surveys = reordered second_from (second_last a b c d) (second_last a' b' c' d') t; told = told_by t 3 b b' refl refl refl seen }
 
   pub meet_third_last : Surveys k looker x (a ∷ b ∷ d ∷ c ∷ []) (a' ∷ b' ∷ d' ∷ c' ∷ []) → x ≡ seen_of (state_of c') → Meet (a ∷ b ∷ c ∷ d ∷ []) (a' ∷ b' ∷ c' ∷ d' ∷ []) x
   meet_third_last s seen = by (subst (λ (n : ℕ). Surveys n looker x (a ∷ b ∷ d ∷ c ∷ []) (a' ∷ b' ∷ d' ∷ c' ∷ [])) three s)
     where
       by : Surveys 3 looker x (a ∷ b ∷ d ∷ c ∷ []) (a' ∷ b' ∷ d' ∷ c' ∷ []) → Meet (a ∷ b ∷ c ∷ d ∷ []) (a' ∷ b' ∷ c' ∷ d' ∷ []) x
-      by t = record { looker = looker; surveys = last_swapped t; told = told_by t 3 c c' refl refl refl seen }
+      by t = record { looker = looker; surveys = reordered third_from (third_last a b c d) (third_last a' b' c' d') t; told = told_by t 3 c c' refl refl refl seen }
