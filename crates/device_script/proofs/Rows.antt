@@ -6,12 +6,6 @@ pub filter-one : {X : Type 0} (p : X → Bool) (x : X) (b : Bool) → p x ≡ b 
 filter-one p x true e = rw e refl
 filter-one p x false e = rw e refl
 
--- one more item passes, or doesn't
-pub filter-more : {X : Type 0} (p : X → Bool) (xs : List X) (i : ℕ) (d : X) (b : Bool) → i < length xs → p (get_or xs i d) ≡ b
-    → filter p (take (i + 1) xs) ≡ filter p (take i xs) ++ (if b then get_or xs i d ∷ [] else [])
-filter-more p xs i d b below e =
-    ap (λ l. filter p l) (take_more xs i d below) ∙ filter-append p (take i xs) (get_or xs i d ∷ []) ∙ ap (λ l. filter p (take i xs) ++ l) (filter-one p (get_or xs i d) b e)
-
 pub find-more : {X : Type 0} (p : X → Bool) (xs : List X) (i : ℕ) (d : X) → i < length xs → find p (take i xs) ≡ None → p (get_or xs i d) ≡ false → find p (take (i + 1) xs) ≡ None
 find-more p xs i d below none e = ap (λ l. find p l) (take_more xs i d below) ∙ find-append p (take i xs) (get_or xs i d ∷ []) ∙ rw (none, e) refl
 
