@@ -1,17 +1,16 @@
 -- The whole program: what it writes and how it ends, of the words after its name and the bytes of its input.
-use Rattle.std.specs.Prelude.{◌≡◌, ◌⊎◌, ℕ, List, Option, Some, None, Ok, Err}
+use Rattle.std.specs.Prelude.{◌≡◌, ℕ, List, Option, Some, None, Ok, Err}
 use Rattle.replay_threads.specs.Answer.{threads_of}
 use Rattle.replay_threads.specs.Answer.{IsOutside as IsOutsideThreads}
 use Rattle.replay_text.specs.Outside.{IsOutside}
+use Rattle.replay_text.specs.Program.{IsFaultOf, IsTextBy}
 use Rattle.replay_rows.specs.Answer.{replay_of}
 use Rattle.replay_text.specs.declared.fault.ReplayFault.{ReplayFault}
 use Rattle.replay_text.specs.declared.program.ProgramFault.{ProgramFault}
-use Rattle.replay_text.specs.declared.program.ProgramFault.TheVariants.{Words, Replay}
 use Rattle.replay_words.specs.Words.{Text, asked_for, asked_of}
 use Rattle.replay_words.specs.declared.mode.Mode.{Mode}
 use Rattle.replay_words.specs.declared.mode.Mode.TheVariants.{Serial, Shared, Threads}
 use Rattle.replay_words.specs.declared.settings.Settings.{Settings}
-use Rattle.replay_words.specs.declared.words.WordFault.TheVariants.{Usage, OutOfMemory}
 
 -- the words ask for this mode and these settings
 abbrev pub AskFor : List Text → Mode × Settings → Type 0
@@ -37,12 +36,8 @@ IsOutsideIn Threads fault = IsOutsideThreads ⊥ fault
 
 -- the text is the report of these bytes in the mode and by the settings that the words ask for
 abbrev pub IsReport : List Text → List ℕ → List ℕ → Type 0
-IsReport words bytes text = (asked : Mode × Settings) × AskFor words asked × IsReportIn asked.0 asked.1 bytes text
+IsReport words = IsTextBy (AskFor words) (λ asked. IsReportIn asked.0 asked.1)
 
--- the fault is that of the words or, by the mode and the settings that they ask for, that of the bytes, where these are known;
--- else the reader, the memory, a writer or a thread failed
+-- the fault is that of the words or of the bytes; else the reader, the memory, a writer or a thread failed
 abbrev pub IsFault : List Text → Option (List ℕ) → ProgramFault → Type 0
-IsFault words input (Words Usage) = asked_for words ≡ None
-IsFault words input (Words OutOfMemory) = Unit {0}
-IsFault words input (Replay fault) =
-    (asked : Mode × Settings) × AskFor words asked × ((bytes : List ℕ) → input ≡ Some bytes → IsOutsideIn asked.0 fault ⊎ IsFaultIn asked.0 asked.1 bytes fault)
+IsFault words = IsFaultOf (asked_for words ≡ None) (AskFor words) (λ asked. IsOutsideIn asked.0) (λ asked. IsFaultIn asked.0 asked.1)

@@ -1,11 +1,10 @@
 //! The whole program, but for its real ends: from the words, the input and the two outputs to the exit status.
 
-ghost use Rattle.std.specs.Prelude.{◌≡◌, ◌≢◌, ◌⊎◌, ℕ, List, Some, IfErr, OnOk, map, string_bytes};
-ghost use Rattle.std.specs.Io.KnownBytes.{Appends, Keeps};
+ghost use Rattle.std.specs.Prelude.{◌≡◌, ◌≢◌, IfErr, OnOk, map, string_bytes};
+ghost use Rattle.std.specs.Io.KnownBytes.{Keeps};
 ghost use Rattle.napi_replay.specs.Program.{IsFault, IsFaultIn, IsOutsideIn, IsReport, IsReportIn};
-ghost use Rattle.replay_text.specs.Program.{FailedBy};
-ghost use Rattle.replay_text.specs.declared.fault.ReplayFault.TheVariants.{OutputFailed};
-ghost use Rattle.replay_text.specs.declared.program.ProgramFault.TheVariants.{Replay};
+ghost use Rattle.replay_text.specs.Program.{FailedBy, KeepsOutput};
+ghost use Rattle.replay_text.specs.Written.{IsFaultBy, LeavesAsItWas, Writes};
 
 use poll_workers::OpenGate;
 use replay_rows::replay_serial;
@@ -30,13 +29,12 @@ where
     H: Threads + Wait + Sync,
     R: Read + Drop,
     W: Write,
-    ensures written { OnOk result ((bytes : List ℕ) → R.remaining input ≡ Some bytes
-        → (text : List ℕ) × IsReportIn mode settings.now bytes text
-        × Appends (W.contents output.old) (W.contents output.new) text) }
-    ensures fault { IfErr result (λ fault. (bytes : List ℕ) → R.remaining input ≡ Some bytes
-        → IsOutsideIn mode fault ⊎ IsFaultIn mode settings.now bytes fault) }
+    ensures written { OnOk result (Writes (IsReportIn mode settings.now)
+        (R.remaining input) (W.contents output.old) (W.contents output.new)) }
+    ensures fault { IfErr result
+        (IsFaultBy (IsOutsideIn mode) (IsFaultIn mode settings.now) (R.remaining input)) }
     ensures untouched { IfErr result
-        (λ fault. fault ≢ OutputFailed → Keeps (W.contents output.old) (W.contents output.new)) }
+        (LeavesAsItWas (W.contents output.old) (W.contents output.new)) }
 {
     match mode {
         Mode::Serial => replay_serial(alloc, input, output, settings),
@@ -56,13 +54,11 @@ fn replay_asked<H: Threads + Wait + Sync, R: Read + Drop, W: Write>(
     input: R,
     output: &mut W,
 ) -> Result<(), ProgramFault>
-    ensures written { OnOk result ((bytes : List ℕ) → R.remaining input ≡ Some bytes
-        → (text : List ℕ) × IsReport (map string_bytes words.now) bytes text
-        × Appends (W.contents output.old) (W.contents output.new) text) }
+    ensures written { OnOk result (Writes (IsReport (map string_bytes words.now))
+        (R.remaining input) (W.contents output.old) (W.contents output.new)) }
     ensures fault { IfErr result (IsFault (map string_bytes words.now) (R.remaining input)) }
     ensures untouched { IfErr result
-        (λ fault. fault ≢ Replay OutputFailed
-        → Keeps (W.contents output.old) (W.contents output.new)) }
+        (KeepsOutput (W.contents output.old) (W.contents output.new)) }
 {
     match parse_words(alloc, words) {
         Ok((mode, settings)) => match replay_in(rt, alloc, mode, input, output, &settings) {
@@ -87,9 +83,8 @@ pub fn run_program<H: Threads + Wait + Sync, R: Read + Drop, W: Write, E: Write>
 ) -> Ending
     // What is written is the report of the bytes read, in the mode and by the settings that the words ask for, and nothing
     // else.
-    ensures written { result.status ≡ 0 → (bytes : List ℕ) → R.remaining input ≡ Some bytes
-        → (text : List ℕ) × IsReport (map string_bytes words.now) bytes text
-        × Appends (W.contents output.old) (W.contents output.new) text }
+    ensures written { result.status ≡ 0 → Writes (IsReport (map string_bytes words.now))
+        (R.remaining input) (W.contents output.old) (W.contents output.new) }
     ensures quiet { result.status ≡ 0 → Keeps (E.contents errors.old) (E.contents errors.new) }
     ensures failed { result.status ≢ 0
         → FailedBy (IsFault (map string_bytes words.now) (R.remaining input))

@@ -85,10 +85,6 @@ pub station-here : (rows : List Row) (number : ℕ) (devices : List ℕ) (statio
     → IsStationOf rows number station → AllZip (IsStationOf rows) devices stations → AllZip (IsStationOf rows) (devices ++ filter (is_opened rows) (number ∷ [])) (stations ++ station ∷ [])
 station-here rows number devices stations station is of before = rw is (zip_push (IsStationOf rows) devices stations number station before of)
 
-pub no-station : (rows : List Row) (number : ℕ) (devices : List ℕ) (stations : List (Station Script)) → is_opened rows number ≡ false
-    → AllZip (IsStationOf rows) devices stations → AllZip (IsStationOf rows) (devices ++ filter (is_opened rows) (number ∷ [])) stations
-no-station rows number devices stations is before = rw (is, append-nil devices) before
-
 pub opened-more : (rows : List Row) (number : ℕ) → 1 ≤ number
     → filter (is_opened rows) (range_with_len 1 (number + 1 - 1)) ≡ filter (is_opened rows) (range_with_len 1 (number - 1)) ++ filter (is_opened rows) (number ∷ [])
 opened-more rows number one =

@@ -1,14 +1,14 @@
 //! A whole run with threads: from the bytes of a trace to the bytes of a report.
 
-ghost use Rattle.std.specs.Prelude.{◌≡◌, ◌≢◌, ◌⊎◌, ◌≤◌, [], ℕ, List, Ok, Err, Some, IfErr, IfOk, OnOk, length, map, vec_items};
-ghost use Rattle.std.specs.Io.KnownBytes.{Appends, Keeps};
+ghost use Rattle.std.specs.Prelude.{◌≡◌, ◌⊎◌, ◌≤◌, [], ℕ, List, Ok, Err, Some, IfErr, IfOk, OnOk, length, map, vec_items};
+ghost use Rattle.std.specs.Io.KnownBytes.{Appends};
 ghost use Rattle.std.specs.List.{AllZip};
 ghost use Rattle.device_rows.specs.Trace.{AcceptedAfter, records_of, trace_of};
 ghost use Rattle.device_rows.specs.declared.row.Row.{Row};
 ghost use Rattle.replay_threads.specs.Answer.{IsOutside, IsPolled, answer_of, threads_of};
 ghost use Rattle.replay_threads.specs.Stations.{polled_of};
 ghost use Rattle.replay_threads.specs.ThreadsReport.{opened};
-ghost use Rattle.replay_text.specs.declared.fault.ReplayFault.TheVariants.{OutputFailed};
+ghost use Rattle.replay_text.specs.Written.{IsFaultBy, LeavesAsItWas, Writes};
 
 use crate::polled::Polled;
 use crate::report::report_of;
@@ -61,7 +61,7 @@ where
     ensures fault { IfErr result
         (λ fault. IsOutside G.may_shut fault ⊎ (answer_of (Ok rows.now) ≡ Err fault)) }
     ensures untouched { IfErr result
-        (λ fault. fault ≢ OutputFailed → Keeps (W.contents writer.old) (W.contents writer.new)) }
+        (LeavesAsItWas (W.contents writer.old) (W.contents writer.new)) }
 {
     let ends = run_rows(rt, alloc, rows, settings, gate)?;
     let text = report_of(alloc, ends.as_slice())?;
@@ -95,19 +95,18 @@ where
     W: Write,
     G: Gate + Sync,
     // What is written is the threads report of the rows of the bytes read, and nothing else.
-    ensures written { OnOk result ((bytes : List ℕ) → R.remaining reader ≡ Some bytes
-        → (text : List ℕ) × (threads_of bytes ≡ Ok text)
-        × Appends (W.contents writer.old) (W.contents writer.new) text) }
+    ensures written { OnOk result (Writes (λ bytes text. threads_of bytes ≡ Ok text)
+        (R.remaining reader) (W.contents writer.old) (W.contents writer.new)) }
     // Of each device that they open, what was polled and what is left are the packets that arrived.
     ensures polled { IfOk result (λ all. (bytes : List ℕ) → R.remaining reader ≡ Some bytes
         → (rows : List Row) × (trace_of (records_of bytes) ≡ Ok rows)
         × AllZip (IsPolled rows) (opened rows) (vec_items all)) }
     // A fault is that of the bytes read, unless the reader, the memory, the writer or a thread failed, or the gate, where that
     // may be shut.
-    ensures fault { IfErr result (λ fault. (bytes : List ℕ) → R.remaining reader ≡ Some bytes
-        → IsOutside G.may_shut fault ⊎ (threads_of bytes ≡ Err fault)) }
+    ensures fault { IfErr result (IsFaultBy (IsOutside G.may_shut)
+        (λ bytes fault. threads_of bytes ≡ Err fault) (R.remaining reader)) }
     ensures untouched { IfErr result
-        (λ fault. fault ≢ OutputFailed → Keeps (W.contents writer.old) (W.contents writer.new)) }
+        (LeavesAsItWas (W.contents writer.old) (W.contents writer.new)) }
 {
     let trace = read_trace(alloc, reader)?;
     write_report(rt, alloc, trace.rows(), writer, settings, gate)
