@@ -1,14 +1,13 @@
 #!/usr/bin/env bash
 # scripts/take.sh: what it takes and what it refuses, and a program over `poll_engine`, proved and run in the repository that took
-# it. Libraries that stand here, or in the checkout LENDS, built by `rt`, are lent to that repository, and the rest is proved there
-# from nothing, which takes some minutes. `rt ci` leaves none that `rt` takes. The last line is `N passed, M failed`.
+# it. `rt` takes the libraries that a checkout on this machine has built, and proves the rest there from nothing, which takes some
+# minutes. The last line is `N passed, M failed`.
 set -uo pipefail
 unset CDPATH
 top=$(dirname "$(dirname "$(readlink -f "$0")")")
 scratch=$(mktemp -d)
 trap 'rm -rf "$scratch"' EXIT
 to=$scratch/repository
-lends=${LENDS:-$top}
 . "$top/scripts/checks.sh"
 
 take() { "$top/scripts/take.sh" "$@"; }
@@ -54,16 +53,6 @@ is_closed() {
         done
         seen+="$name "
     done < "$to/crates.txt"
-}
-
-# lend: the libraries that stand there, for the crates that were taken. Each has a stamp, the sum of what it was built of, and `rt`
-# builds one anew whose stamp isn't that of the sources.
-lend() {
-    local name
-    while read -r name; do
-        [ -e "$lends/crates/$name/out/rlib/stamp" ] || continue
-        mkdir "$to/crates/$name/out" && cp -a "$lends/crates/$name/out/rlib" "$to/crates/$name/out/" || return 1
-    done < "$scratch/taken"
 }
 
 # prints_when_proved CRATE LINE: `rt run` there proves it and all below it, builds it and prints the line.
@@ -114,7 +103,6 @@ check 'a line of that name with other words' leaves_as_it_was 65 take tx_ring "$
 begin
 tells poll_engine
 cp "$top/HANDLES" "$to/HANDLES"
-check 'what is built here is lent' lend
 with_program listed poll_engine << 'END'
 //! Three numbers on a poll list, the first of them polled, and how its poll ends.
 #![tactic(auto)]

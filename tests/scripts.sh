@@ -1,0 +1,58 @@
+#!/usr/bin/env bash
+# What scripts of bench/, examples/ and scripts/ refuse, and scripts/gate-times.sh on a gate that proves nothing. The last line is
+# `N passed, M failed`.
+set -uo pipefail
+unset CDPATH
+top=$(dirname "$(dirname "$(readlink -f "$0")")")
+scratch=$(mktemp -d)
+trap 'rm -rf "$scratch"' EXIT
+. "$top/scripts/checks.sh"
+
+# refuses SCRIPT ARGUMENT ..: a line, status 64, and nothing is made.
+refuses() {
+    local status=0
+    "$top/$1" "${@:2}" > "$scratch/out" 2>&1 || status=$?
+    check "$* is refused" [ "$status $(wc -l < "$scratch/out") $(grep -c "^$(basename "$1"): " "$scratch/out")" = '64 1 1' ]
+}
+
+refuses scripts/gate-times.sh "$scratch/no-gate"
+refuses bench/limits.sh many
+refuses bench/limits.sh 1 2
+refuses bench/receive.sh 0
+refuses bench/refusals.sh "$top/README.md"
+refuses bench/replay.sh "$scratch/none"
+refuses bench/replay.sh /bin/cat -3
+TRACES=$scratch/none refuses bench/replay.sh
+refuses bench/traces.sh
+refuses bench/traces.sh "$scratch/traces" 1e5
+refuses examples/compare.sh "$scratch/none"
+check 'a refused script makes nothing' [ ! -e "$scratch/traces" ]
+
+# A gate of one crate, whose prover is a shell under the prover's name.
+mkdir -p "$scratch/rt-edit-x"
+cat > "$scratch/gate" << 'END'
+#!/usr/bin/env bash
+prove() { bash -c 'exec -a /x/rattle bash -c "for ((i = 0; i < 300000; i++)); do :; done; sleep 1.2; :" "$@"' '' "$@"; }
+prove check --crate-name low && echo 'rt: low proved'
+prove check --crate-name low --test && echo 'rt: low: its tests are proved'
+echo 'rt: low: trying its must-fail edits (2)'
+cd "$1" && prove check --crate-name low
+echo '3 passed, 1 failed'
+exit 1
+END
+chmod +x "$scratch/gate"
+status=0
+LOG=$scratch/gate.log "$top/scripts/gate-times.sh" "$scratch/gate" "$scratch/rt-edit-x" > "$scratch/out" 2>&1 || status=$?
+check "the gate's status is the script's" [ "$status" = 1 ]
+check 'its lines have their seconds' grep -q '^ *[0-9]*\.[0-9]  rt: low proved$' "$scratch/out"
+check 'a crate has its row' grep -q '^low  *[0-9.]* s  *[0-9.]* s  *[0-9.]* s  *[0-9.]* s  *2: [0-9.]* s  *[0-9.]* s$' "$scratch/out"
+check 'with processor time in each place' [ "$(awk '/^low/ { print ($4 > 0), ($8 > 0), ($13 > 0) }' "$scratch/out")" = '1 1 1' ]
+check 'and all that is in the log' cmp "$scratch/out" "$scratch/gate.log"
+status=0
+LOG=/proc/none/log "$top/scripts/gate-times.sh" true 2> "$scratch/out" || status=$?
+check 'a log that cannot be written' [ "$status" = 73 ]
+cp "$(command -v sleep)" "$scratch/slow"
+status=0
+LOG=$scratch/gate.log env --default-signal=INT timeout --preserve-status -s INT 1 "$top/scripts/gate-times.sh" "$scratch/slow" 30 > "$scratch/out" 2>&1 || status=$?
+check 'it can be interrupted, and ends the gate' [ "$status $(pgrep -f "^$scratch/slow")" = '130 ' ]
+sum_up
