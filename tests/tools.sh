@@ -1,6 +1,6 @@
 #!/usr/bin/env bash
 # tests/tools.sh: tries the tools of tools/, and napi_series on whole runs, by tests/tools/test_*.py. What needs gnuplot, GNU
-# parallel, tcpdump or a slurmd is skipped where they aren't there, and says so. PROGRAM=FILE and SERIES=FILE name other builds
+# parallel, tcpdump, Chromium or a slurmd is skipped where they aren't there, and says so. PROGRAM=FILE and SERIES=FILE name other builds
 # of napi_replay and napi_series. The last line is `N passed, M failed`.
 set -u
 tests=$(cd "$(dirname "$(readlink -f "$0")")" && pwd)

@@ -315,13 +315,15 @@ def program(name, named=None):
 def begun(command, among, **ends):
     """A program at work, which stands among those from then on."""
     import subprocess
-    is_main = _thread.get_ident() == MAIN
-    Signals.begins = is_main or Signals.begins
+    is_main = _thread.get_ident() == MAIN  # which is the one that signals interrupt
+    if is_main:
+        Signals.begins = True
     try:
         process = subprocess.Popen(command, **ends)
         among.add(process)
     finally:
-        Signals.begins = not is_main and Signals.begins
+        if is_main:
+            Signals.begins = False
     if Signals.is_over or is_main and Signals.waiting:
         process.terminate() if among is not running else process.kill()
         process.wait()
