@@ -1,6 +1,6 @@
 -- Each device has a transmit side: what keeps that.
 use Rattle.std.{proofs.Common.{◌≡◌, ◌∙◌, ℕ, zero, suc, ◌<◌, Option, Some, None, [], ◌∷◌, length, slice_set, ap, refl, sym, arith}, specs.Prelude.is_some}
-use Rattle.{device_transmit.specs.{Transmits.Transmits, Transmit.TransmitView}, device_rows.specs.Places.{Places, added, added_at, at, changed, changed_from}, device_bench.specs.Bench.{Devices, HaveSides, all_settled, attached}}
+use Rattle.{device_transmit.specs.{Transmits.Transmits, Transmit.TransmitView}, device_rows.specs.Places.{Places, at, changed, changed_from}, device_bench.specs.Bench.{Devices, HaveSides, all_settled, attached}}
 
 module _ {A : Type 0} where
   -- a place is set, and stays taken or empty
