@@ -6,6 +6,7 @@ therefore built in a lane: a folder with its sources and those below it, the lib
 which stays for the next build.
 """
 import contextlib
+import errno
 import fcntl
 import functools
 import os
@@ -97,6 +98,7 @@ class Crate:
     def leave(self):
         """Puts a program or an archive from its lane into the checkout."""
         if not self.is_library:
+            os.makedirs(f"{self.folder}/out", exist_ok=True)
             shutil.copy2(f"{self.own}/{self.made}", f"{self.folder}/{self.made}.new")
             os.replace(f"{self.folder}/{self.made}.new", f"{self.folder}/{self.made}")
 
@@ -221,10 +223,12 @@ def need_rt():
 def take_turn(asked):
     """One build at a time in a checkout: a second one waits, and mostly finds all built then."""
     try:
-        for folder in (*(f"{it.folder}/out" for it in asked), LANES):
-            os.makedirs(folder, exist_ok=True)
-            lock = open(f"{folder}/build.lock", "ab")
+        os.makedirs(LANES, exist_ok=True)
+        lock = open(f"{LANES}/lock", "ab")
         open(f"{LANES}/MODULE.bazel", "ab").close()  # `rt ci` passes over a folder that has this
+        for folder in (f"{it.folder}/out" if os.path.exists(f"{it.folder}/out") else it.folder for it in asked):
+            if not os.access(folder, os.W_OK):
+                raise PermissionError(errno.EACCES, "", folder)
     except OSError as error:
         raise Stop(73, f"the program is to be built, and {error.filename} can't be written: build in a checkout of your own") from None
     try:
