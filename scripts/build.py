@@ -119,12 +119,15 @@ class Crate:
     def begin(self, pace):
         """Begins it in its lane, `pace` behind others. `rt` makes no program without a run: this is on what the gate runs it on."""
         self.lay()
-        command, given = ["rt", "lib"], os.devnull
+        words, given = [], os.devnull
         if self.is_program:
-            command, given = ["rt", "run", "--"], f"{self.folder}/stdin" if os.path.exists(f"{self.folder}/stdin") else given
+            given = f"{self.folder}/stdin" if os.path.exists(f"{self.folder}/stdin") else given
             if os.path.exists(f"{self.folder}/args"):
                 with open(f"{self.folder}/args", encoding="utf-8") as file:
-                    command += file.read().splitlines()
+                    words = file.read().splitlines()
+        # It ends with this process, however that ends.
+        command = ["setpriv", "--pdeathsig", "TERM"] if shutil.which("setpriv") else []
+        command += ["rt", "run", "--", *words] if self.is_program else ["rt", "lib"]
         with open(f"{self.lane}/log", "wb") as log, open(given, "rb") as source:
             return subprocess.Popen(command, stdin=source, stdout=log, stderr=log, cwd=self.own, preexec_fn=lambda: os.nice(min(3 * pace, 19)))
 
