@@ -6,6 +6,7 @@ therefore built in a lane: a folder with its sources and those below it, the lib
 which stays for the next build.
 """
 import contextlib
+import errno
 import fcntl
 import functools
 import os
@@ -97,6 +98,7 @@ class Crate:
     def leave(self):
         """Puts a program or an archive from its lane into the checkout."""
         if not self.is_library:
+            os.makedirs(f"{self.folder}/out", exist_ok=True)
             shutil.copy2(f"{self.own}/{self.made}", f"{self.folder}/{self.made}.new")
             os.replace(f"{self.folder}/{self.made}.new", f"{self.folder}/{self.made}")
 
@@ -117,12 +119,15 @@ class Crate:
     def begin(self, pace):
         """Begins it in its lane, `pace` behind others. `rt` makes no program without a run: this is on what the gate runs it on."""
         self.lay()
-        command, given = ["rt", "lib"], os.devnull
+        words, given = [], os.devnull
         if self.is_program:
-            command, given = ["rt", "run", "--"], f"{self.folder}/stdin" if os.path.exists(f"{self.folder}/stdin") else given
+            given = f"{self.folder}/stdin" if os.path.exists(f"{self.folder}/stdin") else given
             if os.path.exists(f"{self.folder}/args"):
                 with open(f"{self.folder}/args", encoding="utf-8") as file:
-                    command += file.read().splitlines()
+                    words = file.read().splitlines()
+        # It ends with this process, however that ends.
+        command = ["setpriv", "--pdeathsig", "TERM"] if shutil.which("setpriv") else []
+        command += ["rt", "run", "--", *words] if self.is_program else ["rt", "lib"]
         with open(f"{self.lane}/log", "wb") as log, open(given, "rb") as source:
             return subprocess.Popen(command, stdin=source, stdout=log, stderr=log, cwd=self.own, preexec_fn=lambda: os.nice(min(3 * pace, 19)))
 
@@ -221,10 +226,12 @@ def need_rt():
 def take_turn(asked):
     """One build at a time in a checkout: a second one waits, and mostly finds all built then."""
     try:
-        for folder in (*(f"{it.folder}/out" for it in asked), LANES):
-            os.makedirs(folder, exist_ok=True)
-            lock = open(f"{folder}/build.lock", "ab")
+        os.makedirs(LANES, exist_ok=True)
+        lock = open(f"{LANES}/lock", "ab")
         open(f"{LANES}/MODULE.bazel", "ab").close()  # `rt ci` passes over a folder that has this
+        for folder in (f"{it.folder}/out" if os.path.exists(f"{it.folder}/out") else it.folder for it in asked):
+            if not os.access(folder, os.W_OK):
+                raise PermissionError(errno.EACCES, "", folder)
     except OSError as error:
         raise Stop(73, f"the program is to be built, and {error.filename} can't be written: build in a checkout of your own") from None
     try:

@@ -241,7 +241,7 @@ class Call:
             return f"{self.trace.which}: a read of it failed"
         if run.said == "memory fault 11 OutOfMemory\n" and self.memory != "unlimited":
             return f"{self.trace.which}: it takes more memory than the program may have, {self.memory} MiB (REPLAY_MEMORY sets that)"
-        if run.status and not run.said:
+        if run.status not in (0, 141) and not run.said:  # (141: who read the report has enough)
             return f"{self.program} ended with status {run.status}, and no line of it is there"
         text = self.trace.text() if row else None
         if text is None:

@@ -198,7 +198,7 @@ refusals_of_a_build() {
     check 'a proof that fails ends the build, with what rt said and where the rest stands' "$status $(tail -n 2 "$scratch/err")" \
         "70 replay: high couldn't be built; $small/.git/lanes/high/log has all that \`rt\` said:
 error: not proved"
-    check 'and leaves no old program' "$(ls "$small/crates/napi_serial/out")" build.lock
+    check 'and leaves no old program' "$(ls "$small/crates/napi_serial/out")" ''
     change
     PATH=$scratch/bin:$PATH run "$BASH" -c "(ulimit -f 0; exec '$launcher' '$trace') 2>&1 | tail -n 1; exit \${PIPESTATUS[0]}"
     check 'a full disk has a line' "$status $(counts '^replay: the build failed: ')" '70 1'
