@@ -18,7 +18,7 @@ fetch() {
     command -v apt-get > /dev/null && command -v dpkg-deb > /dev/null || return 1
     work=$(mktemp -d)
     trap 'rm -rf "$work"' EXIT
-    (cd "$work" && apt-get download "linux-source-$version" > fetch.log 2>&1) || return 1
+    (cd "$work" && timeout 900 apt-get -o Acquire::http::Timeout=20 download "linux-source-$version" > fetch.log 2>&1) || return 1
     dpkg-deb --fsys-tarfile "$work"/linux-source-*.deb | tar -x -C "$work" "./usr/src/linux-source-$version.tar.xz"
     mkdir -p "$work/files" "$kept"
     tar -x -J -f "$work/usr/src/linux-source-$version.tar.xz" -C "$work/files" --strip-components=1 --occurrence "${@/#/linux-source-$version/}"

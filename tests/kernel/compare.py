@@ -70,9 +70,9 @@ def trace_of(name, text, settings):
 
 def random_traces(count, seed):
     for number in range(seed, seed + count):
-        trace = trace_of("random trace %d" % number, random_trace.Trace(number, 1 + number % 2).text(), SETTINGS[number % 6])
+        trace = trace_of("random trace %d" % number, random_trace.Trace(number, 1 + number % 2).text(), SETTINGS[number // 2 % 6])
         if trace:
-            if number % 4 == 0:
+            if number % 5 == 0:
                 trace = trace.cut(far_moments(trace.rows, random.Random(number)))
             yield trace
 
@@ -115,12 +115,15 @@ def comes_in_turn(rows):
     for _, device, event, _ in rows:
         if event in ("disable", "enable") and (device in off) != (event == "enable"):
             return False
-        (off.add if event == "disable" else off.discard)(device) if event in ("disable", "enable") else None
+        if event == "disable":
+            off.add(device)
+        elif event == "enable":
+            off.discard(device)
     return True
 
 
 def worked_traces():
-    """The runs of runs.txt that have no words or numbers of a run alone, and the examples."""
+    """The runs of runs.txt whose words name a run's numbers alone, and the examples, under two settings."""
     for name, words, text in runs.runs():
         keys = re.findall(r"--(\w+)=", "=".join(words))
         if all(words) and len(keys) == len(set(keys)) and re.fullmatch(r"(=?--(budget|weight|window)=\d{1,5})*", "=".join(words)):
