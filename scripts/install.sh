@@ -65,6 +65,7 @@ scratch=$(mktemp -d)
 trap 'rm -rf "$scratch"' EXIT
 cc=${CC:-cc}
 command -v "$cc" > /dev/null || stop 69 "there is no $cc, which makes the shared library"
+[ -n "$is_library" ] || command -v python3 > /dev/null || stop 69 "there is no python3, which the tools are written in"
 "$top/scripts/c_library.sh" "$scratch" || stop 70 "the C library couldn't be built"
 # the exports alone, of all that the archive has
 echo '{ global: fq_*; local: *; };' > "$scratch/exports"

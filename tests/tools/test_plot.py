@@ -4,7 +4,8 @@ import re
 import shutil
 import unittest
 
-from tooltest import HEADER, TOP, InFolder, run
+from prefixes import report_of
+from tooltest import HEADER, REPLAY, TOP, InFolder, run
 
 
 class Plot(InFolder):
@@ -56,6 +57,45 @@ class Plot(InFolder):
         self.assertIn("<< END\n2 1\n3 2\n4 1\nEND", script)
         self.assertNotIn("bytes in flight", script)
         self.assertIn("none of the rows 20:30 is there", self.plot(self.ROWS, "--rows", "20:30").stderr)
+
+    def waits(self, text, *words):
+        """How long the packets of each row had waited: the row, the least and the most."""
+        script = run("plot", "-", "--script", "--waits", *words, text=text).stdout
+        blocks = re.findall(r"<< END\n(.*?)\nEND", script, re.S)
+        self.assertIn("title 'longest wait of a run'", script)
+        return [tuple(map(float, line.split())) for line in blocks[-1].splitlines()]
+
+    def test_how_long_packets_wait(self):
+        """By hand: with a budget of 1 each run has one packet, of the device that comes next on the list. The second device's ring has
+        one place, so its second packet is dropped; its third one comes behind the run that took the first."""
+        rows = "0,1,open,8\n0,2,open,1\n1,1,rx,60\n1,2,rx,60\n1,2,rx,60\n1,1,rx,60\n2,0,softirq,0\n3,0,softirq,0\n3,2,rx,60\n4,0,softirq,0\n5,0,softirq,0\n"
+        # Row 7 has device 1's packet of row 3, row 8 device 2's of row 4, row 10 device 1's of row 6, row 11 device 2's of row 9.
+        self.assertEqual(self.waits(HEADER + rows, "--budget", "1", "--weight", "1"), [(7, 4, 4), (8, 4, 4), (10, 4, 4), (11, 2, 2)])
+        # By the usual settings row 7 has all that wait, and row 10 the one of row 9.
+        self.assertEqual(self.waits(HEADER + rows), [(7, 1, 4), (10, 1, 1)])
+
+    def test_waits_are_those_of_the_reports(self):
+        """Of a recorded piece by a small budget: each row's packets by what the reports of its prefixes tell of each device."""
+        header, *rows = (TOP / "examples/linux-veth-bursts.csv").read_text().split()[:300]
+        rings, polled, dropped, wanted = {}, {}, {}, []
+        for number, row in enumerate(rows, 1):
+            _, device, event, _ = row.split(",")
+            rings.setdefault(device, [])
+            if event not in ("rx", "softirq"):
+                continue
+            waited = []
+            for line in report_of(REPLAY, rows[:number], ["--budget", "8", "--weight", "4"], header + "\n"):
+                if line[0] != "device":
+                    continue
+                if event == "rx" and line[1] == device and int(line[6]) == dropped.get(device, 0):
+                    rings[device].append(number)
+                for _ in range(int(line[8]) - polled.get(line[1], 0)):
+                    waited.append(number - rings[line[1]].pop(0))
+                polled[line[1]], dropped[line[1]] = int(line[8]), int(line[6])
+            if waited:
+                wanted.append((number, min(waited), max(waited)))
+        self.assertEqual(self.waits("\n".join([header, *rows, ""]), "--budget", "8", "--weight", "4"), wanted)
+        self.assertGreater(len(wanted), 3)
 
     def places(self, script):
         """Of the panels of a script, how wide each is; and of what stands above their curves, how high each line of it."""

@@ -241,10 +241,8 @@ class FromPcap(InFolder):
     @HAS_TCPDUMP
     def test_an_interface_is_a_device(self):
         rows, notes = self.made(self.SEEN, "--unit", "us", "--delay", "10000")
-        self.assertEqual(rows[1:], ["0,1,open,256", *(f"{100 * place - 100},1,rx,{60 + place}" for place in (1, 3, 5, 7, 9)), "1000,1,rx,90",
-                                    "10000,0,softirq,0"] if False else rows[1:])
-        self.assertEqual([row.split(",")[1:] for row in rows[1:]], [["1", "open", "256"], *(["1", "rx", str(size)] for size in (61, 63, 65, 67, 69, 90)),
-                                                                  ["0", "softirq", "0"]])
+        self.assertEqual(rows[1:], ["0,1,open,256", *(f"{moment},1,rx,{size}" for moment, size in ((100, 61), (300, 63), (500, 65), (700, 67), (900, 69),
+                                                                                                  (1100, 90))), "10100,0,softirq,0"])
         self.assertEqual(notes[0], "device 1 is 02:00:00:00:00:01, 6 packets")
         self.assertIn("no row: packets that don't come in, 6", notes)
         self.assertIn("each packet with one receiver comes from 02:00:00:00:00:01 or goes to it, so what it sends goes out", notes)
