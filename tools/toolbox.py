@@ -72,7 +72,8 @@ def why(error):
     """An error in a line. What nobody thought of is one too, with where it was."""
     if isinstance(error, Refusal):
         return str(error)
-    if isinstance(error, MemoryError) or isinstance(error, ImportError) and "failed to map" in str(error):
+    if isinstance(error, MemoryError) or isinstance(error, (ImportError, RuntimeError)) and ("failed to map" in str(error)
+                                                                                             or "new thread" in str(error)):
         return "there isn't enough memory"
     if isinstance(error, UnicodeDecodeError):
         return "what it reads is no UTF-8"
