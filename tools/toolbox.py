@@ -72,7 +72,8 @@ def why(error):
     """An error in a line. What nobody thought of is one too, with where it was."""
     if isinstance(error, Refusal):
         return str(error)
-    if isinstance(error, MemoryError):
+    if isinstance(error, MemoryError) or isinstance(error, (ImportError, RuntimeError)) and ("failed to map" in str(error)
+                                                                                             or "new thread" in str(error)):
         return "there isn't enough memory"
     if isinstance(error, UnicodeDecodeError):
         return "what it reads is no UTF-8"
@@ -219,14 +220,25 @@ def check_input(path):
         raise Refusal(f"{shown(path)}: there is no such file")
 
 
+def bytes_in(file):
+    """What is in an open file; more than any trace has is refused. One step at a time, as Python makes room for all that it is asked for."""
+    steps, size = [], 0
+    while step := file.read(1 << 20):
+        steps.append(step)
+        size += len(step)
+        if size > MOST_BYTES:
+            raise Refusal(f"longer than any trace, over {MOST_BYTES >> 20} MiB")
+    return b"".join(steps)
+
+
 def read_bytes(path):
-    """What is in a file, or on standard input for `-`; more than any trace has is refused."""
+    """What is in a file, or on standard input for `-`."""
     check_input(path)
-    with open(0 if path == "-" else path, "rb", closefd=path != "-") as file:
-        text = file.read(MOST_BYTES + 1)
-    if len(text) > MOST_BYTES:
-        raise Refusal(f"{shown(path)}: longer than any trace, over {MOST_BYTES >> 20} MiB")
-    return text
+    try:
+        with open(0 if path == "-" else path, "rb", closefd=path != "-") as file:
+            return bytes_in(file)
+    except Refusal as error:
+        raise Refusal(f"{shown(path)}: {error}") from None
 
 
 def is_number(text, most=2**64 - 1):

@@ -90,18 +90,31 @@ class Surroundings(InFolder):
             self.check_line(tool, done.stderr.splitlines(True)[-1].encode())
             self.assertLess(len(done.stderr), 3000)
 
+    def within(self, memory, tool, *words):
+        """A tool in that many kB of address space."""
+        return subprocess.run(["bash", "-c", f'ulimit -v {memory}; exec "$0" "$@"', sys.executable, "-BES", TOP / "tools" / tool, *words],
+                              capture_output=True, check=False, cwd=self.folder, env={**USUAL, "PROGRAM": REPLAY, "SERIES": SERIES})
+
     def test_want_of_memory(self):
-        """In 60 MB of address space Python starts; what comes then is a line, whatever is refused first."""
-        rows = self.write("rows.csv", HEADER + "0,1,open,8\n" + "1,1,rx,60\n" * 99999)
-        for tool, words in (("raise", [rows]), ("traffic", ["--rate", "90000"]), ("from-ftrace", [HERE / "soft-tcp.txt", "made"]),
-                            ("report2json", [rows]), ("sweep", [rows, "--without-parallel", "--out", "out"]), ("plot", [rows, "--script"])):
-            for memory in (17000, 20000, 24000, 30000, 60000):
-                done = subprocess.run(["bash", "-c", f'ulimit -v {memory}; exec "$0" "$@"', sys.executable, "-BES", TOP / "tools" / tool, *words],
-                                      capture_output=True, check=False, cwd=self.folder, env={**USUAL, "PROGRAM": REPLAY, "SERIES": SERIES})
-                if done.stderr.startswith((b"Fatal Python error", b"Could not", b"Python")) or done.returncode in (126, 127) or b"shared libraries" in done.stderr:
-                    continue  # Python itself couldn't start
-                self.assertNotIn(b"Traceback", done.stderr, (tool, memory))
-                self.assertNotIn(b"mistake of its own", done.stderr, (tool, memory))
+        """60 MB can be read in 100 MB, and not be read as text as well."""
+        text = self.write("text", "softirq 4 polls 2 work 3 squeezed 1\n" * 1700000)
+        for tool, words in (("report2json", [text]), ("plot", ["--series", text, "--script"]), ("from-pcap", [text, "made"])):
+            done = self.within(100000, tool, *words)
+            self.assertEqual((done.stdout, done.stderr, done.returncode), (b"", f"{tool}: there isn't enough memory\n".encode(), 1))
+        self.assertEqual(self.names(), ["text"])
+
+    def test_want_of_memory_at_any_time(self):
+        """From where Python and toolbox.py have started on it ends by a line, and with enough of it as ever."""
+        for tool, words in (("report2json", ["report"]), ("traffic", ["--out", "out"]), ("sweep", ["--help"])):
+            self.write("report", REPORT)
+            statuses = set()
+            for memory in range(16000, 60000, 2000):  # with less Python itself may not start
+                done = self.within(memory, tool, *words)
+                if done.returncode in (0, 1) and b"from toolbox import" not in done.stderr:
+                    statuses.add(done.returncode)
+                    self.assertNotIn(b"  File \"" + os.fsencode(TOP), done.stderr)
+                    self.assertNotIn(b"mistake of its own", done.stderr)
+            self.assertIn(0, statuses)
 
     def test_an_end_by_TERM_leaves_nothing(self):
         """As a batch system ends a job, to the tool alone: no file beside the old one, and no program at work."""
@@ -128,16 +141,23 @@ class Surroundings(InFolder):
                 (self.folder / "rows").unlink(missing_ok=True)
                 self.assertEqual((old.read_text(), self.names()), ("old\n", before), tool)
 
-    def test_a_second_interruption_disturbs_nothing(self):
-        for tool in ("report2json", "traffic", "sweep"):
-            for _ in range(10):
-                process = self.start(tool, ["--help"], stdout=subprocess.PIPE)
-                while process.poll() is None:
-                    process.send_signal(signal.SIGINT)
-                    time.sleep(0.002)
-                _, said = process.communicate(timeout=MOST_SECONDS)
-                self.assertNotIn(b"Traceback", said)
-                self.assertIn(said, (b"", f"{tool}: interrupted\n".encode()) if b"site" not in said else (said,))
+    def test_more_interruptions_disturb_nothing(self):
+        """One each millisecond, from when it reads a FIFO on until it has ended: a line, and its status."""
+        os.mkfifo(self.folder / "fifo.csv")
+        for tool, words in (("report2json", []), ("raise", ["--out", "out"]), ("from-pcap", ["made"])):
+            process, end = self.start(tool, ["fifo.csv", *words], stdout=subprocess.PIPE), None
+            while end is None:
+                self.assertIsNone(process.poll(), tool)
+                try:
+                    end = os.open(self.folder / "fifo.csv", os.O_WRONLY | os.O_NONBLOCK)
+                except OSError:
+                    time.sleep(0.02)
+            while process.poll() is None:
+                process.send_signal(signal.SIGINT)
+                time.sleep(0.001)
+            os.close(end)
+            said = process.communicate()[1]
+            self.assertEqual((said, process.returncode, self.names()), (f"{tool}: interrupted\n".encode(), 130, ["fifo.csv"]))
 
     def test_an_output_that_nobody_reads(self):
         for environment, tool, words in self.writes():
