@@ -5,7 +5,7 @@ ghost use Rattle.napi_model.specs.Serial.{state_of};
 
 use anyhow::Result;
 use napi_model::{Done, Kind, Prep, SerialNapi};
-use poll_engine::{Bench, BusyReport, Next, Once, ThreadReport};
+use poll_engine::{Bench, Next, Once};
 use rx_ring::{Batch, Packet, RxCtx, RxIn, ring};
 use std::alloc::Global;
 
@@ -106,10 +106,6 @@ impl Cards {
 impl Bench for Cards {
     ghost polls = { λ _ _ _ _ _. Unit };
 
-    ghost thread_polls = { λ _ _ _ _ _ _. Unit };
-
-    ghost busy_polls = { λ _ _ _ _ _ _. Unit };
-
     fn poll_once(&mut self, id: u32, weight: u32) -> Once {
         match self.cards.get_mut(id as usize) {
             Some(card) => card.poll(weight as usize, &mut self.batch),
@@ -118,17 +114,5 @@ impl Bench for Cards {
                 next: Next::Absent,
             },
         }
-    }
-
-    fn poll_thread(&mut self, _id: u32, _weight: u32, _most: u32) -> ThreadReport {
-        ThreadReport {
-            polls: 0,
-            work: 0,
-            next: Next::Absent,
-        }
-    }
-
-    fn busy_poll(&mut self, _id: u32, _weight: u32, _rounds: u32) -> BusyReport {
-        BusyReport::NONE
     }
 }

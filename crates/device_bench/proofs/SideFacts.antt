@@ -1,6 +1,6 @@
 -- Each device has a transmit side: what keeps that.
 use Rattle.std.{proofs.Common.{◌≡◌, ◌∙◌, ℕ, zero, suc, ◌<◌, Option, Some, None, [], ◌∷◌, length, slice_set, ap, refl, sym, arith}, specs.Prelude.is_some}
-use Rattle.{device_transmit.specs.{Transmits.Transmits, Transmit.TransmitView}, device_rows.specs.Places.{Places, added, added_at, at, changed, changed_from}, device_bench.specs.Bench.{Devices, HaveSides, all_settled, attached}}
+use Rattle.{device_transmit.specs.{Transmits.Transmits, Transmit.TransmitView}, device_rows.specs.Places.{Places, at, changed, changed_from}, device_bench.specs.Bench.{Devices, HaveSides, all_settled, attached}}
 
 module _ {A : Type 0} where
   -- a place is set, and stays taken or empty
@@ -16,14 +16,6 @@ module _ {A : Type 0} where
       by None e = refl
       by (Some a) e = some-set xs n m (Some (f a)) (sym (ap is_some e))
 
-  both-set : {B : Type 0} → (xs : Places A) (ys : Places B) (n m : ℕ) (a : A) (b : B) → length ys ≡ length xs → is_some (at m ys) ≡ is_some (at m xs)
-      → is_some (at m (slice_set ys n (Some b))) ≡ is_some (at m (slice_set xs n (Some a)))
-  both-set [] (y ∷ ys) n m a b long e = absurd (omega (arith, long))
-  both-set (x ∷ xs) [] n m a b long e = absurd (omega (arith, long))
-  both-set (x ∷ xs) (y ∷ ys) zero zero a b long e = refl
-  both-set (x ∷ xs) (y ∷ ys) (suc n) (suc m) a b long e = both-set xs ys n m a b (omega (arith, long)) e
-  both-set xs ys n m a b long e = e
-
   -- what stood in a place is written back
   pub set-back : (xs : Places A) (n : ℕ) (o : Option A) → n < length xs → at n xs ≡ o → slice_set xs n o ≡ xs
   set-back [] n o below e = absurd (omega (arith, below))
@@ -33,16 +25,6 @@ module _ {A : Type 0} where
   -- a device is changed in its place, or what stood there is written back
   pub sides-set : (xs : Places A) (all : Transmits) (n : ℕ) (o : Option A) → is_some o ≡ is_some (at n xs) → HaveSides xs all → HaveSides (slice_set xs n o) all
   sides-set xs all n o e same m = same m ∙ sym (some-set xs n m o e)
-
-  -- a device with its side is added, unless it is there
-  pub sides-added : (xs : Places A) (all : Transmits) (n : ℕ) (a : A) (t : TransmitView) → length all ≡ length xs → HaveSides xs all → HaveSides (added n a xs) (added n t all)
-  sides-added xs all n a t long same m = by (at n xs) (at n all) (same n)
-    where
-      by : (o : Option A) (p : Option TransmitView) → is_some p ≡ is_some o → is_some (at m (added_at n t p all)) ≡ is_some (at m (added_at n a o xs))
-      by None None e = both-set xs all n m a t long (same m)
-      by (Some d) (Some u) e = same m
-      by None (Some u) e = cc e
-      by (Some d) None e = cc e
 
   -- so there are as many
   pub sides-attached : (xs : Places A) (all : Transmits) → length all ≡ length xs → HaveSides xs all → attached xs ≡ attached all

@@ -11,7 +11,7 @@ use crate::serial_receive::{SerialOpener, SerialReceive};
 use device_rows::PLACES;
 use device_transmit::{Transmit, TransmitSides};
 use napi_model::Kind;
-use poll_runs::{Bench, BusyReport, Next, Once, ShownBench, ThreadReport};
+use poll_runs::{Bench, BusyReport, DirectBench, Next, Once, ThreadReport};
 use rx_ring::Totals;
 use std::alloc::{AllocError, Global};
 use std::mem;
@@ -165,14 +165,10 @@ impl<S: SpentSide, O: Opener<S> + Drop> DeviceBench<S, O> {
 }
 
 impl<S: ReceiveSide, O: Opener<S>> Bench for DeviceBench<S, O> {
-    ghost use Rattle.device_bench.specs.Bench.{IsBusyPoll, IsPoll, IsThreadPolls};
+    ghost use Rattle.device_bench.specs.Bench.{IsPoll};
     ghost use Rattle.device_bench.specs.DeviceBench.{ShowsTransmits, devices_of, waiting_of};
 
     ghost polls = { IsPoll devices_of ShowsTransmits waiting_of };
-
-    ghost thread_polls = { IsThreadPolls devices_of ShowsTransmits waiting_of };
-
-    ghost busy_polls = { IsBusyPoll devices_of ShowsTransmits waiting_of };
 
     fn poll_once(&mut self, id: u32, weight: u32) -> Once {
         if id < PLACES {
@@ -185,6 +181,15 @@ impl<S: ReceiveSide, O: Opener<S>> Bench for DeviceBench<S, O> {
             next: Next::Absent,
         }
     }
+}
+
+impl<S: ReceiveSide, O: Opener<S>> DirectBench for DeviceBench<S, O> {
+    ghost use Rattle.device_bench.specs.Bench.{IsBusyPoll, IsThreadPolls};
+    ghost use Rattle.device_bench.specs.DeviceBench.{ShowsTransmits, devices_of, waiting_of};
+
+    ghost thread_polls = { IsThreadPolls devices_of ShowsTransmits waiting_of };
+
+    ghost busy_polls = { IsBusyPoll devices_of ShowsTransmits waiting_of };
 
     fn poll_thread(&mut self, id: u32, weight: u32, most: u32) -> ThreadReport {
         if id < PLACES {
@@ -315,15 +320,4 @@ impl<S: ReceiveSide, O: Opener<S>> ReplayBench for DeviceBench<S, O> {
     ghost busily_polled = { λ before after number weight rounds report is. is };
 
     ghost few = { λ bench. bench.kept.few };
-}
-
-impl<S: ReceiveSide, O: Opener<S>> ShownBench for DeviceBench<S, O> {
-    ghost use Rattle.device_bench.specs.Bench.{Devices, polled_at};
-    ghost use Rattle.device_bench.specs.DeviceBench.{devices_of};
-
-    ghost Shown = { Devices };
-
-    ghost shown = { devices_of };
-
-    ghost poll = { polled_at };
 }

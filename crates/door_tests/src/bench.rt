@@ -1,7 +1,7 @@
 //! A bench for the runs of the tests.
 
 use napi_model::Kind;
-use poll_engine::{Bench, BusyReport, Next, Once, ThreadReport};
+use poll_engine::{Bench, Next, Once};
 
 /// Cards that have so many packets together.
 #[derive(Drop)]
@@ -11,13 +11,9 @@ pub(crate) struct Cards {
 }
 
 impl Bench for Cards {
-    ghost use Rattle.std.specs.Prelude.{◌≡◌, ⊤, []};
+    ghost use Rattle.std.specs.Prelude.{⊤};
 
     ghost polls = { λ _ _ _ _ _. ⊤ };
-
-    ghost thread_polls = { λ _ _ _ _ polls _. polls ≡ [] };
-
-    ghost busy_polls = { λ _ _ _ _ _ _. ⊤ };
 
     fn poll_once(&mut self, _id: u32, weight: u32) -> Once {
         let work = self.packets.min(weight);
@@ -30,18 +26,6 @@ impl Bench for Cards {
                 Next::Gone
             },
         }
-    }
-
-    fn poll_thread(&mut self, _id: u32, _weight: u32, _most: u32) -> ThreadReport {
-        ThreadReport {
-            polls: 0,
-            work: 0,
-            next: Next::Absent,
-        }
-    }
-
-    fn busy_poll(&mut self, _id: u32, _weight: u32, _rounds: u32) -> BusyReport {
-        BusyReport::NONE
     }
 }
 

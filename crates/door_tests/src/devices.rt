@@ -3,7 +3,7 @@
 use crate::texts::TRACE;
 use device_model::{Event, ReplayBench, Row, SerialBench, Trace, TraceFault, read_trace};
 use napi_model::Kind;
-use poll_engine::{Bench, Next};
+use poll_engine::{Bench, BusyReport, DirectBench, Next, ThreadReport};
 use std::test::Fail;
 
 fn event_name(event: Event) -> &'static str {
@@ -99,11 +99,19 @@ fn rows_play_on_a_bench(rt: HostRuntime) -> Result<(), Fail> {
     bench.settle();
     assert!(rt; bench.enable(1));
     bench.set_threaded(1, true);
-    assert_eq!(rt; bench.poll_thread(1, 64, 1024).polls, 0);
-    let report = bench.busy_poll(1, 64, 2);
-    assert_eq!(rt;
-        (report.polls, report.held, report.next),
-        (3, 2, Next::Gone)
-    );
+    let by_thread = ThreadReport {
+        polls: 0,
+        work: 0,
+        next: Next::Absent,
+    };
+    assert_eq!(rt; bench.poll_thread(1, 64, 1024), by_thread);
+    let busily = BusyReport {
+        polls: 3,
+        work: 0,
+        held: 2,
+        bytes: 0,
+        next: Next::Gone,
+    };
+    assert_eq!(rt; bench.busy_poll(1, 64, 2), busily);
     Ok(())
 }

@@ -2,8 +2,8 @@
 
 use crate::bench::Cards;
 use poll_engine::{
-    Bench, BusyReport, ListFault, Next, Once, PlainList, PollList, RunReport, SoftList,
-    ThreadReport, end_list, run_softirq, shared_list,
+    Bench, ListFault, Next, Once, PlainList, PollList, RunReport, SoftList, end_list, run_softirq,
+    shared_list,
 };
 use std::test::Fail;
 
@@ -50,20 +50,6 @@ fn a_run_over_a_list_of_one_thread(rt: HostRuntime) {
         next: Next::Gone,
     };
     assert_eq!(rt; bench.poll_once(3, 64), once);
-    let by_thread = ThreadReport {
-        polls: 0,
-        work: 0,
-        next: Next::Absent,
-    };
-    assert_eq!(rt; bench.poll_thread(3, 64, 1024), by_thread);
-    let busily = BusyReport {
-        polls: 0,
-        work: 0,
-        held: 0,
-        bytes: 0,
-        next: Next::Absent,
-    };
-    assert_eq!(rt; bench.busy_poll(3, 64, 2), busily);
 }
 
 #[test]

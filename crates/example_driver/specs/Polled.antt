@@ -1,5 +1,5 @@
 -- What a poll from the list does to a card, as equations (`napi_poll` and `napi_complete_done` of net/core/dev.c).
-use Rattle.std.specs.Prelude.{◌≡◌, ◌==◌, ℕ, true, false, Bool, List, [], ◌++◌, length, take, if◌then◌else◌}
+use Rattle.std.specs.Prelude.{◌≡◌, ◌==◌, ℕ, true, false, Bool, List, ◌++◌, length, take, if◌then◌else◌}
 use Rattle.napi_model.specs.Serial.{state_of}
 use Rattle.napi_model.specs.Step.{after, complete_reply, event, take_reply}
 use Rattle.napi_model.specs.declared.event.Done.{Done}
@@ -8,8 +8,6 @@ use Rattle.napi_model.specs.declared.event.Operation.{Operation}
 use Rattle.napi_model.specs.declared.event.Operation.TheVariants as operation
 use Rattle.napi_model.specs.declared.state.Kind.TheVariants as kind
 use Rattle.napi_model.specs.declared.state.State.{State}
-use Rattle.poll_engine.specs.BusyPolling.{no_report}
-use Rattle.poll_engine.specs.BusyReport.{BusyReport}
 use Rattle.poll_engine.specs.Next.{Next}
 use Rattle.poll_engine.specs.Next.TheVariants as next
 use Rattle.poll_engine.specs.Once.{Once}
@@ -66,11 +64,3 @@ abbrev pub Polls : StatedBench → ℕ → ℕ → Once → StatedBench → Type
 Polls before id weight once after =
     (once ≡ (if id == CARD then (polled weight (view_of before.card)).0 else record { work = 0; next = next.Absent }))
     × (view_of after.card ≡ (if id == CARD then (polled weight (view_of before.card)).1 else view_of before.card))
-
--- the card has no thread: nobody polls it there
-abbrev pub ThreadPolls : StatedBench → ℕ → ℕ → ℕ → List Once → StatedBench → Type 0
-ThreadPolls before id weight most polls after = (polls ≡ []) × (view_of after.card ≡ view_of before.card)
-
--- nor does anybody busy poll it
-abbrev pub BusyPolls : StatedBench → ℕ → ℕ → ℕ → BusyReport → StatedBench → Type 0
-BusyPolls before id weight rounds report after = (report ≡ no_report) × (view_of after.card ≡ view_of before.card)

@@ -4,7 +4,7 @@
 
 use crate::card::{CARD, Card, Driver, POLLER};
 use napi_model::{Done, Kind};
-use poll_engine::{Bench, BusyReport, Next, Once, ThreadReport};
+use poll_engine::{Bench, Next, Once};
 
 /// A bench of one card.
 #[derive(Drop)]
@@ -20,10 +20,6 @@ impl Driver for QuietBench {
 
 impl Bench for QuietBench {
     ghost polls = { λ _ _ _ _ _. Unit };
-
-    ghost thread_polls = { λ _ _ _ _ _ _. Unit };
-
-    ghost busy_polls = { λ _ _ _ _ _ _. Unit };
 
     fn poll_once(&mut self, id: u32, weight: u32) -> Once {
         let card = &mut self.card;
@@ -48,17 +44,5 @@ impl Bench for QuietBench {
             }
         };
         Once { work, next }
-    }
-
-    fn poll_thread(&mut self, _id: u32, _weight: u32, _most: u32) -> ThreadReport {
-        ThreadReport {
-            polls: 0,
-            work: 0,
-            next: Next::Absent,
-        }
-    }
-
-    fn busy_poll(&mut self, _id: u32, _weight: u32, _rounds: u32) -> BusyReport {
-        BusyReport::NONE
     }
 }

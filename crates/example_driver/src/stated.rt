@@ -4,12 +4,12 @@
 ghost use Rattle.std.specs.Prelude.{◌≡◌, ◌≤◌, ◌==◌, length};
 ghost use Rattle.napi_model.specs.Serial.{state_of};
 ghost use Rattle.napi_model.specs.declared.state.Place.TheVariants.{Polling};
-ghost use Rattle.example_driver.specs.Polled.{BusyPolls, Polls, ThreadPolls, ended, given, polled, received, view_of};
+ghost use Rattle.example_driver.specs.Polled.{Polls, ended, given, polled, received, view_of};
 ghost use Rattle.example_driver.specs.declared.card.TheConstants.{POLLER};
 
 use crate::card::{CARD, Card, Driver, POLLER};
 use napi_model::{Done, Kind};
-use poll_engine::{Bench, BusyReport, Next, Once, ThreadReport};
+use poll_engine::{Bench, Next, Once};
 use rx_ring::beside;
 
 /// A bench of one card.
@@ -79,10 +79,6 @@ impl Driver for StatedBench {
 impl Bench for StatedBench {
     ghost polls = { Polls };
 
-    ghost thread_polls = { ThreadPolls };
-
-    ghost busy_polls = { BusyPolls };
-
     fn poll_once(&mut self, id: u32, weight: u32) -> Once {
         if id == CARD {
             return self.card.poll(weight);
@@ -91,17 +87,5 @@ impl Bench for StatedBench {
             work: 0,
             next: Next::Absent,
         }
-    }
-
-    fn poll_thread(&mut self, _id: u32, _weight: u32, _most: u32) -> ThreadReport {
-        ThreadReport {
-            polls: 0,
-            work: 0,
-            next: Next::Absent,
-        }
-    }
-
-    fn busy_poll(&mut self, _id: u32, _weight: u32, _rounds: u32) -> BusyReport {
-        BusyReport::NONE
     }
 }

@@ -1,6 +1,5 @@
 pub mod PollFacts
 pub mod PollingFacts
-pub mod PollingParts
 pub mod RunFacts
 pub mod PlainFacts
 pub mod BusyFacts

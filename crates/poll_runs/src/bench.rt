@@ -70,19 +70,11 @@ impl BusyReport {
     };
 }
 
-/// Instances that are polled by their numbers. Each bench states by three relations what its calls do.
+/// Instances that are polled from a list by their numbers. Each bench states by a relation what its polls do.
 pub trait Bench {
     /// `polls before id weight answer after`: a poll of this instance from the list, with this weight, leads from the
     /// one bench to the other with this answer.
     ghost polls: { Self → ℕ → ℕ → Once → Self → Type 0 };
-
-    /// `thread_polls before id weight most polls after`: the polling of this instance by its thread leads from the one
-    /// bench to the other by these polls, a take that finds nothing and the handing over after a last `Repoll` included.
-    ghost thread_polls: { Self → ℕ → ℕ → ℕ → List Once → Self → Type 0 };
-
-    /// `busy_polls before id weight rounds report after`: busy polling of this instance for so many rounds leads from the one
-    /// bench to the other with this report.
-    ghost busy_polls: { Self → ℕ → ℕ → ℕ → BusyReport → Self → Type 0 };
 
     /// Takes an instance from the list and polls it once with this weight, in 1..=64 (`napi_poll`). An instance that
     /// isn't to be taken is [`Next::Absent`].
@@ -90,6 +82,17 @@ pub trait Bench {
         requires weight { (1 ≤ weight) × (weight ≤ 64) }
         ensures leads { polls self.old id weight result self.new }
         ensures bound { result.work ≤ weight };
+}
+
+/// A bench whose instances are polled beside the list too, by their threads and by callers that busy poll.
+pub trait DirectBench: Bench {
+    /// `thread_polls before id weight most polls after`: the polling of this instance by its thread leads from the one
+    /// bench to the other by these polls, a take that finds nothing and the handing over after a last `Repoll` included.
+    ghost thread_polls: { Self → ℕ → ℕ → ℕ → List Once → Self → Type 0 };
+
+    /// `busy_polls before id weight rounds report after`: busy polling of this instance for so many rounds leads from the one
+    /// bench to the other with this report.
+    ghost busy_polls: { Self → ℕ → ℕ → ℕ → BusyReport → Self → Type 0 };
 
     /// Takes an instance as its thread does and polls it until no repoll is asked and a take finds it handed to the
     /// thread no more, at most `most` times, in 1..=131072 (`napi_threaded_poll`).
@@ -106,15 +109,4 @@ pub trait Bench {
         requires weight { (1 ≤ weight) × (weight ≤ 64) }
         requires rounds { (1 ≤ rounds) × (rounds ≤ 65535) }
         ensures leads { busy_polls self.old id weight rounds result self.new };
-}
-
-/// A bench whose polls from the list are a function, as far as it shows itself.
-pub trait ShownBench: Bench {
-    /// What the bench shows of itself.
-    ghost Shown: { Type 0 };
-
-    ghost shown: { Self → Shown };
-
-    /// The function, of what is shown, number and weight: the answer, and what is shown afterwards.
-    ghost poll: { Shown → ℕ → ℕ → Once × Shown };
 }

@@ -1,8 +1,10 @@
 //! Laws of runs over a list of one thread. Each is the contract of a function that does nothing.
+ghost use Rattle.std.specs.Prelude.{ℕ};
 ghost use Rattle.poll_runs.specs.Function.{RunIsFunction, RunIsShown};
 ghost use Rattle.poll_runs.specs.Laws.{NoOtherArrivals, PlainListAfterwards, RunsAgree};
+ghost use Rattle.poll_runs.specs.declared.bench.Once.{Once};
 
-use crate::bench::{Bench, ShownBench};
+use crate::bench::Bench;
 
 /// In a run over a list of one thread no arrivals come but those that its polls handed to the list: the first batch is
 /// all that the list held, and each further one what the polls of the batch before it handed over.
@@ -29,6 +31,6 @@ pub fn run_is_function<B: Bench>()
 
 /// Where the polls of the bench are a function of what it shows, so is a run over a list of one thread: every run from a
 /// bench gives, as far as the bench shows it, what the function that polls batch after batch gives from what is shown.
-pub fn run_is_shown<B: ShownBench>()
-    ensures { RunIsShown B.polls B.shown B.poll }
+pub fn run_is_shown<B: Bench, V>()
+    ensures { (shown : B → V) (poll : V → ℕ → ℕ → Once × V) → RunIsShown B.polls shown poll }
 {}

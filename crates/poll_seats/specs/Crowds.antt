@@ -1,6 +1,5 @@
 -- What a poll makes of a poller's seats.
-use Rattle.std.specs.Prelude.{◌≡◌, ◌==◌, ◌<◌, ℕ, List, length, get_or, set, position, is_some, vec_items, MatchOption}
-use Rattle.poll_runs.specs.declared.bench.BusyReport.{BusyReport}
+use Rattle.std.specs.Prelude.{◌≡◌, ◌==◌, ◌<◌, ℕ, length, get_or, set, position, is_some, vec_items, MatchOption}
 use Rattle.poll_runs.specs.declared.bench.Next.TheVariants.{Absent}
 use Rattle.poll_runs.specs.declared.bench.Once.{Once}
 use Rattle.poll_seats.specs.declared.seat.Seat.{Seat}
@@ -31,9 +30,3 @@ module _ {R : Type 0} where
       MatchOption (position (λ (seat : Seat). seat.number == id) (vec_items before.seats))
       (IsNowhere before once after)
       (IsPolledAt before weight once after)
-
-  abbrev pub ThreadKeepsSeats : Crowd R → ℕ → ℕ → ℕ → List Once → Crowd R → Type 0
-  ThreadKeepsSeats before id weight most polls after = after ≡ before
-
-  abbrev pub BusyKeepsSeats : Crowd R → ℕ → ℕ → ℕ → BusyReport → Crowd R → Type 0
-  BusyKeepsSeats before id weight rounds report after = after ≡ before

@@ -7,7 +7,7 @@ use crate::seat::Seat;
 use crate::serving::{Serves, serve};
 use napi_calls::Kept;
 use poll_list::SharedList;
-use poll_runs::{Bench, BusyReport, Next, Once, RunReport, ThreadReport, run_softirq};
+use poll_runs::{Bench, Next, Once, RunReport, run_softirq};
 use poll_tasks::{Gate, Pace, Pause, Post, Setting, Task};
 use rx_ring::Batch;
 use std::sync::Wait;
@@ -30,13 +30,9 @@ fn find(seats: &[Seat], number: u32) -> Option<usize>
 }
 
 impl<'n, R: Wait> Bench for Crowd<'n, R> {
-    ghost use Rattle.poll_seats.specs.Crowds.{BusyKeepsSeats, PollsSeat, ThreadKeepsSeats};
+    ghost use Rattle.poll_seats.specs.Crowds.{PollsSeat};
 
     ghost polls = { PollsSeat };
-
-    ghost thread_polls = { ThreadKeepsSeats };
-
-    ghost busy_polls = { BusyKeepsSeats };
 
     fn poll_once(&mut self, id: u32, weight: u32) -> Once {
         match find(self.seats.as_slice(), id) {
@@ -46,20 +42,6 @@ impl<'n, R: Wait> Bench for Crowd<'n, R> {
                 next: Next::Absent,
             },
         }
-    }
-
-    /// Polls nothing: an instance that is handed to its thread is polled there.
-    fn poll_thread(&mut self, _id: u32, _weight: u32, _most: u32) -> ThreadReport {
-        ThreadReport {
-            polls: 0,
-            work: 0,
-            next: Next::Absent,
-        }
-    }
-
-    /// Polls nothing: no worker busy polls.
-    fn busy_poll(&mut self, _id: u32, _weight: u32, _rounds: u32) -> BusyReport {
-        BusyReport::NONE
     }
 }
 

@@ -8,9 +8,9 @@ ghost use Rattle.poll_engine.specs.Polls.{At, Chain, Poll};
 ghost use Rattle.poll_engine.specs.Run.{IsRun};
 ghost use Rattle.uses_poll_engine.specs.Polled.{Polls};
 
-use poll_engine::{Bench, BusyReport, Next, Once, PlainList, RunReport, ThreadReport, run_softirq};
+use poll_engine::{Bench, Next, Once, PlainList, RunReport, run_softirq};
 
-/// A card with so many packets. It has no thread, and isn't busy polled.
+/// A card with so many packets.
 #[derive(Drop)]
 pub struct Card {
     /// The packets that wait to be polled.
@@ -18,14 +18,7 @@ pub struct Card {
 }
 
 impl Bench for Card {
-    ghost use Rattle.std.specs.Prelude.{◌≡◌, []};
-    ghost use Rattle.poll_engine.specs.BusyPolling.{no_report};
-
     ghost polls = { Polls };
-
-    ghost thread_polls = { λ before id weight most polls after. (polls ≡ []) × (after ≡ before) };
-
-    ghost busy_polls = { λ before id weight rounds report after. (report ≡ no_report) × (after ≡ before) };
 
     fn poll_once(&mut self, _id: u32, weight: u32) -> Once {
         let work = self.packets.min(weight);
@@ -36,18 +29,6 @@ impl Bench for Card {
             Next::Gone
         };
         Once { work, next }
-    }
-
-    fn poll_thread(&mut self, _id: u32, _weight: u32, _most: u32) -> ThreadReport {
-        ThreadReport {
-            polls: 0,
-            work: 0,
-            next: Next::Absent,
-        }
-    }
-
-    fn busy_poll(&mut self, _id: u32, _weight: u32, _rounds: u32) -> BusyReport {
-        BusyReport::NONE
     }
 }
 

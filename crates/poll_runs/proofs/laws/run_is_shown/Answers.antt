@@ -2,4 +2,4 @@ use Rattle.poll_runs.proofs.FunctionFacts.{run-is-shown}
 use Rattle.poll_runs.proofs.laws.run_is_shown.Goals as goal
 
 pub returns : goal.returns
-returns g c = run-is-shown g.B.Bench.polls g.B.ShownBench.shown g.B.ShownBench.poll
+returns g c = run-is-shown g.B.Bench.polls

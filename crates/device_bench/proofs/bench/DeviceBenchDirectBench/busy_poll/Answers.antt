@@ -1,6 +1,6 @@
 use Rattle.{std.proofs.Common.{◌≡◌, ◌∙◌, Some, ap, refl, sym, arith}, device_bench.{specs.{Device.is_pending, Kept.is_sound}, proofs.{BenchFacts.{kept-changed, sound-at}, BusyFacts.busy-keeps}}, device_rows.specs.Places.at}
 use Rattle.{device_rows.proofs.PlaceFacts.at-index, std.specs.Prelude.is_some, device_bench.proofs.{SideFacts.sides-set, Waiting.waiting-more}}
-use Rattle.device_bench.proofs.bench.DeviceBenchBench.busy_poll.Goals as goal
+use Rattle.device_bench.proofs.bench.DeviceBenchDirectBench.busy_poll.Goals as goal
 
 pub invariant_of-self : goal.invariant_of-self
 invariant_of-self g c =

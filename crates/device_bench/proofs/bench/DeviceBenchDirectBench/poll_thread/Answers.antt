@@ -1,6 +1,6 @@
 use Rattle.{std.proofs.Common.{rules, ◌≡◌, ◌∙◌, ◌<◌, Some, [], ap, length, slice_set, refl, sym, arith}, device_bench.specs.{Device.{is_pending, polled_by_thread}, Kept.is_sound}, device_rows.specs.Places.at}
 use Rattle.{device_bench.proofs.{BenchFacts.{kept-changed, sound-at}, DeviceFacts.thread-keeps, SideFacts.{set-back, sides-set}, Waiting.waiting-more}, device_rows.proofs.PlaceFacts.at-index, std.specs.Prelude.is_some}
-use Rattle.device_bench.proofs.bench.DeviceBenchBench.poll_thread.Goals as goal
+use Rattle.device_bench.proofs.bench.DeviceBenchDirectBench.poll_thread.Goals as goal
 
 pub invariant_of-self : goal.invariant_of-self
 invariant_of-self g c =
