@@ -27,13 +27,13 @@ pub(crate) fn replay_in<P: Threads + Wait + Sync, R: Read + Drop, W: Write>(
     mode: Mode,
     reader: R,
     writer: &mut W,
+    settings: &Settings,
 ) -> Result<(), ReplayFault> {
-    let settings = Settings::default();
     match mode {
-        Mode::Serial => replay_serial(alloc, reader, writer, &settings),
-        Mode::Shared => replay_shared(rt, alloc, reader, writer, &settings),
+        Mode::Serial => replay_serial(alloc, reader, writer, settings),
+        Mode::Shared => replay_shared(rt, alloc, reader, writer, settings),
         Mode::Threads => {
-            let polled = replay_threads(rt, alloc, reader, writer, &settings, &OpenGate)?;
+            let polled = replay_threads(rt, alloc, reader, writer, settings, &OpenGate)?;
             drop(polled);
             Ok(())
         }
@@ -47,7 +47,14 @@ fn failing_reads(rt: HostRuntime) {
         for before in 0..reads + 2 {
             let reader = FailingReader::new(ONE_PACKET, before);
             let mut report = Vec::new(rt.alloc());
-            let answer = replay_in(&rt, rt.alloc(), mode, reader, &mut report);
+            let answer = replay_in(
+                &rt,
+                rt.alloc(),
+                mode,
+                reader,
+                &mut report,
+                &Settings::default(),
+            );
             if before < reads {
                 assert_eq!(rt;
                     answer,
@@ -69,7 +76,14 @@ fn failing_writes(rt: HostRuntime) {
         let writes = wanted.len() as u32;
         for before in 0..writes + 2 {
             let mut writer = FailingWriter::new(rt.alloc(), before);
-            let answer = replay_in(&rt, rt.alloc(), mode, ONE_PACKET.as_bytes(), &mut writer);
+            let answer = replay_in(
+                &rt,
+                rt.alloc(),
+                mode,
+                ONE_PACKET.as_bytes(),
+                &mut writer,
+                &Settings::default(),
+            );
             if before < writes {
                 assert_eq!(rt;
                     answer,
@@ -90,7 +104,14 @@ fn faulty_traces(rt: HostRuntime) {
     for (mode, _) in MODES {
         let mut writer = FailingWriter::new(rt.alloc(), 0);
         let text = "moment,device,event,value\n0,1,open,4\n1,1,enable,0\n";
-        let answer = replay_in(&rt, rt.alloc(), mode, text.as_bytes(), &mut writer);
+        let answer = replay_in(
+            &rt,
+            rt.alloc(),
+            mode,
+            text.as_bytes(),
+            &mut writer,
+            &Settings::default(),
+        );
         assert_eq!(rt;
             answer,
             Err(ReplayFault::Trace(TraceFault::WrongState { row: 2 }))

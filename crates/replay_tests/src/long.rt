@@ -3,7 +3,7 @@
 use crate::ends::LongReader;
 use crate::failing::{MODES, replay_in};
 use device_model::{TraceFault, read_trace};
-use replay::ReplayFault;
+use replay::{ReplayFault, Settings};
 use std::test::Fail;
 
 // More than a reader's buffer holds, many times. The built program is given 70 MB by `tests/inputs.sh`.
@@ -37,7 +37,14 @@ fn long_blank(rt: HostRuntime) -> Result<(), Fail> {
             given: &mut given,
         };
         let mut text = Vec::new(rt.alloc());
-        let answer = replay_in(&rt, rt.alloc(), mode, reader, &mut text);
+        let answer = replay_in(
+            &rt,
+            rt.alloc(),
+            mode,
+            reader,
+            &mut text,
+            &Settings::default(),
+        );
         assert_eq!(rt; answer, Ok(()));
         assert_eq!(rt; text.as_slice(), report.as_bytes());
         assert_eq!(rt; given, LONG);
@@ -73,7 +80,14 @@ fn long_fields(rt: HostRuntime) {
                 given: &mut given,
             };
             let mut text = Vec::new(rt.alloc());
-            let answer = replay_in(&rt, rt.alloc(), mode, reader, &mut text);
+            let answer = replay_in(
+                &rt,
+                rt.alloc(),
+                mode,
+                reader,
+                &mut text,
+                &Settings::default(),
+            );
             assert_eq!(rt; answer, Err(ReplayFault::Trace(fault)));
             assert!(rt; text.is_empty());
         }

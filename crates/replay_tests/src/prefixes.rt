@@ -1,9 +1,10 @@
 //! Every prefix of a trace's bytes in each mode: the fault of the row that it cuts, or the report of the rows that it has.
 
+use crate::ends::HEADER;
 use crate::failing::{MODES, replay_in};
-use crate::threads::{HEADER, text_of};
+use crate::worked::{ONE, joined};
 use device_model::TraceFault;
-use replay::{Mode, ReplayFault};
+use replay::{Mode, ReplayFault, Settings};
 use std::alloc::{AllocError, Global};
 use std::process::Abort;
 use std::sync::Wait;
@@ -11,7 +12,8 @@ use std::test::Fail;
 use std::thread::Threads;
 
 // 129 packets, a run, a disable, and a run: rows 2 to 130, 131, 132 and 133.
-const ROWS: [(u32, &str); 3] = [
+const ROWS: [(u32, &str); 4] = [
+    ONE,
     (1, "0,1,open,256\n"),
     (129, "1,1,rx,100\n"),
     (1, "2,0,softirq,0\n3,1,disable,0\n4,0,softirq,0\n"),
@@ -170,7 +172,7 @@ fn every_prefix<P: Threads + Wait + Abort + Sync>(
     alloc: Global,
     mode: Mode,
 ) -> Result<(), Fail> {
-    let text = text_of(alloc, &ROWS)?;
+    let text = joined(alloc, &ROWS)?;
     let bytes = text.as_bytes();
     for end in 0..bytes.len() + 1 {
         let prefix = &bytes[..end];
@@ -180,7 +182,7 @@ fn every_prefix<P: Threads + Wait + Abort + Sync>(
             None => (Ok(()), report_of(alloc, mode, last)?),
         };
         let mut report = Vec::new(alloc);
-        let answer = replay_in(rt, alloc, mode, prefix, &mut report);
+        let answer = replay_in(rt, alloc, mode, prefix, &mut report, &Settings::default());
         assert_eq!(rt; answer, wanted.0, "{end} bytes");
         assert_eq!(rt; report.as_slice(), wanted.1.as_bytes(), "{end} bytes");
     }
@@ -208,7 +210,14 @@ fn byte_255(rt: HostRuntime) {
     let text = b"moment,device,event,value\n0,1,open,4\n0,1,\xff,4\n";
     for (mode, _) in MODES {
         let mut report = Vec::new(rt.alloc());
-        let answer = replay_in(&rt, rt.alloc(), mode, text.as_slice(), &mut report);
+        let answer = replay_in(
+            &rt,
+            rt.alloc(),
+            mode,
+            text.as_slice(),
+            &mut report,
+            &Settings::default(),
+        );
         let fault = TraceFault::BadEvent { row: 2 };
         assert_eq!(rt; answer, Err(ReplayFault::Trace(fault)));
         assert!(rt; report.is_empty());

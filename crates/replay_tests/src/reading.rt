@@ -1,10 +1,9 @@
 //! How the records of a trace may be written, and what a reader makes of bytes that are none.
 
+use crate::ends::HEADER;
 use device_model::{Event, Row, Trace, TraceFault, read_trace};
 use std::alloc::Global;
 use std::test::Fail;
-
-const HEADER: &str = "moment,device,event,value\n";
 
 fn row(moment: u64, device: u32, event: Event, value: u32) -> Row {
     Row {

@@ -1,5 +1,6 @@
 //! Whole replays over instances that threads could share, beside those on one thread; and the end of a bench.
 
+use crate::ends::HEADER;
 use crate::sides::told_of;
 use device_model::{ReplayBench, SharedBench, TraceFault};
 use napi_model::Kind;
@@ -7,8 +8,6 @@ use poll_engine::{Bench, Next};
 use replay::{ReplayFault, Settings, replay_serial, replay_shared};
 use std::alloc::{AllocError, Global};
 use std::test::Fail;
-
-const HEADER: &str = "moment,device,event,value\n";
 
 // Rows, each text as many times as told, with their budget, weight and window.
 struct Rows {

@@ -1,14 +1,11 @@
 //! Traces with what each mode answers, worked by hand: the report, or the line of the fault. They are read from memory, and the
 //! reports are written to memory.
 
-use poll_engine::OpenGate;
-use replay::{
-    Mode, ReplayFault, Settings, fault_line, replay_serial, replay_shared, replay_threads, status,
-};
+use crate::ends::HEADER;
+use crate::failing::{MODES, replay_in};
+use replay::{Mode, ReplayFault, Settings, fault_line, status};
 use std::alloc::{AllocError, Global};
-use std::sync::Wait;
 use std::test::Fail;
-use std::thread::Threads;
 
 // A trace, each text as many times as told, played by a budget of so many packets and a window of so many polls. With threads
 // the report tells arrivals and transmit state alone.
@@ -23,7 +20,7 @@ struct Case {
 }
 
 // The first records of the two versions.
-const ONE: (u32, &str) = (1, "moment,device,event,value\n");
+pub(crate) const ONE: (u32, &str) = (1, HEADER);
 
 const TWO: (u32, &str) = (1, "moment,device,event,value,2\n");
 
@@ -451,7 +448,7 @@ const FAULTS: [(&[(u32, &str)], &str); 15] = [
     ),
 ];
 
-fn joined(alloc: Global, trace: &[(u32, &str)]) -> Result<String, AllocError> {
+pub(crate) fn joined(alloc: Global, trace: &[(u32, &str)]) -> Result<String, AllocError> {
     let mut text = String::new(alloc);
     for (times, rows) in trace {
         for _ in 0..*times {
@@ -459,25 +456,6 @@ fn joined(alloc: Global, trace: &[(u32, &str)]) -> Result<String, AllocError> {
         }
     }
     Ok(text)
-}
-
-fn replay<P: Threads + Wait + Sync>(
-    rt: &P,
-    alloc: Global,
-    mode: Mode,
-    text: &[u8],
-    report: &mut Vec<u8>,
-    settings: &Settings,
-) -> Result<(), ReplayFault> {
-    match mode {
-        Mode::Serial => replay_serial(alloc, text, report, settings),
-        Mode::Shared => replay_shared(rt, alloc, text, report, settings),
-        Mode::Threads => {
-            let polled = replay_threads(rt, alloc, text, report, settings, &OpenGate)?;
-            drop(polled);
-            Ok(())
-        }
-    }
 }
 
 // Whether this is answered: the report, or the line of the fault, with its status, where nothing was written.
@@ -506,7 +484,7 @@ fn one_thread(rt: HostRuntime) -> Result<(), Fail> {
         let settings = Settings::new(1, case.budget, 64, case.window).ok_or("in range")?;
         for mode in [Mode::Serial, Mode::Shared] {
             let mut report = Vec::new(rt.alloc());
-            let answer = replay(
+            let answer = replay_in(
                 &rt,
                 rt.alloc(),
                 mode,
@@ -528,7 +506,7 @@ fn several_threads(rt: HostRuntime) -> Result<(), Fail> {
         for pollers in [1, 2, 8] {
             let settings = Settings::new(pollers, case.budget, 64, case.window).ok_or("in range")?;
             let mut report = Vec::new(rt.alloc());
-            let answer = replay(
+            let answer = replay_in(
                 &rt,
                 rt.alloc(),
                 Mode::Threads,
@@ -547,9 +525,9 @@ fn several_threads(rt: HostRuntime) -> Result<(), Fail> {
 fn faults(rt: HostRuntime) -> Result<(), Fail> {
     for (trace, line) in FAULTS {
         let text = joined(rt.alloc(), trace)?;
-        for mode in [Mode::Serial, Mode::Shared, Mode::Threads] {
+        for (mode, _) in MODES {
             let mut report = Vec::new(rt.alloc());
-            let answer = replay(
+            let answer = replay_in(
                 &rt,
                 rt.alloc(),
                 mode,

@@ -5,11 +5,9 @@ ghost use Rattle.std.specs.List.{All};
 ghost use Rattle.poll_engine.specs.Opens.{IsStation};
 ghost use Rattle.poll_engine.specs.Numbers.{have_distinct_numbers};
 
-use crate::gates::run;
-use device_model::{ReplayBench, SerialBench, SharedBench};
 use napi_calls::Napi;
 use poll_engine::{
-    ActList, OpenGate, PollList, SoftList, Station, have_distinct_numbers, shared_list,
+    ActList, OpenGate, PollList, SoftList, Station, have_distinct_numbers, run_workers, shared_list,
 };
 use rx_ring::{Packet, ring};
 use std::alloc::{AllocError, Global};
@@ -71,27 +69,6 @@ fn rings_of_odd_capacities(rt: HostRuntime) -> Result<(), Fail> {
     Ok(())
 }
 
-// Devices of all numbers, with rings of 333 places and more.
-fn attach_each<B: ReplayBench>(alloc: Global, bench: &mut B) -> Result<(), AllocError> {
-    for device in 1..17u32 {
-        bench.attach(alloc, device, 333 * device, 0)?;
-    }
-    Ok(())
-}
-
-#[test]
-fn benches_of_sixteen_devices(rt: HostRuntime) -> Result<(), Fail> {
-    let mut serial = SerialBench::new(rt.alloc())?;
-    attach_each(rt.alloc(), &mut serial)?;
-    assert_eq!(rt; serial.attached(), 16);
-    let mut shared = SharedBench::new(&rt, rt.alloc())?;
-    assert_eq!(rt; attach_each(rt.alloc(), &mut shared), Ok(()));
-    assert_eq!(rt; shared.attached(), 16);
-    let ends = shared.end();
-    assert_eq!(rt; ends.iter().flatten().count(), 16);
-    Ok(())
-}
-
 // So many stations without an act, each with a thread of its own.
 fn stations_of(alloc: Global, count: u32) -> Result<Vec<Station<ActList>>, AllocError>
     requires { count ≤ 16 }
@@ -123,7 +100,7 @@ fn run_idle<R: Threads + Wait + Sync>(
     if !have_distinct_numbers(&stations) {
         return Err("two stations have one number".into());
     }
-    Ok(run(rt, alloc, stations, pollers, &OpenGate)?.len())
+    Ok(run_workers(rt, alloc, stations, pollers, 300, 64, 1024, &OpenGate)?.len())
 }
 
 // Runs of 1 to 16 stations, by one poller and by 1 to 8.

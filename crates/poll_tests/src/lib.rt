@@ -1,0 +1,12 @@
+//! Tests of poll lists, of the polling of a shared instance, and of each count that something is made for. Nothing but tests
+//! stands here.
+#![tactic(auto)]
+
+#[cfg(test)]
+mod counts;
+#[cfg(test)]
+mod listing;
+#[cfg(test)]
+mod places;
+#[cfg(test)]
+mod polling;
