@@ -1,1 +1,3 @@
 pub mod OwnLists
+pub mod Controller
+pub mod CallCounts

@@ -21,6 +21,8 @@ mod receive;
 #[cfg(test)]
 mod refusals;
 #[cfg(test)]
+mod steps;
+#[cfg(test)]
 mod surveys;
 #[cfg(test)]
 mod switching;

@@ -20,15 +20,15 @@ use std::thread::join;
 
 // A table with two callers, 0 and 1, and the controller 2: the three passes, and the vector that they lay in.
 #[derive(Drop)]
-struct Opened {
-    table: StateTable,
-    first: Pass,
-    second: Pass,
-    control: Pass,
-    room: Vec<Pass>,
+pub(crate) struct Opened {
+    pub(crate) table: StateTable,
+    pub(crate) first: Pass,
+    pub(crate) second: Pass,
+    pub(crate) control: Pass,
+    pub(crate) room: Vec<Pass>,
 }
 
-fn table_of_two(alloc: Global, ctx: RxCtx) -> Option<Opened>
+pub(crate) fn table_of_two(alloc: Global, ctx: RxCtx) -> Option<Opened>
     ensures first { IfSome result (λ o. IsNew o.table 2 ctx 0 o.first) }
     ensures second { IfSome result (λ o. IsNew o.table 2 ctx 1 o.second) }
     ensures control { IfSome result (λ o. IsNew o.table 2 ctx 2 o.control) }
@@ -105,7 +105,7 @@ fn swaps(table: &StateTable, first: &mut Pass, second: &mut Pass) -> Option<(See
 }
 
 // The end of a table of three: the own list of each caller is the events of its number in the one history.
-fn end_of_three(opened: Opened) -> Option<Ended>
+pub(crate) fn end_of_three(opened: Opened) -> Option<Ended>
     requires first { IsPassOf opened.table opened.first }
     requires second { IsPassOf opened.table opened.second }
     requires control { IsPassOf opened.table opened.control }

@@ -1,0 +1,27 @@
+-- What the controller of an instance has done with it, as its pass tells.
+use Rattle.std.specs.Prelude.{true, false}
+use Rattle.napi_word.specs.declared.table.Pass.{Pass}
+use Rattle.napi_word.specs.Passes.{Controls, Disable, IsController, IsNoOwner, IsWithin}
+
+pub record IsOff (p : Pass) : Type 0 where
+  pub controller : IsController p
+  pub owner : Controls p
+  pub unmarked : Disable false p
+  pub within : IsWithin p
+
+pub record IsOn (p : Pass) : Type 0 where
+  pub controller : IsController p
+  pub free : IsNoOwner p
+  pub unmarked : Disable false p
+
+pub record IsMarked (p : Pass) : Type 0 where
+  pub controller : IsController p
+  pub free : IsNoOwner p
+  pub marked : Disable true p
+
+-- taken by the controller, the mark not yet cleared
+pub record IsTaken (p : Pass) : Type 0 where
+  pub controller : IsController p
+  pub owner : Controls p
+  pub marked : Disable true p
+  pub within : IsWithin p
