@@ -1,7 +1,6 @@
 #!/bin/sh
 # Refuses each allocation, each read, each write and each start of a thread of the replay program in turn, in each of its
-# modes, or in those that are named. Each refusal has to give its line, its exit status and no report. The mode `calls` is for
-# `memory_tests`, where each call that was refused has to go through when it is made again.
+# modes, or in those that are named. Each refusal has to give its line, its exit status and no report.
 # bench/refusals.sh [PROGRAM [MODE ..]]
 set -eu
 unset CDPATH
@@ -106,30 +105,7 @@ refuse_ends() {
     [ "$status" = 4 ] && [ "$(cat "$folder/err")" = 'output fault 15 OutputFailed' ] || fail "$mode: a device that is full is written"
 }
 
-# Until the program makes no allocation with that number: the report is as ever, but for the call that was refused.
-refuse_calls() {
-    "$program" > "$folder/report"
-    count=0
-    refuse REFUSE_MEMORY 1
-    while [ -e "$folder/refused" ]; do
-        count=$((count + 1))
-        [ "$status" = 0 ] && [ ! -s "$folder/err" ] && sed 's/, refused once$//' "$folder/out" | cmp -s - "$folder/report" || {
-            cat "$folder/out" "$folder/err" >&2
-            fail "$mode REFUSE_MEMORY=$count: status $status"
-        }
-        sed -n '/, refused once$/p' "$folder/out" >> "$folder/calls"
-        refuse REFUSE_MEMORY $((count + 1))
-    done
-    sort -u "$folder/calls" > "$folder/refused"
-    sed 's/$/, refused once/' "$folder/report" | sort | cmp -s - "$folder/refused" || fail "$mode: not each call was refused"
-    echo "$mode: $count allocations refused"
-}
-
 for mode in "$@"; do
-    if [ "$mode" = calls ]; then
-        refuse_calls
-        continue
-    fi
     refuse_all
     refuse_ends
 done

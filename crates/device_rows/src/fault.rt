@@ -9,7 +9,7 @@ use thiserror::Error;
 /// number. Rows count from 1.
 #[derive(Clone, Copy, Debug, PartialEq, Eq, Error)]
 pub enum TraceFault {
-    /// 1: the text has no first record, or another than `moment,device,event,value`.
+    /// 1: the text has no first record, or another than `moment,device,event,value`, or with a fifth field `2` in version 2.
     #[error("the first record isn't `moment,device,event,value`")]
     BadHeader,
     /// 2: the row hasn't four fields.

@@ -12,6 +12,6 @@ pub struct Row {
     /// What happens.
     pub event: Event,
     /// Places for an open (1 to 65536), bytes for an rx or a tx (1 to 65535), packets for a done (at most 65536), 0 or 1
-    /// for a threaded, and else 0.
+    /// for a threaded, rounds for a busy (1 to 65535), and else 0.
     pub value: u32,
 }

@@ -1,2 +1,4 @@
 pub mod Telling
 mod StepFacts
+mod Counting
+mod Popped

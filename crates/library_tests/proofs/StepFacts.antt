@@ -1,8 +1,8 @@
 -- What a pass knows by the step that it made last.
-use Rattle.std.proofs.Common.{◌≡◌, true, false, Bool, eq-eqb, refl, sym, ap, ◌∙◌, subst}
+use Rattle.std.proofs.Common.{◌≡◌, true, false, eq-eqb, refl, sym, ap, ◌∙◌}
 use Rattle.napi_model.specs.declared.{state.{State.State as Napi, Seen.Seen, Place.TheVariants.{Control, Polling}}, event.{Done.TheVariants.Held, Operation.{Operation, TheVariants.{Look, Complete, BusyTake, BusyStop, MarkDisable, TakeDisable, Unmark, Enable}}}}
 use Rattle.napi_model.specs.Laws.{is_owner}
-use Rattle.napi_word.{specs.{View.{View, number_of, place_in, disable_in}, Events.Steps, Passes.{HasController, HasPoll, view_of, IsWithin}, declared.{table.Pass.Pass, view.Holds.{Holds, TheVariants.{Out, Within}}}}, proofs.Knowing.{state_then, place_then, quiet_polls}}
+use Rattle.napi_word.{specs.{View.{View, number_of}, Events.Steps, Passes.{HasController, HasPoll, view_of, IsWithin}, declared.{table.Pass.Pass, view.Holds.{Holds, TheVariants.{Out, Within}}}}, proofs.Knowing.{state_then, place_then, quiet_polls}}
 use Rattle.{rx_ring.specs.declared.ends.RxCtx.RxCtx, napi_word.{specs.{declared.table.StateTable.StateTable, Passes.IsNew, View.controller_of}, proofs.Start.{new_controls, new_unmarked}}}
 use Rattle.library_tests.specs.Controller.{IsOff, IsOn, IsMarked, IsTaken}
 

@@ -1,2 +1,3 @@
 pub mod OwnLists
 pub mod Controller
+pub mod CallCounts

@@ -1,8 +1,13 @@
 //! What is refused, with what comes back.
 
-use crate::bed::{Bed, closed, make_bed};
+use crate::bed::{
+    Bed, closed, disabled, enabled, granted, handed, make_bed, released, seat_two, taken,
+};
 use napi_calls::{CloseBack, CloseFault, Napi, NewBack, NewFault};
-use rx_ring::{Batch, Packet, ring};
+use napi_model::Kind;
+use rx_ring::{Batch, Packet, RingFault, ring};
+use std::alloc::Global;
+use std::process::Abort;
 use std::test::Fail;
 
 const PACKET: Packet = Packet {
@@ -23,6 +28,71 @@ fn callers_out_of_range(rt: HostRuntime) -> Result<(), Fail> {
         let mut batch = Batch::new();
         assert_eq!(rt; ctx.poll(64, &mut batch), 1);
         assert_eq!(rt; batch.as_slice(), [PACKET].as_slice());
+    }
+    Ok(())
+}
+
+// The first of the two callers polls the packet, and both close the instance.
+fn poll_packet(rt: &impl Abort, alloc: Global, bed: Bed) {
+    let Bed {
+        input: _,
+        napi,
+        first,
+        second,
+        control,
+    } = bed;
+    let control = enabled(rt, &napi, control, false);
+    let owner = granted(rt, &napi, first);
+    let first = handed(&napi, owner, Kind::List);
+    let mut poller = taken(rt, &napi, first, Kind::List);
+    let mut batch = Batch::new();
+    assert_eq!(rt; poller.poll(64, &mut batch), 1);
+    assert_eq!(rt; batch.as_slice(), [PACKET].as_slice());
+    let first = released(rt, &napi, poller);
+    let control = disabled(rt, &napi, control);
+    let made = Vec::with_capacity(alloc, 2);
+    let made = match made {
+        Ok(callers) => Ok(callers),
+        Err(_) => Vec::with_capacity(alloc, 2),
+    };
+    let Ok(mut callers) = made else {
+        panic!(rt; "refused twice")
+    };
+    callers.push_reserved(first);
+    callers.push_reserved(second);
+    let answer = napi_calls::close(napi, callers, control);
+    let Ok(ctx) = answer else {
+        panic!(rt; "callers are missing")
+    };
+    assert_eq!(rt; ctx.counts().packets, 1);
+}
+
+// With each allocation refused in turn (`rt try --test --fail-alloc N`) the answer is the fault with the same context, over
+// which an instance is made by a second call, and polls what was put before the first.
+#[test]
+fn memory_is_there_or_refused(rt: HostRuntime) -> Result<(), Fail> {
+    let (mut input, ctx) = match ring(rt.alloc(), 4) {
+        Ok(ends) => ends,
+        Err(fault) => {
+            assert_eq!(rt; fault, RingFault::OutOfMemory);
+            return Ok(());
+        }
+    };
+    assert_eq!(rt; input.put(PACKET), Ok(()));
+    match Napi::new(rt.alloc(), ctx, 2) {
+        Ok((napi, callers, control)) => {
+            let bed = seat_two(&rt, input, napi, callers, control);
+            poll_packet(&rt, rt.alloc(), bed);
+        }
+        Err(NewBack { fault, ctx }) => {
+            assert_eq!(rt; fault, NewFault::OutOfMemory);
+            let made = Napi::new(rt.alloc(), ctx, 2);
+            let Ok((napi, callers, control)) = made else {
+                panic!(rt; "refused twice")
+            };
+            let bed = seat_two(&rt, input, napi, callers, control);
+            poll_packet(&rt, rt.alloc(), bed);
+        }
     }
     Ok(())
 }

@@ -85,6 +85,19 @@ fn transmit_refusals(rt: HostRuntime) -> Result<(), Fail> {
     Ok(())
 }
 
+// With each allocation refused in turn (`rt try --test --fail-alloc N`) the answer is the fault, and nothing else changes.
+#[test]
+fn memory_is_there_or_refused(rt: HostRuntime) -> Result<(), Fail> {
+    let mut limit = Dql::new(1000, 1_879_048_192, 1000, 0)?;
+    limit.queued(10)?;
+    limit.reset(7);
+    match TxRing::new(rt.alloc(), 65_536, limit) {
+        Ok(ring) => assert_eq!(rt; ring.state(), shown(0, 0, 1000, 1000, false)),
+        Err(fault) => assert_eq!(rt; fault, TxFault::OutOfMemory),
+    }
+    Ok(())
+}
+
 #[test]
 fn packets_of_no_bytes(rt: HostRuntime) -> Result<(), Fail> {
     let mut ring = new_ring(rt.alloc(), 4, 0)?;

@@ -60,6 +60,21 @@ fn a_poller_never_waits_for_itself(rt: HostRuntime) -> Result<(), Fail> {
     Ok(())
 }
 
+// With each allocation refused in turn (`rt try --test --fail-alloc N`) the answer is the fault, and nothing else changes.
+#[test]
+fn memory_is_there_or_refused(rt: HostRuntime) -> Result<(), Fail> {
+    match shared_list(&rt, rt.alloc(), 3) {
+        Ok((mut list, mut ins)) => {
+            for k in 0..ins.len() {
+                ins[k].push(5);
+            }
+            assert_eq!(rt; spliced(&mut list).ids(), [5, 5, 5].as_slice());
+        }
+        Err(fault) => assert_eq!(rt; fault, ListFault::OutOfMemory),
+    }
+    Ok(())
+}
+
 #[test]
 fn faults_have_numbers_and_texts(rt: HostRuntime) -> Result<(), Fail> {
     for (fault, number, text) in [

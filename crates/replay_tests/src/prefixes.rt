@@ -93,7 +93,7 @@ impl Last {
     fn fault(self) -> Option<TraceFault> {
         let Last { row, bytes, .. } = self;
         if row == 0 {
-            let cut = bytes < ONE.1.len() as u32 - 1;
+            let cut = bytes < HEADER.len() as u32 - 1;
             return cut.then_some(TraceFault::BadHeader);
         }
         if bytes == 0 {

@@ -86,6 +86,14 @@ fn refused_words(rt: HostRuntime) {
     }
 }
 
+// Run with each allocation refused in turn, the only other answer is OutOfMemory.
+#[test]
+fn refused_memory(rt: HostRuntime) {
+    let answer = parse(rt.alloc(), &["--mode=serial", "--budget", "5"]);
+    let refused = answer == Err(WordFault::OutOfMemory);
+    assert!(rt; refused || answer == serial(1, 5, 64, 1024));
+}
+
 #[test]
 fn lines_and_statuses(rt: HostRuntime) {
     assert_eq!(rt; word_line(&WordFault::Usage), "usage fault 64\n");

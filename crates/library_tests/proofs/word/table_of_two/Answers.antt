@@ -1,13 +1,5 @@
-use Rattle.{std.proofs.Common.{◌≡◌, List, [], ◌∷◌, ◌++◌, length, length-append, slice_get, refl, sym, ap, ◌∙◌, arith}, napi_word.specs.declared.table.Pass.Pass}
+use Rattle.{std.proofs.Common.{◌≡◌, List, [], ◌∷◌, ◌++◌, length, slice_get, sym, ap, ◌∙◌}, napi_word.specs.declared.table.Pass.Pass, library_tests.proofs.Popped.none_left}
 use Rattle.library_tests.proofs.word.table_of_two.Goals as goal
-
-alone : (xs : List Pass) (a b d : Pass) → length (((xs ++ a ∷ []) ++ b ∷ []) ++ d ∷ []) ≡ 3 → xs ≡ []
-alone [] a b d e = refl
-alone (x ∷ xs) a b d e =
-    let p = length-append (((x ∷ xs) ++ a ∷ []) ++ b ∷ []) (d ∷ []) in
-    let q = length-append ((x ∷ xs) ++ a ∷ []) (b ∷ []) in
-    let r = length-append (x ∷ xs) (a ∷ []) in
-    absurd (omega (arith, p, q, r, e))
 
 -- the three passes, in order
 module _ (c : goal.In-Some-last-2) where
@@ -25,7 +17,7 @@ module _ (c : goal.In-Some-last-2) where
 
   whole : c.in-Ok.room.items ≡ a ∷ b ∷ d ∷ []
   whole = popped ∙ ap (λ (l : List Pass). ((l ++ a ∷ []) ++ b ∷ []) ++ d ∷ [])
-      (alone c.pop-last-3.new.self.items a b d (ap (λ (l : List Pass). length l) (sym popped) ∙ c.in-Ok.ensures.count.1))
+      (none_left c.pop-last-3.new.self.items a b d (ap (λ (l : List Pass). length l) (sym popped) ∙ c.in-Ok.ensures.count.1))
 
 pub returns-clause-first : goal.returns-clause-first
 returns-clause-first c = c.in-Ok.ensures.new 0 (a c) (ap (λ (l : List Pass). slice_get l 0) (whole c))
