@@ -32,7 +32,7 @@ bool is_polled, is_controlled = true;
 byte schedulers_ended; bool told, poller_ended, controller_ended;
 
 /* Moves the word from `seen` to `wanted`, and then `owner` is so; `won` tells whether nobody was faster. */
-#define exchange(wanted, owner) atomic { won = (word == seen); if :: won -> word = wanted; owner :: else fi }    /* kit atomic_table compare_exchange */
+#define exchange(wanted, owner) atomic { won = (word == seen); if :: won -> word = wanted; owner :: else fi }    /* kit atomic_table/steps compare_exchange */
 
 proctype Scheduler() {
     byte asks, seen; bool won;

@@ -41,23 +41,23 @@ bool worker_ended[WORKERS], poller_ended, thread_ended, all_ended;
 /* ---- bells, parkers and the list */
 
 inline unpark(bell) {
-    atomic { was_parked = (word[bell] == PARKED); word[bell] = NOTIFIED };      /* kit crossbeam_utils/parker unpark_as */
-    if :: was_parked -> atomic { asleep[bell] = false; was_parked = false } :: else fi  /* kit crossbeam_utils/parker unpark_as */
+    atomic { was_parked = (word[bell] == PARKED); word[bell] = NOTIFIED };      /* kit crossbeam_utils/sync/parker/ruled unpark_as */
+    if :: was_parked -> atomic { asleep[bell] = false; was_parked = false } :: else fi  /* kit crossbeam_utils/sync/parker/ruled unpark_as */
 }
 inline wake(bell) { unpark(bell) }                                              /* poll_tasks/signals wake */
 inline tell(bell) { told[bell] = true; unpark(bell) }                           /* poll_tasks/signals tell */
 inline wait(bell) {                                                             /* poll_tasks/signals wait */
-    atomic { if :: word[bell] == EMPTY -> word[bell] = PARKED :: else fi };     /* kit crossbeam_utils/parker park_as */
+    atomic { if :: word[bell] == EMPTY -> word[bell] = PARKED :: else fi };     /* kit crossbeam_utils/sync/parker/ruled park_as */
     do
-    :: atomic { word[bell] == NOTIFIED -> word[bell] = EMPTY; break }           /* kit crossbeam_utils/parker park_as */
-    :: atomic { word[bell] != NOTIFIED -> skip };                               /* kit crossbeam_utils/parker park_as */
-       atomic { if :: word[bell] == PARKED -> asleep[bell] = true :: else fi }; /* kit crossbeam_utils/parker park_as */
-       !asleep[bell]                                                            /* kit crossbeam_utils/parker park_as */
+    :: atomic { word[bell] == NOTIFIED -> word[bell] = EMPTY; break }           /* kit crossbeam_utils/sync/parker/ruled park_as */
+    :: atomic { word[bell] != NOTIFIED -> skip };                               /* kit crossbeam_utils/sync/parker/ruled park_as */
+       atomic { if :: word[bell] == PARKED -> asleep[bell] = true :: else fi }; /* kit crossbeam_utils/sync/parker/ruled park_as */
+       !asleep[bell]                                                            /* kit crossbeam_utils/sync/parker/ruled park_as */
     od
 }
 inline push(number) {                                                           /* poll_list/list_in push */
-    d_step { assert((tail - head + 2 * PLACES) % (2 * PLACES) < PLACES); at = tail % PLACES; tail = (tail + 1) % (2 * PLACES); slot[at] = number };  /* kit crossbeam_queue/array_queue push_as */
-    atomic { published[at] = true; at = 0 }                                     /* kit crossbeam_queue/array_queue push_as */
+    d_step { assert((tail - head + 2 * PLACES) % (2 * PLACES) < PLACES); at = tail % PLACES; tail = (tail + 1) % (2 * PLACES); slot[at] = number };  /* kit crossbeam_queue/array_queue/ruled push_as */
+    atomic { published[at] = true; at = 0 }                                     /* kit crossbeam_queue/array_queue/ruled push_as */
 }
 inline hand_to_list(number) {                                                   /* poll_interrupts/worker hand_to_list */
     mark[number] = LISTED;                                                      /* napi_calls/granted hand */
@@ -128,7 +128,7 @@ proctype Poller() {
        :: in_hand != NOBODY -> number = in_hand; in_hand = NOBODY               /* poll_list/shared splice */
        :: in_hand == NOBODY && head == tail                                     /* poll_list/pops pop */
        :: in_hand == NOBODY && head != tail && published[head % PLACES] ->      /* poll_list/pops pop */
-          d_step { at = head % PLACES; number = slot[at]; slot[at] = 0; published[at] = false; head = (head + 1) % (2 * PLACES); at = 0 }  /* kit crossbeam_queue/array_queue pop_as */
+          d_step { at = head % PLACES; number = slot[at]; slot[at] = 0; published[at] = false; head = (head + 1) % (2 * PLACES); at = 0 }  /* kit crossbeam_queue/array_queue/ruled pop_as */
        fi;
        if
        :: atomic { number != NOBODY ->                                          /* poll_seats/poller turn */

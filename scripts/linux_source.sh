@@ -20,9 +20,11 @@ fetch() {
     trap 'rm -rf "$work"' EXIT
     (cd "$work" && timeout 900 apt-get -o Acquire::http::Timeout=20 download "linux-source-$version" > fetch.log 2>&1) || return 1
     dpkg-deb --fsys-tarfile "$work"/linux-source-*.deb | tar -x -C "$work" "./usr/src/linux-source-$version.tar.xz"
-    mkdir -p "$work/files" "$kept"
+    mkdir -p "$work/files"
+    # Where nothing can be kept, they go to FOLDER alone.
+    mkdir -p "$kept" 2> /dev/null && [ -w "$kept" ] || from=$folder
     tar -x -J -f "$work/usr/src/linux-source-$version.tar.xz" -C "$work/files" --strip-components=1 --occurrence "${@/#/linux-source-$version/}"
-    cp -r "$work/files/." "$kept"
+    cp -r "$work/files/." "$from"
 }
 
 from=${LINUX:-$kept}
@@ -35,6 +37,7 @@ if [ "${#missing[@]}" != 0 ]; then
         exit 69
     fi
 fi
+[ "$from" != "$folder" ] || exit 0
 for file in "$@"; do
     mkdir -p "$folder/$(dirname "$file")"
     cp "$from/$file" "$folder/$file"
