@@ -49,6 +49,7 @@ for file in "$top"/tools/*; do
     [ ! -x "$file" ] || tools+=("${file##*/}")
 done
 parts+=(scripts/words.py)
+python=("$top"/bindings/python/fintaqush/{*.py,py.typed})
 home=lib/fintaqush # where they lie, as in a checkout
 tool_files=("${programs[@]/#/bin/}" "${programs[@]/#/$home/programs/}" "${tools[@]/#/bin/}" "${parts[@]/#/$home/}")
 for name in "${programs[@]}" "${tools[@]}"; do
@@ -60,7 +61,7 @@ if [ -n "$is_uninstall" ]; then
         rm -f "$to/$file"
     done
     for package in "$to"/lib/python3*/*-packages/fintaqush; do
-        for file in "$top"/bindings/python/fintaqush/*; do
+        for file in "${python[@]}"; do
             rm -f "$package/${file##*/}"
         done
         rm -rf "$package/__pycache__"
@@ -171,8 +172,8 @@ fi
 if [ -n "$is_python" ]; then
     packages=$(python3 -c 'import site, sys
 print(next((home for home in site.getsitepackages() if home.startswith(sys.argv[1] + "/lib/")), sys.argv[1] + "/lib/python3/dist-packages"))' "$prefix")
-    for file in "$top"/bindings/python/fintaqush/*; do
-        [ ! -f "$file" ] || put 644 "$file" "${packages#"$prefix/"}/fintaqush/${file##*/}"
+    for file in "${python[@]}"; do
+        put 644 "$file" "${packages#"$prefix/"}/fintaqush/${file##*/}"
     done
     [ -n "${DESTDIR:-}" ] || python3 -c 'import sys; sys.exit(sys.argv[1] not in sys.path)' "$packages" ||
         echo "install: python3 finds the package by PYTHONPATH=$packages"

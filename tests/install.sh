@@ -84,7 +84,7 @@ tools_work() {
 
 # python_replays FOLDER: as napi_serial, by the package there.
 python_replays() {
-    PYTHONPATH=$1/lib/python3/dist-packages python3 -c 'import fintaqush, sys; print(end=fintaqush.replay(sys.stdin.buffer.read()).text)' \
+    PYTHONDONTWRITEBYTECODE='' PYTHONPATH=$1/lib/python3/dist-packages python3 -c 'import fintaqush, sys; print(end=fintaqush.replay(sys.stdin.buffer.read()).text)' \
         < "$top/crates/napi_serial/stdin" | diff - "$top/crates/napi_serial/stdout"
 }
 

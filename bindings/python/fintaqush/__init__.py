@@ -7,5 +7,6 @@ from ._answers import Fault, Kind, Next, Status, TraceFault, Word
 from ._objects import Counts, Limit, List, Napi, Packet, Ring, RunReport
 from ._report import Device, Report, Transmit, Turn, replay
 
+__version__ = "1.0.0"  # FQ_VERSION
 __all__ = ["Counts", "Device", "Fault", "Kind", "Limit", "List", "Napi", "Next", "Packet", "Report", "Ring", "RunReport", "Status",
            "TraceFault", "Transmit", "Turn", "Word", "replay"]

@@ -14,7 +14,7 @@ from ._answers import Fault, Status
 SONAME = "libfintaqush.so.1"
 u32, u64, size, boolean = ctypes.c_uint32, ctypes.c_uint64, ctypes.c_size_t, ctypes.c_bool
 MOST: dict[Any, int] = {u32: 2**32 - 1, u64: 2**64 - 1, size: 2**64 - 1}
-DECLARED: dict[str, tuple[Any, dict[str, Any]]] = {}  # each call's answer and arguments
+DECLARED: dict[str, tuple[Any, dict[str, Any]]] = {}  # each call's answer and arguments, named as in the header
 
 
 class Missing(ImportError):
@@ -29,6 +29,7 @@ def _one_line(kind: type[BaseException], fault: BaseException, trace: TracebackT
 
 
 def missing(why: object) -> Missing:
+    """To be raised where the package can't be loaded."""
     sys.excepthook = _one_line
     return Missing(f"fintaqush: {why}; FINTAQUSH_LIB may name the folder of {SONAME}", name="fintaqush")
 
@@ -116,6 +117,7 @@ def declare(name: str, answer: Any = Status, of: ctypes.CDLL = _short, **argumen
 
 
 def checked(said: int) -> Status:
+    """An answer that is no fault."""
     status = Status(said)
     if status is Status.OUT_OF_MEMORY:
         raise MemoryError(f"FQ_{status.name}")

@@ -59,6 +59,7 @@ class Limit(_One):
 
     @property
     def limit(self) -> int:
+        """In bytes."""
         return int(c.dql_limit(self._dql))
 
     @property
@@ -68,6 +69,7 @@ class Limit(_One):
 
     @property
     def in_flight(self) -> int:
+        """The bytes that were queued and aren't completed."""
         return int(c.dql_in_flight(self._dql))
 
 
@@ -124,6 +126,7 @@ class Napi(_One):
 
     @property
     def word(self) -> Word:
+        """The state word."""
         return Word(c.napi_word(self._state))
 
 
@@ -157,6 +160,7 @@ class Ring(_Owned):
 
     @property
     def counts(self) -> Counts:
+        """What its polls gave so far."""
         counts = c.Counts()
         c.counts(self._at, counts)
         return Counts(counts.polls, counts.packets, counts.bytes)
@@ -173,6 +177,7 @@ class List(_Owned):
         return bool(c.list_push(self._at, id) == Status.OK)
 
     def __len__(self) -> int:
+        """How many numbers list and run hold."""
         count = c.u32()
         c.list_len(self._at, count)
         return count.value

@@ -70,7 +70,7 @@ def replay(trace: bytes, budget: int = 300, weight: int = 64, window: int = 1024
 
 
 def _text_of(trace: bytes, settings: c.Settings) -> str:
-    replayed, room = c.Replayed(), 4 * len(trace) + 4096
+    replayed, room = c.Replayed(), 2 * len(trace) + 4096
     while True:
         report = ctypes.create_string_buffer(room)
         said = Status(c.replay(settings, trace, len(trace), report, room, replayed))

@@ -48,6 +48,7 @@ class TestHeader(unittest.TestCase):
         self.assertEqual({one.name: one.value for one in Word}, {name: 1 << int(bit) for name, bit in bits})
         names = re.search(r"names\[\] = \{(.*?)\};", HEADER, re.S)[1]
         self.assertEqual(list(TraceFault.NAMES), re.findall(r'"(.*?)"', names))
+        self.assertIn(f'#define FQ_VERSION "{fintaqush.__version__}"\n', HEADER)
 
     def test_calls(self):
         """Each call that is declared has the header's answer and arguments."""
@@ -373,10 +374,6 @@ class TestSimulation(unittest.TestCase):
             self.assertEqual(lost[budget], sum(device.dropped for device in report.devices.values()))
         self.assertGreater(lost[8], 10000)
         self.assertEqual(lost[32], 0)
-
-    def test_the_page_shows_it(self):
-        shown = re.sub(r"^(?=.)", "    ", (TOP / "bindings/python/examples/simulation.py").read_text(), flags=re.M)
-        self.assertIn(shown, (TOP / "bindings/python/README.md").read_text())
 
 
 class TestPackage(unittest.TestCase):
