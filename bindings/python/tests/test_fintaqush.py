@@ -86,7 +86,7 @@ class TestLimit(Refusals):
         limit, lines = Limit(), []
         for now in (6, 12, 18):
             frames = 0
-            while limit.avail >= 0:
+            while limit.avail >= 0 and frames < 10:
                 limit.queued(1500)
                 frames += 1
             in_flight = limit.in_flight
