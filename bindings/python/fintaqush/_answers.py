@@ -3,7 +3,7 @@ import enum
 
 
 class Status(enum.IntEnum):
-    """What a call answers (`enum fq_status`)."""
+    """What a call answers (`enum fq_status`); below GRANTED, but for OK, and from NOT_ALLOWED on it wasn't made."""
     OK = 0
     BAD_BOUNDS = 1
     TOO_LARGE = 2
@@ -36,11 +36,6 @@ class Status(enum.IntEnum):
     BAD_NEXT = 118
     BAD_WORK = 119
     BAD_TRACE = 120
-
-    @property
-    def is_fault(self) -> bool:
-        """Whether the call wasn't made, and nothing has changed."""
-        return Status.OK < self < Status.GRANTED or self >= Status.NOT_ALLOWED
 
 
 class Kind(enum.IntEnum):

@@ -118,12 +118,11 @@ def declare(name: str, answer: Any = Status, of: ctypes.CDLL = _short, **argumen
 
 def checked(said: int) -> Status:
     """An answer that is no fault."""
-    status = Status(said)
-    if status is Status.OUT_OF_MEMORY:
-        raise MemoryError(f"FQ_{status.name}")
-    if status.is_fault:
-        raise Fault(status)
-    return status
+    if said == Status.OUT_OF_MEMORY:
+        raise MemoryError("FQ_OUT_OF_MEMORY")
+    if 0 < said < Status.GRANTED or said >= Status.NOT_ALLOWED:
+        raise Fault(Status(said))
+    return Status(said)
 
 
 abandon = declare("abandon", handle=Handle)
