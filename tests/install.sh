@@ -1,7 +1,7 @@
 #!/usr/bin/env bash
 # scripts/install.sh: into a prefix and below a DESTDIR; programs that find the library by pkg-config and by CMake; each program and
-# tool as it is installed, from another folder, and the package for Python; and all of it removed again. scripts/package.sh likewise, in a root of its own. What
-# needs a program that isn't installed is passed over, and says so. The last line is `N passed, M failed`.
+# tool as it is installed, from another folder, and the package for Python; and all of it removed again. scripts/package.sh likewise,
+# in a root of its own. What needs a program that isn't installed is passed over, and says so. The last line is `N passed, M failed`.
 set -uo pipefail
 unset CDPATH
 top=$(dirname "$(dirname "$(readlink -f "$0")")")
@@ -84,8 +84,9 @@ tools_work() {
 
 # python_replays FOLDER: as napi_serial, by the package there.
 python_replays() {
-    PYTHONDONTWRITEBYTECODE='' PYTHONPATH=$1/lib/python3/dist-packages python3 -c 'import fintaqush, sys; print(end=fintaqush.replay(sys.stdin.buffer.read()).text)' \
-        < "$top/crates/napi_serial/stdin" | diff - "$top/crates/napi_serial/stdout"
+    local program='import fintaqush, sys; print(end=fintaqush.replay(sys.stdin.buffer.read()).text)'
+    PYTHONDONTWRITEBYTECODE='' PYTHONPATH=$1/lib/python3/dist-packages python3 -c "$program" < "$top/crates/napi_serial/stdin" |
+        diff - "$top/crates/napi_serial/stdout"
 }
 
 # pages_are_whole FOLDER: each manual page is read without a warning, and each program and tool beside it has one.

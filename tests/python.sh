@@ -10,7 +10,7 @@ trap 'rm -rf "$scratch"' EXIT
 . "$top/scripts/checks.sh"
 package=$top/bindings/python
 prefix=$scratch/prefix
-export PYTHONDONTWRITEBYTECODE=1 PYTHONWARNINGS=error
+export PYTHONDONTWRITEBYTECODE=1
 
 for program in python3 rt; do
     command -v "$program" > /dev/null || { echo "python: passed over: there is no $program"; sum_up; exit; }
@@ -20,7 +20,7 @@ files() { find "$package" | sort; }
 files > before
 nothing_is_left() { files | diff before -; }
 
-tested() { python3 "$package/tests/test_fintaqush.py"; }
+tested() { python3 -W error "$package/tests/test_fintaqush.py"; }
 
 # said_in_a_line WORDS: an import ends by 1 and this line alone, which has these words; who catches it goes on.
 said_in_a_line() {
