@@ -303,6 +303,7 @@ class TestReplay(Refusals):
         self.assertEqual(report.text, re.sub(r"^    ", "", shown, flags=re.M) + "\n")
         self.assertEqual(report.turns, [Turn("softirq", 4, polls=2, work=2)])
         device = report.devices[1]
+        self.assertEqual((type(report.turns[0].squeezed), type(device.word)), (bool, Word))
         self.assertEqual((device.state, device.bytes, device.missed, device.word, device.transmit), ("on", 160, 1, Word(0), None))
         self.assertEqual((report.listed, report.runs, report.polls, report.work, report.squeezed), ([], 1, 2, 2, 0))
 
