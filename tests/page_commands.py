@@ -145,7 +145,8 @@ def by_hand(command):
     """What is wrong with a command that is run by hand: the kit has it, or the script is there."""
     program, word = (SETTINGS.sub("", command).split() + [""])[:2]
     if program == "rt" and shutil.which("rt"):
-        if word not in subprocess.run(["rt", "help"], capture_output=True, text=True, check=True).stdout:
+        told = subprocess.run(["rt", "help"], capture_output=True, text=True, check=False)
+        if word not in told.stdout + told.stderr:
             yield f"{command}: rt has no {word}"
     elif "/" in program and not (TOP / program).is_file():
         yield f"{command}: there is no {program}"
