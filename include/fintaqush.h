@@ -352,7 +352,7 @@ struct fq_card {
     void *at;
     void (*mask)(void *at);                /* the card interrupts no more */
     void (*unmask)(void *at);              /* it interrupts again */
-    bool (*look)(void *at);                /* behind a fence of its own: whether something is there to be polled */
+    bool (*look)(void *at);                /* whether something is there to be polled */
     size_t (*poll)(void *at, size_t most); /* polls at most so many packets, and answers how many */
 };
 
@@ -546,7 +546,8 @@ struct fq_replayed {
 
 /* Replays a trace of len bytes into an array of room bytes: FQ_OK, and its first replayed->length bytes are the report, with no 0
  * behind them. FQ_NO_ROOM: replayed->length is the room that it takes. FQ_BAD_TRACE: replayed->fault and replayed->row tell why.
- * FQ_BAD_WEIGHT, else FQ_BAD_BUDGET of the settings; FQ_OUT_OF_MEMORY. The array is as it was on all but FQ_OK. Of an empty trace or
+ * FQ_BAD_WEIGHT, else FQ_BAD_BUDGET of the settings; FQ_OUT_OF_MEMORY. A thread polls at most 131072 times at a time, which no trace of
+ * 100000 rows meets. The array is as it was on all but FQ_OK. Of an empty trace or
  * array the pointer leads to some byte. */
 FQ_CHECKED uint32_t fq_replay(const struct fq_settings *FQ_RESTRICT settings, const uint8_t *FQ_RESTRICT trace, size_t len, uint8_t *FQ_RESTRICT report, size_t room, struct fq_replayed *FQ_RESTRICT replayed);
 
