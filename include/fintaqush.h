@@ -500,8 +500,8 @@ FQ_CHECKED uint32_t fq_list_len(struct fq_handle *FQ_RESTRICT list, uint32_t *FQ
 FQ_CHECKED uint32_t fq_run_begin(struct fq_handle *list, uint32_t budget, uint32_t weight, uint32_t window);
 /* The number to be polled next: FQ_OK, FQ_DONE, FQ_NOT_ALLOWED. */
 FQ_CHECKED uint32_t fq_run_next(struct fq_handle *FQ_RESTRICT list, uint32_t *FQ_RESTRICT id);
-/* What its poll did, which isn't tested: FQ_NEXT_REPOLL is of a whole weight, FQ_NEXT_ABSENT of no packet. FQ_OK, FQ_BAD_WORK above the weight, FQ_BAD_NEXT, FQ_NOT_ALLOWED; FQ_IN_USE where it would be listed a second
- * time, and it is still to be told. */
+/* What its poll did: FQ_OK, FQ_BAD_WORK above the weight, FQ_BAD_NEXT, FQ_NOT_ALLOWED; FQ_IN_USE where it would be listed a second
+ * time, and it is still to be told. That FQ_NEXT_REPOLL is of a whole weight, and FQ_NEXT_ABSENT of no packet, isn't tested. */
 FQ_CHECKED uint32_t fq_run_polled(struct fq_handle *list, uint32_t work, uint32_t next);
 /* Ends it; what wasn't polled, and what is to be polled again, is on the list: FQ_OK, FQ_NOT_ALLOWED. */
 FQ_CHECKED uint32_t fq_run_end(struct fq_handle *FQ_RESTRICT list, struct fq_run_report *FQ_RESTRICT report);
@@ -546,9 +546,8 @@ struct fq_replayed {
 
 /* Replays a trace of len bytes into an array of room bytes: FQ_OK, and its first replayed->length bytes are the report, with no 0
  * behind them. FQ_NO_ROOM: replayed->length is the room that it takes. FQ_BAD_TRACE: replayed->fault and replayed->row tell why.
- * FQ_BAD_WEIGHT, else FQ_BAD_BUDGET of the settings; FQ_OUT_OF_MEMORY. A thread polls at most 131072 times at a time, which no trace of
- * 100000 rows meets. The array is as it was on all but FQ_OK. Of an empty trace or
- * array the pointer leads to some byte. */
+ * FQ_BAD_WEIGHT, else FQ_BAD_BUDGET of the settings; FQ_OUT_OF_MEMORY. The array is as it was on all but FQ_OK. Of an empty trace or
+ * array the pointer leads to some byte. An instance's thread polls at most 131072 times at a time, which no trace of 100000 rows meets. */
 FQ_CHECKED uint32_t fq_replay(const struct fq_settings *FQ_RESTRICT settings, const uint8_t *FQ_RESTRICT trace, size_t len, uint8_t *FQ_RESTRICT report, size_t room, struct fq_replayed *FQ_RESTRICT replayed);
 
 /* The name of a trace's fault, as "BadHeader"; "?" of a number that is none. */
