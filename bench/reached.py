@@ -5,8 +5,21 @@ runs refused in turn (bench/refuse.c).
 
 usage: bench/reached.py [PROGRAM [TRACE.csv ..]]     (crates/napi_serial/out/napi_serial; traces are played too, beside the runs)
 
-Prints how many instructions each function has and how many were reached, and then each stretch that wasn't, with the calls in it,
-which tell what it is for. Needs valgrind, nm, objdump and cc.
+Prints how many instructions each function has and how many were reached, and then how many weren't, by these reasons. A piece from
+jump to jump has the reason that RULES gives it, or that of the one that alone leads to it. Pieces without a reason are shown, and
+those of a reason that has more instructions than the number here; the exit status is 1 then. It is run by hand, a minute long on
+four processors, and needs valgrind, nm, objdump and cc.
+
+   522  clap: sub-commands, global values, the program's name as a path, and what else clap has that isn't asked for
+   293  room: a text or a list that has room there in each run grows, or is refused memory
+   290  onto: copies of what lies where it is copied to
+   281  indented: what `{:#?}` writes; nothing is written by it
+   165  threads: faults of threads mode, and instances that another thread takes
+   147  freed: what isn't there, or has no memory
+    97  digits: more of them than a flag or the count of the devices has
+    58  excluded by the proof: traps, numbers out of their ranges, more entries than devices, more polls than packets
+    22  host: more words than memory has, calls that a signal ends, and input read ahead, which the reader of records never does
+    30  csv: fields that are trimmed, titles that are kept, and reading on behind the end
 """
 import concurrent.futures
 import itertools
@@ -20,6 +33,32 @@ import tempfile
 TOP = pathlib.Path(__file__).resolve().parent.parent
 sys.path.insert(0, str(TOP / "tests"))
 import runs
+
+ENDS = re.compile("jmp|ret|ud2")
+# A function, what stands in a piece of it or leads there (`>` is where the piece begins), and why no run reaches it.
+RULES = [
+    ("", r"ud2$", "excluded"),
+    ("", r"SubCommand|subcommand|fill_in_global|build_levels", "clap"),
+    ("", r"> .*lseek", "host"),
+    ("next_record", r"trim_fields|movw +\$0x101", "csv"),
+    ("main", r"cmp +\$0x2,%cl; je [^;]* > jmp", "csv"),
+    ("main", r"cmp +\$0x4,%eax; jne [^;]* > dec|\$0xffffffffffffffff,%\w+; jne [^;]* > jmp|test +%\w+,%\w+; jne [^;]* > xor|dec +%\w+; jne [^;]* > .*seta", "host"),
+    ("add_row", r"bt +%edx,%edi; jb [^;]* > cmp", "excluded"),
+    ("end_by", r"(ring|worker) fault|> mov +\$0x3,%bl", "threads"),
+    ("report_rows", r"cmp +\$0x201,|cmp +\$0x20000,%\w+; jne [^;]* > jmp|movabs +\$0x100000000,.*> xor|cmpb +\$0x1,\(%\w+,%\w+,1\); jne [^;]* > movl +\$0x0", "excluded"),
+    ("report_rows", r"test +%\w+,%\w+; je [^;]* > xor +%r13d,%r13d; jmp|test +%edx,%edx;.*> .*movl +\$0x1", "excluded"),
+    ("report_rows", r"cmp +\$0x10,%\w+; ja [^;]* > movq +\$0x0|> mov +\$0x2,%r13b", "threads"),
+    ("read_words", r"cmpq +\$0x0,[^;]*; jne [^;]* > jmp", "freed"),
+    ("read_words", r"cmpb +\$0x0,[^;]*; je [^;]* > mov +%r15b", "clap"),
+    ("read_words", r"test +%rbp,%rbp;[^>]*je [^;]* > mov +\$0x1,%r15b|sete[^>]*je [^;]* > mov [^;]*; jmp [^;]*$", "clap"),
+    ("read_words", r"bsr|pshufd|\$0x2f\b|\$0x2e2e2e|\$0x3f,|\$0xffffff[cf][0-9a-f]", "clap"),
+    ("", r"write_indented", "indented"),
+    ("", r"> .*grow_amortized|(grow_amortized|write_fmt)>; test +%al,%al; \w+ [^;]* > ", "room"),
+    ("", r"> .*(dealloc|[Dd]rop)|test +%\w+,%\w+; je [^;]* > mov +%\w+,%rdi; jmp", "freed"),
+    ("", r"sub +%\w+,%\w+; cmp +(\$0x[0-9a-f]+|%\w+),%\w+; (ja|jae) [^;]* > ", "onto"),
+    ("", r"> .*imul +\$0xcd", "digits"),
+    ("main", r"add +%\w+,%\w+; je [^;]* > |test +%\w+,%\w+; jne [^;]*; jmp [^;]*; test +%\w+,%\w+; je [^;]* > mov [^;]*; jmp", "room"),
+]
 
 CALLGRIND = "callgrind-amd64-linux"  # called itself, so that nothing is refused to a launcher
 HEADER = b"moment,device,event,value,2\n"
@@ -39,9 +78,17 @@ def own_functions(program):
 
 def instructions(program):
     """Each instruction's address with its text, in order, but for those that only fill."""
+    constants = pathlib.Path(program).read_bytes()
     listed = subprocess.run(["objdump", "-d", "--no-show-raw-insn", program], capture_output=True, text=True, check=True).stdout
     pairs = ((int(at, 16), text.strip()) for at, text in re.findall(r"^ +([0-9a-f]+):\t(.*)$", listed, re.M))
-    return {at: text for at, text in pairs if not re.match(r"nop|cs nop|data16|xchg +%ax,%ax", text)}
+    return {at: named(text, constants) for at, text in pairs if not re.match(r"nop|cs nop|data16|xchg +%ax,%ax", text)}
+
+
+def named(text, constants):
+    """The text of an instruction, with the letters of the constant that it names: constants lie in the file where they are loaded."""
+    where = re.search(r"(.*)# ([0-9a-f]+) <", text)
+    letters = re.match(rb"[ -~]*", constants[int(where[2], 16):][:24])[0].decode() if where else ""
+    return '%s# "%s"' % (where[1], letters) if where else re.sub(r"::<#\w+>", "", text)
 
 
 def places_of(out, program):
@@ -90,8 +137,74 @@ class Runs:
         return found
 
 
+class Left:
+    """What isn't reached of a function, in pieces from jump to jump, each with its reason."""
+
+    def __init__(self, own, known, places):
+        self.known, self.places = known, places
+        self.pieces = list(self.cut(own))
+        self.piece_at = {at: piece for piece in self.pieces for at in piece}
+        self.ways = {piece: [] for piece in self.pieces}  # the instructions that lead into each piece from outside
+        for before, at, behind in zip([None] + own, own, own[1:] + [None]):
+            goes = re.match(r"j\w+ +([0-9a-f]+) <", known[at])
+            for end in [int(goes[1], 16)] if goes else []:
+                self.lead(at, end)
+            if not ENDS.match(known[at]):
+                self.lead(at, behind)
+        self.order = {at: number for number, at in enumerate(own)}
+        self.own = own
+
+    def cut(self, own):
+        piece = []
+        for at in own + [None]:
+            if at is not None and at not in self.places:
+                piece.append(at)
+            if piece and (at is None or at in self.places or ENDS.match(self.known[at])):
+                yield tuple(piece)
+                piece = []
+
+    def lead(self, at, end):
+        piece = self.piece_at.get(end)
+        if piece and at not in piece:
+            self.ways[piece].append(at)
+
+    def texts(self, piece):
+        """The piece's text, once behind each reached way into it: what that compares, and `>`."""
+        body = "; ".join(self.known[at] for at in piece)
+        reached = [self.order[at] for at in self.ways[piece] if at in self.places]
+        return ["; ".join(self.known[at] for at in self.own[max(0, way - 7):way + 1]) + " > " + body for way in reached] or ["> " + body]
+
+    def rule(self, name, piece):
+        texts = self.texts(piece)
+        return next((reason for function, words, reason in RULES if re.search(function, name) and any(re.search(words, text) for text in texts)), None)
+
+    def reasons(self, name):
+        """The reason of each piece. One that only others lead to has theirs; one without a rule has that of the one it goes to."""
+        inner = {piece: [self.piece_at[at] for at in ways] for piece, ways in self.ways.items() if ways and not self.places.intersection(ways)}
+        found = {piece: self.rule(name, piece) for piece in self.pieces if piece not in inner}
+        for piece in [piece for piece, reason in found.items() if not reason]:
+            found[piece] = next((self.rule(name, other) for other, ways in self.ways.items() if piece[-1] in ways), None)
+        for _ in inner:
+            for piece, others in inner.items():
+                found[piece] = found.get(piece) or next((found[other] for other in others if found.get(other)), None)
+        return found
+
+
 def share(name, count, whole):
     print("%6d of %6d, %.1f %%: %s" % (count, whole, 100 * count / whole, name))
+
+
+def tell(left, known):
+    """Each reason with its pieces; whether there is one without a reason, or more of one than this head has."""
+    table = {reason: int(most) for most, reason in re.findall(r"^ +(\d+)  (\w+)", __doc__, re.M)}
+    fails = False
+    for reason, some in sorted(left.items(), key=lambda one: str(one[0])):
+        count, most = sum(len(piece) for _, piece in some), table.get(reason, 0)
+        fails |= count > most
+        print("%6d %s%s" % (count, reason or "without a reason", ", and the head has %d" % most if count > most and reason else ""))
+        for name, piece in some if count > most else []:
+            print("%10x of %s: %s" % (piece[0], name.split("::<")[0], "; ".join(known[at] for at in piece)[:150]))
+    return fails
 
 
 def main(program, traces):
@@ -101,19 +214,16 @@ def main(program, traces):
         by_runs = side.all([(words, text) for _, words, text in runs.runs()] + [([], pathlib.Path(trace).read_bytes()) for trace in traces])
         places = by_runs | side.refusals()
     functions = [(name, [at for at in known if start <= at < end]) for name, start, end in own_functions(program)]
-    stretches = []
+    left = {}
     for name, own in sorted(functions, key=lambda one: -len(one[1])):
         share(name.split("::<")[0], sum(at in places for at in own), len(own))
-        for is_reached, some in itertools.groupby(own, lambda at: at in places):
-            if not is_reached:
-                stretches.append((name.split("::<")[0], list(some)))
+        for piece, reason in Left(own, known, places).reasons(name).items():
+            left.setdefault(reason, []).append((name, piece))
     whole = [at for _, own in functions for at in own]
     share("reached by the runs", sum(at in by_runs for at in whole), len(whole))
     share("with refusals", sum(at in places for at in whole), len(whole))
-    for name, stretch in sorted(stretches, key=lambda one: -len(one[1])):
-        calls = sorted({known[at].split("<", 1)[1].rstrip(">").split("::<")[0] for at in stretch if known[at].startswith("call") and "<" in known[at]})
-        print("%4d at %x of %s: %s" % (len(stretch), stretch[0], name, ", ".join(calls) or "-"))
+    return tell(left, known)
 
 
 if __name__ == "__main__":
-    main(sys.argv[1] if len(sys.argv) > 1 else str(TOP / "crates/napi_serial/out/napi_serial"), sys.argv[2:])
+    sys.exit(main(sys.argv[1] if len(sys.argv) > 1 else str(TOP / "crates/napi_serial/out/napi_serial"), sys.argv[2:]))

@@ -210,7 +210,8 @@ class Build:
         checked, of = (sum(int(it[0][at]) for it in counts) for at in (0, 1))
         minutes, seconds = divmod((time.time_ns() - self.since) // 10**9, 60)
         at_work = " ".join(it.name for it in self.at_work)
-        line = f"crate {len(self.begun)} of {len(self.crates)} ({at_work}), {checked} of {of} functions checked, {minutes}:{seconds:02}"
+        functions = f", {checked} of {of} functions checked" if of else ""
+        line = f"crate {len(self.begun)} of {len(self.crates)} ({at_work}){functions}, {minutes}:{seconds:02}"
         if os.isatty(2):
             os.write(2, f"\r\033[Kreplay: {line}"[:82].encode())
         elif self.begun != self.shown:

@@ -47,7 +47,7 @@ for file in "$top"/tools/*; do
 done
 parts+=(scripts/words.py)
 home=lib/fintaqush # where they lie, as in a checkout
-tool_files=("${programs[@]/#/bin/}" "${tools[@]/#/bin/}" "${parts[@]/#/$home/}")
+tool_files=("${programs[@]/#/bin/}" "${programs[@]/#/$home/programs/}" "${tools[@]/#/bin/}" "${parts[@]/#/$home/}")
 for name in "${programs[@]}" "${tools[@]}"; do
     tool_files+=("share/man/man1/$name.1")
 done
@@ -57,7 +57,7 @@ if [ -n "$is_uninstall" ]; then
         rm -f "$to/$file"
     done
     rm -rf "$to/$home/tools/__pycache__" # Python's, of these files
-    rmdir "$to/lib/cmake/Fintaqush" "$to/$home"/{tools,scripts} "$to/$home" 2> /dev/null || true
+    rmdir "$to/lib/cmake/Fintaqush" "$to/$home"/{tools,scripts,programs} "$to/$home" 2> /dev/null || true
     exit 0
 fi
 
@@ -113,6 +113,16 @@ else()
 endif()
 END
 
+# The program itself refuses these words.
+cat > "$scratch/program" << 'END'
+#!/bin/sh
+case "$# ${1:-}" in
+    '1 -h' | '1 --help') echo 'usage: @NAME@ [WORD ..] < TRACE.csv; the words, the trace and each fault: man @NAME@' && exit ;;
+    '1 --version') echo '@NAME@ of Fintaqush @VERSION@' && exit ;;
+esac
+exec "$(dirname "$(readlink -f "$0")")/../lib/fintaqush/programs/@NAME@" "$@"
+END
+
 # put MODE FILE PLACE
 put() {
     install -D -m "$1" "$2" "$to/$3" || stop 73 "$to/$3 can't be written"
@@ -133,7 +143,9 @@ if [ -z "$is_library" ]; then
     for name in "${programs[@]}"; do
         page=$top/docs/man/$name.1
         [ -e "$page" ] || { page=$scratch/page && echo '.so man1/napi_replay.1' > "$page"; }
-        put 755 "$top/crates/$name/out/$name" "bin/$name"
+        put 755 "$top/crates/$name/out/$name" "$home/programs/$name"
+        sed -e "s|@NAME@|$name|g" -e "s|@VERSION@|$version|" "$scratch/program" > "$scratch/named"
+        put 755 "$scratch/named" "bin/$name"
         put 644 "$page" "share/man/man1/$name.1"
     done
     for file in "${parts[@]}"; do

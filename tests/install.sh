@@ -118,7 +118,8 @@ if command -v cmake > /dev/null; then
 fi
 for file in "$prefix"/bin/*; do
     name=${file##*/}
-    case $name in napi_*) check "$name" there program_runs "$prefix/bin" "$name" ;; *) check "$name" there tool_starts "$prefix/bin" "$name" ;; esac
+    check "$name tells its version and its words" there tool_starts "$prefix/bin" "$name"
+    case $name in napi_*) check "$name" there program_runs "$prefix/bin" "$name" ;; esac
 done
 check 'no tool is left out' [ "$(ls "$prefix/bin" | grep -cv '^napi_')" = "$(find "$top/tools" -maxdepth 1 -type f -perm -100 | wc -l)" ]
 check 'the tools work' there tools_work "$prefix/bin"

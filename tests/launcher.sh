@@ -153,9 +153,12 @@ building() {
     check 'what is built needs no rt, nor a checkout that can be written to' "$status $(cat "$scratch/err")" '0 '
     small_checkout a: b: c: d: one: 'two: one' 'napi_serial: a b c d two'
     echo longest > "$small/crates/two/src/lib.rt"
-    RT_SECONDS=0.6 RT_KILLED=c replay "$trace"
-    check 'three crates at a time at most, the longest chain first; one that is killed for memory once more' \
-        "$status $(awk '/^begin/ { now++ } /^end/ { now-- } now > most { most = now } END { print most }' "$scratch/rt.log") $(head -n 1 "$scratch/rt.log") $(grep -c 'begin c' "$scratch/rt.log")" '0 3 begin one 2'
+    RT_SECONDS=3 replay "$trace"
+    check 'three crates at a time at most, the longest chain first' \
+        "$status $(awk '/^begin/ { now++ } /^end/ { now-- } now > most { most = now } END { print most }' "$scratch/rt.log") $(head -n 1 "$scratch/rt.log")" '0 3 begin one'
+    touch "$small/crates/one/src/lib.rt"
+    RT_KILLED=c replay "$trace"
+    check 'one that is killed for memory is begun once more' "$status $(grep -c 'begin c' "$scratch/rt.log")" '0 3'
     rm -rf "$small/.git"
     touch "$small/crates/one/src/lib.rt"
     XDG_CACHE_HOME=$scratch/cache gives 'what is no clone is built where caches are' '0 words ' "$trace"

@@ -25,7 +25,7 @@ reordered from was is s = record {
 }
 
 -- the second of four came last
-second_from : ℕ → ℕ
+abbrev second_from : ℕ → ℕ
 second_from (suc zero) = 3
 second_from (suc (suc zero)) = 1
 second_from (suc (suc (suc zero))) = 2
@@ -39,7 +39,7 @@ second_last a b c d (suc (suc (suc zero))) = refl
 second_last a b c d (suc (suc (suc (suc i)))) = refl
 
 -- the third did
-third_from : ℕ → ℕ
+abbrev third_from : ℕ → ℕ
 third_from (suc (suc zero)) = 3
 third_from (suc (suc (suc zero))) = 2
 third_from i = i
