@@ -271,10 +271,6 @@ static void raise(void) {
 static void others_of_seat(uint32_t who) {
     const uint32_t which = random_below(64);
     if (which < 24) look(who);
-    else if (which < 30) end(who);
-    else if (which < 34) end_watched(who);
-    else if (which < 38) end_unmasked(who);
-    else if (which < 42) interrupt_masked(who);
     else if (which < 48) count(who);
     else if (which < 56) move(who);
     else if (which < 60) raise();
@@ -307,7 +303,9 @@ static void enable(void) {
     want("enable", fq_control_enable(&control, threaded), wanted);
 }
 
+/* Seldom, so that most polls are of an instance that isn't to be disabled. */
 static void mark(void) {
+    if (random_below(8)) return;
     const bool on = peer.place != 5 && !is_marked;
     const uint32_t wanted = on ? fq_napi_mark_disable(&peer, CONTROLLER) : (uint32_t)FQ_NOT_ALLOWED;
     is_marked |= on;
@@ -325,7 +323,7 @@ static void try_take(void) {
 }
 
 static void step(void) {
-    const bool on = random_below(2), threaded = random_below(2), off = peer.place == 5;
+    const bool on = random_below(8), threaded = random_below(2), off = peer.place == 5;
     uint32_t wanted = FQ_OK;
     if (on) wanted = off ? fq_napi_enable(&peer, CONTROLLER, threaded) : (uint32_t)FQ_NOT_ALLOWED;
     else if (!off) {
@@ -366,11 +364,12 @@ static void wrong(uint32_t who) {
 }
 
 static void one_call(void) {
-    static void (*const of_seat[])(uint32_t) = {schedule, hand, take, requeue, complete, busy_take, busy_stop, set_threaded, poll, wrong, others_of_seat};
+    static void (*const of_seat[])(uint32_t) = {schedule, hand, take, requeue, complete, busy_take, busy_stop, set_threaded, poll, wrong, others_of_seat,
+        interrupt_masked, take, end, end_watched, end_unmasked};
     static void (*const others[])(void) = {put, burst, enable, mark, try_take, step};
-    const uint32_t which = random_below(21);
-    if (which < 15) of_seat[which % 11](random_below(SEATS));
-    else others[which - 15]();
+    const uint32_t which = random_below(22);
+    if (which < 16) of_seat[which](random_below(SEATS));
+    else others[which - 16]();
 }
 
 /* A transmit ring, beside a queue limit and the sizes that are kept here. */
