@@ -1,6 +1,7 @@
 #!/bin/sh
 # Refuses each allocation, each read, each write and each start of a thread of the replay program in turn, in each of its
-# modes, or in those that are named. Each refusal has to give its line, its exit status and no report.
+# modes, or in those that are named. Each refusal has to give its line, its exit status and no report. The mode `calls` is for
+# `memory_tests`, where each call that was refused has to go through when it is made again.
 # bench/refusals.sh [PROGRAM [MODE ..]]
 set -eu
 unset CDPATH
@@ -105,7 +106,38 @@ refuse_ends() {
     [ "$status" = 4 ] && [ "$(cat "$folder/err")" = 'output fault 15 OutputFailed' ] || fail "$mode: a device that is full is written"
 }
 
+# refuse_until KIND: until the program makes no call with that number. The report has to be as ever, but for the line of the
+# library's call that was refused. Leaves the calls refused in `count`.
+refuse_until() {
+    count=0
+    refuse "$1" 1
+    while [ -e "$folder/refused" ]; do
+        count=$((count + 1))
+        [ "$status" = 0 ] && [ ! -s "$folder/err" ] && sed 's/, refused once$//' "$folder/out" | cmp -s - "$folder/report" || {
+            cat "$folder/out" "$folder/err" >&2
+            fail "$mode $1=$count: status $status"
+        }
+        sed -n '/, refused once$/p' "$folder/out" >> "$folder/once"
+        refuse "$1" $((count + 1))
+    done
+    is_whole || fail "$mode $1: nothing was refused, and another report was written"
+}
+
+refuse_calls() {
+    "$program" > "$folder/report"
+    refuse_until REFUSE_MEMORY
+    memory=$count
+    sed 's/$/, refused once/' "$folder/report" | sort > "$folder/each"
+    sort -u "$folder/once" | cmp -s - "$folder/each" || fail "$mode: not each call was refused"
+    refuse_until REFUSE_THREAD
+    echo "$mode: $memory allocations and $count starts of threads refused"
+}
+
 for mode in "$@"; do
+    if [ "$mode" = calls ]; then
+        refuse_calls
+        continue
+    fi
     refuse_all
     refuse_ends
 done

@@ -4,11 +4,15 @@
 #include <errno.h>
 #include <fcntl.h>
 #include <pthread.h>
+#include <stdio.h>
 #include <stdlib.h>
 #include <unistd.h>
 
 struct calls { const char *name; long made; };
 static struct calls memory = {"REFUSE_MEMORY", 0}, reads = {"REFUSE_READ", 0}, writes = {"REFUSE_WRITE", 0}, threads = {"REFUSE_THREAD", 0};
+
+// Threads that were started and not joined.
+static long left = 0;
 
 // The file REFUSED is there once a call was refused.
 static int refuses(struct calls *calls) {
@@ -45,5 +49,16 @@ int pthread_create(pthread_t *thread, const pthread_attr_t *attributes, void *(*
     static int (*next)(pthread_t *, const pthread_attr_t *, void *(*)(void *), void *);
     if (!next) next = (int (*)(pthread_t *, const pthread_attr_t *, void *(*)(void *), void *))dlsym(RTLD_NEXT, "pthread_create");
     if (refuses(&threads)) return EAGAIN;
-    return next(thread, attributes, run, given);
+    int failed = next(thread, attributes, run, given);
+    if (!failed) __atomic_add_fetch(&left, 1, __ATOMIC_SEQ_CST);
+    return failed;
+}
+int pthread_join(pthread_t thread, void **answer) {
+    static int (*next)(pthread_t, void **);
+    if (!next) next = (int (*)(pthread_t, void **))dlsym(RTLD_NEXT, "pthread_join");
+    __atomic_sub_fetch(&left, 1, __ATOMIC_SEQ_CST);
+    return next(thread, answer);
+}
+__attribute__((destructor)) static void tell_left(void) {
+    if (left) dprintf(2, "%ld threads aren't joined\n", left);
 }

@@ -1,7 +1,8 @@
 #!/usr/bin/env bash
-# scripts/install.sh [--library] [--uninstall] PREFIX: installs the C library, static and shared, with its headers, its pkg-config
-# and CMake files and its manual page, and the programs and tools with theirs. What isn't built yet is proved and built first.
-# --library leaves programs and tools out, which take most of the time. With DESTDIR set, all goes below that folder, for PREFIX.
+# scripts/install.sh [--library] [--python] [--uninstall] PREFIX: installs the C library, static and shared, with its headers, its
+# pkg-config and CMake files and its manual page, and the programs and tools with theirs. What isn't built yet is proved and built first.
+# --library leaves programs and tools out, which take most of the time. --python puts bindings/python where python3 looks below
+# PREFIX, else into lib/python3/dist-packages. With DESTDIR set, all goes below that folder, for PREFIX.
 # --uninstall removes what an install put there, and nothing else. --programs tells the programs' names, and does nothing.
 # Exit status: 0 done; 64 the words are wrong; 69 a program is missing; 70 something couldn't be built; 73 it can't be written there.
 set -euo pipefail
@@ -11,6 +12,7 @@ top=$(dirname "$(dirname "$(readlink -f "${BASH_SOURCE[0]}")")")
 programs=(napi_replay napi_serial napi_series)
 prefix=
 is_library=
+is_python=
 is_uninstall=
 
 stop() {
@@ -24,13 +26,14 @@ for word in "$@"; do
     case $word in
         --programs) printf '%s\n' "${programs[@]}"; exit 0 ;;
         --library) is_library=yes ;;
+        --python) is_python=yes ;;
         --uninstall) is_uninstall=yes ;;
         /*) [ -z "$prefix" ] || stop 64 'one PREFIX only'
             prefix=${word%/} ;;
-        *) stop 64 "usage: scripts/install.sh [--library] [--uninstall] PREFIX, which begins with /" ;;
+        *) stop 64 "usage: scripts/install.sh [--library] [--python] [--uninstall] PREFIX, which begins with /" ;;
     esac
 done
-[ -n "$prefix" ] || stop 64 'usage: scripts/install.sh [--library] [--uninstall] PREFIX'
+[ -n "$prefix" ] || stop 64 'usage: scripts/install.sh [--library] [--python] [--uninstall] PREFIX'
 to=${DESTDIR:-}$prefix
 version=$(sed -n 's/^#define FQ_VERSION "\([0-9.]*\)"$/\1/p' "$top/include/fintaqush.h")
 major=${version%%.*}
@@ -46,6 +49,7 @@ for file in "$top"/tools/*; do
     [ ! -x "$file" ] || tools+=("${file##*/}")
 done
 parts+=(scripts/words.py)
+python=("$top"/bindings/python/fintaqush/{*.py,py.typed})
 home=lib/fintaqush # where they lie, as in a checkout
 tool_files=("${programs[@]/#/bin/}" "${programs[@]/#/$home/programs/}" "${tools[@]/#/bin/}" "${parts[@]/#/$home/}")
 for name in "${programs[@]}" "${tools[@]}"; do
@@ -56,6 +60,13 @@ if [ -n "$is_uninstall" ]; then
     for file in "${library_files[@]}" "${tool_files[@]}"; do
         rm -f "$to/$file"
     done
+    for package in "$to"/lib/python3*/*-packages/fintaqush; do
+        for file in "${python[@]}"; do
+            rm -f "$package/${file##*/}"
+        done
+        rm -rf "$package/__pycache__"
+        rmdir "$package" 2> /dev/null || true
+    done
     rm -rf "$to/$home/tools/__pycache__" # Python's, of these files
     rmdir "$to/lib/cmake/Fintaqush" "$to/$home"/{tools,scripts,programs} "$to/$home" 2> /dev/null || true
     exit 0
@@ -65,7 +76,8 @@ scratch=$(mktemp -d)
 trap 'rm -rf "$scratch"' EXIT
 cc=${CC:-cc}
 command -v "$cc" > /dev/null || stop 69 "there is no $cc, which makes the shared library"
-[ -n "$is_library" ] || command -v python3 > /dev/null || stop 69 "there is no python3, which the tools are written in"
+[ -n "$is_library" ] && [ -z "$is_python" ] || command -v python3 > /dev/null ||
+    stop 69 "there is no python3, which the tools and the package are written in"
 "$top/scripts/c_library.sh" "$scratch" || stop 70 "the C library couldn't be built"
 # the exports alone, of all that the archive has
 echo '{ global: fq_*; local: *; };' > "$scratch/exports"
@@ -156,4 +168,13 @@ if [ -z "$is_library" ]; then
         put 644 "$scratch/page" "share/man/man1/$name.1"
         ln -sf "../$home/tools/$name" "$to/bin/$name"
     done
+fi
+if [ -n "$is_python" ]; then
+    packages=$(python3 -c 'import site, sys
+print(next((home for home in site.getsitepackages() if home.startswith(sys.argv[1] + "/lib/")), sys.argv[1] + "/lib/python3/dist-packages"))' "$prefix")
+    for file in "${python[@]}"; do
+        put 644 "$file" "${packages#"$prefix/"}/fintaqush/${file##*/}"
+    done
+    [ -n "${DESTDIR:-}" ] || python3 -c 'import sys; sys.exit(sys.argv[1] not in sys.path)' "$packages" ||
+        echo "install: python3 finds the package by PYTHONPATH=$packages"
 fi

@@ -23,7 +23,7 @@ trap 'rm -rf "$scratch" "$new"' EXIT
 trap 'exit 130' INT
 trap 'exit 143' TERM
 stage=$scratch/stage
-DESTDIR=$stage "$top/scripts/install.sh" /usr
+DESTDIR=$stage "$top/scripts/install.sh" --python /usr
 chmod -R u=rwX,go=rX "$stage"
 
 # the newest C library that any of it asks for
@@ -46,8 +46,13 @@ Conflicts: plotutils
 Description: packet polling core of Linux (NAPI) with byte queue limits, proved
  The replay of traces of network devices by the rules of NAPI and byte queue
  limits of Linux 6.6, its series, tools for traces and reports, and the library
- for C and C++. What the programs and the library compute is proved.
+ for C, C++ and Python. What the programs and the library compute is proved.
 END
+cat > "$stage/DEBIAN/prerm" << 'END'
+#!/bin/sh
+rm -rf "$DPKG_ROOT/usr/lib/python3/dist-packages/fintaqush/__pycache__"
+END
+chmod 755 "$stage/DEBIAN/prerm"
 (cd "$stage" && find usr -type f -exec md5sum {} + | LC_ALL=C sort -k 2 > DEBIAN/md5sums)
 if ! dpkg-deb --root-owner-group --build "$stage" "$new" > "$scratch/log" 2>&1; then
     stop 73 "$folder: the package couldn't be written: $(tail -n 1 "$scratch/log")"

@@ -1,7 +1,7 @@
 #!/usr/bin/env bash
 # scripts/install.sh: into a prefix and below a DESTDIR; programs that find the library by pkg-config and by CMake; each program and
-# tool as it is installed, from another folder; and all of it removed again. scripts/package.sh likewise, in a root of its own. What
-# needs a program that isn't installed is passed over, and says so. The last line is `N passed, M failed`.
+# tool as it is installed, from another folder, and the package for Python; and all of it removed again. scripts/package.sh likewise,
+# in a root of its own. What needs a program that isn't installed is passed over, and says so. The last line is `N passed, M failed`.
 set -uo pipefail
 unset CDPATH
 top=$(dirname "$(dirname "$(readlink -f "$0")")")
@@ -82,6 +82,13 @@ tools_work() {
         { "$1/raise" "$trace" --buget 3; [ "$?" = 2 ]; }
 }
 
+# python_replays FOLDER: as napi_serial, by the package there.
+python_replays() {
+    local program='import fintaqush, sys; print(end=fintaqush.replay(sys.stdin.buffer.read()).text)'
+    PYTHONDONTWRITEBYTECODE='' PYTHONPATH=$1/lib/python3/dist-packages python3 -c "$program" < "$top/crates/napi_serial/stdin" |
+        diff - "$top/crates/napi_serial/stdout"
+}
+
 # pages_are_whole FOLDER: each manual page is read without a warning, and each program and tool beside it has one.
 pages_are_whole() {
     local page name
@@ -103,7 +110,7 @@ for file in CHANGELOG.md bindings/rust/Cargo.toml docs/man/*; do
 done
 check 'a relative prefix is refused' ends_with 64 install prefix
 check 'no prefix is refused' ends_with 64 install --library
-check 'installs' install "$prefix"
+check 'installs' install --python "$prefix"
 export PKG_CONFIG_PATH=$prefix/lib/pkgconfig
 if command -v pkg-config > /dev/null; then
     check 'a program by pkg-config' linked
@@ -123,6 +130,7 @@ for file in "$prefix"/bin/*; do
 done
 check 'no tool is left out' [ "$(ls "$prefix/bin" | grep -cv '^napi_')" = "$(find "$top/tools" -maxdepth 1 -type f -perm -100 | wc -l)" ]
 check 'the tools work' there tools_work "$prefix/bin"
+check 'the package for Python' there python_replays "$prefix"
 if command -v man > /dev/null; then check 'manual pages' pages_are_whole "$prefix"; else echo 'passed over: manual pages: there is no man'; fi
 touch "$prefix/lib/another"
 check 'uninstalls' install --uninstall "$prefix"
@@ -148,6 +156,7 @@ if command -v dpkg-deb > /dev/null; then
         check "$name of the package" there program_runs "$scratch/root/usr/bin" "$name"
     done
     check 'the tools of the package' there tools_work "$scratch/root/usr/bin"
+    check 'the package for Python of it' there python_replays "$scratch/root/usr"
     check 'its files are whole' sh -c '[ -z "$(dpkg --root="$1" --verify fintaqush)" ]' sh "$scratch/root"
     check 'it is removed' by_dpkg -r fintaqush
     check 'nothing of it is left' is_empty_of_files "$scratch/root/usr"

@@ -8,11 +8,11 @@ import page_commands
 
 TOP = pathlib.Path(__file__).resolve().parent.parent
 # A shown block that begins so is a program, or a part of one.
-CODE = re.compile(r"(//|#!?\[|#include|(pub|ghost|use|impl|fn|const|struct|enum|trait|let|mod|abbrev) )")
+CODE = re.compile(r'(//|"""|#!?\[|#include|(pub|ghost|use|impl|fn|const|struct|enum|trait|let|mod|abbrev) )')
 # Lines that stand in no file, by the must-fail edit that puts them in.
 EDITED = {"ghost polls = { λ _ _ _ once after.": "crates/example_driver/must-fail/quiet-gone-without-completing.edit",
           "ghost use Rattle.std.specs.Prelude.{◌≡◌, false};": "crates/example_driver/must-fail/quiet-gone-without-completing.edit"}
-ENDINGS = (".rt", ".antt", ".rs", ".c", ".cc", ".cpp", ".h", ".hpp")
+ENDINGS = (".rt", ".antt", ".rs", ".c", ".cc", ".cpp", ".h", ".hpp", ".py")
 
 
 def sources():

@@ -1,0 +1,12 @@
+"""Fintaqush for Python: the packet polling core of Linux 6.6 (NAPI) and byte queue limits, over the shared C library.
+
+Names, answers and faults are those of include/fintaqush.h, without FQ_. Each call is made under the interpreter's lock, so threads may
+share an object; a run has its list for itself. `replay` lets other threads go on.
+"""
+from ._answers import Fault, Kind, Next, Status, TraceFault, Word
+from ._objects import Counts, Limit, List, Napi, Packet, Ring, RunReport
+from ._report import Device, Report, Transmit, Turn, replay
+
+__version__ = "1.0.0"  # FQ_VERSION
+__all__ = ["Counts", "Device", "Fault", "Kind", "Limit", "List", "Napi", "Next", "Packet", "Report", "Ring", "RunReport", "Status",
+           "TraceFault", "Transmit", "Turn", "Word", "replay"]

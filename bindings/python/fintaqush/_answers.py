@@ -1,0 +1,91 @@
+"""The numbers of fintaqush.h, and what is raised where a call isn't made."""
+import enum
+
+
+class Status(enum.IntEnum):
+    """What a call answers (`enum fq_status`); below GRANTED, but for OK, and from NOT_ALLOWED on it wasn't made."""
+    OK = 0
+    BAD_BOUNDS = 1
+    TOO_LARGE = 2
+    TOO_MUCH_IN_FLIGHT = 3
+    MORE_THAN_QUEUED = 4
+    GRANTED = 16
+    MISSED = 17
+    DISABLED = 18
+    TAKEN = 19
+    NOT_THERE = 20
+    RELEASED = 21
+    AGAIN = 22
+    HELD = 23
+    BUSY = 24
+    CHANGED = 25
+    FULL = 26
+    DONE = 27
+    STOPPED = 28
+    MORE_THAN_SENT = 29
+    NOT_ALLOWED = 100
+    BAD_KIND = 101
+    BAD_HANDLE = 110
+    IN_USE = 111
+    OUT_OF_MEMORY = 112
+    BAD_CAPACITY = 113
+    BAD_WEIGHT = 114
+    NO_ROOM = 115
+    BAD_BUDGET = 116
+    BAD_COUNT = 117
+    BAD_NEXT = 118
+    BAD_WORK = 119
+    BAD_TRACE = 120
+
+
+class Kind(enum.IntEnum):
+    """To whom an instance is handed: a poll list, or a thread of its own."""
+    LIST = 0
+    THREAD = 1
+
+
+class Next(enum.IntEnum):
+    """How a poll of a run ended (`enum fq_next`)."""
+    GONE = 0
+    AGAIN = 1
+    AGAIN_THREAD = 2
+    REPOLL = 3
+    ABSENT = 4
+
+
+class Word(enum.IntFlag):
+    """The bits of a state word: the kernel's NAPI_STATE_.., and whether it lies on a list or with its thread, untaken."""
+    SCHED = 1 << 0
+    MISSED = 1 << 1
+    DISABLE = 1 << 2
+    NPSVC = 1 << 3
+    IN_BUSY_POLL = 1 << 6
+    THREADED = 1 << 8
+    SCHED_THREADED = 1 << 9
+    LISTED = 1 << 32
+    WITH_THREAD = 1 << 33
+
+
+class Fault(ValueError):
+    """A call wasn't made. `status` tells why, and the text is its name in the header."""
+
+    def __init__(self, status: Status, *more: int) -> None:
+        super().__init__(status, *more)  # the values that it is made of again where it is unpickled
+        self.status = status
+
+    def __str__(self) -> str:
+        return f"FQ_{self.status.name}"
+
+
+class TraceFault(Fault):
+    """A trace can't be played: the fault's number and name, and the row, as docs/FORMATS.md has them."""
+
+    NAMES = ("?", "BadHeader", "BadFields", "BadNumber", "BadEvent", "OutOfRange", "UnknownDevice", "OpenTwice", "WrongState", "TooManyRows",
+             "ReadFailed", "OutOfMemory", "Pending")
+
+    def __init__(self, status: Status, number: int, row: int) -> None:
+        super().__init__(status, number, row)
+        self.number, self.name, self.row = number, self.NAMES[number], row
+
+    def __str__(self) -> str:
+        return f"trace fault {self.number} {self.name} row {self.row}"

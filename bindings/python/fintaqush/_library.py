@@ -1,0 +1,201 @@
+"""The shared library: where it lies, its structs and calls, and that it has them as they are told here."""
+from __future__ import annotations
+
+import ctypes
+import operator
+import os
+import pathlib
+import sys
+from types import TracebackType
+from typing import Any, Callable, Iterator
+
+from ._answers import Fault, Status
+
+SONAME = "libfintaqush.so.1"
+u32, u64, size, boolean = ctypes.c_uint32, ctypes.c_uint64, ctypes.c_size_t, ctypes.c_bool
+MOST: dict[Any, int] = {u32: 2**32 - 1, u64: 2**64 - 1, size: 2**64 - 1}
+DECLARED: dict[str, tuple[Any, dict[str, Any]]] = {}  # each call's answer and arguments, named as in the header
+
+
+class Missing(ImportError):
+    """The library isn't there, or is another one. Where nobody catches it, it is told in one line."""
+
+
+def _one_line(kind: type[BaseException], fault: BaseException, trace: TracebackType | None, others: Any = sys.excepthook) -> None:
+    if kind is Missing:
+        print(f"ImportError: {fault}", file=sys.stderr)
+    else:
+        others(kind, fault, trace)
+
+
+def missing(why: object) -> Missing:
+    """To be raised where the package can't be loaded."""
+    sys.excepthook = _one_line
+    return Missing(f"fintaqush: {why}; FINTAQUSH_LIB may name the folder of {SONAME}", name="fintaqush")
+
+
+def place() -> str:
+    """The library's: in the folder that FINTAQUSH_LIB names, else where this was installed with it, else by the usual search."""
+    beside = pathlib.Path(__file__).resolve().parents[3] / SONAME
+    if named := os.environ.get("FINTAQUSH_LIB"):
+        return os.path.join(named, SONAME)
+    return str(beside) if beside.exists() else SONAME
+
+
+class Handle(ctypes.Structure):
+    _fields_ = [("private_set", boolean), ("private_at", ctypes.c_void_p)]
+
+
+class Dql(ctypes.Structure):
+    _fields_ = [("private_a", u32 * 8), ("private_b", u64), ("private_c", u32 * 2), ("private_d", u64)]
+
+
+class DqlMade(ctypes.Structure):
+    _fields_ = [("dql", Dql), ("status", u32)]
+
+
+class Napi(ctypes.Structure):
+    _fields_ = [(name, boolean) for name in ("sched", "missed", "disable", "npsvc", "in_busy_poll", "threaded", "sched_threaded")] + [
+        ("place", ctypes.c_uint8), ("owner", u32), ("controller", u32)]
+
+
+class Packet(ctypes.Structure):
+    _fields_ = [("number", u64), ("bytes", u32)]
+
+
+class PollCounts(ctypes.Structure):
+    _fields_ = [("polls", u64), ("packets", u64), ("bytes", u64)]
+
+
+class RunReport(ctypes.Structure):
+    _fields_ = [("polls", u32), ("work", u32), ("squeezed", boolean)]
+
+
+class Settings(ctypes.Structure):
+    _fields_ = [("budget", u32), ("weight", u32), ("window", u32)]
+
+
+class Replayed(ctypes.Structure):
+    _fields_ = [("length", size), ("fault", u32), ("row", u32)]
+
+
+# Those of the header's structs, which have these names there in small letters, on x86-64.
+SIZES = {Handle: 16, Dql: 56, DqlMade: 64, Napi: 16, Packet: 16, PollCounts: 24, RunReport: 12, Settings: 12, Replayed: 16}
+
+try:
+    # A call that is short keeps the interpreter's lock, and one that takes long lets it go.
+    _short, _long = ctypes.PyDLL(place()), ctypes.CDLL(place())
+except OSError as error:
+    raise missing(error) from None
+
+
+def number(value: int, name: str, kind: Any = u32) -> int:
+    """A number that its type has; ctypes would cut another one."""
+    if not 0 <= operator.index(value) <= MOST[kind]:
+        raise ValueError(f"{name} is 0 to {MOST[kind]}, not {value}")
+    return value
+
+
+def declare(name: str, answer: Any = Status, of: ctypes.CDLL = _short, **arguments: Any) -> Callable[..., Any]:
+    """A call of the library, which raises Fault where that answers one."""
+    try:
+        function = getattr(of, f"fq_{name}")
+    except AttributeError:
+        raise missing(f"{SONAME} hasn't fq_{name}") from None
+    DECLARED[name] = (u32 if answer is Status else answer, arguments)
+    function.restype = u32 if answer is Status else answer
+    function.argtypes = [ctypes.POINTER(kind) if kind in SIZES else kind for kind in arguments.values()]
+    numbers = [(at, argument, kind) for at, (argument, kind) in enumerate(arguments.items()) if kind in MOST]
+
+    def call(*values: Any) -> Any:
+        for at, argument, kind in numbers:
+            number(values[at], argument, kind)
+        said = function(*values)
+        return checked(said) if answer is Status else said
+
+    return call
+
+
+def checked(said: int) -> Status:
+    """An answer that is no fault."""
+    if said == Status.OUT_OF_MEMORY:
+        raise MemoryError("FQ_OUT_OF_MEMORY")
+    if 0 < said < Status.GRANTED or said >= Status.NOT_ALLOWED:
+        raise Fault(Status(said))
+    return Status(said)
+
+
+abandon = declare("abandon", handle=Handle)
+dql_new = declare("dql_new", DqlMade, min=u32, max=u32, hold_ms=u64, now_ms=u64)
+dql_queued = declare("dql_queued", dql=Dql, count=u32)
+dql_completed = declare("dql_completed", dql=Dql, count=u32, now_ms=u64)
+dql_reset = declare("dql_reset", None, dql=Dql, now_ms=u64)
+dql_limit = declare("dql_limit", u32, dql=Dql)
+dql_avail = declare("dql_avail", ctypes.c_int64, dql=Dql)
+dql_in_flight = declare("dql_in_flight", u32, dql=Dql)
+napi_new = declare("napi_new", Napi, controller=u32)
+napi_schedule = declare("napi_schedule", napi=Napi, who=u32)
+napi_hand = declare("napi_hand", napi=Napi, who=u32, kind=u32)
+napi_take = declare("napi_take", napi=Napi, who=u32, kind=u32)
+napi_complete = declare("napi_complete", napi=Napi, who=u32)
+napi_busy_take = declare("napi_busy_take", napi=Napi, who=u32)
+napi_busy_stop = declare("napi_busy_stop", napi=Napi, who=u32)
+napi_set_threaded = declare("napi_set_threaded", None, napi=Napi, who=u32, threaded=boolean)
+napi_mark_disable = declare("napi_mark_disable", napi=Napi, who=u32)
+napi_take_disable = declare("napi_take_disable", napi=Napi, who=u32)
+napi_unmark = declare("napi_unmark", napi=Napi, who=u32)
+napi_enable = declare("napi_enable", napi=Napi, who=u32, threaded=boolean)
+napi_word = declare("napi_word", u64, napi=Napi)
+ring_new = declare("ring_new", ring=Handle, capacity=size)
+ring_put = declare("ring_put", ring=Handle, number=u64, bytes=u32)
+ring_poll = declare("ring_poll", ring=Handle, weight=size, out=ctypes.POINTER(Packet), len=size, count=ctypes.POINTER(size))
+counts = declare("counts", handle=Handle, counts=PollCounts)
+list_new = declare("list_new", list=Handle)
+list_push = declare("list_push", list=Handle, id=u32)
+list_len = declare("list_len", list=Handle, len=ctypes.POINTER(u32))
+run_begin = declare("run_begin", list=Handle, budget=u32, weight=u32, window=u32)
+run_next = declare("run_next", list=Handle, id=ctypes.POINTER(u32))
+run_polled = declare("run_polled", list=Handle, work=u32, next=u32)
+run_end = declare("run_end", list=Handle, report=RunReport)
+replay = declare("replay", u32, _long, settings=Settings, trace=ctypes.c_char_p, len=size, report=ctypes.c_char_p, room=size,
+                 replayed=Replayed)
+
+
+def differences() -> Iterator[str]:
+    """The structs that the library has otherwise: by their sizes, and by calls whose answers are known."""
+    yield from (f"the size of {kind.__name__}" for kind, wanted in SIZES.items() if ctypes.sizeof(kind) != wanted)
+    limit, refused, state = dql_new(0, 9, 1000, 0), dql_new(2, 1, 1000, 0), napi_new(7)
+    dql_queued(limit.dql, 5)
+    if (limit.status, refused.status, list(limit.dql.private_a[:3])) != (Status.OK, Status.BAD_BOUNDS, [5, 0, 5]):
+        yield "fq_dql"
+    if (state.controller, state.sched, state.npsvc, state.missed, napi_word(state)) != (7, True, True, False, 9):
+        yield "fq_napi"
+    ring, packets, count, told = Handle(), (Packet * 2)(), size(), PollCounts()
+    ring_new(ring, 2)
+    ring_put(ring, 2**40, 60)
+    ring_put(ring, 3, 70)
+    ring_poll(ring, 2, packets, 2, count)
+    counts(ring, told)
+    abandon(ring)
+    if [(one.number, one.bytes) for one in packets] != [(2**40, 60), (3, 70)] or count.value != 2:
+        yield "fq_packet"
+    if (told.polls, told.packets, told.bytes) != (1, 2, 130):
+        yield "fq_poll_counts"
+    devices, id, ran = Handle(), u32(), RunReport()
+    list_new(devices)
+    list_push(devices, 7)
+    run_begin(devices, 300, 64, 1024)
+    run_next(devices, id)
+    run_polled(devices, 2, 0)
+    run_end(devices, ran)
+    abandon(devices)
+    if (id.value, ran.polls, ran.work, ran.squeezed) != (7, 1, 2, False):
+        yield "fq_run_report"
+    replayed = Replayed(1, 2, 3)
+    said = replay(Settings(300, 64, 1024), b"?", 1, b"", 0, replayed)
+    if (said, replayed.length, replayed.fault, replayed.row) != (Status.BAD_TRACE, 0, 1, 0):
+        yield "fq_replayed"
+
+
+if wrong := list(differences()):
+    raise missing(f"{SONAME} is of another version: {', '.join(wrong)}")

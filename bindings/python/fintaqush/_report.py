@@ -1,0 +1,109 @@
+"""The whole replay of a trace on one thread, with its report as objects. docs/FORMATS.md has traces, reports and faults."""
+from __future__ import annotations
+
+import ctypes
+from typing import Any, Callable, NamedTuple
+
+from . import _library as c
+from ._answers import Status, TraceFault, Word
+
+
+class Turn(NamedTuple):
+    """What a softirq, kthread or busy row did; the device of a softirq is 0, and it alone is squeezed."""
+    event: str
+    row: int
+    polls: int
+    work: int
+    device: int = 0
+    squeezed: bool = False
+
+
+class Transmit(NamedTuple):
+    """A device's transmit ring."""
+    sent: int
+    held: int
+    done: int
+    denied: int
+    limit: int
+    avail: int
+    stopped: bool
+
+
+class Device(NamedTuple):
+    """A device, its instance, and its transmit ring if it has tx or done rows. `state` is on, off or pending."""
+    number: int
+    state: str
+    arrived: int
+    dropped: int
+    polled: int
+    bytes: int
+    left: int
+    polls: int
+    granted: int
+    missed: int
+    disabled: int
+    again: int
+    released: int
+    word: Word
+    held: int = 0
+    transmit: Transmit | None = None
+
+
+class Report(NamedTuple):
+    """A report: what each row did that polls, the devices by number, the poll list, the sums over the softirq runs, and the text."""
+    turns: list[Turn]
+    devices: dict[int, Device]
+    listed: list[int]
+    runs: int
+    polls: int
+    work: int
+    squeezed: int
+    text: str
+
+
+def replay(trace: bytes, budget: int = 300, weight: int = 64, window: int = 1024) -> Report:
+    """Replays the bytes of a trace (napi_replay --mode=serial). TraceFault; BAD_WEIGHT, else BAD_BUDGET."""
+    if not isinstance(trace, bytes):
+        raise TypeError("a trace is bytes")
+    settings = c.Settings(c.number(budget, "budget"), c.number(weight, "weight"), c.number(window, "window"))
+    return _report_of(_text_of(trace, settings))
+
+
+def _text_of(trace: bytes, settings: c.Settings) -> str:
+    replayed, room = c.Replayed(), 2 * len(trace) + 4096
+    while True:
+        report = ctypes.create_string_buffer(room)
+        said = Status(c.replay(settings, trace, len(trace), report, room, replayed))
+        if said is Status.BAD_TRACE:
+            raise TraceFault(said, replayed.fault, replayed.row)
+        if said is not Status.NO_ROOM:
+            c.checked(said)
+            return ctypes.string_at(report, replayed.length).decode()
+        room = replayed.length
+
+
+def _fields(words: list[str], **kinds: Callable[[int], Any]) -> dict[str, Any]:
+    """The numbers of a line by their names, some of another kind."""
+    return {name: kinds.get(name, int)(int(word)) for name, word in zip(words[::2], words[1::2])}
+
+
+def _report_of(text: str) -> Report:
+    turns: list[Turn] = []
+    devices: dict[int, dict[str, Any]] = {}
+    listed: list[int] = []
+    total: dict[str, Any] = {}
+    for line in text.splitlines():
+        kind, *words = line.split(" ")
+        if kind == "list":
+            listed = list(map(int, words))
+        elif kind == "total":
+            total = _fields(words[2:])
+        elif kind == "device":
+            devices[int(words[0])] = {"number": int(words[0]), "state": words[1], **_fields(words[2:])}
+        elif kind == "napi":
+            devices[int(words[0])].update(_fields(words[1:], word=Word))
+        elif kind == "tx":
+            devices[int(words[0])]["transmit"] = Transmit(**_fields(words[1:], stopped=bool))
+        else:
+            turns.append(Turn(kind, int(words[0]), **_fields(words[1:], squeezed=bool)))
+    return Report(turns, {number: Device(**device) for number, device in devices.items()}, listed, text=text, **total)

@@ -1,0 +1,392 @@
+"""The package fintaqush. What is expected stands in include/fintaqush.h, docs/FORMATS.md, examples/ and the outputs of examples/c."""
+import copy
+import ctypes
+import inspect
+import pathlib
+import pickle
+import re
+import shutil
+import subprocess
+import sys
+import tempfile
+import threading
+import unittest
+
+import fintaqush
+from fintaqush import Fault, Kind, Limit, List, Napi, Next, Packet, Ring, Status, TraceFault, Transmit, Turn, Word, _library, replay
+
+TOP = pathlib.Path(__file__).resolve().parents[3]
+HEADER = re.sub(r"/\*.*?\*/", "", (TOP / "include/fintaqush.h").read_text(), flags=re.S)
+sys.path += [str(TOP / "tools"), str(TOP / "bindings/python/examples")]
+import reports  # noqa: E402
+import simulation  # noqa: E402
+
+
+def header_name(kind):
+    return "fq" + re.sub(r"([A-Z])", r"_\1", kind.__name__).lower()
+
+
+def c_type(kind):
+    """A type as the header writes it, without `const`; of a size and a number of 64 bits ctypes knows one type."""
+    if kind in _library.SIZES:
+        return f"struct {header_name(kind)}"
+    if hasattr(kind, "contents"):
+        return f"{c_type(kind._type_)} *"
+    return {_library.u32: "uint32_t", _library.u64: "uint64_t", ctypes.c_int64: "int64_t", ctypes.c_bool: "bool", None: "void",
+            ctypes.c_char_p: "uint8_t *"}[kind]
+
+
+class TestHeader(unittest.TestCase):
+    def numbers(self, enum):
+        body = re.search(rf"enum {enum} \{{(.*?)\}}", HEADER, re.S)[1]
+        return {name: int(value) for name, value in re.findall(r"FQ_(\w+) = (\d+)", body)}
+
+    def test_numbers(self):
+        for enum, kind, prefix in (("fq_status", Status, ""), ("fq_kind", Kind, ""), ("fq_next", Next, "NEXT_")):
+            self.assertEqual({prefix + one.name: one.value for one in kind}, self.numbers(enum))
+        bits = re.findall(r"#define FQ_BIT_(\w+) \(UINT64_C\(1\) << (\d+)\)", HEADER)
+        self.assertEqual({one.name: one.value for one in Word}, {name: 1 << int(bit) for name, bit in bits})
+        names = re.search(r"names\[\] = \{(.*?)\};", HEADER, re.S)[1]
+        self.assertEqual(list(TraceFault.NAMES), re.findall(r'"(.*?)"', names))
+        self.assertIn(f'#define FQ_VERSION "{fintaqush.__version__}"\n', HEADER)
+
+    def test_calls(self):
+        """Each call that is declared has the header's answer and arguments."""
+        self.assertGreater(len(_library.DECLARED), 30)
+        for name, (answer, arguments) in _library.DECLARED.items():
+            said, told = re.search(rf"^(?:FQ_\w+ )?((?:struct )?\w+) fq_{name}\((.*)\);", HEADER, re.M).groups()
+            told = re.sub(r"const |FQ_RESTRICT ", "", told).replace("size_t", "uint64_t")
+            self.assertEqual(said, c_type(answer), name)
+            pointed = [f"{c_type(kind)}{' *' if kind in _library.SIZES else ' '}{name}" for name, kind in arguments.items()]
+            self.assertEqual(told, ", ".join(one.replace("* ", "*") for one in pointed), name)
+
+    @unittest.skipUnless(shutil.which("cc"), "there is no cc")
+    def test_structs(self):
+        wrong = ["#include <fintaqush.h>"]
+        for kind, size in _library.SIZES.items():
+            name = header_name(kind)
+            wrong.append(f'_Static_assert(sizeof(struct {name}) == {size}, "{name}");')
+            wrong += [f'_Static_assert(offsetof(struct {name}, {field[0]}) == {getattr(kind, field[0]).offset} && '
+                      f'sizeof(((struct {name} *)0)->{field[0]}) == {getattr(kind, field[0]).size}, "{name}.{field[0]}");'
+                      for field in kind._fields_]
+        ended = subprocess.run(["cc", "-fsyntax-only", "-I", TOP / "include", "-x", "c", "-"], input="\n".join(wrong), text=True,
+                               capture_output=True, check=False)
+        self.assertEqual((ended.returncode, ended.stderr), (0, ""))
+
+
+class Refusals(unittest.TestCase):
+    def refused(self, status, call, *values, **more):
+        with self.assertRaises(ValueError) as raised:
+            call(*values, **more)
+        self.assertEqual((str(raised.exception), raised.exception.status), (f"FQ_{status.name}", status))
+
+
+class TestLimit(Refusals):
+    def test_it_grows(self):
+        limit, lines = Limit(), []
+        for now in (6, 12, 18):
+            frames = 0
+            while limit.avail >= 0 and frames < 10:
+                limit.queued(1500)
+                frames += 1
+            in_flight = limit.in_flight
+            limit.completed(in_flight, now)
+            lines.append(f"{frames} frames, {in_flight} bytes in flight, then a limit of {limit.limit}\n")
+        self.assertEqual("".join(lines), (TOP / "examples/c/limit.stdout").read_text())
+        limit.queued(1)
+        limit.reset(20)
+        self.assertEqual((limit.in_flight, limit.limit), (0, 0))
+
+    def test_what_is_refused(self):
+        self.refused(Status.BAD_BOUNDS, Limit, 2, 1)
+        self.refused(Status.BAD_BOUNDS, Limit, max=1879048193)
+        limit = Limit(max=100)
+        self.refused(Status.TOO_LARGE, limit.queued, 268435456)
+        self.refused(Status.MORE_THAN_QUEUED, limit.completed, 1, 0)
+        self.assertEqual(limit.in_flight, 0)
+
+    def test_numbers_that_c_has_not(self):
+        limit = Limit()
+        for call, values, line in ((Limit, (-1,), "min is 0 to 4294967295, not -1"), (Limit, (0, 2**32), "max is 0 to 4294967295"),
+                                   (limit.completed, (0, 2**64), "now_ms is 0 to 18446744073709551615"), (Ring, (-1,), "capacity"),
+                                   (Ring(1).put, (-1, 60), "number"), (Ring(1).put, (1, -60), "bytes"), (Ring(1).poll, (-1,), "weight"),
+                                   (List().push, (2**32,), "id"), (Napi, (-1,), "controller"), (Napi().schedule, (2**32,), "who"),
+                                   (replay, (b"", 2**32 + 300), "budget")):
+            with self.assertRaisesRegex(ValueError, line):
+                call(*values)
+        for call, values in ((Limit, (1.5,)), (limit.queued, ("1",)), (replay, ("moment,device,event,value\n",)), (replay, (None,))):
+            with self.assertRaises(TypeError):
+                call(*values)
+
+    def test_nothing_is_copied(self):
+        for one in Limit(), Napi(), Ring(1), List():
+            for copied in copy.copy, copy.deepcopy, pickle.dumps:
+                with self.assertRaisesRegex(TypeError, "isn't copied"):
+                    copied(one)
+
+
+class TestNapi(Refusals):
+    """The words are those of the table in docs/FORMATS.md."""
+
+    def test_a_turn(self):
+        napi = Napi(controller=1)
+        self.assertEqual(napi.word, 9)
+        self.assertEqual(napi.schedule(), Status.MISSED)
+        self.assertEqual(napi.word, 11)
+        napi = Napi(controller=1)
+        self.refused(Status.NOT_ALLOWED, napi.enable, who=2)
+        napi.enable(who=1)
+        self.assertEqual(napi.word, 0)
+        self.assertEqual(napi.schedule(2), Status.GRANTED)
+        self.assertEqual(napi.word, Word.SCHED)
+        self.refused(Status.NOT_ALLOWED, napi.hand, 3)
+        self.refused(Status.BAD_KIND, napi.hand, 2, 2)
+        napi.hand(2)
+        self.assertEqual(napi.word, 4294967297)
+        self.assertEqual(napi.schedule(2), Status.MISSED)
+        self.assertEqual(napi.word, 4294967299)
+        self.assertFalse(napi.take(4, Kind.THREAD))
+        self.assertTrue(napi.take(4))
+        self.assertEqual(napi.word, 3)
+        self.refused(Status.NOT_ALLOWED, napi.complete, 2)
+        self.assertEqual(napi.complete(4), Status.AGAIN)
+        napi.hand(4)
+        self.assertTrue(napi.take(4))
+        self.assertEqual(napi.complete(4), Status.RELEASED)
+        self.assertEqual(napi.word, 0)
+
+    def test_a_thread_and_busy_polling(self):
+        napi = Napi()
+        napi.enable(threaded=True)
+        self.assertEqual(napi.word, 256)
+        napi.schedule()
+        napi.hand(kind=Kind.THREAD)
+        self.assertEqual(napi.word, 8589935361)
+        self.assertTrue(napi.take(kind=Kind.THREAD))
+        self.assertEqual(napi.word, 769)
+        napi.complete()
+        napi.set_threaded(False)
+        self.assertTrue(napi.busy_take())
+        self.assertFalse(napi.busy_take(5))
+        self.assertEqual(napi.word, Word.SCHED | Word.IN_BUSY_POLL)
+        self.assertEqual(napi.complete(), Status.HELD)
+        napi.busy_stop()
+        self.assertEqual(napi.complete(), Status.RELEASED)
+
+    def test_a_disable(self):
+        napi = Napi()
+        napi.enable()
+        napi.schedule()
+        napi.hand()
+        napi.mark_disable()
+        self.assertEqual(napi.schedule(), Status.DISABLED)
+        self.assertFalse(napi.take_disable())
+        napi.take()
+        napi.complete()
+        self.assertEqual(napi.word, 4)
+        self.assertTrue(napi.take_disable())
+        self.assertEqual(napi.word, 13)
+        napi.unmark()
+        self.assertEqual(napi.word, 9)
+
+
+class TestRing(Refusals):
+    def test_order_and_room(self):
+        ring = Ring(3)
+        self.assertEqual([ring.put(number, 60) for number in (5, 2**64 - 1, 7, 8)], [True, True, True, False])
+        self.assertEqual(ring.poll(2), [Packet(5, 60), Packet(2**64 - 1, 60)])
+        self.assertEqual(ring.poll(), [Packet(7, 60)])
+        self.assertEqual(ring.poll(), [])
+        self.assertEqual(ring.counts[1:], (3, 180))
+
+    def test_what_is_refused(self):
+        for capacity in 0, 65537:
+            self.refused(Status.BAD_CAPACITY, Ring, capacity)
+        ring = Ring(65536)
+        ring.put(1, 1)
+        for weight in 0, 65:
+            self.refused(Status.BAD_WEIGHT, ring.poll, weight)
+        self.assertEqual(len(ring.poll(64)), 1)
+
+    def test_threads_may_share_it(self):
+        ring = Ring(65536)
+        threads = [threading.Thread(target=lambda first=first: [ring.put(first + i, 1) for i in range(10000)]) for first in (0, 10000, 20000)]
+        for thread in threads:
+            thread.start()
+        polled = []
+        while len(polled) < 30000:
+            polled += ring.poll()
+        for thread in threads:
+            thread.join()
+        self.assertEqual(sorted(packet.number for packet in polled), list(range(30000)))
+        self.assertEqual(ring.counts.packets, 30000)
+
+
+class TestRuns(Refusals):
+    def test_four_devices(self):
+        """As examples/c/run.c."""
+        left, lines, polls, softirq = [150, 3, 64, 0], [], [], List()
+        for device in range(4):
+            softirq.push(device)
+
+        def poll(device, weight):
+            work = min(left[device], weight)
+            left[device] -= work
+            polls.append(f"{device}({work}) ")
+            return work, Next.REPOLL if work == weight else Next.GONE
+
+        report = None
+        while report is None or report.polls:
+            polls.clear()
+            report = softirq.run(poll, 100)
+            lines.append(f"run: {''.join(polls)}- {report.polls} polls, {report.work} packets{', squeezed' * report.squeezed}\n")
+        self.assertEqual("".join(lines), (TOP / "examples/c/run.stdout").read_text())
+        self.assertEqual(len(softirq), 0)
+
+    def test_what_is_refused(self):
+        softirq = List()
+        for status, settings in ((Status.BAD_BUDGET, (0,)), (Status.BAD_BUDGET, (65536,)), (Status.BAD_BUDGET, (300, 64, 0)),
+                                 (Status.BAD_WEIGHT, (300, 65))):
+            self.refused(status, softirq.run, lambda device, weight: (0, Next.GONE), *settings)
+        self.assertEqual([softirq.push(device) for device in range(65)], [True] * 64 + [False])
+        self.refused(Status.IN_USE, softirq.push, 5)
+        self.assertEqual(len(softirq), 64)
+
+    def wrecked(self, fault, poll):
+        """What a run leaves whose poll of device 2 of three fails: the list is whole without it, and runs again."""
+        softirq = List()
+        for device in 1, 2, 3:
+            softirq.push(device)
+        with self.assertRaises(fault) as raised:
+            softirq.run(lambda device, weight: poll(softirq) if device == 2 else (64, Next.REPOLL))
+        polled = []
+        report = softirq.run(lambda device, weight: (polled.append(device) or 0, Next.GONE))
+        self.assertEqual((sorted(polled), report), ([1, 3], (2, 0, False)))
+        return raised.exception
+
+    def test_a_poll_that_raises(self):
+        def poll(_):
+            raise KeyError("mine")
+
+        self.assertEqual(self.wrecked(KeyError, poll).args, ("mine",))
+        self.wrecked(KeyboardInterrupt, lambda _: (_ for _ in ()).throw(KeyboardInterrupt))
+
+    def test_a_poll_whose_answer_is_refused(self):
+        for status, answer in ((Status.BAD_WORK, (65, Next.GONE)), (Status.BAD_NEXT, (1, 7))):
+            self.assertEqual(self.wrecked(Fault, lambda _, answer=answer: answer).status, status)
+        for answer in (None, (1,), ("1", Next.GONE)):
+            self.wrecked((TypeError, ValueError), lambda _, answer=answer: answer)
+
+    def test_a_run_in_a_run(self):
+        fault = self.wrecked(Fault, lambda softirq: softirq.run(lambda device, weight: (0, Next.GONE)))
+        self.assertEqual(fault.status, Status.NOT_ALLOWED)
+
+    def test_a_poll_pushes(self):
+        softirq, polled = List(), []
+        softirq.push(1)
+
+        def poll(device, weight):
+            polled.append((device, weight))
+            if device < 5:
+                softirq.push(device + 1)
+            return 1, Next.GONE
+
+        self.assertEqual(softirq.run(poll, weight=7), (5, 5, False))
+        self.assertEqual(polled, [(device, 7) for device in range(1, 6)])
+
+
+class TestReplay(Refusals):
+    def test_two_packets(self):
+        """The report that docs/FORMATS.md tells of."""
+        report = replay((TOP / "examples/two-packets.csv").read_bytes())
+        shown = re.search(r"The report:\n\n(.*?)\n\n", (TOP / "docs/FORMATS.md").read_text(), re.S)[1]
+        self.assertEqual(report.text, re.sub(r"^    ", "", shown, flags=re.M) + "\n")
+        self.assertEqual(report.turns, [Turn("softirq", 4, polls=2, work=2)])
+        device = report.devices[1]
+        self.assertEqual((type(report.turns[0].squeezed), type(device.word)), (bool, Word))
+        self.assertEqual((device.state, device.bytes, device.missed, device.word, device.transmit), ("on", 160, 1, Word(0), None))
+        self.assertEqual((report.listed, report.runs, report.polls, report.work, report.squeezed), ([], 1, 2, 2, 0))
+
+    def test_settings(self):
+        """Of the README: the kernel counted 55 squeezed runs at a budget of 64."""
+        trace = (TOP / "examples/linux-veth-small-budget.csv").read_bytes()
+        report = replay(trace, budget=64)
+        self.assertEqual((len(report.devices), report.runs, report.polls, report.work, report.squeezed), (12, 544, 961, 15647, 55))
+        self.assertEqual(sum(turn.squeezed for turn in report.turns), 55)
+        self.refused(Status.BAD_WEIGHT, replay, trace, weight=65)
+        self.refused(Status.BAD_BUDGET, replay, trace, window=0)
+
+    def test_all_examples(self):
+        """Objects are as tools/reports.py reads the text."""
+        traces = sorted((TOP / "examples").glob("*.csv"))
+        self.assertGreater(len(traces), 5)
+        for trace in traces:
+            report = replay(trace.read_bytes())
+            turns, listed = [], []
+            for told in reports.objects_of(report.text):
+                line = told.pop("line")
+                told.pop("flags", None)
+                device = report.devices.get(told.get("device"))
+                if line == "list":
+                    listed = told["devices"]
+                elif line == "total":
+                    self.assertEqual(told.pop("devices"), len(report.devices))
+                    self.assertEqual({name: getattr(report, name) for name in told}, told)
+                elif line in ("device", "napi"):
+                    self.assertEqual(told.pop("device"), device.number)
+                    self.assertEqual({name: getattr(device, name) for name in told}, told)
+                elif line == "tx":
+                    told.pop("device")
+                    self.assertEqual(device.transmit, Transmit(**told))
+                    self.assertIsInstance(device.transmit.stopped, bool)
+                else:
+                    turns.append({"event": line, "device": 0, "squeezed": False, **told})
+            self.assertEqual(([turn._asdict() for turn in report.turns], report.listed), (turns, listed))
+
+    def test_a_long_report(self):
+        """Longer than the room that is guessed first."""
+        rows = "0,1,open,1\n" + "".join(f"0,{device},open,1\n" for device in range(2, 17)) + "0,0,softirq,0\n" * 99000
+        report = replay(("moment,device,event,value\n" + rows).encode())
+        self.assertEqual((len(report.turns), report.runs, len(report.devices)), (99000, 99000, 16))
+
+    def test_faults(self):
+        head = "moment,device,event,value\n"
+        for trace, number, name, row in (("", 1, "BadHeader", 0), (head + "1,2\n", 2, "BadFields", 1), (head + "x,1,rx,1\n", 3, "BadNumber", 1),
+                                         (head + "1,1,open,4\n1,1,xr,1\n", 4, "BadEvent", 2), (head + "1,17,open,4\n", 5, "OutOfRange", 1),
+                                         (head + "1,1,rx,1\n", 6, "UnknownDevice", 1)):
+            with self.assertRaises(TraceFault) as raised:
+                replay(trace.encode())
+            fault = raised.exception
+            self.assertEqual((fault.status, fault.number, fault.name, fault.row), (Status.BAD_TRACE, number, name, row))
+            self.assertEqual(str(fault), f"trace fault {number} {name} row {row}")
+            self.assertEqual(str(pickle.loads(pickle.dumps(fault))), str(fault))
+
+
+class TestSimulation(unittest.TestCase):
+    def test_it_loses_what_the_replay_of_the_same_trace_drops(self):
+        rows = ["moment,device,event,value"] + [f"0,{device},open,64" for device in range(1, 5)]
+        for moment in range(1000):
+            rows += [f"{moment},{device},rx,1500" for device in range(1, 5) for _ in range(8)] + [f"{moment},0,softirq,0"]
+        trace = ("\n".join(rows) + "\n").encode()
+        lost = {}
+        for budget in 8, 16, 24, 32:
+            report = replay(trace, budget=budget, weight=16)
+            lost[budget] = simulation.simulate(budget)
+            self.assertEqual(lost[budget], sum(device.dropped for device in report.devices.values()))
+        self.assertGreater(lost[8], 10000)
+        self.assertEqual(lost[32], 0)
+
+
+class TestPackage(unittest.TestCase):
+    def test_every_name_has_its_types(self):
+        self.assertTrue((pathlib.Path(fintaqush.__file__).parent / "py.typed").exists())
+        for name in fintaqush.__all__:
+            for what, value in vars(getattr(fintaqush, name)).items():
+                if inspect.isfunction(value) and value.__module__.startswith("fintaqush"):
+                    signature = inspect.signature(value)
+                    untyped = [one for one in signature.parameters.values() if one.name != "self" and one.annotation is one.empty]
+                    self.assertEqual((untyped, signature.return_annotation is signature.empty), ([], False), f"{name}.{what}")
+
+
+if __name__ == "__main__":
+    unittest.main()

@@ -1,0 +1,64 @@
+//! Benches, and devices on them. Each answers whether it was refused once.
+
+use anyhow::{Result, ensure};
+use device_model::{ReplayBench, SerialBench, SharedBench};
+use poll_engine::Bench;
+use std::alloc::Global;
+use std::sync::Wait;
+
+// Device 2 is attached beside device 1, which has a packet. Where it is refused it isn't attached, and device 1 is as it was.
+fn device_is_attached<B: ReplayBench>(alloc: Global, bench: &mut B) -> Result<bool> {
+    let first = bench.attach(alloc, 1, 256, 0).is_err();
+    if first {
+        ensure!(
+            bench.attached() == 0,
+            "a device that was refused is attached"
+        );
+        bench.attach(alloc, 1, 256, 0)?;
+    }
+    bench.arrive(1, 100);
+    ensure!(bench.is_attached(1), "a device isn't attached");
+    let before = bench.counts(1);
+    let second = bench.attach(alloc, 2, 4, 5).is_err();
+    if second {
+        ensure!(
+            !bench.is_attached(2),
+            "a device that was refused is attached"
+        );
+        ensure!(
+            bench.is_attached(1) && bench.counts(1) == before,
+            "another device changed"
+        );
+        bench.attach(alloc, 2, 4, 5)?;
+    }
+    ensure!(bench.is_attached(2), "a device isn't attached");
+    ensure!(
+        bench.is_attached(1) && bench.counts(1) == before,
+        "another device changed"
+    );
+    let once = bench.poll_once(1, 64);
+    ensure!(once.work == 1, "a packet is lost");
+    Ok(first || second)
+}
+
+pub(crate) fn bench_is_made(alloc: Global) -> Result<bool> {
+    let made = SerialBench::new(alloc);
+    let refused = made.is_err();
+    let mut bench = match made {
+        Ok(bench) => bench,
+        Err(_) => SerialBench::new(alloc)?,
+    };
+    Ok(device_is_attached(alloc, &mut bench)? || refused)
+}
+
+pub(crate) fn shared_bench_is_made<R: Wait + Copy + Drop>(rt: R, alloc: Global) -> Result<bool> {
+    let made = SharedBench::new(rt, alloc);
+    let refused = made.is_err();
+    let mut bench = match made {
+        Ok(bench) => bench,
+        Err(_) => SharedBench::new(rt, alloc)?,
+    };
+    let attached = device_is_attached(alloc, &mut bench);
+    bench.end();
+    Ok(attached? || refused)
+}

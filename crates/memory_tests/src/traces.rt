@@ -1,0 +1,92 @@
+//! Traces, scripted devices, words and lines. Each answers whether it was refused once.
+
+use anyhow::{Result, ensure};
+use device_model::{ScriptDevice, Trace, TraceFault, opening_of, read_trace};
+use poll_engine::Device;
+use replay::{Mode, ReplayFault, WordFault, fault_line, parse_words};
+use std::alloc::{AllocError, Global};
+
+// Rows of two devices.
+const TEXT: &[u8] =
+    b"moment,device,event,value\n0,2,open,4\n1,2,rx,100\n2,3,open,8\n3,2,tx,60\n4,2,done,1\n";
+
+fn read(alloc: Global) -> Result<Trace, TraceFault> {
+    read_trace(alloc, TEXT)
+}
+
+pub(crate) fn trace_is_read(alloc: Global) -> Result<bool> {
+    let read_first = read(alloc);
+    let refused = read_first.is_err();
+    let trace = match read_first {
+        Ok(trace) => trace,
+        Err(fault) => {
+            ensure!(fault.number() == 11, "another fault of a trace");
+            read(alloc)?
+        }
+    };
+    ensure!(trace.rows().len() == 5, "other rows");
+    Ok(refused)
+}
+
+// Whether the device was refused once.
+fn device_is_made(alloc: Global, trace: &Trace) -> Result<bool> {
+    let opening = opening_of(trace.rows(), 2);
+    ensure!(opening.is_some(), "the device isn't opened");
+    match ScriptDevice::new(alloc, trace, 2) {
+        Ok(device) => {
+            ensure!(device.acts() == 3, "other acts");
+            Ok(false)
+        }
+        Err(_) => {
+            let device = ScriptDevice::new(alloc, trace, 2)?;
+            ensure!(device.acts() == 3, "other acts");
+            Ok(true)
+        }
+    }
+}
+
+pub(crate) fn script_is_made(alloc: Global) -> Result<bool> {
+    match read(alloc) {
+        Ok(trace) => device_is_made(alloc, &trace),
+        Err(_) => {
+            let trace = read(alloc)?;
+            device_is_made(alloc, &trace)
+        }
+    }
+}
+
+fn some_words(alloc: Global) -> Result<Vec<String>, AllocError> {
+    Ok(vec![in alloc; String::from_str(alloc, "--mode=threads")?]?)
+}
+
+pub(crate) fn words_are_read(alloc: Global) -> Result<bool> {
+    let words = match some_words(alloc) {
+        Ok(words) => words,
+        Err(_) => some_words(alloc)?,
+    };
+    let parsed = parse_words(alloc, words.as_slice());
+    let refused = parsed.is_err();
+    let (mode, _settings) = match parsed {
+        Ok(parsed) => parsed,
+        Err(fault) => {
+            ensure!(fault == WordFault::OutOfMemory, "another fault of words");
+            parse_words(alloc, words.as_slice())?
+        }
+    };
+    ensure!(mode == Mode::Threads, "another mode");
+    Ok(refused)
+}
+
+pub(crate) fn line_is_told(alloc: Global) -> Result<bool> {
+    let told = fault_line(alloc, &ReplayFault::GateShut);
+    let refused = told.is_err();
+    let line = match told {
+        Ok(line) => line,
+        Err(_) => fault_line(alloc, &ReplayFault::GateShut)?,
+    };
+    ensure!(
+        line.as_str() == "worker fault 14 GateShut\n",
+        "another line"
+    );
+    Ok(refused)
+}

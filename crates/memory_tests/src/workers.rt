@@ -1,0 +1,87 @@
+//! A run of workers. The program that refuses its memory counts the threads that were started and not joined.
+
+ghost use Rattle.std.specs.Prelude.{IfOk, IsTrue, vec_items};
+ghost use Rattle.std.specs.List.{All};
+ghost use Rattle.poll_engine.specs.Opens.{IsStation};
+ghost use Rattle.poll_engine.specs.Numbers.{have_distinct_numbers};
+
+use anyhow::{Context, Result, ensure};
+use poll_engine::{
+    Act, ActList, Finished, OpenGate, Station, WorkFault, have_distinct_numbers, run_workers,
+};
+use rx_ring::Packet;
+use std::alloc::{AllocError, Global};
+use std::sync::Wait;
+use std::thread::Threads;
+
+const ARRIVAL: Act = Act::Arrive(Packet {
+    number: 7,
+    bytes: 60,
+});
+
+// Two devices, each with a packet and a thread of its own.
+fn try_stations(alloc: Global) -> Result<Vec<Station<ActList>>, AllocError>
+    ensures { IfOk result (λ v. All IsStation (vec_items v)) }
+{
+    let mut stations = Vec::new(alloc);
+    for index in 0..2u32 {
+        let acts = vec![in alloc; Act::SetThreaded(true), ARRIVAL]?;
+        stations.push(Station {
+            number: index + 1,
+            capacity: 4,
+            thread: true,
+            device: ActList::new(acts),
+        })?;
+    }
+    Ok(stations)
+}
+
+fn stations(alloc: Global) -> Result<Vec<Station<ActList>>, AllocError>
+    ensures { IfOk result (λ v. All IsStation (vec_items v)) }
+{
+    match try_stations(alloc) {
+        Ok(stations) => Ok(stations),
+        Err(_) => try_stations(alloc),
+    }
+}
+
+// A run by two pollers; none where memory was refused, or a thread's start for want of it.
+fn run<R: Threads + Wait + Sync>(
+    rt: &R,
+    alloc: Global,
+    stations: Vec<Station<ActList>>,
+) -> Result<Option<Vec<Finished<ActList>>>>
+    requires { All IsStation (vec_items stations) }
+{
+    ensure!(have_distinct_numbers(&stations), "one number twice");
+    match run_workers(rt, alloc, stations, 2, 300, 64, 1024, &OpenGate) {
+        Ok(done) => Ok(Some(done)),
+        Err(WorkFault::OutOfMemory | WorkFault::SpawnFailed) => Ok(None),
+        Err(WorkFault::GateShut) => Err(WorkFault::GateShut.into()),
+    }
+}
+
+// Whether both devices are there, and the packet of each was polled.
+fn are_polled(done: Vec<Finished<ActList>>) -> bool {
+    if done.len() != 2 {
+        return false;
+    }
+    for one in done {
+        if one.totals.put != 1 || one.totals.polled != 1 {
+            return false;
+        }
+    }
+    true
+}
+
+pub(crate) fn workers_are_run<R: Threads + Wait + Sync>(rt: &R, alloc: Global) -> Result<bool> {
+    let first = run(rt, alloc, stations(alloc)?)?;
+    if let Some(done) = first {
+        ensure!(are_polled(done), "a packet isn't polled");
+        return Ok(false);
+    }
+    let again = run(rt, alloc, stations(alloc)?)?;
+    let done = again.context("refused twice")?;
+    ensure!(are_polled(done), "a packet isn't polled");
+    Ok(true)
+}

@@ -1,0 +1,66 @@
+#!/usr/bin/env bash
+# bindings/python over the shared library that scripts/install.sh makes: its tests, in the checkout and as it is installed, from another
+# folder; its example; what a library that is missing or another one comes to; and its types, if there is a mypy. Without python3, or
+# rt, which proves and builds the library, it says so and passes over. The last line is `N passed, M failed`.
+set -uo pipefail
+unset CDPATH PYTHONPATH FINTAQUSH_LIB
+top=$(dirname "$(dirname "$(readlink -f "$0")")")
+scratch=$(mktemp -d)
+trap 'rm -rf "$scratch"' EXIT
+. "$top/scripts/checks.sh"
+package=$top/bindings/python
+prefix=$scratch/prefix
+export PYTHONDONTWRITEBYTECODE=1
+
+for program in python3 rt; do
+    command -v "$program" > /dev/null || { echo "python: passed over: there is no $program"; sum_up; exit; }
+done
+cd "$scratch" || exit 1
+files() { find "$package" | sort; }
+files > before
+nothing_is_left() { files | diff before -; }
+
+tested() { python3 -W error "$package/tests/test_fintaqush.py"; }
+
+# said_in_a_line WORDS: an import ends by 1 and this line alone, which has these words; who catches it goes on.
+said_in_a_line() {
+    local status=0
+    python3 -c 'import fintaqush' > said 2>&1 || status=$?
+    cat said
+    [ "$status $(wc -l < said)" = '1 1' ] && grep -q "^ImportError: fintaqush: .*$1" said && python3 -c 'try:
+    import fintaqush
+except ImportError as fault:
+    print("ImportError:", fault)' | diff said -
+}
+
+# A library of the header's names, which does nothing.
+of_another_version() {
+    grep -oE '\bfq_\w+\(' "$top/include/fintaqush.h" | sort -u | sed 's/\(.*\)(/long \1(void) { return 0; }/' > other.c &&
+        cc -w -shared -fPIC other.c -o libfintaqush.so.1 && FINTAQUSH_LIB=$scratch said_in_a_line 'another version'
+}
+
+of_no_call() {
+    echo 'int fq_none;' > other.c && cc -shared -fPIC other.c -o libfintaqush.so.1 && FINTAQUSH_LIB=$scratch said_in_a_line "hasn't fq_abandon"
+}
+
+no_library_at_all() { echo text > libfintaqush.so.1 && FINTAQUSH_LIB=$scratch said_in_a_line 'file too short'; }
+
+simulates() { [ "$(python3 "$package/examples/simulation.py" | awk '{ print $1 }' | xargs)" = '8 16 24 32' ]; }
+
+check 'installs' "$top/scripts/install.sh" --library --python "$prefix"
+FINTAQUSH_LIB=$prefix/lib PYTHONPATH=$package check 'its tests' tested
+PYTHONPATH=$(dirname "$(find "$prefix" -name fintaqush -path '*-packages*')")
+export PYTHONPATH
+check 'its tests, as it is installed' tested
+check 'its example' simulates
+FINTAQUSH_LIB=$scratch/none check 'a library that is missing' said_in_a_line "$scratch/none/libfintaqush.so.1: cannot open"
+check 'one that has no call' of_no_call
+check 'one of another version' of_another_version
+check 'one that is none' no_library_at_all
+if command -v mypy > /dev/null; then
+    check 'its types' mypy --strict --cache-dir="$scratch/mypy" "$package/fintaqush"
+else
+    echo 'python: passed over: its types: there is no mypy'
+fi
+check 'nothing is left in the checkout' nothing_is_left
+sum_up
