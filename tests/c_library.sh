@@ -234,8 +234,19 @@ if command -v valgrind > /dev/null; then
         valgrind -q --leak-check=full --show-leak-kinds=all --error-exitcode=9 "$scratch/hammer"
 fi
 
-# ---- what compilers refuse
+# ---- what compilers take, and what they refuse
 
+cat > "$scratch/tells.c" << 'END'
+#include <fintaqush.h>
+int main(void) {
+    struct fq_handle seat = FQ_NONE, list = FQ_NONE;
+    uint32_t next;
+    if (fq_seat_end(&seat, true, &next) == FQ_NOT_ALLOWED) return 1;
+    return fq_run_polled(&list, 64, next) == FQ_BAD_HANDLE ? 0 : 2;
+}
+END
+check 'how a poll ended is set, whatever the answer is' compile gcc "$scratch/tells.c" "$scratch/tells" -O2
+check 'what it is then' "$scratch/tells"
 cat > "$scratch/null.c" << 'END'
 #include <fintaqush.h>
 int main(void) { return (int)fq_free(NULL); }
