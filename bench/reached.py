@@ -7,16 +7,16 @@ usage: bench/reached.py [PROGRAM [TRACE.csv ..]]     (crates/napi_serial/out/nap
 
 Prints how many instructions each function has and how many were reached, and then how many weren't, by these reasons. A piece from
 jump to jump has the reason that RULES gives it, or that of the one that alone leads to it. Pieces without a reason are shown, and
-those of a reason that has more instructions than the number here; the exit status is 1 then. It is run by hand, a minute long on
-four processors, and needs valgrind, nm, objdump and cc.
+those of a reason that has more instructions than the number here; the exit status is 1 then. It is run by hand, since it takes two
+minutes of processor time, and a compiler may choose other registers than RULES names. Needs valgrind, nm, objdump and cc.
 
    522  clap: sub-commands, global values, the program's name as a path, and what else clap has that isn't asked for
-   293  room: a text or a list that has room there in each run grows, or is refused memory
-   290  onto: copies of what lies where it is copied to
+   293  room: a text or a list grows that has room there in each run, or is refused memory; 200 random traces reach 134 of them
+   289  onto: copies of what lies where it is copied to
    281  indented: what `{:#?}` writes; nothing is written by it
    165  threads: faults of threads mode, and instances that another thread takes
    147  freed: what isn't there, or has no memory
-    97  digits: more of them than a flag or the count of the devices has
+    85  digits: more of them than a flag or the count of the devices has
     58  excluded by the proof: traps, numbers out of their ranges, more entries than devices, more polls than packets
     22  host: more words than memory has, calls that a signal ends, and input read ahead, which the reader of records never does
     30  csv: fields that are trimmed, titles that are kept, and reading on behind the end
@@ -46,8 +46,8 @@ RULES = [
     ("add_row", r"bt +%edx,%edi; jb [^;]* > cmp", "excluded"),
     ("end_by", r"(ring|worker) fault|> mov +\$0x3,%bl", "threads"),
     ("report_rows", r"cmp +\$0x201,|cmp +\$0x20000,%\w+; jne [^;]* > jmp|movabs +\$0x100000000,.*> xor|cmpb +\$0x1,\(%\w+,%\w+,1\); jne [^;]* > movl +\$0x0", "excluded"),
-    ("report_rows", r"test +%\w+,%\w+; je [^;]* > xor +%r13d,%r13d; jmp|test +%edx,%edx;.*> .*movl +\$0x1", "excluded"),
-    ("report_rows", r"cmp +\$0x10,%\w+; ja [^;]* > movq +\$0x0|> mov +\$0x2,%r13b", "threads"),
+    ("report_rows", r"test +%\w+,%\w+; (mov [^;]*; )?je [^;]* > xor +%\w+,%\w+; jmp|test +%edx,%edx;.*> .*movl +\$0x1", "excluded"),
+    ("report_rows", r"cmp +\$0x10,%\w+; (mov [^;]*; )?ja [^;]* > movq +\$0x0|> mov +\$0x2,%\w+; (mov +\$0x1|jmp)", "threads"),
     ("read_words", r"cmpq +\$0x0,[^;]*; jne [^;]* > jmp", "freed"),
     ("read_words", r"cmpb +\$0x0,[^;]*; je [^;]* > mov +%r15b", "clap"),
     ("read_words", r"test +%rbp,%rbp;[^>]*je [^;]* > mov +\$0x1,%r15b|sete[^>]*je [^;]* > mov [^;]*; jmp [^;]*$", "clap"),
