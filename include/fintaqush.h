@@ -13,7 +13,9 @@
  * - A struct fq_handle or fq_dql isn't copied, and only calls write its fields. A handle that isn't set is all zero.
  * - No call from a signal handler, nor from the forked child of a process with threads.
  *
- * No call waits, locks or starts a thread. Only those named .._new, fq_free, fq_abandon and fq_replay take or give memory.
+ * No call waits, locks or starts a thread. fq_ring_new, fq_ring_split (before it looks at what its handle leads to), fq_tx_new,
+ * fq_list_new, fq_shared_new, fq_shared_bare and fq_replay take memory; fq_free, fq_abandon, fq_ring_finish and fq_replay give it back;
+ * no other does either.
  *
  * Memory order: what a thread wrote before it put a packet is seen by the thread whose poll gives that packet. A poll empties the
  * places of the packets that it gives, at once: what was done before that poll is seen by the put that finds one of them free. What
@@ -42,12 +44,13 @@
 extern "C" {
 #endif
 
-/* What calls answer: 0 to 15 made, and the faults of a queue limit; 16 to 99 made, with what was found; from 100 on not made. */
+/* What calls answer: 0 made; 1 to 15 the faults of a queue limit, not made; 16 to 99 what a call found, where FQ_NOT_THERE, FQ_BUSY,
+ * FQ_CHANGED, FQ_STOPPED, FQ_MORE_THAN_SENT, and FQ_FULL but for a burst, are of calls that changed nothing; from 100 on not made. */
 enum fq_status {
     FQ_OK = 0,
     FQ_BAD_BOUNDS = 1,         /* limit: min above max, or max above 1879048192 */
     FQ_TOO_LARGE = 2,          /* limit, send: an object above 268435455 */
-    FQ_TOO_MUCH_IN_FLIGHT = 3, /* limit, send: more than it can count would be in flight */
+    FQ_TOO_MUCH_IN_FLIGHT = 3, /* limit, send: more than 1073741823 bytes would be in flight */
     FQ_MORE_THAN_QUEUED = 4,   /* limit: more completed than is in flight */
 
     FQ_GRANTED = 16,   /* schedule: the instance is this caller's, who has to hand it over */
@@ -57,7 +60,7 @@ enum fq_status {
     FQ_NOT_THERE = 20, /* take: the instance wasn't handed over so */
     FQ_RELEASED = 21,  /* complete: nobody has the instance any more */
     FQ_AGAIN = 22,     /* complete: a request was missed; it is this caller's, who has to hand it over again */
-    FQ_HELD = 23,      /* complete: it is busy polled, and the caller polls on */
+    FQ_HELD = 23,      /* complete: it is busy polled, and the caller polls on; end: a thread's full poll too */
     FQ_BUSY = 24,      /* busy take, take disable: someone has the instance */
     FQ_CHANGED = 25,   /* shared instances: another thread came between, nothing is decided; call again */
     FQ_FULL = 26,      /* put, push, send: there is no room */
@@ -146,17 +149,17 @@ struct fq_dql {
     uint64_t private_d;
 };
 
-struct fq_dql_new {
+struct fq_dql_made {
     struct fq_dql dql;
     uint32_t status;
 };
 
 /* A new limit between min and max, which keeps slack for hold_ms (dql_init). FQ_BAD_BOUNDS: the answer is a limit of 0. */
-struct fq_dql_new fq_dql_new(uint32_t min, uint32_t max, uint64_t hold_ms, uint64_t now_ms);
+struct fq_dql_made fq_dql_new(uint32_t min, uint32_t max, uint64_t hold_ms, uint64_t now_ms);
 
 /* The same, into the caller's struct. */
 FQ_CHECKED static inline uint32_t fq_dql_init(struct fq_dql *dql, uint32_t min, uint32_t max, uint64_t hold_ms, uint64_t now_ms) {
-    struct fq_dql_new made = fq_dql_new(min, max, hold_ms, now_ms);
+    struct fq_dql_made made = fq_dql_new(min, max, hold_ms, now_ms);
     *dql = made.dql;
     return made.status;
 }
@@ -181,7 +184,7 @@ FQ_NONNULL static inline int64_t fq_dql_avail_here(const struct fq_dql *dql) {
 }
 
 /* ---- An instance of one thread (struct napi_struct), in the caller's memory. Who calls is a number; the controller's is named
- * when it is made. Whatever its bytes are, each is a state. */
+ * when it is made. Only calls write its fields: of a bool that is neither 0 nor 1, or a place above 5, calls may tell different states. */
 
 struct fq_napi {
     bool sched, missed, disable, npsvc, in_busy_poll, threaded, sched_threaded;
@@ -193,7 +196,8 @@ struct fq_napi {
 struct fq_napi fq_napi_new(uint32_t controller);
 /* Asks for a poll (napi_schedule_prep): FQ_GRANTED, FQ_MISSED, FQ_DISABLED. */
 FQ_CHECKED uint32_t fq_napi_schedule(struct fq_napi *napi, uint32_t who);
-/* Hands a granted or polled instance over (____napi_schedule): FQ_OK, FQ_NOT_ALLOWED, FQ_BAD_KIND. */
+/* Hands a granted instance over (____napi_schedule), or a polled one to the list again: FQ_OK, FQ_BAD_KIND; FQ_NOT_ALLOWED, also of a
+ * polled one to its thread. */
 FQ_CHECKED uint32_t fq_napi_hand(struct fq_napi *napi, uint32_t who, uint32_t kind);
 /* Takes it from the list or as its thread: FQ_TAKEN, FQ_NOT_THERE, FQ_BAD_KIND. */
 FQ_CHECKED uint32_t fq_napi_take(struct fq_napi *napi, uint32_t who, uint32_t kind);
@@ -244,13 +248,14 @@ FQ_CHECKED uint32_t fq_ring_new(struct fq_handle *ring, size_t capacity);
 /* Puts a packet in, behind all others: FQ_OK, FQ_FULL, FQ_BAD_HANDLE. */
 FQ_CHECKED uint32_t fq_ring_put(struct fq_handle *ring, uint64_t number, uint32_t bytes);
 /* Puts the packets of an array in, behind all others and in their order: as many of the first ones as fit, and *count tells how
- * many. FQ_OK where these are all, FQ_FULL where not; FQ_BAD_HANDLE, and a count of 0. A poll sees all of them at once. */
+ * many. FQ_OK where these are all, FQ_FULL where not; FQ_BAD_HANDLE, and a count of 0. A poll sees all of them at once. Buffers used in
+ * turn are as many as the ring's places, 64 for a poll, and the longest burst, which is 1 of single puts. */
 FQ_CHECKED uint32_t fq_ring_put_all(struct fq_handle *FQ_RESTRICT ring, const struct fq_packet *FQ_RESTRICT packets, size_t len, size_t *FQ_RESTRICT count);
 /* Takes the first packets out, at most weight (1 to 64), into an array of len places, at least the weight: FQ_OK and their
  * count, else a count of 0. Not of a ring whose other end an instance has, or another handle (FQ_BAD_HANDLE). */
 FQ_CHECKED uint32_t fq_ring_poll(struct fq_handle *FQ_RESTRICT ring, size_t weight, struct fq_packet *FQ_RESTRICT out, size_t len, size_t *FQ_RESTRICT count);
 
-struct fq_counts {
+struct fq_poll_counts {
     uint64_t polls, packets, bytes; /* each stays at its greatest value */
 };
 
@@ -260,7 +265,7 @@ struct fq_totals {
 
 /* What is counted of a ring's polls, of whoever has its poll end: a ring, or that end; a seat that polls; the controller of a
  * disabled instance: FQ_OK, FQ_BAD_HANDLE; FQ_NOT_ALLOWED of any other, and *counts stays. */
-FQ_CHECKED uint32_t fq_counts(struct fq_handle *FQ_RESTRICT handle, struct fq_counts *FQ_RESTRICT counts);
+FQ_CHECKED uint32_t fq_counts(struct fq_handle *FQ_RESTRICT handle, struct fq_poll_counts *FQ_RESTRICT counts);
 /* A ring of two threads, without an instance: `ring` is its input from then on, which takes puts, and `out` its poll end, which
  * takes polls: FQ_OK, FQ_BAD_HANDLE, FQ_IN_USE, FQ_OUT_OF_MEMORY. Each is freed by itself. */
 FQ_CHECKED uint32_t fq_ring_split(struct fq_handle *FQ_RESTRICT ring, struct fq_handle *FQ_RESTRICT out);
@@ -271,7 +276,7 @@ FQ_CHECKED uint32_t fq_ring_finish(struct fq_handle *FQ_RESTRICT ring, struct fq
 /* ---- Transmit rings under a byte queue limit (netdev_tx_sent_queue, netdev_tx_completed_queue). The ring keeps the sizes of the
  * packets that were sent and aren't complete, in order; the packets themselves are the caller's. Moments are milliseconds. */
 
-struct fq_tx_state {
+struct fq_tx_shown {
     uint32_t queued;    /* the bytes of all packets ever sent, modulo 2^32 */
     uint32_t completed; /* the bytes of all that are complete, modulo 2^32: queued - completed are in flight */
     uint32_t limit;     /* in bytes */
@@ -289,13 +294,36 @@ FQ_CHECKED uint32_t fq_tx_send(struct fq_handle *tx, uint32_t bytes);
  * queue is started: FQ_OK, FQ_MORE_THAN_SENT (nothing is done), FQ_BAD_HANDLE. */
 FQ_CHECKED uint32_t fq_tx_done(struct fq_handle *tx, uint32_t count, uint64_t now_ms);
 /* What the ring shows: FQ_OK; FQ_BAD_HANDLE, and *state stays. */
-FQ_CHECKED uint32_t fq_tx_state(struct fq_handle *FQ_RESTRICT tx, struct fq_tx_state *FQ_RESTRICT state);
+FQ_CHECKED uint32_t fq_tx_state(struct fq_handle *FQ_RESTRICT tx, struct fq_tx_shown *FQ_RESTRICT state);
+
+/* What a driver's timer keeps of a transmit ring (dev_watchdog): all 0 at first. */
+struct fq_tx_watchdog {
+    bool private_stopped;
+    uint32_t private_completed;
+    uint64_t private_since;
+};
+
+/* Looks at a ring in each tick of that timer: *stuck tells whether it has been stopped, with no byte completed, for limit_ms since
+ * the first look that found it so: FQ_OK; FQ_BAD_HANDLE, and not stuck. */
+FQ_CHECKED static inline uint32_t fq_tx_watch(struct fq_handle *FQ_RESTRICT tx, struct fq_tx_watchdog *FQ_RESTRICT watchdog, uint64_t limit_ms, uint64_t now_ms, bool *FQ_RESTRICT stuck) {
+    struct fq_tx_shown state;
+    *stuck = false;
+    const uint32_t said = fq_tx_state(tx, &state);
+    if (said != FQ_OK) return said;
+    if (!state.stopped || !watchdog->private_stopped || state.completed != watchdog->private_completed) {
+        watchdog->private_stopped = state.stopped;
+        watchdog->private_completed = state.completed;
+        watchdog->private_since = now_ms;
+    }
+    *stuck = state.stopped && now_ms - watchdog->private_since >= limit_ms;
+    return FQ_OK;
+}
 
 /* ---- Instances that threads share. */
 
 /* An instance over the ring's poll end, with its controller and 2 to 8 seats, its callers: FQ_OK, FQ_IN_USE, FQ_BAD_COUNT,
  * FQ_BAD_HANDLE, FQ_OUT_OF_MEMORY. It is disabled. `ring` is its input from then on. Where memory is out, what is set by then is
- * to be given up. */
+ * to be given up, the ring too: it may be whole still, or an input alone. */
 FQ_CHECKED uint32_t fq_shared_new(struct fq_handle *FQ_RESTRICT ring, struct fq_handle *FQ_RESTRICT control, struct fq_handle *FQ_RESTRICT seats, size_t count);
 
 /* An instance without a ring of the caller's, whose polls read what they will; fq_seat_poll gives nothing there: FQ_OK, FQ_IN_USE,
@@ -319,50 +347,141 @@ FQ_CHECKED uint32_t fq_seat_busy_stop(struct fq_handle *seat); /* FQ_OK, FQ_CHAN
 /* Whatever the seat is, what the state word tells, of the FQ_BIT_..: FQ_OK, FQ_BAD_HANDLE. */
 FQ_CHECKED uint32_t fq_seat_look(struct fq_handle *FQ_RESTRICT seat, uint64_t *FQ_RESTRICT word);
 
-/* An interrupt: schedules, try after try until one decides, and hands over where it was granted. FQ_GRANTED (and it was handed over),
- * FQ_MISSED, FQ_DISABLED; FQ_BAD_KIND, FQ_BAD_HANDLE, FQ_NOT_ALLOWED. */
-FQ_CHECKED static inline uint32_t fq_seat_interrupt(struct fq_handle *seat, uint32_t kind) {
+/* What a driver does with its card, each with `at`. A call that isn't made may be null. */
+struct fq_card {
+    void *at;
+    void (*mask)(void *at);                /* the card interrupts no more */
+    void (*unmask)(void *at);              /* it interrupts again */
+    bool (*look)(void *at);                /* whether something is there to be polled */
+    size_t (*poll)(void *at, size_t most); /* polls at most so many packets, and answers how many */
+};
+
+/* An interrupt: schedules, try after try until one decides, and where it was granted masks and hands over, in the kernel's order:
+ * masked behind the hand-over the card stays masked where the poller is faster. The kind goes by FQ_BIT_THREADED. FQ_GRANTED (and it
+ * was handed over), FQ_MISSED, FQ_DISABLED; FQ_BAD_KIND, FQ_BAD_HANDLE, FQ_NOT_ALLOWED. */
+FQ_CHECKED static inline uint32_t fq_seat_interrupt_masked(struct fq_handle *seat, uint32_t kind, const struct fq_card *card) {
     uint32_t said;
     if (kind > FQ_THREAD) return FQ_BAD_KIND;
     do said = fq_seat_schedule(seat);
     while (said == FQ_CHANGED);
     if (said != FQ_GRANTED) return said;
+    if (card->mask != NULL) card->mask(card->at);
     const uint32_t handed = fq_seat_hand(seat, kind);
     return handed == FQ_OK ? said : handed;
 }
 
-/* The end of a poll, as the kernel ends it (__napi_poll): after a full one, which gave its whole weight, the instance is on the list
- * again, unless a disable is pending; else it is completed, try after try until one decides, and handed over again where a request
- * was missed, to its thread where FQ_BIT_THREADED is set. *next tells fq_run_polled how the poll ended: FQ_NEXT_GONE,
- * FQ_NEXT_AGAIN, FQ_NEXT_AGAIN_THREAD, FQ_NEXT_REPOLL; of FQ_NEXT_AGAIN and FQ_NEXT_REPOLL the number is still to be listed. FQ_OK;
- * FQ_NOT_ALLOWED where the seat doesn't poll, and FQ_BAD_HANDLE; FQ_HELD where it busy polls, which it goes on to do. */
+/* The same of a card that is masked already, or never. */
+FQ_CHECKED static inline uint32_t fq_seat_interrupt(struct fq_handle *seat, uint32_t kind) {
+    const struct fq_card none = {NULL, NULL, NULL, NULL, NULL};
+    return fq_seat_interrupt_masked(seat, kind, &none);
+}
+
+/* Hands an instance that was granted over as the kernel does (____napi_schedule): to its thread where FQ_BIT_THREADED is set. *next
+ * is FQ_NEXT_AGAIN or FQ_NEXT_AGAIN_THREAD: FQ_OK, FQ_BAD_HANDLE, FQ_NOT_ALLOWED. */
+FQ_CHECKED static inline uint32_t fq_seat_hand_again(struct fq_handle *FQ_RESTRICT seat, uint32_t *FQ_RESTRICT next) {
+    uint64_t word;
+    const uint32_t said = fq_seat_look(seat, &word);
+    *next = said == FQ_OK && word & FQ_BIT_THREADED ? FQ_NEXT_AGAIN_THREAD : FQ_NEXT_AGAIN;
+    return said == FQ_OK ? fq_seat_hand(seat, *next == FQ_NEXT_AGAIN ? FQ_LIST : FQ_THREAD) : said;
+}
+
+/* The end of a poll, as the kernel ends it (__napi_poll). After a full one, which gave its whole weight, where no disable is pending:
+ * who took the instance from the list has it on the list again, and who took it as its thread polls on, at once (FQ_HELD). After any
+ * other it is completed, try after try until one decides, and handed over again where a request was missed. *next tells fq_run_polled
+ * how the poll ended: FQ_NEXT_GONE, FQ_NEXT_AGAIN, FQ_NEXT_AGAIN_THREAD, FQ_NEXT_REPOLL; of FQ_NEXT_AGAIN and FQ_NEXT_REPOLL the number
+ * is still to be listed. FQ_OK; FQ_HELD: the seat polls on, as does a busy poller; FQ_NOT_ALLOWED where it doesn't poll, and
+ * FQ_BAD_HANDLE. *next is FQ_NEXT_GONE on all but FQ_OK. A seat polls as thread while FQ_BIT_SCHED_THREADED is set, which stays through
+ * an fq_seat_requeue. */
 FQ_CHECKED static inline uint32_t fq_seat_end(struct fq_handle *FQ_RESTRICT seat, bool full, uint32_t *FQ_RESTRICT next) {
     uint64_t word;
+    *next = FQ_NEXT_GONE;
     uint32_t said = fq_seat_look(seat, &word);
     if (said != FQ_OK) return said;
-    if (full && !(word & FQ_BIT_DISABLE)) {
+    if (full && !(word & (FQ_BIT_DISABLE | FQ_BIT_IN_BUSY_POLL | FQ_BIT_SCHED_THREADED))) {
         said = fq_seat_requeue(seat);
         if (said == FQ_OK) *next = FQ_NEXT_REPOLL;
         return said;
     }
+    if (full && !(word & (FQ_BIT_DISABLE | FQ_BIT_IN_BUSY_POLL))) {
+        struct fq_poll_counts counts; /* of a seat that polls alone */
+        said = fq_counts(seat, &counts);
+        return said == FQ_OK ? (uint32_t)FQ_HELD : said;
+    }
     do said = fq_seat_complete(seat);
     while (said == FQ_CHANGED);
-    if (said == FQ_RELEASED) {
-        *next = FQ_NEXT_GONE;
-        return FQ_OK;
-    }
+    if (said == FQ_RELEASED) return FQ_OK;
     if (said != FQ_AGAIN) return said;
-    said = fq_seat_look(seat, &word);
+    said = fq_seat_hand_again(seat, next);
+    if (said != FQ_OK) *next = FQ_NEXT_GONE;
+    return said;
+}
+
+#if defined(__GNUC__)
+/* The end of a poll of a card that can be looked at: as fq_seat_end, and where the instance was released it unmasks, looks behind a
+ * fence, and if something is there asks for a poll itself, masks and hands over. An interrupt of an edge is lost without this look. All
+ * answers are those of fq_seat_end. */
+FQ_CHECKED static inline uint32_t fq_seat_end_watched(struct fq_handle *FQ_RESTRICT seat, bool full, const struct fq_card *FQ_RESTRICT card, uint32_t *FQ_RESTRICT next) {
+    uint32_t said = fq_seat_end(seat, full, next);
+    if (said != FQ_OK || *next != FQ_NEXT_GONE) return said;
+    card->unmask(card->at);
+    __sync_synchronize();
+    if (!card->look(card->at)) return FQ_OK;
+    do said = fq_seat_schedule(seat);
+    while (said == FQ_CHANGED);
+    if (said != FQ_GRANTED) return FQ_OK; /* another has asked, or a disable is pending */
+    card->mask(card->at);
+    return fq_seat_hand_again(seat, next);
+}
+#endif
+
+/* The end of a poll of a card that can't be looked at, which gave *work packets so far, below its weight: unmasks while it polls
+ * still, polls the rest of the weight, which *work then counts too, and ends as fq_seat_end, full or not. An interrupt meanwhile is
+ * missed, so that one more poll follows; the card is masked for that, as it is where the poll was full. All answers are those of
+ * fq_seat_end; FQ_BAD_WEIGHT, and nothing is done, of a weight that isn't 1 to 64. */
+FQ_CHECKED static inline uint32_t fq_seat_end_unmasked(struct fq_handle *FQ_RESTRICT seat, const struct fq_card *FQ_RESTRICT card, size_t weight, size_t *FQ_RESTRICT work, uint32_t *FQ_RESTRICT next) {
+    struct fq_poll_counts counts; /* of a seat that polls alone */
+    uint64_t word;
+    *next = FQ_NEXT_GONE;
+    if (weight < 1 || weight > 64) return FQ_BAD_WEIGHT;
+    uint32_t said = fq_seat_look(seat, &word);
+    if (said == FQ_OK && word & FQ_BIT_IN_BUSY_POLL) return fq_seat_end(seat, false, next);
+    if (said == FQ_OK) said = fq_counts(seat, &counts);
     if (said != FQ_OK) return said;
-    const uint32_t kind = word & FQ_BIT_THREADED ? FQ_THREAD : FQ_LIST;
-    *next = kind == FQ_THREAD ? FQ_NEXT_AGAIN_THREAD : FQ_NEXT_AGAIN;
-    return fq_seat_hand(seat, kind);
+    if (*work < weight) {
+        card->unmask(card->at);
+        *work += card->poll(card->at, weight - *work);
+        if (*work >= weight) card->mask(card->at);
+    }
+    if (*work >= weight) return fq_seat_end(seat, true, next);
+    do said = fq_seat_complete(seat);
+    while (said == FQ_CHANGED);
+    if (said == FQ_RELEASED) return FQ_OK;
+    if (said != FQ_AGAIN) return said;
+    card->mask(card->at);
+    return fq_seat_hand_again(seat, next);
 }
 
 /* The controller's. Off: enable. On: mark. Marked: try to take, until FQ_TAKEN, which is off again (napi_disable). */
 FQ_CHECKED uint32_t fq_control_enable(struct fq_handle *control, bool threaded); /* FQ_OK, FQ_CHANGED */
 FQ_CHECKED uint32_t fq_control_mark(struct fq_handle *control);                  /* FQ_OK */
 FQ_CHECKED uint32_t fq_control_try_take(struct fq_handle *control);              /* FQ_TAKEN, FQ_BUSY, FQ_CHANGED */
+
+/* One step of a driver's open (on) or stop, to be made between its polls until it answers FQ_OK: it is enabled, or off. FQ_BUSY: a
+ * disable is pending, and who has the instance has to complete it first; then step again. FQ_NOT_ALLOWED to open what isn't off;
+ * FQ_BAD_HANDLE. What is off already stays so, by FQ_OK. */
+FQ_CHECKED static inline uint32_t fq_control_step(struct fq_handle *control, bool on, bool threaded) {
+    uint32_t said;
+    if (on) {
+        do said = fq_control_enable(control, threaded);
+        while (said == FQ_CHANGED);
+        return said;
+    }
+    const uint32_t marked = fq_control_mark(control); /* not allowed of one that is marked, or off */
+    if (marked != FQ_OK && marked != FQ_NOT_ALLOWED) return marked;
+    do said = fq_control_try_take(control);
+    while (said == FQ_CHANGED);
+    return said == FQ_BUSY || said == FQ_BAD_HANDLE ? said : (uint32_t)FQ_OK;
+}
 
 /* ---- Polling runs (net_rx_action), which the caller drives: begin; while next is FQ_OK, poll that device and tell; end. */
 
@@ -373,16 +492,16 @@ struct fq_run_report {
 
 FQ_CHECKED uint32_t fq_list_new(struct fq_handle *list);
 /* Puts a number at the list's tail: FQ_OK; FQ_IN_USE where it is on the list, or waits in the run over it; FQ_FULL where list and
- * run hold 64. */
+ * run hold 64, the one that is being polled among them: so of 64 numbers, end that poll by FQ_NEXT_AGAIN in place of a push. */
 FQ_CHECKED uint32_t fq_list_push(struct fq_handle *list, uint32_t id);
-/* How many numbers list and run hold: FQ_OK, FQ_BAD_HANDLE. */
+/* How many numbers list and run hold, with the one that is being polled: FQ_OK, FQ_BAD_HANDLE. */
 FQ_CHECKED uint32_t fq_list_len(struct fq_handle *FQ_RESTRICT list, uint32_t *FQ_RESTRICT len);
 /* Begins a run: FQ_OK, FQ_BAD_WEIGHT, FQ_BAD_BUDGET, FQ_NOT_ALLOWED where one is under way. */
 FQ_CHECKED uint32_t fq_run_begin(struct fq_handle *list, uint32_t budget, uint32_t weight, uint32_t window);
 /* The number to be polled next: FQ_OK, FQ_DONE, FQ_NOT_ALLOWED. */
 FQ_CHECKED uint32_t fq_run_next(struct fq_handle *FQ_RESTRICT list, uint32_t *FQ_RESTRICT id);
 /* What its poll did: FQ_OK, FQ_BAD_WORK above the weight, FQ_BAD_NEXT, FQ_NOT_ALLOWED; FQ_IN_USE where it would be listed a second
- * time, and it is still to be told. */
+ * time, and it is still to be told. That FQ_NEXT_REPOLL is of a whole weight, and FQ_NEXT_ABSENT of no packet, isn't tested. */
 FQ_CHECKED uint32_t fq_run_polled(struct fq_handle *list, uint32_t work, uint32_t next);
 /* Ends it; what wasn't polled, and what is to be polled again, is on the list: FQ_OK, FQ_NOT_ALLOWED. */
 FQ_CHECKED uint32_t fq_run_end(struct fq_handle *FQ_RESTRICT list, struct fq_run_report *FQ_RESTRICT report);
@@ -399,6 +518,9 @@ struct fq_word {
 FQ_NONNULL static inline bool fq_word_raise(struct fq_word *word, uint32_t bit) {
     return __atomic_fetch_or(&word->private_bits, UINT64_C(1) << (bit & 63), __ATOMIC_SEQ_CST) == 0;
 }
+
+/* Whether a bit is raised: the poller's look before it sleeps. */
+FQ_NONNULL static inline bool fq_word_any(const struct fq_word *word) { return __atomic_load_n(&word->private_bits, __ATOMIC_SEQ_CST) != 0; }
 
 /* Takes all bits, which are 0 then. */
 FQ_NONNULL static inline uint64_t fq_word_take(struct fq_word *word) { return __atomic_exchange_n(&word->private_bits, UINT64_C(0), __ATOMIC_SEQ_CST); }
@@ -425,7 +547,7 @@ struct fq_replayed {
 /* Replays a trace of len bytes into an array of room bytes: FQ_OK, and its first replayed->length bytes are the report, with no 0
  * behind them. FQ_NO_ROOM: replayed->length is the room that it takes. FQ_BAD_TRACE: replayed->fault and replayed->row tell why.
  * FQ_BAD_WEIGHT, else FQ_BAD_BUDGET of the settings; FQ_OUT_OF_MEMORY. The array is as it was on all but FQ_OK. Of an empty trace or
- * array the pointer leads to some byte. */
+ * array the pointer leads to some byte. An instance's thread polls at most 131072 times at a time, which no trace of 100000 rows meets. */
 FQ_CHECKED uint32_t fq_replay(const struct fq_settings *FQ_RESTRICT settings, const uint8_t *FQ_RESTRICT trace, size_t len, uint8_t *FQ_RESTRICT report, size_t room, struct fq_replayed *FQ_RESTRICT replayed);
 
 /* The name of a trace's fault, as "BadHeader"; "?" of a number that is none. */

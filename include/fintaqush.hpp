@@ -1,7 +1,7 @@
 // Fintaqush for C++17: the calls of fintaqush.h with the state of a seat in its type, so that a call that the state doesn't have
 // doesn't compile. Header only. Nothing is copied, and nothing throws but what the standard containers do where memory is out.
 // Everything that fintaqush.h wants of its caller holds here too. What is destroyed is given up (fq_abandon): an instance whose
-// poller was destroyed is polled no more.
+// poller was destroyed is polled no more. What was moved from answers as what leads to nothing: FQ_BAD_HANDLE, none, 0, or itself.
 #ifndef FINTAQUSH_HPP
 #define FINTAQUSH_HPP
 
@@ -23,15 +23,64 @@ namespace fintaqush {
 using Status = fq_status;
 using Kind = fq_kind;
 using Packets = std::array<fq_packet, 64>;
-using TxState = struct ::fq_tx_state;
+using TxState = fq_tx_shown;
+using TxWatchdog = fq_tx_watchdog;
+using Counts = fq_poll_counts;
+using Totals = fq_totals;
 
 namespace detail {
 // A call that the type allows is made: its number has nothing else to say.
-inline void made(std::uint32_t) {}
+inline void made(std::uint32_t) noexcept {}
+
+// The card of C's calls over a card's members, which don't throw.
+template <class Card>
+void mask(void *at) noexcept { static_cast<Card *>(at)->mask(); }
+template <class Card>
+void unmask(void *at) noexcept { static_cast<Card *>(at)->unmask(); }
+template <class Card>
+bool look(void *at) noexcept { return static_cast<Card *>(at)->look(); }
+template <class Card>
+std::size_t poll(void *at, std::size_t most) noexcept { return static_cast<Card *>(at)->poll(most); }
 } // namespace detail
 
+// The most packets that one poll gives, 1 to 64.
+class Weight {
+public:
+    constexpr Weight() noexcept : packets_(64) {}
+    // Of a number that the compiler sees; another than 1 to 64 doesn't compile.
+    template <std::size_t PACKETS>
+    [[nodiscard]] static constexpr Weight of() noexcept {
+        static_assert(PACKETS >= 1 && PACKETS <= 64, "a weight is 1 to 64");
+        return Weight(PACKETS);
+    }
+    // None of another number than 1 to 64.
+    [[nodiscard]] static constexpr std::optional<Weight> make(std::size_t packets) noexcept {
+        if (packets < 1 || packets > 64) return std::nullopt;
+        return Weight(packets);
+    }
+    [[nodiscard]] constexpr std::size_t get() const noexcept { return packets_; }
+
+private:
+    explicit constexpr Weight(std::size_t packets) noexcept : packets_(packets) {}
+    std::size_t packets_;
+};
+
+// A word of pending bits, which threads share.
+class Word {
+public:
+    // Raises a bit, 0 to 63, and answers whether the word was 0: then the poller is to be woken.
+    [[nodiscard]] bool raise(std::uint32_t bit) noexcept { return fq_word_raise(&raw_, bit); }
+    // Takes all bits, which are 0 then.
+    [[nodiscard]] std::uint64_t take() noexcept { return fq_word_take(&raw_); }
+    // Whether a bit is raised.
+    [[nodiscard]] bool any() const noexcept { return fq_word_any(&raw_); }
+
+private:
+    fq_word raw_{};
+};
+
 // What the library has on the heap. It is moved, and never copied.
-class Handle {
+class [[nodiscard]] Handle {
 public:
     Handle() = default;
     Handle(Handle &&other) noexcept : raw_(std::exchange(other.raw_, fq_handle FQ_NONE)) {}
@@ -46,10 +95,10 @@ public:
     Handle &operator=(const Handle &) = delete;
     ~Handle() { give_up(); }
 
-    fq_handle *raw() { return &raw_; }
+    [[nodiscard]] fq_handle *raw() noexcept { return &raw_; }
 
 private:
-    void give_up() {
+    void give_up() noexcept {
         if (raw_.private_set) detail::made(fq_abandon(&raw_));
     }
 
@@ -57,10 +106,10 @@ private:
 };
 
 // A byte queue limit. Moments are milliseconds of the caller's clock.
-class Limit {
+class [[nodiscard]] Limit {
 public:
     // None where min is above max, or max above 1879048192.
-    static std::optional<Limit> make(std::uint32_t min, std::uint32_t max, std::uint64_t hold_ms, std::uint64_t now_ms) {
+    [[nodiscard]] static std::optional<Limit> make(std::uint32_t min, std::uint32_t max, std::uint64_t hold_ms, std::uint64_t now_ms) {
         Limit made;
         if (fq_dql_init(&made.raw_, min, max, hold_ms, now_ms) != FQ_OK) return std::nullopt;
         return std::optional<Limit>(std::move(made));
@@ -75,9 +124,9 @@ public:
         return Status(fq_dql_completed(&raw_, count, now_ms));
     }
     void reset(std::uint64_t now_ms) { fq_dql_reset(&raw_, now_ms); }
-    std::uint32_t limit() const { return fq_dql_limit_here(&raw_); }
-    std::int64_t avail() const { return fq_dql_avail_here(&raw_); }
-    std::uint32_t in_flight() const { return fq_dql_in_flight_here(&raw_); }
+    [[nodiscard]] std::uint32_t limit() const { return fq_dql_limit_here(&raw_); }
+    [[nodiscard]] std::int64_t avail() const { return fq_dql_avail_here(&raw_); }
+    [[nodiscard]] std::uint32_t in_flight() const { return fq_dql_in_flight_here(&raw_); }
 
 private:
     Limit() = default;
@@ -85,11 +134,11 @@ private:
 };
 
 // A transmit ring under a byte queue limit: it keeps the sizes of the packets that were sent and aren't complete.
-class TxRing {
+class [[nodiscard]] TxRing {
 public:
     // None where the places aren't 1 to 65536, min is above max, max above 1879048192, or memory is out.
-    static std::optional<TxRing> make(std::size_t capacity, std::uint32_t min, std::uint32_t max, std::uint64_t hold_ms,
-                                      std::uint64_t now_ms) {
+    [[nodiscard]] static std::optional<TxRing> make(std::size_t capacity, std::uint32_t min, std::uint32_t max,
+                                                    std::uint64_t hold_ms, std::uint64_t now_ms) {
         Handle at;
         if (fq_tx_new(at.raw(), capacity, min, max, hold_ms, now_ms) != FQ_OK) return std::nullopt;
         return std::optional<TxRing>(TxRing(std::move(at)));
@@ -97,19 +146,25 @@ public:
 
     [[nodiscard]] Status send(std::uint32_t bytes) { return Status(fq_tx_send(at_.raw(), bytes)); }
     [[nodiscard]] Status done(std::uint32_t count, std::uint64_t now_ms) { return Status(fq_tx_done(at_.raw(), count, now_ms)); }
-    TxState state() {
+    [[nodiscard]] TxState state() {
         TxState shown{};
         detail::made(fq_tx_state(at_.raw(), &shown));
         return shown;
     }
+    // Whether it has been stopped, with no byte completed, for limit_ms; of each tick of a timer (fq_tx_watch).
+    [[nodiscard]] bool watch(TxWatchdog &watchdog, std::uint64_t limit_ms, std::uint64_t now_ms) {
+        bool stuck = false;
+        detail::made(fq_tx_watch(at_.raw(), &watchdog, limit_ms, now_ms, &stuck));
+        return stuck;
+    }
 
 private:
-    explicit TxRing(Handle &&at) : at_(std::move(at)) {}
+    explicit TxRing(Handle &&at) noexcept : at_(std::move(at)) {}
     Handle at_;
 };
 
 // An instance of one thread, whose calls are told at run time.
-class SerialNapi {
+class [[nodiscard]] SerialNapi {
 public:
     explicit SerialNapi(std::uint32_t controller) : raw_(fq_napi_new(controller)) {}
     [[nodiscard]] Status schedule(std::uint32_t who) { return Status(fq_napi_schedule(&raw_, who)); }
@@ -123,7 +178,7 @@ public:
     [[nodiscard]] Status take_disable(std::uint32_t who) { return Status(fq_napi_take_disable(&raw_, who)); }
     [[nodiscard]] Status unmark(std::uint32_t who) { return Status(fq_napi_unmark(&raw_, who)); }
     [[nodiscard]] Status enable(std::uint32_t who, bool threaded) { return Status(fq_napi_enable(&raw_, who, threaded)); }
-    std::uint64_t word() const { return fq_napi_word(&raw_); }
+    [[nodiscard]] std::uint64_t word() const { return fq_napi_word(&raw_); }
 
 private:
     fq_napi raw_;
@@ -132,33 +187,89 @@ private:
 class Caller;
 class Granted;
 class Polling;
+class Busy;
 struct Shared;
+struct Bare;
 
 // A request for a poll: FQ_GRANTED with the grant, FQ_MISSED or FQ_DISABLED with the caller as it was.
 struct Scheduled;
 // A take: the poller, or the caller where the instance wasn't there.
 using Took = std::variant<Caller, Polling>;
+// The start of busy polling, or the caller where the instance isn't idle.
+using TookBusy = std::variant<Caller, Busy>;
 // The end of a poll: the caller at rest, or, where a request was missed, the grant of one more.
 using Completed = std::variant<Caller, Granted>;
+// The end of a poll as the kernel ends it: the caller at rest with what a run is told, or who polls on, of a thread's full poll.
+struct Ended;
+using End = std::variant<Ended, Polling>;
+
+namespace detail {
+// A caller, whatever it is.
+class Seat {
+public:
+    // The state word, of the FQ_BIT_.. that are set.
+    [[nodiscard]] std::uint64_t word() {
+        std::uint64_t word = 0;
+        made(fq_seat_look(at_.raw(), &word));
+        return word;
+    }
+
+protected:
+    explicit Seat(Handle &&at) noexcept : at_(std::move(at)) {}
+    Handle at_;
+};
+
+// One that polls.
+class Poller : public Seat {
+public:
+    // Gives the ring's next packets, at most the weight; answers how many.
+    [[nodiscard]] std::size_t poll(Packets &out, Weight weight = Weight()) {
+        std::size_t count = 0;
+        made(fq_seat_poll(at_.raw(), weight.get(), out.data(), out.size(), &count));
+        return count;
+    }
+    // What is counted of the ring's polls.
+    [[nodiscard]] Counts counts() {
+        Counts counts{};
+        made(fq_counts(at_.raw(), &counts));
+        return counts;
+    }
+
+protected:
+    using Seat::Seat;
+};
+} // namespace detail
 
 // A caller at rest.
-class Caller {
+class [[nodiscard]] Caller : public detail::Seat {
 public:
-    [[nodiscard]] Scheduled schedule() &&;
-    [[nodiscard]] Took take(Kind kind) &&;
+    [[nodiscard]] Scheduled schedule() && noexcept;
+    [[nodiscard]] Took take(Kind kind) && noexcept;
+    // Takes an idle instance to busy poll it (napi_busy_loop).
+    [[nodiscard]] TookBusy busy() && noexcept;
+    // An interrupt: schedules, and hands over where it was granted: FQ_GRANTED, FQ_MISSED, FQ_DISABLED.
+    [[nodiscard]] Status interrupt(Kind kind) { return Status(fq_seat_interrupt(at_.raw(), kind)); }
+    // The same, with card.mask() between the grant and the hand-over.
+    template <class Card>
+    [[nodiscard]] Status interrupt(Kind kind, Card &card) {
+        const fq_card calls = {&card, detail::mask<Card>, nullptr, nullptr, nullptr};
+        return Status(fq_seat_interrupt_masked(at_.raw(), kind, &calls));
+    }
+    // Whether polls are handed to the instance's own thread (dev_set_threaded).
+    void set_threaded(bool threaded) { detail::made(fq_seat_set_threaded(at_.raw(), threaded)); }
 
 private:
     friend class Granted;
     friend class Polling;
     friend struct Shared;
-    explicit Caller(Handle &&at) : at_(std::move(at)) {}
-    Handle at_;
+    friend struct Bare;
+    using Seat::Seat;
 };
 
 // A caller to whom the instance was granted, and who has to hand it over.
-class Granted {
+class [[nodiscard]] Granted : public detail::Seat {
 public:
-    [[nodiscard]] Caller hand(Kind kind) && {
+    [[nodiscard]] Caller hand(Kind kind) && noexcept {
         detail::made(fq_seat_hand(at_.raw(), kind));
         return Caller(std::move(at_));
     }
@@ -166,30 +277,25 @@ public:
 private:
     friend class Caller;
     friend class Polling;
-    explicit Granted(Handle &&at) : at_(std::move(at)) {}
-    Handle at_;
+    using Seat::Seat;
 };
 
 // A caller that polls the instance.
-class Polling {
+class [[nodiscard]] Polling : public detail::Poller {
 public:
-    // Gives the ring's next packets, at most weight, which is 1 to 64; answers how many.
-    std::size_t poll(Packets &out, std::size_t weight = 64) {
-        std::size_t count = 0;
-        detail::made(fq_seat_poll(at_.raw(), weight, out.data(), out.size(), &count));
-        return count;
-    }
-    [[nodiscard]] Caller requeue() && {
+    [[nodiscard]] Caller requeue() && noexcept {
         detail::made(fq_seat_requeue(at_.raw()));
         return Caller(std::move(at_));
     }
-    // Ends the poll as the kernel does, after a full one or one that wasn't full, and tells a run how it ended.
-    [[nodiscard]] std::pair<Caller, fq_next> end(bool full) && {
-        std::uint32_t next = FQ_NEXT_GONE;
-        detail::made(fq_seat_end(at_.raw(), full, &next));
-        return {Caller(std::move(at_)), fq_next(next)};
-    }
-    [[nodiscard]] Completed complete() && {
+    // Ends the poll as the kernel does (fq_seat_end), after a full one or one that wasn't full.
+    [[nodiscard]] End end(bool full) && noexcept;
+    // The same of a card that can be looked at (fq_seat_end_watched): card.unmask(), look() and mask() are called, and don't throw.
+    template <class Card>
+    [[nodiscard]] End end_watched(bool full, Card &card) && noexcept;
+    // The same of one that can't (fq_seat_end_unmasked), of which work packets were polled: card.unmask(), poll(most) and mask().
+    template <class Card>
+    [[nodiscard]] End end_unmasked(Card &card, Weight weight, std::size_t &work) && noexcept;
+    [[nodiscard]] Completed complete() && noexcept {
         std::uint32_t said;
         do said = fq_seat_complete(at_.raw());
         while (said == FQ_CHANGED);
@@ -199,16 +305,39 @@ public:
 
 private:
     friend class Caller;
-    explicit Polling(Handle &&at) : at_(std::move(at)) {}
-    Handle at_;
+    friend class Busy;
+    using Poller::Poller;
+    End ended(std::uint32_t said, std::uint32_t next) noexcept;
 };
 
-struct Scheduled {
+// A caller that busy polls the instance.
+class [[nodiscard]] Busy : public detail::Poller {
+public:
+    // Completes a poll below its weight (napi_complete_done), and busy polls on.
+    void complete_held() { detail::made(fq_seat_complete(at_.raw())); }
+    // Stops busy polling (busy_poll_stop): one poll has to follow.
+    [[nodiscard]] Polling stop() && noexcept {
+        while (fq_seat_busy_stop(at_.raw()) == FQ_CHANGED) {
+        }
+        return Polling(std::move(at_));
+    }
+
+private:
+    friend class Caller;
+    using Poller::Poller;
+};
+
+struct [[nodiscard]] Scheduled {
     Status status;
     std::variant<Caller, Granted> next;
 };
 
-inline Scheduled Caller::schedule() && {
+struct [[nodiscard]] Ended {
+    Caller caller;
+    fq_next next;
+};
+
+inline Scheduled Caller::schedule() && noexcept {
     std::uint32_t said;
     do said = fq_seat_schedule(at_.raw());
     while (said == FQ_CHANGED);
@@ -216,9 +345,44 @@ inline Scheduled Caller::schedule() && {
     return {Status(said), Caller(std::move(at_))};
 }
 
-inline Took Caller::take(Kind kind) && {
+inline Took Caller::take(Kind kind) && noexcept {
     if (fq_seat_take(at_.raw(), kind) == FQ_TAKEN) return Took(Polling(std::move(at_)));
     return Took(Caller(std::move(at_)));
+}
+
+inline TookBusy Caller::busy() && noexcept {
+    std::uint32_t said;
+    do said = fq_seat_busy_take(at_.raw());
+    while (said == FQ_CHANGED);
+    if (said == FQ_TAKEN) return TookBusy(Busy(std::move(at_)));
+    return TookBusy(Caller(std::move(at_)));
+}
+
+inline End Polling::ended(std::uint32_t said, std::uint32_t next) noexcept {
+    if (said == FQ_HELD) return End(Polling(std::move(at_)));
+    return End(Ended{Caller(std::move(at_)), fq_next(next)});
+}
+
+inline End Polling::end(bool full) && noexcept {
+    std::uint32_t next;
+    const std::uint32_t said = fq_seat_end(at_.raw(), full, &next);
+    return ended(said, next);
+}
+
+template <class Card>
+End Polling::end_watched(bool full, Card &card) && noexcept {
+    const fq_card calls = {&card, detail::mask<Card>, detail::unmask<Card>, detail::look<Card>, nullptr};
+    std::uint32_t next;
+    const std::uint32_t said = fq_seat_end_watched(at_.raw(), full, &calls, &next);
+    return ended(said, next);
+}
+
+template <class Card>
+End Polling::end_unmasked(Card &card, Weight weight, std::size_t &work) && noexcept {
+    const fq_card calls = {&card, detail::mask<Card>, detail::unmask<Card>, nullptr, detail::poll<Card>};
+    std::uint32_t next;
+    const std::uint32_t said = fq_seat_end_unmasked(at_.raw(), &calls, weight.get(), &work, &next);
+    return ended(said, next);
 }
 
 struct Off {};
@@ -233,58 +397,65 @@ template <>
 class Control<Marked>;
 
 template <>
-class Control<On> {
+class [[nodiscard]] Control<On> {
 public:
-    [[nodiscard]] Control<Marked> mark() &&;
+    [[nodiscard]] Control<Marked> mark() && noexcept;
     // napi_disable: leaves the processor to others while someone has the instance.
-    [[nodiscard]] Control<Off> disable() &&;
+    [[nodiscard]] Control<Off> disable() && noexcept;
 
 private:
     friend class Control<Off>;
-    explicit Control(Handle &&at) : at_(std::move(at)) {}
+    explicit Control(Handle &&at) noexcept : at_(std::move(at)) {}
     Handle at_;
 };
 
 template <>
-class Control<Off> {
+class [[nodiscard]] Control<Off> {
 public:
-    [[nodiscard]] Control<On> enable(bool threaded) && {
+    [[nodiscard]] Control<On> enable(bool threaded) && noexcept {
         while (fq_control_enable(at_.raw(), threaded) == FQ_CHANGED) {
         }
         return Control<On>(std::move(at_));
+    }
+    // What is counted of the ring's polls.
+    [[nodiscard]] Counts counts() {
+        Counts counts{};
+        detail::made(fq_counts(at_.raw(), &counts));
+        return counts;
     }
 
 private:
     friend class Control<Marked>;
     friend struct Shared;
-    explicit Control(Handle &&at) : at_(std::move(at)) {}
+    friend struct Bare;
+    explicit Control(Handle &&at) noexcept : at_(std::move(at)) {}
     Handle at_;
 };
 
 template <>
-class Control<Marked> {
+class [[nodiscard]] Control<Marked> {
 public:
     // Takes the instance where nobody has it, else the answer is this again.
-    [[nodiscard]] std::variant<Control<Marked>, Control<Off>> try_take() && {
+    [[nodiscard]] std::variant<Control<Marked>, Control<Off>> try_take() && noexcept {
         std::uint32_t said;
         do said = fq_control_try_take(at_.raw());
         while (said == FQ_CHANGED);
-        if (said == FQ_TAKEN) return Control<Off>(std::move(at_));
-        return Control<Marked>(std::move(at_));
+        if (said == FQ_BUSY) return Control<Marked>(std::move(at_));
+        return Control<Off>(std::move(at_));
     }
 
 private:
     friend class Control<On>;
-    explicit Control(Handle &&at) : at_(std::move(at)) {}
+    explicit Control(Handle &&at) noexcept : at_(std::move(at)) {}
     Handle at_;
 };
 
-inline Control<Marked> Control<On>::mark() && {
+inline Control<Marked> Control<On>::mark() && noexcept {
     detail::made(fq_control_mark(at_.raw()));
     return Control<Marked>(std::move(at_));
 }
 
-inline Control<Off> Control<On>::disable() && {
+inline Control<Off> Control<On>::disable() && noexcept {
     auto marked = std::move(*this).mark();
     for (;;) {
         auto tried = std::move(marked).try_take();
@@ -294,8 +465,8 @@ inline Control<Off> Control<On>::disable() && {
     }
 }
 
-// The input end of an instance's ring.
-class Input {
+// The input end of a ring, whose other end an instance has, or an Output.
+class [[nodiscard]] Input {
 public:
     // False where the ring is full.
     [[nodiscard]] bool put(std::uint64_t number, std::uint32_t bytes) {
@@ -311,40 +482,129 @@ public:
     }
 
 private:
+    friend class Ring;
     friend struct Shared;
-    explicit Input(Handle &&at) : at_(std::move(at)) {}
+    explicit Input(Handle &&at) noexcept : at_(std::move(at)) {}
     Handle at_;
 };
 
+// The other end of a ring, where no instance has it.
+class [[nodiscard]] Output {
+public:
+    [[nodiscard]] std::size_t poll(Packets &out, Weight weight = Weight()) {
+        std::size_t count = 0;
+        detail::made(fq_ring_poll(at_.raw(), weight.get(), out.data(), out.size(), &count));
+        return count;
+    }
+    [[nodiscard]] Counts counts() {
+        Counts counts{};
+        detail::made(fq_counts(at_.raw(), &counts));
+        return counts;
+    }
+
+private:
+    friend class Ring;
+    explicit Output(Handle &&at) noexcept : at_(std::move(at)) {}
+    Handle at_;
+};
+
+// A receive ring without an instance, both ends in one hand.
+class [[nodiscard]] Ring {
+public:
+    // A ring of 1 to 65536 places; none where these are out of range, or memory is out.
+    [[nodiscard]] static std::optional<Ring> make(std::size_t capacity) {
+        Handle at;
+        if (fq_ring_new(at.raw(), capacity) != FQ_OK) return std::nullopt;
+        return std::optional<Ring>(Ring(std::move(at)));
+    }
+
+    [[nodiscard]] bool put(std::uint64_t number, std::uint32_t bytes) { return input_.put(number, bytes); }
+    [[nodiscard]] std::size_t put_all(const fq_packet *packets, std::size_t len) { return input_.put_all(packets, len); }
+    [[nodiscard]] std::size_t poll(Packets &out, Weight weight = Weight()) {
+        std::size_t count = 0;
+        detail::made(fq_ring_poll(input_.at_.raw(), weight.get(), out.data(), out.size(), &count));
+        return count;
+    }
+    [[nodiscard]] Counts counts() {
+        Counts counts{};
+        detail::made(fq_counts(input_.at_.raw(), &counts));
+        return counts;
+    }
+    // Its two ends, each for a thread of its own; none where memory is out, and the ring is as it was.
+    [[nodiscard]] std::optional<std::pair<Input, Output>> split() && {
+        Handle out;
+        if (fq_ring_split(input_.at_.raw(), out.raw()) != FQ_OK) return std::nullopt;
+        return std::pair<Input, Output>(std::move(input_), Output(std::move(out)));
+    }
+    // Its end, with its totals.
+    [[nodiscard]] Totals finish() && {
+        Totals totals{};
+        detail::made(fq_ring_finish(input_.at_.raw(), &totals));
+        return totals;
+    }
+
+private:
+    explicit Ring(Handle &&at) noexcept : input_(std::move(at)) {}
+    Input input_;
+};
+
+namespace detail {
+// 2 to 8 seats, as callers. The room for them is there before a seat is, so that none is lost where memory is out.
+template <class Make, class ToCaller>
+std::optional<std::vector<Caller>> callers(std::size_t count, Make make, ToCaller to_caller) {
+    if (count < 2 || count > 8) return std::nullopt;
+    std::vector<Caller> made;
+    made.reserve(count);
+    fq_handle seats[8] = {};
+    const std::uint32_t said = make(seats);
+    for (std::size_t i = 0; i < count; i++) {
+        Handle seat;
+        *seat.raw() = std::exchange(seats[i], fq_handle FQ_NONE);
+        made.push_back(to_caller(std::move(seat)));
+    }
+    if (said != FQ_OK) return std::nullopt;
+    return made;
+}
+} // namespace detail
+
 // An instance that threads share: its ring's input, its controller, and its callers.
-struct Shared {
+struct [[nodiscard]] Shared {
     Input input;
     Control<Off> control;
     std::vector<Caller> callers;
 
     // A ring of 1 to 65536 places and 2 to 8 callers; none where these are out of range, or memory is out.
-    static std::optional<Shared> make(std::size_t capacity, std::size_t callers) {
-        if (callers < 2 || callers > 8) return std::nullopt;
+    [[nodiscard]] static std::optional<Shared> make(std::size_t capacity, std::size_t callers) {
         Handle ring, control;
-        fq_handle seats[8] = {};
         if (fq_ring_new(ring.raw(), capacity) != FQ_OK) return std::nullopt;
-        const std::uint32_t said = fq_shared_new(ring.raw(), control.raw(), seats, callers);
-        std::vector<Caller> made;
-        made.reserve(callers);
-        for (std::size_t i = 0; i < callers; i++) {
-            Handle seat;
-            *seat.raw() = std::exchange(seats[i], fq_handle FQ_NONE);
-            made.push_back(Caller(std::move(seat)));
-        }
-        if (said != FQ_OK) return std::nullopt;
-        return Shared{Input(std::move(ring)), Control<Off>(std::move(control)), std::move(made)};
+        auto made = detail::callers(
+            callers, [&](fq_handle *seats) { return fq_shared_new(ring.raw(), control.raw(), seats, callers); },
+            [](Handle &&seat) { return Caller(std::move(seat)); });
+        if (!made) return std::nullopt;
+        return Shared{Input(std::move(ring)), Control<Off>(std::move(control)), std::move(*made)};
+    }
+};
+
+// An instance over no ring, whose polls read what they will: its controller, and its callers.
+struct [[nodiscard]] Bare {
+    Control<Off> control;
+    std::vector<Caller> callers;
+
+    // 2 to 8 callers; none where these are out of range, or memory is out.
+    [[nodiscard]] static std::optional<Bare> make(std::size_t callers) {
+        Handle control;
+        auto made = detail::callers(
+            callers, [&](fq_handle *seats) { return fq_shared_bare(control.raw(), seats, callers); },
+            [](Handle &&seat) { return Caller(std::move(seat)); });
+        if (!made) return std::nullopt;
+        return Bare{Control<Off>(std::move(control)), std::move(*made)};
     }
 };
 
 // A poll list of one thread.
-class List {
+class [[nodiscard]] List {
 public:
-    static std::optional<List> make() {
+    [[nodiscard]] static std::optional<List> make() {
         Handle at;
         if (fq_list_new(at.raw()) != FQ_OK) return std::nullopt;
         return std::optional<List>(List(std::move(at)));
@@ -353,31 +613,45 @@ public:
     // False where the number is listed already, or list and run hold 64.
     [[nodiscard]] bool push(std::uint32_t id) { return fq_list_push(at_.raw(), id) == FQ_OK; }
     // How many numbers list and run hold.
-    std::uint32_t size() {
+    [[nodiscard]] std::uint32_t size() {
         std::uint32_t len = 0;
         detail::made(fq_list_len(at_.raw(), &len));
         return len;
     }
 
     // A run (net_rx_action): poll(id, weight) answers the packets that it gave, and how the poll ended. None where the weight isn't
-    // 1 to 64, budget or window not 1 to 65535, or poll answers more than its weight. poll may push to this list.
+    // 1 to 64, budget or window not 1 to 65535, or poll answers more than its weight. poll may push to this list; where it throws the
+    // run ends too: its device is listed no more, all others are.
     template <class Poll>
     [[nodiscard]] std::optional<fq_run_report> run(std::uint32_t budget, std::uint32_t weight, std::uint32_t window, Poll poll) {
         if (fq_run_begin(at_.raw(), budget, weight, window) != FQ_OK) return std::nullopt;
-        bool good = true;
+        Run run{at_.raw(), {}};
         std::uint32_t id = 0;
-        while (good && fq_run_next(at_.raw(), &id) == FQ_OK) {
+        while (fq_run_next(at_.raw(), &id) == FQ_OK) {
             const std::pair<std::uint32_t, fq_next> did = poll(id, weight);
-            good = fq_run_polled(at_.raw(), did.first, did.second) == FQ_OK;
+            if (fq_run_polled(at_.raw(), did.first, did.second) != FQ_OK) return std::nullopt;
         }
-        fq_run_report report{};
-        if (!good) detail::made(fq_run_polled(at_.raw(), 0, FQ_NEXT_ABSENT));
-        if (fq_run_end(at_.raw(), &report) != FQ_OK || !good) return std::nullopt;
-        return report;
+        if (!run.end()) return std::nullopt;
+        return run.report;
     }
 
 private:
-    explicit List(Handle &&at) : at_(std::move(at)) {}
+    // A run under way, which ends with its scope. A call is refused, and changes nothing, where there is nothing left to end.
+    struct Run {
+        fq_handle *at;
+        fq_run_report report;
+
+        Run(fq_handle *list, fq_run_report none) noexcept : at(list), report(none) {}
+        Run(const Run &) = delete;
+        Run &operator=(const Run &) = delete;
+        bool end() noexcept { return fq_run_end(at, &report) == FQ_OK; }
+        ~Run() {
+            detail::made(fq_run_polled(at, 0, FQ_NEXT_ABSENT));
+            end();
+        }
+    };
+
+    explicit List(Handle &&at) noexcept : at_(std::move(at)) {}
     Handle at_;
 };
 

@@ -4,7 +4,7 @@
  *
  * Who is done with a buffer releases it before the call that gives it on: the put, or the next poll. Who gets it acquires it behind
  * the call that gives it: the poll, or the put that finds a place free. A poller's own data goes so from poller to poller, by an
- * address that stands for the instance: released before complete, requeue or hand, acquired behind take.
+ * address that stands for the instance: released before complete, requeue, hand or an end, acquired behind take.
  */
 #ifndef FINTAQUSH_TSAN_H
 #define FINTAQUSH_TSAN_H

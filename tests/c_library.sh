@@ -16,7 +16,7 @@ compile() {
     local compiler=$1 source=$2 program=$3 standard=-std=c11
     shift 3
     case $source in *.cpp) standard=-std=c++17 ;; esac
-    "$compiler" "$standard" -Wall -Wextra -Werror -pthread -I "$top/include" "$@" "$source" "$scratch/libfintaqush.a" -o "$program"
+    "$compiler" "$standard" -Wall -Wextra -Wshadow -Werror -pthread -I "$top/include" "$@" "$source" "$scratch/libfintaqush.a" -o "$program"
 }
 
 # compared STDOUT COMMAND ..: it ends well, and prints just this.
@@ -110,9 +110,19 @@ check 'the hammer, another seed' compared "$scratch/hammered" "$scratch/hammer" 
 check 'bursts in C++ compile' compile g++ "$top/tests/c/bursts.cpp" "$scratch/bursts" -O2
 check 'bursts in C++' "$scratch/bursts"
 
+# ---- a model card
+
+points=-Wl,--wrap=fq_seat_schedule,--wrap=fq_seat_hand,--wrap=fq_seat_take,--wrap=fq_seat_requeue,--wrap=fq_seat_complete
+echo 'the card hangs without a look and by a late mask, and never else' > "$scratch/hung"
+check 'the model card compiles' compile gcc "$top/tests/c/card.c" "$scratch/card" -O2 "$points"
+check 'the model card' compared "$scratch/hung" "$scratch/card"
+
 # ---- each allocation refused
 
 wraps=-Wl,--wrap=malloc,--wrap=realloc,--wrap=free
+echo 'the types answer as they have to' > "$scratch/typed"
+check 'types.cpp compiles' compile g++ "$top/tests/c/types.cpp" "$scratch/types" -O2 "$wraps"
+check 'the types of C++' compared "$scratch/typed" "$scratch/types"
 echo 'each allocation was refused, and told' > "$scratch/told"
 check 'refuse.c compiles' compile gcc "$top/tests/c/refuse.c" "$scratch/refuse" -O2 "$wraps"
 check 'each allocation refused in turn' compared "$scratch/told" "$scratch/refuse"
@@ -202,6 +212,8 @@ sanitized() {
     check "$name: the hammer" compared "$scratch/hammered" "$scratch/sanitized"
     check "$name: refuse.c compiles" compile gcc "$top/tests/c/refuse.c" "$scratch/sanitized" -O1 -g "$flag" -fno-sanitize-recover=all "$wraps"
     check "$name: each allocation refused in turn" compared "$scratch/told" "$scratch/sanitized"
+    check "$name: types.cpp compiles" compile g++ "$top/tests/c/types.cpp" "$scratch/sanitized" -O1 -g "$flag" -fno-sanitize-recover=all "$wraps"
+    check "$name: the types of C++" compared "$scratch/typed" "$scratch/sanitized"
     check "$name: the replay compiles" compile gcc "$top/tests/c/replay.c" "$scratch/sanitized" -O1 -g "$flag" -fno-sanitize-recover=all
     check "$name: the replay" as_the_tool "$scratch/sanitized" "$scratch/long.csv" 300 64 1024
     check "$name: the replay of a fault" as_the_tool "$scratch/sanitized" "$scratch/pending.csv" 300 64 1024
@@ -212,16 +224,29 @@ sanitized 'addresses, leaks and undefined behaviour' -fsanitize=address,undefine
 sanitized 'threads' -fsanitize=thread
 
 if command -v valgrind > /dev/null; then
-    check 'compiles for valgrind' compile gcc "$examples/threads.c" "$scratch/threads" -O1 -g
-    check 'valgrind: threads' compared "$examples/threads.stdout" \
-        valgrind -q --fair-sched=yes --leak-check=full --show-leak-kinds=all --error-exitcode=9 "$scratch/threads"
+    for name in threads threaded; do
+        check 'compiles for valgrind' compile gcc "$examples/$name.c" "$scratch/$name" -O1 -g
+        check "valgrind: $name" compared "$examples/$name.stdout" \
+            valgrind -q --fair-sched=yes --leak-check=full --show-leak-kinds=all --error-exitcode=9 "$scratch/$name"
+    done
     check 'compiles for valgrind' compile gcc "$top/tests/c/hammer.c" "$scratch/hammer" -O1 -g
     check 'valgrind: the hammer' compared "$scratch/hammered" \
         valgrind -q --leak-check=full --show-leak-kinds=all --error-exitcode=9 "$scratch/hammer"
 fi
 
-# ---- what compilers refuse
+# ---- what compilers take, and what they refuse
 
+cat > "$scratch/tells.c" << 'END'
+#include <fintaqush.h>
+int main(void) {
+    struct fq_handle seat = FQ_NONE, list = FQ_NONE;
+    uint32_t next;
+    if (fq_seat_end(&seat, true, &next) == FQ_NOT_ALLOWED) return 1;
+    return fq_run_polled(&list, 64, next) == FQ_BAD_HANDLE ? 0 : 2;
+}
+END
+check 'how a poll ended is set, whatever the answer is' compile gcc "$scratch/tells.c" "$scratch/tells" -O2
+check 'what it is then' "$scratch/tells"
 cat > "$scratch/null.c" << 'END'
 #include <fintaqush.h>
 int main(void) { return (int)fq_free(NULL); }
@@ -233,6 +258,11 @@ END
 cat > "$scratch/polls.cpp" << 'END'
 #include <fintaqush.hpp>
 void poll(fintaqush::Caller &caller, fintaqush::Packets &out) { caller.poll(out); }
+int main() {}
+END
+cat > "$scratch/weighs.cpp" << 'END'
+#include <fintaqush.hpp>
+std::size_t poll(fintaqush::Polling &polling, fintaqush::Packets &out) { return polling.poll(out, fintaqush::Weight::of<65>()); }
 int main() {}
 END
 cat > "$scratch/copies.cpp" << 'END'
@@ -248,6 +278,7 @@ END
 check 'a null handle is refused' refused nonnull compile gcc "$scratch/null.c" "$scratch/refused"
 check 'an answer that nobody reads is refused' refused unused-result compile gcc "$scratch/ignored.c" "$scratch/refused"
 check 'a poll by a Caller is refused' refused "has no member named .poll" compile g++ "$scratch/polls.cpp" "$scratch/refused"
+check 'a weight of 65 is refused' refused 'a weight is 1 to 64' compile g++ "$scratch/weighs.cpp" "$scratch/refused"
 check 'a copy of a Caller is refused' refused 'deleted' compile g++ "$scratch/copies.cpp" "$scratch/refused"
 check 'a second enable is refused' refused "has no member named .enable" compile g++ "$scratch/enables.cpp" "$scratch/refused"
 

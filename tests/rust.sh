@@ -75,6 +75,7 @@ check 'without the library it says what is missing' asks_for_the_library "$scrat
 check 'the path of the library has to be whole' asks_for_the_library elsewhere
 check 'its tests' of test --tests
 check 'its doc tests' of test --doc
+check 'its docs have no warnings' env RUSTDOCFLAGS=-Dwarnings cargo doc --offline --locked --quiet --no-deps --manifest-path "$crate/Cargo.toml"
 check 'the example threads' compared "$scratch/target/debug/examples/threads"
 check 'it builds as a release' of build --release --example threads
 check 'the example threads as a release' compared "$scratch/target/release/examples/threads"

@@ -1,12 +1,12 @@
-/* Buffers used in turn, with no list of free ones: as many as the ring has places, 64 for a poll, and one in the interrupt's hands.
- * An interrupt thread writes 200000 packets into them, and a poller reads each as it was written. A packet's number is its buffer's
+/* Buffers used in turn, with no list of free ones: as many as the ring has places, 64 for a poll, and a burst in the interrupt's hands.
+ * An interrupt thread writes 200000 packets into them, and puts them in bursts; a poller reads each as it was written. A packet's number is its buffer's
  * address. The calls of fintaqush_tsan.h are for ThreadSanitizer alone. */
 #include <fintaqush_tsan.h>
 #include <pthread.h>
 #include <sched.h>
 #include <stdio.h>
 
-enum { PACKETS = 200000, WEIGHT = 64, PLACES = 256, BUFFERS = PLACES + WEIGHT + 1, BYTES = 60 };
+enum { PACKETS = 200000, WEIGHT = 64, PLACES = 256, BURST = 16, BUFFERS = PLACES + WEIGHT + BURST, BYTES = 60 };
 
 static unsigned char buffers[BUFFERS][BYTES];
 
@@ -20,13 +20,19 @@ struct interrupts {
 
 static void *interrupt(void *at) {
     struct interrupts *irq = at;
-    for (uint64_t i = 0; i < PACKETS; i++) {
-        unsigned char *buffer = buffers[i % BUFFERS];
-        /* the last put found a place free that a later poll emptied than the one that gave this buffer's last packet */
-        fq_tsan_acquire(buffer);
-        for (int k = 0; k < BYTES; k++) buffer[k] = written(i);
-        fq_tsan_release(buffer);
-        while (fq_ring_put(irq->ring, (uintptr_t)buffer, BYTES) == FQ_FULL) sched_yield();
+    struct fq_packet burst[BURST];
+    for (uint64_t first = 0; first < PACKETS; first += BURST) {
+        for (size_t i = 0; i < BURST; i++) {
+            unsigned char *buffer = buffers[(first + i) % BUFFERS];
+            /* the last put found a place free that a later poll emptied than the one that gave this buffer's last packet */
+            fq_tsan_acquire(buffer);
+            for (int k = 0; k < BYTES; k++) buffer[k] = written(first + i);
+            fq_tsan_release(buffer);
+            burst[i] = (struct fq_packet){(uintptr_t)buffer, BYTES};
+        }
+        for (size_t put = 0, count; put < BURST; put += count) {
+            if (fq_ring_put_all(irq->ring, burst + put, BURST - put, &count) == FQ_FULL) sched_yield();
+        }
         const uint32_t said = fq_seat_interrupt(irq->seat, FQ_LIST);
         irq->failed |= said != FQ_GRANTED && said != FQ_MISSED;
     }
@@ -39,13 +45,9 @@ struct poller {
     bool failed;
 };
 
-/* Ends a poll: one of the whole weight is requeued, any other completed. */
 static bool end_poll(struct fq_handle *seat, size_t count) {
-    if (count == WEIGHT) return fq_seat_requeue(seat) == FQ_OK;
-    uint32_t said;
-    do said = fq_seat_complete(seat);
-    while (said == FQ_CHANGED);
-    return said == FQ_RELEASED || (said == FQ_AGAIN && fq_seat_hand(seat, FQ_LIST) == FQ_OK);
+    uint32_t next;
+    return fq_seat_end(seat, count == WEIGHT, &next) == FQ_OK;
 }
 
 /* Reads the next packet, and answers whether it is there as it was written. */
@@ -76,13 +78,10 @@ static void *poll_all(void *at) {
 
 /* napi_disable. What lies on the list when it is asked for is taken and completed by the poller's seat. */
 static bool disable(struct fq_handle *control, struct fq_handle *seat) {
-    if (fq_control_mark(control) != FQ_OK) return false;
-    for (;;) {
-        const uint32_t said = fq_control_try_take(control);
-        if (said == FQ_TAKEN) return true;
-        if (said != FQ_BUSY && said != FQ_CHANGED) return false;
+    uint32_t said;
+    while ((said = fq_control_step(control, false, false)) == FQ_BUSY)
         if (fq_seat_take(seat, FQ_LIST) == FQ_TAKEN && !end_poll(seat, 0)) return false;
-    }
+    return said == FQ_OK;
 }
 
 int main(void) {

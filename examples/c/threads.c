@@ -27,13 +27,9 @@ struct poller {
     bool failed;
 };
 
-/* Ends a poll: one of the whole weight is requeued, any other completed. */
 static bool end_poll(struct fq_handle *seat, size_t count) {
-    if (count == WEIGHT) return fq_seat_requeue(seat) == FQ_OK;
-    uint32_t said;
-    do said = fq_seat_complete(seat);
-    while (said == FQ_CHANGED);
-    return said == FQ_RELEASED || (said == FQ_AGAIN && fq_seat_hand(seat, FQ_LIST) == FQ_OK);
+    uint32_t next;
+    return fq_seat_end(seat, count == WEIGHT, &next) == FQ_OK;
 }
 
 static void *poll_all(void *at) {
@@ -54,13 +50,10 @@ static void *poll_all(void *at) {
 
 /* napi_disable. What lies on the list when it is asked for is taken and completed by the poller's seat. */
 static bool disable(struct fq_handle *control, struct fq_handle *seat) {
-    if (fq_control_mark(control) != FQ_OK) return false;
-    for (;;) {
-        const uint32_t said = fq_control_try_take(control);
-        if (said == FQ_TAKEN) return true;
-        if (said != FQ_BUSY && said != FQ_CHANGED) return false;
+    uint32_t said;
+    while ((said = fq_control_step(control, false, false)) == FQ_BUSY)
         if (fq_seat_take(seat, FQ_LIST) == FQ_TAKEN && !end_poll(seat, 0)) return false;
-    }
+    return said == FQ_OK;
 }
 
 int main(void) {

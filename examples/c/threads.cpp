@@ -5,26 +5,18 @@
 using namespace fintaqush;
 
 constexpr std::uint64_t PACKETS = 200000;
-constexpr std::size_t WEIGHT = 64;
 
 static void interrupt(Input &input, std::optional<Caller> &caller) {
     for (std::uint64_t i = 0; i < PACKETS; i++) {
         while (!input.put(i, 60)) std::this_thread::yield();
-        auto said = std::move(*caller).schedule();
-        if (auto *granted = std::get_if<Granted>(&said.next)) {
-            caller = std::move(*granted).hand(FQ_LIST);
-        } else {
-            caller = std::move(std::get<Caller>(said.next));
-        }
+        static_cast<void>(caller->interrupt(FQ_LIST));
     }
 }
 
-// Ends a poll: one of the whole weight is requeued, any other completed.
+// Ends a poll. It was taken from the list, so that none is held.
 static Caller end_poll(Polling polling, std::size_t count) {
-    if (count == WEIGHT) return std::move(polling).requeue();
-    auto done = std::move(polling).complete();
-    if (auto *again = std::get_if<Granted>(&done)) return std::move(*again).hand(FQ_LIST);
-    return std::move(std::get<Caller>(done));
+    auto end = std::move(polling).end(count == Weight().get());
+    return std::move(std::get<Ended>(end).caller);
 }
 
 static void poll_all(std::optional<Caller> &caller, bool &good) {
@@ -33,7 +25,7 @@ static void poll_all(std::optional<Caller> &caller, bool &good) {
     while (next < PACKETS && good) {
         auto took = std::move(*caller).take(FQ_LIST);
         if (auto *polling = std::get_if<Polling>(&took)) {
-            const auto count = polling->poll(out, WEIGHT);
+            const auto count = polling->poll(out);
             for (std::size_t i = 0; i < count; i++) good = good && out[i].number == next++ && out[i].bytes == 60;
             caller = end_poll(std::move(*polling), count);
         } else {

@@ -16,7 +16,7 @@ int main() {
     auto took = std::move(*granted).hand(FQ_LIST).take(FQ_LIST);
     auto *polling = std::get_if<Polling>(&took);
     Packets out;
-    if (!polling || polling->poll(out, 64) != 2) return 4;
+    if (!polling || polling->poll(out) != 2) return 4;
     static_cast<void>(on);
     return out[0].number == 1 && out[0].bytes == 60 && out[1].number == 2 && out[1].bytes == 61 ? 0 : 5;
 }

@@ -102,28 +102,86 @@ static void look(uint32_t who) {
     want("the word", word == fq_napi_word(&peer), 1);
 }
 
-/* Ends a poll, and so does the peer. */
+/* A card, which tells what was done with it. */
+static bool is_masked, is_there;
+static size_t most_asked, polled_more;
+static void mask(void *at) { (void)at, is_masked = true; }
+static void unmask(void *at) { (void)at, is_masked = false; }
+static bool look_at(void *at) { return (void)at, is_there; }
+static size_t poll_at(void *at, size_t most) { return (void)at, most_asked = most, polled_more = random_below((uint32_t)most + 1); }
+static const struct fq_card card = {NULL, mask, unmask, look_at, poll_at};
+
+static void interrupt_masked(uint32_t who) {
+    const uint32_t kind = random_below(3);
+    uint32_t wanted = kind > 1 ? FQ_BAD_KIND : FQ_NOT_ALLOWED;
+    if (kind <= 1 && rests(who)) wanted = fq_napi_schedule(&peer, who);
+    is_masked = false;
+    if (wanted == FQ_GRANTED) want("hand", fq_napi_hand(&peer, who, kind), FQ_OK);
+    want("an interrupt that masks", fq_seat_interrupt_masked(&seats[who], kind, &card), wanted);
+    want("masked exactly where it was granted", is_masked == (wanted == FQ_GRANTED), 1);
+}
+
+/* Completes the peer, and hands it over again: how it ended, or FQ_HELD. */
+static uint32_t peer_ends(uint32_t who, uint32_t *next) {
+    const uint32_t kind = peer.threaded ? FQ_THREAD : FQ_LIST, said = fq_napi_complete(&peer, who);
+    *next = FQ_NEXT_GONE;
+    if (said != FQ_AGAIN) return said == FQ_RELEASED ? (uint32_t)FQ_OK : said;
+    *next = kind == FQ_THREAD ? FQ_NEXT_AGAIN_THREAD : FQ_NEXT_AGAIN;
+    return fq_napi_hand(&peer, who, kind);
+}
+
+/* The peer's end of a poll, full or not. */
+static uint32_t peer_end(uint32_t who, bool full, uint32_t *next) {
+    *next = FQ_NEXT_GONE;
+    if (!polls(who) && !busy_polls(who)) return FQ_NOT_ALLOWED;
+    if (busy_polls(who) || !full || peer.disable) return peer_ends(who, next);
+    if (peer.sched_threaded) return FQ_HELD;
+    *next = FQ_NEXT_REPOLL;
+    return fq_napi_hand(&peer, who, FQ_LIST);
+}
+
 static void end(uint32_t who) {
     const bool full = random_below(2);
-    uint32_t wanted = FQ_NOT_ALLOWED, next = 99, wanted_next = 99;
-    if (polls(who) && full && !peer.disable) {
-        wanted = fq_napi_hand(&peer, who, FQ_LIST), wanted_next = FQ_NEXT_REPOLL;
-    } else if (busy_polls(who) && full && !peer.disable) {
-        wanted = FQ_NOT_ALLOWED; /* a busy poller requeues nothing */
-    } else if (polls(who) || busy_polls(who)) {
-        wanted = fq_napi_complete(&peer, who);
-        if (wanted == FQ_RELEASED) wanted = FQ_OK, wanted_next = FQ_NEXT_GONE;
-        if (wanted == FQ_AGAIN) {
-            wanted_next = peer.threaded ? FQ_NEXT_AGAIN_THREAD : FQ_NEXT_AGAIN;
-            wanted = fq_napi_hand(&peer, who, peer.threaded ? FQ_THREAD : FQ_LIST);
-        }
-    }
+    uint32_t next = 99, wanted_next;
+    const uint32_t wanted = peer_end(who, full, &wanted_next);
     want("end", fq_seat_end(&seats[who], full, &next), wanted);
     want("how it ended", next, wanted_next);
 }
 
+static void end_watched(uint32_t who) {
+    const bool full = random_below(2);
+    uint32_t next = 99, wanted_next;
+    const uint32_t wanted = peer_end(who, full, &wanted_next);
+    bool wanted_masked = true;
+    is_masked = true, is_there = random_below(2);
+    if (wanted == FQ_OK && wanted_next == FQ_NEXT_GONE) {
+        wanted_masked = is_there && fq_napi_schedule(&peer, who) == FQ_GRANTED;
+        if (wanted_masked) {
+            wanted_next = peer.threaded ? FQ_NEXT_AGAIN_THREAD : FQ_NEXT_AGAIN;
+            want("hand", fq_napi_hand(&peer, who, peer.threaded ? FQ_THREAD : FQ_LIST), FQ_OK);
+        }
+    }
+    want("end, watched", fq_seat_end_watched(&seats[who], full, &card, &next), wanted);
+    want("how it ended, watched", next, wanted_next);
+    want("masked, watched", is_masked == wanted_masked, 1);
+}
+
+static void end_unmasked(uint32_t who) {
+    const size_t weight = random_below(67), before = random_below((uint32_t)weight + 1);
+    size_t work = before;
+    uint32_t next = 99, wanted_next = FQ_NEXT_GONE, wanted = FQ_BAD_WEIGHT;
+    const bool was_polling = polls(who), asks = before < weight && was_polling && weight - 1 < 64;
+    is_masked = true, most_asked = polled_more = 0;
+    const uint32_t said = fq_seat_end_unmasked(&seats[who], &card, weight, &work, &next);
+    if (weight - 1 < 64) wanted = peer_end(who, work == weight, &wanted_next);
+    want("end, unmasked", said, wanted);
+    want("how it ended, unmasked", next, wanted_next);
+    want("the rest of the weight", most_asked == (asks ? weight - before : 0) && work == before + polled_more, 1);
+    want("masked, unmasked", is_masked == (!asks || work == weight || wanted_next != FQ_NEXT_GONE), 1);
+}
+
 static void count(uint32_t who) {
-    struct fq_counts counts = {1, 2, 3};
+    struct fq_poll_counts counts = {1, 2, 3};
     const bool has = polls(who) || busy_polls(who);
     want("counts of a seat", fq_counts(&seats[who], &counts), has ? FQ_OK : FQ_NOT_ALLOWED);
     want("the counts", has ? counts.packets == given : counts.polls == 1 && counts.packets == 2 && counts.bytes == 3, 1);
@@ -145,7 +203,7 @@ static void ends(uint32_t many) {
     struct fq_handle whole = FQ_NONE, out = FQ_NONE;
     struct fq_packet packets[64];
     struct fq_totals totals;
-    struct fq_counts counts;
+    struct fq_poll_counts counts;
     uint64_t word = 7;
     size_t polled;
     want("a ring to be split", fq_ring_new(&whole, 4), FQ_OK);
@@ -200,6 +258,7 @@ static void raise(void) {
     static struct fq_word word;
     static uint64_t bits;
     const uint32_t bit = random_below(64);
+    want("any", fq_word_any(&word), bits != 0);
     if (random_below(4)) {
         want("raise", fq_word_raise(&word, bit), bits == 0);
         bits |= UINT64_C(1) << bit;
@@ -212,7 +271,6 @@ static void raise(void) {
 static void others_of_seat(uint32_t who) {
     const uint32_t which = random_below(64);
     if (which < 24) look(who);
-    else if (which < 36) end(who);
     else if (which < 48) count(who);
     else if (which < 56) move(who);
     else if (which < 60) raise();
@@ -245,7 +303,9 @@ static void enable(void) {
     want("enable", fq_control_enable(&control, threaded), wanted);
 }
 
+/* Seldom, so that most polls are of an instance that isn't to be disabled. */
 static void mark(void) {
+    if (random_below(8)) return;
     const bool on = peer.place != 5 && !is_marked;
     const uint32_t wanted = on ? fq_napi_mark_disable(&peer, CONTROLLER) : (uint32_t)FQ_NOT_ALLOWED;
     is_marked |= on;
@@ -260,6 +320,18 @@ static void try_take(void) {
         is_marked = false;
     }
     want("try to take", fq_control_try_take(&control), wanted);
+}
+
+static void step(void) {
+    const bool on = random_below(8), threaded = random_below(2), off = peer.place == 5;
+    uint32_t wanted = FQ_OK;
+    if (on) wanted = off ? fq_napi_enable(&peer, CONTROLLER, threaded) : (uint32_t)FQ_NOT_ALLOWED;
+    else if (!off) {
+        if (!is_marked) want("mark", fq_napi_mark_disable(&peer, CONTROLLER), FQ_OK);
+        is_marked = fq_napi_take_disable(&peer, CONTROLLER) != FQ_TAKEN;
+        wanted = is_marked ? FQ_BUSY : fq_napi_unmark(&peer, CONTROLLER);
+    }
+    want("step", fq_control_step(&control, on, threaded), wanted);
 }
 
 /* Handles of other kinds, none at all, and what may not be freed. */
@@ -280,6 +352,11 @@ static void wrong(uint32_t who) {
     want("next of a seat", fq_run_next(&seats[who], &id), FQ_BAD_HANDLE);
     want("push to nothing", fq_list_push(&none, 1), FQ_BAD_HANDLE);
     want("free of nothing", fq_free(&none), FQ_BAD_HANDLE);
+    want("end of nothing", fq_seat_end(&none, true, &id), FQ_BAD_HANDLE);
+    want("end of nothing, watched", fq_seat_end_watched(&ring, true, &card, &id), FQ_BAD_HANDLE);
+    want("end of nothing, unmasked", fq_seat_end_unmasked(&control, &card, 64, &count, &id), FQ_BAD_HANDLE);
+    want("how it ended", id, FQ_NEXT_GONE);
+    want("a step of a seat", fq_control_step(&seats[who], random_below(2), false), FQ_BAD_HANDLE);
     want("a ring in a seat", fq_ring_new(&seats[who], 4), FQ_IN_USE);
     want("a list in a seat", fq_list_new(&seats[who]), FQ_IN_USE);
     if (!rests(who)) want("free of a seat that doesn't rest", fq_free(&seats[who]), FQ_NOT_ALLOWED);
@@ -287,11 +364,12 @@ static void wrong(uint32_t who) {
 }
 
 static void one_call(void) {
-    static void (*const of_seat[])(uint32_t) = {schedule, hand, take, requeue, complete, busy_take, busy_stop, set_threaded, poll, wrong, others_of_seat};
-    static void (*const others[])(void) = {put, burst, enable, mark, try_take};
-    const uint32_t which = random_below(20);
-    if (which < 15) of_seat[which % 11](random_below(SEATS));
-    else others[which - 15]();
+    static void (*const of_seat[])(uint32_t) = {schedule, hand, take, requeue, complete, busy_take, busy_stop, set_threaded, poll, wrong, others_of_seat,
+        interrupt_masked, take, end, end_watched, end_unmasked};
+    static void (*const others[])(void) = {put, burst, enable, mark, try_take, step};
+    const uint32_t which = random_below(22);
+    if (which < 16) of_seat[which](random_below(SEATS));
+    else others[which - 16]();
 }
 
 /* A transmit ring, beside a queue limit and the sizes that are kept here. */
@@ -301,6 +379,7 @@ static struct fq_dql limit;
 static uint32_t sizes[PLACES], first_size, waiting, all_sent, all_done;
 static uint64_t now;
 static bool is_stopped;
+static unsigned long is_stuck; /* how often it was found so */
 
 static void send(void) {
     const uint32_t bytes = random_below(50) ? random_below(1500) : UINT32_C(268435456) - random_below(2);
@@ -329,8 +408,24 @@ static void done(void) {
     is_stopped = is_stopped && fq_dql_avail(&limit) < 0;
 }
 
+/* Whether it has been stopped since so long, with nothing done. */
+static void watch(void) {
+    static struct fq_tx_watchdog watchdog;
+    static bool was_stopped;
+    static uint32_t was_done;
+    static uint64_t since;
+    bool stuck = true;
+    if (!is_stopped || !was_stopped || was_done != all_done) was_stopped = is_stopped, was_done = all_done, since = now;
+    want("watch", fq_tx_watch(&tx, &watchdog, 500, now, &stuck), FQ_OK);
+    want("stuck", stuck == (is_stopped && now - since >= 500), 1);
+    want("watch of a ring", fq_tx_watch(&ring, &watchdog, 0, now, &stuck), FQ_BAD_HANDLE);
+    want("not stuck", !stuck, 1);
+    is_stuck += is_stopped && now - since >= 500;
+    now += random_below(100);
+}
+
 static void show(void) {
-    struct fq_tx_state state;
+    struct fq_tx_shown state;
     want("state", fq_tx_state(&tx, &state), FQ_OK);
     want("queued", state.queued == all_sent && state.completed == all_done, 1);
     want("limit", state.limit == fq_dql_limit(&limit) && state.avail == fq_dql_avail(&limit), 1);
@@ -339,7 +434,7 @@ static void show(void) {
 
 static void wrong_for_tx(void) {
     struct fq_handle none = FQ_NONE;
-    struct fq_tx_state state = {1, 2, 3, 4, true};
+    struct fq_tx_shown state = {1, 2, 3, 4, true};
     want("send by nothing", fq_tx_send(&none, 1), FQ_BAD_HANDLE);
     want("send by a ring", fq_tx_send(&ring, 1), FQ_BAD_HANDLE);
     want("done by a seat", fq_tx_done(&seats[0], 0, now), FQ_BAD_HANDLE);
@@ -354,8 +449,8 @@ static void wrong_for_tx(void) {
 }
 
 static void call_of_tx(void) {
-    static void (*const calls[])(void) = {send, send, send, done, show, wrong_for_tx};
-    calls[random_below(6)]();
+    static void (*const calls[])(void) = {send, send, send, done, show, watch, wrong_for_tx};
+    calls[random_below(7)]();
 }
 
 /* A list and its runs, beside numbers that are counted here. */
@@ -442,6 +537,7 @@ int main(int count, char **words) {
     for (uint32_t i = FQ_GRANTED; i <= FQ_MORE_THAN_SENT; i++) {
         if (i != FQ_CHANGED && !seen[i]) return printf("never answered: %s\n", fq_status_name(i)), 1;
     }
+    if (is_stuck == 0 && calls >= 1000000) return printf("the transmit ring was never stuck\n"), 1;
     if (!seen[FQ_NOT_ALLOWED] || given < calls / 100) return printf("too few packets: %" PRIu64 "\n", given), 1;
     printf("%lu calls, each answered as it has to be\n", calls);
     return 0;

@@ -40,7 +40,7 @@ static void want(bool holds, const char *what, long call) {
 
 /* What was made, of which nothing may be left. */
 enum { HANDLES = 10 };
-static struct fq_handle handles[HANDLES];
+static struct fq_handle handles[HANDLES], list, tx;
 
 static void give_up(void) {
     for (int i = 0; i < HANDLES; i++) {
@@ -73,6 +73,60 @@ static uint32_t make_shared(void) {
 }
 static bool shared_works(void) {
     return takes_two(&handles[0]) && fq_control_enable(&handles[1], false) == FQ_OK && fq_seat_schedule(&handles[9]) == FQ_GRANTED;
+}
+
+static uint32_t make_bare(void) { return fq_shared_bare(&handles[1], &handles[2], 8); }
+static bool bare_works(void) { return fq_control_enable(&handles[1], false) == FQ_OK && fq_seat_schedule(&handles[9]) == FQ_GRANTED; }
+
+static uint32_t make_split(void) {
+    const uint32_t said = fq_ring_new(&handles[0], 2);
+    if (said != FQ_OK) return said;
+    const uint32_t split = fq_ring_split(&handles[0], &handles[1]);
+    struct fq_totals totals;
+    /* where memory is out the ring is whole */
+    if (split == FQ_OUT_OF_MEMORY) want(fq_ring_finish(&handles[0], &totals) == FQ_OK, "a ring that wasn't split", refused_call);
+    return split;
+}
+static bool split_works(void) {
+    struct fq_packet out[2];
+    size_t count = 0;
+    return takes_two(&handles[0]) && fq_ring_poll(&handles[1], 2, out, 2, &count) == FQ_OK && count == 2;
+}
+
+/* All calls but those that the header names: none takes memory, or gives it. */
+static void take_none(void) {
+    struct fq_packet packets[2] = {{1, 60}, {2, 60}};
+    struct fq_poll_counts counts;
+    struct fq_run_report report;
+    struct fq_tx_shown state;
+    uint32_t next, id;
+    uint64_t word;
+    size_t count;
+    want(make_shared() == FQ_OK && fq_list_new(&list) == FQ_OK && fq_tx_new(&tx, 2, 0, 1000, 1000, 0) == FQ_OK, "no memory", 0);
+    const long before = blocks;
+    struct fq_handle *const irq = &handles[2], *const poller = &handles[3];
+    calls = 0;
+    bool good = fq_control_enable(&handles[1], false) == FQ_OK && fq_ring_put(&handles[0], 0, 60) == FQ_OK;
+    good = good && fq_ring_put_all(&handles[0], packets, 2, &count) == FQ_FULL && fq_seat_interrupt(irq, FQ_LIST) == FQ_GRANTED;
+    good = good && fq_seat_take(poller, FQ_LIST) == FQ_TAKEN && fq_seat_poll(poller, 2, packets, 2, &count) == FQ_OK;
+    good = good && fq_counts(poller, &counts) == FQ_OK && fq_seat_look(poller, &word) == FQ_OK && fq_seat_end(poller, true, &next) == FQ_OK;
+    good = good && fq_seat_take(poller, FQ_LIST) == FQ_TAKEN && fq_seat_end(poller, false, &next) == FQ_OK;
+    good = good && fq_seat_busy_take(poller) == FQ_TAKEN && fq_seat_complete(poller) == FQ_HELD && fq_seat_busy_stop(poller) == FQ_OK;
+    good = good && fq_seat_complete(poller) == FQ_RELEASED && fq_seat_set_threaded(poller, true) == FQ_OK;
+    good = good && fq_control_mark(&handles[1]) == FQ_OK && fq_control_try_take(&handles[1]) == FQ_TAKEN;
+    for (uint32_t i = 0; i < 64; i++) good = good && fq_list_push(&list, i) == FQ_OK;
+    good = good && fq_run_begin(&list, 300, 64, 1024) == FQ_OK;
+    while (good && fq_run_next(&list, &id) == FQ_OK) good = fq_run_polled(&list, 64, FQ_NEXT_REPOLL) == FQ_OK;
+    good = fq_run_end(&list, &report) == FQ_OK && good;
+    good = good && fq_tx_send(&tx, 60) == FQ_OK && fq_tx_done(&tx, 1, 1) == FQ_OK && fq_tx_state(&tx, &state) == FQ_OK;
+    want(good, "a call that takes no memory", 0);
+    want(calls == 0 && blocks == before, "a call takes memory, or gives it", calls);
+    /* as the header says, before the handle is looked at */
+    struct fq_handle out = FQ_NONE;
+    want(fq_ring_split(irq, &out) == FQ_BAD_HANDLE && calls == 1 && blocks == before, "a split of a seat", calls);
+    want(fq_abandon(&list) == FQ_OK && fq_abandon(&tx) == FQ_OK, "the end", 0);
+    give_up();
+    want(blocks == 0, "something is left on the heap", 0);
 }
 
 static const char trace[] = "moment,device,event,value\n0,1,open,4\n0,2,open,4\n1,1,rx,100\n1,2,rx,60\n2,0,softirq,0\n3,1,tx,9\n";
@@ -117,6 +171,9 @@ int main(void) {
     want(refuse_each("a list", make_list, list_works) > 0, "a list takes no memory", 0);
     want(refuse_each("a shared instance", make_shared, shared_works) > 8, "a shared instance takes no memory", 0);
     want(refuse_each("a replay", make_replay, replay_works) > 0, "a replay takes no memory", 0);
+    want(refuse_each("a bare instance", make_bare, bare_works) > 8, "a bare instance takes no memory", 0);
+    want(refuse_each("a split", make_split, split_works) > 1, "a split takes no memory", 0);
+    take_none();
     puts("each allocation was refused, and told");
     return 0;
 }

@@ -50,7 +50,7 @@ class Dql(ctypes.Structure):
     _fields_ = [("private_a", u32 * 8), ("private_b", u64), ("private_c", u32 * 2), ("private_d", u64)]
 
 
-class DqlNew(ctypes.Structure):
+class DqlMade(ctypes.Structure):
     _fields_ = [("dql", Dql), ("status", u32)]
 
 
@@ -63,7 +63,7 @@ class Packet(ctypes.Structure):
     _fields_ = [("number", u64), ("bytes", u32)]
 
 
-class Counts(ctypes.Structure):
+class PollCounts(ctypes.Structure):
     _fields_ = [("polls", u64), ("packets", u64), ("bytes", u64)]
 
 
@@ -80,7 +80,7 @@ class Replayed(ctypes.Structure):
 
 
 # Those of the header's structs, which have these names there in small letters, on x86-64.
-SIZES = {Handle: 16, Dql: 56, DqlNew: 64, Napi: 16, Packet: 16, Counts: 24, RunReport: 12, Settings: 12, Replayed: 16}
+SIZES = {Handle: 16, Dql: 56, DqlMade: 64, Napi: 16, Packet: 16, PollCounts: 24, RunReport: 12, Settings: 12, Replayed: 16}
 
 try:
     # A call that is short keeps the interpreter's lock, and one that takes long lets it go.
@@ -126,7 +126,7 @@ def checked(said: int) -> Status:
 
 
 abandon = declare("abandon", handle=Handle)
-dql_new = declare("dql_new", DqlNew, min=u32, max=u32, hold_ms=u64, now_ms=u64)
+dql_new = declare("dql_new", DqlMade, min=u32, max=u32, hold_ms=u64, now_ms=u64)
 dql_queued = declare("dql_queued", dql=Dql, count=u32)
 dql_completed = declare("dql_completed", dql=Dql, count=u32, now_ms=u64)
 dql_reset = declare("dql_reset", None, dql=Dql, now_ms=u64)
@@ -149,7 +149,7 @@ napi_word = declare("napi_word", u64, napi=Napi)
 ring_new = declare("ring_new", ring=Handle, capacity=size)
 ring_put = declare("ring_put", ring=Handle, number=u64, bytes=u32)
 ring_poll = declare("ring_poll", ring=Handle, weight=size, out=ctypes.POINTER(Packet), len=size, count=ctypes.POINTER(size))
-counts = declare("counts", handle=Handle, counts=Counts)
+counts = declare("counts", handle=Handle, counts=PollCounts)
 list_new = declare("list_new", list=Handle)
 list_push = declare("list_push", list=Handle, id=u32)
 list_len = declare("list_len", list=Handle, len=ctypes.POINTER(u32))
@@ -170,7 +170,7 @@ def differences() -> Iterator[str]:
         yield "fq_dql"
     if (state.controller, state.sched, state.npsvc, state.missed, napi_word(state)) != (7, True, True, False, 9):
         yield "fq_napi"
-    ring, packets, count, told = Handle(), (Packet * 2)(), size(), Counts()
+    ring, packets, count, told = Handle(), (Packet * 2)(), size(), PollCounts()
     ring_new(ring, 2)
     ring_put(ring, 2**40, 60)
     ring_put(ring, 3, 70)
@@ -180,7 +180,7 @@ def differences() -> Iterator[str]:
     if [(one.number, one.bytes) for one in packets] != [(2**40, 60), (3, 70)] or count.value != 2:
         yield "fq_packet"
     if (told.polls, told.packets, told.bytes) != (1, 2, 130):
-        yield "fq_counts"
+        yield "fq_poll_counts"
     devices, id, ran = Handle(), u32(), RunReport()
     list_new(devices)
     list_push(devices, 7)

@@ -161,7 +161,7 @@ class Ring(_Owned):
     @property
     def counts(self) -> Counts:
         """What its polls gave so far."""
-        counts = c.Counts()
+        counts = c.PollCounts()
         c.counts(self._at, counts)
         return Counts(counts.polls, counts.packets, counts.bytes)
 

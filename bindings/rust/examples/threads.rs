@@ -1,6 +1,6 @@
 //! An interrupt thread and a poller thread share an instance: 200000 packets, or as many as the
 //! first argument says, and each is polled once and in order.
-use fintaqush::{Batch, Caller, Completed, Control, Input, Kind, Marked, Off, Packet, Polling};
+use fintaqush::{Batch, Caller, Control, End, Input, Kind, Marked, Off, Packet, Polling};
 use fintaqush::{Shared, TryTake, Weight};
 use std::error::Error;
 use std::{env, thread};
@@ -20,14 +20,11 @@ fn interrupt(packets: u64, mut input: Input, mut caller: Caller) {
     }
 }
 
-// Ends a poll: one of the whole weight is requeued, any other completed.
+// Ends a poll of what was taken from the list, so that none is held.
 fn end_poll(polling: Polling, gave: usize) -> Caller {
-    if gave == Weight::MAX.get() {
-        return polling.requeue();
-    }
-    match polling.complete() {
-        Completed::Released(caller) => caller,
-        Completed::Again(granted) => granted.hand(Kind::List),
+    match polling.end(gave == Weight::MAX.get()) {
+        End::Over(caller, _) => caller,
+        End::Held(_) => unreachable!("it isn't the instance's thread"),
     }
 }
 

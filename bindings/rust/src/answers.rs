@@ -3,6 +3,7 @@ use crate::busy::Busy;
 use crate::caller::{Caller, Granted};
 use crate::control::{Control, Marked, Off};
 use crate::polling::Polling;
+use crate::words::Next;
 
 /// The answer to one try to schedule.
 #[derive(Debug)]
@@ -46,6 +47,16 @@ pub enum Completed {
     Released(Caller),
     /// A poll was asked for meanwhile: it is this caller's, who has to hand it over again.
     Again(Granted),
+}
+
+/// The answer to the end of a poll as the kernel ends it.
+#[derive(Debug)]
+#[must_use = "a poller that is dropped polls no more"]
+pub enum End {
+    /// The caller at rest, and what a run is told.
+    Over(Caller, Next),
+    /// A full poll of a thread, which polls on, at once.
+    Held(Polling),
 }
 
 /// The answer to one try to busy poll.

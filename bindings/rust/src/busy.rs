@@ -2,7 +2,7 @@
 use crate::answers::TryStop;
 use crate::fault::unexpected;
 use crate::handle::Handle;
-use crate::packets::{Batch, Packet, Weight};
+use crate::packets::{Batch, Counts, Packet, Weight};
 use crate::polling::{self, Polling};
 use crate::sys;
 
@@ -18,6 +18,16 @@ impl Busy {
     /// Polls once: the ring's next packets, at most the weight.
     pub fn poll<'b>(&mut self, weight: Weight, batch: &'b mut Batch) -> &'b [Packet] {
         polling::poll(&mut self.at, weight, batch)
+    }
+
+    /// What the state word tells, of the `FQ_BIT_..` of [`sys`].
+    pub fn look(&mut self) -> u64 {
+        self.at.look()
+    }
+
+    /// What is counted of the ring's polls.
+    pub fn counts(&mut self) -> Counts {
+        self.at.counts()
     }
 
     /// Completes a poll below its weight (`napi_complete_done`, which does nothing under

@@ -1,6 +1,7 @@
 //! A caller of a shared instance at rest, and one to whom the instance was granted.
 use crate::answers::{Sched, TryBusy, TryPrep};
 use crate::busy::Busy;
+use crate::card::Card;
 use crate::fault::unexpected;
 use crate::handle::Handle;
 use crate::polling::Polling;
@@ -94,6 +95,34 @@ impl Caller {
         }
     }
 
+    /// The same, with [`mask`](Card::mask) between the grant and the hand-over, where the kernel
+    /// masks: behind the hand-over the card stays masked where the poller is faster.
+    ///
+    /// Where `mask` panics nobody polls the instance again.
+    pub fn interrupt_masked(&mut self, kind: Kind, card: &mut impl Card) -> Prep {
+        let prep = loop {
+            // SAFETY: the handle is this caller's alone.
+            let said = unsafe { sys::fq_seat_schedule(self.at.raw()) };
+            if let Some(prep) = Prep::of("seat_schedule", said) {
+                break prep;
+            }
+        };
+        if prep == Prep::Granted {
+            card.mask();
+            // SAFETY: the handle is this caller's alone.
+            match unsafe { sys::fq_seat_hand(self.at.raw(), kind.number()) } {
+                sys::FQ_OK => {}
+                said => unexpected("seat_hand", said),
+            }
+        }
+        prep
+    }
+
+    /// What the state word tells, of the `FQ_BIT_..` of [`sys`].
+    pub fn look(&mut self) -> u64 {
+        self.at.look()
+    }
+
     /// Takes the instance from the list or the thread to which it was handed, with its poll context
     /// (`net_rx_action`, `napi_thread_wait`). `Err`: it wasn't there, and nothing changed.
     pub fn take(mut self, kind: Kind) -> Result<Polling, Caller> {
@@ -149,6 +178,11 @@ pub struct Granted {
 }
 
 impl Granted {
+    /// What the state word tells, of the `FQ_BIT_..` of [`sys`].
+    pub fn look(&mut self) -> u64 {
+        self.at.look()
+    }
+
     /// Hands the instance over to the list or to its thread (`____napi_schedule`).
     pub fn hand(mut self, kind: Kind) -> Caller {
         // SAFETY: the handle is this caller's alone.

@@ -2,6 +2,7 @@
 use crate::answers::TryTake;
 use crate::fault::unexpected;
 use crate::handle::Handle;
+use crate::packets::Counts;
 use crate::sys;
 use std::marker::PhantomData;
 use std::thread;
@@ -58,6 +59,11 @@ impl<M: Mode> Control<M> {
 }
 
 impl Control<Off> {
+    /// What is counted of the ring's polls.
+    pub fn counts(&mut self) -> Counts {
+        self.at.counts()
+    }
+
     /// Enables the instance, in one try, and says whether its polls are handed to its own thread
     /// (`napi_enable`). It doesn't wait. `Err`: another thread came between, nothing is decided.
     pub fn try_enable(mut self, threaded: bool) -> Result<Control<On>, Control<Off>> {

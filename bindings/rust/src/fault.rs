@@ -32,6 +32,8 @@ impl Fault {
     pub const MORE_THAN_SENT: Fault = Fault(sys::FQ_MORE_THAN_SENT);
     /// The object's state doesn't have this call.
     pub const NOT_ALLOWED: Fault = Fault(sys::FQ_NOT_ALLOWED);
+    /// List: it has the number already.
+    pub const IN_USE: Fault = Fault(sys::FQ_IN_USE);
     /// Memory is out.
     pub const OUT_OF_MEMORY: Fault = Fault(sys::FQ_OUT_OF_MEMORY);
     /// A receive or a transmit ring has 1 to 65536 places.

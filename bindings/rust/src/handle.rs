@@ -1,4 +1,6 @@
 //! What the library has on the heap.
+use crate::fault::unexpected;
+use crate::packets::Counts;
 use crate::sys;
 
 // One owner of a value of the library's; dropped, it gives the value up.
@@ -14,6 +16,26 @@ unsafe impl Send for Handle {}
 impl Handle {
     // One that leads to nothing.
     pub(crate) const NONE: Handle = Handle(sys::FQ_NONE);
+
+    // What the state word tells, of a caller's.
+    pub(crate) fn look(&mut self) -> u64 {
+        let mut word = 0;
+        // SAFETY: the handle is this caller's alone, and the word lies elsewhere.
+        match unsafe { sys::fq_seat_look(self.raw(), &mut word) } {
+            sys::FQ_OK => word,
+            said => unexpected("seat_look", said),
+        }
+    }
+
+    // What is counted of a ring's polls, of what has its poll end.
+    pub(crate) fn counts(&mut self) -> Counts {
+        let mut counts = Counts::default();
+        // SAFETY: the handle is its owner's alone, and the counts lie elsewhere.
+        match unsafe { sys::fq_counts(self.raw(), &mut counts) } {
+            sys::FQ_OK => counts,
+            said => unexpected("counts", said),
+        }
+    }
 
     // For a call, which has it alone, as nothing here is copied.
     pub(crate) fn raw(&mut self) -> *mut sys::fq_handle {

@@ -6,7 +6,9 @@
 //! - [`Shared`]: an instance that threads share, with its input, its controller and its callers.
 //!   Which call is allowed is shown by types: a call takes the value on which it is made, and gives
 //!   the next one.
+//! - [`Bare`]: such an instance over no ring.
 //! - [`Ring`]: a receive ring, without an instance.
+//! - [`Word`]: pending bits, by which other threads tell a list's poller.
 //! - [`TxRing`]: a transmit ring under a byte queue limit.
 //! - [`List`]: a poll list, and runs over it.
 //! - [`replay`]: the whole replay of a trace, on one thread.
@@ -45,6 +47,7 @@
 mod answers;
 mod busy;
 mod caller;
+mod card;
 mod control;
 mod dql;
 mod fault;
@@ -58,20 +61,23 @@ mod serial;
 mod shared;
 pub mod sys;
 mod transmit;
+mod word;
 mod words;
 
-pub use answers::{Completed, Sched, TryBusy, TryDone, TryPrep, TryStop, TryTake};
+pub use answers::{Completed, End, Sched, TryBusy, TryDone, TryPrep, TryStop, TryTake};
 pub use busy::Busy;
 pub use caller::{Caller, Granted};
+pub use card::{Card, Look, Poll};
 pub use control::{Control, Marked, Mode, Off, On};
 pub use dql::Dql;
 pub use fault::Fault;
 pub use list::{List, Polled, Pushes, RunReport};
-pub use packets::{Batch, Packet, Weight};
+pub use packets::{Batch, Counts, Packet, Totals, Weight};
 pub use polling::Polling;
 pub use replay::{replay, NoReport, Settings};
-pub use ring::{Input, Ring};
+pub use ring::{Input, Output, Ring};
 pub use serial::SerialNapi;
-pub use shared::Shared;
-pub use transmit::{TxRing, TxState};
+pub use shared::{Bare, Shared};
+pub use transmit::{TxRing, TxState, TxWatchdog};
+pub use word::Word;
 pub use words::{Done, Kind, Next, Prep};

@@ -1,11 +1,13 @@
 //! A poller, who has the poll context.
-use crate::answers::{Completed, TryDone};
+use crate::answers::{Completed, End, Sched, TryDone};
 use crate::caller::{Caller, Granted};
+use crate::card::{Look, Poll};
 use crate::fault::unexpected;
 use crate::handle::Handle;
-use crate::packets::{Batch, Packet, Weight};
+use crate::packets::{Batch, Counts, Packet, Weight};
 use crate::sys;
-use crate::words::Next;
+use crate::words::{Kind, Next};
+use std::sync::atomic::{fence, Ordering};
 
 /// A caller that polls the instance. A poll of the whole weight is requeued, any other completed.
 ///
@@ -31,6 +33,16 @@ impl Polling {
         poll(&mut self.at, weight, batch)
     }
 
+    /// What the state word tells, of the `FQ_BIT_..` of [`sys`].
+    pub fn look(&mut self) -> u64 {
+        self.at.look()
+    }
+
+    /// What is counted of the ring's polls.
+    pub fn counts(&mut self) -> Counts {
+        self.at.counts()
+    }
+
     /// The instance is on the list again, behind all others (`net_rx_action`, behind a poll of the
     /// whole weight).
     pub fn requeue(mut self) -> Caller {
@@ -42,14 +54,60 @@ impl Polling {
     }
 
     /// Ends the poll as the kernel does (`__napi_poll`): after a full one, which gave its whole
-    /// weight, it is requeued, unless a disable is pending; else it is completed, and handed over
-    /// again where a request was missed. Tells a run how it ended.
-    pub fn end(mut self, full: bool) -> (Caller, Next) {
+    /// weight, where no disable is pending, it is requeued, or stays with its thread; else it is
+    /// completed, and handed over again where a request was missed.
+    pub fn end(mut self, full: bool) -> End {
         let mut next = 0;
         // SAFETY: the handle is this poller's alone, and the number lies elsewhere.
         match unsafe { sys::fq_seat_end(self.at.raw(), full, &mut next) } {
-            sys::FQ_OK => (Caller { at: self.at }, Next::of("seat_end", next)),
+            sys::FQ_OK => End::Over(Caller { at: self.at }, Next::of("seat_end", next)),
+            sys::FQ_HELD => End::Held(self),
             said => unexpected("seat_end", said),
+        }
+    }
+
+    /// Ends the poll of a card that can be looked at: as [`end`](Polling::end), and where the
+    /// instance was released it unmasks, looks, and if something is there asks for a poll itself,
+    /// masks and hands over. An interrupt of an edge is lost without this look.
+    pub fn end_watched(self, full: bool, card: &mut impl Look) -> End {
+        let caller = match self.end(full) {
+            End::Over(caller, Next::Gone) => caller,
+            other => return other,
+        };
+        card.unmask();
+        fence(Ordering::SeqCst);
+        if !card.look() {
+            return End::Over(caller, Next::Gone);
+        }
+        match caller.schedule() {
+            Sched::Granted(granted) => {
+                card.mask();
+                hand_again(granted)
+            }
+            Sched::Missed(caller) | Sched::Disabled(caller) => End::Over(caller, Next::Gone),
+        }
+    }
+
+    /// Ends the poll of a card that can't be looked at, which gave `work` packets so far: unmasks
+    /// while it polls still, polls the rest of the weight, which `work` then counts too, and ends
+    /// as [`end`](Polling::end). The card is masked where one more poll follows.
+    pub fn end_unmasked(self, card: &mut impl Poll, weight: Weight, work: &mut usize) -> End {
+        if *work < weight.get() {
+            card.unmask();
+            *work += card.poll(weight.get() - *work);
+            if *work >= weight.get() {
+                card.mask();
+            }
+        }
+        if *work >= weight.get() {
+            return self.end(true);
+        }
+        match self.complete() {
+            Completed::Released(caller) => End::Over(caller, Next::Gone),
+            Completed::Again(granted) => {
+                card.mask();
+                hand_again(granted)
+            }
         }
     }
 
@@ -75,6 +133,15 @@ impl Polling {
             }
         }
     }
+}
+
+// Hands over to where `FQ_BIT_THREADED` tells.
+fn hand_again(mut granted: Granted) -> End {
+    let kind = match granted.look() & sys::FQ_BIT_THREADED {
+        0 => Kind::List,
+        _ => Kind::Thread,
+    };
+    End::Over(granted.hand(kind), Next::Again(kind))
 }
 
 // The poll of a handle that has the poll context.

@@ -1,7 +1,7 @@
 //! Receive rings.
 use crate::fault::{unexpected, Fault};
 use crate::handle::Handle;
-use crate::packets::{Batch, Packet, Weight};
+use crate::packets::{Batch, Counts, Packet, Totals, Weight};
 use crate::sys;
 
 /// A receive ring without an instance. Packets that lie in it when it is dropped are the user's
@@ -62,15 +62,65 @@ impl Ring {
 
     /// Takes the first packets out, at most the weight.
     pub fn poll<'b>(&mut self, weight: Weight, batch: &'b mut Batch) -> &'b [Packet] {
-        let at = self.at.raw();
-        batch.filled_by(|out, len, count| {
-            // SAFETY: handle, packets and count are this call's alone, each in a place of its own.
-            unsafe { sys::fq_ring_poll(at, weight.get(), out, len, count) }
-        })
+        poll(&mut self.at, weight, batch)
+    }
+
+    /// What is counted of the ring's polls.
+    pub fn counts(&mut self) -> Counts {
+        self.at.counts()
+    }
+
+    /// Its two ends, each for a thread of its own. [`OUT_OF_MEMORY`](Fault::OUT_OF_MEMORY).
+    ///
+    /// ```
+    /// use fintaqush::{Batch, Fault, Packet, Ring, Weight};
+    ///
+    /// # fn main() -> Result<(), Fault> {
+    /// let (mut input, mut output) = Ring::new(2)?.split()?;
+    /// input.put(Packet { number: 7, bytes: 60 })?;
+    /// let mut batch = Batch::new();
+    /// assert_eq!(output.poll(Weight::MAX, &mut batch).len(), 1);
+    /// assert_eq!(output.counts().bytes, 60);
+    /// # Ok(())
+    /// # }
+    /// ```
+    pub fn split(mut self) -> Result<(Input, Output), Fault> {
+        let mut out = Handle::NONE;
+        // SAFETY: both handles are this call's alone, each in a place of its own.
+        Fault::unless_made(unsafe { sys::fq_ring_split(self.at.raw(), out.raw()) })?;
+        Ok((Input { at: self.at }, Output { at: out }))
+    }
+
+    /// Its end, with its totals.
+    pub fn finish(mut self) -> Totals {
+        let mut totals = Totals::default();
+        // SAFETY: the handle is this ring's alone, and the totals lie elsewhere.
+        match unsafe { sys::fq_ring_finish(self.at.raw(), &mut totals) } {
+            sys::FQ_OK => totals,
+            said => unexpected("ring_finish", said),
+        }
     }
 }
 
-/// The input end of an instance's ring.
+/// The other end of a ring that was split.
+#[derive(Debug)]
+pub struct Output {
+    at: Handle,
+}
+
+impl Output {
+    /// Takes the first packets out, at most the weight.
+    pub fn poll<'b>(&mut self, weight: Weight, batch: &'b mut Batch) -> &'b [Packet] {
+        poll(&mut self.at, weight, batch)
+    }
+
+    /// What is counted of the ring's polls.
+    pub fn counts(&mut self) -> Counts {
+        self.at.counts()
+    }
+}
+
+/// The input end of a ring, of an instance or one that was split.
 #[derive(Debug)]
 pub struct Input {
     pub(crate) at: Handle,
@@ -90,6 +140,14 @@ impl Input {
     pub fn put_all(&mut self, packets: &[Packet]) -> usize {
         put_all(&mut self.at, packets)
     }
+}
+
+fn poll<'b>(ring: &mut Handle, weight: Weight, batch: &'b mut Batch) -> &'b [Packet] {
+    let at = ring.raw();
+    batch.filled_by(|out, len, count| {
+        // SAFETY: handle, packets and count are this call's alone, each in a place of its own.
+        unsafe { sys::fq_ring_poll(at, weight.get(), out, len, count) }
+    })
 }
 
 fn put(ring: &mut Handle, packet: Packet) -> Result<(), Fault> {

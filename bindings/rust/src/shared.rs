@@ -57,3 +57,28 @@ impl<const CALLERS: usize> Shared<CALLERS> {
         })
     }
 }
+
+/// A new instance over no ring, whose polls read what they will: its controller, and its callers, 2
+/// to 8. A [`poll`](crate::Polling::poll) gives no packets there.
+#[derive(Debug)]
+pub struct Bare<const CALLERS: usize> {
+    /// Its controller. The instance is disabled.
+    pub control: Control<Off>,
+    /// Its callers, all at rest.
+    pub callers: [Caller; CALLERS],
+}
+
+impl<const CALLERS: usize> Bare<CALLERS> {
+    /// With 2 to 8 callers. [`BAD_COUNT`](Fault::BAD_COUNT), [`OUT_OF_MEMORY`](Fault::OUT_OF_MEMORY).
+    pub fn new() -> Result<Bare<CALLERS>, Fault> {
+        let mut control = Handle::NONE;
+        let mut seats = [Handle::NONE; CALLERS];
+        let first = seats.as_mut_ptr().cast::<sys::fq_handle>();
+        // SAFETY: as for `Shared::new`.
+        Fault::unless_made(unsafe { sys::fq_shared_bare(control.raw(), first, CALLERS) })?;
+        Ok(Bare {
+            control: Control::of(control),
+            callers: seats.map(|at| Caller { at }),
+        })
+    }
+}

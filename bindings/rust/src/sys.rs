@@ -102,17 +102,17 @@ pub struct fq_dql {
     private_d: u64,
 }
 
-/// What [`fq_dql_new`](fn@fq_dql_new) answers.
+/// What [`fq_dql_new`] answers.
 #[repr(C)]
 #[derive(Debug)]
-pub struct fq_dql_new {
+pub struct fq_dql_made {
     /// The limit; one of 0 where it is refused.
     pub dql: fq_dql,
     /// `FQ_OK` or `FQ_BAD_BOUNDS`.
     pub status: u32,
 }
 
-/// An instance of one thread. Whatever its bytes are, each is a state.
+/// An instance of one thread. Only calls write its fields.
 #[repr(C)]
 #[derive(Clone, Debug, PartialEq, Eq)]
 pub struct fq_napi {
@@ -166,7 +166,7 @@ pub struct fq_packet {
 /// What is counted of a ring's polls. Each count stays at its greatest value.
 #[repr(C)]
 #[derive(Clone, Copy, Debug, Default, PartialEq, Eq)]
-pub struct fq_counts {
+pub struct fq_poll_counts {
     /// The polls.
     pub polls: u64,
     /// The packets that they gave.
@@ -192,7 +192,7 @@ pub struct fq_totals {
 /// What a transmit ring shows.
 #[repr(C)]
 #[derive(Clone, Copy, Debug, Default, PartialEq, Eq)]
-pub struct fq_tx_state {
+pub struct fq_tx_shown {
     /// The bytes of all packets ever sent, modulo 2^32.
     pub queued: u32,
     /// The bytes of all that are complete, modulo 2^32.
@@ -209,7 +209,16 @@ pub struct fq_tx_state {
 #[repr(C)]
 #[derive(Debug, Default)]
 pub struct fq_word {
-    private_bits: u64,
+    private_bits: AtomicU64,
+}
+
+/// What a driver's timer keeps of a transmit ring, all 0 at first.
+#[repr(C)]
+#[derive(Clone, Copy, Debug, Default, PartialEq, Eq)]
+pub struct fq_tx_watchdog {
+    private_stopped: bool,
+    private_completed: u32,
+    private_since: u64,
 }
 
 /// What a polling run did.
@@ -250,7 +259,7 @@ pub struct fq_replayed {
 
 #[allow(missing_docs)] // include/fintaqush.h is the reference
 extern "C" {
-    pub fn fq_dql_new(min: u32, max: u32, hold_ms: u64, now_ms: u64) -> fq_dql_new;
+    pub fn fq_dql_new(min: u32, max: u32, hold_ms: u64, now_ms: u64) -> fq_dql_made;
     pub fn fq_dql_queued(dql: *mut fq_dql, count: u32) -> u32;
     pub fn fq_dql_completed(dql: *mut fq_dql, count: u32, now_ms: u64) -> u32;
     pub fn fq_dql_reset(dql: *mut fq_dql, now_ms: u64);
@@ -292,7 +301,7 @@ extern "C" {
         count: *mut usize,
     ) -> u32;
 
-    pub fn fq_counts(handle: *mut fq_handle, counts: *mut fq_counts) -> u32;
+    pub fn fq_counts(handle: *mut fq_handle, counts: *mut fq_poll_counts) -> u32;
     pub fn fq_ring_split(ring: *mut fq_handle, out: *mut fq_handle) -> u32;
     pub fn fq_ring_finish(ring: *mut fq_handle, totals: *mut fq_totals) -> u32;
 
@@ -306,7 +315,7 @@ extern "C" {
     ) -> u32;
     pub fn fq_tx_send(tx: *mut fq_handle, bytes: u32) -> u32;
     pub fn fq_tx_done(tx: *mut fq_handle, count: u32, now_ms: u64) -> u32;
-    pub fn fq_tx_state(tx: *mut fq_handle, state: *mut fq_tx_state) -> u32;
+    pub fn fq_tx_state(tx: *mut fq_handle, state: *mut fq_tx_shown) -> u32;
 
     pub fn fq_shared_new(
         ring: *mut fq_handle,
@@ -416,11 +425,20 @@ pub unsafe fn fq_dql_avail_here(dql: *const fq_dql) -> i64 {
 /// Raises a bit, 0 to 63, and answers whether the word was 0.
 ///
 /// # Safety
-/// `word` leads to a word, which only these two calls use.
+/// `word` leads to a word.
 pub unsafe fn fq_word_raise(word: *mut fq_word, bit: u32) -> bool {
-    // SAFETY: as the caller says; an atomic lies as its number does.
-    let bits = unsafe { &*word.cast::<AtomicU64>() };
+    // SAFETY: as the caller says.
+    let bits = unsafe { &(*word).private_bits };
     bits.fetch_or(1 << (bit & 63), Ordering::SeqCst) == 0
+}
+
+/// Whether a bit is raised.
+///
+/// # Safety
+/// As for [`fq_word_raise`].
+pub unsafe fn fq_word_any(word: *const fq_word) -> bool {
+    // SAFETY: as the caller says.
+    unsafe { (*word).private_bits.load(Ordering::SeqCst) != 0 }
 }
 
 /// Takes all bits, which are 0 then.
@@ -428,9 +446,70 @@ pub unsafe fn fq_word_raise(word: *mut fq_word, bit: u32) -> bool {
 /// # Safety
 /// As for [`fq_word_raise`].
 pub unsafe fn fq_word_take(word: *mut fq_word) -> u64 {
-    // SAFETY: as the caller says; an atomic lies as its number does.
-    let bits = unsafe { &*word.cast::<AtomicU64>() };
-    bits.swap(0, Ordering::SeqCst)
+    // SAFETY: as the caller says.
+    unsafe { (*word).private_bits.swap(0, Ordering::SeqCst) }
+}
+
+/// Looks at a transmit ring in each tick of a timer: whether it has been stopped, with no byte
+/// completed, for so long.
+///
+/// # Safety
+/// As for [`fq_tx_state`]; the watchdog and the answer lie elsewhere.
+pub unsafe fn fq_tx_watch(
+    tx: *mut fq_handle,
+    watchdog: *mut fq_tx_watchdog,
+    limit_ms: u64,
+    now_ms: u64,
+    stuck: *mut bool,
+) -> u32 {
+    let mut state = fq_tx_shown::default();
+    // SAFETY: as the caller says; the state lies here.
+    let said = unsafe { fq_tx_state(tx, &mut state) };
+    // SAFETY: as the caller says.
+    let watchdog = unsafe { &mut *watchdog };
+    let is_known = watchdog.private_stopped && watchdog.private_completed == state.completed;
+    if said == FQ_OK && !(state.stopped && is_known) {
+        *watchdog = fq_tx_watchdog {
+            private_stopped: state.stopped,
+            private_completed: state.completed,
+            private_since: now_ms,
+        };
+    }
+    let since = now_ms.wrapping_sub(watchdog.private_since);
+    // SAFETY: as the caller says.
+    unsafe { stuck.write(said == FQ_OK && state.stopped && since >= limit_ms) };
+    said
+}
+
+/// One step of a driver's open or stop: `FQ_BUSY` where who has the instance has to complete it
+/// first.
+///
+/// # Safety
+/// As for [`fq_control_mark`].
+pub unsafe fn fq_control_step(control: *mut fq_handle, on: bool, threaded: bool) -> u32 {
+    if !on {
+        // SAFETY: as the caller says.
+        match unsafe { fq_control_mark(control) } {
+            FQ_OK | FQ_NOT_ALLOWED => {}
+            said => return said,
+        }
+    }
+    loop {
+        // SAFETY: as the caller says.
+        let said = unsafe {
+            if on {
+                fq_control_enable(control, threaded)
+            } else {
+                fq_control_try_take(control)
+            }
+        };
+        match said {
+            FQ_CHANGED => {}
+            FQ_TAKEN => return FQ_OK,
+            FQ_NOT_ALLOWED if !on => return FQ_OK,
+            said => return said,
+        }
+    }
 }
 
 /// An interrupt: schedules, try after try until one decides, and hands over where it was granted.
@@ -455,56 +534,76 @@ pub unsafe fn fq_seat_interrupt(seat: *mut fq_handle, kind: u32) -> u32 {
     }
 }
 
-/// The end of a poll, as the kernel ends it: after a full one the instance is on the list again,
-/// unless a disable is pending; else it is completed, and handed over again where a request was
-/// missed.
+/// Hands an instance that was granted over: to its thread where `FQ_BIT_THREADED` is set.
+///
+/// # Safety
+/// As for [`fq_seat_look`], whose word is `next` here.
+pub unsafe fn fq_seat_hand_again(seat: *mut fq_handle, next: *mut u32) -> u32 {
+    let mut word = 0;
+    // SAFETY: as the caller says; the word lies here.
+    let said = unsafe { fq_seat_look(seat, &mut word) };
+    let (kind, how) = if said == FQ_OK && word & FQ_BIT_THREADED != 0 {
+        (FQ_THREAD, FQ_NEXT_AGAIN_THREAD)
+    } else {
+        (FQ_LIST, FQ_NEXT_AGAIN)
+    };
+    // SAFETY: as the caller says.
+    unsafe {
+        next.write(how);
+        if said == FQ_OK {
+            fq_seat_hand(seat, kind)
+        } else {
+            said
+        }
+    }
+}
+
+/// The end of a poll, as the kernel ends it: after a full one, where no disable is pending, the
+/// instance is on the list again, or stays with its thread (`FQ_HELD`); else it is completed, and
+/// handed over again where a request was missed.
 ///
 /// # Safety
 /// As for [`fq_seat_look`], whose word is `next` here.
 pub unsafe fn fq_seat_end(seat: *mut fq_handle, full: bool, next: *mut u32) -> u32 {
+    // SAFETY: as the caller says.
+    unsafe { next.write(FQ_NEXT_GONE) };
     let mut word = 0;
     // SAFETY: as the caller says; the word lies here.
     let said = unsafe { fq_seat_look(seat, &mut word) };
     if said != FQ_OK {
         return said;
     }
-    if full && word & FQ_BIT_DISABLE == 0 {
+    if full && word & (FQ_BIT_DISABLE | FQ_BIT_IN_BUSY_POLL) == 0 {
         // SAFETY: as the caller says.
-        let said = unsafe { fq_seat_requeue(seat) };
-        if said == FQ_OK {
+        return unsafe { end_full(seat, word & FQ_BIT_SCHED_THREADED != 0, next) };
+    }
+    loop {
+        // SAFETY: as the caller says.
+        match unsafe { fq_seat_complete(seat) } {
+            FQ_CHANGED => {}
+            FQ_RELEASED => return FQ_OK,
             // SAFETY: as the caller says.
-            unsafe { next.write(FQ_NEXT_REPOLL) };
+            FQ_AGAIN => return unsafe { fq_seat_hand_again(seat, next) },
+            said => return said,
         }
-        return said;
     }
-    let said = loop {
-        // SAFETY: as the caller says.
-        let said = unsafe { fq_seat_complete(seat) };
-        if said != FQ_CHANGED {
-            break said;
-        }
-    };
-    if said == FQ_RELEASED {
-        // SAFETY: as the caller says.
-        unsafe { next.write(FQ_NEXT_GONE) };
-        return FQ_OK;
+}
+
+// SAFETY: of the caller, as for `fq_seat_end`.
+unsafe fn end_full(seat: *mut fq_handle, is_thread: bool, next: *mut u32) -> u32 {
+    if is_thread {
+        let mut counts = fq_poll_counts::default();
+        // SAFETY: as the caller says; the counts, of a seat that polls alone, lie here.
+        return match unsafe { fq_counts(seat, &mut counts) } {
+            FQ_OK => FQ_HELD,
+            said => said,
+        };
     }
-    if said != FQ_AGAIN {
-        return said;
-    }
-    // SAFETY: as the caller says; the word lies here.
-    let said = unsafe { fq_seat_look(seat, &mut word) };
-    if said != FQ_OK {
-        return said;
-    }
-    let (kind, how) = if word & FQ_BIT_THREADED == 0 {
-        (FQ_LIST, FQ_NEXT_AGAIN)
-    } else {
-        (FQ_THREAD, FQ_NEXT_AGAIN_THREAD)
-    };
     // SAFETY: as the caller says.
-    unsafe {
-        next.write(how);
-        fq_seat_hand(seat, kind)
+    let said = unsafe { fq_seat_requeue(seat) };
+    if said == FQ_OK {
+        // SAFETY: as the caller says.
+        unsafe { next.write(FQ_NEXT_REPOLL) };
     }
+    said
 }

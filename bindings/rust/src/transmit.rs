@@ -5,7 +5,9 @@ use crate::sys;
 
 /// What a transmit ring shows: bytes queued and completed (modulo 2^32), the limit, what may still
 /// be sent, and whether the queue is stopped.
-pub use crate::sys::fq_tx_state as TxState;
+pub use crate::sys::fq_tx_shown as TxState;
+/// What a timer keeps of a transmit ring that it watches; `TxWatchdog::default()` at first.
+pub use crate::sys::fq_tx_watchdog as TxWatchdog;
 
 /// A transmit ring (`netdev_tx_sent_queue`, `netdev_tx_completed_queue`): the sizes of the packets
 /// that were sent and aren't complete, in order, under a byte queue limit that stops the queue and
@@ -63,6 +65,17 @@ impl TxRing {
     pub fn done(&mut self, count: u32, now_ms: u64) -> Result<(), Fault> {
         // SAFETY: the handle is this ring's alone.
         Fault::unless_made(unsafe { sys::fq_tx_done(self.at.raw(), count, now_ms) })
+    }
+
+    /// Whether it has been stopped, with no byte completed, for `limit_ms` since the first look that
+    /// found it so (`dev_watchdog`): a look in each tick of a timer.
+    pub fn watch(&mut self, watchdog: &mut TxWatchdog, limit_ms: u64, now_ms: u64) -> bool {
+        let (at, mut stuck) = (self.at.raw(), false);
+        // SAFETY: the handle is this ring's alone; watchdog and answer lie elsewhere.
+        match unsafe { sys::fq_tx_watch(at, watchdog, limit_ms, now_ms, &mut stuck) } {
+            sys::FQ_OK => stuck,
+            said => unexpected("tx_watch", said),
+        }
     }
 
     /// What it shows.

@@ -410,6 +410,7 @@ fn a_list_holds_64() {
         list.push(id).unwrap();
     }
     assert_eq!(list.push(64), Err(Fault::FULL));
+    assert_eq!(list.push(63), Err(Fault::IN_USE));
     assert_eq!(listed(&mut list), (0..64).collect::<Vec<_>>());
 }
 
@@ -459,4 +460,193 @@ fn faults_have_numbers_and_names() {
     let fault: Box<dyn std::error::Error> = Fault::OUT_OF_MEMORY.into();
     assert_eq!(fault.to_string(), "FQ_OUT_OF_MEMORY");
     assert_eq!(sys::fq_status_name(5), "?");
+}
+
+// ---- ends of polls that mind a card
+
+// A card: what is there, what comes behind its next unmask, and whether it is masked.
+#[derive(Default)]
+struct Model {
+    there: usize,
+    behind_unmask: usize,
+    masked: bool,
+}
+
+impl Card for Model {
+    fn mask(&mut self) {
+        self.masked = true;
+    }
+
+    fn unmask(&mut self) {
+        self.masked = false;
+        self.there += std::mem::take(&mut self.behind_unmask);
+    }
+}
+
+impl Look for Model {
+    fn look(&mut self) -> bool {
+        self.there != 0
+    }
+}
+
+impl Poll for Model {
+    fn poll(&mut self, most: usize) -> usize {
+        let count = most.min(self.there);
+        self.there -= count;
+        count
+    }
+}
+
+fn over(end: End) -> (Caller, Next) {
+    match end {
+        End::Over(caller, next) => (caller, next),
+        End::Held(_) => panic!("it polls on"),
+    }
+}
+
+fn bare(threaded: bool) -> (Control<On>, Caller, Caller) {
+    let Bare {
+        control,
+        callers: [interrupts, poller],
+    } = Bare::new().unwrap();
+    (control.enable(threaded), interrupts, poller)
+}
+
+#[test]
+fn a_card_is_masked_at_the_grant_and_looked_at_behind_the_unmask() {
+    let (on, mut interrupts, poller) = bare(false);
+    let mut card = Model {
+        behind_unmask: 1,
+        ..Model::default()
+    };
+    assert_eq!(
+        interrupts.interrupt_masked(Kind::List, &mut card),
+        Prep::Granted
+    );
+    assert!(card.masked);
+    assert_eq!(interrupts.look(), FQ_BIT_SCHED | FQ_BIT_LISTED);
+    let (poller, next) = over(take(poller).end_watched(false, &mut card));
+    assert_eq!(
+        (next, card.masked, card.there),
+        (Next::Again(Kind::List), true, 1)
+    );
+    card.there = 0;
+    let (_, next) = over(take(poller).end_watched(false, &mut card));
+    assert_eq!((next, card.masked), (Next::Gone, false));
+    let _off = on.disable();
+}
+
+#[test]
+fn a_card_that_is_not_looked_at_is_polled_behind_the_unmask() {
+    let (on, mut interrupts, poller) = bare(false);
+    let mut card = Model {
+        behind_unmask: 3,
+        ..Model::default()
+    };
+    assert_eq!(
+        interrupts.interrupt_masked(Kind::List, &mut card),
+        Prep::Granted
+    );
+    let mut work = 0;
+    let two = Weight::new(2).unwrap();
+    let (poller, next) = over(take(poller).end_unmasked(&mut card, two, &mut work));
+    assert_eq!(
+        (work, card.there, card.masked, next),
+        (2, 1, true, Next::Repoll)
+    );
+    let polling = take(poller);
+    assert_eq!(
+        interrupts.interrupt_masked(Kind::List, &mut card),
+        Prep::Missed
+    );
+    work = card.poll(64);
+    let (poller, next) = over(polling.end_unmasked(&mut card, two, &mut work));
+    assert_eq!(
+        (work, card.masked, next),
+        (1, true, Next::Again(Kind::List))
+    );
+    work = 0;
+    let (_, next) = over(take(poller).end_unmasked(&mut card, two, &mut work));
+    assert_eq!((work, card.masked, next), (0, false, Next::Gone));
+    let _off = on.disable();
+}
+
+#[test]
+fn a_full_poll_stays_with_its_thread() {
+    let (on, mut interrupts, poller) = bare(true);
+    assert_eq!(interrupts.interrupt(Kind::Thread), Prep::Granted);
+    let mut polling = match poller.take(Kind::Thread).unwrap().end(true) {
+        End::Held(polling) => polling,
+        End::Over(..) => panic!("it is on a list"),
+    };
+    assert_eq!(polling.look() & FQ_BIT_LISTED, 0);
+    assert_eq!(interrupts.interrupt(Kind::Thread), Prep::Missed);
+    let (poller, next) = over(polling.end(false));
+    assert_eq!(next, Next::Again(Kind::Thread));
+    let marked = on.mark();
+    let (_, next) = over(poller.take(Kind::Thread).unwrap().end(true));
+    assert_eq!(next, Next::Gone);
+    assert!(matches!(marked.try_take(), TryTake::Taken(_)));
+}
+
+// ---- what else is counted and told
+
+#[test]
+fn polls_are_counted_of_whoever_has_them() {
+    let (mut input, on, mut interrupts, poller) = enabled(4);
+    input.put(packet(1)).unwrap();
+    interrupts.interrupt(Kind::List);
+    let mut polling = take(poller);
+    let mut batch = Batch::new();
+    polling.poll(Weight::MAX, &mut batch);
+    let counts = polling.counts();
+    assert_eq!((counts.polls, counts.packets, counts.bytes), (1, 1, 60));
+    let (poller, _) = over(polling.end(false));
+    let mut busy = poller.busy().unwrap();
+    busy.poll(Weight::MAX, &mut batch);
+    assert_eq!((busy.counts().polls, busy.look() & FQ_BIT_LISTED), (2, 0));
+    let (_, next) = over(busy.stop().end(false));
+    assert_eq!(next, Next::Gone);
+    assert_eq!(on.disable().counts().packets, 1);
+}
+
+#[test]
+fn a_ring_ends_with_its_totals() {
+    let mut ring = Ring::new(4).unwrap();
+    assert_eq!(ring.put_all(&[packet(1), packet(2)]), 2);
+    let mut batch = Batch::new();
+    assert_eq!(numbers(ring.poll(Weight::new(1).unwrap(), &mut batch)), [1]);
+    assert_eq!(ring.counts().polls, 1);
+    let totals = ring.finish();
+    assert_eq!(
+        (totals.put, totals.polled, totals.left, totals.bytes),
+        (2, 1, 1, 120)
+    );
+}
+
+#[test]
+fn a_word_of_bits_is_shared() {
+    let word = Word::new();
+    assert!(!word.any());
+    std::thread::scope(|scope| {
+        for bit in 0..4 {
+            let word = &word;
+            scope.spawn(move || word.raise(bit));
+        }
+    });
+    assert!(word.any() && !word.raise(63));
+    assert_eq!((word.take(), word.any()), (1 << 63 | 0b1111, false));
+    assert!(word.raise(1));
+}
+
+#[test]
+fn a_queue_that_stays_stopped_is_found() {
+    let mut ring = TxRing::new(1, 0, 1, 1000, 0).unwrap();
+    let mut watchdog = TxWatchdog::default();
+    assert!(!ring.watch(&mut watchdog, 0, 0));
+    ring.send(60).unwrap();
+    assert!(!ring.watch(&mut watchdog, 500, 10) && !ring.watch(&mut watchdog, 500, 509));
+    assert!(ring.watch(&mut watchdog, 500, 510));
+    ring.done(1, 511).unwrap();
+    assert!(!ring.watch(&mut watchdog, 0, 2000));
 }

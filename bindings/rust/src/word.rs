@@ -1,0 +1,36 @@
+//! Pending bits.
+use crate::sys;
+
+/// A word of pending bits, which threads share: other threads raise bits, and the poller takes them.
+#[derive(Debug, Default)]
+pub struct Word(sys::fq_word);
+
+impl Word {
+    fn raw(&self) -> *mut sys::fq_word {
+        let word: *const sys::fq_word = &self.0;
+        word as *mut sys::fq_word
+    }
+
+    /// Of no bits.
+    pub fn new() -> Word {
+        Word::default()
+    }
+
+    /// Raises a bit, 0 to 63, and answers whether the word was 0: then the poller is to be woken.
+    pub fn raise(&self, bit: u32) -> bool {
+        // SAFETY: the word is there, and an atomic.
+        unsafe { sys::fq_word_raise(self.raw(), bit) }
+    }
+
+    /// Takes all bits, which are 0 then.
+    pub fn take(&self) -> u64 {
+        // SAFETY: as for `raise`.
+        unsafe { sys::fq_word_take(self.raw()) }
+    }
+
+    /// Whether a bit is raised: the poller's look before it sleeps.
+    pub fn any(&self) -> bool {
+        // SAFETY: as for `raise`.
+        unsafe { sys::fq_word_any(self.raw()) }
+    }
+}

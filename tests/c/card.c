@@ -1,0 +1,207 @@
+/* A model card, which interrupts by edges: a packet that comes while it is masked interrupts nobody. Its packets come at every point of
+ * interrupt and poll, behind each call of the library and of the card, in all orders; the interrupt comes there and then. At every
+ * point of an interrupt, and of another poll, a whole poll may run, as on another processor, and a disable begins at every point. In the end nothing may
+ * wait on the card, which then isn't masked. The orders of fintaqush.h never fail there; the two that hang real cards do: no look
+ * behind the unmask, and a mask behind the hand-over. To be linked with --wrap for the calls of a seat. */
+#include <fintaqush.h>
+#include <stdio.h>
+#include <stdlib.h>
+
+enum order { WATCHED, UNMASKED, UNLOOKED, LATE };
+enum { WEIGHT = 2, PACKETS = 3, POINTS = 120, TURNS = 90, NEVER = 1000 };
+
+static enum order order;
+static bool threaded;
+static struct fq_handle control, seats[3]; /* the interrupt's, and two pollers' */
+
+/* When what happens: the points are counted. */
+static unsigned point_now, turn_now, packet_at[PACKETS], stop_at, turn_at;
+
+/* The card, and who is about. */
+static unsigned packets, waiting, next_packet, polls; /* polls: how many poll, the second within a call of the first */
+static unsigned long played;
+static bool masked, raised, handles, stops;
+
+static void must(bool holds, const char *what) {
+    if (holds) return;
+    fprintf(stderr, "card: order %d: %s\n", (int)order, what);
+    exit(9);
+}
+
+static void interrupt(void);
+static void turn(void);
+
+static void packet(void) {
+    next_packet++;
+    waiting++;
+    if (masked) return;
+    raised = true;
+    if (!handles) interrupt();
+}
+
+static void point(void) {
+    const unsigned here = point_now++;
+    while (next_packet < packets && packet_at[next_packet] == here) packet();
+    if (here == stop_at) {
+        must(fq_control_mark(&control) == FQ_OK, "the mark");
+        stops = true;
+    }
+    if ((handles || polls != 0) && polls < 2 && turn_now++ == turn_at) turn();
+}
+
+#define WRAP(call, declared, passed)        \
+    uint32_t __real_##call declared;        \
+    uint32_t __wrap_##call declared;        \
+    uint32_t __wrap_##call declared {       \
+        point();                            \
+        const uint32_t said = __real_##call passed; \
+        point();                            \
+        return said;                        \
+    }
+WRAP(fq_seat_schedule, (struct fq_handle *seat), (seat))
+WRAP(fq_seat_hand, (struct fq_handle *seat, uint32_t to), (seat, to))
+WRAP(fq_seat_take, (struct fq_handle *seat, uint32_t from), (seat, from))
+WRAP(fq_seat_requeue, (struct fq_handle *seat), (seat))
+WRAP(fq_seat_complete, (struct fq_handle *seat), (seat))
+
+static void mask(void *at) {
+    (void)at;
+    point();
+    masked = true;
+    point();
+}
+
+static void unmask(void *at) {
+    (void)at;
+    point();
+    masked = false;
+    point();
+}
+
+static bool look(void *at) {
+    (void)at;
+    point();
+    const bool is_there = waiting != 0;
+    point();
+    return is_there;
+}
+
+static size_t poll_card(void *at, size_t most) {
+    size_t count = 0;
+    (void)at;
+    for (point(); count < most && waiting != 0; count++) {
+        waiting--;
+        point();
+    }
+    return count;
+}
+
+static const struct fq_card card = {NULL, mask, unmask, look, poll_card};
+static uint32_t kind(void) { return threaded ? FQ_THREAD : FQ_LIST; }
+
+static void request(void) {
+    if (order != LATE) {
+        must(fq_seat_interrupt_masked(&seats[0], kind(), &card) < FQ_NOT_ALLOWED, "an interrupt");
+        return;
+    }
+    const uint32_t said = fq_seat_interrupt(&seats[0], kind());
+    must(said < FQ_NOT_ALLOWED, "an interrupt");
+    if (said == FQ_GRANTED) mask(NULL);
+}
+
+/* The interrupt's handler, which isn't interrupted by itself. */
+static void interrupt(void) {
+    handles = true;
+    while (raised) {
+        raised = false;
+        request();
+    }
+    handles = false;
+}
+
+/* Ends a poll, and answers whether the poller polls on. */
+static bool end(struct fq_handle *seat, size_t work) {
+    uint32_t next = 99, said;
+    if (order == UNMASKED) said = fq_seat_end_unmasked(seat, &card, WEIGHT, &work, &next);
+    else if (order == UNLOOKED) said = fq_seat_end(seat, work == WEIGHT, &next);
+    else said = fq_seat_end_watched(seat, work == WEIGHT, &card, &next);
+    must(said == FQ_OK || (threaded && said == FQ_HELD && work == WEIGHT), "an end");
+    must(next == FQ_NEXT_GONE || next == (threaded ? FQ_NEXT_AGAIN_THREAD : FQ_NEXT_AGAIN) || (!threaded && next == FQ_NEXT_REPOLL), "how it ended");
+    if (order == UNLOOKED && said == FQ_OK && next == FQ_NEXT_GONE) unmask(NULL);
+    return said == FQ_HELD;
+}
+
+static void turn(void) {
+    struct fq_handle *const seat = &seats[++polls];
+    if (fq_seat_take(seat, kind()) == FQ_TAKEN)
+        do must(masked || order > UNMASKED, "it polls, and the card isn't masked");
+        while (end(seat, poll_card(NULL, WEIGHT)));
+    polls--;
+}
+
+/* Polls until nobody has the instance. */
+static void drain(void) {
+    uint64_t word = FQ_BIT_SCHED;
+    for (int turns = 0; word & FQ_BIT_SCHED; turns++) {
+        must(turns < 100, "the poller never rests");
+        turn();
+        must(fq_seat_look(&seats[0], &word) == FQ_OK, "a look");
+    }
+}
+
+/* Plays one order of events, and answers whether the card hangs in the end. */
+static bool hangs(void) {
+    waiting = next_packet = polls = point_now = turn_now = 0;
+    masked = raised = handles = stops = false;
+    must(fq_shared_bare(&control, seats, 3) == FQ_OK && fq_control_step(&control, true, threaded) == FQ_OK, "a new instance");
+    point();
+    for (drain(); next_packet < packets; drain()) packet();
+    must(point_now <= POINTS && turn_now <= TURNS, "more points than are tried");
+    if (stops) { /* and one request behind the enable */
+        must(fq_control_step(&control, false, false) == FQ_OK && fq_control_step(&control, true, threaded) == FQ_OK, "off and on");
+        request();
+        drain();
+    }
+    const bool is_hung = waiting != 0 || masked;
+    must(fq_control_step(&control, false, false) == FQ_OK && fq_free(&control) == FQ_OK, "the end");
+    for (int i = 0; i < 3; i++) must(fq_free(&seats[i]) == FQ_OK, "the end of a seat");
+    return is_hung;
+}
+
+/* All orders of the packets from this one on, each not before the last: how many hang. What comes behind the last point is one. */
+static unsigned long each(unsigned from, unsigned first) {
+    unsigned long hung = 0;
+    if (from == packets) return played++, hangs();
+    for (unsigned at = first; at <= POINTS; at++) {
+        packet_at[from] = at;
+        hung += each(from + 1, at);
+        if (from + 1 == packets && point_now <= at) break;
+    }
+    return hung;
+}
+
+/* Three packets; two, with a poll in an interrupt or a poll; two, with a disable. */
+static unsigned long all(enum order which) {
+    unsigned long hung = 0;
+    order = which;
+    for (int kinds = 0; kinds < 2; kinds++) {
+        threaded = kinds != 0;
+        packets = 3, turn_at = stop_at = NEVER;
+        hung += each(0, 0);
+        packets = 2;
+        for (turn_at = 0; turn_at <= TURNS; turn_at++) hung += each(0, 0);
+        turn_at = NEVER;
+        for (stop_at = 0; stop_at <= POINTS; stop_at++) hung += each(0, 0);
+    }
+    return hung;
+}
+
+int main(void) {
+    must(all(WATCHED) == 0, "hangs");
+    must(all(UNMASKED) == 0, "hangs");
+    must(all(UNLOOKED) != 0, "doesn't hang without a look");
+    must(all(LATE) != 0, "doesn't hang by a late mask");
+    must(played > 100000, "few orders");
+    puts("the card hangs without a look and by a late mask, and never else");
+    return 0;
+}

@@ -1,0 +1,235 @@
+// What fintaqush.hpp adds to the header: a callback that throws, what was moved from, rings without an instance, busy polling, counts,
+// words, cards, and memory that is out. To be linked with --wrap for malloc, realloc and free.
+#include <fintaqush.hpp>
+#include <cstdio>
+#include <cstdlib>
+#include <new>
+#include <type_traits>
+
+using namespace fintaqush;
+
+static long blocks;   // of the library, on the heap
+static bool refused;  // C++ has no memory
+
+extern "C" {
+void *__real_malloc(std::size_t size);
+void *__real_realloc(void *old, std::size_t size);
+void __real_free(void *old);
+void *__wrap_malloc(std::size_t size) {
+    blocks++;
+    return __real_malloc(size);
+}
+void *__wrap_realloc(void *old, std::size_t size) {
+    blocks += old == nullptr;
+    return __real_realloc(old, size);
+}
+void __wrap_free(void *old) {
+    blocks -= old != nullptr;
+    __real_free(old);
+}
+}
+
+void *operator new(std::size_t size) {
+    void *made = refused ? nullptr : __real_malloc(size);
+    if (made == nullptr) throw std::bad_alloc();
+    return made;
+}
+void operator delete(void *old) noexcept { __real_free(old); }
+void operator delete(void *old, std::size_t) noexcept { __real_free(old); }
+
+static void want(bool holds, const char *what) {
+    if (holds) return;
+    std::fprintf(stderr, "types: %s\n", what);
+    std::exit(9);
+}
+
+template <class... Types>
+constexpr bool moves = ((std::is_nothrow_move_constructible_v<Types> && std::is_nothrow_move_assignable_v<Types> &&
+                         !std::is_copy_constructible_v<Types> && !std::is_copy_assignable_v<Types>) && ...);
+static_assert(moves<Limit, TxRing, Caller, Granted, Polling, Busy, Control<Off>, Control<On>, Control<Marked>, Input, Output, Ring, List>);
+static_assert(moves<Shared, Bare, Scheduled, Ended, Took, TookBusy, Completed, End>);
+static_assert(!std::is_convertible_v<int, Weight> && !std::is_constructible_v<Weight, int>);
+static_assert(Weight::of<1>().get() == 1 && Weight().get() == 64 && !Weight::make(0) && !Weight::make(65) && Weight::make(64)->get() == 64);
+
+// The structs whose functions had their names.
+[[maybe_unused]] static void names() {
+    fq_poll_counts counts{};
+    fq_tx_shown state{};
+    fq_dql_made made{};
+    static_cast<void>(counts), static_cast<void>(state), static_cast<void>(made);
+}
+
+static void runs() {
+    auto list = List::make();
+    want(list && list->push(1) && list->push(2), "a list of two");
+    bool is_caught = false;
+    try {
+        static_cast<void>(list->run(300, 64, 1024, [](std::uint32_t, std::uint32_t) -> std::pair<std::uint32_t, fq_next> { throw 7; }));
+    } catch (int) {
+        is_caught = true;
+    }
+    want(is_caught && list->size() == 1, "a poll that throws is listed no more");
+    const auto too_much = [](std::uint32_t, std::uint32_t weight) { return std::pair(weight + 1, FQ_NEXT_GONE); };
+    want(!list->run(300, 64, 1024, too_much) && list->size() == 0, "too many packets end a run");
+    want(list->push(3) && !list->run(300, 65, 1024, too_much), "a weight of 65");
+    const auto report = list->run(300, 64, 1024, [](std::uint32_t id, std::uint32_t) { return std::pair(id, FQ_NEXT_GONE); });
+    want(report && report->polls == 1 && report->work == 3, "a run behind those");
+}
+
+static void rings() {
+    auto ring = Ring::make(4);
+    Packets out;
+    const fq_packet burst[3] = {{2, 20}, {3, 30}, {4, 40}};
+    want(!Ring::make(0) && !Ring::make(65537), "a ring of no places, or too many");
+    want(ring && ring->put(1, 10) && ring->put_all(burst, 3) == 3 && !ring->put(5, 50), "a ring of four");
+    want(ring->poll(out, Weight::of<1>()) == 1 && out[0].number == 1 && ring->counts().bytes == 10, "its first packet");
+    auto ends = std::move(*ring).split();
+    want(ends && ends->first.put(5, 50) && ends->second.poll(out) == 4 && out[3].number == 5, "its ends");
+    want(ends->second.counts().polls == 2 && ends->second.counts().packets == 5, "its counts");
+    auto whole = Ring::make(4);
+    want(whole && whole->put(1, 10) && whole->put(2, 20) && whole->poll(out, Weight::of<1>()) == 1, "another ring");
+    const Totals totals = std::move(*whole).finish();
+    want(totals.put == 2 && totals.polled == 1 && totals.left == 1 && totals.bytes == 30, "its totals");
+    want(!whole->put(1, 1) && whole->poll(out) == 0 && std::move(*whole).finish().put == 0 && !std::move(*whole).split(), "it is gone");
+}
+
+// A card whose packets come at the moments of its calls.
+struct Card {
+    unsigned there = 0, behind_unmask = 0;
+    bool masked = true;
+    void mask() { masked = true; }
+    void unmask() {
+        masked = false;
+        there += std::exchange(behind_unmask, 0U);
+    }
+    bool look() const { return there != 0; }
+    std::size_t poll(std::size_t most) {
+        const std::size_t count = most < there ? most : there;
+        there -= static_cast<unsigned>(count);
+        return count;
+    }
+};
+
+static Polling taken(Caller &&caller, Kind kind) {
+    auto took = std::move(caller).take(kind);
+    want(std::holds_alternative<Polling>(took), "it is taken");
+    return std::get<Polling>(std::move(took));
+}
+
+static void cards() {
+    auto bare = Bare::make(2);
+    want(bare && !Bare::make(1) && !Bare::make(9), "2 to 8 callers");
+    auto on = std::move(bare->control).enable(false);
+    Caller &interrupts = bare->callers[0];
+    Card card{0, 1, false};
+    want(interrupts.interrupt(FQ_LIST, card) == FQ_GRANTED && card.masked, "masked at the grant");
+    want(interrupts.word() == (FQ_BIT_SCHED | FQ_BIT_LISTED), "its word");
+    auto end = taken(std::move(bare->callers[1]), FQ_LIST).end_watched(false, card);
+    want(std::get<Ended>(end).next == FQ_NEXT_AGAIN && card.masked && card.there == 1, "what came behind the unmask is seen");
+    std::size_t work = card.poll(64);
+    card.behind_unmask = 2;
+    end = taken(std::move(std::get<Ended>(end).caller), FQ_LIST).end_unmasked(card, Weight::of<2>(), work);
+    want(work == 2 && card.there == 1 && card.masked && std::get<Ended>(end).next == FQ_NEXT_REPOLL, "the rest fills the weight");
+    work = card.poll(64);
+    end = taken(std::move(std::get<Ended>(end).caller), FQ_LIST).end_unmasked(card, Weight(), work);
+    want(work == 1 && !card.masked && std::get<Ended>(end).next == FQ_NEXT_GONE, "released, and not masked");
+    interrupts.set_threaded(true);
+    want(interrupts.interrupt(FQ_THREAD, card) == FQ_GRANTED, "an interrupt of the thread");
+    end = taken(std::move(std::get<Ended>(end).caller), FQ_THREAD).end(true);
+    want(std::holds_alternative<Polling>(end), "a thread's full poll stays with it");
+    want(interrupts.interrupt(FQ_THREAD, card) == FQ_MISSED, "a request that is missed");
+    end = std::get<Polling>(std::move(end)).end(false);
+    want(std::get<Ended>(end).next == FQ_NEXT_AGAIN_THREAD, "again, to the thread");
+    end = taken(std::move(std::get<Ended>(end).caller), FQ_THREAD).end(false);
+    const auto off = std::move(on).disable();
+    static_cast<void>(off);
+}
+
+static void busy() {
+    auto shared = Shared::make(4, 2);
+    want(shared.has_value(), "a shared instance");
+    Packets out;
+    want(shared->input.put(1, 60) && std::holds_alternative<Caller>(std::move(shared->callers[0]).busy()), "not while it is off");
+    auto on = std::move(shared->control).enable(false);
+    auto took = std::move(shared->callers[1]).busy();
+    auto *poller = std::get_if<Busy>(&took);
+    want(poller != nullptr && poller->word() == (FQ_BIT_SCHED | FQ_BIT_IN_BUSY_POLL), "it is taken");
+    want(poller->poll(out) == 1 && poller->counts().packets == 1, "a busy poll");
+    poller->complete_held();
+    auto end = std::move(*poller).stop().end(false);
+    want(std::get<Ended>(end).next == FQ_NEXT_GONE, "the poll behind the stop");
+    auto off = std::move(on).disable();
+    want(off.counts().polls == 1, "the counts of what is off");
+}
+
+// What was moved from answers, and never loops.
+static void moved() {
+    auto shared = Shared::make(4, 2);
+    want(shared.has_value(), "a shared instance");
+    Packets out;
+    Input input(std::move(shared->input));
+    want(!shared->input.put(1, 1) && shared->input.put_all(nullptr, 0) == 0, "an input");
+    auto on = std::move(shared->control).enable(false);
+    auto off = std::move(on).disable();
+    auto none = std::move(on).disable();
+    auto marked = std::move(on).mark();
+    want(std::holds_alternative<Control<Off>>(std::move(marked).try_take()), "a take by what was moved from");
+    auto still = std::move(none).enable(false);
+    static_cast<void>(still);
+    Caller caller(std::move(shared->callers[0]));
+    Caller &gone = shared->callers[0];
+    want(gone.interrupt(FQ_LIST) == FQ_BAD_HANDLE && gone.word() == 0, "an interrupt");
+    want(std::move(gone).schedule().status == FQ_BAD_HANDLE, "a schedule");
+    want(std::holds_alternative<Caller>(std::move(gone).take(FQ_LIST)), "a take");
+    want(std::holds_alternative<Caller>(std::move(gone).busy()), "a busy take");
+    on = std::move(off).enable(false);
+    want(caller.interrupt(FQ_LIST) == FQ_GRANTED, "an interrupt of what was moved to");
+    Polling polling = taken(std::move(caller), FQ_LIST);
+    auto ended = std::move(polling).end(false);
+    want(std::holds_alternative<Ended>(std::move(polling).end(true)) && polling.poll(out) == 0 && polling.counts().polls == 0, "a poll");
+    want(std::holds_alternative<Caller>(std::move(polling).complete()), "a complete");
+    want(std::get<Ended>(ended).next == FQ_NEXT_GONE, "it was released");
+    auto tx = TxRing::make(1, 0, 1, 1000, 0);
+    TxRing other(std::move(*tx));
+    TxWatchdog watchdog{};
+    want(tx->send(1) == FQ_BAD_HANDLE && !tx->state().stopped && !tx->watch(watchdog, 0, 0), "a transmit ring");
+    want(other.send(60) == FQ_OK && other.state().stopped && !other.watch(watchdog, 500, 0) && !other.watch(watchdog, 500, 499), "stopped");
+    want(other.watch(watchdog, 500, 500) && other.done(1, 500) == FQ_OK && !other.watch(watchdog, 0, 600), "stuck until the completion");
+}
+
+static void words() {
+    Word word;
+    want(!word.any() && word.raise(63) && !word.raise(0) && word.any(), "bits");
+    want(word.take() == ((UINT64_C(1) << 63) | 1) && !word.any() && word.take() == 0, "all bits");
+}
+
+static void no_memory() {
+    const long before = blocks;
+    for (int kind = 0; kind < 2; kind++) {
+        bool is_thrown = false;
+        refused = true;
+        try {
+            if (kind == 0) static_cast<void>(Shared::make(4, 8));
+            else static_cast<void>(Bare::make(8));
+        } catch (const std::bad_alloc &) {
+            is_thrown = true;
+        }
+        refused = false;
+        want(is_thrown, "no memory is told");
+        want(blocks == before, "something is left on the heap");
+    }
+    want(Shared::make(4, 8).has_value(), "with memory it is made");
+    want(blocks == before, "it is freed");
+}
+
+int main() {
+    runs();
+    rings();
+    cards();
+    busy();
+    moved();
+    words();
+    no_memory();
+    want(blocks == 0, "nothing is left");
+    std::puts("the types answer as they have to");
+}
