@@ -164,7 +164,8 @@ class Copy:
         for name in [*filter(None, listed.stdout.split("\0")), *built]:
             if (TOP / name).exists():
                 (self.top / name).parent.mkdir(parents=True, exist_ok=True)
-                shutil.copy2(TOP / name, self.top / name, follow_symlinks=False)
+                # What is built comes last, and so is the newest.
+                (shutil.copy if name in built else shutil.copy2)(TOP / name, self.top / name)
         for name in built:
             (self.room / "bin" / pathlib.Path(name).name).symlink_to(self.top / name)
 
