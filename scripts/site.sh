@@ -10,7 +10,7 @@ top=$(dirname "$(dirname "$(readlink -f "${BASH_SOURCE[0]}")")")
 stop() {
     local status=$1
     shift
-    echo "site: $*" >&2
+    echo "site.sh: $*" >&2
     exit "$status"
 }
 

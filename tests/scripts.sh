@@ -26,6 +26,9 @@ TRACES=$scratch/none refuses bench/replay.sh
 refuses bench/traces.sh
 refuses bench/traces.sh "$scratch/traces" 1e5
 refuses examples/compare.sh "$scratch/none"
+refuses scripts/site.sh
+refuses scripts/site.sh a b
+refuses scripts/site.sh ''
 check 'a refused script makes nothing' [ ! -e "$scratch/traces" ]
 
 # A gate of one crate, whose prover is a shell under the prover's name.

@@ -57,26 +57,6 @@ def site(script, pages):
             yield f"a folder that is filled is overwritten: status {again.returncode}"
 
 
-def site_refusals(script):
-    """What is wrong with what the script of the site refuses: its words, a file in the way, and a machine without pandoc."""
-    with tempfile.TemporaryDirectory() as room:
-        for program in ("bash", "dirname", "readlink"):
-            os.symlink(shutil.which(program), f"{room}/{program}")
-        file = pathlib.Path(room, "file")
-        file.write_text("mine\n")
-        for words, path, status, line in (((), None, 64, "usage"), (("a", "b"), None, 64, "usage"), (("",), None, 64, "usage"),
-                                          ((f"{room}/site",), room, 69, "there is no pandoc")):
-            ended = run(script, *words, env={**os.environ, "PATH": path or os.environ["PATH"]})
-            if ended.returncode != status or line not in ended.stderr:
-                yield f"{words}: status {ended.returncode}: {ended.stderr}"
-        if shutil.which("pandoc"):
-            ended = run(script, str(file))
-            if ended.returncode != 73 or file.read_text() != "mine\n":
-                yield f"a file in its place: status {ended.returncode}: {ended.stderr}"
-        if pathlib.Path(room, "site").exists():
-            yield "it left something where it had no pandoc"
-
-
 def manual_warnings(manual):
     """What man says of a manual page as it shows it."""
     if is_missing("man", f"whether {manual.name} has warnings") or is_missing("groff", f"whether {manual.name} has warnings"):
@@ -130,7 +110,6 @@ def checks(pages):
     """Pairs of a file and what is wrong with it."""
     yield TOP / "docs/pictures", marks()
     yield TOP / "scripts/site.sh", site(TOP / "scripts/site.sh", pages)
-    yield TOP / "scripts/site.sh", site_refusals(TOP / "scripts/site.sh")
     for manual in MANUALS:
         yield manual, manual_warnings(manual)
     yield TOP / "docs/man/napi_replay.1", whole_manual(TOP / "docs/man/napi_replay.1")
