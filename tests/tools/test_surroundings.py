@@ -98,7 +98,7 @@ class Surroundings(InFolder):
     def test_want_of_memory(self):
         """60 MB can be read in 100 MB, and not be read as text as well."""
         text = self.write("text", "softirq 4 polls 2 work 3 squeezed 1\n" * 1700000)
-        for tool, words in (("report2json", [text]), ("plot", ["--series", text, "--script"]), ("from-pcap", [text, "made"])):
+        for tool, words in (("report2json", [text]), ("plot", ["--series", text, "--script"])):
             done = self.within(100000, tool, *words)
             self.assertEqual((done.stdout, done.stderr, done.returncode), (b"", f"{tool}: there isn't enough memory\n".encode(), 1))
         self.assertEqual(self.names(), ["text"])
