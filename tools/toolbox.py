@@ -309,9 +309,9 @@ def settings_of(words):
     return [word for name in RANGES if getattr(words, name) for word in (f"--{name}", str(getattr(words, name)))]
 
 
-def add_program(parser):
-    """The option for another build of the replay."""
-    parser.add_argument("--program", help="another build of napi_serial or napi_replay; where none is named, it is built if need be")
+def add_program(parser, what="napi_serial or napi_replay"):
+    """The option for another build of the program."""
+    parser.add_argument("--program", help=f"another build of {what}; where none is named, it is built if need be")
 
 
 def add_out(parser, what):
@@ -320,8 +320,8 @@ def add_out(parser, what):
 
 
 def program(name, named=None):
-    """A program of ours, built where that is needed; or the one that is named, or that PROGRAM names (SERIES, for napi_series)."""
-    named = named or os.environ.get({"napi_serial": "PROGRAM", "napi_series": "SERIES"}[name])
+    """A program of ours, built where that is needed; or the one that is named, or that PROGRAM, SERIES or MACHINE names."""
+    named = named or os.environ.get({"napi_serial": "PROGRAM", "napi_series": "SERIES", "napi_machine": "MACHINE"}[name])
     made = f"{TOP}/crates/{name}/out/{name}"
     if named or HOME != TOP:
         made = os.path.abspath(named or f"{HOME}/bin/{name}")
