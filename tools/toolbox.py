@@ -180,10 +180,10 @@ class whole_file:
 
 
 def write_whole(path, text, replaces=True):
-    """Writes a text in place of what was there, all or nothing."""
+    """Writes a text, or its lines, in place of what was there, all or nothing."""
     with whole_file(path, replaces) as new:
         with open(new, "w", newline="", encoding="utf-8", errors="surrogateescape") as file:
-            file.write(text)
+            file.writelines([text] if isinstance(text, str) else text)
             file.flush()
             os.fsync(file.fileno())
 
@@ -202,11 +202,11 @@ def write_all(texts):
 
 
 def write_out(path, text):
-    """Writes a text whole to a file, or to standard output where none is named."""
+    """Writes a text, or its lines, whole to a file, or to standard output where none is named."""
     if path:
         write_whole(path, text)
     else:
-        sys.stdout.write(text)
+        sys.stdout.writelines([text] if isinstance(text, str) else text)
         sys.stdout.flush()
 
 
@@ -229,6 +229,16 @@ def bytes_in(file):
         if size > MOST_BYTES:
             raise Refusal(f"longer than any trace, over {MOST_BYTES >> 20} MiB")
     return b"".join(steps)
+
+
+def lines_in(file, most, of):
+    """The lines of an open file, none of them endless."""
+    number = 0
+    while line := file.readline(most):
+        number += 1
+        if len(line) == most:
+            raise Refusal(f"line {number}: longer than any line of {of}")
+        yield line
 
 
 def read_bytes(path):
@@ -299,9 +309,9 @@ def settings_of(words):
     return [word for name in RANGES if getattr(words, name) for word in (f"--{name}", str(getattr(words, name)))]
 
 
-def add_program(parser):
-    """The option for another build of the replay."""
-    parser.add_argument("--program", help="another build of napi_serial or napi_replay; where none is named, it is built if need be")
+def add_program(parser, what="napi_serial or napi_replay"):
+    """The option for another build of the program."""
+    parser.add_argument("--program", help=f"another build of {what}; where none is named, it is built if need be")
 
 
 def add_out(parser, what):
@@ -310,8 +320,8 @@ def add_out(parser, what):
 
 
 def program(name, named=None):
-    """A program of ours, built where that is needed; or the one that is named, or that PROGRAM names (SERIES, for napi_series)."""
-    named = named or os.environ.get({"napi_serial": "PROGRAM", "napi_series": "SERIES"}[name])
+    """A program of ours, built where that is needed; or the one that is named, or that PROGRAM, SERIES or MACHINE names."""
+    named = named or os.environ.get({"napi_serial": "PROGRAM", "napi_series": "SERIES", "napi_machine": "MACHINE"}[name])
     made = f"{TOP}/crates/{name}/out/{name}"
     if named or HOME != TOP:
         made = os.path.abspath(named or f"{HOME}/bin/{name}")
@@ -357,6 +367,22 @@ def ran(command, text=None, stdin=-1):
     if process.returncode == -signal.SIGINT or Signals.is_over:
         raise Interrupted(signal.SIGINT)
     return process.returncode, out, said
+
+
+def lines_by(command, stdin, said):
+    """The lines that a program writes of this input, as it writes them. What it says goes to an open file; the value is its status."""
+    with begun(command, running, stdin=stdin, stdout=-1, stderr=said) as process:
+        try:
+            for line in process.stdout:
+                yield line.decode("utf-8", "replace")
+        except BaseException:
+            process.kill()
+            raise
+        finally:
+            running.discard(process)
+    if process.returncode == -signal.SIGINT or Signals.is_over:
+        raise Interrupted(signal.SIGINT)
+    return process.returncode
 
 
 def played(made, words, text):
@@ -415,9 +441,11 @@ def with_runs(arrivals, delay):
 
 
 def trace_text(rows, version=1):
-    """The text of a trace, where it isn't too long."""
-    header = next(header for header, number in HEADERS.items() if number == version)
-    lines = [",".join(map(str, row)) for row in rows]
-    if len(lines) > MOST_ROWS:
-        raise Refusal(f"{len(lines)} rows, and a trace has at most {MOST_ROWS}: take some of them, or a shorter time")
-    return "".join(f"{line}\n" for line in [header, *lines])
+    """The text of a trace of these rows, where it isn't too long."""
+    from itertools import islice
+    rows = iter(rows)
+    lines = [next(header for header, number in HEADERS.items() if number == version)]
+    lines += [",".join(map(str, row)) for row in islice(rows, MOST_ROWS)]
+    if more := sum(1 for _ in rows):
+        raise Refusal(f"{MOST_ROWS + more} rows, and a trace has at most {MOST_ROWS}: take some of them, or a shorter time")
+    return "".join(f"{line}\n" for line in lines)

@@ -9,7 +9,7 @@ import sys
 import time
 from pathlib import Path
 
-from tooltest import HEADER, HERE, REPLAY, SERIES, TOP, InFolder, run
+from tooltest import HEADER, HERE, MACHINE, REPLAY, SERIES, TOP, InFolder, run
 
 sys.path.insert(0, str(TOP / "tools"))
 import toolbox  # noqa: E402
@@ -20,10 +20,10 @@ REPORT = "list\ntotal devices 0 runs 0 polls 0 work 0 squeezed 0\n"
 WRITERS = {"raise": [TRACE], "report2json": ["-"], "traffic": [], "compare-runs": [TRACE, "--budget", "1", "--"],
            "plot": [TRACE, "--script"], "compare-recording": [TOP / "examples/linux-veth-small-budget", "--budget", "64"],
            "from-ftrace": [HERE / "soft-tcp.txt", "made", *(f"--pair=va{number}:vb{number}" for number in range(1, 7))],
-           "from-pcap": ["captured", "made"]}
+           "from-pcap": ["captured", "made"], "costs": [HERE / "soft-tcp.txt"], "what-if": ["arrivals", "--without-parallel"]}
 SERIES_HEAD = "row,moment,device,state,waiting,arrived,dropped,polled,in_flight,limit,avail,stopped,polls,work,squeezed\n"
 CAPTURED = "100.000000 eth0  In  ifindex 2 02:00:00:00:00:01 ethertype IPv4 (0x0800), length 60: 10.0.0.1 > 10.0.0.2: UDP\n"
-ALL = ["raise", "report2json", "traffic", "compare-runs", "compare-recording", "plot", "from-ftrace", "from-pcap", "sweep", "steps"]
+ALL = ["raise", "report2json", "traffic", "compare-runs", "compare-recording", "plot", "from-ftrace", "from-pcap", "sweep", "steps", "what-if", "costs"]
 # As somebody has it, and as a machine has it that tells no locale.
 USUAL = dict(os.environ)
 BARE = {"PATH": os.environ["PATH"], "HOME": os.environ.get("HOME", "/"), "CI": "true"}
@@ -34,7 +34,7 @@ class Surroundings(InFolder):
     def start(self, tool, words, environment=USUAL, **ends):
         """A tool at work, for which Ctrl-C isn't ignored."""
         return subprocess.Popen([sys.executable, "-B", TOP / "tools" / tool, *words], stderr=subprocess.PIPE, cwd=self.folder,
-                                env={**environment, "PROGRAM": REPLAY, "SERIES": SERIES, **ends.pop("variables", {})},
+                                env={**environment, "PROGRAM": REPLAY, "SERIES": SERIES, "MACHINE": MACHINE, **ends.pop("variables", {})},
                                 preexec_fn=lambda: signal.signal(signal.SIGINT, signal.SIG_DFL), **ends)
 
     def check_line(self, tool, said):
@@ -45,6 +45,7 @@ class Surroundings(InFolder):
     def writes(self):
         """Every way to write to standard output, and a folder without what was made beside it, as nothing is overwritten."""
         self.write("captured", CAPTURED)
+        self.write("arrivals", "moment,device,bytes\n0,1,60\n")
         for environment in (USUAL, BARE):
             for tool, words in [*WRITERS.items(), *((tool, ["--help"]) for tool in ALL)]:
                 yield environment, tool, words
@@ -67,7 +68,7 @@ class Surroundings(InFolder):
                 with open(self.folder / "out", "wb") as out:
                     done = subprocess.run(["bash", "-c", 'ulimit -f 1; trap "" XFSZ; exec "$0" "$@"', sys.executable, "-B", TOP / "tools" / tool,
                                            *each], stdout=out, stderr=subprocess.PIPE, check=False, input=report,
-                                          env={**environment, "PROGRAM": REPLAY, "SERIES": SERIES, "PYTHONUNBUFFERED": "1"})
+                                          env={**environment, "PROGRAM": REPLAY, "SERIES": SERIES, "MACHINE": MACHINE, "PYTHONUNBUFFERED": "1"})
                 self.assertEqual((done.stderr, done.returncode), (f"{tool}: File too large\n".encode(), 1))
 
     def test_numbers_of_5000_digits(self):
@@ -93,12 +94,12 @@ class Surroundings(InFolder):
     def within(self, memory, tool, *words):
         """A tool in that many kB of address space."""
         return subprocess.run(["bash", "-c", f'ulimit -v {memory}; exec "$0" "$@"', sys.executable, "-BES", TOP / "tools" / tool, *words],
-                              capture_output=True, check=False, cwd=self.folder, env={**USUAL, "PROGRAM": REPLAY, "SERIES": SERIES})
+                              capture_output=True, check=False, cwd=self.folder, env={**USUAL, "PROGRAM": REPLAY, "SERIES": SERIES, "MACHINE": MACHINE})
 
     def test_want_of_memory(self):
         """60 MB can be read in 100 MB, and not be read as text as well."""
         text = self.write("text", "softirq 4 polls 2 work 3 squeezed 1\n" * 1700000)
-        for tool, words in (("report2json", [text]), ("plot", ["--series", text, "--script"]), ("from-pcap", [text, "made"])):
+        for tool, words in (("report2json", [text]), ("plot", ["--series", text, "--script"])):
             done = self.within(100000, tool, *words)
             self.assertEqual((done.stdout, done.stderr, done.returncode), (b"", f"{tool}: there isn't enough memory\n".encode(), 1))
         self.assertEqual(self.names(), ["text"])
@@ -172,9 +173,9 @@ class Surroundings(InFolder):
         for environment, tool, words in self.writes():
             done = subprocess.run(["sh", "-c", 'exec "$0" "$@" >&-', sys.executable, "-B", TOP / "tools" / tool, *words], input=REPORT.encode(),
                                   stderr=subprocess.PIPE, check=False, cwd=self.folder,
-                                  env={**environment, "PROGRAM": REPLAY, "SERIES": SERIES})
+                                  env={**environment, "PROGRAM": REPLAY, "SERIES": SERIES, "MACHINE": MACHINE})
             self.assertEqual((done.stderr, done.returncode), (f"{tool}: standard output is closed\n".encode(), 1))
-            self.assertEqual(self.names(), ["captured"])
+            self.assertEqual(self.names(), ["arrivals", "captured"])
 
     def test_a_standard_error_that_takes_nothing(self):
         """The status tells what it would tell."""
@@ -247,7 +248,7 @@ class Surroundings(InFolder):
             for tool in ALL:
                 process = self.start(tool, ["--help"], variables={"PYTHONPATH": str(self.folder)}, stdout=subprocess.PIPE)
                 out, said = process.communicate(timeout=MOST_SECONDS)
-                is_silent = module == "csv" and tool in ("sweep", "plot")
+                is_silent = module == "csv" and tool in ("sweep", "plot", "what-if")
                 if is_silent:
                     self.assertEqual((out, said, process.returncode), (b"", b"", -signal.SIGINT), tool)
                 elif module == "argparse":
@@ -269,7 +270,7 @@ class Surroundings(InFolder):
         os.mkfifo(self.folder / "fifo.csv")
         words = {"compare-runs": ["--"], "plot": ["--script"], "from-pcap": ["made"], "from-ftrace": ["made"]}
         for tool in ALL:
-            if tool in ("traffic", "sweep", "steps"):
+            if tool in ("traffic", "sweep", "steps", "what-if"):
                 continue
             process = self.start(tool, ["fifo.csv", *words.get(tool, [])], stdout=subprocess.PIPE)
             until, end = time.monotonic() + MOST_SECONDS, None
@@ -317,7 +318,7 @@ class Surroundings(InFolder):
         for tool, each in words.items():
             done = subprocess.run(["bash", "-c", 'ulimit -f 0; trap "" XFSZ; exec "$0" "$@"', sys.executable, "-B", TOP / "tools" / tool, *each],
                                   capture_output=True, check=False, input=REPORT.encode(), cwd=self.folder,
-                                  env={**USUAL, "PROGRAM": REPLAY, "SERIES": SERIES})
+                                  env={**USUAL, "PROGRAM": REPLAY, "SERIES": SERIES, "MACHINE": MACHINE})
             self.check_line(tool, done.stderr.splitlines(True)[-1])
             self.assertEqual((done.returncode, done.stdout), (1, b""), tool)
             self.assertEqual((old.read_text(), rows.read_text(), self.names()), ("old\n", before, names), tool)
@@ -335,7 +336,7 @@ class Surroundings(InFolder):
     def test_inputs_that_are_none(self):
         (self.folder / "folder.csv").mkdir()
         (self.folder / "bytes").write_bytes(b"\xff\xfe")
-        words = {"compare-runs": ["--"], "plot": ["--script"], "from-pcap": ["made"], "from-ftrace": ["made"]}
+        words = {"compare-runs": ["--"], "plot": ["--script"], "from-pcap": ["made"], "from-ftrace": ["made"], "what-if": ["--without-parallel"]}
         for tool in ALL:
             if tool in ("traffic", "sweep", "compare-recording", "steps"):
                 continue

@@ -1,5 +1,7 @@
-"""What the tests of tools/ share. PROGRAM and SERIES name other builds of napi_replay and napi_series, for the tools too."""
+"""What the tests of tools/ share. PROGRAM, SERIES and MACHINE name other builds of napi_replay, napi_series and napi_machine, for the
+tools too."""
 
+import atexit
 import os
 import shutil
 import subprocess
@@ -12,12 +14,19 @@ HERE = Path(__file__).resolve().parent
 TOP = HERE.parent.parent
 REPLAY = os.environ.get("PROGRAM") or str(TOP / "crates/napi_replay/out/napi_replay")
 SERIES = os.environ.get("SERIES") or str(TOP / "crates/napi_series/out/napi_series")
+MACHINE = os.environ.get("MACHINE") or str(TOP / "crates/napi_machine/out/napi_machine")
+if not os.path.exists(MACHINE) and shutil.which("g++"):
+    # Where napi_machine doesn't stand yet, the program that the bench has beside it tries the tools.
+    built = tempfile.mkdtemp()
+    atexit.register(shutil.rmtree, built)
+    MACHINE = f"{built}/machine"
+    subprocess.run(["g++", "-std=c++17", "-O2", TOP / "bench/machine.cc", "-o", MACHINE], check=True)
 HEADER = "moment,device,event,value\n"
 
 
 def run(tool, *words, text=None, path=None, folder=None, **variables):
     """Runs a tool. The path is that of its commands, where another one is wanted."""
-    environment = {**os.environ, "PROGRAM": REPLAY, "SERIES": SERIES, **variables}
+    environment = {**os.environ, "PROGRAM": REPLAY, "SERIES": SERIES, "MACHINE": MACHINE, **variables}
     if path is not None:
         environment["PATH"] = path
     words = [word if isinstance(word, bytes) else str(word) for word in words]

@@ -1,0 +1,167 @@
+"""Tests of the arrivals that from-pcap, from-ftrace and traffic write. Expected rows are written by hand."""
+
+import struct
+import subprocess
+import unittest
+
+import test_tools
+from tooltest import HERE, MACHINE, InFolder, run
+
+HEADER = "moment,device,bytes\n"
+
+
+class Arrivals(InFolder):
+    def taken(self, text, *words):
+        """The report of arrivals, which the machine has to take."""
+        done = subprocess.run([MACHINE, *words], input=text, capture_output=True, text=True, check=False)
+        self.assertEqual((done.stderr, done.returncode), ("", 0))
+        return done.stdout
+
+    def made(self, tool, recorded, *words):
+        """The rows and the notes of what was recorded, which is a text or the bytes of a capture."""
+        path = self.folder / "recorded"
+        path.write_bytes(recorded if isinstance(recorded, bytes) else recorded.encode())
+        for end in ("csv", "notes"):
+            (self.folder / f"made.{end}").unlink(missing_ok=True)
+        done = run(tool, "recorded", "made", "--arrivals", *words, folder=self.folder)
+        self.assertEqual((done.stderr, done.returncode), ("", 0))
+        rows = (self.folder / "made.csv").read_text()
+        self.taken(rows)
+        self.assertEqual(self.names(), ["made.csv", "made.notes", "recorded"])
+        self.assertTrue(rows.startswith(HEADER))
+        return rows.splitlines()[1:], (self.folder / "made.notes").read_text().splitlines(), done.stdout
+
+
+class FromPcap(Arrivals):
+    # In nanoseconds, out of order; what goes out, a broadcast, a multicast, and what isn't for this machine.
+    TEXT = """100.000000001 eth0  In  ifindex 2 02:00:00:00:00:01 ethertype IPv4 (0x0800), length 60: 10.0.0.1 > 10.0.0.2: UDP
+100.000002001 eth1  In  ifindex 3 02:00:00:00:00:01 ethertype IPv4 (0x0800), length 62: 10.0.0.1 > 10.0.0.2: UDP
+100.000001501 eth0  Out ifindex 2 02:00:00:00:00:02 ethertype IPv4 (0x0800), length 61: 10.0.0.2 > 10.0.0.1: UDP
+100.000001001 eth0  B   ifindex 2 02:00:00:00:00:01 ethertype IPv4 (0x0800), length 63: 10.0.0.1 > 10.0.0.255: UDP
+100.000003001 eth0  M   ifindex 2 02:00:00:00:00:01 ethertype IPv4 (0x0800), length 64: 10.0.0.1 > 224.0.0.1: UDP
+100.000004001 eth0  P   ifindex 2 02:00:00:00:00:01 ethertype IPv4 (0x0800), length 65: 10.0.0.1 > 10.0.0.9: UDP
+101.000000001 eth1  In  ifindex 3 02:00:00:00:00:01 ethertype IPv4 (0x0800), length 66: 10.0.0.1 > 10.0.0.2: UDP
+"""
+    ROWS = ["0,1,60", "1000,1,63", "2000,2,62", "1000000000,2,66"]
+
+    def test_interfaces(self):
+        rows, notes, said = self.made("from-pcap", self.TEXT)
+        self.assertEqual(rows, self.ROWS)
+        self.assertEqual(notes, ["device 1 is eth0, 2 packets", "device 2 is eth1, 2 packets", "no row: multicasts, 1",
+                                 "no row: packets that don't come in, 2"])
+        self.assertEqual(said, "made.csv: 2 devices, 4 rows, 4 notes\n")
+
+    def test_one_device(self):
+        rows, notes, _ = self.made("from-pcap", self.TEXT, "--one-device")
+        self.assertEqual(rows, [row.replace(",2,", ",1,") for row in self.ROWS])
+        self.assertEqual(notes[:2], ["device 1 is one device, 4 packets", "one device is all of: eth0, eth1"])
+
+    def test_some_rows_and_who_receives(self):
+        rows, notes, said = self.made("from-pcap", self.TEXT, "--rows", "2:3")
+        self.assertEqual((rows, said), (["0,1,63", "1000,2,62"], "made.csv: 2 devices, 2 rows, 5 notes\n"))
+        self.assertIn("rows 2 to 3 alone", notes)
+        rows, notes, _ = self.made("from-pcap", self.TEXT, "--to", "eth1")
+        self.assertEqual((rows, notes[:2]), (["0,1,62", "999998000,1,66"], ["device 1 is eth1, 2 packets", "no row: multicasts, 1"]))
+
+    @test_tools.FromPcap.HAS_TCPDUMP
+    def test_a_capture_in_nanoseconds(self):
+        """The format's other magic number tells that a time is in ns. By --to a link address is a device, and multicasts are left out."""
+        seen = [(100, 1, 10, 60), (101, 11, 1, 61), (150, 255, 11, 90), (999, 1, 11, 62)]
+        text = bytearray(test_tools.FromPcap.capture(seen))
+        text[:4] = struct.pack("<I", 0xA1B23C4D)
+        group = struct.pack("<IIII", 100, 1000, 60, 60) + (b"\x01\x00\x5e\0\0\1" + bytes([2, 0, 0, 0, 0, 10]) + b"\x88\xb5").ljust(60, b"\0")
+        rows, notes, _ = self.made("from-pcap", bytes(text + group), "--to", "02:00:00:00:00:01")
+        self.assertEqual(rows, ["0,1,60", "50,1,90", "899,1,62"])
+        self.assertEqual(notes, ["device 1 is 02:00:00:00:00:01, 3 packets", "no row: multicasts, 1", "no row: packets that don't come in, 1"])
+        piped = subprocess.run(["sh", "-c", 'cat recorded | "$0" -BES "$1" - piped --arrivals --to 02:00:00:00:00:01', "python3", HERE.parent.parent / "tools/from-pcap"],
+                               cwd=self.folder, capture_output=True, text=True, check=False)
+        self.assertEqual((piped.stderr, (self.folder / "piped.csv").read_text()), ("", (self.folder / "made.csv").read_text()))
+
+    def test_more_packets_than_a_trace_has(self):
+        line = "{}.{:06} eth0  In  ifindex 2 02:00:00:00:00:01 ethertype IPv4 (0x0800), length 60: UDP\n"
+        rows, _, said = self.made("from-pcap", "".join(line.format(100 + place // 10**6, place % 10**6) for place in range(120000)))
+        self.assertEqual((len(rows), rows[-1], said), (120000, "119999000,1,60", "made.csv: 1 devices, 120000 rows, 1 notes\n"))
+
+    def test_refusals(self):
+        done = run("from-pcap", "-", self.folder / "made", "--arrivals", text=self.TEXT.splitlines(True)[2])
+        self.assertIn("no packet arrives in it", done.stderr)
+        many = "".join(f"100.{place:06} eth{place}  In  ifindex 2 02:00:00:00:00:01 ethertype IPv4 (0x0800), length 60: UDP\n" for place in range(4097))
+        done = run("from-pcap", "-", self.folder / "made", "--arrivals", text=many)
+        self.assertIn("4097 devices, and arrivals have at most 4096", done.stderr)
+        self.assertEqual(self.names(), [])
+
+
+class FromFtrace(Arrivals):
+    def test_what_was_sent_arrives_at_the_other_end(self):
+        """With time stamps of nine digits, as `trace-cmd report -t` writes them."""
+        rows, notes, said = self.made("from-ftrace", """cpus=2
+   a-1  [000] b....  5.000000007: net_dev_xmit: dev=va1 skbaddr=0 len=61 rc=0
+   a-1  [001] b....  5.000001008: net_dev_xmit: dev=vb1 skbaddr=0 len=62 rc=0
+CPU:1 [7 EVENTS DROPPED]
+   a-1  [000] b....  5.000001008: net_dev_xmit: dev=va1 skbaddr=0 len=63 rc=16
+   a-1  [000] ..s1.  5.000001009: napi_poll: napi poll on napi struct 0 for device vb1 work 1 budget 64
+   a-1  [000] b....  5.000002007: net_dev_xmit: dev=eth0 skbaddr=0 len=64 rc=0
+   a-1  [000] b....  6.000000007: net_dev_xmit: dev=va1 skbaddr=0 len=65 rc=0
+""")
+        self.assertEqual(rows, ["0,1,61", "1001,2,62", "1000000000,1,65"])
+        self.assertEqual(notes, ["line 4 of the recording: the kernel lost 7 events", "device 1 is vb1, 2 packets", "device 2 is va1, 1 packets",
+                                 "no row: packets that weren't sent: va1, rc=16, 1", "no row: packets of a device that is in no pair: eth0, 1"])
+        self.assertEqual(said, "made.csv: 2 devices, 3 rows; 5 notes\n")
+
+    def test_a_recording(self):
+        """The packets of the trace that another converter made, in their order and with the sizes, and moments that round to its own."""
+        rows, _, _ = self.made("from-ftrace", (HERE / "soft-tcp.txt").read_text(), *test_tools.PAIRS)
+        theirs = [line.split(",") for line in (HERE / "soft-tcp.csv").read_text().splitlines() if ",rx," in line]
+        self.assertEqual([row.split(",")[1:] for row in rows], [[device, size] for _, device, _, size in theirs])
+        self.assertEqual([int(row.split(",")[0]) // 10**6 for row in rows], [int(moment) - int(theirs[0][0]) for moment, *_ in theirs])
+
+    def test_a_trace_in_microseconds(self):
+        for unit, tick in (("ms", 1), ("us", 1000)):
+            done = run("from-ftrace", HERE / "soft-gso-23.txt", self.folder / unit, *test_tools.PAIRS, "--unit", unit)
+            self.assertEqual((done.stderr, done.returncode), ("", 0))
+        fine, coarse = ([row.split(",") for row in (self.folder / f"{unit}.csv").read_text().splitlines()[1:]] for unit in ("us", "ms"))
+        self.assertEqual([[str(int(row[0]) // 1000), *row[1:]] for row in fine], coarse)
+        self.assertTrue(any(int(row[0]) % 1000 for row in fine))
+
+    def test_refusals(self):
+        for text, why in (("# nothing\n", "there is no packet in it"), ("what\n", "line 1: no line of ftrace"),
+                          ("   a-1  [000] b....  5.000000: net_dev_xmit: dev=x skbaddr=0 len=61 rc=0\n", "no device of --pair is recorded; these are: x")):
+            done = run("from-ftrace", "-", self.folder / "made", "--arrivals", text=text)
+            self.assertEqual((done.returncode, self.names()), (1, []))
+            self.assertIn(why, done.stderr)
+
+
+class Traffic(Arrivals):
+    def rows(self, *words):
+        done = run("traffic", "--arrivals", *words)
+        self.assertEqual((done.stderr, done.returncode), ("", 0))
+        self.taken(done.stdout, "--processors", "64")
+        return [tuple(map(int, row.split(","))) for row in done.stdout.splitlines()[1:]]
+
+    def test_kinds(self):
+        """A constant rate of 1000 has a packet each ms; a Poisson process of 100000 in 2 s about 200000, within five times its deviation of 447,
+        and gaps whose deviation is their mean, within a tenth; bursts of 5 ms in 50 a tenth."""
+        moments = [row[0] for row in self.rows("--rate", "1000")]
+        self.assertEqual([round(moment / 10**6) for moment in moments], list(range(len(moments))))
+        self.assertIn(len(moments), (999, 1000))
+        moments = [row[0] for row in self.rows("--kind", "poisson", "--rate", "100000", "--seconds", "2")]
+        self.assertTrue(200000 - 2236 <= len(moments) <= 200000 + 2236)
+        gaps = [after - before for before, after in zip(moments, moments[1:])]
+        mean = sum(gaps) / len(gaps)
+        self.assertTrue(0.9 < (sum((gap - mean) ** 2 for gap in gaps) / len(gaps)) ** 0.5 / mean < 1.1)
+        self.assertTrue(490 <= len(self.rows("--kind", "bursts", "--rate", "1000", "--seconds", "5")) <= 510)
+
+    def test_many_devices(self):
+        rows = self.rows("--devices", "4096", "--rate", "10", "--seconds", "0.2", "--bytes", "60:61")
+        self.assertEqual({device for _, device, _ in rows}, set(range(1, 4097)))
+        self.assertEqual({size for _, _, size in rows}, {60, 61})
+        self.assertEqual(rows[0][0], 0)
+
+    def test_the_seed_decides(self):
+        words = ["--kind", "poisson", "--devices", "3", "--seed"]
+        self.assertEqual(self.rows(*words, "1"), self.rows(*words, "1"))
+        self.assertNotEqual(self.rows(*words, "1"), self.rows(*words, "2"))
+
+    def test_words_that_it_refuses(self):
+        for words in (["--mix", "tx=1"], ["--devices", "4097"], ["--devices", "0"]):
+            self.assertEqual(run("traffic", "--arrivals", *words).returncode, 2)

@@ -1,0 +1,61 @@
+"""Arrivals, as napi_machine reads them: any number of packets, each with its moment in ns, its device and its size."""
+
+from toolbox import Refusal
+
+from array import array
+from itertools import islice
+from operator import le
+
+HEADER = "moment,device,bytes\n"
+SECOND = 10**9  # nanoseconds, which the time stamps here are
+MOST_DEVICES = 64 * 64  # 64 of each of 64 processors
+
+
+class Packets:
+    """Packets in little room: of each its time, its kind by a number, and its size."""
+
+    def __init__(self):
+        self.times, self.kinds, self.sizes, self.numbers = array("Q"), array("L"), array("H"), {}
+
+    def add(self, time, kind, size):
+        self.times.append(time)
+        self.kinds.append(self.numbers.setdefault(kind, len(self.numbers)))
+        self.sizes.append(size)
+
+    def counted(self):
+        """How many there are of each kind."""
+        counts = [0] * len(self.numbers)
+        for kind in self.kinds:
+            counts[kind] += 1
+        return dict(zip(self.numbers, counts))
+
+    def in_order(self):
+        """Time, kind and size of each, by their times."""
+        is_sorted = all(map(le, self.times, islice(self.times, 1, None)))
+        places = range(len(self.times)) if is_sorted else sorted(range(len(self.times)), key=self.times.__getitem__)
+        names = list(self.numbers)
+        return ((self.times[place], names[self.kinds[place]], self.sizes[place]) for place in places)
+
+
+def check_devices(count):
+    if count > MOST_DEVICES:
+        raise Refusal(f"{count} devices, and arrivals have at most {MOST_DEVICES}")
+
+
+def seconds(whole, fraction):
+    """A time stamp, of up to nine digits behind its point, in ns."""
+    return int(whole) * SECOND + int(fraction.ljust(9, "0"))
+
+
+def arrivals_text(rows, span=None):
+    """The lines of rows (time, device, size), of some of them where a span is given; the first one's moment is 0."""
+    yield HEADER
+    start = None
+    for time, device, size in islice(rows, span[0] - 1, span[1]) if span else rows:
+        start = time if start is None else start
+        yield f"{time - start},{device},{size}\n"
+
+
+def number_of(rows, span):
+    """How many of so many rows a span has."""
+    return len(range(rows)[span[0] - 1 : span[1]]) if span else rows
