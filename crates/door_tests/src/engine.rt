@@ -44,7 +44,7 @@ fn a_run_over_a_list_of_one_thread(rt: HostRuntime) {
     let mut taken = SoftList::new();
     assert_eq!(rt; list.splice(&mut taken), 1);
     assert_eq!(rt; taken.ids(), [3].as_slice());
-    list.put_back(taken, SoftList::new());
+    list.put_back(&taken, &SoftList::new());
     let once = Once {
         work: 1,
         next: Next::Gone,
@@ -65,7 +65,7 @@ fn a_list_that_threads_share(rt: HostRuntime) -> Result<(), Fail> {
     let mut taken = SoftList::new();
     assert_eq!(rt; list.splice(&mut taken), 2);
     assert_eq!(rt; taken.ids(), [5, 6].as_slice());
-    list.put_back(taken, SoftList::new());
+    list.put_back(&taken, &SoftList::new());
     let mut bench = Cards { packets: 1 };
     assert_eq!(rt; run_softirq(&mut list, &mut bench, 300, 64, 1024).polls, 2);
     Ok(())

@@ -109,7 +109,7 @@ impl<R: Wait> PollList for SharedList<R> {
         ensures room { HandsHaveRoom self.new (length to.new) }
         ensures empty { length to.new < 64 → FindsEmpty self.old self.new }
     {
-        std::mem::swap(&mut self.hand, to);
+        to.take_all(&mut self.hand);
         fill(
             &self.rt,
             &self.queue,
@@ -123,25 +123,26 @@ impl<R: Wait> PollList for SharedList<R> {
 
     /// Keeps in the poller's hands the rest, then what it pops until the queue is empty or 64 are in hand with those to
     /// be repolled, and these last.
-    fn put_back(&mut self, mut rest: SoftList, repoll: SoftList)
-        requires { HandsHaveRoom self.old (length rest + length repoll) }
+    fn put_back(&mut self, rest: &SoftList, repoll: &SoftList)
+        requires { HandsHaveRoom self.old (length rest.now + length repoll.now) }
         ensures back { (came : List ℕ) × PopsCame self.old [] came self.new
-            × (in_hand self.new ≡ rest ++ (in_hand self.old ++ came) ++ repoll) }
+            × (in_hand self.new ≡ rest.now ++ (in_hand self.old ++ came) ++ repoll.now) }
         ensures all { IsAllPopped (in_hand self.new) self.new }
         ensures empty { length (in_hand self.new) < 64 → FindsEmpty self.old self.new }
     {
         let most = 64 - repoll.ids().len();
-        rest.append_all(&self.hand);
+        if !rest.is_empty() {
+            self.hand.put_before(rest);
+        }
         fill(
             &self.rt,
             &self.queue,
             &mut self.pass,
             &mut self.pops,
-            &mut rest,
+            &mut self.hand,
             most,
         );
-        rest.append_all(&repoll);
-        self.hand = rest;
+        self.hand.append_all(repoll);
     }
 
     ghost stays = { Prim.search rules };

@@ -1,7 +1,7 @@
 -- A run on its way, and how each turn of the loop carries it on.
 use Rattle.std.proofs.{Common.{◌≡◌, ◌≢◌, ◌∙◌, ◌⊎◌, inl, inr, ℕ, ◌+◌, ◌<◌, Bool, true, false, cond, List, [], ◌∷◌, ◌++◌, length, length-append, take, refl, sym, ap, arith, append_assoc}, lemmas.{Bool.lt-leb, List.append-nil}}
 use Rattle.{std.{proofs.{lemmas.List.{take-append-le, take_all, Folds.concat-append}, Math.Nat.eq-or-lt_of_le}, specs.{Prelude.{nat_le, ◌||◌, Option, Some, None, MatchOption}, List.{AllByRecursion, concat}}}, poll_runs.specs.Polls.Poll}
-use Rattle.poll_runs.specs.{Polls.{arrivals, ids, is_arrival, is_repoll, repolled, work_of}, Run.{AreBatches, IsBatch, IsRun, is_spent}, Driven.Going, Turn.{HandsOn, Refills, Takes, asked_for}, declared.run.RunReport.RunReport}
+use Rattle.poll_runs.specs.{Polls.{arrivals, ids, is_arrival, is_repoll, repolled, work_of}, Run.{AreBatches, IsBatch, IsRun, is_spent}, Driven.{Going, IsGoing, IsOver}, Steps.{Begins, has_spent}, Turn.{HandsOn, Refills, Takes, asked_for}, declared.{polling_run.PollingRun.PollingRun, run.RunReport.RunReport}}
 use Rattle.poll_runs.proofs.PollFacts.{arrivals-append, arrivals-one, ids-append, length-ids, repolled-append, repolled-one, taken-le, work-push}
 
 -- batches stay batches as polls are added
@@ -53,6 +53,11 @@ going-start entries moves is_all budget window start list own money room s = rec
   counted = refl;
   summed = refl;
 }
+
+pub run-begins : {L : Type 0} (entries : L → List ℕ) (moves : L → List ℕ → List ℕ → L → Type 0) (is_all : List ℕ → L → Type 0) (start list : L) (run : PollingRun)
+    → 0 < run.budget → 0 < run.window → run.asked ≡ None → Begins entries moves is_all start run list → IsGoing entries moves is_all start [] list run
+run-begins entries moves is_all start list run money room rests b =
+    rw (rests, b.repoll, b.polls, b.work) (going-start entries moves is_all run.budget run.window start list run.own money room b.takes)
 
 -- a run whose own list was filled, as far as there was something
 pub record Filled {L : Type 0} (entries : L → List ℕ) (moves : L → List ℕ → List ℕ → L → Type 0) (is_all : List ℕ → L → Type 0)
@@ -216,6 +221,18 @@ going-ends entries moves is_all budget window start polls list after own repoll 
       count = told ∙ g.counted;
       sum = work ∙ g.summed;
     }
+
+-- it ends by what it gives back and tells
+pub run-ends : {L : Type 0} (entries : L → List ℕ) (moves : L → List ℕ → List ℕ → L → Type 0) (is_all : List ℕ → L → Type 0) (start : L) (polls : List Poll)
+    (list after : L) (run : PollingRun) (report : RunReport)
+    → ((a b c : L) (pushed more came later : List ℕ) → moves a pushed came b → moves b more later c → moves a (pushed ++ more) (came ++ later) c)
+    → run.asked ≡ None → ((came : List ℕ) × moves list [] came after × (entries after ≡ run.own ++ (entries list ++ came) ++ run.repoll)) → is_all (entries after) after
+    → report ≡ record { polls = run.polls; work = run.work; squeezed = has_spent run }
+    → IsGoing entries moves is_all start polls list run → IsOver entries moves is_all start polls run
+    → IsRun entries moves is_all run.budget run.window start polls after report
+run-ends entries moves is_all start polls list after run report joins rests back all told going over =
+    going-ends entries moves is_all run.budget run.window start polls list after run.own run.repoll run.polls run.work report joins back all
+    (ap (λ (r : RunReport). r.polls) told) (ap (λ (r : RunReport). r.work) told) (ap (λ (r : RunReport). r.squeezed) told) (rw rests at going) (rw rests at over)
 
 -- the first number is taken out, to be polled
 pub ahead-popped : (popped : Option ℕ) (before after : List ℕ) → MatchOption popped ((before ≡ []) × (after ≡ [])) (λ id. before ≡ id ∷ after)

@@ -1,11 +1,19 @@
 -- What the calls of a driven run make of the run and of its list, one by one.
-use Rattle.std.specs.Prelude.{◌≡◌, ℕ, nat_le, ◌||◌, Bool, List, [], ◌∷◌, Option, MatchOption}
+use Rattle.std.specs.Prelude.{◌≡◌, ℕ, nat_le, ◌||◌, Bool, List, [], ◌∷◌, Option, None, MatchOption}
 use Rattle.poll_runs.specs.Turn.{Refills, Takes}
 use Rattle.poll_runs.specs.declared.polling_run.PollingRun.{PollingRun}
 
 -- the work so far meets the budget, or the polls so far meet the window
 abbrev pub has_spent : PollingRun → Bool
 has_spent run = nat_le run.budget run.work || nat_le run.window run.polls
+
+-- nothing was taken yet
+pub record HoldsNothing (run : PollingRun) : Type 0 where
+  pub own : run.own ≡ []
+  pub repoll : run.repoll ≡ []
+  pub asked : run.asked ≡ None
+  pub polls : run.polls ≡ 0
+  pub work : run.work ≡ 0
 
 -- a run begins with what one splice gives, and nothing is polled
 pub record Begins {L : Type 0} (entries : L → List ℕ) (moves : L → List ℕ → List ℕ → L → Type 0) (is_all : List ℕ → L → Type 0)

@@ -3,7 +3,7 @@
 ghost use Rattle.std.specs.Prelude.{◌≡◌, ◌+◌, ◌<◌, ◌≤◌, ◌||◌, true, false, is_some, nat_le, List, [], ◌∷◌, ◌++◌, length, if◌then◌else◌, None, Some};
 ghost use Rattle.poll_runs.specs.Polls.{Poll, is_arrival, is_repoll, work_of};
 ghost use Rattle.poll_runs.specs.Run.{IsRun};
-ghost use Rattle.poll_runs.specs.Steps.{Asks, Begins, has_spent};
+ghost use Rattle.poll_runs.specs.Steps.{Asks, Begins, HoldsNothing, has_spent};
 ghost use Rattle.poll_runs.specs.Turn.{HandsOn, Refills};
 ghost use Rattle.poll_runs.specs.Driven.{IsGoing, IsOver, SameSettings, and_poll, held, waits};
 
@@ -46,6 +46,58 @@ fn hand_on<L: PollList>(next: Next, id: u32, list: &mut L, repoll: &mut SoftList
     }
 }
 
+// Gives the list back what the run holds, and tells what it did.
+pub(crate) fn give_back<L: PollList>(run: &PollingRun, list: &mut L) -> RunReport
+    requires room { L.has_room list.old (length run.now.own + length run.now.repoll) }
+    ensures back { (came : List _) × L.moves list.old [] came list.new
+        × (L.entries list.new ≡ run.now.own ++ (L.entries list.old ++ came) ++ run.now.repoll) }
+    ensures all { L.is_all (L.entries list.new) list.new }
+    ensures report { result ≡ record {
+      polls = run.now.polls;
+      work = run.now.work;
+      squeezed = has_spent run.now;
+    } }
+{
+    list.put_back(&run.own, &run.repoll);
+    RunReport {
+        polls: run.polls,
+        work: run.work,
+        squeezed: is_spent(run.budget, run.window, run.polls, run.work),
+    }
+}
+
+// A run that holds nothing.
+pub(crate) fn empty_run(budget: u32, weight: u32, window: u32) -> PollingRun
+    requires weight { (1 ≤ weight) × (weight ≤ 64) }
+    requires budget { (1 ≤ budget) × (budget ≤ 65535) }
+    requires window { (1 ≤ window) × (window ≤ 65535) }
+    ensures empty { HoldsNothing result }
+    ensures settings { (result.budget ≡ budget) × (result.weight ≡ weight)
+        × (result.window ≡ window) }
+{
+    PollingRun {
+        own: SoftList::new(),
+        repoll: SoftList::new(),
+        asked: None,
+        budget,
+        weight,
+        window,
+        polls: 0,
+        work: 0,
+    }
+}
+
+// It takes all that the list holds.
+pub(crate) fn start<L: PollList>(run: &mut PollingRun, list: &mut L)
+    requires { HoldsNothing run.old }
+    ensures begins { Begins L.entries L.moves L.is_all list.old run.new list.new }
+    ensures rests { run.new.asked ≡ None }
+    ensures room { L.has_room list.new (held run.new) }
+    ensures settings { SameSettings run.old run.new }
+{
+    list.splice(&mut run.own);
+}
+
 impl PollingRun {
     /// Takes all that the list holds. The weight is in 1..=64, budget and window in 1..=65535.
     pub fn begin<L: PollList>(list: &mut L, budget: u32, weight: u32, window: u32) -> PollingRun
@@ -59,19 +111,9 @@ impl PollingRun {
         ensures settings { (result.budget ≡ budget) × (result.weight ≡ weight)
             × (result.window ≡ window) }
     {
-        let mut own = SoftList::new();
-        list.splice(&mut own);
-        let repoll = SoftList::new();
-        PollingRun {
-            own,
-            repoll,
-            asked: None,
-            budget,
-            weight,
-            window,
-            polls: 0,
-            work: 0,
-        }
+        let mut run = empty_run(budget, weight, window);
+        start(&mut run, list);
+        run
     }
 
     /// The number that is to be polled next, None where the run is over: the work meets the budget or the polls meet the
@@ -180,20 +222,6 @@ impl PollingRun {
         ensures polls { result.polls ≤ self.window }
         ensures work { result.work < self.budget + self.weight }
     {
-        let PollingRun {
-            own,
-            repoll,
-            budget,
-            window,
-            polls,
-            work,
-            ..
-        } = self;
-        list.put_back(own, repoll);
-        RunReport {
-            polls,
-            work,
-            squeezed: is_spent(budget, window, polls, work),
-        }
+        give_back(&self, list)
     }
 }

@@ -46,10 +46,10 @@ pub trait PollList {
 
     /// Puts these numbers before what the list holds, and those to be repolled behind it (`list_splice_tail_init`,
     /// `list_splice_tail` and `list_splice` at the end of `net_rx_action`).
-    fn put_back(&mut self, rest: SoftList, repoll: SoftList)
-        requires { has_room self.old (length rest + length repoll) }
+    fn put_back(&mut self, rest: &SoftList, repoll: &SoftList)
+        requires { has_room self.old (length rest.now + length repoll.now) }
         ensures back { (came : List ℕ) × moves self.old [] came self.new
-            × (entries self.new ≡ rest ++ (entries self.old ++ came) ++ repoll) }
+            × (entries self.new ≡ rest.now ++ (entries self.old ++ came) ++ repoll.now) }
         ensures all { is_all (entries self.new) self.new };
 
     /// A list that stays as it is: nothing was pushed, and nothing came.

@@ -58,17 +58,17 @@ impl PollList for PlainList {
         if self.entries.is_empty() {
             return 0;
         }
-        std::mem::swap(&mut self.entries, to);
+        to.take_all(&mut self.entries);
         to.ids().len()
     }
 
-    fn put_back(&mut self, mut rest: SoftList, repoll: SoftList) {
-        if rest.is_empty() && repoll.is_empty() {
-            return;
+    fn put_back(&mut self, rest: &SoftList, repoll: &SoftList) {
+        if !rest.is_empty() {
+            self.entries.put_before(rest);
         }
-        rest.append_all(&self.entries);
-        rest.append_all(&repoll);
-        self.entries = rest;
+        if !repoll.is_empty() {
+            self.entries.append_all(repoll);
+        }
     }
 
     ghost stays = { λ _. refl };

@@ -5,6 +5,7 @@ ghost use Rattle.poll_runs.specs.Polls.{At, Chain, Poll};
 ghost use Rattle.poll_runs.specs.Run.{IsRun};
 
 use crate::bench::Bench;
+use crate::driven::{empty_run, give_back, start};
 use crate::list::PollList;
 use crate::polling_run::PollingRun;
 
@@ -41,10 +42,11 @@ pub fn run_softirq<L: PollList, B: Bench>(
     ensures polls { result.polls ≤ window }
     ensures work { result.work < budget + weight }
 {
-    let mut run = PollingRun::begin(list, budget, weight, window);
+    let mut run = empty_run(budget, weight, window);
+    start(&mut run, list);
     while let Some(id) = run.next(list) {
         let once = bench.poll_once(id, weight);
         run.polled(list, once);
     }
-    run.end(list)
+    give_back(&run, list)
 }

@@ -101,7 +101,7 @@ fn put_back_keeps_what_came_between(rt: HostRuntime) -> Result<(), Fail> {
     first.push(5);
     assert_eq!(rt; spliced(&mut list).ids(), [3, 5].as_slice());
     first.push(9);
-    list.put_back(only(7), only(3));
+    list.put_back(&only(7), &only(3));
     assert_eq!(rt; spliced(&mut list).ids(), [7, 9, 3].as_slice());
     assert!(rt; spliced(&mut list).is_empty());
     Ok(())
