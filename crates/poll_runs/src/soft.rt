@@ -1,47 +1,39 @@
 //! A short list of numbers of instances.
 
-ghost use Rattle.std.specs.Prelude.{◌≡◌, ◌↔◌, ◌+◌, ◌-◌, ◌<◌, ◌≤◌, ℕ, List, [], ◌∷◌, ◌++◌, length, take, drop, MatchOption, IsOk, OnOk, OnErr, IfErr, ◌==◌};
+ghost use Rattle.std.specs.Prelude.{◌≡◌, ◌↔◌, ◌+◌, ◌<◌, ◌≤◌, ℕ, List, [], ◌∷◌, ◌++◌, length, drop, MatchOption, IsOk, OnOk, OnErr, IfErr, ◌==◌};
 
+use arrayvec::ArrayVec;
 use std::marker::Model;
-
-const PLACES: usize = 64;
 
 /// At most 64 numbers of instances, in order, as the lists `list` and `repoll` that `net_rx_action` keeps on its stack.
 #[derive(Drop)]
 pub struct SoftList {
-    // The numbers stand from the first place on to the end: so the first one is taken while the others stay.
-    places: [u32; PLACES],
+    ids: ArrayVec<u32, 64>,
+    // Those before it were taken: so the first one is taken while the others stay.
     first: usize,
-    end: usize,
 }
 
 impl Model for SoftList {
     ghost Value = { List ℕ };
 
-    ghost view = { λ s. drop s.first (take s.end s.places) };
+    ghost view = { λ s. drop s.first s.ids.items };
 
-    ghost invariant = { λ s. (s.first ≤ s.end) × (s.end ≤ 64) };
+    ghost invariant = { λ s. s.first ≤ length s.ids.items };
 }
 
-// Moves the numbers to the first places, and answers where they end.
-#[cold]
-fn settle(places: &mut [u32; PLACES], first: usize, end: usize) -> usize
-    requires { (first ≤ end) × (end ≤ 64) }
-    ensures numbers { take result places.new ≡ drop first (take end places.old) }
-    ensures end { result ≡ end - first }
+// Drops what was taken where so many more find no room behind the others, and answers where the first one stands then.
+fn make_room(ids: &mut ArrayVec<u32, 64>, first: usize, count: usize) -> usize
+    requires first { first ≤ length ids.old.items }
+    requires count { length ids.old.items + count ≤ 64 + first }
+    ensures same { drop result ids.new.items ≡ drop first ids.old.items }
+    ensures first { result ≤ length ids.new.items }
+    ensures room { length ids.new.items + count ≤ 64 }
 {
-    let from = *places;
-    let count = end - first;
-    places[..count].copy_from_slice(&from[first..end]);
-    count
-}
-
-// Writes numbers behind the end.
-fn lay(places: &mut [u32; PLACES], end: usize, ids: &[u32])
-    requires { end + length ids.now ≤ 64 }
-    ensures { take (end + length ids.now) places.new ≡ take end places.old ++ ids.now }
-{
-    places[..end + ids.len()][end..].copy_from_slice(ids);
+    if count <= 64 - ids.len() {
+        return first;
+    }
+    ids.drain(..first);
+    0
 }
 
 impl SoftList {
@@ -50,9 +42,8 @@ impl SoftList {
         ensures { result ≡ [] }
     {
         SoftList {
-            places: [0; PLACES],
+            ids: ArrayVec::new(),
             first: 0,
-            end: 0,
         }
     }
 
@@ -63,7 +54,7 @@ impl SoftList {
         ensures full { IfErr result (λ back. back ≡ id) }
         ensures same { OnErr result (self.new ≡ self.old) }
     {
-        if self.ids().len() == PLACES {
+        if self.ids().len() == 64 {
             return Err(id);
         }
         self.append(id);
@@ -75,10 +66,10 @@ impl SoftList {
         ensures { MatchOption result ((self.old ≡ []) × (self.new ≡ []))
             (λ id. self.old ≡ id ∷ self.new) }
     {
-        if self.first == self.end {
+        if self.first == self.ids.len() {
             return None;
         }
-        let id = self.places[self.first];
+        let id = self.ids.as_slice()[self.first];
         self.first += 1;
         Some(id)
     }
@@ -88,14 +79,14 @@ impl SoftList {
         ensures ids { result.now ≡ self.now }
         ensures room { length self.now ≤ 64 }
     {
-        &self.places[self.first..self.end]
+        &self.ids.as_slice()[self.first..]
     }
 
     /// Whether the list holds nothing.
     pub fn is_empty(&self) -> bool
         ensures { result ≡ (length self.now == 0) }
     {
-        self.first == self.end
+        self.ids().is_empty()
     }
 
     /// Appends a number, where there is room.
@@ -103,12 +94,8 @@ impl SoftList {
         requires { length self.old < 64 }
         ensures { self.new ≡ self.old ++ id ∷ [] }
     {
-        if self.end == PLACES {
-            self.end = settle(&mut self.places, self.first, self.end);
-            self.first = 0;
-        }
-        self.places[self.end] = id;
-        self.end += 1;
+        self.first = make_room(&mut self.ids, self.first, 1);
+        self.ids.push(id);
     }
 
     /// Appends the numbers of another list, where there is room.
@@ -117,12 +104,8 @@ impl SoftList {
         ensures { self.new ≡ self.old ++ more.now }
     {
         let ids = more.ids();
-        if PLACES - self.end < ids.len() {
-            self.end = settle(&mut self.places, self.first, self.end);
-            self.first = 0;
-        }
-        lay(&mut self.places, self.end, ids);
-        self.end += ids.len();
+        self.first = make_room(&mut self.ids, self.first, ids.len());
+        let _ = self.ids.try_extend_from_slice(ids);
     }
 
     /// Takes all numbers of another list into this one, which is empty.
@@ -131,12 +114,10 @@ impl SoftList {
         ensures taken { self.new ≡ from.old }
         ensures none_left { from.new ≡ [] }
     {
-        let ids = from.ids();
-        lay(&mut self.places, 0, ids);
+        self.ids.clear();
         self.first = 0;
-        self.end = ids.len();
-        from.first = 0;
-        from.end = 0;
+        let _ = self.ids.try_extend_from_slice(from.ids());
+        from.first = from.ids.len();
     }
 
     /// Puts the numbers of another list before those of this one, where there is room.
