@@ -8,7 +8,7 @@ import shutil
 import sys
 import unittest
 
-from tooltest import MACHINE, TOP, InFolder, run
+from tooltest import HAS_MACHINE, MACHINE, TOP, InFolder, run
 
 sys.path.insert(0, str(TOP / "tests"))
 import machine_model  # noqa: E402
@@ -16,6 +16,7 @@ import machine_model  # noqa: E402
 HEADER = "moment,device,bytes\n"
 
 
+@HAS_MACHINE
 class WhatIf(InFolder):
     def setUp(self):
         super().setUp()
