@@ -94,6 +94,17 @@ class WhatIf(InFolder):
         self.assertEqual([row["budget"] for row in parts], ["1", "3", "2", "4"])
         self.assertIn("is there: --resume goes on with it", run("what-if", self.arrivals, "--out", out).stderr)
 
+    def test_parts_of_a_job_array_are_one_table(self):
+        """As docs/TOOLS.md puts those of sweep together; what is there needs no program."""
+        words = ["--budget", "1,2,300", "--load", "1,2"]
+        for part in range(1, 5):
+            self.rows(*words, "--part", f"{part}/4", "--out", self.folder / f"rows-{part}.csv")
+        parts = [(self.folder / f"rows-{part}.csv").read_text().splitlines(True) for part in range(1, 5)]
+        out = self.write("all.csv", "".join(parts[0][:1] + [line for lines in parts for line in lines[1:]]))
+        none = self.write("none", "#!/bin/sh\nexit 1\n")
+        none.chmod(0o755)
+        self.assertEqual(self.rows(*words, "--resume", "--out", out, "--program", none), self.rows(*words))
+
     @unittest.skipUnless(shutil.which("parallel"), "GNU parallel isn't installed")
     def test_by_parallel(self):
         words = ["--budget", "1,2", "--load", "1,2"]
