@@ -274,5 +274,5 @@ class Combinations:
         refused = sum(1 for key in keys if key in rows and str(rows[key]["status"]) != "0")
         self.tell(words, f"{len(keys) - len(left)} rows in {shown(words.out)}, of which {refused} are refused")
         if left:
-            raise Refusal(f"{len(left)} rows are missing: --resume tries them again")
+            raise Refusal(f"{len(left)} rows are missing" + (": --resume tries them again" if not words.is_passing else ""))
         return [rows[key] for key in keys]
