@@ -1,11 +1,16 @@
 """Checks of a program of the receiving machine (napi_machine, or bench/machine.cc), for tests/machine.sh: what it prints is that of the
 plain model, or of queueing theory.
 
-    python3 -B tests/machine.py random|faults|texts|words|queue|livelock PROGRAM [SEED COUNT]
+    python3 -B tests/machine.py random|faults|texts|words|ends|queue|livelock|recorded PROGRAM [SEED COUNT]
+    python3 -B tests/machine.py simulated REPORT FILE
 """
+import itertools
+import os
+import pathlib
 import random
 import subprocess
 import sys
+import tempfile
 from collections import Counter
 
 import machine_model
@@ -147,6 +152,22 @@ def words(program):
     return wrong
 
 
+def ends(program):
+    """A reader and a writer that fail."""
+    wrong, folder = [], os.open("/", os.O_RDONLY)
+    try:
+        done = subprocess.run([program], stdin=folder, capture_output=True, text=True, check=False)
+    finally:
+        os.close(folder)
+    if (done.stdout, done.stderr, done.returncode) != ("", "arrivals fault 10 ReadFailed\n", 2):
+        wrong.append(f"a reader that fails: {done}")
+    with open("/dev/full", "wb") as full:
+        done = subprocess.run([program], input=text_of([(0, 1, 60)]), stdout=full, stderr=subprocess.PIPE, text=True, check=False)
+    if (done.stderr, done.returncode) != ("output fault 15 OutputFailed\n", 4):
+        wrong.append(f"a writer that fails: {done}")
+    return wrong
+
+
 # ---- what theory says
 
 def poisson(rate, length, seed):
@@ -188,7 +209,66 @@ def livelock(program):
     return wrong
 
 
-CHECKS = {"random": random_arrivals, "faults": faults, "texts": texts, "words": words, "queue": queue, "livelock": livelock}
+# ---- what Linux did
+
+TOP = pathlib.Path(__file__).resolve().parent.parent
+# Recordings as ftrace's text, whose arrivals are known to a microsecond and whose costs are fitted; and traces, known to a millisecond, which
+# take the costs of the second of them. Each with its budget. No card interrupted, and nobody used what was received.
+RECORDED = (("tests/tools/soft-tcp", 300), ("tests/tools/soft-gso-23", 23), ("examples/linux-veth-bursts", 300), ("examples/linux-veth-small-budget", 64))
+
+
+def made_by(tool, *words):
+    return subprocess.run([sys.executable, "-BES", TOP / "tools" / tool, *words], capture_output=True, text=True, check=True).stdout
+
+
+def recorded_arrivals(name, folder):
+    """The arrivals of a recording, and the words for its costs where they are known."""
+    if not (text := TOP / f"{name}.txt").exists():
+        rows = (line.split(",") for line in (TOP / f"{name}.csv").read_text(encoding="ascii").splitlines())
+        rows = sorted((int(row[0]) * 10**6, row[1], row[3]) for row in rows if row[2] == "rx")
+        return text_of(rows), []
+    made = f"{folder}/{text.stem}"
+    made_by("from-ftrace", text, made, "--arrivals")
+    return pathlib.Path(f"{made}.csv").read_text(encoding="ascii"), made_by("costs", text, "--words").split()
+
+
+def recorded(program):
+    """Runs and squeezes beside those that Linux made, with the difference: costs vary from poll to poll, a sender that shares the processor
+    waits for the runs, which arrivals don't, and the recordings don't tell which processor a packet came to. All packets are polled, and runs
+    and squeezes are no more than three times apart."""
+    wrong, costs = [], []
+    for name, budget in RECORDED:
+        with tempfile.TemporaryDirectory() as folder:
+            text, fitted = recorded_arrivals(name, folder)
+        costs = fitted or costs
+        out, _, status = ran(program, ["--budget", str(budget), "--interrupt", "0", "--use", "0", *costs], text)
+        if status != 0:
+            return [*wrong, f"{name}: status {status}"]
+        told = values(next(line for line in out.splitlines() if line.startswith("processor")))
+        work = [int(line.split()[3]) for line in (TOP / f"{name}.work").read_text(encoding="ascii").splitlines()]
+        theirs = {"runs": len(work), "squeezed": sum(each >= budget for each in work)}
+        print(f"{name} at a budget of {budget}, {' '.join(costs)}: " + ", ".join(
+            f"{each} {told[each]}, recorded {theirs[each]} ({told[each] - theirs[each]:+})" for each in theirs))
+        if told["work"] != text.count("\n") - 1:
+            wrong.append(f"{name}: {told['work']} packets of {text.count(chr(10)) - 1} are polled")
+        wrong += [f"{name}: {each} {told[each]}, recorded {theirs[each]}" for each in theirs
+                  if theirs[each] and not theirs[each] <= 3 * told[each] <= 9 * theirs[each]]
+    return wrong
+
+
+def simulated(report, waited):
+    """A report of the machine tells what a simulation tells of the same arrivals, which has each wait in place of their percentiles."""
+    def told(line):
+        counts, sign, waits = line.partition(" waits")
+        return f"{counts} {machine_model.told_waits(list(map(int, waits.split())))}" if sign else line
+
+    with open(report, encoding="ascii") as mine, open(waited, encoding="ascii") as theirs:
+        lines = [(line.rstrip("\n"), told(other.rstrip("\n"))) for line, other in itertools.zip_longest(mine, theirs, fillvalue="")]
+    return [f"{line}\n    the simulation: {other}" for line, other in lines[:-1] if line != other] + [f"{other}: and no total" for line, other in lines[-1:]
+                                                                                                   if other or not line.startswith("total ")]
+
+
+CHECKS = {"random": random_arrivals, "faults": faults, "texts": texts, "words": words, "ends": ends, "queue": queue, "livelock": livelock, "recorded": recorded, "simulated": simulated}
 
 if __name__ == "__main__":
     found = CHECKS[sys.argv[1]](*sys.argv[2:])

@@ -1,7 +1,8 @@
 #!/usr/bin/env bash
 # tests/machine.sh: the receiving machine. bench/machine.cc, and napi_machine where it stands, give the bytes of the plain model
-# (machine_model.py) on random arrivals with random words; napi_machine's faults and words, the mean of M/D/1 and livelock. MACHINE=FILE
-# names another build of napi_machine. The last line is `N passed, M failed`.
+# (machine_model.py) on random arrivals with random words; napi_machine's faults and words, the mean of M/D/1, livelock, and its runs and
+# squeezes beside those of a running Linux, with the difference. MACHINE=FILE names another build of napi_machine. The last line is
+# `N passed, M failed`.
 set -uo pipefail
 unset CDPATH
 top=$(dirname "$(dirname "$(readlink -f "$0")")")
@@ -40,6 +41,11 @@ check 'it gives the bytes of the model' of_model random "$program" 2 300
 check 'its faults' of_model faults "$program"
 check 'its texts' of_model texts "$program"
 check 'its words' of_model words "$program"
+check 'its ends' of_model ends "$program"
 check 'the mean of M/D/1' of_model queue "$program"
 check 'livelock by interrupts alone' of_model livelock "$program"
+of_model recorded "$program" > "$scratch/recorded" 2>&1
+status=$?
+cat "$scratch/recorded"
+check 'runs and squeezes are near those of a running Linux' [ "$status" = 0 ]
 sum_up

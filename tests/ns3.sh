@@ -1,6 +1,6 @@
 #!/usr/bin/env bash
 # tests/ns3.sh: the simulation of examples/ns3. This library's queue limit gives the numbers of ns-3's own, call by call; each packet
-# is counted once; runs keep their budget. Where ns-3 isn't installed it says so, and passes over it. The last line is
+# is counted once; runs keep their budget; napi_machine (MACHINE=FILE: another build) tells the same of the same arrivals. Where ns-3 isn't installed it says so, and passes over it. The last line is
 # `N passed, M failed`.
 set -uo pipefail
 unset CDPATH
@@ -63,13 +63,37 @@ rows() {
 check 'what was sent came or was dropped by the queue disc' rows 'of("sent") > 0 && of("sent") == of("arrived") + of("disc_full")'
 check 'what came was used or dropped once' rows 'of("used") > 0 && of("arrived") == of("ring_full") + of("socket_full") + of("used")'
 check 'no run gave more than budget and weight' rows 'of("budget") == 0 ? of("most") == 0 : of("most") < of("budget") + 64'
-check 'a squeezed run is a run' rows 'of("squeezed") + of("late") <= of("runs") && of("runs") <= of("polls") && (of("budget") == 0) == (of("runs") == 0)'
+check 'a squeezed run is a run' rows 'of("late") <= of("squeezed") && of("squeezed") <= of("runs") && of("runs") <= of("polls") && (of("budget") == 0) == (of("runs") == 0)'
 check 'shares of the processor are at most all of it' rows 'of("interrupt%") + of("poll%") + of("use%") <= 100.2'
 check 'the table has a row for each' [ "$(awk 'NR > 1 && NF == 12' "$scratch/table" | wc -l)" = 12 ]
 
 used() { awk -v budget="$1" 'NR == 1 { for (i = 1; i <= NF; i++) at[$i] = i; next } $1 == budget && $2 == 400000 { print $at["used"] }' "$scratch/bottleneck.txt"; }
 check 'at 400000 packets a second a smaller budget leaves more to the application' \
     [ "$(used 16)" -gt "$(used 64)" -a "$(used 64)" -gt "$(used 300)" -a "$(used 300)" -gt "$(used 0)" ]
+
+# ---- the machine of napi_machine, on the same arrivals
+
+# machine BUDGET LOAD: its counts and waits exactly.
+machine() {
+    "$scratch/bottleneck" --budget="$1" --load="$2" --arrivals="$scratch/arrivals" --report="$scratch/report" > "$scratch/again" &&
+        timeout 300 "$machine" --budget "$1" --window 65535 < "$scratch/arrivals" > "$scratch/machine.report" &&
+        python3 -B "$top/tests/machine.py" simulated "$scratch/machine.report" "$scratch/report"
+}
+machine=${MACHINE:-$top/crates/napi_machine/out/napi_machine}
+if [ -n "${MACHINE:-}" ]; then
+    is_there=yes
+elif [ -d "$top/crates/napi_machine" ]; then
+    check 'napi_machine is built' "$top/scripts/build.sh" napi_machine
+    is_there=yes
+else
+    is_there=
+    echo 'ns3: passed over: napi_machine: its crate does not stand yet'
+fi
+for budget in ${is_there:+0 16 64 300}; do
+    for load in 100000 250000 400000; do
+        check "napi_machine tells what was simulated, at a budget of $budget and $load packets a second" machine "$budget" "$load"
+    done
+done
 
 # ---- words and files
 
@@ -80,6 +104,7 @@ check 'a second run prints the same' again
 check 'other limits are refused' refused 64 "$scratch/bottleneck" --limits=other
 check 'a budget that is too large is refused' refused 64 "$scratch/bottleneck" --budget=65536
 check 'calls that can not be written are told' refused 74 "$scratch/bottleneck" --load=1000 --calls=/dev/full
+check 'arrivals that can not be written are told' refused 74 "$scratch/bottleneck" --load=1000 --arrivals=/dev/full
 check 'limits without words are refused' refused 64 "$scratch/limits"
 if command -v gnuplot > /dev/null; then
     check 'the picture is drawn' [ "$(head -c 4 "$scratch/bottleneck.png" | tail -c 3)" = PNG ]

@@ -18,6 +18,7 @@ refuses() {
 refuses scripts/gate-times.sh "$scratch/no-gate"
 refuses bench/limits.sh many
 refuses bench/limits.sh 1 2
+refuses bench/machine.sh many
 refuses bench/receive.sh 0
 refuses bench/refusals.sh "$top/README.md"
 refuses bench/replay.sh "$scratch/none"

@@ -38,6 +38,7 @@ def sum_of(file):
 
 def add_words(parser, what, out):
     """The options of a tool that makes rows."""
+    import argparse
     parser.add_argument("--out", **out)
     parser.add_argument("--resume", action="store_true", help="go on with the file, where there is one")
     parser.add_argument("--part", type=pair("/", "3/16"), metavar="K/N", help="each Nth row from the Kth on, for a job array")
@@ -45,7 +46,7 @@ def add_words(parser, what, out):
     parser.add_argument("--sshloginfile", help="GNU parallel's file of machines")
     parser.add_argument("--without-parallel", action="store_true", help="don't use GNU parallel")
     add_program(parser, what)
-    parser.add_argument("--play", nargs="+", help="==SUPPRESS==")  # argparse.SUPPRESS
+    parser.add_argument("--play", nargs="+", help=argparse.SUPPRESS)
 
 
 def check_words(words):
@@ -273,5 +274,5 @@ class Combinations:
         refused = sum(1 for key in keys if key in rows and str(rows[key]["status"]) != "0")
         self.tell(words, f"{len(keys) - len(left)} rows in {shown(words.out)}, of which {refused} are refused")
         if left:
-            raise Refusal(f"{len(left)} rows are missing: --resume tries them again")
+            raise Refusal(f"{len(left)} rows are missing" + (": --resume tries them again" if not words.is_passing else ""))
         return [rows[key] for key in keys]

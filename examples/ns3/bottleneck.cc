@@ -4,6 +4,7 @@
  * library's or ns-3's. Prints one line of columns; --head names them. */
 #include "receiver.h"
 #include <fstream>
+#include <map>
 #include <ns3/command-line.h>
 #include <ns3/config.h>
 #include <ns3/inet-socket-address.h>
@@ -101,13 +102,15 @@ int main(int argc, char **argv) {
     uint32_t budget = 64, load = 100000;
     double seconds = 0.2;
     bool head = false;
-    std::string whose = "fintaqush", file;
+    std::string whose = "fintaqush", file, arrivals, report;
     CommandLine words("A receiver that polls under a budget, and senders under a queue limit.");
     words.AddValue("budget", "packets of a polling run; 0: interrupts without polling", budget);
     words.AddValue("load", "packets a second, of all senders", load);
     words.AddValue("limits", "whose queue limit: fintaqush or ns3", whose);
     words.AddValue("seconds", "simulated time in which packets are sent", seconds);
     words.AddValue("calls", "a file for the calls on the queue limits, each with what is available then", file);
+    words.AddValue("arrivals", "a file for the arrivals at the cards, as napi_machine reads them", arrivals);
+    words.AddValue("report", "a file for what napi_machine would report, with each wait", report);
     words.AddValue("head", "print the names of the columns, and end", head);
     words.Parse(argc, argv);
     if (head) {
@@ -118,14 +121,16 @@ int main(int argc, char **argv) {
         std::cerr << "bottleneck: a budget of 0 to 65535, a load from 1, limits of fintaqush or ns3\n";
         return 64;
     }
-    std::ofstream calls;
-    if (!file.empty()) calls.open(file);
-    Receiver receiver(budget, SENDERS);
+    std::map<std::string, std::ofstream> files;
+    for (const std::string &name : {file, arrivals, report})
+        if (!name.empty()) files[name].open(name);
+    const auto opened = [&files](const std::string &name) -> std::ostream * { return name.empty() ? nullptr : &files[name]; };
+    Receiver receiver(budget, SENDERS, opened(arrivals));
     Ptr<Node> node = CreateObject<Node>();
     std::vector<Sender> senders(SENDERS);
     const Time length = Seconds(seconds);
     for (uint32_t i = 0; i < SENDERS; i++) {
-        Connect(senders[i], i, node, &receiver, MakeLimits(whose), file.empty() ? nullptr : &calls);
+        Connect(senders[i], i, node, &receiver, MakeLimits(whose), opened(file));
         senders[i].until = length;
         senders[i].gap = CreateObject<ExponentialRandomVariable>();
         senders[i].gap->SetStream(i + 1);
@@ -134,9 +139,11 @@ int main(int argc, char **argv) {
     }
     Simulator::Run();
     Print(budget, load, senders, receiver.counts, Simulator::Now());
-    calls.close();
-    if (calls.fail() && !file.empty()) {
-        std::cerr << "bottleneck: " << file << " can't be written\n";
+    if (!report.empty()) receiver.Print(files[report]);
+    for (auto &[name, out] : files) {
+        out.close();
+        if (!out.fail()) continue;
+        std::cerr << "bottleneck: " << name << " can't be written\n";
         return 74;
     }
     senders.clear();

@@ -2,7 +2,8 @@
  * library's driven run; an application uses what was delivered. With a budget of 0 each packet interrupts and nothing is polled.
  *
  * Interrupts go before a run's next poll, and a run before the application; but behind a run that left packets behind the
- * application has a slice, as ksoftirqd and an application take turns. Nothing is preempted. */
+ * application has a slice, as ksoftirqd and an application take turns. Nothing is preempted. What ends at a moment ends before a packet
+ * of that moment comes. This is the machine of napi_machine, which gives the same counts and waits for the same arrivals. */
 #ifndef FINTAQUSH_NS3_RECEIVER_H
 #define FINTAQUSH_NS3_RECEIVER_H
 
@@ -12,6 +13,7 @@
 #include <deque>
 #include <ns3/net-device.h>
 #include <ns3/packet.h>
+#include <ostream>
 #include <vector>
 
 enum : uint32_t { CONTROLLER = 0, CARD = 1, SOFTIRQ = 2 };
@@ -25,21 +27,24 @@ static const ns3::Time SLICE = ns3::MicroSeconds(100), LONGEST = ns3::MilliSecon
 struct Card {
     fq_handle ring = FQ_NONE;
     fq_napi napi = fq_napi_new(CONTROLLER);
-    std::vector<ns3::Ptr<ns3::Packet>> slots{RING + WEIGHT + 1};
-    uint64_t next = 0;
+    std::vector<ns3::Ptr<const ns3::Packet>> slots{RING + WEIGHT + 1};
+    std::vector<int64_t> came = std::vector<int64_t>(RING + WEIGHT + 1); /* in ns */
+    uint64_t next = 0, arrived = 0, dropped = 0, interrupts = 0, polls = 0;
+    std::vector<int64_t> waits; /* until each was delivered */
     uint32_t waiting = 0; /* packets in its ring */
     bool raised = false, masked = false;
 };
 
 struct Counts {
-    uint64_t arrived = 0, ring_full = 0, socket_full = 0, used = 0, interrupts = 0, runs = 0, polls = 0, squeezed = 0, late = 0, most = 0;
-    ns3::Time interrupting, polling, using_;
-    std::vector<int64_t> latencies; /* from the sender's socket to the end of its use, in ns */
+    uint64_t arrived = 0, ring_full = 0, socket_full = 0, used = 0, interrupts = 0, runs = 0, polls = 0, work = 0, squeezed = 0, late = 0, most = 0;
+    ns3::Time interrupting, polling, using_, end;
+    std::vector<int64_t> latencies, waits; /* from the sender's socket, and from the card, to the end of its use, in ns */
 };
 
 class Receiver {
   public:
-    Receiver(uint32_t budget, size_t cards) : budget(budget), cards(cards) {
+    Receiver(uint32_t budget, size_t cards, std::ostream *arrivals) : budget(budget), cards(cards), arrivals(arrivals) {
+        if (arrivals) *arrivals << "moment,device,bytes\n";
         must("list", fq_list_new(&list));
         for (Card &card : this->cards) {
             must("ring", fq_ring_new(&card.ring, RING));
@@ -52,27 +57,62 @@ class Receiver {
         for (Card &card : cards) must("free", fq_free(&card.ring));
     }
 
-    /* A packet comes to a card, which interrupts unless that is masked. */
+    /* A packet comes to a card, behind what ends at this moment. */
     bool Arrive(size_t at, ns3::Ptr<const ns3::Packet> packet) {
-        Card &card = cards[at];
-        counts.arrived++;
-        const uint32_t said = fq_ring_put(&card.ring, card.next, packet->GetSize());
-        if (said == FQ_FULL) {
-            counts.ring_full++;
-            return true;
-        }
-        must("put", said);
-        card.slots[card.next] = packet->Copy();
-        card.next = (card.next + 1) % card.slots.size();
-        card.waiting++;
-        card.raised |= !card.masked;
-        if (!busy) Work();
+        ns3::Simulator::ScheduleNow([this, at, copy = ns3::Ptr<const ns3::Packet>(packet->Copy())] { Put(at, copy); });
         return true;
+    }
+
+    /* What napi_machine reports, with each wait in place of their percentiles. */
+    void Print(std::ostream &out) const {
+        const auto list = [&out](const std::vector<int64_t> &waits) {
+            for (int64_t wait : waits) out << ' ' << wait;
+            out << '\n';
+        };
+        for (size_t i = 0; i < cards.size(); i++) {
+            const Card &card = cards[i];
+            if (!card.arrived) continue;
+            out << "device " << i + 1 << " arrived " << card.arrived << " dropped " << card.dropped << " polled " << card.waits.size() << " interrupts "
+                << card.interrupts << " polls " << card.polls << " waits";
+            list(card.waits);
+        }
+        out << "processor 0 interrupts " << counts.interrupts << " runs " << counts.runs << " polls " << counts.polls << " work " << counts.work
+            << " squeezed " << counts.squeezed << " late " << counts.late << " refused " << counts.socket_full << " used " << counts.used << " waits";
+        list(counts.waits);
+        const int64_t idle = (counts.end - counts.interrupting - counts.polling - counts.using_).GetNanoSeconds();
+        out << "time 0 end " << counts.end.GetNanoSeconds() << " interrupt " << counts.interrupting.GetNanoSeconds() << " poll "
+            << counts.polling.GetNanoSeconds() << " use " << counts.using_.GetNanoSeconds() << " idle " << idle << '\n';
     }
 
     Counts counts;
 
   private:
+    struct Waiting {
+        int64_t born, came;
+    };
+
+    /* Into the ring of a card, which interrupts unless that is masked. */
+    void Put(size_t at, ns3::Ptr<const ns3::Packet> packet) {
+        Card &card = cards[at];
+        counts.arrived++;
+        card.arrived++;
+        const int64_t now = ns3::Simulator::Now().GetNanoSeconds();
+        if (arrivals) *arrivals << now << ',' << at + 1 << ',' << packet->GetSize() << '\n';
+        const uint32_t said = fq_ring_put(&card.ring, card.next, packet->GetSize());
+        if (said == FQ_FULL) {
+            counts.ring_full++;
+            card.dropped++;
+            return;
+        }
+        must("put", said);
+        card.slots[card.next] = packet;
+        card.came[card.next] = now;
+        card.next = (card.next + 1) % card.slots.size();
+        card.waiting++;
+        card.raised |= !card.masked;
+        if (!busy) Work();
+    }
+
     /* The processor is free: it takes up what is next, and all that takes time. */
     void Work() {
         busy = true;
@@ -89,6 +129,7 @@ class Receiver {
     template <typename Then> void After(ns3::Time cost, ns3::Time &sum, Then then) {
         sum += cost;
         ns3::Simulator::Schedule(cost, [this, then] {
+            counts.end = ns3::Simulator::Now();
             then();
             Work();
         });
@@ -97,6 +138,7 @@ class Receiver {
     void Interrupt(size_t at) {
         Card &card = cards[at];
         counts.interrupts++;
+        card.interrupts++;
         card.raised = false;
         if (budget == 0) return After(INTERRUPT + PACKET, counts.interrupting, [this, &card] {
             Deliver(card, Take(card, 1));
@@ -123,6 +165,7 @@ class Receiver {
         if (said == FQ_DONE) return EndRun(false);
         must("next", said);
         must("take", fq_napi_take(&cards[id].napi, SOFTIRQ, FQ_LIST), FQ_TAKEN);
+        cards[id].polls++;
         const std::vector<uint64_t> packets = Take(cards[id], WEIGHT);
         After(POLL + PACKET * static_cast<int64_t>(packets.size()), counts.polling, [this, id, packets] {
             Deliver(cards[id], packets);
@@ -142,26 +185,30 @@ class Receiver {
         return FQ_NEXT_GONE;
     }
 
-    void EndRun(bool late) {
+    /* A run that time alone ended is late, and squeezed, as the kernel counts both. */
+    void EndRun(bool is_over) {
         fq_run_report report;
         must("end", fq_run_end(&list, &report));
         running = false;
         counts.runs++;
         counts.polls += report.polls;
-        counts.squeezed += report.squeezed;
-        counts.late += late;
+        counts.work += report.work;
+        counts.squeezed += report.squeezed || is_over;
+        counts.late += is_over && !report.squeezed;
         counts.most = std::max<uint64_t>(counts.most, report.work);
         slice = SLICE;
         Work();
     }
 
     void Use() {
-        const int64_t born = socket.front();
+        const Waiting packet = socket.front();
         socket.pop_front();
         slice -= USE;
-        After(USE, counts.using_, [this, born] {
+        After(USE, counts.using_, [this, packet] {
+            const int64_t now = ns3::Simulator::Now().GetNanoSeconds();
             counts.used++;
-            counts.latencies.push_back(ns3::Simulator::Now().GetNanoSeconds() - born);
+            counts.latencies.push_back(now - packet.born);
+            counts.waits.push_back(now - packet.came);
         });
     }
 
@@ -183,15 +230,17 @@ class Receiver {
             card.slots[number]->CopyData(head, sizeof head);
             std::memcpy(&born, head + 28, sizeof born);
             card.slots[number] = nullptr;
+            card.waits.push_back(ns3::Simulator::Now().GetNanoSeconds() - card.came[number]);
             if (socket.size() == SOCKET) counts.socket_full++;
-            else socket.push_back(born);
+            else socket.push_back({born, card.came[number]});
         }
     }
 
     uint32_t budget;
     std::vector<Card> cards;
     fq_handle list = FQ_NONE;
-    std::deque<int64_t> socket;
+    std::ostream *arrivals;
+    std::deque<Waiting> socket;
     bool busy = false, running = false;
     ns3::Time began, slice;
 };

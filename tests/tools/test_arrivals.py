@@ -5,7 +5,7 @@ import subprocess
 import unittest
 
 import test_tools
-from tooltest import HERE, MACHINE, InFolder, run
+from tooltest import HAS_MACHINE, HERE, MACHINE, InFolder, run
 
 HEADER = "moment,device,bytes\n"
 
@@ -32,6 +32,7 @@ class Arrivals(InFolder):
         return rows.splitlines()[1:], (self.folder / "made.notes").read_text().splitlines(), done.stdout
 
 
+@HAS_MACHINE
 class FromPcap(Arrivals):
     # In nanoseconds, out of order; what goes out, a broadcast, a multicast, and what isn't for this machine.
     TEXT = """100.000000001 eth0  In  ifindex 2 02:00:00:00:00:01 ethertype IPv4 (0x0800), length 60: 10.0.0.1 > 10.0.0.2: UDP
@@ -91,6 +92,7 @@ class FromPcap(Arrivals):
         self.assertEqual(self.names(), [])
 
 
+@HAS_MACHINE
 class FromFtrace(Arrivals):
     def test_what_was_sent_arrives_at_the_other_end(self):
         """With time stamps of nine digits, as `trace-cmd report -t` writes them."""
@@ -131,6 +133,7 @@ CPU:1 [7 EVENTS DROPPED]
             self.assertIn(why, done.stderr)
 
 
+@HAS_MACHINE
 class Traffic(Arrivals):
     def rows(self, *words):
         done = run("traffic", "--arrivals", *words)

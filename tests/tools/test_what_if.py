@@ -8,7 +8,7 @@ import shutil
 import sys
 import unittest
 
-from tooltest import MACHINE, TOP, InFolder, run
+from tooltest import HAS_MACHINE, MACHINE, TOP, InFolder, run
 
 sys.path.insert(0, str(TOP / "tests"))
 import machine_model  # noqa: E402
@@ -16,6 +16,7 @@ import machine_model  # noqa: E402
 HEADER = "moment,device,bytes\n"
 
 
+@HAS_MACHINE
 class WhatIf(InFolder):
     def setUp(self):
         super().setUp()
@@ -92,6 +93,17 @@ class WhatIf(InFolder):
         parts = [row for part in ("1/2", "2/2") for row in self.rows("--budget", "1,2,3,4", "--part", part)]
         self.assertEqual([row["budget"] for row in parts], ["1", "3", "2", "4"])
         self.assertIn("is there: --resume goes on with it", run("what-if", self.arrivals, "--out", out).stderr)
+
+    def test_parts_of_a_job_array_are_one_table(self):
+        """As docs/TOOLS.md puts those of sweep together; what is there needs no program."""
+        words = ["--budget", "1,2,300", "--load", "1,2"]
+        for part in range(1, 5):
+            self.rows(*words, "--part", f"{part}/4", "--out", self.folder / f"rows-{part}.csv")
+        parts = [(self.folder / f"rows-{part}.csv").read_text().splitlines(True) for part in range(1, 5)]
+        out = self.write("all.csv", "".join(parts[0][:1] + [line for lines in parts for line in lines[1:]]))
+        none = self.write("none", "#!/bin/sh\nexit 1\n")
+        none.chmod(0o755)
+        self.assertEqual(self.rows(*words, "--resume", "--out", out, "--program", none), self.rows(*words))
 
     @unittest.skipUnless(shutil.which("parallel"), "GNU parallel isn't installed")
     def test_by_parallel(self):

@@ -21,6 +21,7 @@ if not os.path.exists(MACHINE) and shutil.which("g++"):
     atexit.register(shutil.rmtree, built)
     MACHINE = f"{built}/machine"
     subprocess.run(["g++", "-std=c++17", "-O2", TOP / "bench/machine.cc", "-o", MACHINE], check=True)
+HAS_MACHINE = unittest.skipUnless(os.path.exists(MACHINE), "napi_machine doesn't stand, and g++ isn't installed")
 HEADER = "moment,device,event,value\n"
 
 
