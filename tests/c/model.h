@@ -7,6 +7,28 @@
 
 static inline uint64_t model_minus(uint64_t a, uint64_t b) { return a > b ? a - b : 0; }
 
+/* ---- a receive ring of at most so many places */
+
+enum { PLACES = 40 };
+
+struct ring {
+    unsigned users; /* how many know of it */
+    size_t places, first, held;
+    struct fq_packet packets[PLACES];
+    uint64_t put, bytes;
+    struct fq_counts counts;
+};
+
+static inline size_t put_into(struct ring *r, const struct fq_packet *packets, size_t count) {
+    size_t put = 0;
+    for (; put < count && r->held < r->places; put++, r->held++) {
+        r->packets[(r->first + r->held) % r->places] = packets[put];
+        r->bytes += packets[put].bytes;
+    }
+    r->put += put;
+    return put;
+}
+
 /* ---- a queue limit (lib/dynamic_queue_limits.c), in numbers that never wrap */
 
 struct model_limit {

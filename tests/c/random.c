@@ -9,7 +9,7 @@
 #include <stdlib.h>
 #include <string.h>
 
-enum { HANDLES = 24, PLACES = 40, IDS = 100 };
+enum { HANDLES = 24, IDS = 100 };
 
 static uint64_t seed = 1;
 static unsigned long call;
@@ -19,6 +19,9 @@ static uint32_t below(uint32_t bound) {
     seed = seed * UINT64_C(6364136223846793005) + UINT64_C(1442695040888963407);
     return (uint32_t)((seed >> 33) % bound);
 }
+
+/* Now and then much is in flight. */
+static bool is_loaded(void) { return call / 512 % 4 == 0; }
 
 static void hold(const char *what, bool holds) {
     if (holds) return;
@@ -56,14 +59,6 @@ static long may_refuse(uint32_t most) {
 /* ---- what the handles lead to */
 
 enum what { NOTHING, RING, INPUT, OUTPUT, SENDER, LIST, SEAT, CONTROL };
-
-struct ring {
-    unsigned users;
-    size_t places, first, held;
-    struct fq_packet packets[PLACES];
-    uint64_t put, bytes;
-    struct fq_counts counts;
-};
 
 struct sender {
     unsigned users;
@@ -113,17 +108,17 @@ static size_t unused(const unsigned *users, size_t size) {
     return at;
 }
 
+static struct object object_of(enum what what) {
+    struct object o = {what, NULL, NULL, NULL, NULL, 0, {0, 0, 0, 0, 0, 0, 0}};
+    return o;
+}
+
 static void forget(struct object *o) {
     if (o->ring != NULL) o->ring->users--;
     if (o->sender != NULL) o->sender->users--;
     if (o->lister != NULL) o->lister->users--;
     if (o->shared != NULL && --o->shared->users == 0 && o->shared->ring != NULL) o->shared->ring->users--;
-    *o = (struct object){NOTHING, NULL, NULL, NULL, NULL, 0, {0, 0, 0, 0, 0, 0, 0}};
-}
-
-static struct object object_of(enum what what) {
-    struct object o = {what, NULL, NULL, NULL, NULL, 0, {0, 0, 0, 0, 0, 0, 0}};
-    return o;
+    *o = object_of(NOTHING);
 }
 
 /* A handle: mostly one that leads to such a thing. */
@@ -148,16 +143,6 @@ static void new_ring(void) {
     objects[i] = object_of(RING);
     objects[i].ring = UNUSED(rings);
     *objects[i].ring = (struct ring){.users = 1, .places = places};
-}
-
-static size_t put_into(struct ring *r, const struct fq_packet *packets, size_t count) {
-    size_t put = 0;
-    for (; put < count && r->held < r->places; put++, r->held++) {
-        r->packets[(r->first + r->held) % r->places] = packets[put];
-        r->bytes += packets[put].bytes;
-    }
-    r->put += put;
-    return put;
 }
 
 static struct fq_packet random_packet(void) { return (struct fq_packet){((uint64_t)below(1 << 30) << 32) + below(1 << 30), below(70000)}; }
@@ -453,7 +438,8 @@ static bool is_one_set(uint32_t from, uint32_t count) {
 }
 
 static void new_shared(void) {
-    const uint32_t count = below(16) ? 2 + below(3) : below(11), from = below(HANDLES - count), ring = one_of(RING, RING), control = one_of(NOTHING, NOTHING);
+    const uint32_t count = below(16) ? 2 + below(3) : below(11), from = below(HANDLES - count);
+    const uint32_t ring = one_of(RING, RING), control = one_of(NOTHING, NOTHING);
     const bool is_bare = below(4) == 0;
     if (!is_apart(ring, from, count, control) || !is_apart(control, from, count, ring)) return;
     uint32_t wanted = FQ_OK;
@@ -511,8 +497,16 @@ static void control_call(void) {
 
 /* ---- transmit rings */
 
+/* The bytes of an object: about the greatest that one has, or that may be in flight, or far fewer. */
+static uint32_t random_object(const struct model_limit *l) {
+    const uint64_t room = l != NULL ? 1073741823 - model_in_flight(l) : 0;
+    if (below(is_loaded() ? 4 : 50)) return below(3000);
+    return below(2) && room < 268435455 ? (uint32_t)room + below(2) : UINT32_C(268435457) - below(3);
+}
+
 static void new_sender(void) {
-    const uint32_t i = one_of(NOTHING, NOTHING), min = below(2) ? 0 : below(3000), max = below(8) ? UINT32_C(1879048192) - below(2) : below(6000);
+    const uint32_t i = one_of(NOTHING, NOTHING), greatest = UINT32_C(1879048192), max = below(8) ? greatest - below(2) : below(6000);
+    const uint32_t min = below(2) ? 0 : below(2) ? below(3000) : greatest - 2;
     const size_t places = below(8) ? 1 + below(PLACES) : below(2) ? 0 : 65537;
     const uint64_t hold_ms = below(2000);
     struct model_limit limit;
@@ -536,7 +530,7 @@ static uint32_t sends(struct sender *s, uint32_t bytes) {
 }
 
 static void send(void) {
-    const uint32_t i = one_of(SENDER, SENDER), bytes = below(20) ? below(1500) : UINT32_C(268435457) - below(3);
+    const uint32_t i = one_of(SENDER, SENDER), bytes = random_object(objects[i].sender != NULL ? &objects[i].sender->limit : NULL);
     want("send", fq_tx_send(&handles[i], bytes), objects[i].what == SENDER ? sends(objects[i].sender, bytes) : FQ_BAD_HANDLE);
 }
 
@@ -552,7 +546,7 @@ static uint32_t is_done(struct sender *s, uint32_t count) {
 }
 
 static void done(void) {
-    const uint32_t i = one_of(SENDER, SENDER), count = below(7);
+    const uint32_t i = one_of(SENDER, SENDER), count = below(is_loaded() ? 2 : 7);
     now += below(300);
     want("done", fq_tx_done(&handles[i], count, now), objects[i].what == SENDER ? is_done(objects[i].sender, count) : FQ_BAD_HANDLE);
 }
@@ -674,6 +668,7 @@ static void limit_call(void) {
     static struct fq_dql dql;
     static struct model_limit l = {.lowest = UINT32_MAX};
     const uint32_t which = below(call == 0 ? 1 : 1000), min = below(3) ? 0 : below(4000), max = below(4) ? UINT32_C(1879048192) + below(2) : below(8000);
+    const uint32_t last_queued = is_loaded() ? 900 : 520;
     const uint64_t hold_ms = below(3000);
     now += below(400);
     if (which < 3) {
@@ -685,8 +680,8 @@ static void limit_call(void) {
     } else if (which < 5) {
         fq_dql_reset(&dql, now);
         hold("the model starts over", model_limit_new(&l, (uint32_t)l.min, (uint32_t)l.max, l.hold, now) == FQ_OK);
-    } else if (which < 520) {
-        const uint32_t count = below(100) ? below(3000) : UINT32_C(268435457) - below(3);
+    } else if (which < last_queued) {
+        const uint32_t count = random_object(&l);
         want("queued", fq_dql_queued(&dql, count), model_queued(&l, count));
     } else {
         const uint32_t flight = (uint32_t)model_in_flight(&l), count = below(50) ? below(flight + 1) : flight + below(2);
@@ -749,8 +744,6 @@ static void word_call(void) {
     if (below(4)) hold("raise", fq_word_raise(&word, bit) == (bits == 0)), bits |= UINT64_C(1) << bit;
     else hold("take", fq_word_take(&word) == bits), bits = 0;
 }
-
-/* ---- kinds */
 
 typedef void a_call(void);
 static a_call *const ring_calls[] = {new_ring, put, put, put_all, put_all, poll_ring, poll_ring, split, finish, show_ring, counts, any_handle};
