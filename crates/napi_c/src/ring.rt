@@ -87,7 +87,8 @@ pub extern "C" fn fq_ring_put_all(
     ensures input { (i : Input) → handle.old.held.body ≡ Some (variant.In i)
         → LeadsToInput (IsAfterInput i (take count.new packets.now)) handle.new.held.body }
     ensures first { (r : Ring) → LeadsTo handle.old r
-        → min (length packets.now) (capacity_of r.input.end - length (put_list r.input.end)) ≤ count.new }
+        → min (length packets.now)
+        (capacity_of r.input.end - length (put_list r.input.end)) ≤ count.new }
     ensures count { count.new ≤ length packets.now }
     ensures status { result ≡ burst_status handle.old.held.body count.new packets.now }
     ensures kept { result ≡ BAD_HANDLE
@@ -109,7 +110,8 @@ fn put_all_into(body: &mut Body, packets: &[Packet], count: &mut usize) -> u32
     ensures input { (i : Input) → body.old ≡ variant.In i
         → IsInputWith (IsAfterInput i (take count.new packets.now)) body.new }
     ensures first { (r : Ring) → body.old ≡ variant.Ring r
-        → min (length packets.now) (capacity_of r.input.end - length (put_list r.input.end)) ≤ count.new }
+        → min (length packets.now)
+        (capacity_of r.input.end - length (put_list r.input.end)) ≤ count.new }
     ensures count { count.new ≤ length packets.now }
     ensures status { result ≡ burst_in body.old count.new packets.now }
     ensures kept { result ≡ BAD_HANDLE → (body.new ≡ body.old) × (count.new ≡ 0) }
