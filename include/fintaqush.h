@@ -1,8 +1,8 @@
 /*
  * Fintaqush for C: the packet polling core of Linux 6.6 (NAPI) and byte queue limits, in user space. docs/C.md is the guide.
  *
- * Every call answers one number of enum fq_status, no number twice. A call that the object's state doesn't have answers
- * FQ_NOT_ALLOWED and changes nothing.
+ * Every call answers one number of enum fq_status, no number twice; of several that hold, the first that is named with the call. A
+ * call that the object's state doesn't have answers FQ_NOT_ALLOWED and changes nothing.
  *
  * What the caller owes, since nothing here can test it:
  * - A pointer leads to a whole object of its type, or to as many as its count says; none is null (also for a count of 0), and
@@ -13,9 +13,9 @@
  * - A struct fq_handle or fq_dql isn't copied, and only calls write its fields. A handle that isn't set is all zero.
  * - No call from a signal handler, nor from the forked child of a process with threads.
  *
- * No call waits, locks or starts a thread. fq_ring_new, fq_ring_split (before it looks at what its handle leads to), fq_tx_new,
- * fq_list_new, fq_shared_new, fq_shared_bare and fq_replay take memory; fq_free, fq_abandon, fq_ring_finish and fq_replay give it back;
- * no other does either.
+ * No call waits, locks or starts a thread. fq_ring_new, fq_ring_split, fq_tx_new, fq_list_new, fq_shared_new, fq_shared_bare and
+ * fq_replay take memory, where all else is as they want it; refused any, they give back what they took, and nothing has changed.
+ * fq_free, fq_abandon and fq_ring_finish give memory back. No other call does either.
  *
  * Memory order: what a thread wrote before it put a packet is seen by the thread whose poll gives that packet. A poll empties the
  * places of the packets that it gives, at once: what was done before that poll is seen by the put that finds one of them free. What
@@ -82,6 +82,19 @@ enum fq_status {
     FQ_BAD_WORK = 119,      /* run: more packets than the weight */
     FQ_BAD_TRACE = 120      /* replay: the bytes are no trace, or a row of it can't be played */
 };
+
+/* The library's FQ_VERSION, the name of a status, and that of a trace's fault, for callers without this header's inline functions: into
+ * an array of room bytes, with a 0 behind. Each answers the text's length; the array stays as it is where that isn't below room. */
+FQ_NONNULL size_t fq_version(char *to, size_t room);
+FQ_NONNULL size_t fq_status_text(uint32_t status, char *to, size_t room);
+FQ_NONNULL size_t fq_fault_text(uint32_t fault, char *to, size_t room);
+
+/* The structs that calls read and write, and the bytes of each, for bindings to check theirs: 0 of any other number. */
+enum fq_struct {
+    FQ_STRUCT_HANDLE = 0, FQ_STRUCT_DQL = 1, FQ_STRUCT_DQL_MADE = 2, FQ_STRUCT_NAPI = 3, FQ_STRUCT_PACKET = 4, FQ_STRUCT_COUNTS = 5,
+    FQ_STRUCT_TOTALS = 6, FQ_STRUCT_RING_SHOWN = 7, FQ_STRUCT_TX_SHOWN = 8, FQ_STRUCT_ANSWERS = 9, FQ_STRUCT_RUN_REPORT = 10
+};
+size_t fq_struct_size(uint32_t which);
 
 /* The name of a status, as "FQ_GRANTED"; "?" of a number that is none. */
 static inline const char *fq_status_name(uint32_t status) {
@@ -164,6 +177,9 @@ FQ_CHECKED static inline uint32_t fq_dql_init(struct fq_dql *dql, uint32_t min, 
     return made.status;
 }
 
+/* The same for callers without struct results, of a struct that is all 0 or a limit: that stays where it answers FQ_BAD_BOUNDS. */
+FQ_CHECKED uint32_t fq_dql_renew(struct fq_dql *dql, uint32_t min, uint32_t max, uint64_t hold_ms, uint64_t now_ms);
+
 /* An object was given to the device (dql_queued): FQ_OK, FQ_TOO_LARGE, FQ_TOO_MUCH_IN_FLIGHT. */
 FQ_CHECKED uint32_t fq_dql_queued(struct fq_dql *dql, uint32_t count);
 /* The device is done with so many (dql_completed), and the limit adapts: FQ_OK, FQ_MORE_THAN_QUEUED. */
@@ -184,16 +200,18 @@ FQ_NONNULL static inline int64_t fq_dql_avail_here(const struct fq_dql *dql) {
 }
 
 /* ---- An instance of one thread (struct napi_struct), in the caller's memory. Who calls is a number; the controller's is named
- * when it is made. Only calls write its fields: of a bool that is neither 0 nor 1, or a place above 5, calls may tell different states. */
+ * when it is made. Whatever its bytes are, each is one state, of which all calls tell the same. */
 
 struct fq_napi {
-    bool sched, missed, disable, npsvc, in_busy_poll, threaded, sched_threaded;
-    uint8_t place; /* 0 nobody, 1 granted, 2 listed, 3 to its thread, 4 polled, 5 the controller */
+    uint8_t sched, missed, disable, npsvc, in_busy_poll, threaded, sched_threaded; /* each set unless it is 0 */
+    uint8_t place; /* 0 nobody, 1 granted, 2 listed, 3 to its thread, 4 polled, else the controller */
     uint32_t owner, controller;
 };
 
 /* A new instance (netif_napi_add): disabled. */
 struct fq_napi fq_napi_new(uint32_t controller);
+/* The same, into the caller's struct. */
+FQ_NONNULL void fq_napi_init(struct fq_napi *napi, uint32_t controller);
 /* Asks for a poll (napi_schedule_prep): FQ_GRANTED, FQ_MISSED, FQ_DISABLED. */
 FQ_CHECKED uint32_t fq_napi_schedule(struct fq_napi *napi, uint32_t who);
 /* Hands a granted instance over (____napi_schedule), or a polled one to the list again: FQ_OK, FQ_BAD_KIND; FQ_NOT_ALLOWED, also of a
@@ -233,7 +251,7 @@ struct fq_handle {
 FQ_CHECKED uint32_t fq_free(struct fq_handle *handle);
 /* Frees it whatever its state is: FQ_OK, FQ_BAD_HANDLE. An instance whose poller was given up is polled no more. */
 FQ_CHECKED uint32_t fq_abandon(struct fq_handle *handle);
-/* Lets `to` lead to what `from` leads to, which then leads to nothing: FQ_OK, FQ_BAD_HANDLE; FQ_IN_USE where `to` is set. */
+/* Lets `to` lead to what `from` leads to, which then leads to nothing: FQ_OK; FQ_IN_USE where `to` is set; FQ_BAD_HANDLE. */
 FQ_CHECKED uint32_t fq_move(struct fq_handle *FQ_RESTRICT from, struct fq_handle *FQ_RESTRICT to);
 
 /* ---- Receive rings. A packet's number is the caller's own: an index, a pointer. */
@@ -243,7 +261,7 @@ struct fq_packet {
     uint32_t bytes;
 };
 
-/* A ring of 1 to 65536 places: FQ_OK, FQ_BAD_CAPACITY, FQ_OUT_OF_MEMORY, FQ_IN_USE. */
+/* A ring of 1 to 65536 places: FQ_OK, FQ_IN_USE, FQ_BAD_CAPACITY, FQ_OUT_OF_MEMORY. */
 FQ_CHECKED uint32_t fq_ring_new(struct fq_handle *ring, size_t capacity);
 /* Puts a packet in, behind all others: FQ_OK, FQ_FULL, FQ_BAD_HANDLE. */
 FQ_CHECKED uint32_t fq_ring_put(struct fq_handle *ring, uint64_t number, uint32_t bytes);
@@ -252,10 +270,10 @@ FQ_CHECKED uint32_t fq_ring_put(struct fq_handle *ring, uint64_t number, uint32_
  * turn are as many as the ring's places, 64 for a poll, and the longest burst, which is 1 of single puts. */
 FQ_CHECKED uint32_t fq_ring_put_all(struct fq_handle *FQ_RESTRICT ring, const struct fq_packet *FQ_RESTRICT packets, size_t len, size_t *FQ_RESTRICT count);
 /* Takes the first packets out, at most weight (1 to 64), into an array of len places, at least the weight: FQ_OK and their
- * count, else a count of 0. Not of a ring whose other end an instance has, or another handle (FQ_BAD_HANDLE). */
+ * count, else a count of 0: FQ_BAD_WEIGHT, FQ_NO_ROOM, FQ_BAD_HANDLE, as of a ring whose other end an instance has, or another handle. */
 FQ_CHECKED uint32_t fq_ring_poll(struct fq_handle *FQ_RESTRICT ring, size_t weight, struct fq_packet *FQ_RESTRICT out, size_t len, size_t *FQ_RESTRICT count);
 
-struct fq_poll_counts {
+struct fq_counts {
     uint64_t polls, packets, bytes; /* each stays at its greatest value */
 };
 
@@ -265,9 +283,16 @@ struct fq_totals {
 
 /* What is counted of a ring's polls, of whoever has its poll end: a ring, or that end; a seat that polls; the controller of a
  * disabled instance: FQ_OK, FQ_BAD_HANDLE; FQ_NOT_ALLOWED of any other, and *counts stays. */
-FQ_CHECKED uint32_t fq_counts(struct fq_handle *FQ_RESTRICT handle, struct fq_poll_counts *FQ_RESTRICT counts);
+FQ_CHECKED uint32_t fq_count(struct fq_handle *FQ_RESTRICT handle, struct fq_counts *FQ_RESTRICT counts);
+struct fq_ring_shown {
+    uint64_t put;  /* the packets put so far, which stays at its greatest value: less fq_count's packets, those that lie in it */
+    size_t places; /* the packets that it can hold */
+};
+
+/* What a ring shows, or its input alone: FQ_OK; FQ_BAD_HANDLE, and *shown stays. */
+FQ_CHECKED uint32_t fq_ring_show(struct fq_handle *FQ_RESTRICT ring, struct fq_ring_shown *FQ_RESTRICT shown);
 /* A ring of two threads, without an instance: `ring` is its input from then on, which takes puts, and `out` its poll end, which
- * takes polls: FQ_OK, FQ_BAD_HANDLE, FQ_IN_USE, FQ_OUT_OF_MEMORY. Each is freed by itself. */
+ * takes polls: FQ_OK, FQ_IN_USE, FQ_BAD_HANDLE, FQ_OUT_OF_MEMORY. Each is freed by itself. */
 FQ_CHECKED uint32_t fq_ring_split(struct fq_handle *FQ_RESTRICT ring, struct fq_handle *FQ_RESTRICT out);
 /* The end of a ring that was never split, with its totals; the handle leads to nothing then: FQ_OK; FQ_BAD_HANDLE, and all
  * stays. */
@@ -322,15 +347,14 @@ FQ_CHECKED static inline uint32_t fq_tx_watch(struct fq_handle *FQ_RESTRICT tx, 
 /* ---- Instances that threads share. */
 
 /* An instance over the ring's poll end, with its controller and 2 to 8 seats, its callers: FQ_OK, FQ_IN_USE, FQ_BAD_COUNT,
- * FQ_BAD_HANDLE, FQ_OUT_OF_MEMORY. It is disabled. `ring` is its input from then on. Where memory is out, what is set by then is
- * to be given up, the ring too: it may be whole still, or an input alone. */
+ * FQ_BAD_HANDLE, FQ_OUT_OF_MEMORY. It is disabled. `ring` is its input from then on. */
 FQ_CHECKED uint32_t fq_shared_new(struct fq_handle *FQ_RESTRICT ring, struct fq_handle *FQ_RESTRICT control, struct fq_handle *FQ_RESTRICT seats, size_t count);
 
 /* An instance without a ring of the caller's, whose polls read what they will; fq_seat_poll gives nothing there: FQ_OK, FQ_IN_USE,
  * FQ_BAD_COUNT, FQ_OUT_OF_MEMORY. All else is as for fq_shared_new. */
 FQ_CHECKED uint32_t fq_shared_bare(struct fq_handle *FQ_RESTRICT control, struct fq_handle *FQ_RESTRICT seats, size_t count);
 
-/* The calls of a seat. Each makes one try. One that rests may schedule, take, busy take and set threaded; */
+/* The calls of a seat, behind FQ_BAD_KIND, FQ_BAD_WEIGHT, FQ_NO_ROOM and FQ_BAD_HANDLE. Each makes one try. One that rests may schedule, take, busy take and set threaded; */
 FQ_CHECKED uint32_t fq_seat_schedule(struct fq_handle *seat); /* FQ_GRANTED, FQ_MISSED, FQ_DISABLED, FQ_CHANGED */
 FQ_CHECKED uint32_t fq_seat_take(struct fq_handle *seat, uint32_t kind); /* FQ_TAKEN, FQ_NOT_THERE */
 FQ_CHECKED uint32_t fq_seat_busy_take(struct fq_handle *seat); /* FQ_TAKEN, FQ_BUSY, FQ_CHANGED */
@@ -346,6 +370,15 @@ FQ_CHECKED uint32_t fq_seat_busy_stop(struct fq_handle *seat); /* FQ_OK, FQ_CHAN
 
 /* Whatever the seat is, what the state word tells, of the FQ_BIT_..: FQ_OK, FQ_BAD_HANDLE. */
 FQ_CHECKED uint32_t fq_seat_look(struct fq_handle *FQ_RESTRICT seat, uint64_t *FQ_RESTRICT word);
+
+struct fq_answers { /* each stays at its greatest value */
+    uint64_t granted, missed, disabled; /* requests (FQ_GRANTED ..) */
+    uint64_t released, again, held;     /* completions */
+    uint64_t changed;                   /* tries of any call that came to nothing (FQ_CHANGED) */
+};
+
+/* How often the calls of a seat were answered what since it was made: FQ_OK; FQ_BAD_HANDLE, and *answers stays. */
+FQ_CHECKED uint32_t fq_seat_count(struct fq_handle *FQ_RESTRICT seat, struct fq_answers *FQ_RESTRICT answers);
 
 /* What a driver does with its card, each with `at`. A call that isn't made may be null. */
 struct fq_card {
@@ -403,8 +436,8 @@ FQ_CHECKED static inline uint32_t fq_seat_end(struct fq_handle *FQ_RESTRICT seat
         return said;
     }
     if (full && !(word & (FQ_BIT_DISABLE | FQ_BIT_IN_BUSY_POLL))) {
-        struct fq_poll_counts counts; /* of a seat that polls alone */
-        said = fq_counts(seat, &counts);
+        struct fq_counts counts; /* of a seat that polls alone */
+        said = fq_count(seat, &counts);
         return said == FQ_OK ? (uint32_t)FQ_HELD : said;
     }
     do said = fq_seat_complete(seat);
@@ -439,13 +472,13 @@ FQ_CHECKED static inline uint32_t fq_seat_end_watched(struct fq_handle *FQ_RESTR
  * missed, so that one more poll follows; the card is masked for that, as it is where the poll was full. All answers are those of
  * fq_seat_end; FQ_BAD_WEIGHT, and nothing is done, of a weight that isn't 1 to 64. */
 FQ_CHECKED static inline uint32_t fq_seat_end_unmasked(struct fq_handle *FQ_RESTRICT seat, const struct fq_card *FQ_RESTRICT card, size_t weight, size_t *FQ_RESTRICT work, uint32_t *FQ_RESTRICT next) {
-    struct fq_poll_counts counts; /* of a seat that polls alone */
+    struct fq_counts counts; /* of a seat that polls alone */
     uint64_t word;
     *next = FQ_NEXT_GONE;
     if (weight < 1 || weight > 64) return FQ_BAD_WEIGHT;
     uint32_t said = fq_seat_look(seat, &word);
     if (said == FQ_OK && word & FQ_BIT_IN_BUSY_POLL) return fq_seat_end(seat, false, next);
-    if (said == FQ_OK) said = fq_counts(seat, &counts);
+    if (said == FQ_OK) said = fq_count(seat, &counts);
     if (said != FQ_OK) return said;
     if (*work < weight) {
         card->unmask(card->at);
@@ -490,18 +523,20 @@ struct fq_run_report {
     bool squeezed; /* the budget or the window was spent */
 };
 
+/* A list, with room for 64 numbers: more devices want more lists, as of one for each processor. */
 FQ_CHECKED uint32_t fq_list_new(struct fq_handle *list);
 /* Puts a number at the list's tail: FQ_OK; FQ_IN_USE where it is on the list, or waits in the run over it; FQ_FULL where list and
  * run hold 64, the one that is being polled among them: so of 64 numbers, end that poll by FQ_NEXT_AGAIN in place of a push. */
 FQ_CHECKED uint32_t fq_list_push(struct fq_handle *list, uint32_t id);
 /* How many numbers list and run hold, with the one that is being polled: FQ_OK, FQ_BAD_HANDLE. */
 FQ_CHECKED uint32_t fq_list_len(struct fq_handle *FQ_RESTRICT list, uint32_t *FQ_RESTRICT len);
-/* Begins a run: FQ_OK, FQ_BAD_WEIGHT, FQ_BAD_BUDGET, FQ_NOT_ALLOWED where one is under way. */
+/* Begins a run: FQ_OK; FQ_NOT_ALLOWED where one is under way; FQ_BAD_WEIGHT, FQ_BAD_BUDGET. */
 FQ_CHECKED uint32_t fq_run_begin(struct fq_handle *list, uint32_t budget, uint32_t weight, uint32_t window);
 /* The number to be polled next: FQ_OK, FQ_DONE, FQ_NOT_ALLOWED. */
 FQ_CHECKED uint32_t fq_run_next(struct fq_handle *FQ_RESTRICT list, uint32_t *FQ_RESTRICT id);
-/* What its poll did: FQ_OK, FQ_BAD_WORK above the weight, FQ_BAD_NEXT, FQ_NOT_ALLOWED; FQ_IN_USE where it would be listed a second
- * time, and it is still to be told. That FQ_NEXT_REPOLL is of a whole weight, and FQ_NEXT_ABSENT of no packet, isn't tested. */
+/* What its poll did: FQ_OK, FQ_NOT_ALLOWED, FQ_BAD_WORK above the weight, FQ_BAD_NEXT; FQ_IN_USE where it would be listed a second
+ * time, and it is still to be told. That FQ_NEXT_REPOLL is of a whole weight isn't tested: a device may have a weight of its own, below
+ * the run's. Nor is it that FQ_NEXT_ABSENT is of no packet. */
 FQ_CHECKED uint32_t fq_run_polled(struct fq_handle *list, uint32_t work, uint32_t next);
 /* Ends it; what wasn't polled, and what is to be polled again, is on the list: FQ_OK, FQ_NOT_ALLOWED. */
 FQ_CHECKED uint32_t fq_run_end(struct fq_handle *FQ_RESTRICT list, struct fq_run_report *FQ_RESTRICT report);

@@ -25,8 +25,10 @@ using Kind = fq_kind;
 using Packets = std::array<fq_packet, 64>;
 using TxState = fq_tx_shown;
 using TxWatchdog = fq_tx_watchdog;
-using Counts = fq_poll_counts;
+using Counts = fq_counts;
 using Totals = fq_totals;
+using RingShown = fq_ring_shown;
+using Answers = fq_answers;
 
 namespace detail {
 // A call that the type allows is made: its number has nothing else to say.
@@ -214,6 +216,13 @@ public:
         return word;
     }
 
+    // How often its calls were answered what, since the instance was made.
+    [[nodiscard]] Answers answers() {
+        Answers answers{};
+        made(fq_seat_count(at_.raw(), &answers));
+        return answers;
+    }
+
 protected:
     explicit Seat(Handle &&at) noexcept : at_(std::move(at)) {}
     Handle at_;
@@ -231,7 +240,7 @@ public:
     // What is counted of the ring's polls.
     [[nodiscard]] Counts counts() {
         Counts counts{};
-        made(fq_counts(at_.raw(), &counts));
+        made(fq_count(at_.raw(), &counts));
         return counts;
     }
 
@@ -420,7 +429,7 @@ public:
     // What is counted of the ring's polls.
     [[nodiscard]] Counts counts() {
         Counts counts{};
-        detail::made(fq_counts(at_.raw(), &counts));
+        detail::made(fq_count(at_.raw(), &counts));
         return counts;
     }
 
@@ -481,6 +490,13 @@ public:
         return said == FQ_OK ? len : count;
     }
 
+    // Its places, and how many packets were put.
+    [[nodiscard]] RingShown shown() {
+        RingShown shown{};
+        detail::made(fq_ring_show(at_.raw(), &shown));
+        return shown;
+    }
+
 private:
     friend class Ring;
     friend struct Shared;
@@ -498,7 +514,7 @@ public:
     }
     [[nodiscard]] Counts counts() {
         Counts counts{};
-        detail::made(fq_counts(at_.raw(), &counts));
+        detail::made(fq_count(at_.raw(), &counts));
         return counts;
     }
 
@@ -527,9 +543,10 @@ public:
     }
     [[nodiscard]] Counts counts() {
         Counts counts{};
-        detail::made(fq_counts(input_.at_.raw(), &counts));
+        detail::made(fq_count(input_.at_.raw(), &counts));
         return counts;
     }
+    [[nodiscard]] RingShown shown() { return input_.shown(); }
     // Its two ends, each for a thread of its own; none where memory is out, and the ring is as it was.
     [[nodiscard]] std::optional<std::pair<Input, Output>> split() && {
         Handle out;

@@ -79,8 +79,8 @@ command -v "$cc" > /dev/null || stop 69 "there is no $cc, which makes the shared
 [ -n "$is_library" ] && [ -z "$is_python" ] || command -v python3 > /dev/null ||
     stop 69 "there is no python3, which the tools and the package are written in"
 "$top/scripts/c_library.sh" "$scratch" || stop 70 "the C library couldn't be built"
-# the exports alone, of all that the archive has
-echo '{ global: fq_*; local: *; };' > "$scratch/exports"
+# the exports alone, of all that the archive has, each of this version
+echo "FINTAQUSH_$major { global: fq_*; local: *; };" > "$scratch/exports"
 "$cc" -shared -Wl,-soname,"libfintaqush.so.$major" -Wl,--version-script="$scratch/exports" -Wl,--whole-archive \
     "$scratch/libfintaqush.a" -Wl,--no-whole-archive -o "$scratch/libfintaqush.so.$version" || stop 70 "the shared library couldn't be made"
 [ -n "$is_library" ] || "$top/scripts/build.sh" "${programs[@]}" || stop 70 "the programs couldn't be built"

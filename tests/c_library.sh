@@ -1,7 +1,7 @@
 #!/usr/bin/env bash
-# The C library: its header against what the archive exports and against the numbers that are proved; the examples and the hammer,
-# compiled with warnings as errors by each compiler there is, run and compared, also under sanitizers and valgrind; and what has to
-# be refused by compilers. The last line is `N passed, M failed`.
+# tests/c_library.sh [SEED]: the C library: its header against what the archive exports and against the numbers that are proved; the
+# examples, and random calls beside a model, compiled with warnings as errors by each compiler there is, run and compared, also under
+# sanitizers and valgrind; and what has to be refused by compilers. The last line is `N passed, M failed`.
 set -uo pipefail
 unset CDPATH
 top=$(dirname "$(dirname "$(readlink -f "$0")")")
@@ -102,10 +102,24 @@ for compiler in "${compilers[@]}"; do
     done
 done
 
-echo '1000000 calls, each answered as it has to be' > "$scratch/hammered"
-check 'the hammer compiles' compile gcc "$top/tests/c/hammer.c" "$scratch/hammer" -O2
-check 'the hammer' compared "$scratch/hammered" "$scratch/hammer"
-check 'the hammer, another seed' compared "$scratch/hammered" "$scratch/hammer" 1000000 4711
+wraps=-Wl,--wrap=malloc,--wrap=realloc,--wrap=free
+kinds=(limit instance ring transmit shared list any)
+# answered CALLS SEED KIND PROGRAM ..: so many random calls of a kind
+answered() {
+    local calls=$1 seed=$2 kind=$3
+    shift 3
+    echo "$calls calls of $kind, each answered as it has to be" > "$scratch/answered"
+    compared "$scratch/answered" "$@" "$kind" "$calls" "$seed"
+}
+check 'random calls compile' compile gcc "$top/tests/c/random.c" "$scratch/random" -O2 "$wraps"
+for kind in "${kinds[@]}"; do
+    check "random calls: $kind" answered 1000000 1 "$kind" "$scratch/random"
+    check "random calls: $kind, another seed" answered 1000000 "${1:-4711}" "$kind" "$scratch/random"
+done
+
+echo 'it tells of itself what the header says' > "$scratch/told"
+check 'told.c compiles' compile gcc "$top/tests/c/told.c" "$scratch/tells" -O2
+check 'what the library tells of itself' compared "$scratch/told" "$scratch/tells"
 
 check 'bursts in C++ compile' compile g++ "$top/tests/c/bursts.cpp" "$scratch/bursts" -O2
 check 'bursts in C++' "$scratch/bursts"
@@ -119,13 +133,12 @@ check 'the model card' compared "$scratch/hung" "$scratch/card"
 
 # ---- each allocation refused
 
-wraps=-Wl,--wrap=malloc,--wrap=realloc,--wrap=free
 echo 'the types answer as they have to' > "$scratch/typed"
 check 'types.cpp compiles' compile g++ "$top/tests/c/types.cpp" "$scratch/types" -O2 "$wraps"
 check 'the types of C++' compared "$scratch/typed" "$scratch/types"
-echo 'each allocation was refused, and told' > "$scratch/told"
+echo 'each allocation was refused, and told' > "$scratch/refused_all"
 check 'refuse.c compiles' compile gcc "$top/tests/c/refuse.c" "$scratch/refuse" -O2 "$wraps"
-check 'each allocation refused in turn' compared "$scratch/told" "$scratch/refuse"
+check 'each allocation refused in turn' compared "$scratch/refused_all" "$scratch/refuse"
 
 # The fold of bench/limits.cc was written from the rules, apart from the library.
 as_the_fold() {
@@ -198,7 +211,7 @@ else
     check 'napi_serial, which the replay is compared with' eval 'cat "$scratch/build.log"; false'
 fi
 
-# sanitized NAME FLAG: the examples and the hammer under a sanitizer.
+# sanitized NAME FLAG: the examples and the random calls under a sanitizer.
 sanitized() {
     local name=$1 flag=$2 source program language
     for source in "$examples"/*.c "$examples"/*.cpp; do
@@ -208,10 +221,12 @@ sanitized() {
         check "$name: $program compiles" compile "$compiler" "$source" "$scratch/sanitized" -O1 -g "$flag" -fno-sanitize-recover=all
         check "$name: $program" compared "$examples/${program%.*}.stdout" "$scratch/sanitized"
     done
-    check "$name: the hammer compiles" compile gcc "$top/tests/c/hammer.c" "$scratch/sanitized" -O1 -g "$flag" -fno-sanitize-recover=all
-    check "$name: the hammer" compared "$scratch/hammered" "$scratch/sanitized"
+    check "$name: random calls compile" compile gcc "$top/tests/c/random.c" "$scratch/sanitized" -O1 -g "$flag" -fno-sanitize-recover=all "$wraps"
+    for kind in "${kinds[@]}"; do
+        check "$name: random calls: $kind" answered 1000000 1 "$kind" "$scratch/sanitized"
+    done
     check "$name: refuse.c compiles" compile gcc "$top/tests/c/refuse.c" "$scratch/sanitized" -O1 -g "$flag" -fno-sanitize-recover=all "$wraps"
-    check "$name: each allocation refused in turn" compared "$scratch/told" "$scratch/sanitized"
+    check "$name: each allocation refused in turn" compared "$scratch/refused_all" "$scratch/sanitized"
     check "$name: types.cpp compiles" compile g++ "$top/tests/c/types.cpp" "$scratch/sanitized" -O1 -g "$flag" -fno-sanitize-recover=all "$wraps"
     check "$name: the types of C++" compared "$scratch/typed" "$scratch/sanitized"
     check "$name: the replay compiles" compile gcc "$top/tests/c/replay.c" "$scratch/sanitized" -O1 -g "$flag" -fno-sanitize-recover=all
@@ -229,9 +244,11 @@ if command -v valgrind > /dev/null; then
         check "valgrind: $name" compared "$examples/$name.stdout" \
             valgrind -q --fair-sched=yes --leak-check=full --show-leak-kinds=all --error-exitcode=9 "$scratch/$name"
     done
-    check 'compiles for valgrind' compile gcc "$top/tests/c/hammer.c" "$scratch/hammer" -O1 -g
-    check 'valgrind: the hammer' compared "$scratch/hammered" \
-        valgrind -q --leak-check=full --show-leak-kinds=all --error-exitcode=9 "$scratch/hammer"
+    check 'compiles for valgrind' compile gcc "$top/tests/c/random.c" "$scratch/random" -O1 -g "$wraps"
+    for kind in "${kinds[@]}"; do
+        check "valgrind: random calls: $kind" answered 100000 1 "$kind" \
+            valgrind -q --leak-check=full --show-leak-kinds=all --error-exitcode=9 "$scratch/random"
+    done
 fi
 
 # ---- what compilers take, and what they refuse

@@ -31,7 +31,10 @@ needs() { readelf -d "$1" | grep -q "NEEDED.*\[$2\]"; }
 needs_libc_alone() { [ "$(readelf -d "$1" | grep -c NEEDED)" = 1 ] && needs "$1" libc.so.6; }
 
 # what a shared library gives is what the header declares
-exports_calls_alone() { [ -z "$(nm -D --defined-only "$1" | awk '$3 !~ /^fq_/')" ] && nm -D --defined-only "$1" | grep -q fq_seat_poll; }
+exports_calls_alone() {
+    nm -D --defined-only "$1" | awk '$2 != "A" { print $3 }' > "$scratch/exported"
+    ! grep -v "^fq_[a-z_]*@@FINTAQUSH_${version%%.*}$" "$scratch/exported" && grep -q '^fq_seat_poll@' "$scratch/exported"
+}
 
 by_cmake() {
     mkdir "$scratch/cmake"
@@ -121,7 +124,7 @@ if command -v pkg-config > /dev/null; then
     check 'the version' [ "$(pkg-config --modversion fintaqush)" = "$version" ]
 fi
 check 'the shared library needs libc alone' needs_libc_alone "$prefix/lib/libfintaqush.so"
-check 'the shared library gives the calls alone' exports_calls_alone "$prefix/lib/libfintaqush.so"
+check 'the shared library gives the calls alone, each of its version' exports_calls_alone "$prefix/lib/libfintaqush.so"
 if command -v cmake > /dev/null; then
     check 'programs by CMake' by_cmake
 fi

@@ -14,7 +14,7 @@ SYS = (TOP / "bindings/rust/src/sys.rs").read_text()
 RUSTS_OWN = {"fq_status_name", "fq_fault_name", "fq_seat_interrupt_masked", "fq_seat_end_watched", "fq_seat_end_unmasked"}
 STRUCTS_OWN = {"fq_card"}
 C_TYPES = {"u8": "uint8_t", "u32": "uint32_t", "u64": "uint64_t", "AtomicU64": "uint64_t", "i64": "int64_t", "usize": "size_t", "bool": "bool",
-           "c_void": "void"}
+           "c_void": "void", "c_char": "char"}
 
 
 def without_comments(text, comment):

@@ -2,35 +2,11 @@
  * change nothing where memory is asked for again; what is left is given up, and then nothing is left on the heap; and the same call
  * makes what it is for as soon as memory is there. To be linked with --wrap for malloc, realloc and free. Where one of this isn't so it
  * ends by 9. */
+#include "memory.h"
 #include <fintaqush.h>
 #include <stdio.h>
 #include <stdlib.h>
 #include <string.h>
-
-void *__real_malloc(size_t size);
-void *__real_realloc(void *old, size_t size);
-void __real_free(void *old);
-
-static long refused_call, calls, blocks;
-
-static bool is_refused(void) { return ++calls == refused_call; }
-
-void *__wrap_malloc(size_t size) {
-    void *made = is_refused() ? NULL : __real_malloc(size);
-    blocks += made != NULL;
-    return made;
-}
-
-void *__wrap_realloc(void *old, size_t size) {
-    void *made = is_refused() ? NULL : __real_realloc(old, size);
-    blocks += made != NULL && old == NULL;
-    return made;
-}
-
-void __wrap_free(void *old) {
-    blocks -= old != NULL;
-    __real_free(old);
-}
 
 static void want(bool holds, const char *what, long call) {
     if (holds) return;
@@ -45,7 +21,7 @@ static struct fq_handle handles[HANDLES], list, tx;
 static void give_up(void) {
     for (int i = 0; i < HANDLES; i++) {
         const uint32_t said = fq_abandon(&handles[i]);
-        want(said == FQ_OK || said == FQ_BAD_HANDLE, "it can't be given up", refused_call);
+        want(said == FQ_OK || said == FQ_BAD_HANDLE, "it can't be given up", refused_take);
     }
 }
 
@@ -66,10 +42,18 @@ static bool list_works(void) {
            fq_run_next(&handles[0], &id) == FQ_OK && id == 7;
 }
 
-/* Its ring too, so that each of them is refused. */
+/* Its ring too, so that each of them is refused. Where memory is out the ring is whole, with what lies in it, and nothing else is set. */
 static uint32_t make_shared(void) {
-    const uint32_t said = fq_ring_new(&handles[0], 2);
-    return said == FQ_OK ? fq_shared_new(&handles[0], &handles[1], &handles[2], 8) : said;
+    struct fq_packet out[2];
+    size_t count = 0;
+    uint32_t said = fq_ring_new(&handles[0], 3);
+    if (said != FQ_OK) return said;
+    want(fq_ring_put(&handles[0], 7, 60) == FQ_OK, "a put", refused_take);
+    said = fq_shared_new(&handles[0], &handles[1], &handles[2], 8);
+    if (said != FQ_OUT_OF_MEMORY) return said;
+    want(fq_ring_poll(&handles[0], 2, out, 2, &count) == FQ_OK && count == 1 && out[0].number == 7, "a ring that is whole", refused_take);
+    for (int i = 1; i < HANDLES; i++) want(!handles[i].private_set, "a handle that isn't set", refused_take);
+    return said;
 }
 static bool shared_works(void) {
     return takes_two(&handles[0]) && fq_control_enable(&handles[1], false) == FQ_OK && fq_seat_schedule(&handles[9]) == FQ_GRANTED;
@@ -84,7 +68,7 @@ static uint32_t make_split(void) {
     const uint32_t split = fq_ring_split(&handles[0], &handles[1]);
     struct fq_totals totals;
     /* where memory is out the ring is whole */
-    if (split == FQ_OUT_OF_MEMORY) want(fq_ring_finish(&handles[0], &totals) == FQ_OK, "a ring that wasn't split", refused_call);
+    if (split == FQ_OUT_OF_MEMORY) want(fq_ring_finish(&handles[0], &totals) == FQ_OK, "a ring that wasn't split", refused_take);
     return split;
 }
 static bool split_works(void) {
@@ -96,7 +80,7 @@ static bool split_works(void) {
 /* All calls but those that the header names: none takes memory, or gives it. */
 static void take_none(void) {
     struct fq_packet packets[2] = {{1, 60}, {2, 60}};
-    struct fq_poll_counts counts;
+    struct fq_counts counts;
     struct fq_run_report report;
     struct fq_tx_shown state;
     uint32_t next, id;
@@ -105,11 +89,11 @@ static void take_none(void) {
     want(make_shared() == FQ_OK && fq_list_new(&list) == FQ_OK && fq_tx_new(&tx, 2, 0, 1000, 1000, 0) == FQ_OK, "no memory", 0);
     const long before = blocks;
     struct fq_handle *const irq = &handles[2], *const poller = &handles[3];
-    calls = 0;
+    takes = 0;
     bool good = fq_control_enable(&handles[1], false) == FQ_OK && fq_ring_put(&handles[0], 0, 60) == FQ_OK;
     good = good && fq_ring_put_all(&handles[0], packets, 2, &count) == FQ_FULL && fq_seat_interrupt(irq, FQ_LIST) == FQ_GRANTED;
     good = good && fq_seat_take(poller, FQ_LIST) == FQ_TAKEN && fq_seat_poll(poller, 2, packets, 2, &count) == FQ_OK;
-    good = good && fq_counts(poller, &counts) == FQ_OK && fq_seat_look(poller, &word) == FQ_OK && fq_seat_end(poller, true, &next) == FQ_OK;
+    good = good && fq_count(poller, &counts) == FQ_OK && fq_seat_look(poller, &word) == FQ_OK && fq_seat_end(poller, true, &next) == FQ_OK;
     good = good && fq_seat_take(poller, FQ_LIST) == FQ_TAKEN && fq_seat_end(poller, false, &next) == FQ_OK;
     good = good && fq_seat_busy_take(poller) == FQ_TAKEN && fq_seat_complete(poller) == FQ_HELD && fq_seat_busy_stop(poller) == FQ_OK;
     good = good && fq_seat_complete(poller) == FQ_RELEASED && fq_seat_set_threaded(poller, true) == FQ_OK;
@@ -120,10 +104,9 @@ static void take_none(void) {
     good = fq_run_end(&list, &report) == FQ_OK && good;
     good = good && fq_tx_send(&tx, 60) == FQ_OK && fq_tx_done(&tx, 1, 1) == FQ_OK && fq_tx_state(&tx, &state) == FQ_OK;
     want(good, "a call that takes no memory", 0);
-    want(calls == 0 && blocks == before, "a call takes memory, or gives it", calls);
-    /* as the header says, before the handle is looked at */
+    want(takes == 0 && blocks == before, "a call takes memory, or gives it", takes);
     struct fq_handle out = FQ_NONE;
-    want(fq_ring_split(irq, &out) == FQ_BAD_HANDLE && calls == 1 && blocks == before, "a split of a seat", calls);
+    want(fq_ring_split(irq, &out) == FQ_BAD_HANDLE && takes == 0 && blocks == before, "a split of a seat", takes);
     want(fq_abandon(&list) == FQ_OK && fq_abandon(&tx) == FQ_OK, "the end", 0);
     give_up();
     want(blocks == 0, "something is left on the heap", 0);
@@ -139,7 +122,7 @@ static uint32_t make_replay(void) {
     memset(report, GUARD, ROOM);
     const uint32_t said = fq_replay(&settings, (const uint8_t *)trace, sizeof trace - 1, report, ROOM, &replayed);
     for (size_t i = said == FQ_OK ? replayed.length : 0; i < ROOM; i++)
-        want(report[i] == GUARD, "a byte that isn't the report's was written", refused_call);
+        want(report[i] == GUARD, "a byte that isn't the report's was written", refused_take);
     return said;
 }
 static bool replay_works(void) { return memcmp(report, wanted, ROOM) == 0; }
@@ -147,11 +130,11 @@ static bool replay_works(void) { return memcmp(report, wanted, ROOM) == 0; }
 /* refuse_each: how many allocations there were, each of which was refused. */
 static long refuse_each(const char *what, uint32_t (*make)(void), bool (*works)(void)) {
     for (long call = 1;; call++) {
-        calls = 0;
-        refused_call = call;
+        takes = 0;
+        refused_take = call;
         const uint32_t said = make();
-        const bool was_refused = calls >= call;
-        refused_call = 0;
+        const bool was_refused = takes >= call;
+        refused_take = 0;
         want(said == FQ_OK || (was_refused && said == FQ_OUT_OF_MEMORY), what, call);
         if (said == FQ_OK) want(works(), what, call);
         give_up();

@@ -53,7 +53,7 @@ static_assert(Weight::of<1>().get() == 1 && Weight().get() == 64 && !Weight::mak
 
 // The structs whose functions had their names.
 [[maybe_unused]] static void names() {
-    fq_poll_counts counts{};
+    fq_counts counts{};
     fq_tx_shown state{};
     fq_dql_made made{};
     static_cast<void>(counts), static_cast<void>(state), static_cast<void>(made);
@@ -83,6 +83,7 @@ static void rings() {
     want(!Ring::make(0) && !Ring::make(65537), "a ring of no places, or too many");
     want(ring && ring->put(1, 10) && ring->put_all(burst, 3) == 3 && !ring->put(5, 50), "a ring of four");
     want(ring->poll(out, Weight::of<1>()) == 1 && out[0].number == 1 && ring->counts().bytes == 10, "its first packet");
+    want(ring->shown().put == 4 && ring->shown().places == 4, "what it shows");
     auto ends = std::move(*ring).split();
     want(ends && ends->first.put(5, 50) && ends->second.poll(out) == 4 && out[3].number == 5, "its ends");
     want(ends->second.counts().polls == 2 && ends->second.counts().packets == 5, "its counts");
@@ -156,6 +157,7 @@ static void busy() {
     want(poller != nullptr && poller->word() == (FQ_BIT_SCHED | FQ_BIT_IN_BUSY_POLL), "it is taken");
     want(poller->poll(out) == 1 && poller->counts().packets == 1, "a busy poll");
     poller->complete_held();
+    want(poller->answers().held == 1 && poller->answers().granted == 0, "how often it was answered what");
     auto end = std::move(*poller).stop().end(false);
     want(std::get<Ended>(end).next == FQ_NEXT_GONE, "the poll behind the stop");
     auto off = std::move(on).disable();

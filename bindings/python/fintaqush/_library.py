@@ -55,7 +55,7 @@ class DqlMade(ctypes.Structure):
 
 
 class Napi(ctypes.Structure):
-    _fields_ = [(name, boolean) for name in ("sched", "missed", "disable", "npsvc", "in_busy_poll", "threaded", "sched_threaded")] + [
+    _fields_ = [(name, ctypes.c_uint8) for name in ("sched", "missed", "disable", "npsvc", "in_busy_poll", "threaded", "sched_threaded")] + [
         ("place", ctypes.c_uint8), ("owner", u32), ("controller", u32)]
 
 
@@ -63,7 +63,7 @@ class Packet(ctypes.Structure):
     _fields_ = [("number", u64), ("bytes", u32)]
 
 
-class PollCounts(ctypes.Structure):
+class Counts(ctypes.Structure):
     _fields_ = [("polls", u64), ("packets", u64), ("bytes", u64)]
 
 
@@ -79,8 +79,9 @@ class Replayed(ctypes.Structure):
     _fields_ = [("length", size), ("fault", u32), ("row", u32)]
 
 
-# Those of the header's structs, which have these names there in small letters, on x86-64.
-SIZES = {Handle: 16, Dql: 56, DqlMade: 64, Napi: 16, Packet: 16, PollCounts: 24, RunReport: 12, Settings: 12, Replayed: 16}
+# The structs whose size the library tells, by their numbers in `enum fq_struct`; and all.
+NUMBERS = {Handle: 0, Dql: 1, DqlMade: 2, Napi: 3, Packet: 4, Counts: 5, RunReport: 10}
+STRUCTS = {*NUMBERS, Settings, Replayed}
 
 try:
     # A call that is short keeps the interpreter's lock, and one that takes long lets it go.
@@ -104,7 +105,7 @@ def declare(name: str, answer: Any = Status, of: ctypes.CDLL = _short, **argumen
         raise missing(f"{SONAME} hasn't fq_{name}") from None
     DECLARED[name] = (u32 if answer is Status else answer, arguments)
     function.restype = u32 if answer is Status else answer
-    function.argtypes = [ctypes.POINTER(kind) if kind in SIZES else kind for kind in arguments.values()]
+    function.argtypes = [ctypes.POINTER(kind) if kind in STRUCTS else kind for kind in arguments.values()]
     numbers = [(at, argument, kind) for at, (argument, kind) in enumerate(arguments.items()) if kind in MOST]
 
     def call(*values: Any) -> Any:
@@ -125,6 +126,7 @@ def checked(said: int) -> Status:
     return Status(said)
 
 
+struct_size = declare("struct_size", size, which=u32)
 abandon = declare("abandon", handle=Handle)
 dql_new = declare("dql_new", DqlMade, min=u32, max=u32, hold_ms=u64, now_ms=u64)
 dql_queued = declare("dql_queued", dql=Dql, count=u32)
@@ -149,7 +151,7 @@ napi_word = declare("napi_word", u64, napi=Napi)
 ring_new = declare("ring_new", ring=Handle, capacity=size)
 ring_put = declare("ring_put", ring=Handle, number=u64, bytes=u32)
 ring_poll = declare("ring_poll", ring=Handle, weight=size, out=ctypes.POINTER(Packet), len=size, count=ctypes.POINTER(size))
-counts = declare("counts", handle=Handle, counts=PollCounts)
+count = declare("count", handle=Handle, counts=Counts)
 list_new = declare("list_new", list=Handle)
 list_push = declare("list_push", list=Handle, id=u32)
 list_len = declare("list_len", list=Handle, len=ctypes.POINTER(u32))
@@ -163,24 +165,24 @@ replay = declare("replay", u32, _long, settings=Settings, trace=ctypes.c_char_p,
 
 def differences() -> Iterator[str]:
     """The structs that the library has otherwise: by their sizes, and by calls whose answers are known."""
-    yield from (f"the size of {kind.__name__}" for kind, wanted in SIZES.items() if ctypes.sizeof(kind) != wanted)
+    yield from (f"the size of {kind.__name__}" for kind, at in NUMBERS.items() if ctypes.sizeof(kind) != struct_size(at))
     limit, refused, state = dql_new(0, 9, 1000, 0), dql_new(2, 1, 1000, 0), napi_new(7)
     dql_queued(limit.dql, 5)
     if (limit.status, refused.status, list(limit.dql.private_a[:3])) != (Status.OK, Status.BAD_BOUNDS, [5, 0, 5]):
         yield "fq_dql"
-    if (state.controller, state.sched, state.npsvc, state.missed, napi_word(state)) != (7, True, True, False, 9):
+    if (state.controller, state.sched, state.npsvc, state.missed, napi_word(state)) != (7, 1, 1, 0, 9):
         yield "fq_napi"
-    ring, packets, count, told = Handle(), (Packet * 2)(), size(), PollCounts()
+    ring, packets, given, counts = Handle(), (Packet * 2)(), size(), Counts()
     ring_new(ring, 2)
     ring_put(ring, 2**40, 60)
     ring_put(ring, 3, 70)
-    ring_poll(ring, 2, packets, 2, count)
-    counts(ring, told)
+    ring_poll(ring, 2, packets, 2, given)
+    count(ring, counts)
     abandon(ring)
-    if [(one.number, one.bytes) for one in packets] != [(2**40, 60), (3, 70)] or count.value != 2:
+    if [(one.number, one.bytes) for one in packets] != [(2**40, 60), (3, 70)] or given.value != 2:
         yield "fq_packet"
-    if (told.polls, told.packets, told.bytes) != (1, 2, 130):
-        yield "fq_poll_counts"
+    if (counts.polls, counts.packets, counts.bytes) != (1, 2, 130):
+        yield "fq_counts"
     devices, id, ran = Handle(), u32(), RunReport()
     list_new(devices)
     list_push(devices, 7)

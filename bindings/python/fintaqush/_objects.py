@@ -161,8 +161,8 @@ class Ring(_Owned):
     @property
     def counts(self) -> Counts:
         """What its polls gave so far."""
-        counts = c.PollCounts()
-        c.counts(self._at, counts)
+        counts = c.Counts()
+        c.count(self._at, counts)
         return Counts(counts.polls, counts.packets, counts.bytes)
 
 

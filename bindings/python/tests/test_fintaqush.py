@@ -28,7 +28,7 @@ def header_name(kind):
 
 def c_type(kind):
     """A type as the header writes it, without `const`; of a size and a number of 64 bits ctypes knows one type."""
-    if kind in _library.SIZES:
+    if kind in _library.STRUCTS:
         return f"struct {header_name(kind)}"
     if hasattr(kind, "contents"):
         return f"{c_type(kind._type_)} *"
@@ -56,16 +56,16 @@ class TestHeader(unittest.TestCase):
         for name, (answer, arguments) in _library.DECLARED.items():
             said, told = re.search(rf"^(?:FQ_\w+ )?((?:struct )?\w+) fq_{name}\((.*)\);", HEADER, re.M).groups()
             told = re.sub(r"const |FQ_RESTRICT ", "", told).replace("size_t", "uint64_t")
-            self.assertEqual(said, c_type(answer), name)
-            pointed = [f"{c_type(kind)}{' *' if kind in _library.SIZES else ' '}{name}" for name, kind in arguments.items()]
+            self.assertEqual(said.replace("size_t", "uint64_t"), c_type(answer), name)
+            pointed = [f"{c_type(kind)}{' *' if kind in _library.STRUCTS else ' '}{name}" for name, kind in arguments.items()]
             self.assertEqual(told, ", ".join(one.replace("* ", "*") for one in pointed), name)
 
     @unittest.skipUnless(shutil.which("cc"), "there is no cc")
     def test_structs(self):
         wrong = ["#include <fintaqush.h>"]
-        for kind, size in _library.SIZES.items():
+        for kind in _library.STRUCTS:
             name = header_name(kind)
-            wrong.append(f'_Static_assert(sizeof(struct {name}) == {size}, "{name}");')
+            wrong.append(f'_Static_assert(sizeof(struct {name}) == {ctypes.sizeof(kind)}, "{name}");')
             wrong += [f'_Static_assert(offsetof(struct {name}, {field[0]}) == {getattr(kind, field[0]).offset} && '
                       f'sizeof(((struct {name} *)0)->{field[0]}) == {getattr(kind, field[0]).size}, "{name}.{field[0]}");'
                       for field in kind._fields_]

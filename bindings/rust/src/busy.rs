@@ -2,7 +2,7 @@
 use crate::answers::TryStop;
 use crate::fault::unexpected;
 use crate::handle::Handle;
-use crate::packets::{Batch, Counts, Packet, Weight};
+use crate::packets::{Answers, Batch, Counts, Packet, Weight};
 use crate::polling::{self, Polling};
 use crate::sys;
 
@@ -23,6 +23,11 @@ impl Busy {
     /// What the state word tells, of the `FQ_BIT_..` of [`sys`].
     pub fn look(&mut self) -> u64 {
         self.at.look()
+    }
+
+    /// How often its calls were answered what, since the instance was made.
+    pub fn answers(&mut self) -> Answers {
+        self.at.answers()
     }
 
     /// What is counted of the ring's polls.

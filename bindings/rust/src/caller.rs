@@ -4,6 +4,7 @@ use crate::busy::Busy;
 use crate::card::Card;
 use crate::fault::unexpected;
 use crate::handle::Handle;
+use crate::packets::Answers;
 use crate::polling::Polling;
 use crate::sys;
 use crate::words::{Kind, Prep};
@@ -132,6 +133,11 @@ impl Caller {
             sys::FQ_NOT_THERE => Err(self),
             said => unexpected("seat_take", said),
         }
+    }
+
+    /// How often its calls were answered what, since the instance was made.
+    pub fn answers(&mut self) -> Answers {
+        self.at.answers()
     }
 
     /// Takes an idle instance to busy poll it, once (`napi_busy_loop`). It doesn't wait.

@@ -1,6 +1,6 @@
 //! What the library has on the heap.
 use crate::fault::unexpected;
-use crate::packets::Counts;
+use crate::packets::{Answers, Counts, RingShown};
 use crate::sys;
 
 // One owner of a value of the library's; dropped, it gives the value up.
@@ -27,13 +27,33 @@ impl Handle {
         }
     }
 
+    // How often a caller's calls were answered what.
+    pub(crate) fn answers(&mut self) -> Answers {
+        let mut answers = Answers::default();
+        // SAFETY: the handle is this caller's alone, and the answers lie elsewhere.
+        match unsafe { sys::fq_seat_count(self.raw(), &mut answers) } {
+            sys::FQ_OK => answers,
+            said => unexpected("seat_count", said),
+        }
+    }
+
+    // What the input of a ring shows.
+    pub(crate) fn shown(&mut self) -> RingShown {
+        let mut shown = RingShown::default();
+        // SAFETY: the handle is its owner's alone, and what is shown lies elsewhere.
+        match unsafe { sys::fq_ring_show(self.raw(), &mut shown) } {
+            sys::FQ_OK => shown,
+            said => unexpected("ring_show", said),
+        }
+    }
+
     // What is counted of a ring's polls, of what has its poll end.
     pub(crate) fn counts(&mut self) -> Counts {
         let mut counts = Counts::default();
         // SAFETY: the handle is its owner's alone, and the counts lie elsewhere.
-        match unsafe { sys::fq_counts(self.raw(), &mut counts) } {
+        match unsafe { sys::fq_count(self.raw(), &mut counts) } {
             sys::FQ_OK => counts,
-            said => unexpected("counts", said),
+            said => unexpected("count", said),
         }
     }
 

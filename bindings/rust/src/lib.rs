@@ -72,7 +72,7 @@ pub use control::{Control, Marked, Mode, Off, On};
 pub use dql::Dql;
 pub use fault::Fault;
 pub use list::{List, Polled, Pushes, RunReport};
-pub use packets::{Batch, Counts, Packet, Totals, Weight};
+pub use packets::{Answers, Batch, Counts, Packet, RingShown, Totals, Weight};
 pub use polling::Polling;
 pub use replay::{replay, NoReport, Settings};
 pub use ring::{Input, Output, Ring};

@@ -6,8 +6,10 @@ use std::fmt;
 /// A packet: a number of the user's own, as an index of a buffer, and its bytes.
 pub use crate::sys::fq_packet as Packet;
 /// What is counted of a ring's polls.
-pub use crate::sys::fq_poll_counts as Counts;
+pub use crate::sys::fq_counts as Counts;
 /// What is counted of a whole ring.
+pub use crate::sys::fq_answers as Answers;
+pub use crate::sys::fq_ring_shown as RingShown;
 pub use crate::sys::fq_totals as Totals;
 
 /// The most packets that one poll gives, 1 to 64.

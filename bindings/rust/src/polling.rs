@@ -4,7 +4,7 @@ use crate::caller::{Caller, Granted};
 use crate::card::{Look, Poll};
 use crate::fault::unexpected;
 use crate::handle::Handle;
-use crate::packets::{Batch, Counts, Packet, Weight};
+use crate::packets::{Answers, Batch, Counts, Packet, Weight};
 use crate::sys;
 use crate::words::{Kind, Next};
 use std::sync::atomic::{fence, Ordering};
@@ -36,6 +36,11 @@ impl Polling {
     /// What the state word tells, of the `FQ_BIT_..` of [`sys`].
     pub fn look(&mut self) -> u64 {
         self.at.look()
+    }
+
+    /// How often its calls were answered what, since the instance was made.
+    pub fn answers(&mut self) -> Answers {
+        self.at.answers()
     }
 
     /// What is counted of the ring's polls.

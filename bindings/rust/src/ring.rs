@@ -1,7 +1,7 @@
 //! Receive rings.
 use crate::fault::{unexpected, Fault};
 use crate::handle::Handle;
-use crate::packets::{Batch, Counts, Packet, Totals, Weight};
+use crate::packets::{Batch, Counts, Packet, RingShown, Totals, Weight};
 use crate::sys;
 
 /// A receive ring without an instance. Packets that lie in it when it is dropped are the user's
@@ -63,6 +63,11 @@ impl Ring {
     /// Takes the first packets out, at most the weight.
     pub fn poll<'b>(&mut self, weight: Weight, batch: &'b mut Batch) -> &'b [Packet] {
         poll(&mut self.at, weight, batch)
+    }
+
+    /// Its places, and how many packets were put.
+    pub fn shown(&mut self) -> RingShown {
+        self.at.shown()
     }
 
     /// What is counted of the ring's polls.
@@ -127,6 +132,11 @@ pub struct Input {
 }
 
 impl Input {
+    /// Its places, and how many packets were put.
+    pub fn shown(&mut self) -> RingShown {
+        self.at.shown()
+    }
+
     /// Puts a packet in, behind all others. [`FULL`](Fault::FULL).
     ///
     /// What this thread wrote before, the thread sees whose poll gives the packet. What was done

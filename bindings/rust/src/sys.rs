@@ -2,7 +2,7 @@
 //! each does, and what it wants of its caller; the modules beside this one keep to it.
 #![allow(non_camel_case_types)]
 
-use std::os::raw::c_void;
+use std::os::raw::{c_char, c_void};
 use std::sync::atomic::{AtomicU64, Ordering};
 
 macro_rules! statuses {
@@ -56,6 +56,29 @@ statuses! {
     FQ_BAD_WORK = 119,
     FQ_BAD_TRACE = 120,
 }
+
+/// The number of `struct fq_handle` for [`fq_struct_size`].
+pub const FQ_STRUCT_HANDLE: u32 = 0;
+/// The number of `struct fq_dql` for [`fq_struct_size`].
+pub const FQ_STRUCT_DQL: u32 = 1;
+/// The number of `struct fq_dql_made` for [`fq_struct_size`].
+pub const FQ_STRUCT_DQL_MADE: u32 = 2;
+/// The number of `struct fq_napi` for [`fq_struct_size`].
+pub const FQ_STRUCT_NAPI: u32 = 3;
+/// The number of `struct fq_packet` for [`fq_struct_size`].
+pub const FQ_STRUCT_PACKET: u32 = 4;
+/// The number of `struct fq_counts` for [`fq_struct_size`].
+pub const FQ_STRUCT_COUNTS: u32 = 5;
+/// The number of `struct fq_totals` for [`fq_struct_size`].
+pub const FQ_STRUCT_TOTALS: u32 = 6;
+/// The number of `struct fq_ring_shown` for [`fq_struct_size`].
+pub const FQ_STRUCT_RING_SHOWN: u32 = 7;
+/// The number of `struct fq_tx_shown` for [`fq_struct_size`].
+pub const FQ_STRUCT_TX_SHOWN: u32 = 8;
+/// The number of `struct fq_answers` for [`fq_struct_size`].
+pub const FQ_STRUCT_ANSWERS: u32 = 9;
+/// The number of `struct fq_run_report` for [`fq_struct_size`].
+pub const FQ_STRUCT_RUN_REPORT: u32 = 10;
 
 /// `FQ_LIST` of `enum fq_kind`: handed to a poll list.
 pub const FQ_LIST: u32 = 0;
@@ -112,25 +135,25 @@ pub struct fq_dql_made {
     pub status: u32,
 }
 
-/// An instance of one thread. Only calls write its fields.
+/// An instance of one thread. Each flag is set unless it is 0.
 #[repr(C)]
 #[derive(Clone, Debug, PartialEq, Eq)]
 pub struct fq_napi {
     /// `NAPI_STATE_SCHED`.
-    pub sched: bool,
+    pub sched: u8,
     /// `NAPI_STATE_MISSED`.
-    pub missed: bool,
+    pub missed: u8,
     /// `NAPI_STATE_DISABLE`.
-    pub disable: bool,
+    pub disable: u8,
     /// `NAPI_STATE_NPSVC`.
-    pub npsvc: bool,
+    pub npsvc: u8,
     /// `NAPI_STATE_IN_BUSY_POLL`.
-    pub in_busy_poll: bool,
+    pub in_busy_poll: u8,
     /// `NAPI_STATE_THREADED`.
-    pub threaded: bool,
+    pub threaded: u8,
     /// `NAPI_STATE_SCHED_THREADED`.
-    pub sched_threaded: bool,
-    /// 0 nobody, 1 granted, 2 listed, 3 to its thread, 4 polled, 5 the controller.
+    pub sched_threaded: u8,
+    /// 0 nobody, 1 granted, 2 listed, 3 to its thread, 4 polled, else the controller.
     pub place: u8,
     /// Who owns it there.
     pub owner: u32,
@@ -166,7 +189,7 @@ pub struct fq_packet {
 /// What is counted of a ring's polls. Each count stays at its greatest value.
 #[repr(C)]
 #[derive(Clone, Copy, Debug, Default, PartialEq, Eq)]
-pub struct fq_poll_counts {
+pub struct fq_counts {
     /// The polls.
     pub polls: u64,
     /// The packets that they gave.
@@ -187,6 +210,36 @@ pub struct fq_totals {
     pub left: u64,
     /// The bytes of all packets that were put.
     pub bytes: u64,
+}
+
+/// What the input of a ring shows.
+#[repr(C)]
+#[derive(Clone, Copy, Debug, Default, PartialEq, Eq)]
+pub struct fq_ring_shown {
+    /// The packets that were put so far; it stays at its greatest value.
+    pub put: u64,
+    /// How many packets the ring can hold.
+    pub places: usize,
+}
+
+/// How often the calls of a caller were answered what. Each count stays at its greatest value.
+#[repr(C)]
+#[derive(Clone, Copy, Debug, Default, PartialEq, Eq)]
+pub struct fq_answers {
+    /// Requests that were granted.
+    pub granted: u64,
+    /// Requests that were missed.
+    pub missed: u64,
+    /// Requests while a disable was pending.
+    pub disabled: u64,
+    /// Completions that released the instance.
+    pub released: u64,
+    /// Completions that found a missed request.
+    pub again: u64,
+    /// Completions of a busy poller.
+    pub held: u64,
+    /// Tries of any call that came to nothing.
+    pub changed: u64,
 }
 
 /// What a transmit ring shows.
@@ -259,7 +312,19 @@ pub struct fq_replayed {
 
 #[allow(missing_docs)] // include/fintaqush.h is the reference
 extern "C" {
+    pub fn fq_version(to: *mut c_char, room: usize) -> usize;
+    pub fn fq_status_text(status: u32, to: *mut c_char, room: usize) -> usize;
+    pub fn fq_fault_text(fault: u32, to: *mut c_char, room: usize) -> usize;
+    pub fn fq_struct_size(which: u32) -> usize;
+
     pub fn fq_dql_new(min: u32, max: u32, hold_ms: u64, now_ms: u64) -> fq_dql_made;
+    pub fn fq_dql_renew(
+        dql: *mut fq_dql,
+        min: u32,
+        max: u32,
+        hold_ms: u64,
+        now_ms: u64,
+    ) -> u32;
     pub fn fq_dql_queued(dql: *mut fq_dql, count: u32) -> u32;
     pub fn fq_dql_completed(dql: *mut fq_dql, count: u32, now_ms: u64) -> u32;
     pub fn fq_dql_reset(dql: *mut fq_dql, now_ms: u64);
@@ -268,6 +333,7 @@ extern "C" {
     pub fn fq_dql_in_flight(dql: *const fq_dql) -> u32;
 
     pub fn fq_napi_new(controller: u32) -> fq_napi;
+    pub fn fq_napi_init(napi: *mut fq_napi, controller: u32);
     pub fn fq_napi_schedule(napi: *mut fq_napi, who: u32) -> u32;
     pub fn fq_napi_hand(napi: *mut fq_napi, who: u32, kind: u32) -> u32;
     pub fn fq_napi_take(napi: *mut fq_napi, who: u32, kind: u32) -> u32;
@@ -301,7 +367,8 @@ extern "C" {
         count: *mut usize,
     ) -> u32;
 
-    pub fn fq_counts(handle: *mut fq_handle, counts: *mut fq_poll_counts) -> u32;
+    pub fn fq_count(handle: *mut fq_handle, counts: *mut fq_counts) -> u32;
+    pub fn fq_ring_show(ring: *mut fq_handle, shown: *mut fq_ring_shown) -> u32;
     pub fn fq_ring_split(ring: *mut fq_handle, out: *mut fq_handle) -> u32;
     pub fn fq_ring_finish(ring: *mut fq_handle, totals: *mut fq_totals) -> u32;
 
@@ -324,6 +391,7 @@ extern "C" {
         count: usize,
     ) -> u32;
     pub fn fq_shared_bare(control: *mut fq_handle, seats: *mut fq_handle, count: usize) -> u32;
+    pub fn fq_seat_count(seat: *mut fq_handle, answers: *mut fq_answers) -> u32;
     pub fn fq_seat_look(seat: *mut fq_handle, word: *mut u64) -> u32;
     pub fn fq_seat_schedule(seat: *mut fq_handle) -> u32;
     pub fn fq_seat_take(seat: *mut fq_handle, kind: u32) -> u32;
@@ -592,9 +660,9 @@ pub unsafe fn fq_seat_end(seat: *mut fq_handle, full: bool, next: *mut u32) -> u
 // SAFETY: of the caller, as for `fq_seat_end`.
 unsafe fn end_full(seat: *mut fq_handle, is_thread: bool, next: *mut u32) -> u32 {
     if is_thread {
-        let mut counts = fq_poll_counts::default();
+        let mut counts = fq_counts::default();
         // SAFETY: as the caller says; the counts, of a seat that polls alone, lie here.
-        return match unsafe { fq_counts(seat, &mut counts) } {
+        return match unsafe { fq_count(seat, &mut counts) } {
             FQ_OK => FQ_HELD,
             said => said,
         };

@@ -601,7 +601,11 @@ fn polls_are_counted_of_whoever_has_them() {
     polling.poll(Weight::MAX, &mut batch);
     let counts = polling.counts();
     assert_eq!((counts.polls, counts.packets, counts.bytes), (1, 1, 60));
-    let (poller, _) = over(polling.end(false));
+    let (mut poller, _) = over(polling.end(false));
+    let (asked, ended) = (interrupts.answers(), poller.answers());
+    assert_eq!((asked.granted, asked.missed, asked.released), (1, 0, 0));
+    assert_eq!((ended.granted, ended.released, ended.again), (0, 1, 0));
+    assert_eq!((input.shown().put, input.shown().places), (1, 4));
     let mut busy = poller.busy().unwrap();
     busy.poll(Weight::MAX, &mut batch);
     assert_eq!((busy.counts().polls, busy.look() & FQ_BIT_LISTED), (2, 0));
@@ -617,11 +621,32 @@ fn a_ring_ends_with_its_totals() {
     let mut batch = Batch::new();
     assert_eq!(numbers(ring.poll(Weight::new(1).unwrap(), &mut batch)), [1]);
     assert_eq!(ring.counts().polls, 1);
+    assert_eq!((ring.shown().put, ring.shown().places), (2, 4));
     let totals = ring.finish();
     assert_eq!(
         (totals.put, totals.polled, totals.left, totals.bytes),
         (2, 1, 1, 120)
     );
+}
+
+#[test]
+fn the_structs_have_the_sizes_that_the_library_tells() {
+    use fintaqush::sys::*;
+    use std::mem::size_of;
+    // SAFETY: the call takes any number.
+    let told = |which| unsafe { fq_struct_size(which) };
+    assert_eq!(told(FQ_STRUCT_HANDLE), size_of::<fq_handle>());
+    assert_eq!(told(FQ_STRUCT_DQL), size_of::<fq_dql>());
+    assert_eq!(told(FQ_STRUCT_DQL_MADE), size_of::<fq_dql_made>());
+    assert_eq!(told(FQ_STRUCT_NAPI), size_of::<fq_napi>());
+    assert_eq!(told(FQ_STRUCT_PACKET), size_of::<fq_packet>());
+    assert_eq!(told(FQ_STRUCT_COUNTS), size_of::<fq_counts>());
+    assert_eq!(told(FQ_STRUCT_TOTALS), size_of::<fq_totals>());
+    assert_eq!(told(FQ_STRUCT_RING_SHOWN), size_of::<fq_ring_shown>());
+    assert_eq!(told(FQ_STRUCT_TX_SHOWN), size_of::<fq_tx_shown>());
+    assert_eq!(told(FQ_STRUCT_ANSWERS), size_of::<fq_answers>());
+    assert_eq!(told(FQ_STRUCT_RUN_REPORT), size_of::<fq_run_report>());
+    assert_eq!(told(FQ_STRUCT_RUN_REPORT + 1), 0);
 }
 
 #[test]

@@ -13,6 +13,7 @@ use Rattle.c_handles.specs.declared.handle.FqHandle.{FqHandle}
 use Rattle.c_handles.specs.declared.hold.Hold.{Hold}
 use Rattle.c_handles.specs.declared.hold.SeatCall.{SeatCall}
 use Rattle.c_handles.specs.declared.mode.ControlCall.{ControlCall}
+use Rattle.c_handles.specs.Answers.{counting}
 use Rattle.c_handles.specs.Status.{OK, BAD_HANDLE}
 use Rattle.c_handles.specs.SeatCalls.{Refused, SeatAnswers, SeatLooks, SeatPolls, ControlAnswers}
 
@@ -51,17 +52,17 @@ OnSeat P (body.Tx r) n after = OtherKind (body.Tx r) n after
 OnSeat P body.Gone n after = OtherKind body.Gone n after
 
 abbrev pub SeatMakesIn : SeatCall → Body → ℕ → Body → Type 0
-SeatMakesIn call = OnSeat (λ s n after. IsSeatWith (λ t. SeatAnswers call s.hold n t.hold) after)
+SeatMakesIn call = OnSeat (λ s n after. IsSeatWith (λ t. SeatAnswers call s.hold n t.hold × (t.answers ≡ counting n s.answers)) after)
 
 abbrev pub SeatGivesIn : ℕ → List Packet → Body → ℕ → Body → Type 0
-SeatGivesIn weight given = OnSeat (λ s n after. IsSeatWith (λ t. SeatPolls weight given s.hold n t.hold) after)
+SeatGivesIn weight given = OnSeat (λ s n after. IsSeatWith (λ t. SeatPolls weight given s.hold n t.hold × (t.answers ≡ s.answers)) after)
 
 -- A look shows this word. Of the two words the first was the caller's before, and the second afterwards.
 abbrev pub ShowsWord : ℕ → ℕ → Hold → ℕ → Hold → Type 0
 ShowsWord before after h n k = ((n ≡ OK) × ((x : Seen) × SeatLooks h (Some x) k × (after ≡ word_of x))) ⊎ (Refused h n k × (after ≡ before))
 
 abbrev pub SeatShowsIn : ℕ → ℕ → Body → ℕ → Body → Type 0
-SeatShowsIn before after = OnSeat (λ s n b. IsSeatWith (λ t. ShowsWord before after s.hold n t.hold) b)
+SeatShowsIn before after = OnSeat (λ s n b. IsSeatWith (λ t. ShowsWord before after s.hold n t.hold × (t.answers ≡ s.answers)) b)
 
 abbrev pub SeatShows : ℕ → ℕ → FqHandle → ℕ → FqHandle → Type 0
 SeatShows before after old n new = OnHandle (SeatShowsIn before after) old.held.body n new.held.body

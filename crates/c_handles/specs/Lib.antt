@@ -1,6 +1,8 @@
 pub mod Status
 pub mod Kinds
 pub mod Held
+pub mod Answers
+pub mod Inputs
 pub mod Rings
 pub mod Transmits
 pub mod Seats

@@ -2,7 +2,7 @@
 use Rattle.std.specs.Prelude.{◌≡◌, ℕ, ◌==◌, if◌then◌else◌, List, Option, Some, None, [], ◌++◌, length}
 use Rattle.rx_ring.specs.declared.packet.Packet.{Packet}
 use Rattle.c_handles.specs.declared.body.Body.{Body}
-use Rattle.rx_ring.specs.declared.ends.RxIn.{RxIn}
+use Rattle.c_handles.specs.declared.input.Input.{Input}
 use Rattle.rx_ring.specs.declared.ends.RxCtx.{RxCtx}
 use Rattle.rx_ring.specs.Ends.{GivesNext, SameIn, put_list, capacity_of, received_list}
 use Rattle.rx_ring.specs.declared.packet.RxCounts.{RxCounts}
@@ -33,7 +33,7 @@ LeadsToRing P None = ⊥
 LeadsToRing P (Some x) = IsRingWith P x
 
 -- the input of a ring, and the other end, alone
-abbrev pub IsInputWith : (RxIn → Type 0) → Body → Type 0
+abbrev pub IsInputWith : (Input → Type 0) → Body → Type 0
 IsInputWith P (body.In input) = P input
 IsInputWith P (body.Ring ring) = ⊥
 IsInputWith P (body.Ctx ctx) = ⊥
@@ -43,9 +43,24 @@ IsInputWith P (body.Controller controller) = ⊥
 IsInputWith P (body.Tx tx) = ⊥
 IsInputWith P body.Gone = ⊥
 
-abbrev pub LeadsToInput : (RxIn → Type 0) → Option Body → Type 0
+abbrev pub LeadsToInput : (Input → Type 0) → Option Body → Type 0
 LeadsToInput P None = ⊥
 LeadsToInput P (Some x) = IsInputWith P x
+
+-- it has this input, of a whole ring or alone
+abbrev pub HasInput : Input → Body → Type 0
+HasInput i (body.Ring ring) = ring.input ≡ i
+HasInput i (body.In input) = input ≡ i
+HasInput i (body.Ctx ctx) = ⊥
+HasInput i (body.List list) = ⊥
+HasInput i (body.Seat seat) = ⊥
+HasInput i (body.Controller controller) = ⊥
+HasInput i (body.Tx tx) = ⊥
+HasInput i body.Gone = ⊥
+
+abbrev pub LeadsToItsInput : Input → Option Body → Type 0
+LeadsToItsInput i None = ⊥
+LeadsToItsInput i (Some x) = HasInput i x
 
 abbrev pub IsCtxWith : (RxCtx → Type 0) → Body → Type 0
 IsCtxWith P (body.Ctx ctx) = P ctx
@@ -63,19 +78,19 @@ LeadsToCtx P (Some x) = IsCtxWith P x
 
 -- a new ring of so many places
 pub record IsNewRing (capacity : ℕ) (ring : Ring) : Type 0 where
-  pub capacity_is : capacity_of ring.input ≡ capacity
-  pub nothing_put : put_list ring.input ≡ []
+  pub capacity_is : capacity_of ring.input.end ≡ capacity
+  pub nothing_put : put_list ring.input.end ≡ []
   pub nothing_received : received_list ring.ctx ≡ []
 
 -- the packets were put in, behind all others and in their order
 pub record IsAfterPut (before : Ring) (packets : List Packet) (after : Ring) : Type 0 where
-  pub put : put_list after.input ≡ put_list before.input ++ packets
+  pub put : put_list after.input.end ≡ put_list before.input.end ++ packets
   pub ctx : after.ctx ≡ before.ctx
 
 -- the same, where the other end is elsewhere
-pub record IsAfterInput (before : RxIn) (packets : List Packet) (after : RxIn) : Type 0 where
-  pub ring : SameIn before after
-  pub put : put_list after ≡ put_list before ++ packets
+pub record IsAfterInput (before : Input) (packets : List Packet) (after : Input) : Type 0 where
+  pub ring : SameIn before.end after.end
+  pub put : put_list after.end ≡ put_list before.end ++ packets
 
 -- what a burst is answered, of which so many packets were put
 abbrev pub burst_in : Body → ℕ → List Packet → ℕ

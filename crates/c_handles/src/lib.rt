@@ -2,10 +2,12 @@
 //! a controller and a poll list do with a call in whatever state they are. The exports are those of `napi_c`.
 #![tactic(auto)]
 
+mod answers;
 mod body;
 mod handle;
 mod held;
 mod hold;
+mod input;
 mod kind;
 mod lister;
 mod mode;
@@ -15,9 +17,11 @@ mod seat;
 mod sharing;
 pub mod status;
 
+pub use answers::FqAnswers;
 pub use body::{Body, Ring};
 pub use handle::FqHandle;
 pub use hold::{Hold, SeatCall};
+pub use input::{FqRingShown, Input};
 pub use kind::kind_of;
 pub use lister::{FqRunReport, Lister};
 pub use mode::{ControlCall, Mode};

@@ -1,10 +1,12 @@
 //! A caller and the controller of a shared instance, each with the instance, as handles lead to them.
 ghost use Rattle.std.specs.Prelude.{◌≡◌, ◌≤◌, length};
 ghost use Rattle.std.specs.Arc.{arc_value};
+ghost use Rattle.c_handles.specs.Answers.{counting};
 ghost use Rattle.c_handles.specs.Status.{OK};
 ghost use Rattle.c_handles.specs.SeatCalls.{SeatAnswers, SeatLooks, ControlAnswers, SeatPolls, hold_counts, mode_counts};
 ghost use Rattle.c_handles.specs.Seats.{SitsAt, ControlsAt, sits_prop, controls_prop};
 
+use crate::answers::FqAnswers;
 use crate::hold::{Hold, SeatCall};
 use crate::mode::{ControlCall, Mode};
 use crate::status;
@@ -28,6 +30,16 @@ impl Drop for Shared {
     }
 }
 
+impl Shared {
+    /// The instance, which nobody shares.
+    pub fn into_napi(self) -> Napi
+        ensures { result ≡ self.napi }
+    {
+        let Shared { napi } = self;
+        napi
+    }
+}
+
 /// A caller with its instance.
 #[derive(Drop)]
 pub struct Seat {
@@ -35,6 +47,8 @@ pub struct Seat {
     pub napi: Arc<Shared, Global>,
     /// What it is.
     pub hold: Hold,
+    /// How often its calls were answered what.
+    pub answers: FqAnswers,
     /// It is of that instance.
     pub ghost seat: { SitsAt (arc_value napi).napi hold } by { sits_prop (arc_value napi).napi hold },
 }
@@ -43,14 +57,18 @@ impl Seat {
     /// Makes a call, and answers its number.
     #[inline(always)]
     pub fn step(&mut self, call: SeatCall) -> u32
-        ensures { SeatAnswers call self.old.hold result self.new.hold }
+        ensures made { SeatAnswers call self.old.hold result self.new.hold }
+        ensures counted { self.new.answers ≡ counting result self.old.answers }
     {
-        self.hold.step(&self.napi.napi, call)
+        let status = self.hold.step(&self.napi.napi, call);
+        self.answers.count(status);
+        status
     }
 
     /// What the state word tells. None: it is in a call.
     pub fn look(&mut self) -> Option<Seen>
-        ensures { SeatLooks self.old.hold result self.new.hold }
+        ensures looks { SeatLooks self.old.hold result self.new.hold }
+        ensures answers { self.new.answers ≡ self.old.answers }
     {
         self.hold.look(&self.napi.napi)
     }
@@ -68,6 +86,7 @@ impl Seat {
         requires { (1 ≤ weight) × (weight ≤ 64) }
         ensures polls { SeatPolls weight batch.new.items self.old.hold result self.new.hold }
         ensures room { result ≡ OK → length batch.new.items ≤ weight }
+        ensures answers { self.new.answers ≡ self.old.answers }
     {
         match &mut self.hold {
             Hold::Polls(polling) => {

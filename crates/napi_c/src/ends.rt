@@ -5,12 +5,14 @@ ghost use Rattle.rx_ring.specs.ReceiveRing.{IsInOrder, totals_of};
 ghost use Rattle.rx_ring.specs.Ends.{ring_of};
 ghost use Rattle.c_handles.specs.declared.body.Ring.{Ring};
 ghost use Rattle.c_handles.specs.declared.body.Body.TheVariants as variant;
-ghost use Rattle.c_handles.specs.Rings.{LeadsTo, CountsAre, counts_in};
+ghost use Rattle.c_handles.specs.declared.input.Input.{Input};
+ghost use Rattle.c_handles.specs.Inputs.{shown_of};
+ghost use Rattle.c_handles.specs.Rings.{LeadsTo, HasInput, LeadsToItsInput, CountsAre, counts_in};
 ghost use Rattle.c_handles.specs.Status.{OK};
 ghost use Rattle.napi_c.specs.Counts.{counted, totalled};
 
 use crate::counts::{FqCounts, FqTotals};
-use c_handles::{Body, FqHandle, Ring, status};
+use c_handles::{Body, FqHandle, FqRingShown, Ring, status};
 use rx_ring::{RxCounts, finish};
 use std::alloc::Global;
 use std::mem;
@@ -30,33 +32,32 @@ pub extern "C" fn fq_ring_split(alloc: Global, ring: &mut FqHandle, ctx: &mut Fq
     let Some(mut first) = ring.take(alloc) else {
         return status::BAD_HANDLE;
     };
+    // before memory is taken
+    if !matches!(&*first, Body::Ring(_)) {
+        ring.put(first);
+        return status::BAD_HANDLE;
+    }
     let Ok(mut second) = Box::new(alloc, Body::Gone) else {
         ring.put(first);
         return status::OUT_OF_MEMORY;
     };
-    match mem::replace(&mut *first, Body::Gone) {
-        Body::Ring(whole) => {
-            let Ring { input, ctx: other } = whole;
-            *first = Body::In(input);
-            *second = Body::Ctx(other);
-            ring.put(first);
-            ctx.put(second);
-            status::OK
-        }
-        body => {
-            *first = body;
-            ring.put(first);
-            status::BAD_HANDLE
-        }
-    }
+    let Body::Ring(whole) = mem::replace(&mut *first, Body::Gone) else {
+        unreachable!()
+    };
+    let Ring { input, ctx: other } = whole;
+    *first = Body::In(input);
+    *second = Body::Ctx(other);
+    ring.put(first);
+    ctx.put(second);
+    status::OK
 }
 
 /// The end of a ring with both ends, as `rx_ring::finish`: its totals, and the handle leads to nothing.
 #[unsafe(no_mangle)]
 pub extern "C" fn fq_ring_finish(alloc: Global, ring: &mut FqHandle, totals: &mut FqTotals) -> u32
     ensures totals { (r : Ring) → LeadsTo ring.old r → (result ≡ OK)
-        × (totals.new ≡ totalled (totals_of (ring_of r.input r.ctx))) }
-    ensures order { (r : Ring) → LeadsTo ring.old r → IsInOrder (ring_of r.input r.ctx) }
+        × (totals.new ≡ totalled (totals_of (ring_of r.input.end r.ctx))) }
+    ensures order { (r : Ring) → LeadsTo ring.old r → IsInOrder (ring_of r.input.end r.ctx) }
     ensures left { result ≡ OK → ring.new.held.body ≡ None }
     ensures kept { result ≢ OK → (ring.new.held.body ≡ ring.old.held.body)
         × (totals.new ≡ totals.old) }
@@ -67,7 +68,7 @@ pub extern "C" fn fq_ring_finish(alloc: Global, ring: &mut FqHandle, totals: &mu
     match mem::replace(&mut *first, Body::Gone) {
         Body::Ring(whole) => {
             let Ring { input, ctx } = whole;
-            *totals = FqTotals::of(finish(input, ctx));
+            *totals = FqTotals::of(finish(input.into_end(), ctx));
             status::OK
         }
         body => {
@@ -93,7 +94,7 @@ fn counts_of(at: &Body) -> Option<RxCounts>
 /// What is counted of a ring's polls, of whoever has its poll end: a ring, a seat that polls, the controller of a disabled
 /// instance. Not allowed of any other.
 #[unsafe(no_mangle)]
-pub extern "C" fn fq_counts(alloc: Global, handle: &mut FqHandle, counts: &mut FqCounts) -> u32
+pub extern "C" fn fq_count(alloc: Global, handle: &mut FqHandle, counts: &mut FqCounts) -> u32
     ensures counts { (c : RxCounts) → CountsAre c handle.old.held.body → (result ≡ OK)
         × (counts.new ≡ counted c) }
     ensures kept { result ≢ OK → counts.new ≡ counts.old }
@@ -111,4 +112,33 @@ pub extern "C" fn fq_counts(alloc: Global, handle: &mut FqHandle, counts: &mut F
         }
         None => status::NOT_ALLOWED,
     }
+}
+
+fn shown_in(at: &Body, shown: &mut FqRingShown) -> u32
+    ensures shown { (i : Input) → HasInput i at.now → (result ≡ OK)
+        × (shown.new ≡ shown_of i.end) }
+    ensures kept { result ≢ OK → shown.new ≡ shown.old }
+{
+    match at {
+        Body::Ring(ring) => *shown = ring.input.shown(),
+        Body::In(input) => *shown = input.shown(),
+        _ => return status::BAD_HANDLE,
+    }
+    status::OK
+}
+
+/// What the input of a ring shows, of a ring or of its input: its places, and how many packets were put.
+#[unsafe(no_mangle)]
+pub extern "C" fn fq_ring_show(alloc: Global, handle: &mut FqHandle, shown: &mut FqRingShown) -> u32
+    ensures shown { (i : Input) → LeadsToItsInput i handle.old.held.body → (result ≡ OK)
+        × (shown.new ≡ shown_of i.end) }
+    ensures kept { result ≢ OK → shown.new ≡ shown.old }
+    ensures same { handle.new.held.body ≡ handle.old.held.body }
+{
+    let Some(boxed) = handle.take(alloc) else {
+        return status::BAD_HANDLE;
+    };
+    let status = shown_in(&*boxed, shown);
+    handle.put(boxed);
+    status
 }

@@ -51,6 +51,22 @@ pub extern "C" fn fq_dql_new(min: u32, max: u32, hold: u64, now: u64) -> FqDqlNe
     }
 }
 
+/// The same, in place of the limit that is there, which stays where it is refused.
+#[unsafe(no_mangle)]
+pub extern "C" fn fq_dql_renew(dql: &mut FqDql, min: u32, max: u32, hold: u64, now: u64) -> u32
+    ensures ok { result ≡ OK → Shows dql.new.dql (opening min max hold now) }
+    ensures refused { (result ≢ OK) ↔ ((max < min) ⊎ (DQL_MAX_LIMIT < max)) }
+    ensures kept { result ≢ OK → dql.new ≡ dql.old }
+{
+    match Dql::new(min, max, hold, now) {
+        Ok(new) => {
+            dql.dql = new;
+            status::OK
+        }
+        Err(fault) => u32::from(fault.number()),
+    }
+}
+
 /// As `Dql::queued`.
 #[unsafe(no_mangle)]
 pub extern "C" fn fq_dql_queued(dql: &mut FqDql, count: u32) -> u32

@@ -1,14 +1,14 @@
 //! Receive rings for C, both ends in one handle.
 ghost use Rattle.std.specs.Prelude.{◌≡◌, ◌≢◌, ◌<◌, ◌≤◌, ◌-◌, [], ◌∷◌, length, take, min, Some};
 ghost use Rattle.rx_ring.specs.Ends.{put_list, capacity_of, GivesNext};
-ghost use Rattle.rx_ring.specs.declared.ends.RxIn.{RxIn};
 ghost use Rattle.rx_ring.specs.declared.ends.RxCtx.{RxCtx};
 ghost use Rattle.c_handles.specs.declared.body.Ring.{Ring};
+ghost use Rattle.c_handles.specs.declared.input.Input.{Input};
 ghost use Rattle.c_handles.specs.declared.body.Body.TheVariants as variant;
 ghost use Rattle.c_handles.specs.Status.{OK, BAD_HANDLE};
 ghost use Rattle.c_handles.specs.Rings.{LeadsTo, LeadsToRing, IsRingWith, IsInputWith, LeadsToInput, IsCtxWith, LeadsToCtx, IsNewRing, IsAfterPut, IsAfterInput, IsAfterPoll, burst_in, burst_status};
 
-use c_handles::{Body, FqHandle, Ring, status};
+use c_handles::{Body, FqHandle, Input, Ring, status};
 use rx_ring::{Batch, MAX_WEIGHT, Packet, ring};
 use std::alloc::Global;
 
@@ -22,13 +22,16 @@ pub extern "C" fn fq_ring_new(alloc: Global, handle: &mut FqHandle, capacity: us
         return status::IN_USE;
     }
     match ring(alloc, capacity) {
-        Ok((input, ctx)) => match Box::new(alloc, Body::Ring(Ring { input, ctx })) {
-            Ok(body) => {
-                handle.put(body);
-                status::OK
+        Ok((end, ctx)) => {
+            let input = Input::new(end, capacity);
+            match Box::new(alloc, Body::Ring(Ring { input, ctx })) {
+                Ok(body) => {
+                    handle.put(body);
+                    status::OK
+                }
+                Err(_) => status::OUT_OF_MEMORY,
             }
-            Err(_) => status::OUT_OF_MEMORY,
-        },
+        }
         Err(fault) => match fault {
             rx_ring::RingFault::OutOfMemory => status::OUT_OF_MEMORY,
             rx_ring::RingFault::BadCapacity => status::BAD_CAPACITY,
@@ -43,8 +46,8 @@ pub extern "C" fn fq_ring_put(alloc: Global, handle: &mut FqHandle, number: u64,
         → LeadsToRing
         (IsAfterPut r (record { number = number; bytes = bytes } ∷ [])) handle.new.held.body }
     ensures first { (r : Ring) → LeadsTo handle.old r
-        → length (put_list r.input) < capacity_of r.input → result ≡ OK }
-    ensures input { (i : RxIn) → handle.old.held.body ≡ Some (variant.In i) → result ≡ OK
+        → length (put_list r.input.end) < capacity_of r.input.end → result ≡ OK }
+    ensures input { (i : Input) → handle.old.held.body ≡ Some (variant.In i) → result ≡ OK
         → LeadsToInput
         (IsAfterInput i (record { number = number; bytes = bytes } ∷ [])) handle.new.held.body }
 {
@@ -60,19 +63,13 @@ fn put_into(body: &mut Body, packet: Packet) -> u32
     ensures ok { (r : Ring) → body.old ≡ variant.Ring r → result ≡ OK
         → IsRingWith (IsAfterPut r (packet ∷ [])) body.new }
     ensures first { (r : Ring) → body.old ≡ variant.Ring r
-        → length (put_list r.input) < capacity_of r.input → result ≡ OK }
-    ensures input { (i : RxIn) → body.old ≡ variant.In i → result ≡ OK
+        → length (put_list r.input.end) < capacity_of r.input.end → result ≡ OK }
+    ensures input { (i : Input) → body.old ≡ variant.In i → result ≡ OK
         → IsInputWith (IsAfterInput i (packet ∷ [])) body.new }
 {
     match body {
-        Body::Ring(ring) => match ring.input.put(packet) {
-            Ok(()) => status::OK,
-            Err(_) => status::FULL,
-        },
-        Body::In(input) => match input.put(packet) {
-            Ok(()) => status::OK,
-            Err(_) => status::FULL,
-        },
+        Body::Ring(ring) => ring.input.put(packet),
+        Body::In(input) => input.put(packet),
         _ => status::BAD_HANDLE,
     }
 }
@@ -87,10 +84,11 @@ pub extern "C" fn fq_ring_put_all(
 ) -> u32
     ensures put { (r : Ring) → LeadsTo handle.old r
         → LeadsToRing (IsAfterPut r (take count.new packets.now)) handle.new.held.body }
-    ensures input { (i : RxIn) → handle.old.held.body ≡ Some (variant.In i)
+    ensures input { (i : Input) → handle.old.held.body ≡ Some (variant.In i)
         → LeadsToInput (IsAfterInput i (take count.new packets.now)) handle.new.held.body }
     ensures first { (r : Ring) → LeadsTo handle.old r
-        → min (length packets.now) (capacity_of r.input - length (put_list r.input)) ≤ count.new }
+        → min (length packets.now)
+        (capacity_of r.input.end - length (put_list r.input.end)) ≤ count.new }
     ensures count { count.new ≤ length packets.now }
     ensures status { result ≡ burst_status handle.old.held.body count.new packets.now }
     ensures kept { result ≡ BAD_HANDLE
@@ -109,10 +107,11 @@ fn put_all_into(body: &mut Body, packets: &[Packet], count: &mut usize) -> u32
     requires none { count.old ≡ 0 }
     ensures put { (r : Ring) → body.old ≡ variant.Ring r
         → IsRingWith (IsAfterPut r (take count.new packets.now)) body.new }
-    ensures input { (i : RxIn) → body.old ≡ variant.In i
+    ensures input { (i : Input) → body.old ≡ variant.In i
         → IsInputWith (IsAfterInput i (take count.new packets.now)) body.new }
     ensures first { (r : Ring) → body.old ≡ variant.Ring r
-        → min (length packets.now) (capacity_of r.input - length (put_list r.input)) ≤ count.new }
+        → min (length packets.now)
+        (capacity_of r.input.end - length (put_list r.input.end)) ≤ count.new }
     ensures count { count.new ≤ length packets.now }
     ensures status { result ≡ burst_in body.old count.new packets.now }
     ensures kept { result ≡ BAD_HANDLE → (body.new ≡ body.old) × (count.new ≡ 0) }

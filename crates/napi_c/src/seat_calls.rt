@@ -4,9 +4,11 @@ ghost use Rattle.napi_model.specs.declared.state.Kind.{Kind};
 ghost use Rattle.c_handles.specs.declared.hold.SeatCall.TheVariants as seat_call;
 ghost use Rattle.c_handles.specs.Kinds.{kind_in};
 ghost use Rattle.c_handles.specs.Status.{OK, BAD_KIND, BAD_HANDLE};
+ghost use Rattle.c_handles.specs.declared.seat.Seat.{Seat};
+ghost use Rattle.c_handles.specs.declared.body.Body.TheVariants as variant;
 ghost use Rattle.c_handles.specs.Handles.{SeatMakes, SeatMakesIn, SeatGives, SeatGivesIn, SeatShows, SeatShowsIn};
 
-use c_handles::{Body, FqHandle, SeatCall, kind_of, status};
+use c_handles::{Body, FqAnswers, FqHandle, SeatCall, kind_of, status};
 use napi_model::encode;
 use rx_ring::{Batch, MAX_WEIGHT, Packet};
 use std::alloc::Global;
@@ -183,5 +185,39 @@ pub extern "C" fn fq_seat_poll(
         out[..given.len()].copy_from_slice(given);
         *count = given.len();
     }
+    status
+}
+
+fn answers_in(at: &Body, answers: &mut FqAnswers) -> u32
+    ensures shown { (s : Seat) → at.now ≡ variant.Seat s → (result ≡ OK)
+        × (answers.new ≡ s.answers) }
+    ensures kept { result ≢ OK → answers.new ≡ answers.old }
+{
+    match at {
+        Body::Seat(seat) => {
+            *answers = seat.answers;
+            status::OK
+        }
+        _ => status::BAD_HANDLE,
+    }
+}
+
+/// How often the calls of a seat were answered what.
+#[unsafe(no_mangle)]
+pub extern "C" fn fq_seat_count(
+    alloc: Global,
+    handle: &mut FqHandle,
+    answers: &mut FqAnswers,
+) -> u32
+    ensures shown { (s : Seat) → handle.old.held.body ≡ Some (variant.Seat s) → (result ≡ OK)
+        × (answers.new ≡ s.answers) }
+    ensures kept { result ≢ OK → answers.new ≡ answers.old }
+    ensures same { handle.new.held.body ≡ handle.old.held.body }
+{
+    let Some(boxed) = handle.take(alloc) else {
+        return status::BAD_HANDLE;
+    };
+    let status = answers_in(&*boxed, answers);
+    handle.put(boxed);
     status
 }

@@ -2,28 +2,28 @@
 ghost use Rattle.std.specs.Prelude.{◌≡◌, ◌↔◌, IsNone, IfSome};
 ghost use Rattle.napi_model.specs.Step.{opening, MayCall, answer_of, seen_of};
 ghost use Rattle.napi_model.specs.Word.{word_of};
-ghost use Rattle.napi_c.specs.Serial.{place_in, state_in, Steps};
+ghost use Rattle.napi_c.specs.Serial.{is_set, place_in, state_in, Steps};
 
 use napi_model::{Call, Event, Flags, Operation, Place, State, encode};
 
-/// An instance: `struct fq_napi`. Each value that C can give it is one.
+/// An instance: `struct fq_napi`. Whatever its bytes are, it is one: a flag is set unless its byte is 0.
 #[repr(C)]
 #[derive(Clone, Copy)]
 pub struct FqNapi {
     /// SCHED: a poll is asked for or under way.
-    pub sched: bool,
+    pub sched: u8,
     /// MISSED: one more has to follow.
-    pub missed: bool,
+    pub missed: u8,
     /// DISABLE: a disable is pending.
-    pub disable: bool,
+    pub disable: u8,
     /// NPSVC: the controller has it.
-    pub npsvc: bool,
+    pub npsvc: u8,
     /// IN_BUSY_POLL.
-    pub in_busy_poll: bool,
+    pub in_busy_poll: u8,
     /// THREADED: it is handed to its own thread.
-    pub threaded: bool,
+    pub threaded: u8,
     /// SCHED_THREADED: it was.
-    pub sched_threaded: bool,
+    pub sched_threaded: u8,
     /// 0 nobody, 1 granted, 2 on the list, 3 with its thread, 4 polled, and else with the controller.
     pub place: u8,
     /// Who owns it there.
@@ -64,16 +64,22 @@ fn state_of(napi: &FqNapi) -> State
 {
     State {
         flags: Flags {
-            sched: napi.sched,
-            missed: napi.missed,
-            disable: napi.disable,
-            npsvc: napi.npsvc,
-            in_busy_poll: napi.in_busy_poll,
-            threaded: napi.threaded,
-            sched_threaded: napi.sched_threaded,
+            sched: napi.sched != 0,
+            missed: napi.missed != 0,
+            disable: napi.disable != 0,
+            npsvc: napi.npsvc != 0,
+            in_busy_poll: napi.in_busy_poll != 0,
+            threaded: napi.threaded != 0,
+            sched_threaded: napi.sched_threaded != 0,
         },
         place: place_of(napi.place, napi.owner),
     }
+}
+
+fn byte_of(flag: bool) -> u8
+    ensures { is_set result ≡ flag }
+{
+    if flag { 1 } else { 0 }
 }
 
 fn napi_of(state: State, controller: u32) -> FqNapi
@@ -83,13 +89,13 @@ fn napi_of(state: State, controller: u32) -> FqNapi
     let (place, owner) = numbers_of(state.place);
     let flags = state.flags;
     FqNapi {
-        sched: flags.sched,
-        missed: flags.missed,
-        disable: flags.disable,
-        npsvc: flags.npsvc,
-        in_busy_poll: flags.in_busy_poll,
-        threaded: flags.threaded,
-        sched_threaded: flags.sched_threaded,
+        sched: byte_of(flags.sched),
+        missed: byte_of(flags.missed),
+        disable: byte_of(flags.disable),
+        npsvc: byte_of(flags.npsvc),
+        in_busy_poll: byte_of(flags.in_busy_poll),
+        threaded: byte_of(flags.threaded),
+        sched_threaded: byte_of(flags.sched_threaded),
         place,
         owner,
         controller,
@@ -119,6 +125,15 @@ pub extern "C" fn fq_napi_new(controller: u32) -> FqNapi
     ensures controller { result.controller ≡ controller }
 {
     napi_of(State::opening(controller), controller)
+}
+
+/// The same, in memory of the caller's that may hold anything.
+#[unsafe(no_mangle)]
+pub extern "C" fn fq_napi_init(napi: &mut FqNapi, controller: u32)
+    ensures state { state_in napi.new ≡ opening controller }
+    ensures controller { napi.new.controller ≡ controller }
+{
+    *napi = fq_napi_new(controller);
 }
 
 /// The state word, as `encode`.

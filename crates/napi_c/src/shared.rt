@@ -1,5 +1,5 @@
 //! A shared instance is made over the poll context of a ring.
-ghost use Rattle.std.specs.Prelude.{◌≡◌, ◌≢◌, ℕ, true, Some, slice_get, IsOk, IfErr};
+ghost use Rattle.std.specs.Prelude.{◌≡◌, ◌≢◌, ◌≤◌, ℕ, true, Some, length, slice_get, IfOk, IfErr};
 ghost use Rattle.std.specs.Arc.{arc_value};
 ghost use Rattle.napi_calls.specs.declared.types.Caller.{Caller};
 ghost use Rattle.napi_calls.specs.Instance.{IsSeatOf};
@@ -9,9 +9,9 @@ ghost use Rattle.c_handles.specs.Rings.{LeadsTo};
 ghost use Rattle.napi_c.specs.Shared.{LeadsToRestingSeat, LeadsToOffController};
 ghost use Rattle.c_handles.specs.Status.{OK, OUT_OF_MEMORY};
 
-use c_handles::{Body, Controller, FqHandle, Hold, Mode, Ring, Seat, Shared, status};
-use napi_calls::{Caller, Control, Napi, NewBack, Off};
-use rx_ring::ring;
+use c_handles::{Body, Controller, FqAnswers, FqHandle, Hold, Input, Mode, Ring, Seat, Shared, status};
+use napi_calls::{Caller, Control, Napi, NewBack, Off, close};
+use rx_ring::{names_tell_rings, ring};
 use std::alloc::Global;
 use std::mem;
 use std::sync::Arc;
@@ -27,41 +27,78 @@ fn is_any_set(handles: &[FqHandle]) -> bool {
 
 // A new instance with its callers and its controller.
 struct Opened {
-    napi: Napi,
+    napi: Arc<Shared, Global>,
     callers: Vec<Caller>,
     off: Control<Off>,
-    ghost callers_are: { (k : ℕ) (c : Caller) → slice_get callers.items k ≡ Some c → IsSeatOf napi c.pass },
-    ghost control_is: { IsSeatOf napi off.pass },
+    ghost callers_are: { (k : ℕ) (c : Caller) → slice_get callers.items k ≡ Some c → IsSeatOf (arc_value napi).napi c.pass },
+    ghost control_is: { IsSeatOf (arc_value napi).napi off.pass },
 }
 
-// Makes an instance of the ring's context. The ring's other end, or the whole ring, comes back.
-fn open(alloc: Global, body: Body, callers: u32) -> (Body, Result<Opened, u32>)
-    ensures input { (r : Ring) → body ≡ variant.Ring r → IsOk result.1
-        → result.0 ≡ variant.In r.input }
-    ensures back { IfErr result.1 (λ e. e ≢ OUT_OF_MEMORY → result.0 ≡ body) }
-    ensures bad { IfErr result.1 (λ e. e ≢ OK) }
+// Makes an instance of the ring's context. Where memory is out the ring comes back.
+fn open(alloc: Global, ring: Ring, callers: u32) -> Result<(Input, Opened), Ring>
+    requires { (2 ≤ callers) × (callers ≤ 8) }
+    ensures input { IfOk result (λ r. r.0 ≡ ring.input) }
+    ensures back { IfErr result (λ r. r.input ≡ ring.input) }
 {
-    match body {
-        Body::Ring(ring) => {
-            let Ring { input, ctx } = ring;
-            match Napi::new(alloc, ctx, callers) {
-                Ok((napi, callers, off)) => (Body::In(input), Ok(Opened { napi, callers, off })),
-                // the callers are 2 to 8, so memory alone is missing
-                Err(NewBack { fault: _, ctx }) => (
-                    Body::Ring(Ring { input, ctx }),
-                    Err(status::OUT_OF_MEMORY),
-                ),
+    let Ring { input, ctx } = ring;
+    let (napi, callers, off) = match Napi::new(alloc, ctx, callers) {
+        Ok(made) => made,
+        Err(NewBack { fault: _, ctx }) => return Err(Ring { input, ctx }),
+    };
+    match Arc::new(alloc, Shared { napi }) {
+        Ok(napi) => Ok((input, Opened { napi, callers, off })),
+        Err(refused) => {
+            // which tells that the context is the ring's
+            names_tell_rings();
+            match close(refused.value.into_napi(), callers, off) {
+                Ok(ctx) => Err(Ring { input, ctx }),
+                Err(_) => unreachable!(),
             }
         }
-        body => (body, Err(status::BAD_HANDLE)),
     }
 }
 
-fn abandon_all(mut callers: Vec<Caller>) {
-    while let Some(caller) = callers.pop() {
-        caller.abandon();
+// Takes the memory for what a handle is to lead to.
+fn reserve(alloc: Global, handle: &mut FqHandle) -> bool {
+    match Box::new(alloc, Body::Gone) {
+        Ok(body) => {
+            handle.put(body);
+            true
+        }
+        Err(_) => false,
     }
-    callers.destroy_empty();
+}
+
+// Takes it for all, or for none.
+fn reserve_all(alloc: Global, control: &mut FqHandle, seats: &mut [FqHandle]) -> bool {
+    let mut is_there = reserve(alloc, control);
+    for i in 0..seats.len() {
+        is_there = is_there && reserve(alloc, &mut seats[i]);
+    }
+    if !is_there {
+        clear(alloc, control, seats);
+    }
+    is_there
+}
+
+// Lets them lead to nothing.
+fn clear(alloc: Global, control: &mut FqHandle, seats: &mut [FqHandle]) {
+    let _control = control.take(alloc);
+    for i in 0..seats.len() {
+        let _seat = seats[i].take(alloc);
+    }
+}
+
+// Lets a handle lead to this, over the memory that it has.
+fn fill(alloc: Global, handle: &mut FqHandle, body: Body) -> bool
+    ensures { result ≡ true → handle.new.held.body ≡ Some body }
+{
+    let Some(mut boxed) = handle.take(alloc) else {
+        return false;
+    };
+    *boxed = body;
+    handle.put(boxed);
+    true
 }
 
 fn give_seat(
@@ -80,14 +117,16 @@ fn give_seat(
     let seat = Seat {
         napi,
         hold: Hold::Rests(caller),
+        answers: FqAnswers::none(),
     };
-    match Box::new(alloc, Body::Seat(seat)) {
-        Ok(body) => {
-            handle.put(body);
-            true
-        }
-        Err(_) => false,
+    fill(alloc, handle, Body::Seat(seat))
+}
+
+fn abandon_all(mut callers: Vec<Caller>) {
+    while let Some(caller) = callers.pop() {
+        caller.abandon();
     }
+    callers.destroy_empty();
 }
 
 fn give_seats(
@@ -119,31 +158,52 @@ fn give(alloc: Global, opened: Opened, control: &mut FqHandle, seats: &mut [FqHa
     ensures only { result ≢ OK → result ≡ OUT_OF_MEMORY }
 {
     let Opened { napi, callers, off } = opened;
-    let Ok(napi) = Arc::new(alloc, Shared { napi }) else {
-        abandon_all(callers);
-        off.abandon();
-        return status::OUT_OF_MEMORY;
-    };
     let given = give_seats(alloc, &napi, callers, seats);
     let controller = Controller {
         napi,
         mode: Mode::Off(off),
     };
-    match Box::new(alloc, Body::Controller(controller)) {
-        Ok(body) => {
-            control.put(body);
-            if given {
-                status::OK
-            } else {
-                status::OUT_OF_MEMORY
-            }
+    if fill(alloc, control, Body::Controller(controller)) && given {
+        return status::OK;
+    }
+    clear(alloc, control, seats);
+    status::OUT_OF_MEMORY
+}
+
+// Makes an instance over the ring that is there, of which its input stays.
+fn share(alloc: Global, body: &mut Body, control: &mut FqHandle, seats: &mut [FqHandle]) -> u32
+    requires { (2 ≤ length seats.old) × (length seats.old ≤ 8) }
+    ensures control { result ≡ OK → LeadsToOffController control.new.held.body }
+    ensures input { (r : Ring) → body.old ≡ variant.Ring r → result ≡ OK
+        → body.new ≡ variant.In r.input }
+    ensures kept { result ≢ OK → result ≢ OUT_OF_MEMORY → (control.new ≡ control.old)
+        × (seats.new ≡ seats.old) × (body.new ≡ body.old) }
+{
+    // before memory is taken
+    if !matches!(&*body, Body::Ring(_)) {
+        return status::BAD_HANDLE;
+    }
+    if !reserve_all(alloc, control, seats) {
+        return status::OUT_OF_MEMORY;
+    }
+    let Body::Ring(ring) = mem::replace(body, Body::Gone) else {
+        unreachable!()
+    };
+    match open(alloc, ring, seats.len() as u32) {
+        Ok((input, opened)) => {
+            *body = Body::In(input);
+            give(alloc, opened, control, seats)
         }
-        Err(_) => status::OUT_OF_MEMORY,
+        Err(ring) => {
+            *body = Body::Ring(ring);
+            clear(alloc, control, seats);
+            status::OUT_OF_MEMORY
+        }
     }
 }
 
 /// As `Napi::new`, over the context of a ring: `input` is then its input end alone, and `control` and `seats`, 2 to 8, lead to
-/// the controller and the callers. Where memory is out, those that are set are to be freed.
+/// the controller and the callers. Where memory is out all stays as it was.
 #[unsafe(no_mangle)]
 pub extern "C" fn fq_shared_new(
     alloc: Global,
@@ -166,17 +226,9 @@ pub extern "C" fn fq_shared_new(
     let Some(mut boxed) = input.take(alloc) else {
         return status::BAD_HANDLE;
     };
-    let (body, opened) = open(
-        alloc,
-        mem::replace(&mut *boxed, Body::Gone),
-        seats.len() as u32,
-    );
-    *boxed = body;
+    let status = share(alloc, &mut *boxed, control, seats);
     input.put(boxed);
-    match opened {
-        Ok(opened) => give(alloc, opened, control, seats),
-        Err(status) => status,
-    }
+    status
 }
 
 /// As `Napi::new`, over no ring of the caller's: its polls read what they will, and `fq_seat_poll` gives none. `control` and
@@ -197,16 +249,9 @@ pub extern "C" fn fq_shared_bare(
     if seats.len() < 2 || 8 < seats.len() {
         return status::BAD_COUNT;
     }
-    let Ok((_input, ctx)) = ring(alloc, 1) else {
+    let Ok((end, ctx)) = ring(alloc, 1) else {
         return status::OUT_OF_MEMORY;
     };
-    match Napi::new(alloc, ctx, seats.len() as u32) {
-        Ok((napi, callers, off)) => give(alloc, Opened { napi, callers, off }, control, seats),
-        Err(
-            NewBack {
-                fault: _,
-                ctx: _left,
-            },
-        ) => status::OUT_OF_MEMORY,
-    }
+    let input = Input::new(end, 1);
+    share(alloc, &mut Body::Ring(Ring { input, ctx }), control, seats)
 }

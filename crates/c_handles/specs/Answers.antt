@@ -1,0 +1,23 @@
+-- How often a seat's calls were answered what: each answer is counted once, and a count stays at its greatest value.
+use Rattle.std.specs.Prelude.{ℕ, ◌+◌, ◌==◌, if◌then◌else◌}
+use Rattle.rx_ring.specs.ReceiveRing.{capped}
+use Rattle.c_handles.specs.Status.{GRANTED, MISSED, DISABLED, RELEASED, AGAIN, HELD, CHANGED}
+use Rattle.c_handles.specs.declared.answers.FqAnswers.{FqAnswers}
+
+abbrev pub no_answers : FqAnswers
+no_answers = record { granted = 0; missed = 0; disabled = 0; released = 0; again = 0; held = 0; changed = 0 }
+
+-- a count of these answers, behind one that was this
+abbrev pub one_more : ℕ → ℕ → ℕ → ℕ
+one_more of said count = if said == of then capped (count + 1) else count
+
+abbrev pub counting : ℕ → FqAnswers → FqAnswers
+counting said a = record {
+  granted = one_more GRANTED said a.granted;
+  missed = one_more MISSED said a.missed;
+  disabled = one_more DISABLED said a.disabled;
+  released = one_more RELEASED said a.released;
+  again = one_more AGAIN said a.again;
+  held = one_more HELD said a.held;
+  changed = one_more CHANGED said a.changed;
+}

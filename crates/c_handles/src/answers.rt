@@ -1,0 +1,59 @@
+//! How often a seat's calls were answered what.
+ghost use Rattle.std.specs.Prelude.{◌≡◌};
+ghost use Rattle.c_handles.specs.Answers.{no_answers, counting};
+
+use crate::status;
+
+/// How often a seat's calls were answered so: `struct fq_answers`. Each stays at its greatest value.
+#[repr(C)]
+#[derive(Clone, Copy)]
+pub struct FqAnswers {
+    /// Requests that were granted.
+    pub granted: u64,
+    /// Requests that were missed.
+    pub missed: u64,
+    /// Requests while a disable is pending.
+    pub disabled: u64,
+    /// Completions that released the instance.
+    pub released: u64,
+    /// Completions that found a missed request.
+    pub again: u64,
+    /// Completions of a busy poller.
+    pub held: u64,
+    /// Tries of any call between which another thread came.
+    pub changed: u64,
+}
+
+impl FqAnswers {
+    /// None yet.
+    pub fn none() -> FqAnswers
+        ensures { result ≡ no_answers }
+    {
+        FqAnswers {
+            granted: 0,
+            missed: 0,
+            disabled: 0,
+            released: 0,
+            again: 0,
+            held: 0,
+            changed: 0,
+        }
+    }
+
+    /// One more.
+    #[inline(always)]
+    pub(crate) fn count(&mut self, status: u32)
+        ensures { self.new ≡ counting status self.old }
+    {
+        match status {
+            status::GRANTED => self.granted = self.granted.saturating_add(1),
+            status::MISSED => self.missed = self.missed.saturating_add(1),
+            status::DISABLED => self.disabled = self.disabled.saturating_add(1),
+            status::RELEASED => self.released = self.released.saturating_add(1),
+            status::AGAIN => self.again = self.again.saturating_add(1),
+            status::HELD => self.held = self.held.saturating_add(1),
+            status::CHANGED => self.changed = self.changed.saturating_add(1),
+            _ => {}
+        }
+    }
+}

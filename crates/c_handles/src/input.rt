@@ -1,0 +1,85 @@
+//! The end of a ring at which packets are put, with what is counted there.
+ghost use Rattle.std.specs.Prelude.{◌≡◌, ◌<◌, ◌≤◌, ◌-◌, ◌++◌, [], ◌∷◌, length, take, min};
+ghost use Rattle.rx_ring.specs.ReceiveRing.{capped};
+ghost use Rattle.rx_ring.specs.Ends.{put_list, capacity_of, SameIn};
+ghost use Rattle.c_handles.specs.Inputs.{shown_of};
+ghost use Rattle.c_handles.specs.Status.{OK};
+
+use crate::status;
+use rx_ring::{Packet, RxIn};
+
+/// What the input of a ring shows: `struct fq_ring_shown`.
+#[repr(C)]
+#[derive(Clone, Copy)]
+pub struct FqRingShown {
+    /// The packets that were put so far; it stays at its greatest value.
+    pub put: u64,
+    /// How many packets the ring can hold.
+    pub places: usize,
+}
+
+/// The end of a ring at which packets are put.
+#[derive(Drop)]
+pub struct Input {
+    end: RxIn,
+    shown: FqRingShown,
+    ghost places: { shown.places ≡ capacity_of end },
+    ghost put: { shown.put ≡ capped (length (put_list end)) },
+}
+
+impl Input {
+    /// Of a new ring, of so many places.
+    pub fn new(end: RxIn, places: usize) -> Input
+        requires places { capacity_of end ≡ places }
+        requires empty { put_list end ≡ [] }
+        ensures { result.end ≡ end }
+    {
+        let shown = FqRingShown { put: 0, places };
+        Input { end, shown }
+    }
+
+    /// The end alone.
+    pub fn into_end(self) -> RxIn
+        ensures { result ≡ self.end }
+    {
+        let Input { end, shown: _ } = self;
+        end
+    }
+
+    /// What it shows.
+    pub fn shown(&self) -> FqRingShown
+        ensures { result ≡ shown_of self.now.end }
+    {
+        self.shown
+    }
+
+    /// As `RxIn::put`: ok, or full.
+    pub fn put(&mut self, packet: Packet) -> u32
+        ensures ring { SameIn self.old.end self.new.end }
+        ensures ok { result ≡ OK
+            → put_list self.new.end ≡ put_list self.old.end ++ packet ∷ [] }
+        ensures first { length (put_list self.old.end) < capacity_of self.old.end → result ≡ OK }
+    {
+        match self.end.put(packet) {
+            Ok(()) => {
+                self.shown.put = self.shown.put.saturating_add(1);
+                status::OK
+            }
+            Err(_) => status::FULL,
+        }
+    }
+
+    /// As `RxIn::put_all`: how many packets were put.
+    pub fn put_all(&mut self, packets: &[Packet]) -> usize
+        ensures ring { SameIn self.old.end self.new.end }
+        ensures put { put_list self.new.end
+            ≡ put_list self.old.end ++ take result packets.now }
+        ensures count { result ≤ length packets.now }
+        ensures first { min (length packets.now)
+            (capacity_of self.old.end - length (put_list self.old.end)) ≤ result }
+    {
+        let count = self.end.put_all(packets);
+        self.shown.put = self.shown.put.saturating_add(count as u64);
+        count
+    }
+}

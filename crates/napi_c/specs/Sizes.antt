@@ -1,0 +1,17 @@
+-- The bytes of each struct of the header's, by its number there.
+use Rattle.std.specs.Prelude.{ℕ, ◌==◌, if◌then◌else◌}
+
+abbrev pub size_in : ℕ → ℕ
+size_in which =
+    if which == 0 then 16
+    else (if which == 1 then 56
+    else (if which == 2 then 64
+    else (if which == 3 then 16
+    else (if which == 4 then 16
+    else (if which == 5 then 24
+    else (if which == 6 then 32
+    else (if which == 7 then 16
+    else (if which == 8 then 32
+    else (if which == 9 then 56
+    else (if which == 10 then 12
+    else 0))))))))))

@@ -1,0 +1,32 @@
+//! The sizes of the structs that calls read and write, for bindings to check theirs.
+ghost use Rattle.std.specs.Prelude.{◌≡◌};
+ghost use Rattle.napi_c.specs.Sizes.{size_in};
+
+use crate::counts::{FqCounts, FqTotals};
+use crate::limit::{FqDql, FqDqlNew};
+use crate::serial::FqNapi;
+use c_handles::{FqAnswers, FqHandle, FqRingShown, FqRunReport};
+use rx_ring::Packet;
+use std::mem::size_of;
+use tx_ring::TxState;
+
+/// The bytes of a struct, by its number (`enum fq_struct`); 0 of a number that is none.
+#[unsafe(no_mangle)]
+pub extern "C" fn fq_struct_size(which: u32) -> usize
+    ensures { result ≡ size_in which }
+{
+    match which {
+        0 => size_of::<FqHandle>(),
+        1 => size_of::<FqDql>(),
+        2 => size_of::<FqDqlNew>(),
+        3 => size_of::<FqNapi>(),
+        4 => size_of::<Packet>(),
+        5 => size_of::<FqCounts>(),
+        6 => size_of::<FqTotals>(),
+        7 => size_of::<FqRingShown>(),
+        8 => size_of::<TxState>(),
+        9 => size_of::<FqAnswers>(),
+        10 => size_of::<FqRunReport>(),
+        _ => 0,
+    }
+}
