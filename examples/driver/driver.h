@@ -80,6 +80,7 @@ static inline void wake_poller(void) {
 /* Asks for a poll by one of the seats. Where that is granted the card is masked, and then the poller lists the device. */
 static inline uint32_t request(struct device *device, struct fq_handle *seat) {
     const uint32_t said = fq_seat_interrupt_masked(seat, FQ_LIST, &device->card);
+    if (said != FQ_MISSED && said != FQ_DISABLED) must("request", said, FQ_GRANTED);
     if (said == FQ_GRANTED && fq_word_raise(&handed, device->id) && !one_thread) wake_poller();
     return said;
 }
