@@ -6,6 +6,7 @@ unset CDPATH
 top=$(dirname "$(dirname "$(readlink -f "$0")")")
 scratch=$(mktemp -d)
 trap 'rm -rf "$scratch"' EXIT
+export RUNTIME_DIRECTORY=$scratch # where DPDK keeps what it makes
 driver=dpdk
 . "$top/scripts/checks.sh"
 . "$top/scripts/drivers.sh"
@@ -13,7 +14,7 @@ driver=dpdk
 if ! pkg-config --exists libdpdk 2> /dev/null; then
     echo 'dpdk: passed over: there is no DPDK (Debian: libdpdk-dev, pkg-config)'
 elif build plain; then
-    for words in '' 'many' 'napi --two' 'napi --budget 0' 'napi --budget 65536' 'busy power'; do
+    for words in '' 'many' 'napi --two' 'napi --budget 0' 'napi --budget 65536' 'one --budget 16 --min x' 'busy power'; do
         refuses "--no-huge -m 64 --no-shconf --no-pci --no-telemetry --log-level 4 -- $words"
     done
     way plain

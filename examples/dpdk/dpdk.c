@@ -1,8 +1,9 @@
 /* DPDK's ports polled under NAPI's rules; each is a host 10.99.0.2 that answers ARP, pings and UDP to port 7 in the frame that was
  * received. DPDK tells that the card is done with a frame by freeing it.
  *
- * dpdk [EAL's words] -- napi|one|busy|power [--budget 1..65535]
+ * dpdk [EAL's words] -- napi|one|busy|power [--budget 1..65535] [--min BYTES]
  *
+ * --min: what a card may hold at least, 0 at first. One that frees what it sent only as its ring fills would stop at less for ever.
  * napi: as ../driver/driver.h has it; one: with one thread. Beside them busy: bursts for ever; power: as DPDK's l3fwd-power does,
  * bursts until for long none gave anything, then sleep until an interrupt. */
 #define _GNU_SOURCE
@@ -28,6 +29,7 @@ struct port {
 
 static struct port ports[DEVICES];
 static struct rte_mempool *frames, *heads;
+static uint32_t least;
 static unsigned long sleeps;
 
 /* ---- Sending. An answer is a head over the bytes that were received. */
@@ -133,17 +135,16 @@ static void open_port(struct port *port) {
     port->switches = rte_eth_dev_rx_intr_enable(port->id, 0) == 0;
     port->device.card = (struct fq_card){port, mask, unmask, NULL, poll_card};
     port->device.give = give;
-    open_device(&port->device, WAITING);
+    open_device(&port->device, WAITING, least);
 }
 
 static void close_port(struct port *port) {
     struct rte_eth_stats card;
-    if (rte_eth_stats_get(port->id, &card)) die("statistics");
+    if (rte_eth_stats_get(port->id, &card) || rte_eth_dev_stop(port->id) || rte_eth_dev_close(port->id)) die("statistics");
+    completed(&port->device, port->freed); /* what the port held */
     close_device(&port->device);
     printf("dropped %lu sleeps %lu | the port: in %lu out %lu missed %lu errors %lu\n", port->dropped, sleeps, card.ipackets, card.opackets, card.imissed,
         card.ierrors + card.oerrors);
-    rte_eth_dev_stop(port->id);
-    rte_eth_dev_close(port->id);
 }
 
 int main(int count, char **words) {
@@ -153,8 +154,12 @@ int main(int count, char **words) {
     const char *mode = used >= 0 && count > used + 1 ? words[used + 1] : "";
     const bool busy = !strcmp(mode, "busy"), power = !strcmp(mode, "power"), two_threads = !strcmp(mode, "napi");
     one_thread = !strcmp(mode, "one");
-    const bool usual = count == used + 2 || (count == used + 4 && !strcmp(words[used + 2], "--budget") && set_budget(words[used + 3]));
-    if (!usual || !(busy | power | two_threads | one_thread)) return fputs("usage: dpdk [EAL's words] -- napi|one|busy|power [--budget 1..65535]\n", stderr), 64;
+    bool usual = busy || power || two_threads || one_thread;
+    for (int i = used + 2; i < count; i += 2) {
+        const bool pair = i + 1 < count, is_budget = !strcmp(words[i], "--budget");
+        usual &= pair && (is_budget ? set(&budget, words[i + 1], 1, 65535) : !strcmp(words[i], "--min") && set(&least, words[i + 1], 0, 1879048192));
+    }
+    if (!usual) return fputs("usage: dpdk [EAL's words] -- napi|one|busy|power [--budget 1..65535] [--min BYTES]\n", stderr), 64;
     frames = rte_pktmbuf_pool_create("frames", MBUFS, 0, 0, RTE_MBUF_DEFAULT_BUF_SIZE, SOCKET_ID_ANY);
     heads = rte_pktmbuf_pool_create("heads", MBUFS, 0, 0, 0, SOCKET_ID_ANY);
     if (!frames || !heads) die("memory");

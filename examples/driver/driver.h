@@ -171,21 +171,22 @@ static inline bool step(struct device *device, bool on) {
     return device->on == on;
 }
 
-/* Until the end is wanted, all devices are off, and what was answered is sent. */
+/* Until the end is wanted, all devices are off, and what was answered is sent. No interrupt tells that it is complete. */
 static inline void poller(const char *name) {
     enum wanted told = OFF;
-    for (bool more = true, there = false, sending = false;;) {
-        wait_events(poller_events, more || fq_word_any(&handed) ? 0 : there && !sending ? -1 : 1);
+    for (bool more = true, there = false, complete = true;;) {
+        wait_events(poller_events, more || fq_word_any(&handed) ? 0 : there && complete ? -1 : 1);
         more = run();
         const enum wanted now = (enum wanted)atomic_load(&wanted);
-        there = true, sending = false;
+        bool sent = true;
+        there = complete = true;
         for (uint32_t i = 0; i < count_of_devices; i++) {
-            devices[i]->give(devices[i]);
-            watch(devices[i]);
-            there &= step(devices[i], now == ON);
-            sending |= devices[i]->done != devices[i]->answered;
+            struct device *device = devices[i];
+            device->give(device);
+            watch(device);
+            there &= step(device, now == ON), sent &= device->sent == device->answered, complete &= device->done == device->answered;
         }
-        if (there && now == END && !sending) return;
+        if (there && now == END && sent) return;
         if (there && now != told) fprintf(stderr, "%s: %s\n", name, (told = now) == ON ? "on" : "off");
     }
 }
@@ -201,11 +202,11 @@ static inline void tell(int signal) {
     errno = kept;
 }
 
-static inline bool set_budget(const char *word) {
+static inline bool set(uint32_t *number, const char *word, uint32_t least, uint32_t most) {
     char *end;
     const unsigned long value = strtoul(word, &end, 10);
-    budget = (uint32_t)value;
-    return *word >= '0' && *word <= '9' && !*end && value >= 1 && value <= 65535;
+    *number = (uint32_t)value;
+    return *word >= '0' && *word <= '9' && !*end && value >= least && value <= most;
 }
 
 static inline void open_driver(void) {
@@ -216,13 +217,14 @@ static inline void open_driver(void) {
     signal(SIGINT, tell), signal(SIGTERM, tell), signal(SIGHUP, tell);
 }
 
-/* An instance of two seats, whose handles lie apart since each thread writes its own; and a limit of so many frames. */
-static inline void open_device(struct device *device, uint32_t frames) {
+/* An instance of two seats, whose handles lie apart since each thread writes its own; and a limit of so many frames, which lets at
+ * least so many bytes to the card. */
+static inline void open_device(struct device *device, uint32_t frames, uint32_t least) {
     struct fq_handle seats[2] = {FQ_NONE, FQ_NONE};
     must("instance", fq_shared_bare(&device->control, seats, 2), FQ_OK);
     must("seat", fq_move(&seats[0], &device->interrupt), FQ_OK);
     must("seat", fq_move(&seats[1], &device->poller), FQ_OK);
-    must("limit", fq_tx_new(&device->limit, frames, 0, 1879048192, HOLD_MS, now_ms()), FQ_OK);
+    must("limit", fq_tx_new(&device->limit, frames, least, 1879048192, HOLD_MS, now_ms()), FQ_OK);
     device->card.at = device;
     device->id = count_of_devices;
     devices[count_of_devices++] = device;

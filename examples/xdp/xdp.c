@@ -133,6 +133,7 @@ static size_t poll_card(void *at, size_t most) {
 static void print(void) {
     struct xdp_statistics card;
     socklen_t length = sizeof card;
+    for (int ms = 0; device.done != device.sent && ms < STUCK_MS; ms++) usleep(1000), give(&device);
     if (getsockopt(device.event, SOL_XDP, XDP_STATISTICS, &card, &length)) die("statistics");
     close_device(&device);
     printf("kicks %lu left %u | the socket: dropped %llu ring_full %llu no_buffer %llu\n", kicks, produced(&rx), (unsigned long long)card.rx_dropped,
@@ -144,14 +145,14 @@ int main(int count, char **words) {
     bool usual = count >= 2;
     for (int i = 2; i < count; i++) {
         if (!strcmp(words[i], "--one")) one_thread = true;
-        else usual &= !strcmp(words[i], "--budget") && i + 1 < count && set_budget(words[++i]);
+        else usual &= !strcmp(words[i], "--budget") && i + 1 < count && set(&budget, words[++i], 1, 65535);
     }
     if (!usual) return fputs("usage: xdp DEVICE [--one] [--budget 1..65535]\n", stderr), 64;
     open_driver();
     open_socket(words[1]);
     device.card = (struct fq_card){&device, mask, unmask, look, poll_card};
     device.give = give;
-    open_device(&device, FRAMES);
+    open_device(&device, FRAMES, 0);
     if (!one_thread && (errno = pthread_create(&thread, NULL, interrupt_thread, NULL))) die("thread");
     poller("xdp");
     atomic_store(&ended, true);
