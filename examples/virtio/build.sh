@@ -7,5 +7,6 @@ here=$(dirname "$(readlink -f "${BASH_SOURCE[0]}")")
 to=$(readlink -f "${1:?a folder}")
 "$here/../../scripts/c_library.sh" "$to"
 # shellcheck disable=SC2086
-cc -std=c11 ${CFLAGS:--O2} -Wall -Wextra -Werror -pthread -I "$here/../../include" -I "$here" -I "$here/../tap" "${2:-$here/virtio.c}" "$to/libfintaqush.a" -o "$to/virtio"
+cc -std=c11 ${CFLAGS:--O2} -Wall -Wextra -Werror -pthread -I "$here/../../include" -I "$here" -I "$here/../tap" \
+    "${2:-$here/virtio.c}" "$to/libfintaqush.a" -o "$to/virtio"
 cc -std=c11 -O2 -Wall -Wextra -Werror "$here/../tap/load.c" -o "$to/load"

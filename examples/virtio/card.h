@@ -49,7 +49,7 @@ static inline void die(const char *what) {
     exit(1);
 }
 
-static inline void want(bool is_so, const char *what) {
+static inline void need(bool is_so, const char *what) {
     if (!is_so) die(what);
 }
 
@@ -58,7 +58,7 @@ static inline void want(bool is_so, const char *what) {
 static inline void *card_memory(struct card *card, size_t bytes) {
     uint8_t *at = card->memory + card->given;
     card->given += (bytes + PAGE - 1) / PAGE * PAGE;
-    want(card->given <= card->room, "the card's memory");
+    need(card->given <= card->room, "the card's memory");
     return at;
 }
 
@@ -68,25 +68,25 @@ static inline uint64_t seen_by(const struct card *card, const void *at) { return
 
 static inline struct vfio_region_info region(const struct card *card, uint32_t index) {
     struct vfio_region_info info = {.argsz = sizeof info, .index = index};
-    want(!ioctl(card->device, VFIO_DEVICE_GET_REGION_INFO, &info), "a region");
+    need(!ioctl(card->device, VFIO_DEVICE_GET_REGION_INFO, &info), "a region");
     return info;
 }
 
 static inline void read_config(const struct card *card, uint64_t at, void *to, size_t bytes) {
     const struct vfio_region_info config = region(card, VFIO_PCI_CONFIG_REGION_INDEX);
-    want(pread(card->device, to, bytes, (off_t)(config.offset + at)) == (ssize_t)bytes, "configuration space");
+    need(pread(card->device, to, bytes, (off_t)(config.offset + at)) == (ssize_t)bytes, "configuration space");
 }
 
 static inline void write_config(const struct card *card, uint64_t at, const void *from, size_t bytes) {
     const struct vfio_region_info config = region(card, VFIO_PCI_CONFIG_REGION_INDEX);
-    want(pwrite(card->device, from, bytes, (off_t)(config.offset + at)) == (ssize_t)bytes, "configuration space");
+    need(pwrite(card->device, from, bytes, (off_t)(config.offset + at)) == (ssize_t)bytes, "configuration space");
 }
 
 /* What a capability leads to, mapped. */
 static inline void *registers(const struct card *card, const struct virtio_pci_cap *cap) {
     const struct vfio_region_info bar = region(card, cap->bar);
     uint8_t *at = mmap(NULL, bar.size, PROT_READ | PROT_WRITE, MAP_SHARED, card->device, (off_t)bar.offset);
-    want(at != MAP_FAILED, "registers");
+    need(at != MAP_FAILED, "registers");
     return at + cap->offset;
 }
 
@@ -97,28 +97,30 @@ static inline void find_registers(struct card *card) {
         read_config(card, at, &found, sizeof found);
         if (found.cap.cap_vndr != PCI_CAP_ID_VNDR) continue;
         if (found.cap.cfg_type == VIRTIO_PCI_CAP_COMMON_CFG) card->common = registers(card, &found.cap);
-        if (found.cap.cfg_type == VIRTIO_PCI_CAP_NOTIFY_CFG) card->notify = registers(card, &found.cap), card->notify_step = found.notify_off_multiplier;
+        if (found.cap.cfg_type != VIRTIO_PCI_CAP_NOTIFY_CFG) continue;
+        card->notify = registers(card, &found.cap);
+        card->notify_step = found.notify_off_multiplier;
     }
     errno = ENODEV;
-    want(card->common && card->notify, "registers of virtio 1");
+    need(card->common && card->notify, "registers of virtio 1");
 }
 
 /* Opens the card at a PCI address (0000:00:05.0), which vfio-pci has; so much memory of ours is the card's too. */
 static inline void card_open(struct card *card, const char *address, size_t room) {
     char path[128], link[128] = "";
     snprintf(path, sizeof path, "/sys/bus/pci/devices/%s/iommu_group", address);
-    want(readlink(path, link, sizeof link - 1) > 0, path);
+    need(readlink(path, link, sizeof link - 1) > 0, path);
     snprintf(path, sizeof path, "/dev/vfio/%s", strrchr(link, '/') + 1);
     const int container = open("/dev/vfio/vfio", O_RDWR), group = open(path, O_RDWR);
-    want(container >= 0 && group >= 0 && !ioctl(group, VFIO_GROUP_SET_CONTAINER, &container), path);
-    want(!ioctl(container, VFIO_SET_IOMMU, VFIO_TYPE1v2_IOMMU), "IOMMU");
+    need(container >= 0 && group >= 0 && !ioctl(group, VFIO_GROUP_SET_CONTAINER, &container), path);
+    need(!ioctl(container, VFIO_SET_IOMMU, VFIO_TYPE1v2_IOMMU), "IOMMU");
     card->room = room;
     card->memory = mmap(NULL, room, PROT_READ | PROT_WRITE, MAP_PRIVATE | MAP_ANONYMOUS, -1, 0);
-    want(card->memory != MAP_FAILED, "memory");
+    need(card->memory != MAP_FAILED, "memory");
     struct vfio_iommu_type1_dma_map map = {.argsz = sizeof map, .flags = VFIO_DMA_MAP_FLAG_READ | VFIO_DMA_MAP_FLAG_WRITE,
         .vaddr = (uintptr_t)card->memory, .iova = IOVA, .size = room};
-    want(!ioctl(container, VFIO_IOMMU_MAP_DMA, &map), "mapping of memory");
-    want((card->device = ioctl(group, VFIO_GROUP_GET_DEVICE_FD, address)) >= 0, address);
+    need(!ioctl(container, VFIO_IOMMU_MAP_DMA, &map), "mapping of memory");
+    need((card->device = ioctl(group, VFIO_GROUP_GET_DEVICE_FD, address)) >= 0, address);
     uint16_t command;
     read_config(card, PCI_COMMAND, &command, sizeof command);
     command |= PCI_COMMAND_MEMORY | PCI_COMMAND_MASTER;
@@ -143,7 +145,7 @@ static inline void card_begin(struct card *card) {
     }
     common->device_status |= VIRTIO_CONFIG_S_FEATURES_OK;
     errno = ENODEV;
-    want(common->device_status & VIRTIO_CONFIG_S_FEATURES_OK, "features");
+    need(common->device_status & VIRTIO_CONFIG_S_FEATURES_OK, "features");
     common->msix_config = VIRTIO_MSI_NO_VECTOR;
 }
 
@@ -151,8 +153,8 @@ static inline void card_begin(struct card *card) {
 static inline void card_interrupts(struct card *card) {
     struct { struct vfio_irq_set set; int events[QUEUES]; } all = {.set = {.argsz = sizeof all, .index = VFIO_PCI_MSIX_IRQ_INDEX, .count = QUEUES,
         .flags = VFIO_IRQ_SET_DATA_EVENTFD | VFIO_IRQ_SET_ACTION_TRIGGER}};
-    for (int i = 0; i < QUEUES; i++) want((all.events[i] = card->queues[i].event = eventfd(0, EFD_NONBLOCK)) >= 0, "eventfd");
-    want(!ioctl(card->device, VFIO_DEVICE_SET_IRQS, &all), "MSI-X");
+    for (int i = 0; i < QUEUES; i++) need((all.events[i] = card->queues[i].event = eventfd(0, EFD_NONBLOCK)) >= 0, "eventfd");
+    need(!ioctl(card->device, VFIO_DEVICE_SET_IRQS, &all), "MSI-X");
 }
 
 static inline void card_queue(struct card *card, uint16_t number) {
@@ -161,7 +163,7 @@ static inline void card_queue(struct card *card, uint16_t number) {
     common->queue_select = queue->number = number;
     queue->size = common->queue_size;
     errno = ENODEV;
-    want(queue->size && queue->size <= LARGEST_QUEUE, "a queue's size");
+    need(queue->size && queue->size <= LARGEST_QUEUE, "a queue's size");
     queue->desc = card_memory(card, queue->size * sizeof *queue->desc);
     queue->avail = card_memory(card, sizeof *queue->avail + (queue->size + 1) * sizeof *queue->avail->ring);
     queue->used = card_memory(card, sizeof *queue->used + queue->size * sizeof *queue->used->ring + 2);
@@ -170,7 +172,7 @@ static inline void card_queue(struct card *card, uint16_t number) {
     common->queue_avail_lo = (uint32_t)avail, common->queue_avail_hi = (uint32_t)(avail >> 32);
     common->queue_used_lo = (uint32_t)used, common->queue_used_hi = (uint32_t)(used >> 32);
     common->queue_msix_vector = number;
-    want(common->queue_msix_vector == number, "a queue's interrupt");
+    need(common->queue_msix_vector == number, "a queue's interrupt");
     queue->doorbell = (volatile uint16_t *)(void *)(card->notify + (size_t)common->queue_notify_off * card->notify_step);
     common->queue_enable = 1;
 }
@@ -191,13 +193,21 @@ static inline void queue_publish(struct queue *queue) {
 }
 
 /* How many descriptors came back and weren't looked at yet. */
-static inline uint16_t queue_back(const struct queue *queue) { return (uint16_t)(__atomic_load_n(&queue->used->idx, __ATOMIC_ACQUIRE) - queue->seen); }
+static inline uint16_t queue_back(const struct queue *queue) {
+    return (uint16_t)(__atomic_load_n(&queue->used->idx, __ATOMIC_ACQUIRE) - queue->seen);
+}
 
-static inline struct vring_used_elem queue_next(struct queue *queue) { return queue->used->ring[queue->seen++ % queue->size]; }
+static inline struct vring_used_elem queue_next(struct queue *queue) {
+    const struct vring_used_elem next = queue->used->ring[queue->seen++ % queue->size];
+    errno = EIO;
+    need(next.id < queue->size, "no descriptor of ours");
+    return next;
+}
 
-/* ---- What the library calls (struct fq_card), of a queue. The card sees a mask in its own time. */
+/* ---- What the library does with a queue (struct fq_card). The card sees a mask in its own time. */
 
-static inline void queue_mask(void *queue) { __atomic_store_n(&((struct queue *)queue)->avail->flags, VRING_AVAIL_F_NO_INTERRUPT, __ATOMIC_RELAXED); }
-static inline void queue_unmask(void *queue) { __atomic_store_n(&((struct queue *)queue)->avail->flags, 0, __ATOMIC_RELAXED); }
+static inline void queue_flags(struct queue *queue, uint16_t flags) { __atomic_store_n(&queue->avail->flags, flags, __ATOMIC_RELAXED); }
+static inline void queue_mask(void *queue) { queue_flags(queue, VRING_AVAIL_F_NO_INTERRUPT); }
+static inline void queue_unmask(void *queue) { queue_flags(queue, 0); }
 static inline bool queue_look(void *queue) { return queue_back(queue) != 0; }
 #endif

@@ -31,7 +31,8 @@ row() {
     rx=$(($(counter tx_packets) - rx)) tx=$(($(counter rx_packets) - tx))
     # shellcheck disable=SC2207
     after=($(numbers "$what"))
-    printf '%-20s %-7s %8d %8d %8d %8d %8d\n' "$name" "$what" "$rx" "$tx" $((after[0] - before[0])) $((after[1] - before[1])) $((after[2] - before[2]))
+    printf '%-20s %-7s %8d %8d %8d %8d %8d\n' "$name" "$what" "$rx" "$tx" $((after[0] - before[0])) $((after[1] - before[1])) \
+        $((after[2] - before[2]))
 }
 
 loads() {

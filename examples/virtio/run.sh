@@ -55,7 +55,10 @@ interrupts=$(guest 'grep vfio-msix /proc/interrupts' | awk '{ for (i = 2; $i ~ /
 echo "the card: received $received and sent $sent, modulo 65536; the guest's kernel: interrupts $interrupts; the other end: TX $tx RX $rx"
 
 # is LINE NAME: the number behind this name in that line of the driver's; -1 where it has told none
-is() { awk -v line="$1" -v name="$2" '$1 == line { for (i = 1; i < NF; i++) if ($i == name) found = $(i + 1) } END { print found == "" ? -1 : found }' "$scratch/counts"; }
+is() {
+    awk -v line="$1" -v name="$2" '$1 == line { for (i = 1; i < NF; i++) if ($i == name) found = $(i + 1) }
+        END { print found == "" ? -1 : found }' "$scratch/counts"
+}
 check 'the other end sent what was polled' [ "$tx" = "$(is rx packets)" ]
 check 'the card received what was polled' [ "$received" = "$(($(is rx packets) % 65536))" ]
 check 'the other end received what was told complete' [ "$rx" = "$(is tx packets)" ]

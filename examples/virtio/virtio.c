@@ -20,7 +20,7 @@ enum wanted { ON, OFF, END };
 /* A queue, its instance, and its counts. What is of different threads lies 128 bytes apart. */
 struct side {
     struct queue *queue;
-    struct fq_card card;
+    struct fq_card calls; /* what the library does with it */
     alignas(128) struct fq_handle irq; /* the interrupt thread's seat */
     atomic_ulong interrupts, granted, missed, disabled;
     alignas(128) struct fq_handle seat, control; /* the poller's */
@@ -41,19 +41,19 @@ static uint32_t lengths[SLOTS];
 static uint64_t first, given, behind;
 static unsigned long runs, squeezed, dropped, held, disorder;
 
-static void must(const char *what, uint32_t said, uint32_t wanted_said) {
-    if (said == wanted_said) return;
+static void must(const char *what, uint32_t said, uint32_t due) {
+    if (said == due) return;
     fprintf(stderr, "virtio: %s: %s\n", what, fq_status_name(said));
     exit(1);
 }
 
 static uint64_t now_ms(void) {
     struct timespec now;
-    want(!clock_gettime(CLOCK_MONOTONIC, &now), "clock");
+    need(!clock_gettime(CLOCK_MONOTONIC, &now), "clock");
     return (uint64_t)now.tv_sec * 1000 + (uint64_t)now.tv_nsec / 1000000;
 }
 
-static void raise_event(int event) { want(write(event, &(uint64_t){1}, 8) == 8, "eventfd"); }
+static void raise_event(int event) { need(write(event, &(uint64_t){1}, 8) == 8, "eventfd"); }
 
 /* ---- What is asked for. */
 
@@ -67,7 +67,7 @@ static void interrupt(struct side *side) {
     uint64_t count;
     if (read(side->queue->event, &count, 8) != 8) return;
     side->interrupts += count;
-    const uint32_t said = fq_seat_interrupt_masked(&side->irq, FQ_LIST, &side->card);
+    const uint32_t said = fq_seat_interrupt_masked(&side->irq, FQ_LIST, &side->calls);
     if (said == FQ_GRANTED) {
         side->granted++;
         hand(side);
@@ -79,7 +79,7 @@ static void interrupt(struct side *side) {
 static void *interrupts(void *at) {
     struct pollfd files[QUEUES + 1] = {{sides[RX].queue->event, POLLIN, 0}, {sides[TX].queue->event, POLLIN, 0}, {stop, POLLIN, 0}};
     while (!files[QUEUES].revents) {
-        want(poll(files, QUEUES + 1, -1) > 0, "poll");
+        need(poll(files, QUEUES + 1, -1) > 0, "poll");
         for (int i = 0; i < QUEUES; i++)
             if (files[i].revents) interrupt(&sides[i]);
     }
@@ -142,7 +142,7 @@ static uint32_t complete(struct queue *queue) {
 /* Ends a poll: once nobody has the instance the queue is unmasked and looked at, and polled again if something came meanwhile. */
 static uint32_t end(struct side *side, bool full) {
     uint32_t next;
-    must("end", fq_seat_end_watched(&side->seat, full, &side->card, &next), FQ_OK);
+    must("end", fq_seat_end_watched(&side->seat, full, &side->calls, &next), FQ_OK);
     side->full += next == FQ_NEXT_REPOLL;
     side->again += next == FQ_NEXT_AGAIN;
     return next;
@@ -152,7 +152,8 @@ static uint32_t end(struct side *side, bool full) {
 static bool run(void) {
     struct fq_run_report report;
     uint32_t id, length;
-    for (uint64_t bits = fq_word_take(&listed); bits; bits &= bits - 1) must("push", fq_list_push(&list, (uint32_t)__builtin_ctzll(bits)), FQ_OK);
+    for (uint64_t bits = fq_word_take(&listed); bits; bits &= bits - 1)
+        must("push", fq_list_push(&list, (uint32_t)__builtin_ctzll(bits)), FQ_OK);
     must("begin", fq_run_begin(&list, BUDGET, WEIGHT, WINDOW), FQ_OK);
     while (fq_run_next(&list, &id) == FQ_OK) {
         struct side *side = &sides[id];
@@ -182,7 +183,7 @@ static bool control(bool on) {
         there &= said == FQ_OK;
         if (said == FQ_BUSY) continue;
         must("control", said, FQ_OK);
-        if (on && !side->on && fq_seat_interrupt_masked(&side->seat, FQ_LIST, &side->card) == FQ_GRANTED) hand(side);
+        if (on && !side->on && fq_seat_interrupt_masked(&side->seat, FQ_LIST, &side->calls) == FQ_GRANTED) hand(side);
         side->on = on;
     }
     return there;
@@ -194,11 +195,11 @@ static void print(void) {
     must("state", fq_tx_state(&tx, &state), FQ_OK);
     for (int i = 0; i < QUEUES; i++) {
         const struct side *side = &sides[i];
-        printf("%s interrupts %lu granted %lu missed %lu disabled %lu polls %lu packets %lu full %lu again %lu left %u\n", i == RX ? "rx" : "tx", side->interrupts,
-            side->granted, side->missed, side->disabled, side->polls, side->packets, side->full, side->again, queue_back(side->queue));
+        printf("%s interrupts %lu granted %lu missed %lu disabled %lu polls %lu packets %lu full %lu again %lu left %u\n", i == RX ? "rx" : "tx",
+            side->interrupts, side->granted, side->missed, side->disabled, side->polls, side->packets, side->full, side->again, queue_back(side->queue));
     }
-    printf("all runs %lu squeezed %lu answered %lu waiting %lu sent %lu dropped %lu held %lu disorder %lu limit %u in_flight %u\n", runs, squeezed, behind,
-        behind - given, first, dropped, held, disorder, state.limit, state.queued - state.completed);
+    printf("all runs %lu squeezed %lu answered %lu waiting %lu sent %lu dropped %lu held %lu disorder %lu limit %u in_flight %u\n", runs, squeezed,
+        behind, behind - given, first, dropped, held, disorder, state.limit, state.queued - state.completed);
     fflush(stdout);
 }
 
@@ -208,7 +209,7 @@ static void *poller(void *at) {
     uint64_t count;
     enum wanted target = ON, told = OFF;
     for (bool more = true, there = false; !there || target != END;) {
-        if (poll(&file, 1, more || fq_word_any(&listed) ? 0 : there ? -1 : 1) > 0) want(read(wake, &count, 8) == 8, "wake");
+        if (poll(&file, 1, more || fq_word_any(&listed) ? 0 : there ? -1 : 1) > 0) need(read(wake, &count, 8) == 8, "wake");
         more = run();
         if (there) target = (enum wanted)atomic_load(&wanted);
         there = control(target == ON);
@@ -223,13 +224,13 @@ static void open_all(const char *address) {
     card_begin(&card);
     card_interrupts(&card);
     must("list", fq_list_new(&list), FQ_OK);
-    want((wake = eventfd(0, 0)) >= 0 && (stop = eventfd(0, 0)) >= 0, "eventfd");
+    need((wake = eventfd(0, 0)) >= 0 && (stop = eventfd(0, 0)) >= 0, "eventfd");
     for (uint16_t i = 0; i < QUEUES; i++) {
         struct side *side = &sides[i];
         struct fq_handle seats[2] = {FQ_NONE, FQ_NONE};
         card_queue(&card, i);
         side->queue = &card.queues[i];
-        side->card = (struct fq_card){side->queue, queue_mask, queue_unmask, queue_look, NULL};
+        side->calls = (struct fq_card){side->queue, queue_mask, queue_unmask, queue_look, NULL};
         must("instance", fq_shared_bare(&side->control, seats, 2), FQ_OK);
         must("seat", fq_move(&seats[0], &side->irq), FQ_OK);
         must("seat", fq_move(&seats[1], &side->seat), FQ_OK);
@@ -262,9 +263,9 @@ int main(int count, char **words) {
     if (count != 2) return 64;
     sigemptyset(&signals);
     sigaddset(&signals, SIGINT), sigaddset(&signals, SIGTERM), sigaddset(&signals, SIGHUP), sigaddset(&signals, SIGUSR1);
-    want(!pthread_sigmask(SIG_BLOCK, &signals, NULL), "signals");
+    need(!pthread_sigmask(SIG_BLOCK, &signals, NULL), "signals");
     open_all(words[1]);
-    want(!pthread_create(&threads[0], NULL, poller, NULL) && !pthread_create(&threads[1], NULL, interrupts, NULL), "threads");
+    need(!pthread_create(&threads[0], NULL, poller, NULL) && !pthread_create(&threads[1], NULL, interrupts, NULL), "threads");
     while (!sigwait(&signals, &signal) && (signal == SIGHUP || signal == SIGUSR1)) {
         if (signal == SIGUSR1) atomic_store(&asked, true);
         else atomic_fetch_xor(&wanted, OFF);

@@ -51,12 +51,14 @@ make_initramfs() {
 
 # start_machine PROGRAM ..: with these in /bin. What it writes goes to $scratch/console.
 start_machine() {
+    local words='console=ttyS0 quiet loglevel=3 panic=-1 no_timer_check intel_iommu=on iommu=pt'
     make_initramfs "$@"
     mkfifo "$scratch"/{commands,monitor.in,monitor.out}
+    touch "$scratch/console"
     inside cat "$scratch/monitor.out" > "$scratch/monitor" &
-    ip netns exec "$space" timeout -k 10 600 qemu-system-x86_64 -M q35 -cpu max -accel tcg -smp "${CPUS:-2}" -m 256 -no-reboot -nodefaults -display none \
-        -kernel "$image" -initrd "$scratch/initramfs" -append 'console=ttyS0 quiet loglevel=3 panic=-1 no_timer_check intel_iommu=on iommu=pt' \
-        -device intel-iommu,intremap=on -netdev tap,id=far,ifname=fq0,script=no,downscript=no,vhost=off \
+    ip netns exec "$space" timeout -k 10 600 qemu-system-x86_64 -M q35 -cpu max -accel tcg -smp "${CPUS:-2}" -m 256 -no-reboot -nodefaults \
+        -display none -kernel "$image" -initrd "$scratch/initramfs" -append "$words" -device intel-iommu,intremap=on \
+        -netdev tap,id=far,ifname=fq0,script=no,downscript=no,vhost=off \
         -device virtio-net-pci,id=card,netdev=far,addr=5,disable-legacy=on,iommu_platform=on,event_idx=off,mac=02:00:00:00:00:02 \
         -chardev "pipe,id=monitor,path=$scratch/monitor" -mon chardev=monitor -serial stdio < "$scratch/commands" > "$scratch/console" 2>&1 &
     machine=$!
