@@ -33,7 +33,8 @@ way() {
     sed 's/^/    /' "$scratch/run"
 }
 
-# mistaken EDIT LINE: the driver with this edit of sed is built and run, that isn't well, and this line tells why.
+# mistaken EDIT LINE: the driver with this edit of sed is built and run, that isn't well, and this line tells why. Of an order that is
+# wrong by nanoseconds a millisecond is made, so that each run shows it.
 mistaken() {
     sed -E -e "$1" "$example/virtio.c" > "$scratch/virtio.c"
     ! cmp "$example/virtio.c" "$scratch/virtio.c" && "$example/build.sh" "$scratch" "$scratch/virtio.c" || return
@@ -52,10 +53,10 @@ if [ "$failed" = 0 ]; then
     done
     unset CFLAGS
     check 'no look behind the unmask: packets are left' mistaken \
-        's/fq_seat_end_watched(.*), &side->calls, &next\), FQ_OK\);/fq_seat_end\1, \&next), FQ_OK);\n    if (next == FQ_NEXT_GONE) queue_unmask(side->queue);/' \
+        's/fq_seat_end_watched(.*), &side->calls, &next\), FQ_OK\);/fq_seat_end\1, \&next), FQ_OK);\n    if (next == FQ_NEXT_GONE) usleep(1000), queue_unmask(side->queue);/' \
         'WRONG: nothing lies in the queues'
     check 'a mask behind the hand-over: packets are left' mistaken \
-        's/fq_seat_interrupt_masked(\(&side->irq, FQ_LIST), &side->calls/fq_seat_interrupt\1/; s/^        hand\(side\);/&\n        queue_mask(side->queue);/' \
+        's/fq_seat_interrupt_masked(\(&side->irq, FQ_LIST), &side->calls/fq_seat_interrupt\1/; s/^        hand\(side\);/&\n        usleep(1000), queue_mask(side->queue);/' \
         'WRONG: nothing lies in the queues'
     check 'a completion told twice: it is refused' mistaken 's/^    must\("done".*/&\n&/' 'virtio: done: FQ_MORE_THAN_SENT'
 fi
