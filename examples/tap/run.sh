@@ -21,35 +21,9 @@ scratch=$(mktemp -d)
 trap 'remove_device; rm -rf "$scratch"' EXIT
 built=${BUILT:-$scratch}
 [ -n "${BUILT:-}" ] || "$here/build.sh" "$built" || exit
-wrong=0
-
-check() {
-    local name=$1
-    shift
-    if "$@"; then echo "ok: $name"; else
-        echo "WRONG: $name"
-        wrong=1
-    fi
-}
-
-# answered COUNT LINE: at least so many pings came back, none of them changed
-answered() { [[ $2 =~ \ back\ ([0-9]+)\ bad\ 0\  ]] && [ "${BASH_REMATCH[1]}" -ge "$1" ]; }
-
 # A trace has at most 100000 rows, so there the load is gentle.
-start_load() {
-    if [ -n "$trace" ]; then ip netns exec "$space" "$built/load" rate 200 1000000 600 > "$scratch/load" 2>&1 &
-    else ip netns exec "$space" "$built/load" udp 7 0 600 > "$scratch/load" 2>&1 & fi
-    load=$!
-}
-end_load() {
-    kill -TERM "$load"
-    wait "$load"
-} 2> /dev/null
-flows() {
-    local tx rx
-    tx=$(counter tx_packets) rx=$(counter rx_packets)
-    wait_for counted tx_packets $((tx + 100)) && wait_for counted rx_packets $((rx + 100))
-}
+under_load=(udp 7 0 600)
+[ -z "$trace" ] || under_load=(rate 200 1000000 600)
 
 ip netns exec "$space" "$built/tap" "$@" > "$scratch/out" 2> "$scratch/err" &
 driver=$!
@@ -61,7 +35,7 @@ echo "pings of 1400 bytes: $pinged"
 check '3000 pings are answered' answered 3000 "$pinged"
 [ -n "$trace" ] || echo "a second of UDP: $(inside timeout 600 "$built/load" udp 7 1 1400)"
 
-start_load
+start_load "${under_load[@]}"
 check 'both ways under load' flows
 kill -HUP "$driver"
 check 'a disable under load ends' wait_for said off 1
@@ -72,7 +46,7 @@ end_load
 pinged=$(inside timeout 600 "$built/load" ping 100 64 4)
 check '100 pings are answered behind it' answered 100 "$pinged"
 
-start_load
+start_load "${under_load[@]}"
 check 'both ways before the end' flows
 kill -INT "$driver"
 wait_for has_ended "$driver" || kill -KILL "$driver"
