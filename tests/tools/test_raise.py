@@ -36,11 +36,11 @@ class Raise(InFolder):
 
     def test_what_the_pages_show_of_a_budget_is_true_to_the_kernel(self):
         """A command of a page with another budget or weight has its runs raised; or it plays a recording by the recorded one, or
-        says what it drops."""
+        arrivals, which raise them, or says what it drops."""
         pages = [TOP / "README.md", TOP / "examples/README.md", *sorted((TOP / "docs").glob("*.md")), TOP / "replay"]
         commands = [line for page in pages for line in page.read_text().splitlines()
                     if re.search(r"(^|[ `])(\./replay|tools/[a-z-]+) [^\[]*--(budget|weight) ", line)]
-        true = (r"--raise\b|tools/raise |raised\.csv|compare-recording |linux-(veth-small-budget|napi-disable)\.csv --budget 64\b"
+        true = (r"--raise\b|tools/raise |tools/what-if |raised\.csv|compare-recording |linux-(veth-small-budget|napi-disable)\.csv --budget 64\b"
                 r"|and \d+ packets dropped$")
         self.assertEqual([command for command in commands if not re.search(true, command)], [])
         self.assertGreater(len(commands), 8)
