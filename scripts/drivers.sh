@@ -1,0 +1,82 @@
+# For tests of examples/DRIVER to source, behind scripts/checks.sh: `driver` is its name, and `top` the repository.
+over=0
+
+# build NAME [FLAG ..]: the driver with these flags of the compiler, in a folder of its own in `scratch`.
+build() {
+    local name=$1
+    shift
+    mkdir -p "$scratch/$name"
+    [ "$name" = plain ] || cp "$scratch/plain/libfintaqush.a" "$scratch/$name/"
+    check "$driver is built: $name" "$top/examples/$driver/build.sh" "$scratch/$name" "$@"
+    [ -e "$scratch/$name/$driver" ]
+}
+
+# refuses WORDS: by its usage and status 64
+refuses() {
+    local status=0
+    # shellcheck disable=SC2086
+    timeout 60 "$scratch/plain/$driver" $1 > "$scratch/run" 2>&1 || status=$?
+    check "'$1' is refused" [ "$status $(grep -c '^usage: ' "$scratch/run")" = '64 1' ]
+}
+
+# way NAME [WORD ..]: a run of what was built so, with these words; each line `ok` or `WRONG` of it is a test.
+way() {
+    local name=$1 status=0
+    shift
+    [ "$over" = 0 ] || return 0
+    BUILT=$scratch/$name timeout -k 20 300 "$top/examples/$driver/run.sh" "$@" > "$scratch/run" 2>&1 || status=$?
+    if [ "$status" = 69 ]; then
+        cat "$scratch/run"
+        echo "$driver: passed over: the driver on a device"
+        over=1
+        return
+    fi
+    passed=$((passed + $(grep -c '^ok: ' "$scratch/run")))
+    failed=$((failed + $(grep -c '^WRONG: ' "$scratch/run")))
+    if [ "$status" != 0 ]; then
+        grep -q '^WRONG: ' "$scratch/run" || failed=$((failed + 1))
+        echo "$driver: $name with '$*', status $status"
+        sed 's/^/    /' "$scratch/run"
+    fi
+}
+
+# mistake NAME WRONG FILE OLD NEW [OLD NEW ..]: the driver with these changes of a file, in which each OLD stands once, has such a line
+# `WRONG` at last.
+mistake() {
+    local name=$1 wrong=$2 status=0
+    [ "$over" = 0 ] || return 0
+    if ! plant "${@:3}"; then
+        check "$name: planted" false
+        return
+    fi
+    BUILT=$scratch/mistake/built PATIENCE=15 timeout -k 20 180 "$scratch/mistake/examples/$driver/run.sh" > "$scratch/run" 2>&1 || status=$?
+    check "$name is found: $(grep '^WRONG: ' "$scratch/run")" [ "$status $(grep -c -x -e "WRONG: $wrong" "$scratch/run")" = '1 1' ]
+}
+
+plant() {
+    local file=$scratch/mistake/examples/$1 text
+    shift
+    rm -rf "$scratch/mistake"
+    mkdir -p "$scratch/mistake/examples" "$scratch/mistake/built"
+    cp -r "$top"/examples/{tap,driver,"$driver"} "$scratch/mistake/examples" && ln -s "$top/include" "$scratch/mistake"
+    cp "$scratch/plain/libfintaqush.a" "$scratch/mistake/built"
+    while [ $# != 0 ]; do
+        [ "$(grep -c -F -e "$1" "$file")" = 1 ] || return 1
+        text=$(< "$file")
+        printf '%s\n' "${text/"$1"/"$2"}" > "$file"
+        shift 2
+    done
+    "$scratch/mistake/examples/$driver/build.sh" "$scratch/mistake/built" > "$scratch/run" 2>&1
+}
+
+# mistakes: of a driver, in what it shares with others
+mistakes() {
+    mistake 'a mask behind the hand-over' '3000 pings are answered' driver/driver.h 'fq_seat_interrupt_masked(seat, FQ_LIST, &device->card)' \
+        'fq_seat_interrupt(seat, FQ_LIST)' '&& !one_thread) wake_poller();' \
+        '&& !one_thread) wake_poller();
+    if (said == FQ_GRANTED && seat == &device->interrupt) usleep(2000), device->card.mask(device);'
+    mistake 'a completion told twice' '3000 pings are answered' driver/driver.h 'must("done", ' \
+        'must("once", fq_tx_done(&device->limit, count, now_ms()), FQ_OK);
+    must("done", '
+    mistake 'no poll behind an enable' 'both ways under load' driver/driver.h 'if (device->on) request(' 'if (false) request('
+}

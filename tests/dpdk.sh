@@ -1,0 +1,28 @@
+#!/usr/bin/env bash
+# tests/dpdk.sh: as tests/xdp.sh, the driver of examples/dpdk. Where there is no DPDK, no root, no `ip`, no /dev/net/tun or no right to
+# make a namespace it says so, and passes over it. The last line is `N passed, M failed`.
+set -uo pipefail
+unset CDPATH
+top=$(dirname "$(dirname "$(readlink -f "$0")")")
+scratch=$(mktemp -d)
+trap 'rm -rf "$scratch"' EXIT
+export RUNTIME_DIRECTORY=$scratch # where DPDK keeps what it makes
+driver=dpdk
+. "$top/scripts/checks.sh"
+. "$top/scripts/drivers.sh"
+
+if ! pkg-config --exists libdpdk 2> /dev/null; then
+    echo 'dpdk: passed over: there is no DPDK (Debian: libdpdk-dev, pkg-config)'
+elif build plain; then
+    for words in '' 'many' 'napi --two' 'napi --budget 0' 'napi --budget 65536' 'one --budget 16 --min x' 'busy power'; do
+        refuses "--no-huge -m 64 --no-shconf --no-pci --no-telemetry --log-level 4 -- $words"
+    done
+    way plain
+    way plain one
+    way plain napi --budget 16
+    mistakes
+    build addresses -g -fsanitize=address,undefined -fno-sanitize-recover=all && way addresses
+    build threads -g -fsanitize=thread && way threads
+fi
+
+sum_up
