@@ -98,12 +98,14 @@ static bool complete(void) {
     return count > 0;
 }
 
-/* The kernel sends a few frames for each call. */
+/* The kernel sends a few frames for each call, or none, where it has too many of this socket under way. */
 static void kick(void) {
-    while (__atomic_load_n(tx.consumer, __ATOMIC_ACQUIRE) != tx.at && __atomic_load_n(tx.flags, __ATOMIC_RELAXED) & XDP_RING_NEED_WAKEUP) {
+    uint32_t before;
+    do {
+        before = __atomic_load_n(tx.consumer, __ATOMIC_ACQUIRE);
+        if (before == tx.at || !(__atomic_load_n(tx.flags, __ATOMIC_RELAXED) & XDP_RING_NEED_WAKEUP)) return;
         kicks++;
-        if (sendto(device.event, NULL, 0, MSG_DONTWAIT, NULL, 0) < 0 && errno != EAGAIN) return;
-    }
+    } while ((sendto(device.event, NULL, 0, MSG_DONTWAIT, NULL, 0) >= 0 || errno == EAGAIN) && __atomic_load_n(tx.consumer, __ATOMIC_ACQUIRE) != before);
 }
 
 /* As far as the limit lets frames go; and again, where the kernel was done with some at once. */
