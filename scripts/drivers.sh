@@ -49,7 +49,7 @@ mistake() {
         check "$name: planted" false
         return
     fi
-    BUILT=$scratch/mistake/built PATIENCE=8 timeout -k 20 120 "$scratch/mistake/examples/$driver/run.sh" > "$scratch/run" 2>&1 || status=$?
+    BUILT=$scratch/mistake/built PATIENCE=15 timeout -k 20 180 "$scratch/mistake/examples/$driver/run.sh" > "$scratch/run" 2>&1 || status=$?
     check "$name is found: $(grep '^WRONG: ' "$scratch/run")" [ "$status $(grep -c -x -e "WRONG: $wrong" "$scratch/run")" = '1 1' ]
 }
 

@@ -98,18 +98,20 @@ static bool complete(void) {
     return count > 0;
 }
 
-/* The kernel sends a few frames for each call. */
+/* The kernel sends a few frames for each call, or none, where it has too many of this socket under way. */
 static void kick(void) {
-    while (__atomic_load_n(tx.consumer, __ATOMIC_ACQUIRE) != tx.at && __atomic_load_n(tx.flags, __ATOMIC_RELAXED) & XDP_RING_NEED_WAKEUP) {
+    uint32_t before;
+    do {
+        before = __atomic_load_n(tx.consumer, __ATOMIC_ACQUIRE);
+        if (before == tx.at || !(__atomic_load_n(tx.flags, __ATOMIC_RELAXED) & XDP_RING_NEED_WAKEUP)) return;
         kicks++;
-        if (sendto(device.event, NULL, 0, MSG_DONTWAIT, NULL, 0) < 0 && errno != EAGAIN) return;
-    }
+    } while ((sendto(device.event, NULL, 0, MSG_DONTWAIT, NULL, 0) >= 0 || errno == EAGAIN) && __atomic_load_n(tx.consumer, __ATOMIC_ACQUIRE) != before);
 }
 
 /* As far as the limit lets frames go; and again, where the kernel was done with some at once. */
 static void give(struct device *at) {
     do {
-        for (; first != behind && may_send(at, waiting[first % FRAMES].len); first++) ((struct xdp_desc *)tx.places)[tx.at++ % FRAMES] = waiting[first % FRAMES];
+        while (first != behind && may_send(at, waiting[first % FRAMES].len)) ((struct xdp_desc *)tx.places)[tx.at++ % FRAMES] = waiting[first++ % FRAMES];
         publish(tx.producer, tx.at);
         kick();
     } while (complete() && first != behind);
