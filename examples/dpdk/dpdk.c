@@ -151,7 +151,8 @@ int main(int count, char **words) {
     pthread_t thread;
     uint16_t id;
     const int used = rte_eal_init(count, words);
-    const char *mode = used >= 0 && count > used + 1 ? words[used + 1] : "";
+    if (used < 0) return fputs("dpdk: DPDK doesn't begin\n", stderr), 1;
+    const char *mode = count > used + 1 ? words[used + 1] : "";
     const bool busy = !strcmp(mode, "busy"), power = !strcmp(mode, "power"), two_threads = !strcmp(mode, "napi");
     one_thread = !strcmp(mode, "one");
     bool usual = busy || power || two_threads || one_thread;

@@ -3,18 +3,12 @@
 # came and went, the interrupts for both, and polls. Settings and status are those of run.sh.
 set -uo pipefail
 unset CDPATH
-here=$(dirname "$(readlink -f "${BASH_SOURCE[0]}")")
-. "$here/vm.sh"
-find_machine && make_device || exit 69
-scratch=$(mktemp -d)
-trap 'remove_device; rm -rf "$scratch"' EXIT
-built=${BUILT:-$scratch}
-[ -n "${BUILT:-}" ] || "$here/build.sh" "$built" || exit
+. "$(dirname "$(readlink -f "${BASH_SOURCE[0]}")")/vm.sh"
 
-# numbers: interrupts of receive and transmit, and polls, since it began
+# numbers WHAT: interrupts of receive and transmit, and polls, since it began
 numbers() {
     case $1 in
-    driver) guest 'kill -USR1 $!; sleep 1; tail -n 3 /out' | awk '/^[rt]x / { print $3; polls += $11 } END { print polls }' ;;
+    driver) counts | awk '/^[rt]x / { print $3; polls += $11 } END { print polls }' ;;
     kernel) guest 'grep -e virtio.*put /proc/interrupts; cat /sys/kernel/tracing/events/napi/napi_poll/hist' | awk '
         /virtio.*put/ { sum = 0; for (i = 2; $i ~ /^[0-9]+$/; i++) sum += $i; print sum }
         /^ *Hits:/ { print $2 }' ;;
@@ -27,7 +21,7 @@ row() {
     shift 2
     # shellcheck disable=SC2207
     before=($(numbers "$what")) rx=$(counter tx_packets) tx=$(counter rx_packets)
-    inside timeout "$PATIENCE" "$built/load" "$@" > "$scratch/load"
+    load "$@" > "$scratch/load"
     rx=$(($(counter tx_packets) - rx)) tx=$(($(counter rx_packets) - tx))
     # shellcheck disable=SC2207
     after=($(numbers "$what"))
@@ -35,7 +29,7 @@ row() {
         $((after[2] - before[2]))
 }
 
-loads() {
+rows() {
     row "$1" '1 ping under way' ping 300 64 1
     row "$1" '500 pings a second' rate 500 1500 64
     row "$1" '32 under way' ping 5000 64 32
@@ -43,15 +37,12 @@ loads() {
     row "$1" 'flood, unanswered' udp 9 2 64
 }
 
-start_machine "$built/virtio" || { cat "$scratch/console"; exit 1; }
-ip -n "$space" link set fq0 up
+open_machine
+start_driver
 printf '%-20s %-7s %8s %8s %8s %8s %8s\n' '' '' came went 'rx irqs' 'tx irqs' polls
-guest 'bind vfio-pci' > /dev/null
-guest "virtio $address > /out &"
-wait_for wrote 'virtio: on' 1 || exit
-loads driver
+rows driver
 guest 'kill -INT $!; wait $!; bind virtio-pci; ip addr add 10.99.0.2/24 dev eth0; ip link set eth0 up; sleep 1' > /dev/null
 guest "echo 'hist:keys=work' > /sys/kernel/tracing/events/napi/napi_poll/trigger" || exit
 ip -n "$space" neigh flush dev fq0
-loads kernel
-end_machine
+rows kernel
+close_machine

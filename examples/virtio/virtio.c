@@ -260,7 +260,10 @@ int main(int count, char **words) {
     pthread_t threads[2];
     sigset_t signals;
     int signal = 0;
-    if (count != 2) return 64;
+    if (count != 2) {
+        fputs("usage: virtio ADDRESS\n", stderr);
+        return 64;
+    }
     sigemptyset(&signals);
     sigaddset(&signals, SIGINT), sigaddset(&signals, SIGTERM), sigaddset(&signals, SIGHUP), sigaddset(&signals, SIGUSR1);
     need(!pthread_sigmask(SIG_BLOCK, &signals, NULL), "signals");

@@ -1,18 +1,15 @@
-# examples/virtio/vm.sh, sourced: a virtual machine with a virtio card, whose other end is a TAP device in a namespace of its own. Each
-# wait takes PATIENCE seconds at most (60), and the boot 300; CPUS is the number of processors (2); KERNEL is a folder that a Debian
-# kernel package was unpacked into (~/.cache/fintaqush/linux-image, or what is installed in /boot and /lib/modules).
+# examples/virtio/vm.sh, sourced: a virtual machine with a virtio card, whose other end is a TAP device in a namespace. Settings: BUILT, a
+# folder in which build.sh has built; CPUS, the number of processors (2); KERNEL, a folder that a Debian kernel package was unpacked
+# into (~/.cache/fintaqush/linux-image, or what is installed in /boot and /lib/modules).
 export PATH=$PATH:/sbin:/usr/sbin
-PATIENCE=${PATIENCE:-60}
+here=$(dirname "$(readlink -f "${BASH_SOURCE[0]}")")
+. "$here/../driver/driver.sh"
+name=virtio
 address=0000:00:05.0 # the card's, in the machine
-. "$(dirname "$(readlink -f "${BASH_SOURCE[0]}")")/../tap/device.sh"
 
-# find_machine: answers 1 and says why where there is none. It sets `image`, `version` and `modules`.
-find_machine() {
-    local program kernel kernels=(~/.cache/fintaqush/linux-image '')
-    for program in qemu-system-x86_64 busybox depmod modprobe cpio; do
-        command -v "$program" > /dev/null || { echo "virtio: there is no $program" >&2; return 1; }
-    done
-    ! ldd "$(command -v busybox)" > /dev/null 2>&1 || { echo 'virtio: busybox is no static one (Debian: busybox-static)' >&2; return 1; }
+# find_kernel: sets `image`, `version` and `modules`.
+find_kernel() {
+    local kernel kernels=(~/.cache/fintaqush/linux-image '')
     [ -z "${KERNEL:-}" ] || kernels=("$KERNEL")
     for kernel in "${kernels[@]}"; do
         image=$(find "$kernel/boot" -name 'vmlinuz-*-amd64' 2> /dev/null | sort -V | tail -n 1)
@@ -21,12 +18,11 @@ find_machine() {
             [ -z "$image" ] || [ ! -d "$modules/kernel/drivers/vfio" ] || return 0
         done
     done
-    echo 'virtio: there is no Debian kernel with vfio' >&2
-    return 1
+    over 'there is no Debian kernel with vfio'
 }
 
-# make_initramfs PROGRAM ..: the initramfs: busybox, `init`, these programs in /bin with their libraries, and the modules for virtio and
-# vfio, in the order in which they load.
+# make_initramfs PROGRAM ..: busybox, `init`, these programs in /bin with their libraries, and the modules for virtio and vfio, in the order
+# in which they load.
 make_initramfs() {
     local root=$scratch/root all=$scratch/all module library
     mkdir -p "$root"/{bin,dev,modules,proc,sys} "$all/lib/modules/$version"
@@ -49,8 +45,8 @@ make_initramfs() {
     (cd "$root" && find . | cpio -o -H newc --quiet) > "$scratch/initramfs"
 }
 
-# start_machine PROGRAM ..: with these in /bin. What it writes goes to $scratch/console.
-start_machine() {
+# boot PROGRAM ..: with these in /bin. What the machine writes goes to $scratch/console.
+boot() {
     local words='console=ttyS0 quiet loglevel=3 panic=-1 no_timer_check intel_iommu=on iommu=pt'
     make_initramfs "$@"
     mkfifo "$scratch"/{commands,monitor.in,monitor.out}
@@ -63,9 +59,27 @@ start_machine() {
         -chardev "pipe,id=monitor,path=$scratch/monitor" -mon chardev=monitor -serial stdio < "$scratch/commands" > "$scratch/console" 2>&1 &
     machine=$!
     exec 8<> "$scratch/commands" 9<> "$scratch/monitor.in"
-    PATIENCE=300 wait_for has_booted && wrote 'GUEST ready' 1
+    patience=300 wait_for has_booted && wrote 'GUEST ready' 1
 }
 has_booted() { wrote 'GUEST ready' 1 || has_ended "$machine"; }
+
+# open_machine: builds the driver, and boots a machine in which vfio-pci has the card; status 69 where there is nothing to make it of.
+open_machine() {
+    local program
+    for program in qemu-system-x86_64 busybox depmod modprobe cpio; do
+        command -v "$program" > /dev/null || over "there is no $program"
+    done
+    ! ldd "$(command -v busybox)" > /dev/null 2>&1 || over 'busybox is no static one (Debian: busybox-static)'
+    find_kernel
+    make_spaces virtio "fqvirtio-$$"
+    ip -n "$space" tuntap add dev fq0 mode tap 2> /dev/null || over 'no TAP device can be made'
+    ip -n "$space" addr add 10.99.0.1/24 dev fq0
+    built=${BUILT:-$scratch}
+    [ -n "${BUILT:-}" ] || "$here/build.sh" "$built" || exit
+    boot "$built/virtio" && [ "$(guest bind vfio-pci)" = vfio-pci ] && return
+    cat "$scratch/console"
+    exit 1
+}
 
 # wrote PATTERN COUNT: whether so many lines of the console are it
 wrote() { [ "$(tr -d '\r' < "$scratch/console" | grep -c -x -e "$1")" -ge "$2" ]; }
@@ -75,22 +89,32 @@ guest() {
     local lines commands
     lines=$(wc -l < "$scratch/console") commands=$(grep -c '^GUEST ' "$scratch/console")
     echo "$*" >&8
-    wait_for wrote 'GUEST .*' $((commands + 1)) || return 1
+    patience=120 wait_for wrote 'GUEST .*' $((commands + 1)) || return 1
     tail -n +$((lines + 1)) "$scratch/console" | tr -d '\r' | awk '/^GUEST / { status = $2; exit } { print } END { exit status }'
 }
+
+# start_driver: its link is up then
+start_driver() {
+    guest "virtio $address > /out &"
+    patience=120 wait_for wrote 'virtio: on' 1 || { cat "$scratch/console"; exit 1; }
+    ip -n "$space" link set fq0 up
+}
+
+# counts: what the driver prints
+counts() { guest 'kill -USR1 $!; sleep 1; tail -n 3 /out'; }
 
 # card QUEUE: how many descriptors the card gave back, modulo 2^16, as its side tells (QEMU's monitor)
 card() {
     local answers
     answers=$(grep -c used_idx: "$scratch/monitor")
     echo "info virtio-queue-status /machine/peripheral/card/virtio-backend $1" >&9
-    wait_for has_told $((answers + 1)) && tr -d '\r' < "$scratch/monitor" | awk '$1 == "used_idx:" { last = $2 } END { print last }'
+    patience=120 wait_for has_told $((answers + 1)) && tr -d '\r' < "$scratch/monitor" | awk '$1 == "used_idx:" { last = $2 } END { print last }'
 }
 has_told() { [ "$(grep -c used_idx: "$scratch/monitor")" -ge "$1" ]; }
 
-end_machine() {
+close_machine() {
     echo 'poweroff -f' >&8
-    wait_for has_ended "$machine" || kill -KILL "$machine"
+    patience=60 wait_for has_ended "$machine" || kill -KILL "$machine"
     wait "$machine" 2> /dev/null
     exec 8>&- 9>&-
 }
