@@ -2,7 +2,9 @@
 #![tactic(auto)]
 
 mod settings;
+mod words;
 
 pub use settings::{
     MOST_BUDGET, MOST_PLACES, MOST_PROCESSORS, MOST_TIME, MOST_WEIGHT, MOST_WINDOW, Settings,
 };
+pub use words::parse_words;
