@@ -117,10 +117,12 @@ pub fn read_options<'a>(
     names: &[&'a str],
     words: &'a [&'a str],
 ) -> Result<ArgMatches<'a>, WordFault>
-    ensures given { IfOk result (λ m. (rest : List Text) → map (λ s. s.now) words.now ≡ with_name rest
+    ensures given { IfOk result (λ m. (rest : List Text)
+        → map (λ s. s.now) words.now ≡ with_name rest
         → option_map rows_for (given_by (map (λ s. s.now) names.now) rest)
         ≡ Some (rows_of (found_of m))) }
-    ensures usage { result ≡ Err Usage → (rest : List Text) → map (λ s. s.now) words.now ≡ with_name rest
+    ensures usage { result ≡ Err Usage → (rest : List Text)
+        → map (λ s. s.now) words.now ≡ with_name rest
         → given_by (map (λ s. s.now) names.now) rest ≡ None }
 {
     if has_stray(words) {
