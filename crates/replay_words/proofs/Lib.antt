@@ -1,1 +1,1 @@
-mod ClapFacts
+pub mod ClapFacts

@@ -1,3 +1,4 @@
 pub mod Defaults
+pub mod Given
 pub mod Options
 pub mod Words

@@ -1,30 +1,43 @@
 //! The words after the program's name.
 
-ghost use Rattle.std.specs.Prelude.{◌≡◌, ◌≤◌, ◌∷◌, Some, None, Err, IfOk, IfSome, option_map, map, string_bytes, codes, false};
-ghost use Rattle.std.specs.List.{list_any};
-ghost use Rattle.clap.specs.Words.{app_of, found_of, rows_of, rule_of};
-ghost use Rattle.replay_words.specs.Options.{asked_by, mode_in, number_in, option, read_by_clap, tool};
-ghost use Rattle.replay_words.specs.Words.{asked_for, asked_of, fault_number, is_stray, line_of, mode_of, number_of, serial_asked_for, status_of};
+ghost use Rattle.std.specs.Prelude.{◌≡◌, ◌≤◌, Some, None, Err, IfOk, IfSome, option_map, map, string_bytes, codes};
+ghost use Rattle.replay_words.specs.Given.{or_usual};
+ghost use Rattle.replay_words.specs.Options.{value_in};
+ghost use Rattle.replay_words.specs.Words.{asked_for, asked_of, asked_with, fault_number, line_of, mode_of, number_of, serial_asked_for, status_of};
 ghost use Rattle.replay_words.specs.declared.mode.Mode.TheVariants.{Serial};
 ghost use Rattle.replay_words.specs.declared.words.WordFault.TheVariants.{Usage};
 
 use crate::mode::Mode;
+use crate::options::{number_within, option_number, read_options, with_name};
 use crate::settings::{MOST_BUDGET, MOST_POLLERS, MOST_WEIGHT, MOST_WINDOW, Settings};
-use clap::error::ErrorKind;
-use clap::{Arg, ArgAction, ArgMatches, Command};
+use clap::ArgMatches;
 use std::alloc::{AllocError, Global};
 use thiserror::Error;
+
+// The names of the options.
+const OPTIONS: [&str; 5] = ["mode", "pollers", "budget", "weight", "window"];
 
 /// Why the words were refused. They are read before the trace, which then isn't.
 #[derive(Clone, Copy, Debug, PartialEq, Eq, Error)]
 pub enum WordFault {
     /// Number 1: the words ask for nothing that the program does: a word that is no option or no value, an option that is
     /// there twice or has no value, a value out of its range.
-    #[error("usage: napi_replay [--mode serial|shared|threads] [--pollers N] [--budget N] [--weight N] [--window N] < TRACE.csv")]
+    #[error("the words ask for nothing that the program does")]
     Usage,
     /// Number 2: memory was refused while they were read.
     #[error("out of memory")]
     OutOfMemory,
+}
+
+impl From<AllocError> for WordFault {
+    ghost use Rattle.std.specs.Prelude.{◌≡◌};
+    ghost use Rattle.replay_words.specs.declared.words.WordFault.TheVariants.{OutOfMemory};
+
+    ghost from_gives = { λ _ fault. fault ≡ OutOfMemory };
+
+    fn from(_: AllocError) -> WordFault {
+        WordFault::OutOfMemory
+    }
 }
 
 impl WordFault {
@@ -79,27 +92,12 @@ pub fn number_of(text: &str, high: u32) -> Option<u32>
     ensures number { result ≡ number_of high text.now }
     ensures range { IfSome result (λ n. (1 ≤ n) × (n ≤ high)) }
 {
-    let bytes = text.as_bytes();
-    if bytes.is_empty() || bytes.len() > 5 {
-        return None;
-    }
-    let mut number = 0;
-    for byte in bytes {
-        if !byte.is_ascii_digit() {
-            return None;
-        }
-        number = number * 10 + u32::from(*byte - b'0');
-    }
-    if 1 <= number && number <= high {
-        Some(number)
-    } else {
-        None
-    }
+    number_within(text, 5, 1, high)
 }
 
 // The mode that is given, or the usual one.
 fn mode_in(matches: &ArgMatches<'_>) -> Option<Mode>
-    ensures { result ≡ mode_in (rows_of (found_of matches.now)) }
+    ensures { result ≡ or_usual Serial mode_of (value_in matches.now (codes "mode")) }
 {
     match matches.get_str("mode") {
         None => Some(Mode::Serial),
@@ -109,18 +107,16 @@ fn mode_in(matches: &ArgMatches<'_>) -> Option<Mode>
 
 // The number that is given for an option, or the usual one.
 fn number_in(matches: &ArgMatches<'_>, name: &str, usual: u32, high: u32) -> Option<u32>
-    ensures number { result ≡ number_in name.now usual high (rows_of (found_of matches.now)) }
+    ensures number { result
+        ≡ or_usual usual (number_of high) (value_in matches.now name.now) }
     ensures range { (1 ≤ usual) × (usual ≤ high) → IfSome result (λ n. (1 ≤ n) × (n ≤ high)) }
 {
-    match matches.get_str(name) {
-        None => Some(usual),
-        Some(text) => number_of(text, high),
-    }
+    option_number(matches, name, usual, 5, 1, high)
 }
 
 // What the matches ask for.
 fn asked_by(matches: &ArgMatches<'_>) -> Option<(Mode, Settings)>
-    ensures { option_map asked_of result ≡ asked_by (rows_of (found_of matches.now)) }
+    ensures { option_map asked_of result ≡ asked_with (value_in matches.now) }
 {
     let mode = mode_in(matches)?;
     let usual = Settings::default();
@@ -130,78 +126,6 @@ fn asked_by(matches: &ArgMatches<'_>) -> Option<(Mode, Settings)>
     let window = number_in(matches, "window", usual.window, MOST_WINDOW)?;
     let settings = Settings::new(pollers, budget, weight, window)?;
     Some((mode, settings))
-}
-
-// An option with a value. It is given at most once, which clap sees to.
-fn option<'a>(alloc: Global, name: &'a str) -> Arg<'a>
-    ensures rule { rule_of result ≡ option name.now }
-    ensures global { result.global ≡ false }
-{
-    Arg::new(alloc, name).long(name).action(ArgAction::Set)
-}
-
-// The program's options. There is no `--help`, since the program answers no word but by a replay.
-fn tool<'a>(alloc: Global) -> Result<Command<'a>, AllocError>
-    ensures { IfOk result (λ c. app_of c ≡ tool) }
-{
-    Command::new(alloc, "napi_replay")
-        .disable_help_flag(true)
-        .arg(option(alloc, "mode"))?
-        .arg(option(alloc, "pollers"))?
-        .arg(option(alloc, "budget"))?
-        .arg(option(alloc, "weight"))?
-        .arg(option(alloc, "window"))
-}
-
-// Whether a word begins with a hyphen and is neither `--name` nor `--name=value`. clap would take `--` for the end of the
-// options.
-fn is_stray(word: &str) -> bool
-    ensures { result ≡ is_stray word.now }
-{
-    match word.as_bytes() {
-        [b'-', b'-', _, ..] => false,
-        [b'-', ..] => true,
-        _ => false,
-    }
-}
-
-// Whether there is such a word.
-fn has_stray(words: &[String]) -> bool
-    ensures { result ≡ list_any is_stray (map string_bytes words.now) }
-{
-    words.iter().any(|word| is_stray(word.as_str()))
-}
-
-// The program's name, and then the words.
-fn with_name<'a>(alloc: Global, words: &'a [String]) -> Result<Vec<&'a str>, AllocError>
-    ensures { IfOk result
-        (λ v. map (λ s. s.now) v.items ≡ codes "napi_replay" ∷ map string_bytes words.now) }
-{
-    let mut all = Vec::new(alloc);
-    all.push("napi_replay")?;
-    for word in words {
-        all.push(word.as_str())?;
-    }
-    Ok(all)
-}
-
-// What the words ask for, by clap.
-fn read_words(alloc: Global, words: &[String]) -> Result<(Mode, Settings), WordFault>
-    ensures asked { IfOk result
-        (λ asked. read_by_clap (map string_bytes words.now) ≡ Some (asked_of asked)) }
-    ensures usage { result ≡ Err Usage → read_by_clap (map string_bytes words.now) ≡ None }
-{
-    let Ok(all) = with_name(alloc, words) else {
-        return Err(WordFault::OutOfMemory);
-    };
-    let Ok(tool) = tool(alloc) else {
-        return Err(WordFault::OutOfMemory);
-    };
-    match tool.try_get_matches_from(all.as_slice()) {
-        Ok(matches) => asked_by(&matches).ok_or(WordFault::Usage),
-        Err(error) if error.kind() == ErrorKind::OutOfMemory => Err(WordFault::OutOfMemory),
-        Err(_) => Err(WordFault::Usage),
-    }
 }
 
 /// The mode and the settings that the words name, with the usual ones for the rest: serial, one poller, a budget of 300, a
@@ -220,10 +144,9 @@ pub fn parse_words(alloc: Global, words: &[String]) -> Result<(Mode, Settings), 
         (λ asked. asked_for (map string_bytes words.now) ≡ Some (asked_of asked)) }
     ensures usage { result ≡ Err Usage → asked_for (map string_bytes words.now) ≡ None }
 {
-    if has_stray(words) {
-        return Err(WordFault::Usage);
-    }
-    read_words(alloc, words)
+    let words = with_name(alloc, words)?;
+    let matches = read_options(alloc, &OPTIONS, words.as_slice())?;
+    asked_by(&matches).ok_or(WordFault::Usage)
 }
 
 /// The settings that the words name, for a program that has serial mode alone: as [`parse_words`], with every other mode

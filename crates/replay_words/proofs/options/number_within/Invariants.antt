@@ -1,5 +1,5 @@
 use Rattle.std.{proofs.Common.{◌≡◌, ◌<◌, ◌^◌, drop}, specs.Str.{all_ascii_digits, Parse.{digits_value, digits_value_after}}}
-use Rattle.replay_words.proofs.words.number_of.Given as goal
+use Rattle.replay_words.proofs.options.number_within.Given as goal
 
 abbrev pub invariant-loop-byte : goal.invariant-loop-byte
 invariant-loop-byte l = record {

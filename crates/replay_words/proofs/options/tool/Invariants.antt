@@ -1,0 +1,6 @@
+use Rattle.{std.proofs.Common.{◌≡◌, take, map}, clap.specs.Simple.app_of}
+use Rattle.replay_words.specs.Options.{tool}
+use Rattle.replay_words.proofs.options.tool.Given as goal
+
+abbrev pub invariant-loop-name : goal.invariant-loop-name
+invariant-loop-name l = app_of l.command ≡ tool (map (λ s. s.now) (take l.name-index l.names))
