@@ -1,0 +1,2 @@
+pub mod WaitFacts
+pub mod SoftirqFacts

@@ -1,5 +1,5 @@
 -- What packets, interrupts and polls do to a device.
-use Rattle.std.specs.Prelude.{◌≡◌, ℕ, ◌+◌, ◌==◌, ◌||◌, not, min, nat_lt, Bool, true, false, List, [], ◌∷◌, ◌++◌, length, take, drop, if◌then◌else◌}
+use Rattle.std.specs.Prelude.{◌≡◌, ℕ, ◌+◌, ◌==◌, ◌||◌, ◌&&◌, not, min, nat_lt, Bool, true, false, List, [], ◌∷◌, ◌++◌, length, take, drop, if◌then◌else◌}
 use Rattle.napi_model.specs.Step.{idle, no_flags}
 use Rattle.napi_model.specs.declared.state.Place.TheVariants.{Listed}
 use Rattle.napi_model.specs.declared.state.State.{State}
@@ -36,7 +36,11 @@ after_packet moment d =
     if nat_lt (length d.ring) d.capacity then record counted { ring = d.ring ++ moment ∷ []; raises = d.raises || not d.masked }
     else record counted { told = record counted.told { dropped = held (d.told.dropped + 1) } }
 
--- its interrupt is taken up: it is lowered, and where there is polling the device is masked
+-- Its interrupt is taken up: it is lowered, and where there is polling the device is masked. One that isn't masked yet is
+-- handed to the list by that.
+abbrev pub is_handed : Bool → DeviceView → Bool
+is_handed polling d = polling && not d.masked
+
 unfoldable pub interrupted : Bool → DeviceView → DeviceView
 interrupted polling d = record d {
   masked = d.masked || polling;

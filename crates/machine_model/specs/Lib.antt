@@ -1,3 +1,4 @@
 pub mod Waits
 pub mod Softirq
 pub mod Device
+pub mod Devices

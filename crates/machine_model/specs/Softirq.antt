@@ -41,6 +41,11 @@ abbrev pub asked_in : Option RunView → Option ℕ
 asked_in None = None
 asked_in (Some r) = r.asked
 
+-- the most packets that a poll of the run may give
+abbrev pub weight_in : Option RunView → ℕ
+weight_in None = 0
+weight_in (Some r) = r.weight
+
 -- how many numbers stand in the run, and on the list
 abbrev pub held_in : Option RunView → ℕ
 held_in None = 0

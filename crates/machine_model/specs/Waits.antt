@@ -14,8 +14,11 @@ pub record WaitsView : Type 0 where
   pub most : ℕ
   pub buckets : List ℕ
 
+unfoldable pub empty : List ℕ
+empty = replicate 28672 0
+
 abbrev pub no_waits : WaitsView
-no_waits = record { count = 0; sum = 0; most = 0; buckets = replicate 28672 0 }
+no_waits = record { count = 0; sum = 0; most = 0; buckets = empty }
 
 -- how many binary digits of a wait follow the first ten
 abbrev pub rest_of : ℕ → ℕ

@@ -2,12 +2,11 @@
 
 ghost use Rattle.std.specs.Prelude.{◌≡◌, ◌≤◌, ◌<◌, true, false, length, take, IfOk};
 ghost use Rattle.machine_model.specs.Waits.{told_of};
-ghost use Rattle.machine_model.specs.Device.{after_packet, batch_of, delivered, ended_interrupt, ended_poll, interrupted, next_by, opened, polled, taken};
+ghost use Rattle.machine_model.specs.Device.{after_packet, batch_of, delivered, ended_interrupt, ended_poll, interrupted, is_handed, opened, polled, taken};
 
 use crate::waits::{WaitCounts, Waits};
 use circular_buffer::HeapCircularBuffer;
 use napi_model::{Kind, Prep, SerialNapi};
-use poll_runs::Next;
 use std::alloc::{AllocError, Global};
 use std::marker::Model;
 
@@ -49,7 +48,7 @@ pub(crate) struct Device {
 }
 
 impl Model for Device {
-    ghost use Rattle.std.specs.Prelude.{◌≡◌, ◌&&◌, false};
+    ghost use Rattle.std.specs.Prelude.{◌≡◌};
     ghost use Rattle.machine_model.specs.Device.{DeviceView, instance_of};
     ghost use Rattle.napi_model.specs.Serial.{state_of};
 
@@ -64,8 +63,7 @@ impl Model for Device {
       waits = d.waits;
     } };
 
-    ghost invariant = { λ d. (state_of d.napi ≡ instance_of (state_of d.napi).flags.sched)
-        × ((d.raises && (state_of d.napi).flags.sched) ≡ false) };
+    ghost invariant = { λ d. state_of d.napi ≡ instance_of (state_of d.napi).flags.sched };
 }
 
 /// The packets of a poll: when each came.
@@ -97,6 +95,13 @@ impl Batch {
             packets: [0; MOST_WEIGHT],
             count: 0,
         }
+    }
+
+    /// Lets the packets go.
+    pub(crate) fn clear(&mut self)
+        ensures { self.new ≡ [] }
+    {
+        self.count = 0;
     }
 
     /// The packets, in order.
@@ -171,17 +176,22 @@ impl Device {
         self.raises = self.raises || !self.napi.flags().sched;
     }
 
-    /// Its interrupt is taken up: it is lowered, and where there is polling its instance is handed to the list.
+    /// Its interrupt is taken up: it is lowered, and where there is polling its instance is handed to the list. Answers
+    /// whether it was handed over by that: its number is still to be pushed.
     #[tactic(auto, unfolding(crate::specs::Device::interrupted))]
-    pub(crate) fn interrupt(&mut self, polling: bool)
-        requires { self.old.raises ≡ true }
-        ensures { self.new ≡ interrupted polling self.old }
+    pub(crate) fn interrupt(&mut self, polling: bool) -> bool
+        ensures device { self.new ≡ interrupted polling self.old }
+        ensures handed { result ≡ is_handed polling self.old }
     {
         self.raises = false;
         self.told.interrupts = self.told.interrupts.saturating_add(1);
-        if polling && self.napi.schedule(INTERRUPT) == Prep::Granted {
+        if !polling || self.napi.flags().sched {
+            return false;
+        }
+        if self.napi.schedule(INTERRUPT) == Prep::Granted {
             self.napi.hand(INTERRUPT, Kind::List);
         }
+        true
     }
 
     /// Gives the oldest packets, at most so many.
@@ -216,28 +226,25 @@ impl Device {
 
     /// A poll ends that gave its whole weight, or less. With the whole weight it is to be repolled, and else completed.
     #[tactic(auto, unfolding(crate::specs::Device::ended_poll))]
-    pub(crate) fn end_poll(&mut self, full: bool) -> Next
-        ensures device { self.new ≡ ended_poll full self.old }
-        ensures next { result ≡ next_by full }
+    pub(crate) fn end_poll(&mut self, full: bool)
+        ensures { self.new ≡ ended_poll full self.old }
     {
         let held = self.napi.take(POLLER, Kind::List);
         if full {
             if held {
                 self.napi.hand(POLLER, Kind::List);
             }
-            return Next::Repoll;
+            return;
         }
         if held {
             self.napi.complete(POLLER);
         }
         self.raises = !self.ring.is_empty();
-        Next::Gone
     }
 
     /// An interrupt ends that polled by itself: it is raised again if the ring isn't empty.
     #[tactic(auto, unfolding(crate::specs::Device::ended_interrupt))]
     pub(crate) fn end_interrupt(&mut self)
-        requires { self.old.masked ≡ false }
         ensures { self.new ≡ ended_interrupt self.old }
     {
         self.raises = !self.ring.is_empty();

@@ -5,6 +5,7 @@
 #![tactic(auto)]
 
 mod device;
+mod devices;
 mod softirq;
 mod waits;
 

@@ -1,7 +1,8 @@
 //! A processor's poll list and its polling run.
 
 ghost use Rattle.std.specs.Prelude.{◌≡◌, ◌<◌, ◌≤◌, None, true, false, is_some, length};
-ghost use Rattle.machine_model.specs.Softirq.{asked_in, begun, ended, is_spent_in, listed, next_of, pushed, told};
+ghost use Rattle.machine_model.specs.Softirq.{asked_in, begun, ended, is_spent_in, listed, next_of, pushed, told, weight_in};
+ghost use Rattle.poll_runs.specs.Polls.{is_arrival};
 
 use poll_runs::{Next, Once, PlainList, PollList, PollingRun};
 use std::marker::Model;
@@ -28,7 +29,8 @@ impl Model for Softirq {
 
 impl Softirq {
     ghost use Rattle.std.specs.Prelude.{◌≡◌, ◌<◌, ◌≤◌, None, Some, [], ◌==◌, true, false, is_some, length};
-    ghost use Rattle.machine_model.specs.Softirq.{asked_in, begun, ended, is_spent_in, listed, next_of, pushed, told};
+    ghost use Rattle.machine_model.specs.Softirq.{asked_in, begun, ended, is_spent_in, listed, next_of, pushed, told, weight_in};
+    ghost use Rattle.poll_runs.specs.Polls.{is_arrival};
 
     /// No numbers, and no run.
     pub(crate) fn new() -> Softirq
@@ -110,7 +112,8 @@ impl Softirq {
     #[tactic(auto, unfolding(crate::specs::Softirq::told))]
     pub(crate) fn tell(&mut self, once: Once)
         requires asked { is_some (asked_in self.old.run) ≡ true }
-        requires work { once.work ≤ 64 }
+        requires work { once.work ≤ weight_in self.old.run }
+        requires next { is_arrival once.next ≡ false }
         ensures { self.new ≡ told once self.old }
     {
         if let Some(run) = &mut self.run {
