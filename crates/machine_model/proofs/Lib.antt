@@ -1,2 +1,3 @@
 pub mod WaitFacts
 pub mod SoftirqFacts
+pub mod ListedFacts

@@ -19,8 +19,11 @@ is_handed_at polling None = false
 is_handed_at polling (Some d) = is_handed polling d
 
 -- a device comes into being by its first packet
+abbrev pub with_place : ℕ → Devices → Devices
+with_place number devices = devices ++ replicate (number + 1 - length devices) None
+
 unfoldable pub with_device : ℕ → ℕ → Devices → Devices
-with_device capacity number devices = added number (opened capacity) (devices ++ replicate (number + 1 - length devices) None)
+with_device capacity number devices = added number (opened capacity) (with_place number devices)
 
 -- how many are masked
 abbrev pub mask_at : Option DeviceView → ℕ

@@ -2,3 +2,5 @@ pub mod Waits
 pub mod Softirq
 pub mod Device
 pub mod Devices
+pub mod Processor
+pub mod Kept

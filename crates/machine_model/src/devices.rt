@@ -1,12 +1,12 @@
 //! The devices of a processor.
 
-ghost use Rattle.std.specs.Prelude.{◌≡◌, ◌≤◌, ◌<◌, ◌+◌, [], IfOk, OnOk, length, position, is_some, true, Some};
+ghost use Rattle.std.specs.Prelude.{◌≡◌, ◌≤◌, ◌<◌, ◌+◌, [], IfOk, IfSome, OnOk, length, position, is_some, true, Some};
 ghost use Rattle.device_rows.specs.Places.{at, changed};
 ghost use Rattle.machine_model.specs.Device.{after_packet, delivered, ended_interrupt, ended_poll, interrupted, polled, taken};
-ghost use Rattle.machine_model.specs.Devices.{batch_at, is_handed_at, raises_at, with_device};
+ghost use Rattle.machine_model.specs.Devices.{batch_at, is_handed_at, raises_at, with_device, with_place};
 
 use crate::device::{Batch, Device};
-use std::alloc::Global;
+use std::alloc::{AllocError, Global};
 use std::marker::Model;
 
 /// The devices of a processor, each in the place of its number there; each comes into being by its first packet.
@@ -37,7 +37,7 @@ fn raises(place: &Option<Device>) -> bool
 }
 
 impl Devices {
-    ghost use Rattle.std.specs.Prelude.{◌≡◌, ◌≤◌, ◌<◌, ◌+◌, [], IfOk, OnOk, length, position, is_some, true, Some};
+    ghost use Rattle.std.specs.Prelude.{◌≡◌, ◌≤◌, ◌<◌, ◌+◌, [], IfOk, IfSome, OnOk, length, position, is_some, true, Some};
 
     /// No devices.
     pub(crate) fn new(alloc: Global) -> Devices
@@ -51,8 +51,38 @@ impl Devices {
     /// The lowest device that raises its interrupt.
     pub(crate) fn lowest_raising(&self) -> Option<usize>
         ensures lowest { result ≡ position raises_at self.now }
+        ensures below { IfSome result (λ number. number < 64) }
     {
         self.places.iter().position(|place| raises(place))
+    }
+
+    // Makes the places up to a number.
+    fn make_place(&mut self, number: usize) -> Result<(), AllocError>
+        requires { number < 64 }
+        ensures { OnOk result (self.new ≡ with_place number self.old) }
+    {
+        for _ in self.places.len()..number + 1 {
+            self.places.push(None)?;
+        }
+        Ok(())
+    }
+
+    /// Brings a device into being by its first packet, with a ring of that many places.
+    #[tactic(auto, unfolding(crate::specs::Devices::with_device))]
+    pub(crate) fn open(
+        &mut self,
+        alloc: Global,
+        number: usize,
+        capacity: u32,
+    ) -> Result<(), AllocError>
+        requires { number < 64 }
+        ensures { OnOk result (self.new ≡ with_device capacity number self.old) }
+    {
+        self.make_place(number)?;
+        if number < self.places.len() && self.places[number].is_none() {
+            self.places[number] = Some(Device::new(alloc, capacity)?);
+        }
+        Ok(())
     }
 
     /// A packet comes to a device.
@@ -70,6 +100,7 @@ impl Devices {
     pub(crate) fn interrupt(&mut self, number: usize, polling: bool) -> bool
         ensures devices { self.new ≡ changed (interrupted polling) number self.old }
         ensures handed { result ≡ is_handed_at polling (at number self.old) }
+        ensures few { length self.new ≤ 64 }
     {
         if number < self.places.len() {
             if let Some(device) = &mut self.places[number] {

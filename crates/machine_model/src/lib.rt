@@ -6,6 +6,7 @@
 
 mod device;
 mod devices;
+mod processor;
 mod softirq;
 mod waits;
 
