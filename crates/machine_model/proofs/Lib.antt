@@ -1,3 +1,5 @@
 pub mod WaitFacts
 pub mod SoftirqFacts
 pub mod ListedFacts
+pub mod PlacesFacts
+pub mod KeptFacts

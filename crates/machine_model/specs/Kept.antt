@@ -3,6 +3,7 @@ use Rattle.std.specs.Prelude.{◌≡◌, ◌≤◌, Bool, true, false, is_some, 
 use Rattle.machine_words.specs.declared.settings.Settings.{Settings}
 use Rattle.machine_model.specs.Devices.{Devices, masks}
 use Rattle.machine_model.specs.Softirq.{SoftirqView, asked_in, listed, weight_in}
+use Rattle.machine_model.specs.Processor.{ProcessorView}
 use Rattle.machine_model.specs.declared.processor.Work.{Work}
 use Rattle.machine_model.specs.declared.processor.Work.TheVariants.{Nothing, Interrupt, Poll, Use}
 
@@ -18,3 +19,6 @@ pub record Kept (settings : Settings) (work : Work) (devices : Devices) (softirq
   -- the run's weight is the machine's, and a poll gives no more
   pub weight : is_some softirq.run ≡ true → weight_in softirq.run ≡ settings.weight
   pub within : length batch ≤ settings.weight
+
+abbrev pub IsKept : ProcessorView → Type 0
+IsKept p = Kept p.settings p.work p.devices p.softirq p.batch

@@ -173,12 +173,12 @@ ends_by (Interrupt number) p = if is_polling p.settings then p else ends_interru
 ends_by Poll p = ends_polls (asked_in p.softirq.run) p
 ends_by (Use came) p = record p { waits = counted (p.clock - came) p.waits }
 
-unfoldable pub ends_work : ProcessorView → ProcessorView
-ends_work p = record (ends_by p.work (record p { clock = p.ends })) { work = Nothing }
+unfoldable pub ends_current : ProcessorView → ProcessorView
+ends_current p = ends_by p.work (record p { clock = p.ends })
 
 -- what is under way ends, and the next is taken up
 unfoldable pub step : ProcessorView → ProcessorView
-step p = takes_up (ends_work p)
+step p = takes_up (record (ends_current p) { work = Nothing })
 
 -- ---- up to a moment, and arrivals
 

@@ -3,7 +3,7 @@
 ghost use Rattle.std.specs.Prelude.{◌≡◌, ◌≤◌, ◌<◌, ◌+◌, [], IfOk, IfSome, OnOk, length, position, is_some, true, Some};
 ghost use Rattle.device_rows.specs.Places.{at, changed};
 ghost use Rattle.machine_model.specs.Device.{after_packet, delivered, ended_interrupt, ended_poll, interrupted, polled, taken};
-ghost use Rattle.machine_model.specs.Devices.{batch_at, is_handed_at, raises_at, with_device, with_place};
+ghost use Rattle.machine_model.specs.Devices.{batch_at, is_handed_at, masks, raises_at, with_device, with_place};
 
 use crate::device::{Batch, Device};
 use std::alloc::{AllocError, Global};
@@ -36,6 +36,20 @@ fn raises(place: &Option<Device>) -> bool
     }
 }
 
+// Makes the places up to a number.
+fn make_place(places: &mut Vec<Option<Device>>, number: usize) -> Result<(), AllocError>
+    requires number { number < 64 }
+    requires few { length places.old.items ≤ 64 }
+    ensures places { OnOk result (places.new.items ≡ with_place number places.old.items) }
+    ensures few { length places.new.items ≤ 64 }
+    ensures masks { masks places.old.items ≤ masks places.new.items }
+{
+    for _ in places.len()..number + 1 {
+        places.push(None)?;
+    }
+    Ok(())
+}
+
 impl Devices {
     ghost use Rattle.std.specs.Prelude.{◌≡◌, ◌≤◌, ◌<◌, ◌+◌, [], IfOk, IfSome, OnOk, length, position, is_some, true, Some};
 
@@ -56,17 +70,6 @@ impl Devices {
         self.places.iter().position(|place| raises(place))
     }
 
-    // Makes the places up to a number.
-    fn make_place(&mut self, number: usize) -> Result<(), AllocError>
-        requires { number < 64 }
-        ensures { OnOk result (self.new ≡ with_place number self.old) }
-    {
-        for _ in self.places.len()..number + 1 {
-            self.places.push(None)?;
-        }
-        Ok(())
-    }
-
     /// Brings a device into being by its first packet, with a ring of that many places.
     #[tactic(auto, unfolding(crate::specs::Devices::with_device))]
     pub(crate) fn open(
@@ -76,9 +79,10 @@ impl Devices {
         capacity: u32,
     ) -> Result<(), AllocError>
         requires { number < 64 }
-        ensures { OnOk result (self.new ≡ with_device capacity number self.old) }
+        ensures devices { OnOk result (self.new ≡ with_device capacity number self.old) }
+        ensures masks { masks self.old ≤ masks self.new }
     {
-        self.make_place(number)?;
+        make_place(&mut self.places, number)?;
         if number < self.places.len() && self.places[number].is_none() {
             self.places[number] = Some(Device::new(alloc, capacity)?);
         }

@@ -1,8 +1,9 @@
 //! One processor: what it takes up, and what ends.
 
 ghost use Rattle.std.specs.Prelude.{◌≡◌, ◌≤◌, ◌<◌, false, true, None, Some, IfOk, OnOk, is_some, length, take, min, ◌-◌, ◌==◌, ◌&&◌, not, nat_le};
-ghost use Rattle.machine_model.specs.Processor.{RunsTo, begins, comes, delivers, ends_interrupt, ends_poll, ends_run, ends_work, goes_on, interrupts, is_busy, is_due, is_polling, opened_processor, polls, rests, step, takes_up, uses};
+ghost use Rattle.machine_model.specs.Processor.{RunsTo, begins, comes, delivers, ends_interrupt, ends_poll, ends_current, ends_run, goes_on, interrupts, is_busy, is_due, is_polling, opened_processor, polls, rests, step, takes_up, uses};
 ghost use Rattle.machine_model.specs.declared.processor.Work.TheVariants.{Nothing, Poll};
+ghost use Rattle.machine_model.specs.Kept.{IsKept, is_poll};
 ghost use Rattle.machine_model.specs.Softirq.{asked_in};
 
 use crate::device::Batch;
@@ -304,10 +305,10 @@ impl Processor {
     }
 
     // What is under way ends.
-    #[tactic(auto, unfolding(crate::specs::Processor::ends_work))]
-    fn end_work(&mut self)
-        ensures processor { self.new ≡ ends_work self.old }
-        ensures work { self.new.work ≡ Nothing }
+    #[tactic(auto, unfolding(crate::specs::Processor::ends_current))]
+    fn end_current(&mut self)
+        ensures processor { self.new ≡ ends_current self.old }
+        ensures asked { is_poll self.old.work ≡ false → asked_in self.old.softirq.run ≡ None }
     {
         self.clock = self.ends;
         match self.work {
@@ -324,7 +325,6 @@ impl Processor {
             }
             Work::Use(came) => self.waits.count(self.clock.saturating_sub(came)),
         }
-        self.work = Work::Nothing;
     }
 
     // What is under way ends, and the next is taken up.
@@ -332,13 +332,15 @@ impl Processor {
     fn step(&mut self)
         ensures { self.new ≡ step self.old }
     {
-        self.end_work();
+        self.end_current();
+        self.work = Work::Nothing;
         self.take_up();
     }
 
     // Whether what is under way ends at or before this moment.
     fn is_due(&self, moment: u64) -> bool
-        ensures { result ≡ is_due moment self.now }
+        ensures due { result ≡ is_due moment self.now }
+        ensures kept { IsKept self.now }
     {
         self.work != Work::Nothing && self.ends <= moment
     }
