@@ -1,8 +1,8 @@
 -- What is true of each processor stays so.
-use Rattle.std.{proofs.Common.{◌≡◌, ◌∙◌, ℕ, ◌+◌, ◌≤◌, ◌<◌, Bool, true, false, Option, Some, None, List, length, length-take, refl, sym, arith}, specs.Prelude.{is_some, if◌then◌else◌, min}}
+use Rattle.std.{proofs.Common.{◌≡◌, ◌∙◌, ℕ, ◌+◌, ◌≤◌, ◌<◌, Bool, true, false, Option, Some, None, List, [], ◌∷◌, ◌++◌, length, length-take, refl, sym, arith}, specs.Prelude.{◌||◌, is_some, if◌then◌else◌, min, nat_lt, not}}
 use Rattle.machine_words.specs.declared.settings.Settings.{Settings}
 use Rattle.poll_runs.specs.declared.bench.{Next.TheVariants.{Gone, Repoll}, Once.Once}
-use Rattle.machine_model.specs.{Device.{DeviceView, ended_poll, interrupted}, Devices.{Devices, batch_at, is_handed_at, masks}, Kept.{Kept, is_poll}, Softirq.{SoftirqView, asked_in, begun, ended, listed, next_of, pushed, told, weight_in}}
+use Rattle.machine_model.specs.{Device.{DeviceView, after_packet, ended_poll, interrupted}, Waits.held, Devices.{Devices, batch_at, is_handed_at, masks}, Kept.{Kept, is_poll}, Softirq.{SoftirqView, asked_in, begun, ended, listed, next_of, pushed, told, weight_in}}
 use Rattle.machine_model.specs.declared.processor.Work.{Work}
 use Rattle.machine_model.specs.declared.processor.Work.TheVariants.{Interrupt, Nothing, Poll}
 use Rattle.device_rows.specs.Places.{at, changed}
@@ -103,3 +103,22 @@ kept-poll s w ds q b f n k same = record {
   weight = k.weight;
   within = batch-few s.weight (at n ds);
 }
+
+packet-masks : (moment : ℕ) (d : DeviceView) → (after_packet moment d).masked ≡ d.masked
+unfolding after_packet
+packet-masks moment d = by (nat_lt (length d.ring) d.capacity)
+  where
+    counted : DeviceView
+    counted = record d { told = record d.told { arrived = held (d.told.arrived + 1) } }
+
+    by : (b : Bool) → (if b then record counted { ring = d.ring ++ moment ∷ []; raises = d.raises || not d.masked }
+        else record counted { told = record counted.told { dropped = held (d.told.dropped + 1) } }).masked ≡ d.masked
+    by true = refl
+    by false = refl
+
+-- a packet comes
+pub kept-packet : (s : Settings) (w : Work) (ds opened es : Devices) (q : SoftirqView) (b : List ℕ) (moment n : ℕ) → Kept s w ds q b → masks ds ≤ masks opened
+    → es ≡ changed (after_packet moment) n opened → Kept s w es q b
+kept-packet s w ds opened es q b moment n k more is =
+    let same : masks es ≡ masks opened = rw is (masks-same (after_packet moment) n opened (packet-masks moment)) in
+    kept-devices s w ds es q b k (omega (arith, more, same))

@@ -3,3 +3,5 @@ pub mod SoftirqFacts
 pub mod ListedFacts
 pub mod PlacesFacts
 pub mod KeptFacts
+pub mod EndFacts
+pub mod LeftFacts

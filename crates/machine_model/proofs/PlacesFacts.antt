@@ -91,7 +91,8 @@ masks-places xs ys count is =
 
 pub more-places : (xs ys : Devices) (count more : ℕ) → ys ≡ xs ++ replicate count None → more ≡ count + 1 → ys ++ None ∷ [] ≡ xs ++ replicate more None
 more-places xs ys count more is next =
-    rw (is, next, ← replicate-append-replicate count 1 (None {DeviceView})) (append_assoc xs (replicate count None) (None ∷ []))
+    let none : Option DeviceView = None in
+    rw (is, next, ← replicate-append-replicate count 1 none) (append_assoc xs (replicate count none) (none ∷ []))
 
 pub masks-with : (capacity n : ℕ) (xs : Devices) → masks xs ≤ masks (with_device capacity n xs)
 unfolding with_device

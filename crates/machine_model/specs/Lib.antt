@@ -4,3 +4,4 @@ pub mod Device
 pub mod Devices
 pub mod Processor
 pub mod Kept
+pub mod Machine

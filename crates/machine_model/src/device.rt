@@ -1,7 +1,7 @@
 //! One device: its ring, its instance, and what was counted.
 
 ghost use Rattle.std.specs.Prelude.{◌≡◌, ◌≤◌, ◌<◌, true, false, length, take, IfOk};
-ghost use Rattle.machine_model.specs.Waits.{told_of};
+ghost use Rattle.machine_model.specs.Machine.{report_of};
 ghost use Rattle.machine_model.specs.Device.{after_packet, batch_of, delivered, ended_interrupt, ended_poll, interrupted, is_handed, opened, polled, taken};
 
 use crate::waits::{WaitCounts, Waits};
@@ -35,6 +35,15 @@ pub struct DeviceCounts {
     pub interrupts: u64,
     /// Its polls.
     pub polls: u64,
+}
+
+/// What is told of a device.
+#[derive(Clone, Copy, Debug, PartialEq, Eq)]
+pub struct DeviceReport {
+    /// What was counted.
+    pub counts: DeviceCounts,
+    /// The waits of its packets, from arrival to delivery.
+    pub waits: WaitCounts,
 }
 
 /// A device.
@@ -156,13 +165,6 @@ impl Device {
         self.raises
     }
 
-    /// What was counted.
-    pub(crate) fn counts(&self) -> DeviceCounts
-        ensures { result ≡ self.now.told }
-    {
-        self.told
-    }
-
     /// A packet comes. A full ring drops it; else a device that isn't masked raises its interrupt.
     #[tactic(auto, unfolding(crate::specs::Device::after_packet))]
     pub(crate) fn arrive(&mut self, moment: u64)
@@ -250,10 +252,13 @@ impl Device {
         self.raises = !self.ring.is_empty();
     }
 
-    /// The waits of its packets, from arrival to delivery.
-    pub(crate) fn waits(&self) -> WaitCounts
-        ensures { result ≡ told_of self.now.waits }
+    /// What is told of it.
+    pub(crate) fn report(&self) -> DeviceReport
+        ensures { result ≡ report_of self.now }
     {
-        self.waits.told()
+        DeviceReport {
+            counts: self.told,
+            waits: self.waits.told(),
+        }
     }
 }

@@ -1,11 +1,13 @@
 //! The devices of a processor.
 
 ghost use Rattle.std.specs.Prelude.{◌≡◌, ◌≤◌, ◌<◌, ◌+◌, [], IfOk, IfSome, OnOk, length, position, is_some, true, Some};
+ghost use Rattle.std.specs.Option.{option_map};
+ghost use Rattle.machine_model.specs.Machine.{report_of};
 ghost use Rattle.device_rows.specs.Places.{at, changed};
 ghost use Rattle.machine_model.specs.Device.{after_packet, delivered, ended_interrupt, ended_poll, interrupted, polled, taken};
 ghost use Rattle.machine_model.specs.Devices.{batch_at, is_handed_at, masks, raises_at, with_device, with_place};
 
-use crate::device::{Batch, Device};
+use crate::device::{Batch, Device, DeviceReport};
 use std::alloc::{AllocError, Global};
 use std::marker::Model;
 
@@ -174,5 +176,17 @@ impl Devices {
                 device.end_interrupt();
             }
         }
+    }
+
+    /// What is told of a device, if there is one.
+    pub(crate) fn report(&self, number: usize) -> Option<DeviceReport>
+        ensures { result ≡ option_map report_of (at number self.now) }
+    {
+        if number < self.places.len() {
+            if let Some(device) = &self.places[number] {
+                return Some(device.report());
+            }
+        }
+        None
     }
 }

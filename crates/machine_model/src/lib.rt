@@ -6,9 +6,12 @@
 
 mod device;
 mod devices;
+mod machine;
 mod processor;
 mod softirq;
 mod waits;
 
-pub use device::DeviceCounts;
+pub use device::{DeviceCounts, DeviceReport};
+pub use machine::Machine;
+pub use processor::{ProcessorCounts, ProcessorReport};
 pub use waits::{WaitCounts, Waits};

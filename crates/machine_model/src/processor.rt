@@ -4,9 +4,12 @@ ghost use Rattle.std.specs.Prelude.{◌≡◌, ◌≤◌, ◌<◌, false, true, 
 ghost use Rattle.machine_model.specs.Processor.{RunsTo, begins, comes, delivers, ends_interrupt, ends_poll, ends_current, ends_run, goes_on, interrupts, is_busy, is_due, is_polling, opened_processor, polls, rests, step, takes_up, uses};
 ghost use Rattle.machine_model.specs.declared.processor.Work.TheVariants.{Nothing, Poll};
 ghost use Rattle.machine_model.specs.Kept.{IsKept, is_poll};
+ghost use Rattle.std.specs.Option.{option_map};
+ghost use Rattle.device_rows.specs.Places.{at};
+ghost use Rattle.machine_model.specs.Machine.{ArrivesAt, processor_report, report_of};
 ghost use Rattle.machine_model.specs.Softirq.{asked_in};
 
-use crate::device::Batch;
+use crate::device::{Batch, DeviceReport};
 use crate::devices::Devices;
 use crate::softirq::Softirq;
 use crate::waits::{WaitCounts, Waits};
@@ -52,6 +55,17 @@ pub struct ProcessorCounts {
     pub poll_time: u64,
     /// The time of the uses.
     pub use_time: u64,
+}
+
+/// What is told of a processor.
+#[derive(Clone, Copy, Debug, PartialEq, Eq)]
+pub struct ProcessorReport {
+    /// What was counted.
+    pub counts: ProcessorCounts,
+    /// Its clock.
+    pub end: u64,
+    /// From arrival to the end of the use.
+    pub waits: WaitCounts,
 }
 
 impl ProcessorCounts {
@@ -393,5 +407,37 @@ impl Processor {
             self.take_up();
         }
         Ok(())
+    }
+
+    /// A packet comes to a device. Before it all ends that ends at or before that moment.
+    pub(crate) fn arrive(
+        &mut self,
+        alloc: Global,
+        moment: u64,
+        number: u32,
+    ) -> Result<(), AllocError>
+        requires { number < 64 }
+        ensures { OnOk result (ArrivesAt moment number self.old self.new) }
+    {
+        self.run_until(moment);
+        self.come(alloc, moment, number)
+    }
+
+    /// What is told of a device, if a packet came for it.
+    pub(crate) fn device(&self, number: usize) -> Option<DeviceReport>
+        ensures { result ≡ option_map report_of (at number self.now.devices) }
+    {
+        self.devices.report(number)
+    }
+
+    /// What is told of the processor.
+    pub(crate) fn report(&self) -> ProcessorReport
+        ensures { result ≡ processor_report self.now }
+    {
+        ProcessorReport {
+            counts: self.told,
+            end: self.clock,
+            waits: self.waits.told(),
+        }
     }
 }
