@@ -5,3 +5,5 @@ pub mod PlacesFacts
 pub mod KeptFacts
 pub mod EndFacts
 pub mod LeftFacts
+pub mod StepFacts
+pub mod MachineFacts

@@ -3,7 +3,7 @@ use Rattle.std.proofs.{Common.{append_assoc, ◌≡◌, ◌∙◌, ℕ, zero, su
 use Rattle.{std.specs.Prelude.{◌||◌, ◌&&◌, not, sum_by, if◌then◌else◌}, device_rows.{specs.Places.{added, added_at, at, changed, changed_from}, proofs.PlaceFacts.below-some}}
 use Rattle.machine_model.specs.{Device.{DeviceView, ended_poll, interrupted, opened}, Devices.{Devices, is_handed_at, mask_at, masks, with_device, with_place}}
 
-pub map_at : (DeviceView → DeviceView) → Option DeviceView → Option DeviceView
+unfoldable pub map_at : (DeviceView → DeviceView) → Option DeviceView → Option DeviceView
 map_at f None = None
 map_at f (Some d) = Some (f d)
 

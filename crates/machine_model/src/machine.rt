@@ -47,7 +47,8 @@ impl Machine {
     {
         let count = self.processors.len();
         let number = device as usize - 1;
-        self.processors[number % count].arrive(alloc, moment, (number / count) as u32)
+        self.processors[number % count].arrive(alloc, moment, (number / count) as u32)?;
+        Ok(())
     }
 
     /// Behind the last packet: each processor goes on until nothing is left.

@@ -3,6 +3,7 @@
 ghost use Rattle.std.specs.Prelude.{◌≡◌, ◌≤◌, ◌<◌, false, true, None, Some, IfOk, OnOk, is_some, length, take, min, ◌-◌, ◌==◌, ◌&&◌, not, nat_le};
 ghost use Rattle.machine_model.specs.Processor.{RunsTo, begins, comes, delivers, ends_interrupt, ends_poll, ends_current, ends_run, goes_on, interrupts, is_busy, is_due, is_polling, opened_processor, polls, rests, step, takes_up, uses};
 ghost use Rattle.machine_model.specs.declared.processor.Work.TheVariants.{Nothing, Poll};
+ghost use Rattle.machine_model.specs.Device.{next_by};
 ghost use Rattle.machine_model.specs.Kept.{IsKept, is_poll};
 ghost use Rattle.std.specs.Option.{option_map};
 ghost use Rattle.device_rows.specs.Places.{at};
@@ -128,6 +129,13 @@ fn is_polling(settings: &Settings) -> bool
     ensures { result ≡ is_polling settings.now }
 {
     settings.budget != 0
+}
+
+// How a poll ends that gave its whole weight, or less.
+fn next_after(full: bool) -> Next
+    ensures { result ≡ next_by full }
+{
+    if full { Next::Repoll } else { Next::Gone }
 }
 
 impl Processor {
@@ -310,7 +318,7 @@ impl Processor {
     {
         let work = self.batch.packets().len() as u32;
         let full = work == self.settings.weight;
-        let next = if full { Next::Repoll } else { Next::Gone };
+        let next = next_after(full);
         self.deliver(number);
         self.devices.end_poll(number as usize, full);
         self.softirq.tell(Once { work, next });
@@ -420,7 +428,8 @@ impl Processor {
         ensures { OnOk result (ArrivesAt moment number self.old self.new) }
     {
         self.run_until(moment);
-        self.come(alloc, moment, number)
+        self.come(alloc, moment, number)?;
+        Ok(())
     }
 
     /// What is told of a device, if a packet came for it.

@@ -1,7 +1,6 @@
 use Rattle.{std.proofs.Common.{◌≡◌, ◌∙◌, Some, ap, false, refl, sym, true, arith}, std.specs.Prelude.is_some, machine_model.specs.{Processor.{ProcessorView, delivers}, Softirq.{SoftirqView, asked_in}}}
 use Rattle.machine_model.proofs.{KeptFacts.kept-told, ListedFacts.{asked-told, run-some}}
 use Rattle.machine_model.proofs.processor.Processor.end_poll.Goals as goal
-use Rattle.machine_model.proofs.processor.Processor.end_poll.Goals.{then-full, else-full}
 
 pub tell-requires-clause-asked : goal.tell-requires-clause-asked
 unfolding delivers
@@ -24,10 +23,7 @@ invariant_of-self c =
     let i = c.self-2.inside in
     let same : i.softirq ≡ c.args.self.now.softirq = ap (λ (v : ProcessorView). v.softirq) (c.self-2.view_is ∙ c.deliver.ensures) in
     let asked : asked_in i.softirq.run ≡ Some c.args.number = ap (λ (q : SoftirqView). asked_in q.run) same ∙ c.requires.asked in
-    elim c.if-full.branch [
-      then-full w ↦ rw (c.end_poll.ensures, w.if-full.true, c.tell.ensures, w.next-is) (kept-told i.settings i.work i.devices i.softirq i.batch true _ c.args.number c.self-2.invariant asked)
-    | else-full w ↦ rw (c.end_poll.ensures, w.if-full.false, c.tell.ensures, w.next-is) (kept-told i.settings i.work i.devices i.softirq i.batch false _ c.args.number c.self-2.invariant asked)
-    ]
+    rw (c.end_poll.ensures, c.tell.ensures, c.next_after-next.ensures) (kept-told i.settings i.work i.devices i.softirq i.batch _ _ c.args.number c.self-2.invariant asked)
 
 pub returns-clause-asked : goal.returns-clause-asked
 returns-clause-asked c = rw c.tell.ensures (asked-told _ _)
