@@ -6,7 +6,7 @@ use Rattle.machine_model.specs.Processor.{ProcessorView, begins, delivers, ends_
 use Rattle.machine_model.specs.Softirq.{RunView, SoftirqView, asked_in, begun, ended, held_in, listed, next_of, pushed, told}
 use Rattle.machine_model.specs.declared.processor.Work.{Work}
 use Rattle.machine_model.specs.declared.processor.Work.TheVariants.{Interrupt, Nothing, Poll, Use}
-use Rattle.machine_model.proofs.{EndFacts.asked-ends, KeptFacts.run-ended, ListedFacts.{asked-told, listed-begun, listed-ended, listed-pushed, listed-told, next-keeps}, PlacesFacts.{at-changed, map_at, sum-changed}}
+use Rattle.machine_model.proofs.{EndFacts.asked-ends, KeptFacts.run-ended, ListedFacts.{asked-told, listed-begun, listed-ended, listed-pushed, listed-told, next-keeps}, PlacesFacts.{at-changed, map_at, sum-at, sum-changed}}
 
 -- ---- devices
 
@@ -64,7 +64,7 @@ pot-ended false now batch None = omega arith
 pot-ended true now batch (Some d) = omega arith
 pot-ended false now batch (Some d) = omega arith
 
-unfoldable pub pots : Devices → ℕ
+abbrev pub pots : Devices → ℕ
 pots devices = sum_by pot_at devices
 
 -- ---- the poll list and the run
@@ -106,14 +106,18 @@ delivered-most batch items capacity =
     omega (arith, length-append items (take room batch), length-take room batch)
 
 lone-less : (n : ℕ) (p : ProcessorView) → base (ends_interrupt n p) ≤ base p
-unfolding base pots entries ends_interrupt delivers
+unfolding base ends_interrupt delivers
 lone-less n p =
     let batch = batch_at 1 (at n p.devices) in
     let one = changed (taken 1) n p.devices in
     let two = changed (delivered p.clock batch) n one in
     let a = sum-changed pot_at (taken 1) n p.devices in
-    let b = rw (at-changed (taken 1) n p.devices) at (sum-changed pot_at (delivered p.clock batch) n one) in
-    let c = rw (at-changed (delivered p.clock batch) n one, at-changed (taken 1) n p.devices) at (sum-changed pot_at ended_interrupt n two) in
+    let first = map_at (taken 1) (at n p.devices) in
+    let here : at n one ≡ first = at-changed (taken 1) n p.devices in
+    let second = map_at (delivered p.clock batch) first in
+    let there : at n two ≡ second = at-changed (delivered p.clock batch) n one ∙ ap (map_at (delivered p.clock batch)) here in
+    let b = sum-at pot_at (delivered p.clock batch) n one first here in
+    let c = sum-at pot_at ended_interrupt n two second there in
     let room = min (length batch) (p.socket.capacity - length p.socket.items) in
     let whole : pots (changed ended_interrupt n two) + (length (p.socket.items ++ take room batch) + entries p.softirq) ≤ pots p.devices + (length p.socket.items + entries p.softirq)
         = omega (arith, a, b, c, pot-lone p.clock batch (at n p.devices), delivered-most batch p.socket.items p.socket.capacity) in
@@ -121,7 +125,7 @@ lone-less n p =
 
 poll-less : (n : ℕ) (p : ProcessorView) → asked_in p.softirq.run ≡ Some n → 1 ≤ p.settings.weight
     → base (ends_poll n p) < base p + (1 + (2 * length p.batch + anomaly (Some n) p))
-unfolding base pots ends_poll delivers anomaly
+unfolding base ends_poll delivers anomaly
 poll-less n p asked weight = by (length p.batch == p.settings.weight) refl
   where
     one : Devices
@@ -145,7 +149,7 @@ poll-less n p asked weight = by (length p.batch == p.settings.weight) refl
     by full is =
         let once : Once = record { work = length p.batch; next = if full then Repoll else Gone } in
         let a = sum-changed pot_at (delivered p.clock p.batch) n p.devices in
-        let b = rw (at-changed (delivered p.clock p.batch) n p.devices) at (sum-changed pot_at (ended_poll full) n one) in
+        let b = sum-at pot_at (ended_poll full) n one (map_at (delivered p.clock p.batch) (at n p.devices)) (at-changed (delivered p.clock p.batch) n p.devices) in
         let now : entries (told once p.softirq) + 0 ≡ listed (told once p.softirq) = rw (asked-told once p.softirq) at (entries-listed (told once p.softirq)) in
         let before : entries p.softirq + 1 ≡ listed p.softirq = rw asked at (entries-listed p.softirq) in
         more full is (omega (arith, a, b, pot-ended full p.clock p.batch (at n p.devices))) (omega (arith, now, before, listed-told full (length p.batch) n p.softirq asked))
@@ -194,7 +198,7 @@ idle-left Poll p nothing = cc nothing
 idle-left (Use came) p nothing = cc nothing
 
 interrupts-less : (n : ℕ) (p : ProcessorView) → asked_in p.softirq.run ≡ None → raises_at (at n p.devices) ≡ true → left (interrupts n p) ≤ base p
-unfolding left left_by base pots interrupts
+unfolding left left_by base interrupts
 interrupts-less n p none raises =
     let polling = is_polling p.settings in
     let whole : (pots (changed (interrupted polling) n p.devices) + (length p.socket.items
@@ -207,7 +211,7 @@ short true weight o is = refl
 short false weight o is = drained weight o is
 
 polls-less : (n : ℕ) (p : ProcessorView) → asked_in p.softirq.run ≡ Some n → left (polls n p) ≤ base p + 1
-unfolding left left_by base pots anomaly polls
+unfolding left left_by base anomaly polls
 polls-less n p asked =
     let weight = p.settings.weight in
     let o = at n p.devices in
@@ -247,7 +251,7 @@ begins-less p nothing none =
     asks-less (asked_in (next_of b).run) q q (base p) refl (omega (arith, more)) (omega (arith, more, idle-left p.work q nothing))
 
 rests-less : (p : ProcessorView) → p.work ≡ Nothing → p.softirq.run ≡ None → left (rests p) ≤ base p
-unfolding rests uses
+unfolding rests uses base
 rests-less p nothing none =
     let over : ProcessorView = record p { slice = 0 } in
     left-if (nat_lt 0 p.slice && not (length p.socket.items == 0)) (uses p) (if is_polling p.settings && not (length p.softirq.list == 0) then begins over else uses over) (base p)
@@ -291,10 +295,22 @@ pub takes-less : (p : ProcessorView) → p.work ≡ Nothing → asked_in p.softi
 unfolding takes_up
 takes-less p nothing none = takes-by (position raises_at p.devices) p refl nothing none
 
+anomaly-same : (o : Option ℕ) (p : ProcessorView) (clock : ℕ) → anomaly o (record p { clock = clock }) ≡ anomaly o p
+unfolding anomaly
+anomaly-same None p clock = refl
+anomaly-same (Some n) p clock = refl
+
+left-same : (w : Work) (p : ProcessorView) (clock : ℕ) → left_by w (record p { clock = clock }) ≡ left_by w p
+unfolding left_by
+left-same Nothing p clock = refl
+left-same (Interrupt n) p clock = refl
+left-same Poll p clock = ap (λ (n : ℕ). 1 + (2 * length p.batch + n)) (anomaly-same (asked_in p.softirq.run) p clock)
+left-same (Use came) p clock = refl
+
 -- each step leaves less
 pub step-less : (p : ProcessorView) → IsKept p → is_busy p.work ≡ true → left (step p) < left p
 unfolding base left step ends_current
 step-less p kept busy =
     let q : ProcessorView = record p { clock = p.ends } in
     let r : ProcessorView = record (ends_current p) { work = Nothing } in
-    omega (arith, takes-less r refl (asked-ends p kept.asked), ends-less p.work q busy p.settings.weight_in.0)
+    omega (arith, takes-less r refl (asked-ends p kept.asked), ends-less p.work q busy p.settings.weight_in.0, left-same p.work p p.ends)

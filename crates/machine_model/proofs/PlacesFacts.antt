@@ -1,5 +1,5 @@
 -- Sums over a processor's devices as one of them changes, and how many are masked.
-use Rattle.std.proofs.{Common.{append_assoc, ◌≡◌, ◌∙◌, ℕ, zero, suc, ◌+◌, ◌-◌, ◌<◌, ◌≤◌, Bool, true, false, Option, Some, None, List, [], ◌∷◌, ◌++◌, length, length-set, slice_set, replicate, refl, arith}, lemmas.{Grind.get_or-set_at, List.{replicate-append-replicate, Sums.{sum_by-append, sum_by-cons, sum_by-set}, Folds.sum_by-replicate}}}
+use Rattle.std.proofs.{Common.{append_assoc, ◌≡◌, ◌∙◌, ℕ, zero, suc, ◌+◌, ◌-◌, ◌<◌, ◌≤◌, Bool, true, false, Option, Some, None, List, [], ◌∷◌, ◌++◌, length, length-set, slice_set, replicate, refl, subst, arith}, lemmas.{Grind.get_or-set_at, List.{replicate-append-replicate, Sums.{sum_by-append, sum_by-cons, sum_by-set}, Folds.sum_by-replicate}}}
 use Rattle.{std.specs.Prelude.{◌||◌, ◌&&◌, not, sum_by, if◌then◌else◌}, device_rows.{specs.Places.{added, added_at, at, changed, changed_from}, proofs.PlaceFacts.below-some}}
 use Rattle.machine_model.specs.{Device.{DeviceView, ended_poll, interrupted, opened}, Devices.{Devices, is_handed_at, mask_at, masks, with_device, with_place}}
 
@@ -15,6 +15,10 @@ sum-changed g f n xs = by (at n xs) refl
     by : (o : Option DeviceView) → at n xs ≡ o → sum_by g (changed_from f n o xs) + g o ≡ sum_by g xs + g (map_at f o)
     by None here = refl
     by (Some d) here = rw here at (sum_by-set g xs n (Some (f d)) None (below-some xs n d here))
+
+pub sum-at : (g : Option DeviceView → ℕ) (f : DeviceView → DeviceView) (n : ℕ) (xs : Devices) (o : Option DeviceView) → at n xs ≡ o
+    → sum_by g (changed f n xs) + g o ≡ sum_by g xs + g (map_at f o)
+sum-at g f n xs o here = subst (λ (x : Option DeviceView). sum_by g (changed f n xs) + g x ≡ sum_by g xs + g (map_at f x)) here (sum-changed g f n xs)
 
 pub at-changed : (f : DeviceView → DeviceView) (n : ℕ) (xs : Devices) → at n (changed f n xs) ≡ map_at f (at n xs)
 unfolding map_at
