@@ -1,5 +1,5 @@
 //! A polling run that C makes, one poll after the other.
-ghost use Rattle.std.specs.Prelude.{◌≡◌, ◌≢◌, ◌+◌, ◌<◌, ◌≤◌, ◌↔◌, ◌++◌, [], ◌∷◌, List, Some, None, is_some, length};
+ghost use Rattle.std.specs.Prelude.{◌≡◌, ◌≢◌, ◌+◌, ◌<◌, ◌≤◌, ◌↔◌, ◌++◌, [], ◌∷◌, List, Some, None, is_some, true, length};
 ghost use Rattle.poll_runs.specs.Polls.{Poll, work_of};
 ghost use Rattle.poll_runs.specs.Driven.{and_poll};
 ghost use Rattle.poll_runs.specs.declared.bench.Next.{Next};
@@ -11,7 +11,6 @@ use crate::lister::{FqRunReport, Lister};
 use crate::status;
 use napi_model::Kind;
 use poll_runs::{Next, Once, PlainList, PollList, PollingRun};
-use std::mem;
 
 // How a poll ended, by C's number (`enum fq_next`).
 fn next_of(number: u32) -> Option<Next>
@@ -106,6 +105,15 @@ impl Lister {
         status::OK
     }
 
+    fn is_between_polls(&self) -> bool
+        ensures { result ≡ true ↔ IsBetweenPolls self.now }
+    {
+        match &self.run {
+            Some(run) => run.asked().is_none(),
+            None => false,
+        }
+    }
+
     /// The number that is to be polled next, or that the run is over (`PollingRun::next`).
     pub fn next(&mut self, id: &mut u32) -> u32
         ensures going { (start : _) (polls : List Poll) → Runs start polls self.old
@@ -189,24 +197,21 @@ impl Lister {
         ensures refused { result ≢ OK ↔ ¬ IsBetweenPolls self.old }
         ensures kept { result ≢ OK → (self.new ≡ self.old) × (report.new ≡ report.old) }
     {
-        match self.run.take() {
-            Some(run) if run.asked().is_none() => {
-                let mut list = mem::replace(&mut self.list, PlainList::new());
-                let done = run.end(&mut list);
-                // which tells that it holds at most 64 numbers
-                let _few = list.ids();
-                self.list = list;
-                *report = FqRunReport {
-                    polls: done.polls,
-                    work: done.work,
-                    squeezed: done.squeezed,
-                };
-                status::OK
-            }
-            run => {
-                self.run = run;
-                status::NOT_ALLOWED
-            }
+        if !self.is_between_polls() {
+            return status::NOT_ALLOWED;
         }
+        let Some(run) = self.run.take() else {
+            unreachable!()
+        };
+        let list = &mut self.list;
+        let done = run.end(list);
+        // which tells that it holds at most 64 numbers
+        let _few = list.ids();
+        *report = FqRunReport {
+            polls: done.polls,
+            work: done.work,
+            squeezed: done.squeezed,
+        };
+        status::OK
     }
 }

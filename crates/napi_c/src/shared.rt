@@ -9,7 +9,9 @@ ghost use Rattle.c_handles.specs.Rings.{LeadsTo};
 ghost use Rattle.napi_c.specs.Shared.{LeadsToRestingSeat, LeadsToOffController};
 ghost use Rattle.c_handles.specs.Status.{OK, OUT_OF_MEMORY};
 
-use c_handles::{Body, Controller, FqAnswers, FqHandle, Hold, Input, Mode, Ring, Seat, Shared, status};
+use c_handles::{
+    Body, Controller, FqAnswers, FqHandle, Hold, Input, Mode, Ring, Seat, Shared, status,
+};
 use napi_calls::{Caller, Control, Napi, NewBack, Off, close};
 use rx_ring::{names_tell_rings, ring};
 use std::alloc::Global;
