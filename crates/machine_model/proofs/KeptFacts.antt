@@ -1,12 +1,12 @@
 -- What is true of each processor stays so.
-use Rattle.std.{proofs.Common.{◌≡◌, ◌∙◌, ℕ, ◌+◌, ◌≤◌, ◌<◌, Bool, true, false, Option, Some, None, List, [], ◌∷◌, ◌++◌, length, length-take, refl, sym, arith}, specs.Prelude.{◌||◌, is_some, if◌then◌else◌, min, nat_lt, not}}
+use Rattle.std.{proofs.Common.{◌≡◌, ◌∙◌, ℕ, ◌+◌, ◌≤◌, Bool, true, false, Option, Some, None, List, [], ◌∷◌, ◌++◌, length, length-take, refl, sym, arith}, specs.Prelude.{◌||◌, if◌then◌else◌, min, nat_lt, not}}
 use Rattle.machine_words.specs.declared.settings.Settings.{Settings}
 use Rattle.poll_runs.specs.declared.bench.{Next.TheVariants.{Gone, Repoll}, Once.Once}
-use Rattle.machine_model.specs.{Device.{DeviceView, after_packet, ended_poll, interrupted}, Waits.held, Devices.{Devices, batch_at, is_handed_at, masks}, Kept.{Kept, is_poll}, Softirq.{SoftirqView, asked_in, begun, ended, listed, next_of, pushed, told, weight_in}}
+use Rattle.machine_model.specs.{Device.{DeviceView, after_packet, ended_poll, interrupted}, Waits.held, Devices.{Devices, batch_at, is_handed_at, masks}, Kept.{Kept, is_poll}, Softirq.{SoftirqView, asked_in, begun, ended, next_of, pushed, told}}
 use Rattle.machine_model.specs.declared.processor.Work.{Work}
-use Rattle.machine_model.specs.declared.processor.Work.TheVariants.{Interrupt, Nothing, Poll}
+use Rattle.machine_model.specs.declared.processor.Work.TheVariants.{Poll}
 use Rattle.device_rows.specs.Places.{at, changed}
-use Rattle.machine_model.proofs.{ListedFacts.{asked-told, listed-begun, listed-ended, listed-pushed, listed-told, next-keeps, run-some, weight-told}, PlacesFacts.{masks-ended, masks-interrupted, masks-same}}
+use Rattle.machine_model.proofs.{ListedFacts.{asked-told, listed-begun, listed-ended, listed-pushed, listed-told, next-keeps, weight-told}, PlacesFacts.{masks-ended, masks-interrupted, masks-same}}
 
 -- devices change, none is unmasked
 pub kept-devices : (s : Settings) (w : Work) (ds es : Devices) (q : SoftirqView) (b : List ℕ) → Kept s w ds q b → masks ds ≤ masks es → Kept s w es q b

@@ -1,5 +1,5 @@
 -- How much is left to be done on a processor: each piece of work leaves less.
-use Rattle.std.proofs.{Common.{◌≡◌, ◌∙◌, ℕ, zero, suc, ◌+◌, ◌-◌, ◌*◌, ◌<◌, ◌≤◌, Bool, true, false, Option, Some, None, List, [], ◌∷◌, ◌++◌, length, length-append, length-drop, length-take, take, drop, refl, sym, ap, arith}, lemmas.{Bool.{eqb-true, eqb-false}, List.Quantifiers.position-Some}}
+use Rattle.std.proofs.{Common.{◌≡◌, ◌∙◌, ℕ, ◌+◌, ◌-◌, ◌*◌, ◌<◌, ◌≤◌, Bool, true, false, Option, Some, None, List, [], ◌∷◌, ◌++◌, length, length-append, length-drop, length-take, take, drop, refl, ap, arith}, lemmas.{Bool.{eqb-true, eqb-false}, List.Quantifiers.position-Some}}
 use Rattle.{std.specs.Prelude.{◌==◌, ◌&&◌, if◌then◌else◌, is_some, min, nat_le, nat_lt, not, position, sum_by}, device_rows.{specs.Places.{at, changed}, proofs.PlaceFacts.none-of}, poll_runs.specs.{Turn.asked_for, declared.bench.{Next.TheVariants.{Gone, Repoll}, Once.Once}}}
 use Rattle.machine_model.specs.{Device.{DeviceView, batch_of, delivered, ended_interrupt, ended_poll, interrupted, polled, taken}, Devices.{Devices, batch_at, is_handed_at, raises_at}, Kept.IsKept}
 use Rattle.machine_model.specs.Processor.{ProcessorView, begins, delivers, ends_by, ends_current, ends_interrupt, ends_poll, ends_polls, ends_run, goes_on, interrupts, is_busy, is_polling, polls, polls_or, rests, step, takes_up, takes_up_by, uses, uses_from}
@@ -120,7 +120,7 @@ lone-less n p =
     let c = sum-at pot_at ended_interrupt n two second there in
     let room = min (length batch) (p.socket.capacity - length p.socket.items) in
     let whole : pots (changed ended_interrupt n two) + (length (p.socket.items ++ take room batch) + entries p.softirq) ≤ pots p.devices + (length p.socket.items + entries p.softirq)
-        = omega (arith, a, b, c, pot-lone p.clock batch (at n p.devices), delivered-most batch p.socket.items p.socket.capacity) in
+    = omega (arith, a, b, c, pot-lone p.clock batch (at n p.devices), delivered-most batch p.socket.items p.socket.capacity) in
     whole
 
 poll-less : (n : ℕ) (p : ProcessorView) → asked_in p.softirq.run ≡ Some n → 1 ≤ p.settings.weight
@@ -202,8 +202,8 @@ unfolding left left_by base interrupts
 interrupts-less n p none raises =
     let polling = is_polling p.settings in
     let whole : (pots (changed (interrupted polling) n p.devices) + (length p.socket.items
-        + entries (if is_handed_at polling (at n p.devices) then pushed n p.softirq else p.softirq))) + 1 ≤ pots p.devices + (length p.socket.items + entries p.softirq)
-        = omega (arith, sum-changed pot_at (interrupted polling) n p.devices, pot-interrupted polling (at n p.devices) raises, pushed-entries (is_handed_at polling (at n p.devices)) n p.softirq none) in
+    + entries (if is_handed_at polling (at n p.devices) then pushed n p.softirq else p.softirq))) + 1 ≤ pots p.devices + (length p.socket.items + entries p.softirq)
+    = omega (arith, sum-changed pot_at (interrupted polling) n p.devices, pot-interrupted polling (at n p.devices) raises, pushed-entries (is_handed_at polling (at n p.devices)) n p.softirq none) in
     whole
 
 short : (b : Bool) (weight : ℕ) (o : Option DeviceView) → (length (batch_at weight o) == weight) ≡ b → (if b then 0 else waits_at (map_at (polled weight) o)) ≡ 0
@@ -217,11 +217,11 @@ polls-less n p asked =
     let o = at n p.devices in
     let batch = batch_at weight o in
     let none : (if length batch == weight then 0 else waits_at (at n (changed (polled weight) n p.devices))) ≡ 0
-        = rw (at-changed (polled weight) n p.devices) (short (length batch == weight) weight o refl) in
+    = rw (at-changed (polled weight) n p.devices) (short (length batch == weight) weight o refl) in
     let whole : (pots (changed (polled weight) n p.devices) + (length p.socket.items + entries p.softirq))
-        + (1 + (2 * length batch + (if length batch == weight then 0 else waits_at (at n (changed (polled weight) n p.devices)))))
-        ≤ (pots p.devices + (length p.socket.items + entries p.softirq)) + 1
-        = omega (arith, none, sum-changed pot_at (polled weight) n p.devices, pot-polled weight o) in
+    + (1 + (2 * length batch + (if length batch == weight then 0 else waits_at (at n (changed (polled weight) n p.devices)))))
+    ≤ (pots p.devices + (length p.socket.items + entries p.softirq)) + 1
+    = omega (arith, none, sum-changed pot_at (polled weight) n p.devices, pot-polled weight o) in
     rw asked whole
 
 uses-less : (items : List ℕ) (p : ProcessorView) → p.socket.items ≡ items → p.work ≡ Nothing → left (uses_from items p) ≤ base p
@@ -247,7 +247,7 @@ begins-less p nothing none =
     let q : ProcessorView = record p { softirq = next_of b } in
     let unasked : asked_in p.softirq.run ≡ None = rw none refl in
     let more : entries (next_of b) + length (asked_for (asked_in (next_of b).run)) ≡ entries p.softirq
-        = next-entries b refl ∙ rests-entries p.softirq b unasked refl (listed-begun p.clock s.budget s.weight s.window p.softirq none) in
+    = next-entries b refl ∙ rests-entries p.softirq b unasked refl (listed-begun p.clock s.budget s.weight s.window p.softirq none) in
     asks-less (asked_in (next_of b).run) q q (base p) refl (omega (arith, more)) (omega (arith, more, idle-left p.work q nothing))
 
 rests-less : (p : ProcessorView) → p.work ≡ Nothing → p.softirq.run ≡ None → left (rests p) ≤ base p

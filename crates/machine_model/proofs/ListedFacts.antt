@@ -1,5 +1,5 @@
 -- How many numbers stand on the poll list and in its run, behind each call, and of what weight the run is.
-use Rattle.std.{proofs.Common.{◌≡◌, ◌∙◌, ℕ, suc, ◌+◌, Bool, true, false, Option, Some, None, List, [], ◌∷◌, ◌++◌, drop, length, length-append, refl, arith}, specs.Prelude.{is_some, slice_get, if◌then◌else◌}}
+use Rattle.std.{proofs.Common.{◌≡◌, ℕ, ◌+◌, Bool, true, false, Option, Some, None, List, [], ◌∷◌, ◌++◌, drop, length, length-append, refl, arith}, specs.Prelude.{is_some, slice_get, if◌then◌else◌}}
 use Rattle.poll_runs.specs.{Turn.asked_for, declared.bench.{Next.TheVariants.{Gone, Repoll}, Once.Once}}
 use Rattle.machine_model.specs.Softirq.{RunView, SoftirqView, asked_in, begun, ended, filled, is_spent, left_of, listed, next_from, next_in, next_of, pushed, told, told_in, weight_in}
 

@@ -1,6 +1,6 @@
 -- Sums over a processor's devices as one of them changes, and how many are masked.
-use Rattle.std.proofs.{Common.{append_assoc, ◌≡◌, ◌∙◌, ℕ, zero, suc, ◌+◌, ◌-◌, ◌<◌, ◌≤◌, Bool, true, false, Option, Some, None, List, [], ◌∷◌, ◌++◌, length, length-set, slice_set, replicate, refl, subst, arith}, lemmas.{Grind.get_or-set_at, List.{replicate-append-replicate, Sums.{sum_by-append, sum_by-cons, sum_by-set}, Folds.sum_by-replicate}}}
-use Rattle.{std.specs.Prelude.{◌||◌, ◌&&◌, not, sum_by, if◌then◌else◌}, device_rows.{specs.Places.{added, added_at, at, changed, changed_from}, proofs.PlaceFacts.below-some}}
+use Rattle.std.proofs.{Common.{append_assoc, ◌≡◌, ℕ, zero, suc, ◌+◌, ◌-◌, ◌<◌, ◌≤◌, Bool, true, false, Option, Some, None, [], ◌∷◌, ◌++◌, length, slice_set, replicate, refl, subst, arith}, lemmas.{Grind.get_or-set_at, List.{replicate-append-replicate, Sums.{sum_by-append, sum_by-cons, sum_by-set}}}}
+use Rattle.{std.specs.Prelude.{◌||◌, ◌&&◌, not, sum_by, if◌then◌else◌}, device_rows.{specs.Places.{added_at, at, changed, changed_from}, proofs.PlaceFacts.below-some}}
 use Rattle.machine_model.specs.{Device.{DeviceView, ended_poll, interrupted, opened}, Devices.{Devices, is_handed_at, mask_at, masks, with_device, with_place}}
 
 unfoldable pub map_at : (DeviceView → DeviceView) → Option DeviceView → Option DeviceView

@@ -1,5 +1,5 @@
 -- What a poll tells a run, over a list of one thread.
-use Rattle.std.{proofs.Common.{◌≡◌, ℕ, ◌+◌, Bool, true, false, Option, Some, None, List, [], ◌∷◌, ◌++◌, refl}, specs.Prelude.{is_some, if◌then◌else◌}}
+use Rattle.std.{proofs.Common.{◌≡◌, ℕ, ◌+◌, true, false, Option, Some, None, List, [], ◌∷◌, ◌++◌, refl}, specs.Prelude.{is_some, if◌then◌else◌}}
 use Rattle.poll_runs.specs.{Plain.{HasRoom, OwnPushes, all_held}, Polls.{is_arrival, is_repoll}, Turn.HandsOn, Driven.SameSettings, declared.{bench.Once.Once, polling_run.PollingRun.PollingRun}}
 use Rattle.machine_model.specs.Softirq.{SoftirqView, shown, told}
 

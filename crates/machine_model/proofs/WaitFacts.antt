@@ -1,5 +1,5 @@
 -- Buckets, and what is counted in them.
-use Rattle.std.proofs.{Common.{◌≡◌, ◌∙◌, ℕ, suc, ◌+◌, ◌-◌, ◌*◌, ◌/◌, ◌%◌, ◌^◌, ◌<◌, ◌≤◌, arith}, Math.Nat.{div-lt_iff_lt-mul, mod-eq_of_lt, one-le-pow, pow-le-pow_right}, lemmas.Nat.{leading_length, pow-add}}
+use Rattle.std.proofs.{Common.{◌≡◌, ℕ, ◌+◌, ◌-◌, ◌*◌, ◌/◌, ◌%◌, ◌^◌, ◌<◌, ◌≤◌, arith}, Math.Nat.{div-lt_iff_lt-mul, mod-eq_of_lt, one-le-pow, pow-le-pow_right}, lemmas.Nat.{leading_length, pow-add}}
 use Rattle.std.{proofs.Math.Nat.mul-le-mul, specs.Int.Count.count_leading_zeros}
 
 -- a wait has fewer than 1024 of the bucket's first digits, and at most 54 digits follow them

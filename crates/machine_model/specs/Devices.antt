@@ -1,7 +1,7 @@
 -- The devices of a processor, by their numbers there.
 use Rattle.std.specs.Prelude.{ℕ, ◌+◌, ◌-◌, Bool, false, List, [], ◌++◌, length, replicate, sum_by, Option, Some, None, if◌then◌else◌}
-use Rattle.device_rows.specs.Places.{Places, added, at, changed}
-use Rattle.machine_model.specs.Device.{DeviceView, after_packet, batch_of, is_handed, opened}
+use Rattle.device_rows.specs.Places.{Places, added}
+use Rattle.machine_model.specs.Device.{DeviceView, batch_of, is_handed, opened}
 
 abbrev pub Devices : Type 0
 Devices = Places DeviceView

@@ -5,7 +5,7 @@ use Rattle.machine_model.specs.Devices.{Devices, masks}
 use Rattle.machine_model.specs.Softirq.{SoftirqView, asked_in, listed, weight_in}
 use Rattle.machine_model.specs.Processor.{ProcessorView}
 use Rattle.machine_model.specs.declared.processor.Work.{Work}
-use Rattle.machine_model.specs.declared.processor.Work.TheVariants.{Nothing, Interrupt, Poll, Use}
+use Rattle.machine_model.specs.declared.processor.Work.TheVariants.{Poll}
 
 abbrev pub is_poll : Work → Bool
 is_poll Poll = true

@@ -1,5 +1,5 @@
 -- The machine: its processors, what arrivals make of them, and what the report tells.
-use Rattle.std.specs.Prelude.{◌≡◌, ℕ, ◌+◌, ◌-◌, ◌/◌, ◌%◌, ◌^◌, List, length, replicate, slice_get, slice_set, Option, Some, None}
+use Rattle.std.specs.Prelude.{◌≡◌, ℕ, ◌-◌, ◌/◌, ◌%◌, ◌^◌, List, length, replicate, slice_get, slice_set, Option, Some, None}
 use Rattle.std.specs.Option.{option_map}
 use Rattle.device_rows.specs.Places.{at}
 use Rattle.machine_words.specs.declared.settings.Settings.{Settings}

@@ -295,7 +295,10 @@ impl Processor {
         let batch = self.batch.packets();
         self.devices.deliver(number as usize, self.clock, batch);
         let room = self.socket.fill_from_slice(batch);
-        self.told.refused = self.told.refused.saturating_add((batch.len() - room) as u64);
+        self.told.refused = self
+            .told
+            .refused
+            .saturating_add((batch.len() - room) as u64);
     }
 
     // An interrupt without polling delivers the oldest packet.

@@ -1,5 +1,5 @@
-use Rattle.std.proofs.Common.{◌≡◌, ◌∙◌, ◌-◌, ◌+◌, ◌≤◌, ◌++◌, ◌∷◌, [], None, ap, length, length-append, replicate, arith}
-use Rattle.machine_model.proofs.PlacesFacts.{masks-places, more-places}
+use Rattle.std.proofs.Common.{◌≡◌, ◌∙◌, ◌-◌, ◌+◌, ◌≤◌, ◌∷◌, [], None, ap, length, length-append, replicate, arith}
+use Rattle.machine_model.proofs.PlacesFacts.{more-places}
 use Rattle.machine_model.proofs.devices.make_place.Goals as goal
 
 pub loop-preserved : goal.loop-preserved

@@ -1,4 +1,4 @@
-use Rattle.std.proofs.Common.{◌≡◌, ◌≤◌, ◌*◌, length, rules, sym}
+use Rattle.std.proofs.Common.{rules, sym}
 use Rattle.machine_model.proofs.MachineFacts.{arrive-exact}
 use Rattle.machine_model.proofs.machine.Machine.arrive.Goals as goal
 

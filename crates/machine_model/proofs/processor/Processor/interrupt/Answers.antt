@@ -13,8 +13,8 @@ invariant_of-self c =
     let nothing : i.work ≡ Nothing = rw (← c.self.view_is) at c.requires in
     let none : asked_in i.softirq.run ≡ None = c.self.invariant.asked (rw nothing refl) in
     elim c.if-interrupt.branch [
-      then-interrupt w ↦ rw (w.self-inside-is, w.push.ensures) (kept-pushed i.settings i.work (Interrupt c.args.number) i.devices c.interrupt.new.self i.softirq i.batch _ c.args.number c.self.invariant none
+      | then-interrupt w ↦ rw (w.self-inside-is, w.push.ensures) (kept-pushed i.settings i.work (Interrupt c.args.number) i.devices c.interrupt.new.self i.softirq i.batch _ c.args.number c.self.invariant none
           c.interrupt.ensures.devices (sym c.interrupt.ensures.handed ∙ w.if-interrupt.true))
-    | else-interrupt w ↦ rw w.self-inside-is (kept-unpushed i.settings i.work (Interrupt c.args.number) i.devices c.interrupt.new.self i.softirq i.batch _ c.args.number c.self.invariant none
+      | else-interrupt w ↦ rw w.self-inside-is (kept-unpushed i.settings i.work (Interrupt c.args.number) i.devices c.interrupt.new.self i.softirq i.batch _ c.args.number c.self.invariant none
           c.interrupt.ensures.devices (sym c.interrupt.ensures.handed ∙ w.if-interrupt.false))
     ]

@@ -1,4 +1,4 @@
-use Rattle.{std.proofs.Common.{refl, arith}, machine_model.{specs.{Device.{polled, taken}, Kept.Kept}, proofs.KeptFacts.{kept-poll}}}
+use Rattle.{std.proofs.Common.{refl}, machine_model.{specs.{Device.{polled, taken}}, proofs.KeptFacts.{kept-poll}}}
 use Rattle.machine_model.proofs.processor.Processor.poll.Goals as goal
 
 pub invariant_of-self : goal.invariant_of-self

@@ -1,4 +1,4 @@
-use Rattle.std.proofs.{Common.{◌≡◌, ◌∙◌, ◌+◌, suc, drop, sym, refl, arith}, Math.Seq.drop-cons, lemmas.List.drop_all}
+use Rattle.std.proofs.{Common.{◌≡◌, ◌∙◌, ◌+◌, suc, sym, refl, arith}, Math.Seq.drop-cons, lemmas.List.drop_all}
 use Rattle.machine_model.specs.Waits.{counted_all}
 use Rattle.machine_model.proofs.waits.Waits.count_all.Goals as goal
 
