@@ -16,7 +16,7 @@ built=${BUILT:-$scratch}
 load() { inside timeout 60 "$built/load" "$@"; }
 
 # The processor time of the driver's threads, in ns.
-spent() { cat "/proc/$driver/task/"*/schedstat | awk '{ sum += $1 } END { printf "%d\n", sum }'; }
+spent() { cat "/proc/$driver/task/"*/schedstat | awk '{ sum += $1 } END { printf "%.0f\n", sum }'; }
 
 # flood BYTES: packets a second and ns a packet, over one second
 flood() {
