@@ -1,0 +1,33 @@
+#!/usr/bin/env bash
+# tests/virtio.sh: the driver of examples/virtio on the card of a virtual machine by its run.sh, which compares the counts of driver, card,
+# guest's kernel and other end, with disables and enables under load; the same under sanitizers; three planted mistakes are found. Where
+# there is no root, no `ip`, no right to make a namespace, no TAP, no QEMU, static busybox, kmod or cpio, or no Debian kernel at hand
+# it says so, and passes over it: it downloads nothing. The last line is `N passed, M failed`.
+set -uo pipefail
+unset CDPATH
+top=$(dirname "$(dirname "$(readlink -f "$0")")")
+scratch=$(mktemp -d)
+trap 'rm -rf "$scratch"' EXIT
+driver=virtio
+. "$top/scripts/checks.sh"
+. "$top/scripts/drivers.sh"
+
+if build plain; then
+    for words in '' '0000:00:05.0 --late'; do refuses "$words"; done
+    way plain
+    # of an order that is wrong by nanoseconds a millisecond is made, so that each run shows it
+    mistake 'no look behind the unmask' 'nothing lies in the queues' virtio/virtio.c \
+        'must("end", fq_seat_end_watched(&side->seat, full, &side->calls, &next), FQ_OK);' 'must("end", fq_seat_end(&side->seat, full, &next), FQ_OK);
+    if (next == FQ_NEXT_GONE) usleep(1000), queue_unmask(side->queue);'
+    mistake 'a mask behind the hand-over' 'nothing lies in the queues' virtio/virtio.c \
+        'fq_seat_interrupt_masked(&side->irq, FQ_LIST, &side->calls)' 'fq_seat_interrupt(&side->irq, FQ_LIST)' \
+        '        hand(side);' '        hand(side), usleep(1000), queue_mask(side->queue);'
+    mistake 'a completion told twice' 'no answer waits or is in flight' virtio/virtio.c \
+        'must("done", ' 'must("once", fq_tx_done(&tx, count, now_ms()), FQ_OK);
+    must("done", '
+    export ROUNDS=1
+    build addresses -g -fsanitize=address,undefined -fno-sanitize-recover=all && way addresses
+    build threads -g -fsanitize=thread && way threads
+fi
+
+sum_up
