@@ -151,9 +151,11 @@ static inline void card_begin(struct card *card) {
 
 /* Interrupt i of the card (MSI-X) is the event of queue i. */
 static inline void card_interrupts(struct card *card) {
-    struct { struct vfio_irq_set set; int events[QUEUES]; } all = {.set = {.argsz = sizeof all, .index = VFIO_PCI_MSIX_IRQ_INDEX, .count = QUEUES,
-        .flags = VFIO_IRQ_SET_DATA_EVENTFD | VFIO_IRQ_SET_ACTION_TRIGGER}};
-    for (int i = 0; i < QUEUES; i++) need((all.events[i] = card->queues[i].event = eventfd(0, EFD_NONBLOCK)) >= 0, "eventfd");
+    int events[QUEUES];
+    union { struct vfio_irq_set set; uint8_t bytes[sizeof(struct vfio_irq_set) + sizeof events]; } all = {.set = {.argsz = sizeof all,
+        .index = VFIO_PCI_MSIX_IRQ_INDEX, .count = QUEUES, .flags = VFIO_IRQ_SET_DATA_EVENTFD | VFIO_IRQ_SET_ACTION_TRIGGER}};
+    for (int i = 0; i < QUEUES; i++) need((events[i] = card->queues[i].event = eventfd(0, EFD_NONBLOCK)) >= 0, "eventfd");
+    memcpy(all.bytes + sizeof all.set, events, sizeof events);
     need(!ioctl(card->device, VFIO_DEVICE_SET_IRQS, &all), "MSI-X");
 }
 
