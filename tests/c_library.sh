@@ -35,7 +35,7 @@ refused() {
 # ---- the archive and the header
 
 header_calls() {
-    awk '/static inline/ { next } match($0, /fq_[a-z_]+\(/) && /^(FQ_|struct |uint)/ {
+    awk '/static inline/ { next } match($0, /fq_[a-z_]+\(/) && /^(FQ_|struct |uint|size_t)/ {
         print substr($0, RSTART, RLENGTH - 1) }' "$header" | sort
 }
 

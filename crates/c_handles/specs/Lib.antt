@@ -12,3 +12,4 @@ pub mod Tries
 pub mod SeatCalls
 pub mod Handles
 pub mod Freeing
+pub mod Endings

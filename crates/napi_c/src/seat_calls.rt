@@ -1,9 +1,12 @@
 //! The calls of the callers of a shared instance. Each makes one try, and answers changed where another thread came between.
-ghost use Rattle.std.specs.Prelude.{◌≡◌, ◌≢◌, ◌≤◌, length, take, Some, None};
+ghost use Rattle.std.specs.Prelude.{◌≡◌, ◌≢◌, ◌≤◌, true, false, length, take, Some, None};
 ghost use Rattle.napi_model.specs.declared.state.Kind.{Kind};
+ghost use Rattle.napi_model.specs.declared.event.Done.TheVariants as done;
 ghost use Rattle.c_handles.specs.declared.hold.SeatCall.TheVariants as seat_call;
 ghost use Rattle.c_handles.specs.Kinds.{kind_in};
-ghost use Rattle.c_handles.specs.Status.{OK, BAD_KIND, BAD_HANDLE};
+ghost use Rattle.c_handles.specs.Status.{OK, RELEASED, AGAIN, BAD_KIND, BAD_HANDLE};
+ghost use Rattle.c_handles.specs.SeatCalls.{RestsWith, GrantedWith};
+ghost use Rattle.c_handles.specs.Endings.{EndsBy, LeadsToSeat};
 ghost use Rattle.c_handles.specs.declared.seat.Seat.{Seat};
 ghost use Rattle.c_handles.specs.declared.body.Body.TheVariants as variant;
 ghost use Rattle.c_handles.specs.Handles.{SeatMakes, SeatMakesIn, SeatGives, SeatGivesIn, SeatShows, SeatShowsIn};
@@ -112,7 +115,13 @@ pub extern "C" fn fq_seat_requeue(alloc: Global, handle: &mut FqHandle) -> u32
 /// it doesn't poll.
 #[unsafe(no_mangle)]
 pub extern "C" fn fq_seat_complete(alloc: Global, handle: &mut FqHandle) -> u32
-    ensures { SeatMakes seat_call.Complete handle.old result handle.new }
+    ensures makes { SeatMakes seat_call.Complete handle.old result handle.new }
+    ensures released { result ≡ RELEASED
+        → LeadsToSeat
+        (λ s. RestsWith (EndsBy done.Released false) s.hold) handle.new.held.body }
+    ensures again { result ≡ AGAIN
+        → LeadsToSeat
+        (λ s. GrantedWith (EndsBy done.Again true) s.hold) handle.new.held.body }
 {
     on_seat(alloc, handle, SeatCall::Complete)
 }
