@@ -7,3 +7,4 @@ pub mod EndFacts
 pub mod LeftFacts
 pub mod StepFacts
 pub mod MachineFacts
+pub mod LawFacts

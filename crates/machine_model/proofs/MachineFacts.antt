@@ -30,7 +30,7 @@ pub record Finished (before now : Machine) (count : ℕ) : Type 0 where
 pub finished-none : (before : Machine) → Finished before before 0
 finished-none before = record { size = refl; done = λ n p below is. absurd (omega (arith, below)); rest = λ n above. refl }
 
-same-some : (p q : ProcessorView) → Some p ≡ Some q → p ≡ q
+pub same-some : (p q : ProcessorView) → Some p ≡ Some q → p ≡ q
 same-some p q e = cc e
 
 pub finished-more : (before now : Machine) (count : ℕ) (old new : ProcessorView) → Finished before now count → count < length now → get_or now count old ≡ old

@@ -5,3 +5,4 @@ pub mod Devices
 pub mod Processor
 pub mod Kept
 pub mod Machine
+pub mod Laws

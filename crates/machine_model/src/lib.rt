@@ -6,12 +6,14 @@
 
 mod device;
 mod devices;
+mod laws;
 mod machine;
 mod processor;
 mod softirq;
 mod waits;
 
 pub use device::{DeviceCounts, DeviceReport};
+pub use laws::{arrives_as_one, runs_as_one};
 pub use machine::Machine;
 pub use processor::{ProcessorCounts, ProcessorReport};
 pub use waits::{WaitCounts, Waits};
