@@ -4,6 +4,7 @@ pub mod Plain
 pub mod Run
 pub mod Turn
 pub mod Driven
+pub mod Steps
 pub mod Polling
 pub mod BusyPolling
 pub mod Laws

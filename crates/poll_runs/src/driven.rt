@@ -3,6 +3,7 @@
 ghost use Rattle.std.specs.Prelude.{◌≡◌, ◌+◌, ◌<◌, ◌≤◌, ◌||◌, true, false, is_some, nat_le, List, [], ◌∷◌, ◌++◌, length, if◌then◌else◌, None, Some};
 ghost use Rattle.poll_runs.specs.Polls.{Poll, is_arrival, is_repoll, work_of};
 ghost use Rattle.poll_runs.specs.Run.{IsRun};
+ghost use Rattle.poll_runs.specs.Steps.{Asks, Begins, has_spent};
 ghost use Rattle.poll_runs.specs.Turn.{HandsOn, Refills};
 ghost use Rattle.poll_runs.specs.Driven.{IsGoing, IsOver, SameSettings, and_poll, held, waits};
 
@@ -52,6 +53,7 @@ impl PollingRun {
         requires budget { (1 ≤ budget) × (budget ≤ 65535) }
         requires window { (1 ≤ window) × (window ≤ 65535) }
         ensures going { IsGoing L.entries L.moves L.is_all list.old [] list.new result }
+        ensures begins { Begins L.entries L.moves L.is_all list.old result list.new }
         ensures rests { result.asked ≡ None }
         ensures room { L.has_room list.new (held result) }
         ensures settings { (result.budget ≡ budget) × (result.weight ≡ weight)
@@ -83,7 +85,12 @@ impl PollingRun {
         ensures over { (start : _) (polls : List Poll) → result ≡ None
             → IsGoing L.entries L.moves L.is_all start polls list.old self.old
             → IsOver L.entries L.moves L.is_all start polls self.new }
+        ensures spent { has_spent self.old ≡ true
+            → (result ≡ None) × (self.new ≡ self.old) × (list.new ≡ list.old) }
+        ensures left { has_spent self.old ≡ false → Asks L.entries L.moves L.is_all L.has_room
+            self.old list.old result self.new.own list.new }
         ensures asks { self.new.asked ≡ result }
+        ensures kept { (self.new.repoll ≡ self.old.repoll) × (self.new.work ≡ self.old.work) }
         ensures room { L.has_room list.new (held self.new) }
         ensures counts { self.new.polls ≡ self.old.polls }
         ensures settings { SameSettings self.old self.new }
@@ -134,9 +141,15 @@ impl PollingRun {
         ensures going { (start : _) (polls : List Poll) (id : _) → self.old.asked ≡ Some id
             → IsGoing L.entries L.moves L.is_all start polls list.old self.old
             → IsGoing L.entries L.moves L.is_all start (and_poll polls id once) list.new self.new }
+        ensures list { (id : _) → self.old.asked ≡ Some id → HandsOn L.entries L.moves L.has_room
+            list.old (is_arrival once.next) id list.new }
+        ensures repoll { (id : _) → self.old.asked ≡ Some id → self.new.repoll
+            ≡ self.old.repoll ++ (if is_repoll once.next then id ∷ [] else []) }
+        ensures kept { self.new.own ≡ self.old.own }
         ensures rests { self.new.asked ≡ None }
         ensures room { L.has_room list.new (held self.new) }
-        ensures counts { self.new.polls ≡ self.old.polls + 1 }
+        ensures counts { (self.new.polls ≡ self.old.polls + 1)
+            × (self.new.work ≡ self.old.work + once.work) }
         ensures settings { SameSettings self.old self.new }
     {
         let Some(id) = self.asked else {
@@ -160,6 +173,10 @@ impl PollingRun {
         ensures early { (start : _) (polls : List Poll)
             → IsGoing L.entries L.moves L.is_all start polls list.old self
             → (result.polls ≡ length polls) × (result.work ≡ work_of polls) }
+        ensures back { (came : List _) × L.moves list.old [] came list.new
+            × (L.entries list.new ≡ self.own ++ (L.entries list.old ++ came) ++ self.repoll) }
+        ensures report { result
+            ≡ record { polls = self.polls; work = self.work; squeezed = has_spent self } }
         ensures polls { result.polls ≤ self.window }
         ensures work { result.work < self.budget + self.weight }
     {

@@ -21,3 +21,15 @@ loop-id-preserved g c =
         c.polled.ensures.going c.args.list.now polls c.in-Some.id (c.next.ensures.asks ∙ c.in-Some.is) (c.next.ensures.going c.args.list.now polls before.goes.2),
       );
     }
+
+pub returns-clause-run : goal.returns-clause-run
+returns-clause-run g c =
+    let before = c.loop-id.invariant in
+    let polls = before.goes.0 in
+    let start = c.args.list.now in
+    let run = c.end.ensures.run start polls (c.next.ensures.going start polls before.goes.2)
+    (c.next.ensures.over start polls c.in_default.is before.goes.2) in (
+      polls,
+      before.goes.1,
+      rw (c.next.ensures.settings.budget ∙ before.settings.0, c.next.ensures.settings.window ∙ before.settings.2) at run,
+    )

@@ -1,0 +1,23 @@
+-- What the calls of a driven run make of the run and of its list, one by one.
+use Rattle.std.specs.Prelude.{◌≡◌, ℕ, nat_le, ◌||◌, Bool, List, [], ◌∷◌, Option, MatchOption}
+use Rattle.poll_runs.specs.Turn.{Refills, Takes}
+use Rattle.poll_runs.specs.declared.polling_run.PollingRun.{PollingRun}
+
+-- the work so far meets the budget, or the polls so far meet the window
+abbrev pub has_spent : PollingRun → Bool
+has_spent run = nat_le run.budget run.work || nat_le run.window run.polls
+
+-- a run begins with what one splice gives, and nothing is polled
+pub record Begins {L : Type 0} (entries : L → List ℕ) (moves : L → List ℕ → List ℕ → L → Type 0) (is_all : List ℕ → L → Type 0)
+    (before : L) (run : PollingRun) (after : L) : Type 0 where
+  pub takes : Takes entries moves is_all before run.own after
+  pub repoll : run.repoll ≡ []
+  pub polls : run.polls ≡ 0
+  pub work : run.work ≡ 0
+
+-- its own list is filled where it may be, and its first number, if there is one, is the answer
+pub record Asks {L : Type 0} (entries : L → List ℕ) (moves : L → List ℕ → List ℕ → L → Type 0) (is_all : List ℕ → L → Type 0)
+    (has_room : L → ℕ → Type 0) (run : PollingRun) (list : L) (answer : Option ℕ) (own : List ℕ) (after : L) : Type 0 where
+  pub filled : List ℕ
+  pub refills : Refills entries moves is_all has_room run.own list run.repoll filled after
+  pub first : MatchOption answer ((filled ≡ []) × (own ≡ [])) (λ id. filled ≡ id ∷ own)
