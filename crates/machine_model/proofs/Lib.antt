@@ -1,0 +1,10 @@
+pub mod WaitFacts
+pub mod SoftirqFacts
+pub mod ListedFacts
+pub mod PlacesFacts
+pub mod KeptFacts
+pub mod EndFacts
+pub mod LeftFacts
+pub mod StepFacts
+pub mod MachineFacts
+pub mod LawFacts

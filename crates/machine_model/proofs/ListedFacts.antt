@@ -1,0 +1,94 @@
+-- How many numbers stand on the poll list and in its run, behind each call, and of what weight the run is.
+use Rattle.std.{proofs.Common.{◌≡◌, ℕ, ◌+◌, Bool, true, false, Option, Some, None, List, [], ◌∷◌, ◌++◌, drop, length, length-append, refl, arith}, specs.Prelude.{is_some, slice_get, if◌then◌else◌}}
+use Rattle.poll_runs.specs.{Turn.asked_for, declared.bench.{Next.TheVariants.{Gone, Repoll}, Once.Once}}
+use Rattle.machine_model.specs.Softirq.{RunView, SoftirqView, asked_in, begun, ended, filled, is_spent, left_of, listed, next_from, next_in, next_of, pushed, told, told_in, weight_in}
+
+pub listed-pushed : (n : ℕ) (q : SoftirqView) → listed (pushed n q) ≡ listed q + 1
+listed-pushed n q = omega (arith, length-append q.list (n ∷ []))
+
+-- what a call keeps
+pub record Same (q r : SoftirqView) : Type 0 where
+  pub listed : listed r ≡ listed q
+  pub some : is_some r.run ≡ is_some q.run
+  pub weight : weight_in r.run ≡ weight_in q.run
+
+-- one poll more, or none, only moves numbers
+next-moves : (own repoll list : List ℕ)
+    → length (left_of own repoll list) + (length (asked_for (slice_get (filled own repoll list) 0) ++ drop 1 (filled own repoll list)) + length repoll)
+    ≡ length list + (length own + length repoll)
+next-moves (n ∷ own) repoll list = omega arith
+next-moves [] (n ∷ repoll) list = omega arith
+next-moves [] [] (n ∷ list) = omega arith
+next-moves [] [] [] = omega arith
+
+next-same : (list : List ℕ) (run : Option RunView) (began : ℕ) → asked_in run ≡ None
+    → let q : SoftirqView = record { list = list; run = run; began = began } in Same q (next_in run q)
+next-same list None began none = record { listed = refl; some = refl; weight = refl }
+next-same list (Some r) began none = by (is_spent r)
+  where
+    before : SoftirqView
+    before = record { list = list; run = Some r; began = began }
+
+    by : (b : Bool) → Same before (if b then before else next_from (filled r.own r.repoll list) r before)
+    by true = record { listed = refl; some = refl; weight = refl }
+    by false = record { listed = rw none (next-moves r.own r.repoll list); some = refl; weight = refl }
+
+pub next-keeps : (q : SoftirqView) → asked_in q.run ≡ None → Same q (next_of q)
+unfolding next_of
+next-keeps q none = next-same q.list q.run q.began none
+
+begun-same : (list : List ℕ) (run : Option RunView) (began moment budget weight window : ℕ) → run ≡ None
+    → let q : SoftirqView = record { list = list; run = run; began = began } in listed (begun moment budget weight window q) ≡ listed q
+begun-same list None began moment budget weight window none = omega arith
+begun-same list (Some r) began moment budget weight window none = cc none
+
+pub listed-begun : (moment budget weight window : ℕ) (q : SoftirqView) → q.run ≡ None → listed (begun moment budget weight window q) ≡ listed q
+listed-begun moment budget weight window q none = begun-same q.list q.run q.began moment budget weight window none
+
+ended-same : (list : List ℕ) (run : Option RunView) (began : ℕ) → asked_in run ≡ None
+    → let q : SoftirqView = record { list = list; run = run; began = began } in listed (ended q) ≡ listed q
+unfolding ended
+ended-same list None began none = refl
+ended-same list (Some r) began none =
+    let size : length (r.own ++ list ++ r.repoll) + 0 ≡ length list + (length r.own + length r.repoll) = omega (arith, length-append (r.own ++ list) r.repoll, length-append r.own list) in
+    rw none size
+
+pub listed-ended : (q : SoftirqView) → asked_in q.run ≡ None → listed (ended q) ≡ listed q
+listed-ended q none = ended-same q.list q.run q.began none
+
+-- a poll that gave its whole weight puts its number back, any other lets it go
+told-moves : (full : Bool) (work n : ℕ) (list : List ℕ) (run : Option RunView) (began : ℕ) → asked_in run ≡ Some n
+    → let q : SoftirqView = record { list = list; run = run; began = began } in
+    listed (told (record { work = work; next = if full then Repoll else Gone }) q) + (if full then 0 else 1) ≡ listed q
+unfolding told
+told-moves full work n list None began asked = cc asked
+told-moves true work n list (Some r) began asked =
+    let size : length list + (length r.own + length (r.repoll ++ n ∷ [])) + 0 ≡ length list + (length (n ∷ r.own) + length r.repoll) = omega (arith, length-append r.repoll (n ∷ [])) in
+    rw asked size
+told-moves false work n list (Some r) began asked =
+    let size : length list + (length r.own + length (r.repoll ++ [])) + 1 ≡ length list + (length (n ∷ r.own) + length r.repoll) = omega (arith, length-append r.repoll []) in
+    rw asked size
+
+pub listed-told : (full : Bool) (work n : ℕ) (q : SoftirqView) → asked_in q.run ≡ Some n
+    → listed (told (record { work = work; next = if full then Repoll else Gone }) q) + (if full then 0 else 1) ≡ listed q
+listed-told full work n q asked = told-moves full work n q.list q.run q.began asked
+
+told-rests : (run : Option RunView) (once : Once) → asked_in (told_in once run) ≡ None
+told-rests None once = refl
+told-rests (Some r) once = refl
+
+pub asked-told : (once : Once) (q : SoftirqView) → asked_in (told once q).run ≡ None
+unfolding told
+asked-told once q = told-rests q.run once
+
+told-weighs : (run : Option RunView) (once : Once) → (weight_in (told_in once run) ≡ weight_in run) × (is_some (told_in once run) ≡ is_some run)
+told-weighs None once = (refl, refl)
+told-weighs (Some r) once = (refl, refl)
+
+pub weight-told : (once : Once) (q : SoftirqView) → (weight_in (told once q).run ≡ weight_in q.run) × (is_some (told once q).run ≡ is_some q.run)
+unfolding told
+weight-told once q = told-weighs q.run once
+
+pub run-some : (n : ℕ) (run : Option RunView) → asked_in run ≡ Some n → is_some run ≡ true
+run-some n None asked = cc asked
+run-some n (Some r) asked = refl

@@ -1,0 +1,6 @@
+use Rattle.{std.proofs.Common.refl, machine_model.specs.Waits.empty}
+use Rattle.machine_model.proofs.waits.Waits.new.Goals as goal
+
+pub returns : goal.returns
+unfolding empty
+returns c = rw (c.in_ok-buckets.ensures.items_if_clones_equal (λ y same. same)) refl

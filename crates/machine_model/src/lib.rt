@@ -1,0 +1,19 @@
+//! Behind the door `machine`: a receiving machine in time, over the driven runs and the instances of one thread.
+//!
+//! `specs/` is its definition: `Waits` has how waits are counted, `Device` and `Softirq` what a device and a processor's poll
+//! list do, `Processor` what a processor takes up and what ends, `Machine` what arrivals make of all.
+#![tactic(auto)]
+
+mod device;
+mod devices;
+mod laws;
+mod machine;
+mod processor;
+mod softirq;
+mod waits;
+
+pub use device::{DeviceCounts, DeviceReport};
+pub use laws::{arrives_as_one, runs_as_one};
+pub use machine::Machine;
+pub use processor::{ProcessorCounts, ProcessorReport};
+pub use waits::{WaitCounts, Waits};

@@ -1,0 +1,136 @@
+//! A processor's poll list and its polling run.
+
+ghost use Rattle.std.specs.Prelude.{◌≡◌, ◌<◌, ◌≤◌, None, true, false, is_some, length};
+ghost use Rattle.machine_model.specs.Softirq.{asked_in, begun, ended, is_spent_in, listed, next_of, pushed, told, weight_in};
+ghost use Rattle.poll_runs.specs.Polls.{is_arrival};
+
+use poll_runs::{Next, Once, PlainList, PollList, PollingRun};
+use std::marker::Model;
+
+/// The poll list of a processor, and the run that is under way (`struct softnet_data`).
+#[derive(Drop)]
+pub(crate) struct Softirq {
+    list: PlainList,
+    run: Option<PollingRun>,
+    began: u64,
+}
+
+impl Model for Softirq {
+    ghost use Rattle.std.specs.Prelude.{◌≤◌};
+    ghost use Rattle.std.specs.Option.{option_map};
+    ghost use Rattle.machine_model.specs.Softirq.{SoftirqView, listed, shown};
+
+    ghost Value = { SoftirqView };
+
+    ghost view = { λ s. record { list = s.list; run = option_map shown s.run; began = s.began } };
+
+    ghost invariant = { λ s. listed (record { list = s.list; run = option_map shown s.run; began = s.began }) ≤ 64 };
+}
+
+impl Softirq {
+    ghost use Rattle.std.specs.Prelude.{◌≡◌, ◌<◌, ◌≤◌, None, Some, [], ◌==◌, true, false, is_some, length};
+    ghost use Rattle.machine_model.specs.Softirq.{asked_in, begun, ended, is_spent_in, listed, next_of, pushed, told, weight_in};
+    ghost use Rattle.poll_runs.specs.Polls.{is_arrival};
+
+    /// No numbers, and no run.
+    pub(crate) fn new() -> Softirq
+        ensures { result ≡ record { list = []; run = None; began = 0 } }
+    {
+        Softirq {
+            list: PlainList::new(),
+            run: None,
+            began: 0,
+        }
+    }
+
+    /// Whether a run is under way.
+    pub(crate) fn is_running(&self) -> bool
+        ensures { result ≡ is_some self.now.run }
+    {
+        self.run.is_some()
+    }
+
+    /// Whether the list holds nothing.
+    pub(crate) fn is_empty(&self) -> bool
+        ensures { result ≡ (length self.now.list == 0) }
+    {
+        self.list.ids().is_empty()
+    }
+
+    /// When the run began.
+    pub(crate) fn began(&self) -> u64
+        ensures { result ≡ self.now.began }
+    {
+        self.began
+    }
+
+    /// The number that is being polled.
+    pub(crate) fn asked(&self) -> Option<u32>
+        ensures { result ≡ asked_in self.now.run }
+    {
+        match &self.run {
+            Some(run) => run.asked(),
+            None => None,
+        }
+    }
+
+    /// Puts a number at the list's tail.
+    pub(crate) fn push(&mut self, number: u32)
+        requires { listed self.old < 64 }
+        ensures { self.new ≡ pushed number self.old }
+    {
+        self.list.push(number);
+    }
+
+    /// Begins a run, which takes all that the list holds.
+    pub(crate) fn begin(&mut self, moment: u64, budget: u32, weight: u32, window: u32)
+        requires none { self.old.run ≡ None }
+        requires weight { (1 ≤ weight) × (weight ≤ 64) }
+        requires budget { (1 ≤ budget) × (budget ≤ 65535) }
+        requires window { (1 ≤ window) × (window ≤ 65535) }
+        ensures { self.new ≡ begun moment budget weight window self.old }
+    {
+        let run = PollingRun::begin(&mut self.list, budget, weight, window);
+        self.run = Some(run);
+        self.began = moment;
+    }
+
+    /// The number that is to be polled next, None where the run is over.
+    #[tactic(auto, unfolding(crate::specs::Softirq::next_of))]
+    pub(crate) fn next(&mut self) -> Option<u32>
+        requires { asked_in self.old.run ≡ None }
+        ensures softirq { self.new ≡ next_of self.old }
+        ensures answer { result ≡ asked_in self.new.run }
+    {
+        match &mut self.run {
+            Some(run) => run.next(&mut self.list),
+            None => None,
+        }
+    }
+
+    /// What the poll did of the number that was named last.
+    #[tactic(auto, unfolding(crate::specs::Softirq::told))]
+    pub(crate) fn tell(&mut self, once: Once)
+        requires asked { is_some (asked_in self.old.run) ≡ true }
+        requires work { once.work ≤ weight_in self.old.run }
+        requires next { is_arrival once.next ≡ false }
+        ensures { self.new ≡ told once self.old }
+    {
+        if let Some(run) = &mut self.run {
+            run.polled(&mut self.list, once);
+        }
+    }
+
+    /// Ends the run, and answers whether it had spent its budget or its window.
+    #[tactic(auto, unfolding(crate::specs::Softirq::ended))]
+    pub(crate) fn end(&mut self) -> bool
+        requires { asked_in self.old.run ≡ None }
+        ensures softirq { self.new ≡ ended self.old }
+        ensures spent { result ≡ is_spent_in self.old.run }
+    {
+        match self.run.take() {
+            Some(run) => run.end(&mut self.list).squeezed,
+            None => false,
+        }
+    }
+}
