@@ -1,7 +1,7 @@
 #!/bin/sh
 # Refuses each allocation, each read, each write and each start of a thread of the replay program in turn, in each of its
-# modes, or in those that are named. Each refusal has to give its line, its exit status and no report. The mode `calls` is for
-# `memory_tests`, where each call that was refused has to go through when it is made again.
+# modes, or in those that are named. Each refusal has to give its line, its exit status and no report. The mode `machine` is for
+# `napi_machine`, and `calls` for `memory_tests`, where each call that was refused has to go through when it is made again.
 # bench/refusals.sh [PROGRAM [MODE ..]]
 set -eu
 unset CDPATH
@@ -30,15 +30,25 @@ cc -O1 -shared -fPIC -o "$folder/refuse.so" "$top/bench/refuse.c" -ldl
     awk 'BEGIN { for (row = 13; row < 20000; row++) print row (row % 100 ? ",1,done,0" : ",0,softirq,0") }'
 } > "$folder/trace.csv"
 
+# Arrivals that take memory for several devices on two processors, and more than one read.
+awk 'BEGIN { print "moment,device,bytes"; for (row = 0; row < 20000; row++) print row * 900 "," row % 5 + 1 ",100" }' > "$folder/arrivals.csv"
+
+# What a mode reads, the words that it is asked for by, and what its faults speak of.
+set_mode() {
+    case $mode in
+        machine) input=arrivals.csv words='--processors 2' told=arrivals ;;
+        *) input=trace.csv words="--mode $mode" told=trace ;;
+    esac
+}
+
 fail() { echo "refusals: $*" >&2; exit 1; }
-pollers=1
 
 # One run with the call of that number refused: refuse KIND NUMBER. Leaves its status in `status`.
 refuse() {
     status=0
     rm -f "$folder/refused"
     env "$1=$2" REFUSED="$folder/refused" LD_PRELOAD="$folder/refuse.so" \
-        "$program" --mode "$mode" --pollers "$pollers" < "$folder/trace.csv" > "$folder/out" 2> "$folder/err" || status=$?
+        "$program" $words < "$folder/$input" > "$folder/out" 2> "$folder/err" || status=$?
 }
 
 # Whether the run was as one without a refusal.
@@ -73,18 +83,18 @@ some_refused() { [ "$count" -gt "$idle" ] || fail "$mode: no $1 was refused"; }
 
 # Devices 1, 3 and 16 have one poller, or two of three: one thread more is started then.
 each_poller_is_started() {
-    pollers=3
+    words="--mode $mode --pollers 3"
     refuse_each REFUSE_THREAD 4 'worker fault 16 SpawnFailed'
-    pollers=1
+    set_mode
     [ $((count - threads)) = 1 ] || fail "$threads starts of threads with one poller, and $count with 3"
 }
 
 refuse_all() {
-    "$program" --mode "$mode" < "$folder/trace.csv" > "$folder/report"
+    "$program" $words < "$folder/$input" > "$folder/report"
     refuse_each REFUSE_MEMORY 4 'memory fault 11 OutOfMemory'
     some_refused allocation
     memory="$count allocations ($idle of them made up for)"
-    refuse_each REFUSE_READ 2 'trace fault 10 ReadFailed'
+    refuse_each REFUSE_READ 2 "$told fault 10 ReadFailed"
     some_refused read
     reads=$count
     refuse_each REFUSE_WRITE 4 'output fault 15 OutputFailed'
@@ -99,10 +109,10 @@ refuse_all() {
 
 refuse_ends() {
     status=0
-    "$program" --mode "$mode" < "$folder" > "$folder/out" 2> "$folder/err" || status=$?
-    [ "$status" = 2 ] && [ ! -s "$folder/out" ] && [ "$(cat "$folder/err")" = 'trace fault 10 ReadFailed' ] || fail "$mode: a folder is read"
+    "$program" $words < "$folder" > "$folder/out" 2> "$folder/err" || status=$?
+    [ "$status" = 2 ] && [ ! -s "$folder/out" ] && [ "$(cat "$folder/err")" = "$told fault 10 ReadFailed" ] || fail "$mode: a folder is read"
     status=0
-    "$program" --mode "$mode" < "$folder/trace.csv" > /dev/full 2> "$folder/err" || status=$?
+    "$program" $words < "$folder/$input" > /dev/full 2> "$folder/err" || status=$?
     [ "$status" = 4 ] && [ "$(cat "$folder/err")" = 'output fault 15 OutputFailed' ] || fail "$mode: a device that is full is written"
 }
 
@@ -134,6 +144,7 @@ refuse_calls() {
 }
 
 for mode in "$@"; do
+    set_mode
     if [ "$mode" = calls ]; then
         refuse_calls
         continue

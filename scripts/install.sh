@@ -9,7 +9,7 @@ set -euo pipefail
 unset CDPATH
 top=$(dirname "$(dirname "$(readlink -f "${BASH_SOURCE[0]}")")")
 # each with its crate of that name; one without a manual page of its own has napi_replay's
-programs=(napi_replay napi_serial napi_series)
+programs=(napi_replay napi_serial napi_series napi_machine)
 prefix=
 is_library=
 is_python=

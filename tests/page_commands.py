@@ -17,7 +17,7 @@ LIST = TOP / "tests/commands.txt"
 LONGEST = 900  # seconds; nothing is judged by its time
 PROGRAMS = set("""rt cc gcc g++ clang clang++ c++ make cmake ctest cargo rustc python3 bash sh awk sbatch trace-cmd apt apt-get git cp mv rm
     mkdir cd printf echo cat head pkg-config valgrind gnuplot man ip ethtool taskset tcpdump parallel perf sudo export curl ns3 tar diff
-    napi_replay napi_series napi_serial""".split())
+    napi_machine napi_replay napi_series napi_serial""".split())
 FOLDERS = r"(?:\./|\.\./)*(?:bench|crates|bindings|examples|scripts|tests|tools)/[\w./-]+"
 SETTINGS = re.compile(r"^([A-Z_]+=\S+ )+")
 SYNOPSIS = re.compile(r"\[[A-Z-]| \.\.(?: |$)|\.\.\]| \| -|[A-Z]\|[A-Z]")
@@ -160,7 +160,7 @@ class Copy:
         self.top = self.room / "fintaqush"
         (self.room / "bin").mkdir()
         listed = subprocess.run(["git", "ls-files", "-z"], cwd=TOP, capture_output=True, text=True, check=True)
-        built = [f"crates/{name}/out/{name}" for name in ("napi_replay", "napi_series", "napi_serial")]
+        built = [f"crates/{name}/out/{name}" for name in ("napi_machine", "napi_replay", "napi_series", "napi_serial")]
         for name in [*filter(None, listed.stdout.split("\0")), *built]:
             if (TOP / name).exists():
                 (self.top / name).parent.mkdir(parents=True, exist_ok=True)

@@ -15,7 +15,7 @@ import site_pages
 import snippets
 
 TOP = pathlib.Path(__file__).resolve().parent.parent
-DOORS = "napi_model dql_core rx_ring tx_ring napi_word napi_calls poll_engine device_model replay".split()
+DOORS = "napi_model dql_core rx_ring tx_ring napi_word napi_calls poll_engine device_model replay machine".split()
 README_WORDS, DOOR_WORDS, ALL_WORDS = 700, 1000, 25000
 # What is made, or stands in somebody else's folder.
 MADE = re.compile(r"(^|/)out(/|$)|include/linux/|crates/first|NAME|FOLDER|FILE|PROGRAM|TRACE|DOOR|\.\.\./|^\.\.?/\.\./|[*<>{}$]|^/")
@@ -135,7 +135,7 @@ def door_page(page):
     """A door's page tells of each crate behind it and claims what is there; `scripts/surface.sh` prints all that it passes on."""
     door = page.parent.name
     behind = [name for name, at in door_of().items() if at == door]
-    programs = ["napi_replay", "napi_serial", "napi_series"] if door == "replay" else []
+    programs = {"replay": ["napi_replay", "napi_serial", "napi_series"], "machine": ["napi_machine"]}.get(door, [])
     yield from (f"it tells nothing of {name}" for name in behind if f"`{name}`" not in page.read_text())
     yield from claims.judge(page, [door, *behind, *programs])
     surface = subprocess.run(["scripts/surface.sh", door], cwd=TOP, capture_output=True, text=True, check=True).stdout

@@ -22,6 +22,7 @@ for mode in serial shared threads; do
 done
 try napi_serial serial
 try napi_series serial
+try napi_machine machine
 try memory_tests calls
 echo "$passed passed, $failed failed"
 [ "$failed" = 0 ]

@@ -38,7 +38,7 @@ step-tidy State.InComment c = tidy-if (c == 10) _ _ (λ h. refl) (λ h. cc h)
 step-tidy State.AfterCr c = tidy-if (c == 10) _ _ (λ h. refl) (start_record-tidy c)
 
 -- a record takes at least a byte, where there is one
-next-short : (s : State) (fields : List (List ℕ)) (field xs : List ℕ) (p : Read) → next_record default_config s fields field xs ≡ Some p
+pub next-short : (s : State) (fields : List (List ℕ)) (field xs : List ℕ) (p : Read) → next_record default_config s fields field xs ≡ Some p
     → (ends_at_end p.1 ≡ false) × (length p.2 ≤ length xs - 1)
 unfolding next_record
 next-short s fields field [] p e = by (ends_at_end s) e
@@ -64,7 +64,7 @@ next-short s fields field (c ∷ rest) p e =
         (tidy, omega arith)
 
 -- no record is left at the end, between two records
-next-end : (s : State) → ends_at_end s ≡ false → next_record default_config s [] [] [] ≡ None
+pub next-end : (s : State) → ends_at_end s ≡ false → next_record default_config s [] [] [] ≡ None
 unfolding next_record
 next-end s between = rw between refl
 

@@ -3,7 +3,7 @@ use Rattle.{std.{proofs.Common.{◌≡◌, ◌∙◌, ℕ, suc, ◌+◌, ◌-◌
 use Rattle.{csv.specs.{Reading.{default_config, reader_state, records_from, records_next}, declared.{reader.Reader.Reader, parser.State.State}}, device_rows.specs.{Source.{StandsAt, TakesNext}, Record.{row_of, version_of}}}
 use Rattle.device_rows.specs.{Switch.{refusal, switch_of}, Trace.{rows_after, trace_of, version_in, with_row}, declared.{fault.TraceFault.TraceFault, row.Row.Row}}
 
-records-next : (n m : ℕ) (s : State) (xs : List ℕ) → n ≡ suc m
+pub records-next : (n m : ℕ) (s : State) (xs : List ℕ) → n ≡ suc m
     → records_from default_config n s xs ≡ records_next (records_from default_config m) (next_record default_config s [] [] xs)
 unfolding records_from
 records-next n m s xs e = rw e refl

@@ -1,7 +1,7 @@
 //! Behind the door `device_model`: the rows of a trace, read from the bytes of a text.
 //!
 //! `specs/Trace.antt` says which rows a text holds, or which fault is its first, and the contract of [`read_trace`] says
-//! that it answers so. docs/FORMATS.md has the format.
+//! that it answers so. docs/FORMATS.md has the format. [`reader_of`], [`next_record`] and [`number_below_21`] serve other rows too.
 #![tactic(auto)]
 
 mod digits;
@@ -18,6 +18,7 @@ pub use event::Event;
 pub use fault::TraceFault;
 pub use laws::{first_fault_stands, first_records_decide};
 pub use places::PLACES;
+pub use record::number_below_21;
 pub use row::Row;
 pub use switch::Switch;
-pub use trace::{MOST_ROWS, Trace, read_trace};
+pub use trace::{MOST_ROWS, Next, Trace, next_record, read_trace, reader_of};

@@ -31,8 +31,8 @@ fn number_below_20(digits: &[u8]) -> Option<u64>
     Some(number)
 }
 
-// The number that one to twenty digits write, kept in a u64 up to the last of them.
-fn number_below_21(field: &[u8]) -> Option<u128>
+/// The number that one to twenty digits write, kept in a u64 up to the last of them.
+pub fn number_below_21(field: &[u8]) -> Option<u128>
     ensures { result ≡ (if is_numeral field.now then Some (numeral field.now) else None) }
 {
     let (last, front) = field.split_last()?;

@@ -63,8 +63,8 @@ impl Trace {
     }
 }
 
-// A reader of records of any length, with no header row of its own.
-fn reader_of<R: Read>(alloc: Global, source: R) -> Reader<R>
+/// A reader of records of any length, with no header row of its own.
+pub fn reader_of<R: Read>(alloc: Global, source: R) -> Reader<R>
     ensures opened { IsOpen result }
     ensures start { (bytes : List ℕ) → R.remaining source ≡ Some bytes
         → StandsAt R.remaining result (strip_bom bytes) }
@@ -76,17 +76,21 @@ fn reader_of<R: Read>(alloc: Global, source: R) -> Reader<R>
         .from_reader(alloc, source)
 }
 
-// What a read came to.
+/// What a read came to.
 #[derive(Clone, Copy)]
-enum Next {
+pub enum Next {
+    /// A record.
     Record,
+    /// The end of the text.
     End,
+    /// The reader failed.
     ReadFailed,
+    /// Memory was refused.
     OutOfMemory,
 }
 
-// Reads the next record. A record of any length and any bytes is one. It answers by a plain enum, which is in a register.
-fn next_record<R: Read>(reader: &mut Reader<R>, fields: &mut ByteRecord) -> Next
+/// Reads the next record. A record of any length and any bytes is one. It answers by a plain enum, which is in a register.
+pub fn next_record<R: Read>(reader: &mut Reader<R>, fields: &mut ByteRecord) -> Next
     requires { IsOpen reader.old }
     ensures opened { result ≡ next.Record → IsOpen reader.new }
     ensures record { result ≡ next.Record → (bytes : List ℕ) → StandsAt R.remaining reader.old bytes

@@ -1,0 +1,3 @@
+pub mod ReadingFacts
+pub mod ReportFacts
+pub mod TakingFacts

@@ -1,0 +1,30 @@
+-- What the machine answers to the bytes of arrivals: its report, or their first fault.
+use Rattle.std.specs.Prelude.{◌≡◌, ℕ, List, [], ◌∷◌, Ok, Err}
+use Rattle.device_rows.specs.Trace.{records_of}
+use Rattle.machine_model.specs.Machine.{Arrives, Finishes, Machine, opened_machine}
+use Rattle.machine_report.specs.Arrivals.{arrivals_of}
+use Rattle.machine_report.specs.Report.{text_of}
+use Rattle.machine_report.specs.declared.arrival.Arrival.{Arrival}
+use Rattle.machine_report.specs.declared.fault.MachineFault.{MachineFault}
+use Rattle.machine_words.specs.declared.settings.Settings.{Settings}
+
+-- the arrivals come to the machine, one after the other
+abbrev pub Takes : List Arrival → Machine → Machine → Type 0
+Takes [] before after = after ≡ before
+Takes (arrival ∷ arrivals) before after =
+    (next : Machine) × Arrives arrival.moment arrival.device before next × Takes arrivals next after
+
+-- the text is the report: the bytes are arrivals, the machine took them all and went on until nothing was left, and this tells what it
+-- came to
+pub record IsReportOf (s : Settings) (bytes text : List ℕ) : Type 0 where
+  pub arrivals : List Arrival
+  pub read : arrivals_of s.processors (records_of bytes) ≡ Ok arrivals
+  pub behind : Machine
+  pub taken : Takes arrivals (opened_machine s) behind
+  pub finished : Machine
+  pub finishes : Finishes behind finished
+  pub told : text ≡ text_of s.processors finished
+
+-- the fault is the first one of the bytes
+abbrev pub IsFaultOf : Settings → List ℕ → MachineFault → Type 0
+IsFaultOf s bytes fault = arrivals_of s.processors (records_of bytes) ≡ Err fault

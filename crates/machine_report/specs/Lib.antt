@@ -1,0 +1,5 @@
+pub mod Answer
+pub mod Arrivals
+pub mod Fault
+pub mod Reading
+pub mod Report

@@ -1,0 +1,103 @@
+-- The report's text, word by word. See docs/FORMATS.md, "The machine's report".
+use Rattle.std.specs.Prelude.{ℕ, zero, suc, ◌+◌, ◌-◌, ◌*◌, ◌^◌, min, List, [], ◌∷◌, ◌++◌, Option, Some, None, codes, decimal, option_map, slice_get}
+use Rattle.machine_model.specs.declared.waits.WaitCounts.{WaitCounts}
+use Rattle.machine_model.specs.declared.device.DeviceReport.{DeviceReport}
+use Rattle.machine_model.specs.declared.processor.ProcessorReport.{ProcessorReport}
+use Rattle.machine_model.specs.Machine.{Machine, device_report, processor_report}
+use Rattle.machine_report.specs.declared.report.Totals.{Totals}
+use Rattle.replay_text.specs.Lines.{ended, words}
+
+-- what is told of waits
+unfoldable pub waits_text : WaitCounts → List ℕ
+waits_text w = words (codes "mean" ∷ decimal w.mean ∷ codes "wait50" ∷ decimal w.wait50 ∷ codes "wait90" ∷ decimal w.wait90
+    ∷ codes "wait99" ∷ decimal w.wait99 ∷ codes "wait999" ∷ decimal w.wait999 ∷ codes "most" ∷ decimal w.most ∷ [])
+
+-- ---- a device
+
+unfoldable pub polls_text : DeviceReport → List ℕ
+polls_text d = words (codes "polled" ∷ decimal d.counts.polled ∷ codes "interrupts" ∷ decimal d.counts.interrupts ∷ codes "polls" ∷ decimal d.counts.polls
+    ∷ waits_text d.waits ∷ [])
+
+abbrev pub device_line : ℕ → DeviceReport → List ℕ
+device_line number d = words (codes "device" ∷ decimal number ∷ codes "arrived" ∷ decimal d.counts.arrived ∷ codes "dropped" ∷ decimal d.counts.dropped ∷ polls_text d ∷ [])
+
+-- only where a packet came for it
+abbrev pub device_lines : ℕ → Option DeviceReport → List ℕ
+device_lines number None = []
+device_lines number (Some d) = ended (device_line number d)
+
+-- ---- a processor
+
+abbrev pub processor_line : ℕ → ProcessorReport → List ℕ
+processor_line number p = words (codes "processor" ∷ decimal number ∷ codes "interrupts" ∷ decimal p.counts.interrupts ∷ codes "runs" ∷ decimal p.counts.runs ∷ codes "polls" ∷ decimal p.counts.polls
+    ∷ codes "work" ∷ decimal p.counts.work ∷ codes "squeezed" ∷ decimal p.counts.squeezed ∷ codes "late" ∷ decimal p.counts.late ∷ codes "refused" ∷ decimal p.counts.refused
+    ∷ codes "used" ∷ decimal p.waits.count ∷ waits_text p.waits ∷ [])
+
+-- what is left of its clock
+abbrev pub idle_of : ProcessorReport → ℕ
+idle_of p = p.end - p.counts.interrupt_time - p.counts.poll_time - p.counts.use_time
+
+abbrev pub time_line : ℕ → ProcessorReport → List ℕ
+time_line number p = words (codes "time" ∷ decimal number ∷ codes "end" ∷ decimal p.end ∷ codes "interrupt" ∷ decimal p.counts.interrupt_time ∷ codes "poll" ∷ decimal p.counts.poll_time
+    ∷ codes "use" ∷ decimal p.counts.use_time ∷ codes "idle" ∷ decimal (idle_of p) ∷ [])
+
+abbrev pub processor_lines : ℕ → Option ProcessorReport → List ℕ
+processor_lines number None = []
+processor_lines number (Some p) = ended (processor_line number p) ++ ended (time_line number p)
+
+-- ---- the total
+
+-- a sum, which stays at the greatest number of 64 binary digits
+abbrev pub held : ℕ → ℕ
+held sum = min sum (2 ^ 64 - 1)
+
+abbrev pub none_counted : Totals
+none_counted = record { devices = 0; arrived = 0; dropped = 0; polled = 0; refused = 0; used = 0 }
+
+abbrev pub with_device : Option DeviceReport → Totals → Totals
+with_device None t = t
+with_device (Some d) t = record t {
+  devices = held (t.devices + 1);
+  arrived = held (t.arrived + d.counts.arrived);
+  dropped = held (t.dropped + d.counts.dropped);
+  polled = held (t.polled + d.counts.polled);
+}
+
+abbrev pub with_processor : Option ProcessorReport → Totals → Totals
+with_processor None t = t
+with_processor (Some p) t = record t { refused = held (t.refused + p.counts.refused); used = held (t.used + p.waits.count) }
+
+abbrev pub total_line : Totals → List ℕ
+total_line t = words (codes "total" ∷ codes "devices" ∷ decimal t.devices ∷ codes "arrived" ∷ decimal t.arrived ∷ codes "dropped" ∷ decimal t.dropped
+    ∷ codes "polled" ∷ decimal t.polled ∷ codes "refused" ∷ decimal t.refused ∷ codes "used" ∷ decimal t.used ∷ [])
+
+-- ---- the text
+
+-- the lines and the sums of devices 1 to n
+unfoldable pub lines_of_devices : (ℕ → Option DeviceReport) → ℕ → List ℕ
+lines_of_devices device zero = []
+lines_of_devices device (suc n) = lines_of_devices device n ++ device_lines (suc n) (device (suc n))
+
+unfoldable pub sums_of_devices : (ℕ → Option DeviceReport) → ℕ → Totals
+sums_of_devices device zero = none_counted
+sums_of_devices device (suc n) = with_device (device (suc n)) (sums_of_devices device n)
+
+-- the lines of processors 0 to n - 1, and the sums with theirs
+unfoldable pub lines_of_processors : (ℕ → Option ProcessorReport) → ℕ → List ℕ
+lines_of_processors processor zero = []
+lines_of_processors processor (suc n) = lines_of_processors processor n ++ processor_lines n (processor n)
+
+unfoldable pub sums_of_processors : (ℕ → Option ProcessorReport) → Totals → ℕ → Totals
+sums_of_processors processor t zero = t
+sums_of_processors processor t (suc n) = with_processor (processor n) (sums_of_processors processor t n)
+
+-- what is told of a processor
+abbrev pub processor_in : Machine → ℕ → Option ProcessorReport
+processor_in machine number = option_map processor_report (slice_get machine number)
+
+-- of each device that a packet came for, rising, and each processor, what is told of it; and the total
+abbrev pub text_of : ℕ → Machine → List ℕ
+text_of processors machine =
+    let device : ℕ → Option DeviceReport = λ n. device_report n machine in
+    lines_of_devices device (64 * processors) ++ (lines_of_processors (processor_in machine) processors
+    ++ ended (total_line (sums_of_processors (processor_in machine) (sums_of_devices device (64 * processors)) processors)))

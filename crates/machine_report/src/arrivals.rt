@@ -1,0 +1,97 @@
+//! The arrivals of a text, one row at a time.
+
+ghost use Rattle.std.specs.Prelude.{◌≤◌};
+
+use crate::arrival::{Arrival, arrival_of, is_title};
+use crate::fault::MachineFault;
+use csv::{ByteRecord, Reader};
+use device_rows::{Next, next_record, reader_of};
+use std::alloc::Global;
+use std::io::Read;
+
+// Room for the bytes of any row with numbers of twenty digits, so that the record grows for no row in its ranges.
+const RECORD_BYTES: usize = 96;
+
+/// The arrivals of a text, which are read one row at a time.
+#[derive(Drop)]
+pub struct Arrivals<R> {
+    reader: Reader<R>,
+    fields: ByteRecord,
+    processors: u32,
+    rows: u64,
+    last: u64,
+    ghost few: { processors ≤ 64 },
+}
+
+impl<R: Read + Drop> Arrivals<R> {
+    ghost use Rattle.std.specs.Prelude.{◌≡◌, ◌≤◌, ◌⊎◌, [], ℕ, List, Some, Err, IfErr, IfOk, IfSome, Result};
+    ghost use Rattle.device_rows.specs.Source.{IsOpen};
+    ghost use Rattle.device_rows.specs.Trace.{records_of};
+    ghost use Rattle.machine_report.specs.Arrivals.{IsInRange, arrivals_of};
+    ghost use Rattle.machine_report.specs.Fault.{IsFaultBy, IsOutside};
+    ghost use Rattle.machine_report.specs.Reading.{GivesNext, HasGiven};
+    ghost use Rattle.machine_report.specs.declared.arrival.Arrival.{Arrival};
+    ghost use Rattle.machine_report.specs.declared.fault.MachineFault.{MachineFault};
+
+    /// The arrivals of a text for so many processors, of which only the first record was read.
+    pub fn new(alloc: Global, source: R, processors: u32) -> Result<Arrivals<R>, MachineFault>
+        requires { processors ≤ 64 }
+        ensures opened { IfOk result (λ arrivals. IsOpen arrivals.reader) }
+        ensures processors { IfOk result (λ arrivals. arrivals.processors ≡ processors) }
+        ensures start { IfOk result (λ arrivals. (bytes : List ℕ) → R.remaining source ≡ Some bytes
+            → HasGiven R.remaining arrivals [] (arrivals_of processors (records_of bytes))) }
+        ensures fault { IfErr result (IsFaultBy
+            (λ bytes fault. arrivals_of processors (records_of bytes) ≡ Err fault)
+            (R.remaining source)) }
+    {
+        let mut reader = reader_of(alloc, source);
+        let Ok(mut fields) = ByteRecord::with_capacity(alloc, RECORD_BYTES, 3) else {
+            return Err(MachineFault::OutOfMemory);
+        };
+        match next_record(&mut reader, &mut fields) {
+            Next::Record => {}
+            Next::End => return Err(MachineFault::BadHeader),
+            Next::ReadFailed => return Err(MachineFault::ReadFailed),
+            Next::OutOfMemory => return Err(MachineFault::OutOfMemory),
+        }
+        if !is_title(&fields) {
+            return Err(MachineFault::BadHeader);
+        }
+        Ok(Arrivals {
+            reader,
+            fields,
+            processors,
+            rows: 0,
+            last: 0,
+        })
+    }
+
+    /// The next arrival, or `None` at the end of the text. Behind a fault there are no more.
+    pub fn next(&mut self) -> Result<Option<Arrival>, MachineFault>
+        requires { IsOpen self.old.reader }
+        ensures opened { IfOk result (λ next. IfSome next (λ _. IsOpen self.new.reader)) }
+        ensures arrival { IfOk result (λ next. (earlier : List Arrival)
+            (all : Result (List Arrival) MachineFault) → HasGiven R.remaining self.old earlier all
+            → GivesNext R.remaining self.new earlier all next) }
+        ensures range { IfOk result (λ next. IfSome next (IsInRange self.old.processors)) }
+        ensures processors { self.new.processors ≡ self.old.processors }
+        ensures fault { IfErr result (λ fault. (earlier : List Arrival)
+            (all : Result (List Arrival) MachineFault) → HasGiven R.remaining self.old earlier all
+            → IsOutside fault ⊎ (all ≡ Err fault)) }
+    {
+        match next_record(&mut self.reader, &mut self.fields) {
+            Next::Record => {}
+            Next::End => return Ok(None),
+            Next::ReadFailed => return Err(MachineFault::ReadFailed),
+            Next::OutOfMemory => return Err(MachineFault::OutOfMemory),
+        }
+        // No text has so many rows.
+        let Some(row) = self.rows.checked_add(1) else {
+            return Err(MachineFault::ReadFailed);
+        };
+        let arrival = arrival_of(self.processors, row, self.last, &self.fields)?;
+        self.rows = row;
+        self.last = arrival.moment;
+        Ok(Some(arrival))
+    }
+}

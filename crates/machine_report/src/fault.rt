@@ -1,0 +1,108 @@
+//! Why arrivals gave no report.
+
+ghost use Rattle.std.specs.Prelude.{◌≡◌, ◌++◌, IfOk, codes, string_bytes};
+ghost use Rattle.machine_report.specs.Fault.{line_of, number_of, status_of};
+
+use std::alloc::{AllocError, Global};
+use std::fmt;
+use thiserror::Error;
+
+/// Why arrivals gave no report. Nothing was written, except as `OutputFailed` says. Faults 2 to 8 name the first row that has one,
+/// and of its faults the one with the lowest number; the numbers are those of a replay's faults. Rows count from 1.
+#[derive(Clone, Copy, Debug, PartialEq, Eq, Error)]
+pub enum MachineFault {
+    /// 1: the text has no first record, or another than `moment,device,bytes`.
+    #[error("the first record isn't `moment,device,bytes`")]
+    BadHeader,
+    /// 2: the row hasn't three fields.
+    #[error("row {row} hasn't three fields")]
+    BadFields { row: u64 },
+    /// 3: a field of the row isn't one to twenty ASCII digits.
+    #[error("a number of row {row} isn't one to twenty digits")]
+    BadNumber { row: u64 },
+    /// 5: the row's moment, device or number of bytes is out of its range.
+    #[error("a number of row {row} is out of its range")]
+    OutOfRange { row: u64 },
+    /// 8: the row's moment is before that of the row above it.
+    #[error("the moment of row {row} falls")]
+    Falls { row: u64 },
+    /// 10: the reader failed.
+    #[error("the arrivals could not be read")]
+    ReadFailed,
+    /// 11: memory was refused.
+    #[error("out of memory")]
+    OutOfMemory,
+    /// 15: the writer failed. How much of the report went out isn't known.
+    #[error("the report could not be written")]
+    OutputFailed,
+}
+
+impl From<AllocError> for MachineFault {
+    ghost use Rattle.std.specs.Prelude.{◌≡◌};
+    ghost use Rattle.machine_report.specs.declared.fault.MachineFault.TheVariants.{OutOfMemory};
+
+    ghost from_gives = { λ _ fault. fault ≡ OutOfMemory };
+
+    fn from(_: AllocError) -> MachineFault {
+        MachineFault::OutOfMemory
+    }
+}
+
+impl MachineFault {
+    /// The number of this fault.
+    pub fn number(self) -> u8
+        ensures { result ≡ number_of self }
+    {
+        match self {
+            MachineFault::BadHeader => 1,
+            MachineFault::BadFields { .. } => 2,
+            MachineFault::BadNumber { .. } => 3,
+            MachineFault::OutOfRange { .. } => 5,
+            MachineFault::Falls { .. } => 8,
+            MachineFault::ReadFailed => 10,
+            MachineFault::OutOfMemory => 11,
+            MachineFault::OutputFailed => 15,
+        }
+    }
+}
+
+// A fault as its line on standard error tells it.
+#[derive(Drop)]
+struct FaultLine<'a>(&'a MachineFault);
+
+impl fmt::Display for FaultLine<'_> {
+    ghost use Rattle.std.specs.Prelude.{Some};
+    ghost use Rattle.machine_report.specs.Fault.{line_of};
+
+    ghost output = { λ line. Some (line_of line.0.now) };
+
+    fn fmt<W: fmt::Write>(&self, f: &mut fmt::Formatter<W>) -> fmt::Result {
+        match self.0 {
+            MachineFault::BadHeader => write!(f, "arrivals fault 1 BadHeader row 0"),
+            MachineFault::BadFields { row } => write!(f, "arrivals fault 2 BadFields row {row}"),
+            MachineFault::BadNumber { row } => write!(f, "arrivals fault 3 BadNumber row {row}"),
+            MachineFault::OutOfRange { row } => write!(f, "arrivals fault 5 OutOfRange row {row}"),
+            MachineFault::Falls { row } => write!(f, "arrivals fault 8 Falls row {row}"),
+            MachineFault::ReadFailed => write!(f, "arrivals fault 10 ReadFailed"),
+            MachineFault::OutOfMemory => write!(f, "memory fault 11 OutOfMemory"),
+            MachineFault::OutputFailed => write!(f, "output fault 15 OutputFailed"),
+        }
+    }
+}
+
+/// The line of a fault for standard error, line feed included. The only error is want of memory.
+pub fn fault_line(alloc: Global, fault: &MachineFault) -> Result<String, AllocError>
+    ensures { IfOk result (λ line. string_bytes line ≡ line_of fault.now ++ codes "\n") }
+{
+    format!(in alloc; "{}\n", FaultLine(fault))
+}
+
+/// The exit status of a fault: 4 where memory or the output failed, and else 2.
+pub fn status(fault: &MachineFault) -> u8
+    ensures { result ≡ status_of fault.now }
+{
+    match fault {
+        MachineFault::OutOfMemory | MachineFault::OutputFailed => 4,
+        _ => 2,
+    }
+}

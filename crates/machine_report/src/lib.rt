@@ -1,0 +1,14 @@
+//! Behind the door `machine`: from the bytes of arrivals to the bytes of the report of a receiving machine, or the line and the exit
+//! status of a fault.
+#![tactic(auto)]
+
+mod arrival;
+mod arrivals;
+mod fault;
+mod report;
+mod run;
+
+pub use arrival::Arrival;
+pub use arrivals::Arrivals;
+pub use fault::{MachineFault, fault_line, status};
+pub use run::run_machine;

@@ -1,0 +1,279 @@
+//! The report's text.
+
+ghost use Rattle.std.specs.Prelude.{◌≡◌, ◌≤◌, ◌*◌, ◌++◌, Some, IfOk, OnOk, length, string_bytes};
+ghost use Rattle.machine_model.specs.Machine.{device_report};
+ghost use Rattle.machine_report.specs.Report.{device_line, device_lines, lines_of_devices, lines_of_processors, processor_in, processor_line, processor_lines, sums_of_devices, sums_of_processors, text_of, time_line, total_line, with_device};
+ghost use Rattle.replay_text.specs.Lines.{ended};
+
+use machine_model::{DeviceReport, Machine, ProcessorReport, WaitCounts};
+use std::alloc::{AllocError, Global};
+use std::fmt;
+
+/// The sums of the last line.
+#[derive(Clone, Copy, Debug, PartialEq, Eq)]
+pub(crate) struct Totals {
+    /// Devices that a packet came for.
+    pub devices: u64,
+    /// Their packets.
+    pub arrived: u64,
+    /// Those that full rings dropped.
+    pub dropped: u64,
+    /// Those that were delivered.
+    pub polled: u64,
+    /// Those that full sockets refused.
+    pub refused: u64,
+    /// Those that were used.
+    pub used: u64,
+}
+
+impl fmt::Display for Totals {
+    ghost use Rattle.std.specs.Prelude.{Some};
+    ghost use Rattle.machine_report.specs.Report.{total_line};
+
+    ghost output = { λ totals. Some (total_line totals) };
+
+    fn fmt<W: fmt::Write>(&self, f: &mut fmt::Formatter<W>) -> fmt::Result {
+        write!(
+            f,
+            "total devices {} arrived {} dropped {} polled {} refused {} used {}",
+            self.devices, self.arrived, self.dropped, self.polled, self.refused, self.used
+        )
+    }
+}
+
+// What is told of waits.
+#[derive(Drop)]
+struct WaitsText<'a>(&'a WaitCounts);
+
+impl fmt::Display for WaitsText<'_> {
+    ghost use Rattle.std.specs.Prelude.{Some};
+    ghost use Rattle.machine_report.specs.Report.{waits_text};
+
+    ghost output = { λ waits. Some (waits_text waits.0.now) };
+
+    #[tactic(auto, unfolding(crate::specs::Report::waits_text))]
+    fn fmt<W: fmt::Write>(&self, f: &mut fmt::Formatter<W>) -> fmt::Result {
+        write!(
+            f,
+            "mean {} wait50 {} wait90 {} wait99 {} wait999 {} most {}",
+            self.0.mean, self.0.wait50, self.0.wait90, self.0.wait99, self.0.wait999, self.0.most
+        )
+    }
+}
+
+// What is told of a device's polls.
+#[derive(Drop)]
+struct PollsText<'a>(&'a DeviceReport);
+
+impl fmt::Display for PollsText<'_> {
+    ghost use Rattle.std.specs.Prelude.{Some};
+    ghost use Rattle.machine_report.specs.Report.{polls_text};
+
+    ghost output = { λ device. Some (polls_text device.0.now) };
+
+    #[tactic(auto, unfolding(crate::specs::Report::polls_text))]
+    fn fmt<W: fmt::Write>(&self, f: &mut fmt::Formatter<W>) -> fmt::Result {
+        let counts = &self.0.counts;
+        write!(
+            f,
+            "polled {} interrupts {} polls {} {}",
+            counts.polled,
+            counts.interrupts,
+            counts.polls,
+            WaitsText(&self.0.waits)
+        )
+    }
+}
+
+// Adds the line of a device.
+fn add_device(text: &mut String, number: u32, device: &DeviceReport) -> Result<(), AllocError>
+    ensures { OnOk result (string_bytes text.new
+        ≡ string_bytes text.old ++ ended (device_line number device.now)) }
+{
+    writeln!(
+        text,
+        "device {} arrived {} dropped {} {}",
+        number,
+        device.counts.arrived,
+        device.counts.dropped,
+        PollsText(device)
+    )?;
+    Ok(())
+}
+
+// Adds the line of what a processor did.
+fn add_work(text: &mut String, number: u32, processor: &ProcessorReport) -> Result<(), AllocError>
+    ensures { OnOk result (string_bytes text.new
+        ≡ string_bytes text.old ++ ended (processor_line number processor.now)) }
+{
+    writeln!(
+        text,
+        "processor {} interrupts {} runs {} polls {} work {} squeezed {} late {} refused {} used {} {}",
+        number,
+        processor.counts.interrupts,
+        processor.counts.runs,
+        processor.counts.polls,
+        processor.counts.work,
+        processor.counts.squeezed,
+        processor.counts.late,
+        processor.counts.refused,
+        processor.waits.count,
+        WaitsText(&processor.waits)
+    )?;
+    Ok(())
+}
+
+// Adds the line of what a processor's time went to.
+fn add_time(text: &mut String, number: u32, processor: &ProcessorReport) -> Result<(), AllocError>
+    ensures { OnOk result (string_bytes text.new
+        ≡ string_bytes text.old ++ ended (time_line number processor.now)) }
+{
+    let behind_interrupts = processor
+        .end
+        .saturating_sub(processor.counts.interrupt_time);
+    let behind_polls = behind_interrupts.saturating_sub(processor.counts.poll_time);
+    let idle = behind_polls.saturating_sub(processor.counts.use_time);
+    writeln!(
+        text,
+        "time {} end {} interrupt {} poll {} use {} idle {}",
+        number,
+        processor.end,
+        processor.counts.interrupt_time,
+        processor.counts.poll_time,
+        processor.counts.use_time,
+        idle
+    )?;
+    Ok(())
+}
+
+// Adds the two lines of a processor.
+fn add_processor(
+    text: &mut String,
+    number: u32,
+    processor: &ProcessorReport,
+) -> Result<(), AllocError>
+    ensures { OnOk result (string_bytes text.new
+        ≡ string_bytes text.old ++ processor_lines number (Some processor.now)) }
+{
+    add_work(text, number, processor)?;
+    add_time(text, number, processor)?;
+    Ok(())
+}
+
+// Adds the last line.
+fn add_totals(text: &mut String, totals: &Totals) -> Result<(), AllocError>
+    ensures { OnOk result
+        (string_bytes text.new ≡ string_bytes text.old ++ ended (total_line totals.now)) }
+{
+    writeln!(text, "{totals}")?;
+    Ok(())
+}
+
+impl Totals {
+    ghost use Rattle.std.specs.Prelude.{◌≡◌, Some};
+    ghost use Rattle.machine_report.specs.Report.{none_counted, with_device, with_processor};
+
+    // No devices, no packets.
+    fn none() -> Totals
+        ensures { result ≡ none_counted }
+    {
+        Totals {
+            devices: 0,
+            arrived: 0,
+            dropped: 0,
+            polled: 0,
+            refused: 0,
+            used: 0,
+        }
+    }
+
+    // One device more.
+    fn count_device(&mut self, device: &DeviceReport)
+        ensures { self.new ≡ with_device (Some device.now) self.old }
+    {
+        self.devices = self.devices.saturating_add(1);
+        self.arrived = self.arrived.saturating_add(device.counts.arrived);
+        self.dropped = self.dropped.saturating_add(device.counts.dropped);
+        self.polled = self.polled.saturating_add(device.counts.polled);
+    }
+
+    // One processor more.
+    fn count_processor(&mut self, processor: &ProcessorReport)
+        ensures { self.new ≡ with_processor (Some processor.now) self.old }
+    {
+        self.refused = self.refused.saturating_add(processor.counts.refused);
+        self.used = self.used.saturating_add(processor.waits.count);
+    }
+}
+
+// Adds the line of a device, and to the sums its own, where a packet came for it.
+fn add_place(
+    text: &mut String,
+    totals: &mut Totals,
+    number: u32,
+    device: &Option<DeviceReport>,
+) -> Result<(), AllocError>
+    ensures text { OnOk result (string_bytes text.new
+        ≡ string_bytes text.old ++ device_lines number device.now) }
+    ensures totals { OnOk result (totals.new ≡ with_device device.now totals.old) }
+{
+    if let Some(device) = device {
+        add_device(text, number, device)?;
+        totals.count_device(device);
+    }
+    Ok(())
+}
+
+// Adds the lines of devices 1 to `devices`, and gives their sums.
+fn add_devices(text: &mut String, machine: &Machine, devices: u32) -> Result<Totals, AllocError>
+    requires { devices ≤ 64 * length machine.now }
+    ensures text { OnOk result (string_bytes text.new
+        ≡ string_bytes text.old ++ lines_of_devices (λ n. device_report n machine.now) devices) }
+    ensures totals { IfOk result
+        (λ totals. totals ≡ sums_of_devices (λ n. device_report n machine.now) devices) }
+{
+    let mut totals = Totals::none();
+    for before in 0..devices {
+        let device = machine.device(before + 1);
+        add_place(text, &mut totals, before + 1, &device)?;
+    }
+    Ok(totals)
+}
+
+// Adds the lines of the processors, and to the sums theirs.
+fn add_processors(
+    text: &mut String,
+    machine: &Machine,
+    processors: u32,
+    totals: &mut Totals,
+) -> Result<(), AllocError>
+    requires { processors ≡ length machine.now }
+    ensures text { OnOk result (string_bytes text.new ≡ string_bytes text.old
+        ++ lines_of_processors (processor_in machine.now) processors) }
+    ensures totals { OnOk result (totals.new
+        ≡ sums_of_processors (processor_in machine.now) totals.old processors) }
+{
+    for number in 0..processors {
+        let processor = machine.processor(number as usize);
+        add_processor(text, number, &processor)?;
+        totals.count_processor(&processor);
+    }
+    Ok(())
+}
+
+/// The report of a machine. The only error is want of memory.
+pub(crate) fn report_of(
+    alloc: Global,
+    machine: &Machine,
+    processors: u32,
+) -> Result<String, AllocError>
+    requires count { processors ≡ length machine.now }
+    requires few { processors ≤ 64 }
+    ensures { IfOk result (λ text. string_bytes text ≡ text_of processors machine.now) }
+{
+    let mut text = String::new(alloc);
+    let mut totals = add_devices(&mut text, machine, 64 * processors)?;
+    add_processors(&mut text, machine, processors, &mut totals)?;
+    add_totals(&mut text, &totals)?;
+    Ok(text)
+}

@@ -1,0 +1,102 @@
+//! A whole run of the machine: from the bytes of arrivals to the bytes of its report.
+
+ghost use Rattle.std.specs.Prelude.{◌≡◌, ◌≤◌, ◌⊎◌, ℕ, [], List, Some, Ok, Err, IfErr, IfOk, OnOk, Result, length, string_bytes};
+ghost use Rattle.std.specs.Io.KnownBytes.{Appends};
+ghost use Rattle.device_rows.specs.Source.{IsOpen};
+ghost use Rattle.machine_report.specs.Answer.{IsFaultOf, IsReportOf, Takes};
+ghost use Rattle.machine_report.specs.Fault.{IsFaultBy, IsOutside, LeavesAsItWas};
+ghost use Rattle.machine_report.specs.Reading.{HasGiven};
+ghost use Rattle.machine_report.specs.declared.arrival.Arrival.{Arrival};
+ghost use Rattle.machine_report.specs.declared.fault.MachineFault.{MachineFault};
+ghost use Rattle.machine_report.specs.declared.fault.MachineFault.TheVariants.{OutputFailed};
+ghost use Rattle.replay_text.specs.Written.{Writes};
+
+use crate::arrivals::Arrivals;
+use crate::fault::MachineFault;
+use crate::report::report_of;
+use machine_model::Machine;
+use machine_words::Settings;
+use std::alloc::Global;
+use std::io::{Read, Write};
+
+// The machine takes all arrivals, one after the other.
+fn take_all<R: Read + Drop>(
+    alloc: Global,
+    arrivals: &mut Arrivals<R>,
+    machine: &mut Machine,
+) -> Result<(), MachineFault>
+    requires opened { IsOpen arrivals.old.reader }
+    requires processors { arrivals.old.processors ≡ length machine.old }
+    ensures taken { OnOk result ((all : Result (List Arrival) MachineFault)
+        → HasGiven R.remaining arrivals.old [] all
+        → (given : List Arrival) × (all ≡ Ok given) × Takes given machine.old machine.new) }
+    ensures processors { OnOk result (length machine.new ≡ length machine.old) }
+    ensures fault { IfErr result (λ fault. (all : Result (List Arrival) MachineFault)
+        → HasGiven R.remaining arrivals.old [] all → IsOutside fault ⊎ (all ≡ Err fault)) }
+{
+    'rows: for _ in 0..u64::MAX {
+        let next = arrivals.next()?;
+        match next {
+            Some(arrival) => machine.arrive(alloc, arrival.moment, arrival.device)?,
+            None => return Ok(()),
+        }
+    }
+    // No text has so many rows.
+    Err(MachineFault::ReadFailed)
+}
+
+// The text of the report of the arrivals that the reader gives.
+fn text_of_all<R: Read + Drop>(
+    alloc: Global,
+    reader: R,
+    settings: &Settings,
+) -> Result<String, MachineFault>
+    ensures text { IfOk result (λ text. (bytes : List ℕ) → R.remaining reader ≡ Some bytes
+        → IsReportOf settings.now bytes (string_bytes text)) }
+    ensures fault { IfErr result (IsFaultBy (IsFaultOf settings.now) (R.remaining reader)) }
+{
+    let mut machine = Machine::new(alloc, settings)?;
+    let mut arrivals = Arrivals::new(alloc, reader, settings.processors)?;
+    take_all(alloc, &mut arrivals, &mut machine)?;
+    machine.finish();
+    let text = report_of(alloc, &machine, settings.processors)?;
+    Ok(text)
+}
+
+// Writes the text of the report, all of it at once.
+fn write_text<W: Write>(writer: &mut W, text: &String) -> Result<(), MachineFault>
+    ensures written { OnOk result
+        (Appends (W.contents writer.old) (W.contents writer.new) (string_bytes text.now)) }
+    ensures fault { IfErr result (λ fault. fault ≡ OutputFailed) }
+{
+    match writer.write_all(text.as_bytes()) {
+        Ok(()) => Ok(()),
+        Err(_) => Err(MachineFault::OutputFailed),
+    }
+}
+
+/// Runs the machine that the settings tell on the arrivals of the reader, and writes its report.
+///
+/// The arrivals are read one row at a time, and the memory taken doesn't grow with them. Nothing is written before all are read and
+/// nothing is left to do, so on every fault but `OutputFailed` nothing was. After a failed write it isn't known how much went out.
+/// Want of memory may come before any other fault.
+pub fn run_machine<R: Read + Drop, W: Write>(
+    alloc: Global,
+    reader: R,
+    writer: &mut W,
+    settings: &Settings,
+) -> Result<(), MachineFault>
+    // What is written is the report of the bytes read, and nothing else.
+    ensures written { OnOk result (Writes (IsReportOf settings.now)
+        (R.remaining reader) (W.contents writer.old) (W.contents writer.new)) }
+
+    // A fault is the first one of the bytes read, unless the reader, the memory or the writer failed.
+    ensures fault { IfErr result (IsFaultBy (IsFaultOf settings.now) (R.remaining reader)) }
+    ensures untouched { IfErr result
+        (LeavesAsItWas (W.contents writer.old) (W.contents writer.new)) }
+{
+    match text_of_all(alloc, reader, settings) {
+        Ok(text) => write_text(writer, &text),
+        Err(fault) => Err(fault),
+    }
+}

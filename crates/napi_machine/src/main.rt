@@ -1,0 +1,26 @@
+//! `napi_machine` is a receiving machine in time: processors on which an interrupt, a poll, a packet and its use take the time that
+//! the words name. It reads arrivals from standard input and writes its report to standard output.
+#![tactic(auto)]
+
+mod program;
+
+use crate::program::run_program;
+use replay_text::{end_by, given_words};
+use std::io;
+use std::process::ExitCode;
+
+// The program over its real ends.
+fn main(rt: HostRuntime) -> ExitCode {
+    let mut errors = rt.stderr();
+    let ending = match given_words(&rt) {
+        Ok(words) => run_program(
+            rt.alloc(),
+            words.as_slice(),
+            rt.reader(),
+            &mut io::writer(&rt),
+            &mut errors,
+        ),
+        Err(fault) => end_by(rt.alloc(), &fault, &mut errors),
+    };
+    ExitCode::from(ending.status)
+}
