@@ -1,8 +1,8 @@
 #!/bin/sh
 # Times packets on their way from one thread to another: through a shared instance, where a request for a poll comes behind each
 # packet, and through a ring of `rtrb` alone, at which the second thread looks all the time (crates/bench_pair); and through a
-# queue behind a mutex in C++ (bench/pair.cc, g++ -O2), where the second thread waits for a condition. All have to count the
-# same; nine rounds of all in turn, the best time of each is shown.
+# queue behind a mutex in C++ (bench/pair.cc, g++ -O2), where the second thread waits for a condition. All keep to two
+# processors, and have to count the same; nine rounds of all in turn, the best time of each is shown.
 #
 # usage: bench/pair.sh [PACKETS]     (1000000 where none are given)
 set -eu
@@ -10,10 +10,12 @@ set -eu
 unset CDPATH
 top=$(cd "$(dirname "$0")/.." && pwd)
 . "$top/scripts/arguments.sh"
+. "$top/bench/pinned.sh"
 at_most 1 "$@"
 packets=${1:-1000000}
 is_count PACKETS "$packets"
 is_tool g++
+is_tool taskset
 work=$(mktemp -d)
 trap 'rm -rf "$work"' EXIT
 
@@ -21,8 +23,8 @@ trap 'rm -rf "$work"' EXIT
 g++ -std=c++17 -O2 -pthread -o "$work/by_hand" "$top/bench/pair.cc"
 
 for round in 1 2 3 4 5 6 7 8 9; do
-    "$top/crates/bench_pair/out/bench_pair" "$packets" > "$work/counts" 2>> "$work/times"
-    "$work/by_hand" "$packets" >> "$work/counts" 2>> "$work/times"
+    pinned 2 "$top/crates/bench_pair/out/bench_pair" "$packets" > "$work/counts" 2>> "$work/times"
+    pinned 2 "$work/by_hand" "$packets" >> "$work/counts" 2>> "$work/times"
     if [ "$(cut -d ' ' -f 2- "$work/counts" | uniq | wc -l)" != 1 ]; then
         echo 'the packets are counted otherwise:' >&2
         cat "$work/counts" >&2

@@ -9,10 +9,12 @@ set -eu
 unset CDPATH
 top=$(cd "$(dirname "$0")/.." && pwd)
 . "$top/scripts/arguments.sh"
+. "$top/bench/pinned.sh"
 at_most 1 "$@"
 rounds=${1:-2000}
 is_count ROUNDS "$rounds"
 is_tool g++
+is_tool taskset
 work=$(mktemp -d)
 trap 'rm -rf "$work"' EXIT
 
@@ -20,8 +22,8 @@ trap 'rm -rf "$work"' EXIT
 g++ -std=c++17 -O2 -o "$work/by_hand" "$top/bench/softirq.cc"
 
 for round in 1 2 3 4 5 6 7 8 9; do
-    "$top/crates/bench_softirq/out/bench_softirq" "$rounds" > "$work/counts" 2>> "$work/times"
-    "$work/by_hand" "$rounds" > "$work/by_hand.counts" 2>> "$work/by_hand.times"
+    pinned 1 "$top/crates/bench_softirq/out/bench_softirq" "$rounds" > "$work/counts" 2>> "$work/times"
+    pinned 1 "$work/by_hand" "$rounds" > "$work/by_hand.counts" 2>> "$work/by_hand.times"
     if ! cmp -s "$work/counts" "$work/by_hand.counts"; then
         echo 'the runs are counted otherwise:' >&2
         cat "$work/by_hand.counts" "$work/counts" >&2

@@ -5,7 +5,7 @@
 # itself in the slot or a pointer to it. Once by one thread, once while a second thread schedules all the time. Then the
 # turns of one thread by the typed calls of crates/napi_calls, beside the steps below them, and turns of busy polling
 # (taken, a completion that is held, stopped, completed), beside those of the same calls by the list.
-# Nine rounds of all programs in turn; the best time of each is shown, and how the program's compares with it.
+# All keep to two processors. Nine rounds of all programs in turn; the best time of each is shown, and how the program's compares with it.
 #
 # usage: bench/word.sh [TURNS]     (1000000 where none are given)
 set -eu
@@ -13,10 +13,12 @@ set -eu
 unset CDPATH
 top=$(cd "$(dirname "$0")/.." && pwd)
 . "$top/scripts/arguments.sh"
+. "$top/bench/pinned.sh"
 at_most 1 "$@"
 turns=${1:-1000000}
 is_count TURNS "$turns"
 is_tool g++
+is_tool taskset
 work=$(mktemp -d)
 trap 'rm -rf "$work"' EXIT
 
@@ -26,9 +28,9 @@ g++ -std=c++17 -O2 -pthread -o "$work/by_hand" "$top/bench/word.cc"
 programs='napi_word seq_cst-value seq_cst-pointer loops-value kernel-value kernel-pointer'
 run() {
     case $1 in
-        napi_word) "$top/crates/bench_word/out/bench_word" "$turns" > "$work/all.counts"
+        napi_word) pinned 2 "$top/crates/bench_word/out/bench_word" "$turns" > "$work/all.counts"
             grep -v '^typed\|^busy' "$work/all.counts" ;;
-        *) "$work/by_hand" "${1%-*}" "${1#*-}" "$turns" ;;
+        *) pinned 2 "$work/by_hand" "${1%-*}" "${1#*-}" "$turns" ;;
     esac
 }
 

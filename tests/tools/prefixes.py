@@ -4,7 +4,7 @@ import csv
 import io
 import subprocess
 
-COLUMNS = "row,moment,device,state,waiting,arrived,dropped,polled,in_flight,limit,avail,stopped,polls,work,squeezed".split(",")
+COLUMNS = "row,moment,device,state,waiting,arrived,dropped,polled,in_flight,limit,avail,stopped,polls,work,squeezed,word,list,gave".split(",")
 
 
 def report_of(program, rows, words, header):
@@ -14,11 +14,18 @@ def report_of(program, rows, words, header):
     return [line.split() for line in done.stdout.splitlines()]
 
 
-def values_of(number, row, report):
+def polled_in(report):
+    """By each device of a report its polls and the packets that they gave."""
+    return {line[1]: (int(line[14]), int(line[8])) for line in report if line[0] == "device"}
+
+
+def values_of(number, row, report, report_before):
     """The line of a series behind that row."""
     moment, device, _, _ = row.split(",")
     told = dict.fromkeys(COLUMNS, "")
     told.update(row=number, moment=int(moment), device=int(device))
+    before = polled_in(report_before)
+    told["gave"] = "".join(f" {each}:{gave - before[each][1]}" for each, (polls, gave) in polled_in(report).items() if each in before and polls > before[each][0])
     for line in report:
         if line[:2] == ["device", device]:
             names = dict(zip(line[3::2], line[4::2]))
@@ -27,6 +34,10 @@ def values_of(number, row, report):
             names = dict(zip(line[2::2], line[3::2]))
             told.update({name: names[name] for name in ("limit", "avail", "stopped")})
             told["in_flight"] = int(names["limit"]) - int(names["avail"])
+        elif line[:2] == ["napi", device]:
+            told["word"] = line[line.index("word") + 1]
+        elif line[0] == "list":
+            told["list"] = "".join(f" {each}" for each in line[1:])
         elif line[:2] in (["softirq", str(number)], ["kthread", str(number)], ["busy", str(number)]):
             names = dict(zip(line[2::2], line[3::2]))
             told.update({name: names[name] for name in ("polls", "work", "squeezed") if name in names})
@@ -39,5 +50,6 @@ def series_by_reports(program, rows, words, every=1, header="moment,device,event
     writer = csv.DictWriter(text, COLUMNS, lineterminator="\n")
     writer.writeheader()
     for number in range(every, len(rows) + 1, every):
-        writer.writerow(values_of(number, rows[number - 1], report_of(program, rows[:number], words, header)))
+        before, behind = (report_of(program, rows[:count], words, header) for count in (number - 1, number))
+        writer.writerow(values_of(number, rows[number - 1], behind, before))
     return text.getvalue()

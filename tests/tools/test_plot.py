@@ -9,9 +9,9 @@ from tooltest import HEADER, REPLAY, TOP, InFolder, run
 
 
 class Plot(InFolder):
-    HEAD = "row,moment,device,state,waiting,arrived,dropped,polled,in_flight,limit,avail,stopped,polls,work,squeezed\n"
-    ROWS = HEAD + ("1,0,1,on,0,0,0,0,,,,,,,\n2,0,1,on,1,1,0,0,,,,,,,\n3,0,1,on,2,2,0,0,,,,,,,\n4,1,0,,,,,,,,,,1,1,1\n"
-                   "5,1,0,,,,,,,,,,2,1,0\n6,2,1,on,0,2,0,2,500,0,-500,1,,,\n7,3,1,on,0,2,0,2,0,1000,1000,0,,,\n")
+    HEAD = "row,moment,device,state,waiting,arrived,dropped,polled,in_flight,limit,avail,stopped,polls,work,squeezed,word,list,gave\n"
+    ROWS = HEAD + ("1,0,1,on,0,0,0,0,,,,,,,,0,,\n2,0,1,on,1,1,0,0,,,,,,,,1, 1,\n3,0,1,on,2,2,0,0,,,,,,,,3, 1,\n4,1,0,,,,,,,,,,1,1,1,, 1, 1:1\n"
+                   "5,1,0,,,,,,,,,,2,1,0,,, 1:1\n6,2,1,on,0,2,0,2,500,0,-500,1,,,,0,,\n7,3,1,on,0,2,0,2,0,1000,1000,0,,,,0,,\n")
 
     def plot(self, text, *words):
         return run("plot", "--series", self.write("series", text), "--out", self.folder / "picture.svg", *words)
@@ -39,7 +39,7 @@ class Plot(InFolder):
 
     def test_more_rows_than_the_width_has(self):
         """Of 10000 rows a panel of 300 pixels has a least and a greatest level at each; the work of runs is summed."""
-        rows = [f"{2 * n + 1},{n},1,on,{n % 7},{n + n % 7},0,{n},,,,,,,\n{2 * n + 2},{n},0,,,,,,,,,,1,1,0\n" for n in range(5000)]
+        rows = [f"{2 * n + 1},{n},1,on,{n % 7},{n + n % 7},0,{n},,,,,,,,,,\n{2 * n + 2},{n},0,,,,,,,,,,1,1,0,,,\n" for n in range(5000)]
         script = self.plot(self.HEAD + "".join(rows), "--script", "--size", "300x100").stdout
         blocks = re.findall(r"<< END\n(.*?)\nEND", script, re.S)
         self.assertTrue(all(len(block.splitlines()) <= 300 for block in blocks))

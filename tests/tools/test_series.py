@@ -6,7 +6,7 @@ import unittest
 from prefixes import series_by_reports
 from tooltest import HEADER, REPLAY, SERIES, TOP
 
-NAMES = "row,moment,device,state,waiting,arrived,dropped,polled,in_flight,limit,avail,stopped,polls,work,squeezed\n"
+NAMES = "row,moment,device,state,waiting,arrived,dropped,polled,in_flight,limit,avail,stopped,polls,work,squeezed,word,list,gave\n"
 
 # Every event, a full ring, a pending disable, a thread, a queue that is over its limit, a completion that is refused.
 MIXED = """0,1,open,3
@@ -78,9 +78,16 @@ class Series(unittest.TestCase):
         """A packet comes and is polled. The limit of 0 stops the queue at its first 100 bytes, so that the second packet is
         held back, and their completion lifts it by 100."""
         text = HEADER + "0,1,open,8\n3,1,rx,60\n4,0,softirq,0\n5,1,tx,100\n6,1,tx,100\n7,1,done,1\n"
-        self.assertEqual(run(SERIES, [], text).stdout, NAMES + "1,0,1,on,0,0,0,0,,,,,,,\n2,3,1,on,1,1,0,0,,,,,,,\n"
-                         "3,4,0,,,,,,,,,,1,1,0\n4,5,1,on,0,1,0,1,100,0,-100,1,,,\n5,6,1,on,0,1,0,1,100,0,-100,1,,,\n"
-                         "6,7,1,on,0,1,0,1,0,100,100,0,,,\n")
+        self.assertEqual(run(SERIES, [], text).stdout, NAMES + "1,0,1,on,0,0,0,0,,,,,,,,0,,\n2,3,1,on,1,1,0,0,,,,,,,,4294967297, 1,\n"
+                         "3,4,0,,,,,,,,,,1,1,0,,, 1:1\n4,5,1,on,0,1,0,1,100,0,-100,1,,,,0,,\n5,6,1,on,0,1,0,1,100,0,-100,1,,,,0,,\n"
+                         "6,7,1,on,0,1,0,1,0,100,100,0,,,,0,,\n")
+
+    def test_what_a_run_polls(self):
+        """By hand: a budget of 2 packets and a weight of 1: the run polls both devices once, puts back both, and device 2 is empty then;
+        the next one finds that out, and gives device 1's second packet, a whole weight again."""
+        text = HEADER + "0,1,open,8\n0,2,open,8\n1,1,rx,60\n1,1,rx,60\n1,2,rx,60\n2,0,softirq,0\n3,0,softirq,0\n"
+        lines = run(SERIES, ["--budget", "2", "--weight", "1"], text).stdout.splitlines()
+        self.assertEqual([line.split(",")[-2:] for line in lines[3:]], [[" 1", ""], [" 1", ""], [" 1 2", ""], [" 1 2", " 1:1 2:1"], [" 1", " 1:1 2:0"]])
 
     def test_no_rows(self):
         self.assertEqual(run(SERIES, [], HEADER).stdout, NAMES)

@@ -9,6 +9,7 @@ use napi_calls::{Caller, Control, Mode, Napi, survey, survey_busy, survey_pollin
 use napi_model::Seen;
 
 // The controller of an instance that it hasn't, and the others.
+#[inline(always)]
 fn meet_posts<S: Mode>(
     napi: &Napi,
     interrupt: Caller,
@@ -62,6 +63,7 @@ fn meet_posts<S: Mode>(
 impl Seats {
     /// All meet, by a look of the controller or of whoever polls. Last comes its answer: what the state word tells of the state
     /// behind the whole history.
+    #[inline(always)]
     pub(crate) fn meet(self, napi: &Napi) -> (Seats, Seen)
         requires { AreSeats napi.now self }
         ensures { Meets self result.0 result.1 }

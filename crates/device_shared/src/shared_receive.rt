@@ -57,6 +57,7 @@ impl<R: Wait + Drop> Model for SharedReceive<R> {
 }
 
 // All meet, and come back to their place.
+#[inline(always)]
 fn keep(napi: &Napi, place: &mut Option<Seats>, seen: &mut Seen, seats: Seats)
     requires empty { is_some place.old ≡ false }
     requires seats { AreSeats napi.now seats }

@@ -1,6 +1,6 @@
 -- The series of a trace: a CSV line behind each row, or behind each Nth one, with the values that the report of the rows so
 -- far would have.
-use Rattle.std.specs.Prelude.{ℕ, zero, suc, ◌+◌, ◌%◌, ◌==◌, Bool, true, List, [], ◌∷◌, ◌++◌, Option, Some, None, Result, Ok, Err, codes, decimal, flat_map, if◌then◌else◌, length}
+use Rattle.std.specs.Prelude.{ℕ, zero, suc, ◌+◌, ◌-◌, ◌%◌, ◌==◌, Bool, true, List, [], ◌∷◌, ◌++◌, Option, Some, None, Result, Ok, Err, codes, decimal, flat_map, if◌then◌else◌, length}
 use Rattle.std.specs.Fmt.{signed_decimal}
 use Rattle.std.specs.List.{slice_get}
 use Rattle.device_rows.specs.Trace.{records_of, trace_of}
@@ -9,10 +9,10 @@ use Rattle.device_rows.specs.declared.fault.TraceFault.{TraceFault}
 use Rattle.device_rows.specs.declared.row.Row.{Row}
 use Rattle.dql_core.specs.Counter.{distance_of}
 use Rattle.replay_words.specs.declared.settings.Settings.{Settings}
-use Rattle.replay_rows.specs.After.{counts_after, is_used_after, polled_after}
+use Rattle.replay_rows.specs.After.{counts_after, is_used_after, list_after, polled_after}
 use Rattle.replay_rows.specs.Replay.{after_all}
 use Rattle.replay_text.specs.Lines.{flag}
-use Rattle.replay_rows.specs.Report.{state_word}
+use Rattle.replay_rows.specs.Report.{lines_below, spaced, state_word}
 use Rattle.replay_rows.specs.ReplayState.{ReplayState}
 use Rattle.replay_text.specs.declared.fault.ReplayFault.{ReplayFault}
 use Rattle.replay_text.specs.declared.fault.ReplayFault.TheVariants.{Trace}
@@ -20,7 +20,7 @@ use Rattle.replay_rows.specs.declared.line.Line.{Line}
 use Rattle.replay_rows.specs.declared.line.Line.TheVariants.{Softirq, Kthread, Busy}
 
 abbrev pub header : List ℕ
-header = codes "row,moment,device,state,waiting,arrived,dropped,polled,in_flight,limit,avail,stopped,polls,work,squeezed\n"
+header = codes "row,moment,device,state,waiting,arrived,dropped,polled,in_flight,limit,avail,stopped,polls,work,squeezed,word,list,gave\n"
 
 -- fields, a comma before each
 abbrev pub fields : List (List ℕ) → List ℕ
@@ -50,23 +50,44 @@ run_fields (Some (Softirq row run)) = fields (decimal run.polls ∷ decimal run.
 run_fields (Some (Kthread row device report)) = fields (decimal report.polls ∷ decimal report.work ∷ [] ∷ [])
 run_fields (Some (Busy row device report)) = fields (decimal report.polls ∷ decimal report.work ∷ [] ∷ [])
 
--- the line of a row
-abbrev pub line_of : ℕ → Row → Bool → Option DeviceCounts → Option Line → List ℕ
-line_of n row used counts polled = row_fields n row ++ (device_fields counts ++ (queue_fields used counts ++ (run_fields polled ++ codes "\n")))
+-- the device's state word
+abbrev pub word_field : Option DeviceCounts → List ℕ
+word_field None = codes ","
+word_field (Some counts) = codes "," ++ decimal counts.word
 
--- the line behind the first n rows, of which this is the last
+-- what the row makes of its device, and what it polled
+abbrev pub told_fields : ℕ → Row → Bool → Option DeviceCounts → Option Line → List ℕ
+told_fields n row used counts polled = row_fields n row ++ (device_fields counts ++ (queue_fields used counts ++ (run_fields polled ++ word_field counts)))
+
+-- what a device gave in a row that polled it, by what is told of it before the row and behind it: its number and the packets
+abbrev pub gave : ℕ → Option DeviceCounts → Option DeviceCounts → List ℕ
+gave device (Some before) (Some after) =
+    if before.polls == after.polls then [] else codes " " ++ (decimal device ++ (codes ":" ++ decimal (after.polled - before.polled)))
+gave device before after = []
+
+-- each device that row n + 1 polled gave so many packets
+abbrev pub gave_in : Settings → List Row → ℕ → ℕ → List ℕ
+gave_in s rows n device = gave device (counts_after s rows n device) (counts_after s rows (n + 1) device)
+
+-- the poll list behind row n + 1, and what each device gave that this polled
+abbrev pub list_fields : Settings → List Row → ℕ → List ℕ
+list_fields s rows n = codes "," ++ (spaced (list_after s rows (n + 1)) ++ (codes "," ++ lines_below (gave_in s rows n) 17))
+
+-- the line of a row that stands behind n others
 abbrev pub line_after : Settings → List Row → ℕ → Option Row → List ℕ
 line_after s rows n None = []
-line_after s rows n (Some row) = line_of n row (is_used_after rows n row.device) (counts_after s rows n row.device) (polled_after s rows n)
+line_after s rows n (Some row) =
+    told_fields (n + 1) row (is_used_after rows (n + 1) row.device) (counts_after s rows (n + 1) row.device) (polled_after s rows (n + 1))
+    ++ (list_fields s rows n ++ codes "\n")
 
--- the same, where row n has one
+-- the same, where the row has one
 abbrev pub part_after : Settings → ℕ → List Row → ℕ → Option Row → List ℕ
-part_after s every rows n row = if n % every == 0 then line_after s rows n row else []
+part_after s every rows n row = if (n + 1) % every == 0 then line_after s rows n row else []
 
 -- the lines behind the first n rows
 unfoldable pub lines_to : Settings → ℕ → List Row → ℕ → List ℕ
 lines_to s every rows zero = []
-lines_to s every rows (suc n) = lines_to s every rows n ++ part_after s every rows (n + 1) (slice_get rows n)
+lines_to s every rows (suc n) = lines_to s every rows n ++ part_after s every rows n (slice_get rows n)
 
 abbrev pub text_of : Settings → ℕ → List Row → List ℕ
 text_of s every rows = header ++ lines_to s every rows (length rows)

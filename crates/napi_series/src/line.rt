@@ -1,11 +1,15 @@
 //! The text of a line of the series.
 
-ghost use Rattle.std.specs.Prelude.{◌≡◌, ◌++◌, OnOk, string_bytes};
-ghost use Rattle.napi_series.specs.Series.{device_fields, line_of, queue_fields, row_fields, run_fields};
+ghost use Rattle.std.specs.Prelude.{◌≡◌, ◌+◌, ◌++◌, ℕ, List, OnOk, string_bytes};
+ghost use Rattle.device_rows.specs.declared.row.Row.{Row};
+ghost use Rattle.replay_rows.specs.After.{IsAfter};
+ghost use Rattle.replay_rows.specs.Report.{lines_below};
+ghost use Rattle.replay_words.specs.declared.settings.Settings.{Settings};
+ghost use Rattle.napi_series.specs.Series.{device_fields, gave, gave_in, list_fields, queue_fields, row_fields, run_fields, told_fields, word_field};
 
 use device_bench::DeviceCounts;
-use device_rows::Row;
-use replay_rows::{Line, state_word};
+use device_rows::{PLACES, Row};
+use replay_rows::{Line, SerialReplay, add_numbers, state_word};
 use std::alloc::AllocError;
 
 fn add_row(text: &mut String, number: u32, row: &Row) -> Result<(), AllocError>
@@ -75,9 +79,19 @@ fn add_run(text: &mut String, polled: Option<Line>) -> Result<(), AllocError>
     Ok(())
 }
 
-/// Adds the line of a row: the row, its device, the device's transmit side where that had a row, and what a row that polled
-/// did.
-pub(crate) fn add_line(
+fn add_word(text: &mut String, counts: Option<DeviceCounts>) -> Result<(), AllocError>
+    ensures { OnOk result (string_bytes text.new ≡ string_bytes text.old ++ word_field counts) }
+{
+    match counts {
+        Some(counts) => write!(text, ",{}", counts.word)?,
+        None => text.push_str(",")?,
+    }
+    Ok(())
+}
+
+/// Adds what is told of a row: the row, its device, the device's transmit side where that had a row, what a row that polled
+/// did, and the device's state word.
+pub(crate) fn add_told(
     text: &mut String,
     number: u32,
     row: &Row,
@@ -86,12 +100,63 @@ pub(crate) fn add_line(
     polled: Option<Line>,
 ) -> Result<(), AllocError>
     ensures { OnOk result (string_bytes text.new
-        ≡ string_bytes text.old ++ line_of number row.now used counts polled) }
+        ≡ string_bytes text.old ++ told_fields number row.now used counts polled) }
 {
     add_row(text, number, row)?;
     add_device(text, counts)?;
     add_queue(text, used, counts)?;
     add_run(text, polled)?;
-    text.push_str("\n")?;
+    add_word(text, counts)
+}
+
+// Adds what a device gave in a row, where that polled it.
+fn add_gave(
+    text: &mut String,
+    device: u32,
+    before: Option<DeviceCounts>,
+    after: Option<DeviceCounts>,
+) -> Result<(), AllocError>
+    ensures { OnOk result
+        (string_bytes text.new ≡ string_bytes text.old ++ gave device before after) }
+{
+    if let (Some(before), Some(after)) = (before, after) {
+        if before.polls != after.polls {
+            let given = after.polled.saturating_sub(before.polled);
+            write!(text, " {}:{}", device, given)?;
+        }
+    }
     Ok(())
+}
+
+// Adds what each device gave in the row between.
+fn add_given(
+    text: &mut String,
+    before: &SerialReplay,
+    after: &SerialReplay,
+) -> Result<(), AllocError>
+    ensures { (s : Settings) (rows : List Row) (n : ℕ) → IsAfter s rows n before.now
+        → IsAfter s rows (n + 1) after.now → OnOk result (string_bytes text.new
+        ≡ string_bytes text.old ++ lines_below (gave_in s rows n) 17) }
+{
+    for device in 0..PLACES {
+        add_gave(text, device, before.counts(device), after.counts(device))?;
+    }
+    Ok(())
+}
+
+/// Adds the poll list behind a row, and what each device gave that the row polled, by a replay that stands before the row and one
+/// behind it.
+pub(crate) fn add_list(
+    text: &mut String,
+    before: &SerialReplay,
+    after: &SerialReplay,
+) -> Result<(), AllocError>
+    ensures { (s : Settings) (rows : List Row) (n : ℕ) → IsAfter s rows n before.now
+        → IsAfter s rows (n + 1) after.now → OnOk result (string_bytes text.new
+        ≡ string_bytes text.old ++ list_fields s rows n) }
+{
+    text.push_str(",")?;
+    add_numbers(text, after.list())?;
+    text.push_str(",")?;
+    add_given(text, before, after)
 }

@@ -10,7 +10,7 @@ ghost use Rattle.replay_rows.specs.After.{IsAfter};
 ghost use Rattle.replay_rows.specs.Replay.{after_all};
 ghost use Rattle.replay_text.specs.declared.fault.ReplayFault.TheVariants.{Trace};
 
-use crate::line::add_line;
+use crate::line::{add_list, add_told};
 use device_rows::{Row, read_trace};
 use replay_rows::SerialReplay;
 use replay_text::{ReplayFault, write_text};
@@ -19,38 +19,49 @@ use std::alloc::{AllocError, Global};
 use std::io::{Read, Write};
 
 const HEADER: &str =
-    "row,moment,device,state,waiting,arrived,dropped,polled,in_flight,limit,avail,stopped,polls,work,squeezed\n";
+    "row,moment,device,state,waiting,arrived,dropped,polled,in_flight,limit,avail,stopped,polls,work,squeezed,word,list,gave\n";
 
-// Adds the line behind the row of that index, the last one that was played, where it has one.
+// A replay that stands before a row, and one behind it.
+#[derive(Drop)]
+struct Steps {
+    before: SerialReplay,
+    after: SerialReplay,
+}
+
+// Adds the line of the row of that index, where it has one.
 fn add_part(
     text: &mut String,
     settings: &Settings,
     every: u32,
     rows: &[Row],
     index: usize,
-    replay: &SerialReplay,
+    steps: &Steps,
 ) -> Result<(), AllocError>
     requires every { 0 < every }
     requires count { length rows.now ≤ 100000 }
     requires index { index < length rows.now }
-    requires after { IsAfter settings.now rows.now (index + 1) replay.now }
+    requires before { IsAfter settings.now rows.now index steps.now.before }
+    requires after { IsAfter settings.now rows.now (index + 1) steps.now.after }
     ensures { OnOk result
         (string_bytes text.new ≡ string_bytes text.old
-        ++ part_after settings.now every rows.now (index + 1) (slice_get rows.now index)) }
+        ++ part_after settings.now every rows.now index (slice_get rows.now index)) }
 {
     let number = index as u32 + 1;
     if number % every != 0 {
         return Ok(());
     }
     let row = &rows[index];
-    add_line(
+    add_told(
         text,
         number,
         row,
-        replay.uses_transmit(row.device),
-        replay.counts(row.device),
-        replay.polled(number),
-    )
+        steps.after.uses_transmit(row.device),
+        steps.after.counts(row.device),
+        steps.after.polled(number),
+    )?;
+    add_list(text, &steps.before, &steps.after)?;
+    text.push_str("\n")?;
+    Ok(())
 }
 
 // The series of the rows.
@@ -69,10 +80,14 @@ fn series_of(
         (λ fault. (fault ≡ Trace OutOfMemory) ⊎ (after_all settings.now rows.now ≡ Err fault)) }
 {
     let mut text = String::from_str(alloc, HEADER)?;
-    let mut replay = SerialReplay::new(alloc, rows)?;
+    let mut steps = Steps {
+        before: SerialReplay::new(alloc, rows)?,
+        after: SerialReplay::new(alloc, rows)?,
+    };
     for index in 0..rows.len() {
-        replay.play_row(alloc, settings, rows, index)?;
-        add_part(&mut text, settings, every, rows, index, &replay)?;
+        steps.after.play_row(alloc, settings, rows, index)?;
+        add_part(&mut text, settings, every, rows, index, &steps)?;
+        steps.before.play_row(alloc, settings, rows, index)?;
     }
     Ok(text)
 }

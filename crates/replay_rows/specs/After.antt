@@ -1,5 +1,5 @@
 -- A replay whose first n rows were played, none of them refused, and what it tells.
-use Rattle.std.specs.Prelude.{◌≡◌, ℕ, Bool, List, Option, None, Result, Ok, Err, take}
+use Rattle.std.specs.Prelude.{◌≡◌, ℕ, Bool, List, [], Option, None, Result, Ok, Err, take}
 use Rattle.device_transmit.specs.Transmits.{Transmits, is_used}
 use Rattle.device_bench.specs.DeviceBench.{ShowsTransmits, devices_of}
 use Rattle.device_bench.specs.declared.counts.DeviceCounts.{DeviceCounts}
@@ -35,6 +35,14 @@ is_used_after rows n device = is_used (at device (transmits_of (take n rows)))
 abbrev pub polled_in : Result ReplayState ReplayFault → ℕ → Option Line
 polled_in (Ok w) n = polled_by n w
 polled_in (Err fault) n = None
+
+-- the poll list behind the first n rows
+abbrev pub list_in : Result ReplayState ReplayFault → List ℕ
+list_in (Ok w) = w.list
+list_in (Err fault) = []
+
+abbrev pub list_after : Settings → List Row → ℕ → List ℕ
+list_after s rows n = list_in (after_all s (take n rows))
 
 abbrev pub polled_after : Settings → List Row → ℕ → Option Line
 polled_after s rows n = polled_in (after_all s (take n rows)) n

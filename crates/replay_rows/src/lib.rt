@@ -13,7 +13,7 @@ mod serial_replay;
 mod whole;
 
 pub use line::Line;
-pub use report::state_word;
+pub use report::{add_numbers, state_word};
 pub use serial::replay_serial;
 pub use serial_replay::SerialReplay;
 pub use whole::replay_on;

@@ -161,7 +161,8 @@ fn add_list(text: &mut String, list: &[u32]) -> Result<(), AllocError>
     Ok(())
 }
 
-fn add_numbers(text: &mut String, numbers: &[u32]) -> Result<(), AllocError>
+/// Adds the numbers, a space before each.
+pub fn add_numbers(text: &mut String, numbers: &[u32]) -> Result<(), AllocError>
     ensures { OnOk result (string_bytes text.new ≡ string_bytes text.old ++ spaced numbers.now) }
 {
     for number in numbers {

@@ -20,7 +20,7 @@ impl SerialReplay {
     ghost use Rattle.device_rows.specs.declared.fault.TraceFault.TheVariants.{OutOfMemory};
     ghost use Rattle.device_rows.specs.declared.row.Row.{Row};
     ghost use Rattle.replay_words.specs.declared.settings.Settings.{Settings};
-    ghost use Rattle.replay_rows.specs.After.{IsAfter, counts_after, is_used_after, polled_after};
+    ghost use Rattle.replay_rows.specs.After.{IsAfter, counts_after, is_used_after, list_after, polled_after};
     ghost use Rattle.replay_rows.specs.Replay.{after_all};
     ghost use Rattle.replay_text.specs.declared.fault.ReplayFault.TheVariants.{Trace};
 
@@ -72,6 +72,14 @@ impl SerialReplay {
             → result ≡ is_used_after rows n device }
     {
         self.replay.bench.uses_transmit(device)
+    }
+
+    /// The numbers on the poll list, the next one first.
+    pub fn list(&self) -> &[u32]
+        ensures { (s : Settings) (rows : List Row) (n : ℕ) → IsAfter s rows n self.now
+            → result.now ≡ list_after s rows n }
+    {
+        self.replay.list.ids()
     }
 
     /// What the row of that number did, where it is the last one that was played, and polled.

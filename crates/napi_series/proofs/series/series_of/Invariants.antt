@@ -3,6 +3,7 @@ use Rattle.napi_series.proofs.series.series_of.Given as goal
 
 abbrev pub invariant-loop-index : goal.invariant-loop-index
 invariant-loop-index l = record {
-  after : IsAfter l.settings l.rows l.index l.replay;
+  before : IsAfter l.settings l.rows l.index l.steps.before;
+  after : IsAfter l.settings l.rows l.index l.steps.after;
   text : string_bytes l.text ≡ header ++ lines_to l.settings l.every l.rows l.index;
 }

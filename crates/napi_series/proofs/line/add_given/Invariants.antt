@@ -1,0 +1,6 @@
+use Rattle.{std.proofs.Common.{◌≡◌, ◌+◌, ◌++◌, ℕ, List, string_bytes}, device_rows.specs.declared.row.Row.Row, napi_series.specs.Series.gave_in, replay_rows.specs.{After.IsAfter, Report.lines_below}, replay_words.specs.declared.settings.Settings.Settings}
+use Rattle.napi_series.proofs.line.add_given.Given as goal
+
+abbrev pub invariant-loop-device : goal.invariant-loop-device
+invariant-loop-device l = (s : Settings) (rows : List Row) (n : ℕ) → IsAfter s rows n l.before → IsAfter s rows (n + 1) l.after
+    → string_bytes l.text ≡ string_bytes l.initial.text ++ lines_below (gave_in s rows n) l.device
