@@ -27,6 +27,7 @@ fn end_one<R: Wait + Drop, D: Drop>(
 {
     let Worked { number, done } = worked;
     let Done {
+        list: _,
         device,
         rx,
         seats,

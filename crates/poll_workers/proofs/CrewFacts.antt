@@ -1,5 +1,5 @@
 -- Courses that were dealt to pollers, and put together again.
-use Rattle.{std.{proofs.{Common.{◌≡◌, ◌∙◌, ℕ, ◌+◌, ◌-◌, ◌%◌, ◌<◌, ◌≤◌, Bool, true, false, List, [], ◌∷◌, length, ap, refl, sym, subst, arith, eqb, suc, All}, lemmas.Bool.{eq-eqb, eqb-true, eqb-false, ne_eqb}}, specs.{Prelude.{◌==◌, filter, map}, List.AllByRecursion}}, poll_tasks.specs.declared.pace.Pace.Pace}
+use Rattle.{std.{proofs.{Common.{◌≡◌, ◌∙◌, ℕ, ◌+◌, ◌-◌, ◌%◌, ◌<◌, ◌≤◌, Bool, true, false, List, [], ◌∷◌, length, ap, refl, sym, subst, arith, eqb, suc, All}, lemmas.Bool.{eq-eqb, eqb-true, eqb-false, ne_eqb}}, specs.{Prelude.{◌==◌, filter, map, if◌then◌else◌}, List.AllByRecursion}}, poll_tasks.{specs.declared.pace.Pace.Pace, proofs.ListFacts.each_index}, poll_workers.proofs.RunFacts.each_of}
 use Rattle.{poll_interrupts.specs.{declared.{acts.Act.Act, station.{Station.Station, Finished.Finished}}, Deals.{IsDealtFrom, is_dealt, merged, others, picked}}, poll_workers.specs.Courses.{AreOfCrew, ArePolled, Course, IsCourse, IsCrew, TakesTurns}}
 
 -- ---- two lists put together
@@ -84,6 +84,22 @@ module _ {A B : Type 0} (f : A → B) (d : B → Bool) where
       let yes : d (f x) ≡ true = ap d here ∙ h 0 s (omega arith) in
       rw yes (ap (λ l. x ∷ l) (all_own xs ss rest (λ k z b. h (suc k) z (omega (arith, b)))))
 
+-- those behind a poller's own are of later ones
+dealt_each : {D : Type 0} (number pollers : ℕ) (ss : List (Station D)) → AllByRecursion (IsDealtFrom number pollers) ss
+    → AllByRecursion (IsDealtFrom (number + 1) pollers) (others (map (is_dealt number pollers) ss) ss)
+dealt_each number pollers [] h = tt
+dealt_each {D} number pollers (s ∷ ss) h = by (is_dealt number pollers s) refl (dealt_each number pollers ss h.1)
+  where
+    by : (b : Bool) → is_dealt number pollers s ≡ b → AllByRecursion (IsDealtFrom (number + 1) pollers) (others (map (is_dealt number pollers) ss) ss)
+        → AllByRecursion (IsDealtFrom (number + 1) pollers) (others (b ∷ map (is_dealt number pollers) ss) (s ∷ ss))
+    by true is more = more
+    by false is more = let ne = eqb-false ((s.number - 1) % pollers) number is in let low = h.0 in (omega (arith, low, ne), more)
+
+pub dealt_behind : {D : Type 0} (number pollers : ℕ) (order : List Bool) (ss : List (Station D)) → order ≡ map (is_dealt number pollers) ss → All (IsDealtFrom number pollers) ss
+    → All (IsDealtFrom (number + 1) pollers) (others order ss)
+dealt_behind number pollers order ss dealt h =
+    each_index _ _ (subst (λ l. AllByRecursion (IsDealtFrom (number + 1) pollers) (others l ss)) (sym dealt) (dealt_each number pollers ss (each_of _ ss h)))
+
 -- ---- crews
 
 module _ {D : Type 0} (R : Type 0) (asked : ℕ → Type 0) (pace : Pace) (acts : D → ℕ) (answer : D → ℕ → Act) (after : D → ℕ → D) where
@@ -113,27 +129,48 @@ module _ {D : Type 0} (R : Type 0) (asked : ℕ → Type 0) (pace : Pace) (acts 
       mine : All (λ s. is_dealt number pollers s ≡ true) stations
       mine k s below = let low = dealt k s below in eq-eqb _ _ (omega (arith, last, low))
 
+  -- the crew of each poller, by whether it is the first of these
+  crew_at : (number pollers : ℕ) (stations : List (Station D)) (courses more : List (Course D))
+      → map (λ c. c.station) courses ≡ picked (map (is_dealt number pollers) stations) stations
+      → map (λ c. c.station) more ≡ others (map (is_dealt number pollers) stations) stations
+      → IsCrew R asked pace number courses
+      → ((k : ℕ) → number + 1 ≤ k → k < pollers → IsCrew R asked pace k (filter (λ c. is_dealt k pollers c.station) more))
+      → (b : Bool) (k : ℕ) → eqb k number ≡ b → number ≤ k → k < pollers
+      → IsCrew R asked pace k (filter (λ c. is_dealt k pollers c.station) (merged (map (is_dealt number pollers) stations) courses more))
+  crew_at number pollers stations courses more ours theirs crew behind true k is low high =
+      let P : ℕ → Type 0 = λ n. IsCrew R asked pace n (filter (λ c. is_dealt n pollers c.station) (merged (map (is_dealt number pollers) stations) courses more)) in
+      let found = own_part (λ (c : Course D). c.station) (is_dealt number pollers) stations courses more ours theirs in
+      subst P (sym (eqb-true k number is)) (subst (λ l. IsCrew R asked pace number l) (sym found) crew)
+  crew_at number pollers stations courses more ours theirs crew behind false k is low high =
+      let ne = eqb-false k number is in
+      let later : number + 1 ≤ k = omega (arith, low, ne) in
+      let apart : (s : Station D) → is_dealt number pollers s ≡ true → is_dealt k pollers s ≡ false =
+      λ s yes. ne_eqb ((s.number - 1) % pollers) k (λ same. ne (sym same ∙ eqb-true ((s.number - 1) % pollers) number yes)) in
+      let found = other_part (λ (c : Course D). c.station) (is_dealt number pollers) (is_dealt k pollers) apart stations courses more ours theirs in
+      subst (λ l. IsCrew R asked pace k l) (sym found) (behind k later high)
+
   -- what a poller polled and what those behind it did, put together
   pub more_polled : (number pollers : ℕ) (stations : List (Station D)) (order : List Bool) (mine rest : List (Station D)) (ends later : List (Finished D))
       → order ≡ map (is_dealt number pollers) stations → mine ≡ picked order stations → rest ≡ others order stations → length order ≡ length stations
       → (courses : List (Course D)) → map (λ c. c.station) courses ≡ mine → map (λ c. c.end) courses ≡ ends → AllByRecursion (IsCourse R asked pace acts answer after) courses
       → IsCrew R asked pace number courses
       → ArePolled R asked pace acts answer after (number + 1) pollers rest later → ArePolled R asked pace acts answer after number pollers stations (merged order ends later)
-  more_polled number pollers stations order mine rest ends later dealt mine_is rest_is long courses stations_are ends_are each crew others_polled = record {
-    courses = all;
-    stations_are = merged_map (λ c. c.station) order courses more ∙ ap (λ l. merged order l (map (λ c. c.station) more)) (stations_are ∙ mine_is)
-        ∙ ap (λ l. merged order (picked order stations) l) (others_polled.stations_are ∙ rest_is) ∙ merged_whole order stations long;
-    ends_are = merged_map (λ c. c.end) order courses more ∙ ap (λ l. merged order l (map (λ c. c.end) more)) ends_are ∙ ap (λ l. merged order ends l) others_polled.ends_are;
-    each = merged_each _ order courses more each others_polled.each;
-    crews = λ k low high. by (eqb k number) refl k low high;
-  }
-    where
-      more = others_polled.courses
-      all = merged order courses more
-      own = is_dealt number pollers
-      ours : map (λ c. c.station) courses ≡ picked (map own stations) stations
-      ours = stations_are ∙ mine_is ∙ ap (λ l. picked l stations) dealt
-      theirs : map (λ c. c.station) more ≡ others (map own stations) stations
-      theirs = others_polled.stations_are ∙ rest_is ∙ ap (λ l. others l stations) dealt
-      by : (b : Bool) (k : ℕ) → eqb k number ≡ b → number ≤ k → k < pollers → IsCrew R asked pace k (filter (λ c. is_dealt k pollers c.station) all)
-      by b k is low high = ?
+  more_polled number pollers stations order mine rest ends later dealt mine_is rest_is long courses stations_are ends_are each crew others_polled =
+      let more = others_polled.courses in
+      let ours : map (λ (c : Course D). c.station) courses ≡ picked (map (is_dealt number pollers) stations) stations = stations_are ∙ mine_is ∙ ap (λ l. picked l stations) dealt in
+      let theirs : map (λ (c : Course D). c.station) more ≡ others (map (is_dealt number pollers) stations) stations = others_polled.stations_are ∙ rest_is ∙ ap (λ l. others l stations) dealt in
+      record {
+        courses = merged order courses more;
+        stations_are = merged_map (λ c. c.station) order courses more ∙ ap (λ l. merged order l (map (λ (c : Course D). c.station) more)) (stations_are ∙ mine_is)
+            ∙ ap (λ l. merged order (picked order stations) l) (others_polled.stations_are ∙ rest_is) ∙ merged_whole order stations long;
+        ends_are = merged_map (λ c. c.end) order courses more ∙ ap (λ l. merged order l (map (λ (c : Course D). c.end) more)) ends_are ∙ ap (λ l. merged order ends l) others_polled.ends_are;
+        each = merged_each _ order courses more each others_polled.each;
+        crews = λ k low high. rw dealt (crew_at number pollers stations courses more ours theirs crew others_polled.crews (eqb k number) k refl low high);
+      }
+
+  pub of_crew_polled : (number pollers : ℕ) (stations : List (Station D)) (order : List Bool) (mine rest : List (Station D)) (ends later : List (Finished D))
+      → order ≡ map (is_dealt number pollers) stations → mine ≡ picked order stations → rest ≡ others order stations → length order ≡ length stations
+      → AreOfCrew R asked pace acts answer after number mine ends
+      → ArePolled R asked pace acts answer after (number + 1) pollers rest later → ArePolled R asked pace acts answer after number pollers stations (merged order ends later)
+  of_crew_polled number pollers stations order mine rest ends later dealt mine_is rest_is long crew behind =
+      more_polled number pollers stations order mine rest ends later dealt mine_is rest_is long crew.courses crew.stations_are crew.ends_are crew.each (crew_is number crew.courses crew.turns) behind

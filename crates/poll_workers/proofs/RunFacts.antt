@@ -184,7 +184,7 @@ zip_values f Q [] [] h = tt
 zip_values f Q (x ∷ xs) (y ∷ ys) h = (h.0, zip_values f Q xs ys h.1)
 zip_values f Q xs ys h = absurd h
 
-each_of : {A : Type 0} (P : A → Type 0) (xs : List A) → All P xs → AllByRecursion P xs
+pub each_of : {A : Type 0} (P : A → Type 0) (xs : List A) → All P xs → AllByRecursion P xs
 each_of P [] h = tt
 each_of P (x ∷ xs) h = (h 0 x (omega arith), each_of P xs (λ k d b. h (suc k) d (omega arith)))
 

@@ -9,7 +9,7 @@ ghost use Rattle.poll_tasks.specs.Asks.{IsAsked};
 ghost use Rattle.poll_workers.specs.Courses.{ArePolled, pace_of};
 ghost use Rattle.poll_workers.specs.Finishes.{IsFinished};
 ghost use Rattle.poll_workers.specs.declared.fault.WorkFault.TheVariants.{GateShut, OutOfMemory};
-ghost use Rattle.poll_workers.specs.Faults.{IsCrewFault, told};
+ghost use Rattle.poll_workers.specs.Faults.{IsCrewFault, joined, told};
 ghost use Rattle.poll_workers.specs.Numbers.{have_distinct_numbers};
 ghost use Rattle.poll_interrupts.specs.Opens.{IsStation};
 ghost use Rattle.poll_tasks.specs.Paces.{IsLawful};
@@ -111,8 +111,24 @@ where
         ensures fault { IfErr result IsCrewFault }
     { run_crews(setting, alloc, number + 1, pollers, others) };
     let (finished, others) = begun(setting, run_crew(setting, alloc, number, mine, later))?;
-    let others = others?;
-    Ok(merge(order, finished?, others, room))
+    let (finished, others) = join_answers(finished, others)?;
+    Ok(merge(order, finished, others, room))
+}
+
+// What two parts of a run came to together. Want of memory in either is told before all else.
+fn join_answers<A: Drop, B: Drop>(
+    mine: Result<A, WorkFault>,
+    others: Result<B, WorkFault>,
+) -> Result<(A, B), WorkFault>
+    ensures { result ≡ joined mine others }
+{
+    match (mine, others) {
+        (Ok(mine), Ok(others)) => Ok((mine, others)),
+        (Err(WorkFault::OutOfMemory), _) | (_, Err(WorkFault::OutOfMemory)) => {
+            Err(WorkFault::OutOfMemory)
+        }
+        (Err(fault), _) | (Ok(_), Err(fault)) => Err(fault),
+    }
 }
 
 // What is told of a run.
