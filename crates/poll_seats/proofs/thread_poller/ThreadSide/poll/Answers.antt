@@ -1,4 +1,4 @@
-use Rattle.{std.proofs.Common.{◌∙◌, Some, ap, refl, rules, subst, sym}, napi_calls.specs.{declared.types.Napi.Napi, Instance.IsSeatOf}, poll_seats.proofs.SeatFacts.served_alone}
+use Rattle.{std.proofs.Common.{◌∙◌, Some, ap, refl, rules, subst, sym}, napi_calls.specs.{declared.types.Napi.Napi, Instance.IsSeatOf}, poll_seats.proofs.SeatFacts.{before_turns, served_alone}}
 use Rattle.poll_seats.proofs.thread_poller.ThreadSide.poll.Goals as goal
 
 pub leave-requires : goal.leave-requires
@@ -11,12 +11,12 @@ returns g c =
     subst (λ (n : Napi). IsSeatOf n c.leave.result.pass) (ap (λ b. b.now) same.napi) c.leave.ensures.of in record {
       of = rw c.new-2.ensures of;
       turns = λ polled. rw c.in-Some.is (record {
-        first = _;
+        first = before_turns c.serve.ensures;
         last = c.serve.new.served;
         started = (c.pass.result, c.pass.ensures.answers);
         paced = refl;
         at = refl;
-        bell = search rules;
+        bell = refl;
         from = ap (λ k. Some k) c.open.ensures;
         turns = c.serve.ensures;
         to = c.leave.ensures.caller ∙ ap (λ k. Some k) (sym c.new-2.ensures);
