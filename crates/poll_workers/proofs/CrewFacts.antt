@@ -1,6 +1,6 @@
 -- Courses that were dealt to pollers, and put together again.
-use Rattle.{std.{proofs.{Common.{◌≡◌, ◌∙◌, ℕ, ◌+◌, ◌-◌, ◌%◌, ◌<◌, ◌≤◌, Bool, true, false, List, [], ◌∷◌, length, ap, refl, sym, subst, arith, eqb, suc, All}, lemmas.Bool.{eq-eqb, eqb-true, eqb-false, ne_eqb}}, specs.{Prelude.{◌==◌, filter, map, if◌then◌else◌}, List.AllByRecursion}}, poll_tasks.{specs.declared.pace.Pace.Pace, proofs.ListFacts.each_index}, poll_workers.proofs.RunFacts.each_of}
-use Rattle.{poll_interrupts.specs.{declared.{acts.Act.Act, station.{Station.Station, Finished.Finished}}, Deals.{IsDealtFrom, is_dealt, merged, others, picked}}, poll_workers.specs.Courses.{AreOfCrew, ArePolled, Course, IsCourse, IsCrew, TakesTurns}}
+use Rattle.{std.{proofs.{Common.{◌≡◌, ◌∙◌, eq-eqb, ℕ, ◌+◌, ◌-◌, ◌%◌, ◌<◌, ◌≤◌, Bool, true, false, List, [], ◌∷◌, length, ap, refl, sym, subst, arith, eqb, suc, All}, lemmas.Bool.{eqb-true, eqb-false, ne_eqb}}, specs.{Prelude.{◌==◌, Result, Ok, Err, IfOk, filter, map, vec_items}, Global.Vec, List.AllByRecursion}}, poll_tasks.{specs.declared.pace.Pace.Pace, proofs.ListFacts.each_index}, poll_workers.proofs.RunFacts.each_of}
+use Rattle.{poll_interrupts.specs.{declared.{acts.Act.Act, station.{Station.Station, Finished.Finished}}, Deals.{IsDealtFrom, is_dealt, merged, others, picked}}, poll_workers.specs.{declared.fault.WorkFault.WorkFault, Faults.joined, Courses.{AreOfCrew, ArePolled, Course, IsCourse, IsCrew, TakesTurns}}}
 
 -- ---- two lists put together
 
@@ -25,54 +25,57 @@ merged_each P (true ∷ bs) (x ∷ xs) ys h k = (h.0, merged_each P bs xs ys h.1
 merged_each P (false ∷ bs) xs [] h k = merged_each P bs xs [] h k
 merged_each P (false ∷ bs) xs (y ∷ ys) h k = (k.0, merged_each P bs xs ys h k.1)
 
+-- one more, in front of both
+filter_step : {A : Type 0} (p : A → Bool) (v : A) (ls rs : List A) → filter p ls ≡ filter p rs → filter p (v ∷ ls) ≡ filter p (v ∷ rs)
+filter_step p v ls rs e = by (p v) refl
+  where
+    by : (b : Bool) → p v ≡ b → filter p (v ∷ ls) ≡ filter p (v ∷ rs)
+    by true is = rw is (ap (λ l. v ∷ l) e)
+    by false is = rw is e
+
 module _ {A B : Type 0} (f : A → B) (d : B → Bool) where
   -- those that were dealt are those of the first part
   own_part : (ss : List B) (xs ys : List A) → map f xs ≡ picked (map d ss) ss → map f ys ≡ others (map d ss) ss → filter (λ x. d (f x)) (merged (map d ss) xs ys) ≡ xs
   own_part [] [] ys ex ey = refl
   own_part [] (x ∷ xs) ys ex ey = absurd cc
-  own_part (s ∷ ss) xs ys ex ey = by (d s) refl xs ys ex ey
+  own_part (s ∷ ss) xs ys ex ey = by (own_part ss) (d s) refl xs ys ex ey
     where
-      by : (b : Bool) → d s ≡ b → (us vs : List A) → map f us ≡ picked (b ∷ map d ss) (s ∷ ss) → map f vs ≡ others (b ∷ map d ss) (s ∷ ss)
+      by : ((us vs : List A) → map f us ≡ picked (map d ss) ss → map f vs ≡ others (map d ss) ss → filter (λ x. d (f x)) (merged (map d ss) us vs) ≡ us)
+          → (b : Bool) → d s ≡ b → (us vs : List A) → map f us ≡ picked (b ∷ map d ss) (s ∷ ss) → map f vs ≡ others (b ∷ map d ss) (s ∷ ss)
           → filter (λ x. d (f x)) (merged (b ∷ map d ss) us vs) ≡ us
-      by true is [] vs eu ev = absurd cc
-      by true is (u ∷ us) vs eu ev =
+      by more true is [] vs eu ev = absurd cc
+      by more true is (u ∷ us) vs eu ev =
           let here : f u ≡ s = cc in
           let rest : map f us ≡ picked (map d ss) ss = cc in
           let yes : d (f u) ≡ true = ap d here ∙ is in
-          rw yes (ap (λ l. u ∷ l) (own_part ss us vs rest ev))
-      by false is us [] eu ev = absurd cc
-      by false is us (v ∷ vs) eu ev =
+          rw yes (ap (λ l. u ∷ l) (more us vs rest ev))
+      by more false is us [] eu ev = absurd cc
+      by more false is us (v ∷ vs) eu ev =
           let here : f v ≡ s = cc in
           let rest : map f vs ≡ others (map d ss) ss = cc in
           let no : d (f v) ≡ false = ap d here ∙ is in
-          rw no (own_part ss us vs eu rest)
+          rw no (more us vs eu rest)
 
   -- by what none of these meets, those of the second part alone are found
   other_part : (q : B → Bool) → ((s : B) → d s ≡ true → q s ≡ false) → (ss : List B) (xs ys : List A) → map f xs ≡ picked (map d ss) ss → map f ys ≡ others (map d ss) ss
       → filter (λ x. q (f x)) (merged (map d ss) xs ys) ≡ filter (λ x. q (f x)) ys
   other_part q apart [] xs [] ex ey = refl
   other_part q apart [] xs (y ∷ ys) ex ey = absurd cc
-  other_part q apart (s ∷ ss) xs ys ex ey = by (d s) refl xs ys ex ey
+  other_part q apart (s ∷ ss) xs ys ex ey = by (other_part q apart ss) (d s) refl xs ys ex ey
     where
-      by : (b : Bool) → d s ≡ b → (us vs : List A) → map f us ≡ picked (b ∷ map d ss) (s ∷ ss) → map f vs ≡ others (b ∷ map d ss) (s ∷ ss)
+      by : ((us vs : List A) → map f us ≡ picked (map d ss) ss → map f vs ≡ others (map d ss) ss → filter (λ x. q (f x)) (merged (map d ss) us vs) ≡ filter (λ x. q (f x)) vs)
+          → (b : Bool) → d s ≡ b → (us vs : List A) → map f us ≡ picked (b ∷ map d ss) (s ∷ ss) → map f vs ≡ others (b ∷ map d ss) (s ∷ ss)
           → filter (λ x. q (f x)) (merged (b ∷ map d ss) us vs) ≡ filter (λ x. q (f x)) vs
-      by true is [] vs eu ev = absurd cc
-      by true is (u ∷ us) vs eu ev =
+      by more true is [] vs eu ev = absurd cc
+      by more true is (u ∷ us) vs eu ev =
           let here : f u ≡ s = cc in
           let rest : map f us ≡ picked (map d ss) ss = cc in
           let no : q (f u) ≡ false = ap q here ∙ apart s is in
-          rw no (other_part q apart ss us vs rest ev)
-      by false is us [] eu ev = absurd cc
-      by false is us (v ∷ vs) eu ev = 
+          rw no (more us vs rest ev)
+      by more false is us [] eu ev = absurd cc
+      by more false is us (v ∷ vs) eu ev =
           let rest : map f vs ≡ others (map d ss) ss = cc in
-          let more = other_part q apart ss us vs eu rest in
-          at (q (f v)) more
-        where
-          at : (b : Bool) → filter (λ x. q (f x)) (merged (map d ss) us vs) ≡ filter (λ x. q (f x)) vs
-              → (if b then v ∷ filter (λ x. q (f x)) (merged (map d ss) us vs) else filter (λ x. q (f x)) (merged (map d ss) us vs))
-              ≡ (if b then v ∷ filter (λ x. q (f x)) vs else filter (λ x. q (f x)) vs)
-          at true more = ap (λ l. v ∷ l) more
-          at false more = more
+          filter_step (λ x. q (f x)) v (merged (map d ss) us vs) vs (more us vs eu rest)
 
   -- where all were dealt, all are found
   all_own : (xs : List A) (ss : List B) → map f xs ≡ ss → All (λ s. d s ≡ true) ss → filter (λ x. d (f x)) xs ≡ xs
@@ -102,6 +105,20 @@ dealt_behind number pollers order ss dealt h =
 
 -- ---- crews
 
+-- what both parts came to, where no fault is told
+abbrev both_of : {A F : Type 0} → A → Result A F → A
+both_of d (Ok r) = r
+both_of d (Err f) = d
+
+pub joined_ok : {A B : Type 0} (mine : Result A WorkFault) (others : Result B WorkFault) (r : A × B) → joined mine others ≡ Ok r → (mine ≡ Ok r.0) × (others ≡ Ok r.1)
+joined_ok {A} {B} (Ok x) (Ok y) r e =
+    let pair : A × B = (x, y) in
+    let same : pair ≡ r = ap (λ (came : Result (A × B) WorkFault). both_of pair came) e in
+    (ap (λ (p : A × B). Ok p.0) same, ap (λ (p : A × B). Ok p.1) same)
+joined_ok (Ok x) (Err f) r e = absurd cc
+joined_ok (Err f) (Ok y) r e = absurd cc
+joined_ok (Err f) (Err h) r e = absurd cc
+
 module _ {D : Type 0} (R : Type 0) (asked : ℕ → Type 0) (pace : Pace) (acts : D → ℕ) (answer : D → ℕ → Act) (after : D → ℕ → D) where
   crew_is : (number : ℕ) (courses : List (Course D)) → TakesTurns R asked pace number courses → IsCrew R asked pace number courses
   crew_is number [] h = tt
@@ -128,6 +145,12 @@ module _ {D : Type 0} (R : Type 0) (asked : ℕ → Type 0) (pace : Pace) (acts 
     where
       mine : All (λ s. is_dealt number pollers s ≡ true) stations
       mine k s below = let low = dealt k s below in eq-eqb _ _ (omega (arith, last, low))
+
+  pub last_if_ok : {F : Type 0} (number pollers : ℕ) (stations : List (Station D)) (answered : Result (Vec (Finished D)) F) → number + 1 ≡ pollers → All (IsDealtFrom number pollers) stations
+      → IfOk answered (λ all. AreOfCrew R asked pace acts answer after number stations (vec_items all))
+      → IfOk answered (λ all. ArePolled R asked pace acts answer after number pollers stations (vec_items all))
+  last_if_ok number pollers stations (Ok all) last dealt crew = last_polled number pollers stations (vec_items all) last dealt crew
+  last_if_ok number pollers stations (Err fault) last dealt crew = tt
 
   -- the crew of each poller, by whether it is the first of these
   crew_at : (number pollers : ℕ) (stations : List (Station D)) (courses more : List (Course D))

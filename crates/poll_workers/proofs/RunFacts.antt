@@ -193,44 +193,37 @@ fresh_of station seat (loose, opened, for) =
     record { number = for.number ∙ opened.same_number; thread = for.thread ∙ opened.thread; caller = loose.value.poller; there = for.caller; unused = opened.poller }
 
 -- what the threads of a crew came to, where the answer is no fault
-pub record Crew {R D : Type 0} (acts : D → ℕ) (answer : D → ℕ → Act) (after : D → ℕ → D) (asked : ℕ → Type 0) (pace : Pace) (number : ℕ) (list : SharedList R)
-    (stations : List (Station D)) (loose : List (Kept R (Loose D))) (worked : List (Worked R D)) (pollers : List (Kept R Caller)) (threads : List (Turned (Kept R Caller)))
-    (polled : Bool) : Type 0 where
-  pub opened : AllZip IsKeptLoose stations loose
-  pub made : AllZip (IsWorkedOf acts answer after) loose worked
-  pub ran : polled ≡ true → HasPolled asked pace number list loose pollers
-  pub turned : AllZip (HasTurned asked pace) loose threads
-
 module _ {R D : Type 0} (acts : D → ℕ) (answer : D → ℕ → Act) (after : D → ℕ → D) (asked : ℕ → Type 0) (pace : Pace) (number : ℕ) (list : SharedList R)
     (stations : List (Station D)) (loose : List (Kept R (Loose D))) (worked : List (Worked R D)) (pollers : List (Kept R Caller)) (threads : List (Turned (Kept R Caller)))
-    (polled : Bool) (crew : Crew acts answer after asked pace number list stations loose worked pollers threads polled) where
+    (polled : Bool) (opened : AllZip IsKeptLoose stations loose) (made : AllZip (IsWorkedOf acts answer after) loose worked)
+    (ran : polled ≡ true → HasPolled asked pace number list loose pollers) (turned : AllZip (HasTurned asked pace) loose threads) where
   crew_courses : (ends : List (Finished D)) → All (λ w. w.done.whole ≡ true) worked → All (λ t. t.polled ≡ true) threads → (posts : Posts worked pollers threads ends)
       → Courses acts answer after asked pace stations posts.all
-  crew_courses ends whole turned posts =
+  crew_courses ends whole whole_turns posts =
       courses_of acts answer after asked pace stations posts.all
-      (subst (λ l. AllZip (Works acts answer after asked pace) stations l) (sym posts.worked_are) (zip_both _ _ _ _ _ crew.opened crew.made))
-      (subst (λ l. AllZip (Turns acts answer after asked pace) stations l) (sym posts.threads_are) (zip_both _ _ _ _ _ crew.opened crew.turned))
+      (subst (λ l. AllZip (Works acts answer after asked pace) stations l) (sym posts.worked_are) (zip_both _ _ _ _ _ opened made))
+      (subst (λ l. AllZip (Turns acts answer after asked pace) stations l) (sym posts.threads_are) (zip_both _ _ _ _ _ opened turned))
       (subst (λ l. AllByRecursion (λ (w : Worked R D). w.done.whole ≡ true) l) (sym posts.worked_are) (each_of _ _ whole))
-      (subst (λ l. AllByRecursion (λ (t : Turned (Kept R Caller)). t.polled ≡ true) l) (sym posts.threads_are) (each_of _ _ turned))
+      (subst (λ l. AllByRecursion (λ (t : Turned (Kept R Caller)). t.polled ≡ true) l) (sym posts.threads_are) (each_of _ _ whole_turns))
       posts.each
 
   -- the stations are finished, and were polled
   record Both (ends : List (Finished D)) : Type 0 where
     pub finished : AllZip (IsFinished acts answer after) stations ends
-    pub polled : AreOfCrew R asked pace acts answer after number stations ends
+    pub of_crew : AreOfCrew R asked pace acts answer after number stations ends
 
   both : (ends : List (Finished D)) (n : ℕ) → IsNewList n list → All (λ w. w.done.whole ≡ true) worked → polled ≡ true → All (λ t. t.polled ≡ true) threads
       → AreFinishesOf worked pollers threads ends → Both ends
-  both ends n new whole ran turned finish =
+  both ends n new whole whole_run whole_turns finish =
       let posts = posts_of worked pollers threads ends finish in
-      let courses = crew_courses ends whole turned posts in
-      let has = crew.ran ran in
-      let fresh : AllZip IsFreshSeat stations has.before = zip_same _ _ _ _ (λ s b h. fresh_of s b h) (zip_both _ _ _ _ _ crew.opened has.from) in
+      let courses = crew_courses ends whole whole_turns posts in
+      let has = ran whole_run in
+      let fresh : AllZip IsFreshSeat stations has.before = zip_same _ _ _ _ (λ s b h. fresh_of s b h) (zip_both _ _ _ _ _ opened has.from) in
       let spent : AllZip IsSpentSeat (map (λ k. k.value) pollers) has.after = zip_values (λ k. k.value) IsSpentSeat pollers has.after (zip_same _ _ _ _ (λ k a h. h.1) (zip_flip _ _ _ has.to)) in
       let callers = courses.pollers_are ∙ ap (λ (l : List (Kept R Caller)). map (λ k. k.value) l) posts.pollers_are in
       record {
         finished = subst (λ l. AllZip (IsFinished acts answer after) stations l) posts.ends_are courses.finished;
-        polled = record {
+        of_crew = record {
           courses = courses.all;
           stations_are = courses.stations_are;
           ends_are = courses.ends_are ∙ posts.ends_are;
@@ -251,14 +244,14 @@ module _ {R D : Type 0} (acts : D → ℕ) (answer : D → ℕ → Act) (after :
   pub answer_finished : {F : Type 0} (ends : Result (Vec (Finished D)) F) (n : ℕ) → IsNewList n list
       → IfOk ends (λ _. All (λ w. w.done.whole ≡ true) worked) → IfOk ends (λ _. polled ≡ true) → IfOk ends (λ _. All (λ t. t.polled ≡ true) threads)
       → IfOk ends (λ all. AreFinishesOf worked pollers threads (vec_items all)) → IfOk ends (λ all. AllZip (IsFinished acts answer after) stations (vec_items all))
-  answer_finished (Ok all) n new whole ran turned finish = (both (vec_items all) n new whole ran turned finish).finished
-  answer_finished (Err fault) n new whole ran turned finish = tt
+  answer_finished (Ok all) n new whole whole_run whole_turns finish = (both (vec_items all) n new whole whole_run whole_turns finish).finished
+  answer_finished (Err fault) n new whole whole_run whole_turns finish = tt
 
   pub answer_polled : {F : Type 0} (ends : Result (Vec (Finished D)) F) (n : ℕ) → IsNewList n list
       → IfOk ends (λ _. All (λ w. w.done.whole ≡ true) worked) → IfOk ends (λ _. polled ≡ true) → IfOk ends (λ _. All (λ t. t.polled ≡ true) threads)
       → IfOk ends (λ all. AreFinishesOf worked pollers threads (vec_items all)) → IfOk ends (λ all. AreOfCrew R asked pace acts answer after number stations (vec_items all))
-  answer_polled (Ok all) n new whole ran turned finish = (both (vec_items all) n new whole ran turned finish).polled
-  answer_polled (Err fault) n new whole ran turned finish = tt
+  answer_polled (Ok all) n new whole whole_run whole_turns finish = (both (vec_items all) n new whole whole_run whole_turns finish).of_crew
+  answer_polled (Err fault) n new whole whole_run whole_turns finish = tt
 
 -- what the workers of the jobs gave back is of the stations
 worked_of : {R D G : Type 0} (acts : D → ℕ) (answer : D → ℕ → Act) (after : D → ℕ → D) (loose : Kept R (Loose D)) (job : Job R D G) (worked : Worked R D)
@@ -322,22 +315,24 @@ all_threads_at answers placed sides given at of =
     zip_flip _ _ _ (zip_same _ _ _ _ (λ p k h. subst (λ (n : Napi). IsSeatOf n k.back.value.pass) h.1.napi h.2.of) (zip_both _ _ _ _ _ at of))
 
 -- and these took their turns
+turned_by : {R D G : Type 0} (answers : G → ℕ → ℕ → Bool → Type 0) (setting : Setting R G) (loose : Kept R (Loose D)) (side : ThreadSide R G) (given : Turned (Kept R Caller)) (own : Option (Own R))
+    → side.own ≡ own → IsKeptThreadFor setting loose side
+    → MatchOption own (given.back ≡ side.caller)
+    (λ o. IsPolledAlone R (IsAsked answers side.setting.now.gate.now) side.setting.now.pace side.number side.caller.value given.back.value)
+    → TurnsIfThread R (IsAsked answers setting.gate.now) setting.pace (is_some loose.value.pause) loose.value.number loose.value.thread given.back.value
+turned_by {R} answers setting loose side given None is for same =
+    let none : is_some loose.value.pause ≡ false = sym for.own ∙ ap (λ o. is_some o) is in
+    rw none (ap (λ (k : Kept R Caller). k.value) same ∙ for.caller)
+turned_by {R} {D} {G} answers setting loose side given (Some o) is for turns =
+    let some : is_some loose.value.pause ≡ true = sym for.own ∙ ap (λ o. is_some o) is in
+    let asked : ℕ → Type 0 = IsAsked answers setting.gate.now in
+    let by_setting = subst (λ (s : Setting R G). IsPolledAlone R (IsAsked answers s.gate.now) s.pace side.number side.caller.value given.back.value) for.has turns in
+    let by_number = subst (λ (n : ℕ). IsPolledAlone R asked setting.pace n side.caller.value given.back.value) for.number by_setting in
+    rw some (subst (λ (c : Caller). IsPolledAlone R asked setting.pace loose.value.number c given.back.value) for.caller by_number)
+
 turned_of : {R D G : Type 0} (answers : G → ℕ → ℕ → Bool → Type 0) (setting : Setting R G) (loose : Kept R (Loose D)) (side : ThreadSide R G) (given : Turned (Kept R Caller))
     → IsKeptThreadFor setting loose side → GivesCaller answers side given → HasTurned (IsAsked answers setting.gate.now) setting.pace loose given
-turned_of {R} {D} {G} answers setting loose side given for gives polled = by side.own refl (gives.turns polled)
-  where
-    asked = IsAsked answers setting.gate.now
-    by : (own : Option (Own R)) → side.own ≡ own
-        → MatchOption own (given.back ≡ side.caller) (λ o. IsPolledAlone R (IsAsked answers side.setting.now.gate.now) side.setting.now.pace side.number side.caller.value given.back.value)
-        → TurnsIfThread R asked setting.pace (is_some loose.value.pause) loose.value.number loose.value.thread given.back.value
-    by None is same =
-        let none : is_some loose.value.pause ≡ false = sym for.own ∙ ap (λ o. is_some o) is in
-        rw none (ap (λ (k : Kept R Caller). k.value) same ∙ for.caller)
-    by (Some o) is turns =
-        let some : is_some loose.value.pause ≡ true = sym for.own ∙ ap (λ o. is_some o) is in
-        let by_setting = subst (λ (s : Setting R G). IsPolledAlone R (IsAsked answers s.gate.now) s.pace side.number side.caller.value given.back.value) for.setting turns in
-        let by_number = subst (λ n. IsPolledAlone R asked setting.pace n side.caller.value given.back.value) for.number by_setting in
-        rw some (subst (λ (c : Caller). IsPolledAlone R asked setting.pace loose.value.number c given.back.value) for.caller by_number)
+turned_of answers setting loose side given for gives polled = turned_by answers setting loose side given side.own refl for (gives.turns polled)
 
 pub all_turned : {R D G : Type 0} (answers : G → ℕ → ℕ → Bool → Type 0) (setting : Setting R G) (loose : List (Kept R (Loose D))) (sides : List (ThreadSide R G)) (given : List (Turned (Kept R Caller)))
     → AllZip (IsKeptThreadFor setting) loose sides → AllZip (GivesCaller answers) sides given → AllZip (HasTurned (IsAsked answers setting.gate.now) setting.pace) loose given

@@ -24,11 +24,9 @@ abbrev pub told : {A : Type 0} → Result A WorkFault → Bool → Bool → Resu
 told came refused shut =
     if wants_memory came then came else if refused then Err SpawnFailed else if shut then Err GateShut else came
 
--- of two faults, want of memory
+-- of two faults the one that is told: want of memory, else the first
 abbrev pub graver : WorkFault → WorkFault → WorkFault
-graver OutOfMemory other = OutOfMemory
-graver GateShut other = if is_memory other then OutOfMemory else GateShut
-graver SpawnFailed other = if is_memory other then OutOfMemory else SpawnFailed
+graver fault other = if is_memory other then OutOfMemory else fault
 
 -- What two parts of a run came to together: a fault of either is told, and want of memory before all else.
 abbrev pub joined : {A B : Type 0} → Result A WorkFault → Result B WorkFault → Result (A × B) WorkFault

@@ -29,7 +29,7 @@ module _ {R D G : Type 0} where
 
   -- the side has the number and the thread's caller, what a thread needs exactly if there is one, and what all threads have
   pub record IsThreadFor (setting : Setting R G) (loose : Loose D) (side : ThreadSide R G) : Type 0 where
-    pub setting : side.setting.now ≡ setting
+    pub has : side.setting.now ≡ setting
     pub number : side.number ≡ loose.number
     pub own : is_some side.own ≡ is_some loose.pause
     pub caller : side.caller.value ≡ loose.thread
@@ -37,21 +37,21 @@ module _ {R D G : Type 0} where
   abbrev pub IsKeptThreadFor : Setting R G → Kept R (Loose D) → ThreadSide R G → Type 0
   IsKeptThreadFor setting loose side = IsThreadFor setting loose.value side
 
+-- the poller's seat has the number and the poller's caller, and knows of a bell exactly if there is a thread
+pub record IsSeatFor {D : Type 0} (loose : Loose D) (seat : Seat) : Type 0 where
+  pub number : seat.number ≡ loose.number
+  pub thread : is_some seat.thread ≡ is_some loose.pause
+  pub caller : seat.caller ≡ Some loose.poller
+
+abbrev pub IsKeptSeatFor : {R D : Type 0} → Kept R (Loose D) → Seat → Type 0
+IsKeptSeatFor loose seat = IsSeatFor loose.value seat
+
 module _ {R : Type 0} where
-  -- the poller's seat is at the instance, and knows the bell of its thread, where it has one
+  -- it is at the instance, and knows the bell of its thread, where it has one
   pub record IsSeatAt (placed : Kept R Placed) (seat : Seat) : Type 0 where
     pub napi : seat.napi.now ≡ placed.value.napi
     pub bell : option_copied seat.thread ≡ placed.value.bell
     pub caller : IsSome seat.caller
-
-  -- it has the number and the poller's caller, and knows of a bell exactly if there is a thread
-  pub record IsSeatFor {D : Type 0} (loose : Loose D) (seat : Seat) : Type 0 where
-    pub number : seat.number ≡ loose.number
-    pub thread : is_some seat.thread ≡ is_some loose.pause
-    pub caller : seat.caller ≡ Some loose.poller
-
-  abbrev pub IsKeptSeatFor : {D : Type 0} → Kept R (Loose D) → Seat → Type 0
-  IsKeptSeatFor loose seat = IsSeatFor loose.value seat
 
   -- the thread's side is of the instance and has its bell, and may be run
   pub record IsThreadAt {G : Type 0} (placed : Kept R Placed) (side : ThreadSide R G) : Type 0 where

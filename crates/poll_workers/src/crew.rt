@@ -169,9 +169,10 @@ fn end_crew<R: Wait + Drop, D: Drop, E>(
         polled,
         beside,
     } = ended;
-    let whole = are_whole(worked.as_slice()) && polled && have_turned(threads.as_slice());
+    let whole = are_whole(worked.as_slice());
+    let turned = have_turned(threads.as_slice());
     let finished = gather(worked, pollers, threads, placed, room);
-    if !whole {
+    if !whole || !polled || !turned {
         return (Err(WorkFault::SpawnFailed), beside);
     }
     (Ok(finished), beside)

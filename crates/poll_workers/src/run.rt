@@ -9,7 +9,7 @@ ghost use Rattle.poll_tasks.specs.Asks.{IsAsked};
 ghost use Rattle.poll_workers.specs.Courses.{ArePolled, pace_of};
 ghost use Rattle.poll_workers.specs.Finishes.{IsFinished};
 ghost use Rattle.poll_workers.specs.declared.fault.WorkFault.TheVariants.{GateShut, OutOfMemory};
-ghost use Rattle.poll_workers.specs.Faults.{IsCrewFault, joined, told};
+ghost use Rattle.poll_workers.specs.Faults.{IsCrewFault, graver, joined, told};
 ghost use Rattle.poll_workers.specs.Numbers.{have_distinct_numbers};
 ghost use Rattle.poll_interrupts.specs.Opens.{IsStation};
 ghost use Rattle.poll_tasks.specs.Paces.{IsLawful};
@@ -106,8 +106,8 @@ where
             (λ all. AllZip (IsFinished D.acts D.answer D.after) (vec_items others)
             (vec_items all)) }
         ensures polled { IfOk result
-            (λ all. ArePolled R (IsAsked G.answers setting.now.gate.now) setting.now.pace
-            D.acts D.answer D.after (number + 1) pollers (vec_items others) (vec_items all)) }
+            (λ all. ArePolled R (IsAsked G.answers setting.entry.now.gate.now)
+            setting.entry.now.pace D.acts D.answer D.after (number + 1) pollers (vec_items others) (vec_items all)) }
         ensures fault { IfErr result IsCrewFault }
     { run_crews(setting, alloc, number + 1, pollers, others) };
     let (finished, others) = begun(setting, run_crew(setting, alloc, number, mine, later))?;
@@ -115,7 +115,17 @@ where
     Ok(merge(order, finished, others, room))
 }
 
-// What two parts of a run came to together. Want of memory in either is told before all else.
+// Of two faults the one that is told: want of memory, else the first.
+fn graver(fault: WorkFault, other: WorkFault) -> WorkFault
+    ensures { result ≡ graver fault other }
+{
+    match other {
+        WorkFault::OutOfMemory => other,
+        _ => fault,
+    }
+}
+
+// What two parts of a run came to together.
 fn join_answers<A: Drop, B: Drop>(
     mine: Result<A, WorkFault>,
     others: Result<B, WorkFault>,
@@ -124,10 +134,8 @@ fn join_answers<A: Drop, B: Drop>(
 {
     match (mine, others) {
         (Ok(mine), Ok(others)) => Ok((mine, others)),
-        (Err(WorkFault::OutOfMemory), _) | (_, Err(WorkFault::OutOfMemory)) => {
-            Err(WorkFault::OutOfMemory)
-        }
-        (Err(fault), _) | (Ok(_), Err(fault)) => Err(fault),
+        (Err(fault), Ok(_)) | (Ok(_), Err(fault)) => Err(fault),
+        (Err(fault), Err(other)) => Err(graver(fault, other)),
     }
 }
 

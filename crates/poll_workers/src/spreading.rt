@@ -49,7 +49,8 @@ fn own_of<'n, R: Wait + Drop>(
     list: ListIn<R>,
 ) -> Option<Own<'n, R>>
     requires { is_some bell ≡ is_some pause }
-    ensures bell { option_map (λ own. own.bell.now) result ≡ option_copied bell }
+    ensures bell { option_map (λ own. own.bell.now) result
+        ≡ option_copied bell.entry }
     ensures some { is_some result ≡ is_some pause }
 {
     Some(Own {
