@@ -107,7 +107,10 @@ pub(crate) fn acts_are_stopped<R: Threads + Wait + Sync>(rt: &R, alloc: Global) 
         ensure!(made == ACTS, "{made} acts were made");
         return Ok(false);
     }
-    ensure!(made <= 1, "{made} acts were made though another poller's devices were refused");
+    ensure!(
+        made <= 1,
+        "{made} acts were made though another poller's devices were refused"
+    );
     let (again, refused) = count(rt, alloc)?;
     ensure!(!refused && again == ACTS, "refused twice");
     Ok(true)

@@ -107,7 +107,8 @@ where
             (vec_items all)) }
         ensures polled { IfOk result
             (λ all. ArePolled R (IsAsked G.answers setting.entry.now.gate.now)
-            setting.entry.now.pace D.acts D.answer D.after (number + 1) pollers (vec_items others) (vec_items all)) }
+            setting.entry.now.pace D.acts D.answer D.after (number + 1) pollers
+            (vec_items others) (vec_items all)) }
         ensures fault { IfErr result IsCrewFault }
     { run_crews(setting, alloc, number + 1, pollers, others) };
     let (finished, others) = begun(setting, run_crew(setting, alloc, number, mine, later))?;

@@ -21,5 +21,5 @@ told_ok P (Err SpawnFailed) false false h = tt
 pub returns-clause-polled : goal.returns-clause-polled
 returns-clause-polled g c =
     let P : Vec (Finished g.row.D.Denot) → Type 0 = λ all. ArePolled (Bor g.row.R.Denot) (IsAsked g.G.Gate.answers c.args.gate.now) (pace_of c.args.budget c.args.weight c.args.window)
-        g.D.Device.acts g.D.Device.answer g.D.Device.after 0 c.args.pollers (vec_items c.args.stations) (vec_items all) in
+    g.D.Device.acts g.D.Device.answer g.D.Device.after 0 c.args.pollers (vec_items c.args.stations) (vec_items all) in
     rw c.tell.ensures (told_ok P _ _ _ (rw c.new-watch.ensures at c.run_crews-came.ensures.polled))
