@@ -5,13 +5,17 @@ use Rattle.rx_ring.specs.declared.packet.Packet.{Packet}
 use Rattle.rx_ring.specs.Ends.{SameIn, capacity_of, put_list}
 use Rattle.napi_model.specs.declared.state.Kind.TheVariants as kind
 use Rattle.napi_model.specs.declared.state.Seen.{Seen}
+use Rattle.napi_model.specs.declared.event.Event.{Event}
+use Rattle.napi_model.specs.declared.event.Operation.{Operation}
 use Rattle.napi_model.specs.declared.event.Operation.TheVariants as operation
 use Rattle.napi_word.specs.declared.table.Pass.{Pass}
 use Rattle.napi_calls.specs.declared.answers.Sched.{Sched}
 use Rattle.napi_calls.specs.declared.answers.Sched.TheVariants as sched
 use Rattle.napi_calls.specs.Calls.{Disables, Enables, Schedules}
 use Rattle.napi_calls.specs.Made.{Made}
-use Rattle.napi_calls.specs.Seats.{number_of}
+use Rattle.napi_calls.specs.Seats.{number_of, own_list}
+use Rattle.poll_list.specs.declared.list_in.ListIn.{ListIn}
+use Rattle.poll_list.specs.SharedList.{pushed_by}
 use Rattle.poll_interrupts.specs.declared.acts.Act.{Act}
 use Rattle.poll_interrupts.specs.declared.acts.Act.TheVariants.{Arrive, Disable, Enable, SetThreaded, Nothing}
 use Rattle.poll_interrupts.specs.declared.worker.Hold.{Hold}
@@ -34,6 +38,22 @@ GoesOn thread (sched.Disabled caller) q = q ≡ caller.pass
 -- an interrupt: a poll is asked for, and where it is granted the instance is handed over
 abbrev pub Interrupts : Bool → Pass → Pass → Type 0
 Interrupts thread p q = (s : Sched) × Schedules p s × GoesOn thread s q
+
+-- the instance is handed to the list
+abbrev pub is_listing : Operation → Bool
+is_listing (operation.Hand kind.List) = true
+is_listing _ = false
+
+-- what is pushed for these events: the number, once for each hand-over to the list
+abbrev pub listings : ℕ → List Event → List ℕ
+listings number [] = []
+listings number (e ∷ es) = (if is_listing e.operation then number ∷ [] else []) ++ listings number es
+
+-- Between p and q the seat handed its instance to the list so many times as its number was pushed there, and nothing else was.
+pub record Lists {R : Type 0} (number : ℕ) (p q : Pass) (before after : ListIn R) : Type 0 where
+  pub did : List Event
+  pub grown : own_list q ≡ own_list p ++ did
+  pub pushed : pushed_by after ≡ pushed_by before ++ listings number did
 
 -- the packet was put last
 abbrev pub IsPutLast : Packet → RxIn → Type 0

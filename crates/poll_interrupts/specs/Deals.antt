@@ -1,10 +1,14 @@
 -- How a list is dealt in two, and put together again.
-use Rattle.std.specs.Prelude.{◌≡◌, ◌==◌, ◌-◌, ◌%◌, ℕ, length, Bool, true, false, List, [], ◌∷◌}
+use Rattle.std.specs.Prelude.{◌≡◌, ◌==◌, ◌-◌, ◌%◌, ◌≤◌, ℕ, length, Bool, true, false, List, [], ◌∷◌}
 use Rattle.poll_interrupts.specs.declared.station.Station.{Station}
 
 -- a poller's own stations: numbered from 0, they leave its number when divided by the count of pollers
 abbrev pub is_dealt : {D : Type 0} → ℕ → ℕ → Station D → Bool
 is_dealt number pollers station = (station.number - 1) % pollers == number
+
+-- it is the own one of this poller or of a later one
+abbrev pub IsDealtFrom : {D : Type 0} → ℕ → ℕ → Station D → Type 0
+IsDealtFrom number pollers station = number ≤ (station.number - 1) % pollers
 
 -- those that are marked, in order
 abbrev pub picked : {A : Type 0} → List Bool → List A → List A

@@ -1,21 +1,40 @@
 -- How a station ends.
-use Rattle.std.specs.Prelude.{◌≡◌, ◌+◌, ◌<◌, ◌^◌, length}
+use Rattle.std.specs.Prelude.{◌≡◌, ◌+◌, ◌<◌, ◌^◌, Bool, true, List, [], ◌∷◌, length}
+use Rattle.rx_ring.specs.declared.packet.Packet.{Packet}
+use Rattle.rx_ring.specs.declared.packet.Totals.{Totals}
 use Rattle.rx_ring.specs.Ends.{put_list}
 use Rattle.rx_ring.specs.ReceiveRing.{bytes_of, capped}
+use Rattle.napi_model.specs.declared.event.Event.{Event}
+use Rattle.napi_model.specs.History.{own}
 use Rattle.napi_calls.specs.Seats.{number_of, own_list}
 use Rattle.napi_calls.specs.declared.kept.Kept.{Kept}
 use Rattle.napi_calls.specs.declared.types.Caller.{Caller}
 use Rattle.napi_calls.specs.Instance.{IsSeatOf}
+use Rattle.poll_tasks.specs.declared.tasks.Turned.{Turned}
 use Rattle.poll_interrupts.specs.declared.opening.Placed.{Placed}
 use Rattle.poll_interrupts.specs.declared.job.Worked.{Worked}
 use Rattle.poll_interrupts.specs.declared.station.Finished.{Finished}
+use Rattle.poll_interrupts.specs.declared.worker.Seats.{Seats}
 use Rattle.poll_interrupts.specs.Opens.{IsHome, IsInputOf}
 use Rattle.poll_interrupts.specs.Runs.{IsEnded, controller_number}
 use Rattle.poll_interrupts.specs.Seats.{AreSeatsOf}
 
+-- the caller's events in the history are all that it made
+abbrev pub HasAllOf : List Event → Caller → Type 0
+HasAllOf history caller = own (number_of caller.pass) history ≡ own_list caller.pass
+
+-- the instance was closed, and its one history has all that its worker, its poller and its thread made
+pub record IsEndedBy (seats : Seats) (poller thread : Caller) (put : List Packet) (totals : Totals) : Type 0 where
+  pub ended : IsEnded (number_of seats.caller.pass) (own_list seats.caller.pass) (own_list seats.control.pass) put totals
+  pub by_poller : HasAllOf ended.history poller
+  pub by_thread : HasAllOf ended.history thread
+
 module _ {R : Type 0} where
   abbrev pub IsCallerAt : Kept R Caller → Kept R Placed → Type 0
   IsCallerAt kept placed = IsSeatOf placed.value.napi kept.value.pass
+
+  abbrev pub IsTurnedAt : Turned (Kept R Caller) → Kept R Placed → Type 0
+  IsTurnedAt turned placed = IsCallerAt turned.back placed
 
   module _ {D : Type 0} where
     -- what a worker gave back and what stayed behind are of one instance and one ring
@@ -26,11 +45,16 @@ module _ {R : Type 0} where
       pub home : IsHome placed.value
 
     -- the totals are those of the ring, and the instance was closed
-    pub record IsFinishOf (worked : Worked R D) (end : Finished D) : Type 0 where
+    pub record IsFinishOf (worked : Worked R D) (poller thread : Kept R Caller) (end : Finished D) : Type 0 where
       pub same_number : end.number ≡ worked.number
       pub same_device : end.device ≡ worked.done.device
       pub put : end.totals.put ≡ capped (length (put_list worked.done.rx))
       pub bytes : end.totals.bytes ≡ capped (bytes_of (put_list worked.done.rx))
       pub sum : length (put_list worked.done.rx) < 2 ^ 64 → end.totals.put ≡ end.totals.polled + end.totals.left
-      pub ended : IsEnded (number_of worked.done.seats.value.caller.pass) (own_list worked.done.seats.value.caller.pass)
-          (own_list worked.done.seats.value.control.pass) (put_list worked.done.rx) end.totals
+      pub is : IsEndedBy worked.done.seats.value poller.value thread.value (put_list worked.done.rx) end.totals
+
+    -- so for all stations of a crew, in order
+    abbrev pub AreFinishesOf : List (Worked R D) → List (Kept R Caller) → List (Turned (Kept R Caller)) → List (Finished D) → Type 0
+    AreFinishesOf [] [] [] [] = Unit
+    AreFinishesOf (worked ∷ ws) (poller ∷ ps) (thread ∷ ts) (end ∷ es) = IsFinishOf worked poller thread.back end × AreFinishesOf ws ps ts es
+    AreFinishesOf _ _ _ _ = ⊥

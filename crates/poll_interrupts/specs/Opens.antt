@@ -10,8 +10,8 @@ use Rattle.napi_calls.specs.Seats.{number_of}
 use Rattle.poll_interrupts.specs.declared.station.Station.{Station}
 use Rattle.poll_interrupts.specs.declared.opening.Placed.{Placed}
 use Rattle.poll_interrupts.specs.declared.opening.Loose.{Loose}
-use Rattle.poll_interrupts.specs.Seats.{AreSeatsOf, AreUnused}
-use Rattle.poll_interrupts.specs.Runs.{controller_number}
+use Rattle.poll_interrupts.specs.Seats.{AreSeatsOf, AreUnused, IsUnused}
+use Rattle.poll_interrupts.specs.Runs.{controller_number, poller_number, thread_number}
 
 -- its number is 1 to 16, and its ring has 1 to 65536 places
 pub record IsStation {D : Type 0} (station : Station D) : Type 0 where
@@ -38,6 +38,8 @@ module _ {D : Type 0} where
     pub nothing_put : put_list loose.rx ≡ []
     pub thread : is_some loose.pause ≡ station.thread
     pub unused : AreUnused loose.seats
+    pub poller : IsUnused poller_number loose.poller
+    pub own : IsUnused thread_number loose.thread
 
   -- what goes to the threads and what stays behind are of one instance, and of one ring
   pub record IsSideOf (loose : Loose D) (placed : Placed) : Type 0 where

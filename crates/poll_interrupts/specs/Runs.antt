@@ -107,7 +107,16 @@ WorksBy w answer after d n a b = (on : Ledger) × (acted : Ledger) × SwitchesOn
 
 -- ---- the whole run of a station
 
--- its instance has three callers, so its controller has this number
+-- its instance has three callers, of its worker, of its poller and of its own thread, and so its controller the last number
+abbrev pub worker_number : ℕ
+worker_number = 0
+
+abbrev pub poller_number : ℕ
+poller_number = 1
+
+abbrev pub thread_number : ℕ
+thread_number = 2
+
 abbrev pub controller_number : ℕ
 controller_number = 3
 

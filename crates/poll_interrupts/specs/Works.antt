@@ -10,6 +10,7 @@ use Rattle.poll_interrupts.specs.declared.worker.Done.{Done}
 use Rattle.poll_interrupts.specs.declared.job.Worked.{Worked}
 use Rattle.napi_calls.specs.Seats.{number_of, own_list}
 use Rattle.poll_interrupts.specs.Acts.{after_acts, arrivals}
+use Rattle.poll_interrupts.specs.Calls.{Lists}
 use Rattle.poll_interrupts.specs.Runs.{Ledger, Whose, WorksBy}
 use Rattle.poll_interrupts.specs.Seats.{AreSeatsOf}
 
@@ -32,9 +33,11 @@ module _ {R D : Type 0} (acts : D → ℕ) (answer : D → ℕ → Act) (after :
       (ledger_of work.seats.value work.rx false) (ledger_of done.seats.value done.rx threaded)
 
   -- it made all acts of the device, each once and in order, and put what they brought, where there is room for all
-  pub record IsDoneBy (napi : Napi) (thread : Bool) (work : Work R D) (done : Done R D) : Type 0 where
+  pub record IsDoneBy (napi : Napi) (thread : Bool) (number : ℕ) (work : Work R D) (done : Done R D) : Type 0 where
     pub seats : AreSeatsOf napi done.seats.value
     pub same : AreSameSeats work.seats.value done.seats.value
+    -- it pushed the station's number for each hand-over to the list, once, and nothing else
+    pub lists : Lists number work.seats.value.caller.pass done.seats.value.caller.pass work.list done.list
     pub run : done.whole ≡ true → HasWorked thread work done
     pub made : done.whole ≡ true → done.device ≡ after_acts after work.device (acts work.device)
     pub ring : SameIn work.rx done.rx
@@ -44,4 +47,4 @@ module _ {R D : Type 0} (acts : D → ℕ) (answer : D → ℕ → Act) (after :
 
   pub record IsWorkOf (napi : Napi) (thread : Bool) (number : ℕ) (work : Work R D) (worked : Worked R D) : Type 0 where
     pub same_number : worked.number ≡ number
-    pub done : IsDoneBy napi thread work worked.done
+    pub done : IsDoneBy napi thread number work worked.done

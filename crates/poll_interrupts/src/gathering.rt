@@ -2,13 +2,14 @@
 
 ghost use Rattle.std.specs.Prelude.{◌≡◌, ◌≤◌, true, vec_items, vec_len, vec_capacity};
 ghost use Rattle.std.specs.List.{All, AllZip};
-ghost use Rattle.poll_interrupts.specs.Ends.{IsCallerAt, IsDoneAt, IsFinishOf};
+ghost use Rattle.poll_interrupts.specs.Ends.{AreFinishesOf, IsCallerAt, IsDoneAt, IsFinishOf, IsTurnedAt};
 
 use crate::job::Worked;
 use crate::opening::Placed;
 use crate::station::Finished;
 use crate::worker::Done;
 use napi_calls::{Caller, Kept};
+use poll_tasks::Turned;
 use rx_ring::finish;
 use std::sync::Wait;
 
@@ -22,10 +23,11 @@ fn end_one<R: Wait + Drop, D: Drop>(
     requires done { IsDoneAt worked placed }
     requires poller { IsCallerAt poller placed }
     requires thread { IsCallerAt thread placed }
-    ensures { IsFinishOf worked result }
+    ensures { IsFinishOf worked poller thread result }
 {
     let Worked { number, done } = worked;
     let Done {
+        list: _,
         device,
         rx,
         seats,
@@ -45,16 +47,17 @@ fn end_one<R: Wait + Drop, D: Drop>(
 pub fn gather<R: Wait + Drop, D: Drop>(
     worked: Vec<Worked<R, D>>,
     pollers: Vec<Kept<R, Caller>>,
-    threads: Vec<Kept<R, Caller>>,
+    threads: Vec<Turned<Kept<R, Caller>>>,
     placed: Vec<Kept<R, Placed>>,
     room: Vec<Finished<D>>,
 ) -> Vec<Finished<D>>
     requires dones { AllZip IsDoneAt (vec_items worked) (vec_items placed) }
     requires pollers { AllZip IsCallerAt (vec_items pollers) (vec_items placed) }
-    requires threads { AllZip IsCallerAt (vec_items threads) (vec_items placed) }
+    requires threads { AllZip IsTurnedAt (vec_items threads) (vec_items placed) }
     requires empty { vec_len room ≡ 0 }
     requires room { vec_len worked ≤ vec_capacity room }
-    ensures { AllZip IsFinishOf (vec_items worked) (vec_items result) }
+    ensures { AreFinishesOf (vec_items worked) (vec_items pollers) (vec_items threads)
+        (vec_items result) }
 {
     let mut finished = room;
     let mut dones = worked.into_iter();
@@ -71,7 +74,7 @@ pub fn gather<R: Wait + Drop, D: Drop>(
         let Some(thread) = sides.next() else {
             unreachable!()
         };
-        finished.push_reserved(end_one(done, poller, thread, placed));
+        finished.push_reserved(end_one(done, poller, thread.back, placed));
     }
     finished
 }
@@ -81,4 +84,11 @@ pub fn are_whole<R: Wait + Drop, D>(worked: &[Worked<R, D>]) -> bool
     ensures { result ≡ true → All (λ w. w.done.whole ≡ true) worked.now }
 {
     worked.iter().all(|one| one.done.whole)
+}
+
+/// Whether the threads of all instances that have one took their turns.
+pub fn have_turned<T>(threads: &[Turned<T>]) -> bool
+    ensures { result ≡ true → All (λ t. t.polled ≡ true) threads.now }
+{
+    threads.iter().all(|one| one.polled)
 }

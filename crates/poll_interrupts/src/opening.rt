@@ -3,10 +3,10 @@
 ghost use Rattle.std.specs.Prelude.{◌≡◌, ◌≤◌, ◌+◌, ℕ, [], ◌∷◌, IfOk, is_some, length, slice_get, Some, vec_items, vec_len, vec_capacity};
 ghost use Rattle.std.specs.List.{All, AllZip};
 ghost use Rattle.napi_calls.specs.Closed.{IsClosed};
-ghost use Rattle.napi_calls.specs.Instance.{IsSeatOf, callers_of};
+ghost use Rattle.napi_calls.specs.Instance.{IsNewSeat, IsSeatOf, callers_of};
 ghost use Rattle.napi_calls.specs.declared.types.Caller.{Caller};
 ghost use Rattle.poll_interrupts.specs.Opens.{IsHome, IsKeptLoose, IsKeptSideOf, IsLoose, IsSideOf, IsStation};
-ghost use Rattle.poll_interrupts.specs.Seats.{AreSeatsOf, IsNew};
+ghost use Rattle.poll_interrupts.specs.Seats.{AreSeatsOf};
 
 use crate::station::Station;
 use crate::worker::Seats;
@@ -70,15 +70,15 @@ impl Placed {
     }
 }
 
-// The next caller, of an instance's callers.
+// The last one left of an instance's callers.
 fn next(napi: &Napi, callers: &mut Vec<Caller>) -> Caller
     requires some { 1 ≤ length callers.old.items }
     requires seats { (k : ℕ) (c : Caller) → slice_get callers.old.items k ≡ Some c
-        → IsNew napi.now c.pass }
-    ensures caller { IsNew napi.now result.pass }
+        → IsNewSeat napi.now k c.pass }
+    ensures caller { IsNewSeat napi.now (length callers.new.items) result.pass }
     ensures left { length callers.new.items + 1 ≡ length callers.old.items }
     ensures seats { (k : ℕ) (c : Caller) → slice_get callers.new.items k ≡ Some c
-        → IsNew napi.now c.pass }
+        → IsNewSeat napi.now k c.pass }
     ensures room { vec_capacity callers.new ≡ vec_capacity callers.old }
 {
     let popped = callers.pop();

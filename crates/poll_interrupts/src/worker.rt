@@ -4,7 +4,7 @@ ghost use Rattle.std.specs.Prelude.{◌≡◌, ℕ, ◌+◌, ◌≤◌, ◌<◌,
 ghost use Rattle.rx_ring.specs.Ends.{SameIn, capacity_of, put_list};
 ghost use Rattle.napi_calls.specs.Instance.{IsSeatOf};
 ghost use Rattle.poll_interrupts.specs.Acts.{after_acts, arrivals, brings};
-ghost use Rattle.poll_interrupts.specs.Calls.{Acts, AllActs, HandsOver, Interrupts, IsPutLast, IsSameHold, Leaves, TurnsOff, TurnsOn};
+ghost use Rattle.poll_interrupts.specs.Calls.{Acts, AllActs, HandsOver, Interrupts, IsPutLast, IsSameHold, Leaves, Lists, TurnsOff, TurnsOn};
 ghost use Rattle.poll_interrupts.specs.Seats.{AreSeatsOf, IsHoldOf};
 ghost use Rattle.poll_interrupts.specs.Works.{IsDoneBy};
 
@@ -65,6 +65,8 @@ pub struct Work<R: Wait + Drop, D> {
 /// What a worker ends with.
 #[derive(Drop)]
 pub struct Done<R: Wait + Drop, D> {
+    /// The worker's end of its poller's list.
+    pub list: ListIn<R>,
     /// The device, after its acts.
     pub device: D,
     /// The input of its receive ring.
@@ -98,6 +100,7 @@ impl<'s, 'p, 'n, R: Wait> Desk<'s, 'p, 'n, R> {
         requires { IsSeatOf self.now.napi.now granted.pass }
         ensures of { IsSeatOf self.now.napi.now result.pass }
         ensures handed { HandsOver false granted.pass result.pass }
+        ensures lists { Lists self.now.number granted.pass result.pass list.old list.new }
     {
         let caller = granted.hand(self.napi, Kind::List);
         list.push(self.number);
@@ -111,6 +114,7 @@ impl<'s, 'p, 'n, R: Wait> Desk<'s, 'p, 'n, R> {
         requires { IsSeatOf self.now.napi.now granted.pass }
         ensures of { IsSeatOf self.now.napi.now result.pass }
         ensures handed { HandsOver (is_some self.now.thread) granted.pass result.pass }
+        ensures lists { Lists self.now.number granted.pass result.pass list.old list.new }
     {
         let Some(bell) = self.thread else {
             return self.hand_to_list(list, granted);
@@ -130,6 +134,7 @@ impl<'s, 'p, 'n, R: Wait> Desk<'s, 'p, 'n, R> {
         requires put { IsPutLast packet rx.now }
         ensures of { IsSeatOf self.now.napi.now result.pass }
         ensures interrupts { Interrupts (is_some self.now.thread) caller.pass result.pass }
+        ensures lists { Lists self.now.number caller.pass result.pass list.old list.new }
     {
         match caller.schedule(&self.rt, self.napi) {
             Sched::Granted(granted) => self.hand_over(list, granted),
@@ -211,6 +216,8 @@ impl<'s, 'p, 'n, R: Wait> Desk<'s, 'p, 'n, R> {
         ensures of { IsHoldOf self.now.napi.now result }
         ensures made { Acts (is_some self.now.thread)
             (D.answer device.old k) hold result rx.old rx.new }
+        ensures lists { Lists self.now.number hold.caller.pass result.caller.pass
+            list.old list.new }
         ensures device { device.new ≡ D.after device.old k }
         ensures acts { D.acts device.new ≡ D.acts device.old }
         ensures ring { SameIn rx.old rx.new }
@@ -280,6 +287,8 @@ impl<'s, 'p, 'n, R: Wait> Desk<'s, 'p, 'n, R> {
         requires { IsHoldOf self.now.napi.now hold }
         ensures of { IsHoldOf self.now.napi.now result.0 }
         ensures same { IsSameHold hold result.0 }
+        ensures lists { Lists self.now.number hold.caller.pass result.0.caller.pass
+            list.old list.new }
         ensures made { result.1 ≡ true
             → AllActs (is_some self.now.thread) D.answer D.after device.old
             (D.acts device.old) hold result.0 rx.old rx.new }
@@ -309,7 +318,7 @@ impl<'s, 'p, 'n, R: Wait + Drop + Copy> Desk<'s, 'p, 'n, R> {
     pub(crate) fn work<D: Device, G: Gate>(&self, gate: &G, work: Work<R, D>) -> Done<R, D>
         requires { AreSeatsOf self.now.napi.now work.seats.value }
         ensures { IsDoneBy D.acts D.answer D.after self.now.napi.now
-            (is_some self.now.thread) work result }
+            (is_some self.now.thread) self.now.number work result }
     {
         let Work {
             mut list,
@@ -325,6 +334,7 @@ impl<'s, 'p, 'n, R: Wait + Drop + Copy> Desk<'s, 'p, 'n, R> {
         });
         let (hold, whole) = self.make_acts(&mut list, &mut device, hold, &mut rx, gate);
         Done {
+            list,
             device,
             rx,
             seats: Kept::new(self.rt, self.leave(hold)),

@@ -82,3 +82,7 @@ alone_keep {R} (one ∷ more) before after c = seat_joins before.seat c.0.seat a
 
 pub served_alone : {R : Type 0} (before after : Alone R) → IsServed TurnsAlone before after → IsSameSeat before.seat after.seat
 served_alone before after s = seat_joins before.seat s.last.seat after.seat (alone_keep s.found before s.last s.earlier) s.empty.same
+
+-- what turns began with
+abbrev pub before_turns : {S : Type 0} {turns : S → Bool → S → Type 0} {before after : S} → IsServed turns before after → S
+before_turns {before = before} served = before

@@ -1,9 +1,13 @@
 -- What a poller's thread, and the thread of an instance, give back.
-use Rattle.std.specs.Prelude.{◌≡◌, ◌⊎◌, List, Some, vec_items}
+use Rattle.std.specs.Prelude.{◌≡◌, ℕ, ◌+◌, Bool, true, List, Some, IsSome, MatchOption, vec_items}
 use Rattle.std.specs.Global.{Vec}
 use Rattle.napi_calls.specs.declared.kept.Kept.{Kept}
 use Rattle.napi_calls.specs.declared.types.Caller.{Caller}
 use Rattle.napi_calls.specs.Instance.{IsSeatOf}
+use Rattle.poll_list.specs.declared.shared.SharedList.{SharedList}
+use Rattle.poll_tasks.specs.declared.pace.Pace.{Pace}
+use Rattle.poll_tasks.specs.declared.tasks.Turned.{Turned}
+use Rattle.poll_tasks.specs.Asks.{IsAsked}
 use Rattle.poll_seats.specs.declared.seat.Seat.{Seat}
 use Rattle.poll_seats.specs.declared.poller.Poller.{Poller}
 use Rattle.poll_seats.specs.declared.poller.PollTask.{PollTask}
@@ -13,36 +17,52 @@ use Rattle.poll_seats.specs.SeatKeeping.{AreSameSeats}
 use Rattle.poll_seats.specs.Serving.{IsServed}
 use Rattle.poll_seats.specs.Turns.{TurnsAlone, TurnsByRun}
 
-module _ {R G : Type 0} where
-  -- the task's poller took its turns, by the pace of the run, over the task's list and from its seats to these
-  pub record IsPolledBy (task : PollTask R G) (seats : List Seat) : Type 0 where
+-- by what numbers a gate knows a poller, and the thread of an instance
+abbrev pub poller_name : ℕ → ℕ
+poller_name number = 100 + number
+
+abbrev pub thread_name : ℕ → ℕ
+thread_name number = 200 + number
+
+module _ {R : Type 0} where
+  -- The poller with this number started, which its gate knows of, and took its turns, one after the other, each a run by this
+  -- pace: over this list, and from its seats as they were to these.
+  pub record IsPolledBy (asked : ℕ → Type 0) (pace : Pace) (number : ℕ) (list : SharedList R) (before after : List Seat) : Type 0 where
     pub first : Poller R
     pub last : Poller R
-    pub pace : first.pace ≡ task.setting.now.pace
-    pub list : first.list ≡ task.list
-    pub from : vec_items first.crowd.seats ≡ vec_items task.seats.value
+    pub started : asked (poller_name number)
+    pub paced : first.pace ≡ pace
+    pub over : first.list ≡ list
+    pub from : vec_items first.crowd.seats ≡ before
     pub turns : IsServed TurnsByRun first last
-    pub to : vec_items last.crowd.seats ≡ seats
+    pub to : vec_items last.crowd.seats ≡ after
 
-  -- The seats stay at their instances. They are those handed in, where a thread was refused, or what the poller's turns made
-  -- of these.
-  pub record GivesSeats (task : PollTask R G) (given : Kept R (Vec Seat)) : Type 0 where
-    pub same : AreSameSeats (vec_items task.seats.value) (vec_items given.value)
-    pub came : (given ≡ task.seats) ⊎ IsPolledBy task (vec_items given.value)
-
-  -- the instance's thread took its turns, by the pace of the run, from the side's caller to this one
-  pub record IsPolledAlone (side : ThreadSide R G) (caller : Caller) : Type 0 where
+module _ (R : Type 0) where
+  -- The thread of the instance with this number started, which its gate knows of, and took its turns, one after the other,
+  -- each a polling by this pace: with a bell of its own, and from this caller to that one.
+  pub record IsPolledAlone (asked : ℕ → Type 0) (pace : Pace) (number : ℕ) (before after : Caller) : Type 0 where
     pub first : Alone R
     pub last : Alone R
-    pub pace : first.pace ≡ side.setting.now.pace
-    pub number : first.seat.number ≡ side.number
-    pub napi : first.seat.napi ≡ side.napi
-    pub from : first.seat.caller ≡ Some side.caller.value
+    pub started : asked (thread_name number)
+    pub paced : first.pace ≡ pace
+    pub at : first.seat.number ≡ number
+    pub bell : IsSome first.seat.thread
+    pub from : first.seat.caller ≡ Some before
     pub turns : IsServed TurnsAlone first last
-    pub to : last.seat.caller ≡ Some caller
+    pub to : last.seat.caller ≡ Some after
 
-  -- The caller is of the side's instance. It is the one handed in, where the instance has no thread or a thread was refused,
-  -- or what the thread's turns made of that.
-  pub record GivesCaller (side : ThreadSide R G) (given : Kept R Caller) : Type 0 where
-    pub of : IsSeatOf side.napi.now given.value.pass
-    pub came : (given ≡ side.caller) ⊎ IsPolledAlone side given.value
+module _ {R G : Type 0} (answers : G → ℕ → ℕ → Bool → Type 0) where
+  -- The seats stay at their instances. They are what the poller's turns made of those handed in, unless a thread was refused.
+  pub record GivesSeats (task : PollTask R G) (given : Turned (Kept R (Vec Seat))) : Type 0 where
+    pub same : AreSameSeats (vec_items task.seats.value) (vec_items given.back.value)
+    pub turns : given.polled ≡ true
+        → IsPolledBy (IsAsked answers task.setting.now.gate.now) task.setting.now.pace task.number task.list (vec_items task.seats.value) (vec_items given.back.value)
+
+  -- The caller is of the side's instance. It is the one handed in, where the instance has no thread, or what that one's turns
+  -- made of it, unless a thread was refused.
+  pub record GivesCaller (side : ThreadSide R G) (given : Turned (Kept R Caller)) : Type 0 where
+    pub of : IsSeatOf side.napi.now given.back.value.pass
+    pub turns : given.polled ≡ true
+        → MatchOption side.own
+        (given.back ≡ side.caller)
+        (λ own. IsPolledAlone R (IsAsked answers side.setting.now.gate.now) side.setting.now.pace side.number side.caller.value given.back.value)

@@ -1,5 +1,5 @@
 -- A poller's seats, which stay at their instances.
-use Rattle.std.specs.Prelude.{◌≡◌, List, IsSome}
+use Rattle.std.specs.Prelude.{◌≡◌, List, Some, IsSome}
 use Rattle.std.specs.List.{AllZip}
 use Rattle.napi_calls.specs.declared.kept.Kept.{Kept}
 use Rattle.napi_calls.specs.declared.types.Caller.{Caller}
@@ -16,6 +16,6 @@ pub record IsSameSeat (a b : Seat) : Type 0 where
 abbrev pub AreSameSeats : List Seat → List Seat → Type 0
 AreSameSeats = AllZip IsSameSeat
 
--- this caller is of the seat's instance
+-- this caller is the seat's, and of its instance
 abbrev pub IsCallerOf : {R : Type 0} → Seat → Kept R Caller → Type 0
-IsCallerOf seat kept = IsSeatOf seat.napi.now kept.value.pass
+IsCallerOf seat kept = IsSeatOf seat.napi.now kept.value.pass × (seat.caller ≡ Some kept.value)

@@ -8,11 +8,11 @@ use crate::serving::{Serves, serve};
 use napi_calls::Kept;
 use poll_list::SharedList;
 use poll_runs::{Bench, Next, Once, RunReport, run_softirq};
-use poll_tasks::{Gate, Pace, Pause, Post, Setting, Task};
+use poll_tasks::{Gate, Pace, Pause, Post, Setting, Task, Turned};
 use rx_ring::Batch;
 use std::sync::Wait;
 
-// A poller goes by 100 and its number from 0.
+// A poller goes by 100 and its number from 0 (`poller_name`).
 const FIRST_POLLER: u32 = 100;
 
 /// A poller's seats, as what is polled by the instances' numbers. It must be spent.
@@ -119,10 +119,10 @@ impl<'t, 'p, 'n, R: Wait + Drop + Copy, G: Gate> PollTask<'t, 'p, 'n, R, G> {
     ghost use Rattle.poll_seats.specs.Gives.{GivesSeats};
 
     // Polls until told.
-    fn poll(self) -> Kept<R, Vec<Seat<'n>>>
+    fn poll(self) -> Turned<Kept<R, Vec<Seat<'n>>>>
         requires number { self.number < 8 }
         requires pace { IsLawful self.setting.now.pace }
-        ensures { GivesSeats self.entry result }
+        ensures { GivesSeats G.answers self.entry result }
     {
         let PollTask {
             setting,
@@ -147,11 +147,14 @@ impl<'t, 'p, 'n, R: Wait + Drop + Copy, G: Gate> PollTask<'t, 'p, 'n, R, G> {
             pace: setting.pace,
         };
         serve(&rt, &post.bell, &pause, &mut poller);
-        Kept::new(rt, poller.leave())
+        Turned {
+            back: Kept::new(rt, poller.leave()),
+            polled: true,
+        }
     }
 }
 
-impl<'t, 'p, 'n, R: Wait + Drop + Copy, G: Gate> Task<Kept<R, Vec<Seat<'n>>>>
+impl<'t, 'p, 'n, R: Wait + Drop + Copy, G: Gate> Task<Turned<Kept<R, Vec<Seat<'n>>>>>
     for PollTask<'t, 'p, 'n, R, G> {
     ghost use Rattle.std.specs.Prelude.{◌<◌};
     ghost use Rattle.poll_tasks.specs.Paces.{IsLawful};
@@ -159,15 +162,18 @@ impl<'t, 'p, 'n, R: Wait + Drop + Copy, G: Gate> Task<Kept<R, Vec<Seat<'n>>>>
 
     ghost can_run = { λ task. (task.number < 8) × IsLawful task.setting.now.pace };
 
-    ghost gives = { GivesSeats };
+    ghost gives = { GivesSeats G.answers };
 
     fn is_idle(&self) -> bool {
         false
     }
 
-    fn run(self) -> Kept<R, Vec<Seat<'n>>> {
+    fn run(self) -> Turned<Kept<R, Vec<Seat<'n>>>> {
         if self.post.is_refused() {
-            return self.seats;
+            return Turned {
+                back: self.seats,
+                polled: false,
+            };
         }
         self.poll()
     }

@@ -12,11 +12,11 @@ use napi_calls::{Caller, Kept, Napi};
 use napi_model::Kind;
 use poll_list::ListIn;
 use poll_runs::Next;
-use poll_tasks::{Bell, Gate, Pace, Pause, Post, Setting, Task};
+use poll_tasks::{Bell, Gate, Pace, Pause, Post, Setting, Task, Turned};
 use rx_ring::Batch;
 use std::sync::Wait;
 
-// A thread poller goes by 200 and its device's number.
+// A thread poller goes by 200 and its device's number (`thread_name`).
 const FIRST_THREAD: u32 = 200;
 
 // What the thread polls. It must be spent.
@@ -109,11 +109,11 @@ impl<'t, 'p, 'n, R: Wait + Drop + Copy, G: Gate> ThreadSide<'t, 'p, 'n, R, G> {
     ghost use Rattle.poll_seats.specs.Gives.{GivesCaller};
 
     // Polls until told.
-    fn poll(self) -> Kept<R, Caller>
+    fn poll(self) -> Turned<Kept<R, Caller>>
         requires seat { IsSeatOf self.napi.now self.caller.value.pass }
         requires name { self.number ≤ 16 }
         requires pace { IsLawful self.setting.now.pace }
-        ensures { GivesCaller self.entry result }
+        ensures { GivesCaller G.answers self.entry result }
     {
         let ThreadSide {
             setting,
@@ -125,7 +125,10 @@ impl<'t, 'p, 'n, R: Wait + Drop + Copy, G: Gate> ThreadSide<'t, 'p, 'n, R, G> {
         } = self;
         let rt = setting.rt;
         let Some(Own { bell, pause, list }) = own else {
-            return caller;
+            return Turned {
+                back: caller,
+                polled: true,
+            };
         };
         if !setting.gate.pass(FIRST_THREAD + number, 0) {
             setting.signals.stop();
@@ -144,11 +147,14 @@ impl<'t, 'p, 'n, R: Wait + Drop + Copy, G: Gate> ThreadSide<'t, 'p, 'n, R, G> {
             batch: Batch::new(),
         };
         serve(&rt, bell, &pause, &mut alone);
-        Kept::new(rt, alone.leave())
+        Turned {
+            back: Kept::new(rt, alone.leave()),
+            polled: true,
+        }
     }
 }
 
-impl<'t, 'p, 'n, R: Wait + Drop + Copy, G: Gate> Task<Kept<R, Caller>>
+impl<'t, 'p, 'n, R: Wait + Drop + Copy, G: Gate> Task<Turned<Kept<R, Caller>>>
     for ThreadSide<'t, 'p, 'n, R, G> {
     ghost use Rattle.std.specs.Prelude.{◌≤◌};
     ghost use Rattle.napi_calls.specs.Instance.{IsSeatOf};
@@ -157,15 +163,18 @@ impl<'t, 'p, 'n, R: Wait + Drop + Copy, G: Gate> Task<Kept<R, Caller>>
 
     ghost can_run = { λ side. IsSeatOf side.napi.now side.caller.value.pass × (side.number ≤ 16) × IsLawful side.setting.now.pace };
 
-    ghost gives = { GivesCaller };
+    ghost gives = { GivesCaller G.answers };
 
     fn is_idle(&self) -> bool {
         self.own.is_none()
     }
 
-    fn run(self) -> Kept<R, Caller> {
+    fn run(self) -> Turned<Kept<R, Caller>> {
         if self.poller.is_refused() {
-            return self.caller;
+            return Turned {
+                back: self.caller,
+                polled: false,
+            };
         }
         self.poll()
     }

@@ -1,2 +1,3 @@
 pub mod Tasks
 pub mod Paces
+pub mod Asks

@@ -1,6 +1,6 @@
 //! Who is asked before acts.
 
-ghost use Rattle.std.specs.Prelude.{◌≡◌, true, false};
+ghost use Rattle.std.specs.Prelude.{◌≡◌, ℕ, Bool, true, false};
 
 use std::marker::PhantomData;
 use std::sync::atomic::{AtomicIn, Ordering, Rule};
@@ -11,10 +11,14 @@ pub trait Gate {
     /// What is true of a gate that may answer false: nothing where it always answers true.
     ghost may_shut: { Type 0 } = { Unit {0} };
 
+    /// `answers self worker act answer`: it was asked this, and answered so. Of a gate that states nothing nothing is known.
+    ghost answers: { Self → ℕ → ℕ → Bool → Type 0 } = { λ gate worker act answer. Unit {0} };
+
     /// False shuts the run: no further act is made, pollers go on until all that is begun has ended, and the run is
     /// refused.
     fn pass(&self, worker: u32, act: u32) -> bool
-        ensures { result ≡ false → may_shut };
+        ensures shut { result ≡ false → may_shut }
+        ensures answers { answers self.now worker act result };
 }
 
 /// A gate that is always open.
@@ -48,7 +52,9 @@ pub struct Watch<'t, G: Gate> {
 
 impl<'t, G: Gate> Watch<'t, G> {
     /// A watch over this gate.
-    pub fn new(gate: &'t G) -> Watch<'t, G> {
+    pub fn new(gate: &'t G) -> Watch<'t, G>
+        ensures { result.gate.now ≡ gate.now }
+    {
         Watch {
             gate,
             shut: AtomicIn::new(0),
@@ -65,6 +71,8 @@ impl<'t, G: Gate> Watch<'t, G> {
 
 impl<'t, G: Gate> Gate for Watch<'t, G> {
     ghost may_shut = { G.may_shut };
+
+    ghost answers = { λ watch worker act answer. G.answers watch.gate.now worker act answer };
 
     fn pass(&self, worker: u32, act: u32) -> bool {
         let open = self.gate.pass(worker, act);

@@ -11,4 +11,4 @@ pub use driving::{Driven, Room, drive, task_room};
 pub use gate::{Gate, OpenGate, Watch};
 pub use pace::{Pace, Setting};
 pub use signals::{Bell, Pause, Post, Signals};
-pub use tasks::{Begun, Gives, Task, begin, begin_all, end, end_all};
+pub use tasks::{Begun, Gives, Task, Turned, begin, begin_all, end, end_all};

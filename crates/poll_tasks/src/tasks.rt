@@ -23,6 +23,15 @@ pub trait Task<O> {
         ensures { gives self result };
 }
 
+/// What a task that polls gives back.
+#[derive(Drop)]
+pub struct Turned<T> {
+    /// What it polled with.
+    pub back: T,
+    /// Whether it took its turns: not where a thread beside it couldn't be started.
+    pub polled: bool,
+}
+
 /// The promise that a thread gives what its task does.
 #[derive(Drop)]
 pub struct Gives<J>(pub Snapshot<J>);

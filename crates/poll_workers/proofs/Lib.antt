@@ -1,2 +1,3 @@
 pub mod RunFacts
 pub mod NumberFacts
+pub mod CrewFacts

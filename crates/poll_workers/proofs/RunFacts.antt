@@ -1,10 +1,11 @@
 -- What the parts of a crew come to for its stations.
-use Rattle.std.{proofs.Common.{◌≡◌, ℕ, ◌≤◌, true, false, is_some, List, [], ◌++◌, length, sym, ap, ◌∙◌, subst, IsSome, All, arith, rules}, specs.{Prelude.{IfOk, Ok, Err, Result, vec_items}, Global.Vec, List.{AllByRecursion, AllZip}}}
+use Rattle.std.{proofs.Common.{◌≡◌, ℕ, suc, ◌≤◌, Bool, true, false, Option, None, is_some, List, [], ◌∷◌, ◌++◌, length, sym, ap, ◌∙◌, refl, subst, IsSome, Some, All, arith, rules}, specs.{Prelude.{IfOk, Ok, Err, Result, map, vec_items, MatchBool, MatchOption}, Global.Vec, List.{AllByRecursion, AllZip}}}
 use Rattle.{rx_ring.specs.{declared.{ends.RxIn.RxIn, packet.Packet.Packet}, Ends.{SameIn, capacity_of, put_list}, ReceiveRing.{bytes_of, capped}}, napi_calls.specs.declared.{kept.Kept.Kept, types.{Caller.Caller, Napi.Napi}}}
 use Rattle.{napi_calls.specs.{Instance.IsSeatOf, Seats.{number_of, own_list}}, poll_interrupts.specs.declared.{acts.Act.Act, opening.{Loose.Loose, Placed.Placed}, station.{Station.Station, Finished.Finished}, job.Job.Job}}
-use Rattle.poll_interrupts.specs.{declared.{job.Worked.Worked, worker.Seats.Seats}, Acts.{after_acts, arrivals}, Ends.{IsCallerAt, IsDoneAt, IsFinishOf}, Opens.{IsInputOf, IsKeptLoose, IsKeptSideOf, IsLoose}, Runs.{HasRun, IsEnded}}
-use Rattle.{poll_interrupts.specs.{Runs.{Ledger, Whose, WorksBy, blank, controller_number}, Seats.AreSeatsOf, Works.{IsWorkOf, ledger_of, whose}}, poll_seats.specs.declared.{seat.Seat.Seat, thread_poller.ThreadSide.ThreadSide}}
-use Rattle.{poll_seats.specs.{SeatKeeping.{IsCallerOf, AreSameSeats, IsSameSeat}, Gives.GivesCaller}, poll_workers.specs.{Finishes.{IsFinished, IsWorkedOf}, Spreads.{IsJobAt, IsKeptJobOf, IsSeatAt, IsThreadAt}}}
+use Rattle.poll_interrupts.specs.{declared.{job.Worked.Worked, worker.Seats.Seats}, Acts.{after_acts, arrivals}, Ends.{AreFinishesOf, HasAllOf, IsCallerAt, IsDoneAt, IsFinishOf, IsTurnedAt}, Opens.{IsInputOf, IsKeptLoose, IsKeptSideOf, IsLoose}, Runs.{HasRun, IsEnded}}
+use Rattle.{poll_interrupts.specs.{Runs.{Ledger, Whose, WorksBy, blank, controller_number, worker_number}, Seats.AreSeatsOf, Works.{IsWorkOf, ledger_of, whose}}, poll_seats.specs.declared.{seat.Seat.Seat, thread_poller.{Own.Own, ThreadSide.ThreadSide}}}
+use Rattle.{poll_seats.specs.{SeatKeeping.{IsCallerOf, AreSameSeats, IsSameSeat}, Gives.{GivesCaller, IsPolledAlone}}, poll_workers.specs.{Finishes.{IsFinished, IsWorkedOf}, Spreads.{IsJobAt, IsKeptJobOf, IsKeptSeatFor, IsKeptThreadFor, IsSeatAt, IsThreadAt}}}
+use Rattle.{poll_list.specs.{declared.shared.SharedList.SharedList, SharedList.IsNewList}, poll_tasks.specs.{Asks.IsAsked, declared.{pace.{Pace.Pace, Setting.Setting}, tasks.Turned.Turned}}, poll_workers.specs.Courses.{AreOfCrew, Course, HasPolled, HasTurned, IsCourse, IsFreshSeat, IsSpentSeat, TakesTurns, TurnsIfThread}}
 use Rattle.poll_tasks.{specs.Paces.IsLawful, proofs.ListFacts.{each_index, zip_all, zip_and, zip_both, zip_each, zip_flip, zip_same}}
 
 same_ring : (a b c : RxIn) (napi : Napi) → b ≡ a → SameIn b c → IsInputOf a napi → IsInputOf c napi
@@ -13,11 +14,17 @@ same_ring a b c napi e s h = let whole : IsInputOf b napi = subst (λ (r : RxIn)
 capped_small : (n : ℕ) → n ≤ 4294967295 → capped n ≡ n
 capped_small n h = omega arith
 
--- the acts of a station's worker were a run
-run_of : {R D : Type 0} (acts : D → ℕ) (answer : D → ℕ → Act) (after : D → ℕ → D) (station : Station D) (loose : Kept R (Loose D)) (worked : Worked R D) (end : Finished D)
-    → IsLoose station loose.value → IsWorkedOf acts answer after loose worked → worked.done.whole ≡ true → IsFinishOf worked end
-    → HasRun answer after station.capacity station.thread station.device (acts station.device) end.totals
-run_of {R} {D} acts answer after station loose worked end opened made whole ended =
+-- the acts of a station's worker were a run, by a history in which all stands that the others did
+record Runs {D : Type 0} (acts : D → ℕ) (answer : D → ℕ → Act) (after : D → ℕ → D) (station : Station D) (poller thread : Caller) (end : Finished D) : Type 0 where
+  pub run : HasRun answer after station.capacity station.thread station.device (acts station.device) end.totals
+  pub worker : run.caller ≡ worker_number
+  pub by_poller : HasAllOf run.ended.history poller
+  pub by_thread : HasAllOf run.ended.history thread
+
+run_of : {R D : Type 0} (acts : D → ℕ) (answer : D → ℕ → Act) (after : D → ℕ → D) (station : Station D) (loose : Kept R (Loose D)) (worked : Worked R D) (poller thread : Kept R Caller) (end : Finished D)
+    → IsLoose station loose.value → IsWorkedOf acts answer after loose worked → worked.done.whole ≡ true → IsFinishOf worked poller thread end
+    → Runs acts answer after station poller.value thread.value end
+run_of {R} {D} acts answer after station loose worked poller thread end opened made whole ended =
     let work = made.1 in
     let done = made.5.done in
     let new = opened.unused in
@@ -25,15 +32,16 @@ run_of {R} {D} acts answer after station loose worked end opened made whole ende
     let device : work.device ≡ station.device = made.2 ∙ opened.same_device in
     let seats = worked.done.seats.value in
     let left = ledger_of seats worked.done.rx (done.run whole).0 in
-    let w : Whose = record { caller = number_of loose.value.seats.caller.pass; controller = controller_number; places = station.capacity; thread = station.thread } in
+    let w : Whose = record { caller = worker_number; controller = controller_number; places = station.capacity; thread = station.thread } in
+    let number : number_of work.seats.value.caller.pass ≡ worker_number = ap (λ (s : Seats). number_of s.caller.pass) was ∙ new.caller.number_is in
     let same_whose : whose work.seats.value work.rx (is_some loose.value.pause) ≡ w = λ i. record {
-      caller = number_of (was i).caller.pass;
+      caller = number i;
       controller = (ap (λ (s : Seats). number_of s.control.pass) was ∙ new.number) i;
       places = (ap (λ (r : RxIn). capacity_of r) made.3 ∙ opened.places) i;
       thread = opened.thread i;
     } in
     let nothing : ledger_of work.seats.value work.rx false ≡ blank = λ i. record {
-      calls = (ap (λ (s : Seats). own_list s.caller.pass) was ∙ new.caller) i;
+      calls = (ap (λ (s : Seats). own_list s.caller.pass) was ∙ new.caller.nothing_done) i;
       controls = (ap (λ (s : Seats). own_list s.control.pass) was ∙ new.control) i;
       put = (ap (λ (r : RxIn). put_list r) made.3 ∙ opened.nothing_put) i;
       on = false;
@@ -41,19 +49,25 @@ run_of {R} {D} acts answer after station loose worked end opened made whole ende
     } in
     let by_whose = subst (λ (v : Whose). WorksBy v answer after work.device (acts work.device) (ledger_of work.seats.value work.rx false) left) same_whose (done.run whole).1 in
     let by_device = subst (λ (d : D). WorksBy w answer after d (acts d) (ledger_of work.seats.value work.rx false) left) device by_whose in
-    let caller : number_of seats.caller.pass ≡ w.caller = done.same.0 ∙ ap (λ (s : Seats). number_of s.caller.pass) was in
+    let caller : number_of seats.caller.pass ≡ worker_number = done.same.0 ∙ number in
+    let all = subst (λ n. (e : IsEnded n left.calls left.controls left.put end.totals) × HasAllOf e.history poller.value × HasAllOf e.history thread.value) caller (ended.is.ended, ended.is.by_poller, ended.is.by_thread) in
     record {
-      caller = w.caller;
-      left = left;
-      works = subst (λ (l : Ledger). WorksBy w answer after station.device (acts station.device) l left) nothing by_device;
-      ended = subst (λ n. IsEnded n left.calls left.controls left.put end.totals) caller ended.ended;
+      run = record {
+        caller = worker_number;
+        left = left;
+        works = subst (λ (l : Ledger). WorksBy w answer after station.device (acts station.device) l left) nothing by_device;
+        ended = all.0;
+      };
+      worker = refl;
+      by_poller = all.1;
+      by_thread = all.2;
     }
 
 -- a station whose worker made all its acts, and which was ended, is finished
-finished_of : {R D : Type 0} (acts : D → ℕ) (answer : D → ℕ → Act) (after : D → ℕ → D) (station : Station D) (loose : Kept R (Loose D)) (worked : Worked R D) (end : Finished D)
-    → IsLoose station loose.value → IsWorkedOf acts answer after loose worked → worked.done.whole ≡ true → IsFinishOf worked end
+finished_of : {R D : Type 0} (acts : D → ℕ) (answer : D → ℕ → Act) (after : D → ℕ → D) (station : Station D) (loose : Kept R (Loose D)) (worked : Worked R D) (poller thread : Kept R Caller) (end : Finished D)
+    → IsLoose station loose.value → IsWorkedOf acts answer after loose worked → worked.done.whole ≡ true → IsFinishOf worked poller thread end
     → IsFinished acts answer after station end
-finished_of {R} {D} acts answer after station loose worked end opened made whole ended =
+finished_of {R} {D} acts answer after station loose worked poller thread end opened made whole ended =
     let work = made.1 in
     let is = made.5 in
     let done = is.done in
@@ -75,27 +89,169 @@ finished_of {R} {D} acts answer after station loose worked end opened made whole
             ended.put ∙ capped_small (length (put_list worked.done.rx)) (omega arith) ∙ count,
             ended.bytes ∙ ap (λ (l : List Packet). capped (bytes_of l)) all,
           );
-      run = run_of acts answer after station loose worked end opened made whole ended;
+      run = (run_of acts answer after station loose worked poller thread end opened made whole ended).run;
     }
 
-pub all_finished : {R D : Type 0} (acts : D → ℕ) (answer : D → ℕ → Act) (after : D → ℕ → D)
-    (stations : List (Station D)) (loose : List (Kept R (Loose D))) (worked : List (Worked R D)) (ends : List (Finished D))
-    → AllZip IsKeptLoose stations loose → AllZip (IsWorkedOf acts answer after) loose worked
-    → All (λ w. w.done.whole ≡ true) worked → AllZip IsFinishOf worked ends
-    → AllZip (IsFinished acts answer after) stations ends
-all_finished {R} {D} acts answer after stations loose worked ends opened made whole ended =
-    let a = zip_both _ _ _ _ _ opened made in
-    let d = zip_both _ _ _ _ _ a (zip_all _ (λ (w : Worked R D). w.done.whole ≡ true) _ _ whole ended) in
-    zip_same _ _ _ _ (λ s e h. finished_of acts answer after s h.1.0 h.0 e h.1.1 h.1.2 h.2.0 h.2.1) d
+-- ---- the stations of a crew, how they ended, and what polled them
 
--- so are all stations of a crew, where the answer is no fault
-pub answer_finished : {R D F : Type 0} (acts : D → ℕ) (answer : D → ℕ → Act) (after : D → ℕ → D)
-    (stations : List (Station D)) (loose : List (Kept R (Loose D))) (worked : List (Worked R D)) (ends : Result (Vec (Finished D)) F)
-    → AllZip IsKeptLoose stations loose → AllZip (IsWorkedOf acts answer after) loose worked
-    → IfOk ends (λ _. All (λ w. w.done.whole ≡ true) worked) → IfOk ends (λ all. AllZip IsFinishOf worked (vec_items all))
-    → IfOk ends (λ all. AllZip (IsFinished acts answer after) stations (vec_items all))
-answer_finished acts answer after stations loose worked (Ok all) opened made whole ended = all_finished acts answer after stations loose worked (vec_items all) opened made whole ended
-answer_finished acts answer after stations loose worked (Err fault) opened made whole ended = tt
+-- what the threads of a station gave back, and its end
+record Post (R D : Type 0) : Type 0 where
+  pub worked : Worked R D
+  pub poller : Kept R Caller
+  pub thread : Turned (Kept R Caller)
+  pub end : Finished D
+
+record Posts {R D : Type 0} (ws : List (Worked R D)) (ps : List (Kept R Caller)) (ts : List (Turned (Kept R Caller))) (es : List (Finished D)) : Type 0 where
+  pub all : List (Post R D)
+  pub worked_are : map (λ p. p.worked) all ≡ ws
+  pub pollers_are : map (λ p. p.poller) all ≡ ps
+  pub threads_are : map (λ p. p.thread) all ≡ ts
+  pub ends_are : map (λ p. p.end) all ≡ es
+  pub each : AllByRecursion (λ p. IsFinishOf p.worked p.poller p.thread.back p.end) all
+
+posts_of : {R D : Type 0} (ws : List (Worked R D)) (ps : List (Kept R Caller)) (ts : List (Turned (Kept R Caller))) (es : List (Finished D)) → AreFinishesOf ws ps ts es → Posts ws ps ts es
+posts_of [] [] [] [] h = record { all = []; worked_are = refl; pollers_are = refl; threads_are = refl; ends_are = refl; each = tt }
+posts_of (w ∷ ws) (p ∷ ps) (t ∷ ts) (e ∷ es) h =
+    let more = posts_of ws ps ts es h.1 in record {
+      all = record { worked = w; poller = p; thread = t; end = e } ∷ more.all;
+      worked_are = ap (λ l. w ∷ l) more.worked_are;
+      pollers_are = ap (λ l. p ∷ l) more.pollers_are;
+      threads_are = ap (λ l. t ∷ l) more.threads_are;
+      ends_are = ap (λ l. e ∷ l) more.ends_are;
+      each = (h.0, more.each);
+    }
+posts_of ws ps ts es h = absurd h
+
+module _ {R D : Type 0} (acts : D → ℕ) (answer : D → ℕ → Act) (after : D → ℕ → D) (asked : ℕ → Type 0) (pace : Pace) where
+  -- the worker of this station gave this back, and so did its thread
+  abbrev Works : Station D → Worked R D → Type 0
+  Works station worked = (loose : Kept R (Loose D)) × IsKeptLoose station loose × IsWorkedOf acts answer after loose worked
+
+  abbrev Turns : Station D → Turned (Kept R Caller) → Type 0
+  Turns station given = (loose : Kept R (Loose D)) × IsKeptLoose station loose × HasTurned asked pace loose given
+
+  course_of : (station : Station D) (post : Post R D) → Works station post.worked → Turns station post.thread → post.worked.done.whole ≡ true → post.thread.polled ≡ true
+      → IsFinishOf post.worked post.poller post.thread.back post.end
+      → IsCourse R asked pace acts answer after (record { station = station; end = post.end; poller = post.poller.value; thread = post.thread.back.value })
+  course_of station post works turns whole polled finish =
+      let run = run_of acts answer after station works.0 post.worked post.poller post.thread.back post.end works.1 works.2 whole finish in
+      let loose = turns.0.value in
+      let number = subst (λ n. TurnsIfThread R asked pace (is_some loose.pause) n loose.thread post.thread.back.value) turns.1.same_number (turns.2 polled) in
+      record {
+        run = run.run;
+        worker = run.worker;
+        by_poller = run.by_poller;
+        by_thread = run.by_thread;
+        thread = loose.thread;
+        unused = turns.1.own;
+        turns = subst (λ b. TurnsIfThread R asked pace b station.number loose.thread post.thread.back.value) turns.1.thread number;
+      }
+
+  -- the courses of these stations, and how they ended
+  record Courses (stations : List (Station D)) (posts : List (Post R D)) : Type 0 where
+    pub all : List (Course D)
+    pub stations_are : map (λ c. c.station) all ≡ stations
+    pub ends_are : map (λ c. c.end) all ≡ map (λ p. p.end) posts
+    pub pollers_are : map (λ c. c.poller) all ≡ map (λ (k : Kept R Caller). k.value) (map (λ p. p.poller) posts)
+    pub each : AllByRecursion (IsCourse R asked pace acts answer after) all
+    pub finished : AllZip (IsFinished acts answer after) stations (map (λ p. p.end) posts)
+
+  courses_of : (stations : List (Station D)) (posts : List (Post R D)) → AllZip Works stations (map (λ p. p.worked) posts) → AllZip Turns stations (map (λ p. p.thread) posts)
+      → AllByRecursion (λ (w : Worked R D). w.done.whole ≡ true) (map (λ p. p.worked) posts)
+      → AllByRecursion (λ (t : Turned (Kept R Caller)). t.polled ≡ true) (map (λ p. p.thread) posts)
+      → AllByRecursion (λ (p : Post R D). IsFinishOf p.worked p.poller p.thread.back p.end) posts → Courses stations posts
+  courses_of [] [] works turns whole polled finish = record { all = []; stations_are = refl; ends_are = refl; pollers_are = refl; each = tt; finished = tt }
+  courses_of [] (p ∷ ps) works turns whole polled finish = absurd works
+  courses_of (s ∷ ss) [] works turns whole polled finish = absurd works
+  courses_of (s ∷ ss) (p ∷ ps) works turns whole polled finish =
+      let more = courses_of ss ps works.1 turns.1 whole.1 polled.1 finish.1 in record {
+        all = record { station = s; end = p.end; poller = p.poller.value; thread = p.thread.back.value } ∷ more.all;
+        stations_are = ap (λ l. s ∷ l) more.stations_are;
+        ends_are = ap (λ l. p.end ∷ l) more.ends_are;
+        pollers_are = ap (λ l. p.poller.value ∷ l) more.pollers_are;
+        each = (course_of s p works.0 turns.0 whole.0 polled.0 finish.0, more.each);
+        finished = (finished_of acts answer after s works.0.0 p.worked p.poller p.thread.back p.end works.0.1 works.0.2 whole.0 finish.0, more.finished);
+      }
+
+-- of what was mapped
+zip_mapped : {A B C : Type 0} (f : A → B) (Q : B → C → Type 0) (xs : List A) (ys : List C) → AllZip Q (map f xs) ys → AllZip (λ x y. Q (f x) y) xs ys
+zip_mapped f Q [] [] h = tt
+zip_mapped f Q (x ∷ xs) (y ∷ ys) h = (h.0, zip_mapped f Q xs ys h.1)
+zip_mapped f Q xs ys h = absurd h
+
+zip_values : {A B C : Type 0} (f : A → B) (Q : B → C → Type 0) (xs : List A) (ys : List C) → AllZip (λ x y. Q (f x) y) xs ys → AllZip Q (map f xs) ys
+zip_values f Q [] [] h = tt
+zip_values f Q (x ∷ xs) (y ∷ ys) h = (h.0, zip_values f Q xs ys h.1)
+zip_values f Q xs ys h = absurd h
+
+pub each_of : {A : Type 0} (P : A → Type 0) (xs : List A) → All P xs → AllByRecursion P xs
+each_of P [] h = tt
+each_of P (x ∷ xs) h = (h 0 x (omega arith), each_of P xs (λ k d b. h (suc k) d (omega arith)))
+
+fresh_of : {R D : Type 0} (station : Station D) (seat : Seat) → (loose : Kept R (Loose D)) × IsKeptLoose station loose × IsKeptSeatFor loose seat → IsFreshSeat station seat
+fresh_of station seat (loose, opened, for) =
+    record { number = for.number ∙ opened.same_number; thread = for.thread ∙ opened.thread; caller = loose.value.poller; there = for.caller; unused = opened.poller }
+
+-- what the threads of a crew came to, where the answer is no fault
+module _ {R D : Type 0} (acts : D → ℕ) (answer : D → ℕ → Act) (after : D → ℕ → D) (asked : ℕ → Type 0) (pace : Pace) (number : ℕ) (list : SharedList R)
+    (stations : List (Station D)) (loose : List (Kept R (Loose D))) (worked : List (Worked R D)) (pollers : List (Kept R Caller)) (threads : List (Turned (Kept R Caller)))
+    (polled : Bool) (opened : AllZip IsKeptLoose stations loose) (made : AllZip (IsWorkedOf acts answer after) loose worked)
+    (ran : polled ≡ true → HasPolled asked pace number list loose pollers) (turned : AllZip (HasTurned asked pace) loose threads) where
+  crew_courses : (ends : List (Finished D)) → All (λ w. w.done.whole ≡ true) worked → All (λ t. t.polled ≡ true) threads → (posts : Posts worked pollers threads ends)
+      → Courses acts answer after asked pace stations posts.all
+  crew_courses ends whole whole_turns posts =
+      courses_of acts answer after asked pace stations posts.all
+      (subst (λ l. AllZip (Works acts answer after asked pace) stations l) (sym posts.worked_are) (zip_both _ _ _ _ _ opened made))
+      (subst (λ l. AllZip (Turns acts answer after asked pace) stations l) (sym posts.threads_are) (zip_both _ _ _ _ _ opened turned))
+      (subst (λ l. AllByRecursion (λ (w : Worked R D). w.done.whole ≡ true) l) (sym posts.worked_are) (each_of _ _ whole))
+      (subst (λ l. AllByRecursion (λ (t : Turned (Kept R Caller)). t.polled ≡ true) l) (sym posts.threads_are) (each_of _ _ whole_turns))
+      posts.each
+
+  -- the stations are finished, and were polled
+  record Both (ends : List (Finished D)) : Type 0 where
+    pub finished : AllZip (IsFinished acts answer after) stations ends
+    pub of_crew : AreOfCrew R asked pace acts answer after number stations ends
+
+  both : (ends : List (Finished D)) (n : ℕ) → IsNewList n list → All (λ w. w.done.whole ≡ true) worked → polled ≡ true → All (λ t. t.polled ≡ true) threads
+      → AreFinishesOf worked pollers threads ends → Both ends
+  both ends n new whole whole_run whole_turns finish =
+      let posts = posts_of worked pollers threads ends finish in
+      let courses = crew_courses ends whole whole_turns posts in
+      let has = ran whole_run in
+      let fresh : AllZip IsFreshSeat stations has.before = zip_same _ _ _ _ (λ s b h. fresh_of s b h) (zip_both _ _ _ _ _ opened has.from) in
+      let spent : AllZip IsSpentSeat (map (λ k. k.value) pollers) has.after = zip_values (λ k. k.value) IsSpentSeat pollers has.after (zip_same _ _ _ _ (λ k a h. h.1) (zip_flip _ _ _ has.to)) in
+      let callers = courses.pollers_are ∙ ap (λ (l : List (Kept R Caller)). map (λ k. k.value) l) posts.pollers_are in
+      record {
+        finished = subst (λ l. AllZip (IsFinished acts answer after) stations l) posts.ends_are courses.finished;
+        of_crew = record {
+          courses = courses.all;
+          stations_are = courses.stations_are;
+          ends_are = courses.ends_are ∙ posts.ends_are;
+          each = courses.each;
+          turns = record {
+            list = list;
+            ends = n;
+            new = new;
+            before = has.before;
+            after = has.after;
+            from = zip_mapped (λ c. c.station) IsFreshSeat courses.all has.before (subst (λ l. AllZip IsFreshSeat l has.before) (sym courses.stations_are) fresh);
+            turns = has.turns;
+            to = zip_mapped (λ c. c.poller) IsSpentSeat courses.all has.after (subst (λ l. AllZip IsSpentSeat l has.after) (sym callers) spent);
+          };
+        };
+      }
+
+  pub answer_finished : {F : Type 0} (ends : Result (Vec (Finished D)) F) (n : ℕ) → IsNewList n list
+      → IfOk ends (λ _. All (λ w. w.done.whole ≡ true) worked) → IfOk ends (λ _. polled ≡ true) → IfOk ends (λ _. All (λ t. t.polled ≡ true) threads)
+      → IfOk ends (λ all. AreFinishesOf worked pollers threads (vec_items all)) → IfOk ends (λ all. AllZip (IsFinished acts answer after) stations (vec_items all))
+  answer_finished (Ok all) n new whole whole_run whole_turns finish = (both (vec_items all) n new whole whole_run whole_turns finish).finished
+  answer_finished (Err fault) n new whole whole_run whole_turns finish = tt
+
+  pub answer_polled : {F : Type 0} (ends : Result (Vec (Finished D)) F) (n : ℕ) → IsNewList n list
+      → IfOk ends (λ _. All (λ w. w.done.whole ≡ true) worked) → IfOk ends (λ _. polled ≡ true) → IfOk ends (λ _. All (λ t. t.polled ≡ true) threads)
+      → IfOk ends (λ all. AreFinishesOf worked pollers threads (vec_items all)) → IfOk ends (λ all. AreOfCrew R asked pace acts answer after number stations (vec_items all))
+  answer_polled (Ok all) n new whole whole_run whole_turns finish = (both (vec_items all) n new whole whole_run whole_turns finish).of_crew
+  answer_polled (Err fault) n new whole whole_run whole_turns finish = tt
 
 -- what the workers of the jobs gave back is of the stations
 worked_of : {R D G : Type 0} (acts : D → ℕ) (answer : D → ℕ → Act) (after : D → ℕ → D) (loose : Kept R (Loose D)) (job : Job R D G) (worked : Worked R D)
@@ -136,7 +292,7 @@ all_done_at acts answer after placed loose jobs worked sides given at made =
     done_at acts answer after p k j w h.1.0.1 h.1.0.2 h.1.1 h.2) b)
 
 seat_at : {R : Type 0} (placed : Kept R Placed) (seat after : Seat) (caller : Kept R Caller) → IsSeatAt placed seat → IsSameSeat seat after → IsCallerOf after caller → IsCallerAt caller placed
-seat_at placed seat after caller at same of = subst (λ (n : Napi). IsSeatOf n caller.value.pass) (ap (λ b. b.now) same.napi ∙ at.0) of
+seat_at placed seat after caller at same of = subst (λ (n : Napi). IsSeatOf n caller.value.pass) (ap (λ b. b.now) same.napi ∙ at.napi) of.0
 
 -- the callers of the poller's seats are of the instances that stayed behind
 pub all_pollers_at : {R : Type 0} (placed : List (Kept R Placed)) (seats afters : List Seat) (callers : List (Kept R Caller))
@@ -150,13 +306,38 @@ all_pollers_at placed seats afters callers at same of =
 pub all_there : {R : Type 0} (placed : List (Kept R Placed)) (seats afters : List Seat) → AllZip IsSeatAt placed seats → AreSameSeats seats afters → AllByRecursion (λ s. IsSome s.caller) afters
 all_there placed seats afters at same =
     let a = zip_both _ _ _ _ _ at same in
-    zip_each _ _ _ _ (λ p s h. h.2.caller h.1.1) a
+    zip_each _ _ _ _ (λ p s h. h.2.caller h.1.caller) a
 
 -- so are those of the instances' threads
-pub all_threads_at : {R G : Type 0} (placed : List (Kept R Placed)) (sides : List (ThreadSide R G)) (callers : List (Kept R Caller))
-    → AllZip IsThreadAt placed sides → AllZip GivesCaller sides callers → AllZip IsCallerAt callers placed
-all_threads_at placed sides callers at of =
-    zip_flip _ _ _ (zip_same _ _ _ _ (λ p k h. subst (λ (n : Napi). IsSeatOf n k.value.pass) h.1.napi h.2.of) (zip_both _ _ _ _ _ at of))
+pub all_threads_at : {R G : Type 0} (answers : G → ℕ → ℕ → Bool → Type 0) (placed : List (Kept R Placed)) (sides : List (ThreadSide R G)) (given : List (Turned (Kept R Caller)))
+    → AllZip IsThreadAt placed sides → AllZip (GivesCaller answers) sides given → AllZip IsTurnedAt given placed
+all_threads_at answers placed sides given at of =
+    zip_flip _ _ _ (zip_same _ _ _ _ (λ p k h. subst (λ (n : Napi). IsSeatOf n k.back.value.pass) h.1.napi h.2.of) (zip_both _ _ _ _ _ at of))
+
+-- and these took their turns
+turned_by : {R D G : Type 0} (answers : G → ℕ → ℕ → Bool → Type 0) (setting : Setting R G) (loose : Kept R (Loose D)) (side : ThreadSide R G) (given : Turned (Kept R Caller)) (own : Option (Own R))
+    → side.own ≡ own → IsKeptThreadFor setting loose side
+    → MatchOption own (given.back ≡ side.caller)
+    (λ o. IsPolledAlone R (IsAsked answers side.setting.now.gate.now) side.setting.now.pace side.number side.caller.value given.back.value)
+    → TurnsIfThread R (IsAsked answers setting.gate.now) setting.pace (is_some loose.value.pause) loose.value.number loose.value.thread given.back.value
+turned_by {R} answers setting loose side given None is for same =
+    let none : is_some loose.value.pause ≡ false = sym for.own ∙ ap (λ o. is_some o) is in
+    rw none (ap (λ (k : Kept R Caller). k.value) same ∙ for.caller)
+turned_by {R} {D} {G} answers setting loose side given (Some o) is for turns =
+    let some : is_some loose.value.pause ≡ true = sym for.own ∙ ap (λ o. is_some o) is in
+    let asked : ℕ → Type 0 = IsAsked answers setting.gate.now in
+    let by_setting = subst (λ (s : Setting R G). IsPolledAlone R (IsAsked answers s.gate.now) s.pace side.number side.caller.value given.back.value) for.has turns in
+    let by_number = subst (λ (n : ℕ). IsPolledAlone R asked setting.pace n side.caller.value given.back.value) for.number by_setting in
+    rw some (subst (λ (c : Caller). IsPolledAlone R asked setting.pace loose.value.number c given.back.value) for.caller by_number)
+
+turned_of : {R D G : Type 0} (answers : G → ℕ → ℕ → Bool → Type 0) (setting : Setting R G) (loose : Kept R (Loose D)) (side : ThreadSide R G) (given : Turned (Kept R Caller))
+    → IsKeptThreadFor setting loose side → GivesCaller answers side given → HasTurned (IsAsked answers setting.gate.now) setting.pace loose given
+turned_of answers setting loose side given for gives polled = turned_by answers setting loose side given side.own refl for (gives.turns polled)
+
+pub all_turned : {R D G : Type 0} (answers : G → ℕ → ℕ → Bool → Type 0) (setting : Setting R G) (loose : List (Kept R (Loose D))) (sides : List (ThreadSide R G)) (given : List (Turned (Kept R Caller)))
+    → AllZip (IsKeptThreadFor setting) loose sides → AllZip (GivesCaller answers) sides given → AllZip (HasTurned (IsAsked answers setting.gate.now) setting.pace) loose given
+all_turned answers setting loose sides given for gives =
+    zip_same _ _ _ _ (λ k g h. turned_of answers setting k h.0 g h.1 h.2) (zip_both _ _ _ _ _ for gives)
 
 -- all jobs may be done, and all sides may be run
 pub all_can_work : {R D G : Type 0} (loose : List (Kept R (Loose D))) (jobs : List (Job R D G)) → AllZip IsKeptJobOf loose jobs → All (λ (j : Job R D G). AreSeatsOf j.desk.napi.now j.work.seats.value) jobs

@@ -24,6 +24,17 @@ abbrev pub told : {A : Type 0} → Result A WorkFault → Bool → Bool → Resu
 told came refused shut =
     if wants_memory came then came else if refused then Err SpawnFailed else if shut then Err GateShut else came
 
+-- of two faults the one that is told: want of memory, else the first
+abbrev pub graver : WorkFault → WorkFault → WorkFault
+graver fault other = if is_memory other then OutOfMemory else fault
+
+-- What two parts of a run came to together: a fault of either is told, and want of memory before all else.
+abbrev pub joined : {A B : Type 0} → Result A WorkFault → Result B WorkFault → Result (A × B) WorkFault
+joined (Ok mine) (Ok others) = Ok (mine, others)
+joined (Ok mine) (Err fault) = Err fault
+joined (Err fault) (Ok others) = Err fault
+joined (Err fault) (Err other) = Err (graver fault other)
+
 -- A crew knows of no gate: where its acts were not all made, its fault is that of a thread.
 abbrev pub IsCrewFault : WorkFault → Type 0
 IsCrewFault OutOfMemory = Unit {0}

@@ -1,5 +1,5 @@
 -- What goes to the threads of stations.
-use Rattle.std.specs.Prelude.{◌≡◌, IsSome, is_some, ◌≤◌}
+use Rattle.std.specs.Prelude.{◌≡◌, IsSome, Some, is_some, option_copied, option_map, ◌≤◌}
 use Rattle.napi_calls.specs.declared.kept.Kept.{Kept}
 use Rattle.napi_calls.specs.Instance.{IsSeatOf}
 use Rattle.poll_interrupts.specs.declared.opening.Placed.{Placed}
@@ -8,6 +8,7 @@ use Rattle.poll_interrupts.specs.declared.job.Job.{Job}
 use Rattle.poll_seats.specs.declared.seat.Seat.{Seat}
 use Rattle.poll_seats.specs.declared.thread_poller.ThreadSide.{ThreadSide}
 use Rattle.poll_interrupts.specs.Seats.{AreSeatsOf}
+use Rattle.poll_tasks.specs.declared.pace.Setting.{Setting}
 use Rattle.poll_tasks.specs.Paces.{IsLawful}
 
 module _ {R D G : Type 0} where
@@ -26,13 +27,36 @@ module _ {R D G : Type 0} where
   abbrev pub IsJobAt : Kept R Placed → Job R D G → Type 0
   IsJobAt placed job = job.desk.napi.now ≡ placed.value.napi
 
-module _ {R : Type 0} where
-  abbrev pub IsSeatAt : Kept R Placed → Seat → Type 0
-  IsSeatAt placed seat = (seat.napi.now ≡ placed.value.napi) × IsSome seat.caller
+  -- the side has the number and the thread's caller, what a thread needs exactly if there is one, and what all threads have
+  pub record IsThreadFor (setting : Setting R G) (loose : Loose D) (side : ThreadSide R G) : Type 0 where
+    pub has : side.setting.now ≡ setting
+    pub number : side.number ≡ loose.number
+    pub own : is_some side.own ≡ is_some loose.pause
+    pub caller : side.caller.value ≡ loose.thread
 
-  -- the thread's side is of the instance, and may be run
+  abbrev pub IsKeptThreadFor : Setting R G → Kept R (Loose D) → ThreadSide R G → Type 0
+  IsKeptThreadFor setting loose side = IsThreadFor setting loose.value side
+
+-- the poller's seat has the number and the poller's caller, and knows of a bell exactly if there is a thread
+pub record IsSeatFor {D : Type 0} (loose : Loose D) (seat : Seat) : Type 0 where
+  pub number : seat.number ≡ loose.number
+  pub thread : is_some seat.thread ≡ is_some loose.pause
+  pub caller : seat.caller ≡ Some loose.poller
+
+abbrev pub IsKeptSeatFor : {R D : Type 0} → Kept R (Loose D) → Seat → Type 0
+IsKeptSeatFor loose seat = IsSeatFor loose.value seat
+
+module _ {R : Type 0} where
+  -- it is at the instance, and knows the bell of its thread, where it has one
+  pub record IsSeatAt (placed : Kept R Placed) (seat : Seat) : Type 0 where
+    pub napi : seat.napi.now ≡ placed.value.napi
+    pub bell : option_copied seat.thread ≡ placed.value.bell
+    pub caller : IsSome seat.caller
+
+  -- the thread's side is of the instance and has its bell, and may be run
   pub record IsThreadAt {G : Type 0} (placed : Kept R Placed) (side : ThreadSide R G) : Type 0 where
     pub napi : side.napi.now ≡ placed.value.napi
+    pub bell : option_map (λ own. own.bell.now) side.own ≡ placed.value.bell
     pub seat : IsSeatOf side.napi.now side.caller.value.pass
     pub name : side.number ≤ 16
     pub lawful : IsLawful side.setting.now.pace

@@ -1,12 +1,15 @@
 //! A run of all stations.
 
-ghost use Rattle.std.specs.Prelude.{◌≡◌, ◌≤◌, ◌<◌, ◌+◌, IfErr, IfOk, IsErrOf, IsTrue, Ok, vec_items, vec_len, vec_capacity};
+ghost use Rattle.std.specs.Prelude.{◌≡◌, ◌≤◌, ◌<◌, ◌+◌, IfErr, IfOk, IsErrOf, IsTrue, Ok, map, vec_items, vec_len, vec_capacity};
 ghost use Rattle.std.specs.List.{All, AllZip};
+ghost use Rattle.std.specs.Borrow.{Bor};
 ghost use Rattle.std.specs.Thread.{IsSend, IsSync};
-ghost use Rattle.poll_interrupts.specs.Deals.{IsDealt};
+ghost use Rattle.poll_interrupts.specs.Deals.{IsDealt, IsDealtFrom, is_dealt};
+ghost use Rattle.poll_tasks.specs.Asks.{IsAsked};
+ghost use Rattle.poll_workers.specs.Courses.{ArePolled, pace_of};
 ghost use Rattle.poll_workers.specs.Finishes.{IsFinished};
 ghost use Rattle.poll_workers.specs.declared.fault.WorkFault.TheVariants.{GateShut, OutOfMemory};
-ghost use Rattle.poll_workers.specs.Faults.{IsCrewFault, told};
+ghost use Rattle.poll_workers.specs.Faults.{IsCrewFault, graver, joined, told};
 ghost use Rattle.poll_workers.specs.Numbers.{have_distinct_numbers};
 ghost use Rattle.poll_interrupts.specs.Opens.{IsStation};
 ghost use Rattle.poll_tasks.specs.Paces.{IsLawful};
@@ -44,6 +47,8 @@ fn deal_all<D: Drop>(
     ensures dealt { IfOk result
         (λ r. IsDealt (vec_items stations) (vec_items r.0.order) (vec_items r.0.mine)
         (vec_items r.0.others)) }
+    ensures order { IfOk result
+        (λ r. vec_items r.0.order ≡ map (is_dealt number pollers) (vec_items stations)) }
     ensures room { IfOk result (λ r. (vec_len r.1 ≡ 0) × (vec_len r.0.order ≤ vec_capacity r.1)) }
 {
     let room = Vec::with_capacity(alloc, stations.len())?;
@@ -67,8 +72,12 @@ where
     requires pace { IsLawful setting.now.pace }
     requires stations { All IsStation (vec_items stations) }
     requires count { vec_len stations ≤ 16 }
+    requires dealt { All (IsDealtFrom number pollers) (vec_items stations) }
     ensures finished { IfOk result
         (λ all. AllZip (IsFinished D.acts D.answer D.after) (vec_items stations) (vec_items all)) }
+    ensures polled { IfOk result
+        (λ all. ArePolled R (IsAsked G.answers setting.now.gate.now) setting.now.pace
+        D.acts D.answer D.after number pollers (vec_items stations) (vec_items all)) }
     ensures fault { IfErr result IsCrewFault }
 {
     if stations.is_empty() {
@@ -91,15 +100,44 @@ where
     let later = || -> Result<Vec<Finished<D>>, WorkFault>
         requires { IsSend R.row × IsSync R.row × IsSend D.row × IsSync G.row
             × (number + 1 < pollers) × (pollers ≤ 8) × IsLawful setting.now.pace
-            × All IsStation (vec_items others) × (vec_len others ≤ 16) }
+            × All IsStation (vec_items others) × (vec_len others ≤ 16)
+            × All (IsDealtFrom (number + 1) pollers) (vec_items others) }
         ensures finished { IfOk result
             (λ all. AllZip (IsFinished D.acts D.answer D.after) (vec_items others)
             (vec_items all)) }
+        ensures polled { IfOk result
+            (λ all. ArePolled R (IsAsked G.answers setting.entry.now.gate.now)
+            setting.entry.now.pace D.acts D.answer D.after (number + 1) pollers
+            (vec_items others) (vec_items all)) }
         ensures fault { IfErr result IsCrewFault }
     { run_crews(setting, alloc, number + 1, pollers, others) };
     let (finished, others) = begun(setting, run_crew(setting, alloc, number, mine, later))?;
-    let others = others?;
-    Ok(merge(order, finished?, others, room))
+    let (finished, others) = join_answers(finished, others)?;
+    Ok(merge(order, finished, others, room))
+}
+
+// Of two faults the one that is told: want of memory, else the first.
+fn graver(fault: WorkFault, other: WorkFault) -> WorkFault
+    ensures { result ≡ graver fault other }
+{
+    match other {
+        WorkFault::OutOfMemory => other,
+        _ => fault,
+    }
+}
+
+// What two parts of a run came to together.
+fn join_answers<A: Drop, B: Drop>(
+    mine: Result<A, WorkFault>,
+    others: Result<B, WorkFault>,
+) -> Result<(A, B), WorkFault>
+    ensures { result ≡ joined mine others }
+{
+    match (mine, others) {
+        (Ok(mine), Ok(others)) => Ok((mine, others)),
+        (Err(fault), Ok(_)) | (Ok(_), Err(fault)) => Err(fault),
+        (Err(fault), Err(other)) => Err(graver(fault, other)),
+    }
 }
 
 // What is told of a run.
@@ -150,6 +188,10 @@ where
     // Each device made all its acts, each once and in order; what was put was polled or is left.
     ensures finished { IfOk result
         (λ all. AllZip (IsFinished D.acts D.answer D.after) (vec_items stations) (vec_items all)) }
+    // Each station was polled by its poller, in runs by these numbers, and by its thread exactly if it has one.
+    ensures polled { IfOk result
+        (λ all. ArePolled (Bor R) (IsAsked G.answers gate.now) (pace_of budget weight window)
+        D.acts D.answer D.after 0 pollers (vec_items stations) (vec_items all)) }
     // So never with a gate that is always open.
     ensures gate { IsErrOf result GateShut → G.may_shut }
 {

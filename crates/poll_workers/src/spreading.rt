@@ -1,10 +1,10 @@
 //! What goes to the threads of a crew.
 
-ghost use Rattle.std.specs.Prelude.{◌≡◌, ◌+◌, ◌≤◌, is_some, length, vec_items, vec_len};
+ghost use Rattle.std.specs.Prelude.{◌≡◌, ◌+◌, ◌≤◌, is_some, length, option_copied, option_map, vec_items, vec_len};
 ghost use Rattle.std.specs.List.{AllZip};
 ghost use Rattle.poll_interrupts.specs.Opens.{IsKeptSideOf, IsSideOf};
 ghost use Rattle.poll_tasks.specs.Paces.{IsLawful};
-ghost use Rattle.poll_workers.specs.Spreads.{IsJobAt, IsJobOf, IsKeptJobOf, IsSeatAt, IsThreadAt};
+ghost use Rattle.poll_workers.specs.Spreads.{IsJobAt, IsJobOf, IsKeptJobOf, IsKeptSeatFor, IsKeptThreadFor, IsSeatAt, IsSeatFor, IsThreadAt, IsThreadFor};
 ghost use Rattle.poll_tasks.specs.Tasks.{HasRoom};
 
 use napi_calls::Kept;
@@ -47,7 +47,12 @@ fn own_of<'n, R: Wait + Drop>(
     bell: Option<&'n Bell>,
     pause: Option<Pause>,
     list: ListIn<R>,
-) -> Option<Own<'n, R>> {
+) -> Option<Own<'n, R>>
+    requires { is_some bell ≡ is_some pause }
+    ensures bell { option_map (λ own. own.bell.now) result
+        ≡ option_copied bell.entry }
+    ensures some { is_some result ≡ is_some pause }
+{
     Some(Own {
         bell: bell?,
         pause: pause?,
@@ -71,8 +76,8 @@ fn split<'t, 'p, 'n, R: Wait + Drop + Copy, D: Drop, G>(
     requires side { IsSideOf loose placed.now.value }
     requires pace { IsLawful setting.now.pace }
     ensures job { IsJobOf loose result.0 × IsJobAt placed.now result.0 }
-    ensures seat { IsSeatAt placed.now result.1 }
-    ensures thread { IsThreadAt placed.now result.2 }
+    ensures seat { IsSeatAt placed.now result.1 × IsSeatFor loose result.1 }
+    ensures thread { IsThreadAt placed.now result.2 × IsThreadFor setting.now loose result.2 }
 {
     let Loose {
         number,
@@ -129,8 +134,11 @@ pub(crate) fn spread<'t, 'p, 'n, R: Wait + Drop + Copy, D: Drop, G>(
         × HasRoom (vec_len loose) room.sides }
     ensures jobs { AllZip IsKeptJobOf (vec_items loose) (vec_items result.jobs) }
     ensures job_places { AllZip IsJobAt placed.now (vec_items result.jobs) }
-    ensures seats { AllZip IsSeatAt placed.now (vec_items result.seats) }
-    ensures threads { AllZip IsThreadAt placed.now (vec_items result.sides) }
+    ensures seat_places { AllZip IsSeatAt placed.now (vec_items result.seats) }
+    ensures seats { AllZip IsKeptSeatFor (vec_items loose) (vec_items result.seats) }
+    ensures thread_places { AllZip IsThreadAt placed.now (vec_items result.sides) }
+    ensures threads { AllZip (IsKeptThreadFor setting.now) (vec_items loose)
+        (vec_items result.sides) }
 {
     let Parts {
         mut jobs,

@@ -6,7 +6,8 @@ use Rattle.{std.specs.Prelude.{◌==◌, ◌&&◌, Result, Ok, Err, IfOk, OnOk, 
 use Rattle.{std.{specs.List.{All, AllZip, find, range_with_len}, proofs.lemmas.List.{Elements.{All-filter, filter-append}, Sums.sum_by-le}}, replay_threads.specs.Answer.{IsPolled, overflows}, device_script.proofs.ScriptFacts.{acts-made, arrivals-are}}
 use Rattle.{std.proofs.lemmas.Bool.{and_parts, eqb-true, leb-true, ltb-false}, replay_threads.specs.ThreadsReport.{arrived, bytes, device_lines, is_opened, opened}, device_script.proofs.Rows.{filter-long, find-among, find-here, find-more, range-more}}
 use Rattle.{device_rows.{specs.declared.{event.Event.Event, row.Row.Row}, proofs.Accepted.accepted-at}, poll_interrupts.specs.Acts.arrivals, poll_workers.specs.Finishes.IsFinished, rx_ring.specs.ReceiveRing.{bytes_of, capped}}
-use Rattle.{device_rows.specs.declared.event.Event.TheVariants.{Opened, Rx, Tx, Finish, Softirq, Kthread, Disable, Enable, Threaded, Busy}, replay_threads.specs.Stations.{IsEndOf, IsStationOf, end_lines, is_small, polled_of, small_fault}}
+use Rattle.{device_rows.specs.declared.event.Event.TheVariants.{Opened, Rx, Tx, Finish, Softirq, Kthread, Disable, Enable, Threaded, Busy}, replay_threads.specs.Stations.{AreRunBy, IsEndOf, IsStationOf, end_lines, is_small, polled_of, small_fault}}
+use Rattle.{poll_workers.specs.Courses.{ArePolled, pace_of}, replay_words.specs.declared.settings.Settings.Settings}
 
 -- ---- what acceptance says of a row's numbers
 
@@ -168,6 +169,13 @@ pub ends-if-ok : (rows : List Row) (stations : List (Station Script)) (answered 
     → IfOk answered (λ all. AllZip (IsEndOf rows) (opened rows) (vec_items all))
 ends-if-ok rows stations (Ok all) accepted few of none ends = ends-of rows (opened rows) stations (vec_items all) accepted few of (none-small stations none) ends
 ends-if-ok rows stations (Err fault) accepted few of none ends = tt
+
+pub run-if-ok : (R : Type 0) (asked : ℕ → Type 0) (settings : Settings) (rows : List Row) (stations : List (Station Script)) (answered : Result (Vec (Finished Script)) ReplayFault)
+    → AllZip (IsStationOf rows) (opened rows) stations
+    → IfOk answered (λ all. ArePolled R asked (pace_of settings.budget settings.weight settings.window) acts answer after 0 settings.pollers stations (vec_items all))
+    → IfOk answered (λ all. AreRunBy R asked settings rows (vec_items all))
+run-if-ok R asked settings rows stations (Ok all) of polled = record { stations = stations; are = of; polled = polled }
+run-if-ok R asked settings rows stations (Err fault) of polled = tt
 
 pub rings-if-ok : {P A E : Type 0} → (answered : Result A E) → P → OnOk answered P
 rings-if-ok (Ok a) p = p

@@ -1,5 +1,5 @@
 -- What a run of a text with threads answers: the threads report of its rows, or its first fault.
-use Rattle.std.specs.Prelude.{◌≡◌, ℕ, ◌+◌, List, Bool, Option, Some, None, Result, Ok, Err, length, nat_lt, option_map}
+use Rattle.std.specs.Prelude.{◌≡◌, ℕ, ◌+◌, List, Bool, Option, Some, None, Result, Ok, Err, length, map, nat_lt, option_map}
 use Rattle.std.specs.List.{find}
 use Rattle.device_rows.specs.Trace.{records_of, trace_of}
 use Rattle.device_rows.specs.declared.TraceFault.{TraceFault}
@@ -14,6 +14,9 @@ use Rattle.rx_ring.specs.declared.packet.Totals.{Totals}
 use Rattle.poll_interrupts.specs.Runs.{HasRun}
 use Rattle.device_script.specs.Script.{has_thread, opening_of, script_of}
 use Rattle.device_script.specs.ScriptShown.{Script, after, answer}
+use Rattle.poll_interrupts.specs.declared.station.Finished.{Finished}
+use Rattle.replay_words.specs.declared.settings.Settings.{Settings}
+use Rattle.replay_threads.specs.Stations.{AreRunBy, polled_of}
 use Rattle.replay_threads.specs.ThreadsReport.{arrived, opened, threads_report}
 use Rattle.replay_threads.specs.declared.polled.Polled.{Polled}
 
@@ -68,3 +71,7 @@ pub record IsPolled (rows : List Row) (device : ℕ) (polled : Polled) : Type 0 
   pub totals : Totals
   pub run : HasRun answer after script.opening.value (has_thread script.rows) script (length script.rows) totals
   pub counts : (polled.polled ≡ totals.polled) × (polled.left ≡ totals.left)
+
+-- what is told of a run is what the pollers made of it, as many as the settings say and by their numbers
+abbrev pub IsRunBy : Type 0 → (ℕ → Type 0) → Settings → List Row → List Polled → Type 0
+IsRunBy R asked settings rows told = (ends : List (Finished Script)) × AreRunBy R asked settings rows ends × (told ≡ map polled_of ends)

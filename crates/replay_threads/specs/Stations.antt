@@ -1,17 +1,19 @@
 -- The stations of the devices that rows open, and what a run made of them.
 use Rattle.std.specs.Prelude.{◌≡◌, ℕ, ◌+◌, ◌++◌, Bool, List, Option, Some, length, nat_lt, option_map, take}
-use Rattle.std.specs.List.{find}
+use Rattle.std.specs.List.{AllZip, find}
 use Rattle.device_rows.specs.declared.row.Row.{Row}
 use Rattle.poll_interrupts.specs.declared.station.Finished.{Finished}
 use Rattle.poll_interrupts.specs.declared.station.Station.{Station}
 use Rattle.poll_interrupts.specs.Runs.{HasRun}
+use Rattle.poll_workers.specs.Courses.{ArePolled, pace_of}
+use Rattle.replay_words.specs.declared.settings.Settings.{Settings}
 use Rattle.replay_text.specs.declared.fault.ReplayFault.{ReplayFault}
 use Rattle.replay_text.specs.declared.fault.ReplayFault.TheVariants.{RingTooSmall}
 use Rattle.replay_text.specs.Lines.{ended}
 use Rattle.device_script.specs.Script.{has_thread, opening_of, rx_of, script_of}
-use Rattle.device_script.specs.ScriptShown.{Script, after, answer, side_of}
+use Rattle.device_script.specs.ScriptShown.{Script, acts, after, answer, side_of}
 use Rattle.replay_threads.specs.declared.polled.Polled.{Polled}
-use Rattle.replay_threads.specs.ThreadsReport.{arrived, arrived_line, bytes, side_lines}
+use Rattle.replay_threads.specs.ThreadsReport.{arrived, arrived_line, bytes, opened, side_lines}
 
 -- the station of a device, before its acts
 pub record IsStationOf (rows : List Row) (device : ℕ) (station : Station Script) : Type 0 where
@@ -32,6 +34,12 @@ pub record IsEndOf (rows : List Row) (device : ℕ) (end : Finished Script) : Ty
   pub its_bytes : end.totals.bytes ≡ bytes device rows
   pub sum : end.totals.polled + end.totals.left ≡ end.totals.put
   pub its_run : HasRun answer after end.device.opening.value (has_thread end.device.rows) (record end.device { made = 0 }) (length end.device.rows) end.totals
+
+-- The devices that the rows open ran and were polled, by as many pollers as the settings say, and by their numbers.
+pub record AreRunBy (R : Type 0) (asked : ℕ → Type 0) (settings : Settings) (rows : List Row) (ends : List (Finished Script)) : Type 0 where
+  pub stations : List (Station Script)
+  pub are : AllZip (IsStationOf rows) (opened rows) stations
+  pub polled : ArePolled R asked (pace_of settings.budget settings.weight settings.window) acts answer after 0 settings.pollers stations ends
 
 -- its lines of the report
 abbrev pub end_lines : Finished Script → List ℕ

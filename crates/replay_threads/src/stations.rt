@@ -2,9 +2,12 @@
 
 ghost use Rattle.std.specs.Prelude.{◌≡◌, ◌≤◌, ◌⊎◌, ◌+◌, ◌++◌, ◌∷◌, ℕ, [], List, None, Some, filter, IfErr, IfOk, IsSome, IsTrue, OnOk, length, vec_items};
 ghost use Rattle.std.specs.List.{All, AllZip};
+ghost use Rattle.std.specs.Borrow.{Bor};
 ghost use Rattle.device_rows.specs.Range.{IsWithin};
 ghost use Rattle.device_rows.specs.Trace.{AcceptedAfter};
 ghost use Rattle.device_rows.specs.declared.row.Row.{Row};
+ghost use Rattle.poll_tasks.specs.Asks.{IsAsked};
+ghost use Rattle.poll_workers.specs.Courses.{ArePolled, pace_of};
 ghost use Rattle.poll_workers.specs.Finishes.{IsFinished};
 ghost use Rattle.poll_workers.specs.Numbers.{have_distinct_numbers};
 ghost use Rattle.poll_workers.specs.declared.fault.WorkFault.TheVariants.{GateShut};
@@ -12,7 +15,7 @@ ghost use Rattle.poll_interrupts.specs.Opens.{IsStation};
 ghost use Rattle.replay_threads.specs.Answer.{IsOutside, IsToldAs, ring_fault};
 ghost use Rattle.device_script.specs.Script.{opening_of, rx_of, script_of};
 ghost use Rattle.device_script.specs.ScriptShown.{acts, after, answer};
-ghost use Rattle.replay_threads.specs.Stations.{IsEndOf, IsStationOf, is_small, small_fault};
+ghost use Rattle.replay_threads.specs.Stations.{AreRunBy, IsEndOf, IsStationOf, is_small, small_fault};
 ghost use Rattle.replay_threads.specs.ThreadsReport.{is_opened, opened};
 
 use device_rows::{PLACES, Row};
@@ -148,6 +151,10 @@ where
     requires numbers { IsTrue (have_distinct_numbers (vec_items stations)) }
     ensures ends { IfOk result
         (λ all. AllZip (IsFinished acts answer after) (vec_items stations) (vec_items all)) }
+    ensures polled { IfOk result
+        (λ all. ArePolled (Bor P) (IsAsked G.answers gate.now)
+        (pace_of settings.now.budget settings.now.weight settings.now.window) acts answer after
+        0 settings.now.pollers (vec_items stations) (vec_items all)) }
     ensures fault { IfErr result (λ fault. IsOutside G.may_shut fault) }
 {
     let (budget, weight, window) = pace_of(settings);
@@ -173,6 +180,9 @@ where
     requires count { length rows.now ≤ 100000 }
     ensures ends { IfOk result
         (λ all. AllZip (IsEndOf rows.now) (opened rows.now) (vec_items all)) }
+    ensures polled { IfOk result
+        (λ all. AreRunBy (Bor P) (IsAsked G.answers gate.now) settings.now rows.now
+        (vec_items all)) }
     ensures rings { OnOk result (ring_fault rows.now ≡ None) }
     ensures fault { IfErr result
         (λ fault. IsOutside G.may_shut fault ⊎ (ring_fault rows.now ≡ Some fault)) }

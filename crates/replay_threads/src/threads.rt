@@ -1,11 +1,13 @@
 //! A whole run with threads: from the bytes of a trace to the bytes of a report.
 
 ghost use Rattle.std.specs.Prelude.{◌≡◌, ◌⊎◌, ◌≤◌, [], ℕ, List, Ok, Err, Some, IfErr, IfOk, OnOk, length, map, vec_items};
+ghost use Rattle.std.specs.Borrow.{Bor};
 ghost use Rattle.std.specs.Io.KnownBytes.{Appends};
 ghost use Rattle.std.specs.List.{AllZip};
 ghost use Rattle.device_rows.specs.Trace.{AcceptedAfter, records_of, trace_of};
 ghost use Rattle.device_rows.specs.declared.row.Row.{Row};
-ghost use Rattle.replay_threads.specs.Answer.{IsOutside, IsPolled, answer_of, threads_of};
+ghost use Rattle.poll_tasks.specs.Asks.{IsAsked};
+ghost use Rattle.replay_threads.specs.Answer.{IsOutside, IsPolled, IsRunBy, answer_of, threads_of};
 ghost use Rattle.replay_threads.specs.Stations.{polled_of};
 ghost use Rattle.replay_threads.specs.ThreadsReport.{opened};
 ghost use Rattle.replay_text.specs.Written.{IsFaultBy, LeavesAsItWas, Writes};
@@ -58,6 +60,9 @@ where
         × Appends (W.contents writer.old) (W.contents writer.new) text) }
     ensures polled { IfOk result
         (λ all. AllZip (IsPolled rows.now) (opened rows.now) (vec_items all)) }
+    ensures run { IfOk result
+        (λ all. IsRunBy (Bor P) (IsAsked G.answers gate.now) settings.now rows.now
+        (vec_items all)) }
     ensures fault { IfErr result
         (λ fault. IsOutside G.may_shut fault ⊎ (answer_of (Ok rows.now) ≡ Err fault)) }
     ensures untouched { IfErr result
@@ -101,6 +106,10 @@ where
     ensures polled { IfOk result (λ all. (bytes : List ℕ) → R.remaining reader ≡ Some bytes
         → (rows : List Row) × (trace_of (records_of bytes) ≡ Ok rows)
         × AllZip (IsPolled rows) (opened rows) (vec_items all)) }
+    // They were polled by as many pollers as the settings ask for, by the settings' budget, weight and window.
+    ensures run { IfOk result (λ all. (bytes : List ℕ) → R.remaining reader ≡ Some bytes
+        → (rows : List Row) × (trace_of (records_of bytes) ≡ Ok rows)
+        × IsRunBy (Bor P) (IsAsked G.answers gate.now) settings.now rows (vec_items all)) }
     // A fault is that of the bytes read, unless the reader, the memory, the writer or a thread failed, or the gate, where that
     // may be shut.
     ensures fault { IfErr result (IsFaultBy (IsOutside G.may_shut)

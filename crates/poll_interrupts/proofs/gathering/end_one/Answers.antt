@@ -1,5 +1,5 @@
-use Rattle.{std.proofs.Common.{◌≡◌, refl, ap, subst}, rx_ring.specs.{declared.packet.Totals.Totals, Ends.{put_list, received_list}}, napi_calls.specs.{Instance.{callers_of, first_of_instance}, Seats.{number_of, own_list}}}
-use Rattle.poll_interrupts.{specs.{declared.worker.Seats.Seats, Runs.IsEnded}, proofs.EndFacts.ended_of}
+use Rattle.{std.proofs.Common.{◌≡◌, refl, ap, subst}, rx_ring.specs.{declared.packet.Totals.Totals, Ends.{put_list, received_list}}, napi_calls.specs.Instance.{callers_of, first_of_instance}}
+use Rattle.{napi_calls.specs.declared.types.Caller.Caller, poll_interrupts.{specs.{declared.worker.Seats.Seats, Ends.IsEndedBy}, proofs.EndFacts.ended_of}}
 use Rattle.poll_interrupts.proofs.gathering.end_one.Goals as goal
 
 pub returns : goal.returns
@@ -15,5 +15,7 @@ returns g c =
       put = ap (λ (t : Totals). t.put) all.totals;
       bytes = ap (λ (t : Totals). t.bytes) all.totals;
       sum = all.sum;
-      ended = subst (λ (s : Seats). IsEnded (number_of s.caller.pass) (own_list s.caller.pass) (own_list s.control.pass) (put_list rx) c.finish.result) c.open-2.ensures ended;
+      is = subst (λ (s : Seats). IsEndedBy s c.args.poller.value c.args.thread.value (put_list rx) c.finish.result) c.open-2.ensures
+          (subst (λ (p : Caller). IsEndedBy c.open-2.result p c.args.thread.value (put_list rx) c.finish.result) c.open-3.ensures
+          (subst (λ (t : Caller). IsEndedBy c.open-2.result c.open-3.result t (put_list rx) c.finish.result) c.open-4.ensures ended));
     }

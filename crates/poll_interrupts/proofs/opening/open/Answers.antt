@@ -1,15 +1,15 @@
-use Rattle.{std.proofs.{Common.{ap, ◌∙◌, rules, arith}, lemmas.Grind.common_steps}, rx_ring.specs.{declared.ends.RxCtx.RxCtx, Ends.received_list}}
+use Rattle.{std.proofs.{Common.{ap, refl, ◌∙◌, rules, arith}, lemmas.Grind.common_steps}, rx_ring.specs.{declared.ends.RxCtx.RxCtx, Ends.received_list}}
 use Rattle.poll_interrupts.proofs.opening.open.Goals as goal
 
 pub returns-clause-side : goal.returns-clause-side
 returns-clause-side g c =
     let new = c.in-Ok-new.ensures in record {
       name = c.requires.number.1;
-      seats = (c.next-caller.ensures.caller.0, new.control.instance);
+      seats = (c.next-caller.ensures.caller.instance, new.control.instance);
       controller = new.control.number_is;
       bell = search rules;
-      poller = c.next-poller.ensures.caller.0;
-      thread = c.next-thread.ensures.caller.0;
+      poller = c.next-poller.ensures.caller.instance;
+      thread = c.next-thread.ensures.caller.instance;
       ring = (c.in-Ok.ctx, search rules, c.in-Ok.ensures.one);
       home = record {
         callers = new.count.1;
@@ -17,4 +17,25 @@ returns-clause-side g c =
         empty = grind (arith, common_steps, new.count.2, c.next-thread.ensures.left, c.next-poller.ensures.left, c.next-caller.ensures.left);
         room = grind (arith, common_steps, new.count.2, c.next-thread.ensures.room, c.next-poller.ensures.room, c.next-caller.ensures.room);
       };
+    }
+
+pub returns-clause-loose : goal.returns-clause-loose
+returns-clause-loose g c =
+    let new = c.in-Ok-new.ensures in
+    let three = c.next-thread.ensures.left in
+    let two = c.next-poller.ensures.left in
+    let one = c.next-caller.ensures.left in
+    record {
+      same_number = refl;
+      same_device = refl;
+      places = search rules;
+      nothing_put = search rules;
+      thread = search rules;
+      unused = record {
+        caller = record { number_is = c.next-caller.ensures.caller.number_is ∙ grind (arith, common_steps, new.count.2, three, two, one); nothing_done = c.next-caller.ensures.caller.nothing_done };
+        control = new.control.nothing_done;
+        number = new.control.number_is;
+      };
+      poller = record { number_is = c.next-poller.ensures.caller.number_is ∙ grind (arith, common_steps, new.count.2, three, two); nothing_done = c.next-poller.ensures.caller.nothing_done };
+      own = record { number_is = c.next-thread.ensures.caller.number_is ∙ grind (arith, common_steps, new.count.2, three); nothing_done = c.next-thread.ensures.caller.nothing_done };
     }

@@ -27,7 +27,7 @@ loop-seat-preserved g c =
       record {
         whole = more.2;
         there = there.1;
-        taken = rw c.push_reserved.ensures.items (zip_push _ _ _ _ _ i.1.taken (rw c.new.ensures c.leave.ensures.of));
+        taken = rw c.push_reserved.ensures.items (zip_push _ _ _ _ _ i.1.taken (rw c.new.ensures (c.leave.ensures.of, c.leave.ensures.caller)));
         count = grind (arith, common_steps, i.1.count, c.in-Some.ensures.len, c.push_reserved.ensures.len);
         room = grind (arith, i.1.room, c.push_reserved.ensures.capacity);
         long = (let a = i.1.long in let b = c.in-Some.ensures.items in let d = c.in-Some.ensures.len in grind (arith, common_steps, a, b, d));

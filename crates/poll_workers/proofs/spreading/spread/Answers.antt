@@ -16,7 +16,9 @@ loop-rest-init g c =
         made = rw no_jobs tt;
         job_places = rw no_jobs tt;
         seat_places = rw no_seats tt;
+        seats = rw no_seats tt;
         thread_places = rw no_sides tt;
+        threads = rw no_sides tt;
         count = grind (arith, common_steps);
         as_count = grind (arith, common_steps);
         side_count = grind (arith, common_steps);
@@ -36,7 +38,9 @@ loop-rest-preserved g c =
     let more = before_more _ _ _ _ _ now.whole c.in-Some.ensures.items in
     let further = before_more _ _ _ _ _ now.all_places cut in
     let side = rw (c.in-Some.ensures.items, cut) at now.sides in
-    let made = rw c.open.ensures at c.split-job.ensures.job.0 in (
+    let made = rw c.open.ensures at c.split-job.ensures.job.0 in
+    let seat = rw c.open.ensures at c.split-job.ensures.seat.1 in
+    let thread = rw c.open.ensures at c.split-job.ensures.thread.1 in (
       i.0 ++ c.in-Some.rest ∷ [],
       i.1 ++ c.in-Some-split_first.place.now ∷ [],
       record {
@@ -45,8 +49,10 @@ loop-rest-preserved g c =
         sides = side.1;
         made = rw c.push_reserved.ensures.items (zip_push _ _ _ _ _ now.made made);
         job_places = rw c.push_reserved.ensures.items (zip_push _ _ _ _ _ now.job_places c.split-job.ensures.job.1);
-        seat_places = rw c.push_reserved-in-Some.ensures.items (zip_push _ _ _ _ _ now.seat_places c.split-job.ensures.seat);
-        thread_places = rw c.push_reserved-in-Some-2.ensures.items (zip_push _ _ _ _ _ now.thread_places c.split-job.ensures.thread);
+        seat_places = rw c.push_reserved-in-Some.ensures.items (zip_push _ _ _ _ _ now.seat_places c.split-job.ensures.seat.0);
+        seats = rw c.push_reserved-in-Some.ensures.items (zip_push _ _ _ _ _ now.seats seat);
+        thread_places = rw c.push_reserved-in-Some-2.ensures.items (zip_push _ _ _ _ _ now.thread_places c.split-job.ensures.thread.0);
+        threads = rw c.push_reserved-in-Some-2.ensures.items (zip_push _ _ _ _ _ now.threads thread);
         count = grind (arith, common_steps, now.count, c.in-Some.ensures.len, c.push_reserved.ensures.len);
         as_count = grind (arith, common_steps, now.as_count, c.push_reserved.ensures.len, c.push_reserved-in-Some.ensures.len);
         side_count = grind (arith, common_steps, now.side_count, c.push_reserved.ensures.len, c.push_reserved-in-Some-2.ensures.len);
@@ -72,16 +78,30 @@ returns-clause-job_places g c =
     let whole = none_left _ _ _ now.all_places (zip_empty _ _ _ now.sides empty) in
     rw (← whole) now.job_places
 
-pub returns-clause-seats : goal.returns-clause-seats
-returns-clause-seats g c =
+pub returns-clause-seat_places : goal.returns-clause-seat_places
+returns-clause-seat_places g c =
     let now = c.loop-rest.invariant.2 in
     let empty : into_iter_items c.loop-rest.rests ≡ [] = nil_from_length _ (grind (arith, common_steps, now.long, c.in_default.ensures.len)) in
     let whole = none_left _ _ _ now.all_places (zip_empty _ _ _ now.sides empty) in
     rw (← whole) now.seat_places
 
-pub returns-clause-threads : goal.returns-clause-threads
-returns-clause-threads g c =
+pub returns-clause-seats : goal.returns-clause-seats
+returns-clause-seats g c =
+    let now = c.loop-rest.invariant.2 in
+    let empty : into_iter_items c.loop-rest.rests ≡ [] = nil_from_length _ (grind (arith, common_steps, now.long, c.in_default.ensures.len)) in
+    let whole = none_left _ _ _ now.whole empty in
+    rw (← whole) now.seats
+
+pub returns-clause-thread_places : goal.returns-clause-thread_places
+returns-clause-thread_places g c =
     let now = c.loop-rest.invariant.2 in
     let empty : into_iter_items c.loop-rest.rests ≡ [] = nil_from_length _ (grind (arith, common_steps, now.long, c.in_default.ensures.len)) in
     let whole = none_left _ _ _ now.all_places (zip_empty _ _ _ now.sides empty) in
     rw (← whole) now.thread_places
+
+pub returns-clause-threads : goal.returns-clause-threads
+returns-clause-threads g c =
+    let now = c.loop-rest.invariant.2 in
+    let empty : into_iter_items c.loop-rest.rests ≡ [] = nil_from_length _ (grind (arith, common_steps, now.long, c.in_default.ensures.len)) in
+    let whole = none_left _ _ _ now.whole empty in
+    rw (← whole) now.threads

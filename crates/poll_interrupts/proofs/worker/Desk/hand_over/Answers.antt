@@ -1,4 +1,4 @@
-use Rattle.std.proofs.Common.{◌≡◌, true, false, rules}
+use Rattle.{std.proofs.Common.{◌≡◌, true, false, refl, rules}, poll_interrupts.proofs.Listings.{lists_more, lists_none}}
 use Rattle.poll_interrupts.proofs.worker.Desk.hand_over.Goals as goal
 
 pub returns-then-not-look-clause-handed : goal.returns-then-not-look-clause-handed
@@ -10,3 +10,9 @@ pub returns-clause-handed : goal.returns-clause-handed
 returns-clause-handed g c =
     let on : c.look.result.flags.threaded ≡ true = search rules in
     rw c.in-Some.is (c.look.result, c.look.new.self.pass, c.look.ensures.event, rw on c.hand-caller.ensures.event)
+
+pub returns-then-not-look-clause-lists : goal.returns-then-not-look-clause-lists
+returns-then-not-look-clause-lists g c = lists_more (lists_none c.args.list.now refl c.look.ensures.event) c.hand_to_list-then-not-look.ensures.lists
+
+pub returns-clause-lists : goal.returns-clause-lists
+returns-clause-lists g c = lists_more (lists_none c.args.list.now refl c.look.ensures.event) (lists_none c.args.list.now refl c.hand-caller.ensures.event)

@@ -1,4 +1,4 @@
-use Rattle.std.proofs.Common.{refl}
+use Rattle.{std.proofs.Common.{refl}, poll_interrupts.proofs.Listings.{lists_more, lists_none, tries_none}}
 use Rattle.napi_calls.specs.declared.answers.Sched.TheVariants as sched
 use Rattle.poll_interrupts.proofs.worker.Desk.interrupt.Goals as goal
 
@@ -10,3 +10,18 @@ returns-in-Missed-clause-interrupts g c = (sched.Missed c.in-Missed.caller, c.in
 
 pub returns-in-Missed-2-clause-interrupts : goal.returns-in-Missed-2-clause-interrupts
 returns-in-Missed-2-clause-interrupts g c = (sched.Disabled c.in-Missed.caller, c.in-Missed.ensures.events, refl)
+
+pub returns-in-Granted-clause-lists : goal.returns-in-Granted-clause-lists
+returns-in-Granted-clause-lists g c =
+    let asked = c.in-Granted.ensures.events in
+    lists_more (lists_none c.args.list.now (tries_none c.args.self.now.number _ asked.0 _) asked.2) c.hand_over.ensures.lists
+
+pub returns-in-Missed-clause-lists : goal.returns-in-Missed-clause-lists
+returns-in-Missed-clause-lists g c =
+    let asked = c.in-Missed.ensures.events in
+    lists_none c.args.list.now (tries_none c.args.self.now.number _ asked.0 _) asked.2
+
+pub returns-in-Missed-2-clause-lists : goal.returns-in-Missed-2-clause-lists
+returns-in-Missed-2-clause-lists g c =
+    let asked = c.in-Missed.ensures.events in
+    lists_none c.args.list.now (tries_none c.args.self.now.number _ asked.0 _) asked.1

@@ -1,5 +1,5 @@
 use Rattle.{std.proofs.{Common.{◌≡◌, ◌+◌, ◌≤◌, ◌++◌, is_some, length, ap, sym, ◌∙◌, rules, arith}, lemmas.Grind.common_steps}, rx_ring.specs.Ends.{capacity_of, put_list}, poll_interrupts.specs.Acts.{after_acts, brings}}
-use Rattle.poll_interrupts.proofs.{ActSteps.{acts-more, after_acts-more, arrivals-more, put_more}, LedgerSteps.all_same}
+use Rattle.poll_interrupts.proofs.{ActSteps.{acts-more, after_acts-more, arrivals-more, put_more}, LedgerSteps.all_same, Listings.{lists_more, lists_same}}
 use Rattle.poll_interrupts.proofs.worker.Desk.make_acts.Goals as goal
 
 pub loop-k-preserved : goal.loop-k-preserved
@@ -12,6 +12,7 @@ loop-k-preserved g c =
     let places : capacity_of c.loop-k.rx ≡ capacity_of c.args.rx.now = search rules in
     let then : length (put_list c.loop-k.rx) + length brought ≤ capacity_of c.args.rx.now → put_list c.make_act-hold.new.rx ≡ put_list c.loop-k.rx ++ brought = rw (← i.made, ← places) e.put in record {
       of = e.of;
+      lists = lists_more i.lists e.lists;
       acted = acts-more (is_some c.args.self.now.thread) g.D.Device.answer after d c.loop-k.k c.args.hold c.loop-k.hold c.make_act-hold.result c.args.rx.now c.loop-k.rx c.make_act-hold.new.rx i.acted e.ring (rw (← i.made) e.made);
       made = e.device ∙ ap (λ x. after x c.loop-k.k) i.made ∙ sym (after_acts-more after d c.loop-k.k);
       acts = e.acts ∙ i.acts;
@@ -19,6 +20,18 @@ loop-k-preserved g c =
       few = grind (arith, common_steps, i.few, e.few);
       put = put_more _ _ _ _ _ _ _ (arrivals-more g.D.Device.answer after d c.loop-k.k) i.put then;
     }
+
+pub loop-k-init : goal.loop-k-init
+loop-k-init g c = record {
+  of = c.requires;
+  lists = lists_same _ _;
+  acted = search rules;
+  made = search rules;
+  acts = search rules;
+  ring = search rules;
+  few = search rules;
+  put = search rules;
+}
 
 pub returns-then-not-may_act-clause-same : goal.returns-then-not-may_act-clause-same
 returns-then-not-may_act-clause-same g c =

@@ -1,4 +1,4 @@
-use Rattle.{std.proofs.Common.{◌∙◌, Some, ap, inr, refl, rules, subst, sym}, napi_calls.specs.{declared.types.Napi.Napi, Instance.IsSeatOf}, poll_seats.proofs.SeatFacts.served_alone}
+use Rattle.{std.proofs.Common.{◌∙◌, Some, ap, refl, rules, subst, sym}, napi_calls.specs.{declared.types.Napi.Napi, Instance.IsSeatOf}, poll_seats.proofs.SeatFacts.{before_turns, served_alone}}
 use Rattle.poll_seats.proofs.thread_poller.ThreadSide.poll.Goals as goal
 
 pub leave-requires : goal.leave-requires
@@ -10,12 +10,13 @@ returns g c =
     let of : IsSeatOf c.args.self.napi.now c.leave.result.pass =
     subst (λ (n : Napi). IsSeatOf n c.leave.result.pass) (ap (λ b. b.now) same.napi) c.leave.ensures.of in record {
       of = rw c.new-2.ensures of;
-      came = inr (record {
-        first = _;
+      turns = λ polled. rw c.in-Some.is (record {
+        first = before_turns c.serve.ensures;
         last = c.serve.new.served;
-        pace = refl;
-        number = refl;
-        napi = refl;
+        started = (c.pass.result, c.pass.ensures.answers);
+        paced = refl;
+        at = refl;
+        bell = refl;
         from = ap (λ k. Some k) c.open.ensures;
         turns = c.serve.ensures;
         to = c.leave.ensures.caller ∙ ap (λ k. Some k) (sym c.new-2.ensures);
