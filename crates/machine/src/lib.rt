@@ -7,6 +7,8 @@
 //! `napi_machine` is made of these calls.
 #![tactic(auto)]
 
-pub use machine_model::{DeviceCounts, DeviceReport, Machine, ProcessorCounts, ProcessorReport, WaitCounts};
+pub use machine_model::{
+    DeviceCounts, DeviceReport, Machine, ProcessorCounts, ProcessorReport, WaitCounts,
+};
 pub use machine_report::{Arrival, Arrivals, MachineFault, fault_line, run_machine, status};
 pub use machine_words::{Settings, parse_words};
