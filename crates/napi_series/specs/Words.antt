@@ -1,7 +1,8 @@
 -- The words after the program's name: those of napi_replay, and before them, where they are wanted, `--every` and its number.
 use Rattle.std.specs.Prelude.{ℕ, [], ◌∷◌, List, Option, Some, None, if◌then◌else◌, codes, option_map}
 use Rattle.std.specs.Str.{bytes_eq}
-use Rattle.replay_words.specs.Words.{Asked, Text, number_of, serial_asked_for, ◌>>=◌}
+use Rattle.replay_words.specs.Given.{◌>>=◌}
+use Rattle.replay_words.specs.Words.{Asked, Text, number_of, serial_asked_for}
 
 -- how many rows make one line, and the other words
 abbrev pub every_of : List Text → Option (ℕ × List Text)
