@@ -40,7 +40,7 @@ of_another_version() {
 }
 
 of_no_call() {
-    echo 'int fq_none;' > other.c && cc -shared -fPIC other.c -o libfintaqush.so.1 && FINTAQUSH_LIB=$scratch said_in_a_line "hasn't fq_abandon"
+    echo 'int fq_none;' > other.c && cc -shared -fPIC other.c -o libfintaqush.so.1 && FINTAQUSH_LIB=$scratch said_in_a_line "hasn't fq_struct_size"
 }
 
 no_library_at_all() { echo text > libfintaqush.so.1 && FINTAQUSH_LIB=$scratch said_in_a_line 'file too short'; }
