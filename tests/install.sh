@@ -66,7 +66,11 @@ there() {
 }
 
 # program_runs BIN NAME: its example gives what it has to.
-program_runs() { "$1/$2" < "$top/crates/$2/stdin" | diff - "$top/crates/$2/stdout"; }
+program_runs() {
+    local words=()
+    [ ! -e "$top/crates/$2/args" ] || mapfile -t words < "$top/crates/$2/args"
+    "$1/$2" "${words[@]}" < "$top/crates/$2/stdin" | diff - "$top/crates/$2/stdout"
+}
 
 # tool_starts BIN NAME
 tool_starts() { [ "$("$1/$2" --version)" = "$2 of Fintaqush $version" ] && "$1/$2" --help | grep -q "^usage: $2"; }
