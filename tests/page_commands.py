@@ -5,6 +5,7 @@ text in code of two words and more, of which the first one is a program's name. 
 is a remark. A synopsis, as `tools/raise TRACE WORD ..`, is held against the program's usage text. What proves, measures or installs
 is run by hand: there has to be such a command.
 """
+import functools
 import os
 import pathlib
 import re
@@ -23,6 +24,20 @@ SETTINGS = re.compile(r"^([A-Z_]+=\S+ )+")
 SYNOPSIS = re.compile(r"\[[A-Z-]| \.\.(?: |$)|\.\.\]| \| -|[A-Z]\|[A-Z]")
 BY_HAND = re.compile(r"(rt|apt|perf|git grep|head) |bench/|scripts/surface")
 KEYS = {"run", "first", "into", "needs", "prints", "in", "by", "not"}
+# Begins the block that first_program runs.
+FIRST = "git init ."
+
+
+def listed(*names):
+    return subprocess.run(["git", "ls-files", *names], cwd=TOP, capture_output=True, text=True, check=True).stdout.split()
+
+
+@functools.cache
+def is_missing(program, what):
+    """Whether a program isn't installed; what is passed over for it is told, once."""
+    if not shutil.which(program):
+        print(f"passed over: {what}: there is no {program}")
+    return not shutil.which(program)
 
 
 def begins_a_command(text):
@@ -81,6 +96,8 @@ def commands_of_block(block):
     if any(line.startswith("$ ") for line in lines):
         for part in re.split(r"^\$ ", "\n".join(lines), flags=re.M)[1:]:
             yield plain(part.splitlines()[0]), part.splitlines()[1:]
+    elif lines and lines[0] == FIRST:
+        return
     elif lines and lines[0].startswith(("#!", "set -")):
         yield f"{lines[0]}; {lines[1]} ..", None
     elif lines and begins_a_command(lines[0]):
@@ -123,7 +140,7 @@ def read_list():
             wrong.append(f"{entry['command']}: {key} is no key of an entry, or stands twice")
         entry[key] = value.strip()
     for command, entry in entries.items():
-        if len({"run", "by", "not"} & set(entry)) != 1 or entry.get("not") == "":
+        if len({"run", "by", "not"} & set(entry)) > 1 or "" in entry.values():
             wrong.append(f"{command}: it is either run, or by another test, or not with a reason")
         name, _, word = entry.get("by", "").partition(" ")
         if name and (not (TOP / name).is_file() or not word or word not in (TOP / name).read_text()):
@@ -159,9 +176,8 @@ class Copy:
         self.room = pathlib.Path(tempfile.mkdtemp())
         self.top = self.room / "fintaqush"
         (self.room / "bin").mkdir()
-        listed = subprocess.run(["git", "ls-files", "-z"], cwd=TOP, capture_output=True, text=True, check=True)
         built = [f"crates/{name}/out/{name}" for name in ("napi_machine", "napi_replay", "napi_series", "napi_serial")]
-        for name in [*filter(None, listed.stdout.split("\0")), *built]:
+        for name in [*listed(), *built]:
             if (TOP / name).exists():
                 (self.top / name).parent.mkdir(parents=True, exist_ok=True)
                 # What is built comes last, and so is the newest.
@@ -209,12 +225,9 @@ def judge_page(copy, entries, path):
     for command, wanted in commands_of_page(path):
         entry = entries.get(command, {})
         entry["is_used"] = True
-        missing = [name for name in entry.get("needs", "").split() if not shutil.which(name)]
-        if "by" in entry or "not" in entry:
+        if "by" in entry or "not" in entry or any([is_missing(name, command) for name in entry.get("needs", "").split()]):
             continue
-        if missing:
-            print(f"passed over: {command}: there is no {' and no '.join(missing)}")
-        elif "command" in entry or wanted is not None:
+        if "command" in entry or wanted is not None:
             yield from play(copy, command, wanted, entry)
         elif BY_HAND.match(SETTINGS.sub("", command)):
             yield from by_hand(command)
@@ -233,7 +246,7 @@ def judge_list(entries, wrong):
 def first_program(copy, path):
     """What is wrong with the first program: its lines of shell, its text, and what it prints."""
     page = list(blocks(path.read_text()))
-    place = next(at for at, block in enumerate(page) if block[0] == "git init .")
+    place = next(at for at, block in enumerate(page) if block[0] == FIRST)
     shell, text, printed = page[place : place + 3]
     mine = copy.room / "mine"
     mine.mkdir()
@@ -242,11 +255,8 @@ def first_program(copy, path):
         yield f"{shell}: {made.stderr.strip()}"
         return
     (mine / "crates/first/src/main.rt").write_text("\n".join(text).rstrip() + "\n")
-    if not shutil.which("rt"):
-        print("passed over: the first program: there is no rt")
-        return
-    ended = copy.run("rt try", mine / "crates/first")
-    if ended.returncode != 0 or ended.stdout.split() != " ".join(printed).split():
+    ended = None if is_missing("rt", "the first program") else copy.run("rt try", mine / "crates/first")
+    if ended and (ended.returncode != 0 or ended.stdout.split() != " ".join(printed).split()):
         yield f"its first program prints {ended.stdout}, status {ended.returncode}: {ended.stderr.strip()[-2000:]}"
 
 

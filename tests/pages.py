@@ -1,11 +1,10 @@
 """The pages beside the repository: links lead, files and names are there, claims name clauses that are (claims.py), programs that they
 show are compiled (snippets.py), commands do what they say (page_commands.py), pages are as short as they have to be, the site and the
-manual pages are whole (site.py). What needs a program that isn't installed is passed over, and says so.
+manual pages are whole (site_pages.py).
 """
 import functools
 import pathlib
 import re
-import shutil
 import subprocess
 import sys
 
@@ -13,6 +12,7 @@ import claims
 import page_commands
 import site_pages
 import snippets
+from page_commands import is_missing, listed
 
 TOP = pathlib.Path(__file__).resolve().parent.parent
 DOORS = "napi_model dql_core rx_ring tx_ring napi_word napi_calls poll_engine device_model replay machine".split()
@@ -23,10 +23,6 @@ MADE = re.compile(r"(^|/)out(/|$)|include/linux/|crates/first|NAME|FOLDER|FILE|P
 USERS = ("bench_", "example_", "uses_")
 # Words in code that are others': the kernel's, a file format's, an instruction's, and what stands for a file.
 OUTSIDE = {"time_after", "softnet_stat", "virtio_net", "sysexits", "btr", "mb", "MACHINES"}
-
-
-def listed(*names):
-    return subprocess.run(["git", "ls-files", *names], cwd=TOP, capture_output=True, text=True, check=True).stdout.split()
 
 
 def pages():
@@ -83,20 +79,12 @@ def names(page):
                 yield f"no source has {word}"
 
 
-@functools.cache
-def kit():
-    """The kit that proves here; nothing if there is no rt."""
-    if not shutil.which("rt"):
-        print("passed over: whether the pages name the kit that proves here: there is no rt")
-        return ""
-    return subprocess.run(["rt", "version"], capture_output=True, text=True, check=True).stdout.split()[0]
-
-
 def kits(page):
     """A page that names kits names the one that proves here."""
     named = re.findall(r"rattle-kit-\w+", page.read_text())
-    if named and kit() not in ("", *named):
-        yield f"it names {', '.join(named)}, and {kit()} proves here"
+    if named and not is_missing("rt", "whether the pages name the kit that proves here"):
+        if (kit := site_pages.run("rt", "version").stdout.split()[0]) not in named:
+            yield f"it names {', '.join(named)}, and {kit} proves here"
 
 
 def leftovers(page):
@@ -212,12 +200,11 @@ def checks():
     for door in DOORS:
         yield TOP / "crates" / door / "README.md", door_page(TOP / "crates" / door / "README.md")
     yield TOP / "docs/C.md", claims.judge(TOP / "docs/C.md", ["napi_c", "c_handles", "replay_c"])
-    yield TOP / "crates/napi_model/README.md", snippets.first_program(TOP / "crates/napi_model/README.md")
     for check, name in ((lengths, "README.md"), (places, "docs/WORKING.md"), (scripts_told, "docs/WORKING.md"), (door_rules, "crates.txt"),
                         (crate_picture, "docs/pictures/crates.dot")):
         yield TOP / name, check(TOP / name)
     yield from site_pages.checks(pages())
-    yield from commands(pages() + sorted((TOP / "docs/man").iterdir()))
+    yield from () if "--static" in sys.argv else commands(pages() + site_pages.MANUALS)
 
 
 def main():

@@ -2,10 +2,11 @@
 import os
 import pathlib
 import re
-import shutil
 import subprocess
 import tempfile
 import urllib.parse
+
+from page_commands import is_missing
 
 TOP = pathlib.Path(__file__).resolve().parent.parent
 MANUALS = sorted((TOP / "docs/man").iterdir())
@@ -13,14 +14,6 @@ MANUALS = sorted((TOP / "docs/man").iterdir())
 
 def run(*words, **others):
     return subprocess.run(words, cwd=TOP, capture_output=True, text=True, stdin=subprocess.DEVNULL, timeout=300, check=False, **others)
-
-
-def is_missing(program, what):
-    """Whether a program isn't installed; what is passed over for it is told."""
-    if shutil.which(program):
-        return False
-    print(f"passed over: {what}: there is no {program}")
-    return True
 
 
 def marks():
