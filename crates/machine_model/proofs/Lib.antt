@@ -8,3 +8,9 @@ pub mod LeftFacts
 pub mod StepFacts
 pub mod MachineFacts
 pub mod LawFacts
+pub mod WalkFacts
+pub mod WorkFacts
+pub mod TimeFacts
+pub mod LifeFacts
+pub mod FateFacts
+pub mod SocketFacts
