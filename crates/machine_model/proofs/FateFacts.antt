@@ -15,10 +15,10 @@ use Rattle.machine_model.proofs.{PlacesFacts.{at-changed, map_at}, WalkFacts.{Fr
 
 -- ---- what stands at a number
 
-at-here : (f : DeviceView → DeviceView) (m n : ℕ) (ds : Devices) → (m == n) ≡ true → at n (changed f m ds) ≡ map_at f (at n ds)
+pub at-here : (f : DeviceView → DeviceView) (m n : ℕ) (ds : Devices) → (m == n) ≡ true → at n (changed f m ds) ≡ map_at f (at n ds)
 at-here f m n ds same = rw (eqb-true m n same) (at-changed f n ds)
 
-at-apart : (f : DeviceView → DeviceView) (m n : ℕ) (ds : Devices) → (m == n) ≡ false → at n (changed f m ds) ≡ at n ds
+pub at-apart : (f : DeviceView → DeviceView) (m n : ℕ) (ds : Devices) → (m == n) ≡ false → at n (changed f m ds) ≡ at n ds
 at-apart f m n ds other = by (at m ds)
   where
     by : (o : Option DeviceView) → at n (changed_from f m o ds) ≡ at n ds
@@ -156,7 +156,7 @@ lone-ring n m p =
     = at-kept ring_in ended_interrupt m n two (λ d. refl) ∙ at-kept ring_in (device.delivered p.clock batch) m n one (λ d. refl) in
     ap (λ (xs : List ℕ). given_from n (Some (m, batch)) ++ xs) kept ∙ given-ring (device.taken 1) 1 m n p.devices (λ o. refl)
 
-poll-ring : (n m : ℕ) (p : ProcessorView) → ring_in (at n (ends_poll m p).devices) ≡ ring_in (at n p.devices)
+pub poll-ring : (n m : ℕ) (p : ProcessorView) → ring_in (at n (ends_poll m p).devices) ≡ ring_in (at n p.devices)
 unfolding ends_poll delivers device.delivered
 poll-ring n m p =
     let full = length p.batch == p.settings.weight in
@@ -215,7 +215,7 @@ unfolding made_at capacity_in
 made-ring capacity None is = (refl, refl)
 made-ring capacity (Some d) is = (refl, is)
 
-comes-ring : (capacity moment m n : ℕ) (ds : Devices) → capacity_in capacity (at n ds) ≡ capacity
+pub comes-ring : (capacity moment m n : ℕ) (ds : Devices) → capacity_in capacity (at n ds) ≡ capacity
     → ring_in (at n (changed (after_packet moment) m (with_device capacity m ds)))
     ≡ ring_in (at n ds) ++ (if m == n && nat_lt (length (ring_in (at n ds))) capacity then moment ∷ [] else [])
 unfolding map_at made_at

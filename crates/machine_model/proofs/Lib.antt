@@ -14,3 +14,4 @@ pub mod TimeFacts
 pub mod LifeFacts
 pub mod FateFacts
 pub mod SocketFacts
+pub mod LeastFacts

@@ -86,7 +86,7 @@ ended-polls : (n : ℕ) (p : ProcessorView) (clock : ℕ) → let q = ends_poll 
 unfolding ends_poll delivers
 ended-polls n p clock = (refl, λ a is. refused-size p.batch (min (length p.batch) (p.socket.capacity - length p.socket.items)) p.told.refused a is, refl)
 
-ended-by : (w : Work) (p : ProcessorView) → Ended w p (ends_by w (record p { clock = p.ends }))
+pub ended-by : (w : Work) (p : ProcessorView) → Ended w p (ends_by w (record p { clock = p.ends }))
 ended-by Nothing p = record { items = sym (append-nil p.socket.items); told = λ a is. same-told p.told.refused a is; counts = λ xs is. same-waits xs p.waits is }
 ended-by (Interrupt n) p = by (is_polling p.settings) refl
   where

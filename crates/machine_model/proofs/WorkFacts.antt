@@ -100,7 +100,7 @@ work-begins s p held polling =
     let same : 0 < s.budget = rw held.settings at some in
     record { budget = rw held.settings refl; work = omega (arith, same); asked = λ none. cc none }
 
-work-walk : (s : Settings) → Walk (Rests s) (Goes s)
+pub work-walk : (s : Settings) → Walk (Rests s) (Goes s)
 work-walk s = record {
   raises = λ n p free held raises. work-raises s n p free held;
   next = λ p free held. record { settings = held.settings; batch = held.batch; run = runs-next s p.softirq free.unasked held.run };
@@ -135,7 +135,7 @@ work-by s (Use came) p held = record { settings = held.settings; batch = held.ba
 pub free-ended : (s : Settings) (p : ProcessorView) → Goes s p → Free (record (ends_current p) { work = Nothing })
 free-ended s p goes = record { nothing = refl; unasked = asked-ends p goes.asked }
 
-work-ended : (s : Settings) (p : ProcessorView) → Rests s p → Rests s (record (ends_current p) { work = Nothing })
+pub work-ended : (s : Settings) (p : ProcessorView) → Rests s p → Rests s (record (ends_current p) { work = Nothing })
 unfolding ends_current
 work-ended s p held =
     let e = work-by s p.work (record p { clock = p.ends }) (record { settings = held.settings; batch = held.batch; run = held.run }) in

@@ -1,11 +1,12 @@
 -- What becomes of packets over a processor's life. Lists are in the order in which things happened.
 use Rattle.std.specs.Prelude.{◌≡◌, ℕ, ◌+◌, ◌-◌, ◌<◌, ◌≤◌, ◌^◌, ◌==◌, ◌&&◌, nat_lt, not, min, Bool, true, false, List, [], ◌∷◌, ◌++◌, length, take, drop, map, Option, Some, None, if◌then◌else◌}
+use Rattle.std.specs.List.{AllByRecursion}
 use Rattle.circular_buffer.specs.Buffer.{Buffer}
 use Rattle.device_rows.specs.Places.{at}
 use Rattle.machine_words.specs.declared.settings.Settings.{Settings}
 use Rattle.machine_model.specs.Device.{DeviceView}
 use Rattle.machine_model.specs.Devices.{batch_at}
-use Rattle.machine_model.specs.Laws.{Event, behind, end, packet}
+use Rattle.machine_model.specs.Laws.{Event, InTurn, behind, end, packet}
 use Rattle.machine_model.specs.Processor.{ProcessorView, is_polling}
 use Rattle.machine_model.specs.Softirq.{asked_in}
 use Rattle.machine_model.specs.Waits.{WaitsView, counted, held, no_waits}
@@ -122,3 +123,21 @@ counting (wait ∷ more) w = counting more (counted wait w)
 abbrev pub TellsOfUse : Type 0
 TellsOfUse = (s : Settings) (events : List Event) → let p = behind s events in
     (p.told.refused ≡ held (length (refused s events))) × (p.waits ≡ counting (use_waits s events) no_waits)
+
+-- ---- waits
+
+-- the waits of a device's packets from coming to delivery
+unfoldable pub waits : ℕ → Settings → List Event → List ℕ
+waits n s [] = []
+waits n s (packet moment number ∷ earlier) = waits n s earlier
+waits n s (end ∷ earlier) = let p = behind s earlier in waits n s earlier ++ map (λ at. p.ends - at) (given n p)
+
+-- what it takes to deliver a packet: a poll with it, or without polling its interrupt
+abbrev pub least_time : Settings → ℕ
+least_time s = s.packet + (if is_polling s then s.poll else s.interrupt)
+
+-- law: while the clock doesn't stand at its end, no wait is less than what its work takes
+abbrev pub NoWaitIsLess : Type 0
+NoWaitIsLess = (s : Settings) (until : ℕ) (events : List Event) → until < 2 ^ 64 → InTurn s until events → (behind s events).clock < 2 ^ 64 - 1
+    → ((n : ℕ) → AllByRecursion (λ wait. least_time s ≤ wait) (waits n s events))
+    × AllByRecursion (λ wait. least_time s + s.use_time ≤ wait) (use_waits s events)

@@ -1,6 +1,6 @@
 //! Laws of the machine. Each is the contract of a function that does nothing.
 
-ghost use Rattle.machine_model.specs.Fates.{DeliversInOrder, TellsOfUse, UsesInOrder};
+ghost use Rattle.machine_model.specs.Fates.{DeliversInOrder, NoWaitIsLess, TellsOfUse, UsesInOrder};
 ghost use Rattle.machine_model.specs.Laws.{ArrivesAsOne, ClocksNeverFall, EachLives, RunsAsOne, WorksWithin};
 
 /// What ends on a processor up to a moment, and what stands behind it, is determined.
@@ -41,4 +41,9 @@ pub fn uses_in_order()
 /// What is told of refused packets and of the waits of those used is told of these.
 pub fn tells_of_use()
     ensures { TellsOfUse }
+{}
+
+/// No wait is less than what its work takes, unless the clock stands at its end.
+pub fn no_wait_is_less()
+    ensures { NoWaitIsLess }
 {}
