@@ -210,7 +210,7 @@ packet-ring moment d = by (nat_lt (length d.ring) d.capacity)
     by true = refl
     by false = sym (append-nil d.ring)
 
-made-ring : (capacity : ℕ) (o : Option DeviceView) → capacity_in capacity o ≡ capacity → ((made_at capacity o).ring ≡ ring_in o) × ((made_at capacity o).capacity ≡ capacity)
+pub made-ring : (capacity : ℕ) (o : Option DeviceView) → capacity_in capacity o ≡ capacity → ((made_at capacity o).ring ≡ ring_in o) × ((made_at capacity o).capacity ≡ capacity)
 unfolding made_at capacity_in
 made-ring capacity None is = (refl, refl)
 made-ring capacity (Some d) is = (refl, is)

@@ -15,3 +15,4 @@ pub mod LifeFacts
 pub mod FateFacts
 pub mod SocketFacts
 pub mod LeastFacts
+pub mod TallyFacts

@@ -4,12 +4,13 @@ use Rattle.std.specs.List.{AllByRecursion}
 use Rattle.circular_buffer.specs.Buffer.{Buffer}
 use Rattle.device_rows.specs.Places.{at}
 use Rattle.machine_words.specs.declared.settings.Settings.{Settings}
-use Rattle.machine_model.specs.Device.{DeviceView}
+use Rattle.machine_model.specs.Device.{DeviceView, no_counts}
 use Rattle.machine_model.specs.Devices.{batch_at}
 use Rattle.machine_model.specs.Laws.{Event, InTurn, behind, end, packet}
 use Rattle.machine_model.specs.Processor.{ProcessorView, is_polling}
 use Rattle.machine_model.specs.Softirq.{asked_in}
 use Rattle.machine_model.specs.Waits.{WaitsView, counted, held, no_waits}
+use Rattle.machine_model.specs.declared.device.DeviceCounts.{DeviceCounts}
 use Rattle.machine_model.specs.declared.processor.Work.{Work}
 use Rattle.machine_model.specs.declared.processor.Work.TheVariants.{Nothing, Interrupt, Poll, Use}
 
@@ -141,3 +142,21 @@ abbrev pub NoWaitIsLess : Type 0
 NoWaitIsLess = (s : Settings) (until : ℕ) (events : List Event) → until < 2 ^ 64 → InTurn s until events → (behind s events).clock < 2 ^ 64 - 1
     → ((n : ℕ) → AllByRecursion (λ wait. least_time s ≤ wait) (waits n s events))
     × AllByRecursion (λ wait. least_time s + s.use_time ≤ wait) (use_waits s events)
+
+-- law: what is told of a device is told of these packets and waits
+abbrev pub counts_in : Option DeviceView → DeviceCounts
+counts_in None = no_counts
+counts_in (Some d) = d.told
+
+abbrev pub waits_in : Option DeviceView → WaitsView
+waits_in None = no_waits
+waits_in (Some d) = d.waits
+
+pub record Tells (n : ℕ) (s : Settings) (events : List Event) (device : Option DeviceView) : Type 0 where
+  pub arrived : (counts_in device).arrived ≡ held (length (came true n s events) + length (came false n s events))
+  pub dropped : (counts_in device).dropped ≡ held (length (came false n s events))
+  pub polled : (counts_in device).polled ≡ held (length (delivered n s events))
+  pub counted : waits_in device ≡ counting (waits n s events) no_waits
+
+abbrev pub TellsOfDevice : Type 0
+TellsOfDevice = (s : Settings) (n : ℕ) (events : List Event) → Tells n s events (at n (behind s events).devices)

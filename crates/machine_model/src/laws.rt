@@ -1,6 +1,6 @@
 //! Laws of the machine. Each is the contract of a function that does nothing.
 
-ghost use Rattle.machine_model.specs.Fates.{DeliversInOrder, NoWaitIsLess, TellsOfUse, UsesInOrder};
+ghost use Rattle.machine_model.specs.Fates.{DeliversInOrder, NoWaitIsLess, TellsOfDevice, TellsOfUse, UsesInOrder};
 ghost use Rattle.machine_model.specs.Laws.{ArrivesAsOne, ClocksNeverFall, EachLives, RunsAsOne, WorksWithin};
 
 /// What ends on a processor up to a moment, and what stands behind it, is determined.
@@ -46,4 +46,9 @@ pub fn tells_of_use()
 /// No wait is less than what its work takes, unless the clock stands at its end.
 pub fn no_wait_is_less()
     ensures { NoWaitIsLess }
+{}
+
+/// What is told of a device is told of its packets and of their waits.
+pub fn tells_of_device()
+    ensures { TellsOfDevice }
 {}
