@@ -137,11 +137,11 @@ ring-walk n xs = record {
   raises = λ m p free h raises. ring-raises n xs m p h;
   next = λ p free h. record { ring = h.ring };
   asks = λ m p h asked. ring-asks n xs m p h asked;
-  over = λ late p h. ring-over n xs late p h;
+  over = λ late p free h. ring-over n xs late p h;
   slice = λ p h. record { ring = h.ring };
   begins = λ p h none polling. record { ring = h.ring };
   uses = λ came more p free h is. record { stands = h.ring };
-  stays = λ p free h. record { stands = rw (idle-stands n xs p.work (polled_by (asked_in p.softirq.run) p.batch) free.nothing) h.ring };
+  stays = λ p free h still. record { stands = rw (idle-stands n xs p.work (polled_by (asked_in p.softirq.run) p.batch) free.nothing) h.ring };
 }
 
 -- ---- what ends
@@ -263,11 +263,11 @@ seen-walk g b n x = record {
   raises = λ m p free h raises. seen-raises g b n x m p h;
   next = λ p free h. record { seen = h.seen };
   asks = λ m p h asked. seen-asks g b n x m (nexted p) h;
-  over = λ late p h. seen-over g n x late p h;
+  over = λ late p free h. seen-over g n x late p h;
   slice = λ p h. record { seen = h.seen };
   begins = λ p h none polling. record { seen = h.seen };
   uses = λ came more p free h is. record { seen = h.seen };
-  stays = λ p free h. h;
+  stays = λ p free h still. h;
 }
 
 capacity-blind : (capacity : ℕ) → Blind (capacity_in capacity)

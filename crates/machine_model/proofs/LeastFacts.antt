@@ -229,11 +229,11 @@ due-walk s c fits =
       raises = λ m p free h raises. due-raises s c fits m p h raises;
       next = λ p free h. record { rests = w.next p free h.rests; clock = h.clock; rings = h.rings; raises = h.raises; socket = h.socket };
       asks = λ m p h asked. due-asks s c fits m (nexted p) h asked;
-      over = λ late p h. calm-over s c late p h (w.over late p h.rests);
+      over = λ late p free h. calm-over s c late p h (w.over late p free h.rests);
       slice = λ p h. record { rests = w.slice p h.rests; clock = h.clock; rings = h.rings; raises = h.raises; socket = h.socket };
       begins = λ p h none polling. record { rests = w.begins p h.rests none polling; clock = h.clock; rings = h.rings; raises = h.raises; socket = h.socket };
       uses = λ came more p free h is. due-uses s c fits came more p h is;
-      stays = λ p free h. due-stays s c p free h;
+      stays = λ p free h still. due-stays s c p free h;
     }
 
 -- ---- what ends

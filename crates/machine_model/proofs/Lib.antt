@@ -16,3 +16,4 @@ pub mod FateFacts
 pub mod SocketFacts
 pub mod LeastFacts
 pub mod TallyFacts
+pub mod EmptyFacts

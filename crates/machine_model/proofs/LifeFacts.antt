@@ -114,9 +114,9 @@ each-lives s until packets m took =
     (l.each, λ after fits finishes number p is. by after fits finishes l number p is)
   where
     by : (after : Machine) → until < 2 ^ 64 → Finishes m after → AllLived s until packets m → (number : ℕ) (p : ProcessorView) → slice_get after number ≡ Some p
-        → Lived s (2 ^ 64 - 1) (own s.processors number packets) p
+        → Lived s (2 ^ 64 - 1) (own s.processors number packets) p × (is_due (2 ^ 64 - 1) p ≡ false)
     by after fits f l number p is =
         let some = slice_get-some m number (omega (arith, f.count, slice_get_within after number p is)) in
         let last = f.each number some.0 some.1 in
         let same : p ≡ last.0 = same-some p last.0 (sym is ∙ last.1) in
-        rw same (lived-runs s (2 ^ 64 - 1) _ some.0 last.0 (lived-later s until (2 ^ 64 - 1) _ some.0 (omega (arith, fits)) (l.each number some.0 some.1)) last.2)
+        rw same (lived-runs s (2 ^ 64 - 1) _ some.0 last.0 (lived-later s until (2 ^ 64 - 1) _ some.0 (omega (arith, fits)) (l.each number some.0 some.1)) last.2, last.2.none)

@@ -38,11 +38,11 @@ use-walk xs r v = record {
   raises = λ n p free h raises. use-raises xs r v n p h;
   next = λ p free h. record { items = h.items; told = h.told; counts = h.counts };
   asks = λ n p h asked. use-asks xs r v n (nexted p) h;
-  over = λ late p h. use-over xs r v late p h;
+  over = λ late p free h. use-over xs r v late p h;
   slice = λ p h. record { items = h.items; told = h.told; counts = h.counts };
   begins = λ p h none polling. record { items = h.items; told = h.told; counts = h.counts };
   uses = λ came more p free h is. record { items = sym is ∙ h.items; told = h.told; counts = h.counts };
-  stays = λ p free h. record { items = rw free.nothing h.items; told = h.told; counts = h.counts };
+  stays = λ p free h still. record { items = rw free.nothing h.items; told = h.told; counts = h.counts };
 }
 
 -- ---- what ends

@@ -64,11 +64,11 @@ present-walk n = record {
   raises = λ m p free h raises. present-raises n m p;
   next = λ p free h. record { any = refl };
   asks = λ m p h asked. present-asks n m (nexted p) asked;
-  over = λ late p h. record { any = refl };
+  over = λ late p free h. record { any = refl };
   slice = λ p h. record { any = refl };
   begins = λ p h none polling. record { any = refl };
   uses = λ came more p free h is. record { present = λ none. refl };
-  stays = λ p free h. record { present = λ none. nothing-taken n p.work _ free.nothing };
+  stays = λ p free h still. record { present = λ none. nothing-taken n p.work _ free.nothing };
 }
 
 -- a device that a packet came for is there

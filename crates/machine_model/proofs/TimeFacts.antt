@@ -16,17 +16,21 @@ pub record Stands (c : ℕ) (p : ProcessorView) : Type 0 where
 pub record Timed (c : ℕ) (p : ProcessorView) : Type 0 where
   pub clock : p.clock ≡ c
   pub ends : is_busy p.work ≡ true → c ≤ p.ends
+  pub fits : is_busy p.work ≡ true → p.ends < 2 ^ 64
 
 later : (c clock cost : ℕ) → clock ≡ c → c < 2 ^ 64 → c ≤ held (clock + cost)
 later c clock cost is fits = omega arith
 
+held-fits : (sum : ℕ) → held sum < 2 ^ 64
+held-fits sum = omega arith
+
 time-raises : (c n : ℕ) (p : ProcessorView) → Stands c p → Timed c (interrupts n p)
 unfolding interrupts
-time-raises c n p h = record { clock = h.clock; ends = λ busy. later c p.clock _ h.clock h.fits }
+time-raises c n p h = record { clock = h.clock; ends = λ busy. later c p.clock _ h.clock h.fits; fits = λ busy. held-fits (p.clock + _) }
 
 time-asks : (c n : ℕ) (p : ProcessorView) → Stands c p → Timed c (polls n p)
 unfolding polls
-time-asks c n p h = record { clock = h.clock; ends = λ busy. later c p.clock _ h.clock h.fits }
+time-asks c n p h = record { clock = h.clock; ends = λ busy. later c p.clock _ h.clock h.fits; fits = λ busy. held-fits (p.clock + _) }
 
 time-over : (c : ℕ) (late : Bool) (p : ProcessorView) → Stands c p → Stands c (ends_run late p)
 unfolding ends_run
@@ -37,11 +41,11 @@ time-walk c = record {
   raises = λ n p free h raises. time-raises c n p h;
   next = λ p free h. record { clock = h.clock; fits = h.fits };
   asks = λ n p h asked. time-asks c n _ h;
-  over = λ late p h. time-over c late p h;
+  over = λ late p free h. time-over c late p h;
   slice = λ p h. record { clock = h.clock; fits = h.fits };
   begins = λ p h none polling. record { clock = h.clock; fits = h.fits };
-  uses = λ came more p free h is. record { clock = h.clock; ends = λ busy. later c p.clock _ h.clock h.fits };
-  stays = λ p free h. record { clock = h.clock; ends = λ busy. cc (busy, free.nothing) };
+  uses = λ came more p free h is. record { clock = h.clock; ends = λ busy. later c p.clock _ h.clock h.fits; fits = λ busy. held-fits (p.clock + _) };
+  stays = λ p free h still. record { clock = h.clock; ends = λ busy. cc (busy, free.nothing); fits = λ busy. cc (busy, free.nothing) };
 }
 
 -- what ends leaves the clock there
@@ -73,9 +77,10 @@ time-step s p goes fits = walk (Stands p.ends) (Timed p.ends) (time-walk p.ends)
 pub record Until (until : ℕ) (p : ProcessorView) : Type 0 where
   pub clock : p.clock ≤ until
   pub ends : is_busy p.work ≡ true → p.clock ≤ p.ends
+  pub fits : is_busy p.work ≡ true → p.ends < 2 ^ 64
 
 until-of : (c until : ℕ) (p : ProcessorView) → Timed c p → c ≤ until → Until until p
-until-of c until p t most = record { clock = omega (arith, t.clock, most); ends = λ busy. omega (arith, t.clock, t.ends busy) }
+until-of c until p t most = record { clock = omega (arith, t.clock, most); ends = λ busy. omega (arith, t.clock, t.ends busy); fits = t.fits }
 
 pub due-parts : (w : Work) (ends until : ℕ) → (is_busy w && nat_le ends until) ≡ true → (is_busy w ≡ true) × (ends ≤ until)
 due-parts w ends until due = let both = and_parts (is_busy w) (nat_le ends until) due in (both.0, leb-true ends until both.1)
@@ -100,12 +105,12 @@ risen-walk until moment p most below = implied (Stands moment) (Timed moment) (R
 rises-comes : (s : Settings) (until moment n : ℕ) (p : ProcessorView) → Goes s p → until < 2 ^ 64 → moment ≤ until → Until moment p → Rises until p (comes moment n p)
 rises-comes s until moment n p goes fits most u =
     walk-comes (Stands moment) (Rises until p) (risen-walk until moment p most u.clock) moment n p goes.asked
-    (λ busy. record { rises = omega arith; within = record { clock = omega (arith, u.clock, most); ends = u.ends } })
+    (λ busy. record { rises = omega arith; within = record { clock = omega (arith, u.clock, most); ends = u.ends; fits = u.fits } })
     (λ idle. record { clock = refl; fits = omega (arith, most, fits) })
 
 pub timed : (s : Settings) (until : ℕ) (events : List Event) → until < 2 ^ 64 → InTurn s until events → Until until (behind s events)
 unfolding behind InTurn
-timed s until [] fits turns = record { clock = omega arith; ends = λ busy. cc busy }
+timed s until [] fits turns = record { clock = omega arith; ends = λ busy. cc busy; fits = λ busy. cc busy }
 timed s until (packet moment n ∷ earlier) fits turns =
     (rises-comes s until moment n (behind s earlier) (goes-on s earlier) fits turns.0 (timed s moment earlier (omega (arith, fits, turns.0)) turns.2)).within
 timed s until (end ∷ earlier) fits turns =

@@ -105,11 +105,11 @@ work-walk s = record {
   raises = λ n p free held raises. work-raises s n p free held;
   next = λ p free held. record { settings = held.settings; batch = held.batch; run = runs-next s p.softirq free.unasked held.run };
   asks = λ n p held asked. work-asks s n _ held;
-  over = λ late p held. work-over s late p held;
+  over = λ late p free held. work-over s late p held;
   slice = λ p held. record { settings = held.settings; batch = held.batch; run = held.run };
   begins = λ p held none polling. record { settings = held.settings; batch = held.batch; run = work-begins s p held polling };
   uses = λ came more p free held is. record { rests = record { settings = held.settings; batch = held.batch; run = held.run }; asked = λ not. free.unasked };
-  stays = λ p free held. record { rests = held; asked = λ not. free.unasked };
+  stays = λ p free held still. record { rests = held; asked = λ not. free.unasked };
 }
 
 work-lone : (s : Settings) (b : Bool) (n : ℕ) (p : ProcessorView) → 1 ≤ s.weight → Rests s p → Rests s (if b then p else ends_interrupt n p)

@@ -7,7 +7,7 @@ use Rattle.machine_words.specs.declared.settings.Settings.{Settings}
 use Rattle.machine_model.specs.Device.{DeviceView, no_counts}
 use Rattle.machine_model.specs.Devices.{batch_at}
 use Rattle.machine_model.specs.Laws.{Event, InTurn, behind, end, packet}
-use Rattle.machine_model.specs.Processor.{ProcessorView, is_polling}
+use Rattle.machine_model.specs.Processor.{ProcessorView, is_due, is_polling}
 use Rattle.machine_model.specs.Softirq.{asked_in}
 use Rattle.machine_model.specs.Waits.{WaitsView, counted, held, no_waits}
 use Rattle.machine_model.specs.declared.device.DeviceCounts.{DeviceCounts}
@@ -160,3 +160,8 @@ pub record Tells (n : ℕ) (s : Settings) (events : List Event) (device : Option
 
 abbrev pub TellsOfDevice : Type 0
 TellsOfDevice = (s : Settings) (n : ℕ) (events : List Event) → Tells n s events (at n (behind s events).devices)
+
+-- law: behind the end nothing is under way, and no packet is left in the socket or in a ring
+abbrev pub NothingIsLeft : Type 0
+NothingIsLeft = (s : Settings) (events : List Event) → InTurn s (2 ^ 64 - 1) events → let p = behind s events in is_due (2 ^ 64 - 1) p ≡ false
+    → (p.work ≡ Nothing) × (p.socket.items ≡ []) × ((n : ℕ) → ring_in (at n p.devices) ≡ [])

@@ -54,12 +54,13 @@ own processors processor ((moment, device) ∷ earlier) =
     if (device - 1) % processors == processor then (moment, (device - 1) / processors) ∷ own processors processor earlier
     else own processors processor earlier
 
--- law: each processor of a machine lived so, with its own packets, whether the machine has finished or not
+-- law: each processor of a machine lived so, with its own packets; and where the machine has finished nothing is due
 abbrev pub EachLives : Type 0
 EachLives = (s : Settings) (until : ℕ) (packets : List (ℕ × ℕ)) (m : Machine) → Took s until packets m
     → ((number : ℕ) (p : ProcessorView) → slice_get m number ≡ Some p → Lived s until (own s.processors number packets) p)
     × ((after : Machine) → until < 2 ^ 64 → Finishes m after
-    → (number : ℕ) (p : ProcessorView) → slice_get after number ≡ Some p → Lived s (2 ^ 64 - 1) (own s.processors number packets) p)
+    → (number : ℕ) (p : ProcessorView) → slice_get after number ≡ Some p
+    → Lived s (2 ^ 64 - 1) (own s.processors number packets) p × (is_due (2 ^ 64 - 1) p ≡ false))
 
 -- ---- laws of each life
 

@@ -1,6 +1,6 @@
 //! Laws of the machine. Each is the contract of a function that does nothing.
 
-ghost use Rattle.machine_model.specs.Fates.{DeliversInOrder, NoWaitIsLess, TellsOfDevice, TellsOfUse, UsesInOrder};
+ghost use Rattle.machine_model.specs.Fates.{DeliversInOrder, NoWaitIsLess, NothingIsLeft, TellsOfDevice, TellsOfUse, UsesInOrder};
 ghost use Rattle.machine_model.specs.Laws.{ArrivesAsOne, ClocksNeverFall, EachLives, RunsAsOne, WorksWithin};
 
 /// What ends on a processor up to a moment, and what stands behind it, is determined.
@@ -51,4 +51,9 @@ pub fn no_wait_is_less()
 /// What is told of a device is told of its packets and of their waits.
 pub fn tells_of_device()
     ensures { TellsOfDevice }
+{}
+
+/// Behind the end no packet is left: each was delivered or dropped, and then used or refused.
+pub fn nothing_is_left()
+    ensures { NothingIsLeft }
 {}
