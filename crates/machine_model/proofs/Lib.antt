@@ -8,3 +8,12 @@ pub mod LeftFacts
 pub mod StepFacts
 pub mod MachineFacts
 pub mod LawFacts
+pub mod WalkFacts
+pub mod WorkFacts
+pub mod TimeFacts
+pub mod LifeFacts
+pub mod FateFacts
+pub mod SocketFacts
+pub mod LeastFacts
+pub mod TallyFacts
+pub mod EmptyFacts

@@ -6,3 +6,4 @@ pub mod Processor
 pub mod Kept
 pub mod Machine
 pub mod Laws
+pub mod Fates

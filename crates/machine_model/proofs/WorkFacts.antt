@@ -1,0 +1,166 @@
+-- A run's work is below budget and weight together, whatever happens.
+use Rattle.std.proofs.{Common.{◌≡◌, ◌∙◌, ℕ, ◌+◌, ◌<◌, ◌≤◌, Bool, true, false, Option, Some, None, List, [], ◌∷◌, ◌++◌, length, length-take, take, drop, refl, sym, ap, arith}, lemmas.Bool.{eqb-false, leb-false}}
+use Rattle.{std.specs.Prelude.{◌==◌, ◌||◌, IfSome, if◌then◌else◌, is_some, min, nat_le, not, slice_get}, poll_runs.specs.declared.bench.{Next.TheVariants.{Gone, Repoll}, Once.Once}}
+use Rattle.machine_words.specs.declared.settings.Settings.{Settings}
+use Rattle.machine_model.specs.{Device.DeviceView, Devices.{batch_at, is_handed_at}, Kept.is_poll, Laws.{Event, WorksWithin, behind, end, packet}, Softirq.{RunView, SoftirqView, asked_in, begun, ended, filled, is_spent, next_from, next_in, next_of, pushed, told, told_in, told_run}}
+use Rattle.machine_model.specs.Processor.{ProcessorView, comes, delivers, ends_by, ends_current, ends_interrupt, ends_poll, ends_polls, ends_run, interrupts, is_busy, is_polling, opened_processor, polls, step, takes_up, uses_from}
+use Rattle.device_rows.specs.Places.{at}
+use Rattle.machine_model.specs.declared.processor.Work.{Work}
+use Rattle.machine_model.specs.declared.processor.Work.TheVariants.{Interrupt, Nothing, Poll, Use}
+use Rattle.machine_model.proofs.{EndFacts.asked-ends, KeptFacts.run-ended, WalkFacts.{Free, Walk, walk, walk-comes}}
+
+-- what is true of a run of these settings
+pub record Runs (s : Settings) (r : RunView) : Type 0 where
+  pub budget : r.budget ≡ s.budget
+  pub work : r.work < s.budget + s.weight
+  pub asked : is_some r.asked ≡ true → r.work < s.budget
+
+abbrev pub RunsIn : Settings → Option RunView → Type 0
+RunsIn s None = Unit {0}
+RunsIn s (Some r) = Runs s r
+
+-- nothing is under way
+pub record Rests (s : Settings) (p : ProcessorView) : Type 0 where
+  pub settings : p.settings ≡ s
+  pub batch : length p.batch ≤ s.weight
+  pub run : RunsIn s p.softirq.run
+
+pub record Goes (s : Settings) (p : ProcessorView) : Type 0 where
+  pub rests : Rests s p
+  pub asked : is_poll p.work ≡ false → asked_in p.softirq.run ≡ None
+
+next-runs : (s : Settings) (list : List ℕ) (run : Option RunView) (began : ℕ) → asked_in run ≡ None → RunsIn s run
+    → RunsIn s (next_in run (record { list = list; run = run; began = began })).run
+next-runs s list None began none held = tt
+next-runs s list (Some r) began none held = by (is_spent r) refl
+  where
+    before : SoftirqView
+    before = record { list = list; run = Some r; began = began }
+
+    below : is_spent r ≡ false → r.work < r.budget
+    below fresh = leb-false r.budget r.work (first (nat_le r.budget r.work) _ fresh)
+      where
+        first : (a b : Bool) → (a || b) ≡ false → a ≡ false
+        first true b none = none
+        first false b none = refl
+
+    by : (b : Bool) → is_spent r ≡ b → RunsIn s (if b then before else next_from (filled r.own r.repoll list) r before).run
+    by true spent = held
+    by false fresh = record { budget = held.budget; work = held.work; asked = λ asked. rw held.budget at (below fresh) }
+
+runs-next : (s : Settings) (q : SoftirqView) → asked_in q.run ≡ None → RunsIn s q.run → RunsIn s (next_of q).run
+unfolding next_of
+runs-next s q none held = next-runs s q.list q.run q.began none held
+
+runs-told : (s : Settings) (run : Option RunView) (once : Once) (n : ℕ) → asked_in run ≡ Some n → once.work ≤ s.weight → RunsIn s run → RunsIn s (told_in once run)
+runs-told s None once n asked few held = tt
+runs-told s (Some r) once n asked few held =
+    let below : r.work < s.budget = held.asked (rw asked refl) in
+    record { budget = held.budget; work = omega (arith, below, few); asked = λ some. cc some }
+
+runs-said : (s : Settings) (q : SoftirqView) (once : Once) (n : ℕ) → asked_in q.run ≡ Some n → once.work ≤ s.weight → RunsIn s q.run → RunsIn s (told once q).run
+unfolding told
+runs-said s q once n asked few held = runs-told s q.run once n asked few held
+
+pushed-runs : (s : Settings) (b : Bool) (n : ℕ) (q : SoftirqView) → RunsIn s q.run → asked_in q.run ≡ None → RunsIn s (if b then pushed n q else q).run × (asked_in (if b then pushed n q else q).run ≡ None)
+pushed-runs s true n q held none = (held, none)
+pushed-runs s false n q held none = (held, none)
+
+batch-few : (weight : ℕ) (o : Option DeviceView) → length (batch_at weight o) ≤ weight
+batch-few weight None = omega arith
+batch-few weight (Some d) = omega (arith, length-take (min weight (length d.ring)) d.ring)
+
+positive : (n : ℕ) → not (n == 0) ≡ true → 0 < n
+positive n is = omega (arith, eqb-false n 0 (flip (n == 0) is))
+  where
+    flip : (b : Bool) → not b ≡ true → b ≡ false
+    flip true is = sym is
+    flip false is = refl
+
+work-raises : (s : Settings) (n : ℕ) (p : ProcessorView) → Free p → Rests s p → Goes s (interrupts n p)
+unfolding interrupts
+work-raises s n p free held =
+    let pair = pushed-runs s (is_handed_at (is_polling p.settings) (at n p.devices)) n p.softirq held.run free.unasked in
+    record { rests = record { settings = held.settings; batch = held.batch; run = pair.0 }; asked = λ not. pair.1 }
+
+work-asks : (s : Settings) (n : ℕ) (p : ProcessorView) → Rests s p → Goes s (polls n p)
+unfolding polls
+work-asks s n p held = record {
+  rests = record { settings = held.settings; batch = rw (← held.settings) (batch-few p.settings.weight (at n p.devices)); run = held.run };
+  asked = λ not. cc not;
+}
+
+work-over : (s : Settings) (late : Bool) (p : ProcessorView) → Rests s p → Rests s (ends_run late p)
+unfolding ends_run ended
+work-over s late p held = record { settings = held.settings; batch = held.batch; run = tt }
+
+work-begins : (s : Settings) (p : ProcessorView) → Rests s p → is_polling p.settings ≡ true → Runs s (record { own = p.softirq.list; repoll = []; asked = None; polls = 0; work = 0; budget = p.settings.budget; weight = p.settings.weight; window = p.settings.window })
+work-begins s p held polling =
+    let some : 0 < p.settings.budget = positive p.settings.budget polling in
+    let same : 0 < s.budget = rw held.settings at some in
+    record { budget = rw held.settings refl; work = omega (arith, same); asked = λ none. cc none }
+
+pub work-walk : (s : Settings) → Walk (Rests s) (Goes s)
+work-walk s = record {
+  raises = λ n p free held raises. work-raises s n p free held;
+  next = λ p free held. record { settings = held.settings; batch = held.batch; run = runs-next s p.softirq free.unasked held.run };
+  asks = λ n p held asked. work-asks s n _ held;
+  over = λ late p free held. work-over s late p held;
+  slice = λ p held. record { settings = held.settings; batch = held.batch; run = held.run };
+  begins = λ p held none polling. record { settings = held.settings; batch = held.batch; run = work-begins s p held polling };
+  uses = λ came more p free held is. record { rests = record { settings = held.settings; batch = held.batch; run = held.run }; asked = λ not. free.unasked };
+  stays = λ p free held still. record { rests = held; asked = λ not. free.unasked };
+}
+
+work-lone : (s : Settings) (b : Bool) (n : ℕ) (p : ProcessorView) → 1 ≤ s.weight → Rests s p → Rests s (if b then p else ends_interrupt n p)
+unfolding ends_interrupt delivers
+work-lone s true n p most held = held
+work-lone s false n p most held = record { settings = held.settings; batch = omega (arith, most, batch-few 1 (at n p.devices)); run = held.run }
+
+next-work : (full : Bool) (work : ℕ) → let once : Once = record { work = work; next = if full then Repoll else Gone } in once.work ≡ work
+next-work full work = refl
+
+work-polls : (s : Settings) (o : Option ℕ) (p : ProcessorView) → asked_in p.softirq.run ≡ o → Rests s p → Rests s (ends_polls o p)
+unfolding ends_poll delivers
+work-polls s None p asked held = held
+work-polls s (Some n) p asked held = record { settings = held.settings; batch = held.batch; run = runs-said s p.softirq _ n asked held.batch held.run }
+
+work-by : (s : Settings) (w : Work) (p : ProcessorView) → Rests s p → Rests s (ends_by w p)
+work-by s Nothing p held = held
+work-by s (Interrupt n) p held = work-lone s (is_polling p.settings) n p s.weight_in.0 held
+work-by s Poll p held = work-polls s (asked_in p.softirq.run) p refl held
+work-by s (Use came) p held = record { settings = held.settings; batch = held.batch; run = held.run }
+
+-- what has ended leaves nothing under way
+pub free-ended : (s : Settings) (p : ProcessorView) → Goes s p → Free (record (ends_current p) { work = Nothing })
+free-ended s p goes = record { nothing = refl; unasked = asked-ends p goes.asked }
+
+pub work-ended : (s : Settings) (p : ProcessorView) → Rests s p → Rests s (record (ends_current p) { work = Nothing })
+unfolding ends_current
+work-ended s p held =
+    let e = work-by s p.work (record p { clock = p.ends }) (record { settings = held.settings; batch = held.batch; run = held.run }) in
+    record { settings = e.settings; batch = e.batch; run = e.run }
+
+work-step : (s : Settings) (p : ProcessorView) → Goes s p → Goes s (step p)
+unfolding step
+work-step s p goes = walk (Rests s) (Goes s) (work-walk s) _ (free-ended s p goes) (work-ended s p goes.rests)
+
+work-comes : (s : Settings) (moment n : ℕ) (p : ProcessorView) → Goes s p → Goes s (comes moment n p)
+work-comes s moment n p goes =
+    let r = goes.rests in
+    walk-comes (Rests s) (Goes s) (work-walk s) moment n p goes.asked
+    (λ busy. record { rests = record { settings = r.settings; batch = r.batch; run = r.run }; asked = goes.asked })
+    (λ idle. record { settings = r.settings; batch = r.batch; run = r.run })
+
+pub goes-on : (s : Settings) (events : List Event) → Goes s (behind s events)
+unfolding behind
+goes-on s [] = record { rests = record { settings = refl; batch = omega arith; run = tt }; asked = λ not. refl }
+goes-on s (packet moment n ∷ earlier) = work-comes s moment n (behind s earlier) (goes-on s earlier)
+goes-on s (end ∷ earlier) = work-step s (behind s earlier) (goes-on s earlier)
+
+pub works-within : WorksWithin
+works-within s events = by (behind s events).softirq.run (goes-on s events).rests.run
+  where
+    by : (run : Option RunView) → RunsIn s run → IfSome run (λ r. r.work < s.budget + s.weight)
+    by None held = tt
+    by (Some r) held = held.work
