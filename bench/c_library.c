@@ -1,8 +1,10 @@
 /* Times calls of the C library: c_library WHAT TIMES. What was counted goes to standard output, the time to standard error.
  * limits: the calls of limits.cc, which prints the same; what only reads is the header's own. turns: schedule, hand, take and
- * complete on a shared instance, by one thread. packets: puts, and polls of weight 64; bursts: the same packets, put 64 at once. */
+ * complete on a shared instance, by one thread. packets: puts, and polls of weight 64; bursts: the same packets, put 64 at once. beside:
+ * looks by two threads at once, each by a seat of its own, whose handles lie side by side; apart: 128 bytes apart. */
 #include <fintaqush.h>
 #include <inttypes.h>
+#include <pthread.h>
 #include <stdio.h>
 #include <stdlib.h>
 #include <string.h>
@@ -46,6 +48,41 @@ static bool turns(uint64_t count) {
     return true;
 }
 
+struct looker {
+    struct fq_handle *seat;
+    uint64_t count;
+    bool failed;
+};
+
+static void *look(void *at) {
+    struct looker *const looker = at;
+    const struct looker mine = *looker; /* which no other thread's lies beside */
+    bool failed = false;
+    for (uint64_t i = 0; i < mine.count; i++) {
+        uint64_t word;
+        failed |= fq_seat_look(mine.seat, &word) != FQ_OK || word != 0;
+    }
+    looker->failed = failed;
+    return NULL;
+}
+
+/* The second seat's handle lies so many handles behind the first one's. */
+static bool looks(uint64_t count, size_t behind) {
+    static struct {
+        _Alignas(128) struct fq_handle handles[16];
+    } places;
+    struct fq_handle control = FQ_NONE, seats[2] = {FQ_NONE, FQ_NONE};
+    struct looker lookers[2] = {{&places.handles[0], count, false}, {&places.handles[behind], count, false}};
+    pthread_t threads[2];
+    if (fq_shared_bare(&control, seats, 2) != FQ_OK || fq_control_enable(&control, false) != FQ_OK) return false;
+    for (int i = 0; i < 2; i++) {
+        if (fq_move(&seats[i], lookers[i].seat) != FQ_OK || pthread_create(&threads[i], NULL, look, &lookers[i]) != 0) return false;
+    }
+    for (int i = 0; i < 2; i++) pthread_join(threads[i], NULL);
+    printf("looks %" PRIu64 "\n", count);
+    return !lookers[0].failed && !lookers[1].failed;
+}
+
 static bool put_one_by_one(struct fq_handle *ring, uint64_t first) {
     for (uint64_t i = 0; i < 64; i++) {
         if (fq_ring_put(ring, first + i, 60) != FQ_OK) return false;
@@ -81,8 +118,10 @@ int main(int words, char **word) {
     if (words != 3) return 64;
     const uint64_t times = strtoull(word[2], NULL, 10), start = now();
     const bool good = strcmp(word[1], "limits") == 0 ? limits(times)
-                      : strcmp(word[1], "turns") == 0 ? turns(times)
-                                                      : packets(times, strcmp(word[1], "bursts") == 0 ? put_at_once : put_one_by_one);
+                      : strcmp(word[1], "turns") == 0  ? turns(times)
+                      : strcmp(word[1], "beside") == 0 ? looks(times, 1)
+                      : strcmp(word[1], "apart") == 0  ? looks(times, 128 / sizeof(struct fq_handle))
+                                                       : packets(times, strcmp(word[1], "bursts") == 0 ? put_at_once : put_one_by_one);
     fprintf(stderr, "%" PRIu64 " ns\n", now() - start);
     return good ? 0 : 1;
 }
