@@ -640,8 +640,8 @@ public:
     }
 
     // A run (net_rx_action): poll(id, weight) answers the packets that it gave, and how the poll ended. None where the weight isn't
-    // 1 to 64, budget or window not 1 to 65535, or poll answers more than its weight. poll may push to this list; where it throws the
-    // run ends too: its device is listed no more, all others are.
+    // 1 to 64, budget or window not 1 to 65535, or poll answers more than its weight. poll may push to this list, and not move it;
+    // where it throws the run ends too: its device is listed no more, all others are.
     template <class Poll>
     [[nodiscard]] std::optional<fq_run_report> run(std::uint32_t budget, std::uint32_t weight, std::uint32_t window, Poll poll) {
         if (fq_run_begin(at_.raw(), budget, weight, window) != FQ_OK) return std::nullopt;

@@ -121,7 +121,7 @@ echo 'it tells of itself what the header says' > "$scratch/told"
 check 'told.c compiles' compile gcc "$top/tests/c/told.c" "$scratch/tells" -O2
 check 'what the library tells of itself' compared "$scratch/told" "$scratch/tells"
 
-echo '8 corners, each answered as it has to be' > "$scratch/cornered"
+echo '9 corners, each answered as it has to be' > "$scratch/cornered"
 check 'corners.c compiles' compile gcc "$top/tests/c/corners.c" "$scratch/corners" -O2 "$wraps"
 check 'answers at corners' compared "$scratch/cornered" "$scratch/corners"
 
@@ -243,11 +243,6 @@ sanitized() {
 export ASAN_OPTIONS=detect_leaks=1
 sanitized 'addresses, leaks and undefined behaviour' -fsanitize=address,undefined
 sanitized 'threads' -fsanitize=thread
-
-# With room for one packet in the interrupt's hands in place of a burst, packets are written over.
-sed 's/ + BURST, BYTES/ + 1, BYTES/' "$examples/buffers.c" > "$scratch/buffers.c"
-check 'too few buffers compile' compile gcc "$scratch/buffers.c" "$scratch/too_few" -O1 -g -fsanitize=thread
-check 'buffers without a place for each of a burst are too few' refused 'data race' "$scratch/too_few"
 
 if command -v valgrind > /dev/null; then
     for name in threads threaded; do

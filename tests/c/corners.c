@@ -134,12 +134,44 @@ static void a_ring_whose_instance_is_refused(void) {
         takes = 0, refused_take = at;
         said = fq_shared_new(&ring, &control, seats, 2);
         refused_take = 0;
-        if (said == FQ_OK) break;
-        want(said == FQ_OUT_OF_MEMORY && !control.private_set && !irq->private_set && !poller->private_set, "nothing is set");
-        want(fq_ring_poll(&ring, 4, out, 4, &count) == FQ_OK && count == 1 && out[0].number == 5, "it is polled");
-        want(fq_abandon(&ring) == FQ_OK && blocks == 0, "the end");
+        if (said == FQ_OUT_OF_MEMORY) {
+            want(!control.private_set && !irq->private_set && !poller->private_set, "nothing is set");
+            want(fq_ring_poll(&ring, 4, out, 4, &count) == FQ_OK && count == 1 && out[0].number == 5, "it is polled");
+        }
+        want(fq_abandon(&ring) == FQ_OK, "the ring's end");
     }
     want(said == FQ_OK, "with memory it is made");
+    given_up();
+}
+
+/* So many buffers are used in turn, for a ring of 256 places and bursts of 16, which are put as far as they fit while a poll's packets
+ * are read: how many of these are written over by then. */
+static unsigned written_over(uint64_t buffers) {
+    static uint64_t written[400];
+    struct fq_handle ring = FQ_NONE;
+    struct fq_packet burst[16], out[64];
+    unsigned over = 0;
+    uint64_t first = 0;
+    size_t put = 16, count;
+    want(fq_ring_new(&ring, 256) == FQ_OK, "a ring");
+    for (int poll = 0; poll < 100; poll++) {
+        size_t polled;
+        want(fq_ring_poll(&ring, 64, out, 64, &polled) == FQ_OK, "a poll");
+        do {
+            for (size_t i = 0; put == 16 && i < 16; i++) burst[i] = (struct fq_packet){first + i, 60}, written[(first + i) % buffers] = first + i;
+            if (put == 16) put = 0, first += 16;
+            want(fq_ring_put_all(&ring, burst + put, 16 - put, &count) < FQ_NOT_ALLOWED, "a burst");
+            put += count;
+        } while (put == 16);
+        for (size_t i = 0; i < polled; i++) over += written[out[i].number % buffers] != out[i].number;
+    }
+    want(fq_abandon(&ring) == FQ_OK && blocks == 0, "the end");
+    return over;
+}
+
+static void buffers_in_turn(void) {
+    want(written_over(256 + 64 + 16) == 0, "a place, a poll's and a burst's are enough");
+    want(written_over(256 + 64 + 15) != 0 && written_over(256 + 64 + 1) != 0, "fewer aren't");
 }
 
 #define CASE(name) {#name, name}
@@ -147,7 +179,7 @@ static const struct {
     const char *name;
     void (*call)(void);
 } cases[] = {CASE(a_full_poll_of_a_thread), CASE(a_full_poll_of_a_busy_poller), CASE(bytes_of_an_instance), CASE(a_polled_instance_is_handed), CASE(a_list_of_64),
-    CASE(weights_of_devices), CASE(a_split_of_what_is_no_ring), CASE(a_ring_whose_instance_is_refused)};
+    CASE(weights_of_devices), CASE(a_split_of_what_is_no_ring), CASE(a_ring_whose_instance_is_refused), CASE(buffers_in_turn)};
 
 int main(int count, char **words) {
     unsigned called = 0;
