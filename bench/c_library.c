@@ -1,14 +1,18 @@
 /* Times calls of the C library: c_library WHAT TIMES. What was counted goes to standard output, the time to standard error.
  * limits: the calls of limits.cc, which prints the same; what only reads is the header's own. turns: schedule, hand, take and
- * complete on a shared instance, by one thread. packets: puts, and polls of weight 64; bursts: the same packets, put 64 at once. */
+ * complete on a shared instance, by one thread. packets: puts, and polls of weight 64; bursts: the same packets, put 64 at once. beside:
+ * looks by two threads at once, each by a seat of its own, whose handles lie side by side; apart: 128 bytes apart. */
 #include <fintaqush.h>
 #include <inttypes.h>
+#include <pthread.h>
 #include <stdio.h>
 #include <stdlib.h>
 #include <string.h>
 #include <time.h>
 
-static uint64_t now(void) {
+/* A moment; of two threads' looks the processor time of each, so that what else the machine does isn't counted. */
+static uint64_t now(bool of_two) {
+    if (of_two) return (uint64_t)clock() * (1000000000 / CLOCKS_PER_SEC) / 2;
     struct timespec at;
     timespec_get(&at, TIME_UTC);
     return (uint64_t)at.tv_sec * 1000000000 + (uint64_t)at.tv_nsec;
@@ -46,6 +50,41 @@ static bool turns(uint64_t count) {
     return true;
 }
 
+struct looker {
+    struct fq_handle *seat;
+    uint64_t count;
+    bool failed;
+};
+
+static void *look(void *at) {
+    struct looker *const looker = at;
+    const struct looker mine = *looker; /* which no other thread's lies beside */
+    bool failed = false;
+    for (uint64_t i = 0; i < mine.count; i++) {
+        uint64_t word;
+        failed |= fq_seat_look(mine.seat, &word) != FQ_OK || word != 0;
+    }
+    looker->failed = failed;
+    return NULL;
+}
+
+/* The second seat's handle lies so many handles behind the first one's. */
+static bool looks(uint64_t count, size_t behind) {
+    static struct {
+        _Alignas(128) struct fq_handle handles[16];
+    } places;
+    struct fq_handle control = FQ_NONE, seats[2] = {FQ_NONE, FQ_NONE};
+    struct looker lookers[2] = {{&places.handles[0], count, false}, {&places.handles[behind], count, false}};
+    pthread_t threads[2];
+    if (fq_shared_bare(&control, seats, 2) != FQ_OK || fq_control_enable(&control, false) != FQ_OK) return false;
+    for (int i = 0; i < 2; i++) {
+        if (fq_move(&seats[i], lookers[i].seat) != FQ_OK || pthread_create(&threads[i], NULL, look, &lookers[i]) != 0) return false;
+    }
+    for (int i = 0; i < 2; i++) pthread_join(threads[i], NULL);
+    printf("looks %" PRIu64 "\n", count);
+    return !lookers[0].failed && !lookers[1].failed;
+}
+
 static bool put_one_by_one(struct fq_handle *ring, uint64_t first) {
     for (uint64_t i = 0; i < 64; i++) {
         if (fq_ring_put(ring, first + i, 60) != FQ_OK) return false;
@@ -79,10 +118,12 @@ static bool packets(uint64_t count, bool put_64(struct fq_handle *, uint64_t)) {
 
 int main(int words, char **word) {
     if (words != 3) return 64;
-    const uint64_t times = strtoull(word[2], NULL, 10), start = now();
+    const bool is_beside = strcmp(word[1], "beside") == 0, is_apart = strcmp(word[1], "apart") == 0;
+    const uint64_t times = strtoull(word[2], NULL, 10), start = now(is_beside || is_apart);
     const bool good = strcmp(word[1], "limits") == 0 ? limits(times)
                       : strcmp(word[1], "turns") == 0 ? turns(times)
+                      : is_beside || is_apart         ? looks(times, is_beside ? 1 : 128 / sizeof(struct fq_handle))
                                                       : packets(times, strcmp(word[1], "bursts") == 0 ? put_at_once : put_one_by_one);
-    fprintf(stderr, "%" PRIu64 " ns\n", now() - start);
+    fprintf(stderr, "%" PRIu64 " ns\n", now(is_beside || is_apart) - start);
     return good ? 0 : 1;
 }

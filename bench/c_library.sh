@@ -2,9 +2,10 @@
 # Times calls of the C library from C: pairs on a queue limit beside the plain C++ fold of bench/limits.cc, which is inlined, and
 # which has to count the same; turns of a shared instance by one thread (schedule, hand, take, complete) beside the same turns by
 # the typed calls (crates/bench_word); and packets, put one by one and in bursts of 64, and polled 64 at a time. Three rounds of
-# all in turn; the best time of each is shown, and how C's compares with what stands beside it.
+# all in turn; the best time of each is shown, and how C's compares with what stands beside it. Then nine rounds of looks by two
+# threads at once, by seats whose handles lie side by side or 128 bytes apart: the best and the middle time of each.
 #
-# usage: bench/c_library.sh [TIMES]     (10000000 where none are given; of the turns a tenth)
+# usage: bench/c_library.sh [TIMES]     (10000000 where none are given; of the turns and looks a tenth)
 set -eu
 
 unset CDPATH
@@ -21,7 +22,7 @@ trap 'rm -rf "$work"' EXIT
 
 "$bench/../scripts/c_library.sh" "$work"
 "$bench/../scripts/build.sh" bench_word
-gcc -std=c11 -O2 -I "$bench/../include" "$bench/c_library.c" "$work/libfintaqush.a" -o "$work/c_library"
+gcc -std=c11 -O2 -pthread -I "$bench/../include" "$bench/c_library.c" "$work/libfintaqush.a" -o "$work/c_library"
 g++ -O2 -o "$work/fold" "$bench/limits.cc"
 
 for round in 1 2 3; do
@@ -42,6 +43,13 @@ for round in 1 2 3; do
     fi
 done
 
+for round in 1 2 3 4 5 6 7 8 9; do
+    for what in beside apart; do
+        "$work/c_library" "$what" "$turns" > "$work/$what.line" 2> "$work/spent"
+        cut -d ' ' -f 1 "$work/spent" >> "$work/$what.times"
+    done
+done
+
 least() { sort -n "$work/$1.times" | head -n 1; }
 # show NAME WHAT TIMES [BESIDE NAME]
 show() {
@@ -56,3 +64,7 @@ show 'a turn by the typed calls' typed "$turns"
 show 'the same turn from C' turns "$turns" typed 'the typed calls'
 show 'a packet from C, weight 64' packets "$times"
 show 'a packet from C, in bursts' bursts "$times"
+for what in beside apart; do
+    sort -n "$work/$what.times" | awk -v name="a look of two threads, $what" -v times="$turns" 'NR == 1 { best = $1 } NR == 5 {
+        printf "%-32s %6.2f ns, in the middle %.2f ns\n", name, best / times, $1 / times }'
+done

@@ -89,7 +89,8 @@ FQ_NONNULL size_t fq_version(char *to, size_t room);
 FQ_NONNULL size_t fq_status_text(uint32_t status, char *to, size_t room);
 FQ_NONNULL size_t fq_fault_text(uint32_t fault, char *to, size_t room);
 
-/* The structs that calls read and write, and the bytes of each, for bindings to check theirs: 0 of any other number. */
+/* The structs that calls read and write, but for those of fq_replay, and the bytes of each, for bindings to check theirs: 0 of any other
+ * number. */
 enum fq_struct {
     FQ_STRUCT_HANDLE = 0, FQ_STRUCT_DQL = 1, FQ_STRUCT_DQL_MADE = 2, FQ_STRUCT_NAPI = 3, FQ_STRUCT_PACKET = 4, FQ_STRUCT_COUNTS = 5,
     FQ_STRUCT_TOTALS = 6, FQ_STRUCT_RING_SHOWN = 7, FQ_STRUCT_TX_SHOWN = 8, FQ_STRUCT_ANSWERS = 9, FQ_STRUCT_RUN_REPORT = 10
@@ -217,7 +218,7 @@ FQ_CHECKED uint32_t fq_napi_schedule(struct fq_napi *napi, uint32_t who);
 /* Hands a granted instance over (____napi_schedule), or a polled one to the list again: FQ_OK, FQ_BAD_KIND; FQ_NOT_ALLOWED, also of a
  * polled one to its thread. */
 FQ_CHECKED uint32_t fq_napi_hand(struct fq_napi *napi, uint32_t who, uint32_t kind);
-/* Takes it from the list or as its thread: FQ_TAKEN, FQ_NOT_THERE, FQ_BAD_KIND. */
+/* Takes it from the list or as its thread: FQ_TAKEN, FQ_BAD_KIND, FQ_NOT_THERE. */
 FQ_CHECKED uint32_t fq_napi_take(struct fq_napi *napi, uint32_t who, uint32_t kind);
 /* Ends a poll (napi_complete_done): FQ_RELEASED, FQ_AGAIN, FQ_HELD, FQ_NOT_ALLOWED. */
 FQ_CHECKED uint32_t fq_napi_complete(struct fq_napi *napi, uint32_t who);
@@ -329,7 +330,7 @@ struct fq_tx_watchdog {
 };
 
 /* Looks at a ring in each tick of that timer: *stuck tells whether it has been stopped, with no byte completed, for limit_ms since
- * the first look that found it so: FQ_OK; FQ_BAD_HANDLE, and not stuck. */
+ * the first look that found it so, none of them by a clock that went back: FQ_OK; FQ_BAD_HANDLE, and not stuck. */
 FQ_CHECKED static inline uint32_t fq_tx_watch(struct fq_handle *FQ_RESTRICT tx, struct fq_tx_watchdog *FQ_RESTRICT watchdog, uint64_t limit_ms, uint64_t now_ms, bool *FQ_RESTRICT stuck) {
     struct fq_tx_shown state;
     *stuck = false;
@@ -340,7 +341,7 @@ FQ_CHECKED static inline uint32_t fq_tx_watch(struct fq_handle *FQ_RESTRICT tx, 
         watchdog->private_completed = state.completed;
         watchdog->private_since = now_ms;
     }
-    *stuck = state.stopped && now_ms - watchdog->private_since >= limit_ms;
+    *stuck = state.stopped && (now_ms > watchdog->private_since ? now_ms - watchdog->private_since : 0) >= limit_ms;
     return FQ_OK;
 }
 
@@ -470,7 +471,7 @@ FQ_CHECKED static inline uint32_t fq_seat_end_watched(struct fq_handle *FQ_RESTR
 /* The end of a poll of a card that can't be looked at, which gave *work packets so far, below its weight: unmasks while it polls
  * still, polls the rest of the weight, which *work then counts too, and ends as fq_seat_end, full or not. An interrupt meanwhile is
  * missed, so that one more poll follows; the card is masked for that, as it is where the poll was full. All answers are those of
- * fq_seat_end; FQ_BAD_WEIGHT, and nothing is done, of a weight that isn't 1 to 64. */
+ * fq_seat_end, behind FQ_BAD_WEIGHT, and nothing is done, of a weight that isn't 1 to 64. */
 FQ_CHECKED static inline uint32_t fq_seat_end_unmasked(struct fq_handle *FQ_RESTRICT seat, const struct fq_card *FQ_RESTRICT card, size_t weight, size_t *FQ_RESTRICT work, uint32_t *FQ_RESTRICT next) {
     struct fq_counts counts; /* of a seat that polls alone */
     uint64_t word;
@@ -516,7 +517,8 @@ FQ_CHECKED static inline uint32_t fq_control_step(struct fq_handle *control, boo
     return said == FQ_BUSY || said == FQ_BAD_HANDLE ? said : (uint32_t)FQ_OK;
 }
 
-/* ---- Polling runs (net_rx_action), which the caller drives: begin; while next is FQ_OK, poll that device and tell; end. */
+/* ---- Polling runs (net_rx_action), which the caller drives: begin; while next is FQ_OK, poll that device and tell; end. All other
+ * answers are behind FQ_BAD_HANDLE. */
 
 struct fq_run_report {
     uint32_t polls, work;
@@ -532,7 +534,7 @@ FQ_CHECKED uint32_t fq_list_push(struct fq_handle *list, uint32_t id);
 FQ_CHECKED uint32_t fq_list_len(struct fq_handle *FQ_RESTRICT list, uint32_t *FQ_RESTRICT len);
 /* Begins a run: FQ_OK; FQ_NOT_ALLOWED where one is under way; FQ_BAD_WEIGHT, FQ_BAD_BUDGET. */
 FQ_CHECKED uint32_t fq_run_begin(struct fq_handle *list, uint32_t budget, uint32_t weight, uint32_t window);
-/* The number to be polled next: FQ_OK, FQ_DONE, FQ_NOT_ALLOWED. */
+/* The number to be polled next: FQ_OK; FQ_NOT_ALLOWED without a run, and before the last poll was told; FQ_DONE. */
 FQ_CHECKED uint32_t fq_run_next(struct fq_handle *FQ_RESTRICT list, uint32_t *FQ_RESTRICT id);
 /* What its poll did: FQ_OK, FQ_NOT_ALLOWED, FQ_BAD_WORK above the weight, FQ_BAD_NEXT; FQ_IN_USE where it would be listed a second
  * time, and it is still to be told. That FQ_NEXT_REPOLL is of a whole weight isn't tested: a device may have a weight of its own, below

@@ -1,5 +1,5 @@
 // Fintaqush for C++17: the calls of fintaqush.h with the state of a seat in its type, so that a call that the state doesn't have
-// doesn't compile. Header only. Nothing is copied, and nothing throws but what the standard containers do where memory is out.
+// doesn't compile. Header only. Only a SerialNapi is copied, and nothing throws but what the standard containers do where memory is out.
 // Everything that fintaqush.h wants of its caller holds here too. What is destroyed is given up (fq_abandon): an instance whose
 // poller was destroyed is polled no more. What was moved from answers as what leads to nothing: FQ_BAD_HANDLE, none, 0, or itself.
 #ifndef FINTAQUSH_HPP
@@ -70,6 +70,9 @@ private:
 // A word of pending bits, which threads share.
 class Word {
 public:
+    Word() = default;
+    Word(const Word &) = delete;
+    Word &operator=(const Word &) = delete;
     // Raises a bit, 0 to 63, and answers whether the word was 0: then the poller is to be woken.
     [[nodiscard]] bool raise(std::uint32_t bit) noexcept { return fq_word_raise(&raw_, bit); }
     // Takes all bits, which are 0 then.
@@ -168,7 +171,7 @@ private:
 // An instance of one thread, whose calls are told at run time.
 class [[nodiscard]] SerialNapi {
 public:
-    explicit SerialNapi(std::uint32_t controller) : raw_(fq_napi_new(controller)) {}
+    explicit SerialNapi(std::uint32_t controller) noexcept : raw_(fq_napi_new(controller)) {}
     [[nodiscard]] Status schedule(std::uint32_t who) { return Status(fq_napi_schedule(&raw_, who)); }
     [[nodiscard]] Status hand(std::uint32_t who, Kind kind) { return Status(fq_napi_hand(&raw_, who, kind)); }
     [[nodiscard]] Status take(std::uint32_t who, Kind kind) { return Status(fq_napi_take(&raw_, who, kind)); }
@@ -637,8 +640,8 @@ public:
     }
 
     // A run (net_rx_action): poll(id, weight) answers the packets that it gave, and how the poll ended. None where the weight isn't
-    // 1 to 64, budget or window not 1 to 65535, or poll answers more than its weight. poll may push to this list; where it throws the
-    // run ends too: its device is listed no more, all others are.
+    // 1 to 64, budget or window not 1 to 65535, or poll answers more than its weight. poll may push to this list, and not move it;
+    // where it throws the run ends too: its device is listed no more, all others are.
     template <class Poll>
     [[nodiscard]] std::optional<fq_run_report> run(std::uint32_t budget, std::uint32_t weight, std::uint32_t window, Poll poll) {
         if (fq_run_begin(at_.raw(), budget, weight, window) != FQ_OK) return std::nullopt;

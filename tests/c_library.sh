@@ -121,6 +121,10 @@ echo 'it tells of itself what the header says' > "$scratch/told"
 check 'told.c compiles' compile gcc "$top/tests/c/told.c" "$scratch/tells" -O2
 check 'what the library tells of itself' compared "$scratch/told" "$scratch/tells"
 
+echo '9 corners, each answered as it has to be' > "$scratch/cornered"
+check 'corners.c compiles' compile gcc "$top/tests/c/corners.c" "$scratch/corners" -O2 "$wraps"
+check 'answers at corners' compared "$scratch/cornered" "$scratch/corners"
+
 check 'bursts in C++ compile' compile g++ "$top/tests/c/bursts.cpp" "$scratch/bursts" -O2
 check 'bursts in C++' "$scratch/bursts"
 
@@ -227,6 +231,8 @@ sanitized() {
     done
     check "$name: refuse.c compiles" compile gcc "$top/tests/c/refuse.c" "$scratch/sanitized" -O1 -g "$flag" -fno-sanitize-recover=all "$wraps"
     check "$name: each allocation refused in turn" compared "$scratch/refused_all" "$scratch/sanitized"
+    check "$name: corners.c compiles" compile gcc "$top/tests/c/corners.c" "$scratch/sanitized" -O1 -g "$flag" -fno-sanitize-recover=all "$wraps"
+    check "$name: answers at corners" compared "$scratch/cornered" "$scratch/sanitized"
     check "$name: types.cpp compiles" compile g++ "$top/tests/c/types.cpp" "$scratch/sanitized" -O1 -g "$flag" -fno-sanitize-recover=all "$wraps"
     check "$name: the types of C++" compared "$scratch/typed" "$scratch/sanitized"
     check "$name: the replay compiles" compile gcc "$top/tests/c/replay.c" "$scratch/sanitized" -O1 -g "$flag" -fno-sanitize-recover=all
@@ -272,6 +278,11 @@ cat > "$scratch/ignored.c" << 'END'
 #include <fintaqush.h>
 int main(void) { struct fq_napi napi = fq_napi_new(0); fq_napi_schedule(&napi, 1); return 0; }
 END
+cat > "$scratch/ignores.cpp" << 'END'
+#include <fintaqush.hpp>
+void poll(fintaqush::Polling &polling, fintaqush::Packets &out) { polling.poll(out); }
+int main() {}
+END
 cat > "$scratch/polls.cpp" << 'END'
 #include <fintaqush.hpp>
 void poll(fintaqush::Caller &caller, fintaqush::Packets &out) { caller.poll(out); }
@@ -294,6 +305,7 @@ int main() {}
 END
 check 'a null handle is refused' refused nonnull compile gcc "$scratch/null.c" "$scratch/refused"
 check 'an answer that nobody reads is refused' refused unused-result compile gcc "$scratch/ignored.c" "$scratch/refused"
+check 'a poll whose packets nobody counts is refused' refused unused-result compile g++ "$scratch/ignores.cpp" "$scratch/refused"
 check 'a poll by a Caller is refused' refused "has no member named .poll" compile g++ "$scratch/polls.cpp" "$scratch/refused"
 check 'a weight of 65 is refused' refused 'a weight is 1 to 64' compile g++ "$scratch/weighs.cpp" "$scratch/refused"
 check 'a copy of a Caller is refused' refused 'deleted' compile g++ "$scratch/copies.cpp" "$scratch/refused"

@@ -561,15 +561,16 @@ static void show_sender(void) {
                                shown.avail == model_avail(&s->limit) && shown.stopped == s->stopped);
 }
 
-/* Whether it has been stopped since so long, with nothing done. */
+/* Whether it has been stopped since so long, with nothing done, by a clock that may go back. */
 static void watch(void) {
     static struct fq_tx_watchdog unmoved;
     const uint32_t i = one_of(SENDER, SENDER);
     struct sender *const s = objects[i].sender;
     bool stuck = true;
-    if (s != NULL && (!s->stopped || !s->was_stopped || s->was_done != s->done)) s->was_stopped = s->stopped, s->was_done = s->done, s->since = now;
-    want("watch", fq_tx_watch(&handles[i], s != NULL ? &s->watchdog : &unmoved, 500, now, &stuck), s != NULL ? FQ_OK : FQ_BAD_HANDLE);
-    hold("stuck", stuck == (s != NULL && s->stopped && now - s->since >= 500));
+    const uint64_t at = model_minus(now, below(8) ? 0 : below(900)), limit_ms = below(8) ? 500 : 0;
+    if (s != NULL && (!s->stopped || !s->was_stopped || s->was_done != s->done)) s->was_stopped = s->stopped, s->was_done = s->done, s->since = at;
+    want("watch", fq_tx_watch(&handles[i], s != NULL ? &s->watchdog : &unmoved, limit_ms, at, &stuck), s != NULL ? FQ_OK : FQ_BAD_HANDLE);
+    hold("stuck", stuck == (s != NULL && s->stopped && model_minus(at, s->since) >= limit_ms));
     now += below(100);
 }
 

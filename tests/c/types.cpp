@@ -47,7 +47,10 @@ template <class... Types>
 constexpr bool moves = ((std::is_nothrow_move_constructible_v<Types> && std::is_nothrow_move_assignable_v<Types> &&
                          !std::is_copy_constructible_v<Types> && !std::is_copy_assignable_v<Types>) && ...);
 static_assert(moves<Limit, TxRing, Caller, Granted, Polling, Busy, Control<Off>, Control<On>, Control<Marked>, Input, Output, Ring, List>);
+static_assert(!std::is_copy_constructible_v<Word> && !std::is_copy_assignable_v<Word> && !std::is_move_constructible_v<Word>);
 static_assert(moves<Shared, Bare, Scheduled, Ended, Took, TookBusy, Completed, End>);
+static_assert(noexcept(std::declval<Caller>().schedule()) && noexcept(std::declval<Caller>().take(FQ_LIST)) && noexcept(std::declval<Polling>().end(true)) &&
+              noexcept(std::declval<Polling>().complete()) && noexcept(std::declval<Control<On>>().disable()));
 static_assert(!std::is_convertible_v<int, Weight> && !std::is_constructible_v<Weight, int>);
 static_assert(Weight::of<1>().get() == 1 && Weight().get() == 64 && !Weight::make(0) && !Weight::make(65) && Weight::make(64)->get() == 64);
 

@@ -85,7 +85,7 @@ class Napi(_One):
         return Status(c.napi_schedule(self._state, who))
 
     def hand(self, who: int = 0, kind: Kind = Kind.LIST) -> None:
-        """Hands a granted or polled instance over (`____napi_schedule`). NOT_ALLOWED, BAD_KIND."""
+        """Hands a granted instance over (`____napi_schedule`), or a polled one to the list again. BAD_KIND, NOT_ALLOWED."""
         c.napi_hand(self._state, who, kind)
 
     def take(self, who: int = 0, kind: Kind = Kind.LIST) -> bool:

@@ -13,8 +13,8 @@
 //! - [`List`]: a poll list, and runs over it.
 //! - [`replay`]: the whole replay of a trace, on one thread.
 //!
-//! Every value may be sent to another thread, and none may be used by two at a time (`Send`, not
-//! `Sync`): the library wants one call at a time on an object.
+//! Every value may be sent to another thread, and none but a [`Word`] may be used by two at a time
+//! (`Send`, not `Sync`): the library wants one call at a time on an object.
 //!
 //! One instance, a request for a poll that is granted, one that is missed, and two polls:
 //!

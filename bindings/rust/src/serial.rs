@@ -35,7 +35,7 @@ impl SerialNapi {
         }
     }
 
-    /// Hands a granted or polled instance over (`____napi_schedule`).
+    /// Hands a granted instance over (`____napi_schedule`), or a polled one to the list again.
     pub fn hand(&mut self, who: u32, kind: Kind) -> Result<(), Fault> {
         // SAFETY: the instance is borrowed by this call alone.
         Fault::unless_made(unsafe { sys::fq_napi_hand(&mut self.raw, who, kind.number()) })

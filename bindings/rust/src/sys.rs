@@ -543,7 +543,7 @@ pub unsafe fn fq_tx_watch(
             private_since: now_ms,
         };
     }
-    let since = now_ms.wrapping_sub(watchdog.private_since);
+    let since = now_ms.saturating_sub(watchdog.private_since);
     // SAFETY: as the caller says.
     unsafe { stuck.write(said == FQ_OK && state.stopped && since >= limit_ms) };
     said

@@ -1,0 +1,190 @@
+/* corners [NAME]: answers at corners, each case by hand, with calls and structs of the header alone. Where one isn't what it has to be
+ * it tells which, and ends by 9. To be linked with --wrap for malloc, realloc and free. */
+#include "memory.h"
+#include <fintaqush.h>
+#include <stdio.h>
+#include <stdlib.h>
+#include <string.h>
+
+static void want(bool holds, const char *what) {
+    if (holds) return;
+    fprintf(stderr, "corners: %s\n", what);
+    exit(9);
+}
+
+/* An instance that is enabled, with an interrupt's seat and a poller's. */
+static struct fq_handle control, seats[2];
+static struct fq_handle *const irq = &seats[0], *const poller = &seats[1];
+
+static void enabled(bool threaded) {
+    want(fq_shared_bare(&control, seats, 2) == FQ_OK && fq_control_enable(&control, threaded) == FQ_OK, "it is enabled");
+}
+
+static void given_up(void) {
+    want(fq_abandon(&control) == FQ_OK && fq_abandon(irq) == FQ_OK && fq_abandon(poller) == FQ_OK && blocks == 0, "nothing is left");
+}
+
+/* Who took the instance as its thread, and polled its whole weight, polls on: no list has it then, of which nobody knows. */
+static void a_full_poll_of_a_thread(void) {
+    uint32_t next = 99;
+    enabled(true);
+    want(fq_seat_interrupt(irq, FQ_THREAD) == FQ_GRANTED && fq_seat_take(poller, FQ_THREAD) == FQ_TAKEN, "its thread takes it");
+    want(fq_seat_end(poller, true, &next) == FQ_HELD && next == FQ_NEXT_GONE, "a full poll stays with the thread");
+    want(fq_seat_interrupt(irq, FQ_THREAD) == FQ_MISSED, "a request meanwhile is missed");
+    want(fq_seat_end(poller, false, &next) == FQ_OK && next == FQ_NEXT_AGAIN_THREAD, "so one more poll follows");
+    want(fq_seat_take(poller, FQ_THREAD) == FQ_TAKEN && fq_seat_end(poller, false, &next) == FQ_OK && next == FQ_NEXT_GONE, "which ends it");
+    want(fq_seat_interrupt(irq, FQ_THREAD) == FQ_GRANTED && fq_seat_take(poller, FQ_THREAD) == FQ_TAKEN, "the next interrupt is granted");
+    given_up();
+}
+
+/* A busy poller polls on, full or not; and how a poll ended is told on each path. */
+static void a_full_poll_of_a_busy_poller(void) {
+    uint32_t next = 99;
+    enabled(false);
+    want(fq_seat_end(poller, true, &next) == FQ_NOT_ALLOWED && next == FQ_NEXT_GONE, "a seat at rest ends no poll");
+    want(fq_seat_busy_take(poller) == FQ_TAKEN, "it is busy polled");
+    for (int full = 0; full < 2; full++) {
+        next = 99;
+        want(fq_seat_end(poller, full, &next) == FQ_HELD && next == FQ_NEXT_GONE, "a busy poller polls on");
+    }
+    given_up();
+}
+
+/* A byte above 1 is what 1 is, and a place above 5 what 5 is, to each call. */
+static void bytes_of_an_instance(void) {
+    for (size_t at = 0; at < 8; at++) {
+        for (unsigned byte = at < 7 ? 2 : 6; byte < 256; byte++) {
+            struct fq_napi one = fq_napi_new(7), other;
+            want(fq_napi_enable(&one, 7, false) == FQ_OK, "it is enabled");
+            memcpy(&other, &one, sizeof one);
+            ((unsigned char *)&one)[at] = at < 7 ? 1 : 5;
+            ((unsigned char *)&other)[at] = (unsigned char)byte;
+            want(fq_napi_word(&one) == fq_napi_word(&other), "a word");
+            want(fq_napi_schedule(&one, 1) == fq_napi_schedule(&other, 1), "a schedule");
+            want(fq_napi_busy_take(&one, 1) == fq_napi_busy_take(&other, 1), "a busy take");
+            want(fq_napi_mark_disable(&one, 7) == fq_napi_mark_disable(&other, 7), "a mark");
+            want(fq_napi_take_disable(&one, 7) == fq_napi_take_disable(&other, 7), "a take to disable");
+            want(fq_napi_word(&one) == fq_napi_word(&other), "the word then");
+        }
+    }
+}
+
+/* A polled instance goes to the list again, and not to its thread. */
+static void a_polled_instance_is_handed(void) {
+    struct fq_napi napi = fq_napi_new(7);
+    want(fq_napi_enable(&napi, 7, false) == FQ_OK && fq_napi_schedule(&napi, 1) == FQ_GRANTED && fq_napi_hand(&napi, 1, FQ_LIST) == FQ_OK, "it lies on the list");
+    want(fq_napi_take(&napi, 2, FQ_LIST) == FQ_TAKEN && fq_napi_hand(&napi, 2, FQ_THREAD) == FQ_NOT_ALLOWED, "not to its thread");
+    want(fq_napi_hand(&napi, 2, FQ_LIST) == FQ_OK && fq_napi_take(&napi, 2, FQ_LIST) == FQ_TAKEN, "to the list");
+}
+
+/* The number that is being polled counts among the 64, and comes back behind the others by its poll's end. */
+static void a_list_of_64(void) {
+    struct fq_handle list = FQ_NONE;
+    uint32_t id = 99, len = 99;
+    want(fq_list_new(&list) == FQ_OK, "a list");
+    for (uint32_t i = 0; i < 64; i++) want(fq_list_push(&list, i) == FQ_OK, "a push");
+    want(fq_run_begin(&list, 300, 64, 1024) == FQ_OK && fq_run_next(&list, &id) == FQ_OK && id == 0, "a run");
+    want(fq_list_push(&list, 0) == FQ_FULL && fq_list_len(&list, &len) == FQ_OK && len == 64, "the list is full");
+    want(fq_run_polled(&list, 0, FQ_NEXT_AGAIN) == FQ_OK && fq_list_len(&list, &len) == FQ_OK && len == 64, "it is listed again");
+    for (uint32_t i = 1; i < 65; i++) want(fq_run_next(&list, &id) == FQ_OK && id == i % 64 && fq_run_polled(&list, 0, FQ_NEXT_GONE) == FQ_OK, "all in turn");
+    want(fq_run_next(&list, &id) == FQ_DONE && fq_abandon(&list) == FQ_OK && blocks == 0, "the end");
+}
+
+/* Devices with weights of their own, below the run's, are polled as by net_rx_action, which asks a full poll's device again. */
+static void weights_of_devices(void) {
+    static const uint32_t weights[3] = {8, 16, 64}, polls[] = {0, 1, 2, 0, 1, 2, 0, 1};
+    uint32_t left[3] = {20, 40, 100}, id = 99;
+    struct fq_handle list = FQ_NONE;
+    struct fq_run_report report;
+    size_t made = 0;
+    want(fq_list_new(&list) == FQ_OK, "a list");
+    for (uint32_t i = 0; i < 3; i++) want(fq_list_push(&list, i) == FQ_OK, "a push");
+    for (;;) {
+        want(fq_run_begin(&list, 300, 64, 1024) == FQ_OK, "a run");
+        while (fq_run_next(&list, &id) == FQ_OK) {
+            const uint32_t work = left[id] < weights[id] ? left[id] : weights[id];
+            want(made < sizeof polls / sizeof polls[0] && polls[made] == id, "who is polled");
+            left[id] -= work, made++;
+            want(fq_run_polled(&list, work, work == weights[id] ? FQ_NEXT_REPOLL : FQ_NEXT_GONE) == FQ_OK, "a poll");
+        }
+        want(fq_run_end(&list, &report) == FQ_OK, "the run's end");
+        if (report.polls == 0) break;
+    }
+    want(made == 8 && left[0] + left[1] + left[2] == 0 && fq_abandon(&list) == FQ_OK && blocks == 0, "all is polled");
+}
+
+/* A split looks at its handle before it takes memory, which may be out. */
+static void a_split_of_what_is_no_ring(void) {
+    struct fq_handle list = FQ_NONE, out = FQ_NONE;
+    want(fq_list_new(&list) == FQ_OK, "a list");
+    takes = 0, refused_take = 1;
+    want(fq_ring_split(&list, &out) == FQ_BAD_HANDLE && takes == 0, "it is no ring");
+    refused_take = 0;
+    want(fq_abandon(&list) == FQ_OK && blocks == 0, "the end");
+}
+
+/* Where an instance over a ring can't be made, whichever take of memory is refused, the ring is as it was, and nothing else is set. */
+static void a_ring_whose_instance_is_refused(void) {
+    uint32_t said = FQ_OUT_OF_MEMORY;
+    for (long at = 1; said == FQ_OUT_OF_MEMORY; at++) {
+        struct fq_handle ring = FQ_NONE;
+        struct fq_packet out[4];
+        size_t count;
+        want(fq_ring_new(&ring, 4) == FQ_OK && fq_ring_put(&ring, 5, 60) == FQ_OK, "a ring");
+        takes = 0, refused_take = at;
+        said = fq_shared_new(&ring, &control, seats, 2);
+        refused_take = 0;
+        if (said == FQ_OUT_OF_MEMORY) {
+            want(!control.private_set && !irq->private_set && !poller->private_set, "nothing is set");
+            want(fq_ring_poll(&ring, 4, out, 4, &count) == FQ_OK && count == 1 && out[0].number == 5, "it is polled");
+        }
+        want(fq_abandon(&ring) == FQ_OK, "the ring's end");
+    }
+    want(said == FQ_OK, "with memory it is made");
+    given_up();
+}
+
+/* So many buffers are used in turn, for a ring of 256 places and bursts of 16, which are put as far as they fit while a poll's packets
+ * are read: how many of these are written over by then. */
+static unsigned written_over(uint64_t buffers) {
+    static uint64_t written[400];
+    struct fq_handle ring = FQ_NONE;
+    struct fq_packet burst[16], out[64];
+    unsigned over = 0;
+    uint64_t first = 0;
+    size_t put = 16, count;
+    want(fq_ring_new(&ring, 256) == FQ_OK, "a ring");
+    for (int poll = 0; poll < 100; poll++) {
+        size_t polled;
+        want(fq_ring_poll(&ring, 64, out, 64, &polled) == FQ_OK, "a poll");
+        do {
+            for (size_t i = 0; put == 16 && i < 16; i++) burst[i] = (struct fq_packet){first + i, 60}, written[(first + i) % buffers] = first + i;
+            if (put == 16) put = 0, first += 16;
+            want(fq_ring_put_all(&ring, burst + put, 16 - put, &count) < FQ_NOT_ALLOWED, "a burst");
+            put += count;
+        } while (put == 16);
+        for (size_t i = 0; i < polled; i++) over += written[out[i].number % buffers] != out[i].number;
+    }
+    want(fq_abandon(&ring) == FQ_OK && blocks == 0, "the end");
+    return over;
+}
+
+static void buffers_in_turn(void) {
+    want(written_over(256 + 64 + 16) == 0, "a place, a poll's and a burst's are enough");
+    want(written_over(256 + 64 + 15) != 0 && written_over(256 + 64 + 1) != 0, "fewer aren't");
+}
+
+#define CASE(name) {#name, name}
+static const struct {
+    const char *name;
+    void (*call)(void);
+} cases[] = {CASE(a_full_poll_of_a_thread), CASE(a_full_poll_of_a_busy_poller), CASE(bytes_of_an_instance), CASE(a_polled_instance_is_handed), CASE(a_list_of_64),
+    CASE(weights_of_devices), CASE(a_split_of_what_is_no_ring), CASE(a_ring_whose_instance_is_refused), CASE(buffers_in_turn)};
+
+int main(int count, char **words) {
+    unsigned called = 0;
+    for (size_t i = 0; i < sizeof cases / sizeof cases[0]; i++)
+        if (count < 2 || strcmp(words[1], cases[i].name) == 0) cases[i].call(), called++;
+    printf("%u corners, each answered as it has to be\n", called);
+    return called == 0;
+}
