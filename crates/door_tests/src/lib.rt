@@ -17,6 +17,8 @@ mod engine;
 #[cfg(test)]
 mod limits;
 #[cfg(test)]
+mod machines;
+#[cfg(test)]
 mod model;
 #[cfg(test)]
 mod receive;

@@ -3,6 +3,8 @@ pub use Rattle.machine_words.specs.Words
 pub use Rattle.machine_words.specs.declared.settings.Settings
 pub use Rattle.machine_model.specs.Machine
 pub use Rattle.machine_model.specs.Processor
+pub use Rattle.replay_words.specs.declared.words.WordFault
+pub use Rattle.replay_text.specs.Written
 pub use Rattle.machine_report.specs.Answer
 pub use Rattle.machine_report.specs.Arrivals
 pub use Rattle.machine_report.specs.Fault

@@ -12,3 +12,4 @@ pub use machine_model::{
 };
 pub use machine_report::{Arrival, Arrivals, MachineFault, fault_line, run_machine, status};
 pub use machine_words::{Settings, parse_words};
+pub use replay_words::{WordFault, word_line, word_status};
