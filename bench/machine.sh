@@ -5,21 +5,11 @@
 # [MACHINE=PROGRAM] bench/machine.sh [TURNS]
 set -euo pipefail
 unset CDPATH
-bench=$(cd "$(dirname "$0")" && pwd)
-. "$bench/../scripts/arguments.sh"
-. "$bench/../scripts/best.sh"
+. "$(dirname "$0")/../scripts/best.sh"
 at_most 1 "$@"
 turns=${1:-3}
-program=${MACHINE:-$bench/../crates/napi_machine/out/napi_machine}
-is_count TURNS "$turns"
-is_tool cc
 is_tool g++
-[ -n "${MACHINE:-}" ] || "$bench/../scripts/build.sh" napi_machine
-is_program MACHINE "$program"
-scratch=$(mktemp -d)
-trap 'rm -rf "$scratch"' EXIT
-
-cc -O2 -o "$scratch/measure" "$bench/measure.c"
+begin MACHINE napi_machine
 g++ -std=c++17 -O2 -o "$scratch/plain" "$bench/machine.cc"
 
 # arrivals PACKETS: bursts of 64 packets 500 ns apart, each of one of four devices, which keep the processor busy by half.

@@ -7,23 +7,13 @@
 # [TRACES=FOLDER] [PROGRAM=PROGRAM] bench/replay.sh [PEER [TURNS]]
 set -euo pipefail
 unset CDPATH
-bench=$(cd "$(dirname "$0")" && pwd)
-. "$bench/../scripts/arguments.sh"
-. "$bench/../scripts/best.sh"
+. "$(dirname "$0")/../scripts/best.sh"
 at_most 2 "$@"
 peer=${1:-}
 turns=${2:-15}
-program=${PROGRAM:-$bench/../crates/napi_serial/out/napi_serial}
 [ -z "$peer" ] || is_program PEER "$peer"
-is_count TURNS "$turns"
 [ -z "${TRACES:-}" ] || [ -d "$TRACES" ] || refuse "TRACES is '$TRACES', which is no folder"
-is_tool cc
-[ -n "${PROGRAM:-}" ] || "$bench/../scripts/build.sh" napi_serial
-is_program PROGRAM "$program"
-scratch=$(mktemp -d)
-trap 'rm -rf "$scratch"' EXIT
-
-cc -O2 -o "$scratch/measure" "$bench/measure.c"
+begin PROGRAM napi_serial
 for rows in 10000 30000 100000; do
     "$bench/traces.sh" "$scratch/$rows" "$rows"
 done

@@ -5,20 +5,10 @@
 # [PROGRAM=PROGRAM] bench/shared.sh [TURNS]
 set -euo pipefail
 unset CDPATH
-bench=$(cd "$(dirname "$0")" && pwd)
-. "$bench/../scripts/arguments.sh"
-. "$bench/../scripts/best.sh"
+. "$(dirname "$0")/../scripts/best.sh"
 at_most 1 "$@"
 turns=${1:-15}
-program=${PROGRAM:-$bench/../crates/napi_replay/out/napi_replay}
-is_count TURNS "$turns"
-is_tool cc
-[ -n "${PROGRAM:-}" ] || "$bench/../scripts/build.sh" napi_replay
-is_program PROGRAM "$program"
-scratch=$(mktemp -d)
-trap 'rm -rf "$scratch"' EXIT
-
-cc -O2 -o "$scratch/measure" "$bench/measure.c"
+begin PROGRAM napi_replay
 "$bench/traces.sh" "$scratch/traces"
 
 differs=0

@@ -7,25 +7,15 @@
 # [PROGRAM=PROGRAM] [RANDOM_TRACES=N] bench/threads.sh PEER [TURNS]
 set -euo pipefail
 unset CDPATH
-bench=$(cd "$(dirname "$0")" && pwd)
-. "$bench/../scripts/arguments.sh"
-. "$bench/../scripts/best.sh"
+. "$(dirname "$0")/../scripts/best.sh"
 at_most 2 "$@"
 peer=${1:-}
 turns=${2:-9}
 random=${RANDOM_TRACES:-200}
-program=${PROGRAM:-$bench/../crates/napi_replay/out/napi_replay}
 is_program PEER "$peer"
-is_count TURNS "$turns"
 is_count RANDOM_TRACES "$random"
-is_tool cc
 is_tool python3
-[ -n "${PROGRAM:-}" ] || "$bench/../scripts/build.sh" napi_replay
-is_program PROGRAM "$program"
-scratch=$(mktemp -d)
-trap 'rm -rf "$scratch"' EXIT
-
-cc -O2 -o "$scratch/measure" "$bench/measure.c"
+begin PROGRAM napi_replay
 
 # Rows in turn over so many devices: of five, three are packets that arrive, one is sent and one completed. Each ring has a
 # place for each packet, as threads mode wants it.

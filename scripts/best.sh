@@ -1,5 +1,20 @@
-# shellcheck shell=sh
-# For scripts that time runs by bench/measure.c, which read this file by `.`: what the lines of its runs come to.
+# shellcheck shell=bash
+# For scripts of bench/ that time runs by bench/measure.c, which read this file by `.`: how they begin, and what the lines of their
+# runs come to.
+bench=$(cd "$(dirname "$0")" && pwd)
+. "$bench/../scripts/arguments.sh"
+
+# begin VARIABLE CRATE: `program` is the one that this variable names, or the crate's, which is built; `scratch` has measure, and goes.
+begin() {
+    is_count TURNS "$turns"
+    is_tool cc
+    program=${!1:-}
+    [ -n "$program" ] || { "$bench/../scripts/build.sh" "$2" && program=$bench/../crates/$2/out/$2; }
+    is_program "$1" "$program"
+    scratch=$(mktemp -d)
+    trap 'rm -rf "$scratch"' EXIT
+    cc -O2 -o "$scratch/measure" "$bench/measure.c"
+}
 
 # The least of the first column and the greatest of the second one, and the last status.
 best() {

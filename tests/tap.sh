@@ -7,51 +7,24 @@ unset CDPATH
 top=$(dirname "$(dirname "$(readlink -f "$0")")")
 scratch=$(mktemp -d)
 trap 'rm -rf "$scratch"' EXIT
+driver=tap
 . "$top/scripts/checks.sh"
-over=0
+. "$top/scripts/drivers.sh"
 
-refused() {
-    local status=0
-    timeout 300 "$scratch/tap" "$@" || status=$?
-    [ "$status" = 64 ]
-}
-
-# way WORD ..: a run of the driver with these words; each line `ok` or `WRONG` of it is a test.
-way() {
-    local status=0
-    [ "$over" = 0 ] || return 0
-    BUILT=$scratch "$top/examples/tap/run.sh" "$@" > "$scratch/run" 2>&1 || status=$?
-    if [ "$status" = 69 ]; then
-        cat "$scratch/run"
-        echo 'tap: passed over: the driver on a device'
-        over=1
-        return
-    fi
-    passed=$((passed + $(grep -c '^ok: ' "$scratch/run")))
-    failed=$((failed + $(grep -c '^WRONG: ' "$scratch/run")))
-    if [ "$status" != 0 ]; then
-        grep -q '^WRONG: ' "$scratch/run" || failed=$((failed + 1))
-        echo "tap: the driver with '$*', status $status"
-        sed 's/^/    /' "$scratch/run"
-    fi
-}
-
-check 'the driver and its load are built' "$top/examples/tap/build.sh" "$scratch"
-if [ "$failed" = 0 ]; then
+if build plain; then
     for words in '--ring 0' '--queues 17' '--budget 65536' '--rate x' '--plain --mask' "--trace $scratch/none --mask" 'more' '--dev a-name-that-is-too-long'; do
-        # shellcheck disable=SC2086
-        check "'$words' is refused" refused $words
+        refuses "$words"
     done
-    way
-    way --mask
-    way --one
-    way --plain
-    way --direct
-    way --mask --queues 2
-    way --rate 100000000
-    way --mask --rate 50000000 --budget 16 --ring 64
-    way --trace "$scratch/trace.csv"
-    way --trace "$scratch/slow.csv" --rate 20000000
+    way plain
+    way plain --mask
+    way plain --one
+    way plain --plain
+    way plain --direct
+    way plain --mask --queues 2
+    way plain --rate 100000000
+    way plain --mask --rate 50000000 --budget 16 --ring 64
+    way plain --trace "$scratch/trace.csv"
+    way plain --trace "$scratch/slow.csv" --rate 20000000
 fi
 
 sum_up

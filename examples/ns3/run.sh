@@ -29,9 +29,9 @@ awk 'NR == 1 { for (i = 1; i <= NF; i++) at[$i] = i
 
 command -v gnuplot > /dev/null || { echo 'run: no gnuplot, so no picture' >&2; exit 0; }
 gnuplot << END
-set terminal pngcairo size 1020,300 font 'sans,10' background '#ffffff'
+set terminal pngcairo size 540,900 font 'sans,11' background '#ffffff'
 set output '$to/bottleneck.png'
-set multiplot layout 1,3
+set multiplot layout 3,1
 set border 3 lc '#888888'
 set tics nomirror out
 set grid ytics lc '#dddddd' lt 1

@@ -1,11 +1,3 @@
 #!/usr/bin/env bash
-# examples/xdp/build.sh FOLDER [FLAG ..]: builds the driver, with these flags of the compiler too, and its load into the folder, over
-# the C library, which is proved and built first where the folder hasn't it and that isn't done yet.
-set -euo pipefail
-unset CDPATH
-here=$(dirname "$(readlink -f "${BASH_SOURCE[0]}")")
-to=$(readlink -f "${1:?a folder}")
-[ -e "$to/libfintaqush.a" ] || "$here/../../scripts/c_library.sh" "$to"
-flags=(-std=c11 -O2 -Wall -Wextra -Wshadow -Werror -pthread "${@:2}")
-cc "${flags[@]}" -I "$here/../../include" -I "$here/../driver" -I "$here/../tap" "$here/xdp.c" "$to/libfintaqush.a" -o "$to/xdp"
-cc -std=c11 -O2 -Wall -Wextra -Werror "$here/../tap/load.c" -o "$to/load"
+# examples/xdp/build.sh FOLDER [FLAG ..]: builds the driver and its load into the folder, by examples/driver/build.sh.
+exec "$(dirname "$(readlink -f "${BASH_SOURCE[0]}")")/../driver/build.sh" xdp "$@"

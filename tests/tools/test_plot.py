@@ -109,8 +109,8 @@ class Plot(InFolder):
         """With the same words both panels are. By a weight of 59 a packet of each 60 more stays behind, three in the end, which is less
         than a tenth of what waits, and the work of the runs is another; by one of 8 nearly all stay."""
         trace = self.write("trace.csv", HEADER + "0,1,open,256\n" + ("1,1,rx,60\n" * 60 + "2,0,softirq,0\n") * 3 + "3,0,softirq,0\n" * 9)
-        for words, widths in ((["--beside", ""], [1, 1]), (["--weight", "59", "--beside", ""], [1, 0.5, 0.5]),
-                              (["--weight", "8", "--budget", "8", "--beside", ""], [0.5] * 4), ([], [1, 1])):
+        for words, widths in ((["--beside", ""], [1, 1]), (["--weight", "59", "--beside", ""], [1] * 3),
+                              (["--weight", "8", "--budget", "8", "--beside", ""], [1] * 4), ([], [1, 1])):
             done = run("plot", trace, "--script", *words)
             self.assertEqual((done.stderr, done.returncode), ("", 0))
             self.assertEqual(self.places(done.stdout), widths, words)
@@ -126,9 +126,9 @@ class Plot(InFolder):
         picture = (self.folder / "picture.svg").read_text()
         texts = re.findall(r"translate\(([0-9.]+),([0-9.]+)\)[^>]*>\s*<text>(.*?)</text>", picture, re.S)
         texts = [(float(y), re.sub("<[^>]*>", "", words).strip()) for _, y, words in texts]
-        # From above: the title, the first panel's heading and its legend, the second ones' headings and their legends.
+        # From above: the title, and of each panel its heading and its legend.
         lines = sorted({y for y, words in texts if re.search("bursts.csv|wait|squeezed|the same|work of a run", words)})
-        self.assertEqual(len(lines), 5, texts)
+        self.assertEqual(len(lines), 7, texts)
         self.assertTrue(all(after - before >= 9 for before, after in zip(lines, lines[1:])), lines)
 
     def test_refusals(self):

@@ -117,7 +117,7 @@ class WhatIf(InFolder):
             self.rows("--budget", "1,300", "--load", "0.5,1,2", "--plot", self.folder / name)
             self.assertTrue((self.folder / name).read_bytes().startswith(begins))
         text = (self.folder / "x.svg").read_text()
-        for told in ("arrivals.csv: load 0.5, 1, 2; budget 1, 300. Costs are given, in ns: interrupt 4000, poll 1000, packet 1000, use 2000.",
+        for told in ("arrivals.csv: load 0.5, 1, 2; budget 1, 300.<", "Costs are given, in ns: interrupt 4000, poll 1000, packet 1000, use 2000.",
                      "99th percentile of waits", "dropped and refused, %", "share of the processor, %", "budget 1<", "budget 300<", "load (times the arrivals)"):
             self.assertIn(told, text.replace("&apos;", "'"))
 
