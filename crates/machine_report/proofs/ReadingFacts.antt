@@ -63,7 +63,7 @@ module _ (processors : ℕ) where
   unfolding arrivals_after
   after-good earlier fields records arrival e = rw e refl
 
-last-push : (first : ℕ) (earlier : List Arrival) (arrival : Arrival) → fold (λ _ a. a.moment) first (earlier ++ arrival ∷ []) ≡ arrival.moment
+pub last-push : (first : ℕ) (earlier : List Arrival) (arrival : Arrival) → fold (λ _ a. a.moment) first (earlier ++ arrival ∷ []) ≡ arrival.moment
 last-push first [] arrival = refl
 last-push first (a ∷ earlier) arrival = last-push a.moment earlier arrival
 
