@@ -2,8 +2,8 @@
 use Rattle.{std.{proofs.{Common.{◌≡◌, ◌∙◌, ℕ, ◌+◌, ◌<◌, ◌≤◌, ◌^◌, ◌*◌, Bool, true, false, List, [], ◌∷◌, ◌++◌, append_assoc, length, refl, sym, ap, arith, Option, Some, None}, lemmas.{Bool.{and_parts, leb-true, ltb-true}, List.{append-nil}}}, specs.Prelude.{◌&&◌, if◌then◌else◌, nat_le, nat_lt, Result, Ok, Err}}, device_rows.specs.{Record.{is_numeral, numeral}, Row.{is_within}, Trace.{records_of}}}
 use Rattle.machine_model.specs.{Laws.{EachLives, Took}, Machine.{Arrives, Machine, opened_machine}}
 use Rattle.machine_words.specs.declared.settings.Settings.{Settings}
-use Rattle.machine_report.specs.{Answer.{IsReportOf, Takes}, Arrivals.{◌>>=◌, Three, arrival_of, arrivals_after, arrivals_of, is_title, last_moment, of_three, ranged, three_of}, Lives.{ReportsLives, packets_of}, declared.{arrival.Arrival.Arrival, fault.MachineFault.MachineFault}}
-use Rattle.machine_report.specs.declared.fault.MachineFault.TheVariants.{BadFields, BadNumber, Falls, OutOfRange}
+use Rattle.machine_report.specs.{Answer.{Takes}, Arrivals.{◌>>=◌, Three, arrival_of, arrivals_after, arrivals_of, is_title, last_moment, of_three, ranged, three_of}, Lives.{ReportsLives, packets_of}, declared.{arrival.Arrival.Arrival, fault.MachineFault.MachineFault}}
+use Rattle.machine_report.specs.declared.fault.MachineFault.TheVariants.{BadNumber, Falls, OutOfRange}
 use Rattle.machine_report.proofs.ReadingFacts.{last-push}
 
 -- small moments that don't fall from this one on
