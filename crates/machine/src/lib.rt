@@ -9,7 +9,11 @@
 
 pub use machine_model::{
     DeviceCounts, DeviceReport, Machine, ProcessorCounts, ProcessorReport, WaitCounts,
+    arrives_as_one, clocks_never_fall, delivers_in_order, each_lives, no_wait_is_less,
+    nothing_is_left, runs_as_one, tells_of_device, tells_of_use, uses_in_order, works_within,
 };
-pub use machine_report::{Arrival, Arrivals, MachineFault, fault_line, run_machine, status};
+pub use machine_report::{
+    Arrival, Arrivals, MachineFault, fault_line, reports_live, run_machine, status,
+};
 pub use machine_words::{Settings, parse_words};
 pub use replay_words::{WordFault, word_line, word_status};

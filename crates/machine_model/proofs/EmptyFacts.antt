@@ -1,13 +1,13 @@
 -- Where nothing is under way, nothing is left to do.
-use Rattle.std.proofs.{Common.{◌≡◌, ◌∙◌, ℕ, zero, suc, ◌+◌, ◌-◌, ◌*◌, ◌<◌, ◌≤◌, ◌^◌, Bool, true, false, Option, Some, None, List, [], ◌∷◌, ◌++◌, drop, length, length-append, length-drop, refl, sym, ap, subst, arith}, lemmas.Bool.{eqb-true, le-leb, lt-ltb}}
-use Rattle.{std.specs.Prelude.{◌==◌, ◌&&◌, ◌||◌, if◌then◌else◌, is_some, min, nat_le, nat_lt, not, position, slice_get}, std.specs.List.{position_or_len}, device_rows.specs.Places.{at, changed}, machine_words.specs.declared.settings.Settings.{Settings}}
-use Rattle.poll_runs.specs.{Turn.asked_for, declared.bench.{Next.TheVariants.{Gone, Repoll}, Once.Once}}
+use Rattle.std.proofs.{Common.{◌≡◌, ◌∙◌, ℕ, zero, suc, ◌+◌, ◌-◌, ◌<◌, ◌≤◌, ◌^◌, Bool, true, false, Option, Some, None, List, [], ◌∷◌, ◌++◌, drop, length, length-drop, refl, sym, ap, subst, arith}, lemmas.Bool.{eqb-true, le-leb, lt-ltb}}
+use Rattle.{std.specs.Prelude.{◌==◌, ◌&&◌, ◌||◌, if◌then◌else◌, min, nat_le, nat_lt, not, position, slice_get}, std.specs.List.{position_or_len}, device_rows.specs.Places.{at, changed}, machine_words.specs.declared.settings.Settings.{Settings}}
+use Rattle.poll_runs.specs.{Turn.asked_for, declared.bench.{Next.TheVariants.{Gone, Repoll}}}
 use Rattle.machine_model.specs.{Device.{DeviceView, after_packet, ended_interrupt, ended_poll, interrupted, opened, polled}, Devices.{Devices, batch_at, is_handed_at, mask_at, raises_at, with_device}, Waits.held}
 use Rattle.machine_model.specs.Device as device
 use Rattle.machine_model.specs.Fates.{NothingIsLeft, ring_in}
-use Rattle.machine_model.specs.Laws.{Event, InTurn, behind, end, packet}
-use Rattle.machine_model.specs.Processor.{ProcessorView, comes, delivers, ends_by, ends_current, ends_interrupt, ends_poll, ends_polls, ends_run, interrupts, is_busy, is_due, is_polling, polls, step, uses_from}
-use Rattle.machine_model.specs.Softirq.{RunView, SoftirqView, asked_in, begun, ended, filled, is_spent, left_of, next_from, next_in, next_of, pushed, told, told_in}
+use Rattle.machine_model.specs.Laws.{Event, behind, end, packet}
+use Rattle.machine_model.specs.Processor.{ProcessorView, comes, delivers, ends_by, ends_current, ends_interrupt, ends_poll, ends_polls, ends_run, interrupts, is_busy, is_polling, polls, step}
+use Rattle.machine_model.specs.Softirq.{RunView, SoftirqView, asked_in, begun, ended, filled, is_spent, left_of, next_from, next_in, next_of, pushed, told}
 use Rattle.machine_model.specs.declared.processor.Work.{Work}
 use Rattle.machine_model.specs.declared.processor.Work.TheVariants.{Interrupt, Nothing, Poll, Use}
 use Rattle.machine_model.proofs.FateFacts.{at-apart, at-here, at-kept, made_at, with-apart, with-here}
@@ -206,7 +206,7 @@ tend-raises s n m p t =
     let size : min 1 (length (ring_in (at n (changed (interrupted polling) m p.devices)))) ≡ min 1 (length (ring_in o)) = rw l.ring refl in
     let more : mask_at o ≤ mask_at (at n (changed (interrupted polling) m p.devices)) = omega (arith, l.mask) in
     let alone = lone-held polling (m == n) (min 1 (length (ring_in o))) (up_at o) (mask_at o) (up_at (at n (changed (interrupted polling) m p.devices)))
-        (mask_at (at n (changed (interrupted polling) m p.devices))) (one-most (length (ring_in o))) t.held l.up more l.some in
+    (mask_at (at n (changed (interrupted polling) m p.devices))) (one-most (length (ring_in o))) t.held l.up more l.some in
     record {
       masks = omega (arith, l.mask, same-handed polling m n p.devices, handed-more (m == n) handed, pushes, t.masks);
       never = λ lone. omega (arith, l.mask, none-handed (m == n) polling o (same ∙ lone), t.never lone);
@@ -308,7 +308,7 @@ cared-lone s n m p masks never held = record { masks = omega (arith, mask, masks
     by true here held = rw (at-here ended_interrupt m n two here) (omega (arith, lone-care (at n two)))
     by false apart held =
         let same : at n (changed ended_interrupt m two) ≡ at n p.devices = at-apart ended_interrupt m n two apart
-            ∙ (at-apart (device.delivered p.clock (batch_at 1 (at m p.devices))) m n one apart ∙ at-apart (device.taken 1) m n p.devices apart) in
+        ∙ (at-apart (device.delivered p.clock (batch_at 1 (at m p.devices))) m n one apart ∙ at-apart (device.taken 1) m n p.devices apart) in
         rw same (omega (arith, held))
 
 full-mask : (d : DeviceView) → mask_at (Some (ended_poll true d)) ≡ mask_at (Some d)
@@ -343,10 +343,10 @@ cared-poll s n m p asked c = by (length p.batch == p.settings.weight)
     size = rw ring refl
 
     by : (full : Bool) → Cared s n (record (delivers m p) {
-          devices = changed (ended_poll full) m one;
-          softirq = told (record { work = length p.batch; next = if full then Repoll else Gone }) p.softirq;
-          told = record (delivers m p).told { polls = held ((delivers m p).told.polls + 1); work = held ((delivers m p).told.work + length p.batch) };
-        })
+      devices = changed (ended_poll full) m one;
+      softirq = told (record { work = length p.batch; next = if full then Repoll else Gone }) p.softirq;
+      told = record (delivers m p).told { polls = held ((delivers m p).told.polls + 1); work = held ((delivers m p).told.work + length p.batch) };
+    })
     by true =
         let counts : stands n (told (record { work = length p.batch; next = Repoll }) p.softirq) + 0 ≡ stands n p.softirq
         = count-told n m true (length p.batch) p.softirq.list p.softirq.run p.softirq.began asked in
@@ -364,10 +364,10 @@ cared-poll s n m p asked c = by (length p.batch == p.settings.weight)
         split (m == n) refl counts
       where
         split : (b : Bool) → (m == n) ≡ b → stands n (told (record { work = length p.batch; next = Gone }) p.softirq) + (if b then 1 else 0) ≡ stands n p.softirq → Cared s n (record (delivers m p) {
-              devices = changed (ended_poll false) m one;
-              softirq = told (record { work = length p.batch; next = Gone }) p.softirq;
-              told = record (delivers m p).told { polls = held ((delivers m p).told.polls + 1); work = held ((delivers m p).told.work + length p.batch) };
-            })
+          devices = changed (ended_poll false) m one;
+          softirq = told (record { work = length p.batch; next = Gone }) p.softirq;
+          told = record (delivers m p).told { polls = held ((delivers m p).told.polls + 1); work = held ((delivers m p).told.work + length p.batch) };
+        })
         split true here counts =
             let now : at n (changed (ended_poll false) m one) ≡ map_at (ended_poll false) (at n one) = at-here (ended_poll false) m n one here in
             let care = short-care (at n one) in
@@ -468,11 +468,11 @@ tend-comes s moment m n p goes a =
     walk-comes (Tended s n) (Attended s n) (tend-walk s n) moment m p goes.asked
     (λ busy. record { masks = omega (arith, f.mask, a.masks); never = λ lone. f.mask ∙ a.never lone; held = f.held (alone_by s n p.work) a.held; still = λ nothing. absurd (cc (rw nothing at busy)) })
     (λ idle. record {
-        rests = record { settings = goes.rests.settings; batch = goes.rests.batch; run = goes.rests.run };
-        masks = omega (arith, f.mask, a.masks);
-        never = λ lone. f.mask ∙ a.never lone;
-        held = omega (arith, f.held 0 (omega (arith, a.held, idle-alone s n p.work idle)));
-      })
+      rests = record { settings = goes.rests.settings; batch = goes.rests.batch; run = goes.rests.run };
+      masks = omega (arith, f.mask, a.masks);
+      never = λ lone. f.mask ∙ a.never lone;
+      held = omega (arith, f.held 0 (omega (arith, a.held, idle-alone s n p.work idle)));
+    })
 
 -- ---- over a life
 

@@ -1,8 +1,8 @@
 -- What becomes of packets: each is delivered in its order.
-use Rattle.std.proofs.{Common.{◌≡◌, ◌∙◌, ℕ, zero, suc, ◌+◌, ◌-◌, ◌<◌, ◌≤◌, Bool, true, false, Option, Some, None, List, [], ◌∷◌, ◌++◌, append_assoc, length, length-append, take, drop, replicate, slice_set, refl, sym, ap, subst, arith}, lemmas.{Bool.{eq-eqb, eqb-false, eqb-true}, Grind.get_or-set_at, List.{append-nil, get_or-set_other, length-replicate, take-append-drop}}}
-use Rattle.{std.specs.Prelude.{◌==◌, ◌&&◌, ◌||◌, if◌then◌else◌, min, nat_lt, not}, device_rows.{specs.Places.{added_at, at, changed, changed_from}, proofs.PlaceFacts.below-some}}
+use Rattle.std.proofs.{Common.{◌≡◌, ◌∙◌, ℕ, zero, suc, ◌+◌, ◌-◌, ◌<◌, Bool, true, false, Option, Some, None, List, [], ◌∷◌, ◌++◌, append_assoc, length, length-append, replicate, refl, sym, ap, arith}, lemmas.{Bool.{eqb-false, eqb-true}, Grind.get_or-set_at, List.{append-nil, get_or-set_other, length-replicate, take-append-drop}}}
+use Rattle.{std.specs.Prelude.{◌==◌, ◌&&◌, ◌||◌, if◌then◌else◌, min, nat_lt, not}, device_rows.{specs.Places.{added_at, at, changed, changed_from}}}
 use Rattle.machine_words.specs.declared.settings.Settings.{Settings}
-use Rattle.machine_model.specs.{Device.{DeviceView, after_packet, batch_of, ended_interrupt, ended_poll, interrupted, opened, polled}, Devices.{Devices, batch_at, with_device, with_place}, Kept.is_poll, Waits.held}
+use Rattle.machine_model.specs.{Device.{DeviceView, after_packet, batch_of, ended_interrupt, ended_poll, interrupted, opened, polled}, Devices.{Devices, batch_at, with_device, with_place}, Waits.held}
 use Rattle.machine_model.specs.Fates as fate
 use Rattle.machine_model.specs.Fates.{DeliversInOrder, came, finds_room, given, given_from, gives_by, polled_by, ring_in, taken_by}
 use Rattle.machine_model.specs.Device as device
@@ -11,7 +11,7 @@ use Rattle.machine_model.specs.Processor.{ProcessorView, comes, delivers, ends_b
 use Rattle.machine_model.specs.Softirq.{asked_in, next_of}
 use Rattle.machine_model.specs.declared.processor.Work.{Work}
 use Rattle.machine_model.specs.declared.processor.Work.TheVariants.{Interrupt, Nothing, Poll, Use}
-use Rattle.machine_model.proofs.{PlacesFacts.{at-changed, map_at}, WalkFacts.{Free, Walk, arrived, nexted, walk, walk-comes}, WorkFacts.{Goes, free-ended, goes-on}}
+use Rattle.machine_model.proofs.{PlacesFacts.{at-changed, map_at}, WalkFacts.{Walk, arrived, nexted, walk, walk-comes}, WorkFacts.{Goes, free-ended, goes-on}}
 
 -- ---- what stands at a number
 

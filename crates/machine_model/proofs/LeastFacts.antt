@@ -1,11 +1,11 @@
 -- No wait is less than what its work takes.
-use Rattle.std.proofs.{Common.{◌≡◌, ◌∙◌, ℕ, zero, suc, ◌+◌, ◌-◌, ◌*◌, ◌<◌, ◌≤◌, ◌^◌, Bool, true, false, Option, Some, None, List, [], ◌∷◌, ◌++◌, length, length-append, map, take, drop, refl, sym, ap, subst, arith}, lemmas.{Bool.{eq-eqb, eqb-false, eqb-true, leb-false}, List.{append-nil, take-append-drop}}}
-use Rattle.{circular_buffer.specs.Buffer.{Buffer}, std.specs.{Prelude.{◌==◌, ◌&&◌, ◌||◌, if◌then◌else◌, min, nat_le, nat_lt, not}, List.{AllByRecursion}}, device_rows.specs.Places.{at, changed}, machine_words.specs.declared.settings.Settings.{Settings}}
-use Rattle.machine_model.specs.{Device.{DeviceView, after_packet, ended_interrupt, ended_poll, interrupted, opened, polled}, Devices.{Devices, batch_at, raises_at, with_device}, Softirq.{RunView, asked_in, next_of}, Waits.held}
+use Rattle.std.proofs.{Common.{◌≡◌, ◌∙◌, ℕ, zero, suc, ◌+◌, ◌-◌, ◌*◌, ◌<◌, ◌≤◌, ◌^◌, Bool, true, false, Option, Some, None, List, [], ◌∷◌, ◌++◌, length, length-append, map, take, drop, refl, sym, ap, subst, arith}, lemmas.{Bool.{eq-eqb, eqb-true, leb-false}, List.{take-append-drop}}}
+use Rattle.{circular_buffer.specs.Buffer.{Buffer}, std.specs.{Prelude.{◌==◌, ◌&&◌, ◌||◌, if◌then◌else◌, min, nat_lt, not}, List.{AllByRecursion}}, device_rows.specs.Places.{at, changed}, machine_words.specs.declared.settings.Settings.{Settings}}
+use Rattle.machine_model.specs.{Device.{DeviceView, after_packet, ended_interrupt, ended_poll, interrupted, opened, polled}, Devices.{Devices, batch_at, raises_at, with_device}, Softirq.{RunView, asked_in}, Waits.held}
 use Rattle.machine_model.specs.Device as device
 use Rattle.machine_model.specs.Fates.{NoWaitIsLess, given, given_from, gives_by, kept_from, least_time, polled_by, ring_in, room_for, use_waits, using, waits}
 use Rattle.machine_model.specs.Laws.{Event, InTurn, behind, end, packet}
-use Rattle.machine_model.specs.Processor.{ProcessorView, comes, delivers, ends_by, ends_current, ends_interrupt, ends_poll, ends_polls, ends_run, interrupt_time, interrupts, is_busy, is_due, is_polling, poll_time, polls, step, uses_from}
+use Rattle.machine_model.specs.Processor.{ProcessorView, comes, delivers, ends_by, ends_current, ends_interrupt, ends_polls, ends_run, interrupt_time, interrupts, is_busy, is_due, is_polling, poll_time, polls, step, uses_from}
 use Rattle.machine_model.specs.declared.processor.Work.{Work}
 use Rattle.machine_model.specs.declared.processor.Work.TheVariants.{Interrupt, Nothing, Poll, Use}
 use Rattle.machine_model.proofs.FateFacts.{at-apart, at-here, at-kept, capacities, capacity_in, comes-ring, made_at, poll-ring, with-apart, with-here}
@@ -501,8 +501,9 @@ no-wait-is-less s until (end ∷ earlier) fits turns clock =
     let h = due-behind s until earlier fits turns.1 in
     let d = due-step s p (goes-on s earlier) h due.0 (u.ends due.0) (omega (arith, due.1, fits)) in
     let small : p.ends < 2 ^ 64 - 1 = omega (arith, d.clock, clock) in
-    let before = no-wait-is-less s until earlier fits turns.1 (omega (arith, risen.0, clock)) in
-    (λ n. both (λ wait. least_time s ≤ wait) (waits n s earlier) _ (before.0 n)
-        (mapped (Waited s 0 p.ends) (λ wait. least_time s ≤ wait) (λ at. p.ends - at) (given n p) (λ at done. omega (arith, wait-least s 0 p.ends small at done)) (h.given n)),
-    both (λ wait. least_time s + s.use_time ≤ wait) (use_waits s earlier) _ before.1
-        (mapped (Waited s s.use_time p.ends) (λ wait. least_time s + s.use_time ≤ wait) (λ at. p.ends - at) (using p.work) (λ at done. wait-least s s.use_time p.ends small at done) h.using))
+    let before = no-wait-is-less s until earlier fits turns.1 (omega (arith, risen.0, clock)) in (
+      λ n. both (λ wait. least_time s ≤ wait) (waits n s earlier) _ (before.0 n)
+          (mapped (Waited s 0 p.ends) (λ wait. least_time s ≤ wait) (λ at. p.ends - at) (given n p) (λ at done. omega (arith, wait-least s 0 p.ends small at done)) (h.given n)),
+      both (λ wait. least_time s + s.use_time ≤ wait) (use_waits s earlier) _ before.1
+          (mapped (Waited s s.use_time p.ends) (λ wait. least_time s + s.use_time ≤ wait) (λ at. p.ends - at) (using p.work) (λ at done. wait-least s s.use_time p.ends small at done) h.using),
+    )

@@ -1,6 +1,6 @@
 -- Each processor of a machine lived.
-use Rattle.std.proofs.{Common.{◌≡◌, ◌∙◌, ℕ, zero, suc, ◌+◌, ◌-◌, ◌*◌, ◌/◌, ◌%◌, ◌<◌, ◌≤◌, ◌^◌, Bool, true, false, Some, List, [], ◌∷◌, ◌⊎◌, inl, inr, length, length-set, replicate, slice_set, refl, sym, ap, subst, arith}, lemmas.{Bool.{and_parts, eq-eqb, eqb-false, eqb-true, le-leb, leb-true}, List.length-replicate, Option.slice_get_within}}
-use Rattle.{std.specs.Prelude.{◌&&◌, ◌==◌, if◌then◌else◌, nat_le, slice_get}, circular_buffer.proofs.Places.{slice_get-set_other, slice_get-set_same, slice_get-some}, machine_words.specs.declared.settings.Settings.{Settings}}
+use Rattle.std.proofs.{Common.{◌≡◌, ◌∙◌, ℕ, zero, suc, ◌-◌, ◌/◌, ◌%◌, ◌<◌, ◌≤◌, ◌^◌, Bool, true, false, Some, List, [], ◌∷◌, length, length-set, replicate, refl, sym, ap, arith}, lemmas.{Bool.{and_parts, eq-eqb, eqb-false, eqb-true, le-leb, leb-true}, List.length-replicate, Option.slice_get_within}}
+use Rattle.{std.specs.Prelude.{◌==◌, nat_le, slice_get}, circular_buffer.proofs.Places.{slice_get-set_other, slice_get-set_same, slice_get-some}, machine_words.specs.declared.settings.Settings.{Settings}}
 use Rattle.machine_model.specs.{Laws.{EachLives, Event, InTurn, Lived, Took, behind, end, own, packet, packets_in}, Machine.{Arrives, Finishes, Machine, opened_machine}}
 use Rattle.machine_model.specs.Processor.{ProcessorView, RunsTo, after, comes, is_busy, is_due, opened_processor, step}
 use Rattle.machine_model.proofs.MachineFacts.{same-some}

@@ -1,16 +1,16 @@
 -- What is told of a device is told of its packets.
-use Rattle.std.proofs.{Common.{◌≡◌, ◌∙◌, ℕ, ◌+◌, ◌-◌, ◌≤◌, Bool, true, false, Option, Some, None, List, [], ◌∷◌, ◌++◌, length, length-append, map, refl, sym, ap, subst, arith}, lemmas.{Bool.{eqb-true}, List.{append-nil}}}
+use Rattle.std.proofs.{Common.{◌≡◌, ◌∙◌, ℕ, ◌+◌, ◌-◌, Bool, true, false, Option, Some, None, List, [], ◌∷◌, ◌++◌, length, length-append, map, refl, sym, ap, subst, arith}, lemmas.{Bool.{eqb-true}}}
 use Rattle.{std.specs.Prelude.{◌==◌, ◌&&◌, ◌||◌, if◌then◌else◌, nat_lt, not}, device_rows.specs.Places.{at, changed}, machine_words.specs.declared.settings.Settings.{Settings}}
-use Rattle.machine_model.specs.{Device.{DeviceView, after_packet, ended_interrupt, ended_poll, interrupted, polled}, Devices.{Devices, batch_at, with_device}, Softirq.{asked_in, next_of}, Waits.{WaitsView, counted, counted_all, held, no_waits}}
+use Rattle.machine_model.specs.{Device.{DeviceView, after_packet, ended_interrupt, ended_poll, interrupted, polled}, Devices.{Devices, batch_at, with_device}, Softirq.{asked_in}, Waits.{WaitsView, counted, counted_all, held, no_waits}}
 use Rattle.machine_model.specs.Device as device
 use Rattle.machine_model.specs.Fates as fate
 use Rattle.machine_model.specs.Fates.{TellsOfDevice, Tells, came, counting, counts_in, finds_room, given, given_from, gives_by, polled_by, ring_in, taken_by, waits, waits_in}
 use Rattle.machine_model.specs.Laws.{Event, behind, end, packet}
-use Rattle.machine_model.specs.Processor.{ProcessorView, comes, delivers, ends_by, ends_current, ends_interrupt, ends_poll, ends_polls, interrupts, is_busy, is_polling, polls, step}
+use Rattle.machine_model.specs.Processor.{ProcessorView, comes, delivers, ends_by, ends_current, ends_interrupt, ends_poll, ends_polls, interrupts, is_polling, polls, step}
 use Rattle.machine_model.specs.declared.processor.Work.{Work}
 use Rattle.machine_model.specs.declared.processor.Work.TheVariants.{Interrupt, Nothing, Poll, Use}
 use Rattle.machine_model.proofs.FateFacts.{Blind, Seen, at-apart, at-here, at-kept, capacities, capacity_in, made-ring, made_at, seen-walk, with-apart, with-here}
-use Rattle.machine_model.proofs.{PlacesFacts.{map_at}, WalkFacts.{Walk, arrived, nexted, walk, walk-comes}, WorkFacts.{Goes, free-ended, goes-on}}
+use Rattle.machine_model.proofs.{PlacesFacts.{map_at}, WalkFacts.{Walk, arrived, nexted, walk, walk-comes}, WorkFacts.{free-ended, goes-on}}
 
 -- what is counted of packets
 pub record Tally : Type 0 where
@@ -269,7 +269,7 @@ tells s n (packet moment m ∷ earlier) =
     let t = tells s n earlier in
     let c = arrived-counts s moment m n (length (came true n s earlier)) (length (came false n s earlier)) p goes.rests.settings (capacities s n earlier) t.arrived t.dropped in
     let now = walk-comes (Seen tally n _) (Seen tally n _) (seen-walk tally tally-blind n (tally (at n (arrived moment m p).devices))) moment m p goes.asked
-        (λ busy. record { seen = refl }) (λ idle. record { seen = refl }) in
+    (λ busy. record { seen = refl }) (λ idle. record { seen = refl }) in
     let here : tally (at n (comes moment m p).devices) ≡ tally (at n (arrived moment m p).devices) = now.seen in
     let first-sum = length-append (came true n s earlier) (if m == n && finds_room n p then moment ∷ [] else []) in
     let other-sum = length-append (came false n s earlier) (if m == n && not (finds_room n p) then moment ∷ [] else []) in

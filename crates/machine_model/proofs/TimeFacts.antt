@@ -1,8 +1,8 @@
 -- Clocks never fall.
-use Rattle.std.proofs.{Common.{◌≡◌, ◌∙◌, ℕ, ◌+◌, ◌*◌, ◌<◌, ◌≤◌, ◌^◌, Bool, true, false, Option, Some, None, List, [], ◌∷◌, length, refl, sym, arith}, lemmas.Bool.{and_parts, leb-true}}
+use Rattle.std.proofs.{Common.{◌≡◌, ℕ, ◌+◌, ◌<◌, ◌≤◌, ◌^◌, Bool, true, false, Option, Some, None, List, [], ◌∷◌, refl, arith}, lemmas.Bool.{and_parts, leb-true}}
 use Rattle.{std.specs.Prelude.{◌&&◌, if◌then◌else◌, nat_le}, machine_words.specs.declared.settings.Settings.{Settings}}
 use Rattle.machine_model.specs.{Laws.{ClocksNeverFall, Event, InTurn, behind, end, packet}, Waits.held}
-use Rattle.machine_model.specs.Processor.{ProcessorView, comes, delivers, ends_by, ends_current, ends_interrupt, ends_poll, ends_polls, ends_run, interrupts, is_busy, is_polling, polls, step, uses_from}
+use Rattle.machine_model.specs.Processor.{ProcessorView, comes, delivers, ends_by, ends_current, ends_interrupt, ends_poll, ends_polls, ends_run, interrupts, is_busy, is_polling, polls, step}
 use Rattle.machine_model.specs.Softirq.{asked_in}
 use Rattle.machine_model.specs.declared.processor.Work.{Work}
 use Rattle.machine_model.specs.declared.processor.Work.TheVariants.{Interrupt, Nothing, Poll, Use}

@@ -1,9 +1,9 @@
 -- What is taken up, case by case: a property that each case keeps.
-use Rattle.std.proofs.{Common.{◌≡◌, ◌∙◌, ◌-◌, ◌<◌, ℕ, zero, suc, arith, Bool, true, false, Option, Some, None, List, [], ◌∷◌, length, refl, sym}, lemmas.{Bool.lt-leb, List.Quantifiers.position-Some}}
+use Rattle.std.proofs.{Common.{◌≡◌, ◌-◌, ◌<◌, ℕ, zero, suc, arith, Bool, true, false, Option, Some, None, List, [], ◌∷◌, length, refl}, lemmas.{Bool.lt-leb, List.Quantifiers.position-Some}}
 use Rattle.{std.specs.Prelude.{◌==◌, ◌&&◌, if◌then◌else◌, is_some, nat_le, nat_lt, not, position}, device_rows.{specs.Places.{at, changed}, proofs.PlaceFacts.none-of}}
 use Rattle.machine_words.specs.declared.settings.Settings.{Settings}
 use Rattle.machine_model.specs.{Device.after_packet, Devices.{raises_at, with_device}, Kept.is_poll, Softirq.{SoftirqView, asked_in, begun, ended, next_of}}
-use Rattle.machine_model.specs.Processor.{ProcessorView, begins, comes, ends_current, ends_run, goes_on, interrupts, is_busy, is_polling, polls, polls_or, rests, takes_up, takes_up_by, uses, uses_from}
+use Rattle.machine_model.specs.Processor.{ProcessorView, begins, comes, ends_run, goes_on, interrupts, is_busy, is_polling, polls, polls_or, rests, takes_up, takes_up_by, uses, uses_from}
 use Rattle.machine_model.specs.declared.processor.Work.{Work}
 use Rattle.machine_model.specs.declared.processor.Work.TheVariants.{Interrupt, Nothing, Poll, Use}
 use Rattle.machine_model.proofs.KeptFacts.{run-ended}
@@ -113,7 +113,7 @@ walk-rests P Q w p free held none quiet =
     (λ yes. walk-uses P Q w p.socket.items p refl free held (λ empty. absurd (empty-socket (nat_lt 0 p.slice) p.socket.items yes empty)))
     (λ no. either Q (is_polling p.settings && not (length p.softirq.list == 0)) (begins over) (uses over)
     (λ yes. walk-begins P Q w over new over-held none (both-first (is_polling p.settings) (not (length p.softirq.list == 0)) yes)
-        (both-second (is_polling p.settings) (not (length p.softirq.list == 0)) yes))
+    (both-second (is_polling p.settings) (not (length p.softirq.list == 0)) yes))
     (λ none-listed. walk-uses P Q w p.socket.items over refl new over-held (λ empty. record { quiet = quiet; idle = none; list = none-listed; socket = empty })))
 
 walk-over : (P Q : ProcessorView → Type 0) → Walk P Q → (late : Bool) (p : ProcessorView) → Free p → P p → position raises_at p.devices ≡ None → Q (rests (ends_run late p))

@@ -1,13 +1,13 @@
 -- A run's work is below budget and weight together, whatever happens.
-use Rattle.std.proofs.{Common.{◌≡◌, ◌∙◌, ℕ, ◌+◌, ◌<◌, ◌≤◌, Bool, true, false, Option, Some, None, List, [], ◌∷◌, ◌++◌, length, length-take, take, drop, refl, sym, ap, arith}, lemmas.Bool.{eqb-false, leb-false}}
-use Rattle.{std.specs.Prelude.{◌==◌, ◌||◌, IfSome, if◌then◌else◌, is_some, min, nat_le, not, slice_get}, poll_runs.specs.declared.bench.{Next.TheVariants.{Gone, Repoll}, Once.Once}}
+use Rattle.std.proofs.{Common.{◌≡◌, ℕ, ◌+◌, ◌<◌, ◌≤◌, Bool, true, false, Option, Some, None, List, [], ◌∷◌, length, length-take, refl, sym, arith}, lemmas.Bool.{eqb-false, leb-false}}
+use Rattle.{std.specs.Prelude.{◌==◌, ◌||◌, IfSome, if◌then◌else◌, is_some, min, nat_le, not}, poll_runs.specs.declared.bench.{Next.TheVariants.{Gone, Repoll}, Once.Once}}
 use Rattle.machine_words.specs.declared.settings.Settings.{Settings}
-use Rattle.machine_model.specs.{Device.DeviceView, Devices.{batch_at, is_handed_at}, Kept.is_poll, Laws.{Event, WorksWithin, behind, end, packet}, Softirq.{RunView, SoftirqView, asked_in, begun, ended, filled, is_spent, next_from, next_in, next_of, pushed, told, told_in, told_run}}
-use Rattle.machine_model.specs.Processor.{ProcessorView, comes, delivers, ends_by, ends_current, ends_interrupt, ends_poll, ends_polls, ends_run, interrupts, is_busy, is_polling, opened_processor, polls, step, takes_up, uses_from}
+use Rattle.machine_model.specs.{Device.DeviceView, Devices.{batch_at, is_handed_at}, Kept.is_poll, Laws.{Event, WorksWithin, behind, end, packet}, Softirq.{RunView, SoftirqView, asked_in, ended, filled, is_spent, next_from, next_in, next_of, pushed, told, told_in}}
+use Rattle.machine_model.specs.Processor.{ProcessorView, comes, delivers, ends_by, ends_current, ends_interrupt, ends_poll, ends_polls, ends_run, interrupts, is_polling, polls, step}
 use Rattle.device_rows.specs.Places.{at}
 use Rattle.machine_model.specs.declared.processor.Work.{Work}
 use Rattle.machine_model.specs.declared.processor.Work.TheVariants.{Interrupt, Nothing, Poll, Use}
-use Rattle.machine_model.proofs.{EndFacts.asked-ends, KeptFacts.run-ended, WalkFacts.{Free, Walk, walk, walk-comes}}
+use Rattle.machine_model.proofs.{EndFacts.asked-ends, WalkFacts.{Free, Walk, walk, walk-comes}}
 
 -- what is true of a run of these settings
 pub record Runs (s : Settings) (r : RunView) : Type 0 where

@@ -14,8 +14,8 @@ mod waits;
 
 pub use device::{DeviceCounts, DeviceReport};
 pub use laws::{
-    arrives_as_one, clocks_never_fall, delivers_in_order, each_lives, no_wait_is_less, nothing_is_left, runs_as_one, tells_of_device, tells_of_use,
-    uses_in_order, works_within,
+    arrives_as_one, clocks_never_fall, delivers_in_order, each_lives, no_wait_is_less,
+    nothing_is_left, runs_as_one, tells_of_device, tells_of_use, uses_in_order, works_within,
 };
 pub use machine::Machine;
 pub use processor::{ProcessorCounts, ProcessorReport};

@@ -1,3 +1,4 @@
 pub mod ReadingFacts
 pub mod ReportFacts
 pub mod TakingFacts
+pub mod LivesFacts

@@ -1,7 +1,7 @@
 -- How the arrivals of the records that are left follow from the next record.
-use Rattle.{std.{proofs.Common.{◌≡◌, ◌∙◌, ℕ, suc, ◌+◌, ◌-◌, ◌<◌, ◌≤◌, true, false, List, [], ◌∷◌, ◌++◌, length, length-append, refl, sym, ap, arith, Some, None, Option}, specs.Prelude.{Result, Ok, Err, fold}}, csv.specs.Machine.{Read, ends_at_end, next_record}}
+use Rattle.{std.{proofs.Common.{◌≡◌, ◌∙◌, ℕ, ◌+◌, ◌-◌, ◌<◌, ◌≤◌, true, false, List, [], ◌∷◌, ◌++◌, length, length-append, refl, sym, ap, arith, Some, None, Option}, specs.Prelude.{Result, Ok, Err, fold}}, csv.specs.Machine.{Read, ends_at_end, next_record}}
 use Rattle.{csv.specs.{Reading.{default_config, reader_state, records_from, records_next, strip_bom}, declared.{reader.Reader.Reader, parser.State.State}}, device_rows.{specs.{Source.{StandsAt, TakesNext}, Trace.records_of}, proofs.{RecordsFacts.{next-end, next-short, records-all}, RowsFacts.{records-next, records-none}}}}
-use Rattle.machine_report.specs.{Arrivals.{arrival_of, arrivals_after, arrivals_of, is_title, last_moment, of_three, three_of}, Reading.{GivesNext, HasGiven, records_in}, declared.{arrival.Arrival.Arrival, arrivals.Arrivals.Arrivals, fault.MachineFault.MachineFault}}
+use Rattle.machine_report.specs.{Arrivals.{arrival_of, arrivals_after, arrivals_of, is_title, of_three, three_of}, Reading.{HasGiven, records_in}, declared.{arrival.Arrival.Arrival, arrivals.Arrivals.Arrivals, fault.MachineFault.MachineFault}}
 
 -- one record, and then those that the reader has left
 more-in : {R : Type 0} (remaining : R → Option (List ℕ)) (reader after : Reader R) (fields : List (List ℕ)) (left : List ℕ) → ends_at_end (reader_state reader) ≡ false
@@ -63,7 +63,7 @@ module _ (processors : ℕ) where
   unfolding arrivals_after
   after-good earlier fields records arrival e = rw e refl
 
-last-push : (first : ℕ) (earlier : List Arrival) (arrival : Arrival) → fold (λ _ a. a.moment) first (earlier ++ arrival ∷ []) ≡ arrival.moment
+pub last-push : (first : ℕ) (earlier : List Arrival) (arrival : Arrival) → fold (λ _ a. a.moment) first (earlier ++ arrival ∷ []) ≡ arrival.moment
 last-push first [] arrival = refl
 last-push first (a ∷ earlier) arrival = last-push a.moment earlier arrival
 

@@ -1,5 +1,5 @@
 -- One device and one processor more.
-use Rattle.{std.proofs.Common.{◌≡◌, ◌∙◌, ℕ, suc, ◌+◌, [], ◌++◌, Option, List, refl, add-one, ap, append_assoc, append-nil, sym}, machine_model.specs.declared.{device.DeviceReport.DeviceReport, processor.ProcessorReport.ProcessorReport}, machine_report.specs.declared.report.Totals.Totals}
+use Rattle.{std.proofs.Common.{◌≡◌, ◌∙◌, ℕ, ◌+◌, [], ◌++◌, Option, List, refl, add-one, ap, append_assoc, append-nil, sym}, machine_model.specs.declared.{device.DeviceReport.DeviceReport, processor.ProcessorReport.ProcessorReport}, machine_report.specs.declared.report.Totals.Totals}
 use Rattle.machine_report.specs.Report.{device_lines, lines_of_devices, lines_of_processors, none_counted, processor_lines, sums_of_devices, sums_of_processors, with_device, with_processor}
 
 pub more-devices : (device : ℕ → Option DeviceReport) (n : ℕ) → lines_of_devices device (n + 1) ≡ lines_of_devices device n ++ device_lines (n + 1) (device (n + 1))

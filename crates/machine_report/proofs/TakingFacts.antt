@@ -1,5 +1,5 @@
 -- The machine takes one arrival more.
-use Rattle.{std.proofs.Common.{◌≡◌, List, [], ◌∷◌, ◌++◌, refl}, machine_model.specs.Machine.{Arrives, Machine}, machine_report.specs.{Answer.Takes, declared.arrival.Arrival.Arrival}}
+use Rattle.{std.proofs.Common.{List, [], ◌∷◌, ◌++◌, refl}, machine_model.specs.Machine.{Arrives, Machine}, machine_report.specs.{Answer.Takes, declared.arrival.Arrival.Arrival}}
 
 pub takes-push : (earlier : List Arrival) (arrival : Arrival) (before middle after : Machine) → Takes earlier before middle
     → Arrives arrival.moment arrival.device middle after → Takes (earlier ++ arrival ∷ []) before after

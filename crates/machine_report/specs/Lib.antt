@@ -3,3 +3,4 @@ pub mod Arrivals
 pub mod Fault
 pub mod Reading
 pub mod Report
+pub mod Lives

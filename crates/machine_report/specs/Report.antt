@@ -1,9 +1,10 @@
 -- The report's text, word by word. See docs/FORMATS.md, "The machine's report".
-use Rattle.std.specs.Prelude.{ℕ, zero, suc, ◌+◌, ◌-◌, ◌*◌, ◌^◌, min, List, [], ◌∷◌, ◌++◌, Option, Some, None, codes, decimal, option_map, slice_get}
+use Rattle.std.specs.Prelude.{ℕ, zero, suc, ◌+◌, ◌-◌, ◌*◌, List, [], ◌∷◌, ◌++◌, Option, Some, None, codes, decimal, option_map, slice_get}
 use Rattle.machine_model.specs.declared.waits.WaitCounts.{WaitCounts}
 use Rattle.machine_model.specs.declared.device.DeviceReport.{DeviceReport}
 use Rattle.machine_model.specs.declared.processor.ProcessorReport.{ProcessorReport}
 use Rattle.machine_model.specs.Machine.{Machine, device_report, processor_report}
+use Rattle.machine_model.specs.Waits.{held}
 use Rattle.machine_report.specs.declared.report.Totals.{Totals}
 use Rattle.replay_text.specs.Lines.{ended, words}
 
@@ -46,10 +47,6 @@ processor_lines number None = []
 processor_lines number (Some p) = ended (processor_line number p) ++ ended (time_line number p)
 
 -- ---- the total
-
--- a sum, which stays at the greatest number of 64 binary digits
-abbrev pub held : ℕ → ℕ
-held sum = min sum (2 ^ 64 - 1)
 
 abbrev pub none_counted : Totals
 none_counted = record { devices = 0; arrived = 0; dropped = 0; polled = 0; refused = 0; used = 0 }

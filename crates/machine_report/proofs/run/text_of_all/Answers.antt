@@ -1,4 +1,4 @@
-use Rattle.{std.proofs.{Common.{sym}, lemmas.Result.err_from_is_err_and}}
+use Rattle.{std.proofs.{lemmas.Result.err_from_is_err_and}}
 use Rattle.machine_report.proofs.run.text_of_all.Goals as goal
 
 pub returns-in_err-take_all-clause-fault : goal.returns-in_err-take_all-clause-fault
