@@ -121,7 +121,7 @@ echo 'it tells of itself what the header says' > "$scratch/told"
 check 'told.c compiles' compile gcc "$top/tests/c/told.c" "$scratch/tells" -O2
 check 'what the library tells of itself' compared "$scratch/told" "$scratch/tells"
 
-echo '9 corners, each answered as it has to be' > "$scratch/cornered"
+echo '10 corners, each answered as it has to be' > "$scratch/cornered"
 check 'corners.c compiles' compile gcc "$top/tests/c/corners.c" "$scratch/corners" -O2 "$wraps"
 check 'answers at corners' compared "$scratch/cornered" "$scratch/corners"
 
@@ -245,10 +245,12 @@ sanitized 'addresses, leaks and undefined behaviour' -fsanitize=address,undefine
 sanitized 'threads' -fsanitize=thread
 
 if command -v valgrind > /dev/null; then
-    for name in threads threaded; do
-        check 'compiles for valgrind' compile gcc "$examples/$name.c" "$scratch/$name" -O1 -g
-        check "valgrind: $name" compared "$examples/$name.stdout" \
-            valgrind -q --fair-sched=yes --leak-check=full --show-leak-kinds=all --error-exitcode=9 "$scratch/$name"
+    for source in "$examples"/*.c "$examples"/*.cpp; do
+        name=$(basename "$source")
+        [ "${name##*.}" = c ] && compiler=gcc || compiler=g++
+        check "$name compiles for valgrind" compile "$compiler" "$source" "$scratch/watched" -O1 -g
+        check "valgrind: $name" compared "$examples/${name%.*}.stdout" \
+            valgrind -q --fair-sched=yes --leak-check=full --show-leak-kinds=all --error-exitcode=9 "$scratch/watched"
     done
     check 'compiles for valgrind' compile gcc "$top/tests/c/random.c" "$scratch/random" -O1 -g "$wraps"
     for kind in "${kinds[@]}"; do

@@ -69,6 +69,14 @@ static void bytes_of_an_instance(void) {
     }
 }
 
+/* Bounds that are refused give a limit of 0, which goes on as one. */
+static void a_limit_out_of_bounds(void) {
+    struct fq_dql dql;
+    want(fq_dql_init(&dql, 5, 4, 0, 0) == FQ_BAD_BOUNDS && fq_dql_limit(&dql) == 0 && fq_dql_avail(&dql) == 0, "min above max");
+    want(fq_dql_queued(&dql, 1) == FQ_OK && fq_dql_avail(&dql) == -1 && fq_dql_completed(&dql, 1, 9) == FQ_OK && fq_dql_limit(&dql) == 0, "it goes on");
+    want(fq_dql_init(&dql, 0, 1879048193, 0, 0) == FQ_BAD_BOUNDS && fq_dql_limit(&dql) == 0, "max above the greatest");
+}
+
 /* A polled instance goes to the list again, and not to its thread. */
 static void a_polled_instance_is_handed(void) {
     struct fq_napi napi = fq_napi_new(7);
@@ -178,7 +186,7 @@ static void buffers_in_turn(void) {
 static const struct {
     const char *name;
     void (*call)(void);
-} cases[] = {CASE(a_full_poll_of_a_thread), CASE(a_full_poll_of_a_busy_poller), CASE(bytes_of_an_instance), CASE(a_polled_instance_is_handed), CASE(a_list_of_64),
+} cases[] = {CASE(a_full_poll_of_a_thread), CASE(a_full_poll_of_a_busy_poller), CASE(bytes_of_an_instance), CASE(a_limit_out_of_bounds), CASE(a_polled_instance_is_handed), CASE(a_list_of_64),
     CASE(weights_of_devices), CASE(a_split_of_what_is_no_ring), CASE(a_ring_whose_instance_is_refused), CASE(buffers_in_turn)};
 
 int main(int count, char **words) {

@@ -10,12 +10,14 @@ using namespace fintaqush;
 
 static long blocks;   // of the library, on the heap
 static bool refused;  // C++ has no memory
+static bool is_out;   // the library has none
 
 extern "C" {
 void *__real_malloc(std::size_t size);
 void *__real_realloc(void *old, std::size_t size);
 void __real_free(void *old);
 void *__wrap_malloc(std::size_t size) {
+    if (is_out) return nullptr;
     blocks++;
     return __real_malloc(size);
 }
@@ -87,6 +89,9 @@ static void rings() {
     want(ring && ring->put(1, 10) && ring->put_all(burst, 3) == 3 && !ring->put(5, 50), "a ring of four");
     want(ring->poll(out, Weight::of<1>()) == 1 && out[0].number == 1 && ring->counts().bytes == 10, "its first packet");
     want(ring->shown().put == 4 && ring->shown().places == 4, "what it shows");
+    is_out = true;
+    want(!std::move(*ring).split() && ring->shown().put == 4, "a split without memory leaves the ring");
+    is_out = false;
     auto ends = std::move(*ring).split();
     want(ends && ends->first.put(5, 50) && ends->second.poll(out) == 4 && out[3].number == 5, "its ends");
     want(ends->second.counts().polls == 2 && ends->second.counts().packets == 5, "its counts");
