@@ -247,7 +247,7 @@ impl PollingRun {
             → IsGoing L.entries L.moves L.is_all start polls list.old self.old
             → IsOver L.entries L.moves L.is_all start polls self.old
             → IsRun L.entries L.moves L.is_all self.old.budget self.old.window start polls list.new
-                result }
+            result }
         ensures early { (start : _) (polls : List Poll)
             → IsGoing L.entries L.moves L.is_all start polls list.old self.old
             → (result.polls ≡ length polls) × (result.work ≡ work_of polls) }
