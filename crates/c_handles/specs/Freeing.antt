@@ -6,6 +6,7 @@ use Rattle.c_handles.specs.declared.mode.Mode.{Mode}
 use Rattle.c_handles.specs.declared.mode.Mode.TheVariants as mode
 use Rattle.c_handles.specs.declared.body.Body.{Body}
 use Rattle.c_handles.specs.declared.body.Body.TheVariants as body
+use Rattle.c_handles.specs.Runs.{run_of}
 use Rattle.c_handles.specs.Status.{OK, NOT_ALLOWED, BAD_HANDLE, IN_USE}
 
 abbrev pub rests : Hold → Bool
@@ -25,7 +26,7 @@ is_off mode.Gone = false
 abbrev pub is_freeable : Body → Bool
 is_freeable (body.Seat s) = rests s.hold
 is_freeable (body.Controller c) = is_off c.mode
-is_freeable (body.List l) = not (is_some l.value.run)
+is_freeable (body.List l) = not (is_some (run_of l.value))
 is_freeable (body.Ring r) = true
 is_freeable (body.In i) = true
 is_freeable (body.Ctx c) = true

@@ -1,6 +1,8 @@
 //! A poll list of C's, with the run over it.
+ghost use Rattle.std.specs.Prelude.{◌≡◌, false};
 ghost use Rattle.poll_runs.specs.Plain.{HasRoom};
-ghost use Rattle.c_handles.specs.Lists.{held_in};
+ghost use Rattle.poll_runs.specs.Steps.{HoldsNothing};
+ghost use Rattle.c_handles.specs.Lists.{held_in, run_in};
 
 use poll_runs::{PlainList, PollingRun};
 
@@ -16,10 +18,12 @@ pub struct FqRunReport {
     pub squeezed: bool,
 }
 
-/// A poll list of one thread, and the run over it, if one is under way.
+/// A poll list of one thread, and the run over it, if one is under way, which begins and ends in its place.
 #[derive(Drop)]
 pub struct Lister {
     pub(crate) list: PlainList,
-    pub(crate) run: Option<PollingRun>,
-    ghost few: { HasRoom list (held_in run) },
+    pub(crate) place: PollingRun,
+    pub(crate) runs: bool,
+    ghost few: { HasRoom list (held_in (run_in runs place)) },
+    ghost idle: { runs ≡ false → HoldsNothing place },
 }

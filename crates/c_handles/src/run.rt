@@ -5,7 +5,7 @@ ghost use Rattle.poll_runs.specs.Driven.{and_poll};
 ghost use Rattle.poll_runs.specs.declared.bench.Next.{Next};
 ghost use Rattle.c_handles.specs.Status.{OK, DONE, NOT_ALLOWED};
 ghost use Rattle.c_handles.specs.Lists.{held_in};
-ghost use Rattle.c_handles.specs.Runs.{next_in, asked_in, is_listed, is_doubled, Runs, IsThrough, IsBetweenPolls, HasSettings, SameSettingsIn, IsRunOf, push_status, begin_status, polled_status};
+ghost use Rattle.c_handles.specs.Runs.{next_in, asked_in, run_of, is_listed, is_doubled, Runs, IsThrough, IsBetweenPolls, HasSettings, SameSettingsIn, IsRunOf, push_status, begin_status, polled_status};
 
 use crate::lister::{FqRunReport, Lister};
 use crate::status;
@@ -30,47 +30,41 @@ impl Lister {
     /// An empty list.
     pub fn new() -> Lister
         ensures list { result.list ≡ [] }
-        ensures run { result.run ≡ None }
+        ensures run { (run_of result) ≡ None }
     {
         Lister {
             list: PlainList::new(),
-            run: None,
+            place: PollingRun::idle(),
+            runs: false,
         }
     }
 
     /// Whether a run is under way.
     pub fn is_running(&self) -> bool
-        ensures { result ≡ is_some self.now.run }
+        ensures { result ≡ is_some (run_of self.now) }
     {
-        self.run.is_some()
+        self.runs
     }
 
     /// How many numbers list and run hold together.
     pub fn len(&self) -> usize
-        ensures { result ≡ length self.now.list + held_in self.now.run }
+        ensures { result ≡ length self.now.list + held_in (run_of self.now) }
     {
-        let held = match &self.run {
-            Some(run) => run.held(),
-            None => 0,
-        };
+        let held = if self.runs { self.place.held() } else { 0 };
         self.list.ids().len() + held
     }
 
     fn is_listed(&self, id: u32) -> bool
         ensures { result ≡ is_listed self.now id }
     {
-        let waits = match &self.run {
-            Some(run) => run.is_waiting(id),
-            None => false,
-        };
-        self.list.ids().contains(&id) || waits
+        self.list.ids().contains(&id) || self.runs && self.place.is_waiting(id)
     }
 
     /// Puts a number at the list's tail, where list and run don't have it and hold fewer than 64.
     pub fn push(&mut self, id: u32) -> u32
         ensures status { result ≡ push_status self.old id }
         ensures pushed { result ≡ OK → self.new.list ≡ self.old.list ++ id ∷ [] }
-        ensures run { self.new.run ≡ self.old.run }
+        ensures run { (run_of self.new) ≡ (run_of self.old) }
         ensures kept { result ≢ OK → self.new ≡ self.old }
     {
         if self.is_listed(id) {
@@ -88,10 +82,10 @@ impl Lister {
         ensures status { result ≡ begin_status self.old budget weight window }
         ensures going { result ≡ OK → Runs self.old.list [] self.new }
         ensures rests { result ≡ OK → IsBetweenPolls self.new }
-        ensures settings { result ≡ OK → HasSettings budget weight window self.new.run }
+        ensures settings { result ≡ OK → HasSettings budget weight window (run_of self.new) }
         ensures kept { result ≢ OK → self.new ≡ self.old }
     {
-        if self.run.is_some() {
+        if self.runs {
             return status::NOT_ALLOWED;
         }
         if weight == 0 || weight > 64 {
@@ -100,18 +94,15 @@ impl Lister {
         if budget == 0 || budget > 65535 || window == 0 || window > 65535 {
             return status::BAD_BUDGET;
         }
-        let run = PollingRun::begin(&mut self.list, budget, weight, window);
-        self.run = Some(run);
+        self.place.restart(&mut self.list, budget, weight, window);
+        self.runs = true;
         status::OK
     }
 
     fn is_between_polls(&self) -> bool
         ensures { result ≡ true ↔ IsBetweenPolls self.now }
     {
-        match &self.run {
-            Some(run) => run.asked().is_none(),
-            None => false,
-        }
+        self.runs && self.place.asked().is_none()
     }
 
     /// The number that is to be polled next, or that the run is over (`PollingRun::next`).
@@ -120,19 +111,16 @@ impl Lister {
             → Runs start polls self.new }
         ensures over { (start : _) (polls : List Poll) → result ≡ DONE → Runs start polls self.old
             → IsThrough start polls self.new }
-        ensures asks { result ≡ OK → asked_in self.new.run ≡ Some id.new }
+        ensures asks { result ≡ OK → asked_in (run_of self.new) ≡ Some id.new }
         ensures none { result ≢ OK → id.new ≡ id.old }
-        ensures settings { SameSettingsIn self.old.run self.new.run }
+        ensures settings { SameSettingsIn (run_of self.old) (run_of self.new) }
         ensures refused { result ≡ NOT_ALLOWED ↔ ¬ IsBetweenPolls self.old }
         ensures kept { result ≡ NOT_ALLOWED → self.new ≡ self.old }
     {
-        let Some(run) = &mut self.run else {
-            return status::NOT_ALLOWED;
-        };
-        if run.asked().is_some() {
+        if !self.is_between_polls() {
             return status::NOT_ALLOWED;
         }
-        match run.next(&mut self.list) {
+        match self.place.next(&mut self.list) {
             Some(next) => {
                 *id = next;
                 status::OK
@@ -155,19 +143,19 @@ impl Lister {
     pub fn polled(&mut self, work: u32, next: u32) -> u32
         ensures status { result ≡ polled_status self.old work next }
         ensures going { (start : _) (polls : List Poll) (id : _) (n : Next) → result ≡ OK
-            → asked_in self.old.run ≡ Some id → next_in next ≡ Some n → Runs start polls self.old
+            → asked_in (run_of self.old) ≡ Some id → next_in next ≡ Some n → Runs start polls self.old
             → Runs start (and_poll polls id (record { work = work; next = n })) self.new }
         ensures rests { result ≡ OK → IsBetweenPolls self.new }
-        ensures settings { SameSettingsIn self.old.run self.new.run }
+        ensures settings { SameSettingsIn (run_of self.old) (run_of self.new) }
         ensures kept { result ≢ OK → self.new ≡ self.old }
     {
-        let Some(run) = &self.run else {
+        if !self.runs {
+            return status::NOT_ALLOWED;
+        }
+        let Some(id) = self.place.asked() else {
             return status::NOT_ALLOWED;
         };
-        let Some(id) = run.asked() else {
-            return status::NOT_ALLOWED;
-        };
-        if work > run.weight() {
+        if work > self.place.weight() {
             return status::BAD_WORK;
         }
         let Some(next) = next_of(next) else {
@@ -176,37 +164,32 @@ impl Lister {
         if self.is_doubled(id, next) {
             return status::IN_USE;
         }
-        if let Some(run) = &mut self.run {
-            run.polled(&mut self.list, Once { work, next });
-        }
+        self.place.polled(&mut self.list, Once { work, next });
         status::OK
     }
 
     /// Ends the run (`PollingRun::end`).
     pub fn end(&mut self, report: &mut FqRunReport) -> u32
         ensures run { (start : _) (polls : List Poll) (budget weight window : _) → result ≡ OK
-            → HasSettings budget weight window self.old.run
+            → HasSettings budget weight window (run_of self.old)
             → Runs start polls self.old → IsThrough start polls self.old
             → IsRunOf budget window start polls self.new.list report.new }
         ensures early { (start : _) (polls : List Poll) → result ≡ OK → Runs start polls self.old
             → (report.new.polls ≡ length polls) × (report.new.work ≡ work_of polls) }
         ensures bounds { (budget weight window : _) → result ≡ OK
-            → HasSettings budget weight window self.old.run
+            → HasSettings budget weight window (run_of self.old)
             → (report.new.polls ≤ window) × (report.new.work < budget + weight) }
-        ensures over { result ≡ OK → self.new.run ≡ None }
+        ensures over { result ≡ OK → (run_of self.new) ≡ None }
         ensures refused { result ≢ OK ↔ ¬ IsBetweenPolls self.old }
         ensures kept { result ≢ OK → (self.new ≡ self.old) × (report.new ≡ report.old) }
     {
         if !self.is_between_polls() {
             return status::NOT_ALLOWED;
         }
-        let Some(run) = self.run.take() else {
-            unreachable!()
-        };
-        let list = &mut self.list;
-        let done = run.end(list);
+        let done = self.place.finish(&mut self.list);
+        self.runs = false;
         // which tells that it holds at most 64 numbers
-        let _few = list.ids();
+        let _few = self.list.ids();
         *report = FqRunReport {
             polls: done.polls,
             work: done.work,

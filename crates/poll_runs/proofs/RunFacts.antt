@@ -1,7 +1,8 @@
 -- A run on its way, and how each turn of the loop carries it on.
-use Rattle.std.proofs.{Common.{◌≡◌, ◌≢◌, ◌∙◌, ◌⊎◌, inl, inr, ℕ, ◌+◌, ◌<◌, Bool, true, false, cond, List, [], ◌∷◌, ◌++◌, length, length-append, take, refl, sym, ap, arith, append_assoc}, lemmas.{Bool.lt-leb, List.append-nil}}
+use Rattle.std.proofs.{Common.{◌≡◌, ◌≢◌, ◌∙◌, ◌⊎◌, inl, inr, ℕ, ◌+◌, ◌<◌, ◌≤◌, Bool, true, false, cond, List, [], ◌∷◌, ◌++◌, length, length-append, take, refl, sym, ap, subst, arith, append_assoc}, lemmas.{Bool.lt-leb, List.append-nil}}
 use Rattle.{std.{proofs.{lemmas.List.{take-append-le, take_all, Folds.concat-append}, Math.Nat.eq-or-lt_of_le}, specs.{Prelude.{nat_le, ◌||◌, Option, Some, None, MatchOption}, List.{AllByRecursion, concat}}}, poll_runs.specs.Polls.Poll}
 use Rattle.poll_runs.specs.{Polls.{arrivals, ids, is_arrival, is_repoll, repolled, work_of}, Run.{AreBatches, IsBatch, IsRun, is_spent}, Driven.{Going, IsGoing, IsOver}, Steps.{Begins, has_spent}, Turn.{HandsOn, Refills, Takes, asked_for}, declared.{polling_run.PollingRun.PollingRun, run.RunReport.RunReport}}
+use Rattle.{poll_runs.specs.declared.bench.Next.{Next, TheVariants.{Absent, Gone, Again, Repoll}}, napi_model.specs.declared.state.Kind.Kind}
 use Rattle.poll_runs.proofs.PollFacts.{arrivals-append, arrivals-one, ids-append, length-ids, repolled-append, repolled-one, taken-le, work-push}
 
 -- batches stay batches as polls are added
@@ -144,6 +145,31 @@ going-filled entries moves is_all has_room budget window start polls list after 
     rw (r.0, r.1) (record { going = g; none = λ h. inl (λ e. cc e) })
 going-filled entries moves is_all has_room budget window start polls list after [] [] filled count sum joins money room r g =
     going-spliced entries moves is_all budget window start polls list after filled count sum joins money room r.takes g
+
+-- the room that is left where the own list was filled, and how much the run holds
+pub filled-room : {L : Type 0} (entries : L → List ℕ) (moves : L → List ℕ → List ℕ → L → Type 0) (is_all : List ℕ → L → Type 0) (has_room : L → ℕ → Type 0)
+    (list after : L) (own repoll filled : List ℕ) → Refills entries moves is_all has_room own list repoll filled after
+    → has_room list (length own + length repoll) → length own + length repoll ≤ 64
+    → has_room after (length filled + length repoll) × (length filled + length repoll ≤ 64)
+filled-room entries moves is_all has_room list after (id ∷ own) repoll filled r room few = rw (r.0, r.1) (room, few)
+filled-room entries moves is_all has_room list after [] (id ∷ repoll) filled r room few = rw (r.0, r.1) (room, few)
+filled-room entries moves is_all has_room list after [] [] filled r room few =
+    let same : length filled ≡ length filled + 0 = omega arith in
+    (subst (λ (n : ℕ). has_room after n) same r.room, omega (arith, r.most))
+
+-- the same where a number was handed on that was the run's
+pub handed-room : {L : Type 0} (entries : L → List ℕ) (moves : L → List ℕ → List ℕ → L → Type 0) (has_room : L → ℕ → Type 0)
+    (list after : L) (next : Next) (id n : ℕ) (repoll : List ℕ)
+    → ((at : L) (n : ℕ) → has_room at (n + 1) → has_room at n) → HandsOn entries moves has_room list (is_arrival next) id after
+    → has_room list ((n + length repoll) + 1) → (n + length repoll) + 1 ≤ 64
+    → has_room after (n + length (repoll ++ cond (is_repoll next) (id ∷ []) [])) × (n + length (repoll ++ cond (is_repoll next) (id ∷ []) []) ≤ 64)
+handed-room entries moves has_room list after (Again Kind.List) id n repoll less h room few = rw (append-nil repoll) (h.room (n + length repoll) room, omega (arith, few))
+handed-room entries moves has_room list after (Again Kind.Thread) id n repoll less h room few = rw (append-nil repoll, h) (less list (n + length repoll) room, omega (arith, few))
+handed-room entries moves has_room list after Absent id n repoll less h room few = rw (append-nil repoll, h) (less list (n + length repoll) room, omega (arith, few))
+handed-room entries moves has_room list after Gone id n repoll less h room few = rw (append-nil repoll, h) (less list (n + length repoll) room, omega (arith, few))
+handed-room entries moves has_room list after Repoll id n repoll less h room few =
+    let same : (n + length repoll) + 1 ≡ n + length (repoll ++ id ∷ []) = omega (arith, length-append repoll (id ∷ [])) in
+    (rw h (subst (λ (m : ℕ). has_room list m) same room), omega (arith, few, same))
 
 -- what one poll pushed, and what came by it
 pub pushed-by : {L : Type 0} (entries : L → List ℕ) (moves : L → List ℕ → List ℕ → L → Type 0) (has_room : L → ℕ → Type 0)

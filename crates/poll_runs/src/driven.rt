@@ -15,7 +15,7 @@ use crate::soft::SoftList;
 use napi_model::Kind;
 
 // Whether the work meets the budget or the polls meet the window.
-fn is_spent(budget: u32, window: u32, polls: u32, work: u32) -> bool
+pub(crate) fn is_spent(budget: u32, window: u32, polls: u32, work: u32) -> bool
     ensures spent { result ≡ (nat_le budget work || nat_le window polls) }
     ensures left { result ≡ false → (work < budget) × (polls < window) }
 {
@@ -23,7 +23,7 @@ fn is_spent(budget: u32, window: u32, polls: u32, work: u32) -> bool
 }
 
 // Where all that was taken is polled, and nothing is to be repolled, takes what the list holds.
-fn refill<L: PollList>(own: &mut SoftList, list: &mut L, repoll: &SoftList)
+pub(crate) fn refill<L: PollList>(own: &mut SoftList, list: &mut L, repoll: &SoftList)
     ensures { Refills L.entries L.moves L.is_all L.has_room own.old list.old repoll.now own.new
         list.new }
 {
@@ -33,7 +33,7 @@ fn refill<L: PollList>(own: &mut SoftList, list: &mut L, repoll: &SoftList)
 }
 
 // Puts a number that was polled where its answer says.
-fn hand_on<L: PollList>(next: Next, id: u32, list: &mut L, repoll: &mut SoftList)
+pub(crate) fn hand_on<L: PollList>(next: Next, id: u32, list: &mut L, repoll: &mut SoftList)
     requires list { L.can_push list.old }
     requires repoll { length repoll.old < 64 }
     ensures list { HandsOn L.entries L.moves L.has_room list.old (is_arrival next) id list.new }
@@ -47,7 +47,7 @@ fn hand_on<L: PollList>(next: Next, id: u32, list: &mut L, repoll: &mut SoftList
 }
 
 // Gives the list back what the run holds, and tells what it did.
-pub(crate) fn give_back<L: PollList>(run: &PollingRun, list: &mut L) -> RunReport
+fn give_back<L: PollList>(run: &PollingRun, list: &mut L) -> RunReport
     requires room { L.has_room list.old (length run.now.own + length run.now.repoll) }
     ensures back { (came : List _) × L.moves list.old [] came list.new
         × (L.entries list.new ≡ run.now.own ++ (L.entries list.old ++ came) ++ run.now.repoll) }
@@ -66,29 +66,8 @@ pub(crate) fn give_back<L: PollList>(run: &PollingRun, list: &mut L) -> RunRepor
     }
 }
 
-// A run that holds nothing.
-pub(crate) fn empty_run(budget: u32, weight: u32, window: u32) -> PollingRun
-    requires weight { (1 ≤ weight) × (weight ≤ 64) }
-    requires budget { (1 ≤ budget) × (budget ≤ 65535) }
-    requires window { (1 ≤ window) × (window ≤ 65535) }
-    ensures empty { HoldsNothing result }
-    ensures settings { (result.budget ≡ budget) × (result.weight ≡ weight)
-        × (result.window ≡ window) }
-{
-    PollingRun {
-        own: SoftList::new(),
-        repoll: SoftList::new(),
-        asked: None,
-        budget,
-        weight,
-        window,
-        polls: 0,
-        work: 0,
-    }
-}
-
 // It takes all that the list holds.
-pub(crate) fn start<L: PollList>(run: &mut PollingRun, list: &mut L)
+fn start<L: PollList>(run: &mut PollingRun, list: &mut L)
     requires { HoldsNothing run.old }
     ensures begins { Begins L.entries L.moves L.is_all list.old run.new list.new }
     ensures rests { run.new.asked ≡ None }
@@ -99,6 +78,22 @@ pub(crate) fn start<L: PollList>(run: &mut PollingRun, list: &mut L)
 }
 
 impl PollingRun {
+    /// One that holds nothing, and is over.
+    pub fn idle() -> PollingRun
+        ensures { HoldsNothing result }
+    {
+        PollingRun {
+            own: SoftList::new(),
+            repoll: SoftList::new(),
+            asked: None,
+            budget: 1,
+            weight: 1,
+            window: 1,
+            polls: 0,
+            work: 0,
+        }
+    }
+
     /// Takes all that the list holds. The weight is in 1..=64, budget and window in 1..=65535.
     pub fn begin<L: PollList>(list: &mut L, budget: u32, weight: u32, window: u32) -> PollingRun
         requires weight { (1 ≤ weight) × (weight ≤ 64) }
@@ -111,9 +106,28 @@ impl PollingRun {
         ensures settings { (result.budget ≡ budget) × (result.weight ≡ weight)
             × (result.window ≡ window) }
     {
-        let mut run = empty_run(budget, weight, window);
-        start(&mut run, list);
+        let mut run = PollingRun::idle();
+        run.restart(list, budget, weight, window);
         run
+    }
+
+    /// The same, in the place of one that holds nothing.
+    pub fn restart<L: PollList>(&mut self, list: &mut L, budget: u32, weight: u32, window: u32)
+        requires nothing { HoldsNothing self.old }
+        requires weight { (1 ≤ weight) × (weight ≤ 64) }
+        requires budget { (1 ≤ budget) × (budget ≤ 65535) }
+        requires window { (1 ≤ window) × (window ≤ 65535) }
+        ensures going { IsGoing L.entries L.moves L.is_all list.old [] list.new self.new }
+        ensures begins { Begins L.entries L.moves L.is_all list.old self.new list.new }
+        ensures rests { self.new.asked ≡ None }
+        ensures room { L.has_room list.new (held self.new) }
+        ensures settings { (self.new.budget ≡ budget) × (self.new.weight ≡ weight)
+            × (self.new.window ≡ window) }
+    {
+        self.budget = budget;
+        self.weight = weight;
+        self.window = window;
+        start(self, list);
     }
 
     /// The number that is to be polled next, None where the run is over: the work meets the budget or the polls meet the
@@ -223,5 +237,36 @@ impl PollingRun {
         ensures work { result.work < self.budget + self.weight }
     {
         give_back(&self, list)
+    }
+
+    /// The same in its place, where it holds nothing then.
+    pub fn finish<L: PollList>(&mut self, list: &mut L) -> RunReport
+        requires rests { self.old.asked ≡ None }
+        requires room { L.has_room list.old (held self.old) }
+        ensures run { (start : _) (polls : List Poll)
+            → IsGoing L.entries L.moves L.is_all start polls list.old self.old
+            → IsOver L.entries L.moves L.is_all start polls self.old
+            → IsRun L.entries L.moves L.is_all self.old.budget self.old.window start polls list.new
+            result }
+        ensures early { (start : _) (polls : List Poll)
+            → IsGoing L.entries L.moves L.is_all start polls list.old self.old
+            → (result.polls ≡ length polls) × (result.work ≡ work_of polls) }
+        ensures back { (came : List _) × L.moves list.old [] came list.new
+            × (L.entries list.new ≡ self.old.own ++ (L.entries list.old ++ came) ++ self.old.repoll) }
+        ensures report { result ≡ record {
+          polls = self.old.polls;
+          work = self.old.work;
+          squeezed = has_spent self.old;
+        } }
+        ensures polls { result.polls ≤ self.old.window }
+        ensures work { result.work < self.old.budget + self.old.weight }
+        ensures nothing { HoldsNothing self.new }
+    {
+        let report = give_back(self, list);
+        self.own.clear();
+        self.repoll.clear();
+        self.polls = 0;
+        self.work = 0;
+        report
     }
 }

@@ -5,9 +5,9 @@ ghost use Rattle.poll_runs.specs.Polls.{At, Chain, Poll};
 ghost use Rattle.poll_runs.specs.Run.{IsRun};
 
 use crate::bench::Bench;
-use crate::driven::{empty_run, give_back, start};
+use crate::driven::{hand_on, is_spent, refill};
 use crate::list::PollList;
-use crate::polling_run::PollingRun;
+use crate::soft::SoftList;
 
 /// What a polling run did (`net_rx_action`).
 #[derive(Clone, Copy, Debug, PartialEq, Eq)]
@@ -42,11 +42,25 @@ pub fn run_softirq<L: PollList, B: Bench>(
     ensures polls { result.polls ≤ window }
     ensures work { result.work < budget + weight }
 {
-    let mut run = empty_run(budget, weight, window);
-    start(&mut run, list);
-    while let Some(id) = run.next(list) {
+    let mut own = SoftList::new();
+    let mut repoll = SoftList::new();
+    let mut polls = 0;
+    let mut work = 0;
+    list.splice(&mut own);
+    while !is_spent(budget, window, polls, work) {
+        refill(&mut own, list, &repoll);
+        let Some(id) = own.pop_front() else {
+            break;
+        };
         let once = bench.poll_once(id, weight);
-        run.polled(list, once);
+        polls += 1;
+        work += once.work;
+        hand_on(once.next, id, list, &mut repoll);
     }
-    give_back(&run, list)
+    list.put_back(&own, &repoll);
+    RunReport {
+        polls,
+        work,
+        squeezed: is_spent(budget, window, polls, work),
+    }
 }

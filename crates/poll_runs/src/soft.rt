@@ -21,7 +21,17 @@ impl Model for SoftList {
     ghost invariant = { λ s. s.first ≤ length s.ids.items };
 }
 
+// Drops the first ones, which were taken.
+#[inline(never)]
+fn drop_taken(ids: &mut ArrayVec<u32, 64>, first: usize)
+    requires { first ≤ length ids.old.items }
+    ensures { ids.new.items ≡ drop first ids.old.items }
+{
+    ids.drain(..first);
+}
+
 // Drops what was taken where so many more find no room behind the others, and answers where the first one stands then.
+#[inline]
 fn make_room(ids: &mut ArrayVec<u32, 64>, first: usize, count: usize) -> usize
     requires first { first ≤ length ids.old.items }
     requires count { length ids.old.items + count ≤ 64 + first }
@@ -32,7 +42,7 @@ fn make_room(ids: &mut ArrayVec<u32, 64>, first: usize, count: usize) -> usize
     if count <= 64 - ids.len() {
         return first;
     }
-    ids.drain(..first);
+    drop_taken(ids, first);
     0
 }
 
@@ -98,6 +108,13 @@ impl SoftList {
         self.ids.push(id);
     }
 
+    // Drops all.
+    pub(crate) fn clear(&mut self)
+        ensures { self.new ≡ [] }
+    {
+        self.first = self.ids.len();
+    }
+
     /// Appends the numbers of another list, where there is room.
     pub fn append_all(&mut self, more: &SoftList)
         requires { length self.old + length more.now ≤ 64 }
@@ -117,7 +134,7 @@ impl SoftList {
         self.ids.clear();
         self.first = 0;
         let _ = self.ids.try_extend_from_slice(from.ids());
-        from.first = from.ids.len();
+        from.clear();
     }
 
     /// Puts the numbers of another list before those of this one, where there is room.

@@ -1,14 +1,14 @@
-use Rattle.{std.proofs.Common.{◌≡◌, ◌-◌, List, None}, poll_runs.specs.{Driven.{IsGoing, held}, Polls.{At, Chain, Poll}}}
+use Rattle.{std.proofs.Common.{◌-◌, ◌+◌, ◌<◌, ◌≤◌, List, length}, poll_runs.specs.{Driven.Going, Polls.{At, Chain, Poll}}}
 use Rattle.poll_runs.proofs.run.run_softirq.Given as goal
 
-abbrev pub invariant-loop-id : goal.invariant-loop-id
-invariant-loop-id g l = record {
-  rests : l.run.asked ≡ None;
-  room : g.L.PollList.has_room l.list (held l.run);
-  settings : (l.run.budget ≡ l.budget) × (l.run.weight ≡ l.weight) × (l.run.window ≡ l.window);
+abbrev pub invariant-loop-own : goal.invariant-loop-own
+invariant-loop-own g l = record {
+  room : g.L.PollList.has_room l.list (length l.own + length l.repoll);
+  few : length l.own + length l.repoll ≤ 64;
+  bounds : (l.polls ≤ l.window) × (l.work < l.budget + l.weight);
   goes : (polls : List Poll) × Chain (At g.B.Bench.polls l.weight) l.fn.bench polls l.bench
-      × IsGoing g.L.PollList.entries g.L.PollList.moves g.L.PollList.is_all l.fn.list polls l.list l.run;
+      × Going g.L.PollList.entries g.L.PollList.moves g.L.PollList.is_all l.budget l.window l.fn.list polls l.list l.own l.repoll l.polls l.work;
 }
 
-abbrev pub decreases-loop-id : goal.decreases-loop-id
-decreases-loop-id g l = l.window - l.run.polls
+abbrev pub decreases-loop-own : goal.decreases-loop-own
+decreases-loop-own g l = l.window - l.polls

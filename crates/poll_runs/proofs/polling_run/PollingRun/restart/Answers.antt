@@ -1,5 +1,5 @@
 use Rattle.{std.proofs.Common.arith, poll_runs.proofs.RunFacts.run-begins}
-use Rattle.poll_runs.proofs.polling_run.PollingRun.begin.Goals as goal
+use Rattle.poll_runs.proofs.polling_run.PollingRun.restart.Goals as goal
 
 pub returns-clause-going : goal.returns-clause-going
 returns-clause-going g c =
