@@ -19,3 +19,7 @@ LeavesAsItWas old new fault = fault ≢ OutputFailed → Keeps old new
 -- a front of these bytes was appended, and not all of them
 abbrev pub AppendsPart : Option (List ℕ) → Option (List ℕ) → List ℕ → Type 0
 AppendsPart old new bytes = (n : ℕ) × (n < length bytes) × Appends old new (take n bytes)
+
+-- the bytes read have a text, of which a front was written, and not all of it
+abbrev pub WritesPart : (List ℕ → List ℕ → Type 0) → Option (List ℕ) → Option (List ℕ) → Option (List ℕ) → Type 0
+WritesPart IsText input old new = (bytes : List ℕ) → input ≡ Some bytes → (text : List ℕ) × IsText bytes text × AppendsPart old new text
