@@ -5,7 +5,9 @@ use Rattle.{napi_word.{specs.declared.table.Pass.Pass, proofs.Deliveries.some_is
 use Rattle.napi_calls.{specs.{Closed.IsClosed, Seats.shown, declared.types.{Caller.Caller, Napi.Napi}}, proofs.{Dealing.named_ring, Steps.prefix_trans}}
 use Rattle.napi_calls.specs.Seats as seats
 use Rattle.napi_model.specs.declared.state.Seen.{Seen}
-use Rattle.device_shared.specs.{declared.seats.Seats.Seats, Ending.{IsEnded, IsLater}, Seats.{control_of, received_by}, SharedReceive.{IsWhole, left_in}}
+use Rattle.device_shared.specs.{declared.seats.Seats.Seats, Ending.{IsEnded, IsLater, TakesHold}, Seats.{control_of, polls_at, received_by}, SharedReceive.{IsWhole, left_in}}
+use Rattle.device_shared.specs.declared.seats.{Enabled.Enabled, Posts.{Posts, TheVariants.{Rest, ListPolls, ThreadPolls, PollsBusily}}}
+use Rattle.device_shared.specs.declared.seats.Turn.TheVariants as turn
 use Rattle.device_shared.proofs.{Gathering.{at_three, ring_from}, RingFacts.{one_still, side_at}}
 
 -- ---- one seat, and one ring, at several moments
@@ -20,6 +22,13 @@ pub ring_still : (input input' : RxIn) (x x' : RxCtx) → SameIn input input' �
 ring_still input input' x x' a b one =
     let still = one_still input input' x a one in
     (b.0.0 ∙ still.0, b.0.1 ∙ still.1, b.0.2 ∙ still.2, b.0.3 ∙ still.3)
+
+-- who polls it has it still
+pub held_still : (posts : Posts) (e : Enabled) → ((p t : Caller) → posts ≡ Rest p t → ⊥) → TakesHold (polls_at posts) e (turn.On posts e)
+held_still (Rest p t) e none = absurd (none p t refl)
+held_still (ListPolls w t) e none = refl
+held_still (ThreadPolls p w) e none = refl
+held_still (PollsBusily b t) e none = refl
 
 -- ---- a side ended
 

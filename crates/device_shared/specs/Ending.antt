@@ -1,5 +1,5 @@
 -- How a receive side over an instance that threads could share ends.
-use Rattle.std.specs.Prelude.{◌≡◌, List, ◌++◌}
+use Rattle.std.specs.Prelude.{◌≡◌, ℕ, Bool, true, false, List, [], ◌∷◌, ◌++◌, Option, Some, None, if◌then◌else◌}
 use mathlib.Core.List.{IsPrefix}
 use Rattle.rx_ring.specs.declared.ends.RxCtx.{RxCtx}
 use Rattle.rx_ring.specs.declared.ends.RxIn.{RxIn}
@@ -8,16 +8,53 @@ use Rattle.rx_ring.specs.declared.packet.Totals.{Totals}
 use Rattle.rx_ring.specs.Ends.{IsOneRing, SameCtx, put_list, received_list, ring_of}
 use Rattle.rx_ring.specs.ReceiveRing.{totals_of}
 use Rattle.napi_model.specs.declared.event.Event.{Event}
+use Rattle.napi_model.specs.declared.event.Operation.{Operation}
+use Rattle.napi_model.specs.declared.event.Operation.TheVariants.{MarkDisable, Take}
+use Rattle.napi_model.specs.declared.state.Kind.TheVariants as kind
 use Rattle.napi_model.specs.History.{state_after}
 use Rattle.napi_model.specs.Step.{opening}
 use Rattle.napi_word.specs.declared.table.Pass.{Pass}
 use Rattle.napi_calls.specs.Closed.{IsClosed}
+use Rattle.napi_calls.specs.Made.{Made}
 use Rattle.napi_calls.specs.Seats.{shown}
 use Rattle.napi_calls.specs.Seats as seats
 use Rattle.napi_calls.specs.declared.types.Caller.{Caller}
 use Rattle.napi_calls.specs.declared.types.Napi.{Napi}
 use Rattle.device_bench.specs.Receive.{ReceiveView}
+use Rattle.device_shared.specs.declared.seats.Enabled.{Enabled}
+use Rattle.device_shared.specs.declared.seats.Enabled.TheVariants as enabled
+use Rattle.device_shared.specs.declared.seats.Posts.{Posts}
+use Rattle.device_shared.specs.declared.seats.Posts.TheVariants.{Rest, ListPolls, ThreadPolls, PollsBusily}
+use Rattle.device_shared.specs.declared.seats.Turn.{Turn}
+use Rattle.device_shared.specs.Acting.{TriesBy}
+use Rattle.device_shared.specs.Seats.{control_of, is_marked, poller_post, polls_at, role_of, thread_post}
 use Rattle.device_shared.specs.SharedReceive.{bytes_each}
+
+-- ---- steps towards an instance that the controller has
+
+-- the poller of the list looks for it, and then the thread
+abbrev pub LookFor : Posts → Posts → Type 0
+LookFor posts (ListPolls w t) = Made (poller_post posts) (Take kind.List true ∷ []) w.pass
+LookFor posts (ThreadPolls p w) = Made (poller_post posts) (Take kind.List false ∷ []) p.pass × Made (thread_post posts) (Take kind.Thread true ∷ []) w.pass
+LookFor posts (Rest p t) = Made (poller_post posts) (Take kind.List false ∷ []) p.pass × Made (thread_post posts) (Take kind.Thread false ∷ []) t.pass
+LookFor posts (PollsBusily b t) = ⊥
+
+-- who polls it stops busy polling, or lets go of it; where nobody does it is looked for
+abbrev pub LetsGo : Option (ℕ × Bool) → Posts → Posts → Type 0
+LetsGo None posts after = LookFor posts after
+LetsGo (Some who) posts after = polls_at after ≡ (if who.1 then Some (who.0, false) else None)
+
+-- where nobody has it the controller marks it, and marked it tries to take it
+abbrev pub TakesHold : Option (ℕ × Bool) → Enabled → Turn → Type 0
+TakesHold (Some who) e after = role_of after ≡ Some (is_marked e, Some who)
+TakesHold None (enabled.On c) after = Made c.pass (MarkDisable ∷ []) (control_of after) × (role_of after ≡ Some (true, None))
+TakesHold None (enabled.Marked c) after =
+    (os : List Operation) × (taken : Bool) × TriesBy true taken os × Made c.pass os (control_of after) × (role_of after ≡ (if taken then None else Some (true, None)))
+
+abbrev pub Leaves : Posts → Enabled → Turn → Type 0
+Leaves posts e after = (left : Posts) × LetsGo (polls_at posts) posts left × TakesHold (polls_at left) e after
+
+-- ---- the end
 
 -- the same seat at two moments
 pub record IsLater (p q : Pass) : Type 0 where

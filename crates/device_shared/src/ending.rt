@@ -4,8 +4,8 @@ ghost use Rattle.std.specs.Prelude.{◌≡◌, [], ◌∷◌, length, vec_capaci
 ghost use Rattle.napi_calls.specs.Closed.{IsClosed};
 ghost use Rattle.napi_calls.specs.Instance.{IsSeatOf, callers_of};
 ghost use Rattle.rx_ring.specs.Ends.{IsOneRing, SameCtx, SameIn, put_list, received_list};
-ghost use Rattle.device_shared.specs.Ending.{IsLater};
-ghost use Rattle.device_shared.specs.Seats.{ArePosts, AreTurned, IsSeatAt, control_of, enabled_pass};
+ghost use Rattle.device_shared.specs.Ending.{IsLater, Leaves, LetsGo};
+ghost use Rattle.device_shared.specs.Seats.{ArePosts, AreTurned, IsSeatAt, control_of, enabled_pass, polls_at};
 ghost use Rattle.device_shared.specs.SharedReceive.{HasRoom};
 
 use crate::acting::try_at_rest;
@@ -82,7 +82,8 @@ impl Posts {
     // One step towards an instance that nobody polls.
     fn release<R: Wait>(self, rt: &R, napi: &Napi) -> Posts
         requires { ArePosts napi.now self }
-        ensures { ArePosts napi.now result }
+        ensures posts { ArePosts napi.now result }
+        ensures step { LetsGo (polls_at self) self result }
     {
         match self {
             Posts::Rest(poller, thread) => match poller.take(napi, Kind::List) {
@@ -112,6 +113,7 @@ impl Turn {
         requires control { IsSeatAt napi.now (enabled_pass enabled) }
         ensures turned { AreTurned napi.now result }
         ensures later { IsLater (enabled_pass enabled) (control_of result) }
+        ensures step { Leaves posts enabled result }
     {
         match posts.release(rt, napi) {
             Posts::Rest(poller, thread) => match enabled {

@@ -15,6 +15,10 @@ pub struct SharedOpener<R: Drop> {
 }
 
 impl<R: Wait + Copy + Drop> From<R> for SharedOpener<R> {
+    ghost use Rattle.std.specs.Prelude.{◌≡◌};
+
+    ghost from_gives = { λ rt given. given.rt ≡ rt };
+
     fn from(rt: R) -> SharedOpener<R> {
         SharedOpener { rt }
     }

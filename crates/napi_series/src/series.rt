@@ -94,8 +94,8 @@ fn series_of(
 
 /// Plays a trace on one thread, and writes its series: a line behind each row whose number is a multiple of `every`.
 ///
-/// Nothing is written before the whole trace is read and played, so on every fault but `OutputFailed` nothing was. After
-/// a failed write it isn't known how much went out. Want of memory may come before any other fault.
+/// Nothing is written before the whole trace is read and played, so on every fault but `OutputFailed` nothing was. On
+/// that one a front of the series was, and not all of it. Want of memory may come before any other fault.
 pub(crate) fn write_series<R: Read + Drop, W: Write>(
     alloc: Global,
     reader: R,

@@ -1,7 +1,7 @@
 -- How one more row carries a replay on.
-use Rattle.std.{proofs.Common.{◌≡◌, ◌∙◌, ℕ, zero, suc, ◌+◌, ◌<◌, Bool, true, false, Ok, Err, List, [], ◌∷◌, ◌++◌, length, append_assoc, take, drop, get_or, ap, refl, arith}, specs.Prelude.{Result, if◌then◌else◌}}
+use Rattle.std.{proofs.Common.{◌≡◌, ◌∙◌, ℕ, zero, suc, ◌+◌, ◌<◌, Bool, true, false, Ok, Err, inl, inr, List, [], ◌∷◌, ◌++◌, length, append_assoc, take, drop, get_or, ap, refl, sym, arith}, specs.Prelude.{◌⊎◌, IfErr, Result, if◌then◌else◌}}
 use Rattle.{std.proofs.lemmas.List.{length-take, take_more}, device_transmit.specs.Transmits.Transmits, device_rows.specs.declared.row.Row.Row, replay_rows.specs.Replay.{after_row, after_rows, is_early, start, after_all}}
-use Rattle.{replay_rows.specs.{Report.{report_of, serial_report}, Transmits.{after_transmit, after_transmits, transmits_of}, ReplayState.ReplayState}, replay_text.specs.declared.fault.ReplayFault.{ReplayFault, TheVariants.Pending}}
+use Rattle.{replay_rows.specs.{Report.{report_of, serial_report}, Transmits.{after_transmit, after_transmits, transmits_of}, ReplayState.ReplayState}, replay_text.specs.declared.fault.ReplayFault.{ReplayFault, TheVariants.{OutputFailed, Pending, Trace}}, device_rows.specs.declared.fault.TraceFault.TheVariants.OutOfMemory}
 use Rattle.replay_words.specs.declared.settings.Settings.{Settings}
 
 -- the rest of the rows, where those before it were played
@@ -57,6 +57,35 @@ after_transmits-more rows all i d below = rw (take_more rows i d below) (after_t
 -- where the rows have a fault, so has their report
 pub report-early : (s : Settings) (rows : List Row) (fault : ReplayFault) → after_all s rows ≡ Err fault → (version : ℕ) → serial_report s version rows ≡ Err fault
 report-early s rows fault early version = ap (report_of version (transmits_of rows)) early
+
+-- rows are refused for an early enable alone
+rows-fault : (s : Settings) (n : ℕ) (rows : List Row) (w : ReplayState) (fault : ReplayFault) → after_rows s n rows w ≡ Err fault → (m : ℕ) × (fault ≡ Pending m)
+rows-fault s n [] w fault e = absurd (cc e)
+rows-fault s n (row ∷ rows) w fault e = by (is_early row.event row.device w) (rows-fault s (n + 1) rows (after_row s n row w) fault) e
+  where
+    by : (b : Bool) → (after_rows s (n + 1) rows (after_row s n row w) ≡ Err fault → (m : ℕ) × (fault ≡ Pending m))
+        → (if b then Err (Pending n) else after_rows s (n + 1) rows (after_row s n row w)) ≡ Err fault → (m : ℕ) × (fault ≡ Pending m)
+    by true rest e = let is : fault ≡ Pending n = cc e in (n, is)
+    by false rest e = rest e
+
+-- and so is their report
+report_written : (s : Settings) (version : ℕ) (rows : List Row) → serial_report s version rows ≡ Err OutputFailed → ⊥
+report_written s version rows e = by (after_all s rows) refl e
+  where
+    by : (r : Result ReplayState ReplayFault) → after_all s rows ≡ r → report_of version (transmits_of rows) r ≡ Err OutputFailed → ⊥
+    by (Ok w) is e = cc e
+    by (Err fault) is e =
+        let early = rows-fault s 1 rows start fault is in
+        let failed : fault ≡ OutputFailed = cc e in
+        cc (sym early.1 ∙ failed)
+
+pub unwritten : {A : Type 0} (s : Settings) (version : ℕ) (rows : List Row) (r : Result A ReplayFault)
+    → IfErr r (λ fault. (fault ≡ Trace OutOfMemory) ⊎ (serial_report s version rows ≡ Err fault)) → IfErr r (λ fault. fault ≡ OutputFailed → ⊥)
+unwritten s version rows (Ok a) h = tt
+unwritten s version rows (Err fault) h = λ failed. elim h [
+  | inl memory ↦ cc (sym memory ∙ failed)
+  | inr early ↦ report_written s version rows (early ∙ ap Err failed)
+]
 
 -- four parts of a text, in whatever order they were joined
 pub four-parts : (a b c d : List ℕ) → ((a ++ b) ++ c) ++ d ≡ a ++ (b ++ (c ++ d))

@@ -48,8 +48,7 @@ impl<B: ReplayBench> Replay<B> {
     ghost use Rattle.replay_rows.specs.Replay.{after_event, after_row, entry, is_early, start, with_busy, with_line, with_packet, with_run, with_thread, after_all};
     ghost use Rattle.replay_rows.specs.Transmits.{after_transmit, after_transmits};
 
-    /// A replay over a bench without devices. Where there is room for a line of each row that polls, none of these takes
-    /// memory.
+    /// A replay over a bench without devices, which keeps its lines in these.
     pub(crate) fn new(bench: B, lines: Vec<Line>) -> Replay<B>
         requires { lines.items ≡ [] }
         ensures bench { result.bench ≡ bench }

@@ -2,7 +2,8 @@
 
 ghost use Rattle.std.specs.Prelude.{◌≡◌, Ok, Err, IfErr, OnOk};
 ghost use Rattle.replay_text.specs.Outside.{IsOutside};
-ghost use Rattle.replay_text.specs.Written.{IsFaultBy, LeavesAsItWas, Writes};
+ghost use Rattle.replay_text.specs.Written.{IsFaultBy, LeavesAsItWas, Writes, WritesPart};
+ghost use Rattle.replay_text.specs.declared.fault.ReplayFault.TheVariants.{OutputFailed};
 ghost use Rattle.replay_rows.specs.Answer.{replay_of};
 
 use crate::whole::replay_on;
@@ -14,8 +15,8 @@ use std::io::{Read, Write};
 
 /// Plays a trace on one thread, and writes the report of it.
 ///
-/// Nothing is written before the whole trace is read and played, so on every fault but `OutputFailed` nothing was. After
-/// a failed write it isn't known how much went out. Want of memory may come before any other fault.
+/// Nothing is written before the whole trace is read and played, so on every fault but `OutputFailed` nothing was. On
+/// that one a front of the report was, and not all of it. Want of memory may come before any other fault.
 pub fn replay_serial<R: Read + Drop, W: Write>(
     alloc: Global,
     reader: R,
@@ -25,6 +26,11 @@ pub fn replay_serial<R: Read + Drop, W: Write>(
     // What is written is the report of the rows of the bytes read, and nothing else.
     ensures written { OnOk result (Writes (λ bytes text. replay_of settings.now bytes ≡ Ok text)
         (R.remaining reader) (W.contents writer.old) (W.contents writer.new)) }
+
+    // Where the output failed the bytes read have a report, of which less than the whole was written.
+    ensures cut { result ≡ Err OutputFailed
+        → WritesPart (λ bytes text. replay_of settings.now bytes ≡ Ok text)
+        (R.remaining reader) (W.contents writer.old) (W.contents writer.new) }
 
     // A fault is that of the bytes read, unless the reader, the memory or the writer failed.
     ensures fault { IfErr result (IsFaultBy IsOutside

@@ -3,7 +3,8 @@
 ghost use Rattle.std.specs.Prelude.{◌≡◌, Ok, Err, IfErr, OnOk};
 ghost use Rattle.device_rows.specs.Places.{empty};
 ghost use Rattle.replay_text.specs.Outside.{IsOutside};
-ghost use Rattle.replay_text.specs.Written.{IsFaultBy, LeavesAsItWas, Writes};
+ghost use Rattle.replay_text.specs.Written.{IsFaultBy, LeavesAsItWas, Writes, WritesPart};
+ghost use Rattle.replay_text.specs.declared.fault.ReplayFault.TheVariants.{OutputFailed};
 ghost use Rattle.replay_rows.specs.Answer.{replay_of};
 
 use crate::report::report_on;
@@ -16,8 +17,8 @@ use std::io::{Read, Write};
 
 /// Plays a trace on a bench that has no devices yet, and writes the report of it. The bench comes back.
 ///
-/// Nothing is written before the whole trace is read and played, so on every fault but `OutputFailed` nothing was. After
-/// a failed write it isn't known how much went out. Want of memory may come before any other fault.
+/// Nothing is written before the whole trace is read and played, so on every fault but `OutputFailed` nothing was. On
+/// that one a front of the report was, and not all of it. Want of memory may come before any other fault.
 pub fn replay_on<B: ReplayBench, R: Read + Drop, W: Write>(
     alloc: Global,
     bench: B,
@@ -32,19 +33,27 @@ pub fn replay_on<B: ReplayBench, R: Read + Drop, W: Write>(
     ensures written { OnOk result.1 (Writes (λ bytes text. replay_of settings.now bytes ≡ Ok text)
         (R.remaining reader) (W.contents writer.old) (W.contents writer.new)) }
 
+    // Where the output failed the bytes read have a report, of which less than the whole was written.
+    ensures cut { result.1 ≡ Err OutputFailed
+        → WritesPart (λ bytes text. replay_of settings.now bytes ≡ Ok text)
+        (R.remaining reader) (W.contents writer.old) (W.contents writer.new) }
+
     // A fault is that of the bytes read, unless the reader, the memory or the writer failed.
     ensures fault { IfErr result.1 (IsFaultBy IsOutside
         (λ bytes fault. replay_of settings.now bytes ≡ Err fault) (R.remaining reader)) }
     ensures untouched { IfErr result.1
         (LeavesAsItWas (W.contents writer.old) (W.contents writer.new)) }
 {
-    let (bench, text) = match read_trace(alloc, reader) {
-        Ok(trace) => report_on(alloc, bench, settings, trace.version(), trace.rows()),
-        Err(fault) => (bench, Err(fault.into())),
+    let trace = match read_trace(alloc, reader) {
+        Ok(trace) => trace,
+        Err(fault) => return (bench, Err(fault.into())),
     };
-    let replayed = match text {
-        Ok(text) => write_text(writer, &text),
-        Err(fault) => Err(fault),
-    };
-    (bench, replayed)
+    let (bench, text) = report_on(alloc, bench, settings, trace.version(), trace.rows());
+    match text {
+        Ok(text) => {
+            let written = write_text(writer, &text);
+            (bench, written)
+        }
+        Err(fault) => (bench, Err(fault)),
+    }
 }

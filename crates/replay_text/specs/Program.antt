@@ -1,8 +1,8 @@
 -- How a program that replays ends.
-use Rattle.std.specs.Prelude.{◌≡◌, ◌≢◌, ℕ, true, List, ◌++◌, Option, codes}
+use Rattle.std.specs.Prelude.{◌≡◌, ◌≢◌, ℕ, false, true, List, ◌++◌, Option, codes}
 use Rattle.std.specs.Io.KnownBytes.{Appends, Keeps}
 use Rattle.replay_text.specs.Fault.{line_of as replay_line, status_of as replay_status}
-use Rattle.replay_text.specs.Written.{IsFaultBy}
+use Rattle.replay_text.specs.Written.{AppendsPart, IsFaultBy}
 use Rattle.replay_text.specs.declared.fault.ReplayFault.{ReplayFault}
 use Rattle.replay_text.specs.declared.fault.ReplayFault.TheVariants.{OutputFailed}
 use Rattle.replay_text.specs.declared.program.Ending.{Ending}
@@ -31,10 +31,11 @@ IsFaultOf {A} Refused AskedFor IsOutside IsFault input (Words OutOfMemory) = Uni
 IsFaultOf {A} Refused AskedFor IsOutside IsFault input (Replay fault) =
     (asked : A) × AskedFor asked × IsFaultBy (IsOutside asked) (IsFault asked) input fault
 
--- the line of this fault is all that went to standard error, where it could be told, and the status is its status
+-- the line of this fault is all that went to standard error where it was told, and else less of it did; the status is its status
 pub record EndsBy (fault : ProgramFault) (errors_old errors_new : Option (List ℕ)) (ending : Ending) : Type 0 where
   pub status : ending.status ≡ status_of fault
   pub line : ending.told ≡ true → Appends errors_old errors_new (line_of fault)
+  pub untold : ending.told ≡ false → AppendsPart errors_old errors_new (line_of fault)
 
 -- on each fault but a failed output nothing was written
 abbrev pub KeepsOutput : Option (List ℕ) → Option (List ℕ) → ProgramFault → Type 0

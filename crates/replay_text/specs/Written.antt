@@ -1,5 +1,5 @@
 -- What a call that makes a text of an input does to its output. Input and output are their bytes, where these are known.
-use Rattle.std.specs.Prelude.{◌≡◌, ◌≢◌, ◌⊎◌, ℕ, List, Option, Some}
+use Rattle.std.specs.Prelude.{◌≡◌, ◌≢◌, ◌<◌, ◌⊎◌, ℕ, List, Option, Some, length, take}
 use Rattle.std.specs.Io.KnownBytes.{Appends, Keeps}
 use Rattle.replay_text.specs.declared.fault.ReplayFault.{ReplayFault}
 use Rattle.replay_text.specs.declared.fault.ReplayFault.TheVariants.{OutputFailed}
@@ -15,3 +15,11 @@ IsFaultBy IsOutside IsFault input fault = (bytes : List ℕ) → input ≡ Some 
 -- on each fault but a failed output nothing was written
 abbrev pub LeavesAsItWas : Option (List ℕ) → Option (List ℕ) → ReplayFault → Type 0
 LeavesAsItWas old new fault = fault ≢ OutputFailed → Keeps old new
+
+-- a front of these bytes was appended, and not all of them
+abbrev pub AppendsPart : Option (List ℕ) → Option (List ℕ) → List ℕ → Type 0
+AppendsPart old new bytes = (n : ℕ) × (n < length bytes) × Appends old new (take n bytes)
+
+-- the bytes read have a text, of which a front was written, and not all of it
+abbrev pub WritesPart : (List ℕ → List ℕ → Type 0) → Option (List ℕ) → Option (List ℕ) → Option (List ℕ) → Type 0
+WritesPart IsText input old new = (bytes : List ℕ) → input ≡ Some bytes → (text : List ℕ) × IsText bytes text × AppendsPart old new text

@@ -24,7 +24,7 @@ pub enum ReplayFault {
     /// 14: a gate shut a run with threads.
     #[error("a gate was shut")]
     GateShut,
-    /// 15: the writer failed. How much of the report went out isn't known.
+    /// 15: the writer failed. Less than the whole report went out.
     #[error("the report could not be written")]
     OutputFailed,
     /// 16: a thread of a run could not be started.

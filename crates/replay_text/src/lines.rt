@@ -1,14 +1,15 @@
 //! Lines that the report of every replay has, and its way out.
 
-ghost use Rattle.std.specs.Prelude.{◌≡◌, ◌++◌, IfErr, OnOk, string_bytes};
+ghost use Rattle.std.specs.Prelude.{◌≡◌, ◌++◌, IfErr, OnErr, OnOk, false, string_bytes, true};
 ghost use Rattle.std.specs.Io.KnownBytes.{Appends};
 ghost use Rattle.replay_text.specs.Lines.{ended, tx_line};
+ghost use Rattle.replay_text.specs.Written.{AppendsPart};
 ghost use Rattle.replay_text.specs.declared.fault.ReplayFault.TheVariants.{OutputFailed};
 
 use crate::fault::ReplayFault;
 use device_transmit::TxCounts;
 use std::alloc::AllocError;
-use std::io::Write;
+use std::io::{ErrorKind, Write};
 
 /// Adds the line of a device's transmit side. The only error is want of memory.
 pub fn add_transmit(text: &mut String, number: u32, counts: &TxCounts) -> Result<(), AllocError>
@@ -30,15 +31,44 @@ pub fn add_transmit(text: &mut String, number: u32, counts: &TxCounts) -> Result
     Ok(())
 }
 
-/// Writes the text of a report, all of it at once. The only fault is [`OutputFailed`](ReplayFault::OutputFailed), after which
-/// it isn't known how much went out.
+/// Writes the bytes in order, and says whether all went out. The writer is asked until it takes none of them.
+pub(crate) fn write_out<W: Write>(writer: &mut W, bytes: &[u8]) -> bool
+    ensures whole { result ≡ true
+        → Appends (W.contents writer.old) (W.contents writer.new) bytes.now }
+    ensures cut { result ≡ false
+        → AppendsPart (W.contents writer.old) (W.contents writer.new) bytes.now }
+{
+    let mut rest = bytes;
+    for _ in 0..u64::MAX {
+        if rest.is_empty() {
+            return true;
+        }
+        match writer.write(rest) {
+            Ok(count) => {
+                if count == 0 {
+                    return false;
+                }
+                rest = &rest[count..];
+            }
+            Err(error) if error.kind() == ErrorKind::Interrupted => {}
+            Err(_) => return false,
+        }
+    }
+    rest.is_empty()
+}
+
+/// Writes the text of a report, all of it. The only fault is [`OutputFailed`](ReplayFault::OutputFailed), after which a front
+/// of the text went out, and not all of it.
 pub fn write_text<W: Write>(writer: &mut W, text: &String) -> Result<(), ReplayFault>
     ensures written { OnOk result
         (Appends (W.contents writer.old) (W.contents writer.new) (string_bytes text.now)) }
     ensures fault { IfErr result (λ fault. fault ≡ OutputFailed) }
+    ensures cut { OnErr result
+        (AppendsPart (W.contents writer.old) (W.contents writer.new) (string_bytes text.now)) }
 {
-    match writer.write_all(text.as_bytes()) {
-        Ok(()) => Ok(()),
-        Err(_) => Err(ReplayFault::OutputFailed),
+    if write_out(writer, text.as_bytes()) {
+        Ok(())
+    } else {
+        Err(ReplayFault::OutputFailed)
     }
 }

@@ -1,10 +1,12 @@
 //! What programs that replay have in common: their words, why they failed, and how they ended.
 
-ghost use Rattle.std.specs.Prelude.{◌≡◌, true};
+ghost use Rattle.std.specs.Prelude.{◌≡◌, false, true};
 ghost use Rattle.std.specs.Io.KnownBytes.{Appends};
 ghost use Rattle.replay_text.specs.Program.{EndsBy, line_of, status_of};
+ghost use Rattle.replay_text.specs.Written.{AppendsPart};
 
 use crate::fault::{ReplayFault, fault_line, status};
+use crate::lines::write_out;
 use replay_words::{WordFault, word_line, word_status};
 use std::alloc::Global;
 use std::env;
@@ -27,7 +29,7 @@ pub enum ProgramFault {
 pub struct Ending {
     /// The exit status.
     pub status: u8,
-    /// Whether the line of its fault went out whole. Where it ended well there is none.
+    /// Whether the line of its fault went out whole; else less of it did. Where it ended well there is none.
     pub told: bool,
 }
 
@@ -58,14 +60,17 @@ pub fn given_words(rt: &HostRuntime) -> Result<Vec<String>, ProgramFault> {
 }
 
 // Writes the line of a fault, and says whether it went out.
+#[tactic(auto, using(crate::proofs::OutFacts::none_out))]
 fn tell<E: Write>(alloc: Global, fault: &ProgramFault, errors: &mut E) -> bool
-    ensures { result ≡ true
+    ensures told { result ≡ true
         → Appends (E.contents errors.old) (E.contents errors.new) (line_of fault.now) }
+    ensures untold { result ≡ false
+        → AppendsPart (E.contents errors.old) (E.contents errors.new) (line_of fault.now) }
 {
     match fault {
-        ProgramFault::Words(fault) => errors.write_all(word_line(fault).as_bytes()).is_ok(),
+        ProgramFault::Words(fault) => write_out(errors, word_line(fault).as_bytes()),
         ProgramFault::Replay(fault) => match fault_line(alloc, fault) {
-            Ok(line) => errors.write_all(line.as_bytes()).is_ok(),
+            Ok(line) => write_out(errors, line.as_bytes()),
             Err(_) => false,
         },
     }

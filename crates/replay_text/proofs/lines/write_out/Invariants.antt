@@ -1,0 +1,6 @@
+-- What is gone from `rest` was appended.
+use Rattle.{std.proofs.Common.{◌≡◌, ℕ, List, ◌++◌}, std.specs.Io.KnownBytes.Appends}
+use Rattle.replay_text.proofs.lines.write_out.Given as goal
+
+abbrev pub invariant-loop : goal.invariant-loop
+invariant-loop g l = (done : List ℕ) × (l.bytes ≡ done ++ l.rest) × Appends (g.W.Write.contents l.initial.writer) (g.W.Write.contents l.writer) done
