@@ -143,7 +143,7 @@ NoWaitIsLess = (s : Settings) (until : ℕ) (events : List Event) → until < 2 
     → ((n : ℕ) → AllByRecursion (λ wait. least_time s ≤ wait) (waits n s events))
     × AllByRecursion (λ wait. least_time s + s.use_time ≤ wait) (use_waits s events)
 
--- law: what is told of a device is told of these packets and waits
+-- what is told of a device, nothing of one that isn't there
 abbrev pub counts_in : Option DeviceView → DeviceCounts
 counts_in None = no_counts
 counts_in (Some d) = d.told
@@ -158,6 +158,7 @@ pub record Tells (n : ℕ) (s : Settings) (events : List Event) (device : Option
   pub polled : (counts_in device).polled ≡ held (length (delivered n s events))
   pub counted : waits_in device ≡ counting (waits n s events) no_waits
 
+-- law: what is told of a device is told of these packets and waits
 abbrev pub TellsOfDevice : Type 0
 TellsOfDevice = (s : Settings) (n : ℕ) (events : List Event) → Tells n s events (at n (behind s events).devices)
 
