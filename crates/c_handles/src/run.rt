@@ -143,7 +143,8 @@ impl Lister {
     pub fn polled(&mut self, work: u32, next: u32) -> u32
         ensures status { result ≡ polled_status self.old work next }
         ensures going { (start : _) (polls : List Poll) (id : _) (n : Next) → result ≡ OK
-            → asked_in (run_of self.old) ≡ Some id → next_in next ≡ Some n → Runs start polls self.old
+            → asked_in (run_of self.old) ≡ Some id → next_in next ≡ Some n
+            → Runs start polls self.old
             → Runs start (and_poll polls id (record { work = work; next = n })) self.new }
         ensures rests { result ≡ OK → IsBetweenPolls self.new }
         ensures settings { SameSettingsIn (run_of self.old) (run_of self.new) }

@@ -252,7 +252,8 @@ impl PollingRun {
             → IsGoing L.entries L.moves L.is_all start polls list.old self.old
             → (result.polls ≡ length polls) × (result.work ≡ work_of polls) }
         ensures back { (came : List _) × L.moves list.old [] came list.new
-            × (L.entries list.new ≡ self.old.own ++ (L.entries list.old ++ came) ++ self.old.repoll) }
+            × (L.entries list.new
+            ≡ self.old.own ++ (L.entries list.old ++ came) ++ self.old.repoll) }
         ensures report { result ≡ record {
           polls = self.old.polls;
           work = self.old.work;
