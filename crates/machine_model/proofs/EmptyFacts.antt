@@ -2,7 +2,7 @@
 use Rattle.std.proofs.{Common.{◌≡◌, ◌∙◌, ℕ, zero, suc, ◌+◌, ◌-◌, ◌<◌, ◌≤◌, ◌^◌, Bool, true, false, Option, Some, None, List, [], ◌∷◌, ◌++◌, drop, length, length-drop, refl, sym, ap, subst, arith}, lemmas.Bool.{eqb-true, le-leb, lt-ltb}}
 use Rattle.{std.specs.Prelude.{◌==◌, ◌&&◌, ◌||◌, if◌then◌else◌, min, nat_le, nat_lt, not, position, slice_get}, std.specs.List.{position_or_len}, device_rows.specs.Places.{at, changed}, machine_words.specs.declared.settings.Settings.{Settings}}
 use Rattle.poll_runs.specs.{Turn.asked_for, declared.bench.{Next.TheVariants.{Gone, Repoll}}}
-use Rattle.machine_model.specs.{Device.{DeviceView, after_packet, ended_interrupt, ended_poll, interrupted, opened, polled}, Devices.{Devices, batch_at, is_handed_at, mask_at, raises_at, with_device}, Waits.held}
+use Rattle.machine_model.specs.{Device.{DeviceView, after_packet, ended_interrupt, ended_poll, interrupted, polled}, Devices.{Devices, batch_at, is_handed_at, mask_at, raises_at, with_device}, Waits.held}
 use Rattle.machine_model.specs.Device as device
 use Rattle.machine_model.specs.Fates.{NothingIsLeft, ring_in}
 use Rattle.machine_model.specs.Laws.{Event, behind, end, packet}

@@ -2,7 +2,7 @@
 use Rattle.std.proofs.{Common.{◌≡◌, ◌∙◌, ℕ, zero, suc, ◌+◌, ◌-◌, ◌<◌, Bool, true, false, Option, Some, None, List, [], ◌∷◌, ◌++◌, append_assoc, length, length-append, replicate, refl, sym, ap, arith}, lemmas.{Bool.{eqb-false, eqb-true}, Grind.get_or-set_at, List.{append-nil, get_or-set_other, length-replicate, take-append-drop}}}
 use Rattle.{std.specs.Prelude.{◌==◌, ◌&&◌, ◌||◌, if◌then◌else◌, min, nat_lt, not}, device_rows.{specs.Places.{added_at, at, changed, changed_from}}}
 use Rattle.machine_words.specs.declared.settings.Settings.{Settings}
-use Rattle.machine_model.specs.{Device.{DeviceView, after_packet, batch_of, ended_interrupt, ended_poll, interrupted, opened, polled}, Devices.{Devices, batch_at, with_device, with_place}, Waits.held}
+use Rattle.machine_model.specs.{Device.{DeviceView, after_packet, ended_interrupt, ended_poll, interrupted, opened, polled}, Devices.{Devices, batch_at, with_device, with_place}, Waits.held}
 use Rattle.machine_model.specs.Fates as fate
 use Rattle.machine_model.specs.Fates.{DeliversInOrder, came, finds_room, given, given_from, gives_by, polled_by, ring_in, taken_by}
 use Rattle.machine_model.specs.Device as device

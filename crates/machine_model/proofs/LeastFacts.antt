@@ -1,7 +1,7 @@
 -- No wait is less than what its work takes.
 use Rattle.std.proofs.{Common.{◌≡◌, ◌∙◌, ℕ, zero, suc, ◌+◌, ◌-◌, ◌*◌, ◌<◌, ◌≤◌, ◌^◌, Bool, true, false, Option, Some, None, List, [], ◌∷◌, ◌++◌, length, length-append, map, take, drop, refl, sym, ap, subst, arith}, lemmas.{Bool.{eq-eqb, eqb-true, leb-false}, List.{take-append-drop}}}
 use Rattle.{circular_buffer.specs.Buffer.{Buffer}, std.specs.{Prelude.{◌==◌, ◌&&◌, ◌||◌, if◌then◌else◌, min, nat_lt, not}, List.{AllByRecursion}}, device_rows.specs.Places.{at, changed}, machine_words.specs.declared.settings.Settings.{Settings}}
-use Rattle.machine_model.specs.{Device.{DeviceView, after_packet, ended_interrupt, ended_poll, interrupted, opened, polled}, Devices.{Devices, batch_at, raises_at, with_device}, Softirq.{RunView, asked_in}, Waits.held}
+use Rattle.machine_model.specs.{Device.{DeviceView, after_packet, ended_interrupt, interrupted, polled}, Devices.{Devices, batch_at, raises_at, with_device}, Softirq.{RunView, asked_in}, Waits.held}
 use Rattle.machine_model.specs.Device as device
 use Rattle.machine_model.specs.Fates.{NoWaitIsLess, given, given_from, gives_by, kept_from, least_time, polled_by, ring_in, room_for, use_waits, using, waits}
 use Rattle.machine_model.specs.Laws.{Event, InTurn, behind, end, packet}

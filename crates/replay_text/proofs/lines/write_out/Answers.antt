@@ -1,4 +1,4 @@
-use Rattle.{std.proofs.Common.{◌≡◌, ◌∙◌, ◌++◌, ◌-◌, ℕ, List, length, take, drop, sym, ap, append_assoc, take-append-drop, drop_of_length-le, rules, arith}, std.proofs.lemmas.List.take_rest, replay_text.proofs.OutFacts.{cut_behind, none_more, then_kept, then_more}}
+use Rattle.{std.proofs.Common.{◌≡◌, ◌∙◌, ◌++◌, ◌-◌, ℕ, List, length, take, drop, sym, ap, append_assoc, take-append-drop, rules, arith}, std.proofs.lemmas.List.take_rest, replay_text.proofs.OutFacts.{cut_behind, none_more, then_kept, then_more}}
 use Rattle.replay_text.proofs.lines.write_out.Goals.{in-Err, in-Ok+else-count-eq0}
 use Rattle.replay_text.proofs.lines.write_out.Goals as goal
 

@@ -1,4 +1,4 @@
-use Rattle.{std.proofs.Common.{◌≡◌, refl}, device_shared.proofs.EndingFacts.{held_still, later_same}, device_shared.specs.declared.seats.Posts.TheVariants.Rest}
+use Rattle.{std.proofs.Common.{refl}, device_shared.proofs.EndingFacts.{held_still, later_same}, device_shared.specs.declared.seats.Posts.TheVariants.Rest}
 use Rattle.device_shared.proofs.seats.Turn.leave.Goals as goal
 
 pub returns-in-On-clause-step : goal.returns-in-On-clause-step
