@@ -1,6 +1,6 @@
 //! The whole program, but for its real ends: from the words, the input and the two outputs to the exit status.
 
-ghost use Rattle.std.specs.Prelude.{◌≡◌, ◌≢◌, IfErr, OnOk, map, string_bytes};
+ghost use Rattle.std.specs.Prelude.{◌≡◌, ◌≢◌, IfErr, OnOk, map, string_bytes, false};
 ghost use Rattle.std.specs.Io.KnownBytes.{Keeps};
 ghost use Rattle.napi_serial.specs.Program.{IsFault, IsReport};
 ghost use Rattle.replay_text.specs.Program.{FailedBy, KeepsOutput};
@@ -48,6 +48,7 @@ pub(crate) fn run_program<R: Read + Drop, W: Write, E: Write>(
     // What is written is the report of the bytes read, by the settings that the words ask for, and nothing else.
     ensures written { result.status ≡ 0 → Writes (IsReport (map string_bytes words.now))
         (R.remaining input) (W.contents output.old) (W.contents output.new) }
+    ensures untold { result.status ≡ 0 → result.told ≡ false }
     ensures quiet { result.status ≡ 0 → Keeps (E.contents errors.old) (E.contents errors.new) }
     ensures failed { result.status ≢ 0
         → FailedBy (IsFault (map string_bytes words.now) (R.remaining input))
