@@ -43,11 +43,11 @@ set_mode() {
 
 fail() { echo "refusals: $*" >&2; exit 1; }
 
-# One run with the call of that number refused: refuse KIND NUMBER. Leaves its status in `status`.
+# One run with the call of that number refused: refuse KIND NUMBER. Leaves its status in `status`; 124 is a run that hangs.
 refuse() {
     status=0
     rm -f "$folder/refused"
-    env "$1=$2" REFUSED="$folder/refused" LD_PRELOAD="$folder/refuse.so" \
+    timeout 60 env "$1=$2" REFUSED="$folder/refused" LD_PRELOAD="$folder/refuse.so" \
         "$program" $words < "$folder/$input" > "$folder/out" 2> "$folder/err" || status=$?
 }
 
@@ -60,6 +60,10 @@ is_whole() { [ "$status" = 0 ] && cmp -s "$folder/out" "$folder/report" && [ ! -
 refuse_each() {
     count=0
     idle=0
+    rm -f "$folder/starts"
+    export STARTS="$folder/starts"
+    refuse "$1" 0
+    unset STARTS
     while :; do
         refuse "$1" $((count + 1))
         [ -e "$folder/refused" ] || break
@@ -72,7 +76,7 @@ refuse_each() {
         [ ! -s "$folder/out" ] || fail "$mode $1=$count: a report was written"
         line=$(cat "$folder/err")
         # Memory that the start of a thread asks for: the thread could not be started.
-        [ "$1 $mode $line" != 'REFUSE_MEMORY threads worker fault 16 SpawnFailed' ] || line=$3
+        if [ "$1 $line" = 'REFUSE_MEMORY worker fault 16 SpawnFailed' ] && grep -qx "$count" "$folder/starts"; then line=$3; fi
         [ "$line" = "$3" ] || fail "$mode $1=$count: another line: $line"
     done
     is_whole || fail "$mode $1: nothing was refused, and another report was written"
@@ -84,6 +88,7 @@ some_refused() { [ "$count" -gt "$idle" ] || fail "$mode: no $1 was refused"; }
 # Devices 1, 3 and 16 have one poller, or two of three: one thread more is started then.
 each_poller_is_started() {
     words="--mode $mode --pollers 3"
+    refuse_each REFUSE_MEMORY 4 'memory fault 11 OutOfMemory'
     refuse_each REFUSE_THREAD 4 'worker fault 16 SpawnFailed'
     set_mode
     [ $((count - threads)) = 1 ] || fail "$threads starts of threads with one poller, and $count with 3"

@@ -1,4 +1,5 @@
-// Refuses the call whose number, counted from 1, is in REFUSE_MEMORY, REFUSE_READ, REFUSE_WRITE or REFUSE_THREAD.
+// Refuses the call whose number, counted from 1, is in REFUSE_MEMORY, REFUSE_READ, REFUSE_WRITE or REFUSE_THREAD. The file
+// STARTS gets the numbers of the allocations that starts of threads ask for: each is the same thread's last one before its start.
 #define _GNU_SOURCE
 #include <dlfcn.h>
 #include <errno.h>
@@ -14,10 +15,16 @@ static struct calls memory = {"REFUSE_MEMORY", 0}, reads = {"REFUSE_READ", 0}, w
 // Threads that were started and not joined.
 static long left = 0;
 
+// The number of this thread's last allocation.
+static __thread long last = 0;
+
 // The file REFUSED is there once a call was refused.
 static int refuses(struct calls *calls) {
     const char *text = getenv(calls->name);
-    if (!text || __atomic_add_fetch(&calls->made, 1, __ATOMIC_SEQ_CST) != atol(text)) return 0;
+    if (!text) return 0;
+    long number = __atomic_add_fetch(&calls->made, 1, __ATOMIC_SEQ_CST);
+    if (calls == &memory) last = number;
+    if (number != atol(text)) return 0;
     close(open(getenv("REFUSED"), O_CREAT | O_WRONLY, 0600));
     return 1;
 }
@@ -49,6 +56,12 @@ int pthread_create(pthread_t *thread, const pthread_attr_t *attributes, void *(*
     static int (*next)(pthread_t *, const pthread_attr_t *, void *(*)(void *), void *);
     if (!next) next = (int (*)(pthread_t *, const pthread_attr_t *, void *(*)(void *), void *))dlsym(RTLD_NEXT, "pthread_create");
     if (refuses(&threads)) return EAGAIN;
+    if (getenv("STARTS")) {
+        char number[32];
+        int file = open(getenv("STARTS"), O_CREAT | O_WRONLY | O_APPEND, 0600);
+        if (write(file, number, snprintf(number, sizeof number, "%ld\n", last)) < 0) abort();
+        close(file);
+    }
     int failed = next(thread, attributes, run, given);
     if (!failed) __atomic_add_fetch(&left, 1, __ATOMIC_SEQ_CST);
     return failed;

@@ -4,6 +4,7 @@
 
 mod benches;
 mod rings;
+mod stops;
 mod traces;
 mod workers;
 
@@ -22,6 +23,7 @@ fn main(rt: HostRuntime) -> Result<()> {
         ("a trace", traces::trace_is_read(alloc)?),
         ("a scripted device", traces::script_is_made(alloc)?),
         ("a run of workers", workers::workers_are_run(&rt, alloc)?),
+        ("a run that is held", stops::acts_are_stopped(&rt, alloc)?),
         ("the words", traces::words_are_read(alloc)?),
         ("a line", traces::line_is_told(alloc)?),
     ];

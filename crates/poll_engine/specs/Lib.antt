@@ -23,6 +23,7 @@ pub use Rattle.poll_list.specs.declared.list_in.ListIn
 pub use Rattle.poll_list.specs.declared.shared.SharedList
 pub use Rattle.poll_shared.specs.SharedBusy
 pub use Rattle.poll_shared.specs.SharedPolling
+pub use Rattle.poll_tasks.specs.Refusals
 pub use Rattle.poll_interrupts.specs.Acts
 pub use Rattle.poll_interrupts.specs.Opens
 pub use Rattle.poll_interrupts.specs.Runs

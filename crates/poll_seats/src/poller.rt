@@ -169,7 +169,7 @@ impl<'t, 'p, 'n, R: Wait + Drop + Copy, G: Gate> Task<Turned<Kept<R, Vec<Seat<'n
     }
 
     fn run(self) -> Turned<Kept<R, Vec<Seat<'n>>>> {
-        if self.post.is_refused() {
+        if self.post.refused.is_told() {
             return Turned {
                 back: self.seats,
                 polled: false,

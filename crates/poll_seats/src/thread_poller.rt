@@ -170,7 +170,7 @@ impl<'t, 'p, 'n, R: Wait + Drop + Copy, G: Gate> Task<Turned<Kept<R, Caller>>>
     }
 
     fn run(self) -> Turned<Kept<R, Caller>> {
-        if self.poller.is_refused() {
+        if self.poller.refused.is_told() {
             return Turned {
                 back: self.caller,
                 polled: false,

@@ -1,3 +1,4 @@
 pub mod Tasks
 pub mod Paces
 pub mod Asks
+pub mod Refusals

@@ -30,6 +30,25 @@ pub fn task_room<J: Task<O>, O: Drop>(alloc: Global, count: usize) -> Result<Roo
     })
 }
 
+/// The tasks of a crew.
+pub struct Crew<P, W, S> {
+    /// The poller.
+    pub poller: P,
+    /// The workers whose instances it polls.
+    pub workers: Vec<W>,
+    /// The threads of these instances.
+    pub threads: Vec<S>,
+}
+
+/// Room for the tasks of a crew, and for what they give.
+#[derive(Drop)]
+pub struct Rooms<W: Task<B>, B, S: Task<C>, C> {
+    /// Room for its workers.
+    pub workers: Room<W, B>,
+    /// Room for its instances' threads.
+    pub threads: Room<S, C>,
+}
+
 /// What the threads of a crew gave back, and what was done beside them.
 #[derive(Drop)]
 pub struct Driven<A, B, C, E> {
@@ -47,13 +66,10 @@ pub struct Driven<A, B, C, E> {
 /// so that nobody waits for it. The poller is told when all workers have ended. Meanwhile `beside` is called.
 pub fn drive<R, P, A, W, B, S, C, F, E>(
     rt: &R,
-    poller: P,
-    workers: Vec<W>,
-    sides: Vec<S>,
+    crew: Crew<P, W, S>,
+    rooms: Rooms<W, B, S, C>,
     post: &Post,
     signals: &Signals,
-    work_room: Room<W, B>,
-    side_room: Room<S, C>,
     beside: F,
 ) -> Driven<A, B, C, E>
 where
@@ -66,40 +82,45 @@ where
     C: Drop + Send,
     F: FnOnce() -> E + Drop,
     E: Drop,
-    requires poller { P.can_run poller }
-    requires workers { IsReady W.can_run workers work_room.begun work_room.given }
-    requires threads { IsReady S.can_run sides side_room.begun side_room.given }
+    requires poller { P.can_run crew.poller }
+    requires workers { IsReady W.can_run crew.workers rooms.workers.begun rooms.workers.given }
+    requires threads { IsReady S.can_run crew.threads rooms.threads.begun rooms.threads.given }
     requires beside { F.pre beside }
-    ensures polled { P.gives poller result.polled }
-    ensures worked { AllZip W.gives workers.items result.worked.items }
-    ensures threads { AllZip S.gives sides.items result.threads.items }
+    ensures polled { P.gives crew.poller result.polled }
+    ensures worked { AllZip W.gives crew.workers.items result.worked.items }
+    ensures threads { AllZip S.gives crew.threads.items result.threads.items }
     ensures beside { F.post beside result.beside }
 {
+    let Crew {
+        poller,
+        workers,
+        threads,
+    } = crew;
     let Room {
         begun: work_begun,
         given: work_given,
-    } = work_room;
+    } = rooms.workers;
     let Room {
         begun: side_begun,
         given: side_given,
-    } = side_room;
+    } = rooms.threads;
     thread::scope(
         thread::scope_env(),
         rt,
         |scope| -> Driven<A, B, C, E>
             requires poller { P.can_run poller }
             requires workers { IsReady W.can_run workers work_begun work_given }
-            requires threads { IsReady S.can_run sides side_begun side_given }
+            requires threads { IsReady S.can_run threads side_begun side_given }
             requires beside { F.pre beside }
             ensures polled { P.gives poller result.polled }
             ensures worked { AllZip W.gives workers.items result.worked.items }
-            ensures threads { AllZip S.gives sides.items result.threads.items }
+            ensures threads { AllZip S.gives threads.items result.threads.items }
             ensures beside { F.post beside result.beside }
         {
-            let siding = begin_all(scope, sides, &post.refused, side_begun);
+            let siding = begin_all(scope, threads, &post.refused, side_begun);
             let polling = begin(scope, poller, &post.refused);
-            if post.is_refused() {
-                signals.refuse();
+            if post.refused.is_told() {
+                signals.refused.tell();
             }
             let working = begin_all(scope, workers, &signals.refused, work_begun);
             let beside = beside();

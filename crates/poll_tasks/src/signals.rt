@@ -1,16 +1,59 @@
-//! What the threads of a run tell each other. No proof rests on it.
+//! What the threads of a run tell each other. Proofs rest on one thing alone: who tells of a thread that could not be started
+//! knows of one.
+
+ghost use Rattle.std.specs.Prelude.{◌≡◌, true};
+ghost use Rattle.poll_tasks.specs.Refusals.{IsRefused};
 
 use crossbeam_utils::Backoff;
 use crossbeam_utils::sync::{Parker, Unparker};
 use std::alloc::{AllocError, Global};
 use std::sync::Wait;
-use std::sync::atomic::{AtomicBool, Ordering};
+use std::sync::atomic::{AtomicBool, AtomicIn, Ordering, Rule};
+
+// A word that isn't 0 only where a thread could not be started.
+struct Refused;
+
+impl Rule for Refused {
+    ghost use Rattle.std.specs.Prelude.{◌≡◌, ◌⊎◌};
+    ghost use Rattle.poll_tasks.specs.Refusals.{IsRefused};
+
+    ghost invariant = { λ n. (n ≡ 0) ⊎ IsRefused };
+}
+
+/// Whether one of some threads could not be started.
+#[derive(Drop)]
+pub struct Refusal {
+    told: AtomicIn<Refused>,
+}
+
+impl Refusal {
+    /// None was refused.
+    pub fn new() -> Refusal {
+        Refusal {
+            told: AtomicIn::new(0),
+        }
+    }
+
+    /// One was refused.
+    pub fn tell(&self)
+        requires { IsRefused }
+    {
+        self.told.store(1, Ordering::SeqCst);
+    }
+
+    /// Whether one was refused.
+    pub fn is_told(&self) -> bool
+        ensures { result ≡ true → IsRefused }
+    {
+        self.told.load(Ordering::SeqCst) != 0
+    }
+}
 
 /// Why no further acts are made.
 #[derive(Drop)]
 pub struct Signals {
     /// A thread could not be started.
-    pub refused: AtomicBool,
+    pub refused: Refusal,
     // Memory was refused, or the gate answered false.
     stopped: AtomicBool,
 }
@@ -19,19 +62,9 @@ impl Signals {
     /// Signals of a run that goes on.
     pub fn new() -> Signals {
         Signals {
-            refused: AtomicBool::new(false),
+            refused: Refusal::new(),
             stopped: AtomicBool::new(false),
         }
-    }
-
-    /// A thread could not be started: no further acts are made.
-    pub fn refuse(&self) {
-        self.refused.store(true, Ordering::SeqCst);
-    }
-
-    /// Whether a thread could not be started.
-    pub fn is_refused(&self) -> bool {
-        self.refused.load(Ordering::SeqCst)
     }
 
     /// Memory was refused, or the gate answered false: no further acts are made.
@@ -46,7 +79,7 @@ impl Signals {
 
     /// Whether acts may go on.
     pub fn go_on(&self) -> bool {
-        !self.is_refused() && !self.is_stopped()
+        !self.refused.is_told() && !self.is_stopped()
     }
 }
 
@@ -89,7 +122,7 @@ pub struct Post {
     /// The poller's bell.
     pub bell: Bell,
     /// One of these threads could not be started, so that no worker of the poller's begins.
-    pub refused: AtomicBool,
+    pub refused: Refusal,
 }
 
 impl Post {
@@ -97,13 +130,8 @@ impl Post {
     pub fn new(bell: Bell) -> Post {
         Post {
             bell,
-            refused: AtomicBool::new(false),
+            refused: Refusal::new(),
         }
-    }
-
-    /// Whether one of these threads could not be started.
-    pub fn is_refused(&self) -> bool {
-        self.refused.load(Ordering::SeqCst)
     }
 }
 

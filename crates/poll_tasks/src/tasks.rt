@@ -4,8 +4,8 @@ ghost use Rattle.std.specs.Prelude.{◌≡◌, ◌≤◌, List, vec_len, vec_cap
 ghost use Rattle.std.specs.List.{All, AllZip};
 ghost use Rattle.poll_tasks.specs.Tasks.{IsBegun};
 
+use crate::signals::Refusal;
 use std::snapshot::Snapshot;
-use std::sync::atomic::{AtomicBool, Ordering};
 use std::thread::{Promise, PromisedHandle, Scope, Threads};
 
 /// What one thread does.
@@ -54,7 +54,7 @@ pub enum Begun<J: Task<O>, O> {
 pub fn begin<'s, E, J: Task<O> + Drop + Send + 's, O: Drop + Send + 's>(
     scope: &Scope<'s, E>,
     task: J,
-    refused: &AtomicBool,
+    refused: &Refusal,
 ) -> Begun<J, O>
     requires { J.can_run task }
     ensures { IsBegun J.gives task result }
@@ -70,7 +70,7 @@ pub fn begin<'s, E, J: Task<O> + Drop + Send + 's, O: Drop + Send + 's>(
     match scope.spawn_with(promise, run) {
         Ok(handle) => Begun::Running(handle),
         Err(not_started) => {
-            refused.store(true, Ordering::SeqCst);
+            refused.tell();
             Begun::Ended((not_started.value)())
         }
     }
@@ -90,7 +90,7 @@ pub fn end<R: Threads, J: Task<O>, O>(rt: &R, begun: Begun<J, O>) -> O
 pub fn begin_all<'s, E, J: Task<O> + Drop + Send + 's, O: Drop + Send + 's>(
     scope: &Scope<'s, E>,
     tasks: Vec<J>,
-    refused: &AtomicBool,
+    refused: &Refusal,
     room: Vec<Begun<J, O>>,
 ) -> Vec<Begun<J, O>>
     requires can { All J.can_run tasks.items }

@@ -1,6 +1,6 @@
 -- Courses that were dealt to pollers, and put together again.
 use Rattle.{std.{proofs.{Common.{◌≡◌, ◌∙◌, eq-eqb, ℕ, ◌+◌, ◌-◌, ◌%◌, ◌<◌, ◌≤◌, Bool, true, false, List, [], ◌∷◌, length, ap, refl, sym, subst, arith, eqb, suc, All}, lemmas.Bool.{eqb-true, eqb-false, ne_eqb}}, specs.{Prelude.{◌==◌, Result, Ok, Err, IfOk, filter, map, vec_items}, Global.Vec, List.AllByRecursion}}, poll_tasks.{specs.declared.pace.Pace.Pace, proofs.ListFacts.each_index}, poll_workers.proofs.RunFacts.each_of}
-use Rattle.{poll_interrupts.specs.{declared.{acts.Act.Act, station.{Station.Station, Finished.Finished}}, Deals.{IsDealtFrom, is_dealt, merged, others, picked}}, poll_workers.specs.{declared.fault.WorkFault.WorkFault, Faults.joined, Courses.{AreOfCrew, ArePolled, Course, IsCourse, IsCrew, TakesTurns}}}
+use Rattle.{poll_interrupts.specs.{declared.{acts.Act.Act, station.{Station.Station, Finished.Finished}}, Deals.{IsDealtFrom, is_dealt, merged, others, picked}}, poll_workers.specs.{declared.fault.Stop.Stop, Faults.joined, Courses.{AreOfCrew, ArePolled, Course, IsCourse, IsCrew, TakesTurns}}}
 
 -- ---- two lists put together
 
@@ -110,10 +110,10 @@ abbrev both_of : {A F : Type 0} → A → Result A F → A
 both_of d (Ok r) = r
 both_of d (Err f) = d
 
-pub joined_ok : {A B : Type 0} (mine : Result A WorkFault) (others : Result B WorkFault) (r : A × B) → joined mine others ≡ Ok r → (mine ≡ Ok r.0) × (others ≡ Ok r.1)
+pub joined_ok : {A B : Type 0} (mine : Result A Stop) (others : Result B Stop) (r : A × B) → joined mine others ≡ Ok r → (mine ≡ Ok r.0) × (others ≡ Ok r.1)
 joined_ok {A} {B} (Ok x) (Ok y) r e =
     let pair : A × B = (x, y) in
-    let same : pair ≡ r = ap (λ (came : Result (A × B) WorkFault). both_of pair came) e in
+    let same : pair ≡ r = ap (λ (came : Result (A × B) Stop). both_of pair came) e in
     (ap (λ (p : A × B). Ok p.0) same, ap (λ (p : A × B). Ok p.1) same)
 joined_ok (Ok x) (Err f) r e = absurd cc
 joined_ok (Err f) (Ok y) r e = absurd cc

@@ -1,5 +1,7 @@
 -- Why a run gave nothing, by number, and which fault is told.
-use Rattle.std.specs.Prelude.{ℕ, Bool, true, false, Result, Ok, Err, if◌then◌else◌}
+use Rattle.std.specs.Prelude.{ℕ, Bool, Result, Ok, Err, if◌then◌else◌}
+use Rattle.poll_workers.specs.declared.fault.Stop.{Stop}
+use Rattle.poll_workers.specs.declared.fault.Stop.TheVariants.{Memory, Short}
 use Rattle.poll_workers.specs.declared.fault.WorkFault.{WorkFault}
 use Rattle.poll_workers.specs.declared.fault.WorkFault.TheVariants.{OutOfMemory, GateShut, SpawnFailed}
 
@@ -8,35 +10,24 @@ number_of OutOfMemory = 1
 number_of GateShut = 2
 number_of SpawnFailed = 3
 
-abbrev pub is_memory : WorkFault → Bool
-is_memory OutOfMemory = true
-is_memory GateShut = false
-is_memory SpawnFailed = false
-
--- memory was refused to some crew
-abbrev pub wants_memory : {A : Type 0} → Result A WorkFault → Bool
-wants_memory (Ok all) = false
-wants_memory (Err fault) = is_memory fault
-
 -- What is told of what the crews came to, by whether a thread could not be started and whether the gate was shut: want of memory
--- before all else, then the thread, then the gate.
-abbrev pub told : {A : Type 0} → Result A WorkFault → Bool → Bool → Result A WorkFault
-told came refused shut =
-    if wants_memory came then came else if refused then Err SpawnFailed else if shut then Err GateShut else came
+-- before all else, then the thread, then the gate. Where none of them cut the run short, no more is claimed than memory's.
+abbrev pub told_of : {A : Type 0} → Result A WorkFault → Bool → Bool → Result A WorkFault
+told_of else_told refused shut = if refused then Err SpawnFailed else if shut then Err GateShut else else_told
 
--- of two faults the one that is told: want of memory, else the first
-abbrev pub graver : WorkFault → WorkFault → WorkFault
-graver fault other = if is_memory other then OutOfMemory else fault
+abbrev pub told : {A : Type 0} → Result A Stop → Bool → Bool → Result A WorkFault
+told (Err Memory) refused shut = Err OutOfMemory
+told (Err Short) refused shut = told_of (Err OutOfMemory) refused shut
+told (Ok all) refused shut = told_of (Ok all) refused shut
 
--- What two parts of a run came to together: a fault of either is told, and want of memory before all else.
-abbrev pub joined : {A B : Type 0} → Result A WorkFault → Result B WorkFault → Result (A × B) WorkFault
+-- of two the one that counts: want of memory, else that the run was cut short
+abbrev pub graver : Stop → Stop → Stop
+graver Memory other = Memory
+graver Short other = other
+
+-- What two parts of a run came to together: what stopped either is told, and want of memory before all else.
+abbrev pub joined : {A B : Type 0} → Result A Stop → Result B Stop → Result (A × B) Stop
 joined (Ok mine) (Ok others) = Ok (mine, others)
-joined (Ok mine) (Err fault) = Err fault
-joined (Err fault) (Ok others) = Err fault
-joined (Err fault) (Err other) = Err (graver fault other)
-
--- A crew knows of no gate: where its acts were not all made, its fault is that of a thread.
-abbrev pub IsCrewFault : WorkFault → Type 0
-IsCrewFault OutOfMemory = Unit {0}
-IsCrewFault GateShut = ⊥
-IsCrewFault SpawnFailed = Unit {0}
+joined (Ok mine) (Err stop) = Err stop
+joined (Err stop) (Ok others) = Err stop
+joined (Err stop) (Err other) = Err (graver stop other)

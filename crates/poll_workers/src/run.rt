@@ -8,14 +8,16 @@ ghost use Rattle.poll_interrupts.specs.Deals.{IsDealt, IsDealtFrom, is_dealt};
 ghost use Rattle.poll_tasks.specs.Asks.{IsAsked};
 ghost use Rattle.poll_workers.specs.Courses.{ArePolled, pace_of};
 ghost use Rattle.poll_workers.specs.Finishes.{IsFinished};
-ghost use Rattle.poll_workers.specs.declared.fault.WorkFault.TheVariants.{GateShut, OutOfMemory};
-ghost use Rattle.poll_workers.specs.Faults.{IsCrewFault, graver, joined, told};
+ghost use Rattle.poll_workers.specs.declared.fault.Stop.TheVariants.{Memory};
+ghost use Rattle.poll_workers.specs.declared.fault.WorkFault.TheVariants.{GateShut, SpawnFailed};
+ghost use Rattle.poll_workers.specs.Faults.{graver, joined, told};
 ghost use Rattle.poll_workers.specs.Numbers.{have_distinct_numbers};
 ghost use Rattle.poll_interrupts.specs.Opens.{IsStation};
 ghost use Rattle.poll_tasks.specs.Paces.{IsLawful};
+ghost use Rattle.poll_tasks.specs.Refusals.{IsRefused};
 
 use crate::crew::run_crew;
-use crate::fault::WorkFault;
+use crate::fault::{Stop, WorkFault};
 use poll_interrupts::{Dealt, Device, Finished, Station, deal, merge};
 use poll_tasks::{Gate, Pace, Setting, Signals, Watch};
 use std::alloc::{AllocError, Global};
@@ -23,15 +25,15 @@ use std::sync::Wait;
 use std::thread::Threads;
 
 // What was begun. Where memory was refused for it no further act is made.
-fn begun<R, G, T>(setting: &Setting<R, G>, begun: Result<T, AllocError>) -> Result<T, WorkFault>
+fn begun<R, G, T>(setting: &Setting<R, G>, begun: Result<T, AllocError>) -> Result<T, Stop>
     ensures made { IfOk result (λ x. begun ≡ Ok x) }
-    ensures fault { IfErr result (λ fault. fault ≡ OutOfMemory) }
+    ensures fault { IfErr result (λ stop. stop ≡ Memory) }
 {
     match begun {
         Ok(begun) => Ok(begun),
         Err(_) => {
             setting.signals.stop();
-            Err(WorkFault::OutOfMemory)
+            Err(Stop::Memory)
         }
     }
 }
@@ -63,7 +65,7 @@ fn run_crews<'t, R, D, G>(
     number: u32,
     pollers: u32,
     stations: Vec<Station<D>>,
-) -> Result<Vec<Finished<D>>, WorkFault>
+) -> Result<Vec<Finished<D>>, Stop>
 where
     R: Threads + Wait + Copy + Drop + Send + Sync,
     D: Device + Drop + Send,
@@ -78,7 +80,6 @@ where
     ensures polled { IfOk result
         (λ all. ArePolled R (IsAsked G.answers setting.now.gate.now) setting.now.pace
         D.acts D.answer D.after number pollers (vec_items stations) (vec_items all)) }
-    ensures fault { IfErr result IsCrewFault }
 {
     if stations.is_empty() {
         return Ok(Vec::new(alloc));
@@ -97,7 +98,7 @@ where
         let others = run_crews(setting, alloc, number + 1, pollers, others)?;
         return Ok(merge(order, Vec::new(alloc), others, room));
     }
-    let later = || -> Result<Vec<Finished<D>>, WorkFault>
+    let later = || -> Result<Vec<Finished<D>>, Stop>
         requires { IsSend R.row × IsSync R.row × IsSend D.row × IsSync G.row
             × (number + 1 < pollers) × (pollers ≤ 8) × IsLawful setting.now.pace
             × All IsStation (vec_items others) × (vec_len others ≤ 16)
@@ -109,46 +110,46 @@ where
             (λ all. ArePolled R (IsAsked G.answers setting.entry.now.gate.now)
             setting.entry.now.pace D.acts D.answer D.after (number + 1) pollers
             (vec_items others) (vec_items all)) }
-        ensures fault { IfErr result IsCrewFault }
     { run_crews(setting, alloc, number + 1, pollers, others) };
     let (finished, others) = begun(setting, run_crew(setting, alloc, number, mine, later))?;
     let (finished, others) = join_answers(finished, others)?;
     Ok(merge(order, finished, others, room))
 }
 
-// Of two faults the one that is told: want of memory, else the first.
-fn graver(fault: WorkFault, other: WorkFault) -> WorkFault
-    ensures { result ≡ graver fault other }
+// Of two the one that counts: want of memory, else that the run was cut short.
+fn graver(stop: Stop, other: Stop) -> Stop
+    ensures { result ≡ graver stop other }
 {
-    match other {
-        WorkFault::OutOfMemory => other,
-        _ => fault,
+    match stop {
+        Stop::Memory => stop,
+        Stop::Short => other,
     }
 }
 
 // What two parts of a run came to together.
 fn join_answers<A: Drop, B: Drop>(
-    mine: Result<A, WorkFault>,
-    others: Result<B, WorkFault>,
-) -> Result<(A, B), WorkFault>
+    mine: Result<A, Stop>,
+    others: Result<B, Stop>,
+) -> Result<(A, B), Stop>
     ensures { result ≡ joined mine others }
 {
     match (mine, others) {
         (Ok(mine), Ok(others)) => Ok((mine, others)),
-        (Err(fault), Ok(_)) | (Ok(_), Err(fault)) => Err(fault),
-        (Err(fault), Err(other)) => Err(graver(fault, other)),
+        (Err(stop), Ok(_)) | (Ok(_), Err(stop)) => Err(stop),
+        (Err(stop), Err(other)) => Err(graver(stop, other)),
     }
 }
 
 // What is told of a run.
-fn tell<T: Drop>(came: Result<T, WorkFault>, refused: bool, shut: bool) -> Result<T, WorkFault>
+fn tell<T: Drop>(came: Result<T, Stop>, refused: bool, shut: bool) -> Result<T, WorkFault>
     ensures { result ≡ told came refused shut }
 {
     match came {
-        Err(WorkFault::OutOfMemory) => Err(WorkFault::OutOfMemory),
+        Err(Stop::Memory) => Err(WorkFault::OutOfMemory),
         _ if refused => Err(WorkFault::SpawnFailed),
         _ if shut => Err(WorkFault::GateShut),
-        came => came,
+        Err(Stop::Short) => Err(WorkFault::OutOfMemory),
+        Ok(all) => Ok(all),
     }
 }
 
@@ -194,6 +195,8 @@ where
         D.acts D.answer D.after 0 pollers (vec_items stations) (vec_items all)) }
     // So never with a gate that is always open.
     ensures gate { IsErrOf result GateShut → G.may_shut }
+    // Only where a thread could not be started, so for no gate that was shut.
+    ensures spawn { IsErrOf result SpawnFailed → IsRefused }
 {
     let watch = Watch::new(gate);
     let signals = Signals::new();
@@ -208,5 +211,5 @@ where
         },
     };
     let came = run_crews(&setting, alloc, 0, pollers, stations);
-    tell(came, signals.is_refused(), watch.is_shut())
+    tell(came, signals.refused.is_told(), watch.is_shut())
 }

@@ -51,7 +51,7 @@ pub returns-clause-len : goal.returns-clause-len
 returns-clause-len g c =
     let a = zip_long _ _ _ c.spread-jobs.ensures.jobs in
     let b = zip_long _ _ _ c.drive-driven.ensures.worked in
-    grind (arith, common_steps, a, b)
+    first_of (grind (arith, common_steps, a, b) steps 10000000, grind (arith, a, b) steps 10000000, grind (arith, common_steps, a, b) steps 1000000)
 
 pub returns-clause-polled : goal.returns-clause-polled
 returns-clause-polled g c polled =

@@ -46,9 +46,6 @@ returns-then-is_empty-2-clause-polled g t c =
     rw (c.merge.ensures, none) (more_polled _ _ _ _ _ _ _ _ _ (vec_items c.in_ok-dealt.dealt.order) (vec_items c.in_ok-dealt.dealt.mine) (vec_items c.in_ok-dealt.dealt.others) [] _
     order d.mine_is d.rest_is d.long [] (sym mine) refl tt tt c.in_ok-others.ensures.polled)
 
-pub returns-then-is_empty-2-clause-fault : goal.returns-then-is_empty-2-clause-fault
-returns-then-is_empty-2-clause-fault g t c = tt
-
 pub run_crew-requires-2-clause-stations : goal.run_crew-requires-2-clause-stations
 run_crew-requires-2-clause-stations g t c κs within = let d = rw c.in_ok-dealt.ensures.made at c.deal_all.ensures.dealt in rw d.mine_is (all_picked IsStation (vec_items c.in_ok-dealt.dealt.order) (vec_items c.args.stations) c.requires.stations)
 
@@ -87,13 +84,10 @@ returns-clause-polled g t c =
     let both = c.in_ok-finished-2.ensures.made in
     let came = joined_ok _ _ _ (sym c.join_answers.ensures ∙ c.in_ok-finished-3.was) in
     let mine = rw both at c.run_crew-2.ensures.polled in
-    let rest = (rw both at c.run_crew-2.ensures.beside).1.0 in
+    let rest = (rw both at c.run_crew-2.ensures.beside).1 in
     let asked = IsAsked g.G.Gate.answers c.args.setting.now.gate.now in
     let pace = c.args.setting.now.pace in
     let device = g.D.Device in
     let made = IfOk-at_ok (λ v. AreOfCrew g.row.R.Denot asked pace device.acts device.answer device.after c.args.number (vec_items c.in_ok-dealt.dealt.mine) (vec_items v)) came.0 mine in
     let later = IfOk-at_ok (λ v. ArePolled g.row.R.Denot asked pace device.acts device.answer device.after (c.args.number + 1) c.args.pollers (vec_items c.in_ok-dealt.dealt.others) (vec_items v)) came.1 rest in
     rw c.merge-2.ensures (of_crew_polled _ _ _ _ _ _ _ _ _ _ _ _ _ _ order d.mine_is d.rest_is d.long made later)
-
-pub returns-clause-fault : goal.returns-clause-fault
-returns-clause-fault g t c = tt

@@ -1,22 +1,32 @@
-use Rattle.{std.{proofs.{Common.{Bool, true, false, arith}, lemmas.Grind.common_steps}, specs.{Borrow.Bor, Global.Vec, Prelude.{Result, Ok, Err, IfOk, vec_items}}}, poll_interrupts.specs.declared.station.Finished.Finished, poll_tasks.specs.Asks.IsAsked}
-use Rattle.poll_workers.{specs.{declared.fault.WorkFault.{WorkFault, TheVariants.{OutOfMemory, GateShut, SpawnFailed}}, Courses.{ArePolled, pace_of}, Faults.told}, proofs.NumberFacts.few_stations}
+use Rattle.{std.{proofs.{Common.{◌≡◌, ◌∙◌, Bool, true, false, arith, refl, sym}, lemmas.Grind.common_steps}, specs.{Borrow.Bor, Global.Vec, Prelude.{Result, Ok, Err, IfOk, IsErrOf, vec_items}}}, poll_interrupts.specs.declared.station.Finished.Finished, poll_tasks.specs.Asks.IsAsked}
+use Rattle.poll_workers.{specs.{declared.fault.{Stop.{Stop, TheVariants.{Memory, Short}}, WorkFault.TheVariants.SpawnFailed}, Courses.{ArePolled, pace_of}, Faults.told}, proofs.NumberFacts.few_stations}
 use Rattle.poll_workers.proofs.run.run_workers.Goals as goal
 
 pub run_crews-came-requires-clause-count : goal.run_crews-came-requires-clause-count
 run_crews-came-requires-clause-count g c = let few = few_stations _ c.requires.stations c.requires.numbers in grind (arith, common_steps, few)
 
 -- what is told of an answer is the answer, or a fault
-told_ok : {A : Type 0} (P : A → Type 0) (came : Result A WorkFault) (refused shut : Bool) → IfOk came P → IfOk (told came refused shut) P
+told_ok : {A : Type 0} (P : A → Type 0) (came : Result A Stop) (refused shut : Bool) → IfOk came P → IfOk (told came refused shut) P
 told_ok P (Ok a) true shut h = tt
 told_ok P (Ok a) false true h = tt
 told_ok P (Ok a) false false h = h
-told_ok P (Err OutOfMemory) refused shut h = tt
-told_ok P (Err GateShut) true shut h = tt
-told_ok P (Err GateShut) false true h = tt
-told_ok P (Err GateShut) false false h = tt
-told_ok P (Err SpawnFailed) true shut h = tt
-told_ok P (Err SpawnFailed) false true h = tt
-told_ok P (Err SpawnFailed) false false h = tt
+told_ok P (Err Memory) refused shut h = tt
+told_ok P (Err Short) true shut h = tt
+told_ok P (Err Short) false true h = tt
+told_ok P (Err Short) false false h = tt
+
+-- that a thread failed is told only where one was refused
+told_refused : {A : Type 0} (came : Result A Stop) (refused shut : Bool) → IsErrOf (told came refused shut) SpawnFailed → refused ≡ true
+told_refused (Ok a) true shut h = refl
+told_refused (Ok a) false true h = absurd cc
+told_refused (Ok a) false false h = absurd cc
+told_refused (Err Memory) refused shut h = absurd cc
+told_refused (Err Short) true shut h = refl
+told_refused (Err Short) false true h = absurd cc
+told_refused (Err Short) false false h = absurd cc
+
+pub returns-clause-spawn : goal.returns-clause-spawn
+returns-clause-spawn g c failed = c.is_told.ensures (told_refused _ _ _ (sym c.tell.ensures ∙ failed))
 
 pub returns-clause-polled : goal.returns-clause-polled
 returns-clause-polled g c =

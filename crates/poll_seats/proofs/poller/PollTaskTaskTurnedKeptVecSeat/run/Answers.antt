@@ -1,5 +1,5 @@
 use Rattle.poll_seats.proofs.SeatFacts.{seats_stay}
 use Rattle.poll_seats.proofs.poller.PollTaskTaskTurnedKeptVecSeat.run.Goals as goal
 
-pub returns-then-is_refused : goal.returns-then-is_refused
-returns-then-is_refused g c = record { same = seats_stay _; turns = λ polled. absurd cc }
+pub returns-then-is_told : goal.returns-then-is_told
+returns-then-is_told g c = record { same = seats_stay _; turns = λ polled. absurd cc }

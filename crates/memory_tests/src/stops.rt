@@ -1,0 +1,117 @@
+//! Memory that is refused to one poller's devices stops the acts of the others.
+
+ghost use Rattle.std.specs.Prelude.{IfOk, vec_items};
+ghost use Rattle.std.specs.List.{All};
+ghost use Rattle.poll_engine.specs.Opens.{IsStation};
+
+use anyhow::{Result, ensure};
+use poll_engine::{Act, Device, Gate, Station, WorkFault, have_distinct_numbers, run_workers};
+use std::alloc::{AllocError, Global};
+use std::sync::Wait;
+use std::sync::atomic::{AtomicU32, Ordering};
+use std::thread;
+use std::thread::Threads;
+
+const ACTS: u32 = 10;
+
+// How often a held act looks whether the other device comes. What is refused is refused long before.
+const LOOKS: u32 = 500_000;
+
+/// A device of ten acts that do nothing, which counts them.
+#[derive(Drop)]
+struct Counting<'a> {
+    made: &'a AtomicU32,
+}
+
+impl Device for Counting<'_> {
+    ghost use Rattle.poll_engine.specs.Act.TheVariants.{Nothing};
+
+    ghost acts = { λ _. 10 };
+
+    ghost answer = { λ _ _. Nothing };
+
+    ghost after = { λ d _. d };
+
+    fn acts(&self) -> u32 {
+        ACTS
+    }
+
+    fn act(&mut self, _k: u32) -> Act {
+        self.made.fetch_add(1, Ordering::SeqCst);
+        Act::Nothing
+    }
+}
+
+/// Holds the first act of device 1 until device 2 comes to its own, but not for ever.
+#[derive(Drop)]
+struct HoldsFirst {
+    came: AtomicU32,
+}
+
+impl Gate for HoldsFirst {
+    fn pass(&self, worker: u32, act: u32) -> bool {
+        if worker == 2 {
+            self.came.store(1, Ordering::SeqCst);
+        }
+        for _ in 0..LOOKS {
+            if worker != 1 || act != 0 || self.came.load(Ordering::SeqCst) == 1 {
+                break;
+            }
+            thread::yield_now();
+        }
+        true
+    }
+}
+
+fn try_stations<'a>(
+    alloc: Global,
+    made: &'a [AtomicU32; 2],
+) -> Result<Vec<Station<Counting<'a>>>, AllocError>
+    ensures { IfOk result (λ v. All IsStation (vec_items v)) }
+{
+    let mut stations = Vec::new(alloc);
+    for index in 0..2u32 {
+        stations.push(Station {
+            number: index + 1,
+            capacity: 4,
+            thread: true,
+            device: Counting {
+                made: &made[index as usize],
+            },
+        })?;
+    }
+    Ok(stations)
+}
+
+// How many acts device 1 made in a run of two devices with a poller each, and whether memory, or a thread, was refused.
+fn count<R: Threads + Wait + Sync>(rt: &R, alloc: Global) -> Result<(u32, bool)> {
+    let made = [AtomicU32::new(0), AtomicU32::new(0)];
+    let gate = HoldsFirst {
+        came: AtomicU32::new(0),
+    };
+    let Ok(stations) = try_stations(alloc, &made) else {
+        return Ok((0, true));
+    };
+    ensure!(have_distinct_numbers(&stations), "one number twice");
+    let refused = match run_workers(rt, alloc, stations, 2, 300, 64, 1024, &gate) {
+        Ok(_) => false,
+        Err(WorkFault::OutOfMemory | WorkFault::SpawnFailed) => true,
+        Err(WorkFault::GateShut) => return Err(WorkFault::GateShut.into()),
+    };
+    Ok((made[0].load(Ordering::SeqCst), refused))
+}
+
+pub(crate) fn acts_are_stopped<R: Threads + Wait + Sync>(rt: &R, alloc: Global) -> Result<bool> {
+    let (made, refused) = count(rt, alloc)?;
+    if !refused {
+        ensure!(made == ACTS, "{made} acts were made");
+        return Ok(false);
+    }
+    ensure!(
+        made <= 1,
+        "{made} acts were made though another poller's devices were refused"
+    );
+    let (again, refused) = count(rt, alloc)?;
+    ensure!(!refused && again == ACTS, "refused twice");
+    Ok(true)
+}

@@ -1,0 +1,9 @@
+-- That a thread could not be started. Who is refused one knows it by the error; none else can prove it.
+use Rattle.std.specs.declared.thread.SpawnError.{SpawnError}
+
+pub IsRefused : Type 0
+IsRefused = Unit {0}
+
+pub refused_by : {F : Type 0} → SpawnError F → IsRefused
+unfolding IsRefused
+refused_by error = tt
