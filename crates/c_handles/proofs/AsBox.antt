@@ -11,7 +11,11 @@ use Rattle.c_handles.specs.contracts.parts.Parts as Parts
 use Rattle.c_handles.specs.contracts.held.Held as Held
 
 abbrev pub E : Bx
-E = record { row = Body.the_row; laws = body.the_row_laws; al = record { row = Heap.the_row; laws = heap.the_row_laws; g = ghosts; d = dict; drops = impl [] tnil dnil } }
+E = record {
+  row = Body.the_row;
+  laws = body.the_row_laws;
+  al = record { row = Heap.the_row; laws = heap.the_row_laws; g = ghosts; d = dict; drops = impl [] tnil dnil };
+}
 
 abbrev pub FromParts : Slot 0
 FromParts = plain (λ _. Parts.the_row Body.the_row Heap.the_row ghosts)

@@ -4,8 +4,10 @@ use Rattle.napi_model.{proofs.Histories.legal_back, specs.{Step.{opening, event}
 use Rattle.napi_model.specs.declared.event.Done.TheVariants as done
 use Rattle.napi_model.specs.declared.event.Operation.TheVariants as operation
 use Rattle.napi_word.specs.declared.table.Pass.{Pass}
-use Rattle.napi_calls.specs.{Made.Made, Calls.TriesToComplete, Packets.TriesToGiveBack, declared.types.Polling.Polling, Seats.{number_of, controller_of, shown}}
-use Rattle.c_handles.specs.{Tries.{Is, completed}, SeatCalls.{Completes, RestsWith, GrantedWith}, Handles.{OnHandle, SeatMakesIn}, Endings.{EndsBy, LeadsToSeat}, Status.{HELD, NOT_ALLOWED, BAD_HANDLE, RELEASED, AGAIN}}
+use Rattle.napi_calls.specs.{Made.Made, Calls.TriesToComplete, Packets.TriesToGiveBack, declared.types.Polling.Polling}
+use Rattle.napi_calls.specs.Seats.{number_of, controller_of, shown}
+use Rattle.c_handles.specs.{Tries.{Is, completed}, SeatCalls.{Completes, RestsWith, GrantedWith}, Handles.{OnHandle, SeatMakesIn}}
+use Rattle.c_handles.specs.{Endings.{EndsBy, LeadsToSeat}, Status.{HELD, NOT_ALLOWED, BAD_HANDLE, RELEASED, AGAIN}}
 use Rattle.c_handles.specs.declared.{hold.Hold.Hold, body.Body.Body}
 use Rattle.c_handles.specs.declared.hold.Hold.TheVariants as hold
 use Rattle.c_handles.specs.declared.hold.SeatCall.TheVariants as seat_call
@@ -16,7 +18,8 @@ is_held n = nat_eq n HELD || nat_eq n NOT_ALLOWED || nat_eq n BAD_HANDLE
 
 -- ---- released
 
-pub ends_released : (p : Pass) (x : Seen) (q : Pass) → Made p (operation.Look x ∷ operation.Complete done.Released ∷ []) q → EndsBy done.Released false q
+pub ends_released : (p : Pass) (x : Seen) (q : Pass) → Made p (operation.Look x ∷ operation.Complete done.Released ∷ []) q
+    → EndsBy done.Released false q
 unfolding LegalHistory
 ends_released p x q m =
     let before = m.ends.0 in
@@ -63,7 +66,8 @@ made_released (Some body.Gone) (Some y) m = let bad : false ≡ true = ap is_hel
 
 -- ---- again
 
-pub ends_again : (p : Pass) (x : Seen) (q : Pass) → Made p (operation.Look x ∷ operation.Complete done.Again ∷ []) q → EndsBy done.Again true q
+pub ends_again : (p : Pass) (x : Seen) (q : Pass) → Made p (operation.Look x ∷ operation.Complete done.Again ∷ []) q
+    → EndsBy done.Again true q
 unfolding LegalHistory
 ends_again p x q m =
     let before = m.ends.0 in

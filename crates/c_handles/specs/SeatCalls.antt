@@ -16,7 +16,8 @@ use Rattle.napi_calls.specs.declared.types.Polling.{Polling}
 use Rattle.napi_calls.specs.declared.types.Busy.{Busy}
 use Rattle.napi_word.specs.declared.table.Pass.{Pass}
 use Rattle.napi_calls.specs.Made.{Made, WasLost}
-use Rattle.napi_calls.specs.Packets.{Quiet, HoldsOn, GivesBack, IsSame, PreparesQuietly, TakesFresh, TriesToGiveBack, TriesToBusyPollFresh, TriesToStopHolding, TriesToTakeFresh}
+use Rattle.napi_calls.specs.Packets.{Quiet, HoldsOn, GivesBack, IsSame, PreparesQuietly, TakesFresh, TriesToGiveBack, TriesToBusyPollFresh}
+use Rattle.napi_calls.specs.Packets.{TriesToStopHolding, TriesToTakeFresh}
 use Rattle.napi_calls.specs.Calls.{Prepares, Takes, TriesToComplete, TriesToBusyPoll, TriesToStop, TriesToTake, EnablesAt}
 use Rattle.c_handles.specs.declared.hold.Hold.{Hold}
 use Rattle.c_handles.specs.declared.hold.Hold.TheVariants as hold
@@ -104,7 +105,8 @@ Tries events packets p = Is (λ r. events p r × packets p r)
 -- was polled is delivered.
 abbrev pub Completes : Hold → ℕ → Hold → Type 0
 Completes (hold.Polls w) n after = Is (λ r. TriesToComplete w.pass r × TriesToGiveBack w.pass w.ctx r) (completed after n)
-Completes (hold.Busy b) n after = (n ≡ HELD) × BusyWith (λ x. Made b.pass (operation.Complete done.Held ∷ []) x.pass × HoldsOn b.pass x.pass × (x.ctx ≡ b.ctx)) after
+Completes (hold.Busy b) n after =
+    (n ≡ HELD) × BusyWith (λ x. Made b.pass (operation.Complete done.Held ∷ []) x.pass × HoldsOn b.pass x.pass × (x.ctx ≡ b.ctx)) after
 Completes (hold.Rests c) n after = Refused (hold.Rests c) n after
 Completes (hold.Granted g) n after = Refused (hold.Granted g) n after
 Completes hold.Gone n after = Refused hold.Gone n after
@@ -114,18 +116,22 @@ abbrev pub SeatAnswers : SeatCall → Hold → ℕ → Hold → Type 0
 SeatAnswers seat_call.Schedule = IfRests (λ p n after. Tries Prepares PreparesQuietly p (scheduled after n))
 SeatAnswers (seat_call.Hand k) = IfGranted (λ p n after. (n ≡ OK) × RestsWith (Does (operation.Hand k ∷ []) p) after)
 SeatAnswers (seat_call.Take k) = IfRests (λ p n after. Tries (Takes k) TakesFresh p (taken after n))
-SeatAnswers seat_call.Requeue = IfPolls (λ w n after. (n ≡ OK) × RestsWith (λ q. Made w.pass (operation.Hand kind.List ∷ []) q × GivesBack w.pass w.ctx q) after)
+SeatAnswers seat_call.Requeue =
+    IfPolls (λ w n after. (n ≡ OK) × RestsWith (λ q. Made w.pass (operation.Hand kind.List ∷ []) q × GivesBack w.pass w.ctx q) after)
 SeatAnswers seat_call.Complete = Completes
 SeatAnswers seat_call.BusyTake = IfRests (λ p n after. Tries TriesToBusyPoll TriesToBusyPollFresh p (busy_taken after n))
-SeatAnswers seat_call.BusyStop = IfBusy (λ b n after. Is (λ r. TriesToStop b.pass r × TriesToStopHolding b.pass b.ctx r) (busy_stopped after n))
+SeatAnswers seat_call.BusyStop =
+    IfBusy (λ b n after. Is (λ r. TriesToStop b.pass r × TriesToStopHolding b.pass b.ctx r) (busy_stopped after n))
 SeatAnswers (seat_call.SetThreaded b) = IfRests (λ p n after. (n ≡ OK) × RestsWith (Does (operation.SetThreaded b ∷ []) p) after)
 
 -- a look tells this, and the caller stays what it is
 abbrev pub SeatLooks : Hold → Option Seen → Hold → Type 0
 SeatLooks (hold.Rests c) (Some x) after = RestsWith (Does (operation.Look x ∷ []) c.pass) after
 SeatLooks (hold.Granted g) (Some x) after = GrantedWith (Does (operation.Look x ∷ []) g.pass) after
-SeatLooks (hold.Polls w) (Some x) after = PollsWith (λ v. Made w.pass (operation.Look x ∷ []) v.pass × HoldsOn w.pass v.pass × (v.ctx ≡ w.ctx)) after
-SeatLooks (hold.Busy b) (Some x) after = BusyWith (λ v. Made b.pass (operation.Look x ∷ []) v.pass × HoldsOn b.pass v.pass × (v.ctx ≡ b.ctx)) after
+SeatLooks (hold.Polls w) (Some x) after =
+    PollsWith (λ v. Made w.pass (operation.Look x ∷ []) v.pass × HoldsOn w.pass v.pass × (v.ctx ≡ w.ctx)) after
+SeatLooks (hold.Busy b) (Some x) after =
+    BusyWith (λ v. Made b.pass (operation.Look x ∷ []) v.pass × HoldsOn b.pass v.pass × (v.ctx ≡ b.ctx)) after
 SeatLooks hold.Gone (Some x) after = ⊥
 SeatLooks before None after = (before ≡ hold.Gone) × (after ≡ before)
 
@@ -164,7 +170,8 @@ MarkedWith P mode.Gone = ⊥
 -- `napi_enable`, in one try: what was polled is delivered, or the controller has it still
 abbrev pub EnablesIn : Pass → RxCtx → Bool → ℕ → Mode → Type 0
 EnablesIn p ctx threaded n (mode.On c) = (n ≡ OK) × EnablesAt threaded p c.pass × GivesBack p ctx c.pass
-EnablesIn p ctx threaded n (mode.Off c) = (n ≡ CHANGED) × WasLost (call.Enable threaded) p c.pass × HoldsOn p c.pass × IsSame ctx c.state.ctx
+EnablesIn p ctx threaded n (mode.Off c) =
+    (n ≡ CHANGED) × WasLost (call.Enable threaded) p c.pass × HoldsOn p c.pass × IsSame ctx c.state.ctx
 EnablesIn p ctx threaded n (mode.Marked c) = ⊥
 EnablesIn p ctx threaded n mode.Gone = ⊥
 

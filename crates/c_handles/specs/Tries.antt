@@ -25,7 +25,8 @@ Is P (Some r) = P r
 
 abbrev pub scheduled : Hold → ℕ → Option TryPrep
 scheduled (hold.Granted g) n = if n == GRANTED then Some (try_prep.Granted g) else None
-scheduled (hold.Rests c) n = if n == MISSED then Some (try_prep.Missed c) else (if n == DISABLED then Some (try_prep.Disabled c) else (if n == CHANGED then Some (try_prep.Changed c) else None))
+scheduled (hold.Rests c) n = if n == MISSED then Some (try_prep.Missed c)
+    else (if n == DISABLED then Some (try_prep.Disabled c) else (if n == CHANGED then Some (try_prep.Changed c) else None))
 scheduled (hold.Polls w) n = None
 scheduled (hold.Busy b) n = None
 scheduled hold.Gone n = None

@@ -1,17 +1,22 @@
 -- How a change of one device keeps what is true of all.
-use Rattle.std.{proofs.Common.{◌≡◌, ◌≢◌, ◌∙◌, ℕ, zero, suc, ◌+◌, ◌<◌, ◌≤◌, Bool, true, false, Option, Some, None, [], ◌∷◌, length, ◌++◌, length-set, replicate, slice_set, take, drop, ap, refl, sym, arith}, specs.Prelude.{◌==◌, nat_lt}}
-use Rattle.{std.proofs.lemmas.{Bool.{eqb-true, eqb-false, ltb-true, ltb-false}, List.{append-nil, drop_all, get_or-set_other, take_all}}, device_bench.specs.{Bench.{all_settled, settled_at}, Device.{is_pending, opened, settled}}}
-use Rattle.device_bench.{specs.{DeviceView.DeviceView, Kept.{IsKept, is_pending_at, is_sound, is_sound_at}}, proofs.{DeviceFacts.settled-same, Waiting.{waiting-empty, waiting-most}}}
+use Rattle.std.proofs.Common.{◌≡◌, ◌≢◌, ◌∙◌, ℕ, zero, suc, ◌+◌, ◌<◌, ◌≤◌, Bool, true, false, Option, Some, None, [], ◌∷◌, length, ◌++◌}
+use Rattle.std.{proofs.Common.{length-set, replicate, slice_set, take, drop, ap, refl, sym, arith}, specs.Prelude.{◌==◌, nat_lt}}
+use Rattle.std.proofs.lemmas.{Bool.{eqb-true, eqb-false, ltb-true, ltb-false}, List.{append-nil, drop_all, get_or-set_other, take_all}}
+use Rattle.device_bench.specs.{Bench.{all_settled, settled_at}, Device.{is_pending, opened, settled}}
+use Rattle.device_bench.specs.{DeviceView.DeviceView, Kept.{IsKept, is_pending_at, is_sound, is_sound_at}}
+use Rattle.device_bench.proofs.{DeviceFacts.settled-same, Waiting.{waiting-empty, waiting-most}}
 use Rattle.device_rows.{specs.Places.{Places, at, changed, changed_from, empty}, proofs.PlaceFacts.{at-set, below-some}}
 
 pub sound-at : (u : Bool) (xs : Places DeviceView) (n : ℕ) (d : DeviceView) → IsKept u xs → at n xs ≡ Some d → is_sound d ≡ true
 sound-at u xs n d k e = ap is_sound_at (sym e) ∙ k.sound n
 
-pub pending-off : (u : Bool) (xs : Places DeviceView) (n : ℕ) (d : DeviceView) → IsKept u xs → at n xs ≡ Some d → u ≡ false → is_pending d ≡ false
+pub pending-off : (u : Bool) (xs : Places DeviceView) (n : ℕ) (d : DeviceView) → IsKept u xs → at n xs ≡ Some d → u ≡ false
+    → is_pending d ≡ false
 pending-off u xs n d k e off = ap is_pending_at (sym e) ∙ k.settled off n
 
 -- one place is set to a device that is sound, and that is pending only where a disable may be
-pub kept-set : (u v : Bool) (xs : Places DeviceView) (n : ℕ) (e : DeviceView) → IsKept u xs → n < length xs → is_sound e ≡ true → (v ≡ false → u ≡ false) → (v ≡ false → is_pending e ≡ false)
+pub kept-set : (u v : Bool) (xs : Places DeviceView) (n : ℕ) (e : DeviceView) → IsKept u xs → n < length xs → is_sound e ≡ true
+    → (v ≡ false → u ≡ false) → (v ≡ false → is_pending e ≡ false)
     → IsKept v (slice_set xs n (Some e))
 kept-set u v xs n e k below sound both pending = record {
   places = length-set xs n (Some e) ∙ k.places;
@@ -34,11 +39,13 @@ kept-empty = record {
 }
 
 -- a new device, which is sound and isn't pending
-pub kept-opened : (u : Bool) (xs : Places DeviceView) (n capacity : ℕ) → IsKept u xs → n < length xs → IsKept u (slice_set xs n (Some (opened capacity)))
+pub kept-opened : (u : Bool) (xs : Places DeviceView) (n capacity : ℕ) → IsKept u xs → n < length xs
+    → IsKept u (slice_set xs n (Some (opened capacity)))
 kept-opened u xs n capacity k below = kept-set u u xs n (opened capacity) k below refl (λ off. off) (λ off. refl)
 
 -- a change of one device that keeps both
-pub kept-changed : (u : Bool) (xs : Places DeviceView) (n : ℕ) (d e : DeviceView) → IsKept u xs → at n xs ≡ Some d → is_sound e ≡ true → is_pending e ≡ is_pending d
+pub kept-changed : (u : Bool) (xs : Places DeviceView) (n : ℕ) (d e : DeviceView) → IsKept u xs → at n xs ≡ Some d → is_sound e ≡ true
+    → is_pending e ≡ is_pending d
     → IsKept u (slice_set xs n (Some e))
 kept-changed u xs n d e k here sound pending =
     kept-set u u xs n e k (below-some xs n d here) sound (λ off. off) (λ off. pending ∙ ap is_pending_at (sym here) ∙ k.settled off n)
@@ -58,7 +65,8 @@ settled-off u xs k off = all-settled-same xs (k.settled off)
 pub settled_to : ℕ → Places DeviceView → Places DeviceView
 settled_to n xs = all_settled (take n xs) ++ drop n xs
 
-changed-cons : (f : DeviceView → DeviceView) (n : ℕ) (x : Option DeviceView) (xs : Places DeviceView) → changed f (suc n) (x ∷ xs) ≡ x ∷ changed f n xs
+changed-cons : (f : DeviceView → DeviceView) (n : ℕ) (x : Option DeviceView) (xs : Places DeviceView)
+    → changed f (suc n) (x ∷ xs) ≡ x ∷ changed f n xs
 changed-cons f n x xs = by (at n xs)
   where
     by : (o : Option DeviceView) → changed_from f (suc n) o (x ∷ xs) ≡ x ∷ changed_from f n o xs
@@ -71,7 +79,8 @@ settled-next n [] below = absurd (omega (arith, below))
 settled-next zero (None ∷ xs) below = refl
 settled-next zero (Some d ∷ xs) below = refl
 settled-next (suc n) (x ∷ xs) below =
-    changed-cons settled n (settled_at x) (settled_to n xs) ∙ ap (λ (l : Places DeviceView). settled_at x ∷ l) (settled-next n xs (omega (arith, below)))
+    changed-cons settled n (settled_at x) (settled_to n xs)
+    ∙ ap (λ (l : Places DeviceView). settled_at x ∷ l) (settled-next n xs (omega (arith, below)))
 
 pub settled-more : (n : ℕ) (xs ys : Places DeviceView) → n < length xs → ys ≡ settled_to n xs → changed settled n ys ≡ settled_to (n + 1) xs
 settled-more n xs ys below e =
@@ -109,10 +118,12 @@ up-to n m xs ys e here before below = by (m == n) refl
     by true same = ap (λ i. is_pending_at (at i ys)) (eqb-true m n same) ∙ here
     by false other =
         let apart : m ≢ n = eqb-false m n other in
-        ap (λ (l : Places DeviceView). is_pending_at (at m l)) e ∙ ap is_pending_at (at-other settled n m xs apart) ∙ before m (omega (arith, below, apart))
+        ap (λ (l : Places DeviceView). is_pending_at (at m l)) e ∙ ap is_pending_at (at-other settled n m xs apart)
+        ∙ before m (omega (arith, below, apart))
 
 -- where no place has one that is pending, no number has
-pub beyond : (n : ℕ) (xs : Places DeviceView) → length xs ≤ n → ((i : ℕ) → i < n → is_pending_at (at i xs) ≡ false) → (m : ℕ) → is_pending_at (at m xs) ≡ false
+pub beyond : (n : ℕ) (xs : Places DeviceView) → length xs ≤ n → ((i : ℕ) → i < n → is_pending_at (at i xs) ≡ false) → (m : ℕ)
+    → is_pending_at (at m xs) ≡ false
 beyond n xs most off m = by (nat_lt m n) refl
   where
     by : (b : Bool) → nat_lt m n ≡ b → is_pending_at (at m xs) ≡ false

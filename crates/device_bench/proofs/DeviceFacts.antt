@@ -1,9 +1,17 @@
 -- What rows and polls keep of a device: that it is sound, whether a disable is pending, and whether it waits on the list.
-use Rattle.{std.{proofs.Common.{◌≡◌, ◌∙◌, ℕ, zero, suc, ◌+◌, ◌≤◌, Bool, true, false, Option, Some, None, List, [], ◌∷◌, length, refl, arith}, specs.Prelude.{◌==◌, ◌||◌, is_some, not, if◌then◌else◌}}, napi_model.specs.Step.is_handed}
-use Rattle.{napi_model.specs.declared.{event.{Prep.TheVariants.{Granted, Missed, Disabled}, Done.Done}, state.{Kind.Kind, Place.Place}}, poll_runs.specs.{Polling.next_of, Polls.is_arrival, Thread.{is_for_thread, last_next}, declared.bench.Next.Next}}
-use Rattle.{poll_runs.specs.declared.bench.{Next.TheVariants.{Again, Repoll}, Once.Once}, device_bench.specs.Waiting.{count, is_left_to_list, is_listed, leaves, waits}, device_transmit.specs.Counter.raised}
-use Rattle.device_bench.specs.Device.{after_disable, after_enable, after_packet, after_poll, after_reply, after_request, after_take, after_threaded, asks_again, completed, completed_told, disabled_from, enabled_from, ended, ended_by, goes_on, is_pending, let_go, made, polled, polled_by_thread, polled_once, retaken, settled, state_of, taken, thread_polls, with_napi}
-use Rattle.device_bench.{specs.{DeviceView.DeviceView, Kept.{is_held, is_sound}, declared.{counts.DeviceState.DeviceState, device.TheConstants.{INTERRUPT, POLLER, THREAD}}}, proofs.ThreadFacts.{goes-more, goes-next, some-polls}}
+use Rattle.std.proofs.Common.{◌≡◌, ◌∙◌, ℕ, zero, suc, ◌+◌, ◌≤◌, Bool, true, false, Option, Some, None, List, [], ◌∷◌, length, refl, arith}
+use Rattle.{std.specs.Prelude.{◌==◌, ◌||◌, is_some, not, if◌then◌else◌}, napi_model.specs.Step.is_handed}
+use Rattle.napi_model.specs.declared.{event.{Prep.TheVariants.{Granted, Missed, Disabled}, Done.Done}, state.{Kind.Kind, Place.Place}}
+use Rattle.poll_runs.specs.{Polling.next_of, Polls.is_arrival, Thread.{is_for_thread, last_next}, declared.bench.Next.Next}
+use Rattle.poll_runs.specs.declared.bench.{Next.TheVariants.{Again, Repoll}, Once.Once}
+use Rattle.{device_bench.specs.Waiting.{count, is_left_to_list, is_listed, leaves, waits}, device_transmit.specs.Counter.raised}
+use Rattle.device_bench.specs.Device.{after_disable, after_enable, after_packet, after_poll, after_reply, after_request, after_take}
+use Rattle.device_bench.specs.Device.{after_threaded, asks_again, completed, completed_told, disabled_from, enabled_from, ended, ended_by}
+use Rattle.device_bench.specs.Device.{goes_on, is_pending, let_go, made, polled, polled_by_thread, polled_once, retaken, settled, state_of}
+use Rattle.device_bench.specs.Device.{taken, thread_polls, with_napi}
+use Rattle.device_bench.specs.{DeviceView.DeviceView, Kept.{is_held, is_sound}}
+use Rattle.device_bench.specs.declared.{counts.DeviceState.DeviceState, device.TheConstants.{INTERRUPT, POLLER, THREAD}}
+use Rattle.device_bench.proofs.ThreadFacts.{goes-more, goes-next, some-polls}
 use Rattle.device_bench.specs.Receive.{done_by, given_of, handed_again, has_place, is_control, put_if, tried_by}
 use Rattle.napi_model.specs.declared.event.Operation.TheVariants as operation
 
@@ -34,8 +42,10 @@ abbrev pub entries : Option Kind → ℕ
 entries handed = count (is_listed handed)
 
 -- a scheduled instance that its owner hands over
-hands : (threaded : Bool) (caller : ℕ) (d g : DeviceView) → g.side.napi.flags.sched ≡ true → is_pending g ≡ is_pending d → is_handed Kind.List d.side.napi.place ≡ false
-    → Keeps d (made caller (operation.Hand (if threaded then Kind.Thread else Kind.List)) g) (entries (Some (if threaded then Kind.Thread else Kind.List)))
+hands : (threaded : Bool) (caller : ℕ) (d g : DeviceView) → g.side.napi.flags.sched ≡ true → is_pending g ≡ is_pending d
+    → is_handed Kind.List d.side.napi.place ≡ false
+    → Keeps d (made caller (operation.Hand (if threaded then Kind.Thread else Kind.List)) g)
+    (entries (Some (if threaded then Kind.Thread else Kind.List)))
 hands true caller d g sched pending off = record { sound = sched; pending = pending; listed = rw off refl }
 hands false caller d g sched pending off = record { sound = sched; pending = pending; listed = rw off refl }
 
@@ -44,11 +54,14 @@ unfolding after_request
 request-keeps d sound = by d.side.napi.flags.disable d.side.napi.flags.sched refl
   where
     by : (disable sched : Bool) → d.side.napi.flags.sched ≡ sched
-        → let replied = after_reply (if disable then Disabled else (if sched then Missed else Granted)) d in Keeps d replied.1 (entries replied.0)
+        → let replied = after_reply (if disable then Disabled else (if sched then Missed else Granted)) d in
+        Keeps d replied.1 (entries replied.0)
     by true sched e = record { sound = sound; pending = refl; listed = omega arith }
     by false true e = record { sound = sound; pending = refl; listed = omega arith }
     by false false e =
-        hands d.side.napi.flags.threaded INTERRUPT d (record (made INTERRUPT (operation.Schedule Granted) d) { told = record d.told { granted = raised d.told.granted 1 } }) refl refl
+        hands d.side.napi.flags.threaded INTERRUPT d (record (made INTERRUPT (operation.Schedule Granted) d) {
+          told = record d.told { granted = raised d.told.granted 1 };
+        }) refl refl
         (unheld d.side.napi.place d.side.napi.flags.sched sound e)
 
 pub packet-keeps : (bytes : ℕ) (d : DeviceView) → is_sound d ≡ true → Keeps d (after_packet bytes d).1 (entries (after_packet bytes d).0)
@@ -58,7 +71,9 @@ packet-keeps bytes d sound = by (has_place d.side)
     put : DeviceView
     put = record d { side = put_if true bytes d.side; told = record d.told { arrived = raised d.told.arrived 1 } }
 
-    by : (b : Bool) → let after = if◌then◌else◌ {A = Option Kind × DeviceView} b (after_request put) (None, record d { told = record d.told { arrived = raised d.told.arrived 1; dropped = raised d.told.dropped 1 } }) in
+    by : (b : Bool) → let after =
+        if◌then◌else◌ {A = Option Kind × DeviceView} b (after_request put)
+        (None, record d { told = record d.told { arrived = raised d.told.arrived 1; dropped = raised d.told.dropped 1 } }) in
         Keeps d after.1 (entries after.0)
     by true = let kept = request-keeps put sound in record { sound = kept.sound; pending = kept.pending; listed = kept.listed }
     by false = record { sound = sound; pending = refl; listed = omega arith }
@@ -82,12 +97,19 @@ sound-of Place.Nobody sched e = refl
 sound-of p sched e = e
 
 handed-on : (threaded : Bool) (poller : ℕ) (d g : DeviceView) → g.side.napi.flags.sched ≡ true → is_pending g ≡ is_pending d
-    → Leaves d (made poller (operation.Hand (if threaded then Kind.Thread else Kind.List)) g) (Again (if threaded then Kind.Thread else Kind.List))
+    → Leaves d (made poller (operation.Hand (if threaded then Kind.Thread else Kind.List)) g)
+    (Again (if threaded then Kind.Thread else Kind.List))
 handed-on true poller d g sched pending = record { sound = sched; pending = pending; listed = refl; sched = λ e. sched }
 handed-on false poller d g sched pending = record { sound = sched; pending = pending; listed = refl; sched = λ e. sched }
 
 kept-in-hand : (d : DeviceView) → IsInHand d → Leaves d d Repoll
-kept-in-hand d hand = record { sound = sound-of d.side.napi.place d.side.napi.flags.sched hand.sched; pending = refl; listed = rw hand.off refl; sched = λ e. hand.sched }
+kept-in-hand d hand =
+    record {
+      sound = sound-of d.side.napi.place d.side.napi.flags.sched hand.sched;
+      pending = refl;
+      listed = rw hand.off refl;
+      sched = λ e. hand.sched;
+    }
 
 pub completed-leaves : (poller : ℕ) (d : DeviceView) → IsInHand d → Leaves d (completed poller d).1 (completed poller d).0
 unfolding completed
@@ -99,11 +121,21 @@ completed-leaves poller d hand = by d.side.napi.flags.in_busy_poll d.side.napi.f
         Leaves d (record (with_napi (done_by poller done d.side.napi) d) { told = completed_told (is_some again) d.told }) (next_of again)
 
     by : (busy missed : Bool) → After (if busy then Done.Held else (if missed then Done.Again else Done.Released))
-    by true missed = record { sound = sound-of d.side.napi.place d.side.napi.flags.sched hand.sched; pending = refl; listed = rw hand.off refl; sched = λ e. cc e }
-    by false true = handed-on d.side.napi.flags.threaded poller d (record (made poller (operation.Complete Done.Again) d) { told = record d.told { again = raised d.told.again 1 } }) hand.sched refl
+    by true missed =
+        record {
+          sound = sound-of d.side.napi.place d.side.napi.flags.sched hand.sched;
+          pending = refl;
+          listed = rw hand.off refl;
+          sched = λ e. cc e;
+        }
+    by false true =
+        handed-on d.side.napi.flags.threaded poller d (record (made poller (operation.Complete Done.Again) d) {
+          told = record d.told { again = raised d.told.again 1 };
+        }) hand.sched refl
     by false false = record { sound = refl; pending = refl; listed = refl; sched = λ e. cc e }
 
-ended-leaves : (poller work weight : ℕ) (d : DeviceView) → IsInHand d → Leaves d (ended poller work weight d).1 (ended poller work weight d).0
+ended-leaves : (poller work weight : ℕ) (d : DeviceView) → IsInHand d
+    → Leaves d (ended poller work weight d).1 (ended poller work weight d).0
 unfolding ended
 ended-leaves poller work weight d hand = by (asks_again work weight d)
   where
@@ -142,7 +174,9 @@ once-keeps weight d sound = by (is_handed Kind.List d.side.napi.place) refl
     by false e = record { sound = sound; pending = refl; listed = omega arith }
     by true e =
         let poll = after_poll POLLER weight (taken POLLER Kind.List d) in
-        let left = poll-leaves POLLER weight (taken POLLER Kind.List d) (record { sched = scheduled Kind.List d.side.napi.place d.side.napi.flags.sched sound e; off = refl }) in
+        let left =
+        poll-leaves POLLER weight (taken POLLER Kind.List d)
+        (record { sched = scheduled Kind.List d.side.napi.place d.side.napi.flags.sched sound e; off = refl }) in
         let gone = lets-go POLLER (taken POLLER Kind.List d) poll.1 poll.0.next left in
         record { sound = gone.sound; pending = gone.pending; listed = rw e (omega (arith, gone.listed)) }
 
@@ -163,8 +197,10 @@ zero-off : (b : Bool) → if◌then◌else◌ {A = ℕ} b 1 0 ≡ 0 → b ≡ fa
 zero-off true e = absurd (omega (arith, e))
 zero-off false e = refl
 
-retakes : (d e : DeviceView) (next : Next) → Leaves d e next → is_for_thread next ≡ true → IsInHand (retaken next e) × (is_pending (retaken next e) ≡ is_pending d)
-retakes d e Repoll left goes = (record { sched = left.sched refl; off = zero-off (is_handed Kind.List e.side.napi.place) left.listed }, left.pending)
+retakes : (d e : DeviceView) (next : Next) → Leaves d e next → is_for_thread next ≡ true
+    → IsInHand (retaken next e) × (is_pending (retaken next e) ≡ is_pending d)
+retakes d e Repoll left goes =
+    (record { sched = left.sched refl; off = zero-off (is_handed Kind.List e.side.napi.place) left.listed }, left.pending)
 retakes d e (Again k) left goes = (record { sched = left.sched goes; off = refl }, left.pending)
 retakes d e next left goes = cc goes
 
@@ -172,9 +208,11 @@ last-of : (once : Once) (more : List Once) → 1 ≤ length more → last_next (
 last-of once [] some = absurd (omega arith)
 last-of once (second ∷ more) some = refl
 
-thread-leaves : (most weight : ℕ) (d : DeviceView) → IsInHand d → let after = thread_polls most weight d in LeavesPolled d after.1 (last_next after.0)
+thread-leaves : (most weight : ℕ) (d : DeviceView) → IsInHand d → let after = thread_polls most weight d in
+    LeavesPolled d after.1 (last_next after.0)
 unfolding thread_polls
-thread-leaves zero weight d hand = record { sound = sound-of d.side.napi.place d.side.napi.flags.sched hand.sched; pending = refl; listed = rw hand.off refl }
+thread-leaves zero weight d hand =
+    record { sound = sound-of d.side.napi.place d.side.napi.flags.sched hand.sched; pending = refl; listed = rw hand.off refl }
 thread-leaves (suc most) weight d hand = by (goes_on poll.0.next (most == 0)) refl (thread-leaves most weight (retaken poll.0.next poll.1))
   where
     poll : Once × DeviceView
@@ -186,13 +224,16 @@ thread-leaves (suc most) weight d hand = by (goes_on poll.0.next (most == 0)) re
     more : List Once × DeviceView
     more = thread_polls most weight (retaken poll.0.next poll.1)
 
-    by : (b : Bool) → goes_on poll.0.next (most == 0) ≡ b → (IsInHand (retaken poll.0.next poll.1) → LeavesPolled (retaken poll.0.next poll.1) more.1 (last_next more.0))
+    by : (b : Bool) → goes_on poll.0.next (most == 0) ≡ b
+        → (IsInHand (retaken poll.0.next poll.1) → LeavesPolled (retaken poll.0.next poll.1) more.1 (last_next more.0))
         → LeavesPolled d (thread_polls (suc most) weight d).1 (last_next (thread_polls (suc most) weight d).0)
     by true h next =
         let hands = retakes d poll.1 poll.0.next left (goes-next poll.0.next most h) in
         let after = next hands.0 in
-        rw (h, last-of poll.0 more.0 (some-polls most weight (retaken poll.0.next poll.1) (goes-more poll.0.next most h))) (record { sound = after.sound; pending = after.pending ∙ hands.1; listed = after.listed })
-    by false h next = let after = lets d poll.1 poll.0.next left in rw h (record { sound = after.sound; pending = after.pending; listed = after.listed })
+        rw (h, last-of poll.0 more.0 (some-polls most weight (retaken poll.0.next poll.1) (goes-more poll.0.next most h)))
+        (record { sound = after.sound; pending = after.pending ∙ hands.1; listed = after.listed })
+    by false h next = let after = lets d poll.1 poll.0.next left in
+        rw h (record { sound = after.sound; pending = after.pending; listed = after.listed })
 
 pub thread-keeps : (most weight : ℕ) (d : DeviceView) → is_sound d ≡ true
     → let after = polled_by_thread most weight d in Keeps d after.1 (count (is_left_to_list (last_next after.0)))
@@ -203,7 +244,9 @@ thread-keeps most weight d sound = by (is_handed Kind.Thread d.side.napi.place) 
         → let after = if◌then◌else◌ {A = List Once × DeviceView} b (thread_polls most weight (taken THREAD Kind.Thread d)) ([], d) in
         Keeps d after.1 (count (is_left_to_list (last_next after.0)))
     by true e =
-        let left = thread-leaves most weight (taken THREAD Kind.Thread d) (record { sched = scheduled Kind.Thread d.side.napi.place d.side.napi.flags.sched sound e; off = refl }) in
+        let left =
+        thread-leaves most weight (taken THREAD Kind.Thread d)
+        (record { sched = scheduled Kind.Thread d.side.napi.place d.side.napi.flags.sched sound e; off = refl }) in
         record { sound = left.sound; pending = left.pending; listed = rw (not-listed d.side.napi.place e) (omega (arith, left.listed)) }
     by false e = record { sound = sound; pending = refl; listed = omega arith }
 
@@ -245,7 +288,8 @@ pub settle-keeps : (d : DeviceView) → is_sound d ≡ true → KeepsPlace d (se
 unfolding settled
 settle-keeps d sound = by d.side.napi.flags.disable d.side.napi.flags.sched d.side.napi.flags.npsvc refl
   where
-    by : (disable sched npsvc : Bool) → d.side.napi.flags.sched ≡ sched → KeepsPlace d (if disable then with_napi (tried_by (not (sched || npsvc)) d.side.napi) d else d)
+    by : (disable sched npsvc : Bool) → d.side.napi.flags.sched ≡ sched
+        → KeepsPlace d (if disable then with_napi (tried_by (not (sched || npsvc)) d.side.napi) d else d)
     by false sched npsvc e = record { sound = sound; listed = refl }
     by true true npsvc e = record { sound = sound; listed = refl }
     by true false true e = record { sound = sound; listed = refl }

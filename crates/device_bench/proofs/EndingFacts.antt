@@ -1,8 +1,11 @@
 -- The devices of a bench are ended one after the other, the last one first.
-use Rattle.{std.proofs.{Common.{◌≡◌, ◌≢◌, ◌∙◌, ◌<◌, ◌≤◌, ◌+◌, ℕ, zero, suc, Bool, true, false, Option, Some, None, [], ◌∷◌, ◌++◌, length, length-append, length-set, get_or-set_other, replicate, slice_set, ap, refl, arith}, lemmas.Bool.{eqb-true, eqb-false}}}
+use Rattle.std.proofs.Common.{◌≡◌, ◌≢◌, ◌∙◌, ◌<◌, ◌≤◌, ◌+◌, ℕ, zero, suc, Bool, true, false, Option, Some, None, [], ◌∷◌, ◌++◌, length}
+use Rattle.std.proofs.Common.{length-append, length-set, get_or-set_other, replicate, slice_set, ap, refl, arith}
+use Rattle.std.proofs.lemmas.Bool.{eqb-true, eqb-false}
 use Rattle.std.specs.Prelude.{◌==◌}
 use Rattle.{rx_ring.specs.declared.packet.Totals.Totals, device_rows.specs.Places.{Places, at}}
-use Rattle.device_bench.{specs.{Bench.Devices, DeviceView.DeviceView, Ending.{AllEnded, IsEndedAt}, Receive.ReceiveView}, proofs.BenchFacts.at-beyond}
+use Rattle.device_bench.specs.{Bench.Devices, DeviceView.DeviceView, Ending.{AllEnded, IsEndedAt}, Receive.ReceiveView}
+use Rattle.device_bench.proofs.BenchFacts.{at-beyond}
 
 -- those from here on were ended, and those before them are left
 pub record EndedFrom (ended : ReceiveView → Totals → Type 0) (all left : Devices) (ends : Places Totals) : Type 0 where
@@ -36,7 +39,8 @@ module _ (ended : ReceiveView → Totals → Type 0) (all : Devices) where
     done = λ number beyond. rw (at-beyond number all beyond, none-at {A = Totals} 17 number) tt;
   }
 
-  module _ (left left' : Devices) (place : Option DeviceView) (ends ends' : Places Totals) (more : left ≡ left' ++ place ∷ []) (was : EndedFrom ended all left ends) where
+  module _ (left left' : Devices) (place : Option DeviceView) (ends ends' : Places Totals) (more : left ≡ left' ++ place ∷ [])
+      (was : EndedFrom ended all left ends) where
     longer : length left ≡ length left' + 1
     longer = ap length more ∙ length-append left' (place ∷ [])
 
@@ -44,7 +48,8 @@ module _ (ended : ReceiveView → Totals → Type 0) (all : Devices) where
     place-is = was.same (length left') (omega (arith, longer)) ∙ ap (λ (l : Devices). at (length left') l) more ∙ at-last left' place
 
     same-still : (number : ℕ) → number < length left' → at number all ≡ at number left'
-    same-still number below = was.same number (omega (arith, longer, below)) ∙ ap (λ (l : Devices). at number l) more ∙ at-before left' (place ∷ []) number below
+    same-still number below =
+        was.same number (omega (arith, longer, below)) ∙ ap (λ (l : Devices). at number l) more ∙ at-before left' (place ∷ []) number below
 
     pub ended-next : (answer : Option Totals) → IsEndedAt ended place answer → length ends' ≡ 17 → at (length left') ends' ≡ answer
         → ((number : ℕ) → number ≢ length left' → at number ends' ≡ at number ends) → EndedFrom ended all left' ends'
@@ -56,7 +61,8 @@ module _ (ended : ReceiveView → Totals → Type 0) (all : Devices) where
       done = λ number beyond. by number beyond (number == length left') refl;
     }
       where
-        by : (number : ℕ) → length left' ≤ number → (b : Bool) → (number == length left') ≡ b → IsEndedAt ended (at number all) (at number ends')
+        by : (number : ℕ) → length left' ≤ number → (b : Bool) → (number == length left') ≡ b
+            → IsEndedAt ended (at number all) (at number ends')
         by number beyond true e = rw (eqb-true number (length left') e, place-is, now) here
         by number beyond false e =
             let apart : number ≢ length left' = eqb-false number (length left') e in
@@ -64,10 +70,12 @@ module _ (ended : ReceiveView → Totals → Type 0) (all : Devices) where
 
     pub ended-absent : place ≡ None → ends' ≡ ends → EndedFrom ended all left' ends'
     ended-absent absent same =
-        ended-next None (rw absent tt) (ap length same ∙ was.places) (ap (λ (l : Places Totals). at (length left') l) same ∙ was.none (length left') (omega (arith, longer)))
+        ended-next None (rw absent tt) (ap length same ∙ was.places)
+        (ap (λ (l : Places Totals). at (length left') l) same ∙ was.none (length left') (omega (arith, longer)))
         (λ number apart. ap (λ (l : Places Totals). at number l) same)
 
-    pub ended-present : (d : DeviceView) (totals : Totals) → place ≡ Some d → ended d.side totals → ends' ≡ slice_set ends (length left') (Some totals) → EndedFrom ended all left' ends'
+    pub ended-present : (d : DeviceView) (totals : Totals) → place ≡ Some d → ended d.side totals
+        → ends' ≡ slice_set ends (length left') (Some totals) → EndedFrom ended all left' ends'
     ended-present d totals present is set =
         let below : length left' < length ends = omega (arith, longer, was.most, was.places) in
         ended-next (Some totals) (rw present is) (ap length set ∙ length-set ends (length left') (Some totals) ∙ was.places)

@@ -1,10 +1,14 @@
 -- Each device has a transmit side: what keeps that.
-use Rattle.std.{proofs.Common.{◌≡◌, ◌∙◌, ℕ, zero, suc, ◌<◌, Option, Some, None, [], ◌∷◌, length, slice_set, ap, refl, sym, arith}, specs.Prelude.is_some}
-use Rattle.{device_transmit.specs.{Transmits.Transmits, Transmit.TransmitView}, device_rows.specs.Places.{Places, at, changed, changed_from}, device_bench.specs.Bench.{Devices, HaveSides, all_settled, attached}}
+use Rattle.std.proofs.Common.{◌≡◌, ◌∙◌, ℕ, zero, suc, ◌<◌, Option, Some, None, [], ◌∷◌, length, slice_set, ap, refl, sym, arith}
+use Rattle.std.specs.Prelude.{is_some}
+use Rattle.device_transmit.specs.{Transmits.Transmits, Transmit.TransmitView}
+use Rattle.device_rows.specs.Places.{Places, at, changed, changed_from}
+use Rattle.device_bench.specs.Bench.{Devices, HaveSides, all_settled, attached}
 
 module _ {A : Type 0} where
   -- a place is set, and stays taken or empty
-  pub some-set : (xs : Places A) (n m : ℕ) (o : Option A) → is_some o ≡ is_some (at n xs) → is_some (at m (slice_set xs n o)) ≡ is_some (at m xs)
+  pub some-set : (xs : Places A) (n m : ℕ) (o : Option A) → is_some o ≡ is_some (at n xs)
+      → is_some (at m (slice_set xs n o)) ≡ is_some (at m xs)
   some-set (x ∷ xs) zero zero o e = e
   some-set (x ∷ xs) (suc n) (suc m) o e = some-set xs n m o e
   some-set xs n m o e = refl
@@ -23,7 +27,8 @@ module _ {A : Type 0} where
   set-back (x ∷ xs) (suc n) o below e = ap (λ (l : Places A). x ∷ l) (set-back xs n o (omega (arith, below)) e)
 
   -- a device is changed in its place, or what stood there is written back
-  pub sides-set : (xs : Places A) (all : Transmits) (n : ℕ) (o : Option A) → is_some o ≡ is_some (at n xs) → HaveSides xs all → HaveSides (slice_set xs n o) all
+  pub sides-set : (xs : Places A) (all : Transmits) (n : ℕ) (o : Option A) → is_some o ≡ is_some (at n xs) → HaveSides xs all
+      → HaveSides (slice_set xs n o) all
   sides-set xs all n o e same m = same m ∙ sym (some-set xs n m o e)
 
   -- so there are as many
@@ -36,7 +41,8 @@ module _ {A : Type 0} where
   sides-attached xs all long same = absurd (omega (arith, long))
 
 -- a side is changed
-pub sides-sent : {A : Type 0} → (f : TransmitView → TransmitView) (xs : Places A) (all : Transmits) (n : ℕ) → HaveSides xs all → HaveSides xs (changed f n all)
+pub sides-sent : {A : Type 0} → (f : TransmitView → TransmitView) (xs : Places A) (all : Transmits) (n : ℕ) → HaveSides xs all
+    → HaveSides xs (changed f n all)
 sides-sent f xs all n same m = some-changed f all n m ∙ same m
 
 some-settled : (xs : Devices) (m : ℕ) → is_some (at m (all_settled xs)) ≡ is_some (at m xs)

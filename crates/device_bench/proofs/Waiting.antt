@@ -1,7 +1,10 @@
 -- How many devices wait on the poll list: each call changes it as it changes the list.
-use Rattle.std.{proofs.Common.{◌≡◌, ℕ, suc, ◌+◌, ◌<◌, ◌≤◌, Bool, true, false, Option, Some, None, [], ◌∷◌, length, get_or, slice_set, map, ap, refl, arith}, specs.Prelude.{sum_by, if◌then◌else◌}}
-use Rattle.{std.proofs.lemmas.List.Sums.{sum_by-cons, sum_by-set}, napi_model.specs.Step.is_handed, device_bench.specs.{Bench.{Devices, all_settled, settled_at}, Device.opened, DeviceView.DeviceView, Kept.{IsKept, is_sound_at}}}
-use Rattle.{device_rows.{specs.Places.{at, empty}, proofs.PlaceFacts.below-some}, device_bench.{specs.Waiting.{waiting, waits}, proofs.DeviceFacts.settle-keeps}, napi_model.specs.declared.state.Kind.Kind}
+use Rattle.std.proofs.Common.{◌≡◌, ℕ, suc, ◌+◌, ◌<◌, ◌≤◌, Bool, true, false, Option, Some, None, [], ◌∷◌, length, get_or, slice_set, map}
+use Rattle.std.{proofs.Common.{ap, refl, arith}, specs.Prelude.{sum_by, if◌then◌else◌}}
+use Rattle.{std.proofs.lemmas.List.Sums.{sum_by-cons, sum_by-set}, napi_model.specs.Step.is_handed}
+use Rattle.device_bench.specs.{Bench.{Devices, all_settled, settled_at}, Device.opened, DeviceView.DeviceView, Kept.{IsKept, is_sound_at}}
+use Rattle.device_rows.{specs.Places.{at, empty}, proofs.PlaceFacts.below-some}
+use Rattle.{device_bench.{specs.Waiting.{waiting, waits}, proofs.DeviceFacts.settle-keeps}, napi_model.specs.declared.state.Kind.Kind}
 
 pub waiting-empty : waiting empty ≡ 0
 unfolding waiting
@@ -24,7 +27,8 @@ pub waiting-most : (xs : Devices) → length xs ≡ 17 → waiting xs ≤ 17
 unfolding waiting
 waiting-most xs places = omega (arith, one-each xs, places)
 
-set-one : (xs : Devices) (n : ℕ) (d e : DeviceView) → at n xs ≡ Some d → waiting (slice_set xs n (Some e)) + waits (Some d) ≡ waiting xs + waits (Some e)
+set-one : (xs : Devices) (n : ℕ) (d e : DeviceView) → at n xs ≡ Some d
+    → waiting (slice_set xs n (Some e)) + waits (Some d) ≡ waiting xs + waits (Some e)
 unfolding waiting
 set-one xs n d e here =
     let sums = sum_by-set waits xs n (Some e) None (below-some xs n d here) in
@@ -32,16 +36,20 @@ set-one xs n d e here =
     omega (arith, sums, was)
 
 -- one place is set to a device that waits so often more, as often, or so often less
-pub waiting-more : (xs : Devices) (n more : ℕ) (d e : DeviceView) → at n xs ≡ Some d → waits (Some d) + more ≡ waits (Some e) → waiting xs + more ≤ waiting (slice_set xs n (Some e))
+pub waiting-more : (xs : Devices) (n more : ℕ) (d e : DeviceView) → at n xs ≡ Some d → waits (Some d) + more ≡ waits (Some e)
+    → waiting xs + more ≤ waiting (slice_set xs n (Some e))
 waiting-more xs n more d e here listed = omega (arith, set-one xs n d e here, listed)
 
-pub waiting-same : (xs : Devices) (n : ℕ) (d e : DeviceView) → at n xs ≡ Some d → waits (Some e) ≡ waits (Some d) → waiting (slice_set xs n (Some e)) ≡ waiting xs
+pub waiting-same : (xs : Devices) (n : ℕ) (d e : DeviceView) → at n xs ≡ Some d → waits (Some e) ≡ waits (Some d)
+    → waiting (slice_set xs n (Some e)) ≡ waiting xs
 waiting-same xs n d e here listed = omega (arith, set-one xs n d e here, listed)
 
-pub waiting-less : (xs : Devices) (n less : ℕ) (d e : DeviceView) → at n xs ≡ Some d → waits (Some d) ≤ waits (Some e) + less → waiting xs ≤ waiting (slice_set xs n (Some e)) + less
+pub waiting-less : (xs : Devices) (n less : ℕ) (d e : DeviceView) → at n xs ≡ Some d → waits (Some d) ≤ waits (Some e) + less
+    → waiting xs ≤ waiting (slice_set xs n (Some e)) + less
 waiting-less xs n less d e here listed = omega (arith, set-one xs n d e here, listed)
 
-pub waiting-added : (xs : Devices) (n capacity : ℕ) → n < length xs → at n xs ≡ None → waiting (slice_set xs n (Some (opened capacity))) ≡ waiting xs
+pub waiting-added : (xs : Devices) (n capacity : ℕ) → n < length xs → at n xs ≡ None
+    → waiting (slice_set xs n (Some (opened capacity))) ≡ waiting xs
 unfolding waiting
 waiting-added xs n capacity below here =
     let sums = sum_by-set waits xs n (Some (opened capacity)) None below in
@@ -55,7 +63,14 @@ settle-one (Some d) sound = (settle-keeps d sound).listed
 settle-each : (xs : Devices) → ((n : ℕ) → is_sound_at (at n xs) ≡ true) → sum_by waits (map settled_at xs) ≡ sum_by waits xs
 settle-each [] sound = refl
 settle-each (o ∷ xs) sound =
-    omega (arith, sum_by-cons waits (settled_at o) (map settled_at xs), sum_by-cons waits o xs, settle-one o (sound 0), settle-each xs (λ n. sound (suc n)))
+    omega (
+      arith,
+      sum_by-cons waits (settled_at o) (map settled_at xs),
+      sum_by-cons waits o xs,
+      settle-one o (sound 0),
+      settle-each xs
+          (λ n. sound (suc n)),
+    )
 
 pub waiting-settled : (u : Bool) (xs : Devices) → IsKept u xs → waiting (all_settled xs) ≡ waiting xs
 unfolding waiting

@@ -50,7 +50,8 @@ pub record IsPoll {B : Type 0} (devices : B → Devices) (shows : B → Transmit
 -- that the polls from the list, of a bench that states them so, are these
 abbrev pub ArePolls : {B : Type 0} → (B → Devices) → (B → Transmits → Type 0) → (B → ℕ) → (B → ℕ → ℕ → Once → B → Type 0) → Type 0
 ArePolls {B} devices shows waiting polls =
-    (before after : B) (number weight : ℕ) (once : Once) → polls before number weight once after → IsPoll devices shows waiting before number weight once after
+    (before after : B) (number weight : ℕ) (once : Once) → polls before number weight once after
+    → IsPoll devices shows waiting before number weight once after
 
 abbrev pub thread_polls_of : ℕ → ℕ → Option DeviceView → List Once
 thread_polls_of weight most None = []
@@ -62,11 +63,13 @@ thread_polled_at devices number weight most = changed (λ d. (polled_by_thread m
 
 pub record IsThreadPolls {B : Type 0} (devices : B → Devices) (shows : B → Transmits → Type 0) (waiting : B → ℕ)
     (before : B) (number weight most : ℕ) (polls : List Once) (after : B) : Type 0 where
-  pub exact : (polls ≡ thread_polls_of weight most (at number (devices before))) × (devices after ≡ thread_polled_at (devices before) number weight most)
+  pub exact : (polls ≡ thread_polls_of weight most (at number (devices before)))
+      × (devices after ≡ thread_polled_at (devices before) number weight most)
   pub transmits : Keeps shows before after
   pub waits : waiting before + count (is_left_to_list (last_next polls)) ≤ waiting after
 
-abbrev pub AreThreadPolls : {B : Type 0} → (B → Devices) → (B → Transmits → Type 0) → (B → ℕ) → (B → ℕ → ℕ → ℕ → List Once → B → Type 0) → Type 0
+abbrev pub AreThreadPolls : {B : Type 0} → (B → Devices) → (B → Transmits → Type 0) → (B → ℕ) → (B → ℕ → ℕ → ℕ → List Once → B → Type 0)
+    → Type 0
 AreThreadPolls {B} devices shows waiting polls =
     (before after : B) (number weight most : ℕ) (all : List Once) → polls before number weight most all after
     → IsThreadPolls devices shows waiting before number weight most all after
@@ -81,11 +84,13 @@ busily_polled_at devices number weight rounds = changed (λ d. (polled_busily ro
 
 pub record IsBusyPoll {B : Type 0} (devices : B → Devices) (shows : B → Transmits → Type 0) (waiting : B → ℕ)
     (before : B) (number weight rounds : ℕ) (report : BusyReport) (after : B) : Type 0 where
-  pub exact : (report ≡ busy_report_of weight rounds (at number (devices before))) × (devices after ≡ busily_polled_at (devices before) number weight rounds)
+  pub exact : (report ≡ busy_report_of weight rounds (at number (devices before)))
+      × (devices after ≡ busily_polled_at (devices before) number weight rounds)
   pub transmits : Keeps shows before after
   pub waits : waiting before + count (is_left_to_list report.next) ≤ waiting after
 
-abbrev pub AreBusyPolls : {B : Type 0} → (B → Devices) → (B → Transmits → Type 0) → (B → ℕ) → (B → ℕ → ℕ → ℕ → BusyReport → B → Type 0) → Type 0
+abbrev pub AreBusyPolls : {B : Type 0} → (B → Devices) → (B → Transmits → Type 0) → (B → ℕ) → (B → ℕ → ℕ → ℕ → BusyReport → B → Type 0)
+    → Type 0
 AreBusyPolls {B} devices shows waiting polls =
     (before after : B) (number weight rounds : ℕ) (report : BusyReport) → polls before number weight rounds report after
     → IsBusyPoll devices shows waiting before number weight rounds report after

@@ -15,7 +15,8 @@ use Rattle.poll_runs.specs.declared.bench.Next.TheVariants as next
 use Rattle.poll_runs.specs.declared.bench.Once.{Once}
 use Rattle.device_transmit.specs.Counter.{raised}
 use Rattle.device_bench.specs.DeviceView.{DeviceView}
-use Rattle.device_bench.specs.Receive.{bytes_of, done_by, given_of, handed_again, handed_on, has_place, is_control, opened_side, put_if, requested, tried_by}
+use Rattle.device_bench.specs.Receive.{bytes_of, done_by, given_of, handed_again, handed_on, has_place, is_control, opened_side, put_if}
+use Rattle.device_bench.specs.Receive.{requested, tried_by}
 use Rattle.device_bench.specs.declared.counts.DeviceCounts.{DeviceCounts}
 use Rattle.device_bench.specs.declared.counts.DeviceState.{DeviceState}
 use Rattle.device_bench.specs.declared.counts.TheConstants.DeviceCounts.{OPENED}

@@ -1,9 +1,11 @@
 -- The rows of a trace are accepted, each after those before it.
-use Rattle.std.{proofs.{Common.{◌≡◌, ℕ, zero, suc, ◌<◌, List, [], ◌∷◌, ◌++◌, length, get_or, refl, sym, append_assoc, arith, Some}, lemmas.List.append-nil}, specs.Prelude.slice_get}
+use Rattle.std.proofs.Common.{◌≡◌, ℕ, zero, suc, ◌<◌, List, [], ◌∷◌, ◌++◌, length, get_or, refl, sym, append_assoc, arith, Some}
+use Rattle.std.{proofs.lemmas.List.append-nil, specs.Prelude.slice_get}
 use Rattle.device_rows.specs.{Trace.{AcceptedAfter, IsAccepted}, declared.row.Row.Row}
 
 -- one more row
-pub accepted-push : (earlier rows : List Row) (row : Row) → AcceptedAfter earlier rows → IsAccepted (earlier ++ rows) row → AcceptedAfter earlier (rows ++ row ∷ [])
+pub accepted-push : (earlier rows : List Row) (row : Row) → AcceptedAfter earlier rows → IsAccepted (earlier ++ rows) row
+    → AcceptedAfter earlier (rows ++ row ∷ [])
 accepted-push earlier [] row h next =
     let same = rw (append-nil earlier) at next in
     (same, tt)
@@ -12,7 +14,8 @@ accepted-push earlier (r ∷ rs) row h next =
     (h.0, accepted-push (earlier ++ r ∷ []) rs row h.1 same)
 
 -- a row of a trace
-pub accepted-at : (earlier rows : List Row) (i : ℕ) (d : Row) → i < length rows → AcceptedAfter earlier rows → (before : List Row) × IsAccepted before (get_or rows i d)
+pub accepted-at : (earlier rows : List Row) (i : ℕ) (d : Row) → i < length rows → AcceptedAfter earlier rows
+    → (before : List Row) × IsAccepted before (get_or rows i d)
 accepted-at earlier [] i d below h = absurd (omega (arith, below))
 accepted-at earlier (row ∷ rows) zero d below h = (earlier, h.0)
 accepted-at earlier (row ∷ rows) (suc i) d below h = accepted-at (earlier ++ row ∷ []) rows i d (omega (arith, below)) h.1

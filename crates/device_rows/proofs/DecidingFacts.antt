@@ -1,12 +1,17 @@
 -- Which records of a text decide its trace: the first 100002, and those up to the first fault.
-use Rattle.std.{proofs.Common.{◌≡◌, ◌∙◌, ℕ, zero, suc, ◌+◌, ◌≤◌, Bool, true, false, List, [], ◌∷◌, ◌++◌, length, length-append, take, refl, sym, ap, arith, Some, None, Option}, specs.Prelude.{Result, Ok, Err, nat_lt}}
-use Rattle.{std.proofs.lemmas.Bool.ltb-true, csv.specs.{Reading.{default_config, records_from, strip_bom}, declared.parser.State.State}, device_rows.specs.{Record.{row_of, version_of}, Switch.{refusal, switch_of, unless_refused}}}
-use Rattle.device_rows.{specs.{Trace.{records_of, rows_after, rows_behind, trace_of, version_in, with_row}, declared.{fault.TraceFault.TraceFault, row.Row.Row}}, proofs.RowsFacts.{rows-bad, rows-end, rows-good, rows-over}}
+use Rattle.std.proofs.Common.{◌≡◌, ◌∙◌, ℕ, zero, suc, ◌+◌, ◌≤◌, Bool, true, false, List, [], ◌∷◌, ◌++◌, length, length-append, take, refl}
+use Rattle.std.{proofs.Common.{sym, ap, arith, Some, None, Option}, specs.Prelude.{Result, Ok, Err, nat_lt}}
+use Rattle.{std.proofs.lemmas.Bool.ltb-true, csv.specs.{Reading.{default_config, records_from, strip_bom}, declared.parser.State.State}}
+use Rattle.device_rows.specs.{Record.{row_of, version_of}, Switch.{refusal, switch_of, unless_refused}}
+use Rattle.device_rows.specs.Trace.{records_of, rows_after, rows_behind, trace_of, version_in, with_row}
+use Rattle.device_rows.specs.declared.{fault.TraceFault.TraceFault, row.Row.Row}
+use Rattle.device_rows.proofs.RowsFacts.{rows-bad, rows-end, rows-good, rows-over}
 use Rattle.device_rows.proofs.RecordsFacts.{records-all, records-take}
 
 module _ (version : ℕ) where
   -- a row that is taken makes the list one longer
-  grows : (rows : List Row) (fields : List (List ℕ)) (more : List Row) → with_row version rows fields ≡ Ok more → length more ≡ length rows + 1
+  grows : (rows : List Row) (fields : List (List ℕ)) (more : List Row) → with_row version rows fields ≡ Ok more
+      → length more ≡ length rows + 1
   unfolding with_row
   grows rows fields more e = by (row_of version (length rows + 1) fields) refl
     where
@@ -24,9 +29,11 @@ module _ (version : ℕ) where
       → rows_after version rows (take count records) ≡ rows_after version rows records
   rows-enough zero rows records room many = absurd (omega arith)
   rows-enough (suc n) rows [] room many = refl
-  rows-enough (suc n) rows (fields ∷ records) room many = by (λ more a b. rows-enough n more records a b) (with_row version rows fields) refl (nat_lt (length rows) 100000) refl
+  rows-enough (suc n) rows (fields ∷ records) room many =
+      by (λ more a b. rows-enough n more records a b) (with_row version rows fields) refl (nat_lt (length rows) 100000) refl
     where
-      by : ((more : List Row) → length more ≤ 100000 → 100001 ≤ n + length more → rows_after version more (take n records) ≡ rows_after version more records)
+      by : ((more : List Row) → length more ≤ 100000 → 100001 ≤ n + length more
+          → rows_after version more (take n records) ≡ rows_after version more records)
           → (r : Result (List Row) TraceFault) → with_row version rows fields ≡ r → (t : Bool) → nat_lt (length rows) 100000 ≡ t
           → rows_after version rows (fields ∷ take n records) ≡ rows_after version rows (fields ∷ records)
       by same r e false t = rows-over version rows fields _ t ∙ sym (rows-over version rows fields _ t)
@@ -46,7 +53,8 @@ first-decide (header ∷ records) (suc count) many = by (version_of header)
     by (Some version) = rows-enough version count [] records (omega arith) (omega arith)
 
 -- as many records as the reader asks for decide what is told of a text, where they decide it of records
-asked-same : {A : Type 0} (told : List (List (List ℕ)) → A) (count : ℕ) (s : State) (bytes : List ℕ) → ((records : List (List (List ℕ))) → told (take count records) ≡ told records)
+asked-same : {A : Type 0} (told : List (List (List ℕ)) → A) (count : ℕ) (s : State) (bytes : List ℕ)
+    → ((records : List (List (List ℕ))) → told (take count records) ≡ told records)
     → s ≡ State.StartRecord → told (records_of bytes) ≡ told (records_from default_config count s (strip_bom bytes))
 unfolding records_of
 asked-same told count s bytes decide at =
@@ -70,16 +78,20 @@ pub asked-version : (count : ℕ) (s : State) (bytes : List ℕ) → 1 ≤ count
 asked-version count s bytes some at = asked-same version_in count s bytes (λ records. first-tells records count some) at
 
 module _ (version : ℕ) where
-  rows-stand : (rows : List Row) (records more : List (List (List ℕ))) (fault : TraceFault) → rows_after version rows records ≡ Err fault → rows_after version rows (records ++ more) ≡ Err fault
+  rows-stand : (rows : List Row) (records more : List (List (List ℕ))) (fault : TraceFault) → rows_after version rows records ≡ Err fault
+      → rows_after version rows (records ++ more) ≡ Err fault
   rows-stand rows [] more fault faulty = cc (sym (rows-end version rows) ∙ faulty)
   rows-stand rows (fields ∷ records) more fault faulty =
       by (λ next h. rows-stand next records more fault h) (with_row version rows fields) refl (nat_lt (length rows) 100000) refl
     where
       by : ((next : List Row) → rows_after version next records ≡ Err fault → rows_after version next (records ++ more) ≡ Err fault)
-          → (r : Result (List Row) TraceFault) → with_row version rows fields ≡ r → (t : Bool) → nat_lt (length rows) 100000 ≡ t → rows_after version rows (fields ∷ records ++ more) ≡ Err fault
+          → (r : Result (List Row) TraceFault) → with_row version rows fields ≡ r → (t : Bool) → nat_lt (length rows) 100000 ≡ t
+          → rows_after version rows (fields ∷ records ++ more) ≡ Err fault
       by same r e false t = rows-over version rows fields (records ++ more) t ∙ sym (rows-over version rows fields records t) ∙ faulty
-      by same (Err f) e true t = rows-bad version rows fields (records ++ more) f t e ∙ sym (rows-bad version rows fields records f t e) ∙ faulty
-      by same (Ok next) e true t = rows-good version rows next fields (records ++ more) t e ∙ same next (sym (rows-good version rows next fields records t e) ∙ faulty)
+      by same (Err f) e true t =
+          rows-bad version rows fields (records ++ more) f t e ∙ sym (rows-bad version rows fields records f t e) ∙ faulty
+      by same (Ok next) e true t = rows-good version rows next fields (records ++ more) t e
+          ∙ same next (sym (rows-good version rows next fields records t e) ∙ faulty)
 
 -- what stands behind a fault makes no difference
 pub fault-stands : (header : List (List ℕ)) (records more : List (List (List ℕ))) (fault : TraceFault)

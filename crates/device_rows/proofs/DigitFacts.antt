@@ -1,6 +1,8 @@
 -- How a number grows by what its next digit is worth.
-use Rattle.std.proofs.{Common.{◌≡◌, ℕ, suc, ◌+◌, ◌-◌, ◌*◌, ◌^◌, ◌<◌, ◌≤◌, Bool, true, false, List, [], ◌∷◌, ◌++◌, refl, arith}, Math.Nat.{mul-le-mul_right, pow-suc}, lemmas.Int.Digits.digits_value_push}
-use Rattle.{std.{specs.{Char.{digit_value, is_ascii_digit}, Str.all_ascii_digits}, proofs.lemmas.Bool.Decides.nat_tests}, device_rows.{specs.{Digits.worth, Record.numeral}, proofs.NumeralFacts.{digits-push, pow-grows}}}
+use Rattle.std.proofs.Common.{◌≡◌, ℕ, suc, ◌+◌, ◌-◌, ◌*◌, ◌^◌, ◌<◌, ◌≤◌, Bool, true, false, List, [], ◌∷◌, ◌++◌, refl, arith}
+use Rattle.std.proofs.{Math.Nat.{mul-le-mul_right, pow-suc}, lemmas.Int.Digits.digits_value_push}
+use Rattle.std.{specs.{Char.{digit_value, is_ascii_digit}, Str.all_ascii_digits}, proofs.lemmas.Bool.Decides.nat_tests}
+use Rattle.device_rows.{specs.{Digits.worth, Record.numeral}, proofs.NumeralFacts.{digits-push, pow-grows}}
 
 digit-small : (byte : ℕ) → is_ascii_digit byte ≡ true → digit_value byte ≤ 9
 digit-small byte h = grind (arith, nat_tests)

@@ -1,6 +1,8 @@
 -- The number that two runs of digits write together.
-use Rattle.std.proofs.{Common.{◌≡◌, ap, ℕ, ◌+◌, ◌*◌, ◌^◌, ◌≤◌, Bool, true, false, List, [], ◌∷◌, ◌++◌, length, refl, rules, arith}, Math.Nat.pow-suc, lemmas.Bool.le-leb}
-use Rattle.{std.specs.{Prelude.{◌&&◌, nat_le}, Char.{digit_value, is_ascii_digit}, Str.{all_ascii_digits, Parse.{digits_value, digits_value_after}}}, device_rows.specs.Record.{is_numeral, numeral}}
+use Rattle.std.proofs.Common.{◌≡◌, ap, ℕ, ◌+◌, ◌*◌, ◌^◌, ◌≤◌, Bool, true, false, List, [], ◌∷◌, ◌++◌, length, refl, rules, arith}
+use Rattle.std.proofs.{Math.Nat.pow-suc, lemmas.Bool.le-leb}
+use Rattle.std.specs.{Prelude.{◌&&◌, nat_le}, Char.{digit_value, is_ascii_digit}}
+use Rattle.{std.specs.Str.{all_ascii_digits, Parse.{digits_value, digits_value_after}}, device_rows.specs.Record.{is_numeral, numeral}}
 
 digits_value_after_is : (n : ℕ) (ds : List ℕ) → digits_value_after 10 n ds ≡ n * 10 ^ length ds + digits_value 10 ds
 digits_value_after_is n [] = omega arith
@@ -16,7 +18,8 @@ after-append n (x ∷ xs) ys = after-append (n * 10 + digit_value x) xs ys
 digits_value-append : (xs ys : List ℕ) → digits_value 10 (xs ++ ys) ≡ digits_value 10 xs * 10 ^ length ys + digits_value 10 ys
 digits_value-append xs ys = rw (after-append 0 xs ys) (digits_value_after_is _ ys)
 
-pub numeral-join : (field front back : List ℕ) → field ≡ front ++ back → length back ≡ 8 → numeral field ≡ numeral front * 100000000 + numeral back
+pub numeral-join : (field front back : List ℕ) → field ≡ front ++ back → length back ≡ 8
+    → numeral field ≡ numeral front * 100000000 + numeral back
 numeral-join field front back e eight =
     let whole = digits_value-append front back in
     let whole' = rw eight at whole in
@@ -34,7 +37,9 @@ left true b h = refl
 left false b h = h
 
 pub digits-of : (field : List ℕ) → is_numeral field ≡ true → all_ascii_digits field ≡ true
-digits-of field h = right (nat_le (length field) 20) (all_ascii_digits field) (right (nat_le 1 (length field)) (nat_le (length field) 20 && all_ascii_digits field) h)
+digits-of field h =
+    right (nat_le (length field) 20) (all_ascii_digits field)
+    (right (nat_le 1 (length field)) (nat_le (length field) 20 && all_ascii_digits field) h)
 
 join : (front back : List ℕ) → all_ascii_digits front ≡ true → all_ascii_digits back ≡ true → all_ascii_digits (front ++ back) ≡ true
 join [] back f b = b
@@ -42,7 +47,8 @@ join (c ∷ front) back f b =
     both (is_ascii_digit c) (all_ascii_digits (front ++ back)) (left (is_ascii_digit c) (all_ascii_digits front) f)
     (join front back (right (is_ascii_digit c) (all_ascii_digits front) f) b)
 
-pub digits-join : (field front back : List ℕ) → field ≡ front ++ back → all_ascii_digits front ≡ true → all_ascii_digits back ≡ true → all_ascii_digits field ≡ true
+pub digits-join : (field front back : List ℕ) → field ≡ front ++ back → all_ascii_digits front ≡ true → all_ascii_digits back ≡ true
+    → all_ascii_digits field ≡ true
 digits-join field front back e f b = rw e (join front back f b)
 
 pub is_numeral-join : (field front back : List ℕ) → field ≡ front ++ back → 1 ≤ length field → length field ≤ 20

@@ -1,6 +1,8 @@
 -- The number that digits write, by all but the last of them.
-use Rattle.std.proofs.{Common.{◌≡◌, ℕ, zero, suc, ◌+◌, ◌-◌, ◌*◌, ◌^◌, ◌<◌, ◌≤◌, Bool, true, false, List, [], ◌∷◌, ◌++◌, length, length-append, refl, arith}, Math.{Nat.{add-suc, add-zero, pow-suc}, Dec.leb-suc-suc}, lemmas.Bool.le-leb}
-use Rattle.{std.{specs.{Prelude.{◌&&◌, nat_le}, Char.{digit_value, is_ascii_digit}, List.IsLastAndRest, Str.all_ascii_digits}, proofs.lemmas.Int.Digits.digits_value_push}, device_rows.specs.Record.{is_numeral, numeral}}
+use Rattle.std.proofs.Common.{◌≡◌, ℕ, zero, suc, ◌+◌, ◌-◌, ◌*◌, ◌^◌, ◌<◌, ◌≤◌, Bool, true, false, List, [], ◌∷◌, ◌++◌, length}
+use Rattle.std.proofs.{Common.{length-append, refl, arith}, Math.{Nat.{add-suc, add-zero, pow-suc}, Dec.leb-suc-suc}, lemmas.Bool.le-leb}
+use Rattle.std.specs.{Prelude.{◌&&◌, nat_le}, Char.{digit_value, is_ascii_digit}, List.IsLastAndRest, Str.all_ascii_digits}
+use Rattle.{std.proofs.lemmas.Int.Digits.digits_value_push, device_rows.specs.Record.{is_numeral, numeral}}
 
 pub digits-push : (front : List ℕ) (last : ℕ) → all_ascii_digits (front ++ last ∷ []) ≡ (all_ascii_digits front && is_ascii_digit last)
 digits-push [] last = by (is_ascii_digit last)
@@ -24,10 +26,12 @@ pub is_numeral-push : (field front : List ℕ) (last : ℕ) → IsLastAndRest fi
     → is_numeral field ≡ (nat_le (length front) 19 && (all_ascii_digits front && is_ascii_digit last))
 is_numeral-push field front last h = rw (h.0, length-append front (last ∷ []), digits-push front last) (by (length front))
   where
-    by : (n : ℕ) → (nat_le 1 (n + 1) && (nat_le (n + 1) 20 && (all_ascii_digits front && is_ascii_digit last))) ≡ (nat_le n 19 && (all_ascii_digits front && is_ascii_digit last))
+    by : (n : ℕ) → (nat_le 1 (n + 1) && (nat_le (n + 1) 20 && (all_ascii_digits front && is_ascii_digit last)))
+        ≡ (nat_le n 19 && (all_ascii_digits front && is_ascii_digit last))
     by n = rw (le-leb 1 (n + 1) (omega arith), plus-one n) refl
 
-pub numeral-push : (field front : List ℕ) (last : ℕ) → IsLastAndRest field last front → numeral field ≡ numeral front * 10 + digit_value last
+pub numeral-push : (field front : List ℕ) (last : ℕ) → IsLastAndRest field last front
+    → numeral field ≡ numeral front * 10 + digit_value last
 numeral-push field front last h = rw h.0 (digits_value_push 10 front last)
 
 pub pow-grows : (n k : ℕ) → 10 ^ n ≤ 10 ^ (n + k)

@@ -1,5 +1,6 @@
 -- What stands in a place.
-use Rattle.std.{proofs.{Common.{◌≡◌, ℕ, zero, suc, ◌<◌, Bool, true, false, Option, Some, None, [], ◌∷◌, length, get_or, slice_set, refl, arith}, lemmas.{Bool.{eqb-true, eqb-false}, Grind.get_or-set_at}}, specs.Prelude.{◌==◌, is_some}}
+use Rattle.std.proofs.Common.{◌≡◌, ℕ, zero, suc, ◌<◌, Bool, true, false, Option, Some, None, [], ◌∷◌, length, get_or, slice_set, refl}
+use Rattle.std.{proofs.{Common.arith, lemmas.{Bool.{eqb-true, eqb-false}, Grind.get_or-set_at}}, specs.Prelude.{◌==◌, is_some}}
 use Rattle.{std.proofs.lemmas.List.get_or-set_other, device_rows.specs.Places.{Places, at}}
 
 pub below-some : {A : Type 0} → (xs : Places A) (i : ℕ) (a : A) → at i xs ≡ Some a → i < length xs
@@ -8,7 +9,8 @@ below-some (x ∷ xs) zero a e = omega arith
 below-some (x ∷ xs) (suc i) a e = omega (arith, below-some xs i a e)
 
 -- what stands at a number after another place was set, or this one
-pub at-set : {A : Type 0} → (P : Option A → Type 0) → (xs : Places A) (i j : ℕ) (y : Option A) → i < length xs → P y → P (at j xs) → P (at j (slice_set xs i y))
+pub at-set : {A : Type 0} → (P : Option A → Type 0) → (xs : Places A) (i j : ℕ) (y : Option A) → i < length xs → P y → P (at j xs)
+    → P (at j (slice_set xs i y))
 at-set P xs i j y below new old = by (j == i) refl
   where
     by : (b : Bool) → (j == i) ≡ b → P (at j (slice_set xs i y))

@@ -1,6 +1,8 @@
 -- That a text has no more records than bytes, and that fewer of them are the first ones.
-use Rattle.std.{proofs.Common.{◌≡◌, ℕ, zero, suc, ◌-◌, ◌<◌, ◌≤◌, Bool, true, false, List, [], ◌∷◌, ◌++◌, length, take, refl, ap, arith, Some, None, Option}, specs.Prelude.{◌==◌, if◌then◌else◌}}
-use Rattle.csv.specs.{Machine.{Read, after_end, ends_at_end, ends_with, field_after, fields_after, in_field, is_end, next_record, start_field, start_record, step}, Reading.{default_config, records_from, records_next}}
+use Rattle.std.proofs.Common.{◌≡◌, ℕ, zero, suc, ◌-◌, ◌<◌, ◌≤◌, Bool, true, false, List, [], ◌∷◌, ◌++◌, length, take, refl, ap, arith, Some}
+use Rattle.std.{proofs.Common.{None, Option}, specs.Prelude.{◌==◌, if◌then◌else◌}}
+use Rattle.csv.specs.Machine.{Read, after_end, ends_at_end, ends_with, field_after, fields_after, in_field, is_end, next_record}
+use Rattle.csv.specs.{Machine.{start_field, start_record, step}, Reading.{default_config, records_from, records_next}}
 use Rattle.csv.specs.declared.parser.{Action.Action, State.State, Terminator.Terminator}
 
 -- a step that ends a record leads to a state between two records
@@ -43,7 +45,8 @@ pub next-short : (s : State) (fields : List (List ℕ)) (field xs : List ℕ) (p
 unfolding next_record
 next-short s fields field [] p e = by (ends_at_end s) e
   where
-    by : (b : Bool) → (if b then Some (fields ++ (field ∷ []), State.StartRecord, []) else None) ≡ Some p → (ends_at_end p.1 ≡ false) × (length p.2 ≤ length {A = ℕ} [] - 1)
+    by : (b : Bool) → (if b then Some (fields ++ (field ∷ []), State.StartRecord, []) else None) ≡ Some p
+        → (ends_at_end p.1 ≡ false) × (length p.2 ≤ length {A = ℕ} [] - 1)
     by true h =
         let same : p ≡ (fields ++ (field ∷ []), State.StartRecord, []) = cc h in
         rw same (refl, omega arith)
@@ -51,10 +54,12 @@ next-short s fields field [] p e = by (ends_at_end s) e
 next-short s fields field (c ∷ rest) p e =
     by (λ t fields2 field2 h. next-short t fields2 field2 rest p h) (is_end (step default_config s c).1) refl e
   where
-    by : ((t : State) (fields2 : List (List ℕ)) (field2 : List ℕ) → next_record default_config t fields2 field2 rest ≡ Some p → (ends_at_end p.1 ≡ false) × (length p.2 ≤ length rest - 1))
+    by : ((t : State) (fields2 : List (List ℕ)) (field2 : List ℕ) → next_record default_config t fields2 field2 rest ≡ Some p
+        → (ends_at_end p.1 ≡ false) × (length p.2 ≤ length rest - 1))
         → (b : Bool) → is_end (step default_config s c).1 ≡ b
         → (if b then Some (fields_after (step default_config s c).1 fields field, (step default_config s c).0, rest)
-        else next_record default_config (step default_config s c).0 (fields_after (step default_config s c).1 fields field) (field_after (step default_config s c).1 c field) rest) ≡ Some p
+        else next_record default_config (step default_config s c).0 (fields_after (step default_config s c).1 fields field)
+        (field_after (step default_config s c).1 c field) rest) ≡ Some p
         → (ends_at_end p.1 ≡ false) × (length p.2 ≤ length (c ∷ rest) - 1)
     by again true t h =
         let same : p ≡ (fields_after (step default_config s c).1 fields field, (step default_config s c).0, rest) = cc h in
@@ -75,17 +80,21 @@ unfolding records_from
 records-all zero m s xs between a b = absurd (omega arith)
 records-all (suc n) zero s xs between a b = absurd (omega arith)
 records-all (suc n) (suc m) s [] between a b = rw (next-end s between) refl
-records-all (suc n) (suc m) s (x ∷ xs) between a b = by (λ t ys c d e. records-all n m t ys c d e) (next_record default_config s [] [] (x ∷ xs)) refl
+records-all (suc n) (suc m) s (x ∷ xs) between a b =
+    by (λ t ys c d e. records-all n m t ys c d e) (next_record default_config s [] [] (x ∷ xs)) refl
   where
-    by : ((t : State) (ys : List ℕ) → ends_at_end t ≡ false → length ys < n → length ys < m → records_from default_config n t ys ≡ records_from default_config m t ys)
-        → (o : Option Read) → next_record default_config s [] [] (x ∷ xs) ≡ o → records_next (records_from default_config n) o ≡ records_next (records_from default_config m) o
+    by : ((t : State) (ys : List ℕ) → ends_at_end t ≡ false → length ys < n → length ys < m
+        → records_from default_config n t ys ≡ records_from default_config m t ys)
+        → (o : Option Read) → next_record default_config s [] [] (x ∷ xs) ≡ o
+        → records_next (records_from default_config n) o ≡ records_next (records_from default_config m) o
     by same None e = refl
     by same (Some p) e =
         let (tidy, short) = next-short s [] [] (x ∷ xs) p e in
         ap (λ (t : List (List (List ℕ))). p.0 ∷ t) (same p.1 p.2 tidy (omega arith) (omega arith))
 
 -- fewer records are the first of them
-pub records-take : (n m : ℕ) (s : State) (xs : List ℕ) → n ≤ m → records_from default_config n s xs ≡ take n (records_from default_config m s xs)
+pub records-take : (n m : ℕ) (s : State) (xs : List ℕ) → n ≤ m
+    → records_from default_config n s xs ≡ take n (records_from default_config m s xs)
 unfolding records_from
 records-take zero m s xs few = refl
 records-take (suc n) zero s xs few = absurd (omega arith)

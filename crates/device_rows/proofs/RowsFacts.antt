@@ -1,7 +1,11 @@
 -- How the rows of the records that are left follow from the next record.
-use Rattle.{std.{proofs.Common.{◌≡◌, ◌∙◌, ℕ, suc, ◌+◌, ◌-◌, ◌≤◌, true, false, List, [], ◌∷◌, ◌++◌, length, refl, sym, ap, arith, Some, None, Option}, specs.Prelude.{Result, Ok, Err, nat_lt}}, csv.specs.Machine.{Read, next_record}}
-use Rattle.{csv.specs.{Reading.{default_config, reader_state, records_from, records_next}, declared.{reader.Reader.Reader, parser.State.State}}, device_rows.specs.{Source.{StandsAt, TakesNext}, Record.{row_of, version_of}}}
-use Rattle.device_rows.specs.{Switch.{refusal, switch_of}, Trace.{rows_after, trace_of, version_in, with_row}, declared.{fault.TraceFault.TraceFault, row.Row.Row}}
+use Rattle.std.proofs.Common.{◌≡◌, ◌∙◌, ℕ, suc, ◌+◌, ◌-◌, ◌≤◌, true, false, List, [], ◌∷◌, ◌++◌, length, refl, sym, ap, arith, Some, None}
+use Rattle.{std.{proofs.Common.Option, specs.Prelude.{Result, Ok, Err, nat_lt}}, csv.specs.Machine.{Read, next_record}}
+use Rattle.csv.specs.Reading.{default_config, reader_state, records_from, records_next}
+use Rattle.csv.specs.declared.{reader.Reader.Reader, parser.State.State}
+use Rattle.device_rows.specs.{Source.{StandsAt, TakesNext}, Record.{row_of, version_of}}
+use Rattle.device_rows.specs.{Switch.{refusal, switch_of}, Trace.{rows_after, trace_of, version_in, with_row}}
+use Rattle.device_rows.specs.declared.{fault.TraceFault.TraceFault, row.Row.Row}
 
 pub records-next : (n m : ℕ) (s : State) (xs : List ℕ) → n ≡ suc m
     → records_from default_config n s xs ≡ records_next (records_from default_config m) (next_record default_config s [] [] xs)
@@ -13,7 +17,8 @@ unfolding records_from
 records-zero n s xs e = rw e refl
 
 -- no record is left
-pub records-none : {R : Type 0} (remaining : R → Option (List ℕ)) (reader after : Reader R) (fields : List (List ℕ)) (n m : ℕ) (left : List ℕ) → n ≡ suc m
+pub records-none : {R : Type 0} (remaining : R → Option (List ℕ)) (reader after : Reader R) (fields : List (List ℕ)) (n m : ℕ)
+    (left : List ℕ) → n ≡ suc m
     → TakesNext remaining (next_record default_config (reader_state reader) [] [] left) false fields after
     → records_from default_config n (reader_state reader) left ≡ []
 records-none {R} remaining reader after fields n m left e h =
@@ -24,11 +29,13 @@ records-none {R} remaining reader after fields n m left e h =
     by (Some p) h = cc h.0
 
 -- one record, and then those that the reader has left
-pub records-more : {R : Type 0} (remaining : R → Option (List ℕ)) (reader after : Reader R) (fields : List (List ℕ)) (n m : ℕ) (left : List ℕ) → n ≡ suc m
+pub records-more : {R : Type 0} (remaining : R → Option (List ℕ)) (reader after : Reader R) (fields : List (List ℕ)) (n m : ℕ)
+    (left : List ℕ) → n ≡ suc m
     → TakesNext remaining (next_record default_config (reader_state reader) [] [] left) true fields after
     → (rest : List ℕ) × StandsAt remaining after rest
     × (records_from default_config n (reader_state reader) left ≡ fields ∷ records_from default_config m (reader_state after) rest)
-records-more {R} remaining reader after fields n m left e h = rw (records-next n m (reader_state reader) left e) (by (next_record default_config (reader_state reader) [] [] left) h)
+records-more {R} remaining reader after fields n m left e h =
+    rw (records-next n m (reader_state reader) left e) (by (next_record default_config (reader_state reader) [] [] left) h)
   where
     by : (o : Option Read) → TakesNext remaining o true fields after → (rest : List ℕ) × StandsAt remaining after rest
         × (records_next (records_from default_config m) o ≡ fields ∷ records_from default_config m (reader_state after) rest)
@@ -41,28 +48,35 @@ module _ (version : ℕ) where
   rows-end rows = refl
 
   -- the rows of all records are those of the next one and of the records behind it
-  pub goes-on : {R : Type 0} (remaining : R → Option (List ℕ)) (reader after : Reader R) (fields : List (List ℕ)) (rows : List Row) (before : ℕ) (all : Result (List Row) TraceFault)
-      (left : List ℕ) → before ≤ 100000 → TakesNext remaining (next_record default_config (reader_state reader) [] [] left) true fields after
+  pub goes-on : {R : Type 0} (remaining : R → Option (List ℕ)) (reader after : Reader R) (fields : List (List ℕ)) (rows : List Row)
+      (before : ℕ) (all : Result (List Row) TraceFault)
+      (left : List ℕ) → before ≤ 100000
+      → TakesNext remaining (next_record default_config (reader_state reader) [] [] left) true fields after
       → all ≡ rows_after version rows (records_from default_config (100001 - before) (reader_state reader) left)
       → (rest : List ℕ) × StandsAt remaining after rest
       × (all ≡ rows_after version rows (fields ∷ records_from default_config (100001 - (before + 1)) (reader_state after) rest))
   goes-on {R} remaining reader after fields rows before all left small next so_far =
-      let (rest, stands, one) = records-more remaining reader after fields (100001 - before) (100001 - (before + 1)) left (omega arith) next in
+      let (rest, stands, one) =
+      records-more remaining reader after fields (100001 - before) (100001 - (before + 1)) left (omega arith) next in
       (rest, stands, so_far ∙ ap (rows_after version rows) one)
 
   -- the rows of all records are those so far where none is left, or none was asked for
-  pub ends : {R : Type 0} (remaining : R → Option (List ℕ)) (reader after : Reader R) (fields : List (List ℕ)) (rows : List Row) (before : ℕ) (all : Result (List Row) TraceFault)
-      (left : List ℕ) → before ≤ 100000 → TakesNext remaining (next_record default_config (reader_state reader) [] [] left) false fields after
+  pub ends : {R : Type 0} (remaining : R → Option (List ℕ)) (reader after : Reader R) (fields : List (List ℕ)) (rows : List Row)
+      (before : ℕ) (all : Result (List Row) TraceFault)
+      (left : List ℕ) → before ≤ 100000
+      → TakesNext remaining (next_record default_config (reader_state reader) [] [] left) false fields after
       → all ≡ rows_after version rows (records_from default_config (100001 - before) (reader_state reader) left) → all ≡ Ok rows
   ends {R} remaining reader after fields rows before all left small next so_far =
-      so_far ∙ ap (rows_after version rows) (records-none remaining reader after fields (100001 - before) (100001 - (before + 1)) left (omega arith) next) ∙ rows-end rows
+      so_far ∙ ap (rows_after version rows)
+      (records-none remaining reader after fields (100001 - before) (100001 - (before + 1)) left (omega arith) next) ∙ rows-end rows
 
   pub rows-over : (rows : List Row) (fields : List (List ℕ)) (records : List (List (List ℕ))) → nat_lt (length rows) 100000 ≡ false
       → rows_after version rows (fields ∷ records) ≡ Err TraceFault.TooManyRows
   unfolding rows_after
   rows-over rows fields records e = rw e refl
 
-  pub rows-bad : (rows : List Row) (fields : List (List ℕ)) (records : List (List (List ℕ))) (why : TraceFault) → nat_lt (length rows) 100000 ≡ true
+  pub rows-bad : (rows : List Row) (fields : List (List ℕ)) (records : List (List (List ℕ))) (why : TraceFault)
+      → nat_lt (length rows) 100000 ≡ true
       → with_row version rows fields ≡ Err why → rows_after version rows (fields ∷ records) ≡ Err why
   unfolding rows_after
   rows-bad rows fields records why e h = rw (e, h) refl
@@ -73,12 +87,14 @@ module _ (version : ℕ) where
   rows-good rows more fields records e h = rw (e, h) refl
 
   -- a record that is no row
-  pub with_row-bad : (rows : List Row) (fields : List (List ℕ)) (why : TraceFault) → Err why ≡ row_of version (length rows + 1) fields → with_row version rows fields ≡ Err why
+  pub with_row-bad : (rows : List Row) (fields : List (List ℕ)) (why : TraceFault) → Err why ≡ row_of version (length rows + 1) fields
+      → with_row version rows fields ≡ Err why
   unfolding with_row
   with_row-bad rows fields why e = rw (sym e) refl
 
   -- a row that the earlier ones do not allow
-  pub with_row-refused : (rows : List Row) (fields : List (List ℕ)) (row : Row) (why : TraceFault) → Ok row ≡ row_of version (length rows + 1) fields
+  pub with_row-refused : (rows : List Row) (fields : List (List ℕ)) (row : Row) (why : TraceFault)
+      → Ok row ≡ row_of version (length rows + 1) fields
       → refusal (length rows + 1) row.event (switch_of row.device rows) ≡ Some why → with_row version rows fields ≡ Err why
   unfolding with_row
   with_row-refused rows fields row why e h = rw (sym e, h) refl
@@ -94,15 +110,18 @@ pub trace-none : (records : List (List (List ℕ))) → records ≡ [] → trace
 trace-none records e = rw e refl
 
 -- a first record that is no header
-pub trace-other : (records : List (List (List ℕ))) (fields : List (List ℕ)) (rest : List (List (List ℕ))) → records ≡ fields ∷ rest → version_of fields ≡ None
+pub trace-other : (records : List (List (List ℕ))) (fields : List (List ℕ)) (rest : List (List (List ℕ))) → records ≡ fields ∷ rest
+    → version_of fields ≡ None
     → trace_of records ≡ Err TraceFault.BadHeader
 trace-other records fields rest e h = rw (e, h) refl
 
 -- the header
-pub trace-rows : (version : ℕ) (records : List (List (List ℕ))) (fields : List (List ℕ)) (rest : List (List (List ℕ))) → records ≡ fields ∷ rest → version_of fields ≡ Some version
+pub trace-rows : (version : ℕ) (records : List (List (List ℕ))) (fields : List (List ℕ)) (rest : List (List (List ℕ)))
+    → records ≡ fields ∷ rest → version_of fields ≡ Some version
     → trace_of records ≡ rows_after version [] rest
 trace-rows version records fields rest e h = rw (e, h) refl
 
-pub first-version : (version : ℕ) (records : List (List (List ℕ))) (fields : List (List ℕ)) (rest : List (List (List ℕ))) → records ≡ fields ∷ rest → version_of fields ≡ Some version
+pub first-version : (version : ℕ) (records : List (List (List ℕ))) (fields : List (List ℕ)) (rest : List (List (List ℕ)))
+    → records ≡ fields ∷ rest → version_of fields ≡ Some version
     → version_in records ≡ version
 first-version version records fields rest e h = rw (e, h) refl

@@ -1,6 +1,8 @@
 -- How one more row changes the switches.
-use Rattle.std.{proofs.{Common.{◌≡◌, ◌≢◌, ◌∙◌, ℕ, ◌+◌, ◌-◌, ◌≤◌, Bool, true, false, List, [], ◌∷◌, ◌++◌, length, refl, arith, Some, None, slice_index_or, slice_set}, lemmas.Bool.{eqb-true, eqb-false}}, specs.Prelude.{◌==◌, unwrap_or}}
-use Rattle.{std.proofs.lemmas.{List.{map-append, get_or-set_other, Elements.filter-append}, Grind.get_or-set_at, Bool.Decides.nat_tests}, device_rows.specs.{Row.device_fits, Switch.{Tracks, events_of, set_by, switch_after, switch_of}}}
+use Rattle.std.proofs.Common.{◌≡◌, ◌≢◌, ◌∙◌, ℕ, ◌+◌, ◌-◌, ◌≤◌, Bool, true, false, List, [], ◌∷◌, ◌++◌, length, refl, arith, Some, None}
+use Rattle.std.{proofs.{Common.{slice_index_or, slice_set}, lemmas.Bool.{eqb-true, eqb-false}}, specs.Prelude.{◌==◌, unwrap_or}}
+use Rattle.std.proofs.lemmas.{List.{map-append, get_or-set_other, Elements.filter-append}, Grind.get_or-set_at, Bool.Decides.nat_tests}
+use Rattle.device_rows.specs.{Row.device_fits, Switch.{Tracks, events_of, set_by, switch_after, switch_of}}
 use Rattle.device_rows.specs.declared.{event.Event.{Event, TheVariants.Softirq}, row.Row.Row, switch.Switch.{Switch, TheVariants.Unopened}}
 
 pub switch_after-append : (s : Switch) (xs ys : List Event) → switch_after s (xs ++ ys) ≡ switch_after (switch_after s xs) ys
@@ -19,11 +21,13 @@ pub switch_of-other : (d : ℕ) (xs : List Row) (row : Row) → (row.device == d
 switch_of-other d xs row e = switch_of-append d xs (row ∷ []) ∙ rw e refl
 
 -- a row of this one
-pub switch_of-same : (d : ℕ) (xs : List Row) (row : Row) → (row.device == d) ≡ true → switch_of d (xs ++ row ∷ []) ≡ unwrap_or (set_by row.event) (switch_of d xs)
+pub switch_of-same : (d : ℕ) (xs : List Row) (row : Row) → (row.device == d) ≡ true
+    → switch_of d (xs ++ row ∷ []) ≡ unwrap_or (set_by row.event) (switch_of d xs)
 switch_of-same d xs row e = switch_of-append d xs (row ∷ []) ∙ rw e refl
 
 -- a row that sets nothing
-pub tracks-same : (table : List Switch) (rows : List Row) (row : Row) → set_by row.event ≡ None → Tracks table rows → Tracks table (rows ++ row ∷ [])
+pub tracks-same : (table : List Switch) (rows : List Row) (row : Row) → set_by row.event ≡ None → Tracks table rows
+    → Tracks table (rows ++ row ∷ [])
 tracks-same table rows row e t place below = by (row.device == place + 1) refl
   where
     by : (b : Bool) → (row.device == place + 1) ≡ b → slice_index_or table place Unopened ≡ switch_of (place + 1) (rows ++ row ∷ [])
@@ -31,11 +35,13 @@ tracks-same table rows row e t place below = by (row.device == place + 1) refl
     by false h = rw (switch_of-other (place + 1) rows row h) (t place below)
 
 -- a row that sets its device's switch
-pub tracks-set : (table : List Switch) (rows : List Row) (row : Row) (s : Switch) → set_by row.event ≡ Some s → 1 ≤ row.device → row.device ≤ 16 → length table ≡ 16
+pub tracks-set : (table : List Switch) (rows : List Row) (row : Row) (s : Switch) → set_by row.event ≡ Some s → 1 ≤ row.device
+    → row.device ≤ 16 → length table ≡ 16
     → Tracks table rows → Tracks (slice_set table (row.device - 1) s) (rows ++ row ∷ [])
 tracks-set table rows row s e low high size t place below = by (row.device == place + 1) refl
   where
-    by : (b : Bool) → (row.device == place + 1) ≡ b → slice_index_or (slice_set table (row.device - 1) s) place Unopened ≡ switch_of (place + 1) (rows ++ row ∷ [])
+    by : (b : Bool) → (row.device == place + 1) ≡ b
+        → slice_index_or (slice_set table (row.device - 1) s) place Unopened ≡ switch_of (place + 1) (rows ++ row ∷ [])
     by true h =
         let at : row.device ≡ place + 1 = eqb-true _ _ h in
         rw (switch_of-same (place + 1) rows row h, e) (get_or-set_at table (row.device - 1) place s Unopened (omega arith) (omega arith))

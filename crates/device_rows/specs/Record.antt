@@ -1,5 +1,6 @@
 -- What the fields of one record say by themselves: a row, or one of the faults 2 to 5. See docs/FORMATS.md, "The trace".
-use Rattle.std.specs.Prelude.{ℕ, ◌^◌, ◌==◌, ◌&&◌, Bool, false, List, length, Option, Some, None, option_and_then, if◌then◌else◌, nat_le, nat_lt, codes, Result, Ok, Err}
+use Rattle.std.specs.Prelude.{ℕ, ◌^◌, ◌==◌, ◌&&◌, Bool, false, List, length, Option, Some, None, option_and_then, if◌then◌else◌, nat_le}
+use Rattle.std.specs.Prelude.{nat_lt, codes, Result, Ok, Err}
 use Rattle.std.specs.Str.{all_ascii_digits, bytes_eq}
 use Rattle.std.specs.Str.Parse.{digits_value}
 use Rattle.csv.specs.Records.{field_at}
@@ -84,7 +85,8 @@ row_of version n fields = of_four version n (four_of fields)
 abbrev pub is_title : Option Four → Bool
 is_title None = false
 is_title (Some four) =
-    bytes_eq four.0 (codes "moment") && (bytes_eq four.1 (codes "device") && (bytes_eq four.2 (codes "event") && bytes_eq four.3 (codes "value")))
+    bytes_eq four.0 (codes "moment")
+    && (bytes_eq four.1 (codes "device") && (bytes_eq four.2 (codes "event") && bytes_eq four.3 (codes "value")))
 
 abbrev pub is_two : Option (List ℕ) → Bool
 is_two None = false
@@ -93,5 +95,6 @@ is_two (Some field) = bytes_eq field (codes "2")
 -- the version that a trace's first record tells: its titles alone, or these and a 2
 unfoldable pub version_of : List (List ℕ) → Option ℕ
 version_of fields =
-    if is_title (first_four fields) then (if length fields == 4 then Some 1 else if length fields == 5 && is_two (field_at fields 4) then Some 2 else None)
+    if is_title (first_four fields)
+    then (if length fields == 4 then Some 1 else if length fields == 5 && is_two (field_at fields 4) then Some 2 else None)
     else None

@@ -1,20 +1,25 @@
 -- Filters and searches over the front of a list, and one more item.
-use Rattle.std.{proofs.Common.{◌≡◌, ◌∙◌, ℕ, zero, suc, ◌+◌, ◌<◌, ◌≤◌, Bool, true, false, Option, Some, None, List, [], ◌∷◌, ◌++◌, length, take, get_or, ap, refl, arith}, specs.Prelude.{◌&&◌, filter, if◌then◌else◌}}
+use Rattle.std.proofs.Common.{◌≡◌, ◌∙◌, ℕ, zero, suc, ◌+◌, ◌<◌, ◌≤◌, Bool, true, false, Option, Some, None, List, [], ◌∷◌, ◌++◌, length}
+use Rattle.std.{proofs.Common.{take, get_or, ap, refl, arith}, specs.Prelude.{◌&&◌, filter, if◌then◌else◌}}
 use Rattle.std.{specs.List.{find, range_with_len}, proofs.lemmas.List.{take_more, Elements.filter-append, Folds.find-append}}
 
 pub filter-one : {X : Type 0} (p : X → Bool) (x : X) (b : Bool) → p x ≡ b → filter p (x ∷ []) ≡ (if b then x ∷ [] else [])
 filter-one p x true e = rw e refl
 filter-one p x false e = rw e refl
 
-pub find-more : {X : Type 0} (p : X → Bool) (xs : List X) (i : ℕ) (d : X) → i < length xs → find p (take i xs) ≡ None → p (get_or xs i d) ≡ false → find p (take (i + 1) xs) ≡ None
-find-more p xs i d below none e = ap (λ l. find p l) (take_more xs i d below) ∙ find-append p (take i xs) (get_or xs i d ∷ []) ∙ rw (none, e) refl
+pub find-more : {X : Type 0} (p : X → Bool) (xs : List X) (i : ℕ) (d : X) → i < length xs → find p (take i xs) ≡ None
+    → p (get_or xs i d) ≡ false → find p (take (i + 1) xs) ≡ None
+find-more p xs i d below none e =
+    ap (λ l. find p l) (take_more xs i d below) ∙ find-append p (take i xs) (get_or xs i d ∷ []) ∙ rw (none, e) refl
 
-pub find-here : {X : Type 0} (p : X → Bool) (xs : List X) (i : ℕ) (d : X) → i < length xs → find p (take i xs) ≡ None → p (get_or xs i d) ≡ true → find p xs ≡ Some (get_or xs i d)
+pub find-here : {X : Type 0} (p : X → Bool) (xs : List X) (i : ℕ) (d : X) → i < length xs → find p (take i xs) ≡ None
+    → p (get_or xs i d) ≡ true → find p xs ≡ Some (get_or xs i d)
 find-here p [] i d below none e = absurd (omega (arith, below))
 find-here p (x ∷ xs) zero d below none e = rw e refl
 find-here p (x ∷ xs) (suc i) d below none e = by (p x) refl (find-here p xs i d (omega (arith, below)))
   where
-    by : (b : Bool) → p x ≡ b → (find p (take i xs) ≡ None → p (get_or xs i d) ≡ true → find p xs ≡ Some (get_or xs i d)) → find p (x ∷ xs) ≡ Some (get_or xs i d)
+    by : (b : Bool) → p x ≡ b → (find p (take i xs) ≡ None → p (get_or xs i d) ≡ true → find p xs ≡ Some (get_or xs i d))
+        → find p (x ∷ xs) ≡ Some (get_or xs i d)
     by true h go = absurd (let n = rw h at none in cc n)
     by false h go = rw h (go (rw h at none) e)
 
@@ -38,7 +43,8 @@ pub find-among : {X : Type 0} (p q : X → Bool) (xs : List X) → find (λ x. p
 find-among p q [] = refl
 find-among {X = X} p q (x ∷ xs) = by (p x) refl (find-among p q xs)
   where
-    by : (b : Bool) → p x ≡ b → find (λ (y : X). p y && q y) (filter p xs) ≡ find (λ (y : X). p y && q y) xs → find (λ (y : X). p y && q y) (filter p (x ∷ xs)) ≡ find (λ (y : X). p y && q y) (x ∷ xs)
+    by : (b : Bool) → p x ≡ b → find (λ (y : X). p y && q y) (filter p xs) ≡ find (λ (y : X). p y && q y) xs
+        → find (λ (y : X). p y && q y) (filter p (x ∷ xs)) ≡ find (λ (y : X). p y && q y) (x ∷ xs)
     by true h go =
         let kept : filter p (x ∷ xs) ≡ x ∷ filter p xs = rw h refl in
         rw kept (ap (λ (r : Option X). if p x && q x then Some x else r) go)

@@ -1,23 +1,31 @@
 -- How one more act carries a script on, and what all its acts bring.
-use Rattle.std.{proofs.{Common.{◌≡◌, ◌∙◌, ℕ, zero, suc, ◌+◌, ◌<◌, ◌≤◌, List, [], ◌∷◌, ◌++◌, length, length-append, take, get_or, ap, refl, sym, arith}, lemmas.{Bool.eq-eqb, List.{length-take, take_more}}}, specs.Prelude.sum_by}
-use Rattle.{std.proofs.lemmas.List.{Elements.filter-append, Sums.{sum-map, sum_by-append}}, device_transmit.specs.Transmit.{ShowsTransmit, TransmitView, opened_transmit}, device_rows.specs.declared.event.Event.Event}
-use Rattle.{device_rows.specs.declared.{event.Event.TheVariants.{Opened, Rx, Tx, Finish, Softirq, Kthread, Disable, Enable, Threaded, Busy}, row.Row.Row}, device_transmit.specs.declared.transmit.Transmit.Transmit}
-use Rattle.{poll_interrupts.specs.Acts.{after_acts, arrivals, brings}, rx_ring.specs.{ReceiveRing.bytes_of, declared.packet.Packet.Packet}, device_script.specs.Script.{act_at, act_of, is_rx, rx_of, transmit_after, transmit_by}}
-use Rattle.{device_script.{specs.ScriptShown.{IsKept, Script, after, answer}, proofs.Rows.filter-long}, poll_interrupts.specs.declared.acts.Act.Act, device_rows.proofs.Accepted.get-at}
+use Rattle.std.proofs.Common.{◌≡◌, ◌∙◌, ℕ, zero, suc, ◌+◌, ◌<◌, ◌≤◌, List, [], ◌∷◌, ◌++◌, length, length-append, take, get_or, ap, refl}
+use Rattle.std.{proofs.{Common.{sym, arith}, lemmas.{Bool.eq-eqb, List.{length-take, take_more}}}, specs.Prelude.sum_by}
+use Rattle.std.proofs.lemmas.List.{Elements.filter-append, Sums.{sum-map, sum_by-append}}
+use Rattle.{device_transmit.specs.Transmit.{ShowsTransmit, TransmitView, opened_transmit}, device_rows.specs.declared.event.Event.Event}
+use Rattle.device_rows.specs.declared.event.Event.TheVariants.{Opened, Rx, Tx, Finish, Softirq, Kthread, Disable, Enable, Threaded, Busy}
+use Rattle.{device_rows.specs.declared.row.Row.Row, device_transmit.specs.declared.transmit.Transmit.Transmit}
+use Rattle.{poll_interrupts.specs.Acts.{after_acts, arrivals, brings}, rx_ring.specs.{ReceiveRing.bytes_of, declared.packet.Packet.Packet}}
+use Rattle.device_script.specs.Script.{act_at, act_of, is_rx, rx_of, transmit_after, transmit_by}
+use Rattle.device_script.{specs.ScriptShown.{IsKept, Script, after, answer}, proofs.Rows.filter-long}
+use Rattle.{poll_interrupts.specs.declared.acts.Act.Act, device_rows.proofs.Accepted.get-at}
 
 -- a row that an index out of the rows would give
 abbrev pub none : Row
 none = record { moment = 0; device = 0; event = Opened; value = 0 }
 
-transmit_after-push : (rows : List Row) (row : Row) (t : TransmitView) → transmit_after (rows ++ row ∷ []) t ≡ transmit_by row.event row (transmit_after rows t)
+transmit_after-push : (rows : List Row) (row : Row) (t : TransmitView)
+    → transmit_after (rows ++ row ∷ []) t ≡ transmit_by row.event row (transmit_after rows t)
 transmit_after-push [] row t = refl
 transmit_after-push (r ∷ rows) row t = transmit_after-push rows row (transmit_by r.event r t)
 
-rx_of-more : (rows : List Row) (k : ℕ) (d : Row) → k < length rows → rx_of (take (k + 1) rows) ≡ rx_of (take k rows) ++ rx_of (get_or rows k d ∷ [])
+rx_of-more : (rows : List Row) (k : ℕ) (d : Row) → k < length rows
+    → rx_of (take (k + 1) rows) ≡ rx_of (take k rows) ++ rx_of (get_or rows k d ∷ [])
 rx_of-more rows k d below = ap (λ (l : List Row). rx_of l) (take_more rows k d below) ∙ filter-append _ (take k rows) (get_or rows k d ∷ [])
 
 -- one more row was played
-pub kept-more : (opening : Row) (rows : List Row) (k packets counted : ℕ) (row : Row) (old new : Transmit) → IsKept opening rows k packets old → k < length rows → get_or rows k row ≡ row
+pub kept-more : (opening : Row) (rows : List Row) (k packets counted : ℕ) (row : Row) (old new : Transmit)
+    → IsKept opening rows k packets old → k < length rows → get_or rows k row ≡ row
     → ((view : TransmitView) → ShowsTransmit old view → ShowsTransmit new (transmit_by row.event row view))
     → counted ≡ packets + length (rx_of (row ∷ [])) → IsKept opening rows (k + 1) counted new
 kept-more opening rows k packets counted row old new kept below here shows more =
@@ -26,12 +34,15 @@ kept-more opening rows k packets counted row old new kept below here shows more 
       few = kept.few;
       within = omega (arith, below);
       packets =
-          let long : rx_of (take (k + 1) rows) ≡ rx_of (take k rows) ++ rx_of (row ∷ []) = rw front (filter-append _ (take k rows) (row ∷ [])) in
-          more ∙ ap (λ (n : ℕ). n + length (rx_of (row ∷ []))) kept.packets ∙ sym (length-append (rx_of (take k rows)) (rx_of (row ∷ []))) ∙ ap (λ (l : List Row). length l) (sym long);
+          let long : rx_of (take (k + 1) rows) ≡ rx_of (take k rows) ++ rx_of (row ∷ []) =
+          rw front (filter-append _ (take k rows) (row ∷ [])) in
+          more ∙ ap (λ (n : ℕ). n + length (rx_of (row ∷ []))) kept.packets ∙ sym (length-append (rx_of (take k rows)) (rx_of (row ∷ [])))
+          ∙ ap (λ (l : List Row). length l) (sym long);
       transmit = rw (front, transmit_after-push (take k rows) row (opened_transmit opening.value opening.moment)) (shows _ kept.transmit);
     }
 
-pub few-packets : (opening : Row) (rows : List Row) (k packets : ℕ) (side : Transmit) → IsKept opening rows k packets side → packets ≤ 100000
+pub few-packets : (opening : Row) (rows : List Row) (k packets : ℕ) (side : Transmit) → IsKept opening rows k packets side
+    → packets ≤ 100000
 few-packets opening rows k packets side kept =
     let all = filter-long (λ (row : Row). is_rx row.event) (take k rows) in
     let front = length-take k rows in
@@ -41,10 +52,12 @@ few-packets opening rows k packets side kept =
     omega (arith, all, front, few, within, counted)
 
 -- the act of a row
-pub act-at : (rows : List Row) (k : ℕ) (d : Row) → k < length rows → act_at rows k ≡ act_of (length (rx_of (take k rows)) + 1) (get_or rows k d).event (get_or rows k d).value
+pub act-at : (rows : List Row) (k : ℕ) (d : Row) → k < length rows
+    → act_at rows k ≡ act_of (length (rx_of (take k rows)) + 1) (get_or rows k d).event (get_or rows k d).value
 act-at rows k d below = rw (get-at rows k d below) refl
 
-pub answer-in-turn : (s : Script) (k packets : ℕ) (row : Row) (act : Act) → k ≡ s.made → k < length s.rows → get_or s.rows k row ≡ row → packets ≡ length (rx_of (take s.made s.rows))
+pub answer-in-turn : (s : Script) (k packets : ℕ) (row : Row) (act : Act) → k ≡ s.made → k < length s.rows → get_or s.rows k row ≡ row
+    → packets ≡ length (rx_of (take s.made s.rows))
     → act ≡ act_of (packets + 1) row.event row.value → act ≡ answer s k
 answer-in-turn s k packets row act turn below here counted is =
     is ∙ sym (rw (eq-eqb k s.made turn, act-at s.rows k row below, here, counted, turn) refl)
@@ -70,7 +83,8 @@ brought-count Enable n row h = rw h refl
 brought-count Threaded n row h = rw h refl
 brought-count Busy n row h = rw h refl
 
-brought-bytes : (e : Event) (n : ℕ) (row : Row) → row.event ≡ e → bytes_of (brings (act_of n row.event row.value)) ≡ sum_by (λ (r : Row). r.value) (rx_of (row ∷ []))
+brought-bytes : (e : Event) (n : ℕ) (row : Row) → row.event ≡ e
+    → bytes_of (brings (act_of n row.event row.value)) ≡ sum_by (λ (r : Row). r.value) (rx_of (row ∷ []))
 brought-bytes Opened n row h = rw h refl
 brought-bytes Rx n row h = rw h refl
 brought-bytes Tx n row h = rw h refl
@@ -94,13 +108,18 @@ AreArrivals s n = (length (arrivals answer after s n) ≡ length (rx_of (take n 
 one-more : (s : Script) (n : ℕ) (d : Row) → s.made ≡ 0 → n < length s.rows → AreArrivals s n → AreArrivals s (suc n)
 one-more s n d e below before =
     let row : Row = get_or s.rows n d in
-    let act : answer (after_acts after s n) n ≡ act_of (length (rx_of (take n s.rows)) + 1) row.event row.value = rw (acts-made s n e, eq-eqb n n refl) (act-at s.rows n d below) in
+    let act : answer (after_acts after s n) n ≡ act_of (length (rx_of (take n s.rows)) + 1) row.event row.value =
+    rw (acts-made s n e, eq-eqb n n refl) (act-at s.rows n d below) in
     let next : suc n ≡ n + 1 = omega arith in
     let rows : rx_of (take (suc n) s.rows) ≡ rx_of (take n s.rows) ++ rx_of (row ∷ []) = rw next (rx_of-more s.rows n d below) in
     let now = arrivals answer after s n in
     let new = brings (act_of (length (rx_of (take n s.rows)) + 1) row.event row.value) in (
-      rw (act, rows) (length-append now new ∙ rw (before.0, brought-count row.event (length (rx_of (take n s.rows)) + 1) row refl) (sym (length-append (rx_of (take n s.rows)) (rx_of (row ∷ []))))),
-      rw (act, rows) (bytes_of-append now new ∙ rw (before.1, brought-bytes row.event (length (rx_of (take n s.rows)) + 1) row refl) (sym (sum_by-append (λ (r : Row). r.value) (rx_of (take n s.rows)) (rx_of (row ∷ []))))),
+      rw (act, rows)
+          (length-append now new ∙ rw (before.0, brought-count row.event (length (rx_of (take n s.rows)) + 1) row refl)
+          (sym (length-append (rx_of (take n s.rows)) (rx_of (row ∷ []))))),
+      rw (act, rows)
+          (bytes_of-append now new ∙ rw (before.1, brought-bytes row.event (length (rx_of (take n s.rows)) + 1) row refl)
+          (sym (sum_by-append (λ (r : Row). r.value) (rx_of (take n s.rows)) (rx_of (row ∷ []))))),
     )
 
 pub arrivals-are : (s : Script) (n : ℕ) → s.made ≡ 0 → n ≤ length s.rows → AreArrivals s n

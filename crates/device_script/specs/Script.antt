@@ -1,5 +1,6 @@
 -- What the rows of a trace say of one device: filters over the rows, which know nothing of polls.
-use Rattle.std.specs.Prelude.{is_some, ℕ, ◌+◌, ◌==◌, ◌&&◌, Bool, true, false, not, List, [], ◌∷◌, Option, Some, None, filter, length, slice_get, take}
+use Rattle.std.specs.Prelude.{is_some, ℕ, ◌+◌, ◌==◌, ◌&&◌, Bool, true, false, not, List, [], ◌∷◌, Option, Some, None, filter, length}
+use Rattle.std.specs.Prelude.{slice_get, take}
 use Rattle.std.specs.List.{find}
 use Rattle.device_transmit.specs.Transmit.{TransmitView, after_finish, after_tx, opened_transmit}
 use Rattle.device_rows.specs.declared.event.Event.{Event}

@@ -1,12 +1,17 @@
 -- How a call of one seat is one of its number alone.
 use Rattle.std.proofs.Common.{◌≡◌, ◌∙◌, ℕ, Bool, true, false, List, [], Option, Some, None, refl, sym, ap, subst, arith}
-use Rattle.{rx_ring.specs.declared.{ends.RxCtx.RxCtx, packet.Packet.Packet}, napi_model.specs.declared.{event.Operation.Operation, state.{Kind.Kind, Place.Place}}}
+use Rattle.rx_ring.specs.declared.{ends.RxCtx.RxCtx, packet.Packet.Packet}
+use Rattle.napi_model.specs.declared.{event.Operation.Operation, state.{Kind.Kind, Place.Place}}
 use Rattle.napi_model.specs.declared.state.Kind.TheVariants as kind
 use Rattle.{napi_word.specs.{declared.table.Pass.Pass, Slot.has_slot, View.own_deliveries}, device_bench.specs.Receive.taker_of}
-use Rattle.napi_calls.specs.{Made.Made, Knows.{Has, Stands}, Dealt.Delivers, Packets.{Quiet, IsFresh, HoldsOn, polled}, declared.types.{Napi.Napi, Caller.Caller}}
+use Rattle.napi_calls.specs.{Made.Made, Knows.{Has, Stands}, Dealt.Delivers, Packets.{Quiet, IsFresh, HoldsOn, polled}}
+use Rattle.napi_calls.specs.declared.types.{Napi.Napi, Caller.Caller}
 use Rattle.napi_calls.proofs.{Dealing.delivers_none, Making.nothing}
-use Rattle.device_shared.specs.{Acting.{CtxMoves, Acts, TurnTakes, at_rest, nobody}, Seats.{IsSeatAt, AreSeats, poller_post, thread_post, ctx_at, polls_at, poller_of, thread_of, control_of, ctx_of, role_of}}
-use Rattle.device_shared.specs.declared.seats.{Posts.{Posts, TheVariants.{Rest, ListPolls, ThreadPolls, PollsBusily}}, Enabled.Enabled, Turn.Turn, Seats.Seats}
+use Rattle.device_shared.specs.Acting.{CtxMoves, Acts, TurnTakes, at_rest, nobody}
+use Rattle.device_shared.specs.Seats.{IsSeatAt, AreSeats, poller_post, thread_post, ctx_at, polls_at, poller_of, thread_of, control_of}
+use Rattle.device_shared.specs.Seats.{ctx_of, role_of}
+use Rattle.device_shared.specs.declared.seats.{Posts.{Posts, TheVariants.{Rest, ListPolls, ThreadPolls, PollsBusily}}, Enabled.Enabled}
+use Rattle.device_shared.specs.declared.seats.{Turn.Turn, Seats.Seats}
 use Rattle.device_shared.specs.declared.seats.Turn.TheVariants as turn
 
 pub seat_made : {n : Napi} {p q : Pass} {os : List Operation} → IsSeatAt n p → Made p os q → IsSeatAt n q
@@ -34,9 +39,11 @@ pub taken : {os : List Operation} (p q : Pass) (x : RxCtx) → Made p os q → I
 taken p q x m f has = record { made = m; gave = delivers_none p q f.quiet; moves = (refl, f.received, q.right ∙ ap has_slot has.holds) }
 
 pub held : {os : List Operation} (p q : Pass) (x y : RxCtx) → Made p os q → HoldsOn p q → y ≡ x → Moved os [] p q (Some x) (Some y)
-held p q x y m h e = record { made = m; gave = delivers_none p q (λ i. own_deliveries (m.seat.number i) (h.deliveries i)); moves = (refl, e) }
+held p q x y m h e =
+    record { made = m; gave = delivers_none p q (λ i. own_deliveries (m.seat.number i) (h.deliveries i)); moves = (refl, e) }
 
-pub given : {os : List Operation} (p q : Pass) (x : RxCtx) → Made p os q → Delivers p (polled p x) q → Has p (Some x) → Moved os (polled p x) p q (Some x) None
+pub given : {os : List Operation} (p q : Pass) (x : RxCtx) → Made p os q → Delivers p (polled p x) q → Has p (Some x)
+    → Moved os (polled p x) p q (Some x) None
 given p q x m d has = record { made = m; gave = d; moves = (refl, has.received) }
 
 -- nobody calls
@@ -67,7 +74,8 @@ not_on (turn.On posts e) none = absurd (none posts e refl)
 abbrev pub with_turn : Caller → Turn → Seats
 with_turn i t = record { interrupt = i; turn = t }
 
-pub interrupt_acts : {n : Napi} {os : List Operation} (s : Seats) (i : Caller) → AreSeats n s → Made s.interrupt.pass os i.pass → Quiet s.interrupt.pass i.pass → Acts 0 os n s (with_turn i s.turn)
+pub interrupt_acts : {n : Napi} {os : List Operation} (s : Seats) (i : Caller) → AreSeats n s → Made s.interrupt.pass os i.pass
+    → Quiet s.interrupt.pass i.pass → Acts 0 os n s (with_turn i s.turn)
 interrupt_acts s i seats m k = record {
   low = omega arith;
   packets = [];
@@ -79,8 +87,10 @@ interrupt_acts s i seats m k = record {
   seats = record { zeroth = seat_made seats.zeroth m; one = seats.one; two = seats.two; three = seats.three };
 }
 
-module _ {n : Napi} {os : List Operation} {packets : List Packet} (i : Caller) (t before after : Turn) (was : t ≡ before) (s : AreSeats n (with_turn i t)) where
-  pub first_turn : Moved os packets (poller_of before) (poller_of after) (ctx_of before) (ctx_of after) → thread_of after ≡ thread_of before → control_of after ≡ control_of before
+module _ {n : Napi} {os : List Operation} {packets : List Packet} (i : Caller) (t before after : Turn) (was : t ≡ before)
+    (s : AreSeats n (with_turn i t)) where
+  pub first_turn : Moved os packets (poller_of before) (poller_of after) (ctx_of before) (ctx_of after) → thread_of after ≡ thread_of before
+      → control_of after ≡ control_of before
       → Acts 1 os n (with_turn i t) (with_turn i after)
   first_turn m two three = let seats = rw was at s in rw was (record {
     low = omega arith;
@@ -90,10 +100,17 @@ module _ {n : Napi} {os : List Operation} {packets : List Packet} (i : Caller) (
     two = two;
     three = three;
     moves = m.moves;
-    seats = record { zeroth = seats.zeroth; one = seat_made seats.one m.made; two = subst (IsSeatAt n) (sym two) seats.two; three = subst (IsSeatAt n) (sym three) seats.three };
+    seats =
+        record {
+          zeroth = seats.zeroth;
+          one = seat_made seats.one m.made;
+          two = subst (IsSeatAt n) (sym two) seats.two;
+          three = subst (IsSeatAt n) (sym three) seats.three;
+        };
   })
 
-  pub second_turn : Moved os packets (thread_of before) (thread_of after) (ctx_of before) (ctx_of after) → poller_of after ≡ poller_of before → control_of after ≡ control_of before
+  pub second_turn : Moved os packets (thread_of before) (thread_of after) (ctx_of before) (ctx_of after)
+      → poller_of after ≡ poller_of before → control_of after ≡ control_of before
       → Acts 2 os n (with_turn i t) (with_turn i after)
   second_turn m one three = let seats = rw was at s in rw was (record {
     low = omega arith;
@@ -103,10 +120,17 @@ module _ {n : Napi} {os : List Operation} {packets : List Packet} (i : Caller) (
     two = (m.made, m.gave);
     three = three;
     moves = m.moves;
-    seats = record { zeroth = seats.zeroth; one = subst (IsSeatAt n) (sym one) seats.one; two = seat_made seats.two m.made; three = subst (IsSeatAt n) (sym three) seats.three };
+    seats =
+        record {
+          zeroth = seats.zeroth;
+          one = subst (IsSeatAt n) (sym one) seats.one;
+          two = seat_made seats.two m.made;
+          three = subst (IsSeatAt n) (sym three) seats.three;
+        };
   })
 
-  pub control_turn : Moved os packets (control_of before) (control_of after) (ctx_of before) (ctx_of after) → poller_of after ≡ poller_of before → thread_of after ≡ thread_of before
+  pub control_turn : Moved os packets (control_of before) (control_of after) (ctx_of before) (ctx_of after)
+      → poller_of after ≡ poller_of before → thread_of after ≡ thread_of before
       → Acts 3 os n (with_turn i t) (with_turn i after)
   control_turn m one two = let seats = rw was at s in rw was (record {
     low = omega arith;
@@ -116,17 +140,29 @@ module _ {n : Napi} {os : List Operation} {packets : List Packet} (i : Caller) (
     two = two;
     three = (m.made, m.gave);
     moves = m.moves;
-    seats = record { zeroth = seats.zeroth; one = subst (IsSeatAt n) (sym one) seats.one; two = subst (IsSeatAt n) (sym two) seats.two; three = seat_made seats.three m.made };
+    seats =
+        record {
+          zeroth = seats.zeroth;
+          one = subst (IsSeatAt n) (sym one) seats.one;
+          two = subst (IsSeatAt n) (sym two) seats.two;
+          three = seat_made seats.three m.made;
+        };
   })
 
 -- nobody calls
-pub none_turn : {n : Napi} (k : Kind) (i : Caller) (t : Turn) → AreSeats n (with_turn i t) → Acts (taker_of k) [] n (with_turn i t) (with_turn i t)
-none_turn kind.List i (turn.Off p t c) s = first_turn i (turn.Off p t c) (turn.Off p t c) (turn.Off p t c) refl s (idle (Some c.state.ctx) p.stands) refl refl
-none_turn kind.Thread i (turn.Off p t c) s = second_turn i (turn.Off p t c) (turn.Off p t c) (turn.Off p t c) refl s (idle (Some c.state.ctx) t.stands) refl refl
-none_turn kind.List i (turn.On posts e) s = first_turn i (turn.On posts e) (turn.On posts e) (turn.On posts e) refl s (poller_rests posts) refl refl
-none_turn kind.Thread i (turn.On posts e) s = second_turn i (turn.On posts e) (turn.On posts e) (turn.On posts e) refl s (thread_rests posts) refl refl
+pub none_turn : {n : Napi} (k : Kind) (i : Caller) (t : Turn) → AreSeats n (with_turn i t)
+    → Acts (taker_of k) [] n (with_turn i t) (with_turn i t)
+none_turn kind.List i (turn.Off p t c) s =
+    first_turn i (turn.Off p t c) (turn.Off p t c) (turn.Off p t c) refl s (idle (Some c.state.ctx) p.stands) refl refl
+none_turn kind.Thread i (turn.Off p t c) s =
+    second_turn i (turn.Off p t c) (turn.Off p t c) (turn.Off p t c) refl s (idle (Some c.state.ctx) t.stands) refl refl
+none_turn kind.List i (turn.On posts e) s =
+    first_turn i (turn.On posts e) (turn.On posts e) (turn.On posts e) refl s (poller_rests posts) refl refl
+none_turn kind.Thread i (turn.On posts e) s =
+    second_turn i (turn.On posts e) (turn.On posts e) (turn.On posts e) refl s (thread_rests posts) refl refl
 
 -- a try of the controller, where nobody has the context
-pub tried : {os : List Operation} (p : Pass) (t : Turn) (taken : Bool) → Made p os (control_of t) → TurnTakes p t taken → Moved os [] p (control_of t) None (ctx_of t)
+pub tried : {os : List Operation} (p : Pass) (t : Turn) (taken : Bool) → Made p os (control_of t) → TurnTakes p t taken
+    → Moved os [] p (control_of t) None (ctx_of t)
 tried p t true m k = record { made = m; gave = delivers_none p (control_of t) k.1; moves = k.0 }
 tried {os} p t false m k = subst (λ (o : Option RxCtx). Moved os [] p (control_of t) None o) (sym k.0) (quiet p (control_of t) None m k.1)

@@ -1,11 +1,16 @@
 -- How a side ends.
-use Rattle.std.proofs.{Common.{◌≡◌, ◌∙◌, ℕ, List, [], ◌∷◌, length, take, Some, refl, sym, ap, subst, arith}, lemmas.List.{append-nil, length-drop, take-append-drop}}
-use Rattle.rx_ring.specs.{declared.{ends.{RxCtx.RxCtx, RxIn.RxIn}, packet.{Packet.Packet, Totals.Totals}}, Ends.{IsOneRing, SameCtx, SameIn, put_list, received_list, ring_name, ring_of}, ReceiveRing.{capped, held_of, totals_of}}
+use Rattle.std.proofs.Common.{◌≡◌, ◌∙◌, ℕ, List, [], ◌∷◌, length, take, Some, refl, sym, ap, subst, arith}
+use Rattle.std.proofs.lemmas.List.{append-nil, length-drop, take-append-drop}
+use Rattle.rx_ring.specs.declared.{ends.{RxCtx.RxCtx, RxIn.RxIn}, packet.{Packet.Packet, Totals.Totals}}
+use Rattle.rx_ring.specs.Ends.{IsOneRing, SameCtx, SameIn, put_list, received_list, ring_name, ring_of}
+use Rattle.rx_ring.specs.ReceiveRing.{capped, held_of, totals_of}
 use Rattle.{napi_word.{specs.declared.table.Pass.Pass, proofs.Deliveries.some_is}, device_bench.specs.Receive.ReceiveView}
-use Rattle.napi_calls.{specs.{Closed.IsClosed, Seats.shown, declared.types.{Caller.Caller, Napi.Napi}}, proofs.{Dealing.named_ring, Steps.prefix_trans}}
+use Rattle.napi_calls.specs.{Closed.IsClosed, Seats.shown, declared.types.{Caller.Caller, Napi.Napi}}
+use Rattle.napi_calls.proofs.{Dealing.named_ring, Steps.prefix_trans}
 use Rattle.napi_calls.specs.Seats as seats
 use Rattle.napi_model.specs.declared.state.Seen.{Seen}
-use Rattle.device_shared.specs.{declared.seats.Seats.Seats, Ending.{IsEnded, IsLater, TakesHold}, Seats.{control_of, polls_at, received_by}, SharedReceive.{IsWhole, left_in}}
+use Rattle.device_shared.specs.{declared.seats.Seats.Seats, Ending.{IsEnded, IsLater, TakesHold}, Seats.{control_of, polls_at, received_by}}
+use Rattle.device_shared.specs.SharedReceive.{IsWhole, left_in}
 use Rattle.device_shared.specs.declared.seats.{Enabled.Enabled, Posts.{Posts, TheVariants.{Rest, ListPolls, ThreadPolls, PollsBusily}}}
 use Rattle.device_shared.specs.declared.seats.Turn.TheVariants as turn
 use Rattle.device_shared.proofs.{Gathering.{at_three, ring_from}, RingFacts.{one_still, side_at}}
@@ -37,17 +42,21 @@ module _ (n : Napi) (s : Seats) (input : RxIn) (held_many capacity : ℕ) (seen 
   -- the context that the controller has is that of this ring
   pub ring_closed : (ctx own : RxCtx) → ctx ≡ own → seats.ring_of control ≡ Some (ring_name own) → IsOneRing input ctx
   ring_closed ctx own same has =
-      let named : ring_name w.first ≡ ring_name own = some_is (sym (ring_from (control_of s.turn) w.first w.gathered.show.first_three) ∙ sym later.ring ∙ has) in
+      let named : ring_name w.first ≡ ring_name own =
+      some_is (sym (ring_from (control_of s.turn) w.first w.gathered.show.first_three) ∙ sym later.ring ∙ has) in
       subst (IsOneRing input) (sym same) (named_ring input w.first own w.one named)
 
-  module _ (a b c : Caller) (ctx : RxCtx) (cl : IsClosed n (a ∷ b ∷ c ∷ []) control ctx) (one : IsOneRing input ctx) (input' : RxIn) (last : RxCtx) (same : SameCtx ctx last)
-      (put : put_list input' ≡ put_list input) (polled : received_list last ≡ put_list input) (totals : Totals) (are : totals ≡ totals_of (ring_of input' last)) where
+  module _ (a b c : Caller) (ctx : RxCtx) (cl : IsClosed n (a ∷ b ∷ c ∷ []) control ctx) (one : IsOneRing input ctx) (input' : RxIn)
+      (last : RxCtx) (same : SameCtx ctx last)
+      (put : put_list input' ≡ put_list input) (polled : received_list last ≡ put_list input) (totals : Totals)
+      (are : totals ≡ totals_of (ring_of input' last)) where
     ring_is : ring_of input' last ≡ ring_of input last
     ring_is = ap (λ (l : List Packet). record { put = l; received = received_list last }) put
 
     none_left : totals.left ≡ 0
     none_left =
-        let none : length (held_of (ring_of input last)) ≡ 0 = length-drop (length (received_list last)) (put_list input) ∙ omega (arith, ap length polled) in
+        let none : length (held_of (ring_of input last)) ≡ 0 =
+        length-drop (length (received_list last)) (put_list input) ∙ omega (arith, ap length polled) in
         ap (λ (t : Totals). t.left) (are ∙ ap totals_of ring_is) ∙ ap capped none
 
     pub side_ended : (now : ReceiveView) → side_at (Some s) input capacity ≡ now → IsEnded now totals

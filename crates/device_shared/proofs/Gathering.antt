@@ -1,14 +1,21 @@
 -- One of the seats acted alone, and then all met: what all of them know now.
-use Rattle.{std.proofs.Common.{◌≡◌, ◌∙◌, ◌≤◌, ℕ, zero, suc, List, [], ◌∷◌, ◌++◌, Option, Some, None, refl, sym, ap, subst, arith, ne_eqb, append-nil, append_assoc}}
+use Rattle.std.proofs.Common.{◌≡◌, ◌∙◌, ◌≤◌, ℕ, zero, suc, List, [], ◌∷◌, ◌++◌, Option, Some, None, refl, sym, ap, subst, arith, ne_eqb}
+use Rattle.std.proofs.Common.{append-nil, append_assoc}
 use Rattle.rx_ring.specs.{declared.{ends.RxCtx.RxCtx, packet.Packet.Packet}, Ends.{ring_name, received_list}}
-use Rattle.{napi_model.specs.{declared.{event.{Event.Event, Operation.{Operation, TheVariants.Look}}, state.{Seen.Seen, State.State}}, Step.{event, opening, seen_of}, History.{LegalHistory, state_after}, Laws.IsSound}}
+use Rattle.napi_model.specs.declared.{event.{Event.Event, Operation.{Operation, TheVariants.Look}}, state.{Seen.Seen, State.State}}
+use Rattle.napi_model.specs.{Step.{event, opening, seen_of}, History.{LegalHistory, state_after}, Laws.IsSound}
 use Rattle.napi_model.proofs.Owners.{opens_sound, sound_after}
-use Rattle.napi_word.{specs.{declared.{table.Pass.Pass, view.Delivery.Delivery}, Passes.{OwnsSlot, view_of}, View.{View, first_in, received_in, packets_of}, Surveys.{IsSurveyed, Surveys}}, proofs.{CatchingUp.state_looked, Deliveries.some_is}}
-use Rattle.napi_calls.{specs.{Alone.{AllShow, GrewBy, MakesAlone}, Knows.received_held, Made.events, Packets.{delivered, received_before}, Seats.{controller_of, ring_of, shown, state_of}, declared.types.Napi.Napi}, proofs.Alone.one_alone}
-use Rattle.device_shared.specs.{declared.seats.Seats.Seats, Acting.{Acts, CtxMoves, seat_at}, Meeting.{Meets, passes_of}, Seats.{IsSeatAt, ShowAll, control_of, ctx_of, poller_of, received_by, state_in, thread_of}}
+use Rattle.napi_word.specs.{declared.{table.Pass.Pass, view.Delivery.Delivery}, Passes.{OwnsSlot, view_of}}
+use Rattle.napi_word.specs.{View.{View, first_in, received_in, packets_of}, Surveys.{IsSurveyed, Surveys}}
+use Rattle.napi_word.proofs.{CatchingUp.state_looked, Deliveries.some_is}
+use Rattle.napi_calls.specs.{Alone.{AllShow, GrewBy, MakesAlone}, Knows.received_held, Made.events, Packets.{delivered, received_before}}
+use Rattle.napi_calls.{specs.{Seats.{controller_of, ring_of, shown, state_of}, declared.types.Napi.Napi}, proofs.Alone.one_alone}
+use Rattle.device_shared.specs.{declared.seats.Seats.Seats, Acting.{Acts, CtxMoves, seat_at}, Meeting.{Meets, passes_of}}
+use Rattle.device_shared.specs.Seats.{IsSeatAt, ShowAll, control_of, ctx_of, poller_of, received_by, state_in, thread_of}
 
 -- what the context has received by the deliveries shown
-pub received_from : (v : View) (first : RxCtx) → first_in v ≡ Some first → received_in v ≡ received_list first ++ packets_of (Rattle.napi_word.specs.View.delivered v)
+pub received_from : (v : View) (first : RxCtx) → first_in v ≡ Some first
+    → received_in v ≡ received_list first ++ packets_of (Rattle.napi_word.specs.View.delivered v)
 received_from [] first e = absurd (cc e)
 received_from (x ∷ xs) first e = ap (λ (c : RxCtx). received_list c ++ packets_of x.delivered) (some_is e)
 
@@ -23,7 +30,8 @@ pub at_three : (p : Pass) → controller_of p ≡ 3 → state_of p ≡ state_aft
 at_three p three = ap (λ (k : ℕ). state_after (opening k) (shown p)) three
 
 module _ (c : ℕ) (os : List Operation) (n : Napi) (h : List Event) (ds : List Delivery) (s0 s1 s2 : Seats) (x : Seen)
-    (all : AllShow h ds s0.interrupt.pass (poller_of s0.turn) (thread_of s0.turn) (control_of s0.turn)) (a : Acts c os n s0 s1) (m : Meets s1 s2 x) where
+    (all : AllShow h ds s0.interrupt.pass (poller_of s0.turn) (thread_of s0.turn) (control_of s0.turn)) (a : Acts c os n s0 s1)
+    (m : Meets s1 s2 x) where
   abbrev s : Surveys 3 m.meet.looker x (passes_of s1) (passes_of s2)
   s = m.meet.surveys
 
@@ -36,7 +44,8 @@ module _ (c : ℕ) (os : List Operation) (n : Napi) (h : List Event) (ds : List 
   grew : GrewBy c os a.packets h s.found look ds s.deliveries s2.interrupt.pass (poller_of s2.turn) (thread_of s2.turn) (control_of s2.turn)
   grew = one_alone c os a.packets h ds s0.interrupt.pass (poller_of s0.turn) (thread_of s0.turn) (control_of s0.turn)
       s1.interrupt.pass (poller_of s1.turn) (thread_of s1.turn) (control_of s1.turn)
-      s2.interrupt.pass (poller_of s2.turn) (thread_of s2.turn) (control_of s2.turn) m.meet.looker x a.low all a.zeroth a.one a.two a.three s
+      s2.interrupt.pass (poller_of s2.turn) (thread_of s2.turn)
+      (control_of s2.turn) m.meet.looker x a.low all a.zeroth a.one a.two a.three s
 
   met : (k : ℕ) → k ≤ 3 → IsSurveyed s.found look s.deliveries (seat_at k s1) (seat_at k s2)
   met zero low = s.each 0 s1.interrupt.pass s2.interrupt.pass refl refl
@@ -69,14 +78,21 @@ module _ (c : ℕ) (os : List Operation) (n : Napi) (h : List Event) (ds : List 
 
   pub shows : ShowAll n s.first s2.interrupt.pass (poller_of s2.turn) (thread_of s2.turn) (control_of s2.turn)
   shows = record {
-    seats = record { zeroth = seat_is 0 (omega arith) a.seats.zeroth; one = seat_is 1 (omega arith) a.seats.one; two = seat_is 2 (omega arith) a.seats.two; three = seat_is 3 (omega arith) a.seats.three };
+    seats =
+        record {
+          zeroth = seat_is 0 (omega arith) a.seats.zeroth;
+          one = seat_is 1 (omega arith) a.seats.one;
+          two = seat_is 2 (omega arith) a.seats.two;
+          three = seat_is 3 (omega arith) a.seats.three;
+        };
     first_zeroth = first_is 0 (omega arith);
     first_one = first_is 1 (omega arith);
     first_two = first_is 2 (omega arith);
     first_three = first_is 3 (omega arith);
     legal = subst (LegalHistory 3 (opening 3)) (sym shown_now) s.whole.legal;
     all = subst (λ (l : List Event). AllShow l (delivered r3) s2.interrupt.pass (poller_of s2.turn) (thread_of s2.turn) r3) (sym shown_now)
-        (subst (λ (l : List Delivery). AllShow whole l s2.interrupt.pass (poller_of s2.turn) (thread_of s2.turn) r3) (sym delivered_now) grew.all);
+        (subst (λ (l : List Delivery). AllShow whole l s2.interrupt.pass (poller_of s2.turn) (thread_of s2.turn) r3)
+        (sym delivered_now) grew.all);
   }
 
   state_now : state_in s2 ≡ state_after (opening 3) whole
@@ -92,7 +108,8 @@ module _ (c : ℕ) (os : List Operation) (n : Napi) (h : List Event) (ds : List 
   seen_now = m.meet.told ∙ ap seen_of (sym (state_looked (opening 3) s.found m.meet.looker x)) ∙ ap seen_of (sym state_now)
 
   received_now : received_in (view_of r3) ≡ received_list s.first ++ packets_of s.deliveries
-  received_now = received_from (view_of r3) s.first (first_is 3 (omega arith)) ∙ ap (λ (l : List Delivery). received_list s.first ++ packets_of l) delivered_now
+  received_now = received_from (view_of r3) s.first (first_is 3 (omega arith))
+      ∙ ap (λ (l : List Delivery). received_list s.first ++ packets_of l) delivered_now
 
   -- who took the context found all that was delivered
   owner_received : OwnsSlot (seat_at c s1) → received_before (seat_at c s1) ≡ received_in (view_of r3)
@@ -101,7 +118,8 @@ module _ (c : ℕ) (os : List Operation) (n : Napi) (h : List Event) (ds : List 
       ∙ ap (λ (l : List Delivery). received_list s.first ++ packets_of l) ((met c a.low).view.held owns) ∙ sym received_now
 
 module _ (c : ℕ) (os : List Operation) (n : Napi) (first : RxCtx) (s0 s1 s2 : Seats) (x : Seen)
-    (g : ShowAll n first s0.interrupt.pass (poller_of s0.turn) (thread_of s0.turn) (control_of s0.turn)) (a : Acts c os n s0 s1) (m : Meets s1 s2 x) where
+    (g : ShowAll n first s0.interrupt.pass (poller_of s0.turn) (thread_of s0.turn) (control_of s0.turn)) (a : Acts c os n s0 s1)
+    (m : Meets s1 s2 x) where
   abbrev p3 : Pass
   p3 = control_of s0.turn
 
@@ -112,7 +130,8 @@ module _ (c : ℕ) (os : List Operation) (n : Napi) (first : RxCtx) (s0 s1 s2 : 
   same_first : t.first ≡ first
   same_first = by c a.zeroth a.one
     where
-      by : (k : ℕ) → MakesAlone k os a.packets 0 s0.interrupt.pass s1.interrupt.pass → MakesAlone k os a.packets 1 (poller_of s0.turn) (poller_of s1.turn) → t.first ≡ first
+      by : (k : ℕ) → MakesAlone k os a.packets 0 s0.interrupt.pass s1.interrupt.pass
+          → MakesAlone k os a.packets 1 (poller_of s0.turn) (poller_of s1.turn) → t.first ≡ first
       by zero m0 m1 = some_is (sym (t.firsts 1 (poller_of s1.turn) refl) ∙ ap (λ (p : Pass). first_in (view_of p)) m1 ∙ g.first_one)
       by (suc k) m0 m1 =
           let still : s1.interrupt.pass ≡ s0.interrupt.pass = rw (ne_eqb 0 (suc k) (λ (e : 0 ≡ suc k). absurd (omega (arith, e)))) at m0 in
@@ -129,10 +148,13 @@ module _ (c : ℕ) (os : List Operation) (n : Napi) (first : RxCtx) (s0 s1 s2 : 
   sound_then = subst IsSound (sym state_then) (sound_after 3 (opening 3) (shown p3) (opens_sound 3) g.legal)
 
   pub legal_then : LegalHistory 3 (state_in s0) (events c os)
-  legal_then = subst (λ (s : State). LegalHistory 3 s (events c os)) (sym state_then) (legal_now c os n (shown p3) (delivered p3) s0 s1 s2 x g.all a m)
+  legal_then =
+      subst (λ (s : State). LegalHistory 3 s (events c os)) (sym state_then)
+      (legal_now c os n (shown p3) (delivered p3) s0 s1 s2 x g.all a m)
 
   pub leads_then : state_in s2 ≡ state_after (state_in s0) (events c os)
-  leads_then = leads_to c os n (shown p3) (delivered p3) s0 s1 s2 x g.all a m ∙ ap (λ (s : State). state_after s (events c os)) (sym state_then)
+  leads_then =
+      leads_to c os n (shown p3) (delivered p3) s0 s1 s2 x g.all a m ∙ ap (λ (s : State). state_after s (events c os)) (sym state_then)
 
   pub seen_then : x ≡ seen_of (state_in s2)
   seen_then = seen_now c os n (shown p3) (delivered p3) s0 s1 s2 x g.all a m
@@ -147,7 +169,8 @@ module _ (c : ℕ) (os : List Operation) (n : Napi) (first : RxCtx) (s0 s1 s2 : 
 
   -- all had seen the same deliveries of it
   before_is : (k : ℕ) → k ≤ 3 → received_before (seat_at k s0) ≡ received_in (view_of p3)
-  before_is k low = received_from (view_of (seat_at k s0)) first (named_then k low) ∙ ap (λ (l : List Delivery). received_list first ++ packets_of l) (seen_all k low)
+  before_is k low = received_from (view_of (seat_at k s0)) first (named_then k low)
+      ∙ ap (λ (l : List Delivery). received_list first ++ packets_of l) (seen_all k low)
       ∙ sym (received_from (view_of p3) first g.first_three)
     where
       named_then : (k : ℕ) → k ≤ 3 → first_in (view_of (seat_at k s0)) ≡ Some first
@@ -163,7 +186,8 @@ module _ (c : ℕ) (os : List Operation) (n : Napi) (first : RxCtx) (s0 s1 s2 : 
       seen_all (suc (suc (suc k))) low = refl
 
   pub received_then : received_by s2 ≡ received_by s0
-  received_then = ap (λ (o : Option RxCtx). received_held o (received_in (view_of (control_of s2.turn)))) m.ctx ∙ by (ctx_of s0.turn) (ctx_of s1.turn) a.moves
+  received_then = ap (λ (o : Option RxCtx). received_held o (received_in (view_of (control_of s2.turn)))) m.ctx
+      ∙ by (ctx_of s0.turn) (ctx_of s1.turn) a.moves
     where
       none_more : a.packets ≡ [] → received_in (view_of (control_of s2.turn)) ≡ received_in (view_of p3)
       none_more e = received_grew ∙ ap (λ (l : List Packet). received_in (view_of p3) ++ l) e ∙ append-nil (received_in (view_of p3))

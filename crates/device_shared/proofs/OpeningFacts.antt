@@ -1,28 +1,55 @@
 -- How a receive side is opened: its seats are new, meet, and then the controller enables the instance.
-use Rattle.{std.proofs.Common.{◌≡◌, ◌∙◌, ◌≤◌, ℕ, List, [], ◌∷◌, ◌++◌, length, length-append, append-nil, slice_get, Option, Some, None, false, refl, sym, ap, subst, arith}}
-use Rattle.rx_ring.specs.{declared.{ends.{RxCtx.RxCtx, RxIn.RxIn}, packet.Packet.Packet}, Ends.{IsOneRing, capacity_of, free_of, put_list, received_list, ring_name}}
-use Rattle.{napi_model.specs.{declared.{event.{Operation.{Operation, TheVariants.Enable}}, state.{Seen.Seen, State.State}}, Step.{after, event, opening}, History.{own, state_after}}}
+use Rattle.std.proofs.Common.{◌≡◌, ◌∙◌, ◌≤◌, ℕ, List, [], ◌∷◌, ◌++◌, length, length-append, append-nil, slice_get, Option, Some, None}
+use Rattle.std.proofs.Common.{false, refl, sym, ap, subst, arith}
+use Rattle.rx_ring.specs.declared.{ends.{RxCtx.RxCtx, RxIn.RxIn}, packet.Packet.Packet}
+use Rattle.rx_ring.specs.Ends.{IsOneRing, capacity_of, free_of, put_list, received_list, ring_name}
+use Rattle.napi_model.specs.declared.{event.Operation.{Operation, TheVariants.Enable}, state.{Seen.Seen, State.State}}
+use Rattle.napi_model.specs.{Step.{after, event, opening}, History.{own, state_after}}
 use Rattle.napi_word.{specs.{declared.{table.Pass.Pass}, View.{own_deliveries, received_in}, Passes.view_of}, proofs.Deliveries.some_is}
-use Rattle.napi_calls.{specs.{declared.types.{Caller.Caller, Napi.Napi}, Alone.{AllShow, Shows}, Instance.{IsNewSeat, callers_of, ring_of_instance}, Knows.received_held, Made.events}, proofs.{Dealing.named_ring, Making.nothing}}
-use Rattle.device_shared.specs.{declared.seats.Seats.Seats, Acting.{Acts, EnablesBy}, Meeting.Meets, Seats.{AreSeats, IsRole, IsSeatAt, Role, ShowAll, control_of, ctx_of, poller_of, received_by, role_of, state_in, thread_of}}
+use Rattle.napi_calls.specs.{declared.types.{Caller.Caller, Napi.Napi}, Alone.{AllShow, Shows}}
+use Rattle.napi_calls.specs.{Instance.{IsNewSeat, callers_of, ring_of_instance}, Knows.received_held, Made.events}
+use Rattle.napi_calls.proofs.{Dealing.named_ring, Making.nothing}
+use Rattle.device_shared.specs.{declared.seats.Seats.Seats, Acting.{Acts, EnablesBy}, Meeting.Meets}
+use Rattle.device_shared.specs.Seats.{AreSeats, IsRole, IsSeatAt, Role, ShowAll, control_of, ctx_of, poller_of, received_by, role_of}
+use Rattle.device_shared.specs.Seats.{state_in, thread_of}
 use Rattle.device_shared.specs.SharedReceive.{IsWhole, bytes_each, left_in}
-use Rattle.device_shared.proofs.{ActingFacts.stays, Gathering.{leads_then, leads_to, legal_then, received_then, ring_from, seen_then, shows, shows_still}, Reading.enables, RingFacts.seen_side, WholeFacts.viewed}
+use Rattle.device_shared.proofs.ActingFacts.{stays}
+use Rattle.device_shared.proofs.Gathering.{leads_then, leads_to, legal_then, received_then, ring_from, seen_then, shows, shows_still}
+use Rattle.device_shared.proofs.{Reading.enables, RingFacts.seen_side, WholeFacts.viewed}
 use Rattle.device_bench.specs.Receive.{opened_side}
 use mathlib.Core.List.{IsPrefix}
 
 -- three were popped one after the other
-pub none_left : (items l1 l2 l3 : List Caller) (a b c : Caller) → items ≡ l1 ++ c ∷ [] → l1 ≡ l2 ++ b ∷ [] → l2 ≡ l3 ++ a ∷ [] → length items ≡ 3 → length l3 ≡ 0
+pub none_left : (items l1 l2 l3 : List Caller) (a b c : Caller) → items ≡ l1 ++ c ∷ [] → l1 ≡ l2 ++ b ∷ [] → l2 ≡ l3 ++ a ∷ []
+    → length items ≡ 3 → length l3 ≡ 0
 none_left items l1 l2 l3 a b c e1 e2 e3 three =
-    omega (arith, three, ap length e1, length-append l1 (c ∷ []), ap length e2, length-append l2 (b ∷ []), ap length e3, length-append l3 (a ∷ []))
+    omega (
+      arith,
+      three,
+      ap length e1,
+      length-append l1 (c ∷ []),
+      ap length e2,
+      length-append l2 (b ∷ []),
+      ap length e3,
+      length-append l3
+          (a ∷ []),
+    )
 
-pub popped : (items l1 l2 l3 : List Caller) (a b c : Caller) → items ≡ l1 ++ c ∷ [] → l1 ≡ l2 ++ b ∷ [] → l2 ≡ l3 ++ a ∷ [] → length items ≡ 3 → items ≡ a ∷ b ∷ c ∷ []
+pub popped : (items l1 l2 l3 : List Caller) (a b c : Caller) → items ≡ l1 ++ c ∷ [] → l1 ≡ l2 ++ b ∷ [] → l2 ≡ l3 ++ a ∷ []
+    → length items ≡ 3 → items ≡ a ∷ b ∷ c ∷ []
 popped items l1 l2 [] a b c e1 e2 e3 three = e1 ∙ ap (λ (l : List Caller). l ++ c ∷ []) (e2 ∙ ap (λ (l : List Caller). l ++ b ∷ []) e3)
 popped items l1 l2 (x ∷ xs) a b c e1 e2 e3 three =
     absurd (omega (arith, none_left items l1 l2 (x ∷ xs) a b c e1 e2 e3 three))
 
-pub new_callers : (n : Napi) (items : List Caller) (a b c : Caller) → items ≡ a ∷ b ∷ c ∷ [] → ((k : ℕ) (d : Caller) → slice_get items k ≡ Some d → IsNewSeat n k d.pass)
+pub new_callers : (n : Napi) (items : List Caller) (a b c : Caller) → items ≡ a ∷ b ∷ c ∷ []
+    → ((k : ℕ) (d : Caller) → slice_get items k ≡ Some d → IsNewSeat n k d.pass)
     → IsNewSeat n 0 a.pass × IsNewSeat n 1 b.pass × IsNewSeat n 2 c.pass
-new_callers n items a b c e each = (each 0 a (ap (λ (l : List Caller). slice_get l 0) e), each 1 b (ap (λ (l : List Caller). slice_get l 1) e), each 2 c (ap (λ (l : List Caller). slice_get l 2) e))
+new_callers n items a b c e each = (
+  each 0 a (ap (λ (l : List Caller). slice_get l 0) e),
+  each 1 b (ap (λ (l : List Caller). slice_get l 1) e),
+  each 2 c
+      (ap (λ (l : List Caller). slice_get l 2) e),
+)
 
 own_none : (n : ℕ) → own n [] ≡ []
 unfolding own
@@ -56,8 +83,10 @@ pub record AreNew (n : Napi) (t0 : Seats) (given : RxCtx) : Type 0 where
   pub has : ctx_of t0.turn ≡ Some given
 
 pub are_new : (n : Napi) (t0 : Seats) (given : RxCtx) (items l1 l2 l3 : List Caller) (a b c : Caller) (p : Pass)
-    → items ≡ l1 ++ c ∷ [] → l1 ≡ l2 ++ b ∷ [] → l2 ≡ l3 ++ a ∷ [] → length items ≡ 3 → callers_of n ≡ 3 → ((k : ℕ) (d : Caller) → slice_get items k ≡ Some d → IsNewSeat n k d.pass)
-    → IsNewSeat n 3 p → control_of t0.turn ≡ p → t0.interrupt.pass ≡ a.pass → poller_of t0.turn ≡ b.pass → thread_of t0.turn ≡ c.pass → role_of t0.turn ≡ None → ctx_of t0.turn ≡ Some given → AreNew n t0 given
+    → items ≡ l1 ++ c ∷ [] → l1 ≡ l2 ++ b ∷ [] → l2 ≡ l3 ++ a ∷ [] → length items ≡ 3 → callers_of n ≡ 3
+    → ((k : ℕ) (d : Caller) → slice_get items k ≡ Some d → IsNewSeat n k d.pass)
+    → IsNewSeat n 3 p → control_of t0.turn ≡ p → t0.interrupt.pass ≡ a.pass → poller_of t0.turn ≡ b.pass → thread_of t0.turn ≡ c.pass
+    → role_of t0.turn ≡ None → ctx_of t0.turn ≡ Some given → AreNew n t0 given
 are_new n t0 given items l1 l2 l3 a b c p e1 e2 e3 many three each control is3 is0 is1 is2 off has =
     let new = new_callers n items a b c (popped items l1 l2 l3 a b c e1 e2 e3 many) each in record {
       three = three;
@@ -124,8 +153,10 @@ module _ (n : Napi) (t0 : Seats) (given : RxCtx) (k : AreNew n t0 given) where
     received_met : received_by t1 ≡ received_list given
     received_met = ap (λ (o : Option RxCtx). received_held o (received_in (view_of (control_of t1.turn)))) (m.ctx ∙ k.has)
 
-    module _ (input : RxIn) (capacity : ℕ) (os : List Operation) (u t2 : Seats) (y : Seen) (a : Acts 3 os n t1 u) (m2 : Meets u t2 y) (e : EnablesBy false os) (role : role_of u.turn ≡ Some (false, None)) where
-      done : (state_after (state_in t1) (events 3 os) ≡ after (state_in t1) (event 3 (Enable false))) × IsRole (Some (false, None)) (state_after (state_in t1) (events 3 os))
+    module _ (input : RxIn) (capacity : ℕ) (os : List Operation) (u t2 : Seats) (y : Seen) (a : Acts 3 os n t1 u) (m2 : Meets u t2 y)
+        (e : EnablesBy false os) (role : role_of u.turn ≡ Some (false, None)) where
+      done : (state_after (state_in t1) (events 3 os) ≡ after (state_in t1) (event 3 (Enable false)))
+          × IsRole (Some (false, None)) (state_after (state_in t1) (events 3 os))
       done = enables (state_in t1) false os idle_met e (legal_then 3 os n first t1 u t2 y met_show a m2)
 
       leads : state_in t2 ≡ state_after (state_in t1) (events 3 os)
@@ -134,13 +165,15 @@ module _ (n : Napi) (t0 : Seats) (given : RxCtx) (k : AreNew n t0 given) where
       received : received_list given ≡ [] → received_by t2 ≡ []
       received none = received_then 3 os n first t1 u t2 y met_show a m2 ∙ received_met ∙ none
 
-      pub opened_whole : (ctx : RxCtx) → ring_of_instance n ≡ ring_name ctx → IsOneRing input ctx → capacity_of input ≡ capacity → put_list input ≡ [] → received_list given ≡ []
+      pub opened_whole : (ctx : RxCtx) → ring_of_instance n ≡ ring_name ctx → IsOneRing input ctx → capacity_of input ≡ capacity
+          → put_list input ≡ [] → received_list given ≡ []
           → capacity ≤ free_of input → IsWhole n t2 input 0 capacity y
       opened_whole ctx name one places empty none free = record {
         first = first;
         gathered = record {
           show = shows_still 3 os n first t1 u t2 y met_show a m2;
-          role = subst (λ (r : Role). IsRole r (state_in t2)) (sym (m2.role ∙ role)) (subst (IsRole (Some (false, None))) (sym leads) done.1);
+          role = subst (λ (r : Role). IsRole r (state_in t2)) (sym (m2.role ∙ role))
+              (subst (IsRole (Some (false, None))) (sym leads) done.1);
         };
         one = named_ring input ctx first one (sym name ∙ ring_met);
         capacity_is = places;
@@ -150,8 +183,10 @@ module _ (n : Napi) (t0 : Seats) (given : RxCtx) (k : AreNew n t0 given) where
         seen_is = seen_then 3 os n first t1 u t2 y met_show a m2;
       }
 
-      pub opened_view : put_list input ≡ [] → received_list given ≡ [] → seen_side (state_in t2) (bytes_each (left_in input t2)) capacity ≡ opened_side capacity
-      opened_view empty none = viewed capacity (leads ∙ done.0 ∙ ap (λ (s : State). after s (event 3 (Enable false))) state_met) (rw (received none, empty) refl)
+      pub opened_view : put_list input ≡ [] → received_list given ≡ []
+          → seen_side (state_in t2) (bytes_each (left_in input t2)) capacity ≡ opened_side capacity
+      opened_view empty none =
+          viewed capacity (leads ∙ done.0 ∙ ap (λ (s : State). after s (event 3 (Enable false))) state_met) (rw (received none, empty) refl)
 
 -- nothing was received of nothing
 pub none_received : (received put : List Packet) → IsPrefix received put → put ≡ [] → received ≡ []

@@ -1,10 +1,12 @@
 -- Passes that met, in another order.
 use Rattle.{std.proofs.Common.{◌≡◌, ◌∙◌, ℕ, zero, suc, List, [], ◌∷◌, Some, refl, ap, subst, sym}, std.specs.Prelude.slice_get}
-use Rattle.{napi_model.specs.{declared.state.Seen.Seen, Step.{opening, seen_of}, History.state_after}, napi_word.{specs.{declared.table.Pass.Pass, Surveys.Surveys}, proofs.CatchingUp.state_looked}}
+use Rattle.napi_model.specs.{declared.state.Seen.Seen, Step.{opening, seen_of}, History.state_after}
+use Rattle.napi_word.{specs.{declared.table.Pass.Pass, Surveys.Surveys}, proofs.CatchingUp.state_looked}
 use Rattle.{napi_calls.specs.Seats.{controller_of, state_of}, device_shared.specs.Meeting.Meet}
 
 -- what the word told is told of the state behind the whole history
-pub told_by : {k looker : ℕ} {ps qs : List Pass} {x : Seen} (s : Surveys k looker x ps qs) (i : ℕ) (p q : Pass) → k ≡ 3 → slice_get ps i ≡ Some p → slice_get qs i ≡ Some q → x ≡ seen_of (state_of q)
+pub told_by : {k looker : ℕ} {ps qs : List Pass} {x : Seen} (s : Surveys k looker x ps qs) (i : ℕ) (p q : Pass) → k ≡ 3
+    → slice_get ps i ≡ Some p → slice_get qs i ≡ Some q → x ≡ seen_of (state_of q)
     → x ≡ seen_of (state_after (opening 3) s.found)
 told_by {k} {looker} {ps} {qs} {x} s i p q three was is seen =
     let u = s.each i p q was is in
@@ -52,20 +54,31 @@ third_last a b c d (suc (suc (suc zero))) = refl
 third_last a b c d (suc (suc (suc (suc i)))) = refl
 
 module _ {a b c d a' b' c' d' : Pass} {k looker : ℕ} {x : Seen} (three : k ≡ 3) where
-  pub meet_straight : Surveys k looker x (a ∷ b ∷ c ∷ d ∷ []) (a' ∷ b' ∷ c' ∷ d' ∷ []) → x ≡ seen_of (state_of d') → Meet (a ∷ b ∷ c ∷ d ∷ []) (a' ∷ b' ∷ c' ∷ d' ∷ []) x
+  pub meet_straight : Surveys k looker x (a ∷ b ∷ c ∷ d ∷ []) (a' ∷ b' ∷ c' ∷ d' ∷ []) → x ≡ seen_of (state_of d')
+      → Meet (a ∷ b ∷ c ∷ d ∷ []) (a' ∷ b' ∷ c' ∷ d' ∷ []) x
   meet_straight s seen = by (subst (λ (n : ℕ). Surveys n looker x (a ∷ b ∷ c ∷ d ∷ []) (a' ∷ b' ∷ c' ∷ d' ∷ [])) three s)
     where
       by : Surveys 3 looker x (a ∷ b ∷ c ∷ d ∷ []) (a' ∷ b' ∷ c' ∷ d' ∷ []) → Meet (a ∷ b ∷ c ∷ d ∷ []) (a' ∷ b' ∷ c' ∷ d' ∷ []) x
       by t = record { looker = looker; surveys = t; told = told_by t 3 d d' refl refl refl seen }
 
-  pub meet_second_last : Surveys k looker x (a ∷ c ∷ d ∷ b ∷ []) (a' ∷ c' ∷ d' ∷ b' ∷ []) → x ≡ seen_of (state_of b') → Meet (a ∷ b ∷ c ∷ d ∷ []) (a' ∷ b' ∷ c' ∷ d' ∷ []) x
+  pub meet_second_last : Surveys k looker x (a ∷ c ∷ d ∷ b ∷ []) (a' ∷ c' ∷ d' ∷ b' ∷ []) → x ≡ seen_of (state_of b')
+      → Meet (a ∷ b ∷ c ∷ d ∷ []) (a' ∷ b' ∷ c' ∷ d' ∷ []) x
   meet_second_last s seen = by (subst (λ (n : ℕ). Surveys n looker x (a ∷ c ∷ d ∷ b ∷ []) (a' ∷ c' ∷ d' ∷ b' ∷ [])) three s)
     where
       by : Surveys 3 looker x (a ∷ c ∷ d ∷ b ∷ []) (a' ∷ c' ∷ d' ∷ b' ∷ []) → Meet (a ∷ b ∷ c ∷ d ∷ []) (a' ∷ b' ∷ c' ∷ d' ∷ []) x
-      by t = record { looker = looker; surveys = reordered second_from (second_last a b c d) (second_last a' b' c' d') t; told = told_by t 3 b b' refl refl refl seen }
+      by t = record {
+        looker = looker;
+        surveys = reordered second_from (second_last a b c d) (second_last a' b' c' d') t;
+        told = told_by t 3 b b' refl refl refl seen;
+      }
 
-  pub meet_third_last : Surveys k looker x (a ∷ b ∷ d ∷ c ∷ []) (a' ∷ b' ∷ d' ∷ c' ∷ []) → x ≡ seen_of (state_of c') → Meet (a ∷ b ∷ c ∷ d ∷ []) (a' ∷ b' ∷ c' ∷ d' ∷ []) x
+  pub meet_third_last : Surveys k looker x (a ∷ b ∷ d ∷ c ∷ []) (a' ∷ b' ∷ d' ∷ c' ∷ []) → x ≡ seen_of (state_of c')
+      → Meet (a ∷ b ∷ c ∷ d ∷ []) (a' ∷ b' ∷ c' ∷ d' ∷ []) x
   meet_third_last s seen = by (subst (λ (n : ℕ). Surveys n looker x (a ∷ b ∷ d ∷ c ∷ []) (a' ∷ b' ∷ d' ∷ c' ∷ [])) three s)
     where
       by : Surveys 3 looker x (a ∷ b ∷ d ∷ c ∷ []) (a' ∷ b' ∷ d' ∷ c' ∷ []) → Meet (a ∷ b ∷ c ∷ d ∷ []) (a' ∷ b' ∷ c' ∷ d' ∷ []) x
-      by t = record { looker = looker; surveys = reordered third_from (third_last a b c d) (third_last a' b' c' d') t; told = told_by t 3 c c' refl refl refl seen }
+      by t = record {
+        looker = looker;
+        surveys = reordered third_from (third_last a b c d) (third_last a' b' c' d') t;
+        told = told_by t 3 c c' refl refl refl seen;
+      }

@@ -1,18 +1,25 @@
 -- What the operations of one who acts alone make of the state and of the roles.
-use Rattle.std.proofs.Common.{◌≡◌, ◌≢◌, ◌∙◌, ℕ, Bool, true, false, List, [], ◌∷◌, ◌++◌, Option, Some, None, refl, sym, ap, subst, flat_map, append_assoc, true≢false, ⊎_elim}
+use Rattle.std.proofs.Common.{◌≡◌, ◌≢◌, ◌∙◌, ℕ, Bool, true, false, List, [], ◌∷◌, ◌++◌, Option, Some, None, refl, sym, ap, subst, flat_map}
+use Rattle.std.proofs.Common.{append_assoc, true≢false, ⊎_elim}
 use Rattle.std.specs.Prelude.{◌⊎◌, ◌||◌, not, if◌then◌else◌}
-use Rattle.napi_model.specs.declared.state.{Kind.Kind, Seen.Seen, State.State, Place.{Place, TheVariants.{Nobody, Listed, ToThread, Polling, Control}}}
+use Rattle.napi_model.specs.declared.state.{Kind.Kind, Seen.Seen, State.State}
+use Rattle.napi_model.specs.declared.state.Place.{Place, TheVariants.{Nobody, Listed, ToThread, Polling, Control}}
 use Rattle.napi_model.specs.declared.event.{Call.Call, Done.Done, Prep.Prep}
-use Rattle.napi_model.specs.declared.event.Operation.{Operation, TheVariants.{Look, Schedule, Hand, Take, Complete, BusyTake, BusyStop, MarkDisable, TakeDisable, Enable, SetThreaded}}
-use Rattle.napi_model.specs.Step.{MayBusyTake, Polls, after, complete_reply, event, is_handed, place_of, schedule_reply, seen_of, take_disable_reply, take_reply}
+use Rattle.napi_model.specs.declared.event.Operation.{Operation}
+use Rattle.napi_model.specs.declared.event.Operation.TheVariants.{Look, Schedule, Hand, Take, Complete, BusyTake, BusyStop, MarkDisable}
+use Rattle.napi_model.specs.declared.event.Operation.TheVariants.{TakeDisable, Enable, SetThreaded}
+use Rattle.napi_model.specs.Step.{MayBusyTake, Polls, after, complete_reply, event, is_handed, place_of, schedule_reply, seen_of}
+use Rattle.napi_model.specs.Step.{take_disable_reply, take_reply}
 use Rattle.napi_model.specs.{History.{LegalHistory, state_after}, Laws.IsSound}
 use Rattle.napi_calls.{specs.Made.{Lost, events, looks}, proofs.Alone.none_lost}
 use Rattle.poll_runs.specs.Polling.{next_of}
 use Rattle.poll_shared.specs.{SharedPolling.EndsBy, SharedBusy.StopsBy}
 use Rattle.poll_shared.specs.SharedPolling as shared
-use Rattle.device_bench.specs.Receive.{busy_taken, done_by, handed_again, handed_on, is_control, is_polling, kind_for, poller_in, requested, taker_of, tried_by}
+use Rattle.device_bench.specs.Receive.{busy_taken, done_by, handed_again, handed_on, is_control, is_polling, kind_for, poller_in, requested}
+use Rattle.device_bench.specs.Receive.{taker_of, tried_by}
 use Rattle.device_shared.specs.Seats.{ArePlaced, IsRole, Role, rests}
-use Rattle.device_shared.specs.Acting.{AsksBy, EnablesBy, IsMarked, IsUnmarked, MayComplete, PolledBy, TakesBusilyBy, TakesBy, TriesBy, at_rest, left_by, marked, nobody, poller_by, polled_by}
+use Rattle.device_shared.specs.Acting.{AsksBy, EnablesBy, IsMarked, IsUnmarked, MayComplete, PolledBy, TakesBusilyBy, TakesBy, TriesBy}
+use Rattle.device_shared.specs.Acting.{at_rest, left_by, marked, nobody, poller_by, polled_by}
 
 -- ---- the operations are those behind the tries, none of which was lost
 
@@ -58,7 +65,8 @@ handed_there Kind.List = refl
 handed_there Kind.Thread = refl
 
 -- handed over, an instance is at rest
-hand_rests : (k : Kind) (c : ℕ) (s : State) (m : Bool) → s.flags.disable ≡ m → s.flags.in_busy_poll ≡ false → IsRole (Some (m, None)) (after s (event c (Hand k)))
+hand_rests : (k : Kind) (c : ℕ) (s : State) (m : Bool) → s.flags.disable ≡ m → s.flags.in_busy_poll ≡ false
+    → IsRole (Some (m, None)) (after s (event c (Hand k)))
 hand_rests Kind.List c s m d b = (d, (refl, b))
 hand_rests Kind.Thread c s m d b = (d, (refl, b))
 
@@ -80,7 +88,8 @@ polls_as (Some (m, Some (d, b))) s c busy role p =
     let how : b ≡ busy = sym role.1.1 ∙ p.1 in
     (m, λ i. Some (m, Some (who i, how i)))
 
-pub may_complete : (r : Role) (s : State) → IsRole r s → Polls (poller_in s.place) false s → MayComplete r × (poller_by r ≡ poller_in s.place)
+pub may_complete : (r : Role) (s : State) → IsRole r s → Polls (poller_in s.place) false s
+    → MayComplete r × (poller_by r ≡ poller_in s.place)
 may_complete r s role p =
     let by = polls_as r s (poller_in s.place) false role p in
     ((poller_in s.place, by), ap poller_by by.1)
@@ -114,13 +123,18 @@ asked s Prep.Granted None os a l = absurd a
 asked s Prep.Granted (Some k) os a l =
     let h = a.3 in
     let begun = flat_map looks a.0 in
-    let all = a.4 ∙ ap (λ (o : List Operation). (begun ++ Look a.1 ∷ Schedule Prep.Granted ∷ []) ++ o) h.2 ∙ append_assoc begun (Look a.1 ∷ Schedule Prep.Granted ∷ []) (Look h.0 ∷ Hand k ∷ []) in
+    let all = a.4 ∙ ap (λ (o : List Operation). (begun ++ Look a.1 ∷ Schedule Prep.Granted ∷ []) ++ o) h.2
+    ∙ append_assoc begun (Look a.1 ∷ Schedule Prep.Granted ∷ []) (Look h.0 ∷ Hand k ∷ []) in
     let d = decided 0 s a.0 os (Look a.1 ∷ Schedule Prep.Granted ∷ Look h.0 ∷ Hand k ∷ []) all l in
     let off : s.flags.disable ≡ false = d.1.1.0.0.0 in
     let free : s.flags.sched ≡ false = d.1.1.0.0.1 in
     let seen : h.0 ≡ seen_of (after s (event 0 (Schedule Prep.Granted))) = d.1.1.1.0.0 in
-    let to : k ≡ kind_for s = h.1 ∙ ap (λ (x : Seen). shared.kind_for x.flags) seen in
-    (rw (off, free) refl, ap Some to, leads 0 s os _ d.0 ∙ ap (λ (q : Kind). after (after s (event 0 (Schedule Prep.Granted))) (event 0 (Hand q))) to)
+    let to : k ≡ kind_for s = h.1 ∙ ap (λ (x : Seen). shared.kind_for x.flags) seen in (
+      rw (off, free) refl,
+      ap Some to,
+      leads 0 s os _ d.0
+          ∙ ap (λ (q : Kind). after (after s (event 0 (Schedule Prep.Granted))) (event 0 (Hand q))) to,
+    )
 asked s Prep.Missed k os a l =
     let d = decided 0 s a.1 os (Look a.2 ∷ Schedule Prep.Missed ∷ []) a.3 l in
     let on : s.flags.disable ≡ false = d.1.1.0.0.0 in
@@ -135,7 +149,8 @@ asked s Prep.Disabled k os a l =
 pub asked_role : (r : Role) (s : State) (prep : Prep) → IsRole r s → IsSound s → prep ≡ schedule_reply s → IsRole r (requested prep s)
 asked_role r s Prep.Granted role sound is = granted r role (nobody_has s.flags.disable s.flags.sched refl is)
   where
-    nobody_has : (d b : Bool) → s.flags.sched ≡ b → Prep.Granted ≡ (if d then Prep.Disabled else (if b then Prep.Missed else Prep.Granted)) → s.place ≡ Nobody
+    nobody_has : (d b : Bool) → s.flags.sched ≡ b → Prep.Granted ≡ (if d then Prep.Disabled else (if b then Prep.Missed else Prep.Granted))
+        → s.place ≡ Nobody
     nobody_has true b e g = absurd (cc g)
     nobody_has false true e g = absurd (cc g)
     nobody_has false false e g = sound e
@@ -153,9 +168,11 @@ asked_role (Some (m, Some who)) s Prep.Disabled role sound is = role
 
 -- ---- takes
 
-pub took : (r : Role) (s : State) (k : Kind) (taken : Bool) (os : List Operation) → IsRole r s → TakesBy (at_rest r) k taken os → LegalHistory 3 s (events (taker_of k) os)
+pub took : (r : Role) (s : State) (k : Kind) (taken : Bool) (os : List Operation) → IsRole r s → TakesBy (at_rest r) k taken os
+    → LegalHistory 3 s (events (taker_of k) os)
     → (taken ≡ take_reply k s) × (state_after s (events (taker_of k) os) ≡ after s (event (taker_of k) (Take k taken)))
-    × IsRole (if taken then polled_by (taker_of k) false r else r) (state_after s (events (taker_of k) os)) × (taken ≡ true → s.flags.in_busy_poll ≡ false)
+    × IsRole (if taken then polled_by (taker_of k) false r else r) (state_after s (events (taker_of k) os))
+    × (taken ≡ true → s.flags.in_busy_poll ≡ false)
 unfolding LegalHistory state_after
 took None s k true os role t l = absurd (true≢false t.0)
 took None s k false os role t l =
@@ -164,29 +181,42 @@ took None s k false os role t l =
 took (Some (m, None)) s k true os role t l =
     let led = leads (taker_of k) s os (Take k true ∷ []) t in
     let legal = legal_as (taker_of k) s os _ t l in
-    let was : s.place ≡ place_of k = legal.0.0 in
-    (sym (ap (is_handed k) was ∙ handed_there k), led, subst (IsRole (Some (m, Some (taker_of k, false)))) (sym led) (role.0, (refl, role.1.1)), λ e. role.1.1)
+    let was : s.place ≡ place_of k = legal.0.0 in (
+      sym (ap (is_handed k) was ∙ handed_there k),
+      led,
+      subst (IsRole (Some (m, Some (taker_of k, false)))) (sym led)
+          (role.0, (refl, role.1.1)),
+      λ e. role.1.1,
+    )
 took (Some (m, None)) s k false os role t l =
     let led = leads (taker_of k) s os (Take k false ∷ []) t in
     let legal = legal_as (taker_of k) s os _ t l in
     (sym (unhanded k s.place legal.0.0), led, subst (IsRole (Some (m, None))) (sym led) role, λ e. absurd (true≢false (sym e)))
 took (Some (m, Some who)) s k true os role t l = absurd (true≢false t.0)
 took (Some (m, Some who)) s k false os role t l =
-    let led = leads (taker_of k) s os [] t.1 in
-    (sym (ap (is_handed k) role.1.0 ∙ away k (Polling who.0) refl), led, subst (IsRole (Some (m, Some who))) (sym led) role, λ e. absurd (true≢false (sym e)))
+    let led = leads (taker_of k) s os [] t.1 in (
+      sym (ap (is_handed k) role.1.0 ∙ away k (Polling who.0) refl),
+      led,
+      subst (IsRole (Some (m, Some who))) (sym led) role,
+      λ e. absurd
+          (true≢false (sym e)),
+    )
 
 -- ---- polls end
 
 pub requeued : (r : Role) (s : State) (c : ℕ) → IsRole r s → MayComplete r
-    → (state_after s (events c (Hand Kind.List ∷ [])) ≡ after s (event c (Hand Kind.List))) × IsRole (left_by r) (state_after s (events c (Hand Kind.List ∷ [])))
+    → (state_after s (events c (Hand Kind.List ∷ [])) ≡ after s (event c (Hand Kind.List)))
+    × IsRole (left_by r) (state_after s (events c (Hand Kind.List ∷ [])))
 unfolding state_after
 requeued r s c role may =
     let was = subst (λ (q : Role). IsRole q s) may.1.1 role in
     (refl, subst (λ (q : Role). IsRole (left_by q) (after s (event c (Hand Kind.List)))) (sym may.1.1) (was.0, (refl, was.1.1)))
 
-pub completed : (r : Role) (s : State) (c : ℕ) (again : Option Kind) (os : List Operation) → IsRole r s → MayComplete r → EndsBy true (next_of again) os
+pub completed : (r : Role) (s : State) (c : ℕ) (again : Option Kind) (os : List Operation) → IsRole r s → MayComplete r
+    → EndsBy true (next_of again) os
     → LegalHistory 3 s (events c os)
-    → (again ≡ handed_again (complete_reply s) s) × (state_after s (events c os) ≡ done_by c (complete_reply s) s) × IsRole (left_by r) (state_after s (events c os))
+    → (again ≡ handed_again (complete_reply s) s) × (state_after s (events c os) ≡ done_by c (complete_reply s) s)
+    × IsRole (left_by r) (state_after s (events c os))
 unfolding LegalHistory state_after
 completed r s c None os role may e l =
     let d = decided c s e.0 os (Look e.1 ∷ Complete Done.Released ∷ []) e.2 l in
@@ -197,7 +227,8 @@ completed r s c None os role may e l =
     let was = subst (λ (q : Role). IsRole q s) may.1.1 role in (
       ap (λ (x : Done). handed_again x s) (sym reply),
       led ∙ ap (λ (x : Done). done_by c x s) (sym reply),
-      subst (IsRole (left_by r)) (sym led) (subst (λ (q : Role). IsRole (left_by q) (after s (event c (Complete Done.Released)))) (sym may.1.1) (was.0, (refl, was.1.1))),
+      subst (IsRole (left_by r)) (sym led)
+          (subst (λ (q : Role). IsRole (left_by q) (after s (event c (Complete Done.Released)))) (sym may.1.1) (was.0, (refl, was.1.1))),
     )
 completed r s c (Some k) os role may e l =
     let t = e.2 in
@@ -215,7 +246,9 @@ completed r s c (Some k) os role may e l =
     let was = subst (λ (q : Role). IsRole q s) may.1.1 role in (
       ap Some to ∙ ap (λ (x : Done). handed_again x s) (sym reply),
       led ∙ ap (λ (q : Kind). after owned (event c (Hand q))) to ∙ ap (λ (x : Done). done_by c x s) (sym reply),
-      subst (IsRole (left_by r)) (sym led) (subst (λ (q : Role). IsRole (left_by q) (after owned (event c (Hand k)))) (sym may.1.1) (hand_rests k c owned may.1.0 was.0 was.1.1)),
+      subst (IsRole (left_by r)) (sym led)
+          (subst (λ (q : Role). IsRole (left_by q) (after owned (event c (Hand k)))) (sym may.1.1)
+          (hand_rests k c owned may.1.0 was.0 was.1.1)),
     )
 
 -- ---- busy polls
@@ -226,14 +259,19 @@ busy_refused false true b may = refl
 busy_refused false false true may = refl
 busy_refused false false false may = absurd (may (refl, refl, refl))
 
-pub took_busily : (r : Role) (s : State) (taken : Bool) (os : List Operation) → IsRole r s → IsSound s → TakesBusilyBy (at_rest r) taken os → LegalHistory 3 s (events 1 os)
+pub took_busily : (r : Role) (s : State) (taken : Bool) (os : List Operation) → IsRole r s → IsSound s → TakesBusilyBy (at_rest r) taken os
+    → LegalHistory 3 s (events 1 os)
     → (taken ≡ not (s.flags.disable || (s.flags.sched || s.flags.in_busy_poll))) × (state_after s (events 1 os) ≡ busy_taken taken s)
     × IsRole (if taken then polled_by 1 true r else r) (state_after s (events 1 os))
 unfolding LegalHistory state_after
 took_busily None s true os role sound t l = absurd (true≢false t.0)
 took_busily None s false os role sound t l =
-    let led = leads 1 s os [] t.1 in
-    (busy_refused s.flags.disable s.flags.sched s.flags.in_busy_poll (λ m. let free = sound m.1 in let was = role.0 in absurd (cc)), led, subst (IsRole None) (sym led) role)
+    let led = leads 1 s os [] t.1 in (
+      busy_refused s.flags.disable s.flags.sched s.flags.in_busy_poll
+          (λ m. let free = sound m.1 in let was = role.0 in absurd (cc)),
+      led,
+      subst (IsRole None) (sym led) role,
+    )
 took_busily (Some (m, None)) s true os role sound t l =
     let d = decided 1 s t.0 os (Look t.1 ∷ BusyTake ∷ []) t.3 l in
     let may : MayBusyTake s.flags = d.1.1.0.0 in
@@ -250,8 +288,12 @@ took_busily (Some (m, None)) s false os role sound t l =
     (busy_refused s.flags.disable s.flags.sched s.flags.in_busy_poll refused, led, subst (IsRole (Some (m, None))) (sym led) role)
 took_busily (Some (m, Some who)) s true os role sound t l = absurd (true≢false t.0)
 took_busily (Some (m, Some who)) s false os role sound t l =
-    let led = leads 1 s os [] t.1 in
-    (busy_refused s.flags.disable s.flags.sched s.flags.in_busy_poll (λ f. let free = sound f.1 in let was = role.1.0 in absurd (cc)), led, subst (IsRole (Some (m, Some who))) (sym led) role)
+    let led = leads 1 s os [] t.1 in (
+      busy_refused s.flags.disable s.flags.sched s.flags.in_busy_poll
+          (λ f. let free = sound f.1 in let was = role.1.0 in absurd (cc)),
+      led,
+      subst (IsRole (Some (m, Some who))) (sym led) role,
+    )
 
 pub held : (s : State) → state_after s (events 1 (Complete Done.Held ∷ [])) ≡ s
 unfolding state_after
@@ -263,13 +305,17 @@ unfolding LegalHistory state_after
 stopped r s os role by t l =
     let d = decided 1 s t.0 os (Look t.1 ∷ BusyStop ∷ []) t.2 l in
     let led = leads 1 s os _ d.0 in
-    let was = subst (λ (q : Role). IsRole q s) by.1 role in
-    (led, subst (IsRole (polled_by 1 false r)) (sym led) (subst (λ (q : Role). IsRole (polled_by 1 false q) (after s (event 1 BusyStop))) (sym by.1) (was.0, (was.1.0, refl))))
+    let was = subst (λ (q : Role). IsRole q s) by.1 role in (
+      led,
+      subst (IsRole (polled_by 1 false r)) (sym led)
+          (subst (λ (q : Role). IsRole (polled_by 1 false q) (after s (event 1 BusyStop))) (sym by.1) (was.0, (was.1.0, refl))),
+    )
 
 -- ---- the controller
 
 pub marks : (r : Role) (s : State) → IsRole r s → IsUnmarked r
-    → (state_after s (events 3 (MarkDisable ∷ [])) ≡ after s (event 3 MarkDisable)) × IsRole (marked r) (state_after s (events 3 (MarkDisable ∷ [])))
+    → (state_after s (events 3 (MarkDisable ∷ [])) ≡ after s (event 3 MarkDisable))
+    × IsRole (marked r) (state_after s (events 3 (MarkDisable ∷ [])))
 unfolding state_after
 marks r s role un =
     let was = subst (λ (q : Role). IsRole q s) un.1 role in
@@ -279,8 +325,10 @@ marks r s role un =
     placed None p = p
     placed (Some w) p = p
 
-pub tried : (r : Role) (s : State) (taken : Bool) (os : List Operation) → IsRole r s → IsSound s → IsMarked r → TriesBy (at_rest r) taken os → LegalHistory 3 s (events 3 os)
-    → (taken ≡ take_disable_reply s) × (state_after s (events 3 os) ≡ tried_by taken s) × IsRole (if taken then None else r) (state_after s (events 3 os))
+pub tried : (r : Role) (s : State) (taken : Bool) (os : List Operation) → IsRole r s → IsSound s → IsMarked r → TriesBy (at_rest r) taken os
+    → LegalHistory 3 s (events 3 os)
+    → (taken ≡ take_disable_reply s) × (state_after s (events 3 os) ≡ tried_by taken s)
+    × IsRole (if taken then None else r) (state_after s (events 3 os))
 unfolding LegalHistory state_after
 tried None s taken os role sound mark t l = absurd (cc (mark.1))
 tried (Some (m, None)) s true os role sound mark t l =
@@ -296,13 +344,15 @@ tried (Some (m, None)) s false os role sound mark t l = ⊎_elim refused lost t
     has false true e = refl
     has false false e = absurd (true≢false (sym (⊎_elim (λ x. x) (λ x. x) e)))
 
-    refused : os ≡ TakeDisable false ∷ [] → (false ≡ take_disable_reply s) × (state_after s (events 3 os) ≡ tried_by false s) × IsRole (Some (m, None)) (state_after s (events 3 os))
+    refused : os ≡ TakeDisable false ∷ [] → (false ≡ take_disable_reply s) × (state_after s (events 3 os) ≡ tried_by false s)
+        × IsRole (Some (m, None)) (state_after s (events 3 os))
     refused is =
         let led = leads 3 s os _ is in
         let legal = legal_as 3 s os _ is l in
         (sym (has s.flags.sched s.flags.npsvc legal.0.0.1), led, subst (IsRole (Some (m, None))) (sym led) role)
 
-    lost : (x : Lost Call.TakeDisable) × (os ≡ looks x) → (false ≡ take_disable_reply s) × (state_after s (events 3 os) ≡ tried_by false s) × IsRole (Some (m, None)) (state_after s (events 3 os))
+    lost : (x : Lost Call.TakeDisable) × (os ≡ looks x) → (false ≡ take_disable_reply s) × (state_after s (events 3 os) ≡ tried_by false s)
+        × IsRole (Some (m, None)) (state_after s (events 3 os))
     lost x = let none = none_lost 3 3 Call.TakeDisable s (x.0 ∷ []) [] (legal_as 3 s os _ x.1 l) in absurd (cc none)
 tried (Some (m, Some who)) s true os role sound mark t l = absurd (true≢false t.0)
 tried (Some (m, Some who)) s false os role sound mark t l =
@@ -324,7 +374,8 @@ enables s threaded os role t l =
 -- ---- anybody
 
 pub threads : (r : Role) (s : State) (t : Bool) → IsRole r s
-    → (state_after s (events 0 (SetThreaded t ∷ [])) ≡ after s (event 3 (SetThreaded t))) × IsRole r (state_after s (events 0 (SetThreaded t ∷ [])))
+    → (state_after s (events 0 (SetThreaded t ∷ [])) ≡ after s (event 3 (SetThreaded t)))
+    × IsRole r (state_after s (events 0 (SetThreaded t ∷ [])))
 unfolding state_after
 threads None s t role = (refl, role)
 threads (Some (m, None)) s t role = (refl, role)

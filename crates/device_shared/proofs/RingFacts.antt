@@ -1,11 +1,16 @@
 -- What puts and polls make of the packets that are left in a ring, and of what is known of a whole receive side.
-use Rattle.std.proofs.Common.{◌≡◌, ◌∙◌, ◌+◌, ◌-◌, ◌≤◌, ℕ, true, List, [], ◌∷◌, ◌++◌, length, drop, take, min, sum, Option, Some, None, sym, ap, subst, arith, length-append, length-drop}
+use Rattle.std.proofs.Common.{◌≡◌, ◌∙◌, ◌+◌, ◌-◌, ◌≤◌, ℕ, true, List, [], ◌∷◌, ◌++◌, length, drop, take, min, sum, Option, Some, None, sym}
+use Rattle.std.proofs.Common.{ap, subst, arith, length-append, length-drop}
 use Rattle.std.proofs.lemmas.List.{drop-append-le, drop-drop, drop-map, length-map, length-take, map-append, take-map, take_min}
-use Rattle.{rx_ring.specs.{declared.{ends.{RxCtx.RxCtx, RxIn.RxIn}, packet.Packet.Packet}, Ends.{IsOneRing, SameIn, free_of, put_list, received_list}}, napi_model.specs.{declared.state.{Seen.Seen, State.State}, Step.seen_of}}
-use Rattle.{napi_word.specs.{declared.table.Pass.Pass, View.received_in, Passes.view_of}, napi_calls.specs.{Knows.received_held, Seats.{IsInputOf, state_of}, declared.types.Napi.Napi}}
+use Rattle.rx_ring.specs.declared.{ends.{RxCtx.RxCtx, RxIn.RxIn}, packet.Packet.Packet}
+use Rattle.rx_ring.specs.Ends.{IsOneRing, SameIn, free_of, put_list, received_list}
+use Rattle.napi_model.specs.{declared.state.{Seen.Seen, State.State}, Step.seen_of}
+use Rattle.napi_word.specs.{declared.table.Pass.Pass, View.received_in, Passes.view_of}
+use Rattle.napi_calls.specs.{Knows.received_held, Seats.{IsInputOf, state_of}, declared.types.Napi.Napi}
 use Rattle.device_bench.specs.Receive.{ReceiveView, bytes_of, given_of, put_if}
 use Rattle.device_shared.proofs.Gathering.{ring_from}
-use Rattle.device_shared.specs.{declared.seats.Seats.Seats, Receiving.SeatsReceive, Seats.{IsRole, ShowAll, control_of, poller_of, received_by, role_of, state_in, thread_of}}
+use Rattle.device_shared.specs.{declared.seats.Seats.Seats, Receiving.SeatsReceive}
+use Rattle.device_shared.specs.Seats.{IsRole, ShowAll, control_of, poller_of, received_by, role_of, state_in, thread_of}
 use Rattle.device_shared.specs.SharedReceive.{IsWhole, IsWholeAt, bytes_each, left_in, napi_at, packets_at}
 
 -- at two moments it is an end of one ring
@@ -20,11 +25,13 @@ abbrev pub side_at : Option Seats → RxIn → ℕ → ReceiveView
 side_at place input capacity = seen_side (napi_at place) (packets_at input place) capacity
 
 -- all are taken out of their place
-pub whole_in : (n : Napi) (place : Option Seats) (s : Seats) (input : RxIn) (held capacity : ℕ) (seen : Seen) → place ≡ Some s → IsWholeAt n place input held capacity seen
+pub whole_in : (n : Napi) (place : Option Seats) (s : Seats) (input : RxIn) (held capacity : ℕ) (seen : Seen) → place ≡ Some s
+    → IsWholeAt n place input held capacity seen
     → IsWhole n s input held capacity seen
 whole_in n place s input held capacity seen was w = subst (λ (o : Option Seats). IsWholeAt n o input held capacity seen) was w
 
-pub side_in : (place : Option Seats) (s : Seats) (input : RxIn) (capacity : ℕ) (now : ReceiveView) → place ≡ Some s → side_at place input capacity ≡ now
+pub side_in : (place : Option Seats) (s : Seats) (input : RxIn) (capacity : ℕ) (now : ReceiveView) → place ≡ Some s
+    → side_at place input capacity ≡ now
     → side_at (Some s) input capacity ≡ now
 side_in place s input capacity now was view = ap (λ (o : Option Seats). side_at o input capacity) (sym was) ∙ view
 
@@ -33,13 +40,17 @@ side_in place s input capacity now was view = ap (λ (o : Option Seats). side_at
 put_left : (r : ℕ) (put put' : List Packet) (p : Packet) → r ≤ length put → put' ≡ put ++ p ∷ [] → drop r put' ≡ drop r put ++ p ∷ []
 put_left r put put' p order is = ap (drop r) is ∙ drop-append-le r put (p ∷ []) order
 
-pub put_whole : (n : Napi) (place : Option Seats) (input input' : RxIn) (p : Packet) (held capacity : ℕ) (seen : Seen) → IsWholeAt n place input held capacity seen
-    → SameIn input input' → put_list input' ≡ put_list input ++ p ∷ [] → free_of input ≤ free_of input' + 1 → IsWholeAt n place input' (held + 1) capacity seen
+pub put_whole : (n : Napi) (place : Option Seats) (input input' : RxIn) (p : Packet) (held capacity : ℕ) (seen : Seen)
+    → IsWholeAt n place input held capacity seen
+    → SameIn input input' → put_list input' ≡ put_list input ++ p ∷ [] → free_of input ≤ free_of input' + 1
+    → IsWholeAt n place input' (held + 1) capacity seen
 put_whole n None input input' p held capacity seen w same is used = w
 put_whole n (Some s) input input' p held capacity seen w same is used =
     let more : length (put_list input') ≡ length (put_list input) + 1 = ap length is ∙ length-append (put_list input) (p ∷ []) in
-    let left : left_in input' s ≡ left_in input s ++ p ∷ [] = put_left (length (received_by s)) (put_list input) (put_list input') p w.order is in
-    let long : length (left_in input' s) ≡ length (left_in input s) + 1 = ap length left ∙ length-append (left_in input s) (p ∷ []) in record {
+    let left : left_in input' s ≡ left_in input s ++ p ∷ [] =
+    put_left (length (received_by s)) (put_list input) (put_list input') p w.order is in
+    let long : length (left_in input' s) ≡ length (left_in input s) + 1 = ap length left ∙ length-append (left_in input s) (p ∷ []) in
+    record {
       first = w.first;
       gathered = w.gathered;
       one = one_still input input' w.first same w.one;
@@ -50,16 +61,21 @@ put_whole n (Some s) input input' p held capacity seen w same is used =
       seen_is = w.seen_is;
     }
 
-put_packets : (n : Napi) (place : Option Seats) (input input' : RxIn) (p : Packet) (held capacity : ℕ) (seen : Seen) → IsWholeAt n place input held capacity seen
+put_packets : (n : Napi) (place : Option Seats) (input input' : RxIn) (p : Packet) (held capacity : ℕ) (seen : Seen)
+    → IsWholeAt n place input held capacity seen
     → put_list input' ≡ put_list input ++ p ∷ [] → packets_at input' place ≡ packets_at input place ++ p.bytes ∷ []
 put_packets n None input input' p held capacity seen w is = absurd w
 put_packets n (Some s) input input' p held capacity seen w is =
-    ap bytes_each (put_left (length (received_by s)) (put_list input) (put_list input') p w.order is) ∙ map-append (λ (q : Packet). q.bytes) (left_in input s) (p ∷ [])
+    ap bytes_each (put_left (length (received_by s)) (put_list input) (put_list input') p w.order is)
+    ∙ map-append (λ (q : Packet). q.bytes) (left_in input s) (p ∷ [])
 
-pub put_side : (n : Napi) (place : Option Seats) (input input' : RxIn) (p : Packet) (held capacity : ℕ) (seen : Seen) (now : ReceiveView) → IsWholeAt n place input held capacity seen
-    → put_list input' ≡ put_list input ++ p ∷ [] → side_at place input capacity ≡ now → side_at place input' capacity ≡ put_if true p.bytes now
+pub put_side : (n : Napi) (place : Option Seats) (input input' : RxIn) (p : Packet) (held capacity : ℕ) (seen : Seen) (now : ReceiveView)
+    → IsWholeAt n place input held capacity seen
+    → put_list input' ≡ put_list input ++ p ∷ [] → side_at place input capacity ≡ now
+    → side_at place input' capacity ≡ put_if true p.bytes now
 put_side n place input input' p held capacity seen now w is view =
-    ap (λ (l : List ℕ). record (side_at place input capacity) { packets = l }) (put_packets n place input input' p held capacity seen w is) ∙ ap (put_if true p.bytes) view
+    ap (λ (l : List ℕ). record (side_at place input capacity) { packets = l }) (put_packets n place input input' p held capacity seen w is)
+    ∙ ap (put_if true p.bytes) view
 
 -- ---- the next packets are received
 
@@ -75,7 +91,8 @@ input_of_two n s input held capacity seen w =
 given_number : (weight : ℕ) (packets : List Packet) → length (take weight packets) ≡ min weight (length (bytes_each packets))
 given_number weight packets = length-take weight packets ∙ ap (min weight) (sym (length-map packets (λ (p : Packet). p.bytes)))
 
-given_bytes : (weight : ℕ) (packets : List Packet) → bytes_each (take weight packets) ≡ take (min weight (length (bytes_each packets))) (bytes_each packets)
+given_bytes : (weight : ℕ) (packets : List Packet)
+    → bytes_each (take weight packets) ≡ take (min weight (length (bytes_each packets))) (bytes_each packets)
 given_bytes weight packets = sym (take-map (λ (p : Packet). p.bytes) weight packets) ∙ sym (take_min weight (bytes_each packets))
 
 module _ (n : Napi) (weight : ℕ) (s s' : Seats) (input input' : RxIn) (given : List Packet) (held capacity : ℕ) (seen : Seen)
@@ -93,27 +110,36 @@ module _ (n : Napi) (weight : ℕ) (s s' : Seats) (input input' : RxIn) (given :
   given_is = r.next.next ∙ ap (λ (l : List Packet). take weight (drop (length l) (put_list input))) (sym had)
 
   left_now : left_in input' s' ≡ drop (length given) (left_in input s)
-  left_now = (λ i. drop (length (received_more i)) (r.next.put i)) ∙ ap (λ (k : ℕ). drop k (put_list input)) (length-append (received_by s) given)
+  left_now =
+      (λ i. drop (length (received_more i)) (r.next.put i)) ∙ ap (λ (k : ℕ). drop k (put_list input)) (length-append (received_by s) given)
       ∙ sym (drop-drop (length given) (length (received_by s)) (put_list input))
 
   state_still : state_in s' ≡ state_in s
   state_still = ap state_of r.three
 
   shows_still : ShowAll n w.first s'.interrupt.pass (poller_of s'.turn) (thread_of s'.turn) (control_of s'.turn)
-  shows_still = subst (λ (q : Pass × Pass × Pass × Pass). ShowAll n w.first q.0 q.1 q.2 q.3) (λ i. (sym r.zeroth i, sym r.one i, sym r.two i, sym r.three i)) w.gathered.show
+  shows_still =
+      subst (λ (q : Pass × Pass × Pass × Pass). ShowAll n w.first q.0 q.1 q.2 q.3)
+      (λ i. (sym r.zeroth i, sym r.one i, sym r.two i, sym r.three i)) w.gathered.show
 
   whole_still : (count : ℕ) → count ≡ length given → role_of s'.turn ≡ role_of s.turn → IsWhole n s' input' (held - count) capacity seen
   whole_still count counted role =
       let many : length given ≡ min weight (length (left_in input s)) = ap length given_is ∙ length-take weight (left_in input s) in
-      let left : length (left_in input s) ≡ length (put_list input) - length (received_by s) = length-drop (length (received_by s)) (put_list input) in
-      let now : length (left_in input' s') ≡ length (left_in input s) - length given = ap length left_now ∙ length-drop (length given) (left_in input s) in
-      let longer : length (received_by s') ≡ length (received_by s) + length given = ap length received_more ∙ length-append (received_by s) given in
+      let left : length (left_in input s) ≡ length (put_list input) - length (received_by s) =
+      length-drop (length (received_by s)) (put_list input) in
+      let now : length (left_in input' s') ≡ length (left_in input s) - length given =
+      ap length left_now ∙ length-drop (length given) (left_in input s) in
+      let longer : length (received_by s') ≡ length (received_by s) + length given =
+      ap length received_more ∙ length-append (received_by s) given in
       let put : length (put_list input') ≡ length (put_list input) = ap length r.next.put in
       let still : held - count ≡ length (left_in input' s') = (λ i. w.held_is i - counted i) ∙ sym now in
       let known : length (drop (length (received_list r.ctx')) (put_list input)) ≡ length (left_in input' s') =
       (λ i. length (drop (length (sym has i)) (sym r.next.put i))) in record {
         first = w.first;
-        gathered = record { show = shows_still; role = subst (λ (x : State). IsRole (role_of s'.turn) x) (sym state_still) (rw role w.gathered.role) };
+        gathered = record {
+          show = shows_still;
+          role = subst (λ (x : State). IsRole (role_of s'.turn) x) (sym state_still) (rw role w.gathered.role);
+        };
         one = one_still input input' w.first r.next.same w.one;
         capacity_is = r.next.same.1 ∙ w.capacity_is;
         order = omega (arith, w.order);
@@ -124,7 +150,8 @@ module _ (n : Napi) (weight : ℕ) (s s' : Seats) (input input' : RxIn) (given :
 
   pub received_whole : (place' : Option Seats) (count : ℕ) → place' ≡ Some s' → count ≡ length given → role_of s'.turn ≡ role_of s.turn
       → IsWholeAt n place' input' (held - count) capacity seen
-  received_whole place' count is counted role = subst (λ (o : Option Seats). IsWholeAt n o input' (held - count) capacity seen) (sym is) (whole_still count counted role)
+  received_whole place' count is counted role =
+      subst (λ (o : Option Seats). IsWholeAt n o input' (held - count) capacity seen) (sym is) (whole_still count counted role)
 
   abbrev side : ReceiveView
   side = side_at (Some s) input capacity
@@ -133,14 +160,17 @@ module _ (n : Napi) (weight : ℕ) (s s' : Seats) (input input' : RxIn) (given :
   number_given = ap length given_is ∙ given_number weight (left_in input s)
 
   pub bytes_given : (now : ReceiveView) → side ≡ now → sum (bytes_each given) ≡ bytes_of weight now
-  bytes_given now view = ap (λ (l : List Packet). sum (bytes_each l)) given_is ∙ ap sum (given_bytes weight (left_in input s)) ∙ ap (bytes_of weight) view
+  bytes_given now view =
+      ap (λ (l : List Packet). sum (bytes_each l)) given_is ∙ ap sum (given_bytes weight (left_in input s)) ∙ ap (bytes_of weight) view
 
   packets_now : bytes_each (left_in input' s') ≡ drop (given_of weight side) side.packets
-  packets_now = ap bytes_each left_now ∙ sym (drop-map (λ (p : Packet). p.bytes) (length given) (left_in input s)) ∙ ap (λ (k : ℕ). drop k side.packets) number_given
+  packets_now = ap bytes_each left_now ∙ sym (drop-map (λ (p : Packet). p.bytes) (length given) (left_in input s))
+      ∙ ap (λ (k : ℕ). drop k side.packets) number_given
 
   pub received_side : (place' : Option Seats) (now : ReceiveView) → place' ≡ Some s' → side ≡ now
       → side_at place' input' capacity ≡ record now { packets = drop (given_of weight now) now.packets }
   received_side place' now is view =
       let dropped : side_at (Some s') input' capacity ≡ record side { packets = drop (given_of weight side) side.packets } =
       (λ i. record { napi = state_still i; packets = packets_now i; capacity = capacity }) in
-      ap (λ (o : Option Seats). side_at o input' capacity) is ∙ dropped ∙ ap (λ (v : ReceiveView). record v { packets = drop (given_of weight v) v.packets }) view
+      ap (λ (o : Option Seats). side_at o input' capacity) is ∙ dropped
+      ∙ ap (λ (v : ReceiveView). record v { packets = drop (given_of weight v) v.packets }) view

@@ -1,22 +1,31 @@
 -- What a call makes of a receive side, behind which all met.
-use Rattle.{std.proofs.Common.{◌≡◌, ◌∙◌, ◌≤◌, ℕ, List, Option, Some, sym, ap, subst, length, drop}, rx_ring.specs.{declared.{ends.RxIn.RxIn, packet.Packet.Packet}, Ends.put_list}}
-use Rattle.{napi_model.specs.{declared.{event.Operation.Operation, state.{Seen.Seen, State.State}}, History.{LegalHistory, state_after}, Laws.IsSound}, napi_calls.specs.{Made.events, declared.types.Napi.Napi}}
-use Rattle.device_shared.specs.{declared.seats.Seats.Seats, Acting.Acts, Meeting.Meets, Seats.{IsRole, Role, received_by, role_of, state_in}, SharedReceive.{IsWhole, IsWholeAt, bytes_each, left_in, napi_at, packets_at}}
-use Rattle.device_shared.proofs.{Gathering.{leads_then, legal_then, received_then, seen_then, shows_still, sound_then}, RingFacts.{seen_side, whole_in}}
+use Rattle.std.proofs.Common.{◌≡◌, ◌∙◌, ◌≤◌, ℕ, List, Option, Some, sym, ap, subst, length, drop}
+use Rattle.rx_ring.specs.{declared.{ends.RxIn.RxIn, packet.Packet.Packet}, Ends.put_list}
+use Rattle.napi_model.specs.{declared.{event.Operation.Operation, state.{Seen.Seen, State.State}}, History.{LegalHistory, state_after}}
+use Rattle.{napi_model.specs.Laws.IsSound, napi_calls.specs.{Made.events, declared.types.Napi.Napi}}
+use Rattle.device_shared.specs.{declared.seats.Seats.Seats, Acting.Acts, Meeting.Meets}
+use Rattle.device_shared.specs.Seats.{IsRole, Role, received_by, role_of, state_in}
+use Rattle.device_shared.specs.SharedReceive.{IsWhole, IsWholeAt, bytes_each, left_in, napi_at, packets_at}
+use Rattle.device_shared.proofs.Gathering.{leads_then, legal_then, received_then, seen_then, shows_still, sound_then}
+use Rattle.device_shared.proofs.RingFacts.{seen_side, whole_in}
 
 -- a call was made, and then all met
-pub record Called (c : ℕ) (os : List Operation) (n : Napi) (place place' : Option Seats) (s1 : Seats) (input : RxIn) (held capacity : ℕ) (seen seen' : Seen) : Type 0 where
+pub record Called (c : ℕ) (os : List Operation) (n : Napi) (place place' : Option Seats) (s1 : Seats) (input : RxIn) (held capacity : ℕ)
+    (seen seen' : Seen) : Type 0 where
   pub s0 : Seats
   pub was : place ≡ Some s0
   pub at : IsWholeAt n place input held capacity seen
   pub acts : Acts c os n s0 s1
   pub met : (s2 : Seats) × (place' ≡ Some s2) × Meets s1 s2 seen'
 
-abbrev pub called : {c : ℕ} {os : List Operation} {n : Napi} {place place' : Option Seats} {s1 : Seats} {input : RxIn} {held capacity : ℕ} {seen seen' : Seen} (s0 : Seats)
-    → place ≡ Some s0 → IsWholeAt n place input held capacity seen → Acts c os n s0 s1 → ((s2 : Seats) × (place' ≡ Some s2) × Meets s1 s2 seen') → Called c os n place place' s1 input held capacity seen seen'
+abbrev pub called : {c : ℕ} {os : List Operation} {n : Napi} {place place' : Option Seats} {s1 : Seats} {input : RxIn} {held capacity : ℕ}
+    {seen seen' : Seen} (s0 : Seats)
+    → place ≡ Some s0 → IsWholeAt n place input held capacity seen → Acts c os n s0 s1
+    → ((s2 : Seats) × (place' ≡ Some s2) × Meets s1 s2 seen') → Called c os n place place' s1 input held capacity seen seen'
 called s0 was at acts met = record { s0 = s0; was = was; at = at; acts = acts; met = met }
 
-module _ {c : ℕ} {os : List Operation} {n : Napi} {place place' : Option Seats} {s1 : Seats} {input : RxIn} {held capacity : ℕ} {seen seen' : Seen}
+module _ {c : ℕ} {os : List Operation} {n : Napi} {place place' : Option Seats} {s1 : Seats} {input : RxIn} {held capacity : ℕ}
+    {seen seen' : Seen}
     (k : Called c os n place place' s1 input held capacity seen seen') where
   whole : IsWhole n k.s0 input held capacity seen
   whole = whole_in n place k.s0 input held capacity seen k.was k.at
@@ -31,10 +40,13 @@ module _ {c : ℕ} {os : List Operation} {n : Napi} {place place' : Option Seats
   sound = subst IsSound (sym state_is) (sound_then c os n whole.first k.s0 s1 k.met.0 seen' whole.gathered.show k.acts k.met.2)
 
   pub legal : LegalHistory 3 (napi_at place) (events c os)
-  legal = subst (λ (s : State). LegalHistory 3 s (events c os)) (sym state_is) (legal_then c os n whole.first k.s0 s1 k.met.0 seen' whole.gathered.show k.acts k.met.2)
+  legal =
+      subst (λ (s : State). LegalHistory 3 s (events c os)) (sym state_is)
+      (legal_then c os n whole.first k.s0 s1 k.met.0 seen' whole.gathered.show k.acts k.met.2)
 
   leads : state_in k.met.0 ≡ state_after (napi_at place) (events c os)
-  leads = leads_then c os n whole.first k.s0 s1 k.met.0 seen' whole.gathered.show k.acts k.met.2 ∙ ap (λ (s : State). state_after s (events c os)) (sym state_is)
+  leads = leads_then c os n whole.first k.s0 s1 k.met.0 seen' whole.gathered.show k.acts k.met.2
+      ∙ ap (λ (s : State). state_after s (events c os)) (sym state_is)
 
   pub state : napi_at place' ≡ state_after (napi_at place) (events c os)
   state = ap napi_at k.met.1 ∙ leads
@@ -64,14 +76,17 @@ module _ {c : ℕ} {os : List Operation} {n : Napi} {place place' : Option Seats
   })
 
   -- with whose turn it is then
-  pub kept_as : {r : Role} → role_of s1.turn ≡ r → IsRole r (state_after (napi_at place) (events c os)) → IsWholeAt n place' input held capacity seen'
+  pub kept_as : {r : Role} → role_of s1.turn ≡ r → IsRole r (state_after (napi_at place) (events c os))
+      → IsWholeAt n place' input held capacity seen'
   kept_as e role = kept (subst (λ (q : Role). IsRole q (state_after (napi_at place) (events c os))) (sym e) role)
 
-  pub kept_at : {r : Role} {t : State} → role_of s1.turn ≡ r → state_after (napi_at place) (events c os) ≡ t → IsRole r t → IsWholeAt n place' input held capacity seen'
+  pub kept_at : {r : Role} {t : State} → role_of s1.turn ≡ r → state_after (napi_at place) (events c os) ≡ t → IsRole r t
+      → IsWholeAt n place' input held capacity seen'
   kept_at {r} {t} e leads role = kept_as e (subst (IsRole r) (sym leads) role)
 
 -- whose turn it was
-pub role_there : (n : Napi) (place : Option Seats) (input : RxIn) (held capacity : ℕ) (seen : Seen) (s0 : Seats) → place ≡ Some s0 → IsWholeAt n place input held capacity seen → IsRole (role_of s0.turn) (napi_at place)
+pub role_there : (n : Napi) (place : Option Seats) (input : RxIn) (held capacity : ℕ) (seen : Seen) (s0 : Seats) → place ≡ Some s0
+    → IsWholeAt n place input held capacity seen → IsRole (role_of s0.turn) (napi_at place)
 role_there n place input held capacity seen s0 was at =
     subst (IsRole (role_of s0.turn)) (sym (ap napi_at was)) (whole_in n place s0 input held capacity seen was at).gathered.role
 

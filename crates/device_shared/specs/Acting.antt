@@ -54,7 +54,8 @@ AsksBy Granted None os = ⊥
 AsksBy Granted (Some k) os =
     (ts : List (Lost call.Schedule)) × (x : Seen) × (handed : List Operation) × HandsTo true k handed
     × (os ≡ (flat_map looks ts ++ Look x ∷ Schedule Granted ∷ []) ++ handed)
-AsksBy Missed kind os = (kind ≡ None) × (ts : List (Lost call.Schedule)) × (x : Seen) × (os ≡ flat_map looks ts ++ Look x ∷ Schedule Missed ∷ [])
+AsksBy Missed kind os =
+    (kind ≡ None) × (ts : List (Lost call.Schedule)) × (x : Seen) × (os ≡ flat_map looks ts ++ Look x ∷ Schedule Missed ∷ [])
 AsksBy Disabled kind os = (kind ≡ None) × (ts : List (Lost call.Schedule)) × (os ≡ flat_map looks ts ++ Schedule Disabled ∷ [])
 
 -- ---- where somebody has the instance nobody need look for it

@@ -35,8 +35,10 @@ use Rattle.device_shared.specs.SharedReceive.{bytes_each}
 -- the poller of the list looks for it, and then the thread
 abbrev pub LookFor : Posts → Posts → Type 0
 LookFor posts (ListPolls w t) = Made (poller_post posts) (Take kind.List true ∷ []) w.pass
-LookFor posts (ThreadPolls p w) = Made (poller_post posts) (Take kind.List false ∷ []) p.pass × Made (thread_post posts) (Take kind.Thread true ∷ []) w.pass
-LookFor posts (Rest p t) = Made (poller_post posts) (Take kind.List false ∷ []) p.pass × Made (thread_post posts) (Take kind.Thread false ∷ []) t.pass
+LookFor posts (ThreadPolls p w) =
+    Made (poller_post posts) (Take kind.List false ∷ []) p.pass × Made (thread_post posts) (Take kind.Thread true ∷ []) w.pass
+LookFor posts (Rest p t) =
+    Made (poller_post posts) (Take kind.List false ∷ []) p.pass × Made (thread_post posts) (Take kind.Thread false ∷ []) t.pass
 LookFor posts (PollsBusily b t) = ⊥
 
 -- who polls it stops busy polling, or lets go of it; where nobody does it is looked for
@@ -49,7 +51,8 @@ abbrev pub TakesHold : Option (ℕ × Bool) → Enabled → Turn → Type 0
 TakesHold (Some who) e after = role_of after ≡ Some (is_marked e, Some who)
 TakesHold None (enabled.On c) after = Made c.pass (MarkDisable ∷ []) (control_of after) × (role_of after ≡ Some (true, None))
 TakesHold None (enabled.Marked c) after =
-    (os : List Operation) × (taken : Bool) × TriesBy true taken os × Made c.pass os (control_of after) × (role_of after ≡ (if taken then None else Some (true, None)))
+    (os : List Operation) × (taken : Bool) × TriesBy true taken os × Made c.pass os (control_of after)
+    × (role_of after ≡ (if taken then None else Some (true, None)))
 
 abbrev pub Leaves : Posts → Enabled → Turn → Type 0
 Leaves posts e after = (left : Posts) × LetsGo (polls_at posts) posts left × TakesHold (polls_at left) e after

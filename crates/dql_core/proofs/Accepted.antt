@@ -1,13 +1,16 @@
 -- One more call at the end of a list of calls.
-use Rattle.std.proofs.Common.{◌≡◌, ℕ, ◌+◌, ◌<◌, ◌≤◌, Bool, true, false, cond, List, [], ◌∷◌, ◌++◌, length, take, get_or, Option, is_some, Result, Ok, Err, is_err, OnOk, OnErr, fold, ap, sym, refl, subst, ◌∙◌, length-append, arith}
-use Rattle.{std.{specs.{Int.from_bool, Result.result_err}, proofs.lemmas.List.{take_more, Sums.fold-append}}, dql_core.specs.Accepted.{accepted, after_all, after_call}}
+use Rattle.std.proofs.Common.{◌≡◌, ℕ, ◌+◌, ◌<◌, ◌≤◌, Bool, true, false, cond, List, [], ◌∷◌, ◌++◌, length, take, get_or, Option, is_some}
+use Rattle.std.proofs.Common.{Result, Ok, Err, is_err, OnOk, OnErr, fold, ap, sym, refl, subst, ◌∙◌, length-append, arith}
+use Rattle.std.{specs.{Int.from_bool, Result.result_err}, proofs.lemmas.List.{take_more, Sums.fold-append}}
+use Rattle.dql_core.specs.Accepted.{accepted, after_all, after_call}
 
 pub from_bool_most : (b : Bool) → from_bool b ≤ 1
 from_bool_most true = omega arith
 from_bool_most false = omega arith
 
 -- what a loop that makes the calls of a list keeps: what the object shows after i of them, and how many were refused
-pub record Makes {D S E F : Type 0} (fault : S → E → Option F) (after : S → E → S) (Shows : D → S → Type 0) (start now : D) (es : List E) (i refused : ℕ) : Type 0 where
+pub record Makes {D S E F : Type 0} (fault : S → E → Option F) (after : S → E → S) (Shows : D → S → Type 0) (start now : D) (es : List E)
+    (i refused : ℕ) : Type 0 where
   pub state : (s : S) → Shows start s → Shows now (after_all fault after s (take i es))
   pub count : (s : S) → Shows start s → refused + length (accepted fault after s (take i es)) ≡ i
   pub fits : refused ≤ i
@@ -23,7 +26,8 @@ module _ {S E F : Type 0} (fault : S → E → Option F) (after : S → E → S)
   accepted_push s (x ∷ es) e =
       let calls : S → List E = λ t. accepted fault after t es in
       let longer : S → List E = λ t. accepted fault after t (es ++ e ∷ []) in
-      elim (is_some (fault s x)) as (λ b. cond b (longer s) (x ∷ longer (after s x)) ≡ cond b (calls s) (x ∷ calls (after s x)) ++ kept (fold after s (cond b (calls s) (x ∷ calls (after s x)))) e) [
+      elim (is_some (fault s x)) as (λ b. cond b (longer s) (x ∷ longer (after s x))
+      ≡ cond b (calls s) (x ∷ calls (after s x)) ++ kept (fold after s (cond b (calls s) (x ∷ calls (after s x)))) e) [
         | true ↦ accepted_push s es e
         | false ↦ ap (λ l. x ∷ l) (accepted_push (after s x) es e)
       ]
@@ -47,7 +51,8 @@ module _ {S E F : Type 0} (fault : S → E → Option F) (after : S → E → S)
       ∙ fold_kept (is_some (fault t e)) t e
 
   refused_more : (s : S) (es : List E) (i : ℕ) (d : E) (n one : ℕ) → i < length es
-      → n + length (accepted fault after s (take i es)) ≡ i → one ≡ cond (is_some (fault (after_all fault after s (take i es)) (get_or es i d))) 1 0
+      → n + length (accepted fault after s (take i es)) ≡ i
+      → one ≡ cond (is_some (fault (after_all fault after s (take i es)) (get_or es i d))) 1 0
       → (n + one) + length (accepted fault after s (take (i + 1) es)) ≡ i + 1
   refused_more s es i d n one h was is =
       let t = after_all fault after s (take i es) in
@@ -60,7 +65,8 @@ module _ {S E F : Type 0} (fault : S → E → Option F) (after : S → E → S)
 
   -- what an object that shows the state s shows after a call, by the clauses of that call
   shows_after_call : {D R : Type 0} (Shows : D → S → Type 0) (old new : D) (s : S) (e : E) (r : Result R F)
-      → OnOk r (Shows new (after s e)) → OnErr r (new ≡ old) → result_err r ≡ fault s e → Shows old s → Shows new (after_call fault after s e)
+      → OnOk r (Shows new (after s e)) → OnErr r (new ≡ old) → result_err r ≡ fault s e → Shows old s
+      → Shows new (after_call fault after s e)
   shows_after_call Shows old new s e (Ok x) ok err same shown =
       subst (λ o. Shows new (cond (is_some o) s (after s e))) same ok
   shows_after_call Shows old new s e (Err x) ok err same shown =
@@ -73,7 +79,8 @@ module _ {S E F : Type 0} (fault : S → E → Option F) (after : S → E → S)
   shows_more Shows old new s es i d r h ok err same shown =
       subst (Shows new) (sym (after_all_more s es i d h)) (shows_after_call Shows old new _ (get_or es i d) r ok err same shown)
 
-  refused_of : {R : Type 0} (s : S) (e : E) (r : Result R F) → result_err r ≡ fault s e → from_bool (is_err r) ≡ cond (is_some (fault s e)) 1 0
+  refused_of : {R : Type 0} (s : S) (e : E) (r : Result R F) → result_err r ≡ fault s e
+      → from_bool (is_err r) ≡ cond (is_some (fault s e)) 1 0
   refused_of s e (Ok x) same = ap (λ o. cond (is_some o) 1 0) same
   refused_of s e (Err x) same = ap (λ o. cond (is_some o) 1 0) same
 
@@ -84,7 +91,8 @@ module _ {S E F : Type 0} (fault : S → E → Option F) (after : S → E → S)
   count_more s es i d n r h same was = refused_more s es i d n _ h was (refused_of _ _ r same)
 
   -- one call more, by its clauses
-  pub makes_more : {D R : Type 0} (Shows : D → S → Type 0) (start old new : D) (es : List E) (i : ℕ) (d : E) (n one : ℕ) (r : Result R F) → i < length es
+  pub makes_more : {D R : Type 0} (Shows : D → S → Type 0) (start old new : D) (es : List E) (i : ℕ) (d : E) (n one : ℕ) (r : Result R F)
+      → i < length es
       → ((s : S) → Shows old s → OnOk r (Shows new (after s (get_or es i d)))) → OnErr r (new ≡ old)
       → ((s : S) → Shows old s → result_err r ≡ fault s (get_or es i d)) → one ≡ from_bool (is_err r)
       → Makes fault after Shows start old es i n → Makes fault after Shows start new es (i + 1) (n + one)

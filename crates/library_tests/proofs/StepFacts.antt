@@ -1,22 +1,34 @@
 -- What a pass knows by the step that it made last.
 use Rattle.std.proofs.Common.{◌≡◌, true, false, eq-eqb, refl, sym, ap, ◌∙◌}
-use Rattle.napi_model.specs.declared.{state.{State.State as Napi, Seen.Seen, Place.TheVariants.{Control, Polling}}, event.{Done.TheVariants.Held, Operation.{Operation, TheVariants.{Look, Complete, BusyTake, BusyStop, MarkDisable, TakeDisable, Unmark, Enable}}}}
+use Rattle.napi_model.specs.declared.state.{State.State as Napi, Seen.Seen, Place.TheVariants.{Control, Polling}}
+use Rattle.napi_model.specs.declared.event.Done.TheVariants.{Held}
+use Rattle.napi_model.specs.declared.event.Operation.{Operation}
+use Rattle.napi_model.specs.declared.event.Operation.TheVariants.{Look, Complete, BusyTake, BusyStop, MarkDisable, TakeDisable, Unmark}
+use Rattle.napi_model.specs.declared.event.Operation.TheVariants.{Enable}
 use Rattle.napi_model.specs.Laws.{is_owner}
-use Rattle.napi_word.{specs.{View.{View, number_of}, Events.Steps, Passes.{HasController, HasPoll, view_of, IsWithin}, declared.{table.Pass.Pass, view.Holds.{Holds, TheVariants.{Out, Within}}}}, proofs.Knowing.{state_then, place_then, quiet_polls}}
-use Rattle.{rx_ring.specs.declared.ends.RxCtx.RxCtx, napi_word.{specs.{declared.table.StateTable.StateTable, Passes.IsNew, View.controller_of}, proofs.Start.{new_controls, new_unmarked}}}
+use Rattle.napi_word.specs.{View.{View, number_of}, Events.Steps, Passes.{HasController, HasPoll, view_of, IsWithin}}
+use Rattle.napi_word.specs.declared.{table.Pass.Pass, view.Holds.{Holds, TheVariants.{Out, Within}}}
+use Rattle.napi_word.proofs.Knowing.{state_then, place_then, quiet_polls}
+use Rattle.rx_ring.specs.declared.ends.RxCtx.{RxCtx}
+use Rattle.napi_word.specs.{declared.table.StateTable.StateTable, Passes.IsNew, View.controller_of}
+use Rattle.napi_word.proofs.Start.{new_controls, new_unmarked}
 use Rattle.library_tests.specs.Controller.{IsOff, IsOn, IsMarked, IsTaken}
 
 module _ (v w : View) where
   pub busy_polls : Steps v BusyTake w → HasPoll true w
-  busy_polls g = (place_then v BusyTake w g ∙ ap Polling (sym g.number), ap (λ (s : Napi). s.flags.in_busy_poll) (state_then v BusyTake w g))
+  busy_polls g =
+      (place_then v BusyTake w g ∙ ap Polling (sym g.number), ap (λ (s : Napi). s.flags.in_busy_poll) (state_then v BusyTake w g))
 
   pub held_polls : HasPoll true v → Steps v (Complete Held) w → HasPoll true w
   held_polls is g = quiet_polls v (Complete Held) w g refl is
 
   pub stopped_polls : HasPoll true v → Steps v BusyStop w → HasPoll false w
   stopped_polls is g =
-      let owner = ap (is_owner (number_of v)) is.0 ∙ eq-eqb (number_of v) (number_of v) refl in
-      (place_then v BusyStop w g ∙ g.place owner ∙ is.0 ∙ ap Polling (sym g.number), ap (λ (s : Napi). s.flags.in_busy_poll) (state_then v BusyStop w g))
+      let owner = ap (is_owner (number_of v)) is.0 ∙ eq-eqb (number_of v) (number_of v) refl in (
+        place_then v BusyStop w g ∙ g.place owner ∙ is.0
+            ∙ ap Polling (sym g.number),
+        ap (λ (s : Napi). s.flags.in_busy_poll) (state_then v BusyStop w g),
+      )
 
 pub not_out : (h : Holds) → h ≡ Within → h ≡ Out → ⊥
 not_out h within out = cc
@@ -37,7 +49,8 @@ pub enabled : {p : Pass} (q : Pass) → IsOff p → Steps (view_of p) (Enable fa
 enabled {p} q is g = record {
   controller = controls (view_of p) (view_of q) (Enable false) is.controller g;
   free = ap (is_owner (number_of (view_of q))) (place_then (view_of p) (Enable false) (view_of q) g);
-  unmarked = ap (λ (s : Napi). s.flags.disable) (state_then (view_of p) (Enable false) (view_of q) g) ∙ g.disable is.controller ∙ is.unmarked;
+  unmarked =
+      ap (λ (s : Napi). s.flags.disable) (state_then (view_of p) (Enable false) (view_of q) g) ∙ g.disable is.controller ∙ is.unmarked;
 }
 
 pub marked : {p : Pass} (q : Pass) → IsOn p → Steps (view_of p) MarkDisable (view_of q) → IsMarked q
@@ -47,10 +60,12 @@ marked {p} q is g = record {
   marked = ap (λ (s : Napi). s.flags.disable) (state_then (view_of p) MarkDisable (view_of q) g);
 }
 
-pub taken : {p : Pass} {x : Seen} (q r : Pass) → IsMarked p → Steps (view_of p) (Look x) (view_of q) → Steps (view_of q) (TakeDisable true) (view_of r) → IsWithin r → IsTaken r
+pub taken : {p : Pass} {x : Seen} (q r : Pass) → IsMarked p → Steps (view_of p) (Look x) (view_of q)
+    → Steps (view_of q) (TakeDisable true) (view_of r) → IsWithin r → IsTaken r
 taken {p} {x} q r is look g within =
     let top = controls (view_of p) (view_of q) (Look x) is.controller look in
-    let found = ap (λ (s : Napi). s.flags.disable) (state_then (view_of p) (Look x) (view_of q) look) ∙ look.disable is.controller ∙ is.marked in record {
+    let found = ap (λ (s : Napi). s.flags.disable) (state_then (view_of p) (Look x) (view_of q) look) ∙ look.disable is.controller
+    ∙ is.marked in record {
       controller = controls (view_of q) (view_of r) (TakeDisable true) top g;
       owner = place_then (view_of q) (TakeDisable true) (view_of r) g ∙ ap Control (sym g.number);
       marked = ap (λ (s : Napi). s.flags.disable) (state_then (view_of q) (TakeDisable true) (view_of r) g) ∙ g.disable top ∙ found;

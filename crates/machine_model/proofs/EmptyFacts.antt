@@ -1,17 +1,23 @@
 -- Where nothing is under way, nothing is left to do.
-use Rattle.std.proofs.{Common.{◌≡◌, ◌∙◌, ℕ, zero, suc, ◌+◌, ◌-◌, ◌<◌, ◌≤◌, ◌^◌, Bool, true, false, Option, Some, None, List, [], ◌∷◌, ◌++◌, drop, length, length-drop, refl, sym, ap, subst, arith}, lemmas.Bool.{eqb-true, le-leb, lt-ltb}}
-use Rattle.{std.specs.Prelude.{◌==◌, ◌&&◌, ◌||◌, if◌then◌else◌, min, nat_le, nat_lt, not, position, slice_get}, std.specs.List.{position_or_len}, device_rows.specs.Places.{at, changed}, machine_words.specs.declared.settings.Settings.{Settings}}
+use Rattle.std.proofs.Common.{◌≡◌, ◌∙◌, ℕ, zero, suc, ◌+◌, ◌-◌, ◌<◌, ◌≤◌, ◌^◌, Bool, true, false, Option, Some, None, List, [], ◌∷◌, ◌++◌}
+use Rattle.std.proofs.{Common.{drop, length, length-drop, refl, sym, ap, subst, arith}, lemmas.Bool.{eqb-true, le-leb, lt-ltb}}
+use Rattle.std.specs.Prelude.{◌==◌, ◌&&◌, ◌||◌, if◌then◌else◌, min, nat_le, nat_lt, not, position, slice_get}
+use Rattle.{std.specs.List.position_or_len, device_rows.specs.Places.{at, changed}, machine_words.specs.declared.settings.Settings.Settings}
 use Rattle.poll_runs.specs.{Turn.asked_for, declared.bench.{Next.TheVariants.{Gone, Repoll}}}
-use Rattle.machine_model.specs.{Device.{DeviceView, after_packet, ended_interrupt, ended_poll, interrupted, polled}, Devices.{Devices, batch_at, is_handed_at, mask_at, raises_at, with_device}, Waits.held}
+use Rattle.machine_model.specs.Device.{DeviceView, after_packet, ended_interrupt, ended_poll, interrupted, polled}
+use Rattle.machine_model.specs.{Devices.{Devices, batch_at, is_handed_at, mask_at, raises_at, with_device}, Waits.held}
 use Rattle.machine_model.specs.Device as device
 use Rattle.machine_model.specs.Fates.{NothingIsLeft, ring_in}
 use Rattle.machine_model.specs.Laws.{Event, behind, end, packet}
-use Rattle.machine_model.specs.Processor.{ProcessorView, comes, delivers, ends_by, ends_current, ends_interrupt, ends_poll, ends_polls, ends_run, interrupts, is_busy, is_polling, polls, step}
-use Rattle.machine_model.specs.Softirq.{RunView, SoftirqView, asked_in, begun, ended, filled, is_spent, left_of, next_from, next_in, next_of, pushed, told}
+use Rattle.machine_model.specs.Processor.{ProcessorView, comes, delivers, ends_by, ends_current, ends_interrupt, ends_poll, ends_polls}
+use Rattle.machine_model.specs.Processor.{ends_run, interrupts, is_busy, is_polling, polls, step}
+use Rattle.machine_model.specs.Softirq.{RunView, SoftirqView, asked_in, begun, ended, filled, is_spent, left_of, next_from, next_in}
+use Rattle.machine_model.specs.Softirq.{next_of, pushed, told}
 use Rattle.machine_model.specs.declared.processor.Work.{Work}
 use Rattle.machine_model.specs.declared.processor.Work.TheVariants.{Interrupt, Nothing, Poll, Use}
 use Rattle.machine_model.proofs.FateFacts.{at-apart, at-here, at-kept, made_at, with-apart, with-here}
-use Rattle.machine_model.proofs.{PlacesFacts.{map_at}, TimeFacts.{timed}, WalkFacts.{Free, Still, Walk, arrived, nexted, walk, walk-comes}, WorkFacts.{Goes, Rests, free-ended, goes-on, work-ended, work-walk}}
+use Rattle.machine_model.proofs.{PlacesFacts.map_at, TimeFacts.timed, WalkFacts.{Free, Still, Walk, arrived, nexted, walk, walk-comes}}
+use Rattle.machine_model.proofs.WorkFacts.{Goes, Rests, free-ended, goes-on, work-ended, work-walk}
 
 -- ---- how often a number stands on the list and in the run
 
@@ -32,7 +38,8 @@ unfoldable pub stands : ℕ → SoftirqView → ℕ
 stands n q = count n q.list + count_in n q.run
 
 count-moves : (n : ℕ) (own repoll list : List ℕ)
-    → count n (left_of own repoll list) + (count n (asked_for (slice_get (filled own repoll list) 0)) + (count n (drop 1 (filled own repoll list)) + count n repoll))
+    → count n (left_of own repoll list)
+    + (count n (asked_for (slice_get (filled own repoll list) 0)) + (count n (drop 1 (filled own repoll list)) + count n repoll))
     ≡ count n list + (count n own + count n repoll)
 unfolding count
 count-moves n (x ∷ own) repoll list = omega arith
@@ -87,7 +94,8 @@ stands-pushed n m q = omega (arith, count-append n q.list (m ∷ []))
 
 count-told : (n m : ℕ) (full : Bool) (work : ℕ) (list : List ℕ) (run : Option RunView) (began : ℕ) → asked_in run ≡ Some m
     → let q : SoftirqView = record { list = list; run = run; began = began } in
-    stands n (told (record { work = work; next = if full then Repoll else Gone }) q) + (if full then 0 else (if m == n then 1 else 0)) ≡ stands n q
+    stands n (told (record { work = work; next = if full then Repoll else Gone }) q) + (if full then 0 else (if m == n then 1 else 0))
+    ≡ stands n q
 unfolding stands count_in told count
 count-told n m full work list None began asked = cc asked
 count-told n m true work list (Some r) began asked = rw asked (omega (arith, count-append n r.repoll (m ∷ [])))
@@ -156,9 +164,11 @@ lowered-at polling m n ds = by (m == n) refl
   where
     by : (b : Bool) → (m == n) ≡ b → Lowered polling b (at n ds) (at n (changed (interrupted polling) m ds))
     by true here = rw (at-here (interrupted polling) m n ds here) (lowered polling (at n ds))
-    by false apart = rw (at-apart (interrupted polling) m n ds apart) (record { ring = refl; mask = omega arith; up = omega arith; some = omega arith })
+    by false apart =
+        rw (at-apart (interrupted polling) m n ds apart) (record { ring = refl; mask = omega arith; up = omega arith; some = omega arith })
 
-stands-if : (b : Bool) (n m : ℕ) (q : SoftirqView) → stands n (if b then pushed m q else q) ≡ stands n q + (if b then (if m == n then 1 else 0) else 0)
+stands-if : (b : Bool) (n m : ℕ) (q : SoftirqView)
+    → stands n (if b then pushed m q else q) ≡ stands n q + (if b then (if m == n then 1 else 0) else 0)
 stands-if true n m q = stands-pushed n m q
 stands-if false n m q = omega arith
 
@@ -169,7 +179,8 @@ handed-more true false = omega arith
 handed-more false true = omega arith
 handed-more false false = omega arith
 
-lone-held : (polling same : Bool) (ring up mask new-up new-mask : ℕ) → ring ≤ 1 → ring ≤ up + mask → up ≤ new-up + (if same then 1 else 0) → mask ≤ new-mask → (if same && polling then ring else 0) ≤ new-mask
+lone-held : (polling same : Bool) (ring up mask new-up new-mask : ℕ) → ring ≤ 1 → ring ≤ up + mask → up ≤ new-up + (if same then 1 else 0)
+    → mask ≤ new-mask → (if same && polling then ring else 0) ≤ new-mask
     → ring ≤ new-up + (new-mask + (if polling then 0 else (if same then 1 else 0)))
 lone-held true true ring up mask new-up new-mask few held risen more some = omega (arith, held, risen, more, some)
 lone-held true false ring up mask new-up new-mask few held risen more some = omega (arith, held, risen, more, some)
@@ -184,7 +195,8 @@ none-handed true polling None none = refl
 none-handed true polling (Some d) none = rw none refl
 none-handed false polling o none = refl
 
-same-handed : (polling : Bool) (m n : ℕ) (ds : Devices) → bit (m == n && is_handed_at polling (at n ds)) ≡ bit (m == n && is_handed_at polling (at m ds))
+same-handed : (polling : Bool) (m n : ℕ) (ds : Devices)
+    → bit (m == n && is_handed_at polling (at n ds)) ≡ bit (m == n && is_handed_at polling (at m ds))
 same-handed polling m n ds = by (m == n) refl
   where
     by : (b : Bool) → (m == n) ≡ b → bit (b && is_handed_at polling (at n ds)) ≡ bit (b && is_handed_at polling (at m ds))
@@ -202,10 +214,12 @@ tend-raises s n m p t =
     let o = at n p.devices in
     let l = lowered-at polling m n p.devices in
     let handed = is_handed_at polling (at m p.devices) in
-    let pushes : stands n (if handed then pushed m p.softirq else p.softirq) ≡ stands n p.softirq + (if handed then (if m == n then 1 else 0) else 0) = stands-if handed n m p.softirq in
+    let pushes : stands n (if handed then pushed m p.softirq else p.softirq)
+    ≡ stands n p.softirq + (if handed then (if m == n then 1 else 0) else 0) = stands-if handed n m p.softirq in
     let size : min 1 (length (ring_in (at n (changed (interrupted polling) m p.devices)))) ≡ min 1 (length (ring_in o)) = rw l.ring refl in
     let more : mask_at o ≤ mask_at (at n (changed (interrupted polling) m p.devices)) = omega (arith, l.mask) in
-    let alone = lone-held polling (m == n) (min 1 (length (ring_in o))) (up_at o) (mask_at o) (up_at (at n (changed (interrupted polling) m p.devices)))
+    let alone =
+    lone-held polling (m == n) (min 1 (length (ring_in o))) (up_at o) (mask_at o) (up_at (at n (changed (interrupted polling) m p.devices)))
     (mask_at (at n (changed (interrupted polling) m p.devices))) (one-most (length (ring_in o))) t.held l.up more l.some in
     record {
       masks = omega (arith, l.mask, same-handed polling m n p.devices, handed-more (m == n) handed, pushes, t.masks);
@@ -232,8 +246,10 @@ tend-asks : (s : Settings) (n m : ℕ) (p : ProcessorView) → Tended s n p → 
 unfolding polls polled device.taken
 tend-asks s n m p t =
     let weight = p.settings.weight in
-    let mask : mask_at (at n (changed (polled weight) m p.devices)) ≡ mask_at (at n p.devices) = at-kept mask_at (polled weight) m n p.devices (λ d. refl) in
-    let up : up_at (at n (changed (polled weight) m p.devices)) ≡ up_at (at n p.devices) = at-kept up_at (polled weight) m n p.devices (λ d. refl) in
+    let mask : mask_at (at n (changed (polled weight) m p.devices)) ≡ mask_at (at n p.devices) =
+    at-kept mask_at (polled weight) m n p.devices (λ d. refl) in
+    let up : up_at (at n (changed (polled weight) m p.devices)) ≡ up_at (at n p.devices) =
+    at-kept up_at (polled weight) m n p.devices (λ d. refl) in
     record {
       masks = omega (arith, mask, t.masks);
       never = λ lone. mask ∙ t.never lone;
@@ -241,26 +257,49 @@ tend-asks s n m p t =
       still = λ nothing. cc nothing;
     }
 
-tend-over : (s : Settings) (n : ℕ) (late : Bool) (p : ProcessorView) → Free p → Tended s n p → Rests s (ends_run late p) → Tended s n (ends_run late p)
+tend-over : (s : Settings) (n : ℕ) (late : Bool) (p : ProcessorView) → Free p → Tended s n p → Rests s (ends_run late p)
+    → Tended s n (ends_run late p)
 unfolding ends_run
-tend-over s n late p free t rests = record { rests = rests; masks = omega (arith, t.masks, count-ended n p.softirq.list p.softirq.run p.softirq.began free.unasked); never = t.never; held = t.held }
+tend-over s n late p free t rests =
+    record {
+      rests = rests;
+      masks = omega (arith, t.masks, count-ended n p.softirq.list p.softirq.run p.softirq.began free.unasked);
+      never = t.never;
+      held = t.held;
+    }
 
 tend-walk : (s : Settings) (n : ℕ) → Walk (Tended s n) (Attended s n)
 tend-walk s n =
     let w = work-walk s in
     record {
       raises = λ m p free t raises. tend-raises s n m p t;
-      next = λ p free t. record { rests = w.next p free t.rests; masks = omega (arith, t.masks, stands-next n p.softirq free.unasked); never = t.never; held = t.held };
+      next = λ p free t. record {
+        rests = w.next p free t.rests;
+        masks = omega (arith, t.masks, stands-next n p.softirq free.unasked);
+        never = t.never;
+        held = t.held;
+      };
       asks = λ m p t asked. tend-asks s n m (nexted p) t;
       over = λ late p free t. tend-over s n late p free t (w.over late p free t.rests);
       slice = λ p t. record { rests = w.slice p t.rests; masks = t.masks; never = t.never; held = t.held };
       begins = λ p t none polling. record {
         rests = w.begins p t.rests none polling;
-        masks = omega (arith, t.masks, count-begun n p.softirq.list p.softirq.run p.softirq.began p.clock p.settings.budget p.settings.weight p.settings.window none);
+        masks =
+            omega (
+              arith,
+              t.masks,
+              count-begun n p.softirq.list p.softirq.run p.softirq.began p.clock p.settings.budget p.settings.weight
+                  p.settings.window none,
+            );
         never = t.never;
         held = t.held;
       };
-      uses = λ came more p free t is. record { masks = t.masks; never = t.never; held = omega (arith, t.held); still = λ nothing. cc nothing };
+      uses = λ came more p free t is. record {
+        masks = t.masks;
+        never = t.never;
+        held = omega (arith, t.held);
+        still = λ nothing. cc nothing;
+      };
       stays = λ p free t still. record { masks = t.masks; never = t.never; held = omega (arith, t.held); still = λ nothing. still };
     }
 
@@ -283,15 +322,19 @@ unfolding map_at ended_interrupt
 lone-care None = omega arith
 lone-care (Some d) = up-if (length d.ring)
 
-short-care : (o : Option DeviceView) → (mask_at (map_at (ended_poll false) o) ≡ 0) × (min 1 (length (ring_in (map_at (ended_poll false) o))) ≤ up_at (map_at (ended_poll false) o))
+short-care : (o : Option DeviceView) → (mask_at (map_at (ended_poll false) o) ≡ 0)
+    × (min 1 (length (ring_in (map_at (ended_poll false) o))) ≤ up_at (map_at (ended_poll false) o))
 unfolding map_at ended_poll
 short-care None = (refl, omega arith)
 short-care (Some d) = (refl, up-if (length d.ring))
 
-cared-lone : (s : Settings) (n m : ℕ) (p : ProcessorView) → mask_at (at n p.devices) ≤ stands n p.softirq → (is_polling s ≡ false → mask_at (at n p.devices) ≡ 0)
-    → min 1 (length (ring_in (at n p.devices))) ≤ up_at (at n p.devices) + (mask_at (at n p.devices) + (if m == n then 1 else 0)) → Cared s n (ends_interrupt m p)
+cared-lone : (s : Settings) (n m : ℕ) (p : ProcessorView) → mask_at (at n p.devices) ≤ stands n p.softirq
+    → (is_polling s ≡ false → mask_at (at n p.devices) ≡ 0)
+    → min 1 (length (ring_in (at n p.devices))) ≤ up_at (at n p.devices) + (mask_at (at n p.devices) + (if m == n then 1 else 0))
+    → Cared s n (ends_interrupt m p)
 unfolding ends_interrupt delivers device.delivered device.taken ended_interrupt
-cared-lone s n m p masks never held = record { masks = omega (arith, mask, masks); never = λ lone. mask ∙ never lone; held = by (m == n) refl held }
+cared-lone s n m p masks never held =
+    record { masks = omega (arith, mask, masks); never = λ lone. mask ∙ never lone; held = by (m == n) refl held }
   where
     one : Devices
     one = changed (device.taken 1) m p.devices
@@ -300,15 +343,19 @@ cared-lone s n m p masks never held = record { masks = omega (arith, mask, masks
     two = changed (device.delivered p.clock (batch_at 1 (at m p.devices))) m one
 
     mask : mask_at (at n (changed ended_interrupt m two)) ≡ mask_at (at n p.devices)
-    mask = at-kept mask_at ended_interrupt m n two (λ d. refl) ∙ (at-kept mask_at (device.delivered p.clock (batch_at 1 (at m p.devices))) m n one (λ d. refl)
+    mask = at-kept mask_at ended_interrupt m n two (λ d. refl)
+        ∙ (at-kept mask_at (device.delivered p.clock (batch_at 1 (at m p.devices))) m n one (λ d. refl)
         ∙ at-kept mask_at (device.taken 1) m n p.devices (λ d. refl))
 
-    by : (b : Bool) → (m == n) ≡ b → min 1 (length (ring_in (at n p.devices))) ≤ up_at (at n p.devices) + (mask_at (at n p.devices) + (if b then 1 else 0))
-        → min 1 (length (ring_in (at n (changed ended_interrupt m two)))) ≤ up_at (at n (changed ended_interrupt m two)) + mask_at (at n (changed ended_interrupt m two))
+    by : (b : Bool) → (m == n) ≡ b
+        → min 1 (length (ring_in (at n p.devices))) ≤ up_at (at n p.devices) + (mask_at (at n p.devices) + (if b then 1 else 0))
+        → min 1 (length (ring_in (at n (changed ended_interrupt m two))))
+        ≤ up_at (at n (changed ended_interrupt m two)) + mask_at (at n (changed ended_interrupt m two))
     by true here held = rw (at-here ended_interrupt m n two here) (omega (arith, lone-care (at n two)))
     by false apart held =
         let same : at n (changed ended_interrupt m two) ≡ at n p.devices = at-apart ended_interrupt m n two apart
-        ∙ (at-apart (device.delivered p.clock (batch_at 1 (at m p.devices))) m n one apart ∙ at-apart (device.taken 1) m n p.devices apart) in
+        ∙ (at-apart (device.delivered p.clock (batch_at 1 (at m p.devices))) m n one apart
+        ∙ at-apart (device.taken 1) m n p.devices apart) in
         rw same (omega (arith, held))
 
 full-mask : (d : DeviceView) → mask_at (Some (ended_poll true d)) ≡ mask_at (Some d)
@@ -345,7 +392,10 @@ cared-poll s n m p asked c = by (length p.batch == p.settings.weight)
     by : (full : Bool) → Cared s n (record (delivers m p) {
       devices = changed (ended_poll full) m one;
       softirq = told (record { work = length p.batch; next = if full then Repoll else Gone }) p.softirq;
-      told = record (delivers m p).told { polls = held ((delivers m p).told.polls + 1); work = held ((delivers m p).told.work + length p.batch) };
+      told = record (delivers m p).told {
+        polls = held ((delivers m p).told.polls + 1);
+        work = held ((delivers m p).told.work + length p.batch);
+      };
     })
     by true =
         let counts : stands n (told (record { work = length p.batch; next = Repoll }) p.softirq) + 0 ≡ stands n p.softirq
@@ -359,17 +409,23 @@ cared-poll s n m p asked c = by (length p.batch == p.settings.weight)
           held = rw (same-mask, same-up, same-ring) (omega (arith, c.held, mask, up, size));
         }
     by false =
-        let counts : stands n (told (record { work = length p.batch; next = Gone }) p.softirq) + (if m == n then 1 else 0) ≡ stands n p.softirq
+        let counts : stands n (told (record { work = length p.batch; next = Gone }) p.softirq) + (if m == n then 1 else 0)
+        ≡ stands n p.softirq
         = count-told n m false (length p.batch) p.softirq.list p.softirq.run p.softirq.began asked in
         split (m == n) refl counts
       where
-        split : (b : Bool) → (m == n) ≡ b → stands n (told (record { work = length p.batch; next = Gone }) p.softirq) + (if b then 1 else 0) ≡ stands n p.softirq → Cared s n (record (delivers m p) {
-          devices = changed (ended_poll false) m one;
-          softirq = told (record { work = length p.batch; next = Gone }) p.softirq;
-          told = record (delivers m p).told { polls = held ((delivers m p).told.polls + 1); work = held ((delivers m p).told.work + length p.batch) };
-        })
+        split : (b : Bool) → (m == n) ≡ b → stands n (told (record { work = length p.batch; next = Gone }) p.softirq) + (if b then 1 else 0)
+            ≡ stands n p.softirq → Cared s n (record (delivers m p) {
+              devices = changed (ended_poll false) m one;
+              softirq = told (record { work = length p.batch; next = Gone }) p.softirq;
+              told = record (delivers m p).told {
+                polls = held ((delivers m p).told.polls + 1);
+                work = held ((delivers m p).told.work + length p.batch);
+              };
+            })
         split true here counts =
-            let now : at n (changed (ended_poll false) m one) ≡ map_at (ended_poll false) (at n one) = at-here (ended_poll false) m n one here in
+            let now : at n (changed (ended_poll false) m one) ≡ map_at (ended_poll false) (at n one) =
+            at-here (ended_poll false) m n one here in
             let care = short-care (at n one) in
             record { masks = rw now (omega (arith, care.0)); never = λ lone. rw now care.0; held = rw now (omega (arith, care.1)) }
         split false apart counts =
@@ -380,8 +436,10 @@ cared-poll s n m p asked c = by (length p.batch == p.settings.weight)
               held = rw now (omega (arith, c.held, mask, up, size));
             }
 
-cared-by : (s : Settings) (n : ℕ) (w : Work) (p : ProcessorView) → p.settings ≡ s → mask_at (at n p.devices) ≤ stands n p.softirq → (is_polling s ≡ false → mask_at (at n p.devices) ≡ 0)
-    → min 1 (length (ring_in (at n p.devices))) ≤ up_at (at n p.devices) + (mask_at (at n p.devices) + alone_by s n w) → Cared s n (ends_by w p)
+cared-by : (s : Settings) (n : ℕ) (w : Work) (p : ProcessorView) → p.settings ≡ s → mask_at (at n p.devices) ≤ stands n p.softirq
+    → (is_polling s ≡ false → mask_at (at n p.devices) ≡ 0)
+    → min 1 (length (ring_in (at n p.devices))) ≤ up_at (at n p.devices) + (mask_at (at n p.devices) + alone_by s n w)
+    → Cared s n (ends_by w p)
 cared-by s n Nothing p same masks never held = record { masks = masks; never = never; held = omega (arith, held) }
 cared-by s n (Interrupt m) p same masks never held = by (is_polling p.settings) (rw same refl)
   where
@@ -398,7 +456,8 @@ cared-by s n Poll p same masks never held = by (asked_in p.softirq.run) refl
     by (Some m) asked = cared-poll s n m p asked care
 cared-by s n (Use came) p same masks never held = record { masks = masks; never = never; held = omega (arith, held) }
 
-tend-ended : (s : Settings) (n : ℕ) (p : ProcessorView) → Goes s p → Attended s n p → Tended s n (record (ends_current p) { work = Nothing })
+tend-ended : (s : Settings) (n : ℕ) (p : ProcessorView) → Goes s p → Attended s n p
+    → Tended s n (record (ends_current p) { work = Nothing })
 unfolding ends_current
 tend-ended s n p goes a =
     let c = cared-by s n p.work (record p { clock = p.ends }) goes.rests.settings a.masks a.never a.held in
@@ -409,7 +468,8 @@ tend-ended s n p goes a =
 -- how a packet leaves a device
 pub record Fed (old new : Option DeviceView) : Type 0 where
   pub mask : mask_at new ≡ mask_at old
-  pub held : (a : ℕ) → min 1 (length (ring_in old)) ≤ up_at old + (mask_at old + a) → min 1 (length (ring_in new)) ≤ up_at new + (mask_at new + a)
+  pub held : (a : ℕ) → min 1 (length (ring_in old)) ≤ up_at old + (mask_at old + a)
+      → min 1 (length (ring_in new)) ≤ up_at new + (mask_at new + a)
 
 fed-packet : (moment : ℕ) (d : DeviceView) → Fed (Some d) (Some (after_packet moment d))
 unfolding after_packet
@@ -446,10 +506,12 @@ fed-at moment m n p = by (m == n) refl
         = at-here (after_packet moment) m n (with_device capacity m p.devices) here ∙ ap (map_at (after_packet moment)) stands-there in
         let first = fed-made capacity (at n p.devices) in
         let second = fed-packet moment d in
-        subst (λ (o : Option DeviceView). Fed (at n p.devices) o) (sym now) (record { mask = second.mask ∙ first.mask; held = λ a before. second.held a (first.held a before) })
+        subst (λ (o : Option DeviceView). Fed (at n p.devices) o) (sym now)
+        (record { mask = second.mask ∙ first.mask; held = λ a before. second.held a (first.held a before) })
     by false apart =
         let same : at n (arrived moment m p).devices ≡ at n p.devices
-        = at-apart (after_packet moment) m n (with_device p.settings.ring m p.devices) apart ∙ with-apart p.settings.ring m n p.devices apart in
+        = at-apart (after_packet moment) m n (with_device p.settings.ring m p.devices) apart
+        ∙ with-apart p.settings.ring m n p.devices apart in
         subst (λ (o : Option DeviceView). Fed (at n p.devices) o) (sym same) (record { mask = refl; held = λ a before. before })
 
 idle-alone : (s : Settings) (n : ℕ) (w : Work) → is_busy w ≡ false → alone_by s n w ≡ 0
@@ -466,7 +528,12 @@ tend-comes : (s : Settings) (moment m n : ℕ) (p : ProcessorView) → Goes s p 
 tend-comes s moment m n p goes a =
     let f = fed-at moment m n p in
     walk-comes (Tended s n) (Attended s n) (tend-walk s n) moment m p goes.asked
-    (λ busy. record { masks = omega (arith, f.mask, a.masks); never = λ lone. f.mask ∙ a.never lone; held = f.held (alone_by s n p.work) a.held; still = λ nothing. absurd (cc (rw nothing at busy)) })
+    (λ busy. record {
+      masks = omega (arith, f.mask, a.masks);
+      never = λ lone. f.mask ∙ a.never lone;
+      held = f.held (alone_by s n p.work) a.held;
+      still = λ nothing. absurd (cc (rw nothing at busy));
+    })
     (λ idle. record {
       rests = record { settings = goes.rests.settings; batch = goes.rests.batch; run = goes.rests.run };
       masks = omega (arith, f.mask, a.masks);
@@ -478,7 +545,13 @@ tend-comes s moment m n p goes a =
 
 pub attended : (s : Settings) (n : ℕ) (events : List Event) → Attended s n (behind s events)
 unfolding behind step
-attended s n [] = record { masks = omega arith; never = λ lone. refl; held = omega arith; still = λ nothing. record { quiet = refl; idle = refl; list = none-listed (is_polling s); socket = refl } }
+attended s n [] =
+    record {
+      masks = omega arith;
+      never = λ lone. refl;
+      held = omega arith;
+      still = λ nothing. record { quiet = refl; idle = refl; list = none-listed (is_polling s); socket = refl };
+    }
 attended s n (packet moment m ∷ earlier) = tend-comes s moment m n (behind s earlier) (goes-on s earlier) (attended s n earlier)
 attended s n (end ∷ earlier) =
     let p = behind s earlier in
@@ -500,7 +573,8 @@ first-raises (x ∷ ds) (suc n) up = let next = first-raises ds n up in (first-l
 quiet-at : (ds : Devices) (n : ℕ) → position raises_at ds ≡ None → raises_at (at n ds) ≡ true → ⊥
 quiet-at ds n quiet up =
     let first = first-raises ds n up in
-    let below : nat_lt (position_or_len raises_at ds) (length ds) ≡ true = lt-ltb (position_or_len raises_at ds) (length ds) (omega (arith, first.0, first.1)) in
+    let below : nat_lt (position_or_len raises_at ds) (length ds) ≡ true =
+    lt-ltb (position_or_len raises_at ds) (length ds) (omega (arith, first.0, first.1)) in
     cc (rw below at quiet)
 
 zero-if : (k : ℕ) → not (k == 0) ≡ false → k ≡ 0
@@ -553,5 +627,9 @@ pub nothing-is-left : NothingIsLeft
 nothing-is-left s events turns none =
     let p = behind s events in
     let u = timed s (2 ^ 64 - 1) events (omega arith) turns in
-    let nothing : p.work ≡ Nothing = idle-work p.work p.ends none u.fits in
-    (nothing, ((attended s 0 events).still nothing).socket, λ n. empty-ring s n p (goes-on s events).rests.settings (attended s n events) nothing)
+    let nothing : p.work ≡ Nothing = idle-work p.work p.ends none u.fits in (
+      nothing,
+      ((attended s 0 events).still nothing).socket,
+      λ n. empty-ring s n p (goes-on s events).rests.settings
+          (attended s n events) nothing,
+    )

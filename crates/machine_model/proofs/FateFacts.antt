@@ -1,17 +1,24 @@
 -- What becomes of packets: each is delivered in its order.
-use Rattle.std.proofs.{Common.{◌≡◌, ◌∙◌, ℕ, zero, suc, ◌+◌, ◌-◌, ◌<◌, Bool, true, false, Option, Some, None, List, [], ◌∷◌, ◌++◌, append_assoc, length, length-append, replicate, refl, sym, ap, arith}, lemmas.{Bool.{eqb-false, eqb-true}, Grind.get_or-set_at, List.{append-nil, get_or-set_other, length-replicate, take-append-drop}}}
-use Rattle.{std.specs.Prelude.{◌==◌, ◌&&◌, ◌||◌, if◌then◌else◌, min, nat_lt, not}, device_rows.{specs.Places.{added_at, at, changed, changed_from}}}
+use Rattle.std.proofs.Common.{◌≡◌, ◌∙◌, ℕ, zero, suc, ◌+◌, ◌-◌, ◌<◌, Bool, true, false, Option, Some, None, List, [], ◌∷◌, ◌++◌}
+use Rattle.std.proofs.Common.{append_assoc, length, length-append, replicate, refl, sym, ap, arith}
+use Rattle.std.proofs.lemmas.{Bool.{eqb-false, eqb-true}, Grind.get_or-set_at}
+use Rattle.std.proofs.lemmas.List.{append-nil, get_or-set_other, length-replicate, take-append-drop}
+use Rattle.std.specs.Prelude.{◌==◌, ◌&&◌, ◌||◌, if◌then◌else◌, min, nat_lt, not}
+use Rattle.device_rows.specs.Places.{added_at, at, changed, changed_from}
 use Rattle.machine_words.specs.declared.settings.Settings.{Settings}
-use Rattle.machine_model.specs.{Device.{DeviceView, after_packet, ended_interrupt, ended_poll, interrupted, opened, polled}, Devices.{Devices, batch_at, with_device, with_place}, Waits.held}
+use Rattle.machine_model.specs.Device.{DeviceView, after_packet, ended_interrupt, ended_poll, interrupted, opened, polled}
+use Rattle.machine_model.specs.{Devices.{Devices, batch_at, with_device, with_place}, Waits.held}
 use Rattle.machine_model.specs.Fates as fate
 use Rattle.machine_model.specs.Fates.{DeliversInOrder, came, finds_room, given, given_from, gives_by, polled_by, ring_in, taken_by}
 use Rattle.machine_model.specs.Device as device
 use Rattle.machine_model.specs.Laws.{Event, behind, end, packet}
-use Rattle.machine_model.specs.Processor.{ProcessorView, comes, delivers, ends_by, ends_current, ends_interrupt, ends_poll, ends_polls, ends_run, interrupts, is_busy, is_polling, polls, step}
+use Rattle.machine_model.specs.Processor.{ProcessorView, comes, delivers, ends_by, ends_current, ends_interrupt, ends_poll, ends_polls}
+use Rattle.machine_model.specs.Processor.{ends_run, interrupts, is_busy, is_polling, polls, step}
 use Rattle.machine_model.specs.Softirq.{asked_in, next_of}
 use Rattle.machine_model.specs.declared.processor.Work.{Work}
 use Rattle.machine_model.specs.declared.processor.Work.TheVariants.{Interrupt, Nothing, Poll, Use}
-use Rattle.machine_model.proofs.{PlacesFacts.{at-changed, map_at}, WalkFacts.{Walk, arrived, nexted, walk, walk-comes}, WorkFacts.{Goes, free-ended, goes-on}}
+use Rattle.machine_model.proofs.{PlacesFacts.{at-changed, map_at}, WalkFacts.{Walk, arrived, nexted, walk, walk-comes}}
+use Rattle.machine_model.proofs.WorkFacts.{Goes, free-ended, goes-on}
 
 -- ---- what stands at a number
 
@@ -26,7 +33,8 @@ at-apart f m n ds other = by (at m ds)
     by (Some d) = get_or-set_other ds m n (Some (f d)) None (λ e. eqb-false m n other (sym e))
 
 -- what a change keeps of a device, it keeps of each
-pub at-kept : {A : Type 0} → (g : Option DeviceView → A) (f : DeviceView → DeviceView) (m n : ℕ) (ds : Devices) → ((d : DeviceView) → g (Some (f d)) ≡ g (Some d))
+pub at-kept : {A : Type 0} → (g : Option DeviceView → A) (f : DeviceView → DeviceView) (m n : ℕ) (ds : Devices)
+    → ((d : DeviceView) → g (Some (f d)) ≡ g (Some d))
     → g (at n (changed f m ds)) ≡ g (at n ds)
 unfolding map_at
 at-kept g f m n ds same = by (m == n) refl
@@ -51,12 +59,14 @@ unfoldable pub made_at : ℕ → Option DeviceView → DeviceView
 made_at capacity None = opened capacity
 made_at capacity (Some d) = d
 
-at-added-here : (capacity n : ℕ) (ds : Devices) (o : Option DeviceView) → at n ds ≡ o → n < length ds → at n (added_at n (opened capacity) o ds) ≡ Some (made_at capacity o)
+at-added-here : (capacity n : ℕ) (ds : Devices) (o : Option DeviceView) → at n ds ≡ o → n < length ds
+    → at n (added_at n (opened capacity) o ds) ≡ Some (made_at capacity o)
 unfolding made_at
 at-added-here capacity n ds (Some d) is below = is
 at-added-here capacity n ds None is below = get_or-set_at ds n n (Some (opened capacity)) None refl below
 
-at-added-apart : (capacity m n : ℕ) (ds : Devices) (o : Option DeviceView) → (m == n) ≡ false → at n (added_at m (opened capacity) o ds) ≡ at n ds
+at-added-apart : (capacity m n : ℕ) (ds : Devices) (o : Option DeviceView) → (m == n) ≡ false
+    → at n (added_at m (opened capacity) o ds) ≡ at n ds
 at-added-apart capacity m n ds (Some d) other = refl
 at-added-apart capacity m n ds None other = get_or-set_other ds m n (Some (opened capacity)) None (λ e. eqb-false m n other (sym e))
 
@@ -67,11 +77,13 @@ with-here capacity n ds =
     let count = n + 1 - length ds in
     let places : at n (with_place n ds) ≡ at n ds = at-places n count ds in
     let size : n < length (with_place n ds) = omega (arith, length-append ds (replicate count none), length-replicate count none) in
-    at-added-here capacity n (with_place n ds) (at n (with_place n ds)) refl size ∙ ap (λ (o : Option DeviceView). Some (made_at capacity o)) places
+    at-added-here capacity n (with_place n ds) (at n (with_place n ds)) refl size
+    ∙ ap (λ (o : Option DeviceView). Some (made_at capacity o)) places
 
 pub with-apart : (capacity m n : ℕ) (ds : Devices) → (m == n) ≡ false → at n (with_device capacity m ds) ≡ at n ds
 unfolding with_device
-with-apart capacity m n ds other = at-added-apart capacity m n (with_place m ds) (at m (with_place m ds)) other ∙ at-places n (m + 1 - length ds) ds
+with-apart capacity m n ds other =
+    at-added-apart capacity m n (with_place m ds) (at m (with_place m ds)) other ∙ at-places n (m + 1 - length ds) ds
 
 -- ---- rings
 
@@ -86,7 +98,8 @@ unfolding map_at polled device.taken
 polled-ring weight None = refl
 polled-ring weight (Some d) = refl
 
-given-ring : (f : DeviceView → DeviceView) (weight m n : ℕ) (ds : Devices) → ((o : Option DeviceView) → ring_in (map_at f o) ≡ ring_in (map_at (device.taken weight) o))
+given-ring : (f : DeviceView → DeviceView) (weight m n : ℕ) (ds : Devices)
+    → ((o : Option DeviceView) → ring_in (map_at f o) ≡ ring_in (map_at (device.taken weight) o))
     → given_from n (Some (m, batch_at weight (at m ds))) ++ ring_in (at n (changed f m ds)) ≡ ring_in (at n ds)
 given-ring f weight m n ds takes = by (m == n) refl
   where
@@ -114,11 +127,13 @@ ring-raises : (n : ℕ) (xs : List ℕ) (m : ℕ) (p : ProcessorView) → Rings 
 unfolding interrupts interrupted
 ring-raises n xs m p h = record { stands = at-kept ring_in (interrupted (is_polling p.settings)) m n p.devices (λ d. refl) ∙ h.ring }
 
-ring-asks : (n : ℕ) (xs : List ℕ) (m : ℕ) (p : ProcessorView) → Rings n xs (nexted p) → asked_in (next_of p.softirq).run ≡ Some m → Stands n xs (polls m (nexted p))
+ring-asks : (n : ℕ) (xs : List ℕ) (m : ℕ) (p : ProcessorView) → Rings n xs (nexted p) → asked_in (next_of p.softirq).run ≡ Some m
+    → Stands n xs (polls m (nexted p))
 unfolding polls
 ring-asks n xs m p h asked =
     let weight = p.settings.weight in
-    let whole : given_from n (polled_by (asked_in (next_of p.softirq).run) (batch_at weight (at m p.devices))) ++ ring_in (at n (changed (polled weight) m p.devices)) ≡ xs
+    let whole : given_from n (polled_by (asked_in (next_of p.softirq).run) (batch_at weight (at m p.devices)))
+    ++ ring_in (at n (changed (polled weight) m p.devices)) ≡ xs
     = rw asked (given-ring (polled weight) weight m n p.devices (polled-ring weight) ∙ h.ring) in
     record { stands = whole }
 
@@ -141,12 +156,14 @@ ring-walk n xs = record {
   slice = λ p h. record { ring = h.ring };
   begins = λ p h none polling. record { ring = h.ring };
   uses = λ came more p free h is. record { stands = h.ring };
-  stays = λ p free h still. record { stands = rw (idle-stands n xs p.work (polled_by (asked_in p.softirq.run) p.batch) free.nothing) h.ring };
+  stays =
+      λ p free h still. record { stands = rw (idle-stands n xs p.work (polled_by (asked_in p.softirq.run) p.batch) free.nothing) h.ring };
 }
 
 -- ---- what ends
 
-lone-ring : (n m : ℕ) (p : ProcessorView) → given_from n (Some (m, batch_at 1 (at m p.devices))) ++ ring_in (at n (ends_interrupt m p).devices) ≡ ring_in (at n p.devices)
+lone-ring : (n m : ℕ) (p : ProcessorView)
+    → given_from n (Some (m, batch_at 1 (at m p.devices))) ++ ring_in (at n (ends_interrupt m p).devices) ≡ ring_in (at n p.devices)
 unfolding ends_interrupt delivers ended_interrupt device.delivered
 lone-ring n m p =
     let one = changed (device.taken 1) m p.devices in
@@ -172,7 +189,8 @@ ring-by n (Interrupt m) p clock = by (is_polling p.settings)
     q : ProcessorView
     q = record p { clock = clock }
 
-    by : (b : Bool) → given_from n (if b then None else Some (m, batch_at 1 (at m p.devices))) ++ ring_in (at n (if b then q else ends_interrupt m q).devices) ≡ ring_in (at n p.devices)
+    by : (b : Bool) → given_from n (if b then None else Some (m, batch_at 1 (at m p.devices)))
+        ++ ring_in (at n (if b then q else ends_interrupt m q).devices) ≡ ring_in (at n p.devices)
     by true = refl
     by false = lone-ring n m q
 ring-by n Poll p clock = by (asked_in p.softirq.run)
@@ -180,12 +198,14 @@ ring-by n Poll p clock = by (asked_in p.softirq.run)
     q : ProcessorView
     q = record p { clock = clock }
 
-    by : (o : Option ℕ) → given_from n (polled_by o p.batch) ++ ring_in (at n (ends_polls o q).devices) ≡ given_from n (polled_by o p.batch) ++ ring_in (at n p.devices)
+    by : (o : Option ℕ) → given_from n (polled_by o p.batch) ++ ring_in (at n (ends_polls o q).devices)
+        ≡ given_from n (polled_by o p.batch) ++ ring_in (at n p.devices)
     by None = refl
     by (Some m) = ap (λ (xs : List ℕ). given_from n (Some (m, p.batch)) ++ xs) (poll-ring n m q)
 ring-by n (Use at) p clock = refl
 
-pub step-stands : (s : Settings) (n : ℕ) (p : ProcessorView) → Goes s p → given n p ++ (fate.taken n (step p) ++ ring_in (at n (step p).devices)) ≡ fate.taken n p ++ ring_in (at n p.devices)
+pub step-stands : (s : Settings) (n : ℕ) (p : ProcessorView) → Goes s p
+    → given n p ++ (fate.taken n (step p) ++ ring_in (at n (step p).devices)) ≡ fate.taken n p ++ ring_in (at n p.devices)
 unfolding step ends_current given
 step-stands s n p goes =
     let r : ProcessorView = record (ends_current p) { work = Nothing } in
@@ -198,7 +218,8 @@ unfoldable pub capacity_in : ℕ → Option DeviceView → ℕ
 capacity_in capacity None = capacity
 capacity_in capacity (Some d) = d.capacity
 
-packet-ring : (moment : ℕ) (d : DeviceView) → (after_packet moment d).ring ≡ d.ring ++ (if nat_lt (length d.ring) d.capacity then moment ∷ [] else [])
+packet-ring : (moment : ℕ) (d : DeviceView)
+    → (after_packet moment d).ring ≡ d.ring ++ (if nat_lt (length d.ring) d.capacity then moment ∷ [] else [])
 unfolding after_packet
 packet-ring moment d = by (nat_lt (length d.ring) d.capacity)
   where
@@ -206,11 +227,14 @@ packet-ring moment d = by (nat_lt (length d.ring) d.capacity)
     counted = record d { told = record d.told { arrived = held (d.told.arrived + 1) } }
 
     by : (b : Bool) → (if b then record counted { ring = d.ring ++ moment ∷ []; raises = d.raises || not d.masked }
-        else record counted { told = record counted.told { dropped = held (d.told.dropped + 1) } }).ring ≡ d.ring ++ (if b then moment ∷ [] else [])
+        else record counted {
+          told = record counted.told { dropped = held (d.told.dropped + 1) };
+        }).ring ≡ d.ring ++ (if b then moment ∷ [] else [])
     by true = refl
     by false = sym (append-nil d.ring)
 
-pub made-ring : (capacity : ℕ) (o : Option DeviceView) → capacity_in capacity o ≡ capacity → ((made_at capacity o).ring ≡ ring_in o) × ((made_at capacity o).capacity ≡ capacity)
+pub made-ring : (capacity : ℕ) (o : Option DeviceView) → capacity_in capacity o ≡ capacity
+    → ((made_at capacity o).ring ≡ ring_in o) × ((made_at capacity o).capacity ≡ capacity)
 unfolding made_at capacity_in
 made-ring capacity None is = (refl, refl)
 made-ring capacity (Some d) is = (refl, is)
@@ -230,11 +254,13 @@ comes-ring capacity moment m n ds holds = by (m == n) refl
         let stands : at n (with_device capacity m ds) ≡ Some d = rw number (with-here capacity n ds) in
         let now : at n (changed (after_packet moment) m (with_device capacity m ds)) ≡ Some (after_packet moment d)
         = at-here (after_packet moment) m n (with_device capacity m ds) here ∙ ap (map_at (after_packet moment)) stands in
-        let ring : (after_packet moment d).ring ≡ ring_in (at n ds) ++ (if nat_lt (length (ring_in (at n ds))) capacity then moment ∷ [] else [])
+        let ring : (after_packet moment d).ring
+        ≡ ring_in (at n ds) ++ (if nat_lt (length (ring_in (at n ds))) capacity then moment ∷ [] else [])
         = rw (made.0, made.1) at (packet-ring moment d) in
         ap ring_in now ∙ ring
     by false apart =
-        ap ring_in (at-apart (after_packet moment) m n (with_device capacity m ds) apart ∙ with-apart capacity m n ds apart) ∙ sym (append-nil (ring_in (at n ds)))
+        ap ring_in (at-apart (after_packet moment) m n (with_device capacity m ds) apart ∙ with-apart capacity m n ds apart)
+        ∙ sym (append-nil (ring_in (at n ds)))
 
 -- ---- what no work changes
 
@@ -246,15 +272,19 @@ pub record Blind {A : Type 0} (g : Option DeviceView → A) : Type 0 where
 pub record Seen {A : Type 0} (g : Option DeviceView → A) (n : ℕ) (x : A) (p : ProcessorView) : Type 0 where
   pub seen : g (at n p.devices) ≡ x
 
-seen-raises : {A : Type 0} (g : Option DeviceView → A) → Blind g → (n : ℕ) (x : A) (m : ℕ) (p : ProcessorView) → Seen g n x p → Seen g n x (interrupts m p)
+seen-raises : {A : Type 0} (g : Option DeviceView → A) → Blind g → (n : ℕ) (x : A) (m : ℕ) (p : ProcessorView) → Seen g n x p
+    → Seen g n x (interrupts m p)
 unfolding interrupts
-seen-raises g b n x m p h = record { seen = at-kept g (interrupted (is_polling p.settings)) m n p.devices (b.interrupted (is_polling p.settings)) ∙ h.seen }
+seen-raises g b n x m p h =
+    record { seen = at-kept g (interrupted (is_polling p.settings)) m n p.devices (b.interrupted (is_polling p.settings)) ∙ h.seen }
 
-seen-asks : {A : Type 0} (g : Option DeviceView → A) → Blind g → (n : ℕ) (x : A) (m : ℕ) (p : ProcessorView) → Seen g n x p → Seen g n x (polls m p)
+seen-asks : {A : Type 0} (g : Option DeviceView → A) → Blind g → (n : ℕ) (x : A) (m : ℕ) (p : ProcessorView) → Seen g n x p
+    → Seen g n x (polls m p)
 unfolding polls
 seen-asks g b n x m p h = record { seen = at-kept g (polled p.settings.weight) m n p.devices (b.polled p.settings.weight) ∙ h.seen }
 
-seen-over : {A : Type 0} (g : Option DeviceView → A) (n : ℕ) (x : A) (late : Bool) (p : ProcessorView) → Seen g n x p → Seen g n x (ends_run late p)
+seen-over : {A : Type 0} (g : Option DeviceView → A) (n : ℕ) (x : A) (late : Bool) (p : ProcessorView) → Seen g n x p
+    → Seen g n x (ends_run late p)
 unfolding ends_run
 seen-over g n x late p h = record { seen = h.seen }
 
@@ -279,7 +309,8 @@ unfolding ended_poll
 ended-poll-capacity true d = refl
 ended-poll-capacity false d = refl
 
-ends-capacity : (capacity n : ℕ) (w : Work) (p : ProcessorView) → capacity_in capacity (at n (ends_by w p).devices) ≡ capacity_in capacity (at n p.devices)
+ends-capacity : (capacity n : ℕ) (w : Work) (p : ProcessorView)
+    → capacity_in capacity (at n (ends_by w p).devices) ≡ capacity_in capacity (at n p.devices)
 unfolding capacity_in ends_interrupt ends_poll delivers ended_interrupt device.delivered device.taken
 ends-capacity capacity n Nothing p = refl
 ends-capacity capacity n (Interrupt m) p = by (is_polling p.settings)
@@ -290,7 +321,8 @@ ends-capacity capacity n (Interrupt m) p = by (is_polling p.settings)
         let g = capacity_in capacity in
         let one = changed (device.taken 1) m p.devices in
         let step = device.delivered p.clock (batch_at 1 (at m p.devices)) in
-        at-kept g ended_interrupt m n (changed step m one) (λ d. refl) ∙ (at-kept g step m n one (λ d. refl) ∙ at-kept g (device.taken 1) m n p.devices (λ d. refl))
+        at-kept g ended_interrupt m n (changed step m one) (λ d. refl)
+        ∙ (at-kept g step m n one (λ d. refl) ∙ at-kept g (device.taken 1) m n p.devices (λ d. refl))
 ends-capacity capacity n Poll p = by (asked_in p.softirq.run)
   where
     by : (o : Option ℕ) → capacity_in capacity (at n (ends_polls o p).devices) ≡ capacity_in capacity (at n p.devices)
@@ -332,14 +364,18 @@ capacities s n (packet moment m ∷ earlier) =
     let p = behind s earlier in
     let goes = goes-on s earlier in
     let g = capacity_in s.ring in
-    let now : g (at n (arrived moment m p).devices) ≡ s.ring = rw goes.rests.settings (comes-capacity s.ring moment m n p.devices (capacities s n earlier)) in
-    (walk-comes (Seen g n s.ring) (Seen g n s.ring) (seen-walk g (capacity-blind s.ring) n s.ring) moment m p goes.asked (λ busy. record { seen = now }) (λ idle. record { seen = now })).seen
+    let now : g (at n (arrived moment m p).devices) ≡ s.ring =
+    rw goes.rests.settings (comes-capacity s.ring moment m n p.devices (capacities s n earlier)) in
+    (walk-comes (Seen g n s.ring) (Seen g n s.ring) (seen-walk g (capacity-blind s.ring) n s.ring) moment m p goes.asked
+    (λ busy. record { seen = now }) (λ idle. record { seen = now })).seen
 capacities s n (end ∷ earlier) =
     let p = behind s earlier in
     let goes = goes-on s earlier in
     let g = capacity_in s.ring in
-    let now : g (at n (ends_current p).devices) ≡ s.ring = ends-capacity s.ring n p.work (record p { clock = p.ends }) ∙ capacities s n earlier in
-    (walk (Seen g n s.ring) (Seen g n s.ring) (seen-walk g (capacity-blind s.ring) n s.ring) _ (free-ended s p goes) (record { seen = now })).seen
+    let now : g (at n (ends_current p).devices) ≡ s.ring =
+    ends-capacity s.ring n p.work (record p { clock = p.ends }) ∙ capacities s n earlier in
+    (walk (Seen g n s.ring) (Seen g n s.ring) (seen-walk g (capacity-blind s.ring) n s.ring) _ (free-ended s p goes)
+    (record { seen = now })).seen
 
 -- ---- over a life
 
@@ -355,10 +391,13 @@ pub comes-stands : (s : Settings) (moment m n : ℕ) (p : ProcessorView) → Goe
 comes-stands s moment m n p goes holds =
     let extra : List ℕ = if m == n && finds_room n p then moment ∷ [] else [] in
     let size : p.settings.ring ≡ s.ring = rw goes.rests.settings refl in
-    let ring : ring_in (at n (arrived moment m p).devices) ≡ ring_in (at n p.devices) ++ extra = comes-ring p.settings.ring moment m n p.devices (rw size holds) in
+    let ring : ring_in (at n (arrived moment m p).devices) ≡ ring_in (at n p.devices) ++ extra =
+    comes-ring p.settings.ring moment m n p.devices (rw size holds) in
     let whole : List ℕ = (fate.taken n p ++ ring_in (at n p.devices)) ++ extra in
     (walk-comes (Rings n whole) (Stands n whole) (ring-walk n whole) moment m p goes.asked
-    (λ busy. record { stands = ap (λ (xs : List ℕ). fate.taken n p ++ xs) ring ∙ sym (append_assoc (fate.taken n p) (ring_in (at n p.devices)) extra) })
+    (λ busy. record {
+      stands = ap (λ (xs : List ℕ). fate.taken n p ++ xs) ring ∙ sym (append_assoc (fate.taken n p) (ring_in (at n p.devices)) extra);
+    })
     (λ idle. record { ring = rw (idle-taken n p.work (polled_by (asked_in p.softirq.run) p.batch) idle) ring })).stands
 
 pub delivers-in-order : DeliversInOrder

@@ -1,15 +1,20 @@
 -- What is true of each processor stays so.
-use Rattle.std.{proofs.Common.{◌≡◌, ◌∙◌, ℕ, ◌+◌, ◌≤◌, Bool, true, false, Option, Some, None, List, [], ◌∷◌, ◌++◌, length, length-take, refl, sym, arith}, specs.Prelude.{◌||◌, if◌then◌else◌, min, nat_lt, not}}
+use Rattle.std.proofs.Common.{◌≡◌, ◌∙◌, ℕ, ◌+◌, ◌≤◌, Bool, true, false, Option, Some, None, List, [], ◌∷◌, ◌++◌, length, length-take, refl}
+use Rattle.std.{proofs.Common.{sym, arith}, specs.Prelude.{◌||◌, if◌then◌else◌, min, nat_lt, not}}
 use Rattle.machine_words.specs.declared.settings.Settings.{Settings}
 use Rattle.poll_runs.specs.declared.bench.{Next.TheVariants.{Gone, Repoll}, Once.Once}
-use Rattle.machine_model.specs.{Device.{DeviceView, after_packet, ended_poll, interrupted}, Waits.held, Devices.{Devices, batch_at, is_handed_at, masks}, Kept.{Kept, is_poll}, Softirq.{SoftirqView, asked_in, begun, ended, next_of, pushed, told}}
+use Rattle.machine_model.specs.{Device.{DeviceView, after_packet, ended_poll, interrupted}, Waits.held}
+use Rattle.machine_model.specs.{Devices.{Devices, batch_at, is_handed_at, masks}, Kept.{Kept, is_poll}}
+use Rattle.machine_model.specs.Softirq.{SoftirqView, asked_in, begun, ended, next_of, pushed, told}
 use Rattle.machine_model.specs.declared.processor.Work.{Work}
 use Rattle.machine_model.specs.declared.processor.Work.TheVariants.{Poll}
 use Rattle.device_rows.specs.Places.{at, changed}
-use Rattle.machine_model.proofs.{ListedFacts.{asked-told, listed-begun, listed-ended, listed-pushed, listed-told, next-keeps, weight-told}, PlacesFacts.{masks-ended, masks-interrupted, masks-same}}
+use Rattle.machine_model.proofs.ListedFacts.{asked-told, listed-begun, listed-ended, listed-pushed, listed-told, next-keeps, weight-told}
+use Rattle.machine_model.proofs.PlacesFacts.{masks-ended, masks-interrupted, masks-same}
 
 -- devices change, none is unmasked
-pub kept-devices : (s : Settings) (w : Work) (ds es : Devices) (q : SoftirqView) (b : List ℕ) → Kept s w ds q b → masks ds ≤ masks es → Kept s w es q b
+pub kept-devices : (s : Settings) (w : Work) (ds es : Devices) (q : SoftirqView) (b : List ℕ) → Kept s w ds q b → masks ds ≤ masks es
+    → Kept s w es q b
 kept-devices s w ds es q b k more = record { few = omega (arith, k.few, more); asked = k.asked; weight = k.weight; within = k.within }
 
 pub kept-changed : (s : Settings) (w : Work) (ds : Devices) (q : SoftirqView) (b : List ℕ) (f : DeviceView → DeviceView) (n : ℕ)
@@ -22,7 +27,8 @@ batch-few weight (Some d) = omega (arith, length-take (min weight (length d.ring
 
 -- packets are taken out of a ring, at most the weight
 pub kept-taken : (s : Settings) (w : Work) (ds : Devices) (q : SoftirqView) (b : List ℕ) (f : DeviceView → DeviceView) (n count : ℕ)
-    → Kept s w ds q b → ((d : DeviceView) → (f d).masked ≡ d.masked) → count ≤ s.weight → Kept s w (changed f n ds) q (batch_at count (at n ds))
+    → Kept s w ds q b → ((d : DeviceView) → (f d).masked ≡ d.masked) → count ≤ s.weight
+    → Kept s w (changed f n ds) q (batch_at count (at n ds))
 kept-taken s w ds q b f n count k same within = record {
   few = omega (arith, k.few, masks-same f n ds same);
   asked = k.asked;
@@ -31,7 +37,8 @@ kept-taken s w ds q b f n count k same within = record {
 }
 
 -- other work, of which none is asked
-pub kept-work : (s : Settings) (w v : Work) (ds : Devices) (q : SoftirqView) (b : List ℕ) → Kept s w ds q b → asked_in q.run ≡ None → Kept s v ds q b
+pub kept-work : (s : Settings) (w v : Work) (ds : Devices) (q : SoftirqView) (b : List ℕ) → Kept s w ds q b → asked_in q.run ≡ None
+    → Kept s v ds q b
 kept-work s w v ds q b k none = record { few = k.few; asked = λ not. none; weight = k.weight; within = k.within }
 
 -- another number is asked, or none
@@ -59,7 +66,8 @@ pub run-ended : (q : SoftirqView) → (ended q).run ≡ None
 unfolding ended
 run-ended q = refl
 
-pub kept-ended : (s : Settings) (w : Work) (ds : Devices) (q : SoftirqView) (b : List ℕ) → Kept s w ds q b → asked_in q.run ≡ None → Kept s w ds (ended q) b
+pub kept-ended : (s : Settings) (w : Work) (ds : Devices) (q : SoftirqView) (b : List ℕ) → Kept s w ds q b → asked_in q.run ≡ None
+    → Kept s w ds (ended q) b
 unfolding ended
 kept-ended s w ds q b k none = record {
   few = omega (arith, k.few, listed-ended q none);
@@ -69,20 +77,23 @@ kept-ended s w ds q b k none = record {
 }
 
 -- a number is pushed whose device was masked, and no other is
-pub kept-pushed : (s : Settings) (w v : Work) (ds es : Devices) (q : SoftirqView) (b : List ℕ) (polling : Bool) (n : ℕ) → Kept s w ds q b → asked_in q.run ≡ None
+pub kept-pushed : (s : Settings) (w v : Work) (ds es : Devices) (q : SoftirqView) (b : List ℕ) (polling : Bool) (n : ℕ) → Kept s w ds q b
+    → asked_in q.run ≡ None
     → es ≡ changed (interrupted polling) n ds → is_handed_at polling (at n ds) ≡ true → Kept s v es (pushed n q) b
 kept-pushed s w v ds es q b polling n k none is handed =
     let more : masks es ≡ masks ds + 1 = rw is (rw handed at (masks-interrupted polling n ds)) in
     record { few = omega (arith, k.few, more, listed-pushed n q); asked = λ not. none; weight = k.weight; within = k.within }
 
-pub kept-unpushed : (s : Settings) (w v : Work) (ds es : Devices) (q : SoftirqView) (b : List ℕ) (polling : Bool) (n : ℕ) → Kept s w ds q b → asked_in q.run ≡ None
+pub kept-unpushed : (s : Settings) (w v : Work) (ds es : Devices) (q : SoftirqView) (b : List ℕ) (polling : Bool) (n : ℕ) → Kept s w ds q b
+    → asked_in q.run ≡ None
     → es ≡ changed (interrupted polling) n ds → is_handed_at polling (at n ds) ≡ false → Kept s v es q b
 kept-unpushed s w v ds es q b polling n k none is handed =
     let more : masks es ≡ masks ds + 0 = rw is (rw handed at (masks-interrupted polling n ds)) in
     record { few = omega (arith, k.few, more); asked = λ not. none; weight = k.weight; within = k.within }
 
 -- a poll ends
-pub kept-told : (s : Settings) (w : Work) (ds : Devices) (q : SoftirqView) (b : List ℕ) (full : Bool) (work n : ℕ) → Kept s w ds q b → asked_in q.run ≡ Some n
+pub kept-told : (s : Settings) (w : Work) (ds : Devices) (q : SoftirqView) (b : List ℕ) (full : Bool) (work n : ℕ) → Kept s w ds q b
+    → asked_in q.run ≡ Some n
     → Kept s w (changed (ended_poll full) n ds) (told (record { work = work; next = if full then Repoll else Gone }) q) b
 kept-told s w ds q b full work n k asked =
     let once : Once = record { work = work; next = if full then Repoll else Gone } in
@@ -117,7 +128,8 @@ packet-masks moment d = by (nat_lt (length d.ring) d.capacity)
     by false = refl
 
 -- a packet comes
-pub kept-packet : (s : Settings) (w : Work) (ds opened es : Devices) (q : SoftirqView) (b : List ℕ) (moment n : ℕ) → Kept s w ds q b → masks ds ≤ masks opened
+pub kept-packet : (s : Settings) (w : Work) (ds opened es : Devices) (q : SoftirqView) (b : List ℕ) (moment n : ℕ) → Kept s w ds q b
+    → masks ds ≤ masks opened
     → es ≡ changed (after_packet moment) n opened → Kept s w es q b
 kept-packet s w ds opened es q b moment n k more is =
     let same : masks es ≡ masks opened = rw is (masks-same (after_packet moment) n opened (packet-masks moment)) in

@@ -1,15 +1,25 @@
 -- No wait is less than what its work takes.
-use Rattle.std.proofs.{Common.{◌≡◌, ◌∙◌, ℕ, zero, suc, ◌+◌, ◌-◌, ◌*◌, ◌<◌, ◌≤◌, ◌^◌, Bool, true, false, Option, Some, None, List, [], ◌∷◌, ◌++◌, length, length-append, map, take, drop, refl, sym, ap, subst, arith}, lemmas.{Bool.{eq-eqb, eqb-true, leb-false}, List.{take-append-drop}}}
-use Rattle.{circular_buffer.specs.Buffer.{Buffer}, std.specs.{Prelude.{◌==◌, ◌&&◌, ◌||◌, if◌then◌else◌, min, nat_lt, not}, List.{AllByRecursion}}, device_rows.specs.Places.{at, changed}, machine_words.specs.declared.settings.Settings.{Settings}}
-use Rattle.machine_model.specs.{Device.{DeviceView, after_packet, ended_interrupt, interrupted, polled}, Devices.{Devices, batch_at, raises_at, with_device}, Softirq.{RunView, asked_in}, Waits.held}
+use Rattle.std.proofs.Common.{◌≡◌, ◌∙◌, ℕ, zero, suc, ◌+◌, ◌-◌, ◌*◌, ◌<◌, ◌≤◌, ◌^◌, Bool, true, false, Option, Some, None, List, [], ◌∷◌}
+use Rattle.std.proofs.Common.{◌++◌, length, length-append, map, take, drop, refl, sym, ap, subst, arith}
+use Rattle.std.proofs.lemmas.{Bool.{eq-eqb, eqb-true, leb-false}, List.take-append-drop}
+use Rattle.circular_buffer.specs.Buffer.{Buffer}
+use Rattle.std.specs.{Prelude.{◌==◌, ◌&&◌, ◌||◌, if◌then◌else◌, min, nat_lt, not}, List.AllByRecursion}
+use Rattle.{device_rows.specs.Places.{at, changed}, machine_words.specs.declared.settings.Settings.Settings}
+use Rattle.machine_model.specs.Device.{DeviceView, after_packet, ended_interrupt, interrupted, polled}
+use Rattle.machine_model.specs.{Devices.{Devices, batch_at, raises_at, with_device}, Softirq.{RunView, asked_in}, Waits.held}
 use Rattle.machine_model.specs.Device as device
-use Rattle.machine_model.specs.Fates.{NoWaitIsLess, given, given_from, gives_by, kept_from, least_time, polled_by, ring_in, room_for, use_waits, using, waits}
+use Rattle.machine_model.specs.Fates.{NoWaitIsLess, given, given_from, gives_by, kept_from, least_time, polled_by, ring_in, room_for}
+use Rattle.machine_model.specs.Fates.{use_waits, using, waits}
 use Rattle.machine_model.specs.Laws.{Event, InTurn, behind, end, packet}
-use Rattle.machine_model.specs.Processor.{ProcessorView, comes, delivers, ends_by, ends_current, ends_interrupt, ends_polls, ends_run, interrupt_time, interrupts, is_busy, is_due, is_polling, poll_time, polls, step, uses_from}
+use Rattle.machine_model.specs.Processor.{ProcessorView, comes, delivers, ends_by, ends_current, ends_interrupt, ends_polls, ends_run}
+use Rattle.machine_model.specs.Processor.{interrupt_time, interrupts, is_busy, is_due, is_polling, poll_time, polls, step, uses_from}
 use Rattle.machine_model.specs.declared.processor.Work.{Work}
 use Rattle.machine_model.specs.declared.processor.Work.TheVariants.{Interrupt, Nothing, Poll, Use}
-use Rattle.machine_model.proofs.FateFacts.{at-apart, at-here, at-kept, capacities, capacity_in, comes-ring, made_at, poll-ring, with-apart, with-here}
-use Rattle.machine_model.proofs.{PlacesFacts.map_at, SocketFacts.ended-by, TimeFacts.{clock-ended, clocks-never-fall, due-parts, timed}, WalkFacts.{Free, Walk, arrived, implied, nexted, walk, walk-comes}, WorkFacts.{Goes, Rests, RunsIn, free-ended, goes-on, work-ended, work-walk}}
+use Rattle.machine_model.proofs.FateFacts.{at-apart, at-here, at-kept, capacities, capacity_in, comes-ring, made_at, poll-ring, with-apart}
+use Rattle.machine_model.proofs.FateFacts.{with-here}
+use Rattle.machine_model.proofs.{PlacesFacts.map_at, SocketFacts.ended-by, TimeFacts.{clock-ended, clocks-never-fall, due-parts, timed}}
+use Rattle.machine_model.proofs.WalkFacts.{Free, Walk, arrived, implied, nexted, walk, walk-comes}
+use Rattle.machine_model.proofs.WorkFacts.{Goes, Rests, RunsIn, free-ended, goes-on, work-ended, work-walk}
 
 -- ---- lists
 
@@ -63,7 +73,8 @@ grown c cost xs fits all = weaker (λ at. at ≤ c) (λ at. at ≤ held (c + cos
 
 -- ---- an interrupt
 
-raises-other : (polling : Bool) (m n : ℕ) (ds : Devices) → raises_at (at n (changed (interrupted polling) m ds)) ≡ true → (raises_at (at n ds) ≡ true)
+raises-other : (polling : Bool) (m n : ℕ) (ds : Devices) → raises_at (at n (changed (interrupted polling) m ds)) ≡ true
+    → (raises_at (at n ds) ≡ true)
 unfolding map_at interrupted
 raises-other polling m n ds raises = by (m == n) refl
   where
@@ -90,18 +101,21 @@ given-each P m n batch all = by (m == n)
     by true = all
     by false = tt
 
-lone-given : (s : Settings) (c m n : ℕ) (ds : Devices) → ((k : ℕ) → AllByRecursion (λ at. at ≤ c) (ring_in (at k ds))) → (b : Bool) → is_polling s ≡ b
+lone-given : (s : Settings) (c m n : ℕ) (ds : Devices) → ((k : ℕ) → AllByRecursion (λ at. at ≤ c) (ring_in (at k ds))) → (b : Bool)
+    → is_polling s ≡ b
     → AllByRecursion (Waited s 0 (held (c + interrupt_time s))) (given_from n (if b then None else Some (m, batch_at 1 (at m ds))))
 lone-given s c m n ds rings true polling = tt
 lone-given s c m n ds rings false lone =
     let time : least_time s ≡ interrupt_time s = rw lone (omega arith) in
     given-each (Waited s 0 (held (c + interrupt_time s))) m n (batch_at 1 (at m ds))
-    (weaker (λ at. at ≤ c) (Waited s 0 (held (c + interrupt_time s))) (batch_at 1 (at m ds)) (λ at below. omega (arith, below, time)) (batch-each (λ at. at ≤ c) 1 (at m ds) (rings m)))
+    (weaker (λ at. at ≤ c) (Waited s 0 (held (c + interrupt_time s))) (batch_at 1 (at m ds)) (λ at below. omega (arith, below, time))
+    (batch-each (λ at. at ≤ c) 1 (at m ds) (rings m)))
 
 same-number : (m n : ℕ) → Interrupt m ≡ Interrupt n → m ≡ n
 same-number m n is = cc is
 
-due-raises : (s : Settings) (c : ℕ) → c < 2 ^ 64 → (m : ℕ) (p : ProcessorView) → Calm s c p → raises_at (at m p.devices) ≡ true → Due s c (interrupts m p)
+due-raises : (s : Settings) (c : ℕ) → c < 2 ^ 64 → (m : ℕ) (p : ProcessorView) → Calm s c p → raises_at (at m p.devices) ≡ true
+    → Due s c (interrupts m p)
 unfolding interrupts given
 due-raises s c fits m p h raises =
     let polling = is_polling p.settings in
@@ -109,9 +123,12 @@ due-raises s c fits m p h raises =
     let ds = changed (interrupted polling) m p.devices in
     let ends : held (p.clock + time) ≡ held (c + time) = rw h.clock refl in
     let least : least_time p.settings ≡ least_time s = rw h.rests.settings refl in
-    let rings : (n : ℕ) → AllByRecursion (λ at. at ≤ c) (ring_in (at n ds)) = λ n. rw (ring-interrupted polling m n p.devices) (h.rings n) in
-    let whole : (n : ℕ) → AllByRecursion (Waited s 0 (held (p.clock + time))) (given_from n (if polling then None else Some (m, batch_at 1 (at m ds))))
-    = λ n. weaker (Waited p.settings 0 (held (c + time))) (Waited s 0 (held (p.clock + time))) (given_from n (if polling then None else Some (m, batch_at 1 (at m ds))))
+    let rings : (n : ℕ) → AllByRecursion (λ at. at ≤ c) (ring_in (at n ds)) =
+    λ n. rw (ring-interrupted polling m n p.devices) (h.rings n) in
+    let whole : (n : ℕ)
+    → AllByRecursion (Waited s 0 (held (p.clock + time))) (given_from n (if polling then None else Some (m, batch_at 1 (at m ds))))
+    = λ n. weaker (Waited p.settings 0 (held (c + time))) (Waited s 0 (held (p.clock + time)))
+    (given_from n (if polling then None else Some (m, batch_at 1 (at m ds))))
     (λ at done. omega (arith, done, least, ends)) (lone-given p.settings c m n ds rings polling refl) in
     record {
       clock = h.clock;
@@ -125,7 +142,8 @@ due-raises s c fits m p h raises =
 
 -- ---- a poll
 
-batch-time : (s : Settings) (c : ℕ) (batch : List ℕ) → is_polling s ≡ true → AllByRecursion (λ at. at ≤ c) batch → AllByRecursion (Waited s 0 (held (c + poll_time s batch))) batch
+batch-time : (s : Settings) (c : ℕ) (batch : List ℕ) → is_polling s ≡ true → AllByRecursion (λ at. at ≤ c) batch
+    → AllByRecursion (Waited s 0 (held (c + poll_time s batch))) batch
 batch-time s c [] polling all = tt
 batch-time s c (x ∷ xs) polling all =
     let time : least_time s ≡ s.packet + s.poll = rw polling refl in
@@ -133,14 +151,16 @@ batch-time s c (x ∷ xs) polling all =
     let more : s.packet * length (x ∷ xs) ≡ s.packet + s.packet * length xs = omega arith in
     weaker (λ at. at ≤ c) (Waited s 0 (held (c + cost))) (x ∷ xs) (λ at below. omega (arith, below, time, more)) all
 
-polled-here : (P : ℕ → Type 0) (weight : ℕ) (o : Option DeviceView) → AllByRecursion P (ring_in o) → AllByRecursion P (ring_in (map_at (polled weight) o))
+polled-here : (P : ℕ → Type 0) (weight : ℕ) (o : Option DeviceView) → AllByRecursion P (ring_in o)
+    → AllByRecursion P (ring_in (map_at (polled weight) o))
 unfolding map_at polled device.taken
 polled-here P weight None all = tt
 polled-here P weight (Some d) all =
     let k = min weight (length d.ring) in
     (parts P (take k d.ring) (drop k d.ring) (subst (λ (ys : List ℕ). AllByRecursion P ys) (sym (take-append-drop k d.ring)) all)).1
 
-polled-each : (P : ℕ → Type 0) (weight m n : ℕ) (ds : Devices) → AllByRecursion P (ring_in (at n ds)) → AllByRecursion P (ring_in (at n (changed (polled weight) m ds)))
+polled-each : (P : ℕ → Type 0) (weight m n : ℕ) (ds : Devices) → AllByRecursion P (ring_in (at n ds))
+    → AllByRecursion P (ring_in (at n (changed (polled weight) m ds)))
 polled-each P weight m n ds all = by (m == n) refl
   where
     by : (b : Bool) → (m == n) ≡ b → AllByRecursion P (ring_in (at n (changed (polled weight) m ds)))
@@ -160,7 +180,8 @@ asked-polling s (Some r) m held asked =
     let below : r.work < s.budget = held.asked (rw asked refl) in
     positive-is s.budget (omega (arith, below))
 
-due-asks : (s : Settings) (c : ℕ) → c < 2 ^ 64 → (m : ℕ) (p : ProcessorView) → Calm s c p → asked_in p.softirq.run ≡ Some m → Due s c (polls m p)
+due-asks : (s : Settings) (c : ℕ) → c < 2 ^ 64 → (m : ℕ) (p : ProcessorView) → Calm s c p → asked_in p.softirq.run ≡ Some m
+    → Due s c (polls m p)
 unfolding polls given
 due-asks s c fits m p h asked =
     let weight = p.settings.weight in
@@ -168,11 +189,16 @@ due-asks s c fits m p h asked =
     let ds = changed (polled weight) m p.devices in
     let polling : is_polling s ≡ true = asked-polling s p.softirq.run m h.rests.run asked in
     let ends : held (p.clock + poll_time p.settings batch) ≡ held (c + poll_time s batch) = rw (h.clock, h.rests.settings) refl in
-    let whole : (n : ℕ) → AllByRecursion (Waited s 0 (held (p.clock + poll_time p.settings batch))) (given_from n (polled_by (asked_in p.softirq.run) batch))
-    = λ n. rw (asked, ends) (given-each (Waited s 0 (held (c + poll_time s batch))) m n batch (batch-time s c batch polling (batch-each (λ at. at ≤ c) weight (at m p.devices) (h.rings m)))) in
+    let whole : (n : ℕ)
+    → AllByRecursion (Waited s 0 (held (p.clock + poll_time p.settings batch))) (given_from n (polled_by (asked_in p.softirq.run) batch))
+    = λ n. rw (asked, ends)
+    (given-each (Waited s 0 (held (c + poll_time s batch))) m n batch
+    (batch-time s c batch polling (batch-each (λ at. at ≤ c) weight (at m p.devices) (h.rings m)))) in
     record {
       clock = h.clock;
-      rings = λ n. rw h.clock (grown c (poll_time p.settings batch) (ring_in (at n ds)) fits (polled-each (λ at. at ≤ c) weight m n p.devices (h.rings n)));
+      rings =
+          λ n. rw h.clock
+          (grown c (poll_time p.settings batch) (ring_in (at n ds)) fits (polled-each (λ at. at ≤ c) weight m n p.devices (h.rings n)));
       raises = λ n lone up. absurd (cc (polling, lone));
       lone = λ n lone is. cc is;
       given = whole;
@@ -186,7 +212,8 @@ calm-over : (s : Settings) (c : ℕ) (late : Bool) (p : ProcessorView) → Calm 
 unfolding ends_run
 calm-over s c late p h rests = record { rests = rests; clock = h.clock; rings = h.rings; raises = h.raises; socket = h.socket }
 
-due-uses : (s : Settings) (c : ℕ) → c < 2 ^ 64 → (came : ℕ) (more : List ℕ) (p : ProcessorView) → Calm s c p → p.socket.items ≡ came ∷ more → Due s c (uses_from (came ∷ more) p)
+due-uses : (s : Settings) (c : ℕ) → c < 2 ^ 64 → (came : ℕ) (more : List ℕ) (p : ProcessorView) → Calm s c p → p.socket.items ≡ came ∷ more
+    → Due s c (uses_from (came ∷ more) p)
 unfolding given
 due-uses s c fits came more p h is =
     let items = rw is at h.socket in
@@ -202,7 +229,8 @@ due-uses s c fits came more p h is =
       using = (done, tt);
     }
 
-idle-gives : (n : ℕ) (w : Work) (p : ProcessorView) → w ≡ Nothing → (given_from n (gives_by w p) ≡ []) × (using w ≡ []) × (is_busy w ≡ false)
+idle-gives : (n : ℕ) (w : Work) (p : ProcessorView) → w ≡ Nothing
+    → (given_from n (gives_by w p) ≡ []) × (using w ≡ []) × (is_busy w ≡ false)
 idle-gives n Nothing p nothing = (refl, refl, refl)
 idle-gives n (Interrupt m) p nothing = cc nothing
 idle-gives n Poll p nothing = cc nothing
@@ -231,14 +259,21 @@ due-walk s c fits =
       asks = λ m p h asked. due-asks s c fits m (nexted p) h asked;
       over = λ late p free h. calm-over s c late p h (w.over late p free h.rests);
       slice = λ p h. record { rests = w.slice p h.rests; clock = h.clock; rings = h.rings; raises = h.raises; socket = h.socket };
-      begins = λ p h none polling. record { rests = w.begins p h.rests none polling; clock = h.clock; rings = h.rings; raises = h.raises; socket = h.socket };
+      begins = λ p h none polling. record {
+        rests = w.begins p h.rests none polling;
+        clock = h.clock;
+        rings = h.rings;
+        raises = h.raises;
+        socket = h.socket;
+      };
       uses = λ came more p free h is. due-uses s c fits came more p h is;
       stays = λ p free h still. due-stays s c p free h;
     }
 
 -- ---- what ends
 
-taken-ring : (m n : ℕ) (ds : Devices) → (P : ℕ → Type 0) → AllByRecursion P (ring_in (at n ds)) → AllByRecursion P (ring_in (at n (changed (device.taken 1) m ds)))
+taken-ring : (m n : ℕ) (ds : Devices) → (P : ℕ → Type 0) → AllByRecursion P (ring_in (at n ds))
+    → AllByRecursion P (ring_in (at n (changed (device.taken 1) m ds)))
 unfolding map_at device.taken
 taken-ring m n ds P all = by (m == n) refl
   where
@@ -252,7 +287,8 @@ taken-ring m n ds P all = by (m == n) refl
     by true here = rw (at-here (device.taken 1) m n ds here) (here-ring (at n ds) all)
     by false apart = rw (at-apart (device.taken 1) m n ds apart) all
 
-ends-rings : (P : ℕ → Type 0) (n : ℕ) (w : Work) (p : ProcessorView) → AllByRecursion P (ring_in (at n p.devices)) → AllByRecursion P (ring_in (at n (ends_by w p).devices))
+ends-rings : (P : ℕ → Type 0) (n : ℕ) (w : Work) (p : ProcessorView) → AllByRecursion P (ring_in (at n p.devices))
+    → AllByRecursion P (ring_in (at n (ends_by w p).devices))
 unfolding ends_interrupt delivers ended_interrupt device.delivered
 ends-rings P n Nothing p all = all
 ends-rings P n (Interrupt m) p all = by (is_polling p.settings)
@@ -286,7 +322,8 @@ unfolding map_at ended_interrupt
 raised-has None = λ raises. cc raises
 raised-has (Some d) = λ raises. positive (length d.ring) raises
 
-ends-raises : (s : Settings) (n : ℕ) (w : Work) (p : ProcessorView) → is_polling s ≡ false → p.settings ≡ s → RunsIn s p.softirq.run → HasIfRaises (at n p.devices)
+ends-raises : (s : Settings) (n : ℕ) (w : Work) (p : ProcessorView) → is_polling s ≡ false → p.settings ≡ s → RunsIn s p.softirq.run
+    → HasIfRaises (at n p.devices)
     → HasIfRaises (at n (ends_by w p).devices)
 unfolding ends_interrupt delivers
 ends-raises s n Nothing p lone same run has = has
@@ -300,7 +337,8 @@ ends-raises s n (Interrupt m) p lone same run has = by (is_polling p.settings)
         let two = changed step m one in
         split (m == n) refl one two (λ apart. at-apart step m n one apart ∙ at-apart (device.taken 1) m n p.devices apart)
       where
-        split : (b : Bool) → (m == n) ≡ b → (one two : Devices) → ((m == n) ≡ false → at n two ≡ at n p.devices) → HasIfRaises (at n (changed ended_interrupt m two))
+        split : (b : Bool) → (m == n) ≡ b → (one two : Devices) → ((m == n) ≡ false → at n two ≡ at n p.devices)
+            → HasIfRaises (at n (changed ended_interrupt m two))
         split true here one two same = rw (at-here ended_interrupt m n two here) (raised-has (at n two))
         split false apart one two same = rw (at-apart ended_interrupt m n two apart, same apart) has
 ends-raises s n Poll p lone same run has = by (asked_in p.softirq.run) refl
@@ -310,12 +348,14 @@ ends-raises s n Poll p lone same run has = by (asked_in p.softirq.run) refl
     by (Some m) asked = absurd (cc (lone, asked-polling s p.softirq.run m run asked))
 ends-raises s n (Use came) p lone same run has = has
 
-kept-each : (P : ℕ → Type 0) (socket : Buffer ℕ) (g : Option (ℕ × List ℕ)) → ((n : ℕ) → AllByRecursion P (given_from n g)) → AllByRecursion P (kept_from socket g)
+kept-each : (P : ℕ → Type 0) (socket : Buffer ℕ) (g : Option (ℕ × List ℕ)) → ((n : ℕ) → AllByRecursion P (given_from n g))
+    → AllByRecursion P (kept_from socket g)
 kept-each P socket None all = tt
 kept-each P socket (Some (m, batch)) all =
     first-of P (room_for batch socket) batch (rw (eq-eqb m m refl) at (all m))
 
-calm-ended : (s : Settings) (p : ProcessorView) → Goes s p → Due s p.clock p → is_busy p.work ≡ true → p.clock ≤ p.ends → Calm s p.ends (record (ends_current p) { work = Nothing })
+calm-ended : (s : Settings) (p : ProcessorView) → Goes s p → Due s p.clock p → is_busy p.work ≡ true → p.clock ≤ p.ends
+    → Calm s p.ends (record (ends_current p) { work = Nothing })
 unfolding ends_current given
 calm-ended s p goes h busy later =
     let q : ProcessorView = record p { clock = p.ends } in
@@ -323,7 +363,8 @@ calm-ended s p goes h busy later =
     let gives : (n : ℕ) → AllByRecursion (Waited s 0 p.ends) (given_from n (gives_by p.work p)) = h.given in
     let items : AllByRecursion (Waited s 0 p.ends) (p.socket.items ++ kept_from p.socket (gives_by p.work p))
     = both (Waited s 0 p.ends) p.socket.items (kept_from p.socket (gives_by p.work p))
-    (weaker (Waited s 0 p.clock) (Waited s 0 p.ends) p.socket.items (λ at done. omega (arith, done, later)) h.socket) (kept-each (Waited s 0 p.ends) p.socket (gives_by p.work p) gives) in
+    (weaker (Waited s 0 p.clock) (Waited s 0 p.ends) p.socket.items (λ at done. omega (arith, done, later)) h.socket)
+    (kept-each (Waited s 0 p.ends) p.socket (gives_by p.work p) gives) in
     record {
       rests = work-ended s p goes.rests;
       clock = clock-ended p;
@@ -354,7 +395,8 @@ grown-ring s moment m n p same holds =
       all = extra-is (m == n && nat_lt (length (ring_in (at n p.devices))) p.settings.ring) moment;
     }
 
-grown-each : (P : ℕ → Type 0) (moment : ℕ) (old new : List ℕ) → Grown moment old new → P moment → AllByRecursion P old → AllByRecursion P new
+grown-each : (P : ℕ → Type 0) (moment : ℕ) (old new : List ℕ) → Grown moment old new → P moment → AllByRecursion P old
+    → AllByRecursion P new
 grown-each P moment old new g now all = rw g.is (both P old g.extra all (weaker (λ at. at ≡ moment) P g.extra (λ at is. rw is now) g.all))
 
 packet-raises : (moment : ℕ) (d : DeviceView) → HasIfRaises (Some d) → HasIfRaises (Some (after_packet moment d))
@@ -381,13 +423,15 @@ arrived-raises moment m n p has = by (m == n) refl
     by : (b : Bool) → (m == n) ≡ b → HasIfRaises (at n (arrived moment m p).devices)
     by true here =
         let capacity = p.settings.ring in
-        let stands : at n (with_device capacity m p.devices) ≡ Some (made_at capacity (at n p.devices)) = rw (eqb-true m n here) (with-here capacity n p.devices) in
+        let stands : at n (with_device capacity m p.devices) ≡ Some (made_at capacity (at n p.devices)) =
+        rw (eqb-true m n here) (with-here capacity n p.devices) in
         let now : at n (arrived moment m p).devices ≡ Some (after_packet moment (made_at capacity (at n p.devices)))
         = at-here (after_packet moment) m n (with_device capacity m p.devices) here ∙ ap (map_at (after_packet moment)) stands in
         subst HasIfRaises (sym now) (packet-raises moment _ (made-raises capacity (at n p.devices) has))
     by false apart =
         let same : at n (arrived moment m p).devices ≡ at n p.devices
-        = at-apart (after_packet moment) m n (with_device p.settings.ring m p.devices) apart ∙ with-apart p.settings.ring m n p.devices apart in
+        = at-apart (after_packet moment) m n (with_device p.settings.ring m p.devices) apart
+        ∙ with-apart p.settings.ring m n p.devices apart in
         subst HasIfRaises (sym same) has
 
 batch-is : (o : Option DeviceView) → batch_at 1 o ≡ take (min 1 (length (ring_in o))) (ring_in o)
@@ -402,12 +446,15 @@ same-first (x ∷ old) extra some =
     rw (one, other) refl
 
 -- what is given at the end stays: an interrupt's oldest packet is there already
-given-stays : (s : Settings) (moment m n : ℕ) (p : ProcessorView) → p.settings ≡ s → ((k : ℕ) → Grown moment (ring_in (at k p.devices)) (ring_in (at k (arrived moment m p).devices)))
-    → (w : Work) → ((k : ℕ) → is_polling s ≡ false → w ≡ Interrupt k → 0 < length (ring_in (at k p.devices))) → given_from n (gives_by w (arrived moment m p)) ≡ given_from n (gives_by w p)
+given-stays : (s : Settings) (moment m n : ℕ) (p : ProcessorView) → p.settings ≡ s
+    → ((k : ℕ) → Grown moment (ring_in (at k p.devices)) (ring_in (at k (arrived moment m p).devices)))
+    → (w : Work) → ((k : ℕ) → is_polling s ≡ false → w ≡ Interrupt k → 0 < length (ring_in (at k p.devices)))
+    → given_from n (gives_by w (arrived moment m p)) ≡ given_from n (gives_by w p)
 given-stays s moment m n p same grows Nothing lone = refl
 given-stays s moment m n p same grows (Interrupt k) lone = by (is_polling p.settings) refl
   where
-    by : (b : Bool) → is_polling p.settings ≡ b → given_from n (if b then None else Some (k, batch_at 1 (at k (arrived moment m p).devices)))
+    by : (b : Bool) → is_polling p.settings ≡ b
+        → given_from n (if b then None else Some (k, batch_at 1 (at k (arrived moment m p).devices)))
         ≡ given_from n (if b then None else Some (k, batch_at 1 (at k p.devices)))
     by true polling = refl
     by false alone =
@@ -420,15 +467,20 @@ given-stays s moment m n p same grows (Interrupt k) lone = by (is_polling p.sett
 given-stays s moment m n p same grows Poll lone = refl
 given-stays s moment m n p same grows (Use came) lone = refl
 
-stays-given : (s : Settings) (moment m n : ℕ) (p : ProcessorView) → p.settings ≡ s → ((k : ℕ) → Grown moment (ring_in (at k p.devices)) (ring_in (at k (arrived moment m p).devices)))
-    → ((k : ℕ) → is_polling s ≡ false → p.work ≡ Interrupt k → 0 < length (ring_in (at k p.devices))) → given n (arrived moment m p) ≡ given n p
+stays-given : (s : Settings) (moment m n : ℕ) (p : ProcessorView) → p.settings ≡ s
+    → ((k : ℕ) → Grown moment (ring_in (at k p.devices)) (ring_in (at k (arrived moment m p).devices)))
+    → ((k : ℕ) → is_polling s ≡ false → p.work ≡ Interrupt k → 0 < length (ring_in (at k p.devices)))
+    → given n (arrived moment m p) ≡ given n p
 unfolding given
 stays-given s moment m n p same grows lone = given-stays s moment m n p same grows p.work lone
 
-due-comes : (s : Settings) (moment m : ℕ) (p : ProcessorView) → Goes s p → ((n : ℕ) → capacity_in s.ring (at n p.devices) ≡ s.ring) → moment < 2 ^ 64
+due-comes : (s : Settings) (moment m : ℕ) (p : ProcessorView) → Goes s p → ((n : ℕ) → capacity_in s.ring (at n p.devices) ≡ s.ring)
+    → moment < 2 ^ 64
     → is_due moment p ≡ false → p.clock ≤ moment → Due s p.clock p → Due s (comes moment m p).clock (comes moment m p)
 due-comes s moment m p goes holds fits none later h =
-    walk-comes (Calm s moment) (λ q. Due s q.clock q) (implied (Calm s moment) (Due s moment) (λ q. Due s q.clock q) (due-walk s moment fits) (λ q d. subst (λ (c : ℕ). Due s c q) (sym d.clock) d))
+    walk-comes (Calm s moment) (λ q. Due s q.clock q)
+    (implied (Calm s moment) (Due s moment) (λ q. Due s q.clock q) (due-walk s moment fits)
+    (λ q d. subst (λ (c : ℕ). Due s c q) (sym d.clock) d))
     moment m p goes.asked (λ busy. due-busy busy) (λ idle. calm-idle idle)
   where
     grows : (n : ℕ) → Grown moment (ring_in (at n p.devices)) (ring_in (at n (arrived moment m p).devices))
@@ -441,7 +493,8 @@ due-comes s moment m p goes holds fits none later h =
           clock = refl;
           rings = λ n. rw busy (grown-each (λ at. at ≤ p.ends) moment _ _ (grows n) (omega (arith, before)) (rw busy at (h.rings n)));
           raises = λ n lone. arrived-raises moment m n p (h.raises n lone);
-          lone = λ n lone is. (let g = grows n in omega (arith, ap (λ (xs : List ℕ). length xs) g.is, length-append (ring_in (at n p.devices)) g.extra, h.lone n lone is));
+          lone = λ n lone is. (let g = grows n in
+              omega (arith, ap (λ (xs : List ℕ). length xs) g.is, length-append (ring_in (at n p.devices)) g.extra, h.lone n lone is));
           given = λ n. given-now n;
           socket = h.socket;
           using = h.using;
@@ -458,25 +511,39 @@ due-comes s moment m p goes holds fits none later h =
       rests = record { settings = goes.rests.settings; batch = goes.rests.batch; run = goes.rests.run };
       clock = refl;
       rings = λ n. grown-each (λ at. at ≤ moment) moment _ _ (grows n) (omega arith)
-          (weaker (λ at. at ≤ p.clock) (λ at. at ≤ moment) (ring_in (at n p.devices)) (λ at below. omega (arith, below, later)) (rw idle at (h.rings n)));
+          (weaker (λ at. at ≤ p.clock) (λ at. at ≤ moment) (ring_in (at n p.devices)) (λ at below. omega (arith, below, later))
+          (rw idle at (h.rings n)));
       raises = λ n lone. arrived-raises moment m n p (h.raises n lone);
       socket = weaker (Waited s 0 p.clock) (Waited s 0 moment) p.socket.items (λ at done. omega (arith, done, later)) h.socket;
     }
 
 -- ---- over a life
 
-due-step : (s : Settings) (p : ProcessorView) → Goes s p → Due s p.clock p → is_busy p.work ≡ true → p.clock ≤ p.ends → p.ends < 2 ^ 64 → Due s p.ends (step p)
+due-step : (s : Settings) (p : ProcessorView) → Goes s p → Due s p.clock p → is_busy p.work ≡ true → p.clock ≤ p.ends → p.ends < 2 ^ 64
+    → Due s p.ends (step p)
 unfolding step
-due-step s p goes h busy later fits = walk (Calm s p.ends) (Due s p.ends) (due-walk s p.ends fits) _ (free-ended s p goes) (calm-ended s p goes h busy later)
+due-step s p goes h busy later fits =
+    walk (Calm s p.ends) (Due s p.ends) (due-walk s p.ends fits) _ (free-ended s p goes) (calm-ended s p goes h busy later)
 
-due-behind : (s : Settings) (until : ℕ) (events : List Event) → until < 2 ^ 64 → InTurn s until events → Due s (behind s events).clock (behind s events)
+due-behind : (s : Settings) (until : ℕ) (events : List Event) → until < 2 ^ 64 → InTurn s until events
+    → Due s (behind s events).clock (behind s events)
 unfolding behind InTurn given
-due-behind s until [] fits turns = record { clock = refl; rings = λ n. tt; raises = λ n lone raises. cc raises; lone = λ n lone is. cc is; given = λ n. tt; socket = tt; using = tt }
+due-behind s until [] fits turns =
+    record {
+      clock = refl;
+      rings = λ n. tt;
+      raises = λ n lone raises. cc raises;
+      lone = λ n lone is. cc is;
+      given = λ n. tt;
+      socket = tt;
+      using = tt;
+    }
 due-behind s until (packet moment m ∷ earlier) fits turns =
     let p = behind s earlier in
     let small : moment < 2 ^ 64 = omega (arith, fits, turns.0) in
     let u = timed s moment earlier small turns.2 in
-    due-comes s moment m p (goes-on s earlier) (λ n. capacities s n earlier) small turns.1 u.clock (due-behind s moment earlier small turns.2)
+    due-comes s moment m p (goes-on s earlier) (λ n. capacities s n earlier) small turns.1 u.clock
+    (due-behind s moment earlier small turns.2)
 due-behind s until (end ∷ earlier) fits turns =
     let p = behind s earlier in
     let due = due-parts p.work p.ends until turns.0 in
@@ -503,7 +570,9 @@ no-wait-is-less s until (end ∷ earlier) fits turns clock =
     let small : p.ends < 2 ^ 64 - 1 = omega (arith, d.clock, clock) in
     let before = no-wait-is-less s until earlier fits turns.1 (omega (arith, risen.0, clock)) in (
       λ n. both (λ wait. least_time s ≤ wait) (waits n s earlier) _ (before.0 n)
-          (mapped (Waited s 0 p.ends) (λ wait. least_time s ≤ wait) (λ at. p.ends - at) (given n p) (λ at done. omega (arith, wait-least s 0 p.ends small at done)) (h.given n)),
+          (mapped (Waited s 0 p.ends) (λ wait. least_time s ≤ wait) (λ at. p.ends - at) (given n p)
+          (λ at done. omega (arith, wait-least s 0 p.ends small at done)) (h.given n)),
       both (λ wait. least_time s + s.use_time ≤ wait) (use_waits s earlier) _ before.1
-          (mapped (Waited s s.use_time p.ends) (λ wait. least_time s + s.use_time ≤ wait) (λ at. p.ends - at) (using p.work) (λ at done. wait-least s s.use_time p.ends small at done) h.using),
+          (mapped (Waited s s.use_time p.ends) (λ wait. least_time s + s.use_time ≤ wait) (λ at. p.ends - at) (using p.work)
+          (λ at done. wait-least s s.use_time p.ends small at done) h.using),
     )

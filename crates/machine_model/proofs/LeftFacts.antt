@@ -1,12 +1,21 @@
 -- How much is left to be done on a processor: each piece of work leaves less.
-use Rattle.std.proofs.{Common.{◌≡◌, ◌∙◌, ℕ, ◌+◌, ◌-◌, ◌*◌, ◌<◌, ◌≤◌, Bool, true, false, Option, Some, None, List, [], ◌∷◌, ◌++◌, length, length-append, length-drop, length-take, take, drop, refl, ap, arith}, lemmas.{Bool.{eqb-true, eqb-false}, List.Quantifiers.position-Some}}
-use Rattle.{std.specs.Prelude.{◌==◌, ◌&&◌, if◌then◌else◌, is_some, min, nat_le, nat_lt, not, position, sum_by}, device_rows.{specs.Places.{at, changed}, proofs.PlaceFacts.none-of}, poll_runs.specs.{Turn.asked_for, declared.bench.{Next.TheVariants.{Gone, Repoll}, Once.Once}}}
-use Rattle.machine_model.specs.{Device.{DeviceView, batch_of, delivered, ended_interrupt, ended_poll, interrupted, polled, taken}, Devices.{Devices, batch_at, is_handed_at, raises_at}, Kept.IsKept}
-use Rattle.machine_model.specs.Processor.{ProcessorView, begins, delivers, ends_by, ends_current, ends_interrupt, ends_poll, ends_polls, ends_run, goes_on, interrupts, is_busy, is_polling, polls, polls_or, rests, step, takes_up, takes_up_by, uses, uses_from}
+use Rattle.std.proofs.Common.{◌≡◌, ◌∙◌, ℕ, ◌+◌, ◌-◌, ◌*◌, ◌<◌, ◌≤◌, Bool, true, false, Option, Some, None, List, [], ◌∷◌, ◌++◌, length}
+use Rattle.std.proofs.Common.{length-append, length-drop, length-take, take, drop, refl, ap, arith}
+use Rattle.std.proofs.lemmas.{Bool.{eqb-true, eqb-false}, List.Quantifiers.position-Some}
+use Rattle.std.specs.Prelude.{◌==◌, ◌&&◌, if◌then◌else◌, is_some, min, nat_le, nat_lt, not, position, sum_by}
+use Rattle.device_rows.{specs.Places.{at, changed}, proofs.PlaceFacts.none-of}
+use Rattle.poll_runs.specs.{Turn.asked_for, declared.bench.{Next.TheVariants.{Gone, Repoll}, Once.Once}}
+use Rattle.machine_model.specs.Device.{DeviceView, batch_of, delivered, ended_interrupt, ended_poll, interrupted, polled, taken}
+use Rattle.machine_model.specs.{Devices.{Devices, batch_at, is_handed_at, raises_at}, Kept.IsKept}
+use Rattle.machine_model.specs.Processor.{ProcessorView, begins, delivers, ends_by, ends_current, ends_interrupt, ends_poll, ends_polls}
+use Rattle.machine_model.specs.Processor.{ends_run, goes_on, interrupts, is_busy, is_polling, polls, polls_or, rests, step, takes_up}
+use Rattle.machine_model.specs.Processor.{takes_up_by, uses, uses_from}
 use Rattle.machine_model.specs.Softirq.{RunView, SoftirqView, asked_in, begun, ended, held_in, listed, next_of, pushed, told}
 use Rattle.machine_model.specs.declared.processor.Work.{Work}
 use Rattle.machine_model.specs.declared.processor.Work.TheVariants.{Interrupt, Nothing, Poll, Use}
-use Rattle.machine_model.proofs.{EndFacts.asked-ends, KeptFacts.run-ended, ListedFacts.{asked-told, listed-begun, listed-ended, listed-pushed, listed-told, next-keeps}, PlacesFacts.{at-changed, map_at, sum-at, sum-changed}}
+use Rattle.machine_model.proofs.{EndFacts.asked-ends, KeptFacts.run-ended}
+use Rattle.machine_model.proofs.ListedFacts.{asked-told, listed-begun, listed-ended, listed-pushed, listed-told, next-keeps}
+use Rattle.machine_model.proofs.PlacesFacts.{at-changed, map_at, sum-at, sum-changed}
 
 -- ---- devices
 
@@ -26,12 +35,14 @@ flag-most : (b : Bool) → flag b ≤ 2
 flag-most true = omega arith
 flag-most false = omega arith
 
-pot-lone : (now : ℕ) (batch : List ℕ) (o : Option DeviceView) → pot_at (map_at ended_interrupt (map_at (delivered now batch) (map_at (taken 1) o))) + length (batch_at 1 o) ≤ pot_at o
+pot-lone : (now : ℕ) (batch : List ℕ) (o : Option DeviceView)
+    → pot_at (map_at ended_interrupt (map_at (delivered now batch) (map_at (taken 1) o))) + length (batch_at 1 o) ≤ pot_at o
 unfolding pot_at map_at ended_interrupt delivered taken
 pot-lone now batch None = omega arith
 pot-lone now batch (Some d) = by d.ring refl
   where
-    by : (ring : List ℕ) → d.ring ≡ ring → 3 * length (drop (min 1 (length d.ring)) d.ring) + flag (not (length (drop (min 1 (length d.ring)) d.ring) == 0))
+    by : (ring : List ℕ) → d.ring ≡ ring
+        → 3 * length (drop (min 1 (length d.ring)) d.ring) + flag (not (length (drop (min 1 (length d.ring)) d.ring) == 0))
         + length (take (min 1 (length d.ring)) d.ring) ≤ 3 * length d.ring + flag d.raises
     by [] is = rw is (omega arith)
     by (came ∷ more) is =
@@ -48,7 +59,8 @@ unfolding waits_at map_at polled taken
 drained weight None short = refl
 drained weight (Some d) short =
     let count = length-take (min weight (length d.ring)) d.ring in
-    let empty : length (drop (min weight (length d.ring)) d.ring) ≡ 0 = omega (arith, count, eqb-false (length (batch_of weight d)) weight short, length-drop (min weight (length d.ring)) d.ring) in
+    let empty : length (drop (min weight (length d.ring)) d.ring) ≡ 0 =
+    omega (arith, count, eqb-false (length (batch_of weight d)) weight short, length-drop (min weight (length d.ring)) d.ring) in
     rw empty refl
 
 pot-interrupted : (polling : Bool) (o : Option DeviceView) → raises_at o ≡ true → pot_at (map_at (interrupted polling) o) + 2 ≡ pot_at o
@@ -100,7 +112,8 @@ left p = base p + left_by p.work p
 
 -- ---- what ends
 
-delivered-most : (batch items : List ℕ) (capacity : ℕ) → length (items ++ take (min (length batch) (capacity - length items)) batch) ≤ length items + length batch
+delivered-most : (batch items : List ℕ) (capacity : ℕ)
+    → length (items ++ take (min (length batch) (capacity - length items)) batch) ≤ length items + length batch
 delivered-most batch items capacity =
     let room = min (length batch) (capacity - length items) in
     omega (arith, length-append items (take room batch), length-take room batch)
@@ -119,7 +132,8 @@ lone-less n p =
     let b = sum-at pot_at (delivered p.clock batch) n one first here in
     let c = sum-at pot_at ended_interrupt n two second there in
     let room = min (length batch) (p.socket.capacity - length p.socket.items) in
-    let whole : pots (changed ended_interrupt n two) + (length (p.socket.items ++ take room batch) + entries p.softirq) ≤ pots p.devices + (length p.socket.items + entries p.softirq)
+    let whole : pots (changed ended_interrupt n two) + (length (p.socket.items ++ take room batch) + entries p.softirq)
+    ≤ pots p.devices + (length p.socket.items + entries p.softirq)
     = omega (arith, a, b, c, pot-lone p.clock batch (at n p.devices), delivered-most batch p.socket.items p.socket.capacity) in
     whole
 
@@ -133,28 +147,37 @@ poll-less n p asked weight = by (length p.batch == p.settings.weight) refl
 
     more : (full : Bool) → (length p.batch == p.settings.weight) ≡ full
         → pots (changed (ended_poll full) n one) ≤ pots p.devices + (if full then 0 else waits_at (at n p.devices))
-        → entries (told (record { work = length p.batch; next = if full then Repoll else Gone }) p.softirq) + (if full then 0 else 1) ≡ entries p.softirq + 1
+        → entries (told (record { work = length p.batch; next = if full then Repoll else Gone }) p.softirq) + (if full then 0 else 1)
+        ≡ entries p.softirq + 1
         → pots (changed (ended_poll full) n one)
         + (length (p.socket.items ++ take (min (length p.batch) (p.socket.capacity - length p.socket.items)) p.batch)
         + entries (told (record { work = length p.batch; next = if full then Repoll else Gone }) p.softirq))
-        < (pots p.devices + (length p.socket.items + entries p.softirq)) + (1 + (2 * length p.batch + (if full then 0 else waits_at (at n p.devices))))
-    more true is d e = omega (arith, d, e, eqb-true (length p.batch) p.settings.weight is, weight, delivered-most p.batch p.socket.items p.socket.capacity)
+        < (pots p.devices + (length p.socket.items + entries p.softirq))
+        + (1 + (2 * length p.batch + (if full then 0 else waits_at (at n p.devices))))
+    more true is d e =
+        omega (arith, d, e, eqb-true (length p.batch) p.settings.weight is, weight, delivered-most p.batch p.socket.items p.socket.capacity)
     more false is d e = omega (arith, d, e, delivered-most p.batch p.socket.items p.socket.capacity)
 
     by : (full : Bool) → (length p.batch == p.settings.weight) ≡ full
         → pots (changed (ended_poll full) n one)
         + (length (p.socket.items ++ take (min (length p.batch) (p.socket.capacity - length p.socket.items)) p.batch)
         + entries (told (record { work = length p.batch; next = if full then Repoll else Gone }) p.softirq))
-        < (pots p.devices + (length p.socket.items + entries p.softirq)) + (1 + (2 * length p.batch + (if full then 0 else waits_at (at n p.devices))))
+        < (pots p.devices + (length p.socket.items + entries p.softirq))
+        + (1 + (2 * length p.batch + (if full then 0 else waits_at (at n p.devices))))
     by full is =
         let once : Once = record { work = length p.batch; next = if full then Repoll else Gone } in
         let a = sum-changed pot_at (delivered p.clock p.batch) n p.devices in
-        let b = sum-at pot_at (ended_poll full) n one (map_at (delivered p.clock p.batch) (at n p.devices)) (at-changed (delivered p.clock p.batch) n p.devices) in
-        let now : entries (told once p.softirq) + 0 ≡ listed (told once p.softirq) = rw (asked-told once p.softirq) at (entries-listed (told once p.softirq)) in
+        let b =
+        sum-at pot_at (ended_poll full) n one (map_at (delivered p.clock p.batch) (at n p.devices))
+        (at-changed (delivered p.clock p.batch) n p.devices) in
+        let now : entries (told once p.softirq) + 0 ≡ listed (told once p.softirq) =
+        rw (asked-told once p.softirq) at (entries-listed (told once p.softirq)) in
         let before : entries p.softirq + 1 ≡ listed p.softirq = rw asked at (entries-listed p.softirq) in
-        more full is (omega (arith, a, b, pot-ended full p.clock p.batch (at n p.devices))) (omega (arith, now, before, listed-told full (length p.batch) n p.softirq asked))
+        more full is (omega (arith, a, b, pot-ended full p.clock p.batch (at n p.devices)))
+        (omega (arith, now, before, listed-told full (length p.batch) n p.softirq asked))
 
-ends-polls : (o : Option ℕ) (p : ProcessorView) → asked_in p.softirq.run ≡ o → 1 ≤ p.settings.weight → base (ends_polls o p) < base p + (1 + (2 * length p.batch + anomaly o p))
+ends-polls : (o : Option ℕ) (p : ProcessorView) → asked_in p.softirq.run ≡ o → 1 ≤ p.settings.weight
+    → base (ends_polls o p) < base p + (1 + (2 * length p.batch + anomaly o p))
 ends-polls None p asked weight = omega arith
 ends-polls (Some n) p asked weight = poll-less n p asked weight
 
@@ -197,16 +220,25 @@ idle-left (Interrupt n) p nothing = cc nothing
 idle-left Poll p nothing = cc nothing
 idle-left (Use came) p nothing = cc nothing
 
-interrupts-less : (n : ℕ) (p : ProcessorView) → asked_in p.softirq.run ≡ None → raises_at (at n p.devices) ≡ true → left (interrupts n p) ≤ base p
+interrupts-less : (n : ℕ) (p : ProcessorView) → asked_in p.softirq.run ≡ None → raises_at (at n p.devices) ≡ true
+    → left (interrupts n p) ≤ base p
 unfolding left left_by base interrupts
 interrupts-less n p none raises =
     let polling = is_polling p.settings in
     let whole : (pots (changed (interrupted polling) n p.devices) + (length p.socket.items
-    + entries (if is_handed_at polling (at n p.devices) then pushed n p.softirq else p.softirq))) + 1 ≤ pots p.devices + (length p.socket.items + entries p.softirq)
-    = omega (arith, sum-changed pot_at (interrupted polling) n p.devices, pot-interrupted polling (at n p.devices) raises, pushed-entries (is_handed_at polling (at n p.devices)) n p.softirq none) in
+    + entries (if is_handed_at polling (at n p.devices) then pushed n p.softirq else p.softirq))) + 1
+    ≤ pots p.devices + (length p.socket.items + entries p.softirq)
+    = omega (
+      arith,
+      sum-changed pot_at (interrupted polling) n p.devices,
+      pot-interrupted polling (at n p.devices) raises,
+      pushed-entries
+          (is_handed_at polling (at n p.devices)) n p.softirq none,
+    ) in
     whole
 
-short : (b : Bool) (weight : ℕ) (o : Option DeviceView) → (length (batch_at weight o) == weight) ≡ b → (if b then 0 else waits_at (map_at (polled weight) o)) ≡ 0
+short : (b : Bool) (weight : ℕ) (o : Option DeviceView) → (length (batch_at weight o) == weight) ≡ b
+    → (if b then 0 else waits_at (map_at (polled weight) o)) ≡ 0
 short true weight o is = refl
 short false weight o is = drained weight o is
 
@@ -234,7 +266,8 @@ left-if true x y n first second = first
 left-if false x y n first second = second
 
 -- a poll that is asked next, or else other work
-asks-less : (o : Option ℕ) (other p : ProcessorView) (most : ℕ) → asked_in p.softirq.run ≡ o → base p + length (asked_for o) ≤ most → left other ≤ most
+asks-less : (o : Option ℕ) (other p : ProcessorView) (most : ℕ) → asked_in p.softirq.run ≡ o → base p + length (asked_for o) ≤ most
+    → left other ≤ most
     → left (polls_or other o p) ≤ most
 asks-less None other p most asked few rest = rest
 asks-less (Some n) other p most asked few rest = omega (arith, polls-less n p asked, few)
@@ -254,16 +287,20 @@ rests-less : (p : ProcessorView) → p.work ≡ Nothing → p.softirq.run ≡ No
 unfolding rests uses base
 rests-less p nothing none =
     let over : ProcessorView = record p { slice = 0 } in
-    left-if (nat_lt 0 p.slice && not (length p.socket.items == 0)) (uses p) (if is_polling p.settings && not (length p.softirq.list == 0) then begins over else uses over) (base p)
+    left-if (nat_lt 0 p.slice && not (length p.socket.items == 0)) (uses p)
+    (if is_polling p.settings && not (length p.softirq.list == 0) then begins over else uses over) (base p)
     (uses-less p.socket.items p refl nothing)
-    (left-if (is_polling p.settings && not (length p.softirq.list == 0)) (begins over) (uses over) (base p) (begins-less over nothing none) (uses-less p.socket.items over refl nothing))
+    (left-if (is_polling p.settings && not (length p.softirq.list == 0)) (begins over) (uses over) (base p) (begins-less over nothing none)
+    (uses-less p.socket.items over refl nothing))
 
 over-less : (late : Bool) (p : ProcessorView) → p.work ≡ Nothing → asked_in p.softirq.run ≡ None → left (rests (ends_run late p)) ≤ base p
 unfolding base ends_run
 over-less late p nothing none =
-    let same : entries (ended p.softirq) ≡ entries p.softirq = rests-entries p.softirq (ended p.softirq) none (rw (run-ended p.softirq) refl) (listed-ended p.softirq none) in
+    let same : entries (ended p.softirq) ≡ entries p.softirq =
+    rests-entries p.softirq (ended p.softirq) none (rw (run-ended p.softirq) refl) (listed-ended p.softirq none) in
     let less = rests-less (ends_run late p) nothing (run-ended p.softirq) in
-    let whole : pots p.devices + (length p.socket.items + entries (ended p.softirq)) ≡ pots p.devices + (length p.socket.items + entries p.softirq) = rw same refl in
+    let whole : pots p.devices + (length p.socket.items + entries (ended p.softirq))
+    ≡ pots p.devices + (length p.socket.items + entries p.softirq) = rw same refl in
     rw whole at less
 
 goes-less : (p : ProcessorView) → p.work ≡ Nothing → asked_in p.softirq.run ≡ None → left (goes_on p) ≤ base p
@@ -271,7 +308,8 @@ unfolding base goes_on
 goes-less p nothing none =
     let q : ProcessorView = record p { softirq = next_of p.softirq } in
     let more = next-entries p.softirq none in
-    left-if (nat_le p.settings.longest (p.clock - p.softirq.began)) (rests (ends_run true p)) (polls_or (rests (ends_run false q)) (asked_in q.softirq.run) q) (base p)
+    left-if (nat_le p.settings.longest (p.clock - p.softirq.began)) (rests (ends_run true p))
+    (polls_or (rests (ends_run false q)) (asked_in q.softirq.run) q) (base p)
     (over-less true p nothing none)
     (by (asked_in q.softirq.run) refl more)
   where
@@ -283,11 +321,13 @@ goes-less p nothing none =
     by None asked more = omega (arith, over-less false q nothing asked, more)
     by (Some n) asked more = omega (arith, polls-less n q asked, more)
 
-running-less : (b : Bool) (p : ProcessorView) → is_some p.softirq.run ≡ b → p.work ≡ Nothing → asked_in p.softirq.run ≡ None → left (if b then goes_on p else rests p) ≤ base p
+running-less : (b : Bool) (p : ProcessorView) → is_some p.softirq.run ≡ b → p.work ≡ Nothing → asked_in p.softirq.run ≡ None
+    → left (if b then goes_on p else rests p) ≤ base p
 running-less true p some nothing none = goes-less p nothing none
 running-less false p some nothing none = rests-less p nothing (none-of p.softirq.run some)
 
-takes-by : (o : Option ℕ) (p : ProcessorView) → position raises_at p.devices ≡ o → p.work ≡ Nothing → asked_in p.softirq.run ≡ None → left (takes_up_by o p) ≤ base p
+takes-by : (o : Option ℕ) (p : ProcessorView) → position raises_at p.devices ≡ o → p.work ≡ Nothing → asked_in p.softirq.run ≡ None
+    → left (takes_up_by o p) ≤ base p
 takes-by (Some n) p lowest nothing none = interrupts-less n p none (position-Some raises_at p.devices n None lowest).1
 takes-by None p lowest nothing none = running-less (is_some p.softirq.run) p refl nothing none
 

@@ -1,7 +1,13 @@
 -- Each processor of a machine lived.
-use Rattle.std.proofs.{Common.{◌≡◌, ◌∙◌, ℕ, zero, suc, ◌-◌, ◌/◌, ◌%◌, ◌<◌, ◌≤◌, ◌^◌, Bool, true, false, Some, List, [], ◌∷◌, length, length-set, replicate, refl, sym, ap, arith}, lemmas.{Bool.{and_parts, eq-eqb, eqb-false, eqb-true, le-leb, leb-true}, List.length-replicate, Option.slice_get_within}}
-use Rattle.{std.specs.Prelude.{◌==◌, nat_le, slice_get}, circular_buffer.proofs.Places.{slice_get-set_other, slice_get-set_same, slice_get-some}, machine_words.specs.declared.settings.Settings.{Settings}}
-use Rattle.machine_model.specs.{Laws.{EachLives, Event, InTurn, Lived, Took, behind, end, own, packet, packets_in}, Machine.{Arrives, Finishes, Machine, opened_machine}}
+use Rattle.std.proofs.Common.{◌≡◌, ◌∙◌, ℕ, zero, suc, ◌-◌, ◌/◌, ◌%◌, ◌<◌, ◌≤◌, ◌^◌, Bool, true, false, Some, List, [], ◌∷◌, length}
+use Rattle.std.proofs.Common.{length-set, replicate, refl, sym, ap, arith}
+use Rattle.std.proofs.lemmas.{Bool.{and_parts, eq-eqb, eqb-false, eqb-true, le-leb, leb-true}, List.length-replicate}
+use Rattle.std.proofs.lemmas.Option.{slice_get_within}
+use Rattle.std.specs.Prelude.{◌==◌, nat_le, slice_get}
+use Rattle.circular_buffer.proofs.Places.{slice_get-set_other, slice_get-set_same, slice_get-some}
+use Rattle.machine_words.specs.declared.settings.Settings.{Settings}
+use Rattle.machine_model.specs.Laws.{EachLives, Event, InTurn, Lived, Took, behind, end, own, packet, packets_in}
+use Rattle.machine_model.specs.Machine.{Arrives, Finishes, Machine, opened_machine}
 use Rattle.machine_model.specs.Processor.{ProcessorView, RunsTo, after, comes, is_busy, is_due, opened_processor, step}
 use Rattle.machine_model.proofs.MachineFacts.{same-some}
 
@@ -15,26 +21,35 @@ turns-later : (s : Settings) (moment until : ℕ) (events : List Event) → mome
 unfolding InTurn
 turns-later s moment until [] most turns = tt
 turns-later s moment until (packet at n ∷ earlier) most turns = (omega (arith, most, turns.0), turns.1, turns.2)
-turns-later s moment until (end ∷ earlier) most turns = (due-later moment until (behind s earlier) most turns.0, turns-later s moment until earlier most turns.1)
+turns-later s moment until (end ∷ earlier) most turns =
+    (due-later moment until (behind s earlier) most turns.0, turns-later s moment until earlier most turns.1)
 
-pub lived-later : (s : Settings) (moment until : ℕ) (packets : List (ℕ × ℕ)) (p : ProcessorView) → moment ≤ until → Lived s moment packets p → Lived s until packets p
-lived-later s moment until packets p most l = record { events = l.events; behind = l.behind; turns = turns-later s moment until l.events most l.turns; came = l.came }
+pub lived-later : (s : Settings) (moment until : ℕ) (packets : List (ℕ × ℕ)) (p : ProcessorView) → moment ≤ until → Lived s moment packets p
+    → Lived s until packets p
+lived-later s moment until packets p most l =
+    record { events = l.events; behind = l.behind; turns = turns-later s moment until l.events most l.turns; came = l.came }
 
-lived-end : (s : Settings) (moment : ℕ) (packets : List (ℕ × ℕ)) (p : ProcessorView) → Lived s moment packets p → is_due moment p ≡ true → Lived s moment packets (step p)
+lived-end : (s : Settings) (moment : ℕ) (packets : List (ℕ × ℕ)) (p : ProcessorView) → Lived s moment packets p → is_due moment p ≡ true
+    → Lived s moment packets (step p)
 unfolding behind InTurn packets_in
-lived-end s moment packets p l due = record { events = end ∷ l.events; behind = ap step l.behind; turns = (rw l.behind at due, l.turns); came = l.came }
+lived-end s moment packets p l due =
+    record { events = end ∷ l.events; behind = ap step l.behind; turns = (rw l.behind at due, l.turns); came = l.came }
 
 -- steps that are due
 lived-after : (s : Settings) (moment : ℕ) (packets : List (ℕ × ℕ)) (p : ProcessorView) → Lived s moment packets p → (count : ℕ)
     → ((n : ℕ) → n < count → is_due moment (after n p) ≡ true) → Lived s moment packets (after count p)
 unfolding after
 lived-after s moment packets p l zero each = l
-lived-after s moment packets p l (suc count) each = lived-end s moment packets (after count p) (lived-after s moment packets p l count (λ n below. each n (omega (arith, below)))) (each count (omega arith))
+lived-after s moment packets p l (suc count) each =
+    lived-end s moment packets (after count p) (lived-after s moment packets p l count (λ n below. each n (omega (arith, below))))
+    (each count (omega arith))
 
-pub lived-runs : (s : Settings) (moment : ℕ) (packets : List (ℕ × ℕ)) (p q : ProcessorView) → Lived s moment packets p → RunsTo moment p q → Lived s moment packets q
+pub lived-runs : (s : Settings) (moment : ℕ) (packets : List (ℕ × ℕ)) (p q : ProcessorView) → Lived s moment packets p → RunsTo moment p q
+    → Lived s moment packets q
 lived-runs s moment packets p q l runs = rw runs.last (lived-after s moment packets p l runs.count runs.each)
 
-lived-comes : (s : Settings) (moment n : ℕ) (packets : List (ℕ × ℕ)) (p : ProcessorView) → Lived s moment packets p → is_due moment p ≡ false
+lived-comes : (s : Settings) (moment n : ℕ) (packets : List (ℕ × ℕ)) (p : ProcessorView) → Lived s moment packets p
+    → is_due moment p ≡ false
     → Lived s moment ((moment, n) ∷ packets) (comes moment n p)
 unfolding behind InTurn packets_in
 lived-comes s moment n packets p l none = record {
@@ -51,7 +66,8 @@ pub record AllLived (s : Settings) (until : ℕ) (packets : List (ℕ × ℕ)) (
   pub count : length m ≡ s.processors
   pub each : (number : ℕ) (p : ProcessorView) → slice_get m number ≡ Some p → Lived s until (own s.processors number packets) p
 
-opened-each : (s : Settings) (count number : ℕ) (p : ProcessorView) → slice_get (replicate count (opened_processor s)) number ≡ Some p → p ≡ opened_processor s
+opened-each : (s : Settings) (count number : ℕ) (p : ProcessorView) → slice_get (replicate count (opened_processor s)) number ≡ Some p
+    → p ≡ opened_processor s
 opened-each s zero number p is = cc is
 opened-each s (suc count) zero p is = cc is
 opened-each s (suc count) (suc number) p is = opened-each s count number p is
@@ -73,7 +89,8 @@ own-other : (count number moment device : ℕ) (packets : List (ℕ × ℕ)) →
 unfolding own
 own-other count number moment device packets is = rw is refl
 
-lived-arrives : (s : Settings) (until moment device : ℕ) (packets : List (ℕ × ℕ)) (before m : Machine) → moment ≤ until → AllLived s moment packets before
+lived-arrives : (s : Settings) (until moment device : ℕ) (packets : List (ℕ × ℕ)) (before m : Machine) → moment ≤ until
+    → AllLived s moment packets before
     → Arrives moment device before m → AllLived s until ((moment, device) ∷ packets) m
 lived-arrives s until moment device packets before m most l a = record {
   count = ap length a.others ∙ length-set before place a.new ∙ l.count;
@@ -90,17 +107,22 @@ lived-arrives s until moment device packets before m most l a = record {
         let inside : place < length before = slice_get_within before place a.old a.own in
         let new : p ≡ a.new = same-some p a.new (sym is ∙ (rw (a.others, ← here) (slice_get-set_same before place a.new inside))) in
         let old : Lived s moment (own s.processors place packets) a.old = l.each place a.old a.own in
-        let ready : Lived s moment (own s.processors place packets) a.arrives.ready = lived-runs s moment _ a.old a.arrives.ready old a.arrives.runs in
-        let came : Lived s moment ((moment, (device - 1) / length before) ∷ own s.processors place packets) (comes moment ((device - 1) / length before) a.arrives.ready)
+        let ready : Lived s moment (own s.processors place packets) a.arrives.ready =
+        lived-runs s moment _ a.old a.arrives.ready old a.arrives.runs in
+        let came : Lived s moment ((moment, (device - 1) / length before) ∷ own s.processors place packets)
+        (comes moment ((device - 1) / length before) a.arrives.ready)
         = lived-comes s moment _ _ a.arrives.ready ready a.arrives.runs.none in
-        let listed : own s.processors number ((moment, device) ∷ packets) ≡ (moment, (device - 1) / length before) ∷ own s.processors place packets
+        let listed : own s.processors number ((moment, device) ∷ packets)
+        ≡ (moment, (device - 1) / length before) ∷ own s.processors place packets
         = own-here s.processors number moment device packets (rw (← l.count) here)
         ∙ (ap (λ (k : ℕ). (moment, (device - 1) / k) ∷ own s.processors number packets) (sym l.count)
         ∙ ap (λ (k : ℕ). (moment, (device - 1) / length before) ∷ own s.processors k packets) (sym here)) in
         rw (new, a.arrives.comes, listed) (lived-later s moment until _ _ most came)
     by number p is false other =
-        let apart : slice_get before number ≡ Some p = sym (slice_get-set_other before place number a.new (λ e. eqb-false place number other (sym e))) ∙ (rw (← a.others) is) in
-        rw (own-other s.processors number moment device packets (rw (← l.count) other)) (lived-later s moment until _ p most (l.each number p apart))
+        let apart : slice_get before number ≡ Some p =
+        sym (slice_get-set_other before place number a.new (λ e. eqb-false place number other (sym e))) ∙ (rw (← a.others) is) in
+        rw (own-other s.processors number moment device packets (rw (← l.count) other))
+        (lived-later s moment until _ p most (l.each number p apart))
 
 pub all-lived : (s : Settings) (until : ℕ) (packets : List (ℕ × ℕ)) (m : Machine) → Took s until packets m → AllLived s until packets m
 unfolding Took
@@ -113,10 +135,15 @@ each-lives s until packets m took =
     let l = all-lived s until packets m took in
     (l.each, λ after fits finishes number p is. by after fits finishes l number p is)
   where
-    by : (after : Machine) → until < 2 ^ 64 → Finishes m after → AllLived s until packets m → (number : ℕ) (p : ProcessorView) → slice_get after number ≡ Some p
+    by : (after : Machine) → until < 2 ^ 64 → Finishes m after → AllLived s until packets m → (number : ℕ) (p : ProcessorView)
+        → slice_get after number ≡ Some p
         → Lived s (2 ^ 64 - 1) (own s.processors number packets) p × (is_due (2 ^ 64 - 1) p ≡ false)
     by after fits f l number p is =
         let some = slice_get-some m number (omega (arith, f.count, slice_get_within after number p is)) in
         let last = f.each number some.0 some.1 in
         let same : p ≡ last.0 = same-some p last.0 (sym is ∙ last.1) in
-        rw same (lived-runs s (2 ^ 64 - 1) _ some.0 last.0 (lived-later s until (2 ^ 64 - 1) _ some.0 (omega (arith, fits)) (l.each number some.0 some.1)) last.2, last.2.none)
+        rw same (
+          lived-runs s (2 ^ 64 - 1) _ some.0 last.0
+              (lived-later s until (2 ^ 64 - 1) _ some.0 (omega (arith, fits)) (l.each number some.0 some.1)) last.2,
+          last.2.none,
+        )

@@ -1,7 +1,9 @@
 -- How many numbers stand on the poll list and in its run, behind each call, and of what weight the run is.
-use Rattle.std.{proofs.Common.{◌≡◌, ℕ, ◌+◌, Bool, true, false, Option, Some, None, List, [], ◌∷◌, ◌++◌, drop, length, length-append, refl, arith}, specs.Prelude.{is_some, slice_get, if◌then◌else◌}}
+use Rattle.std.proofs.Common.{◌≡◌, ℕ, ◌+◌, Bool, true, false, Option, Some, None, List, [], ◌∷◌, ◌++◌, drop, length, length-append, refl}
+use Rattle.std.{proofs.Common.arith, specs.Prelude.{is_some, slice_get, if◌then◌else◌}}
 use Rattle.poll_runs.specs.{Turn.asked_for, declared.bench.{Next.TheVariants.{Gone, Repoll}, Once.Once}}
-use Rattle.machine_model.specs.Softirq.{RunView, SoftirqView, asked_in, begun, ended, filled, is_spent, left_of, listed, next_from, next_in, next_of, pushed, told, told_in, weight_in}
+use Rattle.machine_model.specs.Softirq.{RunView, SoftirqView, asked_in, begun, ended, filled, is_spent, left_of, listed, next_from, next_in}
+use Rattle.machine_model.specs.Softirq.{next_of, pushed, told, told_in, weight_in}
 
 pub listed-pushed : (n : ℕ) (q : SoftirqView) → listed (pushed n q) ≡ listed q + 1
 listed-pushed n q = omega (arith, length-append q.list (n ∷ []))
@@ -14,7 +16,8 @@ pub record Same (q r : SoftirqView) : Type 0 where
 
 -- one poll more, or none, only moves numbers
 next-moves : (own repoll list : List ℕ)
-    → length (left_of own repoll list) + (length (asked_for (slice_get (filled own repoll list) 0) ++ drop 1 (filled own repoll list)) + length repoll)
+    → length (left_of own repoll list)
+    + (length (asked_for (slice_get (filled own repoll list) 0) ++ drop 1 (filled own repoll list)) + length repoll)
     ≡ length list + (length own + length repoll)
 next-moves (n ∷ own) repoll list = omega arith
 next-moves [] (n ∷ repoll) list = omega arith
@@ -42,7 +45,8 @@ begun-same : (list : List ℕ) (run : Option RunView) (began moment budget weigh
 begun-same list None began moment budget weight window none = omega arith
 begun-same list (Some r) began moment budget weight window none = cc none
 
-pub listed-begun : (moment budget weight window : ℕ) (q : SoftirqView) → q.run ≡ None → listed (begun moment budget weight window q) ≡ listed q
+pub listed-begun : (moment budget weight window : ℕ) (q : SoftirqView) → q.run ≡ None
+    → listed (begun moment budget weight window q) ≡ listed q
 listed-begun moment budget weight window q none = begun-same q.list q.run q.began moment budget weight window none
 
 ended-same : (list : List ℕ) (run : Option RunView) (began : ℕ) → asked_in run ≡ None
@@ -50,7 +54,8 @@ ended-same : (list : List ℕ) (run : Option RunView) (began : ℕ) → asked_in
 unfolding ended
 ended-same list None began none = refl
 ended-same list (Some r) began none =
-    let size : length (r.own ++ list ++ r.repoll) + 0 ≡ length list + (length r.own + length r.repoll) = omega (arith, length-append (r.own ++ list) r.repoll, length-append r.own list) in
+    let size : length (r.own ++ list ++ r.repoll) + 0 ≡ length list + (length r.own + length r.repoll) =
+    omega (arith, length-append (r.own ++ list) r.repoll, length-append r.own list) in
     rw none size
 
 pub listed-ended : (q : SoftirqView) → asked_in q.run ≡ None → listed (ended q) ≡ listed q
@@ -63,10 +68,12 @@ told-moves : (full : Bool) (work n : ℕ) (list : List ℕ) (run : Option RunVie
 unfolding told
 told-moves full work n list None began asked = cc asked
 told-moves true work n list (Some r) began asked =
-    let size : length list + (length r.own + length (r.repoll ++ n ∷ [])) + 0 ≡ length list + (length (n ∷ r.own) + length r.repoll) = omega (arith, length-append r.repoll (n ∷ [])) in
+    let size : length list + (length r.own + length (r.repoll ++ n ∷ [])) + 0 ≡ length list + (length (n ∷ r.own) + length r.repoll) =
+    omega (arith, length-append r.repoll (n ∷ [])) in
     rw asked size
 told-moves false work n list (Some r) began asked =
-    let size : length list + (length r.own + length (r.repoll ++ [])) + 1 ≡ length list + (length (n ∷ r.own) + length r.repoll) = omega (arith, length-append r.repoll []) in
+    let size : length list + (length r.own + length (r.repoll ++ [])) + 1 ≡ length list + (length (n ∷ r.own) + length r.repoll) =
+    omega (arith, length-append r.repoll []) in
     rw asked size
 
 pub listed-told : (full : Bool) (work n : ℕ) (q : SoftirqView) → asked_in q.run ≡ Some n
@@ -81,11 +88,13 @@ pub asked-told : (once : Once) (q : SoftirqView) → asked_in (told once q).run 
 unfolding told
 asked-told once q = told-rests q.run once
 
-told-weighs : (run : Option RunView) (once : Once) → (weight_in (told_in once run) ≡ weight_in run) × (is_some (told_in once run) ≡ is_some run)
+told-weighs : (run : Option RunView) (once : Once)
+    → (weight_in (told_in once run) ≡ weight_in run) × (is_some (told_in once run) ≡ is_some run)
 told-weighs None once = (refl, refl)
 told-weighs (Some r) once = (refl, refl)
 
-pub weight-told : (once : Once) (q : SoftirqView) → (weight_in (told once q).run ≡ weight_in q.run) × (is_some (told once q).run ≡ is_some q.run)
+pub weight-told : (once : Once) (q : SoftirqView)
+    → (weight_in (told once q).run ≡ weight_in q.run) × (is_some (told once q).run ≡ is_some q.run)
 unfolding told
 weight-told once q = told-weighs q.run once
 

@@ -1,5 +1,6 @@
 -- One processor of the machine changes.
-use Rattle.std.{proofs.{Common.{◌≡◌, ◌∙◌, ℕ, zero, suc, ◌+◌, ◌-◌, ◌*◌, ◌/◌, ◌%◌, ◌<◌, ◌≤◌, Some, List, [], ◌∷◌, length, length-set, get_or, slice_set, ◌⊎◌, inl, inr, refl, sym, arith}, Math.Nat.{eq-or-lt_of_le, mod-lt}}, specs.Prelude.slice_get}
+use Rattle.std.proofs.Common.{◌≡◌, ◌∙◌, ℕ, zero, suc, ◌+◌, ◌-◌, ◌*◌, ◌/◌, ◌%◌, ◌<◌, ◌≤◌, Some, List, [], ◌∷◌, length, length-set, get_or}
+use Rattle.std.{proofs.{Common.{slice_set, ◌⊎◌, inl, inr, refl, sym, arith}, Math.Nat.{eq-or-lt_of_le, mod-lt}}, specs.Prelude.slice_get}
 use Rattle.circular_buffer.proofs.Places.{slice_get-set_other, slice_get-set_same}
 use Rattle.machine_model.specs.{Machine.{Arrives, ArrivesAt, Finishes, Machine}, Processor.{ProcessorView, RunsTo}}
 
@@ -8,7 +9,8 @@ get-some [] i x below is = absurd (omega (arith, below))
 get-some (y ∷ ys) zero x below is = rw is refl
 get-some (y ∷ ys) (suc i) x below is = get-some ys i x (omega (arith, below)) is
 
-pub arrive-exact : (moment device count : ℕ) (before : Machine) (old new : ProcessorView) → count ≡ length before → 1 ≤ device → device ≤ 64 * length before
+pub arrive-exact : (moment device count : ℕ) (before : Machine) (old new : ProcessorView) → count ≡ length before → 1 ≤ device
+    → device ≤ 64 * length before
     → get_or before ((device - 1) % count) old ≡ old → ArrivesAt moment ((device - 1) / count) old new
     → Arrives moment device before (slice_set before ((device - 1) % count) new)
 arrive-exact moment device count before old new is least most value arrives =
@@ -24,7 +26,8 @@ arrive-exact moment device count before old new is least most value arrives =
 -- the first of the processors went on until nothing is left, the others didn't yet
 pub record Finished (before now : Machine) (count : ℕ) : Type 0 where
   pub size : length now ≡ length before
-  pub done : (n : ℕ) (p : ProcessorView) → n < count → slice_get before n ≡ Some p → (q : ProcessorView) × (slice_get now n ≡ Some q) × RunsTo 18446744073709551615 p q
+  pub done : (n : ℕ) (p : ProcessorView) → n < count → slice_get before n ≡ Some p
+      → (q : ProcessorView) × (slice_get now n ≡ Some q) × RunsTo 18446744073709551615 p q
   pub rest : (n : ℕ) → count ≤ n → slice_get now n ≡ slice_get before n
 
 pub finished-none : (before : Machine) → Finished before before 0
@@ -33,7 +36,8 @@ finished-none before = record { size = refl; done = λ n p below is. absurd (ome
 pub same-some : (p q : ProcessorView) → Some p ≡ Some q → p ≡ q
 same-some p q e = cc e
 
-pub finished-more : (before now : Machine) (count : ℕ) (old new : ProcessorView) → Finished before now count → count < length now → get_or now count old ≡ old
+pub finished-more : (before now : Machine) (count : ℕ) (old new : ProcessorView) → Finished before now count → count < length now
+    → get_or now count old ≡ old
     → RunsTo 18446744073709551615 old new → Finished before (slice_set now count new) (count + 1)
 finished-more before now count old new f below value runs = record {
   size = length-set now count new ∙ f.size;

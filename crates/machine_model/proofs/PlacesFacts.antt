@@ -1,7 +1,11 @@
 -- Sums over a processor's devices as one of them changes, and how many are masked.
-use Rattle.std.proofs.{Common.{append_assoc, ◌≡◌, ℕ, zero, suc, ◌+◌, ◌-◌, ◌<◌, ◌≤◌, Bool, true, false, Option, Some, None, [], ◌∷◌, ◌++◌, length, slice_set, replicate, refl, subst, arith}, lemmas.{Grind.get_or-set_at, List.{replicate-append-replicate, Sums.{sum_by-append, sum_by-cons, sum_by-set}}}}
-use Rattle.{std.specs.Prelude.{◌||◌, ◌&&◌, not, sum_by, if◌then◌else◌}, device_rows.{specs.Places.{added_at, at, changed, changed_from}, proofs.PlaceFacts.below-some}}
-use Rattle.machine_model.specs.{Device.{DeviceView, ended_poll, interrupted, opened}, Devices.{Devices, is_handed_at, mask_at, masks, with_device, with_place}}
+use Rattle.std.proofs.Common.{append_assoc, ◌≡◌, ℕ, zero, suc, ◌+◌, ◌-◌, ◌<◌, ◌≤◌, Bool, true, false, Option, Some, None, [], ◌∷◌, ◌++◌}
+use Rattle.std.proofs.Common.{length, slice_set, replicate, refl, subst, arith}
+use Rattle.std.proofs.lemmas.{Grind.get_or-set_at, List.{replicate-append-replicate, Sums.{sum_by-append, sum_by-cons, sum_by-set}}}
+use Rattle.std.specs.Prelude.{◌||◌, ◌&&◌, not, sum_by, if◌then◌else◌}
+use Rattle.device_rows.{specs.Places.{added_at, at, changed, changed_from}, proofs.PlaceFacts.below-some}
+use Rattle.machine_model.specs.Device.{DeviceView, ended_poll, interrupted, opened}
+use Rattle.machine_model.specs.Devices.{Devices, is_handed_at, mask_at, masks, with_device, with_place}
 
 unfoldable pub map_at : (DeviceView → DeviceView) → Option DeviceView → Option DeviceView
 map_at f None = None
@@ -18,7 +22,8 @@ sum-changed g f n xs = by (at n xs) refl
 
 pub sum-at : (g : Option DeviceView → ℕ) (f : DeviceView → DeviceView) (n : ℕ) (xs : Devices) (o : Option DeviceView) → at n xs ≡ o
     → sum_by g (changed f n xs) + g o ≡ sum_by g xs + g (map_at f o)
-sum-at g f n xs o here = subst (λ (x : Option DeviceView). sum_by g (changed f n xs) + g x ≡ sum_by g xs + g (map_at f x)) here (sum-changed g f n xs)
+sum-at g f n xs o here =
+    subst (λ (x : Option DeviceView). sum_by g (changed f n xs) + g x ≡ sum_by g xs + g (map_at f x)) here (sum-changed g f n xs)
 
 pub at-changed : (f : DeviceView → DeviceView) (n : ℕ) (xs : Devices) → at n (changed f n xs) ≡ map_at f (at n xs)
 unfolding map_at
@@ -28,15 +33,18 @@ at-changed f n xs = by (at n xs) refl
     by None here = here
     by (Some d) here = get_or-set_at xs n n (Some (f d)) None refl (below-some xs n d here)
 
-mask-same : (f : DeviceView → DeviceView) → ((d : DeviceView) → (f d).masked ≡ d.masked) → (o : Option DeviceView) → mask_at (map_at f o) ≡ mask_at o
+mask-same : (f : DeviceView → DeviceView) → ((d : DeviceView) → (f d).masked ≡ d.masked) → (o : Option DeviceView)
+    → mask_at (map_at f o) ≡ mask_at o
 unfolding map_at
 mask-same f same None = refl
 mask-same f same (Some d) = rw (same d) refl
 
-pub masks-same : (f : DeviceView → DeviceView) (n : ℕ) (xs : Devices) → ((d : DeviceView) → (f d).masked ≡ d.masked) → masks (changed f n xs) ≡ masks xs
+pub masks-same : (f : DeviceView → DeviceView) (n : ℕ) (xs : Devices) → ((d : DeviceView) → (f d).masked ≡ d.masked)
+    → masks (changed f n xs) ≡ masks xs
 masks-same f n xs same = omega (arith, sum-changed mask_at f n xs, mask-same f same (at n xs))
 
-handed-mask : (polling : Bool) (o : Option DeviceView) → mask_at (map_at (interrupted polling) o) ≡ mask_at o + (if is_handed_at polling o then 1 else 0)
+handed-mask : (polling : Bool) (o : Option DeviceView)
+    → mask_at (map_at (interrupted polling) o) ≡ mask_at o + (if is_handed_at polling o then 1 else 0)
 unfolding map_at interrupted
 handed-mask polling None = refl
 handed-mask polling (Some d) = by polling d.masked
@@ -85,7 +93,8 @@ added-masks capacity n xs None here = by xs n here
     by [] m none = omega arith
     by (None ∷ ys) zero none = omega (arith, sum_by-cons mask_at None ys, sum_by-cons mask_at (Some (opened capacity)) ys)
     by (Some d ∷ ys) zero none = cc none
-    by (y ∷ ys) (suc m) none = omega (arith, by ys m none, sum_by-cons mask_at y ys, sum_by-cons mask_at y (slice_set ys m (Some (opened capacity))))
+    by (y ∷ ys) (suc m) none =
+        omega (arith, by ys m none, sum_by-cons mask_at y ys, sum_by-cons mask_at y (slice_set ys m (Some (opened capacity))))
 
 -- places that are made
 pub masks-places : (xs ys : Devices) (count : ℕ) → ys ≡ xs ++ replicate count None → masks xs ≤ masks ys
@@ -93,7 +102,8 @@ masks-places xs ys count is =
     let size : masks ys ≡ masks xs + masks (replicate count None) = rw is (sum_by-append mask_at xs (replicate count None)) in
     omega (arith, size)
 
-pub more-places : (xs ys : Devices) (count more : ℕ) → ys ≡ xs ++ replicate count None → more ≡ count + 1 → ys ++ None ∷ [] ≡ xs ++ replicate more None
+pub more-places : (xs ys : Devices) (count more : ℕ) → ys ≡ xs ++ replicate count None → more ≡ count + 1
+    → ys ++ None ∷ [] ≡ xs ++ replicate more None
 more-places xs ys count more is next =
     let none : Option DeviceView = None in
     rw (is, next, ← replicate-append-replicate count 1 none) (append_assoc xs (replicate count none) (none ∷ []))
@@ -101,11 +111,13 @@ more-places xs ys count more is next =
 pub masks-with : (capacity n : ℕ) (xs : Devices) → masks xs ≤ masks (with_device capacity n xs)
 unfolding with_device
 masks-with capacity n xs =
-    let places : masks (with_place n xs) ≡ masks xs + masks (replicate (n + 1 - length xs) None) = sum_by-append mask_at xs (replicate (n + 1 - length xs) None) in
+    let places : masks (with_place n xs) ≡ masks xs + masks (replicate (n + 1 - length xs) None) =
+    sum_by-append mask_at xs (replicate (n + 1 - length xs) None) in
     omega (arith, places, added-masks capacity n (with_place n xs) (at n (with_place n xs)) refl)
 
 -- before a push to the list there is room
-pub handed-room : (ds es : Devices) (polling : Bool) (n listed : ℕ) → es ≡ changed (interrupted polling) n ds → is_handed_at polling (at n ds) ≡ true
+pub handed-room : (ds es : Devices) (polling : Bool) (n listed : ℕ) → es ≡ changed (interrupted polling) n ds
+    → is_handed_at polling (at n ds) ≡ true
     → listed ≤ masks ds → length es ≤ 64 → listed < 64
 handed-room ds es polling n listed is handed few places =
     let more : masks es ≡ masks ds + 1 = rw is (rw handed at (masks-interrupted polling n ds)) in

@@ -1,10 +1,13 @@
 -- What becomes of packets behind their delivery: each is used in its order, or refused.
-use Rattle.std.proofs.{Common.{◌≡◌, ◌∙◌, ℕ, ◌+◌, ◌-◌, Bool, true, false, Option, Some, None, List, [], ◌∷◌, ◌++◌, append_assoc, length, length-append, length-drop, map, drop, refl, sym, ap, arith}, lemmas.List.{append-nil}}
-use Rattle.{std.specs.Prelude.{if◌then◌else◌, min}, machine_words.specs.declared.settings.Settings.{Settings}, device_rows.specs.Places.{at}}
+use Rattle.std.proofs.Common.{◌≡◌, ◌∙◌, ℕ, ◌+◌, ◌-◌, Bool, true, false, Option, Some, None, List, [], ◌∷◌, ◌++◌, append_assoc, length}
+use Rattle.std.proofs.{Common.{length-append, length-drop, map, drop, refl, sym, ap, arith}, lemmas.List.append-nil}
+use Rattle.{std.specs.Prelude.{if◌then◌else◌, min}, machine_words.specs.declared.settings.Settings.Settings, device_rows.specs.Places.at}
 use Rattle.machine_model.specs.{Devices.batch_at, Waits.{WaitsView, counted, held, no_waits}}
-use Rattle.machine_model.specs.Fates.{TellsOfUse, UsesInOrder, counting, gives_by, kept, kept_from, refused, refused_from, use_waits, used, using}
+use Rattle.machine_model.specs.Fates.{TellsOfUse, UsesInOrder, counting, gives_by, kept, kept_from, refused, refused_from, use_waits, used}
+use Rattle.machine_model.specs.Fates.{using}
 use Rattle.machine_model.specs.Laws.{Event, behind, end, packet}
-use Rattle.machine_model.specs.Processor.{ProcessorView, delivers, ends_by, ends_current, ends_interrupt, ends_poll, ends_polls, ends_run, interrupts, is_busy, is_polling, polls, step}
+use Rattle.machine_model.specs.Processor.{ProcessorView, delivers, ends_by, ends_current, ends_interrupt, ends_poll, ends_polls, ends_run}
+use Rattle.machine_model.specs.Processor.{interrupts, is_busy, is_polling, polls, step}
 use Rattle.machine_model.specs.Softirq.{asked_in}
 use Rattle.machine_model.specs.declared.processor.Work.{Work}
 use Rattle.machine_model.specs.declared.processor.Work.TheVariants.{Interrupt, Nothing, Poll, Use}
@@ -70,7 +73,8 @@ same-waits xs w is = rw (append-nil xs) is
 same-told : (r a : ℕ) → r ≡ held a → r ≡ held (a + 0)
 same-told r a is = omega (arith, is)
 
-ended-lone : (n : ℕ) (p : ProcessorView) (clock : ℕ) → let batch = batch_at 1 (at n p.devices) in let q = ends_interrupt n (record p { clock = clock }) in
+ended-lone : (n : ℕ) (p : ProcessorView) (clock : ℕ) → let batch = batch_at 1 (at n p.devices) in let q =
+    ends_interrupt n (record p { clock = clock }) in
     (q.socket.items ≡ p.socket.items ++ kept_from p.socket (Some (n, batch)))
     × ((a : ℕ) → p.told.refused ≡ held a → q.told.refused ≡ held (a + length (refused_from p.socket (Some (n, batch)))))
     × (q.waits ≡ p.waits)
@@ -84,10 +88,15 @@ ended-polls : (n : ℕ) (p : ProcessorView) (clock : ℕ) → let q = ends_poll 
     × ((a : ℕ) → p.told.refused ≡ held a → q.told.refused ≡ held (a + length (refused_from p.socket (Some (n, p.batch)))))
     × (q.waits ≡ p.waits)
 unfolding ends_poll delivers
-ended-polls n p clock = (refl, λ a is. refused-size p.batch (min (length p.batch) (p.socket.capacity - length p.socket.items)) p.told.refused a is, refl)
+ended-polls n p clock =
+    (refl, λ a is. refused-size p.batch (min (length p.batch) (p.socket.capacity - length p.socket.items)) p.told.refused a is, refl)
 
 pub ended-by : (w : Work) (p : ProcessorView) → Ended w p (ends_by w (record p { clock = p.ends }))
-ended-by Nothing p = record { items = sym (append-nil p.socket.items); told = λ a is. same-told p.told.refused a is; counts = λ xs is. same-waits xs p.waits is }
+ended-by Nothing p = record {
+  items = sym (append-nil p.socket.items);
+  told = λ a is. same-told p.told.refused a is;
+  counts = λ xs is. same-waits xs p.waits is;
+}
 ended-by (Interrupt n) p = by (is_polling p.settings) refl
   where
     q : ProcessorView
@@ -143,26 +152,36 @@ uses-live s (packet moment n ∷ earlier) =
     let goes = goes-on s earlier in
     let before = uses-live s earlier in
     let xs = using p.work ++ p.socket.items in
-    let now = walk-comes (Holds xs p.told.refused p.waits) (Uses xs p.told.refused p.waits) (use-walk xs p.told.refused p.waits) moment n p goes.asked
+    let now =
+    walk-comes (Holds xs p.told.refused p.waits) (Uses xs p.told.refused p.waits) (use-walk xs p.told.refused p.waits) moment n p goes.asked
     (λ busy. record { items = refl; told = refl; counts = refl })
     (λ idle. record { items = rw (idle-using p.work idle) refl; told = refl; counts = refl }) in
-    record { order = before.order ∙ ap (λ (ys : List ℕ). used s earlier ++ ys) (sym now.items); told = now.told ∙ before.told; counts = now.counts ∙ before.counts }
+    record {
+      order = before.order ∙ ap (λ (ys : List ℕ). used s earlier ++ ys) (sym now.items);
+      told = now.told ∙ before.told;
+      counts = now.counts ∙ before.counts;
+    }
 uses-live s (end ∷ earlier) =
     let p = behind s earlier in
     let goes = goes-on s earlier in
     let before = uses-live s earlier in
     let r : ProcessorView = record (ends_current p) { work = Nothing } in
     let e = ended-by p.work p in
-    let now = walk (Holds r.socket.items r.told.refused r.waits) (Uses r.socket.items r.told.refused r.waits) (use-walk r.socket.items r.told.refused r.waits) r (free-ended s p goes)
+    let now =
+    walk (Holds r.socket.items r.told.refused r.waits) (Uses r.socket.items r.told.refused r.waits)
+    (use-walk r.socket.items r.told.refused r.waits) r (free-ended s p goes)
     (record { items = refl; told = refl; counts = refl }) in
     let more = kept_from p.socket (gives_by p.work p) in
     let first = using p.work in
     record {
       order = ap (λ (ys : List ℕ). ys ++ more) before.order
           ∙ (append_assoc (used s earlier) (first ++ p.socket.items) more
-          ∙ (ap (λ (ys : List ℕ). used s earlier ++ ys) (append_assoc first p.socket.items more ∙ ap (λ (ys : List ℕ). first ++ ys) (sym (now.items ∙ e.items)))
+          ∙ (ap (λ (ys : List ℕ). used s earlier ++ ys)
+          (append_assoc first p.socket.items more ∙ ap (λ (ys : List ℕ). first ++ ys) (sym (now.items ∙ e.items)))
           ∙ sym (append_assoc (used s earlier) first (using (step p).work ++ (step p).socket.items))));
-      told = now.told ∙ (e.told (length (refused s earlier)) before.told ∙ ap held (sym (length-append (refused s earlier) (refused_from p.socket (gives_by p.work p)))));
+      told = now.told
+          ∙ (e.told (length (refused s earlier)) before.told
+          ∙ ap held (sym (length-append (refused s earlier) (refused_from p.socket (gives_by p.work p)))));
       counts = now.counts ∙ e.counts (use_waits s earlier) before.counts;
     }
 

@@ -1,15 +1,22 @@
 -- What is told of a device is told of its packets.
-use Rattle.std.proofs.{Common.{◌≡◌, ◌∙◌, ℕ, ◌+◌, ◌-◌, Bool, true, false, Option, Some, None, List, [], ◌∷◌, ◌++◌, length, length-append, map, refl, sym, ap, subst, arith}, lemmas.{Bool.{eqb-true}}}
-use Rattle.{std.specs.Prelude.{◌==◌, ◌&&◌, ◌||◌, if◌then◌else◌, nat_lt, not}, device_rows.specs.Places.{at, changed}, machine_words.specs.declared.settings.Settings.{Settings}}
-use Rattle.machine_model.specs.{Device.{DeviceView, after_packet, ended_interrupt, ended_poll, interrupted, polled}, Devices.{Devices, batch_at, with_device}, Softirq.{asked_in}, Waits.{WaitsView, counted, counted_all, held, no_waits}}
+use Rattle.std.proofs.Common.{◌≡◌, ◌∙◌, ℕ, ◌+◌, ◌-◌, Bool, true, false, Option, Some, None, List, [], ◌∷◌, ◌++◌, length, length-append, map}
+use Rattle.std.proofs.{Common.{refl, sym, ap, subst, arith}, lemmas.Bool.{eqb-true}}
+use Rattle.{std.specs.Prelude.{◌==◌, ◌&&◌, ◌||◌, if◌then◌else◌, nat_lt, not}, device_rows.specs.Places.{at, changed}}
+use Rattle.machine_words.specs.declared.settings.Settings.{Settings}
+use Rattle.machine_model.specs.Device.{DeviceView, after_packet, ended_interrupt, ended_poll, interrupted, polled}
+use Rattle.machine_model.specs.{Devices.{Devices, batch_at, with_device}, Softirq.asked_in}
+use Rattle.machine_model.specs.Waits.{WaitsView, counted, counted_all, held, no_waits}
 use Rattle.machine_model.specs.Device as device
 use Rattle.machine_model.specs.Fates as fate
-use Rattle.machine_model.specs.Fates.{TellsOfDevice, Tells, came, counting, counts_in, finds_room, given, given_from, gives_by, polled_by, ring_in, taken_by, waits, waits_in}
+use Rattle.machine_model.specs.Fates.{TellsOfDevice, Tells, came, counting, counts_in, finds_room, given, given_from, gives_by, polled_by}
+use Rattle.machine_model.specs.Fates.{ring_in, taken_by, waits, waits_in}
 use Rattle.machine_model.specs.Laws.{Event, behind, end, packet}
-use Rattle.machine_model.specs.Processor.{ProcessorView, comes, delivers, ends_by, ends_current, ends_interrupt, ends_poll, ends_polls, interrupts, is_polling, polls, step}
+use Rattle.machine_model.specs.Processor.{ProcessorView, comes, delivers, ends_by, ends_current, ends_interrupt, ends_poll, ends_polls}
+use Rattle.machine_model.specs.Processor.{interrupts, is_polling, polls, step}
 use Rattle.machine_model.specs.declared.processor.Work.{Work}
 use Rattle.machine_model.specs.declared.processor.Work.TheVariants.{Interrupt, Nothing, Poll, Use}
-use Rattle.machine_model.proofs.FateFacts.{Blind, Seen, at-apart, at-here, at-kept, capacities, capacity_in, made-ring, made_at, seen-walk, with-apart, with-here}
+use Rattle.machine_model.proofs.FateFacts.{Blind, Seen, at-apart, at-here, at-kept, capacities, capacity_in, made-ring, made_at, seen-walk}
+use Rattle.machine_model.proofs.FateFacts.{with-apart, with-here}
 use Rattle.machine_model.proofs.{PlacesFacts.{map_at}, WalkFacts.{Walk, arrived, nexted, walk, walk-comes}, WorkFacts.{free-ended, goes-on}}
 
 -- what is counted of packets
@@ -46,7 +53,8 @@ present-asks n m p asked = record { present = λ none. rw asked (by (m == n) ref
     nothing None none = refl
     nothing (Some d) none = cc none
 
-    by : (b : Bool) → (m == n) ≡ b → at n (changed (polled weight) m p.devices) ≡ None → (if b then batch_at weight (at m p.devices) else []) ≡ []
+    by : (b : Bool) → (m == n) ≡ b → at n (changed (polled weight) m p.devices) ≡ None
+        → (if b then batch_at weight (at m p.devices) else []) ≡ []
     by true here none = rw (eqb-true m n here) (nothing (at n p.devices) (sym (at-here (polled weight) m n p.devices here) ∙ none))
     by false apart none = refl
 
@@ -78,11 +86,14 @@ arrived-none moment m n p none = by (m == n) refl
   where
     by : (b : Bool) → (m == n) ≡ b → at n p.devices ≡ None
     by true here =
-        let stands : at n (with_device p.settings.ring m p.devices) ≡ Some (made_at p.settings.ring (at n p.devices)) = rw (eqb-true m n here) (with-here p.settings.ring n p.devices) in
-        let now = at-here (after_packet moment) m n (with_device p.settings.ring m p.devices) here ∙ ap (map_at (after_packet moment)) stands in
+        let stands : at n (with_device p.settings.ring m p.devices) ≡ Some (made_at p.settings.ring (at n p.devices)) =
+        rw (eqb-true m n here) (with-here p.settings.ring n p.devices) in
+        let now =
+        at-here (after_packet moment) m n (with_device p.settings.ring m p.devices) here ∙ ap (map_at (after_packet moment)) stands in
         absurd (cc (now, none))
     by false apart =
-        sym (at-apart (after_packet moment) m n (with_device p.settings.ring m p.devices) apart ∙ with-apart p.settings.ring m n p.devices apart) ∙ none
+        sym (at-apart (after_packet moment) m n (with_device p.settings.ring m p.devices) apart
+        ∙ with-apart p.settings.ring m n p.devices apart) ∙ none
 
 pub present : (s : Settings) (n : ℕ) (events : List Event) → Present n (behind s events)
 unfolding behind step
@@ -92,7 +103,8 @@ present s n (packet moment m ∷ earlier) =
     walk-comes Any (Present n) (present-walk n) moment m p (goes-on s earlier).asked
     (λ busy. record { present = λ none. (present s n earlier).present (arrived-none moment m n p none) })
     (λ idle. record { any = refl })
-present s n (end ∷ earlier) = walk Any (Present n) (present-walk n) _ (free-ended s (behind s earlier) (goes-on s earlier)) (record { any = refl })
+present s n (end ∷ earlier) =
+    walk Any (Present n) (present-walk n) _ (free-ended s (behind s earlier) (goes-on s earlier)) (record { any = refl })
 
 -- ---- what ends
 
@@ -107,16 +119,19 @@ given-none : (now : ℕ) (t : Tally) → Given now [] t t
 unfolding counted_all
 given-none now t = record { arrived = refl; dropped = refl; polled = λ a is. omega (arith, is); waits = refl }
 
-given-here : (now : ℕ) (batch : List ℕ) (o : Option DeviceView) → (o ≡ None → batch ≡ []) → Given now batch (tally o) (tally (map_at (device.delivered now batch) o))
+given-here : (now : ℕ) (batch : List ℕ) (o : Option DeviceView) → (o ≡ None → batch ≡ [])
+    → Given now batch (tally o) (tally (map_at (device.delivered now batch) o))
 unfolding map_at device.delivered counted_all
-given-here now batch None empty = subst (λ (xs : List ℕ). Given now xs (tally None) (tally None)) (sym (empty refl)) (given-none now (tally None))
+given-here now batch None empty =
+    subst (λ (xs : List ℕ). Given now xs (tally None) (tally None)) (sym (empty refl)) (given-none now (tally None))
 given-here now batch (Some d) empty = record { arrived = refl; dropped = refl; polled = λ a is. omega (arith, is); waits = refl }
 
 given-at : (now m n : ℕ) (batch : List ℕ) (ds : Devices) → ((m == n) ≡ true → at n ds ≡ None → batch ≡ [])
     → Given now (given_from n (Some (m, batch))) (tally (at n ds)) (tally (at n (changed (device.delivered now batch) m ds)))
 given-at now m n batch ds empty = by (m == n) refl
   where
-    by : (b : Bool) → (m == n) ≡ b → Given now (if b then batch else []) (tally (at n ds)) (tally (at n (changed (device.delivered now batch) m ds)))
+    by : (b : Bool) → (m == n) ≡ b
+        → Given now (if b then batch else []) (tally (at n ds)) (tally (at n (changed (device.delivered now batch) m ds)))
     by true here = rw (at-here (device.delivered now batch) m n ds here) (given-here now batch (at n ds) (empty here))
     by false apart = rw (at-apart (device.delivered now batch) m n ds apart) (given-none now (tally (at n ds)))
 
@@ -131,7 +146,8 @@ unfolding ends_poll delivers
 poll-given n m p empty =
     let full = length p.batch == p.settings.weight in
     let one = changed (device.delivered p.clock p.batch) m p.devices in
-    subst (λ (t : Tally). Given p.clock (given_from n (Some (m, p.batch))) (tally (at n p.devices)) t) (sym (at-kept tally (ended_poll full) m n one (ended-tally full)))
+    subst (λ (t : Tally). Given p.clock (given_from n (Some (m, p.batch))) (tally (at n p.devices)) t)
+    (sym (at-kept tally (ended_poll full) m n one (ended-tally full)))
     (given-at p.clock m n p.batch p.devices empty)
 
 taken-nothing : (o : Option DeviceView) → map_at (device.taken 1) o ≡ None → batch_at 1 o ≡ []
@@ -140,7 +156,8 @@ taken-nothing None none = refl
 taken-nothing (Some d) none = cc none
 
 lone-given : (n m : ℕ) (p : ProcessorView)
-    → Given p.clock (given_from n (Some (m, batch_at 1 (at m p.devices)))) (tally (at n p.devices)) (tally (at n (ends_interrupt m p).devices))
+    → Given p.clock (given_from n (Some (m, batch_at 1 (at m p.devices)))) (tally (at n p.devices))
+    (tally (at n (ends_interrupt m p).devices))
 unfolding ends_interrupt delivers ended_interrupt device.taken
 lone-given n m p =
     let batch = batch_at 1 (at m p.devices) in
@@ -155,7 +172,8 @@ lone-given n m p =
     empty : (m == n) ≡ true → at n (changed (device.taken 1) m p.devices) ≡ None → batch_at 1 (at m p.devices) ≡ []
     empty here none = rw (eqb-true m n here) (taken-nothing (at n p.devices) (sym (at-here (device.taken 1) m n p.devices here) ∙ none))
 
-given-by : (n : ℕ) (w : Work) (p : ProcessorView) (clock : ℕ) → (at n p.devices ≡ None → taken_by n w (polled_by (asked_in p.softirq.run) p.batch) ≡ [])
+given-by : (n : ℕ) (w : Work) (p : ProcessorView) (clock : ℕ)
+    → (at n p.devices ≡ None → taken_by n w (polled_by (asked_in p.softirq.run) p.batch) ≡ [])
     → Given clock (given_from n (gives_by w p)) (tally (at n p.devices)) (tally (at n (ends_by w (record p { clock = clock })).devices))
 given-by n Nothing p clock there = given-none clock (tally (at n p.devices))
 given-by n (Interrupt m) p clock there = by (is_polling p.settings)
@@ -163,7 +181,9 @@ given-by n (Interrupt m) p clock there = by (is_polling p.settings)
     q : ProcessorView
     q = record p { clock = clock }
 
-    by : (b : Bool) → Given clock (given_from n (if b then None else Some (m, batch_at 1 (at m p.devices)))) (tally (at n p.devices)) (tally (at n (if b then q else ends_interrupt m q).devices))
+    by : (b : Bool)
+        → Given clock (given_from n (if b then None else Some (m, batch_at 1 (at m p.devices)))) (tally (at n p.devices))
+        (tally (at n (if b then q else ends_interrupt m q).devices))
     by true = given-none clock (tally (at n p.devices))
     by false = lone-given n m q
 given-by n Poll p clock there = by (asked_in p.softirq.run) there
@@ -186,14 +206,16 @@ pub record Took (room : Bool) (old new : Tally) : Type 0 where
   pub polled : new.polled ≡ old.polled
   pub waits : new.waits ≡ old.waits
 
-packet-took : (moment : ℕ) (d : DeviceView) → Took (nat_lt (length d.ring) d.capacity) (tally (Some d)) (tally (Some (after_packet moment d)))
+packet-took : (moment : ℕ) (d : DeviceView)
+    → Took (nat_lt (length d.ring) d.capacity) (tally (Some d)) (tally (Some (after_packet moment d)))
 unfolding after_packet
 packet-took moment d = by (nat_lt (length d.ring) d.capacity)
   where
     counted : DeviceView
     counted = record d { told = record d.told { arrived = held (d.told.arrived + 1) } }
 
-    by : (b : Bool) → Took b (tally (Some d)) (tally (Some (if b then record counted { ring = d.ring ++ moment ∷ []; raises = d.raises || not d.masked }
+    by : (b : Bool)
+        → Took b (tally (Some d)) (tally (Some (if b then record counted { ring = d.ring ++ moment ∷ []; raises = d.raises || not d.masked }
         else record counted { told = record counted.told { dropped = held (d.told.dropped + 1) } })))
     by true = record { arrived = refl; dropped = refl; polled = refl; waits = refl }
     by false = record { arrived = refl; dropped = refl; polled = refl; waits = refl }
@@ -212,12 +234,15 @@ pub record Counts (a d : ℕ) (old new : Tally) : Type 0 where
 
 counts-took : (room : Bool) (moment a d : ℕ) (old new : Tally) → Took room old new → old.arrived ≡ held (a + d) → old.dropped ≡ held d
     → Counts (a + length (if room then moment ∷ [] else [])) (d + length (if not room then moment ∷ [] else [])) old new
-counts-took true moment a d old new t arrived dropped = record { arrived = omega (arith, t.arrived, arrived); dropped = omega (arith, t.dropped, dropped); polled = t.polled; waits = t.waits }
-counts-took false moment a d old new t arrived dropped = record { arrived = omega (arith, t.arrived, arrived); dropped = omega (arith, t.dropped, dropped); polled = t.polled; waits = t.waits }
+counts-took true moment a d old new t arrived dropped =
+    record { arrived = omega (arith, t.arrived, arrived); dropped = omega (arith, t.dropped, dropped); polled = t.polled; waits = t.waits }
+counts-took false moment a d old new t arrived dropped =
+    record { arrived = omega (arith, t.arrived, arrived); dropped = omega (arith, t.dropped, dropped); polled = t.polled; waits = t.waits }
 
 arrived-counts : (s : Settings) (moment m n a d : ℕ) (p : ProcessorView) → p.settings ≡ s → capacity_in s.ring (at n p.devices) ≡ s.ring
     → (tally (at n p.devices)).arrived ≡ held (a + d) → (tally (at n p.devices)).dropped ≡ held d
-    → Counts (a + length (if m == n && finds_room n p then moment ∷ [] else [])) (d + length (if m == n && not (finds_room n p) then moment ∷ [] else []))
+    → Counts (a + length (if m == n && finds_room n p then moment ∷ [] else []))
+    (d + length (if m == n && not (finds_room n p) then moment ∷ [] else []))
     (tally (at n p.devices)) (tally (at n (arrived moment m p).devices))
 unfolding map_at
 arrived-counts s moment m n a d p same holds old-arrived old-dropped = by (m == n) refl
@@ -228,23 +253,32 @@ arrived-counts s moment m n a d p same holds old-arrived old-dropped = by (m == 
     o : Option DeviceView
     o = at n p.devices
 
-    by : (b : Bool) → (m == n) ≡ b → Counts (a + length (if b && finds_room n p then moment ∷ [] else [])) (d + length (if b && not (finds_room n p) then moment ∷ [] else []))
+    by : (b : Bool) → (m == n) ≡ b
+        → Counts (a + length (if b && finds_room n p then moment ∷ [] else []))
+        (d + length (if b && not (finds_room n p) then moment ∷ [] else []))
         (tally o) (tally (at n (arrived moment m p).devices))
     by true here =
-        let stands : at n (with_device capacity m p.devices) ≡ Some (made_at capacity o) = rw (eqb-true m n here) (with-here capacity n p.devices) in
+        let stands : at n (with_device capacity m p.devices) ≡ Some (made_at capacity o) =
+        rw (eqb-true m n here) (with-here capacity n p.devices) in
         let now : at n (arrived moment m p).devices ≡ Some (after_packet moment (made_at capacity o))
         = at-here (after_packet moment) m n (with_device capacity m p.devices) here ∙ ap (map_at (after_packet moment)) stands in
         let fits : capacity_in capacity o ≡ capacity = rw same holds in
         let made = made-ring capacity o fits in
         let room : nat_lt (length (made_at capacity o).ring) (made_at capacity o).capacity ≡ finds_room n p
-        = ap (λ (k : List ℕ). nat_lt (length k) (made_at capacity o).capacity) made.0 ∙ ap (λ (k : ℕ). nat_lt (length (ring_in o)) k) made.1 in
+        = ap (λ (k : List ℕ). nat_lt (length k) (made_at capacity o).capacity) made.0
+        ∙ ap (λ (k : ℕ). nat_lt (length (ring_in o)) k) made.1 in
         let took = packet-took moment (made_at capacity o) in
-        let took-2 = subst (λ (b : Bool). Took b (tally (Some (made_at capacity o))) (tally (Some (after_packet moment (made_at capacity o))))) room took in
-        let took-3 = subst (λ (t : Tally). Took (finds_room n p) t (tally (Some (after_packet moment (made_at capacity o))))) (made-tally capacity o) took-2 in
+        let took-2 =
+        subst (λ (b : Bool). Took b (tally (Some (made_at capacity o))) (tally (Some (after_packet moment (made_at capacity o))))) room
+        took in
+        let took-3 =
+        subst (λ (t : Tally). Took (finds_room n p) t (tally (Some (after_packet moment (made_at capacity o)))))
+        (made-tally capacity o) took-2 in
         let took-4 = subst (λ (t : Tally). Took (finds_room n p) (tally o) t) (ap tally (sym now)) took-3 in
         counts-took (finds_room n p) moment a d (tally o) _ took-4 old-arrived old-dropped
     by false apart =
-        let same : at n (arrived moment m p).devices ≡ o = at-apart (after_packet moment) m n (with_device capacity m p.devices) apart ∙ with-apart capacity m n p.devices apart in
+        let same : at n (arrived moment m p).devices ≡ o =
+        at-apart (after_packet moment) m n (with_device capacity m p.devices) apart ∙ with-apart capacity m n p.devices apart in
         subst (λ (t : Tally). Counts (a + 0) (d + 0) (tally o) t) (ap tally (sym same))
         (record { arrived = omega (arith, old-arrived); dropped = omega (arith, old-dropped); polled = refl; waits = refl })
 
@@ -267,8 +301,12 @@ tells s n (packet moment m ∷ earlier) =
     let p = behind s earlier in
     let goes = goes-on s earlier in
     let t = tells s n earlier in
-    let c = arrived-counts s moment m n (length (came true n s earlier)) (length (came false n s earlier)) p goes.rests.settings (capacities s n earlier) t.arrived t.dropped in
-    let now = walk-comes (Seen tally n _) (Seen tally n _) (seen-walk tally tally-blind n (tally (at n (arrived moment m p).devices))) moment m p goes.asked
+    let c =
+    arrived-counts s moment m n (length (came true n s earlier)) (length (came false n s earlier)) p goes.rests.settings
+    (capacities s n earlier) t.arrived t.dropped in
+    let now =
+    walk-comes (Seen tally n _) (Seen tally n _)
+    (seen-walk tally tally-blind n (tally (at n (arrived moment m p).devices))) moment m p goes.asked
     (λ busy. record { seen = refl }) (λ idle. record { seen = refl }) in
     let here : tally (at n (comes moment m p).devices) ≡ tally (at n (arrived moment m p).devices) = now.seen in
     let first-sum = length-append (came true n s earlier) (if m == n && finds_room n p then moment ∷ [] else []) in
@@ -284,16 +322,21 @@ tells s n (end ∷ earlier) =
     let goes = goes-on s earlier in
     let t = tells s n earlier in
     let r : ProcessorView = record (ends_current p) { work = Nothing } in
-    let g : Given p.ends (given_from n (gives_by p.work p)) (tally (at n p.devices)) (tally (at n r.devices)) = given-by n p.work p p.ends (present s n earlier).present in
-    let now = walk (Seen tally n _) (Seen tally n _) (seen-walk tally tally-blind n (tally (at n r.devices))) r (free-ended s p goes) (record { seen = refl }) in
+    let g : Given p.ends (given_from n (gives_by p.work p)) (tally (at n p.devices)) (tally (at n r.devices)) =
+    given-by n p.work p p.ends (present s n earlier).present in
+    let now =
+    walk (Seen tally n _) (Seen tally n _) (seen-walk tally tally-blind n (tally (at n r.devices))) r (free-ended s p goes)
+    (record { seen = refl }) in
     let here : tally (at n (step p).devices) ≡ tally (at n r.devices) = now.seen in
     let batch = given_from n (gives_by p.work p) in
     record {
       arrived = ap (λ (t : Tally). t.arrived) here ∙ (g.arrived ∙ t.arrived);
       dropped = ap (λ (t : Tally). t.dropped) here ∙ (g.dropped ∙ t.dropped);
-      polled = ap (λ (t : Tally). t.polled) here ∙ (g.polled (length (fate.delivered n s earlier)) t.polled ∙ ap held (sym (length-append (fate.delivered n s earlier) batch)));
+      polled = ap (λ (t : Tally). t.polled) here
+          ∙ (g.polled (length (fate.delivered n s earlier)) t.polled ∙ ap held (sym (length-append (fate.delivered n s earlier) batch)));
       counted = ap (λ (t : Tally). t.waits) here ∙ (g.waits ∙ (ap (λ (w : WaitsView). counted_all p.ends batch w) t.counted
-          ∙ sym (counting-append (waits n s earlier) (map (λ moment. p.ends - moment) batch) no_waits ∙ counting-all p.ends batch (counting (waits n s earlier) no_waits))));
+          ∙ sym (counting-append (waits n s earlier) (map (λ moment. p.ends - moment) batch) no_waits
+          ∙ counting-all p.ends batch (counting (waits n s earlier) no_waits))));
     }
 
 pub tells-of-device : TellsOfDevice

@@ -1,8 +1,10 @@
 -- Clocks never fall.
-use Rattle.std.proofs.{Common.{◌≡◌, ℕ, ◌+◌, ◌<◌, ◌≤◌, ◌^◌, Bool, true, false, Option, Some, None, List, [], ◌∷◌, refl, arith}, lemmas.Bool.{and_parts, leb-true}}
+use Rattle.std.proofs.Common.{◌≡◌, ℕ, ◌+◌, ◌<◌, ◌≤◌, ◌^◌, Bool, true, false, Option, Some, None, List, [], ◌∷◌, refl, arith}
+use Rattle.std.proofs.lemmas.Bool.{and_parts, leb-true}
 use Rattle.{std.specs.Prelude.{◌&&◌, if◌then◌else◌, nat_le}, machine_words.specs.declared.settings.Settings.{Settings}}
 use Rattle.machine_model.specs.{Laws.{ClocksNeverFall, Event, InTurn, behind, end, packet}, Waits.held}
-use Rattle.machine_model.specs.Processor.{ProcessorView, comes, delivers, ends_by, ends_current, ends_interrupt, ends_poll, ends_polls, ends_run, interrupts, is_busy, is_polling, polls, step}
+use Rattle.machine_model.specs.Processor.{ProcessorView, comes, delivers, ends_by, ends_current, ends_interrupt, ends_poll, ends_polls}
+use Rattle.machine_model.specs.Processor.{ends_run, interrupts, is_busy, is_polling, polls, step}
 use Rattle.machine_model.specs.Softirq.{asked_in}
 use Rattle.machine_model.specs.declared.processor.Work.{Work}
 use Rattle.machine_model.specs.declared.processor.Work.TheVariants.{Interrupt, Nothing, Poll, Use}
@@ -44,7 +46,11 @@ time-walk c = record {
   over = λ late p free h. time-over c late p h;
   slice = λ p h. record { clock = h.clock; fits = h.fits };
   begins = λ p h none polling. record { clock = h.clock; fits = h.fits };
-  uses = λ came more p free h is. record { clock = h.clock; ends = λ busy. later c p.clock _ h.clock h.fits; fits = λ busy. held-fits (p.clock + _) };
+  uses = λ came more p free h is. record {
+    clock = h.clock;
+    ends = λ busy. later c p.clock _ h.clock h.fits;
+    fits = λ busy. held-fits (p.clock + _);
+  };
   stays = λ p free h still. record { clock = h.clock; ends = λ busy. cc (busy, free.nothing); fits = λ busy. cc (busy, free.nothing) };
 }
 
@@ -71,7 +77,8 @@ clock-ended p = clock-by p.work (record p { clock = p.ends })
 
 time-step : (s : Settings) (p : ProcessorView) → Goes s p → p.ends < 2 ^ 64 → Timed p.ends (step p)
 unfolding step
-time-step s p goes fits = walk (Stands p.ends) (Timed p.ends) (time-walk p.ends) _ (free-ended s p goes) (record { clock = clock-ended p; fits = fits })
+time-step s p goes fits =
+    walk (Stands p.ends) (Timed p.ends) (time-walk p.ends) _ (free-ended s p goes) (record { clock = clock-ended p; fits = fits })
 
 -- what came in its turn
 pub record Until (until : ℕ) (p : ProcessorView) : Type 0 where
@@ -80,7 +87,8 @@ pub record Until (until : ℕ) (p : ProcessorView) : Type 0 where
   pub fits : is_busy p.work ≡ true → p.ends < 2 ^ 64
 
 until-of : (c until : ℕ) (p : ProcessorView) → Timed c p → c ≤ until → Until until p
-until-of c until p t most = record { clock = omega (arith, t.clock, most); ends = λ busy. omega (arith, t.clock, t.ends busy); fits = t.fits }
+until-of c until p t most =
+    record { clock = omega (arith, t.clock, most); ends = λ busy. omega (arith, t.clock, t.ends busy); fits = t.fits }
 
 pub due-parts : (w : Work) (ends until : ℕ) → (is_busy w && nat_le ends until) ≡ true → (is_busy w ≡ true) × (ends ≤ until)
 due-parts w ends until due = let both = and_parts (is_busy w) (nat_le ends until) due in (both.0, leb-true ends until both.1)
@@ -90,7 +98,8 @@ pub record Rises (until : ℕ) (p q : ProcessorView) : Type 0 where
   pub rises : p.clock ≤ q.clock
   pub within : Until until q
 
-rises-ends : (s : Settings) (until : ℕ) (p : ProcessorView) → Goes s p → until < 2 ^ 64 → Until until p → is_busy p.work ≡ true → p.ends ≤ until → Rises until p (step p)
+rises-ends : (s : Settings) (until : ℕ) (p : ProcessorView) → Goes s p → until < 2 ^ 64 → Until until p → is_busy p.work ≡ true
+    → p.ends ≤ until → Rises until p (step p)
 rises-ends s until p goes fits u busy most =
     let t = time-step s p goes (omega (arith, most, fits)) in
     record { rises = omega (arith, t.clock, u.ends busy); within = until-of p.ends until (step p) t most }
@@ -100,9 +109,11 @@ risen : (until moment : ℕ) (p q : ProcessorView) → moment ≤ until → p.cl
 risen until moment p q most below t = record { rises = omega (arith, below, t.clock); within = until-of moment until q t most }
 
 risen-walk : (until moment : ℕ) (p : ProcessorView) → moment ≤ until → p.clock ≤ moment → Walk (Stands moment) (Rises until p)
-risen-walk until moment p most below = implied (Stands moment) (Timed moment) (Rises until p) (time-walk moment) (λ q t. risen until moment p q most below t)
+risen-walk until moment p most below =
+    implied (Stands moment) (Timed moment) (Rises until p) (time-walk moment) (λ q t. risen until moment p q most below t)
 
-rises-comes : (s : Settings) (until moment n : ℕ) (p : ProcessorView) → Goes s p → until < 2 ^ 64 → moment ≤ until → Until moment p → Rises until p (comes moment n p)
+rises-comes : (s : Settings) (until moment n : ℕ) (p : ProcessorView) → Goes s p → until < 2 ^ 64 → moment ≤ until → Until moment p
+    → Rises until p (comes moment n p)
 rises-comes s until moment n p goes fits most u =
     walk-comes (Stands moment) (Rises until p) (risen-walk until moment p most u.clock) moment n p goes.asked
     (λ busy. record { rises = omega arith; within = record { clock = omega (arith, u.clock, most); ends = u.ends; fits = u.fits } })
@@ -112,7 +123,8 @@ pub timed : (s : Settings) (until : ℕ) (events : List Event) → until < 2 ^ 6
 unfolding behind InTurn
 timed s until [] fits turns = record { clock = omega arith; ends = λ busy. cc busy; fits = λ busy. cc busy }
 timed s until (packet moment n ∷ earlier) fits turns =
-    (rises-comes s until moment n (behind s earlier) (goes-on s earlier) fits turns.0 (timed s moment earlier (omega (arith, fits, turns.0)) turns.2)).within
+    (rises-comes s until moment n (behind s earlier) (goes-on s earlier) fits turns.0
+    (timed s moment earlier (omega (arith, fits, turns.0)) turns.2)).within
 timed s until (end ∷ earlier) fits turns =
     let p = behind s earlier in
     let due = due-parts p.work p.ends until turns.0 in
@@ -121,7 +133,9 @@ timed s until (end ∷ earlier) fits turns =
 pub clocks-never-fall : ClocksNeverFall
 unfolding behind InTurn
 clocks-never-fall s until (packet moment n) earlier fits turns =
-    let r = rises-comes s until moment n (behind s earlier) (goes-on s earlier) fits turns.0 (timed s moment earlier (omega (arith, fits, turns.0)) turns.2) in
+    let r =
+    rises-comes s until moment n (behind s earlier) (goes-on s earlier) fits turns.0
+    (timed s moment earlier (omega (arith, fits, turns.0)) turns.2) in
     (r.rises, r.within.clock)
 clocks-never-fall s until end earlier fits turns =
     let p = behind s earlier in

@@ -1,5 +1,6 @@
 -- Buckets, and what is counted in them.
-use Rattle.std.proofs.{Common.{◌≡◌, ℕ, ◌+◌, ◌-◌, ◌*◌, ◌/◌, ◌%◌, ◌^◌, ◌<◌, ◌≤◌, arith}, Math.Nat.{div-lt_iff_lt-mul, mod-eq_of_lt, one-le-pow, pow-le-pow_right}, lemmas.Nat.{leading_length, pow-add}}
+use Rattle.std.proofs.Common.{◌≡◌, ℕ, ◌+◌, ◌-◌, ◌*◌, ◌/◌, ◌%◌, ◌^◌, ◌<◌, ◌≤◌, arith}
+use Rattle.std.proofs.{Math.Nat.{div-lt_iff_lt-mul, mod-eq_of_lt, one-le-pow, pow-le-pow_right}, lemmas.Nat.{leading_length, pow-add}}
 use Rattle.std.{proofs.Math.Nat.mul-le-mul, specs.Int.Count.count_leading_zeros}
 
 -- a wait has fewer than 1024 of the bucket's first digits, and at most 54 digits follow them
@@ -9,7 +10,9 @@ bucket-below wait rest fits is =
     let most : digits.0 ≤ 10 + rest = omega (arith, is, digits.1) in
     let power : 2 ^ digits.0 ≤ 2 ^ (10 + rest) = pow-le-pow_right {n = 2} (omega arith) most in
     let split : 2 ^ (10 + rest) ≡ 1024 * 2 ^ rest = pow-add 2 10 rest in
-    let below : wait / 2 ^ rest < 1024 = (div-lt_iff_lt-mul {k = 2 ^ rest} {x = wait} {y = 1024} (omega (arith, one-le-pow rest 2 (omega arith)))).1 (omega (arith, power, split, digits.2)) in
+    let below : wait / 2 ^ rest < 1024 =
+    (div-lt_iff_lt-mul {k = 2 ^ rest} {x = wait} {y = 1024} (omega (arith, one-le-pow rest 2 (omega arith)))).1
+    (omega (arith, power, split, digits.2)) in
     omega (arith, is, below)
 
 -- the least wait of a bucket fits

@@ -1,9 +1,13 @@
 -- What is taken up, case by case: a property that each case keeps.
-use Rattle.std.proofs.{Common.{◌≡◌, ◌-◌, ◌<◌, ℕ, zero, suc, arith, Bool, true, false, Option, Some, None, List, [], ◌∷◌, length, refl}, lemmas.{Bool.lt-leb, List.Quantifiers.position-Some}}
-use Rattle.{std.specs.Prelude.{◌==◌, ◌&&◌, if◌then◌else◌, is_some, nat_le, nat_lt, not, position}, device_rows.{specs.Places.{at, changed}, proofs.PlaceFacts.none-of}}
+use Rattle.std.proofs.Common.{◌≡◌, ◌-◌, ◌<◌, ℕ, zero, suc, arith, Bool, true, false, Option, Some, None, List, [], ◌∷◌, length, refl}
+use Rattle.std.proofs.lemmas.{Bool.lt-leb, List.Quantifiers.position-Some}
+use Rattle.std.specs.Prelude.{◌==◌, ◌&&◌, if◌then◌else◌, is_some, nat_le, nat_lt, not, position}
+use Rattle.device_rows.{specs.Places.{at, changed}, proofs.PlaceFacts.none-of}
 use Rattle.machine_words.specs.declared.settings.Settings.{Settings}
-use Rattle.machine_model.specs.{Device.after_packet, Devices.{raises_at, with_device}, Kept.is_poll, Softirq.{SoftirqView, asked_in, begun, ended, next_of}}
-use Rattle.machine_model.specs.Processor.{ProcessorView, begins, comes, ends_run, goes_on, interrupts, is_busy, is_polling, polls, polls_or, rests, takes_up, takes_up_by, uses, uses_from}
+use Rattle.machine_model.specs.{Device.after_packet, Devices.{raises_at, with_device}, Kept.is_poll}
+use Rattle.machine_model.specs.Softirq.{SoftirqView, asked_in, begun, ended, next_of}
+use Rattle.machine_model.specs.Processor.{ProcessorView, begins, comes, ends_run, goes_on, interrupts, is_busy, is_polling, polls, polls_or}
+use Rattle.machine_model.specs.Processor.{rests, takes_up, takes_up_by, uses, uses_from}
 use Rattle.machine_model.specs.declared.processor.Work.{Work}
 use Rattle.machine_model.specs.declared.processor.Work.TheVariants.{Interrupt, Nothing, Poll, Use}
 use Rattle.machine_model.proofs.KeptFacts.{run-ended}
@@ -55,11 +59,13 @@ pub either : (Q : ProcessorView → Type 0) (b : Bool) (x y : ProcessorView) →
 either Q true x y first second = first refl
 either Q false x y first second = second refl
 
-walk-uses : (P Q : ProcessorView → Type 0) → Walk P Q → (items : List ℕ) (p : ProcessorView) → p.socket.items ≡ items → Free p → P p → (p.socket.items ≡ [] → Still p) → Q (uses_from items p)
+walk-uses : (P Q : ProcessorView → Type 0) → Walk P Q → (items : List ℕ) (p : ProcessorView) → p.socket.items ≡ items → Free p → P p
+    → (p.socket.items ≡ [] → Still p) → Q (uses_from items p)
 walk-uses P Q w [] p is free held still = w.stays p free held (still is)
 walk-uses P Q w (came ∷ more) p is free held still = w.uses came more p free held is
 
-walk-asked : (P Q : ProcessorView → Type 0) → Walk P Q → (o : Option ℕ) (p other : ProcessorView) → asked_in (next_of p.softirq).run ≡ o → P (nexted p)
+walk-asked : (P Q : ProcessorView → Type 0) → Walk P Q → (o : Option ℕ) (p other : ProcessorView) → asked_in (next_of p.softirq).run ≡ o
+    → P (nexted p)
     → (asked_in (next_of p.softirq).run ≡ None → Q other) → Q (polls_or other o (nexted p))
 walk-asked P Q w None p other asked held rest = rest asked
 walk-asked P Q w (Some n) p other asked held rest = w.asks n p held asked
@@ -78,7 +84,8 @@ positive (suc k) is = omega arith
 
 -- a run that begins over a list that isn't empty asks
 begun-asks : (s : Settings) (list : List ℕ) (began clock : ℕ) → is_polling s ≡ true → not (length list == 0) ≡ true
-    → let q : SoftirqView = record { list = list; run = None; began = began } in asked_in (next_of (begun clock s.budget s.weight s.window q)).run ≡ None → ⊥
+    → let q : SoftirqView = record { list = list; run = None; began = began } in
+    asked_in (next_of (begun clock s.budget s.weight s.window q)).run ≡ None → ⊥
 unfolding next_of
 begun-asks s [] began clock polling some none = cc some
 begun-asks s (x ∷ list) began clock polling some none =
@@ -90,7 +97,8 @@ asks-one : (p : ProcessorView) → p.softirq.run ≡ None → is_polling p.setti
     → asked_in (next_of (started p).softirq).run ≡ None → ⊥
 asks-one p idle polling some none = begun-asks p.settings p.softirq.list p.softirq.began p.clock polling some none
 
-walk-begins : (P Q : ProcessorView → Type 0) → Walk P Q → (p : ProcessorView) → Free p → P p → p.softirq.run ≡ None → is_polling p.settings ≡ true
+walk-begins : (P Q : ProcessorView → Type 0) → Walk P Q → (p : ProcessorView) → Free p → P p → p.softirq.run ≡ None
+    → is_polling p.settings ≡ true
     → not (length p.softirq.list == 0) ≡ true → Q (begins p)
 unfolding begins
 walk-begins P Q w p free held none polling some =
@@ -98,43 +106,53 @@ walk-begins P Q w p free held none polling some =
     let new : Free (started p) = record { nothing = free.nothing; unasked = refl } in
     let q = nexted (started p) in
     let second : P q = w.next (started p) new first in
-    walk-asked P Q w (asked_in (next_of (started p).softirq).run) (started p) q refl second (λ asked. absurd (asks-one p none polling some asked))
+    walk-asked P Q w (asked_in (next_of (started p).softirq).run) (started p) q refl second
+    (λ asked. absurd (asks-one p none polling some asked))
 
 empty-socket : (b : Bool) (items : List ℕ) → (b && not (length items == 0)) ≡ true → items ≡ [] → ⊥
 empty-socket b items some none = cc (rw none at (both-second b (not (length items == 0)) some))
 
-walk-rests : (P Q : ProcessorView → Type 0) → Walk P Q → (p : ProcessorView) → Free p → P p → p.softirq.run ≡ None → position raises_at p.devices ≡ None → Q (rests p)
+walk-rests : (P Q : ProcessorView → Type 0) → Walk P Q → (p : ProcessorView) → Free p → P p → p.softirq.run ≡ None
+    → position raises_at p.devices ≡ None → Q (rests p)
 unfolding rests uses
 walk-rests P Q w p free held none quiet =
     let over : ProcessorView = rested p in
     let new : Free over = record { nothing = free.nothing; unasked = free.unasked } in
     let over-held : P over = w.slice p held in
-    either Q (nat_lt 0 p.slice && not (length p.socket.items == 0)) (uses p) (if is_polling p.settings && not (length p.softirq.list == 0) then begins over else uses over)
+    either Q (nat_lt 0 p.slice && not (length p.socket.items == 0)) (uses p)
+    (if is_polling p.settings && not (length p.softirq.list == 0) then begins over else uses over)
     (λ yes. walk-uses P Q w p.socket.items p refl free held (λ empty. absurd (empty-socket (nat_lt 0 p.slice) p.socket.items yes empty)))
     (λ no. either Q (is_polling p.settings && not (length p.softirq.list == 0)) (begins over) (uses over)
     (λ yes. walk-begins P Q w over new over-held none (both-first (is_polling p.settings) (not (length p.softirq.list == 0)) yes)
     (both-second (is_polling p.settings) (not (length p.softirq.list == 0)) yes))
-    (λ none-listed. walk-uses P Q w p.socket.items over refl new over-held (λ empty. record { quiet = quiet; idle = none; list = none-listed; socket = empty })))
+    (λ none-listed. walk-uses P Q w p.socket.items over refl new over-held
+    (λ empty. record { quiet = quiet; idle = none; list = none-listed; socket = empty })))
 
-walk-over : (P Q : ProcessorView → Type 0) → Walk P Q → (late : Bool) (p : ProcessorView) → Free p → P p → position raises_at p.devices ≡ None → Q (rests (ends_run late p))
+walk-over : (P Q : ProcessorView → Type 0) → Walk P Q → (late : Bool) (p : ProcessorView) → Free p → P p
+    → position raises_at p.devices ≡ None → Q (rests (ends_run late p))
 unfolding ends_run
 walk-over P Q w late p free held quiet =
     let none : (ended p.softirq).run ≡ None = run-ended p.softirq in
     walk-rests P Q w (ends_run late p) (record { nothing = free.nothing; unasked = rw none refl }) (w.over late p free held) none quiet
 
-walk-goes : (P Q : ProcessorView → Type 0) → Walk P Q → (p : ProcessorView) → Free p → P p → position raises_at p.devices ≡ None → Q (goes_on p)
+walk-goes : (P Q : ProcessorView → Type 0) → Walk P Q → (p : ProcessorView) → Free p → P p → position raises_at p.devices ≡ None
+    → Q (goes_on p)
 unfolding goes_on
 walk-goes P Q w p free held quiet =
     let q = nexted p in
     let new : P q = w.next p free held in
-    either Q (nat_le p.settings.longest (p.clock - p.softirq.began)) (rests (ends_run true p)) (polls_or (rests (ends_run false q)) (asked_in q.softirq.run) q)
+    either Q (nat_le p.settings.longest (p.clock - p.softirq.began)) (rests (ends_run true p))
+    (polls_or (rests (ends_run false q)) (asked_in q.softirq.run) q)
     (λ late. walk-over P Q w true p free held quiet)
-    (λ goes. walk-asked P Q w (asked_in q.softirq.run) p (rests (ends_run false q)) refl new (λ asked. walk-over P Q w false q (record { nothing = free.nothing; unasked = asked }) new quiet))
+    (λ goes. walk-asked P Q w (asked_in q.softirq.run) p (rests (ends_run false q)) refl new
+    (λ asked. walk-over P Q w false q (record { nothing = free.nothing; unasked = asked }) new quiet))
 
-walk-by : (P Q : ProcessorView → Type 0) → Walk P Q → (o : Option ℕ) (p : ProcessorView) → position raises_at p.devices ≡ o → Free p → P p → Q (takes_up_by o p)
+walk-by : (P Q : ProcessorView → Type 0) → Walk P Q → (o : Option ℕ) (p : ProcessorView) → position raises_at p.devices ≡ o → Free p → P p
+    → Q (takes_up_by o p)
 walk-by P Q w (Some n) p lowest free held = w.raises n p free held (position-Some raises_at p.devices n None lowest).1
 walk-by P Q w None p lowest free held =
-    either Q (is_some p.softirq.run) (goes_on p) (rests p) (λ some. walk-goes P Q w p free held lowest) (λ none. walk-rests P Q w p free held (none-of p.softirq.run none) lowest)
+    either Q (is_some p.softirq.run) (goes_on p) (rests p) (λ some. walk-goes P Q w p free held lowest)
+    (λ none. walk-rests P Q w p free held (none-of p.softirq.run none) lowest)
 
 pub walk : (P Q : ProcessorView → Type 0) → Walk P Q → (p : ProcessorView) → Free p → P p → Q (takes_up p)
 unfolding takes_up
@@ -151,8 +169,10 @@ idle-is Poll idle = cc idle
 idle-is (Use came) idle = cc idle
 
 -- a packet is taken up only where nothing is under way
-pub walk-comes : (P Q : ProcessorView → Type 0) → Walk P Q → (moment n : ℕ) (p : ProcessorView) → (is_poll p.work ≡ false → asked_in p.softirq.run ≡ None)
-    → (is_busy p.work ≡ true → Q (arrived moment n p)) → (is_busy p.work ≡ false → P (record (arrived moment n p) { clock = moment })) → Q (comes moment n p)
+pub walk-comes : (P Q : ProcessorView → Type 0) → Walk P Q → (moment n : ℕ) (p : ProcessorView)
+    → (is_poll p.work ≡ false → asked_in p.softirq.run ≡ None)
+    → (is_busy p.work ≡ true → Q (arrived moment n p)) → (is_busy p.work ≡ false → P (record (arrived moment n p) { clock = moment }))
+    → Q (comes moment n p)
 unfolding comes
 walk-comes P Q w moment n p unasked busy idle =
     let q = arrived moment n p in

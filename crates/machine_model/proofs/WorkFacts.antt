@@ -1,9 +1,15 @@
 -- A run's work is below budget and weight together, whatever happens.
-use Rattle.std.proofs.{Common.{◌≡◌, ℕ, ◌+◌, ◌<◌, ◌≤◌, Bool, true, false, Option, Some, None, List, [], ◌∷◌, length, length-take, refl, sym, arith}, lemmas.Bool.{eqb-false, leb-false}}
-use Rattle.{std.specs.Prelude.{◌==◌, ◌||◌, IfSome, if◌then◌else◌, is_some, min, nat_le, not}, poll_runs.specs.declared.bench.{Next.TheVariants.{Gone, Repoll}, Once.Once}}
+use Rattle.std.proofs.Common.{◌≡◌, ℕ, ◌+◌, ◌<◌, ◌≤◌, Bool, true, false, Option, Some, None, List, [], ◌∷◌, length, length-take, refl, sym}
+use Rattle.std.proofs.{Common.arith, lemmas.Bool.{eqb-false, leb-false}}
+use Rattle.std.specs.Prelude.{◌==◌, ◌||◌, IfSome, if◌then◌else◌, is_some, min, nat_le, not}
+use Rattle.poll_runs.specs.declared.bench.{Next.TheVariants.{Gone, Repoll}, Once.Once}
 use Rattle.machine_words.specs.declared.settings.Settings.{Settings}
-use Rattle.machine_model.specs.{Device.DeviceView, Devices.{batch_at, is_handed_at}, Kept.is_poll, Laws.{Event, WorksWithin, behind, end, packet}, Softirq.{RunView, SoftirqView, asked_in, ended, filled, is_spent, next_from, next_in, next_of, pushed, told, told_in}}
-use Rattle.machine_model.specs.Processor.{ProcessorView, comes, delivers, ends_by, ends_current, ends_interrupt, ends_poll, ends_polls, ends_run, interrupts, is_polling, polls, step}
+use Rattle.machine_model.specs.{Device.DeviceView, Devices.{batch_at, is_handed_at}, Kept.is_poll}
+use Rattle.machine_model.specs.Laws.{Event, WorksWithin, behind, end, packet}
+use Rattle.machine_model.specs.Softirq.{RunView, SoftirqView, asked_in, ended, filled, is_spent, next_from, next_in, next_of, pushed, told}
+use Rattle.machine_model.specs.Softirq.{told_in}
+use Rattle.machine_model.specs.Processor.{ProcessorView, comes, delivers, ends_by, ends_current, ends_interrupt, ends_poll, ends_polls}
+use Rattle.machine_model.specs.Processor.{ends_run, interrupts, is_polling, polls, step}
 use Rattle.device_rows.specs.Places.{at}
 use Rattle.machine_model.specs.declared.processor.Work.{Work}
 use Rattle.machine_model.specs.declared.processor.Work.TheVariants.{Interrupt, Nothing, Poll, Use}
@@ -52,17 +58,20 @@ runs-next : (s : Settings) (q : SoftirqView) → asked_in q.run ≡ None → Run
 unfolding next_of
 runs-next s q none held = next-runs s q.list q.run q.began none held
 
-runs-told : (s : Settings) (run : Option RunView) (once : Once) (n : ℕ) → asked_in run ≡ Some n → once.work ≤ s.weight → RunsIn s run → RunsIn s (told_in once run)
+runs-told : (s : Settings) (run : Option RunView) (once : Once) (n : ℕ) → asked_in run ≡ Some n → once.work ≤ s.weight → RunsIn s run
+    → RunsIn s (told_in once run)
 runs-told s None once n asked few held = tt
 runs-told s (Some r) once n asked few held =
     let below : r.work < s.budget = held.asked (rw asked refl) in
     record { budget = held.budget; work = omega (arith, below, few); asked = λ some. cc some }
 
-runs-said : (s : Settings) (q : SoftirqView) (once : Once) (n : ℕ) → asked_in q.run ≡ Some n → once.work ≤ s.weight → RunsIn s q.run → RunsIn s (told once q).run
+runs-said : (s : Settings) (q : SoftirqView) (once : Once) (n : ℕ) → asked_in q.run ≡ Some n → once.work ≤ s.weight → RunsIn s q.run
+    → RunsIn s (told once q).run
 unfolding told
 runs-said s q once n asked few held = runs-told s q.run once n asked few held
 
-pushed-runs : (s : Settings) (b : Bool) (n : ℕ) (q : SoftirqView) → RunsIn s q.run → asked_in q.run ≡ None → RunsIn s (if b then pushed n q else q).run × (asked_in (if b then pushed n q else q).run ≡ None)
+pushed-runs : (s : Settings) (b : Bool) (n : ℕ) (q : SoftirqView) → RunsIn s q.run → asked_in q.run ≡ None
+    → RunsIn s (if b then pushed n q else q).run × (asked_in (if b then pushed n q else q).run ≡ None)
 pushed-runs s true n q held none = (held, none)
 pushed-runs s false n q held none = (held, none)
 
@@ -94,7 +103,18 @@ work-over : (s : Settings) (late : Bool) (p : ProcessorView) → Rests s p → R
 unfolding ends_run ended
 work-over s late p held = record { settings = held.settings; batch = held.batch; run = tt }
 
-work-begins : (s : Settings) (p : ProcessorView) → Rests s p → is_polling p.settings ≡ true → Runs s (record { own = p.softirq.list; repoll = []; asked = None; polls = 0; work = 0; budget = p.settings.budget; weight = p.settings.weight; window = p.settings.window })
+work-begins : (s : Settings) (p : ProcessorView) → Rests s p → is_polling p.settings ≡ true
+    → Runs s
+    (record {
+      own = p.softirq.list;
+      repoll = [];
+      asked = None;
+      polls = 0;
+      work = 0;
+      budget = p.settings.budget;
+      weight = p.settings.weight;
+      window = p.settings.window;
+    })
 work-begins s p held polling =
     let some : 0 < p.settings.budget = positive p.settings.budget polling in
     let same : 0 < s.budget = rw held.settings at some in
@@ -108,14 +128,18 @@ work-walk s = record {
   over = λ late p free held. work-over s late p held;
   slice = λ p held. record { settings = held.settings; batch = held.batch; run = held.run };
   begins = λ p held none polling. record { settings = held.settings; batch = held.batch; run = work-begins s p held polling };
-  uses = λ came more p free held is. record { rests = record { settings = held.settings; batch = held.batch; run = held.run }; asked = λ not. free.unasked };
+  uses = λ came more p free held is. record {
+    rests = record { settings = held.settings; batch = held.batch; run = held.run };
+    asked = λ not. free.unasked;
+  };
   stays = λ p free held still. record { rests = held; asked = λ not. free.unasked };
 }
 
 work-lone : (s : Settings) (b : Bool) (n : ℕ) (p : ProcessorView) → 1 ≤ s.weight → Rests s p → Rests s (if b then p else ends_interrupt n p)
 unfolding ends_interrupt delivers
 work-lone s true n p most held = held
-work-lone s false n p most held = record { settings = held.settings; batch = omega (arith, most, batch-few 1 (at n p.devices)); run = held.run }
+work-lone s false n p most held =
+    record { settings = held.settings; batch = omega (arith, most, batch-few 1 (at n p.devices)); run = held.run }
 
 next-work : (full : Bool) (work : ℕ) → let once : Once = record { work = work; next = if full then Repoll else Gone } in once.work ≡ work
 next-work full work = refl
@@ -123,7 +147,8 @@ next-work full work = refl
 work-polls : (s : Settings) (o : Option ℕ) (p : ProcessorView) → asked_in p.softirq.run ≡ o → Rests s p → Rests s (ends_polls o p)
 unfolding ends_poll delivers
 work-polls s None p asked held = held
-work-polls s (Some n) p asked held = record { settings = held.settings; batch = held.batch; run = runs-said s p.softirq _ n asked held.batch held.run }
+work-polls s (Some n) p asked held =
+    record { settings = held.settings; batch = held.batch; run = runs-said s p.softirq _ n asked held.batch held.run }
 
 work-by : (s : Settings) (w : Work) (p : ProcessorView) → Rests s p → Rests s (ends_by w p)
 work-by s Nothing p held = held

@@ -1,5 +1,6 @@
 -- What packets, interrupts and polls do to a device.
-use Rattle.std.specs.Prelude.{ℕ, ◌+◌, ◌==◌, ◌||◌, ◌&&◌, not, min, nat_lt, Bool, true, false, List, [], ◌∷◌, ◌++◌, length, take, drop, if◌then◌else◌}
+use Rattle.std.specs.Prelude.{ℕ, ◌+◌, ◌==◌, ◌||◌, ◌&&◌, not, min, nat_lt, Bool, true, false, List, [], ◌∷◌, ◌++◌, length, take, drop}
+use Rattle.std.specs.Prelude.{if◌then◌else◌}
 use Rattle.napi_model.specs.Step.{idle, no_flags}
 use Rattle.napi_model.specs.declared.state.Place.TheVariants.{Listed}
 use Rattle.napi_model.specs.declared.state.State.{State}

@@ -1,5 +1,6 @@
 -- What becomes of packets over a processor's life. Lists are in the order in which things happened.
-use Rattle.std.specs.Prelude.{◌≡◌, ℕ, ◌+◌, ◌-◌, ◌<◌, ◌≤◌, ◌^◌, ◌==◌, ◌&&◌, nat_lt, not, min, Bool, true, false, List, [], ◌∷◌, ◌++◌, length, take, drop, map, Option, Some, None, if◌then◌else◌}
+use Rattle.std.specs.Prelude.{◌≡◌, ℕ, ◌+◌, ◌-◌, ◌<◌, ◌≤◌, ◌^◌, ◌==◌, ◌&&◌, nat_lt, not, min, Bool, true, false, List, [], ◌∷◌, ◌++◌, length}
+use Rattle.std.specs.Prelude.{take, drop, map, Option, Some, None, if◌then◌else◌}
 use Rattle.std.specs.List.{AllByRecursion}
 use Rattle.circular_buffer.specs.Buffer.{Buffer}
 use Rattle.device_rows.specs.Places.{at}
@@ -108,7 +109,8 @@ used s (end ∷ earlier) = used s earlier ++ using (behind s earlier).work
 
 -- law: what is delivered is refused, or is used once and in its order, or is being used or stands in the socket
 abbrev pub UsesInOrder : Type 0
-UsesInOrder = (s : Settings) (events : List Event) → let p = behind s events in kept s events ≡ used s events ++ (using p.work ++ p.socket.items)
+UsesInOrder = (s : Settings) (events : List Event) → let p = behind s events in
+    kept s events ≡ used s events ++ (using p.work ++ p.socket.items)
 
 -- the waits from coming to the end of the use, and all of them counted, one after the other
 unfoldable pub use_waits : Settings → List Event → List ℕ
@@ -139,7 +141,8 @@ least_time s = s.packet + (if is_polling s then s.poll else s.interrupt)
 
 -- law: while the clock doesn't stand at its end, no wait is less than what its work takes
 abbrev pub NoWaitIsLess : Type 0
-NoWaitIsLess = (s : Settings) (until : ℕ) (events : List Event) → until < 2 ^ 64 → InTurn s until events → (behind s events).clock < 2 ^ 64 - 1
+NoWaitIsLess = (s : Settings) (until : ℕ) (events : List Event) → until < 2 ^ 64 → InTurn s until events
+    → (behind s events).clock < 2 ^ 64 - 1
     → ((n : ℕ) → AllByRecursion (λ wait. least_time s ≤ wait) (waits n s events))
     × AllByRecursion (λ wait. least_time s + s.use_time ≤ wait) (use_waits s events)
 
@@ -164,5 +167,6 @@ TellsOfDevice = (s : Settings) (n : ℕ) (events : List Event) → Tells n s eve
 
 -- law: behind the end nothing is under way, and no packet is left in the socket or in a ring
 abbrev pub NothingIsLeft : Type 0
-NothingIsLeft = (s : Settings) (events : List Event) → InTurn s (2 ^ 64 - 1) events → let p = behind s events in is_due (2 ^ 64 - 1) p ≡ false
+NothingIsLeft = (s : Settings) (events : List Event) → InTurn s (2 ^ 64 - 1) events → let p = behind s events in
+    is_due (2 ^ 64 - 1) p ≡ false
     → (p.work ≡ Nothing) × (p.socket.items ≡ []) × ((n : ℕ) → ring_in (at n p.devices) ≡ [])

@@ -1,5 +1,6 @@
 -- Laws of the machine.
-use Rattle.std.specs.Prelude.{◌≡◌, ◌≤◌, ◌<◌, ℕ, ◌+◌, ◌-◌, ◌/◌, ◌%◌, ◌^◌, ◌==◌, true, false, List, [], ◌∷◌, Some, IfSome, slice_get, if◌then◌else◌}
+use Rattle.std.specs.Prelude.{◌≡◌, ◌≤◌, ◌<◌, ℕ, ◌+◌, ◌-◌, ◌/◌, ◌%◌, ◌^◌, ◌==◌, true, false, List, [], ◌∷◌, Some, IfSome, slice_get}
+use Rattle.std.specs.Prelude.{if◌then◌else◌}
 use Rattle.machine_words.specs.declared.settings.Settings.{Settings}
 use Rattle.machine_model.specs.Machine.{Arrives, Finishes, Machine, opened_machine}
 use Rattle.machine_model.specs.Processor.{ProcessorView, RunsTo, comes, is_due, opened_processor, step}
@@ -10,7 +11,8 @@ RunsAsOne = (moment : ℕ) (p q r : ProcessorView) → RunsTo moment p q → Run
 
 -- law: an arrival makes one machine of each
 abbrev pub ArrivesAsOne : Type 0
-ArrivesAsOne = (moment device : ℕ) (before after other : Machine) → Arrives moment device before after → Arrives moment device before other → after ≡ other
+ArrivesAsOne = (moment device : ℕ) (before after other : Machine) → Arrives moment device before after → Arrives moment device before other
+    → after ≡ other
 
 -- ---- the life of a processor
 
@@ -46,7 +48,8 @@ pub record Lived (s : Settings) (until : ℕ) (packets : List (ℕ × ℕ)) (p :
 -- packets that came to a machine, the last the first: when, and for which device; and those of a processor
 unfoldable pub Took : Settings → ℕ → List (ℕ × ℕ) → Machine → Type 0
 Took s until [] m = m ≡ opened_machine s
-Took s until ((moment, device) ∷ earlier) m = (moment ≤ until) × (before : Machine) × Took s moment earlier before × Arrives moment device before m
+Took s until ((moment, device) ∷ earlier) m =
+    (moment ≤ until) × (before : Machine) × Took s moment earlier before × Arrives moment device before m
 
 unfoldable pub own : ℕ → ℕ → List (ℕ × ℕ) → List (ℕ × ℕ)
 own processors processor [] = []

@@ -1,5 +1,6 @@
 -- A processor's poll list, and the polling run that is under way over it (`struct softnet_data`).
-use Rattle.std.specs.Prelude.{ℕ, ◌+◌, nat_le, ◌||◌, Bool, false, List, [], ◌∷◌, ◌++◌, length, drop, slice_get, Option, Some, None, if◌then◌else◌}
+use Rattle.std.specs.Prelude.{ℕ, ◌+◌, nat_le, ◌||◌, Bool, false, List, [], ◌∷◌, ◌++◌, length, drop, slice_get, Option, Some, None}
+use Rattle.std.specs.Prelude.{if◌then◌else◌}
 use Rattle.poll_runs.specs.Polls.{is_repoll}
 use Rattle.poll_runs.specs.Turn.{asked_for}
 use Rattle.poll_runs.specs.declared.bench.Once.{Once}

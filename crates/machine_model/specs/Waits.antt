@@ -1,5 +1,6 @@
 -- Waits, as they are counted.
-use Rattle.std.specs.Prelude.{ℕ, ◌+◌, ◌-◌, ◌*◌, ◌/◌, ◌^◌, ◌==◌, nat_le, min, max, List, [], ◌∷◌, replicate, slice_index_or, slice_set, if◌then◌else◌}
+use Rattle.std.specs.Prelude.{ℕ, ◌+◌, ◌-◌, ◌*◌, ◌/◌, ◌^◌, ◌==◌, nat_le, min, max, List, [], ◌∷◌, replicate, slice_index_or, slice_set}
+use Rattle.std.specs.Prelude.{if◌then◌else◌}
 use Rattle.std.specs.Int.{leading_zeros, w64}
 use Rattle.machine_model.specs.declared.waits.WaitCounts.{WaitCounts}
 

@@ -2,7 +2,8 @@
 use Rattle.std.specs.Prelude.{◌≡◌, ◌≢◌, ◌⊎◌, ℕ, List, ◌++◌, Option, Some, codes, decimal}
 use Rattle.std.specs.Io.KnownBytes.{Keeps}
 use Rattle.machine_report.specs.declared.fault.MachineFault.{MachineFault}
-use Rattle.machine_report.specs.declared.fault.MachineFault.TheVariants.{BadHeader, BadFields, BadNumber, OutOfRange, Falls, ReadFailed, OutOfMemory, OutputFailed}
+use Rattle.machine_report.specs.declared.fault.MachineFault.TheVariants.{BadHeader, BadFields, BadNumber, OutOfRange, Falls, ReadFailed}
+use Rattle.machine_report.specs.declared.fault.MachineFault.TheVariants.{OutOfMemory, OutputFailed}
 
 abbrev pub number_of : MachineFault → ℕ
 number_of BadHeader = 1

@@ -13,5 +13,6 @@ packets_of earlier (arrival ∷ arrivals) = packets_of ((arrival.moment, arrival
 
 -- law: each processor that a report tells lived with its packets among those of the bytes, and nothing is due on it
 abbrev pub ReportsLives : Type 0
-ReportsLives = (s : Settings) (bytes text : List ℕ) (r : IsReportOf s bytes text) (number : ℕ) (p : ProcessorView) → slice_get r.finished number ≡ Some p
+ReportsLives = (s : Settings) (bytes text : List ℕ) (r : IsReportOf s bytes text) (number : ℕ) (p : ProcessorView)
+    → slice_get r.finished number ≡ Some p
     → Lived s (2 ^ 64 - 1) (own s.processors number (packets_of [] r.arrivals)) p × (is_due (2 ^ 64 - 1) p ≡ false)

@@ -14,7 +14,8 @@ abbrev pub records_in : State → List ℕ → List (List (List ℕ))
 records_in state bytes = records_from default_config (length bytes + 1) state bytes
 
 -- these arrivals were given, and with those that are left they are all
-pub record HasGiven {R : Type 0} (remaining : R → Option (List ℕ)) (arrivals : Arrivals R) (earlier : List Arrival) (all : Result (List Arrival) MachineFault) : Type 0 where
+pub record HasGiven {R : Type 0} (remaining : R → Option (List ℕ)) (arrivals : Arrivals R) (earlier : List Arrival)
+    (all : Result (List Arrival) MachineFault) : Type 0 where
   pub left : List ℕ
   pub stands : StandsAt remaining arrivals.reader left
   pub between : ends_at_end (reader_state arrivals.reader) ≡ false
@@ -23,6 +24,7 @@ pub record HasGiven {R : Type 0} (remaining : R → Option (List ℕ)) (arrivals
   pub gives : all ≡ arrivals_after arrivals.processors earlier (records_in (reader_state arrivals.reader) left)
 
 -- the next one, or the end
-abbrev pub GivesNext : {R : Type 0} → (R → Option (List ℕ)) → Arrivals R → List Arrival → Result (List Arrival) MachineFault → Option Arrival → Type 0
+abbrev pub GivesNext : {R : Type 0} → (R → Option (List ℕ)) → Arrivals R → List Arrival → Result (List Arrival) MachineFault
+    → Option Arrival → Type 0
 GivesNext remaining after earlier all None = all ≡ Ok earlier
 GivesNext remaining after earlier all (Some arrival) = HasGiven remaining after (earlier ++ arrival ∷ []) all

@@ -16,11 +16,15 @@ waits_text w = words (codes "mean" ∷ decimal w.mean ∷ codes "wait50" ∷ dec
 -- ---- a device
 
 unfoldable pub polls_text : DeviceReport → List ℕ
-polls_text d = words (codes "polled" ∷ decimal d.counts.polled ∷ codes "interrupts" ∷ decimal d.counts.interrupts ∷ codes "polls" ∷ decimal d.counts.polls
+polls_text d =
+    words (codes "polled" ∷ decimal d.counts.polled ∷ codes "interrupts" ∷ decimal d.counts.interrupts
+    ∷ codes "polls" ∷ decimal d.counts.polls
     ∷ waits_text d.waits ∷ [])
 
 abbrev pub device_line : ℕ → DeviceReport → List ℕ
-device_line number d = words (codes "device" ∷ decimal number ∷ codes "arrived" ∷ decimal d.counts.arrived ∷ codes "dropped" ∷ decimal d.counts.dropped ∷ polls_text d ∷ [])
+device_line number d =
+    words (codes "device" ∷ decimal number ∷ codes "arrived" ∷ decimal d.counts.arrived
+    ∷ codes "dropped" ∷ decimal d.counts.dropped ∷ polls_text d ∷ [])
 
 -- only where a packet came for it
 abbrev pub device_lines : ℕ → Option DeviceReport → List ℕ
@@ -30,8 +34,11 @@ device_lines number (Some d) = ended (device_line number d)
 -- ---- a processor
 
 abbrev pub processor_line : ℕ → ProcessorReport → List ℕ
-processor_line number p = words (codes "processor" ∷ decimal number ∷ codes "interrupts" ∷ decimal p.counts.interrupts ∷ codes "runs" ∷ decimal p.counts.runs ∷ codes "polls" ∷ decimal p.counts.polls
-    ∷ codes "work" ∷ decimal p.counts.work ∷ codes "squeezed" ∷ decimal p.counts.squeezed ∷ codes "late" ∷ decimal p.counts.late ∷ codes "refused" ∷ decimal p.counts.refused
+processor_line number p =
+    words (codes "processor" ∷ decimal number ∷ codes "interrupts" ∷ decimal p.counts.interrupts ∷ codes "runs" ∷ decimal p.counts.runs
+    ∷ codes "polls" ∷ decimal p.counts.polls
+    ∷ codes "work" ∷ decimal p.counts.work ∷ codes "squeezed" ∷ decimal p.counts.squeezed ∷ codes "late" ∷ decimal p.counts.late
+    ∷ codes "refused" ∷ decimal p.counts.refused
     ∷ codes "used" ∷ decimal p.waits.count ∷ waits_text p.waits ∷ [])
 
 -- what is left of its clock
@@ -39,7 +46,9 @@ abbrev pub idle_of : ProcessorReport → ℕ
 idle_of p = p.end - p.counts.interrupt_time - p.counts.poll_time - p.counts.use_time
 
 abbrev pub time_line : ℕ → ProcessorReport → List ℕ
-time_line number p = words (codes "time" ∷ decimal number ∷ codes "end" ∷ decimal p.end ∷ codes "interrupt" ∷ decimal p.counts.interrupt_time ∷ codes "poll" ∷ decimal p.counts.poll_time
+time_line number p =
+    words (codes "time" ∷ decimal number ∷ codes "end" ∷ decimal p.end ∷ codes "interrupt" ∷ decimal p.counts.interrupt_time
+    ∷ codes "poll" ∷ decimal p.counts.poll_time
     ∷ codes "use" ∷ decimal p.counts.use_time ∷ codes "idle" ∷ decimal (idle_of p) ∷ [])
 
 abbrev pub processor_lines : ℕ → Option ProcessorReport → List ℕ
@@ -65,7 +74,8 @@ with_processor None t = t
 with_processor (Some p) t = record t { refused = held (t.refused + p.counts.refused); used = held (t.used + p.waits.count) }
 
 abbrev pub total_line : Totals → List ℕ
-total_line t = words (codes "total" ∷ codes "devices" ∷ decimal t.devices ∷ codes "arrived" ∷ decimal t.arrived ∷ codes "dropped" ∷ decimal t.dropped
+total_line t =
+    words (codes "total" ∷ codes "devices" ∷ decimal t.devices ∷ codes "arrived" ∷ decimal t.arrived ∷ codes "dropped" ∷ decimal t.dropped
     ∷ codes "polled" ∷ decimal t.polled ∷ codes "refused" ∷ decimal t.refused ∷ codes "used" ∷ decimal t.used ∷ [])
 
 -- ---- the text

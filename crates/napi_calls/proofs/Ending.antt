@@ -1,8 +1,13 @@
 -- The list of all seats at the end, and its one history.
-use Rattle.{napi_model.specs.{Step.{opening, IsControl}, declared.event.Event.Event, History.{LegalHistory, state_after}, Laws.is_owner}, rx_ring.specs.{declared.ends.RxCtx.RxCtx, Ends.{RingName, ring_name, received_list}}}
-use Rattle.{std.proofs.Common.{◌≡◌, ◌≢◌, ℕ, zero, suc, ◌+◌, ◌<◌, List, [], ◌∷◌, ◌++◌, length, slice_get, Option, Some, false, unwrap_or, eq-eqb, refl, sym, ap, ◌∙◌, subst, length-append, arith}, napi_word.specs.Passes.controller_of_table}
-use Rattle.napi_word.{specs.{Passes.view_of, Slot.givers, Ends.IsEnded, declared.{view.Holds.TheVariants.{Nothing, Out}, table.Pass.Pass}, View.{deliverers, own_deliveries, received_in}}, proofs.{Deliveries.received_is, Closing.get_mid}}
-use Rattle.napi_calls.{proofs.{Serving.served, Standing.is_control}, specs.{Closed.{seats_of, IsHistoryOf, IsClosed}, declared.types.{Caller.Caller, Napi.Napi}, Seats.number_of, Knows.{Controls, Has}, Instance.first_of_instance}}
+use Rattle.napi_model.specs.{Step.{opening, IsControl}, declared.event.Event.Event, History.{LegalHistory, state_after}, Laws.is_owner}
+use Rattle.rx_ring.specs.{declared.ends.RxCtx.RxCtx, Ends.{RingName, ring_name, received_list}}
+use Rattle.std.proofs.Common.{◌≡◌, ◌≢◌, ℕ, zero, suc, ◌+◌, ◌<◌, List, [], ◌∷◌, ◌++◌, length, slice_get, Option, Some, false, unwrap_or}
+use Rattle.{std.proofs.Common.{eq-eqb, refl, sym, ap, ◌∙◌, subst, length-append, arith}, napi_word.specs.Passes.controller_of_table}
+use Rattle.napi_word.specs.{Passes.view_of, Slot.givers, Ends.IsEnded, declared.{view.Holds.TheVariants.{Nothing, Out}, table.Pass.Pass}}
+use Rattle.napi_word.{specs.View.{deliverers, own_deliveries, received_in}, proofs.{Deliveries.received_is, Closing.get_mid}}
+use Rattle.napi_calls.proofs.{Serving.served, Standing.is_control}
+use Rattle.napi_calls.specs.{Closed.{seats_of, IsHistoryOf, IsClosed}, declared.types.{Caller.Caller, Napi.Napi}, Seats.number_of}
+use Rattle.napi_calls.specs.{Knows.{Controls, Has}, Instance.first_of_instance}
 use Rattle.napi_model.specs.declared.state.Place.TheVariants as place
 
 pub seats_length : (cs : List Caller) → length (seats_of cs) ≡ length cs
@@ -20,17 +25,22 @@ seats_more [] c = refl
 seats_more (x ∷ xs) c = ap (λ (l : List Pass). x.pass ∷ l) (seats_more xs c)
 
 -- the seats of the callers made so far, one more, and those that are left
-pub next_seat : (cs : List Caller) (all rest : List Pass) (p : Pass) (n : ℕ) → all ≡ seats_of cs ++ p ∷ rest → n ≡ length cs → (n < length all) × (slice_get all n ≡ Some p)
+pub next_seat : (cs : List Caller) (all rest : List Pass) (p : Pass) (n : ℕ) → all ≡ seats_of cs ++ p ∷ rest → n ≡ length cs
+    → (n < length all) × (slice_get all n ≡ Some p)
 next_seat cs all rest p n e is =
     let same = seats_length cs in
     let whole : length all ≡ length (seats_of cs) + length (p ∷ rest) = ap length e ∙ length-append (seats_of cs) (p ∷ rest) in
-    let one : length (p ∷ rest) ≡ length rest + 1 = omega arith in
-    (omega (arith, whole, one, same, is), ap (slice_get all) (is ∙ sym same) ∙ ap (λ l. slice_get l (length (seats_of cs))) e ∙ get_mid (seats_of cs) rest p)
+    let one : length (p ∷ rest) ≡ length rest + 1 = omega arith in (
+      omega (arith, whole, one, same, is),
+      ap (slice_get all) (is ∙ sym same) ∙ ap (λ l. slice_get l (length (seats_of cs))) e
+          ∙ get_mid (seats_of cs) rest p,
+    )
 
 pub all_count : (cs : List Caller) (p : Pass) → length (seats_of cs ++ p ∷ []) ≡ length cs + 1
 all_count cs p = length-append (seats_of cs) (p ∷ []) ∙ ap (λ (n : ℕ). n + 1) (seats_length cs)
 
-module _ (n : Napi) (cs : List Caller) (p : Pass) (left : Option RxCtx) (k : Controls place.Control false p) (e : IsEnded n.table (seats_of cs ++ p ∷ []) left) where
+module _ (n : Napi) (cs : List Caller) (p : Pass) (left : Option RxCtx) (k : Controls place.Control false p)
+    (e : IsEnded n.table (seats_of cs ++ p ∷ []) left) where
   at : slice_get (seats_of cs ++ p ∷ []) (length (seats_of cs)) ≡ Some p
   at = get_mid (seats_of cs) [] p
 
@@ -38,7 +48,8 @@ module _ (n : Napi) (cs : List Caller) (p : Pass) (left : Option RxCtx) (k : Con
   ends =
       let i = length (seats_of cs) in
       let held = is_control k.stands in
-      e.places i p at (ap (is_owner (number_of p)) held ∙ eq-eqb (number_of p) (number_of p) refl) ∙ held ∙ ap place.Control (k.stands.number ∙ e.controllers i p at)
+      e.places i p at (ap (is_owner (number_of p)) held ∙ eq-eqb (number_of p) (number_of p) refl) ∙ held
+      ∙ ap place.Control (k.stands.number ∙ e.controllers i p at)
 
   one_history : IsHistoryOf (controller_of_table n.table) (seats_of cs ++ p ∷ []) e.history
   one_history = record {
@@ -52,7 +63,8 @@ module _ (n : Napi) (cs : List Caller) (p : Pass) (left : Option RxCtx) (k : Con
     served = λ front ev rest is accepted.
         served (controller_of_table n.table) front ev rest
         (subst (LegalHistory (controller_of_table n.table) (opening (controller_of_table n.table))) is e.legal)
-        (subst (λ (h : List Event). IsControl (state_after (opening (controller_of_table n.table)) h).place) is (subst IsControl (sym ends) tt)) accepted;
+        (subst (λ (h : List Event). IsControl (state_after (opening (controller_of_table n.table)) h).place) is
+        (subst IsControl (sym ends) tt)) accepted;
   }
 
   pub closed : (ctx : RxCtx) → Has p (Some ctx) → received_list ctx ≡ received_in (view_of p) → IsClosed n cs p ctx

@@ -1,7 +1,11 @@
 -- New seats.
-use Rattle.{std.proofs.Common.{Option, unwrap_or, append-nil, ◌≡◌, ℕ, zero, suc, ◌<◌, List, [], ◌∷◌, ◌++◌, slice_get, length, Some, Bool, cond, false, ne_eqb, refl, sym, ap, ◌∙◌, subst, arith}, rx_ring.specs.declared.ends.RxCtx.RxCtx}
-use Rattle.{rx_ring.specs.Ends.{ring_name, received_list}, napi_model.specs.{declared.state.Place.Place, Step.opening, History.{LegalHistory, own, state_after}}, napi_word.specs.declared.table.{Pass.Pass, StateTable.StateTable}}
-use Rattle.{napi_word.{specs.{View.View, Rule.strand, Passes.{view_of, ctx_of, IsNew, IsPassOf, ring_of_table}}, proofs.Closing.get_mid}, napi_calls.specs.{declared.types.Napi.Napi, Knows.{own_place, Free, Stands, Controls}}}
+use Rattle.std.proofs.Common.{Option, unwrap_or, append-nil, ◌≡◌, ℕ, zero, suc, ◌<◌, List, [], ◌∷◌, ◌++◌, slice_get, length, Some, Bool}
+use Rattle.{std.proofs.Common.{cond, false, ne_eqb, refl, sym, ap, ◌∙◌, subst, arith}, rx_ring.specs.declared.ends.RxCtx.RxCtx}
+use Rattle.rx_ring.specs.Ends.{ring_name, received_list}
+use Rattle.napi_model.specs.{declared.state.Place.Place, Step.opening, History.{LegalHistory, own, state_after}}
+use Rattle.napi_word.specs.declared.table.{Pass.Pass, StateTable.StateTable}
+use Rattle.napi_word.{specs.{View.View, Rule.strand, Passes.{view_of, ctx_of, IsNew, IsPassOf, ring_of_table}}, proofs.Closing.get_mid}
+use Rattle.napi_calls.specs.{declared.types.Napi.Napi, Knows.{own_place, Free, Stands, Controls}}
 use Rattle.napi_calls.{specs.Instance.IsNewSeat, proofs.Standing.own_self}
 use Rattle.napi_word.specs.View as view
 
@@ -16,7 +20,8 @@ unflagged : (last : ℕ) (of : RxCtx) (c : ℕ) → view.disable_in (seat last o
 unfolding state_after
 unflagged last of c = refl
 
-blank : (role : ℕ → Place) (last : ℕ) (of : RxCtx) (c : ℕ) (p : Pass) → view_of p ≡ seat last of c → own_place c (Place.Control last) ≡ role c → Stands role c p
+blank : (role : ℕ → Place) (last : ℕ) (of : RxCtx) (c : ℕ) (p : Pass) → view_of p ≡ seat last of c
+    → own_place c (Place.Control last) ≡ role c → Stands role c p
 unfolding LegalHistory own
 blank role last of c p e is = record {
   number = ap view.number_of e;
@@ -27,7 +32,8 @@ blank role last of c p e is = record {
 
 pub new_stands : {t : StateTable} {last : ℕ} {of : RxCtx} {c : ℕ} (p : Pass) → IsNew t last of c p → c < last → Stands Free c p
 new_stands {t} {last} {of} {c} p new low =
-    blank Free last of c p new.view (ap (λ (b : Bool). cond b (Place.Control last) Place.Nobody) (ne_eqb last c (λ e. omega (arith, low, e))))
+    blank Free last of c p new.view
+    (ap (λ (b : Bool). cond b (Place.Control last) Place.Nobody) (ne_eqb last c (λ e. omega (arith, low, e))))
 
 pub new_controls : {t : StateTable} {last : ℕ} {of : RxCtx} (p : Pass) → IsNew t last of last p → Controls Place.Control false p
 new_controls {t} {last} {of} p new =
@@ -37,14 +43,16 @@ new_controls {t} {last} {of} p new =
     }
 
 -- the controller's has the context that was handed in
-pub new_exact : {t : StateTable} {last : ℕ} {of : RxCtx} (p q : Pass) (x : RxCtx) → IsNew t last of last p → ctx_of p ≡ Some x → view_of q ≡ view_of p → received_list x ≡ view.received_in (view_of q)
+pub new_exact : {t : StateTable} {last : ℕ} {of : RxCtx} (p q : Pass) (x : RxCtx) → IsNew t last of last p → ctx_of p ≡ Some x
+    → view_of q ≡ view_of p → received_list x ≡ view.received_in (view_of q)
 new_exact {t} {last} {of} p q x new is same =
     let l = new.laid refl in
     let one : x ≡ l.laid = ap (λ (o : Option RxCtx). unwrap_or o x) (sym is ∙ l.within) in
     ap received_list one ∙ l.received ∙ sym (append-nil (received_list of)) ∙ sym (ap view.received_in (same ∙ new.view))
 
 -- a seat that shows what it showed when it was made
-pub new_seat : (n : Napi) {last : ℕ} {of : RxCtx} {c : ℕ} (p : Pass) → IsPassOf n.table p → view_of p ≡ strand last of c ∷ [] → last ≡ n.callers → ring_of_table n.table ≡ ring_name of → IsNewSeat n c p
+pub new_seat : (n : Napi) {last : ℕ} {of : RxCtx} {c : ℕ} (p : Pass) → IsPassOf n.table p → view_of p ≡ strand last of c ∷ []
+    → last ≡ n.callers → ring_of_table n.table ≡ ring_name of → IsNewSeat n c p
 new_seat n {last} {of} {c} p table e count ring = record {
   instance = table;
   number_is = ap view.number_of e;

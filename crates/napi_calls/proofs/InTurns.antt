@@ -1,9 +1,12 @@
 -- The history of two callers in turn: each number's events, and how many there are in all.
-use Rattle.{std.proofs.Common.{◌≡◌, ◌≢◌, ℕ, zero, suc, ◌+◌, ◌<◌, Bool, true, false, List, [], ◌∷◌, ◌++◌, length, eqb, eq-eqb, ne_eqb, eqb-true, true≢false, refl, sym, ap, ◌∙◌, arith}, napi_model.specs.declared.event.Event.Event}
-use Rattle.{napi_model.specs.{declared.event.Operation.Operation, History.own}, napi_word.specs.declared.table.Pass.Pass, napi_calls.specs.{declared.types.Napi.Napi, Seats.{number_of, own_list}, Instance.IsNewSeat, Made.{Made, events}}}
+use Rattle.std.proofs.Common.{◌≡◌, ◌≢◌, ℕ, zero, suc, ◌+◌, ◌<◌, Bool, true, false, List, [], ◌∷◌, ◌++◌, length, eqb, eq-eqb, ne_eqb}
+use Rattle.{std.proofs.Common.{eqb-true, true≢false, refl, sym, ap, ◌∙◌, arith}, napi_model.specs.declared.event.Event.Event}
+use Rattle.{napi_model.specs.{declared.event.Operation.Operation, History.own}, napi_word.specs.declared.table.Pass.Pass}
+use Rattle.napi_calls.specs.{declared.types.Napi.Napi, Seats.{number_of, own_list}, Instance.IsNewSeat, Made.{Made, events}}
 
 -- the events of a number whose seat was new, and then made these
-pub own_of : (n : Napi) (c : ℕ) (p q : Pass) (os : List Operation) (h : List Event) → IsNewSeat n c p → Made p os q → own (number_of q) h ≡ own_list q → own c h ≡ events c os
+pub own_of : (n : Napi) (c : ℕ) (p q : Pass) (os : List Operation) (h : List Event) → IsNewSeat n c p → Made p os q
+    → own (number_of q) h ≡ own_list q → own c h ≡ events c os
 own_of n c p q os h new m exact =
     ap (λ (k : ℕ). own k h) (sym (m.seat.number ∙ new.number_is)) ∙ exact ∙ m.grown
     ∙ ap (λ (l : List Event). l ++ events (number_of p) os) new.nothing_done ∙ ap (λ (k : ℕ). events k os) new.number_is

@@ -1,8 +1,12 @@
 -- What a call made, step by step, and call by call.
-use Rattle.std.proofs.{Common.{◌≡◌, ◌≢◌, ℕ, List, [], ◌∷◌, ◌++◌, flat_map, Option, Some, None, false, refl, sym, ap, ◌∙◌, subst, append-nil, append_assoc}, lemmas.List.{map-append, Concat.flat_map-append}}
-use Rattle.napi_model.specs.{declared.{event.{Event.Event, Call.Call, Operation.{Operation, TheVariants.{Look, MarkDisable, TakeDisable}}}, state.{Seen.Seen, Place.Place}}, Step.{event, opening}, History.{LegalHistory, own}}
-use Rattle.{napi_word.specs.{declared.table.Pass.Pass, View.View, Events.Steps, Passes.{view_of, SameTable}}, napi_calls.specs.{Seats.{SameSeat, number_of, shown, own_list}, Knows.Stands}}
-use Rattle.napi_calls.{specs.Made.{EndsWith, Made, GoesOn, Lost, WasLost, looks, waits, events}, proofs.{Steps.{shows_more, shows_legal, prefix_trans}, Standing.shows_of}}
+use Rattle.std.proofs.Common.{◌≡◌, ◌≢◌, ℕ, List, [], ◌∷◌, ◌++◌, flat_map, Option, Some, None, false, refl, sym, ap, ◌∙◌, subst, append-nil}
+use Rattle.std.proofs.{Common.append_assoc, lemmas.List.{map-append, Concat.flat_map-append}}
+use Rattle.napi_model.specs.declared.event.{Event.Event, Call.Call, Operation.{Operation, TheVariants.{Look, MarkDisable, TakeDisable}}}
+use Rattle.napi_model.specs.{declared.state.{Seen.Seen, Place.Place}, Step.{event, opening}, History.{LegalHistory, own}}
+use Rattle.napi_word.specs.{declared.table.Pass.Pass, View.View, Events.Steps, Passes.{view_of, SameTable}}
+use Rattle.napi_calls.specs.{Seats.{SameSeat, number_of, shown, own_list}, Knows.Stands}
+use Rattle.napi_calls.specs.Made.{EndsWith, Made, GoesOn, Lost, WasLost, looks, waits, events}
+use Rattle.napi_calls.proofs.{Steps.{shows_more, shows_legal, prefix_trans}, Standing.shows_of}
 use mathlib.Core.List.{IsPrefix}
 use Rattle.napi_word.specs.View as view
 
@@ -10,12 +14,14 @@ ends_one : (c : ℕ) (os : List Operation) (o : Operation) (h : List Event) → 
 ends_one c (x ∷ y ∷ os) o h = ends_one c (y ∷ os) o h
 ends_one c os o h = (h, refl)
 
-ends_more : (c : ℕ) (os : List Operation) (o : Operation) (ps : List Operation) (h : List Event) → EndsWith (events c (o ∷ ps)) h → EndsWith (events c (os ++ o ∷ ps)) h
+ends_more : (c : ℕ) (os : List Operation) (o : Operation) (ps : List Operation) (h : List Event) → EndsWith (events c (o ∷ ps)) h
+    → EndsWith (events c (os ++ o ∷ ps)) h
 ends_more c (x ∷ y ∷ os) o ps h e = ends_more c (y ∷ os) o ps h e
 ends_more c os o ps h e = e
 
 pub seat_same : {p q r : Pass} → SameSeat p q → SameSeat q r → SameSeat p r
-seat_same a b = record { table = b.table ∙ a.table; number = b.number ∙ a.number; controller = b.controller ∙ a.controller; ring = b.ring ∙ a.ring }
+seat_same a b =
+    record { table = b.table ∙ a.table; number = b.number ∙ a.number; controller = b.controller ∙ a.controller; ring = b.ring ∙ a.ring }
 
 pub nothing : {r : ℕ → Place} {c : ℕ} {p : Pass} → Stands r c p → Made p [] p
 nothing {r} {c} {p} st = record {
@@ -29,7 +35,8 @@ nothing {r} {c} {p} st = record {
 -- the slot is no event
 pub still : {p q : Pass} {os : List Operation} (r : Pass) → Made p os q → SameTable q r → view_of r ≡ view_of q → Made p os r
 still {p} {q} {os} r m t e = record {
-  seat = seat_same m.seat (record { table = t; number = ap view.number_of e; controller = ap view.controller_of e; ring = ap view.ring_of e });
+  seat = seat_same m.seat
+      (record { table = t; number = ap view.number_of e; controller = ap view.controller_of e; ring = ap view.ring_of e });
   begins = subst (λ (v : View). IsPrefix (shown p) (view.shown v)) (sym e) m.begins;
   grown = ap view.mine e ∙ m.grown;
   ends = subst (λ (v : View). EndsWith (events (number_of p) os) (view.shown v)) (sym e) m.ends;
@@ -40,27 +47,32 @@ still {p} {q} {os} r m t e = record {
 }
 
 -- one step more
-pub step : {p q : Pass} {os : List Operation} {o : Operation} (r : Pass) → Made p os q → SameTable q r → Steps (view_of q) o (view_of r) → Made p (os ++ o ∷ []) r
+pub step : {p q : Pass} {os : List Operation} {o : Operation} (r : Pass) → Made p os q → SameTable q r → Steps (view_of q) o (view_of r)
+    → Made p (os ++ o ∷ []) r
 step {p} {q} {os} {o} r m t g =
     let c = number_of p in
     let num : number_of q ≡ c = m.seat.number in record {
       seat = seat_same m.seat (record { table = t; number = g.number; controller = g.controller; ring = g.ring });
       begins = prefix_trans (shown p) (shown q) (shown r) m.begins (shows_more q o r g);
       grown = g.grows ∙ ap (λ (n : ℕ). own_list q ++ event n o ∷ []) num ∙ ap (λ (l : List Event). l ++ event c o ∷ []) m.grown
-          ∙ append_assoc (own_list p) (events c os) (event c o ∷ []) ∙ ap (λ (l : List Event). own_list p ++ l) (sym (map-append (event c) os (o ∷ [])));
-      ends = subst (EndsWith (events c (os ++ o ∷ []))) (sym (g.ends ∙ ap (λ (n : ℕ). g.before ++ event n o ∷ []) num)) (ends_one c os o g.before);
+          ∙ append_assoc (own_list p) (events c os) (event c o ∷ [])
+          ∙ ap (λ (l : List Event). own_list p ++ l) (sym (map-append (event c) os (o ∷ [])));
+      ends = subst (EndsWith (events c (os ++ o ∷ []))) (sym (g.ends ∙ ap (λ (n : ℕ). g.before ++ event n o ∷ []) num))
+          (ends_one c os o g.before);
       shows = shows_legal q o r g;
     }
 
 -- one call after another
-pub more : {p q r : Pass} {os : List Operation} (o : Operation) (ps : List Operation) → Made p os q → Made q (o ∷ ps) r → Made p (os ++ o ∷ ps) r
+pub more : {p q r : Pass} {os : List Operation} (o : Operation) (ps : List Operation) → Made p os q → Made q (o ∷ ps) r
+    → Made p (os ++ o ∷ ps) r
 more {p} {q} {r} {os} o ps m n =
     let c = number_of p in
     let num : number_of q ≡ c = m.seat.number in record {
       seat = seat_same m.seat n.seat;
       begins = prefix_trans (shown p) (shown q) (shown r) m.begins n.begins;
       grown = n.grown ∙ ap (λ (k : ℕ). own_list q ++ events k (o ∷ ps)) num ∙ ap (λ (l : List Event). l ++ events c (o ∷ ps)) m.grown
-          ∙ append_assoc (own_list p) (events c os) (events c (o ∷ ps)) ∙ ap (λ (l : List Event). own_list p ++ l) (sym (map-append (event c) os (o ∷ ps)));
+          ∙ append_assoc (own_list p) (events c os) (events c (o ∷ ps))
+          ∙ ap (λ (l : List Event). own_list p ++ l) (sym (map-append (event c) os (o ∷ ps)));
       ends = ends_more c os o ps (shown r) (subst (λ (k : ℕ). EndsWith (events k (o ∷ ps)) (shown r)) num n.ends);
       shows = n.shows;
     }
@@ -70,10 +82,14 @@ more {p} {q} {r} {os} o ps m n =
 pub lost : {p q : Pass} (c : Call) (x y : Seen) → GoesOn c x.flags → y ≢ x → Made p (Look x ∷ Look y ∷ []) q → WasLost c p q
 lost c x y on differ m = (record { first = x; goes_on = on; second = y; differ = differ }, m)
 
-pub more_lost : {p q r : Pass} {c : Call} (ts : List (Lost c)) → Made p (flat_map looks ts) q → WasLost c q r → (us : List (Lost c)) × Made p (flat_map looks us) r
+pub more_lost : {p q r : Pass} {c : Call} (ts : List (Lost c)) → Made p (flat_map looks ts) q → WasLost c q r
+    → (us : List (Lost c)) × Made p (flat_map looks us) r
 more_lost {p} {q} {r} {c} ts m w =
-    let t = w.0 in
-    (ts ++ t ∷ [], subst (λ (os : List Operation). Made p os r) (sym (flat_map-append looks ts (t ∷ []))) (more (Look t.first) (Look t.second ∷ []) m w.1))
+    let t = w.0 in (
+      ts ++ t ∷ [],
+      subst (λ (os : List Operation). Made p os r) (sym (flat_map-append looks ts (t ∷ [])))
+          (more (Look t.first) (Look t.second ∷ []) m w.1),
+    )
 
 -- the mark, and then the tries that decided nothing
 abbrev pub Waited : Pass → Pass → Type 0
@@ -82,10 +98,16 @@ Waited p q = (ts : List (Option (Lost Call.TakeDisable))) × Made p (MarkDisable
 pub more_waits : {p q r : Pass} → Waited p q → WasLost Call.TakeDisable q r → Waited p r
 more_waits {p} {q} {r} m w =
     let ts = m.0 in
-    let t = w.0 in
-    (ts ++ Some t ∷ [], subst (λ (os : List Operation). Made p (MarkDisable ∷ os) r) (sym (flat_map-append waits ts (Some t ∷ []))) (more (Look t.first) (Look t.second ∷ []) m.1 w.1))
+    let t = w.0 in (
+      ts ++ Some t ∷ [],
+      subst (λ (os : List Operation). Made p (MarkDisable ∷ os) r) (sym (flat_map-append waits ts (Some t ∷ [])))
+          (more (Look t.first) (Look t.second ∷ []) m.1 w.1),
+    )
 
 pub more_busy : {p q r : Pass} → Waited p q → Made q (TakeDisable false ∷ []) r → Waited p r
 more_busy {p} {q} {r} m w =
-    let ts = m.0 in
-    (ts ++ None ∷ [], subst (λ (os : List Operation). Made p (MarkDisable ∷ os) r) (sym (flat_map-append waits ts (None ∷ []))) (more (TakeDisable false) [] m.1 w))
+    let ts = m.0 in (
+      ts ++ None ∷ [],
+      subst (λ (os : List Operation). Made p (MarkDisable ∷ os) r) (sym (flat_map-append waits ts (None ∷ [])))
+          (more (TakeDisable false) [] m.1 w),
+    )

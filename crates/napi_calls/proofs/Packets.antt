@@ -1,8 +1,13 @@
 -- What steps do with the packets, one after another.
-use Rattle.{std.proofs.Common.{◌≡◌, ℕ, Bool, true, false, List, [], ◌∷◌, ◌++◌, length, drop, Some, refl, sym, ap, ◌∙◌, subst, append_assoc}, rx_ring.specs.declared.{packet.Packet.Packet, ends.RxCtx.RxCtx}}
-use Rattle.{rx_ring.specs.Ends.{received_list, is_beside}, napi_model.specs.declared.event.Operation.Operation, napi_word.specs.declared.{table.Pass.Pass, view.Holds.Holds}}
-use Rattle.napi_word.specs.{View.{View, own_deliveries, delivery, Continues}, Slot.{Delivers, Gives, owns_slot, has_slot, ctx_in}, Events.Steps, Passes.{view_of, ctx_of, received_of, IsLaid}}
-use Rattle.{napi_word.proofs.Deliveries.{drop_front, received_stays, some_is}, napi_calls.{specs.{Seats.number_of, Packets.{delivered, received_before, polled, IsSame, Quiet, HoldsOn, IsFresh, GivesBack}}, proofs.Standing.fresh}}
+use Rattle.std.proofs.Common.{◌≡◌, ℕ, Bool, true, false, List, [], ◌∷◌, ◌++◌, length, drop, Some, refl, sym, ap, ◌∙◌, subst, append_assoc}
+use Rattle.rx_ring.specs.declared.{packet.Packet.Packet, ends.RxCtx.RxCtx}
+use Rattle.{rx_ring.specs.Ends.{received_list, is_beside}, napi_model.specs.declared.event.Operation.Operation}
+use Rattle.napi_word.specs.declared.{table.Pass.Pass, view.Holds.Holds}
+use Rattle.napi_word.specs.{View.{View, own_deliveries, delivery, Continues}, Slot.{Delivers, Gives, owns_slot, has_slot, ctx_in}}
+use Rattle.napi_word.specs.{Events.Steps, Passes.{view_of, ctx_of, received_of, IsLaid}}
+use Rattle.napi_word.proofs.Deliveries.{drop_front, received_stays, some_is}
+use Rattle.napi_calls.specs.{Seats.number_of, Packets.{delivered, received_before, polled, IsSame, Quiet, HoldsOn, IsFresh, GivesBack}}
+use Rattle.napi_calls.proofs.Standing.{fresh}
 use Rattle.napi_word.specs.View as view
 use Rattle.napi_word.specs.Slot as slot
 
@@ -21,7 +26,9 @@ same_more a b = record {
 
 -- what lies in the slot is the context that was laid there
 same_laid : {x : RxCtx} (p : Pass) (y : RxCtx) → IsLaid x p → ctx_of p ≡ Some y → IsSame x y
-same_laid {x} p y l is = subst (λ (z : RxCtx). IsSame x z) (some_is (sym l.within ∙ is)) (record { ring = l.ring; received = l.received; known = l.known; polls = l.polls })
+same_laid {x} p y l is =
+    subst (λ (z : RxCtx). IsSame x z) (some_is (sym l.within ∙ is))
+    (record { ring = l.ring; received = l.received; known = l.known; polls = l.polls })
 
 -- ---- who delivers nothing
 
@@ -29,7 +36,8 @@ pub quiet_step : {o : Operation} (p q : Pass) → Steps (view_of p) o (view_of q
 quiet_step p q s g = ap (λ (n : ℕ). own_deliveries n (delivered q)) s.number ∙ ap (own_deliveries (number_of p)) g.shifts.0 ∙ g.exact
 
 -- who hasn't the slot gives nothing back
-pub quiet_given : {o : Operation} (p q : Pass) → Steps (view_of p) o (view_of q) → owns_slot (view_of p) ≡ false → Delivers slot.given p.seat.me q.seat.me → Quiet p q
+pub quiet_given : {o : Operation} (p q : Pass) → Steps (view_of p) o (view_of q) → owns_slot (view_of p) ≡ false
+    → Delivers slot.given p.seat.me q.seat.me → Quiet p q
 quiet_given p q s none g =
     let e = subst (λ (b : Bool). Gives b g.before p.seat.me q.seat.me) none g.shifts in
     ap (λ (n : ℕ). own_deliveries n (delivered q)) s.number ∙ ap (own_deliveries (number_of p)) e.0 ∙ g.exact
@@ -63,19 +71,26 @@ held_more a b = record { deliveries = b.deliveries ∙ a.deliveries; received = 
 
 -- ---- who takes it
 
-pub taken : {o : Operation} (p q r : Pass) (x : RxCtx) → Steps (view_of p) o (view_of q) → Delivers slot.taken p.seat.me q.seat.me → received_list x ≡ received_of q → view_of r ≡ view_of q → is_beside x ≡ false → IsFresh p r x
-taken p q r x s g is same unmarked = record { quiet = quiet_still p q r (quiet_taken p q s g) same; received = fresh p q r x g is same; unmarked = unmarked }
+pub taken : {o : Operation} (p q r : Pass) (x : RxCtx) → Steps (view_of p) o (view_of q) → Delivers slot.taken p.seat.me q.seat.me
+    → received_list x ≡ received_of q → view_of r ≡ view_of q → is_beside x ≡ false → IsFresh p r x
+taken p q r x s g is same unmarked =
+    record { quiet = quiet_still p q r (quiet_taken p q s g) same; received = fresh p q r x g is same; unmarked = unmarked }
 
 pub fresh_behind : (p q r : Pass) (x : RxCtx) → Quiet p q → IsFresh q r x → IsFresh p r x
 fresh_behind p q r x h f = record { quiet = f.quiet ∙ h; received = f.received; unmarked = f.unmarked }
 
 pub fresh_held : (p q r : Pass) (x : RxCtx) → IsFresh p q x → HoldsOn q r → number_of r ≡ number_of q → IsFresh p r x
-fresh_held p q r x f h num = record { quiet = (λ i. own_deliveries (num i) (h.deliveries i)) ∙ f.quiet; received = f.received ∙ sym h.received; unmarked = f.unmarked }
+fresh_held p q r x f h num = record {
+  quiet = (λ i. own_deliveries (num i) (h.deliveries i)) ∙ f.quiet;
+  received = f.received ∙ sym h.received;
+  unmarked = f.unmarked;
+}
 
 -- ---- who gives it back
 
 -- p has the context out, q has it in the slot, from where the step gave it away
-pub gives_back : (p q r : Pass) (x : RxCtx) → HoldsOn p q → number_of q ≡ number_of p → IsLaid x q → owns_slot (view_of q) ≡ true → Delivers slot.given q.seat.me r.seat.me → GivesBack p x r
+pub gives_back : (p q r : Pass) (x : RxCtx) → HoldsOn p q → number_of q ≡ number_of p → IsLaid x q → owns_slot (view_of q) ≡ true
+    → Delivers slot.given q.seat.me r.seat.me → GivesBack p x r
 gives_back p q r x h num l has g =
     let e = subst (λ (b : Bool). Gives b g.before q.seat.me r.seat.me) has g.shifts in
     let same : IsSame x e.0 = same_laid q e.0 l (ap ctx_in e.2) in
@@ -88,8 +103,10 @@ gives_back p q r x h num l has g =
     }
 
 -- the exchange was lost, and the context came out again
-pub got_back : (p q r s : Pass) (x y : RxCtx) → HoldsOn p q → IsLaid x q → owns_slot (view_of q) ≡ true → Delivers slot.stays q.seat.me r.seat.me → view_of s ≡ view_of r → ctx_of r ≡ Some y → HoldsOn p s × IsSame x y
-got_back p q r s x y h l has g same is = (held_still s (held_more h (held_step q r has g)) same, same_laid q y l (sym (ap ctx_in g.shifts.1) ∙ is))
+pub got_back : (p q r s : Pass) (x y : RxCtx) → HoldsOn p q → IsLaid x q → owns_slot (view_of q) ≡ true
+    → Delivers slot.stays q.seat.me r.seat.me → view_of s ≡ view_of r → ctx_of r ≡ Some y → HoldsOn p s × IsSame x y
+got_back p q r s x y h l has g same is =
+    (held_still s (held_more h (held_step q r has g)) same, same_laid q y l (sym (ap ctx_in g.shifts.1) ∙ is))
 
 pub gives_behind : {p q r : Pass} {x y : RxCtx} → HoldsOn p q → number_of q ≡ number_of p → IsSame x y → GivesBack q y r → GivesBack p x r
 gives_behind h num s g = record {
@@ -101,7 +118,9 @@ gives_behind h num s g = record {
 -- ---- what was polled
 
 -- a poll adds its batch
-pub polled_more : (before now next batch : List Packet) → Continues before now → next ≡ now ++ batch → drop (length before) next ≡ drop (length before) now ++ batch
+pub polled_more : (before now next batch : List Packet) → Continues before now → next ≡ now ++ batch
+    → drop (length before) next ≡ drop (length before) now ++ batch
 polled_more before now next batch has e =
     let more = drop (length before) now in
-    ap (drop (length before)) (e ∙ ap (λ (l : List Packet). l ++ batch) has ∙ append_assoc before more batch) ∙ drop_front before (more ++ batch)
+    ap (drop (length before)) (e ∙ ap (λ (l : List Packet). l ++ batch) has ∙ append_assoc before more batch)
+    ∙ drop_front before (more ++ batch)

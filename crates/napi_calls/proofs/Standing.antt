@@ -1,16 +1,24 @@
 -- What a value knows after a step.
-use Rattle.{std.proofs.Common.{◌≡◌, ℕ, Bool, true, false, cond, List, Option, Some, None, unwrap_or, true≢false, eq-eqb, refl, sym, ap, ◌∙◌, subst}, napi_model.specs.declared.state.Place.TheVariants.{Nobody, Granted, Polling, Control}}
-use Rattle.{rx_ring.specs.{declared.ends.{RxIn.RxIn, RxCtx.RxCtx}, Ends.{RingName, ring_name, received_list, IsOneRing}}, napi_word.specs.{Slot.{Delivers, has_slot}, View.View, Events.Steps}, napi_model.specs.Step.{opening, after_by}}
-use Rattle.{rx_ring.specs.declared.packet.Packet.Packet, napi_word.specs.declared.view.Holds.TheVariants.{Out, Nothing}, napi_calls.proofs.Steps.{found, state_stepped, shows_legal}}
-use Rattle.{napi_word.proofs.{Deliveries.{of_prefix, prefix_self, received_stays}, Knowing.{unbusy, take_polls, quiet_polls, step_of}}, napi_calls.{specs.Knows.{own_place, Free, Stands, BusyPolls, Controls, Has}, proofs.Whole.whole}}
-use Rattle.{napi_model.specs.{declared.state.{Kind.Kind, Seen.Seen, State.State, Place.Place}, History.{LegalHistory, own}, Laws.{is_owner, IsOwnedBy, IsPolled}}, napi_word.specs.{declared.table.Pass.Pass, Passes.{view_of, received_of}}}
-use Rattle.{napi_model.specs.declared.event.Operation.{Operation, TheVariants.{Look, Hand, Take, MarkDisable, TakeDisable, Unmark, Enable}}, napi_calls.specs.Seats.{number_of, controller_of, shown, state_of, ring_of, ShowsLegal, IsInputOf}}
+use Rattle.std.proofs.Common.{◌≡◌, ℕ, Bool, true, false, cond, List, Option, Some, None, unwrap_or, true≢false, eq-eqb, refl, sym, ap, ◌∙◌}
+use Rattle.{std.proofs.Common.subst, napi_model.specs.declared.state.Place.TheVariants.{Nobody, Granted, Polling, Control}}
+use Rattle.rx_ring.specs.{declared.ends.{RxIn.RxIn, RxCtx.RxCtx}, Ends.{RingName, ring_name, received_list, IsOneRing}}
+use Rattle.{napi_word.specs.{Slot.{Delivers, has_slot}, View.View, Events.Steps}, napi_model.specs.Step.{opening, after_by}}
+use Rattle.{rx_ring.specs.declared.packet.Packet.Packet, napi_word.specs.declared.view.Holds.TheVariants.{Out, Nothing}}
+use Rattle.napi_calls.proofs.Steps.{found, state_stepped, shows_legal}
+use Rattle.napi_word.proofs.{Deliveries.{of_prefix, prefix_self, received_stays}, Knowing.{unbusy, take_polls, quiet_polls, step_of}}
+use Rattle.napi_calls.{specs.Knows.{own_place, Free, Stands, BusyPolls, Controls, Has}, proofs.Whole.whole}
+use Rattle.napi_model.specs.{declared.state.{Kind.Kind, Seen.Seen, State.State, Place.Place}, History.{LegalHistory, own}}
+use Rattle.napi_model.specs.Laws.{is_owner, IsOwnedBy, IsPolled}
+use Rattle.napi_word.specs.{declared.table.Pass.Pass, Passes.{view_of, received_of}}
+use Rattle.napi_model.specs.declared.event.Operation.{Operation, TheVariants.{Look, Hand, Take, MarkDisable, TakeDisable, Unmark, Enable}}
+use Rattle.napi_calls.specs.Seats.{number_of, controller_of, shown, state_of, ring_of, ShowsLegal, IsInputOf}
 use Rattle.napi_word.specs.Slot as slot
 use Rattle.napi_word.specs.View as view
 
 -- ---- places as a number has them
 
-pub is_kept : (c : ℕ) (p q : Place) (b : Bool) → is_owner c p ≡ b → is_owner c q ≡ is_owner c p → (is_owner c p ≡ true → q ≡ p) → own_place c q ≡ own_place c p
+pub is_kept : (c : ℕ) (p q : Place) (b : Bool) → is_owner c p ≡ b → is_owner c q ≡ is_owner c p → (is_owner c p ≡ true → q ≡ p)
+    → own_place c q ≡ own_place c p
 is_kept c p q true is same stays = ap (own_place c) (stays is)
 is_kept c p q false is same stays = ap (λ (b : Bool). cond b q Nobody) (same ∙ is) ∙ sym (ap (λ (b : Bool). cond b p Nobody) is)
 
@@ -45,29 +53,35 @@ shows_of {r} {c} {p} st = record {
 }
 
 pub is_free : {c : ℕ} {p : Pass} → Stands Free c p → is_owner (number_of p) (state_of p).place ≡ false
-is_free {c} {p} st = ap (λ (n : ℕ). is_owner n (state_of p).place) st.number ∙ free_by c (state_of p).place (is_owner c (state_of p).place) refl st.place
+is_free {c} {p} st =
+    ap (λ (n : ℕ). is_owner n (state_of p).place) st.number ∙ free_by c (state_of p).place (is_owner c (state_of p).place) refl st.place
 
 pub owns_nothing : {c : ℕ} {p : Pass} → Stands Free c p → IsOwnedBy (number_of p) (state_of p).place → ⊥
 owns_nothing {c} {p} st owns = true≢false (sym owns ∙ is_free st)
 
 pub is_granted : {c : ℕ} {p : Pass} → Stands Granted c p → (state_of p).place ≡ Granted (number_of p)
-is_granted {c} {p} st = owned c (state_of p).place (Granted c) (is_owner c (state_of p).place) refl st.place (eq-eqb c c refl) ∙ ap Granted (sym st.number)
+is_granted {c} {p} st =
+    owned c (state_of p).place (Granted c) (is_owner c (state_of p).place) refl st.place (eq-eqb c c refl) ∙ ap Granted (sym st.number)
 
 pub is_polling : {c : ℕ} {p : Pass} → Stands Polling c p → (state_of p).place ≡ Polling (number_of p)
-is_polling {c} {p} st = owned c (state_of p).place (Polling c) (is_owner c (state_of p).place) refl st.place (eq-eqb c c refl) ∙ ap Polling (sym st.number)
+is_polling {c} {p} st =
+    owned c (state_of p).place (Polling c) (is_owner c (state_of p).place) refl st.place (eq-eqb c c refl) ∙ ap Polling (sym st.number)
 
 pub is_control : {c : ℕ} {p : Pass} → Stands Control c p → (state_of p).place ≡ Control (number_of p)
-is_control {c} {p} st = owned c (state_of p).place (Control c) (is_owner c (state_of p).place) refl st.place (eq-eqb c c refl) ∙ ap Control (sym st.number)
+is_control {c} {p} st =
+    owned c (state_of p).place (Control c) (is_owner c (state_of p).place) refl st.place (eq-eqb c c refl) ∙ ap Control (sym st.number)
 
 -- ---- steps
 
 -- the place behind the event has to be said; the rest is the step's own
-standing : (r : ℕ → Place) (c : ℕ) (p : Pass) (o : Operation) (q : Pass) → (g : Steps (view_of p) o (view_of q)) → number_of p ≡ c → own_place c (after_by c o (found p o q g)).place ≡ r c → Stands r c q
+standing : (r : ℕ → Place) (c : ℕ) (p : Pass) (o : Operation) (q : Pass) → (g : Steps (view_of p) o (view_of q)) → number_of p ≡ c
+    → own_place c (after_by c o (found p o q g)).place ≡ r c → Stands r c q
 standing r c p o q g num is = record {
   number = g.number ∙ num;
   legal = ∣ (shows_legal p o q g).legal ∣₁;
   exact = ap (λ (n : ℕ). own n (shown q)) (sym num) ∙ g.exact;
-  place = ap (λ (s : State). own_place c s.place) (state_stepped p o q g) ∙ ap (λ (n : ℕ). own_place c (after_by n o (found p o q g)).place) num ∙ is;
+  place = ap (λ (s : State). own_place c s.place) (state_stepped p o q g)
+      ∙ ap (λ (n : ℕ). own_place c (after_by n o (found p o q g)).place) num ∙ is;
 }
 
 -- an event that makes the role
@@ -100,7 +114,8 @@ moved {r} {c} {p} q st e = record {
 
 -- a look tells the flags of the state that it leaves
 pub looked_flags : {x : Seen} (p q : Pass) → Steps (view_of p) (Look x) (view_of q) → x.flags ≡ (state_of q).flags
-looked_flags {x} p q g = ap (λ (y : Seen). y.flags) (step_of (view_of p) (Look x) (view_of q) g).0 ∙ ap (λ (s : State). s.flags) (sym (state_stepped p (Look x) q g))
+looked_flags {x} p q g = ap (λ (y : Seen). y.flags) (step_of (view_of p) (Look x) (view_of q) g).0
+    ∙ ap (λ (s : State). s.flags) (sym (state_stepped p (Look x) q g))
 
 -- ---- who polls
 
@@ -108,39 +123,49 @@ looked_flags {x} p q g = ap (λ (y : Seen). y.flags) (step_of (view_of p) (Look 
 pub granted_unbusy : {c : ℕ} {p : Pass} → Stands Granted c p → BusyPolls false p
 granted_unbusy {c} {p} st = unbusy (controller_of p) (shown p) (shows_of st).legal (λ is. subst IsPolled (is_granted st) is)
 
-pub busy_taken : {c : ℕ} {p : Pass} {k : Kind} (q : Pass) → Stands Free c p → Steps (view_of p) (Take k true) (view_of q) → BusyPolls false q
+pub busy_taken : {c : ℕ} {p : Pass} {k : Kind} (q : Pass) → Stands Free c p → Steps (view_of p) (Take k true) (view_of q)
+    → BusyPolls false q
 busy_taken {c} {p} {k} q st g = (take_polls (view_of p) (view_of q) k g).1
 
 -- an event that makes it so, and one that changes nothing
 pub busy_made : {b : Bool} {r : ℕ → Place} {c : ℕ} {p : Pass} {o : Operation} (q : Pass) → Stands r c p → Steps (view_of p) o (view_of q)
     → ((c : ℕ) (s : State) → (after_by c o s).flags.in_busy_poll ≡ b) → BusyPolls b q
-busy_made {b} {r} {c} {p} {o} q st g is = ap (λ (s : State). s.flags.in_busy_poll) (state_stepped p o q g) ∙ is (number_of p) (found p o q g)
+busy_made {b} {r} {c} {p} {o} q st g is =
+    ap (λ (s : State). s.flags.in_busy_poll) (state_stepped p o q g) ∙ is (number_of p) (found p o q g)
 
-pub busy_kept : {b : Bool} {c : ℕ} {p : Pass} {o : Operation} (q : Pass) → Stands Polling c p → BusyPolls b p → Steps (view_of p) o (view_of q)
+pub busy_kept : {b : Bool} {c : ℕ} {p : Pass} {o : Operation} (q : Pass) → Stands Polling c p → BusyPolls b p
+    → Steps (view_of p) o (view_of q)
     → ((n : ℕ) (s : State) → after_by n o s ≡ s) → BusyPolls b q
 busy_kept {b} {c} {p} {o} q st busy g quiet =
     (quiet_polls (view_of p) o (view_of q) g (quiet (number_of p) (found p o q g)) (is_polling st, busy)).1
 
-pub busy_looked : {b : Bool} {c : ℕ} {p : Pass} {x : Seen} (q : Pass) → Stands Polling c p → BusyPolls b p → Steps (view_of p) (Look x) (view_of q) → BusyPolls b q
+pub busy_looked : {b : Bool} {c : ℕ} {p : Pass} {x : Seen} (q : Pass) → Stands Polling c p → BusyPolls b p
+    → Steps (view_of p) (Look x) (view_of q) → BusyPolls b q
 busy_looked q st busy g = busy_kept q st busy g (λ n s. refl)
 
 pub busy_moved : {b : Bool} {c : ℕ} {p : Pass} (q : Pass) → Stands Polling c p → BusyPolls b p → view_of q ≡ view_of p → BusyPolls b q
 busy_moved {b} q st busy e = ap (λ (v : View). (view.state_in v).flags.in_busy_poll) e ∙ busy
 
 -- the context comes out of the slot as the pass has it there
-pub outside : (p q : Pass) (x : RxCtx) → q.holds ≡ Out → view_of q ≡ view_of p → ring_of p ≡ Some (ring_name x) → received_list x ≡ received_of p → Has q (Some x)
+pub outside : (p q : Pass) (x : RxCtx) → q.holds ≡ Out → view_of q ≡ view_of p → ring_of p ≡ Some (ring_name x)
+    → received_list x ≡ received_of p → Has q (Some x)
 outside p q x out same ring is = record {
   holds = out;
   ring = ap view.ring_of same ∙ ring;
-  received = subst (λ (v : View). view.Continues (view.received_in v) (received_list x)) (sym same) (subst (λ (l : List Packet). view.Continues (view.received_in (view_of p)) l) (sym is) p.received);
+  received =
+      subst (λ (v : View). view.Continues (view.received_in v) (received_list x)) (sym same)
+      (subst (λ (l : List Packet). view.Continues (view.received_in (view_of p)) l) (sym is) p.received);
 }
 
 -- a step that leaves the slot leaves what the context has received since
-pub stays_has : (p q : Pass) (x : RxCtx) → Has p (Some x) → q.holds ≡ p.holds → ring_of q ≡ ring_of p → Delivers slot.stays p.seat.me q.seat.me → Has q (Some x)
+pub stays_has : (p q : Pass) (x : RxCtx) → Has p (Some x) → q.holds ≡ p.holds → ring_of q ≡ ring_of p
+    → Delivers slot.stays p.seat.me q.seat.me → Has q (Some x)
 stays_has p q x h holds ring g = record {
   holds = holds ∙ h.holds;
   ring = ring ∙ h.ring;
-  received = subst (λ (l : List Packet). view.Continues l (received_list x)) (sym (received_stays p.seat.me q.seat.me g (p.right ∙ ap has_slot h.holds))) h.received;
+  received =
+      subst (λ (l : List Packet). view.Continues l (received_list x))
+      (sym (received_stays p.seat.me q.seat.me g (p.right ∙ ap has_slot h.holds))) h.received;
 }
 
 pub has_none : (q : Pass) → q.holds ≡ Nothing → Has q None
@@ -155,21 +180,26 @@ controls_moved {r} {b} {p} q k e = record {
 }
 
 -- the flag behind an event that makes it so, and behind one that leaves it
-flag_made : (b : Bool) (p : Pass) (o : Operation) (q : Pass) → Steps (view_of p) o (view_of q) → ((c : ℕ) (s : State) → (after_by c o s).flags.disable ≡ b) → (state_of q).flags.disable ≡ b
+flag_made : (b : Bool) (p : Pass) (o : Operation) (q : Pass) → Steps (view_of p) o (view_of q)
+    → ((c : ℕ) (s : State) → (after_by c o s).flags.disable ≡ b) → (state_of q).flags.disable ≡ b
 flag_made b p o q g is = ap (λ (s : State). s.flags.disable) (state_stepped p o q g) ∙ is (number_of p) (found p o q g)
 
 flag_kept : (r : ℕ → Place) (b : Bool) (p : Pass) (o : Operation) (q : Pass) → Steps (view_of p) o (view_of q) → Controls r b p
     → ((c : ℕ) (s : State) → (after_by c o s).flags.disable ≡ s.flags.disable) → (state_of q).flags.disable ≡ b
-flag_kept r b p o q g k leaves = ap (λ (s : State). s.flags.disable) (state_stepped p o q g) ∙ leaves (number_of p) (found p o q g) ∙ g.disable k.stands.number ∙ k.flag
+flag_kept r b p o q g k leaves =
+    ap (λ (s : State). s.flags.disable) (state_stepped p o q g) ∙ leaves (number_of p) (found p o q g) ∙ g.disable k.stands.number ∙ k.flag
 
-controlling : (r : ℕ → Place) (b : Bool) (p : Pass) (o : Operation) (q : Pass) → Steps (view_of p) o (view_of q) → Stands r (controller_of p) q → (state_of q).flags.disable ≡ b → Controls r b q
+controlling : (r : ℕ → Place) (b : Bool) (p : Pass) (o : Operation) (q : Pass) → Steps (view_of p) o (view_of q)
+    → Stands r (controller_of p) q → (state_of q).flags.disable ≡ b → Controls r b q
 controlling r b p o q g st flag = record { stands = subst (λ (n : ℕ). Stands r n q) (sym g.controller) st; flag = flag }
 
-pub control_looked : {r : ℕ → Place} {b : Bool} {p : Pass} {x : Seen} (q : Pass) → Controls r b p → Steps (view_of p) (Look x) (view_of q) → Controls r b q
+pub control_looked : {r : ℕ → Place} {b : Bool} {p : Pass} {x : Seen} (q : Pass) → Controls r b p → Steps (view_of p) (Look x) (view_of q)
+    → Controls r b q
 control_looked {r} {b} {p} {x} q k g =
     controlling r b p (Look x) q g (looked q k.stands g) (flag_kept r b p (Look x) q g k (λ c s. refl))
 
-pub control_busy : {r : ℕ → Place} {b : Bool} {p : Pass} (q : Pass) → Controls r b p → Steps (view_of p) (TakeDisable false) (view_of q) → Controls r b q
+pub control_busy : {r : ℕ → Place} {b : Bool} {p : Pass} (q : Pass) → Controls r b p → Steps (view_of p) (TakeDisable false) (view_of q)
+    → Controls r b q
 control_busy {r} {b} {p} q k g =
     controlling r b p (TakeDisable false) q g (kept q k.stands g (λ s. refl)) (flag_kept r b p (TakeDisable false) q g k (λ c s. refl))
 
@@ -177,15 +207,18 @@ pub control_marked : {p : Pass} (q : Pass) → Controls Free false p → Steps (
 control_marked {p} q k g =
     controlling Free true p MarkDisable q g (kept q k.stands g (λ s. refl)) (flag_made true p MarkDisable q g (λ c s. refl))
 
-pub control_taken : {p : Pass} (q : Pass) → Controls Free true p → Steps (view_of p) (TakeDisable true) (view_of q) → Controls Control true q
+pub control_taken : {p : Pass} (q : Pass) → Controls Free true p → Steps (view_of p) (TakeDisable true) (view_of q)
+    → Controls Control true q
 control_taken {p} q k g =
-    controlling Control true p (TakeDisable true) q g (made Control q k.stands g (λ s. own_self (controller_of p))) (flag_kept Free true p (TakeDisable true) q g k (λ c s. refl))
+    controlling Control true p (TakeDisable true) q g (made Control q k.stands g (λ s. own_self (controller_of p)))
+    (flag_kept Free true p (TakeDisable true) q g k (λ c s. refl))
 
 pub control_unmarked : {p : Pass} (q : Pass) → Controls Control true p → Steps (view_of p) Unmark (view_of q) → Controls Control false q
 control_unmarked {p} q k g =
     controlling Control false p Unmark q g (kept q k.stands g (λ s. refl)) (flag_made false p Unmark q g (λ c s. refl))
 
-pub control_enabled : {p : Pass} (b : Bool) (q : Pass) → Controls Control false p → Steps (view_of p) (Enable b) (view_of q) → Controls Free false q
+pub control_enabled : {p : Pass} (b : Bool) (q : Pass) → Controls Control false p → Steps (view_of p) (Enable b) (view_of q)
+    → Controls Free false q
 control_enabled {p} b q k g =
     controlling Free false p (Enable b) q g (made Free q k.stands g (λ s. refl)) (flag_kept Control false p (Enable b) q g k (λ c s. refl))
 
@@ -194,11 +227,17 @@ control_enabled {p} b q k g =
 -- the two ends of the ring are those of the instance
 pub one_ring : {p : Pass} {ctx : RxCtx} (input : RxIn) → Has p (Some ctx) → IsInputOf input p → IsOneRing input ctx
 one_ring {p} {ctx} input has fed =
-    let same : ring_name fed.0 ≡ ring_name ctx = ap (λ (o : Option RingName). unwrap_or o (ring_name ctx)) (sym fed.1 ∙ has.ring) in
-    (sym (ap (λ (n : RingName). n.0) same) ∙ fed.2.0, sym (ap (λ (n : RingName). n.1) same) ∙ fed.2.1, sym (ap (λ (n : RingName). n.2) same) ∙ fed.2.2, sym (ap (λ (n : RingName). n.3) same) ∙ fed.2.3)
+    let same : ring_name fed.0 ≡ ring_name ctx = ap (λ (o : Option RingName). unwrap_or o (ring_name ctx)) (sym fed.1 ∙ has.ring) in (
+      sym (ap (λ (n : RingName). n.0) same) ∙ fed.2.0,
+      sym (ap (λ (n : RingName). n.1) same) ∙ fed.2.1,
+      sym (ap (λ (n : RingName). n.2) same)
+          ∙ fed.2.2,
+      sym (ap (λ (n : RingName). n.3) same) ∙ fed.2.3,
+    )
 
 -- a context that was taken has received just what was delivered
-pub fresh : (p q r : Pass) (x : RxCtx) → Delivers slot.taken p.seat.me q.seat.me → received_list x ≡ received_of q → view_of r ≡ view_of q → received_list x ≡ view.received_in (view_of r)
+pub fresh : (p q r : Pass) (x : RxCtx) → Delivers slot.taken p.seat.me q.seat.me → received_list x ≡ received_of q → view_of r ≡ view_of q
+    → received_list x ≡ view.received_in (view_of r)
 fresh p q r x g is same =
     let t = g.shifts.1 in
     is ∙ ap (λ (l : slot.Carried). slot.carried_received l (view_of q)) t.1 ∙ t.2 ∙ ap view.received_in (sym same)

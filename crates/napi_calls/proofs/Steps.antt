@@ -1,6 +1,9 @@
 -- What one step tells of the seat that made it, in the words of seats.
-use Rattle.{std.proofs.Common.{◌≡◌, ℕ, List, [], ◌∷◌, ◌++◌, refl, sym, ap, ◌∙◌, subst, append_assoc}, napi_model.specs.{declared.{event.{Event.Event, Operation.Operation}, state.State.State}, Step.{event, opening, after_by}}}
-use Rattle.{napi_model.specs.History.{LegalHistory, own}, napi_word.{specs.{declared.{table.Pass.Pass, view.Strand.Strand}, View.View, Events.Steps, Passes.view_of}, proofs.Knowing.{found_state, state_then}}}
+use Rattle.std.proofs.Common.{◌≡◌, ℕ, List, [], ◌∷◌, ◌++◌, refl, sym, ap, ◌∙◌, subst, append_assoc}
+use Rattle.napi_model.specs.{declared.{event.{Event.Event, Operation.Operation}, state.State.State}, Step.{event, opening, after_by}}
+use Rattle.napi_model.specs.History.{LegalHistory, own}
+use Rattle.napi_word.specs.{declared.{table.Pass.Pass, view.Strand.Strand}, View.View, Events.Steps, Passes.view_of}
+use Rattle.napi_word.proofs.Knowing.{found_state, state_then}
 use Rattle.napi_calls.specs.Seats.{number_of, shown, state_of, ShowsLegal}
 use mathlib.Core.{Option.{Option as Maybe}, List.IsPrefix}
 use lib.ListN.{get_elem?}
@@ -9,7 +12,8 @@ use Rattle.napi_word.specs.View as view
 pub prefix_trans : (xs ys zs : List Event) → IsPrefix xs ys → IsPrefix ys zs → IsPrefix xs zs
 prefix_trans xs ys zs p q = (p.0 ++ q.0, sym (append_assoc xs p.0 q.0) ∙ ap (λ (l : List Event). l ++ q.0) p.1 ∙ q.1)
 
-own_begins : (v : View) (h : List Event) → ((k : ℕ) (x : Strand) → get_elem? v k ≡ Maybe.some x → IsPrefix x.seen h) → IsPrefix (view.shown v) h
+own_begins : (v : View) (h : List Event) → ((k : ℕ) (x : Strand) → get_elem? v k ≡ Maybe.some x → IsPrefix x.seen h)
+    → IsPrefix (view.shown v) h
 own_begins [] h all = (h, refl)
 own_begins (x ∷ xs) h all = all 0 x refl
 
@@ -24,7 +28,8 @@ module _ (p : Pass) (o : Operation) (q : Pass) (g : Steps (view_of p) o (view_of
   pub shows_more : IsPrefix (shown p) (shown q)
   shows_more =
       let more : IsPrefix g.before (g.before ++ event (number_of p) o ∷ []) = (event (number_of p) o ∷ [], refl) in
-      subst (IsPrefix (shown p)) (sym g.ends) (prefix_trans (shown p) g.before (g.before ++ event (number_of p) o ∷ []) (own_begins (view_of p) g.before g.begins) more)
+      subst (IsPrefix (shown p)) (sym g.ends)
+      (prefix_trans (shown p) g.before (g.before ++ event (number_of p) o ∷ []) (own_begins (view_of p) g.before g.begins) more)
 
   pub shows_legal : ShowsLegal q
   shows_legal = record {

@@ -1,12 +1,19 @@
 -- What a value knows after a survey.
-use Rattle.{std.proofs.Common.{◌≡◌, ℕ, Bool, true, List, [], ◌∷◌, ◌++◌, Option, Some, None, refl, sym, ap, ◌∙◌, subst, eq-eqb}, rx_ring.specs.{declared.{ends.RxCtx.RxCtx, packet.Packet.Packet}, Ends.received_list}, napi_word.proofs.Deliveries.ring_as}
-use Rattle.{napi_model.specs.{declared.{event.{Event.Event, Operation.TheVariants.Look}, state.{State.State, Seen.Seen, Place.Place}}, Step.{event, opening}, History.{LegalHistory, state_after, own}, Laws.is_owner}, napi_word.specs.declared.{table.Pass.Pass, view.Delivery.Delivery}}
-use Rattle.{napi_word.{specs.{View.Continues, Slot.has_slot, Passes.view_of, Surveys.{IsWhole, CatchesUp, IsSurveyed}}, proofs.{CatchingUp.state_looked, Deliveries.{of_prefix, prefix_self}}}, napi_calls.specs.Seats.{controller_of, number_of, state_of}}
-use Rattle.{napi_calls.{specs.Knows.{own_place, Stands, BusyPolls, Controls, Has, received_held}, proofs.Standing.{is_kept, is_polling}}, napi_word.proofs.Deliveries.received_as}
+use Rattle.std.proofs.Common.{◌≡◌, ℕ, Bool, true, List, [], ◌∷◌, ◌++◌, Option, Some, None, refl, sym, ap, ◌∙◌, subst, eq-eqb}
+use Rattle.{rx_ring.specs.{declared.{ends.RxCtx.RxCtx, packet.Packet.Packet}, Ends.received_list}, napi_word.proofs.Deliveries.ring_as}
+use Rattle.napi_model.specs.declared.{event.{Event.Event, Operation.TheVariants.Look}, state.{State.State, Seen.Seen, Place.Place}}
+use Rattle.napi_model.specs.{Step.{event, opening}, History.{LegalHistory, state_after, own}, Laws.is_owner}
+use Rattle.napi_word.specs.declared.{table.Pass.Pass, view.Delivery.Delivery}
+use Rattle.napi_word.specs.{View.Continues, Slot.has_slot, Passes.view_of, Surveys.{IsWhole, CatchesUp, IsSurveyed}}
+use Rattle.napi_word.proofs.{CatchingUp.state_looked, Deliveries.{of_prefix, prefix_self}}
+use Rattle.napi_calls.specs.Seats.{controller_of, number_of, state_of}
+use Rattle.napi_calls.{specs.Knows.{own_place, Stands, BusyPolls, Controls, Has, received_held}, proofs.Standing.{is_kept, is_polling}}
+use Rattle.napi_word.proofs.Deliveries.{received_as}
 use Rattle.napi_word.specs.View as view
 use Rattle.napi_model.specs.declared.state.Place.TheVariants as place
 
-module _ (k : ℕ) (h : List Event) (looker : ℕ) (seen : Seen) (ds : List Delivery) (w : IsWhole k (h ++ event looker (Look seen) ∷ []) ds) (p q : Pass) (s : IsSurveyed h (event looker (Look seen)) ds p q) (led : controller_of p ≡ k) where
+module _ (k : ℕ) (h : List Event) (looker : ℕ) (seen : Seen) (ds : List Delivery) (w : IsWhole k (h ++ event looker (Look seen) ∷ []) ds)
+    (p q : Pass) (s : IsSurveyed h (event looker (Look seen)) ds p q) (led : controller_of p ≡ k) where
   abbrev whole : List Event
   whole = h ++ event looker (Look seen) ∷ []
 
@@ -32,7 +39,8 @@ module _ (k : ℕ) (h : List Event) (looker : ℕ) (seen : Seen) (ds : List Deli
 
   -- who polls, or busy polls, does so still
   pub busy_up : {b : Bool} {c : ℕ} → Stands place.Polling c p → BusyPolls b p → BusyPolls b q
-  busy_up {b} {c} st busy = ap (λ (t : State). t.flags.in_busy_poll) state_is ∙ u.busy (ap (is_owner (number_of p)) (is_polling st) ∙ eq-eqb (number_of p) (number_of p) refl) ∙ busy
+  busy_up {b} {c} st busy = ap (λ (t : State). t.flags.in_busy_poll) state_is
+      ∙ u.busy (ap (is_owner (number_of p)) (is_polling st) ∙ eq-eqb (number_of p) (number_of p) refl) ∙ busy
 
   pub controls_up : {r : ℕ → Place} {b : Bool} → Controls r b p → Controls r b q
   controls_up {r} {b} c = record {

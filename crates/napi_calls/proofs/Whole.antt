@@ -1,7 +1,11 @@
 -- A history of which it is only known that it is legal somehow is legal: the choice that the table of legal steps leaves
 -- open is made by looking at the flags.
-use Rattle.{std.proofs.{Common.{◌≡◌, ◌⊎◌, ◌||◌, ℕ, Bool, true, false, List, [], ◌∷◌, inl, inr, refl, sym, ap, ◌∙◌, true≢false}, Math.Logic.∥∥₁_elim, Props.props}, napi_model.specs.{Step.{after, IsLegalBy}, declared.state.Kind.Kind}}
-use Rattle.napi_model.specs.{declared.{state.State.State, event.{Event.Event, Prep.Prep, Done.TheVariants.Again, Operation.{Operation, TheVariants.{Schedule, Hand, Take, Complete, MarkDisable, TakeDisable}}}}, History.{IsBy, LegalHistory}}
+use Rattle.std.proofs.Common.{◌≡◌, ◌⊎◌, ◌||◌, ℕ, Bool, true, false, List, [], ◌∷◌, inl, inr, refl, sym, ap, ◌∙◌, true≢false}
+use Rattle.{std.proofs.{Math.Logic.∥∥₁_elim, Props.props}, napi_model.specs.{Step.{after, IsLegalBy}, declared.state.Kind.Kind}}
+use Rattle.napi_model.specs.declared.state.State.{State}
+use Rattle.napi_model.specs.declared.event.{Event.Event, Prep.Prep, Done.TheVariants.Again}
+use Rattle.napi_model.specs.declared.event.Operation.{Operation, TheVariants.{Schedule, Hand, Take, Complete, MarkDisable, TakeDisable}}
+use Rattle.napi_model.specs.History.{IsBy, LegalHistory}
 
 one_or_other : {A B : Type 0} → IsProp A → IsProp B → (A → B → ⊥) → IsProp (A ⊎ B)
 one_or_other a b apart (inl x) (inl y) = ap inl (a x y)

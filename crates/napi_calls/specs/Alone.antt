@@ -41,7 +41,8 @@ MakesAlone c os packets n p q = MatchBool (nat_eq n c) (Made p os q × Delivers 
 
 -- Until the survey's look the history grew by just these, each legal in the state that it met, and the deliveries by just those
 -- packets. The look is next and leaves the state, and all seats show it.
-pub record GrewBy (c : ℕ) (os : List Operation) (packets : List Packet) (h found : List Event) (look : Event) (ds later : List Delivery) (first second third last : Pass) : Type 0 where
+pub record GrewBy (c : ℕ) (os : List Operation) (packets : List Packet) (h found : List Event) (look : Event) (ds later : List Delivery)
+    (first second third last : Pass) : Type 0 where
   pub grown : found ≡ h ++ events c os
   pub legal : LegalHistory 3 (state_after (opening 3) h) (events c os)
   pub leads : state_after (opening 3) (found ++ look ∷ []) ≡ state_after (state_after (opening 3) h) (events c os)
@@ -52,10 +53,13 @@ pub record GrewBy (c : ℕ) (os : List Operation) (packets : List Packet) (h fou
 -- just these behind it, and its look
 abbrev pub OneActsAlone : Type 0
 OneActsAlone =
-    (c : ℕ) (os : List Operation) (packets : List Packet) (h : List Event) (ds : List Delivery) (first second third last first' second' third' last' a b d e : Pass) (looker : ℕ) (seen : Seen)
+    (c : ℕ) (os : List Operation) (packets : List Packet) (h : List Event) (ds : List Delivery)
+    (first second third last first' second' third' last' a b d e : Pass) (looker : ℕ) (seen : Seen)
     → c ≤ 3 → AllShow h ds first second third last
-    → MakesAlone c os packets 0 first first' → MakesAlone c os packets 1 second second' → MakesAlone c os packets 2 third third' → MakesAlone c os packets 3 last last'
-    → (s : Surveys 3 looker seen (first' ∷ second' ∷ third' ∷ last' ∷ []) (a ∷ b ∷ d ∷ e ∷ [])) → GrewBy c os packets h s.found (event looker (Look seen)) ds s.deliveries a b d e
+    → MakesAlone c os packets 0 first first' → MakesAlone c os packets 1 second second' → MakesAlone c os packets 2 third third'
+    → MakesAlone c os packets 3 last last'
+    → (s : Surveys 3 looker seen (first' ∷ second' ∷ third' ∷ last' ∷ []) (a ∷ b ∷ d ∷ e ∷ []))
+    → GrewBy c os packets h s.found (event looker (Look seen)) ds s.deliveries a b d e
 
 -- law: who acts alone loses no try, since nothing comes between its two looks
 abbrev pub NoneIsLost : Type 0

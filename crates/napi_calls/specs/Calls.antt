@@ -5,7 +5,8 @@ use Rattle.napi_model.specs.declared.state.Kind.{Kind}
 use Rattle.napi_model.specs.declared.event.Prep.TheVariants as prep
 use Rattle.napi_model.specs.declared.event.Done.TheVariants as done
 use Rattle.napi_model.specs.declared.event.Call.TheVariants as call
-use Rattle.napi_model.specs.declared.event.Operation.TheVariants.{Look, Schedule, Take, Complete, BusyTake, BusyStop, MarkDisable, TakeDisable, Unmark, Enable}
+use Rattle.napi_model.specs.declared.event.Operation.TheVariants.{Look, Schedule, Take, Complete, BusyTake, BusyStop, MarkDisable}
+use Rattle.napi_model.specs.declared.event.Operation.TheVariants.{TakeDisable, Unmark, Enable}
 use Rattle.napi_model.specs.Step.{MayBusyTake}
 use Rattle.napi_word.specs.declared.table.Pass.{Pass}
 use Rattle.napi_calls.specs.declared.types.Caller.{Caller}
@@ -95,24 +96,32 @@ EnablesAt threaded p q = (x : Seen) × Made p (Look x ∷ Enable threaded ∷ []
 -- ---- try after try: those that were lost, and the one that decided
 
 abbrev pub Schedules : Pass → Sched → Type 0
-Schedules p (sched.Granted g) = (ts : List (Lost call.Schedule)) × (x : Seen) × Made p (flat_map looks ts ++ Look x ∷ Schedule prep.Granted ∷ []) g.pass
-Schedules p (sched.Missed c) = (ts : List (Lost call.Schedule)) × (x : Seen) × Made p (flat_map looks ts ++ Look x ∷ Schedule prep.Missed ∷ []) c.pass
+Schedules p (sched.Granted g) =
+    (ts : List (Lost call.Schedule)) × (x : Seen) × Made p (flat_map looks ts ++ Look x ∷ Schedule prep.Granted ∷ []) g.pass
+Schedules p (sched.Missed c) =
+    (ts : List (Lost call.Schedule)) × (x : Seen) × Made p (flat_map looks ts ++ Look x ∷ Schedule prep.Missed ∷ []) c.pass
 Schedules p (sched.Disabled c) = (ts : List (Lost call.Schedule)) × Made p (flat_map looks ts ++ Schedule prep.Disabled ∷ []) c.pass
 
 abbrev pub Completes : Pass → Completed → Type 0
-Completes p (completed.Released c) = (ts : List (Lost call.Complete)) × (x : Seen) × Made p (flat_map looks ts ++ Look x ∷ Complete done.Released ∷ []) c.pass
-Completes p (completed.Again g) = (ts : List (Lost call.Complete)) × (x : Seen) × Made p (flat_map looks ts ++ Look x ∷ Complete done.Again ∷ []) g.pass
+Completes p (completed.Released c) =
+    (ts : List (Lost call.Complete)) × (x : Seen) × Made p (flat_map looks ts ++ Look x ∷ Complete done.Released ∷ []) c.pass
+Completes p (completed.Again g) =
+    (ts : List (Lost call.Complete)) × (x : Seen) × Made p (flat_map looks ts ++ Look x ∷ Complete done.Again ∷ []) g.pass
 
 abbrev pub BusyPolling : Pass → Result Busy Caller → Type 0
-BusyPolling p (Ok b) = (ts : List (Lost call.BusyTake)) × (x : Seen) × MayBusyTake x.flags × Made p (flat_map looks ts ++ Look x ∷ BusyTake ∷ []) b.pass
-BusyPolling p (Err c) = (ts : List (Lost call.BusyTake)) × (x : Seen) × ¬ MayBusyTake x.flags × Made p (flat_map looks ts ++ Look x ∷ []) c.pass
+BusyPolling p (Ok b) =
+    (ts : List (Lost call.BusyTake)) × (x : Seen) × MayBusyTake x.flags × Made p (flat_map looks ts ++ Look x ∷ BusyTake ∷ []) b.pass
+BusyPolling p (Err c) =
+    (ts : List (Lost call.BusyTake)) × (x : Seen) × ¬ MayBusyTake x.flags × Made p (flat_map looks ts ++ Look x ∷ []) c.pass
 
 abbrev pub Stops : Pass → Pass → Type 0
 Stops p q = (ts : List (Lost call.BusyStop)) × (x : Seen) × Made p (flat_map looks ts ++ Look x ∷ BusyStop ∷ []) q
 
 -- the mark, and then the tries
 abbrev pub Disables : Pass → Pass → Type 0
-Disables p q = (ts : List (Option (Lost call.TakeDisable))) × (x : Seen) × Made p ((MarkDisable ∷ flat_map waits ts) ++ Look x ∷ TakeDisable true ∷ Unmark ∷ []) q
+Disables p q = (ts : List (Option (Lost call.TakeDisable))) × (x : Seen)
+    × Made p ((MarkDisable ∷ flat_map waits ts) ++ Look x ∷ TakeDisable true ∷ Unmark ∷ []) q
 
 abbrev pub Enables : Bool → Pass → Pass → Type 0
-Enables threaded p q = (ts : List (Lost (call.Enable threaded))) × (x : Seen) × Made p (flat_map looks ts ++ Look x ∷ Enable threaded ∷ []) q
+Enables threaded p q =
+    (ts : List (Lost (call.Enable threaded))) × (x : Seen) × Made p (flat_map looks ts ++ Look x ∷ Enable threaded ∷ []) q

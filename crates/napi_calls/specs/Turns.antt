@@ -8,7 +8,8 @@ use Rattle.napi_model.specs.declared.event.Prep.TheVariants as prep
 use Rattle.napi_model.specs.declared.event.Done.TheVariants as done
 use Rattle.napi_model.specs.declared.event.Event.{Event}
 use Rattle.napi_model.specs.declared.event.Operation.{Operation}
-use Rattle.napi_model.specs.declared.event.Operation.TheVariants.{Look, Schedule, Hand, Take, Complete, MarkDisable, TakeDisable, Unmark, Enable}
+use Rattle.napi_model.specs.declared.event.Operation.TheVariants.{Look, Schedule, Hand, Take, Complete, MarkDisable, TakeDisable, Unmark}
+use Rattle.napi_model.specs.declared.event.Operation.TheVariants.{Enable}
 use Rattle.napi_model.specs.Step.{opening}
 use Rattle.napi_model.specs.History.{LegalHistory, state_after, own}
 use Rattle.napi_calls.specs.Made.{events}

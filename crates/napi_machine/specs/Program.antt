@@ -46,7 +46,8 @@ abbrev pub KeepsOutput : Option (List ℕ) → Option (List ℕ) → ProgramFaul
 KeepsOutput old new fault = fault ≢ Machine OutputFailed → Keeps old new
 
 -- the program failed by some fault that it can have; on each but a failed output nothing was written
-pub record FailedBy (can_be : ProgramFault → Type 0) (output_old output_new errors_old errors_new : Option (List ℕ)) (ending : Ending) : Type 0 where
+pub record FailedBy (can_be : ProgramFault → Type 0) (output_old output_new errors_old errors_new : Option (List ℕ))
+    (ending : Ending) : Type 0 where
   pub fault : ProgramFault
   pub why : can_be fault
   pub untouched : KeepsOutput output_old output_new fault

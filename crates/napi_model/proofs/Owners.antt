@@ -1,9 +1,16 @@
 -- The laws of legal histories.
-use Rattle.{std.proofs.Common.{◌≡◌, ◌≢◌, ℕ, Bool, List, [], ◌∷◌, ne_eqb, true, false, refl, sym, ap, ◌∙◌, subst, ⊎_elim, true≢false}, napi_model.specs.declared.state.Place.TheVariants.{Nobody, Granted, Listed, ToThread, Polling, Control}}
+use Rattle.std.proofs.Common.{◌≡◌, ◌≢◌, ℕ, Bool, List, [], ◌∷◌, ne_eqb, true, false, refl, sym, ap, ◌∙◌, subst, ⊎_elim, true≢false}
+use Rattle.napi_model.specs.declared.state.Place.TheVariants.{Nobody, Granted, Listed, ToThread, Polling, Control}
 use Rattle.napi_model.specs.declared.{state.{Place.Place, State.State, Kind.Kind}, event.{Event.Event, Prep.Prep}}
-use Rattle.napi_model.{specs.{declared.event.{Done.TheVariants.{Released, Again, Held}, Operation.Operation}, History.{LegalHistory, IsBy, state_after, own}}, proofs.Histories.{state_after-append, legal_front, legal_back, own_first}}
-use Rattle.napi_model.specs.{declared.event.Operation.TheVariants.{Look, Schedule, Hand, Take, Complete, BusyTake, BusyStop, MarkDisable, TakeDisable, Unmark, Enable, SetThreaded}, Step.{after, after_by, opening, IsLegalBy, Polls, MayHand}}
-use Rattle.napi_model.specs.Laws.{IsSound, is_owner, IsOwnedBy, stand_of, IsPolled, BusyIsPolled, IsHandedOrPolled, ThreadsIsHanded, IsControlled, SchedClearIsNobody, BusyPollIsPolling, SchedThreadedIsHanded, OthersLeaveOwner, OthersLeaveOwnership, ControlIsTheControllers, OthersLeaveDisable}
+use Rattle.napi_model.specs.declared.event.{Done.TheVariants.{Released, Again, Held}, Operation.Operation}
+use Rattle.napi_model.specs.History.{LegalHistory, IsBy, state_after, own}
+use Rattle.napi_model.proofs.Histories.{state_after-append, legal_front, legal_back, own_first}
+use Rattle.napi_model.specs.declared.event.Operation.TheVariants.{Look, Schedule, Hand, Take, Complete, BusyTake, BusyStop, MarkDisable}
+use Rattle.napi_model.specs.declared.event.Operation.TheVariants.{TakeDisable, Unmark, Enable, SetThreaded}
+use Rattle.napi_model.specs.Step.{after, after_by, opening, IsLegalBy, Polls, MayHand}
+use Rattle.napi_model.specs.Laws.{IsSound, is_owner, IsOwnedBy, stand_of, IsPolled, BusyIsPolled, IsHandedOrPolled, ThreadsIsHanded}
+use Rattle.napi_model.specs.Laws.{IsControlled, SchedClearIsNobody, BusyPollIsPolling, SchedThreadedIsHanded, OthersLeaveOwner}
+use Rattle.napi_model.specs.Laws.{OthersLeaveOwnership, ControlIsTheControllers, OthersLeaveDisable}
 
 -- ---- SCHED clear, and nobody has the instance
 
@@ -81,7 +88,8 @@ ownership_by_others c b (Schedule Prep.Granted) s apart l sound = ne_eqb b c apa
 ownership_by_others c b (Schedule Prep.Missed) s apart l sound = refl
 ownership_by_others c b (Schedule Prep.Disabled) s apart l sound = refl
 ownership_by_others c b (Hand Kind.List) s apart l sound =
-    sym (⊎_elim (λ (g : s.place ≡ Granted b). ap (is_owner c) g ∙ ne_eqb b c apart) (λ (g : Polls b false s). ap (is_owner c) g.0 ∙ ne_eqb b c apart) l)
+    sym (⊎_elim (λ (g : s.place ≡ Granted b). ap (is_owner c) g ∙ ne_eqb b c apart)
+    (λ (g : Polls b false s). ap (is_owner c) g.0 ∙ ne_eqb b c apart) l)
 ownership_by_others c b (Hand Kind.Thread) s apart l sound = sym (ap (is_owner c) l ∙ ne_eqb b c apart)
 ownership_by_others c b (Take Kind.List true) s apart l sound = ne_eqb b c apart ∙ sym (ap (is_owner c) l)
 ownership_by_others c b (Take Kind.Thread true) s apart l sound = ne_eqb b c apart ∙ sym (ap (is_owner c) l)
@@ -146,7 +154,8 @@ owner_kept k c s [] sound l none owned = refl
 owner_kept k c s (e ∷ h) sound l none owned =
     let first = own_first c e h none in
     let same = owned_by_others c e.caller e.operation s first.0 l.0.0 sound owned in
-    owner_kept k c (after s e) h (sound_by e.caller e.operation s l.0.0 sound) l.1 first.1 (subst (λ (t : Place × Bool). IsOwnedBy c t.0) (sym same) owned) ∙ same
+    owner_kept k c (after s e) h (sound_by e.caller e.operation s l.0.0 sound) l.1 first.1
+    (subst (λ (t : Place × Bool). IsOwnedBy c t.0) (sym same) owned) ∙ same
 
 pub others_leave_owner : OthersLeaveOwner
 others_leave_owner k c s h others sound l none owned =

@@ -1,5 +1,6 @@
 -- A `Seen` has 2 ^ 7 * 3 values: a fact of each is a test that computes. And equality of two, by the derived `==`.
-use Rattle.{std.{proofs.{Common.{◌≡◌, ◌&&◌, Bool, true, false, Option, Some, None, refl, sym, true≢false}, Math.Bool.beq}, specs.Option.option_eq}, napi_model.specs.declared.state.{Kind.{Kind, TheVariants.{List, Thread}}, Seen.Seen}}
+use Rattle.std.proofs.{Common.{◌≡◌, ◌&&◌, Bool, true, false, Option, Some, None, refl, sym, true≢false}, Math.Bool.beq}
+use Rattle.{std.specs.Option.option_eq, napi_model.specs.declared.state.{Kind.{Kind, TheVariants.{List, Thread}}, Seen.Seen}}
 use Rattle.napi_model.specs.contracts.state.KindPartialEq.TheImpl as kind_eq
 
 -- ---- a test of every value
@@ -12,11 +13,17 @@ every_mark p = (p None && p (Some List)) && p (Some Thread)
 
 abbrev pub seen_at : Bool → Bool → Bool → Bool → Bool → Bool → Bool → Option Kind → Seen
 seen_at a b c d e f g m =
-    record { flags = record { sched = a; missed = b; disable = c; npsvc = d; in_busy_poll = e; threaded = f; sched_threaded = g }; handed = m }
+    record {
+      flags = record { sched = a; missed = b; disable = c; npsvc = d; in_busy_poll = e; threaded = f; sched_threaded = g };
+      handed = m;
+    }
 
 abbrev pub every_seen : (Seen → Bool) → Bool
 every_seen p =
-    every_bool (λ a. every_bool (λ b. every_bool (λ c. every_bool (λ d. every_bool (λ e. every_bool (λ f. every_bool (λ g. every_mark (λ m. p (seen_at a b c d e f g m)))))))))
+    every_bool
+    (λ a. every_bool
+    (λ b. every_bool
+    (λ c. every_bool (λ d. every_bool (λ e. every_bool (λ f. every_bool (λ g. every_mark (λ m. p (seen_at a b c d e f g m)))))))))
 
 pub and_l : (a b : Bool) → (a && b) ≡ true → a ≡ true
 and_l true b h = refl
@@ -44,9 +51,18 @@ seen_holds p h s =
     let e = s.flags.in_busy_poll in
     let f = s.flags.threaded in
     let g = s.flags.sched_threaded in
-    let r1 = bool_holds (λ x. every_bool (λ b. every_bool (λ c. every_bool (λ d. every_bool (λ e. every_bool (λ f. every_bool (λ g. every_mark (λ m. p (seen_at x b c d e f g m))))))))) h a in
-    let r2 = bool_holds (λ x. every_bool (λ c. every_bool (λ d. every_bool (λ e. every_bool (λ f. every_bool (λ g. every_mark (λ m. p (seen_at a x c d e f g m)))))))) r1 b in
-    let r3 = bool_holds (λ x. every_bool (λ d. every_bool (λ e. every_bool (λ f. every_bool (λ g. every_mark (λ m. p (seen_at a b x d e f g m))))))) r2 c in
+    let r1 =
+    bool_holds
+    (λ x. every_bool
+    (λ b. every_bool
+    (λ c. every_bool (λ d. every_bool (λ e. every_bool (λ f. every_bool (λ g. every_mark (λ m. p (seen_at x b c d e f g m))))))))) h a in
+    let r2 =
+    bool_holds
+    (λ x. every_bool
+    (λ c. every_bool (λ d. every_bool (λ e. every_bool (λ f. every_bool (λ g. every_mark (λ m. p (seen_at a x c d e f g m)))))))) r1 b in
+    let r3 =
+    bool_holds
+    (λ x. every_bool (λ d. every_bool (λ e. every_bool (λ f. every_bool (λ g. every_mark (λ m. p (seen_at a b x d e f g m))))))) r2 c in
     let r4 = bool_holds (λ x. every_bool (λ e. every_bool (λ f. every_bool (λ g. every_mark (λ m. p (seen_at a b c x e f g m)))))) r3 d in
     let r5 = bool_holds (λ x. every_bool (λ f. every_bool (λ g. every_mark (λ m. p (seen_at a b c d x f g m))))) r4 e in
     let r6 = bool_holds (λ x. every_bool (λ g. every_mark (λ m. p (seen_at a b c d e x g m)))) r5 f in

@@ -1,7 +1,12 @@
 -- The word tells what was seen: sums of bits.
-use Rattle.std.proofs.Common.{◌≡◌, ◌≢◌, ◌⊎◌, ℕ, ◌+◌, ◌*◌, ◌^◌, ◌<◌, min, ◌&&◌, not, ◌==◌, eqb, eq-eqb, ne_eqb, zero, suc, ⊎_elim, Bool, true, false, refl, sym, ap, ◌∙◌, subst, inl, inr, arith, bit_and, bit_or, true≢false}
-use Rattle.std.{proofs.lemmas.{Bool.{eqb-true, Decides.eqb_tells}, Nat.{or_disjoint, and-not, and_comm, pow_pos, Bits.{bit_at_and, bit_at_or, same_from_bits, bit_at-zero, and_pow, bit_at-lt}}}, specs.Int.bit_at}
-use Rattle.napi_model.{specs.{declared.state.Seen.Seen, Word.{bit_if, word_of, mark_word, both_marks, named_bits, other_bits, IsMalformed, seen_in, mark_in}}, proofs.SeenCases.{seen_holds, seen_is, same_seen, and_l, and_r}}
+use Rattle.std.proofs.Common.{◌≡◌, ◌≢◌, ◌⊎◌, ℕ, ◌+◌, ◌*◌, ◌^◌, ◌<◌, min, ◌&&◌, not, ◌==◌, eqb, eq-eqb, ne_eqb, zero, suc, ⊎_elim, Bool}
+use Rattle.std.proofs.Common.{true, false, refl, sym, ap, ◌∙◌, subst, inl, inr, arith, bit_and, bit_or, true≢false}
+use Rattle.std.proofs.lemmas.Bool.{eqb-true, Decides.eqb_tells}
+use Rattle.std.proofs.lemmas.Nat.{or_disjoint, and-not, and_comm, pow_pos}
+use Rattle.std.{proofs.lemmas.Nat.Bits.{bit_at_and, bit_at_or, same_from_bits, bit_at-zero, and_pow, bit_at-lt}, specs.Int.bit_at}
+use Rattle.napi_model.specs.declared.state.Seen.{Seen}
+use Rattle.napi_model.specs.Word.{bit_if, word_of, mark_word, both_marks, named_bits, other_bits, IsMalformed, seen_in, mark_in}
+use Rattle.napi_model.proofs.SeenCases.{seen_holds, seen_is, same_seen, and_l, and_r}
 
 -- ---- bits of sums
 
@@ -22,7 +27,8 @@ and_sum n a b e =
     ∙ or_disjoint (bit_and n a) (bit_and n b) (and_apart n a b e)
 
 read_sum : (w : ℕ) → bit_and w named_bits
-    ≡ bit_and w 1 + bit_and w 2 + bit_and w 4 + bit_and w 8 + bit_and w 64 + bit_and w 256 + bit_and w 512 + bit_and w 4294967296 + bit_and w 8589934592
+    ≡ bit_and w 1 + bit_and w 2 + bit_and w 4 + bit_and w 8 + bit_and w 64 + bit_and w 256 + bit_and w 512 + bit_and w 4294967296
+    + bit_and w 8589934592
 read_sum w =
     let e8 = and_sum w 4294968143 8589934592 refl in
     let e7 = and_sum w 847 4294967296 refl in
@@ -60,10 +66,24 @@ word_of-injective x y e = sym (seen_in-word x) ∙ ap seen_in e ∙ seen_in-word
 
 -- the bits joined are their sum
 pub joined_bits : (s : Seen) →
-    bit_or (bit_or (bit_or (bit_or (bit_or (bit_or (bit_or (bit_if s.flags.sched 1) (bit_if s.flags.missed 2)) (bit_if s.flags.disable 4)) (bit_if s.flags.npsvc 8)) (bit_if s.flags.in_busy_poll 64)) (bit_if s.flags.threaded 256)) (bit_if s.flags.sched_threaded 512)) (mark_word s.handed)
+    bit_or (bit_or
+    (bit_or
+    (bit_or
+    (bit_or (bit_or (bit_or (bit_if s.flags.sched 1) (bit_if s.flags.missed 2)) (bit_if s.flags.disable 4)) (bit_if s.flags.npsvc 8))
+    (bit_if s.flags.in_busy_poll 64)) (bit_if s.flags.threaded 256)) (bit_if s.flags.sched_threaded 512)) (mark_word s.handed)
     ≡ word_of s
 unfolding word_of
-joined_bits s = eqb-true _ _ (seen_holds (λ x. eqb (bit_or (bit_or (bit_or (bit_or (bit_or (bit_or (bit_or (bit_if x.flags.sched 1) (bit_if x.flags.missed 2)) (bit_if x.flags.disable 4)) (bit_if x.flags.npsvc 8)) (bit_if x.flags.in_busy_poll 64)) (bit_if x.flags.threaded 256)) (bit_if x.flags.sched_threaded 512)) (mark_word x.handed)) (word_of x)) refl s)
+joined_bits s =
+    eqb-true _ _
+    (seen_holds
+    (λ x. eqb
+    (bit_or
+    (bit_or
+    (bit_or
+    (bit_or
+    (bit_or (bit_or (bit_or (bit_if x.flags.sched 1) (bit_if x.flags.missed 2)) (bit_if x.flags.disable 4)) (bit_if x.flags.npsvc 8))
+    (bit_if x.flags.in_busy_poll 64)) (bit_if x.flags.threaded 256)) (bit_if x.flags.sched_threaded 512)) (mark_word x.handed))
+    (word_of x)) refl s)
 
 -- a word of what was seen has no other bit, and not both marks
 well_formed : (s : Seen) → (eqb (bit_and (word_of s) other_bits) 0 && not (eqb (bit_and (word_of s) both_marks) both_marks)) ≡ true
@@ -109,7 +129,10 @@ marks_sum w one =
 pub word_of-seen_in : (w : ℕ) → w < 18446744073709551616 → ¬ IsMalformed w → word_of (seen_in w) ≡ w
 unfolding word_of seen_in
 word_of-seen_in w small ok =
-    let none : bit_and w other_bits ≡ 0 = ⊎_elim (λ (t : (eqb (bit_and w other_bits) 0 ≡ true) × (bit_and w other_bits ≡ 0)). t.1) (λ (f : (eqb (bit_and w other_bits) 0 ≡ false) × (bit_and w other_bits ≢ 0)). absurd (ok (inl f.1))) (eqb_tells (bit_and w other_bits) 0) in
+    let none : bit_and w other_bits ≡ 0 =
+    ⊎_elim (λ (t : (eqb (bit_and w other_bits) 0 ≡ true) × (bit_and w other_bits ≡ 0)). t.1)
+    (λ (f : (eqb (bit_and w other_bits) 0 ≡ false) × (bit_and w other_bits ≢ 0)). absurd (ok (inl f.1)))
+    (eqb_tells (bit_and w other_bits) 0) in
     let parts = read_sum w in
     let whole = named_only w small none in
     let marks = marks_sum w (λ b. ok (inr b)) in

@@ -15,13 +15,15 @@ use Rattle.napi_model.specs.declared.event.Done.TheVariants.{Released, Again, He
 use Rattle.napi_model.specs.declared.event.Call.{Call}
 use Rattle.napi_model.specs.declared.event.Call.TheVariants as call
 use Rattle.napi_model.specs.declared.event.Operation.{Operation}
-use Rattle.napi_model.specs.declared.event.Operation.TheVariants.{Look, Schedule, Hand, Take, Complete, BusyTake, BusyStop, MarkDisable, TakeDisable, Unmark, Enable, SetThreaded}
+use Rattle.napi_model.specs.declared.event.Operation.TheVariants.{Look, Schedule, Hand, Take, Complete, BusyTake, BusyStop, MarkDisable}
+use Rattle.napi_model.specs.declared.event.Operation.TheVariants.{TakeDisable, Unmark, Enable, SetThreaded}
 use Rattle.napi_model.specs.declared.event.Event.{Event}
 
 -- ---- states
 
 abbrev pub no_flags : Flags
-no_flags = record { sched = false; missed = false; disable = false; npsvc = false; in_busy_poll = false; threaded = false; sched_threaded = false }
+no_flags =
+    record { sched = false; missed = false; disable = false; npsvc = false; in_busy_poll = false; threaded = false; sched_threaded = false }
 
 -- a new instance is disabled, in its controller's hands
 abbrev pub opening : ℕ → State

@@ -18,4 +18,6 @@ IsReport words = IsTextBy (AskFor words) (λ settings bytes text. replay_of sett
 
 -- the fault is that of the words or of the bytes; else the reader, the memory or the writer failed
 abbrev pub IsFault : List Text → Option (List ℕ) → ProgramFault → Type 0
-IsFault words = IsFaultOf (serial_asked_for words ≡ None) (AskFor words) (λ settings. IsOutside) (λ settings bytes fault. replay_of settings bytes ≡ Err fault)
+IsFault words =
+    IsFaultOf (serial_asked_for words ≡ None) (AskFor words) (λ settings. IsOutside)
+    (λ settings bytes fault. replay_of settings bytes ≡ Err fault)

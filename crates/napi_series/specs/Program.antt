@@ -19,4 +19,6 @@ IsSeries words = IsTextBy (AskFor words) (λ asked bytes text. series_by asked.1
 
 -- the fault is that of the words or of the bytes; else the reader, the memory or the writer failed
 abbrev pub IsFault : List Text → Option (List ℕ) → ProgramFault → Type 0
-IsFault words = IsFaultOf (series_asked_for words ≡ None) (AskFor words) (λ asked. IsOutside) (λ asked bytes fault. series_by asked.1 asked.0 bytes ≡ Err fault)
+IsFault words =
+    IsFaultOf (series_asked_for words ≡ None) (AskFor words) (λ asked. IsOutside)
+    (λ asked bytes fault. series_by asked.1 asked.0 bytes ≡ Err fault)

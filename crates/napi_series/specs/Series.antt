@@ -1,6 +1,7 @@
 -- The series of a trace: a CSV line behind each row, or behind each Nth one, with the values that the report of the rows so
 -- far would have.
-use Rattle.std.specs.Prelude.{ℕ, zero, suc, ◌+◌, ◌-◌, ◌%◌, ◌==◌, Bool, true, List, [], ◌∷◌, ◌++◌, Option, Some, None, Result, Ok, Err, codes, decimal, flat_map, if◌then◌else◌, length}
+use Rattle.std.specs.Prelude.{ℕ, zero, suc, ◌+◌, ◌-◌, ◌%◌, ◌==◌, Bool, true, List, [], ◌∷◌, ◌++◌, Option, Some, None, Result, Ok, Err}
+use Rattle.std.specs.Prelude.{codes, decimal, flat_map, if◌then◌else◌, length}
 use Rattle.std.specs.Fmt.{signed_decimal}
 use Rattle.std.specs.List.{slice_get}
 use Rattle.device_rows.specs.Trace.{records_of, trace_of}
@@ -33,14 +34,16 @@ row_fields n row = decimal n ++ fields (decimal row.moment ∷ decimal row.devic
 -- the device: its state, the packets that wait in its ring, that arrived, that were dropped, that were polled
 abbrev pub device_fields : Option DeviceCounts → List ℕ
 device_fields None = codes ",,,,,"
-device_fields (Some counts) = fields (state_word counts.state ∷ decimal counts.left ∷ decimal counts.arrived ∷ decimal counts.dropped ∷ decimal counts.polled ∷ [])
+device_fields (Some counts) =
+    fields (state_word counts.state ∷ decimal counts.left ∷ decimal counts.arrived ∷ decimal counts.dropped ∷ decimal counts.polled ∷ [])
 
 -- its transmit side, where that had a row: the bytes in flight (sent and not complete), the limit, the bytes that may still be
 -- queued, whether the queue is stopped
 abbrev pub queue_fields : Bool → Option DeviceCounts → List ℕ
 queue_fields true (Some counts) =
     let queue = counts.tx.state in
-    fields (decimal (distance_of queue.queued queue.completed) ∷ decimal queue.limit ∷ signed_decimal queue.avail ∷ decimal (flag queue.stopped) ∷ [])
+    fields (decimal (distance_of queue.queued queue.completed) ∷ decimal queue.limit ∷ signed_decimal queue.avail
+    ∷ decimal (flag queue.stopped) ∷ [])
 queue_fields _ counts = codes ",,,,"
 
 -- what a row that polled did; a thread's polling is never squeezed, nor is busy polling
@@ -57,7 +60,8 @@ word_field (Some counts) = codes "," ++ decimal counts.word
 
 -- what the row makes of its device, and what it polled
 abbrev pub told_fields : ℕ → Row → Bool → Option DeviceCounts → Option Line → List ℕ
-told_fields n row used counts polled = row_fields n row ++ (device_fields counts ++ (queue_fields used counts ++ (run_fields polled ++ word_field counts)))
+told_fields n row used counts polled =
+    row_fields n row ++ (device_fields counts ++ (queue_fields used counts ++ (run_fields polled ++ word_field counts)))
 
 -- what a device gave in a row that polled it, by what is told of it before the row and behind it: its number and the packets
 abbrev pub gave : ℕ → Option DeviceCounts → Option DeviceCounts → List ℕ

@@ -1,11 +1,22 @@
 -- A step is allowed where it is a legal one whose word is right, at each state that the view allows.
-use Rattle.napi_word.specs.{Told.{told, laid_down}, View.{View, is_pass, number_of, place_in, ring_of, delivery, own_deliveries, delivered, received_by, received_in, first_in, last_of, Continues}, declared.view.{Key.Key, Delivery.Delivery}}
-use Rattle.napi_word.specs.{declared.view.Holds.{Holds, TheVariants.{Nothing, Within, Out}}, Rule.{Home, Homes, Owned, Fits, Kept, Holding}, Slot.{Content, Carried, has_at, is_out, owns_slot, hold_of, has_slot, ring_in, beside_in}}
-use Rattle.napi_word.{specs.Slot.{carried_received, Tied, Moves, stays, taken, given, moved, Gives, Shifts, Delivers}, proofs.{Places.{has_out, has_same, in_no_hand}, Keeps.{St, Open, opened, grown, running, Knows, knows, own_fits, owned}}}
-use Rattle.{napi_word.proofs.{Keeps.{found, steps, grew, again}, Deliveries.{some_is, prefix_self, to_prefix, of_prefix, received_snoc, last_snoc, More, not_given, more_none, more_one}}, rx_ring.specs.declared.ends.RxCtx.RxCtx}
-use Rattle.{rx_ring.specs.{declared.packet.Packet.Packet, Ends.{ring_name, received_list}}, napi_model.specs.{History.{IsLegalFor, state_after}, declared.{state.{State.State as Napi, Place.Place, Seen.Seen}, event.Operation.Operation}}}
-use Rattle.{napi_model.{specs.{Step.{event, opening, seen_of, after_by}, Word.word_of}, proofs.Histories.state_after-snoc}, std.proofs.Common.{◌≡◌, ◌≢◌, ℕ, zero, set, length, [], ◌∷◌, ◌++◌, Option, Some, None, Bool, List, true, false}}
-use Rattle.{std.proofs.Common.{not, ◌&&◌, unwrap_or, refl, sym, ap, ◌∙◌, subst, inr, true≢false, arith}, atomic_table.specs.Table.{Me, Act, keeps, takes, gives, rest, put_back, homes_after, carried_after, Valid, Allows}}
+use Rattle.napi_word.specs.Told.{told, laid_down}
+use Rattle.napi_word.specs.View.{View, is_pass, number_of, place_in, ring_of, delivery, own_deliveries, delivered, received_by, received_in}
+use Rattle.napi_word.specs.{View.{first_in, last_of, Continues}, declared.view.{Key.Key, Delivery.Delivery}}
+use Rattle.napi_word.specs.{declared.view.Holds.{Holds, TheVariants.{Nothing, Within, Out}}, Rule.{Home, Homes, Owned, Fits, Kept, Holding}}
+use Rattle.napi_word.specs.Slot.{Content, Carried, has_at, is_out, owns_slot, hold_of, has_slot, ring_in, beside_in}
+use Rattle.napi_word.specs.Slot.{carried_received, Tied, Moves, stays, taken, given, moved, Gives, Shifts, Delivers}
+use Rattle.napi_word.proofs.Places.{has_out, has_same, in_no_hand}
+use Rattle.napi_word.proofs.Keeps.{St, Open, opened, grown, running, Knows, knows, own_fits, owned}
+use Rattle.napi_word.proofs.Keeps.{found, steps, grew, again}
+use Rattle.napi_word.proofs.Deliveries.{some_is, prefix_self, to_prefix, of_prefix, received_snoc, last_snoc, More, not_given, more_none}
+use Rattle.{napi_word.proofs.Deliveries.{more_one}, rx_ring.specs.declared.ends.RxCtx.RxCtx}
+use Rattle.rx_ring.specs.{declared.packet.Packet.Packet, Ends.{ring_name, received_list}}
+use Rattle.napi_model.specs.History.{IsLegalFor, state_after}
+use Rattle.napi_model.specs.declared.{state.{State.State as Napi, Place.Place, Seen.Seen}, event.Operation.Operation}
+use Rattle.napi_model.{specs.{Step.{event, opening, seen_of, after_by}, Word.word_of}, proofs.Histories.state_after-snoc}
+use Rattle.std.proofs.Common.{◌≡◌, ◌≢◌, ℕ, zero, set, length, [], ◌∷◌, ◌++◌, Option, Some, None, Bool, List, true, false}
+use Rattle.std.proofs.Common.{not, ◌&&◌, unwrap_or, refl, sym, ap, ◌∙◌, subst, inr, true≢false, arith}
+use Rattle.atomic_table.specs.Table.{Me, Act, keeps, takes, gives, rest, put_back, homes_after, carried_after, Valid, Allows}
 use mathlib.Core.{Option.{Option as Maybe, some-ne-none}, List.IsPrefix}
 use lib.ListN.{get_elem?}
 
@@ -62,7 +73,8 @@ pub record Turn (k : ℕ) (now : Napi) (c : ℕ) (o : Operation) (m : Moves) (g 
   pub word : g (word_of (seen_of now)) ≡ word_of (seen_of (after_by c o now))
   pub slot : Fitting m c now.place (after_by c o now).place
 
-module _ (key : Key) (id : ℕ) (me : Me Content View) (h : Holds) (tie : Tied h me) (s : St) (r : Kept key s) (len : length s.homes ≡ 1) (at : get_elem? s.views id ≡ Maybe.some me.0) (o : Open me.0) where
+module _ (key : Key) (id : ℕ) (me : Me Content View) (h : Holds) (tie : Tied h me) (s : St) (r : Kept key s) (len : length s.homes ≡ 1)
+    (at : get_elem? s.views id ≡ Maybe.some me.0) (o : Open me.0) where
   abbrev start : Napi
   start = opening key.controller
 
@@ -121,7 +133,8 @@ module _ (key : Key) (id : ℕ) (me : Me Content View) (h : Holds) (tie : Tied h
 
     right_after : (ds : List Delivery) → owns_slot (w ds) ≡ has_at c q
     right_after ds =
-        ap (λ (n : Option ℕ). has_at (unwrap_or n 0) (state_after (opening o.first.controller) (r.history ++ event c d ∷ [])).place) o.numbered
+        ap (λ (n : Option ℕ). has_at (unwrap_or n 0) (state_after (opening o.first.controller) (r.history ++ event c d ∷ [])).place)
+        o.numbered
         ∙ ap (λ (k : ℕ). has_at c (state_after (opening k) (r.history ++ event c d ∷ [])).place) fits_now.controller
         ∙ ap (λ (u : Napi). has_at c u.place) (state_after-snoc start r.history (event c d))
 
@@ -129,11 +142,13 @@ module _ (key : Key) (id : ℕ) (me : Me Content View) (h : Holds) (tie : Tied h
     received_then ds = ap (λ (x : RxCtx). received_by x ds) fits_now.ring
 
     -- a context that is kept in hand has still received what was delivered
-    received_kept : (l : Carried) → hold_of l ≡ Some h → IsPrefix (received_in me.0) (carried_received l me.0) → IsPrefix (received_in (w r.deliveries)) (carried_received l (w r.deliveries))
+    received_kept : (l : Carried) → hold_of l ≡ Some h → IsPrefix (received_in me.0) (carried_received l me.0)
+        → IsPrefix (received_in (w r.deliveries)) (carried_received l (w r.deliveries))
     received_kept [] e p = prefix_self (received_in (w r.deliveries))
     received_kept ((k, None) ∷ l) e p = prefix_self (received_in (w r.deliveries))
     received_kept ((k, Some x) ∷ l) e p =
-        subst (λ (xs : List Packet). IsPrefix xs (received_list x)) (received_now ∙ ap (received_by ring) (all_known (has_now ∙ some_held k x l e)) ∙ sym (received_then r.deliveries)) p
+        subst (λ (xs : List Packet). IsPrefix xs (received_list x))
+        (received_now ∙ ap (received_by ring) (all_known (has_now ∙ some_held k x l e)) ∙ sym (received_then r.deliveries)) p
 
     -- how the slot and the deliveries go on
     pub record Went (m : Moves) : Type 0 where
@@ -175,28 +190,53 @@ module _ (key : Key) (id : ℕ) (me : Me Content View) (h : Holds) (tie : Tied h
             right = right_after r.deliveries ∙ f.1;
             ring = ap Some (home.2 ∙ ap ring_name (sym fits_now.ring));
             unmarked = home.3;
-            received = of_prefix _ _ (subst (λ (xs : List Packet). IsPrefix (received_in (w r.deliveries)) xs) (sym all) (prefix_self (received_in (w r.deliveries))));
+            received =
+                of_prefix _ _
+                (subst (λ (xs : List Packet). IsPrefix (received_in (w r.deliveries)) xs) (sym all)
+                (prefix_self (received_in (w r.deliveries))));
           };
-          told = delivers_by taken (w r.deliveries, (0, Some home.0) ∷ me.1) refl (refl, (home.0, ap (λ (l : Carried). (0, Some home.0) ∷ l) empty, all, ap (λ (x : RxCtx). Some (last_of x r.deliveries)) fits_now.ring ∙ ap Some (sym home.5)));
+          told = delivers_by taken (w r.deliveries, (0, Some home.0) ∷ me.1) refl (
+            refl,
+            (
+              home.0,
+              ap (λ (l : Carried). (0, Some home.0) ∷ l) empty,
+              all,
+              ap
+                  (λ (x : RxCtx). Some (last_of x r.deliveries)) fits_now.ring ∙ ap Some (sym home.5),
+            ),
+          );
         }
     slot_step given f n =
         let held = hold_within me.1 (tie.marked ∙ ap Some (within h (sym has_now ∙ f.0) (n refl))) in
-        let named : ring_name held.0 ≡ ring_name o.first.ring = some_is (ap (λ (l : Carried). ring_in l me.0) (sym held.1) ∙ tie.ring ∙ ring_now) in
+        let named : ring_name held.0 ≡ ring_name o.first.ring =
+        some_is (ap (λ (l : Carried). ring_in l me.0) (sym held.1) ∙ tie.ring ∙ ring_now) in
         let more = subst (λ (l : Carried). IsPrefix (received_in me.0) (carried_received l me.0)) held.1 (to_prefix _ _ tie.received) in
         let ds : List Delivery = r.deliveries ++ delivery c more.0 held.0 ∷ [] in
         let owns : true ≡ owns_slot me.0 = sym f.0 ∙ has_now ∙ sym tie.right in
-        let all : received_list held.0 ≡ received_by ring ds = sym more.1 ∙ ap (λ (l : List Packet). l ++ more.0) (received_now ∙ ap (received_by ring) (all_known f.0)) ∙ sym (received_snoc ring r.deliveries c more.0 held.0) in record {
+        let all : received_list held.0 ≡ received_by ring ds =
+        sym more.1 ∙ ap (λ (l : List Packet). l ++ more.0) (received_now ∙ ap (received_by ring) (all_known f.0))
+        ∙ sym (received_snoc ring r.deliveries c more.0 held.0) in record {
           ds = ds;
           more = more_one now (event c d) r.deliveries more.0 held.0 f.0 (λ i. f.0 i && not (f.1 i));
           act = gives;
           valid = tt;
-          home = λ y. (held.0, ap (λ (l : Carried). put_back s.homes l) held.1 ∙ set_one s.homes (Maybe.some (Some held.0)) len, named ∙ ap ring_name fits_now.ring, ap beside_in (sym held.1) ∙ tie.unmarked, all, sym (last_snoc ring r.deliveries (delivery c more.0 held.0)));
+          home = λ y. (
+            held.0,
+            ap (λ (l : Carried). put_back s.homes l) held.1 ∙ set_one s.homes (Maybe.some (Some held.0)) len,
+            named
+                ∙ ap ring_name fits_now.ring,
+            ap beside_in (sym held.1) ∙ tie.unmarked,
+            all,
+            sym (last_snoc ring r.deliveries (delivery c more.0 held.0)),
+          );
           tied = record {
             marked = ap (λ (l : Carried). hold_of (rest l)) held.1;
             right = right_after ds ∙ in_no_hand c q f.1;
             ring = ring_kept (rest me.1) (w ds) (w ds) (ap (λ (l : Carried). ring_in (rest l) (w ds)) held.1) refl;
             unmarked = ap (λ (l : Carried). beside_in (rest l)) held.1;
-            received = subst (λ (l : Carried). Continues (received_in (w ds)) (carried_received (rest l) (w ds))) (sym held.1) (of_prefix _ _ (prefix_self (received_in (w ds))));
+            received =
+                subst (λ (l : Carried). Continues (received_in (w ds)) (carried_received (rest l) (w ds))) (sym held.1)
+                (of_prefix _ _ (prefix_self (received_in (w ds))));
           };
           told = delivers_by given (w ds, rest me.1) refl
               (subst (λ (b : Bool). Gives b r.deliveries me (w ds, rest me.1)) owns (held.0, more.0, held.1, sym more.1, refl));
@@ -217,13 +257,16 @@ module _ (key : Key) (slots id : ℕ) (me : Me Content View) (one : slots ≡ 1)
         grown o.first (number_of me.0) r.history d a.ds ∷ [],
         a.act,
         a.valid,
-        inr (steps key s r id me.0 at o d a.ds [] (λ k x is. absurd (some-ne-none x (sym is))) g t.word t.legal a.more (homes_after s.homes me.1 a.act) a.home),
+        inr (steps key s r id me.0 at o d a.ds [] (λ k x is. absurd (some-ne-none x (sym is))) g t.word t.legal a.more
+            (homes_after s.homes me.1 a.act) a.home),
         (
           x,
           found key s r id me.0 at o,
           (
             grew key s r id me.0 at o d a.ds [] t.legal,
-            λ h' tie'. subst (λ (y : Holds). Tied (moved (m x) y) (grown o.first (number_of me.0) r.history d a.ds ∷ [], carried_after me.1 a.act)) (some_is (sym tie.marked ∙ tie'.marked)) a.tied,
+            λ h' tie'. subst
+                (λ (y : Holds). Tied (moved (m x) y) (grown o.first (number_of me.0) r.history d a.ds ∷ [], carried_after me.1 a.act))
+                (some_is (sym tie.marked ∙ tie'.marked)) a.tied,
             a.told,
           ),
         ),
@@ -239,6 +282,7 @@ module _ (key : Key) (slots id : ℕ) (me : Me Content View) (one : slots ≡ 1)
         me.0,
         gives,
         tt,
-        inr (again key s r id me.0 at o (put_back s.homes me.1) (λ y. absurd (true≢false (sym (has_out (number_of me.0) now.place has) ∙ y)))),
+        inr (again key s r id me.0 at o (put_back s.homes me.1)
+            (λ y. absurd (true≢false (sym (has_out (number_of me.0) now.place has) ∙ y)))),
         (refl, ap rest (hold_out me.1 (tie.marked ∙ ap Some out))),
       )

@@ -1,16 +1,30 @@
 -- All strands of one seat catch up with the whole history by a look.
-use Rattle.std.proofs.Common.{◌≡◌, ◌≢◌, ℕ, zero, suc, List, [], ◌∷◌, ◌++◌, length, slice_get, Some, None, Bool, true, unwrap_or, is_some, refl, sym, ap, ◌∙◌, subst, inr, arith, true≢false}
-use Rattle.{atomic_table.{specs.Table.{Me, keeps, Allows}, proofs.Lists.at_longer}, rx_ring.specs.{declared.{packet.Packet.Packet, ends.RxCtx.RxCtx}, Ends.received_list}, napi_model.specs.declared.{event.{Event.Event, Operation.TheVariants.Look}, state.Seen.Seen}}
-use Rattle.{napi_model.{specs.{declared.state.{State.State as Napi, Place.Place}, Step.{event, opening, seen_of}, History.{LegalHistory, state_after, own}, Laws.is_owner}, proofs.Histories.{legal_snoc, state_after-snoc}}, napi_word.specs.declared.view.{Key.Key, Strand.Strand, Delivery.Delivery}}
-use Rattle.napi_word.specs.{declared.{view.Holds.{Holds, TheVariants.Nothing}, table.Pass.Pass}, View.{View, is_pass, mine, number_of, controller_of, first_in, received_in, own_deliveries, place_in, Continues}}
-use Rattle.napi_word.specs.{Slot.{Content, Carried, stays, has_at, is_given, one_if, hold_of, has_slot, carried_received, Tied}, Rule.{Fits, Kept, Holding}, Surveys.{IsWhole, CatchesUp, Knew, Surveyed, Surveys, front, with_front, but_last, last_alone, caught_up, looked, all_looked}}
-use Rattle.napi_word.{specs.{Surveys.all_caught_up, Passes.{Makes, SameTable, view_of, tie_of}}, proofs.{Splitting.{but_last_is, last_alone_is}, Owns.{own_mine, own_other}, Places.has_same, Closing.is_pass_more, Deliveries.{prefix_self, of_prefix, More, more_none, not_given, givers_snoc}, Allowed.{ring_kept, some_held}}}
-use Rattle.napi_word.proofs.{Allowed.hold_nothing, Keeps.{St, Open, opened, running, found, grown, steps, own_fits, owned, owner_since, stand_since, disable_since}, Deliveries.{some_is, ring_as, received_as}}
+use Rattle.std.proofs.Common.{◌≡◌, ◌≢◌, ℕ, zero, suc, List, [], ◌∷◌, ◌++◌, length, slice_get, Some, None, Bool, true, unwrap_or, is_some}
+use Rattle.std.proofs.Common.{refl, sym, ap, ◌∙◌, subst, inr, arith, true≢false}
+use Rattle.atomic_table.{specs.Table.{Me, keeps, Allows}, proofs.Lists.at_longer}
+use Rattle.rx_ring.specs.{declared.{packet.Packet.Packet, ends.RxCtx.RxCtx}, Ends.received_list}
+use Rattle.napi_model.specs.declared.{event.{Event.Event, Operation.TheVariants.Look}, state.Seen.Seen}
+use Rattle.napi_model.specs.{declared.state.{State.State as Napi, Place.Place}, Step.{event, opening, seen_of}}
+use Rattle.napi_model.{specs.{History.{LegalHistory, state_after, own}, Laws.is_owner}, proofs.Histories.{legal_snoc, state_after-snoc}}
+use Rattle.napi_word.specs.declared.view.{Key.Key, Strand.Strand, Delivery.Delivery}
+use Rattle.napi_word.specs.declared.{view.Holds.{Holds, TheVariants.Nothing}, table.Pass.Pass}
+use Rattle.napi_word.specs.View.{View, is_pass, mine, number_of, controller_of, first_in, received_in, own_deliveries, place_in, Continues}
+use Rattle.napi_word.specs.Slot.{Content, Carried, stays, has_at, is_given, one_if, hold_of, has_slot, carried_received, Tied}
+use Rattle.napi_word.specs.Rule.{Fits, Kept, Holding}
+use Rattle.napi_word.specs.Surveys.{IsWhole, CatchesUp, Knew, Surveyed, Surveys, front, with_front, but_last, last_alone, caught_up, looked}
+use Rattle.napi_word.specs.Surveys.{all_looked}
+use Rattle.napi_word.specs.{Surveys.all_caught_up, Passes.{Makes, SameTable, view_of, tie_of}}
+use Rattle.napi_word.proofs.{Splitting.{but_last_is, last_alone_is}, Owns.{own_mine, own_other}, Places.has_same, Closing.is_pass_more}
+use Rattle.napi_word.proofs.{Deliveries.{prefix_self, of_prefix, More, more_none, not_given, givers_snoc}, Allowed.{ring_kept, some_held}}
+use Rattle.napi_word.proofs.Allowed.{hold_nothing}
+use Rattle.napi_word.proofs.Keeps.{St, Open, opened, running, found, grown, steps, own_fits, owned, owner_since, stand_since, disable_since}
+use Rattle.napi_word.proofs.Deliveries.{some_is, ring_as, received_as}
 use lib.ListN.{get_elem?}
 use mathlib.Core.Option as maybe
 use mathlib.Core.List.{IsPrefix}
 
-at_caught : (h : List Event) (ds : List Delivery) (v : View) (k : ℕ) (z : Strand) → get_elem? (all_caught_up h ds v) k ≡ maybe.some z → (x : Strand) × (get_elem? v k ≡ maybe.some x) × (caught_up h ds x ≡ z)
+at_caught : (h : List Event) (ds : List Delivery) (v : View) (k : ℕ) (z : Strand) → get_elem? (all_caught_up h ds v) k ≡ maybe.some z
+    → (x : Strand) × (get_elem? v k ≡ maybe.some x) × (caught_up h ds x ≡ z)
 at_caught h ds [] k z e = absurd (maybe.some-ne-none z (sym e))
 at_caught h ds (x ∷ xs) zero z e = (x, refl, maybe.some-injective _ _ e)
 at_caught h ds (x ∷ xs) (suc k) z e = at_caught h ds xs k z e
@@ -27,12 +41,14 @@ module _ (key : Key) (s : St) (r : Kept key s) (id : ℕ) (v : View) (at : get_e
 
   -- whoever looks is at the front alone
   front_alone : (k : ℕ) (x : Strand) → get_elem? v k ≡ maybe.some x → x.number ≡ Some (number_of v) → k ≡ 0
-  front_alone k x is n = ap (λ (p : ℕ × ℕ). p.1) (sym ((r.strands id v at k x is).owned (number_of v) n).here ∙ (owned key s r id v at o).here)
+  front_alone k x is n =
+      ap (λ (p : ℕ × ℕ). p.1) (sym ((r.strands id v at k x is).owned (number_of v) n).here ∙ (owned key s r id v at o).here)
 
   behind : (k : ℕ) (x : Strand) → get_elem? o.extra k ≡ maybe.some x → get_elem? v (suc k) ≡ maybe.some x
   behind k x is = ap (λ (l : View). get_elem? l (suc k)) o.is ∙ is
 
-  refreshed : (k : ℕ) (x : Strand) → get_elem? v (suc k) ≡ maybe.some x → Fits key all_made r.deliveries r.seat (id, suc k) (caught_up all_made r.deliveries x)
+  refreshed : (k : ℕ) (x : Strand) → get_elem? v (suc k) ≡ maybe.some x
+      → Fits key all_made r.deliveries r.seat (id, suc k) (caught_up all_made r.deliveries x)
   refreshed k x is =
       let f = r.strands id v at (suc k) x is in record {
         begins = prefix_self all_made;
@@ -47,7 +63,8 @@ module _ (key : Key) (s : St) (r : Kept key s) (id : ℕ) (v : View) (at : get_e
         begun = f.begun;
       }
 
-  tail_fits : (k : ℕ) (z : Strand) → get_elem? (all_caught_up all_made r.deliveries o.extra) k ≡ maybe.some z → Fits key all_made r.deliveries r.seat (id, suc k) z
+  tail_fits : (k : ℕ) (z : Strand) → get_elem? (all_caught_up all_made r.deliveries o.extra) k ≡ maybe.some z
+      → Fits key all_made r.deliveries r.seat (id, suc k) z
   tail_fits k z is =
       let x = at_caught all_made r.deliveries o.extra k z is in
       subst (Fits key all_made r.deliveries r.seat (id, suc k)) x.2 (refreshed k x.0 (behind k x.0 x.1))
@@ -75,12 +92,15 @@ module _ (key : Key) (s : St) (r : Kept key s) (id : ℕ) (v : View) (at : get_e
   whole_then =
       let few = (owned key s r id v at o).few in record {
         legal = legal_snoc key.controller (opening key.controller) r.history look_made r.legal (refl, tt);
-        others = λ c above. own_other c r.history look_made (λ (same : number_of v ≡ c). absurd (omega (arith, few, same, above))) ∙ r.few c above;
+        others = λ c above. own_other c r.history look_made (λ (same : number_of v ≡ c). absurd (omega (arith, few, same, above)))
+            ∙ r.few c above;
         few = r.few_deliver;
-        order = none_given.order ∙ ap (λ (l : List ℕ). l ++ one_if (is_given state_found look_made) (number_of v)) r.order ∙ sym (givers_snoc (opening key.controller) r.history look_made);
+        order = none_given.order ∙ ap (λ (l : List ℕ). l ++ one_if (is_given state_found look_made) (number_of v)) r.order
+            ∙ sym (givers_snoc (opening key.controller) r.history look_made);
       }
 
-pub surveys : (key : Key) (slots id : ℕ) (me : Me Content View) → is_pass me.0 ≡ true → Allows (Holding key) slots id me 0 (λ n. n) (Surveyed me)
+pub surveys : (key : Key) (slots id : ℕ) (me : Me Content View) → is_pass me.0 ≡ true
+    → Allows (Holding key) slots id me 0 (λ n. n) (Surveyed me)
 surveys key slots id me p s holding len at fits =
     let r = running key s holding id me.0 at p in
     let o = opened me.0 p in
@@ -91,7 +111,8 @@ surveys key slots id me p s holding len at fits =
       grown o.first (number_of me.0) r.history (Look x) r.deliveries ∷ tail,
       keeps,
       tt,
-      inr (steps key s r id me.0 at o (Look x) r.deliveries tail (tail_fits key s r id me.0 at o) (λ n. n) refl (refl, tt) (none_given key s r id me.0 at o) s.homes r.slot),
+      inr (steps key s r id me.0 at o (Look x) r.deliveries tail (tail_fits key s r id me.0 at o) (λ n. n) refl (refl, tt)
+          (none_given key s r id me.0 at o) s.homes r.slot),
       record {
         seen = x;
         word = found key s r id me.0 at o;
@@ -116,9 +137,11 @@ surveys key slots id me p s holding len at fits =
 abbrev pub shows_all : List Event → List Delivery → List Event → Strand → Strand
 shows_all h ds own x = record x { seen = h; mine = own; delivered = ds }
 
-pub catches_up : (k : ℕ) (h : List Event) (e : Event) (ds : List Delivery) (v w : View) (o : Open v) (list : List Event) (more : View) → Knew k h ds o.first (number_of v)
+pub catches_up : (k : ℕ) (h : List Event) (e : Event) (ds : List Delivery) (v w : View) (o : Open v) (list : List Event) (more : View)
+    → Knew k h ds o.first (number_of v)
     → own (number_of v) (h ++ e ∷ []) ≡ list → w ≡ shows_all (h ++ e ∷ []) ds list o.first ∷ more → CatchesUp h e ds v w
-catches_up k h e ds v w o list more n exact is = subst (λ (u : View). CatchesUp h e ds u w) (sym o.is) (subst (λ (u : View). CatchesUp h e ds (o.first ∷ o.extra) u) (sym is)
+catches_up k h e ds v w o list more n exact is =
+    subst (λ (u : View). CatchesUp h e ds u w) (sym o.is) (subst (λ (u : View). CatchesUp h e ds (o.first ∷ o.extra) u) (sym is)
     record {
       shown = refl;
       begins = n.begins;
@@ -127,15 +150,24 @@ catches_up k h e ds v w o list more n exact is = subst (λ (u : View). CatchesUp
       delivered = refl;
       delivered_begins = n.delivered;
       delivered_exact = subst (λ (c : ℕ). own_deliveries c ds ≡ own_deliveries c o.first.delivered) num n.delivers;
-      held = λ owns. n.has (has_same c now.place seen.place n.owner n.place ∙ subst (λ (t : ℕ × ℕ). has_at t.0 (state_after (opening t.1) o.first.seen).place ≡ true) (λ i. (sym num i, n.controller i)) owns);
+      held = λ owns. n.has
+          (has_same c now.place seen.place n.owner n.place ∙ subst
+          (λ (t : ℕ × ℕ). has_at t.0 (state_after (opening t.1) o.first.seen).place ≡ true) (λ i. (sym num i, n.controller i)) owns);
       pass = ap is_some o.numbered;
       number = refl;
       controller = refl;
       ring = refl;
-      owner = subst (λ (t : ℕ × ℕ). is_owner t.0 (state_after (opening t.1) h).place ≡ is_owner t.0 (state_after (opening t.1) o.first.seen).place) both n.owner;
-      place = subst (λ (t : ℕ × ℕ). is_owner t.0 (state_after (opening t.1) o.first.seen).place ≡ true → (state_after (opening t.1) h).place ≡ (state_after (opening t.1) o.first.seen).place) both n.place;
-      busy = subst (λ (t : ℕ × ℕ). is_owner t.0 (state_after (opening t.1) o.first.seen).place ≡ true → (state_after (opening t.1) h).flags.in_busy_poll ≡ (state_after (opening t.1) o.first.seen).flags.in_busy_poll) both n.busy;
-      disable = subst (λ (t : ℕ × ℕ). t.0 ≡ t.1 → (state_after (opening t.1) h).flags.disable ≡ (state_after (opening t.1) o.first.seen).flags.disable) both n.disable;
+      owner =
+          subst (λ (t : ℕ × ℕ). is_owner t.0 (state_after (opening t.1) h).place
+          ≡ is_owner t.0 (state_after (opening t.1) o.first.seen).place) both n.owner;
+      place =
+          subst (λ (t : ℕ × ℕ). is_owner t.0 (state_after (opening t.1) o.first.seen).place ≡ true
+          → (state_after (opening t.1) h).place ≡ (state_after (opening t.1) o.first.seen).place) both n.place;
+      busy = subst (λ (t : ℕ × ℕ). is_owner t.0 (state_after (opening t.1) o.first.seen).place ≡ true
+          → (state_after (opening t.1) h).flags.in_busy_poll ≡ (state_after (opening t.1) o.first.seen).flags.in_busy_poll) both n.busy;
+      disable =
+          subst (λ (t : ℕ × ℕ). t.0 ≡ t.1
+          → (state_after (opening t.1) h).flags.disable ≡ (state_after (opening t.1) o.first.seen).flags.disable) both n.disable;
     })
   where
     c : ℕ
@@ -160,9 +192,12 @@ catches_up k h e ds v w o list more n exact is = subst (λ (u : View). CatchesUp
     seen = state_after (opening k) o.first.seen
 
 -- whoever looked made a step
-pub made_step : (h : List Event) (x : Seen) (ds : List Delivery) (p q : Pass) → IsWhole (controller_of (view_of p)) (h ++ event (number_of (view_of p)) (Look x) ∷ []) ds
-    → CatchesUp h (event (number_of (view_of p)) (Look x)) ds (view_of p) (view_of q) → mine (view_of q) ≡ mine (view_of p) ++ event (number_of (view_of p)) (Look x) ∷ []
-    → ((k : ℕ) (z : Strand) → get_elem? (view_of p) k ≡ maybe.some z → IsPrefix z.seen h) → ((k : ℕ) (z : Strand) → get_elem? (view_of p) k ≡ maybe.some z → IsPrefix z.delivered ds)
+pub made_step : (h : List Event) (x : Seen) (ds : List Delivery) (p q : Pass)
+    → IsWhole (controller_of (view_of p)) (h ++ event (number_of (view_of p)) (Look x) ∷ []) ds
+    → CatchesUp h (event (number_of (view_of p)) (Look x)) ds (view_of p) (view_of q)
+    → mine (view_of q) ≡ mine (view_of p) ++ event (number_of (view_of p)) (Look x) ∷ []
+    → ((k : ℕ) (z : Strand) → get_elem? (view_of p) k ≡ maybe.some z → IsPrefix z.seen h)
+    → ((k : ℕ) (z : Strand) → get_elem? (view_of p) k ≡ maybe.some z → IsPrefix z.delivered ds)
     → SameTable p q → q.holds ≡ p.holds → q.seat.me.1 ≡ p.seat.me.1 → Makes p (Look x) stays q
 made_step h x ds p q whole u grows begins delivered_begins table holds slot = record {
   table = table;
@@ -197,23 +232,28 @@ made_step h x ds p q whole u grows begins delivered_begins table holds slot = re
     k = controller_of (view_of p)
 
 -- a slot that is held goes with it
-received_caught : (l : Carried) (hold : Holds) (v w : View) → hold_of l ≡ Some hold → (has_slot hold ≡ true → received_in w ≡ received_in v) → Continues (received_in v) (carried_received l v) → Continues (received_in w) (carried_received l w)
+received_caught : (l : Carried) (hold : Holds) (v w : View) → hold_of l ≡ Some hold → (has_slot hold ≡ true → received_in w ≡ received_in v)
+    → Continues (received_in v) (carried_received l v) → Continues (received_in w) (carried_received l w)
 received_caught [] hold v w e same p = of_prefix _ _ (prefix_self (received_in w))
 received_caught ((k, None) ∷ l) hold v w e same p = of_prefix _ _ (prefix_self (received_in w))
-received_caught ((k, Some x) ∷ l) hold v w e same p = subst (λ (xs : List Packet). Continues xs (received_list x)) (sym (same (some_held k x l e))) p
+received_caught ((k, Some x) ∷ l) hold v w e same p =
+    subst (λ (xs : List Packet). Continues xs (received_list x)) (sym (same (some_held k x l e))) p
 
 -- a look leaves the state
 pub state_looked : (s : Napi) (h : List Event) (c : ℕ) (x : Seen) → state_after s (h ++ event c (Look x) ∷ []) ≡ state_after s h
 state_looked s h c x = state_after-snoc s h (event c (Look x))
 
-pub tied_up : (h : List Event) (c : ℕ) (x : Seen) (ds : List Delivery) (v w : View) (l : Carried) (hold : Holds) → CatchesUp h (event c (Look x)) ds v w → Tied hold (v, l) → Tied hold (w, l)
+pub tied_up : (h : List Event) (c : ℕ) (x : Seen) (ds : List Delivery) (v w : View) (l : Carried) (hold : Holds)
+    → CatchesUp h (event c (Look x)) ds v w → Tied hold (v, l) → Tied hold (w, l)
 tied_up h c x ds v w l hold u tie = record {
   marked = tie.marked;
-  right = (λ i. has_at (u.number i) (state_after (opening (u.controller i)) (u.shown i)).place) ∙ ap (λ (s : Napi). has_at (number_of v) s.place) (state_looked (opening (controller_of v)) h c x)
+  right = (λ i. has_at (u.number i) (state_after (opening (u.controller i)) (u.shown i)).place)
+      ∙ ap (λ (s : Napi). has_at (number_of v) s.place) (state_looked (opening (controller_of v)) h c x)
       ∙ has_same (number_of v) (state_after (opening (controller_of v)) h).place (place_in v) u.owner u.place ∙ tie.right;
   ring = ring_kept l v w tie.ring (sym (ring_as v w u.ring));
   unmarked = tie.unmarked;
-  received = received_caught l hold v w tie.marked (λ has. received_as v w u.ring (u.delivered ∙ sym (u.held (tie.right ∙ has)))) tie.received;
+  received =
+      received_caught l hold v w tie.marked (λ has. received_as v w u.ring (u.delivered ∙ sym (u.held (tie.right ∙ has)))) tie.received;
 }
 
 -- ---- the strands of four passes, together and apart again
@@ -221,11 +261,13 @@ at_length : (l : View) (y : Strand) → get_elem? (l ++ y ∷ []) (length l) ≡
 at_length [] y = refl
 at_length (x ∷ l) y = at_length l y
 
-caught_more : (h : List Event) (ds : List Delivery) (l : View) (y : Strand) → all_caught_up h ds (l ++ y ∷ []) ≡ all_caught_up h ds l ++ caught_up h ds y ∷ []
+caught_more : (h : List Event) (ds : List Delivery) (l : View) (y : Strand)
+    → all_caught_up h ds (l ++ y ∷ []) ≡ all_caught_up h ds l ++ caught_up h ds y ∷ []
 caught_more h ds [] y = refl
 caught_more h ds (x ∷ l) y = ap (λ (m : View). caught_up h ds x ∷ m) (caught_more h ds l y)
 
-looked_more : (h : List Event) (e : Event) (ds : List Delivery) (l : View) (y : Strand) → is_pass l ≡ true → all_looked h e ds (l ++ y ∷ []) ≡ all_looked h e ds l ++ caught_up (h ++ e ∷ []) ds y ∷ []
+looked_more : (h : List Event) (e : Event) (ds : List Delivery) (l : View) (y : Strand) → is_pass l ≡ true
+    → all_looked h e ds (l ++ y ∷ []) ≡ all_looked h e ds l ++ caught_up (h ++ e ∷ []) ds y ∷ []
 looked_more h e ds [] y p = absurd (true≢false (sym p))
 looked_more h e ds (x ∷ l) y p = ap (λ (m : View). looked h e ds x ∷ m) (caught_more (h ++ e ∷ []) ds l y)
 
@@ -255,23 +297,28 @@ module _ (v0 v1 v2 v3 : View) (o0 : Open v0) (o1 : Open v1) (o2 : Open v2) (o3 :
 
   module _ (j : View) (is : j ≡ two ++ o2.first ∷ []) where
     pub led_by : controller_of j ≡ controller_of v3
-    led_by = ap controller_of is ∙ ap (λ (l : View). controller_of (((l ++ o0.first ∷ []) ++ o1.first ∷ []) ++ o2.first ∷ [])) o3.is ∙ sym (ap controller_of o3.is)
+    led_by = ap controller_of is ∙ ap (λ (l : View). controller_of (((l ++ o0.first ∷ []) ++ o1.first ∷ []) ++ o2.first ∷ [])) o3.is
+        ∙ sym (ap controller_of o3.is)
 
     pub looked_by : number_of j ≡ number_of v3
-    looked_by = ap number_of is ∙ ap (λ (l : View). number_of (((l ++ o0.first ∷ []) ++ o1.first ∷ []) ++ o2.first ∷ [])) o3.is ∙ sym (ap number_of o3.is)
+    looked_by = ap number_of is ∙ ap (λ (l : View). number_of (((l ++ o0.first ∷ []) ++ o1.first ∷ []) ++ o2.first ∷ [])) o3.is
+        ∙ sym (ap number_of o3.is)
 
     -- where each strand is
     at_third : get_elem? j (length two) ≡ maybe.some o2.first
     at_third = ap (λ (l : View). get_elem? l (length two)) is ∙ at_length two o2.first
 
     at_second : get_elem? j (length one) ≡ maybe.some o1.first
-    at_second = ap (λ (l : View). get_elem? l (length one)) is ∙ at_longer two (o2.first ∷ []) (length one) o1.first (at_length one o1.first)
+    at_second =
+        ap (λ (l : View). get_elem? l (length one)) is ∙ at_longer two (o2.first ∷ []) (length one) o1.first (at_length one o1.first)
 
     at_first : get_elem? j (length v3) ≡ maybe.some o0.first
-    at_first = ap (λ (l : View). get_elem? l (length v3)) is ∙ at_longer two (o2.first ∷ []) (length v3) o0.first (at_longer one (o1.first ∷ []) (length v3) o0.first (at_length v3 o0.first))
+    at_first = ap (λ (l : View). get_elem? l (length v3)) is
+        ∙ at_longer two (o2.first ∷ []) (length v3) o0.first (at_longer one (o1.first ∷ []) (length v3) o0.first (at_length v3 o0.first))
 
     pub at_last : (k : ℕ) (z : Strand) → get_elem? v3 k ≡ maybe.some z → get_elem? j k ≡ maybe.some z
-    at_last k z there = ap (λ (l : View). get_elem? l k) is ∙ at_longer two (o2.first ∷ []) k z (at_longer one (o1.first ∷ []) k z (at_longer v3 (o0.first ∷ []) k z there))
+    at_last k z there = ap (λ (l : View). get_elem? l k) is
+        ∙ at_longer two (o2.first ∷ []) k z (at_longer one (o1.first ∷ []) k z (at_longer v3 (o0.first ∷ []) k z there))
 
     at_front : get_elem? j 0 ≡ maybe.some o3.first
     at_front = at_last 0 o3.first (ap (λ (l : View). get_elem? l 0) o3.is)
@@ -301,13 +348,16 @@ module _ (v0 v1 v2 v3 : View) (o0 : Open v0) (o1 : Open v1) (o2 : Open v2) (o3 :
         parts_two = caught ∙ ap (all_looked h look_by ds) is ∙ looked_more h look_by ds two o2.first two_pass
 
         pub parts_one : but_last u ≡ all_looked h look_by ds one ++ caught_up all_by ds o1.first ∷ []
-        parts_one = ap but_last parts_two ∙ but_last_is (all_looked h look_by ds two) (caught_up all_by ds o2.first) ∙ looked_more h look_by ds one o1.first one_pass
+        parts_one = ap but_last parts_two ∙ but_last_is (all_looked h look_by ds two) (caught_up all_by ds o2.first)
+            ∙ looked_more h look_by ds one o1.first one_pass
 
         pub parts_none : but_last (but_last u) ≡ all_looked h look_by ds v3 ++ caught_up all_by ds o0.first ∷ []
-        parts_none = ap but_last parts_one ∙ but_last_is (all_looked h look_by ds one) (caught_up all_by ds o1.first) ∙ looked_more h look_by ds v3 o0.first pass
+        parts_none = ap but_last parts_one ∙ but_last_is (all_looked h look_by ds one) (caught_up all_by ds o1.first)
+            ∙ looked_more h look_by ds v3 o0.first pass
 
         pub rest_is : but_last (but_last (but_last u)) ≡ looked h look_by ds o3.first ∷ all_caught_up all_by ds o3.extra
-        rest_is = ap but_last parts_none ∙ but_last_is (all_looked h look_by ds v3) (caught_up all_by ds o0.first) ∙ ap (all_looked h look_by ds) o3.is
+        rest_is = ap but_last parts_none ∙ but_last_is (all_looked h look_by ds v3) (caught_up all_by ds o0.first)
+            ∙ ap (all_looked h look_by ds) o3.is
 
         pub third_is : last_alone u ≡ caught_up all_by ds o2.first ∷ []
         third_is = ap last_alone parts_two ∙ last_alone_is (all_looked h look_by ds two) (caught_up all_by ds o2.first)
@@ -327,12 +377,16 @@ module _ (v0 v1 v2 v3 : View) (o0 : Open v0) (o1 : Open v1) (o2 : Open v2) (o3 :
           apart : (k : ℕ) (v : View) (o : Open v) → get_elem? j k ≡ maybe.some o.first → k ≢ 0 → number_of v3 ≢ number_of v
           apart k v o there behind same = behind (once k o.first there (o.numbered ∙ ap Some (sym same ∙ sym looked_by)))
 
-          other_exact : (k : ℕ) (v : View) (o : Open v) → get_elem? j k ≡ maybe.some o.first → k ≢ 0 → own (number_of v) all_by ≡ o.first.mine
-          other_exact k v o there behind = own_other (number_of v) h look_by (apart k v o there behind) ∙ (knows_at k o.first (number_of v) there o.numbered).exact
+          other_exact : (k : ℕ) (v : View) (o : Open v) → get_elem? j k ≡ maybe.some o.first → k ≢ 0
+              → own (number_of v) all_by ≡ o.first.mine
+          other_exact k v o there behind =
+              own_other (number_of v) h look_by (apart k v o there behind) ∙ (knows_at k o.first (number_of v) there o.numbered).exact
 
-          other_catches : (k : ℕ) (v : View) (o : Open v) → get_elem? j k ≡ maybe.some o.first → k ≢ 0 → (w : View) → w ≡ caught_up all_by ds o.first ∷ [] → CatchesUp h look_by ds v w × (mine w ≡ mine v)
+          other_catches : (k : ℕ) (v : View) (o : Open v) → get_elem? j k ≡ maybe.some o.first → k ≢ 0 → (w : View)
+              → w ≡ caught_up all_by ds o.first ∷ [] → CatchesUp h look_by ds v w × (mine w ≡ mine v)
           other_catches k v o there behind w back = (
-            catches_up (controller_of v3) h look_by ds v w o o.first.mine [] (knows_at k o.first (number_of v) there o.numbered) (other_exact k v o there behind) back,
+            catches_up (controller_of v3) h look_by ds v w o o.first.mine [] (knows_at k o.first (number_of v) there o.numbered)
+                (other_exact k v o there behind) back,
             ap mine back ∙ sym (ap mine o.is),
           )
 
@@ -342,18 +396,22 @@ module _ (v0 v1 v2 v3 : View) (o0 : Open v0) (o1 : Open v1) (o2 : Open v2) (o3 :
           pub second_catches : CatchesUp h look_by ds v1 (last_alone (but_last u)) × (mine (last_alone (but_last u)) ≡ mine v1)
           second_catches = other_catches (length one) v1 o1 at_second (not_front one one_pass) (last_alone (but_last u)) second_is
 
-          pub first_catches : CatchesUp h look_by ds v0 (last_alone (but_last (but_last u))) × (mine (last_alone (but_last (but_last u))) ≡ mine v0)
+          pub first_catches : CatchesUp h look_by ds v0 (last_alone (but_last (but_last u)))
+              × (mine (last_alone (but_last (but_last u))) ≡ mine v0)
           first_catches = other_catches (length v3) v0 o0 at_first (not_front v3 pass) (last_alone (but_last (but_last u))) first_is
 
-          pub last_catches : CatchesUp h look_by ds v3 (but_last (but_last (but_last u))) × (mine (but_last (but_last (but_last u))) ≡ mine v3 ++ look_by ∷ [])
+          pub last_catches : CatchesUp h look_by ds v3 (but_last (but_last (but_last u)))
+              × (mine (but_last (but_last (but_last u))) ≡ mine v3 ++ look_by ∷ [])
           last_catches =
               let knew = knows_at 0 o3.first (number_of v3) at_front o3.numbered in (
-                catches_up (controller_of v3) h look_by ds v3 (but_last (but_last (but_last u))) o3 (o3.first.mine ++ look_by ∷ []) (all_caught_up all_by ds o3.extra) knew
+                catches_up (controller_of v3) h look_by ds v3 (but_last (but_last (but_last u))) o3 (o3.first.mine ++ look_by ∷ [])
+                    (all_caught_up all_by ds o3.extra) knew
                     (own_mine (number_of v3) h look_by refl ∙ ap (λ (l : List Event). l ++ look_by ∷ []) knew.exact) rest_is,
                 ap mine rest_is ∙ ap (λ (v : View). mine v ++ look_by ∷ []) (sym o3.is),
               )
 
-          pub others_led : (controller_of v0 ≡ controller_of v3) × (controller_of v1 ≡ controller_of v3) × (controller_of v2 ≡ controller_of v3)
+          pub others_led : (controller_of v0 ≡ controller_of v3) × (controller_of v1 ≡ controller_of v3)
+              × (controller_of v2 ≡ controller_of v3)
           others_led = (
             ap controller_of o0.is ∙ (knows_at (length v3) o0.first (number_of v0) at_first o0.numbered).controller,
             ap controller_of o1.is ∙ (knows_at (length one) o1.first (number_of v1) at_second o1.numbered).controller,
@@ -361,7 +419,8 @@ module _ (v0 v1 v2 v3 : View) (o0 : Open v0) (o1 : Open v1) (o2 : Open v2) (o3 :
           )
 
 -- ---- of four passes
-pub of_four : (P : Pass → Type 0) (a b c d : Pass) → P a → P b → P c → P d → (i : ℕ) (p : Pass) → slice_get (a ∷ b ∷ c ∷ d ∷ []) i ≡ Some p → P p
+pub of_four : (P : Pass → Type 0) (a b c d : Pass) → P a → P b → P c → P d → (i : ℕ) (p : Pass) → slice_get (a ∷ b ∷ c ∷ d ∷ []) i ≡ Some p
+    → P p
 of_four P a b c d x y z w zero p e = subst P (some_is e) x
 of_four P a b c d x y z w (suc zero) p e = subst P (some_is e) y
 of_four P a b c d x y z w (suc (suc zero)) p e = subst P (some_is e) z
@@ -373,7 +432,8 @@ pub of_both_four : (P : Pass → Pass → Type 0) (a b c d a' b' c' d' : Pass) �
 of_both_four P a b c d a' b' c' d' x y z w zero p q e f = subst (λ (r : Pass). P r q) (some_is e) (subst (P a) (some_is f) x)
 of_both_four P a b c d a' b' c' d' x y z w (suc zero) p q e f = subst (λ (r : Pass). P r q) (some_is e) (subst (P b) (some_is f) y)
 of_both_four P a b c d a' b' c' d' x y z w (suc (suc zero)) p q e f = subst (λ (r : Pass). P r q) (some_is e) (subst (P c) (some_is f) z)
-of_both_four P a b c d a' b' c' d' x y z w (suc (suc (suc zero))) p q e f = subst (λ (r : Pass). P r q) (some_is e) (subst (P d) (some_is f) w)
+of_both_four P a b c d a' b' c' d' x y z w (suc (suc (suc zero))) p q e f =
+    subst (λ (r : Pass). P r q) (some_is e) (subst (P d) (some_is f) w)
 of_both_four P a b c d a' b' c' d' x y z w (suc (suc (suc (suc i)))) p q e f = absurd (cc)
 
 -- ---- what was seen is what is answered
@@ -393,7 +453,8 @@ at_rest p none =
     let l = hold_nothing p.seat.me.1 (p.marked ∙ ap Some none) in
     subst (λ (m : Carried). Tied Nothing (view_of p, m)) l (subst (λ (k : Holds). Tied k p.seat.me) none (tie_of p))
 
-module _ (p0 p1 p2 p3 : Pass) (m1 m2 m3 : Me Content View) (e1 : m1 ≡ (with_front (view_of p3) (view_of p0), p3.seat.me.1)) (e2 : m2 ≡ (with_front m1.0 (view_of p1), m1.1))
+module _ (p0 p1 p2 p3 : Pass) (m1 m2 m3 : Me Content View) (e1 : m1 ≡ (with_front (view_of p3) (view_of p0), p3.seat.me.1))
+    (e2 : m2 ≡ (with_front m1.0 (view_of p1), m1.1))
     (e3 : m3 ≡ (with_front m2.0 (view_of p2), m2.1)) where
   abbrev q0 : Open (view_of p0)
   q0 = opened (view_of p0) p0.is_pass
@@ -462,45 +523,73 @@ module _ (p0 p1 p2 p3 : Pass) (m1 m2 m3 : Me Content View) (e1 : m1 ≡ (with_fr
 
     module _ (s1 : Me Content View) (f1 : s1 ≡ (but_last u.0, u.1)) where
       pub second_left : s1.0 ≡ all_looked hs look_then es one_of ++ caught_up whole_now es q1.first ∷ []
-      second_left = ap (λ (m : Me Content View). m.0) f1 ∙ parts_one (view_of p0) (view_of p1) (view_of p2) (view_of p3) q0 q1 q2 q3 p3.is_pass m3.0 all_in hs t.seen es u.0 caught
+      second_left = ap (λ (m : Me Content View). m.0) f1
+          ∙ parts_one (view_of p0) (view_of p1) (view_of p2) (view_of p3) q0 q1 q2 q3 p3.is_pass m3.0 all_in hs t.seen es u.0 caught
 
       pub second_left_pass : is_pass s1.0 ≡ true
-      second_left_pass = ap is_pass second_left ∙ is_pass_more (all_looked hs look_then es one_of) (caught_up whole_now es q1.first ∷ []) (looked_pass hs look_then es one_of (is_pass_more (view_of p3) (q0.first ∷ []) p3.is_pass))
+      second_left_pass =
+          ap is_pass second_left ∙ is_pass_more (all_looked hs look_then es one_of) (caught_up whole_now es q1.first ∷ [])
+          (looked_pass hs look_then es one_of (is_pass_more (view_of p3) (q0.first ∷ []) p3.is_pass))
 
       module _ (s2 : Me Content View) (f2 : s2 ≡ (but_last s1.0, s1.1)) where
         left_two : s2.0 ≡ but_last (but_last u.0)
         left_two = ap (λ (m : Me Content View). m.0) f2 ∙ ap (λ (m : Me Content View). but_last m.0) f1
 
         pub first_left : s2.0 ≡ all_looked hs look_then es (view_of p3) ++ caught_up whole_now es q0.first ∷ []
-        first_left = left_two ∙ parts_none (view_of p0) (view_of p1) (view_of p2) (view_of p3) q0 q1 q2 q3 p3.is_pass m3.0 all_in hs t.seen es u.0 caught
+        first_left = left_two
+            ∙ parts_none (view_of p0) (view_of p1) (view_of p2) (view_of p3) q0 q1 q2 q3 p3.is_pass m3.0 all_in hs t.seen es u.0 caught
 
         pub first_left_pass : is_pass s2.0 ≡ true
-        first_left_pass = ap is_pass first_left ∙ is_pass_more (all_looked hs look_then es (view_of p3)) (caught_up whole_now es q0.first ∷ []) (looked_pass hs look_then es (view_of p3) p3.is_pass)
+        first_left_pass =
+            ap is_pass first_left ∙ is_pass_more (all_looked hs look_then es (view_of p3)) (caught_up whole_now es q0.first ∷ [])
+            (looked_pass hs look_then es (view_of p3) p3.is_pass)
 
-        pub first_back : (r : Me Content View) → r ≡ (last_alone s2.0, []) → CatchesUp hs look_then es (view_of p0) r.0 × (mine r.0 ≡ mine (view_of p0))
-        first_back r e = subst (λ (w : View). CatchesUp hs look_then es (view_of p0) w × (mine w ≡ mine (view_of p0))) (sym (ap (λ (m : Me Content View). m.0) e ∙ ap last_alone left_two))
-            (first_catches (view_of p0) (view_of p1) (view_of p2) (view_of p3) q0 q1 q2 q3 p3.is_pass m3.0 all_in hs t.seen es u.0 caught t.knew t.once)
+        pub first_back : (r : Me Content View) → r ≡ (last_alone s2.0, [])
+            → CatchesUp hs look_then es (view_of p0) r.0 × (mine r.0 ≡ mine (view_of p0))
+        first_back r e =
+            subst (λ (w : View). CatchesUp hs look_then es (view_of p0) w × (mine w ≡ mine (view_of p0)))
+            (sym (ap (λ (m : Me Content View). m.0) e ∙ ap last_alone left_two))
+            (first_catches (view_of p0) (view_of p1) (view_of p2)
+            (view_of p3) q0 q1 q2 q3 p3.is_pass m3.0 all_in hs t.seen es u.0 caught t.knew t.once)
 
-        pub last_back : (s3 : Me Content View) → s3 ≡ (but_last s2.0, s2.1) → CatchesUp hs look_then es (view_of p3) s3.0 × (mine s3.0 ≡ mine (view_of p3) ++ look_then ∷ [])
-        last_back s3 e = subst (λ (w : View). CatchesUp hs look_then es (view_of p3) w × (mine w ≡ mine (view_of p3) ++ look_then ∷ [])) (sym (ap (λ (m : Me Content View). m.0) e ∙ ap but_last left_two))
-            (last_catches (view_of p0) (view_of p1) (view_of p2) (view_of p3) q0 q1 q2 q3 p3.is_pass m3.0 all_in hs t.seen es u.0 caught t.knew t.once)
+        pub last_back : (s3 : Me Content View) → s3 ≡ (but_last s2.0, s2.1)
+            → CatchesUp hs look_then es (view_of p3) s3.0 × (mine s3.0 ≡ mine (view_of p3) ++ look_then ∷ [])
+        last_back s3 e =
+            subst (λ (w : View). CatchesUp hs look_then es (view_of p3) w × (mine w ≡ mine (view_of p3) ++ look_then ∷ []))
+            (sym (ap (λ (m : Me Content View). m.0) e ∙ ap but_last left_two))
+            (last_catches (view_of p0) (view_of p1) (view_of p2)
+            (view_of p3) q0 q1 q2 q3 p3.is_pass m3.0 all_in hs t.seen es u.0 caught t.knew t.once)
 
         pub last_slot : (s3 : Me Content View) → s3 ≡ (but_last s2.0, s2.1) → s3.1 ≡ p3.seat.me.1
-        last_slot s3 e = ap (λ (m : Me Content View). m.1) e ∙ ap (λ (m : Me Content View). m.1) f2 ∙ ap (λ (m : Me Content View). m.1) f1 ∙ slot_then
+        last_slot s3 e =
+            ap (λ (m : Me Content View). m.1) e ∙ ap (λ (m : Me Content View). m.1) f2 ∙ ap (λ (m : Me Content View). m.1) f1 ∙ slot_then
 
         pub last_tied : (s3 : Me Content View) → s3 ≡ (but_last s2.0, s2.1) → Tied p3.holds s3
-        last_tied s3 e = subst (λ (l : Carried). Tied p3.holds (s3.0, l)) (sym (last_slot s3 e)) (tied_up hs (number_of (view_of p3)) t.seen es (view_of p3) s3.0 p3.seat.me.1 p3.holds (last_back s3 e).0 (tie_of p3))
+        last_tied s3 e =
+            subst (λ (l : Carried). Tied p3.holds (s3.0, l)) (sym (last_slot s3 e))
+            (tied_up hs (number_of (view_of p3)) t.seen es (view_of p3) s3.0 p3.seat.me.1 p3.holds (last_back s3 e).0 (tie_of p3))
 
-      pub second_back : (r : Me Content View) → r ≡ (last_alone s1.0, []) → CatchesUp hs look_then es (view_of p1) r.0 × (mine r.0 ≡ mine (view_of p1))
-      second_back r e = subst (λ (w : View). CatchesUp hs look_then es (view_of p1) w × (mine w ≡ mine (view_of p1))) (sym (ap (λ (m : Me Content View). m.0) e ∙ ap (λ (m : Me Content View). last_alone m.0) f1))
-          (second_catches (view_of p0) (view_of p1) (view_of p2) (view_of p3) q0 q1 q2 q3 p3.is_pass m3.0 all_in hs t.seen es u.0 caught t.knew t.once)
+      pub second_back : (r : Me Content View) → r ≡ (last_alone s1.0, [])
+          → CatchesUp hs look_then es (view_of p1) r.0 × (mine r.0 ≡ mine (view_of p1))
+      second_back r e =
+          subst (λ (w : View). CatchesUp hs look_then es (view_of p1) w × (mine w ≡ mine (view_of p1)))
+          (sym (ap (λ (m : Me Content View). m.0) e ∙ ap (λ (m : Me Content View). last_alone m.0) f1))
+          (second_catches (view_of p0) (view_of p1) (view_of p2)
+          (view_of p3) q0 q1 q2 q3 p3.is_pass m3.0 all_in hs t.seen es u.0 caught t.knew t.once)
 
-    pub third_back : (r : Me Content View) → r ≡ (last_alone u.0, []) → CatchesUp hs look_then es (view_of p2) r.0 × (mine r.0 ≡ mine (view_of p2))
-    third_back r e = subst (λ (w : View). CatchesUp hs look_then es (view_of p2) w × (mine w ≡ mine (view_of p2))) (sym (ap (λ (m : Me Content View). m.0) e))
-        (third_catches (view_of p0) (view_of p1) (view_of p2) (view_of p3) q0 q1 q2 q3 p3.is_pass m3.0 all_in hs t.seen es u.0 caught t.knew t.once)
+    pub third_back : (r : Me Content View) → r ≡ (last_alone u.0, [])
+        → CatchesUp hs look_then es (view_of p2) r.0 × (mine r.0 ≡ mine (view_of p2))
+    third_back r e =
+        subst (λ (w : View). CatchesUp hs look_then es (view_of p2) w × (mine w ≡ mine (view_of p2)))
+        (sym (ap (λ (m : Me Content View). m.0) e))
+        (third_catches (view_of p0) (view_of p1) (view_of p2)
+        (view_of p3) q0 q1 q2 q3 p3.is_pass m3.0 all_in hs t.seen es u.0 caught t.knew t.once)
 
-    pub rest_tied : (p : Pass) → p.holds ≡ Nothing → (v : View) (r : Me Content View) → r ≡ (v, []) → CatchesUp hs look_then es (view_of p) r.0 → Tied Nothing r
-    rest_tied p none v r e u = subst (λ (l : Carried). Tied Nothing (r.0, l)) (sym (ap (λ (m : Me Content View). m.1) e)) (tied_up hs (number_of (view_of p3)) t.seen es (view_of p) r.0 [] Nothing u (at_rest p none))
+    pub rest_tied : (p : Pass) → p.holds ≡ Nothing → (v : View) (r : Me Content View) → r ≡ (v, [])
+        → CatchesUp hs look_then es (view_of p) r.0 → Tied Nothing r
+    rest_tied p none v r e u =
+        subst (λ (l : Carried). Tied Nothing (r.0, l)) (sym (ap (λ (m : Me Content View). m.1) e))
+        (tied_up hs (number_of (view_of p3)) t.seen es (view_of p) r.0 [] Nothing u (at_rest p none))
 
     pub whole_is : IsWhole (controller_of (view_of p3)) whole_now es
     whole_is = subst (λ (y : ℕ × ℕ). IsWhole y.0 (hs ++ event y.1 (Look t.seen) ∷ []) es) (λ i. (led i, number_led i)) t.whole
@@ -514,12 +603,20 @@ module _ (p0 p1 p2 p3 : Pass) (m1 m2 m3 : Me Content View) (e1 : m1 ≡ (with_fr
 
     -- the word is that of the state behind the whole history
     pub told_is : t.seen ≡ seen_of (state_after (opening (controller_of (view_of p3))) whole_now)
-    told_is = t.told ∙ ap (λ (k : ℕ). seen_of (state_after (opening k) hs)) led ∙ ap seen_of (sym (state_looked (opening (controller_of (view_of p3))) hs (number_of (view_of p3)) t.seen))
+    told_is = t.told ∙ ap (λ (k : ℕ). seen_of (state_after (opening k) hs)) led
+        ∙ ap seen_of (sym (state_looked (opening (controller_of (view_of p3))) hs (number_of (view_of p3)) t.seen))
 
-    pub all_led : (i : ℕ) (p : Pass) → slice_get (p0 ∷ p1 ∷ p2 ∷ p3 ∷ []) i ≡ Some p → controller_of (view_of p) ≡ controller_of (view_of p3)
+    pub all_led : (i : ℕ) (p : Pass) → slice_get (p0 ∷ p1 ∷ p2 ∷ p3 ∷ []) i ≡ Some p
+        → controller_of (view_of p) ≡ controller_of (view_of p3)
     all_led =
-        let l = others_led (view_of p0) (view_of p1) (view_of p2) (view_of p3) q0 q1 q2 q3 p3.is_pass m3.0 all_in hs t.seen es u.0 caught t.knew t.once in
+        let l =
+        others_led (view_of p0) (view_of p1) (view_of p2)
+        (view_of p3) q0 q1 q2 q3 p3.is_pass m3.0 all_in hs t.seen es u.0 caught t.knew t.once in
         of_four (λ p. controller_of (view_of p) ≡ controller_of (view_of p3)) p0 p1 p2 p3 l.0 l.1 l.2 refl
 
-    pub last_steps : (q : Pass) → CatchesUp hs look_then es (view_of p3) (view_of q) × (mine (view_of q) ≡ mine (view_of p3) ++ look_then ∷ []) → SameTable p3 q → q.holds ≡ p3.holds → q.seat.me.1 ≡ p3.seat.me.1 → Makes p3 (Look t.seen) stays q
-    last_steps q c table holds slot = made_step hs t.seen es p3 q whole_is c.0 c.1 (λ k z e. t.seen_begins k z (in_all k z e)) (λ k z e. t.delivered_begins k z (in_all k z e)) table holds slot
+    pub last_steps : (q : Pass)
+        → CatchesUp hs look_then es (view_of p3) (view_of q) × (mine (view_of q) ≡ mine (view_of p3) ++ look_then ∷ []) → SameTable p3 q
+        → q.holds ≡ p3.holds → q.seat.me.1 ≡ p3.seat.me.1 → Makes p3 (Look t.seen) stays q
+    last_steps q c table holds slot =
+        made_step hs t.seen es p3 q whole_is c.0 c.1 (λ k z e. t.seen_begins k z (in_all k z e))
+        (λ k z e. t.delivered_begins k z (in_all k z e)) table holds slot

@@ -1,11 +1,23 @@
 -- The end of a table: what its passes had, and what stands behind their views.
-use Rattle.napi_word.proofs.{Keeps.{St, Open, opened, running, owner_since, place_since}, Deliveries.some_is, Places.{has_owner, has_same, is_false}, Whole.whole, Counting.{numbers_of, numbers_length, find_number, every_number, no_more}}
-use Rattle.napi_word.specs.{Rule.{Fits, Kept, Holding}, declared.{view.{Key.Key, Holds.{Holds, TheVariants.{Nothing, Within, Out}}, Delivery.Delivery, Strand.Strand}, table.{Pass.Pass, StateTable.StateTable}, gathering.Found.Found}}
-use Rattle.napi_word.specs.{Ends.{Finds, picked, IsOut, IsEnded, views_of, Gathered}, View.{View, first_in, delivered, own_deliveries, received_by, last_of, is_pass, shown, mine, number_of, controller_of, place_in, ring_of}, Passes.view_of}
-use Rattle.{napi_word.specs.{Passes.controller_of_table, Slot.{Content, is_out, has_at, has_slot}}, rx_ring.{proofs.Names.same_name, specs.{Ends.{RingName, ring_name, received_list}, declared.ends.RxCtx.RxCtx}}}
-use Rattle.{atomic_table.{proofs.Lists.at_longer, specs.Table.{Final, Seen}}, std.{specs.List.{AllByRecursion, IsDistinct, list_any}, proofs.Common.{◌<◌, ◌+◌, ◌≡◌, ◌≢◌, ℕ, zero, suc, ◌≤◌, List, [], ◌∷◌, ◌++◌, length, length-append}}}
-use Rattle.{std.proofs.Common.{slice_get, Option, Some, None, Bool, true, false, unwrap_or, eqb, eq-eqb, ne_eqb, refl, sym, ap, ◌∙◌, subst, arith, true≢false, lt_of_not-le}, napi_model.proofs.Owners.{ownership_kept, opens_sound}}
-use Rattle.napi_model.specs.{declared.{event.Event.Event, state.{Place.{Place, TheVariants.{Nobody, Granted, Listed, ToThread, Polling, Control}}, State.State as Napi}}, History.{state_after, own}, Step.opening, Laws.is_owner}
+use Rattle.napi_word.proofs.{Keeps.{St, Open, opened, running, owner_since, place_since}, Deliveries.some_is}
+use Rattle.napi_word.proofs.{Places.{has_owner, has_same, is_false}, Whole.whole}
+use Rattle.napi_word.proofs.Counting.{numbers_of, numbers_length, find_number, every_number, no_more}
+use Rattle.napi_word.specs.Rule.{Fits, Kept, Holding}
+use Rattle.napi_word.specs.declared.view.{Key.Key, Holds.{Holds, TheVariants.{Nothing, Within, Out}}, Delivery.Delivery, Strand.Strand}
+use Rattle.napi_word.specs.declared.{table.{Pass.Pass, StateTable.StateTable}, gathering.Found.Found}
+use Rattle.napi_word.specs.Ends.{Finds, picked, IsOut, IsEnded, views_of, Gathered}
+use Rattle.napi_word.specs.View.{View, first_in, delivered, own_deliveries, received_by, last_of, is_pass, shown, mine, number_of}
+use Rattle.napi_word.specs.{View.{controller_of, place_in, ring_of}, Passes.view_of}
+use Rattle.napi_word.specs.{Passes.controller_of_table, Slot.{Content, is_out, has_at, has_slot}}
+use Rattle.rx_ring.{proofs.Names.same_name, specs.{Ends.{RingName, ring_name, received_list}, declared.ends.RxCtx.RxCtx}}
+use Rattle.atomic_table.{proofs.Lists.at_longer, specs.Table.{Final, Seen}}
+use Rattle.std.specs.List.{AllByRecursion, IsDistinct, list_any}
+use Rattle.std.proofs.Common.{◌<◌, ◌+◌, ◌≡◌, ◌≢◌, ℕ, zero, suc, ◌≤◌, List, [], ◌∷◌, ◌++◌, length, length-append}
+use Rattle.std.proofs.Common.{slice_get, Option, Some, None, Bool, true, false, unwrap_or, eqb, eq-eqb, ne_eqb, refl, sym, ap, ◌∙◌, subst}
+use Rattle.{std.proofs.Common.{arith, true≢false, lt_of_not-le}, napi_model.proofs.Owners.{ownership_kept, opens_sound}}
+use Rattle.napi_model.specs.declared.event.Event.{Event}
+use Rattle.napi_model.specs.declared.state.Place.{Place, TheVariants.{Nobody, Granted, Listed, ToThread, Polling, Control}}
+use Rattle.napi_model.specs.{declared.state.{State.State as Napi}, History.{state_after, own}, Step.opening, Laws.is_owner}
 use mathlib.Core.{Logic.dite, List.IsPrefix, Option.{Option as Maybe, some-injective}}
 use native.Mathlib.Decide.{dec_le}
 use lib.ListN.{get_elem?}
@@ -46,11 +58,13 @@ gathered_none = record {
   ring = λ x e. absurd (cc);
 }
 
-all_more : (P : Pass → Type 0) (p : Pass) (taken : List Pass) → P p → ((k : ℕ) (q : Pass) → slice_get taken k ≡ Some q → P q) → (k : ℕ) (q : Pass) → slice_get (p ∷ taken) k ≡ Some q → P q
+all_more : (P : Pass → Type 0) (p : Pass) (taken : List Pass) → P p → ((k : ℕ) (q : Pass) → slice_get taken k ≡ Some q → P q)
+    → (k : ℕ) (q : Pass) → slice_get (p ∷ taken) k ≡ Some q → P q
 all_more P p taken one all zero q e = subst P (some_is e) one
 all_more P p taken one all (suc k) q e = all k q e
 
-pub gathered_more : (p : Pass) (taken : List Pass) (v w : View) (f f' : Found) → Gathered taken v f → Finds p.holds (ring_of (view_of p)) f f' → w ≡ v ++ view_of p → Gathered (p ∷ taken) w f'
+pub gathered_more : (p : Pass) (taken : List Pass) (v w : View) (f f' : Found) → Gathered taken v f
+    → Finds p.holds (ring_of (view_of p)) f f' → w ≡ v ++ view_of p → Gathered (p ∷ taken) w f'
 gathered_more p taken v w f f' g finds both = by p.holds refl finds
   where
     views : w ≡ views_of (p ∷ taken)
@@ -79,8 +93,10 @@ gathered_more p taken v w f f' g finds both = by p.holds refl finds
       ring = λ x e. let o = g.ring x (ap (λ (y : Found). y.ctx) (sym same) ∙ e) in (suc o.0, o.1, o.2, o.3, o.4);
     }
 
-pub finds_within : (h : Holds) (ring : Option RingName) (before : Found) (x : RxCtx) → h ≡ Within → ring ≡ Some (ring_name x) → Finds h ring before (record before { ctx = Some x })
-finds_within h ring before x is named = subst (λ (y : Holds). Finds y ring before (record before { ctx = Some x })) (sym is) (x, refl, named)
+pub finds_within : (h : Holds) (ring : Option RingName) (before : Found) (x : RxCtx) → h ≡ Within → ring ≡ Some (ring_name x)
+    → Finds h ring before (record before { ctx = Some x })
+finds_within h ring before x is named =
+    subst (λ (y : Holds). Finds y ring before (record before { ctx = Some x })) (sym is) (x, refl, named)
 
 third : (h : Holds) → h ≢ Out → h ≢ Within → h ≡ Nothing
 third Nothing a b = refl
@@ -123,7 +139,9 @@ module _ (t : StateTable) (passes : List Pass) (v : View) (id : ℕ) (f : Found)
   at_first : (p : Pass) (ps : List Pass) → Front (p ∷ ps) → place_of (number_of (view_of p)) ≡ length (views_of ps)
   at_first p ps f =
       let o = front p in
-      let fit = r.strands id v at (length (views_of ps)) o.first (f (length (views_of ps)) o.first (at_mid (views_of ps) (view_of p) o.first o.extra o.is)) in
+      let fit =
+      r.strands id v at (length (views_of ps)) o.first
+      (f (length (views_of ps)) o.first (at_mid (views_of ps) (view_of p) o.first o.extra o.is)) in
       ap (λ (q : ℕ × ℕ). q.1) (fit.owned (number_of (view_of p)) o.numbered).here
 
   longer : (p : Pass) (ps : List Pass) → length (views_of ps) < length (views_of (p ∷ ps))
@@ -142,12 +160,17 @@ module _ (t : StateTable) (passes : List Pass) (v : View) (id : ℕ) (f : Found)
 
   apart : (c m : ℕ) (xs : List ℕ) → place_of c ≡ m → AllByRecursion (λ n. place_of n < m) xs → AllByRecursion (λ y. eqb c y ≡ false) xs
   apart c m [] here low = tt
-  apart c m (x ∷ xs) here low = let one = low.0 in (ne_eqb c x (λ e. let same = ap place_of e in omega (arith, here, one, same)), apart c m xs here low.1)
+  apart c m (x ∷ xs) here low = let one = low.0 in
+      (ne_eqb c x (λ e. let same = ap place_of e in omega (arith, here, one, same)), apart c m xs here low.1)
 
   distinct : (ps : List Pass) → Front ps → IsDistinct eqb (numbers_of ps)
   unfolding IsDistinct
   distinct [] f = tt
-  distinct (p ∷ ps) f = (apart (number_of (view_of p)) (length (views_of ps)) (numbers_of ps) (at_first p ps f) (before (length (views_of ps)) ps (front_less p ps f) (omega arith)), distinct ps (front_less p ps f))
+  distinct (p ∷ ps) f = (
+    apart (number_of (view_of p)) (length (views_of ps)) (numbers_of ps) (at_first p ps f)
+        (before (length (views_of ps)) ps (front_less p ps f) (omega arith)),
+    distinct ps (front_less p ps f),
+  )
 
   all_distinct : IsDistinct eqb (numbers_of passes)
   all_distinct = distinct passes (λ k x e. ap (λ (l : View). get_elem? l k) g.views ∙ e)
@@ -180,11 +203,14 @@ module _ (t : StateTable) (passes : List Pass) (v : View) (id : ℕ) (f : Found)
   firsts k q e = ap first_in (front q).is ∙ ap Some (stood k q e).1.ring
 
   pub deliveries_begin : (k : ℕ) (q : Pass) → slice_get passes k ≡ Some q → IsPrefix (delivered (view_of q)) r.deliveries
-  deliveries_begin k q e = subst (λ (l : List Delivery). IsPrefix l r.deliveries) (sym (ap delivered (front q).is)) (stood k q e).1.delivered
+  deliveries_begin k q e =
+      subst (λ (l : List Delivery). IsPrefix l r.deliveries) (sym (ap delivered (front q).is)) (stood k q e).1.delivered
 
-  pub deliveries_exact : (k : ℕ) (q : Pass) → slice_get passes k ≡ Some q → own_deliveries (number_of (view_of q)) r.deliveries ≡ own_deliveries (number_of (view_of q)) (delivered (view_of q))
+  pub deliveries_exact : (k : ℕ) (q : Pass) → slice_get passes k ≡ Some q
+      → own_deliveries (number_of (view_of q)) r.deliveries ≡ own_deliveries (number_of (view_of q)) (delivered (view_of q))
   deliveries_exact k q e = let o = front q in
-      ((stood k q e).1.owned (number_of (view_of q)) o.numbered).delivers ∙ ap (λ (l : View). own_deliveries (number_of (view_of q)) (delivered l)) (sym o.is)
+      ((stood k q e).1.owned (number_of (view_of q)) o.numbered).delivers
+      ∙ ap (λ (l : View). own_deliveries (number_of (view_of q)) (delivered l)) (sym o.is)
 
   pub longest : (k : ℕ) (p : Pass) → slice_get passes k ≡ Some p
       → ((j : ℕ) (q : Pass) → slice_get passes j ≡ Some q → length (shown (view_of q)) ≤ length (shown (view_of p)))
@@ -209,13 +235,16 @@ module _ (t : StateTable) (passes : List Pass) (v : View) (id : ℕ) (f : Found)
   seen_place q = (state_after (opening key.controller) (front q).first.seen).place
 
   viewed : (k : ℕ) (q : Pass) → slice_get passes k ≡ Some q → place_in (view_of q) ≡ seen_place q
-  viewed k q e = let o = front q in ap place_in o.is ∙ ap (λ (n : ℕ). (state_after (opening n) o.first.seen).place) (stood k q e).1.controller
+  viewed k q e = let o = front q in
+      ap place_in o.is ∙ ap (λ (n : ℕ). (state_after (opening n) o.first.seen).place) (stood k q e).1.controller
 
-  pub places : (k : ℕ) (q : Pass) → slice_get passes k ≡ Some q → is_owner (number_of (view_of q)) (place_in (view_of q)) ≡ true → now.place ≡ place_in (view_of q)
+  pub places : (k : ℕ) (q : Pass) → slice_get passes k ≡ Some q → is_owner (number_of (view_of q)) (place_in (view_of q)) ≡ true
+      → now.place ≡ place_in (view_of q)
   places k q e owner =
       let o = front q in
       let fit = stood k q e in
-      let is : is_owner (number_of (view_of q)) (seen_place q) ≡ true = ap (is_owner (number_of (view_of q))) (sym (viewed k q e)) ∙ owner in
+      let is : is_owner (number_of (view_of q)) (seen_place q) ≡ true =
+      ap (is_owner (number_of (view_of q))) (sym (viewed k q e)) ∙ owner in
       place_since key s r (id, fit.0) o.first fit.1 (number_of (view_of q)) o.numbered is ∙ sym (viewed k q e)
 
   has_now : (k : ℕ) (q : Pass) → slice_get passes k ≡ Some q → has_at (number_of (view_of q)) now.place ≡ has_slot q.holds
@@ -223,7 +252,8 @@ module _ (t : StateTable) (passes : List Pass) (v : View) (id : ℕ) (f : Found)
       let o = front q in
       let fit = stood k q e in
       let n = number_of (view_of q) in
-      has_same n now.place (seen_place q) (owner_since key s r (id, fit.0) o.first fit.1 n o.numbered) (place_since key s r (id, fit.0) o.first fit.1 n o.numbered)
+      has_same n now.place (seen_place q) (owner_since key s r (id, fit.0) o.first fit.1 n o.numbered)
+      (place_since key s r (id, fit.0) o.first fit.1 n o.numbered)
       ∙ ap (has_at n) (sym (viewed k q e)) ∙ q.right
 
   some_slot : (x : Holds) → x ≢ Nothing → has_slot x ≡ true
@@ -250,8 +280,11 @@ module _ (t : StateTable) (passes : List Pass) (v : View) (id : ℕ) (f : Found)
       let fit = (stood a.0 q a.2).1 in
       let p : ℕ × ℕ = (id, (stood a.0 q a.2).0) in
       let n = number_of (view_of q) in
-      let same : has_at n now.place ≡ has_at n (seen_place q) = has_same n now.place (seen_place q) (owner_since key s r p o.first fit n o.numbered) (place_since key s r p o.first fit n o.numbered) in
-      ap (λ (n : ℕ). has_at n now.place) (sym a.3) ∙ same ∙ ap (has_at n) (sym (viewed a.0 q a.2)) ∙ q.right ∙ ap has_slot (empty a.0 q a.2))
+      let same : has_at n now.place ≡ has_at n (seen_place q) =
+      has_same n now.place (seen_place q) (owner_since key s r p o.first fit n o.numbered)
+      (place_since key s r p o.first fit n o.numbered) in
+      ap (λ (n : ℕ). has_at n now.place) (sym a.3) ∙ same ∙ ap (has_at n) (sym (viewed a.0 q a.2)) ∙ q.right
+      ∙ ap has_slot (empty a.0 q a.2))
       (λ high.
       let top = lt_of_not-le high in
       let none : is_owner_false c = is_owner_none c (r.few c top) (λ e. omega (arith, top, e)) in
@@ -261,7 +294,8 @@ module _ (t : StateTable) (passes : List Pass) (v : View) (id : ℕ) (f : Found)
       is_owner_false c = is_owner c now.place ≡ false
 
       is_owner_none : (c : ℕ) → own c h ≡ [] → (key.controller ≡ c → ⊥) → is_owner_false c
-      is_owner_none c none apart = ownership_kept key.controller c (opening key.controller) h (opens_sound key.controller) r.legal none ∙ ne_eqb key.controller c apart
+      is_owner_none c none apart = ownership_kept key.controller c (opening key.controller) h (opens_sound key.controller) r.legal none
+          ∙ ne_eqb key.controller c apart
 
   at_home : ((k : ℕ) (q : Pass) → slice_get passes k ≡ Some q → q.holds ≡ Nothing) → is_out now.place ≡ false
   at_home empty = by now.place refl
@@ -274,13 +308,15 @@ module _ (t : StateTable) (passes : List Pass) (v : View) (id : ℕ) (f : Found)
       by (Polling c) e = absurd (true≢false (sym (ap (has_at c) e ∙ eq-eqb c c refl) ∙ has_nothing c empty))
       by (Control c) e = absurd (true≢false (sym (ap (has_at c) e ∙ eq-eqb c c refl) ∙ has_nothing c empty))
 
-  named : (k : ℕ) (q : Pass) (x : RxCtx) → slice_get passes k ≡ Some q → ring_of (view_of q) ≡ Some (ring_name x) → ring_name x ≡ ring_name key.ring.value
+  named : (k : ℕ) (q : Pass) (x : RxCtx) → slice_get passes k ≡ Some q → ring_of (view_of q) ≡ Some (ring_name x)
+      → ring_name x ≡ ring_name key.ring.value
   named k q x e ring =
       let o = front q in
       let is : Some (ring_name x) ≡ Some (ring_name o.first.ring) = sym ring ∙ ap ring_of o.is in
       ap (λ (y : Option RingName). unwrap_or y (ring_name x)) is ∙ ap ring_name (stood k q e).1.ring
 
-  module _ (slots : List Content) (each : (k : ℕ) (y : Content) → get_elem? s.homes k ≡ Maybe.some (Maybe.some y) → get_elem? slots k ≡ Maybe.some y) (slot : Content) (there : get_elem? slots 0 ≡ Maybe.some slot) where
+  module _ (slots : List Content) (each : (k : ℕ) (y : Content) → get_elem? s.homes k ≡ Maybe.some (Maybe.some y)
+      → get_elem? slots k ≡ Maybe.some y) (slot : Content) (there : get_elem? slots 0 ≡ Maybe.some slot) where
     -- nobody had anything: the context is in the slot
     in_slot : f.out ≡ false → f.ctx ≡ None → (x : RxCtx) × (slot ≡ Some x) × (ring_name x ≡ ring_name key.ring.value)
     in_slot out none =
@@ -299,7 +335,8 @@ module _ (t : StateTable) (passes : List Pass) (v : View) (id : ℕ) (f : Found)
         by true e = refl
         by false e = absurd (g.none_out e o.0 o.1 o.2 o.3)
 
-    right : (out : Bool) (held : Option RxCtx) → f.out ≡ out → f.ctx ≡ held → (x : RxCtx) → picked out held slot ≡ Some x → ring_name x ≡ ring_name key.ring.value
+    right : (out : Bool) (held : Option RxCtx) → f.out ≡ out → f.ctx ≡ held → (x : RxCtx) → picked out held slot ≡ Some x
+        → ring_name x ≡ ring_name key.ring.value
     right true held a b x e = absurd (cc)
     right false (Some y) a b x e = let q = g.ring y b in ap ring_name (some_is (sym e)) ∙ named q.0 q.1 y q.2 q.3
     right false None a b x e = let y = in_slot a b in ap ring_name (some_is (sym e ∙ y.1)) ∙ y.2
@@ -308,11 +345,13 @@ module _ (t : StateTable) (passes : List Pass) (v : View) (id : ℕ) (f : Found)
         → (received_list x ≡ received_by key.ring.value r.deliveries) × (x ≡ last_of key.ring.value r.deliveries)
     received x e empty =
         let home = r.slot (at_home empty) in
-        let there : slot ≡ Some home.0 = some-injective _ _ (sym there ∙ each 0 (Some home.0) (ap (λ (l : List (Maybe Content)). get_elem? l 0) home.1)) in
+        let there : slot ≡ Some home.0 =
+        some-injective _ _ (sym there ∙ each 0 (Some home.0) (ap (λ (l : List (Maybe Content)). get_elem? l 0) home.1)) in
         let is : x ≡ home.0 = by f.out f.ctx refl refl e there in
         (ap received_list is ∙ home.4, is ∙ home.5)
       where
-        by : (out : Bool) (held : Option RxCtx) → f.out ≡ out → f.ctx ≡ held → picked out held slot ≡ Some x → {y : RxCtx} → slot ≡ Some y → x ≡ y
+        by : (out : Bool) (held : Option RxCtx) → f.out ≡ out → f.ctx ≡ held → picked out held slot ≡ Some x → {y : RxCtx} → slot ≡ Some y
+            → x ≡ y
         by true held a b e t = absurd (cc)
         by false (Some z) a b e t = let q = g.ring z b in let bad : Nothing ≡ Within = sym (empty q.0 q.1 q.2) ∙ q.4 in absurd (cc)
         by false None a b e t = some_is (sym e ∙ t)
@@ -344,7 +383,9 @@ module _ (t : StateTable) (passes : List Pass) (v : View) (id : ℕ) (f : Found)
 
 pub ended : (t : StateTable) (passes : List Pass) (v : View) (id : ℕ) (f : Found) → Gathered passes v f
     → controller_of_table t + 1 ≤ length passes
-    → is_pass v ≡ true → (ws : List ℕ) (slots : List Content) (slot : Content) → Final (Seen (Holding t.table.shared.key) id v) ws slots → get_elem? slots 0 ≡ Maybe.some slot
+    → is_pass v ≡ true → (ws : List ℕ) (slots : List Content) (slot : Content) → Final (Seen (Holding t.table.shared.key) id v) ws slots
+    → get_elem? slots 0 ≡ Maybe.some slot
     → IsEnded t passes (picked f.out f.ctx slot)
 ended t passes v id f g count p ws slots slot final there =
-    closes t passes v id f g count final.0 (running t.table.shared.key final.0 final.1.0 id v final.1.1 p) final.1.1 slots final.4 slot there
+    closes t passes v id f g count final.0
+    (running t.table.shared.key final.0 final.1.0 id v final.1.1 p) final.1.1 slots final.4 slot there

@@ -1,9 +1,16 @@
 -- Deliveries that grow at their end, and who may add one.
-use Rattle.std.proofs.{Common.{◌≡◌, ◌≢◌, ℕ, List, [], ◌∷◌, ◌++◌, Bool, true, false, not, ◌&&◌, nat_eq, eq-eqb, ne_eqb, refl, sym, ap, ◌∙◌, append_assoc, length, drop, subst, Option, Some, unwrap_or, true≢false}, lemmas.List.append-nil}
-use Rattle.{std.proofs.lemmas.{List.Elements.filter-append, Bool.eqb-true}, atomic_table.specs.Table.Me, rx_ring.specs.{declared.{packet.Packet.Packet, ends.RxCtx.RxCtx}, Ends.{received_list, ring_name}}}
-use Rattle.napi_model.specs.{declared.{state.{State.State as Napi, Place.{Place, TheVariants.{Polling, Control}}}, event.Event.Event}, Step.after, History.{LegalHistory, IsLegalFor, state_after}}
-use Rattle.{napi_model.{specs.Laws.IsSound, proofs.Owners.{ownership_kept, owner_kept}}, napi_word.specs.{declared.view.Delivery.Delivery, View.{View, first_in, received_in, delivered, delivery, packets_of, own_deliveries, received_by}}}
-use Rattle.napi_word.{specs.{View.{last_of, deliverers, Continues, ring_of}, Slot.{Content, stays, Delivers, owns_slot, has_at, is_out, is_given, one_if, givers}}, proofs.{Places.{has_same, has_out}, Owns.own_no}}
+use Rattle.std.proofs.Common.{◌≡◌, ◌≢◌, ℕ, List, [], ◌∷◌, ◌++◌, Bool, true, false, not, ◌&&◌, nat_eq, eq-eqb, ne_eqb, refl, sym, ap, ◌∙◌}
+use Rattle.std.proofs.{Common.{append_assoc, length, drop, subst, Option, Some, unwrap_or, true≢false}, lemmas.List.append-nil}
+use Rattle.{std.proofs.lemmas.{List.Elements.filter-append, Bool.eqb-true}, atomic_table.specs.Table.Me}
+use Rattle.rx_ring.specs.{declared.{packet.Packet.Packet, ends.RxCtx.RxCtx}, Ends.{received_list, ring_name}}
+use Rattle.napi_model.specs.declared.{state.{State.State as Napi, Place.{Place, TheVariants.{Polling, Control}}}, event.Event.Event}
+use Rattle.napi_model.specs.{Step.after, History.{LegalHistory, IsLegalFor, state_after}}
+use Rattle.napi_model.{specs.Laws.IsSound, proofs.Owners.{ownership_kept, owner_kept}}
+use Rattle.napi_word.specs.declared.view.Delivery.{Delivery}
+use Rattle.napi_word.specs.View.{View, first_in, received_in, delivered, delivery, packets_of, own_deliveries, received_by}
+use Rattle.napi_word.specs.View.{last_of, deliverers, Continues, ring_of}
+use Rattle.napi_word.specs.Slot.{Content, stays, Delivers, owns_slot, has_at, is_out, is_given, one_if, givers}
+use Rattle.napi_word.proofs.{Places.{has_same, has_out}, Owns.own_no}
 use mathlib.Core.List.{IsPrefix}
 
 pub some_is : {A : Type 0} {a b : A} → Some a ≡ Some b → a ≡ b
@@ -23,14 +30,18 @@ pub to_prefix : (before after : List Packet) → Continues before after → IsPr
 to_prefix before after e = (drop (length before) after, sym e)
 
 pub of_prefix : (before after : List Packet) → IsPrefix before after → Continues before after
-of_prefix before after p = subst (λ (l : List Packet). Continues before l) p.1 (ap (λ (l : List Packet). before ++ l) (sym (drop_front before p.0)))
+of_prefix before after p =
+    subst (λ (l : List Packet). Continues before l) p.1 (ap (λ (l : List Packet). before ++ l) (sym (drop_front before p.0)))
 
 pub packets_snoc : (ds : List Delivery) (d : Delivery) → packets_of (ds ++ d ∷ []) ≡ packets_of ds ++ d.packets
 packets_snoc [] d = append-nil d.packets
-packets_snoc (e ∷ ds) d = ap (λ (l : List Packet). e.packets ++ l) (packets_snoc ds d) ∙ sym (append_assoc e.packets (packets_of ds) d.packets)
+packets_snoc (e ∷ ds) d =
+    ap (λ (l : List Packet). e.packets ++ l) (packets_snoc ds d) ∙ sym (append_assoc e.packets (packets_of ds) d.packets)
 
-pub received_snoc : (ring : RxCtx) (ds : List Delivery) (c : ℕ) (packets : List Packet) (x : RxCtx) → received_by ring (ds ++ delivery c packets x ∷ []) ≡ received_by ring ds ++ packets
-received_snoc ring ds c packets x = ap (λ (l : List Packet). received_list ring ++ l) (packets_snoc ds (delivery c packets x)) ∙ sym (append_assoc (received_list ring) (packets_of ds) packets)
+pub received_snoc : (ring : RxCtx) (ds : List Delivery) (c : ℕ) (packets : List Packet) (x : RxCtx)
+    → received_by ring (ds ++ delivery c packets x ∷ []) ≡ received_by ring ds ++ packets
+received_snoc ring ds c packets x = ap (λ (l : List Packet). received_list ring ++ l) (packets_snoc ds (delivery c packets x))
+    ∙ sym (append_assoc (received_list ring) (packets_of ds) packets)
 
 pub last_snoc : (ring : RxCtx) (ds : List Delivery) (d : Delivery) → last_of ring (ds ++ d ∷ []) ≡ d.ctx
 last_snoc ring [] d = refl
@@ -54,7 +65,8 @@ has_one a b (Control c) x y = sym (eqb-true c a x) ∙ eqb-true c b y
 has_one a b p x y = absurd (true≢false (sym x))
 
 -- others' events leave who has the slot
-pub has_others : (k n : ℕ) (s : Napi) (e : Event) → IsSound s → IsLegalFor k s e → e.caller ≢ n → has_at n (after s e).place ≡ has_at n s.place
+pub has_others : (k n : ℕ) (s : Napi) (e : Event) → IsSound s → IsLegalFor k s e → e.caller ≢ n
+    → has_at n (after s e).place ≡ has_at n s.place
 unfolding LegalHistory state_after
 has_others k n s e sound legal apart = has_same n (after s e).place s.place
     (ownership_kept k n s (e ∷ []) sound (legal, tt) (own_no n e apart))
@@ -64,10 +76,12 @@ deliverers_snoc : (ds : List Delivery) (d : Delivery) → deliverers (ds ++ d �
 deliverers_snoc [] d = refl
 deliverers_snoc (e ∷ ds) d = ap (λ (l : List ℕ). e.by ∷ l) (deliverers_snoc ds d)
 
-pub givers_snoc : (s : Napi) (h : List Event) (e : Event) → givers s (h ++ e ∷ []) ≡ givers s h ++ one_if (is_given (state_after s h) e) e.caller
+pub givers_snoc : (s : Napi) (h : List Event) (e : Event)
+    → givers s (h ++ e ∷ []) ≡ givers s h ++ one_if (is_given (state_after s h) e) e.caller
 unfolding givers state_after
 givers_snoc s [] e = append-nil (one_if (is_given s e) e.caller)
-givers_snoc s (x ∷ h) e = ap (λ (l : List ℕ). one_if (is_given s x) x.caller ++ l) (givers_snoc (after s x) h e) ∙ sym (append_assoc (one_if (is_given s x) x.caller) (givers (after s x) h) (one_if (is_given (state_after (after s x) h) e) e.caller))
+givers_snoc s (x ∷ h) e = ap (λ (l : List ℕ). one_if (is_given s x) x.caller ++ l) (givers_snoc (after s x) h e)
+    ∙ sym (append_assoc (one_if (is_given s x) x.caller) (givers (after s x) h) (one_if (is_given (state_after (after s x) h) e) e.caller))
 
 pub givers_none : (s : Napi) → givers s [] ≡ []
 unfolding givers
@@ -89,13 +103,21 @@ pub record More (now : Napi) (e : Event) (ds ds' : List Delivery) : Type 0 where
   pub same : (n : ℕ) → e.caller ≢ n → has_at n now.place ≡ true → ds' ≡ ds
 
 pub more_none : (now : Napi) (e : Event) (ds : List Delivery) → is_given now e ≡ false → More now e ds ds
-more_none now e ds none = record { begins = λ l p. p; order = sym (append-nil (deliverers ds)) ∙ ap (λ (b : Bool). deliverers ds ++ one_if b e.caller) (sym none); others = λ n apart. refl; same = λ n apart has. refl }
+more_none now e ds none =
+    record {
+      begins = λ l p. p;
+      order = sym (append-nil (deliverers ds)) ∙ ap (λ (b : Bool). deliverers ds ++ one_if b e.caller) (sym none);
+      others = λ n apart. refl;
+      same = λ n apart has. refl;
+    }
 
-pub more_one : (now : Napi) (e : Event) (ds : List Delivery) (packets : List Packet) (x : RxCtx) → has_at e.caller now.place ≡ true → is_given now e ≡ true → More now e ds (ds ++ delivery e.caller packets x ∷ [])
+pub more_one : (now : Napi) (e : Event) (ds : List Delivery) (packets : List Packet) (x : RxCtx) → has_at e.caller now.place ≡ true
+    → is_given now e ≡ true → More now e ds (ds ++ delivery e.caller packets x ∷ [])
 more_one now e ds packets x has one = record {
   order = deliverers_snoc ds (delivery e.caller packets x) ∙ ap (λ (b : Bool). deliverers ds ++ one_if b e.caller) (sym one);
   begins = λ l p. prefix_snoc l ds (delivery e.caller packets x) p;
-  others = λ n apart. own_both n ds (delivery e.caller packets x ∷ []) ∙ ap (λ (l : List Delivery). own_deliveries n ds ++ l) (own_one_no n e.caller packets x apart) ∙ append-nil (own_deliveries n ds);
+  others = λ n apart. own_both n ds (delivery e.caller packets x ∷ [])
+      ∙ ap (λ (l : List Delivery). own_deliveries n ds ++ l) (own_one_no n e.caller packets x apart) ∙ append-nil (own_deliveries n ds);
   same = λ n apart there. absurd (apart (has_one e.caller n now.place has there));
 }
 

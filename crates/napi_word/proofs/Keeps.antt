@@ -1,10 +1,19 @@
 -- One event more keeps the rule.
-use Rattle.napi_word.{proofs.{Owns.{own_mine, own_other, own_rest, begins_self, begins_more}, Deliveries.{prefix_self, has_others, givers_snoc, More, some_is}}, specs.{Events.Steps, Slot.{Content, has_at, is_out, is_given, one_if}}}
-use Rattle.napi_word.specs.{View.{View, is_pass, number_of, controller_of, mine, ring_of, state_in, place_in, disable_in, busy_in}, declared.view.{Strand.Strand, Key.Key, Delivery.Delivery}, Rule.{first_view, Home, Homes, Owned, Fits}}
-use Rattle.{napi_word.specs.Rule.{Kept, Starts, Holding}, napi_model.specs.{History.{LegalHistory, IsLegalFor, state_after, own}, Laws.{IsSound, ThreadsIsHanded, IsControlled, is_owner, stand_of}, Step.{event, opening, seen_of, after}}}
-use Rattle.napi_model.{specs.{declared.{state.{State.State as Napi, Place.Place}, event.{Event.Event, Operation.Operation}}, Word.word_of}, proofs.Owners.{sound_after, opens_sound, ownership_kept, owner_kept, disable_kept, threads_after}}
-use Rattle.{napi_model.proofs.{Owners.{opens_unthreaded, controlled_after, opens_controlled}, Histories.{state_after-snoc, state_after-append, legal_snoc, legal_front, legal_back}}, std.proofs.Common.{◌≡◌, ◌≢◌, ℕ, zero, suc, List, [], ◌∷◌}}
-use Rattle.{std.proofs.Common.{◌++◌, get_or, set, Option, Some, None, Bool, true, false, is_some, unwrap_or, refl, sym, ap, ◌∙◌, subst, ⊎_elim, arith, true≢false}, atomic_table.{proofs.Lists.{at_set, set_again}, specs.Table.State}}
+use Rattle.napi_word.proofs.Owns.{own_mine, own_other, own_rest, begins_self, begins_more}
+use Rattle.napi_word.proofs.Deliveries.{prefix_self, has_others, givers_snoc, More, some_is}
+use Rattle.napi_word.specs.{Events.Steps, Slot.{Content, has_at, is_out, is_given, one_if}}
+use Rattle.napi_word.specs.View.{View, is_pass, number_of, controller_of, mine, ring_of, state_in, place_in, disable_in, busy_in}
+use Rattle.napi_word.specs.{declared.view.{Strand.Strand, Key.Key, Delivery.Delivery}, Rule.{first_view, Home, Homes, Owned, Fits}}
+use Rattle.napi_word.specs.Rule.{Kept, Starts, Holding}
+use Rattle.napi_model.specs.History.{LegalHistory, IsLegalFor, state_after, own}
+use Rattle.napi_model.specs.{Laws.{IsSound, ThreadsIsHanded, IsControlled, is_owner, stand_of}, Step.{event, opening, seen_of, after}}
+use Rattle.napi_model.specs.{declared.{state.{State.State as Napi, Place.Place}, event.{Event.Event, Operation.Operation}}, Word.word_of}
+use Rattle.napi_model.proofs.Owners.{sound_after, opens_sound, ownership_kept, owner_kept, disable_kept, threads_after}
+use Rattle.napi_model.proofs.Owners.{opens_unthreaded, controlled_after, opens_controlled}
+use Rattle.napi_model.proofs.Histories.{state_after-snoc, state_after-append, legal_snoc, legal_front, legal_back}
+use Rattle.std.proofs.Common.{◌≡◌, ◌≢◌, ℕ, zero, suc, List, [], ◌∷◌}
+use Rattle.std.proofs.Common.{◌++◌, get_or, set, Option, Some, None, Bool, true, false, is_some, unwrap_or, refl, sym, ap, ◌∙◌, subst}
+use Rattle.{std.proofs.Common.{⊎_elim, arith, true≢false}, atomic_table.{proofs.Lists.{at_set, set_again}, specs.Table.State}}
 use lib.ListN.{get_elem?}
 use mathlib.Core.Option as maybe
 
@@ -31,7 +40,8 @@ abbrev pub grown : Strand → ℕ → List Event → Operation → List Delivery
 grown x c h o ds = record x { seen = h ++ event c o ∷ []; mine = x.mine ++ event c o ∷ []; delivered = ds }
 
 -- a pass is made after the start
-pub running : (key : Key) (s : St) → Holding key s → (id : ℕ) (v : View) → get_elem? s.views id ≡ maybe.some v → is_pass v ≡ true → Kept key s
+pub running : (key : Key) (s : St) → Holding key s → (id : ℕ) (v : View) → get_elem? s.views id ≡ maybe.some v → is_pass v ≡ true
+    → Kept key s
 running key s h id v at p = ⊎_elim
     (λ (t : Starts key s). absurd (none id (ap (λ (l : List View). get_elem? l id) (sym t.views) ∙ at)))
     (λ (r : Kept key s). r)
@@ -54,7 +64,8 @@ pub record Knows (k : ℕ) (v : View) (c : ℕ) (now : Napi) : Type 0 where
   pub disable : c ≡ k → now.flags.disable ≡ disable_in v
 
 -- ---- what the rule says of a strand with a number: since the list that it has seen, others alone made events
-module _ (key : Key) (s : St) (r : Kept key s) (p : ℕ × ℕ) (x : Strand) (f : Fits key r.history r.deliveries r.seat p x) (c : ℕ) (numbered : x.number ≡ Some c) where
+module _ (key : Key) (s : St) (r : Kept key s) (p : ℕ × ℕ) (x : Strand) (f : Fits key r.history r.deliveries r.seat p x) (c : ℕ)
+    (numbered : x.number ≡ Some c) where
   abbrev state_first : Napi
   state_first = opening key.controller
 
@@ -77,7 +88,9 @@ module _ (key : Key) (s : St) (r : Kept key s) (p : ℕ × ℕ) (x : Strand) (f 
   parts = ap (λ (l : List Event). state_after state_first l) (sym f.begins.1) ∙ state_after-append state_first x.seen later
 
   sound_t : IsSound state_seen
-  sound_t = sound_after key.controller state_first x.seen (opens_sound key.controller) (legal_front key.controller state_first x.seen later legal_parts)
+  sound_t =
+      sound_after key.controller state_first x.seen (opens_sound key.controller)
+      (legal_front key.controller state_first x.seen later legal_parts)
 
   back : LegalHistory key.controller state_seen later
   back = legal_back key.controller state_first x.seen later legal_parts
@@ -92,7 +105,8 @@ module _ (key : Key) (s : St) (r : Kept key s) (p : ℕ × ℕ) (x : Strand) (f 
   place_since y = ap (λ (t : Place × Bool). t.0) (stand_since y)
 
   pub disable_since : c ≡ key.controller → state_now.flags.disable ≡ state_seen.flags.disable
-  disable_since y = ap (λ (u : Napi). u.flags.disable) parts ∙ disable_kept key.controller state_seen later back (subst (λ (d : ℕ). own d later ≡ []) y none)
+  disable_since y = ap (λ (u : Napi). u.flags.disable) parts
+      ∙ disable_kept key.controller state_seen later back (subst (λ (d : ℕ). own d later ≡ []) y none)
 
 -- ---- a step of the seat id
 module _ (key : Key) (s : St) (r : Kept key s) (id : ℕ) (v : View) (at : get_elem? s.views id ≡ maybe.some v) (o : Open v) where
@@ -128,11 +142,14 @@ module _ (key : Key) (s : St) (r : Kept key s) (id : ℕ) (v : View) (at : get_e
     number = refl;
     controller = ap controller_of o.is ∙ own_fits.controller;
     sound = sound_after key.controller (opening key.controller) h (opens_sound key.controller) r.legal;
-    threads = threads_after key.controller (opening key.controller) h (opens_sound key.controller) (opens_unthreaded key.controller) r.legal;
+    threads =
+        threads_after key.controller (opening key.controller) h (opens_sound key.controller) (opens_unthreaded key.controller) r.legal;
     controlled = controlled_after key.controller (opening key.controller) h (opens_controlled key.controller) r.legal;
     owner = owner_since key s r (id, 0) o.first own_fits c o.numbered ∙ ap (λ (u : Napi). is_owner c u.place) (sym viewed);
-    place = λ y. ap (λ (t : Place × Bool). t.0) (stand_now (ap (λ (u : Napi). is_owner c u.place) (sym viewed) ∙ y)) ∙ ap (λ (u : Napi). u.place) (sym viewed);
-    busy = λ y. ap (λ (t : Place × Bool). t.1) (stand_now (ap (λ (u : Napi). is_owner c u.place) (sym viewed) ∙ y)) ∙ ap (λ (u : Napi). u.flags.in_busy_poll) (sym viewed);
+    place = λ y. ap (λ (t : Place × Bool). t.0) (stand_now (ap (λ (u : Napi). is_owner c u.place) (sym viewed) ∙ y))
+        ∙ ap (λ (u : Napi). u.place) (sym viewed);
+    busy = λ y. ap (λ (t : Place × Bool). t.1) (stand_now (ap (λ (u : Napi). is_owner c u.place) (sym viewed) ∙ y))
+        ∙ ap (λ (u : Napi). u.flags.in_busy_poll) (sym viewed);
     disable = λ y. disable_since key s r (id, 0) o.first own_fits c o.numbered y ∙ ap (λ (u : Napi). u.flags.disable) (sym viewed);
   }
 
@@ -157,7 +174,8 @@ module _ (key : Key) (s : St) (r : Kept key s) (id : ℕ) (v : View) (at : get_e
     exact = own_mine c h e refl ∙ ap (λ (l : List Event). l ++ e ∷ []) owned.whole
 
     -- the other seats' strands stay
-    others : IsLegalFor key.controller now e → More now e r.deliveries ds → (j k : ℕ) → j ≢ id → (x : Strand) → Fits key h r.deliveries r.seat (j, k) x → Fits key (h ++ e ∷ []) ds r.seat (j, k) x
+    others : IsLegalFor key.controller now e → More now e r.deliveries ds → (j k : ℕ) → j ≢ id → (x : Strand)
+        → Fits key h r.deliveries r.seat (j, k) x → Fits key (h ++ e ∷ []) ds r.seat (j, k) x
     others legal more j k apart x f = record {
       begins = begins_more x.seen h e f.begins;
       delivered = more.begins x.delivered f.delivered;
@@ -167,7 +185,8 @@ module _ (key : Key) (s : St) (r : Kept key s) (id : ℕ) (v : View) (at : get_e
             shown = q.shown;
             delivers = more.others n other ∙ q.delivers;
             has = λ there.
-                let before = sym (has_others key.controller n now e knows.sound legal other) ∙ ap (λ (u : Napi). has_at n u.place) (sym (state_after-snoc (opening key.controller) h e)) ∙ there in
+                let before = sym (has_others key.controller n now e knows.sound legal other)
+                ∙ ap (λ (u : Napi). has_at n u.place) (sym (state_after-snoc (opening key.controller) h e)) ∙ there in
                 q.has before ∙ sym (more.same n other before);
             here = q.here;
             few = q.few;
@@ -181,14 +200,22 @@ module _ (key : Key) (s : St) (r : Kept key s) (id : ℕ) (v : View) (at : get_e
     next_fits fits zero x is = subst (Fits key (h ++ e ∷ []) ds r.seat (id, 0)) (maybe.some-injective _ _ is) record {
       begins = begins_self (h ++ e ∷ []);
       delivered = prefix_self ds;
-      owned = λ n same. subst (Owned key (h ++ e ∷ []) ds r.seat (id, 0) next) (some_is (sym o.numbered ∙ same)) record { whole = exact; shown = exact; delivers = refl; has = λ there. refl; here = owned.here; few = owned.few };
+      owned = λ n same. subst (Owned key (h ++ e ∷ []) ds r.seat (id, 0) next) (some_is (sym o.numbered ∙ same)) record {
+        whole = exact;
+        shown = exact;
+        delivers = refl;
+        has = λ there. refl;
+        here = owned.here;
+        few = owned.few;
+      };
       controller = own_fits.controller;
       ring = own_fits.ring;
       begun = own_fits.begun;
     }
     next_fits fits (suc k) x is = fits k x is
 
-    grows : TailFits → IsLegalFor key.controller now e → More now e r.deliveries ds → (homes : Homes) → (is_out (after now e).place ≡ false → Home key.ring.value ds homes)
+    grows : TailFits → IsLegalFor key.controller now e → More now e r.deliveries ds → (homes : Homes)
+        → (is_out (after now e).place ≡ false → Home key.ring.value ds homes)
         → Kept key record { words = word_of (seen_of (after now e)) ∷ []; homes = homes; views = set s.views id w }
     grows fits legal more homes slot = record {
       history = h ++ e ∷ [];
@@ -196,9 +223,11 @@ module _ (key : Key) (s : St) (r : Kept key s) (id : ℕ) (v : View) (at : get_e
       seat = r.seat;
       legal = legal_snoc key.controller (opening key.controller) h e r.legal legal;
       word = ap (λ (u : Napi). word_of (seen_of u) ∷ []) (sym (state_after-snoc (opening key.controller) h e));
-      slot = subst (λ (u : Napi). is_out u.place ≡ false → Home key.ring.value ds homes) (sym (state_after-snoc (opening key.controller) h e)) slot;
+      slot = subst (λ (u : Napi). is_out u.place ≡ false → Home key.ring.value ds homes)
+          (sym (state_after-snoc (opening key.controller) h e)) slot;
       strands = λ j u there k x is. ⊎_elim
-          (λ (y : (j ≡ id) × (w ≡ u)). subst (λ (i : ℕ). Fits key (h ++ e ∷ []) ds r.seat (i, k) x) (sym y.0) (next_fits fits k x (ap (λ (z : View). get_elem? z k) y.1 ∙ is)))
+          (λ (y : (j ≡ id) × (w ≡ u)). subst (λ (i : ℕ). Fits key (h ++ e ∷ []) ds r.seat (i, k) x) (sym y.0)
+          (next_fits fits k x (ap (λ (z : View). get_elem? z k) y.1 ∙ is)))
           (λ (y : (j ≢ id) × (get_elem? s.views j ≡ maybe.some u)). others legal more j k y.0 x (r.strands j u y.1 k x is))
           (at_set s.views id j w u there);
       few = λ n above. own_other n h e (λ (same : c ≡ n). let low = owned.few in absurd (omega arith)) ∙ r.few n above;
@@ -207,18 +236,24 @@ module _ (key : Key) (s : St) (r : Kept key s) (id : ℕ) (v : View) (at : get_e
     }
 
     -- the word becomes f of what it was, which is the word of the state after
-    pub steps : TailFits → (f : ℕ → ℕ) → f (word_of (seen_of now)) ≡ word_of (seen_of (after now e)) → IsLegalFor key.controller now e → More now e r.deliveries ds
+    pub steps : TailFits → (f : ℕ → ℕ) → f (word_of (seen_of now)) ≡ word_of (seen_of (after now e)) → IsLegalFor key.controller now e
+        → More now e r.deliveries ds
         → (homes : Homes) → (is_out (after now e).place ≡ false → Home key.ring.value ds homes)
         → Kept key record { words = set s.words 0 (f (get_or s.words 0 0)); homes = homes; views = set s.views id w }
-    steps fits f is legal more homes slot = subst (λ (ws : List ℕ). Kept key record { words = set ws 0 (f (get_or ws 0 0)); homes = homes; views = set s.views id w }) (sym r.word)
-        (subst (λ (n : ℕ). Kept key record { words = n ∷ []; homes = homes; views = set s.views id w }) (sym is) (grows fits legal more homes slot))
+    steps fits f is legal more homes slot =
+        subst (λ (ws : List ℕ). Kept key record { words = set ws 0 (f (get_or ws 0 0)); homes = homes; views = set s.views id w })
+        (sym r.word)
+        (subst (λ (n : ℕ). Kept key record { words = n ∷ []; homes = homes; views = set s.views id w }) (sym is)
+        (grows fits legal more homes slot))
 
     pub grew : IsLegalFor key.controller now e → Steps v d w
     grew legal = record {
       before = h;
       begins = λ k x is. (r.strands id v at k x is).begins;
       ends = refl;
-      legal = subst (λ (k : ℕ). LegalHistory k (opening k) (h ++ e ∷ [])) (sym knows.controller) (legal_snoc key.controller (opening key.controller) h e r.legal legal);
+      legal =
+          subst (λ (k : ℕ). LegalHistory k (opening k) (h ++ e ∷ [])) (sym knows.controller)
+          (legal_snoc key.controller (opening key.controller) h e r.legal legal);
       grows = ap (λ (l : List Event). l ++ e ∷ []) (sym (ap mine o.is));
       exact = exact;
       pass = ap is_some o.numbered;
@@ -226,9 +261,14 @@ module _ (key : Key) (s : St) (r : Kept key s) (id : ℕ) (v : View) (at : get_e
       controller = sym (ap controller_of o.is);
       ring = sym (ap ring_of o.is);
       owner = subst (λ (k : ℕ). is_owner c (state_after (opening k) h).place ≡ is_owner c (place_in v)) (sym knows.controller) knows.owner;
-      place = subst (λ (k : ℕ). is_owner c (place_in v) ≡ true → (state_after (opening k) h).place ≡ place_in v) (sym knows.controller) knows.place;
-      busy = subst (λ (k : ℕ). is_owner c (place_in v) ≡ true → (state_after (opening k) h).flags.in_busy_poll ≡ busy_in v) (sym knows.controller) knows.busy;
-      disable = λ top. subst (λ (k : ℕ). (state_after (opening k) h).flags.disable ≡ disable_in v) (sym knows.controller) (knows.disable (top ∙ knows.controller));
+      place =
+          subst (λ (k : ℕ). is_owner c (place_in v) ≡ true → (state_after (opening k) h).place ≡ place_in v)
+          (sym knows.controller) knows.place;
+      busy = subst (λ (k : ℕ). is_owner c (place_in v) ≡ true → (state_after (opening k) h).flags.in_busy_poll ≡ busy_in v)
+          (sym knows.controller) knows.busy;
+      disable =
+          λ top. subst (λ (k : ℕ). (state_after (opening k) h).flags.disable ≡ disable_in v) (sym knows.controller)
+          (knows.disable (top ∙ knows.controller));
     }
 
   -- ---- a load that is no event, and leaves the view

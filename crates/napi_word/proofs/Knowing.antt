@@ -1,17 +1,25 @@
 -- What a pass knows by its last event.
-use Rattle.{std.proofs.Common.{eq-eqb, ◌≡◌, ℕ, List, [], ◌∷◌, Bool, true, false, ◌||◌, refl, sym, ap, ◌∙◌, subst, true≢false}, napi_model.specs.declared.state.{State.State as Napi, Seen.Seen, Kind.Kind, Place.TheVariants.Granted}}
-use Rattle.napi_model.specs.{declared.{state.Place.TheVariants.Polling, event.{Done.TheVariants.{Again, Held}, Event.Event, Operation.{Operation, TheVariants.{Look, Schedule, Take, Complete}}}}, Step.{event, opening, after_by, place_of}}
-use Rattle.napi_model.{specs.{History.{LegalHistory, IsLegalFor, state_after}, Laws.{is_owner, IsPolled}}, proofs.{Histories.{legal_front, legal_back, state_after-snoc}, Owners.{busy_after, opens_sound, opens_unbusy}}}
-use Rattle.{napi_word.{specs.{View.{View, number_of, controller_of, state_at, state_in, place_in, disable_in}, Events.Steps, Told.done_of, Passes.{HasController, HasPoll}}, proofs.Places.is_false}, napi_model.specs.declared.event.Prep.Prep}
+use Rattle.std.proofs.Common.{eq-eqb, ◌≡◌, ℕ, List, [], ◌∷◌, Bool, true, false, ◌||◌, refl, sym, ap, ◌∙◌, subst, true≢false}
+use Rattle.napi_model.specs.declared.state.{State.State as Napi, Seen.Seen, Kind.Kind, Place.TheVariants.Granted}
+use Rattle.napi_model.specs.declared.state.Place.TheVariants.{Polling}
+use Rattle.napi_model.specs.declared.event.{Done.TheVariants.{Again, Held}, Event.Event}
+use Rattle.napi_model.specs.declared.event.Operation.{Operation, TheVariants.{Look, Schedule, Take, Complete}}
+use Rattle.napi_model.specs.Step.{event, opening, after_by, place_of}
+use Rattle.napi_model.specs.{History.{LegalHistory, IsLegalFor, state_after}, Laws.{is_owner, IsPolled}}
+use Rattle.napi_model.proofs.{Histories.{legal_front, legal_back, state_after-snoc}, Owners.{busy_after, opens_sound, opens_unbusy}}
+use Rattle.napi_word.specs.{View.{View, number_of, controller_of, state_at, state_in, place_in, disable_in}, Events.Steps, Told.done_of}
+use Rattle.{napi_word.{specs.Passes.{HasController, HasPoll}, proofs.Places.is_false}, napi_model.specs.declared.event.Prep.Prep}
 
 pub either_not : (a b : Bool) → (a || b) ≡ false → (a ≡ false) × (b ≡ false)
 either_not true b e = absurd (true≢false e)
 either_not false b e = (refl, e)
 
 -- IN_BUSY_POLL stands at a Polling alone
-pub unbusy : (k : ℕ) (h : List Event) → LegalHistory k (opening k) h → ¬ IsPolled (state_after (opening k) h).place → (state_after (opening k) h).flags.in_busy_poll ≡ false
+pub unbusy : (k : ℕ) (h : List Event) → LegalHistory k (opening k) h → ¬ IsPolled (state_after (opening k) h).place
+    → (state_after (opening k) h).flags.in_busy_poll ≡ false
 unbusy k h legal none =
-    is_false (state_after (opening k) h).flags.in_busy_poll (λ e. none (busy_after k (opening k) h (opens_sound k) (opens_unbusy k) legal e))
+    is_false (state_after (opening k) h).flags.in_busy_poll
+    (λ e. none (busy_after k (opening k) h (opens_sound k) (opens_unbusy k) legal e))
 
 module _ (v : View) (o : Operation) (w : View) (g : Steps v o w) where
   -- the state that the event found
@@ -25,7 +33,8 @@ module _ (v : View) (o : Operation) (w : View) (g : Steps v o w) where
   pub step_of : IsLegalFor (controller_of v) found_state (event (number_of v) o)
   step_of =
       let whole = subst (LegalHistory (controller_of v) (opening (controller_of v))) g.ends g.legal in
-      legal_one (controller_of v) found_state (event (number_of v) o) (legal_back (controller_of v) (opening (controller_of v)) g.before (event (number_of v) o ∷ []) whole)
+      legal_one (controller_of v) found_state (event (number_of v) o)
+      (legal_back (controller_of v) (opening (controller_of v)) g.before (event (number_of v) o ∷ []) whole)
 
   pub found_unbusy : ¬ IsPolled found_state.place → found_state.flags.in_busy_poll ≡ false
   found_unbusy =
@@ -35,7 +44,8 @@ module _ (v : View) (o : Operation) (w : View) (g : Steps v o w) where
 
   -- the state that the view shows after the event
   pub state_then : state_in w ≡ after_by (number_of v) o found_state
-  state_then = (λ i. state_after (opening (g.controller i)) (g.ends i)) ∙ state_after-snoc (opening (controller_of v)) g.before (event (number_of v) o)
+  state_then = (λ i. state_after (opening (g.controller i)) (g.ends i))
+      ∙ state_after-snoc (opening (controller_of v)) g.before (event (number_of v) o)
 
   -- where the pass is after an event of its own
   pub place_then : place_in w ≡ (after_by (number_of v) o found_state).place
@@ -54,8 +64,11 @@ again_grants v w g = place_then v (Complete Again) w g ∙ ap Granted (sym g.num
 
 pub take_polls : (v w : View) (k : Kind) → Steps v (Take k true) w → HasPoll false w
 take_polls v w k g =
-    let off = found_unbusy v (Take k true) w g (λ is. not_polled k (subst IsPolled (step_of v (Take k true) w g).0 is)) in
-    (place_then v (Take k true) w g ∙ ap Polling (sym g.number), ap (λ (s : Napi). s.flags.in_busy_poll) (state_then v (Take k true) w g) ∙ off)
+    let off = found_unbusy v (Take k true) w g (λ is. not_polled k (subst IsPolled (step_of v (Take k true) w g).0 is)) in (
+      place_then v (Take k true) w g ∙ ap Polling (sym g.number),
+      ap (λ (s : Napi). s.flags.in_busy_poll) (state_then v (Take k true) w g)
+          ∙ off,
+    )
 
 -- an exchange that completes is never held
 pub never_held : (missed : Bool) → Held ≡ done_of missed → ⊥
@@ -63,11 +76,15 @@ never_held true e = cc
 never_held false e = cc
 
 -- an event that changes nothing leaves what its pass knows
-module _ (v : View) (o : Operation) (w : View) (g : Steps v o w) (quiet : after_by (number_of v) o (found_state v o w g) ≡ found_state v o w g) where
+module _ (v : View) (o : Operation) (w : View) (g : Steps v o w)
+    (quiet : after_by (number_of v) o (found_state v o w g) ≡ found_state v o w g) where
   pub quiet_polls : {b : Bool} → HasPoll b v → HasPoll b w
   quiet_polls is =
-      let owner = ap (is_owner (number_of v)) is.0 ∙ eq-eqb (number_of v) (number_of v) refl in
-      (ap (λ (s : Napi). s.place) (state_then v o w g ∙ quiet) ∙ g.place owner ∙ is.0 ∙ ap Polling (sym g.number), ap (λ (s : Napi). s.flags.in_busy_poll) (state_then v o w g ∙ quiet) ∙ g.busy owner ∙ is.1)
+      let owner = ap (is_owner (number_of v)) is.0 ∙ eq-eqb (number_of v) (number_of v) refl in (
+        ap (λ (s : Napi). s.place) (state_then v o w g ∙ quiet) ∙ g.place owner ∙ is.0
+            ∙ ap Polling (sym g.number),
+        ap (λ (s : Napi). s.flags.in_busy_poll) (state_then v o w g ∙ quiet) ∙ g.busy owner ∙ is.1,
+      )
 
 -- looks: of who polls, and of the controller
 module _ (v : View) (x : Seen) (w : View) (g : Steps v (Look x) w) where

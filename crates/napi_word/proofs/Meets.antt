@@ -1,6 +1,9 @@
 -- What a pass that took in a note shows after its next step.
-use Rattle.{std.proofs.Common.{◌≡◌, List, [], ◌∷◌, length, true, refl, sym, subst, true≢false}, atomic_table.proofs.Lists.{at_longer, at_last}, napi_model.specs.{declared.event.{Event.Event, Operation.Operation}, Step.event}}
-use Rattle.{napi_word.{specs.{View.{View, is_pass, number_of, shown}, Rule.{note, note_of, joined}, Events.Steps, Slot.{Content, Carried, stays, Delivers}}, proofs.Owns.begins_more}, atomic_table.specs.Table.Me}
+use Rattle.std.proofs.Common.{◌≡◌, List, [], ◌∷◌, length, true, refl, sym, subst, true≢false}
+use Rattle.atomic_table.proofs.Lists.{at_longer, at_last}
+use Rattle.napi_model.specs.{declared.event.{Event.Event, Operation.Operation}, Step.event}
+use Rattle.napi_word.specs.{View.{View, is_pass, number_of, shown}, Rule.{note, note_of, joined}, Events.Steps}
+use Rattle.{napi_word.{specs.Slot.{Content, Carried, stays, Delivers}, proofs.Owns.begins_more}, atomic_table.specs.Table.Me}
 use mathlib.Core.List.{IsPrefix}
 
 -- a step of a pass that took in another is a step of the pass
@@ -24,12 +27,22 @@ steps_joined (x ∷ xs) w o u p g = record {
 }
 
 -- and what a look tells of deliveries
-pub delivers_joined : (v w : View) (l : Carried) (y : Me Content View) → is_pass v ≡ true → Delivers stays (joined v w, l) y → Delivers stays (v, l) y
+pub delivers_joined : (v w : View) (l : Carried) (y : Me Content View) → is_pass v ≡ true → Delivers stays (joined v w, l) y
+    → Delivers stays (v, l) y
 delivers_joined [] w l y p g = absurd (true≢false (sym p))
-delivers_joined (x ∷ xs) w l y p g = record { before = g.before; begins = λ k z is. g.begins k z (at_longer (x ∷ xs) w k z is); exact = g.exact; held = g.held; first = g.first; shifts = g.shifts }
+delivers_joined (x ∷ xs) w l y p g =
+    record {
+      before = g.before;
+      begins = λ k z is. g.begins k z (at_longer (x ∷ xs) w k z is);
+      exact = g.exact;
+      held = g.held;
+      first = g.first;
+      shifts = g.shifts;
+    }
 
 pub meets : (v a : View) (o : Operation) (u : View) → is_pass a ≡ true → Steps (joined v (note_of a)) o u → IsPrefix (shown a) (shown u)
 meets v [] o u p g = absurd (true≢false (sym p))
 meets v (x ∷ xs) o u p g =
     let seen = g.begins (length v) (note x) (at_last v (note x) (length v) refl) in
-    subst (λ (l : List Event). IsPrefix x.seen l) (sym g.ends) (begins_more x.seen g.before (event (number_of (joined v (note x ∷ []))) o) seen)
+    subst (λ (l : List Event). IsPrefix x.seen l) (sym g.ends)
+    (begins_more x.seen g.before (event (number_of (joined v (note x ∷ []))) o) seen)

@@ -1,5 +1,6 @@
 -- A caller's own list, and lists that begin others.
-use Rattle.{std.proofs.{Common.{◌≡◌, ◌≢◌, ℕ, eq-eqb, ne_eqb, List, [], ◌∷◌, ◌++◌, drop, refl, sym, ap, ◌∙◌, append_assoc}, lemmas.List.append-nil}, napi_model.{specs.{declared.event.Event.Event, History.own}, proofs.Histories.own-append}}
+use Rattle.std.proofs.Common.{◌≡◌, ◌≢◌, ℕ, eq-eqb, ne_eqb, List, [], ◌∷◌, ◌++◌, drop, refl, sym, ap, ◌∙◌, append_assoc}
+use Rattle.{std.proofs.lemmas.List.append-nil, napi_model.{specs.{declared.event.Event.Event, History.own}, proofs.Histories.own-append}}
 use mathlib.Core.List.{IsPrefix}
 
 own_one : (c : ℕ) (e : Event) → e.caller ≡ c → own c (e ∷ []) ≡ e ∷ []
@@ -22,7 +23,8 @@ no_more (x ∷ xs) ys e = no_more xs ys (ap (λ l. drop 1 l) e)
 
 -- what follows a list that has all of c's events has none of them
 pub own_rest : (c : ℕ) (g h mine : List Event) → own c g ≡ mine → own c (g ++ h) ≡ mine → own c h ≡ []
-own_rest c g h mine front whole = no_more mine (own c h) (ap (λ (l : List Event). l ++ own c h) (sym front) ∙ sym (own-append c g h) ∙ whole)
+own_rest c g h mine front whole =
+    no_more mine (own c h) (ap (λ (l : List Event). l ++ own c h) (sym front) ∙ sym (own-append c g h) ∙ whole)
 
 pub own_none : (c : ℕ) → own c [] ≡ []
 unfolding own

@@ -1,5 +1,7 @@
 -- Who has the slot, by the place.
-use Rattle.{std.proofs.Common.{◌≡◌, ℕ, Bool, true, false, refl, sym, ap, ◌∙◌, true≢false}, napi_model.specs.{declared.state.Place.{Place, TheVariants.{Granted, Polling, Control}}, Laws.is_owner}, napi_word.specs.Slot.{has_at, is_out}}
+use Rattle.std.proofs.Common.{◌≡◌, ℕ, Bool, true, false, refl, sym, ap, ◌∙◌, true≢false}
+use Rattle.napi_model.specs.{declared.state.Place.{Place, TheVariants.{Granted, Polling, Control}}, Laws.is_owner}
+use Rattle.napi_word.specs.Slot.{has_at, is_out}
 
 pub has_owner : (c : ℕ) (p : Place) → has_at c p ≡ true → is_owner c p ≡ true
 has_owner c (Granted b) e = absurd (true≢false (sym e))

@@ -1,12 +1,16 @@
 -- Seats are split off and joined.
-use Rattle.{std.proofs.Common.{◌≡◌, ◌≢◌, ◌⊎◌, ℕ, zero, suc, ◌+◌, ◌<◌, List, [], ◌∷◌, ◌++◌, length, set, Bool, true, cond, eqb, eq-eqb, ne_eqb, refl, sym, ap, ◌∙◌, subst, inl, inr, ⊎_elim, arith}, atomic_table.specs.Table.{Splits, Joins}}
-use Rattle.{atomic_table.proofs.Lists.{at_longer, at_set, at_snoc, set_again}, napi_model.specs.declared.event.Event.Event, napi_word.specs.{declared.view.{Key.Key, Strand.Strand, Delivery.Delivery}, View.{View, is_pass}}}
-use Rattle.napi_word.{specs.{Rule.{Fits, Kept, Holding, left_of, right_of, note, note_of, joined, spent}, Surveys.{front, with_front, but_last, last_alone}}, proofs.Keeps.{St, opened, running}}
+use Rattle.std.proofs.Common.{◌≡◌, ◌≢◌, ◌⊎◌, ℕ, zero, suc, ◌+◌, ◌<◌, List, [], ◌∷◌, ◌++◌, length, set, Bool, true, cond, eqb, eq-eqb}
+use Rattle.{std.proofs.Common.{ne_eqb, refl, sym, ap, ◌∙◌, subst, inl, inr, ⊎_elim, arith}, atomic_table.specs.Table.{Splits, Joins}}
+use Rattle.{atomic_table.proofs.Lists.{at_longer, at_set, at_snoc, set_again}, napi_model.specs.declared.event.Event.Event}
+use Rattle.napi_word.specs.{declared.view.{Key.Key, Strand.Strand, Delivery.Delivery}, View.{View, is_pass}}
+use Rattle.napi_word.specs.Rule.{Fits, Kept, Holding, left_of, right_of, note, note_of, joined, spent}
+use Rattle.napi_word.{specs.Surveys.{front, with_front, but_last, last_alone}, proofs.Keeps.{St, opened, running}}
 use lib.ListN.{get_elem?}
 use mathlib.Core.Option as maybe
 
 -- ---- lists
-pub at_end : {A : Type 0} (l : List A) (a b : A) (j : ℕ) → get_elem? (l ++ a ∷ []) j ≡ maybe.some b → (get_elem? l j ≡ maybe.some b) ⊎ ((j ≡ length l) × (a ≡ b))
+pub at_end : {A : Type 0} (l : List A) (a b : A) (j : ℕ) → get_elem? (l ++ a ∷ []) j ≡ maybe.some b
+    → (get_elem? l j ≡ maybe.some b) ⊎ ((j ≡ length l) × (a ≡ b))
 at_end [] a b zero e = inr (refl, maybe.some-injective a b e)
 at_end [] a b (suc j) e = absurd (maybe.some-ne-none b (sym e))
 at_end (x ∷ xs) a b zero e = inl e
@@ -18,17 +22,20 @@ within_length (x ∷ xs) b zero e = omega arith
 within_length (x ∷ xs) b (suc j) e = let low = within_length xs b j e in omega (arith, low)
 
 -- of two lists joined, with the place in the list that it is from
-pub at_join : {A : Type 0} (l m : List A) (b : A) (j : ℕ) → get_elem? (l ++ m) j ≡ maybe.some b → (get_elem? l j ≡ maybe.some b) ⊎ ((i : ℕ) × (length l + i ≡ j) × (get_elem? m i ≡ maybe.some b))
+pub at_join : {A : Type 0} (l m : List A) (b : A) (j : ℕ) → get_elem? (l ++ m) j ≡ maybe.some b
+    → (get_elem? l j ≡ maybe.some b) ⊎ ((i : ℕ) × (length l + i ≡ j) × (get_elem? m i ≡ maybe.some b))
 at_join [] m b j e = inr (j, omega arith, e)
 at_join (x ∷ xs) m b zero e = inl e
 at_join (x ∷ xs) m b (suc j) e = ⊎_elim (λ t. inl t) (λ t. let h = t.1 in inr (t.0, omega (arith, h), t.2)) (at_join xs m b j e)
 
 -- a strand moves to another place
-refit : (key : Key) (h : List Event) (ds : List Delivery) (seat seat' : ℕ → ℕ × ℕ) (p q : ℕ × ℕ) (x : Strand) → ((c : ℕ) → seat c ≡ p → seat' c ≡ q) → Fits key h ds seat p x → Fits key h ds seat' q x
+refit : (key : Key) (h : List Event) (ds : List Delivery) (seat seat' : ℕ → ℕ × ℕ) (p q : ℕ × ℕ) (x : Strand)
+    → ((c : ℕ) → seat c ≡ p → seat' c ≡ q) → Fits key h ds seat p x → Fits key h ds seat' q x
 refit key h ds seat seat' p q x goes f = record {
   begins = f.begins;
   delivered = f.delivered;
-  owned = λ c e. let o = f.owned c e in record { whole = o.whole; shown = o.shown; delivers = o.delivers; has = o.has; here = goes c o.here; few = o.few };
+  owned = λ c e. let o = f.owned c e in
+      record { whole = o.whole; shown = o.shown; delivers = o.delivers; has = o.has; here = goes c o.here; few = o.few };
   controller = f.controller;
   ring = f.ring;
   begun = f.begun;
@@ -36,13 +43,26 @@ refit key h ds seat seat' p q x goes f = record {
 
 -- other views behind the same history, whose strands are theirs
 other_views : {key : Key} {s : St} (r : Kept key s) (seat : ℕ → ℕ × ℕ) (views : List View)
-    → ((j : ℕ) (u : View) → get_elem? views j ≡ maybe.some u → (k : ℕ) (z : Strand) → get_elem? u k ≡ maybe.some z → Fits key r.history r.deliveries seat (j, k) z)
+    → ((j : ℕ) (u : View) → get_elem? views j ≡ maybe.some u → (k : ℕ) (z : Strand) → get_elem? u k ≡ maybe.some z
+    → Fits key r.history r.deliveries seat (j, k) z)
     → Kept key record { words = s.words; homes = s.homes; views = views }
 other_views r seat views strands =
-    record { history = r.history; deliveries = r.deliveries; seat = seat; legal = r.legal; word = r.word; slot = r.slot; strands = strands; few = r.few; order = r.order; few_deliver = r.few_deliver }
+    record {
+      history = r.history;
+      deliveries = r.deliveries;
+      seat = seat;
+      legal = r.legal;
+      word = r.word;
+      slot = r.slot;
+      strands = strands;
+      few = r.few;
+      order = r.order;
+      few_deliver = r.few_deliver;
+    }
 
 -- ---- the second strand is given away
-module _ (key : Key) (id : ℕ) (x y : Strand) (ys : View) (s : St) (r : Kept key s) (at : get_elem? s.views id ≡ maybe.some (x ∷ y ∷ ys)) where
+module _ (key : Key) (id : ℕ) (x y : Strand) (ys : View) (s : St) (r : Kept key s)
+    (at : get_elem? s.views id ≡ maybe.some (x ∷ y ∷ ys)) where
   abbrev N : ℕ
   N = length (set s.views id (x ∷ ys))
 
@@ -61,24 +81,32 @@ module _ (key : Key) (id : ℕ) (x y : Strand) (ys : View) (s : St) (r : Kept ke
   there j k c apart e = ap moved e ∙ ap (λ (b : Bool). cond b (shift k) (j, k)) (ne_eqb j id apart)
 
   left_fits : (k : ℕ) (z : Strand) → get_elem? (x ∷ ys) k ≡ maybe.some z → Fits key r.history r.deliveries (λ c. moved (r.seat c)) (id, k) z
-  left_fits zero z e = refit key r.history r.deliveries r.seat (λ c. moved (r.seat c)) (id, 0) (id, 0) z (here 0) (r.strands id (x ∷ y ∷ ys) at 0 z e)
-  left_fits (suc k) z e = refit key r.history r.deliveries r.seat (λ c. moved (r.seat c)) (id, suc (suc k)) (id, suc k) z (here (suc (suc k))) (r.strands id (x ∷ y ∷ ys) at (suc (suc k)) z e)
+  left_fits zero z e =
+      refit key r.history r.deliveries r.seat (λ c. moved (r.seat c)) (id, 0) (id, 0) z (here 0) (r.strands id (x ∷ y ∷ ys) at 0 z e)
+  left_fits (suc k) z e =
+      refit key r.history r.deliveries r.seat (λ c. moved (r.seat c)) (id, suc (suc k)) (id, suc k) z (here (suc (suc k)))
+      (r.strands id (x ∷ y ∷ ys) at (suc (suc k)) z e)
 
   right_fits : (k : ℕ) (z : Strand) → get_elem? (y ∷ []) k ≡ maybe.some z → Fits key r.history r.deliveries (λ c. moved (r.seat c)) (N, k) z
-  right_fits zero z e = refit key r.history r.deliveries r.seat (λ c. moved (r.seat c)) (id, 1) (N, 0) z (here 1) (r.strands id (x ∷ y ∷ ys) at 1 z e)
+  right_fits zero z e =
+      refit key r.history r.deliveries r.seat (λ c. moved (r.seat c)) (id, 1) (N, 0) z (here 1) (r.strands id (x ∷ y ∷ ys) at 1 z e)
   right_fits (suc k) z e = absurd (maybe.some-ne-none z (sym e))
 
   divided : Kept key record { words = s.words; homes = s.homes; views = set s.views id (x ∷ ys) ++ (y ∷ []) ∷ [] }
   divided = other_views r (λ c. moved (r.seat c)) (set s.views id (x ∷ ys) ++ (y ∷ []) ∷ [])
       (λ j u is k z e. ⊎_elim
       (λ (t : get_elem? (set s.views id (x ∷ ys)) j ≡ maybe.some u). ⊎_elim
-      (λ (d : (j ≡ id) × (x ∷ ys ≡ u)). subst (λ (i : ℕ). Fits key r.history r.deliveries (λ c. moved (r.seat c)) (i, k) z) (sym d.0) (left_fits k z (ap (λ (v : View). get_elem? v k) d.1 ∙ e)))
-      (λ (d : (j ≢ id) × (get_elem? s.views j ≡ maybe.some u)). refit key r.history r.deliveries r.seat (λ c. moved (r.seat c)) (j, k) (j, k) z (λ c. there j k c d.0) (r.strands j u d.1 k z e))
+      (λ (d : (j ≡ id) × (x ∷ ys ≡ u)). subst (λ (i : ℕ). Fits key r.history r.deliveries (λ c. moved (r.seat c)) (i, k) z) (sym d.0)
+      (left_fits k z (ap (λ (v : View). get_elem? v k) d.1 ∙ e)))
+      (λ (d : (j ≢ id) × (get_elem? s.views j ≡ maybe.some u)). refit key r.history r.deliveries r.seat (λ c. moved (r.seat c)) (j, k)
+      (j, k) z (λ c. there j k c d.0) (r.strands j u d.1 k z e))
       (at_set s.views id j (x ∷ ys) u t))
-      (λ (t : (j ≡ N) × (y ∷ [] ≡ u)). subst (λ (i : ℕ). Fits key r.history r.deliveries (λ c. moved (r.seat c)) (i, k) z) (sym t.0) (right_fits k z (ap (λ (v : View). get_elem? v k) t.1 ∙ e)))
+      (λ (t : (j ≡ N) × (y ∷ [] ≡ u)). subst (λ (i : ℕ). Fits key r.history r.deliveries (λ c. moved (r.seat c)) (i, k) z) (sym t.0)
+      (right_fits k z (ap (λ (v : View). get_elem? v k) t.1 ∙ e)))
       (at_end (set s.views id (x ∷ ys)) (y ∷ []) u j is))
 
-pub gives_number : (key : Key) (id : ℕ) (x y : Strand) (ys v : View) → v ≡ x ∷ y ∷ ys → is_pass v ≡ true → Splits (Holding key) id v (left_of v) (right_of v)
+pub gives_number : (key : Key) (id : ℕ) (x y : Strand) (ys v : View) → v ≡ x ∷ y ∷ ys → is_pass v ≡ true
+    → Splits (Holding key) id v (left_of v) (right_of v)
 gives_number key id x y ys v is p = subst (λ (u : View). Splits (Holding key) id u (left_of u) (right_of u)) (sym is)
     (λ s holding at. inr (divided key id x y ys s (running key s holding id (x ∷ y ∷ ys) at (ap is_pass (sym is) ∙ p)) at))
 
@@ -90,22 +118,37 @@ notes key id v p s holding at =
     let shown : note o.first ∷ [] ≡ note_of v = ap note_of (sym o.is) in
     inr (other_views r r.seat (set s.views id v ++ note_of v ∷ [])
     (λ j u is k z e. ⊎_elim
-    (λ (t : get_elem? (set s.views id v) j ≡ maybe.some u). r.strands j u (ap (λ (l : List View). get_elem? l j) (sym (set_again s.views id v at)) ∙ t) k z e)
-    (λ (t : note_of v ≡ u). one r o.first (r.strands id v at 0 o.first (ap (λ (l : View). get_elem? l 0) o.is)) j k z (ap (λ (l : View). get_elem? l k) (shown ∙ t) ∙ e))
+    (λ (t : get_elem? (set s.views id v) j ≡ maybe.some u). r.strands j u
+    (ap (λ (l : List View). get_elem? l j) (sym (set_again s.views id v at)) ∙ t) k z e)
+    (λ (t : note_of v ≡ u). one r o.first (r.strands id v at 0 o.first (ap (λ (l : View). get_elem? l 0) o.is)) j k z
+    (ap (λ (l : View). get_elem? l k) (shown ∙ t) ∙ e))
     (at_snoc (set s.views id v) (note_of v) u j is)))
   where
-    one : (r : Kept key s) (x : Strand) → Fits key r.history r.deliveries r.seat (id, 0) x → (j k : ℕ) (z : Strand) → get_elem? (note x ∷ []) k ≡ maybe.some z → Fits key r.history r.deliveries r.seat (j, k) z
-    one r x f j zero z e = subst (Fits key r.history r.deliveries r.seat (j, 0)) (maybe.some-injective _ _ e) record { begins = f.begins; delivered = f.delivered; owned = λ c none. absurd (cc); controller = f.controller; ring = f.ring; begun = f.begun }
+    one : (r : Kept key s) (x : Strand) → Fits key r.history r.deliveries r.seat (id, 0) x → (j k : ℕ) (z : Strand)
+        → get_elem? (note x ∷ []) k ≡ maybe.some z → Fits key r.history r.deliveries r.seat (j, k) z
+    one r x f j zero z e =
+        subst (Fits key r.history r.deliveries r.seat (j, 0)) (maybe.some-injective _ _ e) record {
+          begins = f.begins;
+          delivered = f.delivered;
+          owned = λ c none. absurd (cc);
+          controller = f.controller;
+          ring = f.ring;
+          begun = f.begun;
+        }
     one r x f j (suc k) z e = absurd (maybe.some-ne-none z (sym e))
 
 -- ---- a seat is taken in, or the front of it
-module _ (key : Key) (id : ℕ) (v : View) (other : ℕ) (w u : View) (from : (i : ℕ) (z : Strand) → get_elem? u i ≡ maybe.some z → get_elem? w i ≡ maybe.some z) (s : St) (r : Kept key s)
-    (at : get_elem? s.views id ≡ maybe.some v) (apart : other ≢ id) (beside : get_elem? (set s.views id (joined v u)) other ≡ maybe.some w) where
+module _ (key : Key) (id : ℕ) (v : View) (other : ℕ) (w u : View)
+    (from : (i : ℕ) (z : Strand) → get_elem? u i ≡ maybe.some z → get_elem? w i ≡ maybe.some z) (s : St) (r : Kept key s)
+    (at : get_elem? s.views id ≡ maybe.some v) (apart : other ≢ id)
+    (beside : get_elem? (set s.views id (joined v u)) other ≡ maybe.some w) where
   abbrev shifted : ℕ × ℕ → ℕ × ℕ
   shifted p = cond (eqb p.0 other) (id, length v + p.1) p
 
   stood : get_elem? s.views other ≡ maybe.some w
-  stood = ⊎_elim (λ (t : (other ≡ id) × (joined v u ≡ w)). absurd (apart t.0)) (λ (t : (other ≢ id) × (get_elem? s.views other ≡ maybe.some w)). t.1) (at_set s.views id other (joined v u) w beside)
+  stood =
+      ⊎_elim (λ (t : (other ≡ id) × (joined v u ≡ w)). absurd (apart t.0))
+      (λ (t : (other ≢ id) × (get_elem? s.views other ≡ maybe.some w)). t.1) (at_set s.views id other (joined v u) w beside)
 
   comes : (k c : ℕ) → r.seat c ≡ (other, k) → shifted (r.seat c) ≡ (id, length v + k)
   comes k c e = ap shifted e ∙ ap (λ (b : Bool). cond b (id, length v + k) (other, k)) (eq-eqb other other refl)
@@ -113,12 +156,15 @@ module _ (key : Key) (id : ℕ) (v : View) (other : ℕ) (w u : View) (from : (i
   stays : (j k c : ℕ) → j ≢ other → r.seat c ≡ (j, k) → shifted (r.seat c) ≡ (j, k)
   stays j k c n e = ap shifted e ∙ ap (λ (b : Bool). cond b (id, length v + k) (j, k)) (ne_eqb j other n)
 
-  both_fit : (k : ℕ) (z : Strand) → get_elem? (joined v u) k ≡ maybe.some z → Fits key r.history r.deliveries (λ c. shifted (r.seat c)) (id, k) z
+  both_fit : (k : ℕ) (z : Strand) → get_elem? (joined v u) k ≡ maybe.some z
+      → Fits key r.history r.deliveries (λ c. shifted (r.seat c)) (id, k) z
   both_fit k z e = ⊎_elim
-      (λ (t : get_elem? v k ≡ maybe.some z). refit key r.history r.deliveries r.seat (λ c. shifted (r.seat c)) (id, k) (id, k) z (λ c. stays id k c (λ n. apart (sym n))) (r.strands id v at k z t))
+      (λ (t : get_elem? v k ≡ maybe.some z). refit key r.history r.deliveries r.seat (λ c. shifted (r.seat c)) (id, k) (id, k) z
+      (λ c. stays id k c (λ n. apart (sym n))) (r.strands id v at k z t))
       (λ (t : (i : ℕ) × (length v + i ≡ k) × (get_elem? u i ≡ maybe.some z)).
       subst (λ (i : ℕ). Fits key r.history r.deliveries (λ c. shifted (r.seat c)) (id, i) z) t.1
-      (refit key r.history r.deliveries r.seat (λ c. shifted (r.seat c)) (other, t.0) (id, length v + t.0) z (comes t.0) (r.strands other w stood t.0 z (from t.0 z t.2))))
+      (refit key r.history r.deliveries r.seat (λ c. shifted (r.seat c)) (other, t.0) (id, length v + t.0) z (comes t.0)
+      (r.strands other w stood t.0 z (from t.0 z t.2))))
       (at_join v u z k e)
 
   merged : Kept key record { words = s.words; homes = s.homes; views = set (set s.views id (joined v u)) other spent }
@@ -126,23 +172,29 @@ module _ (key : Key) (id : ℕ) (v : View) (other : ℕ) (w u : View) (from : (i
       (λ j y is k z e. ⊎_elim
       (λ (t : (j ≡ other) × (spent ≡ y)). absurd (maybe.some-ne-none z (sym (ap (λ (l : View). get_elem? l k) t.1 ∙ e))))
       (λ (t : (j ≢ other) × (get_elem? (set s.views id (joined v u)) j ≡ maybe.some y)). ⊎_elim
-      (λ (d : (j ≡ id) × (joined v u ≡ y)). subst (λ (i : ℕ). Fits key r.history r.deliveries (λ c. shifted (r.seat c)) (i, k) z) (sym d.0) (both_fit k z (ap (λ (l : View). get_elem? l k) d.1 ∙ e)))
-      (λ (d : (j ≢ id) × (get_elem? s.views j ≡ maybe.some y)). refit key r.history r.deliveries r.seat (λ c. shifted (r.seat c)) (j, k) (j, k) z (λ c. stays j k c t.0) (r.strands j y d.1 k z e))
+      (λ (d : (j ≡ id) × (joined v u ≡ y)). subst (λ (i : ℕ). Fits key r.history r.deliveries (λ c. shifted (r.seat c)) (i, k) z) (sym d.0)
+      (both_fit k z (ap (λ (l : View). get_elem? l k) d.1 ∙ e)))
+      (λ (d : (j ≢ id) × (get_elem? s.views j ≡ maybe.some y)). refit key r.history r.deliveries r.seat (λ c. shifted (r.seat c)) (j, k)
+      (j, k) z (λ c. stays j k c t.0) (r.strands j y d.1 k z e))
       (at_set s.views id j (joined v u) y t.1))
       (at_set (set s.views id (joined v u)) other j spent y is))
 
 pub joins : (key : Key) (id : ℕ) (v : View) (other : ℕ) (w : View) → is_pass v ≡ true → Joins (Holding key) id v other w (joined v w) spent
-joins key id v other w p s holding at apart beside = inr (merged key id v other w w (λ i z e. e) s (running key s holding id v at p) at apart beside)
+joins key id v other w p s holding at apart beside =
+    inr (merged key id v other w w (λ i z e. e) s (running key s holding id v at p) at apart beside)
 
 front_from : (w : View) (i : ℕ) (z : Strand) → get_elem? (front w) i ≡ maybe.some z → get_elem? w i ≡ maybe.some z
 front_from (x ∷ xs) (suc i) z e = absurd (maybe.some-ne-none z (sym e))
 front_from w i z e = e
 
-pub joins_front : (key : Key) (id : ℕ) (v : View) (other : ℕ) (w : View) → is_pass v ≡ true → Joins (Holding key) id v other w (with_front v w) spent
-joins_front key id v other w p s holding at apart beside = inr (merged key id v other w (front w) (front_from w) s (running key s holding id v at p) at apart beside)
+pub joins_front : (key : Key) (id : ℕ) (v : View) (other : ℕ) (w : View) → is_pass v ≡ true
+    → Joins (Holding key) id v other w (with_front v w) spent
+joins_front key id v other w p s holding at apart beside =
+    inr (merged key id v other w (front w) (front_from w) s (running key s holding id v at p) at apart beside)
 
 -- ---- the last strand becomes a seat of its own
-module _ (key : Key) (id : ℕ) (xs : View) (y : Strand) (s : St) (r : Kept key s) (at : get_elem? s.views id ≡ maybe.some (xs ++ y ∷ [])) where
+module _ (key : Key) (id : ℕ) (xs : View) (y : Strand) (s : St) (r : Kept key s)
+    (at : get_elem? s.views id ≡ maybe.some (xs ++ y ∷ [])) where
   abbrev M : ℕ
   M = length (set s.views id xs)
 
@@ -154,7 +206,8 @@ module _ (key : Key) (id : ℕ) (xs : View) (y : Strand) (s : St) (r : Kept key 
       ∙ ap (λ (b : Bool). cond b (M, 0) (id, k)) (ne_eqb k (length xs) (λ same. omega (arith, low, same)))
 
   parts_last : (c : ℕ) → r.seat c ≡ (id, length xs) → parted (r.seat c) ≡ (M, 0)
-  parts_last c e = ap parted e ∙ ap (λ (b : Bool). cond b (cond (eqb (length xs) (length xs)) (M, 0) (id, length xs)) (id, length xs)) (eq-eqb id id refl)
+  parts_last c e = ap parted e
+      ∙ ap (λ (b : Bool). cond b (cond (eqb (length xs) (length xs)) (M, 0) (id, length xs)) (id, length xs)) (eq-eqb id id refl)
       ∙ ap (λ (b : Bool). cond b (M, 0) (id, length xs)) (eq-eqb (length xs) (length xs) refl)
 
   parts_not : (j k c : ℕ) → j ≢ id → r.seat c ≡ (j, k) → parted (r.seat c) ≡ (j, k)
@@ -165,7 +218,8 @@ module _ (key : Key) (id : ℕ) (xs : View) (y : Strand) (s : St) (r : Kept key 
   at_length (x ∷ l) = at_length l
 
   stay_fit : (k : ℕ) (z : Strand) → get_elem? xs k ≡ maybe.some z → Fits key r.history r.deliveries (λ c. parted (r.seat c)) (id, k) z
-  stay_fit k z e = refit key r.history r.deliveries r.seat (λ c. parted (r.seat c)) (id, k) (id, k) z (λ c. parts_from k c (within_length xs z k e))
+  stay_fit k z e =
+      refit key r.history r.deliveries r.seat (λ c. parted (r.seat c)) (id, k) (id, k) z (λ c. parts_from k c (within_length xs z k e))
       (r.strands id (xs ++ y ∷ []) at k z (at_longer xs (y ∷ []) k z e))
 
   last_fit : (k : ℕ) (z : Strand) → get_elem? (y ∷ []) k ≡ maybe.some z → Fits key r.history r.deliveries (λ c. parted (r.seat c)) (M, k) z
@@ -177,10 +231,13 @@ module _ (key : Key) (id : ℕ) (xs : View) (y : Strand) (s : St) (r : Kept key 
   cut = other_views r (λ c. parted (r.seat c)) (set s.views id xs ++ (y ∷ []) ∷ [])
       (λ j u is k z e. ⊎_elim
       (λ (t : get_elem? (set s.views id xs) j ≡ maybe.some u). ⊎_elim
-      (λ (d : (j ≡ id) × (xs ≡ u)). subst (λ (i : ℕ). Fits key r.history r.deliveries (λ c. parted (r.seat c)) (i, k) z) (sym d.0) (stay_fit k z (ap (λ (v : View). get_elem? v k) d.1 ∙ e)))
-      (λ (d : (j ≢ id) × (get_elem? s.views j ≡ maybe.some u)). refit key r.history r.deliveries r.seat (λ c. parted (r.seat c)) (j, k) (j, k) z (λ c. parts_not j k c d.0) (r.strands j u d.1 k z e))
+      (λ (d : (j ≡ id) × (xs ≡ u)). subst (λ (i : ℕ). Fits key r.history r.deliveries (λ c. parted (r.seat c)) (i, k) z) (sym d.0)
+      (stay_fit k z (ap (λ (v : View). get_elem? v k) d.1 ∙ e)))
+      (λ (d : (j ≢ id) × (get_elem? s.views j ≡ maybe.some u)). refit key r.history r.deliveries r.seat (λ c. parted (r.seat c)) (j, k)
+      (j, k) z (λ c. parts_not j k c d.0) (r.strands j u d.1 k z e))
       (at_set s.views id j xs u t))
-      (λ (t : (j ≡ M) × (y ∷ [] ≡ u)). subst (λ (i : ℕ). Fits key r.history r.deliveries (λ c. parted (r.seat c)) (i, k) z) (sym t.0) (last_fit k z (ap (λ (v : View). get_elem? v k) t.1 ∙ e)))
+      (λ (t : (j ≡ M) × (y ∷ [] ≡ u)). subst (λ (i : ℕ). Fits key r.history r.deliveries (λ c. parted (r.seat c)) (i, k) z) (sym t.0)
+      (last_fit k z (ap (λ (v : View). get_elem? v k) t.1 ∙ e)))
       (at_end (set s.views id xs) (y ∷ []) u j is))
 
 pub but_last_is : (xs : View) (y : Strand) → but_last (xs ++ y ∷ []) ≡ xs
@@ -191,8 +248,12 @@ pub last_alone_is : (xs : View) (y : Strand) → last_alone (xs ++ y ∷ []) ≡
 last_alone_is (x ∷ z ∷ zs) y = last_alone_is (z ∷ zs) y
 last_alone_is xs y = refl
 
-pub parts_last_of : (key : Key) (id : ℕ) (xs : View) (y : Strand) (v : View) → v ≡ xs ++ y ∷ [] → is_pass v ≡ true → Splits (Holding key) id v (but_last v) (last_alone v)
+pub parts_last_of : (key : Key) (id : ℕ) (xs : View) (y : Strand) (v : View) → v ≡ xs ++ y ∷ [] → is_pass v ≡ true
+    → Splits (Holding key) id v (but_last v) (last_alone v)
 parts_last_of key id xs y v is p = subst (λ (u : View). Splits (Holding key) id u (but_last u) (last_alone u)) (sym is)
-    (λ s holding at. inr (subst (λ (l : View). Kept key record { words = s.words; homes = s.homes; views = set s.views id l ++ last_alone (xs ++ y ∷ []) ∷ [] }) (sym (but_last_is xs y))
-    (subst (λ (l : View). Kept key record { words = s.words; homes = s.homes; views = set s.views id xs ++ l ∷ [] }) (sym (last_alone_is xs y))
+    (λ s holding at. inr
+    (subst (λ (l : View). Kept key record { words = s.words; homes = s.homes; views = set s.views id l ++ last_alone (xs ++ y ∷ []) ∷ [] })
+    (sym (but_last_is xs y))
+    (subst (λ (l : View). Kept key record { words = s.words; homes = s.homes; views = set s.views id xs ++ l ∷ [] })
+    (sym (last_alone_is xs y))
     (cut key id xs y s (running key s holding id (xs ++ y ∷ []) at (ap is_pass (sym is) ∙ p)) at))))

@@ -1,9 +1,15 @@
 -- The table is made, and its first seat takes the slot.
-use Rattle.std.proofs.Common.{◌≡◌, ◌⊎◌, ℕ, zero, suc, ◌+◌, ◌-◌, ◌<◌, ◌≤◌, List, [], ◌∷◌, ◌++◌, length, get_or, set, slice_get, Some, None, Bool, true, false, cond, eqb, eq-eqb, ne_eqb, unwrap_or, refl, sym, ap, ◌∙◌, subst, inl, inr, ⊎_elim, arith, true≢false}
-use Rattle.{atomic_table.specs.Table.{Me, opening, takes, Allows}, rx_ring.specs.declared.ends.RxCtx.RxCtx, napi_model.specs.{Step.seen_of, History.{LegalHistory, state_after}, Word.word_of}, napi_word.specs.declared.view.Key.Key}
-use Rattle.{napi_word.specs.{declared.view.{Strand.Strand, Holds.TheVariants.Within}, View.{View, number_of, place_in, disable_in}, Slot.{Content, is_out, owns_slot}}, napi_model.specs.declared.state.Place.TheVariants.Control}
-use Rattle.napi_word.specs.{Rule.{strand, strands_from, maker_at, first_view, begun_view, begun_slot, Homes, Owned, Fits, Kept, Starts, Holding}, Told.begun, declared.table.{Pass.Pass, StateTable.StateTable}}
-use Rattle.napi_word.{specs.Passes.{ctx_of, IsLaid, view_of, IsPassOf, IsNew, Controls, Disable}, proofs.{Owns.own_none, Deliveries.{own_deliveries_none, givers_none, some_is}}}
+use Rattle.std.proofs.Common.{◌≡◌, ◌⊎◌, ℕ, zero, suc, ◌+◌, ◌-◌, ◌<◌, ◌≤◌, List, [], ◌∷◌, ◌++◌, length, get_or, set, slice_get, Some, None}
+use Rattle.std.proofs.Common.{Bool, true, false, cond, eqb, eq-eqb, ne_eqb, unwrap_or, refl, sym, ap, ◌∙◌, subst, inl, inr, ⊎_elim, arith}
+use Rattle.std.proofs.Common.{true≢false}
+use Rattle.{atomic_table.specs.Table.{Me, opening, takes, Allows}, rx_ring.specs.declared.ends.RxCtx.RxCtx}
+use Rattle.{napi_model.specs.{Step.seen_of, History.{LegalHistory, state_after}, Word.word_of}, napi_word.specs.declared.view.Key.Key}
+use Rattle.napi_word.specs.{declared.view.{Strand.Strand, Holds.TheVariants.Within}, View.{View, number_of, place_in, disable_in}}
+use Rattle.{napi_word.specs.Slot.{Content, is_out, owns_slot}, napi_model.specs.declared.state.Place.TheVariants.Control}
+use Rattle.napi_word.specs.Rule.{strand, strands_from, maker_at, first_view, begun_view, begun_slot, Homes, Owned, Fits, Kept, Starts}
+use Rattle.napi_word.specs.{Rule.Holding, Told.begun, declared.table.{Pass.Pass, StateTable.StateTable}}
+use Rattle.napi_word.specs.Passes.{ctx_of, IsLaid, view_of, IsPassOf, IsNew, Controls, Disable}
+use Rattle.napi_word.proofs.{Owns.own_none, Deliveries.{own_deliveries_none, givers_none, some_is}}
 use lib.ListN.{get_elem?}
 use mathlib.Core.Option as maybe
 use Rattle.napi_model.specs.Step as model
@@ -28,7 +34,8 @@ unfolding state_after
 owns_at_start last of n = eq-eqb last last refl
 
 -- the k-th strand from n on
-at_from : (last : ℕ) (of : RxCtx) (n count k : ℕ) (x : Strand) → get_elem? (strands_from last of n count) k ≡ maybe.some x → (strand last of (n + k) ≡ x) × (k < count)
+at_from : (last : ℕ) (of : RxCtx) (n count k : ℕ) (x : Strand) → get_elem? (strands_from last of n count) k ≡ maybe.some x
+    → (strand last of (n + k) ≡ x) × (k < count)
 at_from last of n zero k x e = absurd (maybe.some-ne-none x (sym e))
 at_from last of n (suc m) zero x e = (ap (strand last of) (omega arith) ∙ maybe.some-injective _ _ e, omega arith)
 at_from last of n (suc m) (suc k) x e =
@@ -41,8 +48,10 @@ unfolding state_after
 owns_nothing last of c low = ne_eqb last c (λ e. omega (arith, low, e))
 
 -- the next number's strand is the second
-pub maker_more : (last : ℕ) (of : RxCtx) (n : ℕ) → n < last → maker_at last of n ≡ strand last of last ∷ strand last of n ∷ strands_from last of (n + 1) (last - (n + 1))
-maker_more last of n low = let e : last - n ≡ suc (last - (n + 1)) = omega (arith, low) in ap (λ (m : ℕ). strand last of last ∷ strands_from last of n m) e
+pub maker_more : (last : ℕ) (of : RxCtx) (n : ℕ) → n < last
+    → maker_at last of n ≡ strand last of last ∷ strand last of n ∷ strands_from last of (n + 1) (last - (n + 1))
+maker_more last of n low = let e : last - n ≡ suc (last - (n + 1)) = omega (arith, low) in
+    ap (λ (m : ℕ). strand last of last ∷ strands_from last of n m) e
 
 pub maker_alone : (last : ℕ) (of : RxCtx) → maker_at last of last ≡ strand last of last ∷ []
 maker_alone last of = let e : last - last ≡ 0 = omega arith in ap (λ (m : ℕ). strand last of last ∷ strands_from last of last m) e
@@ -62,7 +71,14 @@ module _ (key : Key) where
   new_fits c k here few = record {
     begins = ([], refl);
     delivered = ([], refl);
-    owned = λ d same. subst (Owned key [] [] seat (0, k) (strand last of c)) (some_is same) record { whole = own_none c; shown = own_none c; delivers = refl; has = λ there. refl; here = here; few = few };
+    owned = λ d same. subst (Owned key [] [] seat (0, k) (strand last of c)) (some_is same) record {
+      whole = own_none c;
+      shown = own_none c;
+      delivers = refl;
+      has = λ there. refl;
+      here = here;
+      few = few;
+    };
     controller = refl;
     ring = refl;
     begun = refl;
@@ -75,9 +91,11 @@ module _ (key : Key) where
       let r = at_from last of 0 (last - 0) k x e in
       let low = r.1 in
       let is : k ≡ 0 + k = omega arith in
-      subst (Fits key [] [] seat (0, suc k)) (ap (strand last of) is ∙ r.0) (new_fits k (suc k) (ap (λ (b : Bool). (0, cond b 0 (suc k))) (ne_eqb k last (λ e. omega (arith, low)))) (omega (arith, low)))
+      subst (Fits key [] [] seat (0, suc k)) (ap (strand last of) is ∙ r.0)
+      (new_fits k (suc k) (ap (λ (b : Bool). (0, cond b 0 (suc k))) (ne_eqb k last (λ e. omega (arith, low)))) (omega (arith, low)))
 
-  begun_kept : (ws : List ℕ) (homes : Homes) → ws ≡ 9 ∷ [] → Kept key record { words = set ws 0 (get_or ws 0 0); homes = homes; views = maker_at last of 0 ∷ [] }
+  begun_kept : (ws : List ℕ) (homes : Homes) → ws ≡ 9 ∷ []
+      → Kept key record { words = set ws 0 (get_or ws 0 0); homes = homes; views = maker_at last of 0 ∷ [] }
   begun_kept ws homes is = record {
     history = [];
     deliveries = [];
@@ -91,7 +109,8 @@ module _ (key : Key) where
     few_deliver = λ c above. own_deliveries_none c;
   }
     where
-      at_only : (j : ℕ) (u : View) → get_elem? (maker_at last of 0 ∷ []) j ≡ maybe.some u → (k : ℕ) (x : Strand) → get_elem? u k ≡ maybe.some x → Fits key [] [] seat (j, k) x
+      at_only : (j : ℕ) (u : View) → get_elem? (maker_at last of 0 ∷ []) j ≡ maybe.some u → (k : ℕ) (x : Strand)
+          → get_elem? u k ≡ maybe.some x → Fits key [] [] seat (j, k) x
       at_only zero u there k x e = maker_fits k x (ap (λ (v : View). get_elem? v k) (maybe.some-injective _ _ there) ∙ e)
       at_only (suc j) u there k x e = absurd (maybe.some-ne-none u (sym there))
 
@@ -107,30 +126,49 @@ module _ (key : Key) where
         maker_at last of 0,
         takes 0 (Some of),
         ap (λ (hs : Homes). get_elem? hs 0) t.home,
-        inr (subst (λ (vs : List View). Kept key record { words = set s.words 0 (get_or s.words 0 0); homes = set s.homes 0 maybe.none; views = vs }) (sym views) (begun_kept s.words (set s.homes 0 maybe.none) t.word)),
+        inr (subst
+            (λ (vs : List View). Kept key record {
+              words = set s.words 0 (get_or s.words 0 0);
+              homes = set s.homes 0 maybe.none;
+              views = vs;
+            }) (sym views) (begun_kept s.words (set s.homes 0 maybe.none) t.word)),
         (
           ap (λ (m : Me Content View). begun_view m.0) (sym is),
           ap (λ (m : Me Content View). (0, Some of) ∷ m.1) is ∙ ap (λ (m : Me Content View). begun_slot m.0) (sym is),
         ),
       ))
       (λ (r : Kept key s).
-      absurd (true≢false (sym (r.strands id me.0 at 0 (record { begun = false; number = None; seen = []; mine = []; delivered = []; controller = key.controller; ring = key.ring.value }) (ap (λ (m : Me Content View). get_elem? m.0 0) is)).begun)))
+      absurd (true≢false
+      (sym (r.strands id me.0 at 0
+      (record { begun = false; number = None; seen = []; mine = []; delivered = []; controller = key.controller; ring = key.ring.value })
+      (ap (λ (m : Me Content View). get_elem? m.0 0) is)).begun)))
       holding
 
-pub at_push : {A : Type 0} (xs : List A) (y p : A) (k : ℕ) → slice_get (xs ++ y ∷ []) k ≡ Some p → (slice_get xs k ≡ Some p) ⊎ ((k ≡ length xs) × (y ≡ p))
+pub at_push : {A : Type 0} (xs : List A) (y p : A) (k : ℕ) → slice_get (xs ++ y ∷ []) k ≡ Some p
+    → (slice_get xs k ≡ Some p) ⊎ ((k ≡ length xs) × (y ≡ p))
 at_push [] y p zero e = inr (refl, ap (λ o. unwrap_or o y) e)
 at_push [] y p (suc k) e = absurd (cc)
 at_push (x ∷ xs) y p zero e = inl e
 at_push (x ∷ xs) y p (suc k) e = ⊎_elim (λ t. inl t) (λ t. inr (ap suc t.0, t.1)) (at_push xs y p k e)
 
-pub new_as : {t : StateTable} (k l : ℕ) (x y : RxCtx) (i j : ℕ) (p q : Pass) → k ≡ l → x ≡ y → i ≡ j → p ≡ q → IsNew t k x i p → IsNew t l y j q
+pub new_as : {t : StateTable} (k l : ℕ) (x y : RxCtx) (i j : ℕ) (p q : Pass) → k ≡ l → x ≡ y → i ≡ j → p ≡ q → IsNew t k x i p
+    → IsNew t l y j q
 new_as {t} k l x y i j p q a b d e new = subst (λ (z : ℕ × RxCtx × ℕ × Pass). IsNew t z.0 z.1 z.2 z.3) (λ f. (a f, b f, d f, e f)) new
 
 -- what lies in the slot is the same
 pub still_laid : {x : RxCtx} (p q : Pass) → ctx_of q ≡ ctx_of p → IsLaid x p → IsLaid x q
-still_laid p q same l = record { laid = l.laid; within = same ∙ l.within; ring = l.ring; received = l.received; known = l.known; polls = l.polls; unmarked = l.unmarked }
+still_laid p q same l = record {
+  laid = l.laid;
+  within = same ∙ l.within;
+  ring = l.ring;
+  received = l.received;
+  known = l.known;
+  polls = l.polls;
+  unmarked = l.unmarked;
+}
 
-pub new_last : {t : StateTable} (last : ℕ) (x : RxCtx) (n : ℕ) (p : Pass) → n ≡ last → IsPassOf t p → view_of p ≡ maker_at last x n → p.holds ≡ Within → IsLaid x p → IsNew t last x last p
+pub new_last : {t : StateTable} (last : ℕ) (x : RxCtx) (n : ℕ) (p : Pass) → n ≡ last → IsPassOf t p → view_of p ≡ maker_at last x n
+    → p.holds ≡ Within → IsLaid x p → IsNew t last x last p
 new_last {t} last x n p at table view holds laid = record {
   table = table;
   view = view ∙ ap (λ (m : ℕ). maker_at last x m) at ∙ maker_alone last x;

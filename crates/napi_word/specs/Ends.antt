@@ -1,5 +1,6 @@
 -- A table that has ended: the one history, read off.
-use Rattle.std.specs.Prelude.{◌≡◌, ◌↔◌, ℕ, ◌<◌, ◌≤◌, ◌+◌, Bool, true, false, List, length, slice_get, Option, Some, None, ◌≢◌, [], ◌∷◌, ◌++◌}
+use Rattle.std.specs.Prelude.{◌≡◌, ◌↔◌, ℕ, ◌<◌, ◌≤◌, ◌+◌, Bool, true, false, List, length, slice_get, Option, Some, None, ◌≢◌, [], ◌∷◌}
+use Rattle.std.specs.Prelude.{◌++◌}
 use mathlib.Core.List.{IsPrefix}
 use Rattle.rx_ring.specs.declared.ends.RxCtx.{RxCtx}
 use Rattle.rx_ring.specs.Ends.{RingName, ring_name, received_list, SameCtx}
@@ -14,7 +15,8 @@ use Rattle.napi_word.specs.declared.gathering.Gathering.{Gathering}
 use Rattle.napi_word.specs.declared.table.Pass.{Pass}
 use Rattle.napi_word.specs.declared.table.StateTable.{StateTable}
 use Rattle.napi_word.specs.declared.view.Delivery.{Delivery}
-use Rattle.napi_word.specs.View.{View, first_in, delivered, own_deliveries, received_by, last_of, deliverers, ring_of, place_in, controller_of, shown, mine, number_of}
+use Rattle.napi_word.specs.View.{View, first_in, delivered, own_deliveries, received_by, last_of, deliverers, ring_of, place_in}
+use Rattle.napi_word.specs.View.{controller_of, shown, mine, number_of}
 use Rattle.napi_word.specs.Slot.{givers}
 use Rattle.napi_word.specs.Passes.{view_of, controller_of_table, ring_of_table, first_of_table}
 
@@ -47,7 +49,8 @@ pub record Gathered (taken : List Pass) (v : View) (f : Found) : Type 0 where
   pub some_out : f.out ≡ true → IsOut taken
   pub none_out : f.out ≡ false → (k : ℕ) (p : Pass) → slice_get taken k ≡ Some p → p.holds ≢ Out
   pub none_within : f.ctx ≡ None → (k : ℕ) (p : Pass) → slice_get taken k ≡ Some p → p.holds ≢ Within
-  pub ring : (x : RxCtx) → f.ctx ≡ Some x → (k : ℕ) × (p : Pass) × (slice_get taken k ≡ Some p) × (ring_of (view_of p) ≡ Some (ring_name x)) × (p.holds ≡ Within)
+  pub ring : (x : RxCtx) → f.ctx ≡ Some x
+      → (k : ℕ) × (p : Pass) × (slice_get taken k ≡ Some p) × (ring_of (view_of p) ≡ Some (ring_name x)) × (p.holds ≡ Within)
 
 -- all passes are given, and the table is closed
 pub record IsEnded (t : StateTable) (passes : List Pass) (ctx : Option RxCtx) : Type 0 where
@@ -71,7 +74,8 @@ pub record IsEnded (t : StateTable) (passes : List Pass) (ctx : Option RxCtx) : 
   pub firsts : (k : ℕ) (p : Pass) → slice_get passes k ≡ Some p → first_in (view_of p) ≡ Some (first_of_table t)
   pub deliveries_order : deliverers deliveries ≡ givers (opening (controller_of_table t)) history
   pub deliveries_begin : (k : ℕ) (p : Pass) → slice_get passes k ≡ Some p → IsPrefix (delivered (view_of p)) deliveries
-  pub deliveries_exact : (k : ℕ) (p : Pass) → slice_get passes k ≡ Some p → own_deliveries (number_of (view_of p)) deliveries ≡ own_deliveries (number_of (view_of p)) (delivered (view_of p))
+  pub deliveries_exact : (k : ℕ) (p : Pass) → slice_get passes k ≡ Some p
+      → own_deliveries (number_of (view_of p)) deliveries ≡ own_deliveries (number_of (view_of p)) (delivered (view_of p))
   pub deliveries_others : (c : ℕ) → controller_of_table t < c → own_deliveries c deliveries ≡ []
   pub deliveries_held : (k : ℕ) (p : Pass) → slice_get passes k ≡ Some p → p.holds ≢ Nothing → delivered (view_of p) ≡ deliveries
   -- where nobody holds the slot, the context is the one that was given back last: it has received just these

@@ -21,9 +21,11 @@ use Rattle.napi_word.specs.Slot.{Content, Carried, has_at, is_out, givers}
 abbrev pub Homes : Type 0
 Homes = List (maybe.Option Content)
 
--- the slot is at home, and has the context of that ring as it was given back last, which has received what was delivered, without the mark of `beside`: its next owner's poll looks
+-- the slot is at home, and has the context of that ring as it was given back last, which has received what was delivered, without the mark
+-- of `beside`: its next owner's poll looks
 abbrev pub Home : RxCtx → List Delivery → Homes → Type 0
-Home ring ds homes = (x : RxCtx) × (homes ≡ maybe.some (Some x) ∷ []) × (ring_name x ≡ ring_name ring) × (is_beside x ≡ false) × (received_list x ≡ received_by ring ds) × (x ≡ last_of ring ds)
+Home ring ds homes = (x : RxCtx) × (homes ≡ maybe.some (Some x) ∷ []) × (ring_name x ≡ ring_name ring) × (is_beside x ≡ false)
+    × (received_list x ≡ received_by ring ds) × (x ≡ last_of ring ds)
 
 -- a strand of number c, at its place among the seats' strands: there alone, and its own list is c's events in the history,
 -- all of which it has seen
@@ -67,7 +69,8 @@ pub record Kept (key : Key) (s : State Content View) : Type 0 where
 
 -- number c, which has seen nothing and done nothing
 abbrev pub strand : ℕ → RxCtx → ℕ → Strand
-strand controller ring c = record { begun = true; number = Some c; seen = []; mine = []; delivered = []; controller = controller; ring = ring }
+strand controller ring c =
+    record { begun = true; number = Some c; seen = []; mine = []; delivered = []; controller = controller; ring = ring }
 
 -- so many of them from n on
 abbrev pub strands_from : ℕ → RxCtx → ℕ → ℕ → View
@@ -79,7 +82,8 @@ abbrev pub maker_at : ℕ → RxCtx → ℕ → View
 maker_at controller ring n = strand controller ring controller ∷ strands_from controller ring n (controller - n)
 
 abbrev pub first_view : Key → View
-first_view key = record { begun = false; number = None; seen = []; mine = []; delivered = []; controller = key.controller; ring = key.ring.value } ∷ []
+first_view key =
+    record { begun = false; number = None; seen = []; mine = []; delivered = []; controller = key.controller; ring = key.ring.value } ∷ []
 
 abbrev pub begun_slot : View → Carried
 begun_slot [] = []

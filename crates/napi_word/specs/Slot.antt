@@ -16,7 +16,8 @@ use Rattle.napi_word.specs.declared.view.Holds.{Holds}
 use Rattle.napi_word.specs.declared.view.Holds.TheVariants.{Nothing, Within, Out}
 use Rattle.napi_word.specs.declared.view.Strand.{Strand}
 use Rattle.napi_word.specs.declared.view.Delivery.{Delivery}
-use Rattle.napi_word.specs.View.{View, number_of, place_in, ring_of, delivery, own_deliveries, delivered, received_in, last_in, first_in, Continues}
+use Rattle.napi_word.specs.View.{View, number_of, place_in, ring_of, delivery, own_deliveries, delivered, received_in, last_in, first_in}
+use Rattle.napi_word.specs.View.{Continues}
 
 -- whoever polls or controls has the slot
 abbrev pub has_at : ℕ → Place → Bool
@@ -120,14 +121,16 @@ moved given h = Nothing
 
 -- a slot with its context in it is given away: one delivery more, of what was received since it was taken
 abbrev pub Gives : Bool → List Delivery → Me Content View → Me Content View → Type 0
-Gives true before me me' = (x : RxCtx) × (packets : List Packet) × (me.1 ≡ (0, Some x) ∷ []) × (received_list x ≡ received_in me.0 ++ packets)
+Gives true before me me' =
+    (x : RxCtx) × (packets : List Packet) × (me.1 ≡ (0, Some x) ∷ []) × (received_list x ≡ received_in me.0 ++ packets)
     × (delivered me'.0 ≡ before ++ delivery (number_of me.0) packets x ∷ [])
 Gives false before me me' = (delivered me'.0 ≡ before) × (me'.1 ≡ me.1)
 
 abbrev pub Shifts : Moves → List Delivery → Me Content View → Me Content View → Type 0
 Shifts stays before me me' = (delivered me'.0 ≡ before) × (me'.1 ≡ me.1)
 -- the context that is taken is the one that was given back last, and has received what was delivered
-Shifts taken before me me' = (delivered me'.0 ≡ before) × ((x : RxCtx) × (me'.1 ≡ (0, Some x) ∷ []) × (received_list x ≡ received_in me'.0) × (last_in me'.0 ≡ Some x))
+Shifts taken before me me' = (delivered me'.0 ≡ before)
+    × ((x : RxCtx) × (me'.1 ≡ (0, Some x) ∷ []) × (received_list x ≡ received_in me'.0) × (last_in me'.0 ≡ Some x))
 Shifts given before me me' = Gives (owns_slot me.0) before me me'
 
 pub record Delivers (m : Moves) (me : Me Content View) (me' : Me Content View) : Type 0 where

@@ -16,7 +16,8 @@ use Rattle.napi_word.specs.declared.view.Strand.{Strand}
 use Rattle.napi_word.specs.declared.view.Delivery.{Delivery}
 use Rattle.napi_word.specs.declared.table.Pass.{Pass}
 use Rattle.napi_word.specs.View as view
-use Rattle.napi_word.specs.View.{View, is_pass, number_of, controller_of, first_in, own_deliveries, deliverers, place_in, busy_in, disable_in, state_at}
+use Rattle.napi_word.specs.View.{View, is_pass, number_of, controller_of, first_in, own_deliveries, deliverers, place_in, busy_in}
+use Rattle.napi_word.specs.View.{disable_in, state_at}
 use Rattle.napi_word.specs.Slot.{Content, givers, has_at, owns_slot}
 use Rattle.napi_word.specs.Passes.{view_of, SameTable}
 
@@ -70,7 +71,8 @@ pub record Surveys (k c : ℕ) (x : Seen) (before after : List Pass) : Type 0 wh
   -- all name the same context as the one that was handed in
   pub first : RxCtx
   pub firsts : (i : ℕ) (p : Pass) → slice_get before i ≡ Some p → first_in (view_of p) ≡ Some first
-  pub each : (i : ℕ) (p q : Pass) → slice_get before i ≡ Some p → slice_get after i ≡ Some q → IsSurveyed found (event c (Look x)) deliveries p q
+  pub each : (i : ℕ) (p q : Pass) → slice_get before i ≡ Some p → slice_get after i ≡ Some q
+      → IsSurveyed found (event c (Look x)) deliveries p q
 
 -- ---- how it is made: the strands come together, catch up by one look, and part again
 
@@ -108,8 +110,10 @@ pub record Knew (k : ℕ) (h : List Event) (ds : List Delivery) (x : Strand) (c 
   pub delivers : own_deliveries c ds ≡ own_deliveries c x.delivered
   pub has : has_at c (state_after (opening k) h).place ≡ true → x.delivered ≡ ds
   pub owner : is_owner c (state_after (opening k) h).place ≡ is_owner c (state_after (opening k) x.seen).place
-  pub place : is_owner c (state_after (opening k) x.seen).place ≡ true → (state_after (opening k) h).place ≡ (state_after (opening k) x.seen).place
-  pub busy : is_owner c (state_after (opening k) x.seen).place ≡ true → (state_after (opening k) h).flags.in_busy_poll ≡ (state_after (opening k) x.seen).flags.in_busy_poll
+  pub place : is_owner c (state_after (opening k) x.seen).place ≡ true
+      → (state_after (opening k) h).place ≡ (state_after (opening k) x.seen).place
+  pub busy : is_owner c (state_after (opening k) x.seen).place ≡ true
+      → (state_after (opening k) h).flags.in_busy_poll ≡ (state_after (opening k) x.seen).flags.in_busy_poll
   pub disable : c ≡ k → (state_after (opening k) h).flags.disable ≡ (state_after (opening k) x.seen).flags.disable
 
 -- a seat's own strand made the look e
@@ -132,7 +136,8 @@ pub record Surveyed (me : Me Content View) (n : ℕ) (me' : Me Content View) : T
   pub whole : IsWhole (controller_of me.0) (found ++ event (number_of me.0) (Look seen) ∷ []) deliveries
   pub view : me'.0 ≡ all_looked found (event (number_of me.0) (Look seen)) deliveries me.0
   pub slot : me'.1 ≡ me.1
-  pub knew : (k : ℕ) (x : Strand) (c : ℕ) → get_elem? me.0 k ≡ maybe.some x → x.number ≡ Some c → Knew (controller_of me.0) found deliveries x c
+  pub knew : (k : ℕ) (x : Strand) (c : ℕ) → get_elem? me.0 k ≡ maybe.some x → x.number ≡ Some c
+      → Knew (controller_of me.0) found deliveries x c
   -- whoever looks is there once
   pub once : (k : ℕ) (x : Strand) → get_elem? me.0 k ≡ maybe.some x → x.number ≡ Some (number_of me.0) → k ≡ 0
   -- all strands, with a number or not, had seen a beginning, and name the same context

@@ -1,5 +1,6 @@
 -- What a thread knows of an instance, and what a contract sees of it.
-use Rattle.std.specs.Prelude.{ℕ, nat_eq, Bool, false, is_some, unwrap_or, List, [], ◌∷◌, ◌++◌, filter, length, drop, ◌≡◌, Option, Some, None}
+use Rattle.std.specs.Prelude.{ℕ, nat_eq, Bool, false, is_some, unwrap_or, List, [], ◌∷◌, ◌++◌, filter, length, drop, ◌≡◌, Option, Some}
+use Rattle.std.specs.Prelude.{None}
 use Rattle.rx_ring.specs.declared.packet.Packet.{Packet}
 use Rattle.rx_ring.specs.declared.ends.RxCtx.{RxCtx}
 use Rattle.rx_ring.specs.Ends.{RingName, ring_name, received_list}

@@ -1,5 +1,6 @@
 -- One act more.
-use Rattle.{std.proofs.Common.{◌≡◌, ℕ, ◌+◌, ◌≤◌, length, List, ◌++◌, sym, arith, length-append, append_assoc, add-one, ap, subst, Bool, ◌∙◌}, rx_ring.specs.{declared.{packet.Packet.Packet, ends.RxIn.RxIn}, Ends.SameIn}}
+use Rattle.std.proofs.Common.{◌≡◌, ℕ, ◌+◌, ◌≤◌, length, List, ◌++◌, sym, arith, length-append, append_assoc, add-one, ap, subst, Bool, ◌∙◌}
+use Rattle.rx_ring.specs.{declared.{packet.Packet.Packet, ends.RxIn.RxIn}, Ends.SameIn}
 use Rattle.poll_interrupts.specs.{declared.{acts.Act.Act, worker.Hold.Hold}, Acts.{after_acts, arrivals, brings}, Calls.{Acts, AllActs}}
 
 pub after_acts-more : {D : Type 0} (after : D → ℕ → D) (d : D) (n : ℕ) → after_acts after d (n + 1) ≡ after (after_acts after d n) n
@@ -9,9 +10,12 @@ pub arrivals-more : {D : Type 0} (answer : D → ℕ → Act) (after : D → ℕ
     → arrivals answer after d (n + 1) ≡ arrivals answer after d n ++ brings (answer (after_acts after d n) n)
 arrivals-more answer after d n = ap (λ m. arrivals answer after d m) (add-one n)
 
-pub acts-more : {D : Type 0} (thread : Bool) (answer : D → ℕ → Act) (after : D → ℕ → D) (d : D) (n : ℕ) (a m b : Hold) (first rx last : RxIn)
-    → AllActs thread answer after d n a m first rx → SameIn rx last → Acts thread (answer (after_acts after d n) n) m b rx last → AllActs thread answer after d (n + 1) a b first last
-acts-more thread answer after d n a m b first rx last before same one = subst (λ k. AllActs thread answer after d k a b first last) (sym (add-one n)) (m, rx, before, same, one)
+pub acts-more : {D : Type 0} (thread : Bool) (answer : D → ℕ → Act) (after : D → ℕ → D) (d : D) (n : ℕ) (a m b : Hold)
+    (first rx last : RxIn)
+    → AllActs thread answer after d n a m first rx → SameIn rx last → Acts thread (answer (after_acts after d n) n) m b rx last
+    → AllActs thread answer after d (n + 1) a b first last
+acts-more thread answer after d n a m b first rx last before same one =
+    subst (λ k. AllActs thread answer after d k a b first last) (sym (add-one n)) (m, rx, before, same, one)
 
 pub ruleset steps = (after_acts-more, arrivals-more)
 

@@ -1,36 +1,43 @@
 -- What is dealt in two and put together again.
-use Rattle.std.{proofs.{Common.{◌≡◌, ℕ, zero, suc, ◌+◌, Bool, true, false, List, [], ◌∷◌, ◌++◌, length, refl, sym, ap, ◌∙◌, arith, All}, lemmas.List.map-append}, specs.{List.AllZip, Prelude.map}}
+use Rattle.std.proofs.Common.{◌≡◌, ℕ, zero, suc, ◌+◌, Bool, true, false, List, [], ◌∷◌, ◌++◌, length, refl, sym, ap, ◌∙◌, arith, All}
+use Rattle.std.{proofs.lemmas.List.map-append, specs.{List.AllZip, Prelude.map}}
 use Rattle.poll_interrupts.specs.{declared.station.Station.Station, Deals.{is_dealt, merged, others, picked}}
 
 -- one more is looked at
 pub dealt_more : {D : Type 0} (number pollers : ℕ) (order : List Bool) (stations : List (Station D)) {b : Bool} (x : Station D)
-    → order ≡ map (is_dealt number pollers) stations → is_dealt number pollers x ≡ b → order ++ b ∷ [] ≡ map (is_dealt number pollers) (stations ++ x ∷ [])
+    → order ≡ map (is_dealt number pollers) stations → is_dealt number pollers x ≡ b
+    → order ++ b ∷ [] ≡ map (is_dealt number pollers) (stations ++ x ∷ [])
 dealt_more number pollers order stations {b} x e is =
-    ap (λ l. l ++ b ∷ []) e ∙ ap (λ d. map (is_dealt number pollers) stations ++ d ∷ []) (sym is) ∙ sym (map-append (is_dealt number pollers) stations (x ∷ []))
+    ap (λ l. l ++ b ∷ []) e ∙ ap (λ d. map (is_dealt number pollers) stations ++ d ∷ []) (sym is)
+    ∙ sym (map-append (is_dealt number pollers) stations (x ∷ []))
 
 -- one more is dealt
-pub picked_yes : {A : Type 0} (bs : List Bool) (xs : List A) (x : A) → length bs ≡ length xs → picked (bs ++ true ∷ []) (xs ++ x ∷ []) ≡ picked bs xs ++ x ∷ []
+pub picked_yes : {A : Type 0} (bs : List Bool) (xs : List A) (x : A) → length bs ≡ length xs
+    → picked (bs ++ true ∷ []) (xs ++ x ∷ []) ≡ picked bs xs ++ x ∷ []
 picked_yes [] [] x e = refl
 picked_yes [] (y ∷ xs) x e = absurd (omega (arith, e))
 picked_yes (b ∷ bs) [] x e = absurd (omega (arith, e))
 picked_yes (true ∷ bs) (y ∷ xs) x e = ap (λ l. y ∷ l) (picked_yes bs xs x (omega (arith, e)))
 picked_yes (false ∷ bs) (y ∷ xs) x e = picked_yes bs xs x (omega (arith, e))
 
-pub picked_no : {A : Type 0} (bs : List Bool) (xs : List A) (x : A) → length bs ≡ length xs → picked (bs ++ false ∷ []) (xs ++ x ∷ []) ≡ picked bs xs
+pub picked_no : {A : Type 0} (bs : List Bool) (xs : List A) (x : A) → length bs ≡ length xs
+    → picked (bs ++ false ∷ []) (xs ++ x ∷ []) ≡ picked bs xs
 picked_no [] [] x e = refl
 picked_no [] (y ∷ xs) x e = absurd (omega (arith, e))
 picked_no (b ∷ bs) [] x e = absurd (omega (arith, e))
 picked_no (true ∷ bs) (y ∷ xs) x e = ap (λ l. y ∷ l) (picked_no bs xs x (omega (arith, e)))
 picked_no (false ∷ bs) (y ∷ xs) x e = picked_no bs xs x (omega (arith, e))
 
-pub others_yes : {A : Type 0} (bs : List Bool) (xs : List A) (x : A) → length bs ≡ length xs → others (bs ++ true ∷ []) (xs ++ x ∷ []) ≡ others bs xs
+pub others_yes : {A : Type 0} (bs : List Bool) (xs : List A) (x : A) → length bs ≡ length xs
+    → others (bs ++ true ∷ []) (xs ++ x ∷ []) ≡ others bs xs
 others_yes [] [] x e = refl
 others_yes [] (y ∷ xs) x e = absurd (omega (arith, e))
 others_yes (b ∷ bs) [] x e = absurd (omega (arith, e))
 others_yes (true ∷ bs) (y ∷ xs) x e = others_yes bs xs x (omega (arith, e))
 others_yes (false ∷ bs) (y ∷ xs) x e = ap (λ l. y ∷ l) (others_yes bs xs x (omega (arith, e)))
 
-pub others_no : {A : Type 0} (bs : List Bool) (xs : List A) (x : A) → length bs ≡ length xs → others (bs ++ false ∷ []) (xs ++ x ∷ []) ≡ others bs xs ++ x ∷ []
+pub others_no : {A : Type 0} (bs : List Bool) (xs : List A) (x : A) → length bs ≡ length xs
+    → others (bs ++ false ∷ []) (xs ++ x ∷ []) ≡ others bs xs ++ x ∷ []
 others_no [] [] x e = refl
 others_no [] (y ∷ xs) x e = absurd (omega (arith, e))
 others_no (b ∷ bs) [] x e = absurd (omega (arith, e))
@@ -64,7 +71,8 @@ all_others P (false ∷ bs) (x ∷ xs) h (suc k) d l = all_others P bs xs (λ i 
 all_others P (true ∷ bs) (x ∷ xs) h k d l = all_others P bs xs (λ i d b. h (suc i) d (omega (arith, b))) k d l
 
 -- both parts are as long as the whole
-pub parts_length : {A : Type 0} (bs : List Bool) (xs : List A) → length bs ≡ length xs → length (picked bs xs) + length (others bs xs) ≡ length xs
+pub parts_length : {A : Type 0} (bs : List Bool) (xs : List A) → length bs ≡ length xs
+    → length (picked bs xs) + length (others bs xs) ≡ length xs
 parts_length [] [] e = refl
 parts_length [] (x ∷ xs) e = absurd (omega (arith, e))
 parts_length (b ∷ bs) [] e = absurd (omega (arith, e))

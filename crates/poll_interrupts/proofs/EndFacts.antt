@@ -1,18 +1,26 @@
 -- How a closed instance tells of what was done with it.
-use Rattle.{std.proofs.Common.{◌≡◌, List, [], ◌∷◌, ◌++◌, refl, ap, ◌∙◌, subst}, rx_ring.specs.{declared.{ends.{RxCtx.RxCtx, RxIn.RxIn}, packet.{Packet.Packet, Totals.Totals}}, Ends.{put_list, received_list, ring_of}}}
-use Rattle.{rx_ring.specs.ReceiveRing.{IsInOrder, totals_of}, napi_model.specs.{Step.opening, History.own}, napi_word.specs.{View.{deliverers, packets_of}, Slot.givers}, napi_calls.specs.declared.{kept.Kept.Kept, types.{Caller.Caller, Napi.Napi}}}
-use Rattle.{napi_calls.specs.{Closed.{IsClosed, IsHistoryOf, seats_of}, Instance.{callers_of, first_of_instance}, Seats.{number_of, own_list}}, poll_tasks.specs.declared.tasks.Turned.Turned}
-use Rattle.poll_interrupts.specs.{declared.{worker.Seats.Seats, job.Worked.Worked, station.Finished.Finished}, Ends.{AreFinishesOf, IsEndedBy, IsFinishOf}, Runs.controller_number}
+use Rattle.std.proofs.Common.{◌≡◌, List, [], ◌∷◌, ◌++◌, refl, ap, ◌∙◌, subst}
+use Rattle.rx_ring.specs.declared.{ends.{RxCtx.RxCtx, RxIn.RxIn}, packet.{Packet.Packet, Totals.Totals}}
+use Rattle.rx_ring.specs.Ends.{put_list, received_list, ring_of}
+use Rattle.{rx_ring.specs.ReceiveRing.{IsInOrder, totals_of}, napi_model.specs.{Step.opening, History.own}}
+use Rattle.napi_word.specs.{View.{deliverers, packets_of}, Slot.givers}
+use Rattle.napi_calls.specs.declared.{kept.Kept.Kept, types.{Caller.Caller, Napi.Napi}}
+use Rattle.napi_calls.specs.{Closed.{IsClosed, IsHistoryOf, seats_of}, Instance.{callers_of, first_of_instance}}
+use Rattle.{napi_calls.specs.Seats.{number_of, own_list}, poll_tasks.specs.declared.tasks.Turned.Turned}
+use Rattle.poll_interrupts.specs.declared.{worker.Seats.Seats, job.Worked.Worked, station.Finished.Finished}
+use Rattle.poll_interrupts.specs.{Ends.{AreFinishesOf, IsEndedBy, IsFinishOf}, Runs.controller_number}
 use mathlib.Core.List.{IsPrefix}
 
 pub ended_of : (napi : Napi) (seats : Seats) (poller thread : Caller) (rx : RxIn) (ctx : RxCtx) (totals : Totals)
     → callers_of napi ≡ controller_number → received_list (first_of_instance napi) ≡ [] → number_of seats.control.pass ≡ controller_number
-    → IsClosed napi (seats.caller ∷ poller ∷ thread ∷ []) seats.control.pass ctx → totals ≡ totals_of (ring_of rx ctx) → IsInOrder (ring_of rx ctx)
+    → IsClosed napi (seats.caller ∷ poller ∷ thread ∷ []) seats.control.pass ctx → totals ≡ totals_of (ring_of rx ctx)
+    → IsInOrder (ring_of rx ctx)
     → IsEndedBy seats poller thread (put_list rx) totals
 ended_of napi seats poller thread rx ctx totals three nothing controller closed are in_order =
     let all = seats_of (seats.caller ∷ poller ∷ thread ∷ []) ++ seats.control.pass ∷ [] in
     let is : IsHistoryOf controller_number all closed.history = subst (λ k. IsHistoryOf k all closed.history) three closed.is in
-    let received : received_list ctx ≡ packets_of closed.deliveries = closed.received ∙ ap (λ l. l ++ packets_of closed.deliveries) nothing in
+    let received : received_list ctx ≡ packets_of closed.deliveries =
+    closed.received ∙ ap (λ l. l ++ packets_of closed.deliveries) nothing in
     record {
       ended = record {
         history = closed.history;
@@ -31,7 +39,8 @@ ended_of napi seats poller thread rx ctx totals three nothing controller closed 
     }
 
 -- one station more was ended
-pub finishes_push : {R D : Type 0} (ws : List (Worked R D)) (ps : List (Kept R Caller)) (ts : List (Turned (Kept R Caller))) (es : List (Finished D))
+pub finishes_push : {R D : Type 0} (ws : List (Worked R D)) (ps : List (Kept R Caller)) (ts : List (Turned (Kept R Caller)))
+    (es : List (Finished D))
     (w : Worked R D) (p : Kept R Caller) (t : Turned (Kept R Caller)) (e : Finished D)
     → AreFinishesOf ws ps ts es → IsFinishOf w p t.back e → AreFinishesOf (ws ++ w ∷ []) (ps ++ p ∷ []) (ts ++ t ∷ []) (es ++ e ∷ [])
 finishes_push [] [] [] [] w p t e h one = (one, tt)

@@ -1,10 +1,15 @@
 -- What the calls at a worker's seats add to its ledger.
-use Rattle.std.{proofs.{Common.{◌≡◌, ◌⊎◌, ℕ, zero, suc, ◌+◌, ◌≤◌, Bool, true, false, List, [], ◌∷◌, ◌++◌, length, inl, inr, ⊎_elim, refl, sym, ap, ◌∙◌, subst, append_assoc}, lemmas.List.map-append}, specs.Prelude.{flat_map, if◌then◌else◌}}
-use Rattle.{rx_ring.specs.{declared.{ends.RxIn.RxIn, packet.Packet.Packet}, Ends.{SameIn, capacity_of, put_list}}, napi_model.specs.{declared.event.{Event.Event, Operation.Operation}, Step.event}, napi_word.specs.declared.table.Pass.Pass}
-use Rattle.{napi_calls.specs.{declared.{answers.Sched.Sched, types.Caller.Caller}, Calls.{Disables, Enables, Schedules}, Made.{Made, events, looks}, Seats.{number_of, own_list}}, poll_interrupts.specs.declared.acts.Act.Act}
+use Rattle.std.proofs.Common.{◌≡◌, ◌⊎◌, ℕ, zero, suc, ◌+◌, ◌≤◌, Bool, true, false, List, [], ◌∷◌, ◌++◌, length, inl, inr, ⊎_elim, refl, sym}
+use Rattle.std.{proofs.{Common.{ap, ◌∙◌, subst, append_assoc}, lemmas.List.map-append}, specs.Prelude.{flat_map, if◌then◌else◌}}
+use Rattle.rx_ring.specs.{declared.{ends.RxIn.RxIn, packet.Packet.Packet}, Ends.{SameIn, capacity_of, put_list}}
+use Rattle.{napi_model.specs.{declared.event.{Event.Event, Operation.Operation}, Step.event}, napi_word.specs.declared.table.Pass.Pass}
+use Rattle.napi_calls.specs.{declared.{answers.Sched.Sched, types.Caller.Caller}, Calls.{Disables, Enables, Schedules}}
+use Rattle.{napi_calls.specs.{Made.{Made, events, looks}, Seats.{number_of, own_list}}, poll_interrupts.specs.declared.acts.Act.Act}
 use Rattle.poll_interrupts.specs.{declared.worker.{Hold.Hold, Seats.Seats, Power.{Power, TheVariants.{On, Off}}}, Acts.after_acts}
-use Rattle.poll_interrupts.specs.Calls.{Acts, AllActs, Arrives, GoesOn, HandsOver, Interrupts, IsSameHold, Leaves, TurnsOff, TurnsOn, is_on, pass_of}
-use Rattle.poll_interrupts.specs.{Runs.{Adds, AllAdd, IsDisabling, IsEnabling, IsHandingOver, IsInterrupt, Ledger, SwitchesOff, SwitchesOn, Whose, WorksBy}, Works.{AreSameSeats, ledger_of, whose}}
+use Rattle.poll_interrupts.specs.Calls.{Acts, AllActs, Arrives, GoesOn, HandsOver, Interrupts, IsSameHold, Leaves, TurnsOff, TurnsOn, is_on}
+use Rattle.poll_interrupts.specs.Calls.{pass_of}
+use Rattle.poll_interrupts.specs.Runs.{Adds, AllAdd, IsDisabling, IsEnabling, IsHandingOver, IsInterrupt, Ledger, SwitchesOff, SwitchesOn}
+use Rattle.poll_interrupts.specs.{Runs.{Whose, WorksBy}, Works.{AreSameSeats, ledger_of, whose}}
 use Rattle.napi_model.specs.declared.state.Kind.TheVariants as kind
 use Rattle.napi_model.specs.declared.event.Prep.TheVariants as prep
 use Rattle.napi_model.specs.declared.event.Operation.TheVariants as operation
@@ -21,10 +26,12 @@ made_grew : (p : Pass) (os : List Operation) (q : Pass) → Made p os q → Grew
 made_grew p os q m = (m.grown, m.seat.number)
 
 -- one call, and then another
-grew_both : (p : Pass) (os : List Operation) (q : Pass) (rest : List Operation) (r : Pass) → Grew p os q → Grew q rest r → Grew p (os ++ rest) r
+grew_both : (p : Pass) (os : List Operation) (q : Pass) (rest : List Operation) (r : Pass) → Grew p os q → Grew q rest r
+    → Grew p (os ++ rest) r
 grew_both p os q rest r a b = (
   b.0 ∙ ap (λ l. l ++ events (number_of q) rest) a.0 ∙ ap (λ n. (own_list p ++ events (number_of p) os) ++ events n rest) a.1
-      ∙ append_assoc (own_list p) (events (number_of p) os) (events (number_of p) rest) ∙ ap (λ l. own_list p ++ l) (sym (map-append (event (number_of p)) os rest)),
+      ∙ append_assoc (own_list p) (events (number_of p) os) (events (number_of p) rest)
+      ∙ ap (λ l. own_list p ++ l) (sym (map-append (event (number_of p)) os rest)),
   b.1 ∙ a.1,
 )
 
@@ -35,22 +42,38 @@ Grows Is p q = (os : List Operation) × Is os × Grew p os q
 hands_over : (thread : Bool) (p q : Pass) → HandsOver thread p q → Grows (IsHandingOver thread) p q
 hands_over false p q m = (operation.Hand kind.List ∷ [], refl, made_grew p _ q m)
 hands_over true p q h =
-    let over = operation.Hand (if h.0.flags.threaded then kind.Thread else kind.List) in
-    (operation.Look h.0 ∷ over ∷ [], (h.0, refl), grew_both p (operation.Look h.0 ∷ []) h.1 (over ∷ []) q (made_grew p _ h.1 h.2) (made_grew h.1 _ q h.3))
+    let over = operation.Hand (if h.0.flags.threaded then kind.Thread else kind.List) in (
+      operation.Look h.0 ∷ over
+          ∷ [],
+      (h.0, refl),
+      grew_both p (operation.Look h.0 ∷ []) h.1 (over ∷ []) q (made_grew p _ h.1 h.2) (made_grew h.1 _ q h.3),
+    )
 
 answered : (thread : Bool) (p : Pass) (s : Sched) (q : Pass) → Schedules p s → GoesOn thread s q → Grows (IsInterrupt thread) p q
 answered thread p (sched.Granted g) q m on =
     let tries = flat_map looks m.0 in
     let reply = operation.Look m.1 ∷ operation.Schedule prep.Granted ∷ [] in
     let over = hands_over thread g.pass q on in
-    let all = grew_both p (tries ++ reply) g.pass over.0 q (made_grew p _ g.pass m.2) over.2 in
-    (tries ++ (reply ++ over.0), (m.0, prep.Granted, reply ++ over.0, (m.1, over.0, over.1, refl), refl), subst (λ os. Grew p os q) (append_assoc tries reply over.0) all)
+    let all = grew_both p (tries ++ reply) g.pass over.0 q (made_grew p _ g.pass m.2) over.2 in (
+      tries ++ (reply ++ over.0),
+      (m.0, prep.Granted, reply ++ over.0, (m.1, over.0, over.1, refl), refl),
+      subst (λ os. Grew p os q)
+          (append_assoc tries reply over.0) all,
+    )
 answered thread p (sched.Missed c) q m on =
-    let reply = operation.Look m.1 ∷ operation.Schedule prep.Missed ∷ [] in
-    (flat_map looks m.0 ++ reply, (m.0, prep.Missed, reply, (m.1, refl), refl), subst (λ r. Grew p (flat_map looks m.0 ++ reply) r) (sym on) (made_grew p _ c.pass m.2))
+    let reply = operation.Look m.1 ∷ operation.Schedule prep.Missed ∷ [] in (
+      flat_map looks m.0 ++ reply,
+      (m.0, prep.Missed, reply, (m.1, refl), refl),
+      subst (λ r. Grew p (flat_map looks m.0 ++ reply) r) (sym on)
+          (made_grew p _ c.pass m.2),
+    )
 answered thread p (sched.Disabled c) q m on =
-    let reply = operation.Schedule prep.Disabled ∷ [] in
-    (flat_map looks m.0 ++ reply, (m.0, prep.Disabled, reply, refl, refl), subst (λ r. Grew p (flat_map looks m.0 ++ reply) r) (sym on) (made_grew p _ c.pass m.1))
+    let reply = operation.Schedule prep.Disabled ∷ [] in (
+      flat_map looks m.0 ++ reply,
+      (m.0, prep.Disabled, reply, refl, refl),
+      subst (λ r. Grew p (flat_map looks m.0 ++ reply) r) (sym on)
+          (made_grew p _ c.pass m.1),
+    )
 
 interrupts : (thread : Bool) (p q : Pass) → Interrupts thread p q → Grows (IsInterrupt thread) p q
 interrupts thread p q h = answered thread p h.0 q h.1 h.2
@@ -64,7 +87,14 @@ disables p q h = (_, (h.0, h.1, refl), made_grew p _ q h.2)
 -- ---- a worker's hold as its ledger
 
 abbrev pub holds : Hold → RxIn → Ledger
-holds hold rx = record { calls = own_list hold.caller.pass; controls = own_list (pass_of hold.power); put = put_list rx; on = is_on hold.power; threaded = hold.threaded }
+holds hold rx =
+    record {
+      calls = own_list hold.caller.pass;
+      controls = own_list (pass_of hold.power);
+      put = put_list rx;
+      on = is_on hold.power;
+      threaded = hold.threaded;
+    }
 
 abbrev hold : Caller → Power → Bool → Hold
 hold caller power threaded = record { caller = caller; power = power; threaded = threaded }
@@ -79,7 +109,8 @@ pub record IsOf (w : Whose) (hold : Hold) (rx : RxIn) : Type 0 where
 abbrev pub Did : Whose → (Ledger → Ledger → Type 0) → Hold → RxIn → Hold → RxIn → Type 0
 Did w Is a before b after = Is (holds a before) (holds b after) × IsOf w b after
 
-same_ledger : (a b : Hold) (before after : RxIn) → b.caller ≡ a.caller → b.power ≡ a.power → b.threaded ≡ a.threaded → put_list after ≡ put_list before
+same_ledger : (a b : Hold) (before after : RxIn) → b.caller ≡ a.caller → b.power ≡ a.power → b.threaded ≡ a.threaded
+    → put_list after ≡ put_list before
     → holds b after ≡ holds a before
 same_ledger a b before after caller power threaded put = λ i. record {
   calls = own_list (caller i).pass;
@@ -90,7 +121,8 @@ same_ledger a b before after caller power threaded put = λ i. record {
 }
 
 arrives : (w : Whose) (packet : Packet) (a b : Hold) (before after : RxIn)
-    → Arrives w.thread packet a.caller.pass b.caller.pass before after → b.power ≡ a.power → b.threaded ≡ a.threaded → capacity_of after ≡ capacity_of before → IsOf w a before
+    → Arrives w.thread packet a.caller.pass b.caller.pass before after → b.power ≡ a.power → b.threaded ≡ a.threaded
+    → capacity_of after ≡ capacity_of before → IsOf w a before
     → Did w (Adds w (act.Arrive packet)) a before b after
 arrives w packet a b before after h power threaded places of = ⊎_elim
     (λ (put : (put_list after ≡ put_list before ++ packet ∷ []) × Interrupts w.thread a.caller.pass b.caller.pass).
@@ -106,7 +138,11 @@ arrives w packet a b before after h power threaded places of = ⊎_elim
           threaded = threaded i;
         },
       ),
-      record { caller = asked.2.1 ∙ of.caller; controller = ap (λ p. number_of (pass_of p)) power ∙ of.controller; places = places ∙ of.places },
+      record {
+        caller = asked.2.1 ∙ of.caller;
+        controller = ap (λ p. number_of (pass_of p)) power ∙ of.controller;
+        places = places ∙ of.places;
+      },
     ))
     (λ (full : (capacity_of before ≤ length (put_list before)) × (put_list after ≡ put_list before) × (b.caller.pass ≡ a.caller.pass)). (
       inr (
@@ -128,8 +164,10 @@ arrives w packet a b before after h power threaded places of = ⊎_elim
     h
 
 still_of : (w : Whose) (a b : Hold) (before after : RxIn)
-    → number_of b.caller.pass ≡ number_of a.caller.pass → number_of (pass_of b.power) ≡ number_of (pass_of a.power) → capacity_of after ≡ capacity_of before → IsOf w a before → IsOf w b after
-still_of w a b before after caller controller places of = record { caller = caller ∙ of.caller; controller = controller ∙ of.controller; places = places ∙ of.places }
+    → number_of b.caller.pass ≡ number_of a.caller.pass → number_of (pass_of b.power) ≡ number_of (pass_of a.power)
+    → capacity_of after ≡ capacity_of before → IsOf w a before → IsOf w b after
+still_of w a b before after caller controller places of =
+    record { caller = caller ∙ of.caller; controller = controller ∙ of.controller; places = places ∙ of.places }
 
 -- the controller's own events grew, and it is on now or isn't
 switched : (w : Whose) (a b : Hold) (before after : RxIn) (os : List Operation) (on : Bool)
@@ -145,11 +183,13 @@ switched w a b before after os on grown now caller threaded put of = λ i. recor
 }
 
 turns_on : (w : Whose) (caller : Caller) (set : Bool) (power : Power) (b : Hold) (before after : RxIn)
-    → TurnsOn set power b.power → b.caller ≡ caller → b.threaded ≡ set → put_list after ≡ put_list before → capacity_of after ≡ capacity_of before
+    → TurnsOn set power b.power → b.caller ≡ caller → b.threaded ≡ set → put_list after ≡ put_list before
+    → capacity_of after ≡ capacity_of before
     → IsOf w (hold caller power set) before → Did w (SwitchesOn w (is_on power)) (hold caller power set) before b after
 turns_on w caller set (On control) b before after h same threaded put places of = (
   same_ledger (hold caller (On control) set) b before after same h threaded put,
-  still_of w (hold caller (On control) set) b before after (ap (λ (c : Caller). number_of c.pass) same) (ap (λ p. number_of (pass_of p)) h) places of,
+  still_of w (hold caller (On control) set) b before after (ap (λ (c : Caller). number_of c.pass) same)
+      (ap (λ p. number_of (pass_of p)) h) places of,
 )
 turns_on w caller set (Off control) b before after h same threaded put places of =
     let grew = enables set control.pass (pass_of b.power) h.1 in (
@@ -158,7 +198,8 @@ turns_on w caller set (Off control) b before after h same threaded put places of
     )
 
 turns_off : (w : Whose) (caller : Caller) (set : Bool) (power : Power) (b : Hold) (before after : RxIn)
-    → TurnsOff power b.power → b.caller ≡ caller → b.threaded ≡ set → put_list after ≡ put_list before → capacity_of after ≡ capacity_of before
+    → TurnsOff power b.power → b.caller ≡ caller → b.threaded ≡ set → put_list after ≡ put_list before
+    → capacity_of after ≡ capacity_of before
     → IsOf w (hold caller power set) before → Did w (SwitchesOff w (is_on power)) (hold caller power set) before b after
 turns_off w caller set (On control) b before after h same threaded put places of =
     let grew = disables control.pass (pass_of b.power) h.1 in (
@@ -173,11 +214,13 @@ turns_off w caller set (Off control) b before after h same threaded put places o
     on = h.0 i;
     threaded = threaded i;
   },
-  still_of w (hold caller (Off control) set) b before after (ap (λ (c : Caller). number_of c.pass) same) (ap (λ p. number_of p) h.1) places of,
+  still_of w (hold caller (Off control) set) b before after (ap (λ (c : Caller). number_of c.pass) same)
+      (ap (λ p. number_of p) h.1) places of,
 )
 
 sets : (w : Whose) (set : Bool) (a b : Hold) (before after : RxIn)
-    → Made a.caller.pass (operation.SetThreaded set ∷ []) b.caller.pass → b.power ≡ a.power → b.threaded ≡ set → put_list after ≡ put_list before → capacity_of after ≡ capacity_of before
+    → Made a.caller.pass (operation.SetThreaded set ∷ []) b.caller.pass → b.power ≡ a.power → b.threaded ≡ set
+    → put_list after ≡ put_list before → capacity_of after ≡ capacity_of before
     → IsOf w a before → Did w (Adds w (act.SetThreaded set)) a before b after
 sets w set a b before after made power threaded put places of = (
   λ i. record {
@@ -192,21 +235,25 @@ sets w set a b before after made power threaded put places of = (
 
 -- ---- acts
 
-acts_add : (w : Whose) (x : Act) (a b : Hold) (before after : RxIn) → Acts w.thread x a b before after → capacity_of after ≡ capacity_of before → IsOf w a before → Did w (Adds w x) a before b after
+acts_add : (w : Whose) (x : Act) (a b : Hold) (before after : RxIn) → Acts w.thread x a b before after
+    → capacity_of after ≡ capacity_of before → IsOf w a before → Did w (Adds w x) a before b after
 acts_add w (act.Arrive packet) a b before after h places of = arrives w packet a b before after h.0 h.1 h.2 places of
 acts_add w act.Disable a b before after h places of = turns_off w a.caller a.threaded a.power b before after h.1 h.0 h.2 h.3 places of
 acts_add w act.Enable a b before after h places of = turns_on w a.caller a.threaded a.power b before after h.1 h.0 h.2 h.3 places of
 acts_add w (act.SetThreaded set) a b before after h places of = sets w set a b before after h.0 h.1 h.2 h.3 places of
 acts_add w act.Nothing a b before after h places of = (
   same_ledger a b before after (ap (λ (k : Hold). k.caller) h.0) (ap (λ (k : Hold). k.power) h.0) (ap (λ (k : Hold). k.threaded) h.0) h.1,
-  still_of w a b before after (ap (λ (k : Hold). number_of k.caller.pass) h.0) (ap (λ (k : Hold). number_of (pass_of k.power)) h.0) places of,
+  still_of w a b before after (ap (λ (k : Hold). number_of k.caller.pass) h.0)
+      (ap (λ (k : Hold). number_of (pass_of k.power)) h.0) places of,
 )
 
 pub all_add : {D : Type 0} (w : Whose) (answer : D → ℕ → Act) (after : D → ℕ → D) (d : D) (n : ℕ) (a b : Hold) (first last : RxIn)
     → AllActs w.thread answer after d n a b first last → IsOf w a first → Did w (AllAdd w answer after d n) a first b last
 all_add w answer after d zero a b first last h of = (
-  same_ledger a b first last (ap (λ (k : Hold). k.caller) h.0) (ap (λ (k : Hold). k.power) h.0) (ap (λ (k : Hold). k.threaded) h.0) (ap (λ (r : RxIn). put_list r) h.1),
-  still_of w a b first last (ap (λ (k : Hold). number_of k.caller.pass) h.0) (ap (λ (k : Hold). number_of (pass_of k.power)) h.0) (ap (λ (r : RxIn). capacity_of r) h.1) of,
+  same_ledger a b first last (ap (λ (k : Hold). k.caller) h.0) (ap (λ (k : Hold). k.power) h.0) (ap (λ (k : Hold). k.threaded) h.0)
+      (ap (λ (r : RxIn). put_list r) h.1),
+  still_of w a b first last (ap (λ (k : Hold). number_of k.caller.pass) h.0) (ap (λ (k : Hold). number_of (pass_of k.power)) h.0)
+      (ap (λ (r : RxIn). capacity_of r) h.1) of,
 )
 all_add w answer after d (suc n) a b first last h of =
     let before = all_add w answer after d n a h.0 first h.1 h.2 of in
@@ -214,7 +261,8 @@ all_add w answer after d (suc n) a b first last h of =
     ((holds h.0 h.1, before.0, one.0), one.1)
 
 abbrev whose_hold : Hold → RxIn → Bool → Whose
-whose_hold a rx thread = record { caller = number_of a.caller.pass; controller = number_of (pass_of a.power); places = capacity_of rx; thread = thread }
+whose_hold a rx thread =
+    record { caller = number_of a.caller.pass; controller = number_of (pass_of a.power); places = capacity_of rx; thread = thread }
 
 of_itself : (a : Hold) (rx : RxIn) (thread : Bool) → IsOf (whose_hold a rx thread) a rx
 of_itself a rx thread = record { caller = refl; controller = refl; places = refl }
@@ -223,21 +271,27 @@ of_itself a rx thread = record { caller = refl; controller = refl; places = refl
 pub all_same : {D : Type 0} (thread : Bool) (answer : D → ℕ → Act) (after : D → ℕ → D) (d : D) (n : ℕ) (a b : Hold) (first last : RxIn)
     → AllActs thread answer after d n a b first last → IsSameHold a b
 all_same thread answer after d n a b first last h =
-    let all = all_add (whose_hold a first thread) answer after d n a b first last h (of_itself a first thread) in (all.1.caller, all.1.controller)
+    let all = all_add (whose_hold a first thread) answer after d n a b first last h (of_itself a first thread) in
+    (all.1.caller, all.1.controller)
 
 -- ---- a worker's whole run
 
 -- the seats of an instance that was off, was turned on, and is turned off again
-pub works : {D : Type 0} (thread : Bool) (answer : D → ℕ → Act) (after : D → ℕ → D) (d : D) (n : ℕ) (seats ends : Seats) (on acted : Hold) (first last : RxIn)
+pub works : {D : Type 0} (thread : Bool) (answer : D → ℕ → Act) (after : D → ℕ → D) (d : D) (n : ℕ) (seats ends : Seats) (on acted : Hold)
+    (first last : RxIn)
     → TurnsOn false (Off seats.control) on.power → on.caller ≡ seats.caller → on.threaded ≡ false
     → AllActs thread answer after d n on acted first last
     → ends.caller ≡ acted.caller → Leaves acted.power ends.control.pass
     → WorksBy (whose seats first thread) answer after d n (ledger_of seats first false) (ledger_of ends last acted.threaded)
 works thread answer after d n seats ends on acted first last turned same threaded all caller left =
     let w = whose seats first thread in
-    let opened = turns_on w seats.caller false (Off seats.control) on first first turned same threaded refl refl (record { caller = refl; controller = refl; places = refl }) in
+    let opened =
+    turns_on w seats.caller false (Off seats.control) on first first turned same threaded refl refl
+    (record { caller = refl; controller = refl; places = refl }) in
     let made = all_add w answer after d n on acted first last all opened.1 in
-    let shut = turns_off w acted.caller acted.threaded acted.power (hold ends.caller (Off ends.control) acted.threaded) last last (refl, left) caller refl refl refl made.1 in
+    let shut =
+    turns_off w acted.caller acted.threaded acted.power (hold ends.caller (Off ends.control) acted.threaded) last last
+    (refl, left) caller refl refl refl made.1 in
     (holds on first, holds acted last, opened.0, made.0, shut.0)
 
 left_same : (power : Power) (q : Pass) → Leaves power q → number_of q ≡ number_of (pass_of power)
@@ -245,7 +299,8 @@ left_same (On control) q h = (disables control.pass q h).2.1
 left_same (Off control) q h = ap (λ p. number_of p) h
 
 pub same_seats : (seats ends : Seats) (on acted : Hold)
-    → TurnsOn false (Off seats.control) on.power → on.caller ≡ seats.caller → IsSameHold on acted → ends.caller ≡ acted.caller → Leaves acted.power ends.control.pass → AreSameSeats seats ends
+    → TurnsOn false (Off seats.control) on.power → on.caller ≡ seats.caller → IsSameHold on acted → ends.caller ≡ acted.caller
+    → Leaves acted.power ends.control.pass → AreSameSeats seats ends
 same_seats seats ends on acted turned caller same ended left = (
   ap (λ (c : Caller). number_of c.pass) ended ∙ same.0 ∙ ap (λ (c : Caller). number_of c.pass) caller,
   left_same acted.power ends.control.pass left ∙ same.1 ∙ (enables false seats.control.pass (pass_of on.power) turned.1).2.1,

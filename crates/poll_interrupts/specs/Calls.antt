@@ -94,14 +94,18 @@ TurnsOff before after = (is_on after ≡ false) × Leaves before (pass_of after)
 abbrev pub Acts : Bool → Act → Hold → Hold → RxIn → RxIn → Type 0
 Acts thread (Arrive packet) a b before after =
     Arrives thread packet a.caller.pass b.caller.pass before after × (b.power ≡ a.power) × (b.threaded ≡ a.threaded)
-Acts thread Disable a b before after = (b.caller ≡ a.caller) × TurnsOff a.power b.power × (b.threaded ≡ a.threaded) × (put_list after ≡ put_list before)
-Acts thread Enable a b before after = (b.caller ≡ a.caller) × TurnsOn a.threaded a.power b.power × (b.threaded ≡ a.threaded) × (put_list after ≡ put_list before)
+Acts thread Disable a b before after =
+    (b.caller ≡ a.caller) × TurnsOff a.power b.power × (b.threaded ≡ a.threaded) × (put_list after ≡ put_list before)
+Acts thread Enable a b before after =
+    (b.caller ≡ a.caller) × TurnsOn a.threaded a.power b.power × (b.threaded ≡ a.threaded) × (put_list after ≡ put_list before)
 Acts thread (SetThreaded set) a b before after =
-    Made a.caller.pass (operation.SetThreaded set ∷ []) b.caller.pass × (b.power ≡ a.power) × (b.threaded ≡ set) × (put_list after ≡ put_list before)
+    Made a.caller.pass (operation.SetThreaded set ∷ []) b.caller.pass × (b.power ≡ a.power) × (b.threaded ≡ set)
+    × (put_list after ≡ put_list before)
 Acts thread Nothing a b before after = (b ≡ a) × (put_list after ≡ put_list before)
 
 -- the first n acts, each once and in order
 abbrev pub AllActs : {D : Type 0} → Bool → (D → ℕ → Act) → (D → ℕ → D) → D → ℕ → Hold → Hold → RxIn → RxIn → Type 0
 AllActs thread answer after d zero a b first last = (b ≡ a) × (last ≡ first)
 AllActs thread answer after d (suc n) a b first last =
-    (m : Hold) × (rx : RxIn) × AllActs thread answer after d n a m first rx × SameIn rx last × Acts thread (answer (after_acts after d n) n) m b rx last
+    (m : Hold) × (rx : RxIn) × AllActs thread answer after d n a m first rx × SameIn rx last
+    × Acts thread (answer (after_acts after d n) n) m b rx last

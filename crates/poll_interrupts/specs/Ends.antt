@@ -56,5 +56,6 @@ module _ {R : Type 0} where
     -- so for all stations of a crew, in order
     abbrev pub AreFinishesOf : List (Worked R D) → List (Kept R Caller) → List (Turned (Kept R Caller)) → List (Finished D) → Type 0
     AreFinishesOf [] [] [] [] = Unit
-    AreFinishesOf (worked ∷ ws) (poller ∷ ps) (thread ∷ ts) (end ∷ es) = IsFinishOf worked poller thread.back end × AreFinishesOf ws ps ts es
+    AreFinishesOf (worked ∷ ws) (poller ∷ ps) (thread ∷ ts) (end ∷ es) =
+        IsFinishOf worked poller thread.back end × AreFinishesOf ws ps ts es
     AreFinishesOf _ _ _ _ = ⊥

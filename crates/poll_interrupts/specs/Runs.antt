@@ -12,7 +12,8 @@ use Rattle.napi_model.specs.declared.event.Prep.TheVariants as prep
 use Rattle.napi_model.specs.declared.event.Call.TheVariants as call
 use Rattle.napi_model.specs.declared.event.Event.{Event}
 use Rattle.napi_model.specs.declared.event.Operation.{Operation}
-use Rattle.napi_model.specs.declared.event.Operation.TheVariants.{Look, Schedule, Hand, MarkDisable, TakeDisable, Unmark, Enable, SetThreaded}
+use Rattle.napi_model.specs.declared.event.Operation.TheVariants.{Look, Schedule, Hand, MarkDisable, TakeDisable, Unmark, Enable}
+use Rattle.napi_model.specs.declared.event.Operation.TheVariants.{SetThreaded}
 use Rattle.napi_model.specs.Step.{opening}
 use Rattle.napi_model.specs.History.{LegalHistory, state_after, own, IsAcceptedSchedule}
 use Rattle.napi_word.specs.declared.view.Delivery.{Delivery}
@@ -32,13 +33,15 @@ IsHandingOver false os = os ≡ Hand kind.List ∷ []
 IsHandingOver true os = (x : Seen) × (os ≡ Look x ∷ Hand (if x.flags.threaded then kind.Thread else kind.List) ∷ [])
 
 abbrev pub IsAnswered : Bool → Prep → List Operation → Type 0
-IsAnswered thread prep.Granted os = (x : Seen) × (over : List Operation) × IsHandingOver thread over × (os ≡ Look x ∷ Schedule prep.Granted ∷ over)
+IsAnswered thread prep.Granted os =
+    (x : Seen) × (over : List Operation) × IsHandingOver thread over × (os ≡ Look x ∷ Schedule prep.Granted ∷ over)
 IsAnswered thread prep.Missed os = (x : Seen) × (os ≡ Look x ∷ Schedule prep.Missed ∷ [])
 IsAnswered thread prep.Disabled os = os ≡ Schedule prep.Disabled ∷ []
 
 -- an interrupt (`napi_schedule`)
 abbrev pub IsInterrupt : Bool → List Operation → Type 0
-IsInterrupt thread os = (ts : List (Lost call.Schedule)) × (reply : Prep) × (rest : List Operation) × IsAnswered thread reply rest × (os ≡ flat_map looks ts ++ rest)
+IsInterrupt thread os = (ts : List (Lost call.Schedule)) × (reply : Prep) × (rest : List Operation) × IsAnswered thread reply rest
+    × (os ≡ flat_map looks ts ++ rest)
 
 -- `napi_enable`
 abbrev pub IsEnabling : Bool → List Operation → Type 0
@@ -46,7 +49,8 @@ IsEnabling threaded os = (ts : List (Lost (call.Enable threaded))) × (x : Seen)
 
 -- `napi_disable`
 abbrev pub IsDisabling : List Operation → Type 0
-IsDisabling os = (ts : List (Option (Lost call.TakeDisable))) × (x : Seen) × (os ≡ (MarkDisable ∷ flat_map waits ts) ++ Look x ∷ TakeDisable true ∷ Unmark ∷ [])
+IsDisabling os = (ts : List (Option (Lost call.TakeDisable))) × (x : Seen)
+    × (os ≡ (MarkDisable ∷ flat_map waits ts) ++ Look x ∷ TakeDisable true ∷ Unmark ∷ [])
 
 -- ---- a worker's ledger
 
@@ -72,7 +76,8 @@ blank = record { calls = []; controls = []; put = []; on = false; threaded = fal
 
 -- a packet is put, and interrupts
 abbrev pub Puts : Whose → Packet → Ledger → Ledger → Type 0
-Puts w packet a b = (os : List Operation) × IsInterrupt w.thread os × (b ≡ record a { put = a.put ++ packet ∷ []; calls = a.calls ++ events w.caller os })
+Puts w packet a b =
+    (os : List Operation) × IsInterrupt w.thread os × (b ≡ record a { put = a.put ++ packet ∷ []; calls = a.calls ++ events w.caller os })
 
 -- a full ring drops it, and nothing is asked for
 abbrev pub Drops : Whose → Ledger → Ledger → Type 0
@@ -81,11 +86,13 @@ Drops w a b = (w.places ≤ length a.put) × (b ≡ a)
 -- an instance that is on stays so
 abbrev pub SwitchesOn : Whose → Bool → Ledger → Ledger → Type 0
 SwitchesOn w true a b = b ≡ a
-SwitchesOn w false a b = (os : List Operation) × IsEnabling a.threaded os × (b ≡ record a { controls = a.controls ++ events w.controller os; on = true })
+SwitchesOn w false a b =
+    (os : List Operation) × IsEnabling a.threaded os × (b ≡ record a { controls = a.controls ++ events w.controller os; on = true })
 
 -- one that is off too
 abbrev pub SwitchesOff : Whose → Bool → Ledger → Ledger → Type 0
-SwitchesOff w true a b = (os : List Operation) × IsDisabling os × (b ≡ record a { controls = a.controls ++ events w.controller os; on = false })
+SwitchesOff w true a b =
+    (os : List Operation) × IsDisabling os × (b ≡ record a { controls = a.controls ++ events w.controller os; on = false })
 SwitchesOff w false a b = b ≡ a
 
 -- what one act adds
@@ -103,7 +110,8 @@ AllAdd w answer after d (suc n) a b = (m : Ledger) × AllAdd w answer after d n 
 
 -- a worker's whole run: the instance is enabled, n acts are made, and it is disabled
 abbrev pub WorksBy : {D : Type 0} → Whose → (D → ℕ → Act) → (D → ℕ → D) → D → ℕ → Ledger → Ledger → Type 0
-WorksBy w answer after d n a b = (on : Ledger) × (acted : Ledger) × SwitchesOn w a.on a on × AllAdd w answer after d n on acted × SwitchesOff w acted.on acted b
+WorksBy w answer after d n a b =
+    (on : Ledger) × (acted : Ledger) × SwitchesOn w a.on a on × AllAdd w answer after d n on acted × SwitchesOff w acted.on acted b
 
 -- ---- the whole run of a station
 
@@ -139,9 +147,11 @@ pub record IsEnded (caller : ℕ) (calls : List Event) (controls : List Event) (
   pub totals_are : totals ≡ totals_of (record { put = put; received = packets_of deliveries })
 
 -- a station with so many places, with a thread or without, whose device made n acts
-pub record HasRun {D : Type 0} (answer : D → ℕ → Act) (after : D → ℕ → D) (places : ℕ) (thread : Bool) (d : D) (n : ℕ) (totals : Totals) : Type 0 where
+pub record HasRun {D : Type 0} (answer : D → ℕ → Act) (after : D → ℕ → D) (places : ℕ) (thread : Bool) (d : D) (n : ℕ)
+    (totals : Totals) : Type 0 where
   -- the number of its worker's caller, and what its acts left
   pub caller : ℕ
   pub left : Ledger
-  pub works : WorksBy (record { caller = caller; controller = controller_number; places = places; thread = thread }) answer after d n blank left
+  pub works : WorksBy
+      (record { caller = caller; controller = controller_number; places = places; thread = thread }) answer after d n blank left
   pub ended : IsEnded caller left.calls left.controls left.put totals

@@ -16,11 +16,18 @@ use Rattle.poll_interrupts.specs.Seats.{AreSeatsOf}
 
 -- the ledger of a worker whose instance is off, by its seats, the ring's input and the threaded setting
 abbrev pub ledger_of : Seats → RxIn → Bool → Ledger
-ledger_of seats rx threaded = record { calls = own_list seats.caller.pass; controls = own_list seats.control.pass; put = put_list rx; on = false; threaded = threaded }
+ledger_of seats rx threaded = record {
+  calls = own_list seats.caller.pass;
+  controls = own_list seats.control.pass;
+  put = put_list rx;
+  on = false;
+  threaded = threaded;
+}
 
 -- whose ledger that is
 abbrev pub whose : Seats → RxIn → Bool → Whose
-whose seats rx thread = record { caller = number_of seats.caller.pass; controller = number_of seats.control.pass; places = capacity_of rx; thread = thread }
+whose seats rx thread =
+    record { caller = number_of seats.caller.pass; controller = number_of seats.control.pass; places = capacity_of rx; thread = thread }
 
 -- the same numbers
 abbrev pub AreSameSeats : Seats → Seats → Type 0
@@ -29,7 +36,8 @@ AreSameSeats a b = (number_of b.caller.pass ≡ number_of a.caller.pass) × (num
 module _ {R D : Type 0} (acts : D → ℕ) (answer : D → ℕ → Act) (after : D → ℕ → D) where
   -- what it did is the run of these acts, by the events that its seats had before and have afterwards
   abbrev pub HasWorked : Bool → Work R D → Done R D → Type 0
-  HasWorked thread work done = (threaded : Bool) × WorksBy (whose work.seats.value work.rx thread) answer after work.device (acts work.device)
+  HasWorked thread work done =
+      (threaded : Bool) × WorksBy (whose work.seats.value work.rx thread) answer after work.device (acts work.device)
       (ledger_of work.seats.value work.rx false) (ledger_of done.seats.value done.rx threaded)
 
   -- it made all acts of the device, each once and in order, and put what they brought, where there is room for all
@@ -42,7 +50,8 @@ module _ {R D : Type 0} (acts : D → ℕ) (answer : D → ℕ → Act) (after :
     pub made : done.whole ≡ true → done.device ≡ after_acts after work.device (acts work.device)
     pub ring : SameIn work.rx done.rx
     pub few : length (put_list done.rx) ≤ length (put_list work.rx) + 4294967295
-    pub put : done.whole ≡ true → length (put_list work.rx) + length (arrivals answer after work.device (acts work.device)) ≤ capacity_of work.rx
+    pub put : done.whole ≡ true
+        → length (put_list work.rx) + length (arrivals answer after work.device (acts work.device)) ≤ capacity_of work.rx
         → put_list done.rx ≡ put_list work.rx ++ arrivals answer after work.device (acts work.device)
 
   pub record IsWorkOf (napi : Napi) (thread : Bool) (number : ℕ) (work : Work R D) (worked : Worked R D) : Type 0 where

@@ -1,6 +1,8 @@
 -- Lists of what the ends know, by index, and the pushes of one end.
-use Rattle.std.{proofs.Common.{◌≡◌, ◌≢◌, ℕ, zero, suc, ◌+◌, ◌<◌, ◌≤◌, ◌⊎◌, Bool, true, false, List, [], ◌∷◌, ◌++◌, length, set, eqb, cond, sym, refl, ap, ◌∙◌, subst, inl, inr, ⊎_elim, append_assoc, eq-eqb, ne_eqb, arith}, specs.List.sum_by}
-use Rattle.{std.proofs.lemmas.List.{map-append, Sums.sum_by-cons}, crossbeam_queue.proofs.Lists.at_set, poll_list.specs.PushOrder.{Push, push_of, ids_of, pushes_by}}
+use Rattle.std.proofs.Common.{◌≡◌, ◌≢◌, ℕ, zero, suc, ◌+◌, ◌<◌, ◌≤◌, ◌⊎◌, Bool, true, false, List, [], ◌∷◌, ◌++◌, length, set, eqb, cond}
+use Rattle.std.{proofs.Common.{sym, refl, ap, ◌∙◌, subst, inl, inr, ⊎_elim, append_assoc, eq-eqb, ne_eqb, arith}, specs.List.sum_by}
+use Rattle.{std.proofs.lemmas.List.{map-append, Sums.sum_by-cons}, crossbeam_queue.proofs.Lists.at_set}
+use Rattle.poll_list.specs.PushOrder.{Push, push_of, ids_of, pushes_by}
 use mathlib.Core.Option.{some, some-ne-none, some-injective}
 use lib.ListN.{get_elem?}
 
@@ -31,29 +33,39 @@ module _ {A : Type 0} where
   one_weight f (x ∷ xs) zero a e = let q : f x ≡ f a = ap f (some-injective x a e) in omega (arith, sum_by-cons f x xs)
   one_weight f (x ∷ xs) (suc i) a e = let h = one_weight f xs i a e in omega (arith, sum_by-cons f x xs)
 
-  pub two_weights : (f : A → ℕ) (l : List A) (i j : ℕ) (a b : A) → i ≢ j → get_elem? l i ≡ some a → get_elem? l j ≡ some b → f a + f b ≤ sum_by f l
+  pub two_weights : (f : A → ℕ) (l : List A) (i j : ℕ) (a b : A) → i ≢ j → get_elem? l i ≡ some a → get_elem? l j ≡ some b
+      → f a + f b ≤ sum_by f l
   two_weights f [] i j a b n e d = absurd (some-ne-none a (sym e))
   two_weights f (x ∷ xs) zero zero a b n e d = absurd (n refl)
-  two_weights f (x ∷ xs) zero (suc j) a b n e d = let q : f x ≡ f a = ap f (some-injective x a e) in let h = one_weight f xs j b d in omega (arith, sum_by-cons f x xs)
-  two_weights f (x ∷ xs) (suc i) zero a b n e d = let q : f x ≡ f b = ap f (some-injective x b d) in let h = one_weight f xs i a e in omega (arith, sum_by-cons f x xs)
-  two_weights f (x ∷ xs) (suc i) (suc j) a b n e d = let h = two_weights f xs i j a b (λ q. n (ap suc q)) e d in omega (arith, sum_by-cons f x xs)
+  two_weights f (x ∷ xs) zero (suc j) a b n e d = let q : f x ≡ f a = ap f (some-injective x a e) in let h = one_weight f xs j b d in
+      omega (arith, sum_by-cons f x xs)
+  two_weights f (x ∷ xs) (suc i) zero a b n e d = let q : f x ≡ f b = ap f (some-injective x b d) in let h = one_weight f xs i a e in
+      omega (arith, sum_by-cons f x xs)
+  two_weights f (x ∷ xs) (suc i) (suc j) a b n e d = let h = two_weights f xs i j a b (λ q. n (ap suc q)) e d in
+      omega (arith, sum_by-cons f x xs)
 
   abbrev pub EachAt : (ℕ → A → Type 0) → List A → Type 0
   EachAt F views = (port : ℕ) (v : A) → get_elem? views port ≡ some v → F port v
 
-  pub all_set : (F : ℕ → A → Type 0) (views : List A) (port : ℕ) (w : A) → F port w → ((j : ℕ) (u : A) → j ≢ port → get_elem? views j ≡ some u → F j u) → EachAt F (set views port w)
-  all_set F views port w mine others j u e = ⊎_elim (λ (x : (j ≡ port) × (w ≡ u)). subst (λ (y : ℕ × A). F y.0 y.1) (λ i. (sym x.0 i, x.1 i)) mine)
+  pub all_set : (F : ℕ → A → Type 0) (views : List A) (port : ℕ) (w : A) → F port w
+      → ((j : ℕ) (u : A) → j ≢ port → get_elem? views j ≡ some u → F j u) → EachAt F (set views port w)
+  all_set F views port w mine others j u e =
+      ⊎_elim (λ (x : (j ≡ port) × (w ≡ u)). subst (λ (y : ℕ × A). F y.0 y.1) (λ i. (sym x.0 i, x.1 i)) mine)
       (λ (x : (j ≢ port) × (get_elem? views j ≡ some u)). others j u x.0 x.1) (at_set views port j w u e)
 
 pub by_mine : (p x : ℕ) (order : List Push) → pushes_by p (order ++ push_of p x ∷ []) ≡ pushes_by p order ++ x ∷ []
 by_mine p x [] = ap (λ (b : Bool). cond b (x ∷ []) []) (eq-eqb p p refl)
 by_mine p x (e ∷ es) =
-    elim (eqb e.by p) as (λ b. cond b (e.id ∷ pushes_by p (es ++ push_of p x ∷ [])) (pushes_by p (es ++ push_of p x ∷ [])) ≡ cond b (e.id ∷ pushes_by p es) (pushes_by p es) ++ x ∷ []) [ true ↦ ap (λ l. e.id ∷ l) (by_mine p x es) | false ↦ by_mine p x es ]
+    elim (eqb e.by p) as (λ b. cond b (e.id ∷ pushes_by p (es ++ push_of p x ∷ [])) (pushes_by p (es ++ push_of p x ∷ []))
+    ≡ cond b (e.id ∷ pushes_by p es) (pushes_by p es) ++ x ∷ []) [ true ↦ ap (λ l. e.id ∷ l) (by_mine p x es) | false ↦ by_mine p x es ]
 
 pub by_other : (p q x : ℕ) (order : List Push) → p ≢ q → pushes_by p (order ++ push_of q x ∷ []) ≡ pushes_by p order
 by_other p q x [] n = ap (λ (b : Bool). cond b (x ∷ []) []) (ne_eqb q p (λ h. n (sym h)))
 by_other p q x (e ∷ es) n =
-    elim (eqb e.by p) as (λ b. cond b (e.id ∷ pushes_by p (es ++ push_of q x ∷ [])) (pushes_by p (es ++ push_of q x ∷ [])) ≡ cond b (e.id ∷ pushes_by p es) (pushes_by p es)) [ true ↦ ap (λ l. e.id ∷ l) (by_other p q x es n) | false ↦ by_other p q x es n ]
+    elim (eqb e.by p) as (λ b. cond b (e.id ∷ pushes_by p (es ++ push_of q x ∷ [])) (pushes_by p (es ++ push_of q x ∷ []))
+    ≡ cond b (e.id ∷ pushes_by p es) (pushes_by p es)) [ true ↦ ap (λ l. e.id ∷ l) (by_other p q x es n) | false ↦ by_other p q x es n ]
 
-pub ids_push : (order : List Push) (p x : ℕ) (got items : List ℕ) → ids_of order ≡ got ++ items → ids_of (order ++ push_of p x ∷ []) ≡ got ++ (items ++ x ∷ [])
-ids_push order p x got items e = map-append (λ (y : Push). y.id) order (push_of p x ∷ []) ∙ ap (λ l. l ++ x ∷ []) e ∙ append_assoc got items (x ∷ [])
+pub ids_push : (order : List Push) (p x : ℕ) (got items : List ℕ) → ids_of order ≡ got ++ items
+    → ids_of (order ++ push_of p x ∷ []) ≡ got ++ (items ++ x ∷ [])
+ids_push order p x got items e =
+    map-append (λ (y : Push). y.id) order (push_of p x ∷ []) ∙ ap (λ l. l ++ x ∷ []) e ∙ append_assoc got items (x ∷ [])

@@ -1,20 +1,28 @@
 -- Each step on the queue keeps the one order: a push, a pop, an end made, an end taken back, and a look.
-use Rattle.std.proofs.Common.{◌≡◌, ◌≢◌, ℕ, ◌+◌, ◌<◌, Bool, true, false, true≢false, List, [], ◌∷◌, ◌++◌, length, set, cond, sym, refl, ap, ◌∙◌, subst, inl, inr, ⊎_elim, append_assoc, length-append, lt_of_not-le, arith}
-use Rattle.{std.proofs.lemmas.List.{length-set, Sums.sum_by_push}, crossbeam_queue.{specs.Fifo.{Pushes, Pops, Forks, Merges, Learns}, proofs.Lists.{at_set, at_longer, at_last}}, poll_list.specs.declared.list_rule.Returned.Returned}
-use Rattle.poll_list.specs.{declared.list_rule.EndView.EndView, PushOrder.{Push, push_of, pushes_by, returned_end, pusher, poller, spent_end, live_count, IsReturned, FitsEnd, InOneOrder, KnowsOrder}}
-use Rattle.poll_list.proofs.EndLists.{in_range, at_push, total_set, one_weight, two_weights, EachAt, all_set, by_mine, by_other, ids_push, one_there}
+use Rattle.std.proofs.Common.{◌≡◌, ◌≢◌, ℕ, ◌+◌, ◌<◌, Bool, true, false, true≢false, List, [], ◌∷◌, ◌++◌, length, set, cond, sym, refl, ap}
+use Rattle.std.proofs.Common.{◌∙◌, subst, inl, inr, ⊎_elim, append_assoc, length-append, lt_of_not-le, arith}
+use Rattle.std.proofs.lemmas.List.{length-set, Sums.sum_by_push}
+use Rattle.crossbeam_queue.{specs.Fifo.{Pushes, Pops, Forks, Merges, Learns}, proofs.Lists.{at_set, at_longer, at_last}}
+use Rattle.poll_list.specs.declared.list_rule.Returned.{Returned}
+use Rattle.poll_list.specs.declared.list_rule.EndView.{EndView}
+use Rattle.poll_list.specs.PushOrder.{Push, push_of, pushes_by, returned_end, pusher, poller, spent_end, live_count, IsReturned, FitsEnd}
+use Rattle.poll_list.specs.PushOrder.{InOneOrder, KnowsOrder}
+use Rattle.poll_list.proofs.EndLists.{in_range, at_push, total_set, one_weight, two_weights, EachAt, all_set, by_mine, by_other, ids_push}
+use Rattle.poll_list.proofs.EndLists.{one_there}
 use mathlib.Core.{Option.{some, some-ne-none}, Logic.dite}
 use native.Mathlib.Decide.{dec_le, ℕ_discrete}
 use lib.ListN.{get_elem?}
 
 by_live : {P : Type 0} (p : ℕ) (u : EndView) → (u.live ≡ true → P) → (u.live ≡ false → P) → P
-by_live {P} p u if_so if_not = elim u.live as (λ b. (b ≡ true → P) → (b ≡ false → P) → P) [ true ↦ (λ f g. f refl) | false ↦ (λ f g. g refl) ] if_so if_not
+by_live {P} p u if_so if_not =
+    elim u.live as (λ b. (b ≡ true → P) → (b ≡ false → P) → P) [ true ↦ (λ f g. f refl) | false ↦ (λ f g. g refl) ] if_so if_not
 
 -- a live end counts as one
 live_weight : (v : EndView) → v.live ≡ true → live_count v ≡ 1
 live_weight v l = ap (λ (b : Bool). cond b 1 0) l
 
-pub pushes : (n port : ℕ) (v : EndView) (x : ℕ) → v.live ≡ true → Pushes InOneOrder n port v x (λ w. w ≡ record v { pushed = v.pushed ++ x ∷ [] })
+pub pushes : (n port : ℕ) (v : EndView) (x : ℕ) → v.live ≡ true
+    → Pushes InOneOrder n port v x (λ w. w ≡ record v { pushed = v.pushed ++ x ∷ [] })
 pushes n port v x live items views room h at =
     let w : EndView = record v { pushed = v.pushed ++ x ∷ [] } in
     let order : List Push = h.order ++ push_of port x ∷ [] in
@@ -37,7 +45,8 @@ pushes n port v x live items views room h at =
             let apart : d.number ≢ port = λ q. true≢false (sym live ∙ t.2 v (ap (λ i. get_elem? views i) q ∙ at)) in (
               t.0 ∙ sym (by_other d.number port x h.order apart),
               t.1,
-              λ u f. ⊎_elim (λ (y : (d.number ≡ port) × (w ≡ u)). absurd (apart y.0)) (λ (y : (d.number ≢ port) × (get_elem? views d.number ≡ some u)). t.2 u y.1) (at_set views port d.number w u f),
+              λ u f. ⊎_elim (λ (y : (d.number ≡ port) × (w ≡ u)). absurd (apart y.0))
+                  (λ (y : (d.number ≢ port) × (get_elem? views d.number ≡ some u)). t.2 u y.1) (at_set views port d.number w u f),
             );
         counted = let s = total_set live_count views port v w at in let c = h.counted in omega arith;
       },
@@ -65,7 +74,10 @@ pops port v may x items views h at =
             let t = h.kept k d e in (
               t.0,
               t.1,
-              λ u f. ⊎_elim (λ (y : (d.number ≡ port) × (w ≡ u)). sym (ap (λ (z : EndView). z.live) y.1) ∙ t.2 v (ap (λ i. get_elem? views i) y.0 ∙ at)) (λ (y : (d.number ≢ port) × (get_elem? views d.number ≡ some u)). t.2 u y.1) (at_set views port d.number w u f),
+              λ u f. ⊎_elim
+                  (λ (y : (d.number ≡ port) × (w ≡ u)). sym (ap (λ (z : EndView). z.live) y.1)
+                  ∙ t.2 v (ap (λ i. get_elem? views i) y.0 ∙ at))
+                  (λ (y : (d.number ≢ port) × (get_elem? views d.number ≡ some u)). t.2 u y.1) (at_set views port d.number w u f),
             );
         counted = let s = total_set live_count views port v w at in let c = h.counted in omega arith;
       },
@@ -83,14 +95,16 @@ begins =
       sized = refl;
       fits = λ j u e.
           ⊎_elim (λ (y : get_elem? {A = EndView} [] j ≡ some u). absurd (some-ne-none u (sym y)))
-          (λ (y : (j ≡ 0) × (poller 1 [] [] [] ≡ u)). subst (λ (z : ℕ × EndView). FitsEnd [] [] [] 1 z.0 z.1) (λ i. (sym y.0 i, y.1 i)) ((λ _. (refl, refl)), (λ f. absurd (true≢false f)), λ _. (refl, refl, refl, refl, refl)))
+          (λ (y : (j ≡ 0) × (poller 1 [] [] [] ≡ u)). subst (λ (z : ℕ × EndView). FitsEnd [] [] [] 1 z.0 z.1) (λ i. (sym y.0 i, y.1 i))
+          ((λ _. (refl, refl)), (λ f. absurd (true≢false f)), λ _. (refl, refl, refl, refl, refl)))
           (at_push [] (poller 1 [] [] []) u j e);
       later = λ p k. refl;
       kept = λ k d e. absurd (some-ne-none d (sym e));
       counted = refl;
     }
 
-pub forks : (port : ℕ) (v : EndView) → v.polls ≡ true → Forks InOneOrder port v (poller (v.made + 1) v.pushed v.popped v.returned) (pusher v.made [])
+pub forks : (port : ℕ) (v : EndView) → v.polls ≡ true
+    → Forks InOneOrder port v (poller (v.made + 1) v.pushed v.popped v.returned) (pusher v.made [])
 forks port v may items views h at =
     let l : EndView = poller (v.made + 1) v.pushed v.popped v.returned in
     let r : EndView = pusher v.made [] in
@@ -123,7 +137,9 @@ forks port v may items views h at =
             omega arith,
             λ u f.
                 ⊎_elim (λ (y : get_elem? vs d.number ≡ some u).
-                ⊎_elim (λ (z : (d.number ≡ port) × (l ≡ u)). absurd (true≢false (sym role.0 ∙ t.2 v (ap (λ i. get_elem? views i) z.0 ∙ at)))) (λ (z : (d.number ≢ port) × (get_elem? views d.number ≡ some u)). t.2 u z.1) (at_set views port d.number l u y))
+                ⊎_elim (λ (z : (d.number ≡ port) × (l ≡ u)). absurd
+                (true≢false (sym role.0 ∙ t.2 v (ap (λ i. get_elem? views i) z.0 ∙ at))))
+                (λ (z : (d.number ≢ port) × (get_elem? views d.number ≡ some u)). t.2 u z.1) (at_set views port d.number l u y))
                 (λ (y : (d.number ≡ length vs) × (r ≡ u)). let q = y.0 in absurd (omega arith))
                 (at_push vs r u d.number f),
           );
@@ -143,14 +159,26 @@ merges port v other u may live items views h at two at' =
     let role = mine.2 may in
     let both : EndView = poller v.made v.pushed v.popped (v.returned ++ returned_end u.number u.pushed ∷ []) in
     let vs : List EndView = set views port both in
-    let was : get_elem? views other ≡ some u = ⊎_elim (λ (y : (other ≡ port) × (both ≡ u)). absurd (two y.0)) (λ (y : (other ≢ port) × (get_elem? views other ≡ some u)). y.1) (at_set views port other both u at') in
+    let was : get_elem? views other ≡ some u =
+    ⊎_elim (λ (y : (other ≡ port) × (both ≡ u)). absurd (two y.0)) (λ (y : (other ≢ port) × (get_elem? views other ≡ some u)). y.1)
+    (at_set views port other both u at') in
     let theirs = (h.fits other u was).0 live in
     let inside = in_range views other u was in
     let Now : ℕ → EndView → Type 0 = λ j y. j ≢ other → FitsEnd h.order h.popped known h.made j y in
     let now : EachAt Now vs =
     all_set Now views port both
-    (λ _. ((λ _. (sym role.1, (mine.0 role.0).1)), (λ f. absurd (true≢false f)), λ _. (refl, role.1, role.2, ap (λ (ks : List Returned). ks ++ returned_end u.number u.pushed ∷ []) role.3, role.4)))
-    (λ j y apart e _. let t = h.fits j y e in (t.0, (λ f. let k = t.1 f in (k.0, k.1, at_longer h.returned (returned_end u.number u.pushed ∷ []) k.0 k.1 k.2, k.3)), λ p. absurd (apart ((t.2 p).1 ∙ sym role.1)))) in
+    (λ _. (
+      (λ _. (sym role.1, (mine.0 role.0).1)),
+      (λ f. absurd (true≢false f)),
+      λ _.
+          (refl, role.1, role.2, ap (λ (ks : List Returned). ks ++ returned_end u.number u.pushed ∷ []) role.3, role.4),
+    ))
+    (λ j y apart e _. let t = h.fits j y e in (
+      t.0,
+      (λ f. let k = t.1 f in (k.0, k.1, at_longer h.returned (returned_end u.number u.pushed ∷ []) k.0 k.1 k.2, k.3)),
+      λ p. absurd
+          (apart ((t.2 p).1 ∙ sym role.1)),
+    )) in
     record {
       order = h.order;
       popped = h.popped;
@@ -158,20 +186,33 @@ merges port v other u may live items views h at two at' =
       made = h.made;
       all = h.all;
       sized = length-set vs other spent_end ∙ length-set views port both ∙ h.sized;
-      fits = all_set (FitsEnd h.order h.popped known h.made) vs other spent_end
-          ((λ f. absurd (true≢false (sym f))), (λ _. (length h.returned, returned_end u.number u.pushed, at_last h.returned (returned_end u.number u.pushed) (length h.returned) refl, theirs.0)), λ f. absurd (true≢false (sym f)))
+      fits = all_set (FitsEnd h.order h.popped known h.made) vs other spent_end (
+        (λ f. absurd (true≢false (sym f))),
+        (λ _. (
+          length h.returned,
+          returned_end u.number u.pushed,
+          at_last h.returned (returned_end u.number u.pushed)
+              (length h.returned) refl,
+          theirs.0,
+        )),
+        λ f. absurd (true≢false (sym f)),
+      )
           (λ j y apart e. now j y e apart);
       later = h.later;
       kept = λ k d e.
-          let gone_now : (y : EndView) → get_elem? (set vs other spent_end) d.number ≡ some y → (d.number ≢ other → y.live ≡ false) → y.live ≡ false = λ y f else_.
-          ⊎_elim (λ (z : (d.number ≡ other) × (spent_end ≡ y)). sym (ap (λ (x : EndView). x.live) z.1)) (λ (z : (d.number ≢ other) × (get_elem? vs d.number ≡ some y)). else_ z.0) (at_set vs other d.number spent_end y f) in
+          let gone_now : (y : EndView) → get_elem? (set vs other spent_end) d.number ≡ some y → (d.number ≢ other → y.live ≡ false)
+          → y.live ≡ false = λ y f else_.
+          ⊎_elim (λ (z : (d.number ≡ other) × (spent_end ≡ y)). sym (ap (λ (x : EndView). x.live) z.1))
+          (λ (z : (d.number ≢ other) × (get_elem? vs d.number ≡ some y)). else_ z.0) (at_set vs other d.number spent_end y f) in
           ⊎_elim (λ (y : get_elem? h.returned k ≡ some d).
           let t = h.kept k d y in (
             t.0,
             t.1,
             λ x f. gone_now x f (λ apart. ⊎_elim (λ (z : (d.number ≡ other) × (spent_end ≡ x)). absurd (apart z.0))
                 (λ (z : (d.number ≢ other) × (get_elem? vs d.number ≡ some x)).
-                ⊎_elim (λ (q : (d.number ≡ port) × (both ≡ x)). absurd (true≢false (sym role.0 ∙ t.2 v (ap (λ i. get_elem? views i) q.0 ∙ at)))) (λ (q : (d.number ≢ port) × (get_elem? views d.number ≡ some x)). t.2 x q.1) (at_set views port d.number both x z.1))
+                ⊎_elim (λ (q : (d.number ≡ port) × (both ≡ x)). absurd
+                (true≢false (sym role.0 ∙ t.2 v (ap (λ i. get_elem? views i) q.0 ∙ at))))
+                (λ (q : (d.number ≢ port) × (get_elem? views d.number ≡ some x)). t.2 x q.1) (at_set views port d.number both x z.1))
                 (at_set vs other d.number spent_end x f)),
           ))
           (λ (y : (k ≡ length h.returned) × (returned_end u.number u.pushed ≡ d)).

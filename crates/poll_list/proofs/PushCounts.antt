@@ -1,8 +1,12 @@
 -- Once all ends came back, there are no more pushes than theirs and the poller's.
-use Rattle.std.proofs.Common.{◌≡◌, ℕ, zero, suc, ◌+◌, ◌<◌, ◌≤◌, ◌⊎◌, Bool, true, false, List, [], ◌∷◌, ◌++◌, length, map, cond, eqb, sym, refl, ap, ◌∙◌, subst, inl, inr, ⊎_elim, length-append, append-nil, eq-eqb, lt_of_not-le, arith}
-use Rattle.{std.{specs.List.{sum_by, All}, proofs.lemmas.List.{length-map, nil_from_length, Sums.sum_by-cons}}, poll_list.specs.declared.list_rule.{Returned.Returned, EndView.EndView}, crossbeam_queue.specs.Passes.view}
-use Rattle.poll_list.specs.{declared.{list_in.ListIn.ListIn, shared.SharedList.SharedList}, PushOrder.{Push, ids_of, poller, pushes_by, IsReturned, KnowsOrder, PopsMore, WasEmpty, returned_pushes}}
-use Rattle.{poll_list.specs.SharedList.{as_returned, number_of, own_pushes, popped_by, pushed_by, IsOneOrder}, std.proofs.lemmas.List.Elements.{All-nil, All-cons}}
+use Rattle.std.proofs.Common.{◌≡◌, ℕ, zero, suc, ◌+◌, ◌<◌, ◌≤◌, ◌⊎◌, Bool, true, false, List, [], ◌∷◌, ◌++◌, length, map, cond, eqb, sym}
+use Rattle.std.proofs.Common.{refl, ap, ◌∙◌, subst, inl, inr, ⊎_elim, length-append, append-nil, eq-eqb, lt_of_not-le, arith}
+use Rattle.std.{specs.List.{sum_by, All}, proofs.lemmas.List.{length-map, nil_from_length, Sums.sum_by-cons}}
+use Rattle.{poll_list.specs.declared.list_rule.{Returned.Returned, EndView.EndView}, crossbeam_queue.specs.Passes.view}
+use Rattle.poll_list.specs.declared.{list_in.ListIn.ListIn, shared.SharedList.SharedList}
+use Rattle.poll_list.specs.PushOrder.{Push, ids_of, poller, pushes_by, IsReturned, KnowsOrder, PopsMore, WasEmpty, returned_pushes}
+use Rattle.poll_list.specs.SharedList.{as_returned, number_of, own_pushes, popped_by, pushed_by, IsOneOrder}
+use Rattle.std.proofs.lemmas.List.Elements.{All-nil, All-cons}
 use mathlib.Core.{Option.{some, some-ne-none, some-injective}, Logic.dite}
 use native.Mathlib.Decide.{dec_le}
 use lib.ListN.{get_elem?}
@@ -12,14 +16,16 @@ module _ {A : Type 0} where
   sum_mono f g h [] = omega arith
   sum_mono f g h (x ∷ xs) = let i = sum_mono f g h xs in let b = h x in omega (arith, sum_by-cons f x xs, sum_by-cons g x xs)
 
-  sum_more : (f g : A → ℕ) → ((a : A) → f a ≤ g a) → (l : List A) (k : ℕ) (a : A) → get_elem? l k ≡ some a → f a + 1 ≤ g a → sum_by f l + 1 ≤ sum_by g l
+  sum_more : (f g : A → ℕ) → ((a : A) → f a ≤ g a) → (l : List A) (k : ℕ) (a : A) → get_elem? l k ≡ some a → f a + 1 ≤ g a
+      → sum_by f l + 1 ≤ sum_by g l
   sum_more f g h [] k a e m = absurd (some-ne-none a (sym e))
   sum_more f g h (x ∷ xs) zero a e m =
       let p : f x ≡ f a = ap f (some-injective x a e) in
       let q : g x ≡ g a = ap g (some-injective x a e) in
       let i = sum_mono f g h xs in
       omega (arith, sum_by-cons f x xs, sum_by-cons g x xs)
-  sum_more f g h (x ∷ xs) (suc k) a e m = let i = sum_more f g h xs k a e m in let b = h x in omega (arith, sum_by-cons f x xs, sum_by-cons g x xs)
+  sum_more f g h (x ∷ xs) (suc k) a e m = let i = sum_more f g h xs k a e m in let b = h x in
+      omega (arith, sum_by-cons f x xs, sum_by-cons g x xs)
 
   sum_same : (f g : A → ℕ) (l : List A) → ((k : ℕ) (a : A) → get_elem? l k ≡ some a → f a ≡ g a) → sum_by f l ≡ sum_by g l
   sum_same f g [] h = refl
@@ -30,11 +36,15 @@ module _ {A : Type 0} where
 
 -- one push more is a push more of its own end alone
 pushes_grow : (p : ℕ) (e : Push) (es : List Push) → length (pushes_by p es) ≤ length (pushes_by p (e ∷ es))
-pushes_grow p e es = elim (eqb e.by p) as (λ b. length (pushes_by p es) ≤ length (cond b (e.id ∷ pushes_by p es) (pushes_by p es))) [ true ↦ omega arith | false ↦ omega arith ]
+pushes_grow p e es = elim (eqb e.by p) as (λ b. length (pushes_by p es) ≤ length (cond b (e.id ∷ pushes_by p es) (pushes_by p es))) [
+  | true ↦ omega arith
+  | false ↦ omega arith
+]
 
 pushes_mine : (p : ℕ) (e : Push) (es : List Push) → e.by ≡ p → length (pushes_by p es) + 1 ≡ length (pushes_by p (e ∷ es))
 pushes_mine p e es q =
-    let h : length (cond (eqb e.by p) (e.id ∷ pushes_by p es) (pushes_by p es)) ≡ suc (length (pushes_by p es)) = ap (λ (b : Bool). length (cond b (e.id ∷ pushes_by p es) (pushes_by p es))) (eq-eqb e.by p q) in
+    let h : length (cond (eqb e.by p) (e.id ∷ pushes_by p es) (pushes_by p es)) ≡ suc (length (pushes_by p es)) =
+    ap (λ (b : Bool). length (cond b (e.id ∷ pushes_by p es) (pushes_by p es))) (eq-eqb e.by p q) in
     omega arith
 
 none_later : (p : ℕ) (e : Push) (es : List Push) → pushes_by p (e ∷ es) ≡ [] → pushes_by p es ≡ []
@@ -51,10 +61,14 @@ covered m known [] h = omega arith
 covered m known (e ∷ es) h =
     let ih = covered m known es (λ p. ⊎_elim (λ q. inl q) (λ r. inr (⊎_elim (λ n. inl n) (λ z. inr (none_later p e es z)) r)) (h p)) in
     let mine = pushes_grow m e es in
-    let theirs = sum_mono (λ (d : Returned). length (pushes_by d.number es)) (λ (d : Returned). length (pushes_by d.number (e ∷ es))) (λ d. pushes_grow d.number e es) known in
+    let theirs =
+    sum_mono (λ (d : Returned). length (pushes_by d.number es)) (λ (d : Returned). length (pushes_by d.number (e ∷ es)))
+    (λ d. pushes_grow d.number e es) known in
     ⊎_elim (λ (q : e.by ≡ m). let one = pushes_mine m e es q in omega arith)
     (⊎_elim (λ (n : IsReturned e.by known).
-    let more = sum_more (λ (d : Returned). length (pushes_by d.number es)) (λ (d : Returned). length (pushes_by d.number (e ∷ es))) (λ d. pushes_grow d.number e es) known n.0 n.1 n.2
+    let more =
+    sum_more (λ (d : Returned). length (pushes_by d.number es)) (λ (d : Returned). length (pushes_by d.number (e ∷ es)))
+    (λ d. pushes_grow d.number e es) known n.0 n.1 n.2
     (let one = pushes_mine n.1.number e es (sym n.3) in omega arith) in
     omega arith)
     (λ (z : pushes_by e.by (e ∷ es) ≡ []).
@@ -64,12 +78,15 @@ covered m known (e ∷ es) h =
     (h e.by)
 
 -- what was popped and what is queued are then no more than these pushes
-pub all_told : (v : EndView) (queued : List ℕ) → v.made ≤ length v.returned + 1 → KnowsOrder v queued → length v.popped + length queued ≤ length v.pushed + returned_pushes v.returned
+pub all_told : (v : EndView) (queued : List ℕ) → v.made ≤ length v.returned + 1 → KnowsOrder v queued
+    → length v.popped + length queued ≤ length v.pushed + returned_pushes v.returned
 all_told v queued all_back t =
     let least = t.enough in
     let full : length v.returned + 1 ≡ v.made = omega arith in
     let most = covered v.number v.returned t.order (t.nobody_else full) in
-    let theirs = sum_same (λ (d : Returned). length d.pushed) (λ (d : Returned). length (pushes_by d.number t.order)) v.returned (λ k d e. ap (λ (l : List ℕ). length l) (t.by_others k d e)) in
+    let theirs =
+    sum_same (λ (d : Returned). length d.pushed) (λ (d : Returned). length (pushes_by d.number t.order)) v.returned
+    (λ k d e. ap (λ (l : List ℕ). length l) (t.by_others k d e)) in
     let mine : length v.pushed ≡ length (pushes_by v.number t.order) = ap (λ (l : List ℕ). length l) t.by_poller in
     let ids : length (ids_of t.order) ≡ length (v.popped ++ queued) = ap (λ (l : List ℕ). length l) t.all in
     let size = length-map t.order (λ (x : Push). x.id) in
@@ -98,7 +115,9 @@ module _ {R : Type 0} where
       → ((k : ℕ) (d : Returned) → get_elem? (map (as_returned {R = R}) ins) k ≡ some d → d.pushed ≡ pushes_by d.number order)
       → All (λ (end : ListIn R). pushed_by end ≡ pushes_by (number_of end) order) ins
   each_end [] order h = All-nil (λ (end : ListIn R). pushed_by end ≡ pushes_by (number_of end) order)
-  each_end (end ∷ ends) order h = All-cons (λ (e : ListIn R). pushed_by e ≡ pushes_by (number_of e) order) end ends (h zero (as_returned end) refl) (each_end ends order (λ k d e. h (suc k) d e))
+  each_end (end ∷ ends) order h =
+      All-cons (λ (e : ListIn R). pushed_by e ≡ pushes_by (number_of e) order) end ends (h zero (as_returned end) refl)
+      (each_end ends order (λ k d e. h (suc k) d e))
 
   -- what a poller to which all ends came back knows of the one order, once the queue was found empty
   pub read_off : (list : SharedList R) (ins : List (ListIn R)) (fresh : List ℕ) (v w : EndView)
@@ -114,7 +133,8 @@ module _ {R : Type 0} where
       let popped : List ℕ = popped_by list in
       let back : List Returned = map (as_returned {R = R}) ins in
       let queued : List ℕ = empty.0 in
-      let q : w ≡ poller made own (popped ++ fresh) back = is ∙ ap (λ (x : EndView). record x { popped = x.popped ++ fresh }) from ∙ ap (λ (k : List Returned). poller made own (popped ++ fresh) (k ++ back)) none in
+      let q : w ≡ poller made own (popped ++ fresh) back = is ∙ ap (λ (x : EndView). record x { popped = x.popped ++ fresh }) from
+      ∙ ap (λ (k : List Returned). poller made own (popped ++ fresh) (k ++ back)) none in
       let t : KnowsOrder (poller made own (popped ++ fresh) back) queued = subst (λ (x : EndView). KnowsOrder x queued) q empty.2 in
       let nothing : queued ≡ [] = nil_from_length queued empty.1 in
       let least = t.enough in (

@@ -43,7 +43,8 @@ pub record KnowsOrder (v : EndView) (queued : List ℕ) : Type 0 where
   pub by_others : (k : ℕ) (d : Returned) → get_elem? v.returned k ≡ some d → d.pushed ≡ pushes_by d.number order
   -- once all ends came back, nobody else pushed
   pub enough : length v.returned + 1 ≤ v.made
-  pub nobody_else : length v.returned + 1 ≡ v.made → (number : ℕ) → (number ≡ v.number) ⊎ (IsReturned number v.returned ⊎ (pushes_by number order ≡ []))
+  pub nobody_else : length v.returned + 1 ≡ v.made → (number : ℕ)
+      → (number ≡ v.number) ⊎ (IsReturned number v.returned ⊎ (pushes_by number order ≡ []))
 
 -- the poller popped these, and knows else what it knew
 abbrev pub PopsMore : EndView → List ℕ → EndView → Type 0
@@ -56,7 +57,8 @@ WasEmpty v = (queued : List ℕ) × (length queued ≡ 0) × KnowsOrder v queued
 -- What the ends begin with, and what is left of one that came back.
 
 abbrev pub poller : ℕ → List ℕ → List ℕ → List Returned → EndView
-poller made pushed popped returned = record { live = true; polls = true; number = 0; made = made; pushed = pushed; popped = popped; returned = returned }
+poller made pushed popped returned =
+    record { live = true; polls = true; number = 0; made = made; pushed = pushed; popped = popped; returned = returned }
 
 abbrev pub pusher : ℕ → List ℕ → EndView
 pusher number pushed = record { live = true; polls = false; number = number; made = 0; pushed = pushed; popped = []; returned = [] }
@@ -91,5 +93,6 @@ pub record InOneOrder (queued : List ℕ) (views : List EndView) : Type 0 where
   pub sized : length views ≡ made
   pub fits : (number : ℕ) (v : EndView) → get_elem? views number ≡ some v → FitsEnd order popped returned made number v
   pub later : (number : ℕ) → made ≤ number → pushes_by number order ≡ []
-  pub kept : (k : ℕ) (d : Returned) → get_elem? returned k ≡ some d → (d.pushed ≡ pushes_by d.number order) × (d.number < made) × ((u : EndView) → get_elem? views d.number ≡ some u → u.live ≡ false)
+  pub kept : (k : ℕ) (d : Returned) → get_elem? returned k ≡ some d
+      → (d.pushed ≡ pushes_by d.number order) × (d.number < made) × ((u : EndView) → get_elem? views d.number ≡ some u → u.live ≡ false)
   pub counted : sum_by live_count views + length returned ≡ made

@@ -1,9 +1,15 @@
 -- Runs over a list of one thread: by their polls alone, and that two of them agree.
-use Rattle.std.{proofs.Common.{◌≡◌, ◌≢◌, ◌∙◌, ◌⊎◌, inl, inr, ℕ, ◌+◌, ◌<◌, ◌≤◌, Bool, false, cond, List, [], ◌∷◌, ◌++◌, length, length-append, take, drop, refl, sym, ap, arith, append_assoc}, specs.List.{AllByRecursion, concat}}
-use Rattle.std.proofs.{Math.Seq.{drop-append_seam, take-add, take-append_seam}, lemmas.{List.{append-nil, append_cancel_left, drop-drop, take-append-drop, take-append-le, take_all}, Bool.cases_lt}}
-use Rattle.poll_runs.specs.{Laws.{FollowEachOther, HasOneOutcome, IsPlainRun, NoOtherArrivals, PlainListAfterwards}, Plain.{NothingBehind, OwnPushes, all_held}, Polls.{At, Chain, Poll, arrivals, ids, is_arrival, is_repoll, repolled}}
-use Rattle.poll_runs.{specs.{Run.{AreBatches, IsBatch, is_spent}, declared.bench.Next.Next}, proofs.PollFacts.{arrivals-append, ids-append, length-ids, taken-le, arrivals-cons, repolled-cons}}
-use Rattle.{poll_runs.specs.declared.{bench.{Next.TheVariants.{Absent, Gone, Again, Repoll}, Once.Once}, run.RunReport.RunReport}, napi_model.specs.declared.state.Kind.Kind}
+use Rattle.std.proofs.Common.{◌≡◌, ◌≢◌, ◌∙◌, ◌⊎◌, inl, inr, ℕ, ◌+◌, ◌<◌, ◌≤◌, Bool, false, cond, List, [], ◌∷◌, ◌++◌, length, length-append}
+use Rattle.std.{proofs.Common.{take, drop, refl, sym, ap, arith, append_assoc}, specs.List.{AllByRecursion, concat}}
+use Rattle.std.proofs.Math.Seq.{drop-append_seam, take-add, take-append_seam}
+use Rattle.std.proofs.lemmas.{List.{append-nil, append_cancel_left, drop-drop, take-append-drop, take-append-le, take_all}, Bool.cases_lt}
+use Rattle.poll_runs.specs.Laws.{FollowEachOther, HasOneOutcome, IsPlainRun, NoOtherArrivals, PlainListAfterwards}
+use Rattle.poll_runs.specs.Plain.{NothingBehind, OwnPushes, all_held}
+use Rattle.poll_runs.specs.Polls.{At, Chain, Poll, arrivals, ids, is_arrival, is_repoll, repolled}
+use Rattle.poll_runs.specs.{Run.{AreBatches, IsBatch, is_spent}, declared.bench.Next.Next}
+use Rattle.poll_runs.proofs.PollFacts.{arrivals-append, ids-append, length-ids, taken-le, arrivals-cons, repolled-cons}
+use Rattle.poll_runs.specs.declared.{bench.{Next.TheVariants.{Absent, Gone, Again, Repoll}, Once.Once}, run.RunReport.RunReport}
+use Rattle.napi_model.specs.declared.state.Kind.{Kind}
 
 -- a batch over a list of one thread
 abbrev pub IsPlainBatch : ℕ → ℕ → List ℕ → List Poll → List ℕ → Type 0
@@ -34,11 +40,21 @@ next-id : (budget window : ℕ) (start : List ℕ) (earlier later : List Poll) (
     → (more : List ℕ) × (ids earlier ++ poll.id ∷ more ≡ start ++ arrivals earlier)
 next-id budget window start earlier later poll rest taken [] short b front =
     let size : length (ids (earlier ++ poll ∷ later) ++ rest) ≡ length (taken ++ []) = ap length front in
-    absurd (omega (arith, size, length-append (ids (earlier ++ poll ∷ later)) rest, length-ids (earlier ++ poll ∷ later), length-append earlier (poll ∷ later), length-append taken [], short))
+    absurd (omega (
+      arith,
+      size,
+      length-append (ids (earlier ++ poll ∷ later)) rest,
+      length-ids (earlier ++ poll ∷ later),
+      length-append earlier
+          (poll ∷ later),
+      length-append taken [],
+      short,
+    ))
 next-id budget window start earlier later poll rest taken (batch ∷ batches) short b front =
     elim (cases_lt (length earlier) (length (taken ++ batch))) [
       | inl inside ↦ found inside
-      | inr outside ↦ next-id budget window start earlier later poll rest (taken ++ batch) batches (omega (arith, outside)) b.2 (front ∙ sym (append_assoc taken batch (concat batches)))
+      | inr outside ↦ next-id budget window start earlier later poll rest (taken ++ batch) batches (omega (arith, outside)) b.2
+          (front ∙ sym (append_assoc taken batch (concat batches)))
     ]
   where
     first : List Poll
@@ -51,14 +67,17 @@ next-id budget window start earlier later poll rest taken (batch ∷ batches) sh
     whole = rw (same, rw same at b.0) at (batch-whole budget window start (take (length taken) (earlier ++ poll ∷ later)) batch b.1)
 
     polled : ids earlier ++ poll.id ∷ (ids later ++ rest) ≡ (taken ++ batch) ++ concat batches
-    polled = sym (rw (ids-append earlier (poll ∷ later)) (append_assoc (ids earlier) (poll.id ∷ ids later) rest)) ∙ (front ∙ sym (append_assoc taken batch (concat batches)))
+    polled = sym (rw (ids-append earlier (poll ∷ later)) (append_assoc (ids earlier) (poll.id ∷ ids later) rest))
+        ∙ (front ∙ sym (append_assoc taken batch (concat batches)))
 
     all : arrivals earlier ≡ arrivals first ++ arrivals (drop (length taken) earlier)
     all = ap arrivals (sym (take-append-drop (length taken) earlier)) ∙ arrivals-append first (drop (length taken) earlier)
 
     found : length earlier < length (taken ++ batch) → (more : List ℕ) × (ids earlier ++ poll.id ∷ more ≡ start ++ arrivals earlier)
     found inside =
-        let part = front-at (ids earlier) poll.id (ids later ++ rest) (taken ++ batch) (concat batches) polled (omega (arith, inside, length-ids earlier)) in (
+        let part =
+        front-at (ids earlier) poll.id (ids later ++ rest) (taken ++ batch) (concat batches) polled
+        (omega (arith, inside, length-ids earlier)) in (
           part.0 ++ arrivals (drop (length taken) earlier),
           sym (append_assoc (ids earlier) (poll.id ∷ part.0) (arrivals (drop (length taken) earlier)))
               ∙ (rw (← part.1, whole, all) (append_assoc start (arrivals first) (arrivals (drop (length taken) earlier)))),
@@ -76,10 +95,28 @@ stops : (budget window : ℕ) (start : List ℕ) (polls later : List Poll) (poll
 stops budget window start polls later poll taken rest [] [] b o all front full why =
     let size : length (ids polls) ≡ length (taken ++ []) = ap length all in
     let more : length (ids (polls ++ poll ∷ later) ++ rest) ≡ length (taken ++ []) = ap length front in
-    absurd (omega (arith, size, more, length-append (ids (polls ++ poll ∷ later)) rest, length-ids polls, length-ids (polls ++ poll ∷ later), length-append polls (poll ∷ later)))
+    absurd (omega (
+      arith,
+      size,
+      more,
+      length-append (ids (polls ++ poll ∷ later)) rest,
+      length-ids polls,
+      length-ids
+          (polls ++ poll ∷ later),
+      length-append polls (poll ∷ later),
+    ))
 stops budget window start polls later poll taken rest (batch ∷ batches) [] b o all front full why =
     let more : length (ids (polls ++ poll ∷ later) ++ rest) ≡ length (taken ++ []) = ap length front in
-    absurd (omega (arith, more, taken-le polls taken b.0, length-append taken [], length-append (ids (polls ++ poll ∷ later)) rest, length-ids (polls ++ poll ∷ later), length-append polls (poll ∷ later)))
+    absurd (omega (
+      arith,
+      more,
+      taken-le polls taken b.0,
+      length-append taken [],
+      length-append (ids (polls ++ poll ∷ later)) rest,
+      length-ids
+          (polls ++ poll ∷ later),
+      length-append polls (poll ∷ later),
+    ))
 stops budget window start polls later poll taken rest (batch ∷ batches) (other ∷ others) b o all front full why =
     let same = take-append-le (length taken) polls (poll ∷ later) (taken-le polls taken b.0) in
     let one = batch-whole budget window start (take (length taken) polls) batch b.1 in
@@ -88,13 +125,17 @@ stops budget window start polls later poll taken rest (batch ∷ batches) (other
     stops budget window start polls later poll (taken ++ batch) rest batches others b.2 (rw equal at o.2)
     (all ∙ sym (append_assoc taken batch (concat batches))) (front ∙ (rw equal (sym (append_assoc taken batch (concat others))))) full.1 why
 stops budget window start polls later poll taken rest [] (other ∷ others) b o all front full why =
-    elim why [ inl again ↦ again next.no_repoll | inr none ↦ full.0 (append_cancel_left (ids polls) other [] (whole ∙ sym (batch-whole budget window start polls [] none))) ]
+    elim why [
+      | inl again ↦ again next.no_repoll
+      | inr none ↦ full.0 (append_cancel_left (ids polls) other [] (whole ∙ sym (batch-whole budget window start polls [] none)))
+    ]
   where
     size : length (ids polls) ≡ length taken
     size = ap length (all ∙ append-nil taken)
 
     same : take (length taken) (polls ++ poll ∷ later) ≡ polls
-    same = take-append-le (length taken) polls (poll ∷ later) (omega (arith, size, length-ids polls)) ∙ take_all (length taken) polls (omega (arith, size, length-ids polls))
+    same = take-append-le (length taken) polls (poll ∷ later) (omega (arith, size, length-ids polls))
+        ∙ take_all (length taken) polls (omega (arith, size, length-ids polls))
 
     next : IsPlainBatch budget window start polls other
     next = rw same at o.1
@@ -124,14 +165,16 @@ longer budget window start left kept polls later poll report other run long =
     equal = batch-whole budget window start [] long.first long.batches.1 ∙ sym (batch-whole budget window start [] run.first run.batches.1)
 
 -- what is polled, and what is left on the list
-pub plain-whole : (budget window : ℕ) (start after : List ℕ) (polls : List Poll) (report : RunReport) → (run : IsPlainRun budget window start polls after report)
+pub plain-whole : (budget window : ℕ) (start after : List ℕ) (polls : List Poll) (report : RunReport)
+    → (run : IsPlainRun budget window start polls after report)
     → ids polls ++ (run.rest ++ run.late) ≡ start ++ arrivals polls
 plain-whole budget window start after polls report run =
     let own : run.came ≡ arrivals polls = run.moved in
     rw (← append_assoc (ids polls) run.rest run.late, run.front, ← own) run.joined
 
 -- the polls that are left to two runs, after the same ones from the same bench, agree
-agree : {B : Type 0} (relation : B → ℕ → ℕ → Once → B → Type 0) (budget weight window : ℕ) (start left kept : List ℕ) (report other : RunReport)
+agree : {B : Type 0} (relation : B → ℕ → ℕ → Once → B → Type 0) (budget weight window : ℕ) (start left kept : List ℕ)
+    (report other : RunReport)
     → HasOneOutcome relation → (earlier polls others : List Poll) (bench after last : B)
     → Chain (At relation weight) bench polls after → IsPlainRun budget window start (earlier ++ polls) left report
     → Chain (At relation weight) bench others last → IsPlainRun budget window start (earlier ++ others) kept other
@@ -143,7 +186,8 @@ agree relation budget weight window start left kept report other one earlier (po
     absurd (longer budget window start kept left earlier polls poll other report (rw (append-nil earlier) at s) r)
 agree {B} relation budget weight window start left kept report other one earlier (poll ∷ polls) (next ∷ others) bench after last c r d s =
     let rest : (polls ≡ others) × (after ≡ last) =
-    agree relation budget weight window start left kept report other one (earlier ++ poll ∷ []) polls others c.0 after last c.2 (rw (append_assoc earlier (poll ∷ []) polls) r)
+    agree relation budget weight window start left kept report other one (earlier ++ poll ∷ []) polls others c.0 after last c.2
+    (rw (append_assoc earlier (poll ∷ []) polls) r)
     (rw outcome.1 d.2) (rw (append_assoc earlier (poll ∷ []) others, same) s) in
     (rw (same, rest.0) refl, rest.1)
   where
@@ -163,7 +207,8 @@ agree {B} relation budget weight window start left kept report other one earlier
         step
 
 pub runs-agree : {B : Type 0} (relation : B → ℕ → ℕ → Once → B → Type 0) → HasOneOutcome relation
-    → (budget weight window : ℕ) (bench : B) (list : List ℕ) (polls others : List Poll) (after last : B) (left kept : List ℕ) (report other : RunReport)
+    → (budget weight window : ℕ) (bench : B) (list : List ℕ) (polls others : List Poll) (after last : B) (left kept : List ℕ)
+    (report other : RunReport)
     → Chain (At relation weight) bench polls after → IsPlainRun budget window list polls left report
     → Chain (At relation weight) bench others last → IsPlainRun budget window list others kept other
     → (polls ≡ others) × (after ≡ last) × (left ≡ kept) × (report ≡ other)
@@ -184,7 +229,11 @@ runs-agree relation one budget weight window bench list polls others after last 
 
     reports : report ≡ other
     reports =
-        let step : record { polls = report.polls; work = report.work; squeezed = report.squeezed } ≡ record { polls = other.polls; work = other.work; squeezed = other.squeezed } =
+        let step : record { polls = report.polls; work = report.work; squeezed = report.squeezed } ≡ record {
+          polls = other.polls;
+          work = other.work;
+          squeezed = other.squeezed;
+        } =
         rw (r.count, r.sum, r.squeezed, run.count, run.sum, run.squeezed) refl in
         step
 
@@ -193,8 +242,10 @@ pub handed-most : (polls : List Poll) → length (arrivals polls) + length (repo
 handed-most [] = omega arith
 handed-most (poll ∷ polls) =
     let by : Bool → List ℕ = λ (b : Bool). cond b (poll.id ∷ []) [] in
-    let a : length (arrivals (poll ∷ polls)) ≡ length (by (is_arrival poll.once.next)) + length (arrivals polls) = ap length (arrivals-cons poll polls) ∙ length-append (by (is_arrival poll.once.next)) (arrivals polls) in
-    let r : length (repolled (poll ∷ polls)) ≡ length (by (is_repoll poll.once.next)) + length (repolled polls) = ap length (repolled-cons poll polls) ∙ length-append (by (is_repoll poll.once.next)) (repolled polls) in
+    let a : length (arrivals (poll ∷ polls)) ≡ length (by (is_arrival poll.once.next)) + length (arrivals polls) =
+    ap length (arrivals-cons poll polls) ∙ length-append (by (is_arrival poll.once.next)) (arrivals polls) in
+    let r : length (repolled (poll ∷ polls)) ≡ length (by (is_repoll poll.once.next)) + length (repolled polls) =
+    ap length (repolled-cons poll polls) ∙ length-append (by (is_repoll poll.once.next)) (repolled polls) in
     omega (arith, a, r, handed-most polls, one poll.once.next poll.id)
   where
     one : (next : Next) (id : ℕ) → length (cond (is_arrival next) (id ∷ []) []) + length (cond (is_repoll next) (id ∷ []) []) ≤ 1
@@ -220,7 +271,17 @@ list-afterwards budget window start after polls report run = (polled, left, size
     sized =
         let all : length (ids polls ++ (run.rest ++ run.late)) ≡ length (start ++ arrivals polls) = ap length whole in
         let end : length after ≡ length ((run.rest ++ run.late) ++ repolled polls) = ap length run.left in
-        omega (arith, all, end, handed-most polls, length-ids polls, length-append (ids polls) (run.rest ++ run.late), length-append (run.rest ++ run.late) (repolled polls), length-append start (arrivals polls))
+        omega (
+          arith,
+          all,
+          end,
+          handed-most polls,
+          length-ids polls,
+          length-append (ids polls) (run.rest ++ run.late),
+          length-append
+              (run.rest ++ run.late) (repolled polls),
+          length-append start (arrivals polls),
+        )
 
 follow : (budget window : ℕ) (start : List ℕ) (polls : List Poll) (taken batch : List ℕ) (more : List (List ℕ))
     → taken ++ batch ≡ start ++ arrivals (take (length taken) polls)
@@ -228,8 +289,10 @@ follow : (budget window : ℕ) (start : List ℕ) (polls : List Poll) (taken bat
     → FollowEachOther (drop (length taken) polls) batch more
 follow budget window start polls taken batch [] whole b = tt
 follow budget window start polls taken batch (next ∷ more) whole b = (
-  append_cancel_left (taken ++ batch) next (arrivals here) (further ∙ (rw (cut, arrivals-append first here, whole) (sym (append_assoc start (arrivals first) (arrivals here))))),
-  rw (drop-drop (length batch) (length taken) polls, ← length-append taken batch) (follow budget window start polls (taken ++ batch) next more further b.2),
+  append_cancel_left (taken ++ batch) next (arrivals here)
+      (further ∙ (rw (cut, arrivals-append first here, whole) (sym (append_assoc start (arrivals first) (arrivals here))))),
+  rw (drop-drop (length batch) (length taken) polls, ← length-append taken batch)
+      (follow budget window start polls (taken ++ batch) next more further b.2),
 )
   where
     first : List Poll

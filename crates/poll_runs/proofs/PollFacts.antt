@@ -1,5 +1,6 @@
 -- What one more poll adds to a list of polls.
-use Rattle.std.proofs.{Common.{◌≡◌, ◌∙◌, ℕ, ◌+◌, ◌≤◌, Bool, true, false, cond, List, [], ◌∷◌, ◌++◌, length, take, map, refl, sym, ap, arith}, lemmas.List.{length-take, map-append, Elements.filter-append, Sums.sum_by-append}}
+use Rattle.std.proofs.Common.{◌≡◌, ◌∙◌, ℕ, ◌+◌, ◌≤◌, Bool, true, false, cond, List, [], ◌∷◌, ◌++◌, length, take, map, refl, sym, ap, arith}
+use Rattle.std.proofs.lemmas.List.{length-take, map-append, Elements.filter-append, Sums.sum_by-append}
 use Rattle.poll_runs.specs.Polls.{Chain, Poll, arrivals, ids, is_arrival, is_repoll, repolled, work_of}
 
 pub chain-push : {A B : Type 0} (leads : B → A → B → Type 0) (before : B) (polls : List A) (after last : B) (poll : A)
@@ -26,10 +27,12 @@ arrivals-one poll = one-id (is_arrival poll.once.next) poll
 pub repolled-one : (poll : Poll) → repolled (poll ∷ []) ≡ cond (is_repoll poll.once.next) (poll.id ∷ []) []
 repolled-one poll = one-id (is_repoll poll.once.next) poll
 
-pub arrivals-cons : (one : Poll) (polls : List Poll) → arrivals (one ∷ polls) ≡ cond (is_arrival one.once.next) (one.id ∷ []) [] ++ arrivals polls
+pub arrivals-cons : (one : Poll) (polls : List Poll)
+    → arrivals (one ∷ polls) ≡ cond (is_arrival one.once.next) (one.id ∷ []) [] ++ arrivals polls
 arrivals-cons one polls = arrivals-append (one ∷ []) polls ∙ ap (λ (l : List ℕ). l ++ arrivals polls) (arrivals-one one)
 
-pub repolled-cons : (one : Poll) (polls : List Poll) → repolled (one ∷ polls) ≡ cond (is_repoll one.once.next) (one.id ∷ []) [] ++ repolled polls
+pub repolled-cons : (one : Poll) (polls : List Poll)
+    → repolled (one ∷ polls) ≡ cond (is_repoll one.once.next) (one.id ∷ []) [] ++ repolled polls
 repolled-cons one polls = repolled-append (one ∷ []) polls ∙ ap (λ (l : List ℕ). l ++ repolled polls) (repolled-one one)
 
 pub work-push : (polls : List Poll) (poll : Poll) → work_of (polls ++ poll ∷ []) ≡ work_of polls + poll.once.work

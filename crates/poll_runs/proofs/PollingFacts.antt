@@ -1,8 +1,14 @@
 -- A thread's polling of one instance on its way, and what its polls are.
-use Rattle.std.proofs.{Common.{◌≡◌, ◌≢◌, ◌∙◌, ℕ, zero, suc, ◌+◌, ◌-◌, ◌<◌, ◌≤◌, Bool, true, false, List, [], ◌∷◌, ◌++◌, length, length-append, append_assoc, ap, refl, sym, arith, nat_lt}, Math.Bool.{and-false, and-true}}
-use Rattle.{std.{specs.{Prelude.{◌==◌, sum_by, Option, MatchBool}, List.AllByRecursion}, proofs.lemmas.{Bool.{eq-eqb, le-ltb, lt-ltb, ltb-true, ne_eqb}, List.Sums.sum_by-append}}, napi_model.specs.declared.state.Kind.Kind}
-use Rattle.{poll_runs.specs.{Polls.is_repoll, Polling.{Ends, Follows, LetsGo, PollsByThread, PollsHeld, goes_on}, Thread.{Continues, IsThreadPolling, is_for_thread, last_next}, declared.bench.Next.Next}, napi_model.proofs.SeenCases.and_l}
-use Rattle.{poll_runs.specs.declared.bench.{Next.TheVariants.{Absent, Gone, Again, Repoll}, Once.Once, ThreadReport.ThreadReport}, napi_model.proofs.SeenCases.and_r}
+use Rattle.std.proofs.Common.{◌≡◌, ◌≢◌, ◌∙◌, ℕ, zero, suc, ◌+◌, ◌-◌, ◌<◌, ◌≤◌, Bool, true, false, List, [], ◌∷◌, ◌++◌, length}
+use Rattle.std.proofs.{Common.{length-append, append_assoc, ap, refl, sym, arith, nat_lt}, Math.Bool.{and-false, and-true}}
+use Rattle.std.specs.{Prelude.{◌==◌, sum_by, Option, MatchBool}, List.AllByRecursion}
+use Rattle.std.proofs.lemmas.{Bool.{eq-eqb, le-ltb, lt-ltb, ltb-true, ne_eqb}, List.Sums.sum_by-append}
+use Rattle.napi_model.specs.declared.state.Kind.{Kind}
+use Rattle.poll_runs.specs.{Polls.is_repoll, Polling.{Ends, Follows, LetsGo, PollsByThread, PollsHeld, goes_on}}
+use Rattle.poll_runs.specs.{Thread.{Continues, IsThreadPolling, is_for_thread, last_next}, declared.bench.Next.Next}
+use Rattle.napi_model.proofs.SeenCases.{and_l}
+use Rattle.poll_runs.specs.declared.bench.{Next.TheVariants.{Absent, Gone, Again, Repoll}, Once.Once, ThreadReport.ThreadReport}
+use Rattle.napi_model.proofs.SeenCases.{and_r}
 
 last-snoc : (polls : List Once) (once : Once) → last_next (polls ++ once ∷ []) ≡ once.next
 last-snoc (first ∷ second ∷ more) once = last-snoc (second ∷ more) once
@@ -40,10 +46,13 @@ pub record Polls (weight most : ℕ) (polls : List Once) : Type 0 where
   pub continues : Continues polls
   pub fewer : length polls < most → last_next polls ≢ Repoll
 
-only-of : (weight most : ℕ) (once : Once) → (once.work ≤ weight) × (once.next ≢ Absent) → 1 ≤ most → (1 < most → once.next ≢ Repoll) → Polls weight most (once ∷ [])
-only-of weight most once small room stops = record { within = omega (arith, room); each = (small, tt); continues = tt; fewer = λ less. stops (omega (arith, less)) }
+only-of : (weight most : ℕ) (once : Once) → (once.work ≤ weight) × (once.next ≢ Absent) → 1 ≤ most → (1 < most → once.next ≢ Repoll)
+    → Polls weight most (once ∷ [])
+only-of weight most once small room stops =
+    record { within = omega (arith, room); each = (small, tt); continues = tt; fewer = λ less. stops (omega (arith, less)) }
 
-joined : (weight most : ℕ) (once : Once) (more : List Once) → (once.work ≤ weight) × (once.next ≢ Absent) → is_for_thread once.next ≡ true → 1 < most → (more ≡ [] → once.next ≢ Repoll)
+joined : (weight most : ℕ) (once : Once) (more : List Once) → (once.work ≤ weight) × (once.next ≢ Absent) → is_for_thread once.next ≡ true
+    → 1 < most → (more ≡ [] → once.next ≢ Repoll)
     → Polls weight (most - 1) more → Polls weight most (once ∷ more)
 joined weight most once [] small goes room stops p = only-of weight most once small (omega (arith, room)) (λ less. stops refl)
 joined weight most once (second ∷ more) small goes room stops p = record {
@@ -53,7 +62,8 @@ joined weight most once (second ∷ more) small goes room stops p = record {
   fewer = λ less. p.fewer (omega (arith, less, room));
 }
 
-small-more : (weight : ℕ) (polls : List Once) (once : Once) → AllByRecursion (λ (o : Once). o.work ≤ weight) polls → once.work ≤ weight → AllByRecursion (λ (o : Once). o.work ≤ weight) (polls ++ once ∷ [])
+small-more : (weight : ℕ) (polls : List Once) (once : Once) → AllByRecursion (λ (o : Once). o.work ≤ weight) polls → once.work ≤ weight
+    → AllByRecursion (λ (o : Once). o.work ≤ weight) (polls ++ once ∷ [])
 small-more weight [] once all small = (small, tt)
 small-more weight (first ∷ polls) once all small = (all.0, small-more weight polls once all.1 small)
 
@@ -81,7 +91,8 @@ module _ {I P : Type 0} (takes : I → Kind → Bool → I → Type 0) (gives : 
     pub small : AllByRecursion (λ once. once.work ≤ weight) polls
     pub tells : Tells polls report
     pub whole : MatchBool held
-        ((more : List Once) (last : P) (after : I) → By weight left true now given more last after → By weight most false start packets (polls ++ more) last after)
+        ((more : List Once) (last : P) (after : I) → By weight left true now given more last after
+        → By weight most false start packets (polls ++ more) last after)
         (By weight most false start packets polls given now)
 
   -- the thread had taken it
@@ -118,10 +129,12 @@ module _ {I P : Type 0} (takes : I → Kind → Bool → I → Type 0) (gives : 
       (By weight (left - 1) (is_repoll once.next) polled given more last after)
       ((more ≡ []) × (last ≡ given) × LetsGo takes gives looks requeues completes once.next polled after)
 
-  module _ (weight most : ℕ) (start : I) (packets : P) (now : I) (given : P) (report : ThreadReport) (g : Going weight most start packets true now given report)
+  module _ (weight most : ℕ) (start : I) (packets : P) (now : I) (given : P) (report : ThreadReport)
+      (g : Going weight most start packets true now given report)
       (once : Once) (given' : P) (polled : I) (h : Held weight now given' once polled) (small : once.work ≤ weight) where
     -- it was the last one
-    ends-with : (after : I) → Rest weight g.left once polled given' [] given' after → Going weight most start packets false after given' (told report once)
+    ends-with : (after : I) → Rest weight g.left once polled given' [] given' after
+        → Going weight most start packets false after given' (told report once)
     ends-with after rest = record {
       polls = g.polls ++ once ∷ [];
       left = g.left - 1;
@@ -134,7 +147,8 @@ module _ {I P : Type 0} (takes : I → Kind → Bool → I → Type 0) (gives : 
 
     -- the thread has the instance still, or again
     goes-with : (after : I) → 1 < g.left
-        → ((more : List Once) (last : P) (end : I) → By weight (g.left - 1) true after given' more last end → Rest weight g.left once polled given' more last end)
+        → ((more : List Once) (last : P) (end : I) → By weight (g.left - 1) true after given' more last end
+        → Rest weight g.left once polled given' more last end)
         → Going weight most start packets true after given' (told report once)
     goes-with after room rest = record {
       polls = g.polls ++ once ∷ [];
@@ -143,11 +157,14 @@ module _ {I P : Type 0} (takes : I → Kind → Bool → I → Type 0) (gives : 
       some = λ e. omega (arith, room);
       small = small-more weight g.polls once g.small small;
       tells = tells-more g.polls once report g.tells;
-      whole = λ more last end b. rw (append_assoc g.polls (once ∷ []) more) (g.whole (once ∷ more) last end (now, given', polled, refl, h, rest more last end b));
+      whole =
+          λ more last end b. rw (append_assoc g.polls (once ∷ []) more)
+          (g.whole (once ∷ more) last end (now, given', polled, refl, h, rest more last end b));
     }
 
     -- it leaves nothing to the thread
-    lets-go : (after : I) → goes_on once.next g.left ≡ false → LetsGo takes gives looks requeues completes once.next polled after → Going weight most start packets false after given' (told report once)
+    lets-go : (after : I) → goes_on once.next g.left ≡ false → LetsGo takes gives looks requeues completes once.next polled after
+        → Going weight most start packets false after given' (told report once)
     lets-go after stops go = ends-with after (rw stops (refl, refl, go))
 
     more-polls : (held : Bool) (after : I) → 1 < g.left → Follows takes gives looks requeues completes false once.next polled held after
@@ -160,13 +177,16 @@ module _ {I P : Type 0} (takes : I → Kind → Bool → I → Type 0) (gives : 
         by : (next : Next) → once.next ≡ next → (held : Bool) → Follows takes gives looks requeues completes false next polled held after
             → Going weight most start packets held after given' (told report once)
         by Repoll e held f = rw f.0 (goes-with after room (λ more last end b. rw (goes Repoll e, e) (rw (sym f.1) b)))
-        by (Again Kind.Thread) e true f = goes-with after room (λ more last end b. rw (goes (Again Kind.Thread) e, e) (with-take weight (g.left - 1) polled after given' more last end f b))
+        by (Again Kind.Thread) e true f =
+            goes-with after room
+            (λ more last end b. rw (goes (Again Kind.Thread) e, e) (with-take weight (g.left - 1) polled after given' more last end f b))
         by (Again Kind.Thread) e false f = ends-with after (rw (goes (Again Kind.Thread) e, e) (refl, f, refl))
         by (Again Kind.List) e held f = rw f.0 (lets-go after (goes (Again Kind.List) e) (rw e f.1))
         by Absent e held f = rw f.0 (lets-go after (goes Absent e) (rw e f.1))
         by Gone e held f = rw f.0 (lets-go after (goes Gone e) (rw e f.1))
 
-    pub going-poll : (held : Bool) (after : I) → Follows takes gives looks requeues completes ((report.polls + 1) == most) once.next polled held after
+    pub going-poll : (held : Bool) (after : I)
+        → Follows takes gives looks requeues completes ((report.polls + 1) == most) once.next polled held after
         → Going weight most start packets held after given' (told report once)
     going-poll held after f = by g.left refl
       where
@@ -176,18 +196,23 @@ module _ {I P : Type 0} (takes : I → Kind → Bool → I → Type 0) (gives : 
             let last = rw (eq-eqb (report.polls + 1) most (omega (arith, e, g.room, g.tells.count))) at f in
             rw last.0 (lets-go after (goes-last once.next g.left (omega (arith, e))) last.1)
         by (suc (suc n)) e =
-            let less = rw (ne_eqb (report.polls + 1) most (λ (same : report.polls + 1 ≡ most). absurd (omega (arith, e, g.room, g.tells.count, same)))) at f in
+            let less =
+            rw (ne_eqb (report.polls + 1) most (λ (same : report.polls + 1 ≡ most). absurd (omega (arith, e, g.room, g.tells.count, same))))
+            at f in
             more-polls held after (omega (arith, e)) less
 
-  ends-present : (full : Bool) (before : I) (next : Next) (after : I) → Ends takes gives looks requeues completes full before next after → next ≢ Absent
+  ends-present : (full : Bool) (before : I) (next : Next) (after : I) → Ends takes gives looks requeues completes full before next after
+      → next ≢ Absent
   ends-present full before Absent after e = absurd e
   ends-present full before next after e = λ same. cc same
 
   pub polls-are : (weight most : ℕ) (held : Bool) (before : I) (packets : P) (polls : List Once) (last : P) (after : I) → 1 ≤ most
       → AllByRecursion (λ (o : Once). o.work ≤ weight) polls → By weight most held before packets polls last after → Polls weight most polls
-  polls-are weight most held before packets [] last after room small b = record { within = omega arith; each = tt; continues = tt; fewer = λ less e. cc e }
+  polls-are weight most held before packets [] last after room small b =
+      record { within = omega arith; each = tt; continues = tt; fewer = λ less e. cc e }
   polls-are weight most held before packets (once ∷ more) last after room small b =
-      by (goes_on once.next most) refl b.5 (λ room'. polls-are weight (most - 1) (is_repoll once.next) b.2 b.1 more last after room' small.1)
+      by (goes_on once.next most) refl b.5
+      (λ room'. polls-are weight (most - 1) (is_repoll once.next) b.2 b.1 more last after room' small.1)
     where
       lawful : (once.work ≤ weight) × (once.next ≢ Absent)
       lawful = (small.0, ends-present (once.work == weight) b.4.0 once.next b.2 b.4.2)
@@ -196,15 +221,18 @@ module _ {I P : Type 0} (takes : I → Kind → Bool → I → Type 0) (gives : 
       stops e more-room same = let bad : true ≡ false = sym (goes-more once.next most more-room ∙ ap is_for_thread same) ∙ e in cc bad
 
       by : (goes : Bool) → goes_on once.next most ≡ goes → Rest weight most once b.2 b.1 more last after
-          → (1 ≤ most - 1 → By weight (most - 1) (is_repoll once.next) b.2 b.1 more last after → Polls weight (most - 1) more) → Polls weight most (once ∷ more)
+          → (1 ≤ most - 1 → By weight (most - 1) (is_repoll once.next) b.2 b.1 more last after → Polls weight (most - 1) more)
+          → Polls weight most (once ∷ more)
       by false e rest behind = let r = rw e at rest in rw r.0 (only-of weight most once lawful room (stops e))
       by true e rest behind =
           let r = rw e at rest in
           let more-room = goes-room once.next most e in
-          joined weight most once more lawful (goes-thread once.next most e) more-room (λ none. no-repoll once.next (rw none at r).0) (behind (omega (arith, more-room)) r)
+          joined weight most once more lawful (goes-thread once.next most e) more-room (λ none. no-repoll once.next (rw none at r).0)
+          (behind (omega (arith, more-room)) r)
 
   -- the thread's polling is done
-  pub going-ends : (weight most : ℕ) (start : I) (packets : P) (now : I) (given : P) (report : ThreadReport) → 1 ≤ most → Going weight most start packets false now given report
+  pub going-ends : (weight most : ℕ) (start : I) (packets : P) (now : I) (given : P) (report : ThreadReport) → 1 ≤ most
+      → Going weight most start packets false now given report
       → (polls : List Once) × By weight most false start packets polls given now × IsThreadPolling weight most polls report
   going-ends weight most start packets now given report room g =
       let are = polls-are weight most false start packets g.polls given now room g.small g.whole in (

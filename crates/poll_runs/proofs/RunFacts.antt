@@ -1,9 +1,15 @@
 -- A run on its way, and how each turn of the loop carries it on.
-use Rattle.std.proofs.{Common.{◌≡◌, ◌≢◌, ◌∙◌, ◌⊎◌, inl, inr, ℕ, ◌+◌, ◌<◌, ◌≤◌, Bool, true, false, cond, List, [], ◌∷◌, ◌++◌, length, length-append, take, refl, sym, ap, subst, arith, append_assoc}, lemmas.{Bool.lt-leb, List.append-nil}}
-use Rattle.{std.{proofs.{lemmas.List.{take-append-le, take_all, Folds.concat-append}, Math.Nat.eq-or-lt_of_le}, specs.{Prelude.{nat_le, ◌||◌, Option, Some, None, MatchOption}, List.{AllByRecursion, concat}}}, poll_runs.specs.Polls.Poll}
-use Rattle.poll_runs.specs.{Polls.{arrivals, ids, is_arrival, is_repoll, repolled, work_of}, Run.{AreBatches, IsBatch, IsRun, is_spent}, Driven.{Going, IsGoing, IsOver}, Steps.{Begins, has_spent}, Turn.{HandsOn, Refills, Takes, asked_for}, declared.{polling_run.PollingRun.PollingRun, run.RunReport.RunReport}}
-use Rattle.{poll_runs.specs.declared.bench.Next.{Next, TheVariants.{Absent, Gone, Again, Repoll}}, napi_model.specs.declared.state.Kind.Kind}
-use Rattle.poll_runs.proofs.PollFacts.{arrivals-append, arrivals-one, ids-append, length-ids, repolled-append, repolled-one, taken-le, work-push}
+use Rattle.std.proofs.Common.{◌≡◌, ◌≢◌, ◌∙◌, ◌⊎◌, inl, inr, ℕ, ◌+◌, ◌<◌, ◌≤◌, Bool, true, false, cond, List, [], ◌∷◌, ◌++◌, length}
+use Rattle.std.proofs.{Common.{length-append, take, refl, sym, ap, subst, arith, append_assoc}, lemmas.{Bool.lt-leb, List.append-nil}}
+use Rattle.std.proofs.{lemmas.List.{take-append-le, take_all, Folds.concat-append}, Math.Nat.eq-or-lt_of_le}
+use Rattle.{std.specs.{Prelude.{nat_le, ◌||◌, Option, Some, None, MatchOption}, List.{AllByRecursion, concat}}, poll_runs.specs.Polls.Poll}
+use Rattle.poll_runs.specs.{Polls.{arrivals, ids, is_arrival, is_repoll, repolled, work_of}, Run.{AreBatches, IsBatch, IsRun, is_spent}}
+use Rattle.poll_runs.specs.{Driven.{Going, IsGoing, IsOver}, Steps.{Begins, has_spent}, Turn.{HandsOn, Refills, Takes, asked_for}}
+use Rattle.poll_runs.specs.declared.{polling_run.PollingRun.PollingRun, run.RunReport.RunReport}
+use Rattle.poll_runs.specs.declared.bench.Next.{Next, TheVariants.{Absent, Gone, Again, Repoll}}
+use Rattle.napi_model.specs.declared.state.Kind.{Kind}
+use Rattle.poll_runs.proofs.PollFacts.{arrivals-append, arrivals-one, ids-append, length-ids, repolled-append, repolled-one, taken-le}
+use Rattle.poll_runs.proofs.PollFacts.{work-push}
 
 -- batches stay batches as polls are added
 pub batches-push : (takes : List Poll → List ℕ → Type 0) (polls : List Poll) (poll : Poll) (taken : List ℕ) (batches : List (List ℕ))
@@ -31,7 +37,8 @@ not-empty-push [] batch h n = (n, tt)
 not-empty-push (first ∷ batches) batch h n = (h.0, not-empty-push batches batch h.1 n)
 
 -- budget and window are left
-pub not-spent : (budget window : ℕ) (polls : List Poll) → work_of polls < budget → length polls < window → is_spent budget window polls ≡ false
+pub not-spent : (budget window : ℕ) (polls : List Poll) → work_of polls < budget → length polls < window
+    → is_spent budget window polls ≡ false
 not-spent budget window polls money room = rw (lt-leb budget (work_of polls) money, lt-leb window (length polls) room) refl
 
 -- the first splice
@@ -44,7 +51,19 @@ going-start entries moves is_all budget window start list own money room s = rec
   first = own;
   further = [];
   came = s.came;
-  batches = (refl, record { when = list; came = s.came; moved = s.moved; whole = s.gives; all = s.all; no_repoll = refl; left = (money, room) }, tt);
+  batches = (
+    refl,
+    record {
+      when = list;
+      came = s.came;
+      moved = s.moved;
+      whole = s.gives;
+      all = s.all;
+      no_repoll = refl;
+      left = (money, room);
+    },
+    tt,
+  );
   not_empty = tt;
   front = sym (append-nil own);
   moved = s.moved;
@@ -55,8 +74,10 @@ going-start entries moves is_all budget window start list own money room s = rec
   summed = refl;
 }
 
-pub run-begins : {L : Type 0} (entries : L → List ℕ) (moves : L → List ℕ → List ℕ → L → Type 0) (is_all : List ℕ → L → Type 0) (start list : L) (run : PollingRun)
-    → 0 < run.budget → 0 < run.window → run.asked ≡ None → Begins entries moves is_all start run list → IsGoing entries moves is_all start [] list run
+pub run-begins : {L : Type 0} (entries : L → List ℕ) (moves : L → List ℕ → List ℕ → L → Type 0) (is_all : List ℕ → L → Type 0)
+    (start list : L) (run : PollingRun)
+    → 0 < run.budget → 0 < run.window → run.asked ≡ None → Begins entries moves is_all start run list
+    → IsGoing entries moves is_all start [] list run
 run-begins entries moves is_all start list run money room rests b =
     rw (rests, b.repoll, b.polls, b.work) (going-start entries moves is_all run.budget run.window start list run.own money room b.takes)
 
@@ -69,7 +90,8 @@ pub record Filled {L : Type 0} (entries : L → List ℕ) (moves : L → List �
 -- a further batch, or none
 pub going-spliced : {L : Type 0} (entries : L → List ℕ) (moves : L → List ℕ → List ℕ → L → Type 0) (is_all : List ℕ → L → Type 0)
     (budget window : ℕ) (start : L) (polls : List Poll) (list after : L) (given : List ℕ) (count sum : ℕ)
-    → ((a b c : L) (pushed more came later : List ℕ) → moves a pushed came b → moves b more later c → moves a (pushed ++ more) (came ++ later) c)
+    → ((a b c : L) (pushed more came later : List ℕ) → moves a pushed came b → moves b more later c
+    → moves a (pushed ++ more) (came ++ later) c)
     → sum < budget → count < window
     → Takes entries moves is_all list given after
     → Going entries moves is_all budget window start polls list [] [] count sum
@@ -83,7 +105,9 @@ going-spliced {L} entries moves is_all budget window start polls list after give
     moved = rw (append-nil (arrivals polls)) at (joins start list after (arrivals polls) [] g.came s.came g.moved s.moved)
 
     whole : (g.first ++ concat g.further) ++ given ≡ entries start ++ (g.came ++ s.came)
-    whole = rw (s.gives, ← append_assoc (g.first ++ concat g.further) (entries list) s.came, g.joined) (append_assoc (entries start) g.came s.came)
+    whole =
+        rw (s.gives, ← append_assoc (g.first ++ concat g.further) (entries list) s.came, g.joined)
+        (append_assoc (entries start) g.came s.came)
 
     batch : IsBatch entries moves is_all budget window start polls given
     batch = record {
@@ -119,11 +143,14 @@ going-spliced {L} entries moves is_all budget window start polls list after give
         first = g.first;
         further = g.further ++ given ∷ [];
         came = g.came ++ s.came;
-        batches = batches-more (IsBatch entries moves is_all budget window start) polls [] (g.first ∷ g.further) given g.batches taken batch;
+        batches =
+            batches-more (IsBatch entries moves is_all budget window start) polls [] (g.first ∷ g.further) given g.batches taken batch;
         not_empty = not-empty-push g.further given g.not_empty (λ h. let bad : id ∷ own ≡ [] = e ∙ h in cc bad);
         front = rw (taken, e, concat-append g.further (given ∷ []), append-nil given) (append_assoc g.first (concat g.further) given);
         moved = moved;
-        joined = rw (s.nothing_kept, concat-append g.further (given ∷ []), append-nil given, ← append_assoc g.first (concat g.further) given) (append-nil _ ∙ whole);
+        joined =
+            rw (s.nothing_kept, concat-append g.further (given ∷ []), append-nil given, ← append_assoc g.first (concat g.further) given)
+            (append-nil _ ∙ whole);
         again = g.again;
         goes_on = g.goes_on;
         counted = g.counted;
@@ -132,9 +159,11 @@ going-spliced {L} entries moves is_all budget window start polls list after give
       none = λ h. cc h;
     }
 
-pub going-filled : {L : Type 0} (entries : L → List ℕ) (moves : L → List ℕ → List ℕ → L → Type 0) (is_all : List ℕ → L → Type 0) (has_room : L → ℕ → Type 0)
+pub going-filled : {L : Type 0} (entries : L → List ℕ) (moves : L → List ℕ → List ℕ → L → Type 0) (is_all : List ℕ → L → Type 0)
+    (has_room : L → ℕ → Type 0)
     (budget window : ℕ) (start : L) (polls : List Poll) (list after : L) (own repoll filled : List ℕ) (count sum : ℕ)
-    → ((a b c : L) (pushed more came later : List ℕ) → moves a pushed came b → moves b more later c → moves a (pushed ++ more) (came ++ later) c)
+    → ((a b c : L) (pushed more came later : List ℕ) → moves a pushed came b → moves b more later c
+    → moves a (pushed ++ more) (came ++ later) c)
     → sum < budget → count < window
     → Refills entries moves is_all has_room own list repoll filled after
     → Going entries moves is_all budget window start polls list own repoll count sum
@@ -147,7 +176,8 @@ going-filled entries moves is_all has_room budget window start polls list after 
     going-spliced entries moves is_all budget window start polls list after filled count sum joins money room r.takes g
 
 -- the room that is left where the own list was filled, and how much the run holds
-pub filled-room : {L : Type 0} (entries : L → List ℕ) (moves : L → List ℕ → List ℕ → L → Type 0) (is_all : List ℕ → L → Type 0) (has_room : L → ℕ → Type 0)
+pub filled-room : {L : Type 0} (entries : L → List ℕ) (moves : L → List ℕ → List ℕ → L → Type 0) (is_all : List ℕ → L → Type 0)
+    (has_room : L → ℕ → Type 0)
     (list after : L) (own repoll filled : List ℕ) → Refills entries moves is_all has_room own list repoll filled after
     → has_room list (length own + length repoll) → length own + length repoll ≤ 64
     → has_room after (length filled + length repoll) × (length filled + length repoll ≤ 64)
@@ -162,11 +192,16 @@ pub handed-room : {L : Type 0} (entries : L → List ℕ) (moves : L → List �
     (list after : L) (next : Next) (id n : ℕ) (repoll : List ℕ)
     → ((at : L) (n : ℕ) → has_room at (n + 1) → has_room at n) → HandsOn entries moves has_room list (is_arrival next) id after
     → has_room list ((n + length repoll) + 1) → (n + length repoll) + 1 ≤ 64
-    → has_room after (n + length (repoll ++ cond (is_repoll next) (id ∷ []) [])) × (n + length (repoll ++ cond (is_repoll next) (id ∷ []) []) ≤ 64)
-handed-room entries moves has_room list after (Again Kind.List) id n repoll less h room few = rw (append-nil repoll) (h.room (n + length repoll) room, omega (arith, few))
-handed-room entries moves has_room list after (Again Kind.Thread) id n repoll less h room few = rw (append-nil repoll, h) (less list (n + length repoll) room, omega (arith, few))
-handed-room entries moves has_room list after Absent id n repoll less h room few = rw (append-nil repoll, h) (less list (n + length repoll) room, omega (arith, few))
-handed-room entries moves has_room list after Gone id n repoll less h room few = rw (append-nil repoll, h) (less list (n + length repoll) room, omega (arith, few))
+    → has_room after (n + length (repoll ++ cond (is_repoll next) (id ∷ []) []))
+    × (n + length (repoll ++ cond (is_repoll next) (id ∷ []) []) ≤ 64)
+handed-room entries moves has_room list after (Again Kind.List) id n repoll less h room few =
+    rw (append-nil repoll) (h.room (n + length repoll) room, omega (arith, few))
+handed-room entries moves has_room list after (Again Kind.Thread) id n repoll less h room few =
+    rw (append-nil repoll, h) (less list (n + length repoll) room, omega (arith, few))
+handed-room entries moves has_room list after Absent id n repoll less h room few =
+    rw (append-nil repoll, h) (less list (n + length repoll) room, omega (arith, few))
+handed-room entries moves has_room list after Gone id n repoll less h room few =
+    rw (append-nil repoll, h) (less list (n + length repoll) room, omega (arith, few))
 handed-room entries moves has_room list after Repoll id n repoll less h room few =
     let same : (n + length repoll) + 1 ≡ n + length (repoll ++ id ∷ []) = omega (arith, length-append repoll (id ∷ [])) in
     (rw h (subst (λ (m : ℕ). has_room list m) same room), omega (arith, few, same))
@@ -180,14 +215,17 @@ pushed-by entries moves has_room list after true id stays h = (h.came, h.moved, 
 pushed-by entries moves has_room list after false id stays h = ([], rw h (stays list), rw h (sym (append-nil (entries list))))
 
 -- one more poll
-pub going-poll : {L : Type 0} (entries : L → List ℕ) (moves : L → List ℕ → List ℕ → L → Type 0) (is_all : List ℕ → L → Type 0) (has_room : L → ℕ → Type 0)
+pub going-poll : {L : Type 0} (entries : L → List ℕ) (moves : L → List ℕ → List ℕ → L → Type 0) (is_all : List ℕ → L → Type 0)
+    (has_room : L → ℕ → Type 0)
     (budget window : ℕ) (start : L) (polls : List Poll) (list after : L) (own repoll : List ℕ) (count sum : ℕ) (poll : Poll)
     → ((at : L) → moves at [] [] at)
-    → ((a b c : L) (pushed more came later : List ℕ) → moves a pushed came b → moves b more later c → moves a (pushed ++ more) (came ++ later) c)
+    → ((a b c : L) (pushed more came later : List ℕ) → moves a pushed came b → moves b more later c
+    → moves a (pushed ++ more) (came ++ later) c)
     → sum < budget → count < window
     → HandsOn entries moves has_room list (is_arrival poll.once.next) poll.id after
     → Going entries moves is_all budget window start polls list (poll.id ∷ own) repoll count sum
-    → Going entries moves is_all budget window start (polls ++ poll ∷ []) after own (repoll ++ cond (is_repoll poll.once.next) (poll.id ∷ []) [])
+    → Going entries moves is_all budget window start (polls ++ poll ∷ []) after own
+    (repoll ++ cond (is_repoll poll.once.next) (poll.id ∷ []) [])
     (count + 1) (sum + poll.once.work)
 going-poll entries moves is_all has_room budget window start polls list after own repoll count sum poll stays joins money room h g =
     let pushed = pushed-by entries moves has_room list after (is_arrival poll.once.next) poll.id stays h in
@@ -198,8 +236,12 @@ going-poll entries moves is_all has_room budget window start polls list after ow
       batches = batches-push (IsBatch entries moves is_all budget window start) polls poll [] (g.first ∷ g.further) g.batches;
       not_empty = g.not_empty;
       front = rw (ids-append polls (poll ∷ [])) (append_assoc (ids polls) (poll.id ∷ []) own ∙ g.front);
-      moved = rw (arrivals-append polls (poll ∷ []), arrivals-one poll) (joins start list after (arrivals polls) (cond (is_arrival poll.once.next) (poll.id ∷ []) []) g.came pushed.0 g.moved pushed.1);
-      joined = rw (pushed.2, ← append_assoc (g.first ++ concat g.further) (entries list) pushed.0, g.joined) (append_assoc (entries start) g.came pushed.0);
+      moved =
+          rw (arrivals-append polls (poll ∷ []), arrivals-one poll)
+          (joins start list after (arrivals polls) (cond (is_arrival poll.once.next) (poll.id ∷ []) []) g.came pushed.0 g.moved pushed.1);
+      joined =
+          rw (pushed.2, ← append_assoc (g.first ++ concat g.further) (entries list) pushed.0, g.joined)
+          (append_assoc (entries start) g.came pushed.0);
       again = rw (repolled-append polls (poll ∷ []), repolled-one poll, g.again) refl;
       goes_on = goes_on;
       counted = rw (length-append polls (poll ∷ []), g.counted) refl;
@@ -215,17 +257,22 @@ going-poll entries moves is_all has_room budget window start polls list after ow
         (not-spent budget window polls (omega (arith, g.summed)) (omega (arith, g.counted)))
 
     goes_on : (n : ℕ) → n < length (polls ++ poll ∷ []) → is_spent budget window (take n (polls ++ poll ∷ [])) ≡ false
-    goes_on n e = elim (eq-or-lt_of_le {n = n} {m = length polls} (omega (arith, length-append polls (poll ∷ []), e))) [ inl same ↦ late n same | inr less ↦ early n less ]
+    goes_on n e = elim (eq-or-lt_of_le {n = n} {m = length polls} (omega (arith, length-append polls (poll ∷ []), e))) [
+      | inl same ↦ late n same
+      | inr less ↦ early n less
+    ]
 
 -- what the run leaves
 pub going-ends : {L : Type 0} (entries : L → List ℕ) (moves : L → List ℕ → List ℕ → L → Type 0) (is_all : List ℕ → L → Type 0)
     (budget window : ℕ) (start : L) (polls : List Poll) (list after : L) (own repoll : List ℕ) (count sum : ℕ) (report : RunReport)
-    → ((a b c : L) (pushed more came later : List ℕ) → moves a pushed came b → moves b more later c → moves a (pushed ++ more) (came ++ later) c)
+    → ((a b c : L) (pushed more came later : List ℕ) → moves a pushed came b → moves b more later c
+    → moves a (pushed ++ more) (came ++ later) c)
     → ((came : List ℕ) × moves list [] came after × (entries after ≡ own ++ (entries list ++ came) ++ repoll))
     → is_all (entries after) after
     → report.polls ≡ count → report.work ≡ sum → report.squeezed ≡ (nat_le budget sum || nat_le window count)
     → Going entries moves is_all budget window start polls list own repoll count sum
-    → (is_spent budget window polls ≡ false → (own ≡ []) × ((repolled polls ≢ []) ⊎ IsBatch entries moves is_all budget window start polls []))
+    → (is_spent budget window polls ≡ false
+    → (own ≡ []) × ((repolled polls ≢ []) ⊎ IsBatch entries moves is_all budget window start polls []))
     → IsRun entries moves is_all budget window start polls after report
 going-ends entries moves is_all budget window start polls list after own repoll count sum report joins back all told work squeezed g over =
     record {
@@ -238,7 +285,8 @@ going-ends entries moves is_all budget window start polls list after own repoll 
       not_empty = g.not_empty;
       front = g.front;
       moved = rw (append-nil (arrivals polls)) at (joins start list after (arrivals polls) [] g.came back.0 g.moved back.1);
-      joined = rw (← append_assoc (g.first ++ concat g.further) (entries list) back.0, g.joined) (append_assoc (entries start) g.came back.0);
+      joined =
+          rw (← append_assoc (g.first ++ concat g.further) (entries list) back.0, g.joined) (append_assoc (entries start) g.came back.0);
       left = rw (← g.again) back.2;
       all = all;
       goes_on = g.goes_on;
@@ -249,19 +297,24 @@ going-ends entries moves is_all budget window start polls list after own repoll 
     }
 
 -- it ends by what it gives back and tells
-pub run-ends : {L : Type 0} (entries : L → List ℕ) (moves : L → List ℕ → List ℕ → L → Type 0) (is_all : List ℕ → L → Type 0) (start : L) (polls : List Poll)
+pub run-ends : {L : Type 0} (entries : L → List ℕ) (moves : L → List ℕ → List ℕ → L → Type 0) (is_all : List ℕ → L → Type 0) (start : L)
+    (polls : List Poll)
     (list after : L) (run : PollingRun) (report : RunReport)
-    → ((a b c : L) (pushed more came later : List ℕ) → moves a pushed came b → moves b more later c → moves a (pushed ++ more) (came ++ later) c)
-    → run.asked ≡ None → ((came : List ℕ) × moves list [] came after × (entries after ≡ run.own ++ (entries list ++ came) ++ run.repoll)) → is_all (entries after) after
+    → ((a b c : L) (pushed more came later : List ℕ) → moves a pushed came b → moves b more later c
+    → moves a (pushed ++ more) (came ++ later) c)
+    → run.asked ≡ None → ((came : List ℕ) × moves list [] came after × (entries after ≡ run.own ++ (entries list ++ came) ++ run.repoll))
+    → is_all (entries after) after
     → report ≡ record { polls = run.polls; work = run.work; squeezed = has_spent run }
     → IsGoing entries moves is_all start polls list run → IsOver entries moves is_all start polls run
     → IsRun entries moves is_all run.budget run.window start polls after report
 run-ends entries moves is_all start polls list after run report joins rests back all told going over =
     going-ends entries moves is_all run.budget run.window start polls list after run.own run.repoll run.polls run.work report joins back all
-    (ap (λ (r : RunReport). r.polls) told) (ap (λ (r : RunReport). r.work) told) (ap (λ (r : RunReport). r.squeezed) told) (rw rests at going) (rw rests at over)
+    (ap (λ (r : RunReport). r.polls) told) (ap (λ (r : RunReport). r.work) told) (ap (λ (r : RunReport). r.squeezed) told)
+    (rw rests at going) (rw rests at over)
 
 -- the first number is taken out, to be polled
-pub ahead-popped : (popped : Option ℕ) (before after : List ℕ) → MatchOption popped ((before ≡ []) × (after ≡ [])) (λ id. before ≡ id ∷ after)
+pub ahead-popped : (popped : Option ℕ) (before after : List ℕ)
+    → MatchOption popped ((before ≡ []) × (after ≡ [])) (λ id. before ≡ id ∷ after)
     → asked_for popped ++ after ≡ before
 ahead-popped None before after h = h.1 ∙ sym h.0
 ahead-popped (Some id) before after h = sym h

@@ -43,13 +43,15 @@ pub record Going {L : Type 0} (entries : L → List ℕ) (moves : L → List ℕ
   pub summed : sum ≡ work_of polls
 
 -- it is this run's
-abbrev pub IsGoing : {L : Type 0} → (L → List ℕ) → (L → List ℕ → List ℕ → L → Type 0) → (List ℕ → L → Type 0) → L → List Poll → L → PollingRun → Type 0
+abbrev pub IsGoing : {L : Type 0} → (L → List ℕ) → (L → List ℕ → List ℕ → L → Type 0) → (List ℕ → L → Type 0) → L → List Poll → L
+    → PollingRun → Type 0
 IsGoing entries moves is_all start polls list run =
     Going entries moves is_all run.budget run.window start polls list (ahead run) run.repoll run.polls run.work
 
 -- no poll follows these: budget or window is spent, or all is polled, and something is to be repolled or one more batch would
 -- be empty
-abbrev pub IsOver : {L : Type 0} → (L → List ℕ) → (L → List ℕ → List ℕ → L → Type 0) → (List ℕ → L → Type 0) → L → List Poll → PollingRun → Type 0
+abbrev pub IsOver : {L : Type 0} → (L → List ℕ) → (L → List ℕ → List ℕ → L → Type 0) → (List ℕ → L → Type 0) → L → List Poll → PollingRun
+    → Type 0
 IsOver entries moves is_all start polls run =
     is_spent run.budget run.window polls ≡ false
     → (ahead run ≡ []) × ((repolled polls ≢ []) ⊎ IsBatch entries moves is_all run.budget run.window start polls [])

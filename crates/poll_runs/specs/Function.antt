@@ -50,7 +50,8 @@ run_report budget window polls = record { polls = length polls; work = work_of p
 -- a bench's relation is that of a function
 abbrev pub IsGivenBy : {B : Type 0} → (B → ℕ → ℕ → Once → B → Type 0) → (B → ℕ → ℕ → Once × B) → Type 0
 IsGivenBy {B} polls poll =
-    (before after : B) (id weight : ℕ) (once : Once) → polls before id weight once after ↔ ((once ≡ (poll before id weight).0) × (after ≡ (poll before id weight).1))
+    (before after : B) (id weight : ℕ) (once : Once)
+    → polls before id weight once after ↔ ((once ≡ (poll before id weight).0) × (after ≡ (poll before id weight).1))
 
 -- law: where polls are a function, so is a run over a list of one thread, and its outcome is this one: it is a run, and
 -- each run is it
@@ -58,7 +59,8 @@ abbrev pub RunIsFunction : {B : Type 0} → (B → ℕ → ℕ → Once → B �
 RunIsFunction {B} relation =
     (poll : B → ℕ → ℕ → Once × B) → IsGivenBy relation poll
     → (budget weight window : ℕ) → 1 ≤ budget → 1 ≤ window → (bench : B) (list : List ℕ)
-    → (Chain (At relation weight) bench (run_of poll budget weight window bench list).0.polls (run_of poll budget weight window bench list).0.bench
+    → (Chain (At relation weight) bench (run_of poll budget weight window bench list).0.polls
+    (run_of poll budget weight window bench list).0.bench
     × IsPlainRun budget window list (run_of poll budget weight window bench list).0.polls (run_of poll budget weight window bench list).1
     (run_report budget window (run_of poll budget weight window bench list).0.polls))
     × ((polls : List Poll) (after : B) (left : List ℕ) (report : RunReport)

@@ -43,7 +43,8 @@ HasOneOutcome {B} polls =
 abbrev pub RunsAgree : {B : Type 0} → (B → ℕ → ℕ → Once → B → Type 0) → Type 0
 RunsAgree {B} relation =
     HasOneOutcome relation
-    → (budget weight window : ℕ) (bench : B) (list : List ℕ) (polls others : List Poll) (after last : B) (left kept : List ℕ) (report other : RunReport)
+    → (budget weight window : ℕ) (bench : B) (list : List ℕ) (polls others : List Poll) (after last : B) (left kept : List ℕ)
+    (report other : RunReport)
     → Chain (At relation weight) bench polls after → IsPlainRun budget window list polls left report
     → Chain (At relation weight) bench others last → IsPlainRun budget window list others kept other
     → (polls ≡ others) × (after ≡ last) × (left ≡ kept) × (report ≡ other)

@@ -1,6 +1,9 @@
 -- What polls, runs and turns keep of a poller's seats.
-use Rattle.std.{proofs.Common.{◌≡◌, ◌∙◌, ℕ, zero, suc, ◌<◌, Bool, List, [], ◌∷◌, Option, Some, None, length, refl, sym, ap, subst, vec_items, set, get_or, arith}, specs.Prelude.{◌==◌, MatchOption, position}}
-use Rattle.{poll_runs.specs.{Polls.{At, Chain, Poll}, declared.bench.Once.Once}, poll_seats.specs.{declared.{seat.Seat.Seat, poller.{Crowd.Crowd, Poller.Poller}, thread_poller.Alone.Alone}, SeatKeeping.{AreSameSeats, IsSameSeat}}}
+use Rattle.std.proofs.Common.{◌≡◌, ◌∙◌, ℕ, zero, suc, ◌<◌, Bool, List, [], ◌∷◌, Option, Some, None, length, refl, sym, ap, subst, vec_items}
+use Rattle.std.{proofs.Common.{set, get_or, arith}, specs.Prelude.{◌==◌, MatchOption, position}}
+use Rattle.poll_runs.specs.{Polls.{At, Chain, Poll}, declared.bench.Once.Once}
+use Rattle.poll_seats.specs.declared.{seat.Seat.Seat, poller.{Crowd.Crowd, Poller.Poller}, thread_poller.Alone.Alone}
+use Rattle.poll_seats.specs.SeatKeeping.{AreSameSeats, IsSameSeat}
 use Rattle.poll_seats.specs.{Crowds.{IsNowhere, IsPolledAt, PollsSeat}, Serving.IsServed, Turns.{TurnsAlone, TurnsByRun}}
 
 -- a seat that nobody touched
@@ -34,25 +37,32 @@ seats_set (a ∷ l) (suc k) x y b e s = (seat_stays a, seats_set l k x y (omega 
 poll_keeps_at : {R : Type 0} (place : Option ℕ) (weight : ℕ) (once : Once) (before after : Crowd R)
     → MatchOption place (IsNowhere before once after) (IsPolledAt before weight once after)
     → AreSameSeats (vec_items before.seats) (vec_items after.seats)
-poll_keeps_at None weight once before after p = subst (λ l. AreSameSeats (vec_items before.seats) l) (sym p.seats) (seats_stay (vec_items before.seats))
+poll_keeps_at None weight once before after p =
+    subst (λ l. AreSameSeats (vec_items before.seats) l) (sym p.seats) (seats_stay (vec_items before.seats))
 poll_keeps_at (Some place) weight once before after p =
-    subst (λ l. AreSameSeats (vec_items before.seats) l) (sym p.others) (seats_set (vec_items before.seats) place p.was p.now p.within p.there p.same)
+    subst (λ l. AreSameSeats (vec_items before.seats) l) (sym p.others)
+    (seats_set (vec_items before.seats) place p.was p.now p.within p.there p.same)
 
 -- the poll of an instance at which there is a seat, and of one at which there is none
 pub polls_there : {R : Type 0} (seen : List Seat) (before : Crowd R) (id weight : ℕ) (once : Once) (after : Crowd R) (place : ℕ)
-    → seen ≡ vec_items before.seats → Some place ≡ position (λ seat. seat.number == id) seen → IsPolledAt before weight once after place → PollsSeat before id weight once after
+    → seen ≡ vec_items before.seats → Some place ≡ position (λ seat. seat.number == id) seen → IsPolledAt before weight once after place
+    → PollsSeat before id weight once after
 polls_there seen before id weight once after place s e p =
-    subst (λ at. MatchOption at (IsNowhere before once after) (IsPolledAt before weight once after)) (e ∙ ap (λ l. position (λ (seat : Seat). seat.number == id) l) s) p
+    subst (λ at. MatchOption at (IsNowhere before once after) (IsPolledAt before weight once after))
+    (e ∙ ap (λ l. position (λ (seat : Seat). seat.number == id) l) s) p
 
 pub polls_nowhere : {R : Type 0} (seen : List Seat) (before : Crowd R) (id weight : ℕ) (once : Once) (after : Crowd R)
-    → seen ≡ vec_items before.seats → None ≡ position (λ seat. seat.number == id) seen → IsNowhere before once after → PollsSeat before id weight once after
+    → seen ≡ vec_items before.seats → None ≡ position (λ seat. seat.number == id) seen → IsNowhere before once after
+    → PollsSeat before id weight once after
 polls_nowhere seen before id weight once after s e p =
-    subst (λ at. MatchOption at (IsNowhere before once after) (IsPolledAt before weight once after)) (e ∙ ap (λ l. position (λ (seat : Seat). seat.number == id) l) s) p
+    subst (λ at. MatchOption at (IsNowhere before once after) (IsPolledAt before weight once after))
+    (e ∙ ap (λ l. position (λ (seat : Seat). seat.number == id) l) s) p
 
 -- a run keeps the seats
 pub run_keeps : {R : Type 0} (weight : ℕ) (polls : List Poll) (before after : Crowd R) → Chain (At PollsSeat weight) before polls after
     → AreSameSeats (vec_items before.seats) (vec_items after.seats)
-run_keeps {R} weight [] before after c = subst (λ (x : Crowd R). AreSameSeats (vec_items before.seats) (vec_items x.seats)) (sym c) (seats_stay (vec_items before.seats))
+run_keeps {R} weight [] before after c =
+    subst (λ (x : Crowd R). AreSameSeats (vec_items before.seats) (vec_items x.seats)) (sym c) (seats_stay (vec_items before.seats))
 run_keeps {R} weight (p ∷ polls) before after c =
     let one = poll_keeps_at (position (λ (seat : Seat). seat.number == p.id) (vec_items before.seats)) weight p.once before c.0 c.1 in
     seats_join (vec_items before.seats) (vec_items c.0.seats) (vec_items after.seats) one (run_keeps weight polls c.0 after c.2)
@@ -65,9 +75,11 @@ turn_keeps found before after t = run_keeps before.pace.weight t.run.polls befor
 turns_keep : {R : Type 0} (found : List Bool) (before after : Poller R) → Chain TurnsByRun before found after
     → AreSameSeats (vec_items before.crowd.seats) (vec_items after.crowd.seats)
 turns_keep {R} [] before after c =
-    subst (λ (x : Poller R). AreSameSeats (vec_items before.crowd.seats) (vec_items x.crowd.seats)) (sym c) (seats_stay (vec_items before.crowd.seats))
+    subst (λ (x : Poller R). AreSameSeats (vec_items before.crowd.seats) (vec_items x.crowd.seats)) (sym c)
+    (seats_stay (vec_items before.crowd.seats))
 turns_keep {R} (one ∷ more) before after c =
-    seats_join (vec_items before.crowd.seats) (vec_items c.0.crowd.seats) (vec_items after.crowd.seats) (turn_keeps one before c.0 c.1) (turns_keep more c.0 after c.2)
+    seats_join (vec_items before.crowd.seats) (vec_items c.0.crowd.seats) (vec_items after.crowd.seats) (turn_keeps one before c.0 c.1)
+    (turns_keep more c.0 after c.2)
 
 pub served_keeps : {R : Type 0} (before after : Poller R) → IsServed TurnsByRun before after
     → AreSameSeats (vec_items before.crowd.seats) (vec_items after.crowd.seats)
@@ -76,7 +88,8 @@ served_keeps before after s =
     (turns_keep s.found before s.last s.earlier) (turn_keeps _ s.last after s.empty)
 
 -- so do the turns of an instance's thread
-alone_keep : {R : Type 0} (found : List Bool) (before after : Alone R) → Chain TurnsAlone before found after → IsSameSeat before.seat after.seat
+alone_keep : {R : Type 0} (found : List Bool) (before after : Alone R) → Chain TurnsAlone before found after
+    → IsSameSeat before.seat after.seat
 alone_keep {R} [] before after c = subst (λ (x : Alone R). IsSameSeat before.seat x.seat) (sym c) (seat_stays before.seat)
 alone_keep {R} (one ∷ more) before after c = seat_joins before.seat c.0.seat after.seat c.1.same (alone_keep more c.0 after c.2)
 

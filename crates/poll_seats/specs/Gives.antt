@@ -56,7 +56,8 @@ module _ {R G : Type 0} (answers : G → ℕ → ℕ → Bool → Type 0) where
   pub record GivesSeats (task : PollTask R G) (given : Turned (Kept R (Vec Seat))) : Type 0 where
     pub same : AreSameSeats (vec_items task.seats.value) (vec_items given.back.value)
     pub turns : given.polled ≡ true
-        → IsPolledBy (IsAsked answers task.setting.now.gate.now) task.setting.now.pace task.number task.list (vec_items task.seats.value) (vec_items given.back.value)
+        → IsPolledBy (IsAsked answers task.setting.now.gate.now) task.setting.now.pace task.number task.list (vec_items task.seats.value)
+        (vec_items given.back.value)
 
   -- The caller is of the side's instance. It is the one handed in, where the instance has no thread, or what that one's turns
   -- made of it, unless a thread was refused.
@@ -65,4 +66,5 @@ module _ {R G : Type 0} (answers : G → ℕ → ℕ → Bool → Type 0) where
     pub turns : given.polled ≡ true
         → MatchOption side.own
         (given.back ≡ side.caller)
-        (λ own. IsPolledAlone R (IsAsked answers side.setting.now.gate.now) side.setting.now.pace side.number side.caller.value given.back.value)
+        (λ own. IsPolledAlone R
+        (IsAsked answers side.setting.now.gate.now) side.setting.now.pace side.number side.caller.value given.back.value)

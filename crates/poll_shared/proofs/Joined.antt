@@ -1,6 +1,9 @@
 -- The operations of calls, one after the other.
-use Rattle.{std.proofs.Common.{◌≢◌, Bool, true, false, List, [], ◌∷◌, ◌++◌, ◌∙◌, sym, refl}, napi_model.specs.declared.{event.{Operation.Operation, Done.Done}, state.Kind.Kind}, napi_word.specs.declared.table.Pass.Pass}
-use Rattle.{napi_calls.{specs.Made.Made, proofs.Making.more}, poll_runs.specs.declared.bench.Next.{Next, TheVariants.{Absent, Gone, Again, Repoll}}, poll_shared.specs.SharedPolling.{CompletesBy, EndsBy, HandsTo}}
+use Rattle.std.proofs.Common.{◌≢◌, Bool, true, false, List, [], ◌∷◌, ◌++◌, ◌∙◌, sym, refl}
+use Rattle.{napi_model.specs.declared.{event.{Operation.Operation, Done.Done}, state.Kind.Kind}, napi_word.specs.declared.table.Pass.Pass}
+use Rattle.napi_calls.{specs.Made.Made, proofs.Making.more}
+use Rattle.poll_runs.specs.declared.bench.Next.{Next, TheVariants.{Absent, Gone, Again, Repoll}}
+use Rattle.poll_shared.specs.SharedPolling.{CompletesBy, EndsBy, HandsTo}
 use Rattle.napi_model.specs.declared.event.Done.TheVariants as done
 
 pub filled : (os : List Operation) (o : Operation) (ps : List Operation) → os ++ o ∷ ps ≢ []
@@ -31,5 +34,6 @@ end_made thread (Again k) os e = λ none. filled_behind e.0 e.1 (hand_made threa
 
 -- a completion, and then the hand-over
 pub again_made : {p q r : Pass} (thread : Bool) (kind : Kind) (os ps : List Operation)
-    → Made p os q → CompletesBy done.Again os → Made q ps r → HandsTo thread kind ps → (all : List Operation) × Made p all r × EndsBy thread (Again kind) all
+    → Made p os q → CompletesBy done.Again os → Made q ps r → HandsTo thread kind ps
+    → (all : List Operation) × Made p all r × EndsBy thread (Again kind) all
 again_made thread kind os ps m c n h = (os ++ ps, joined os ps (hand_made thread kind ps h) m n, (os, ps, c, h, refl))

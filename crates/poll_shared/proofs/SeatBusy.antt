@@ -1,10 +1,19 @@
 -- Busy polling of a shared instance through its caller's seat, told by the operations of the caller.
-use Rattle.std.proofs.Common.{◌≡◌, ◌≢◌, ◌∙◌, ℕ, ◌+◌, ◌≤◌, Bool, true, false, List, [], ◌∷◌, ◌++◌, append_assoc, append-nil, MatchBool, ap, arith, flat_map, length, length-append, map, refl, sym, subst}
-use Rattle.{std.{specs.{Prelude.{filter, if◌then◌else◌, nat_lt, sum_by}, List.AllByRecursion}, proofs.lemmas.List.{Elements.filter-append, Sums.{sum-map, sum_by-append, sum_by-cons}}}, rx_ring.specs.declared.packet.Packet.Packet}
-use Rattle.{rx_ring.specs.ReceiveRing.bytes_of, napi_model.specs.declared.{state.Kind.Kind, event.{Done.Done, Operation.{Operation, TheVariants.{Look, Hand, Complete, BusyTake, BusyStop}}}}, napi_word.specs.declared.table.Pass.Pass}
-use Rattle.{napi_model.specs.declared.event.Call.Call, napi_calls.specs.Made.{Lost, Made, looks}, poll_runs.specs.{BusyPolling.{Given, busy_report, is_below, no_report}, Polling.is_absent, Polls.Chain}}
-use Rattle.poll_shared.specs.{Seat.{SeatBusyTakes, SeatCompletes, SeatGives, SeatHolds, SeatMade, SeatRequeues, SeatStops, packets_by}, SharedBusy.{BusyPollsBy, BusyTakesBy, LeavesBy, PollsBusilyBy, StopsBy, held_by, held_in, is_held}}
-use Rattle.{poll_shared.specs.{SharedPolling.{CompletesBy, EndsBy, HandsTo}, declared.seat.Seat.Seat}, poll_runs.specs.declared.bench.{BusyReport.BusyReport, Next.{Next, TheVariants.{Absent, Gone, Again, Repoll}}}}
+use Rattle.std.proofs.Common.{◌≡◌, ◌≢◌, ◌∙◌, ℕ, ◌+◌, ◌≤◌, Bool, true, false, List, [], ◌∷◌, ◌++◌, append_assoc, append-nil, MatchBool, ap}
+use Rattle.std.proofs.Common.{arith, flat_map, length, length-append, map, refl, sym, subst}
+use Rattle.std.specs.{Prelude.{filter, if◌then◌else◌, nat_lt, sum_by}, List.AllByRecursion}
+use Rattle.std.proofs.lemmas.List.{Elements.filter-append, Sums.{sum-map, sum_by-append, sum_by-cons}}
+use Rattle.rx_ring.specs.declared.packet.Packet.{Packet}
+use Rattle.rx_ring.specs.ReceiveRing.{bytes_of}
+use Rattle.napi_model.specs.declared.state.Kind.{Kind}
+use Rattle.napi_model.specs.declared.event.{Done.Done, Operation.{Operation, TheVariants.{Look, Hand, Complete, BusyTake, BusyStop}}}
+use Rattle.napi_word.specs.declared.table.Pass.{Pass}
+use Rattle.{napi_model.specs.declared.event.Call.Call, napi_calls.specs.Made.{Lost, Made, looks}}
+use Rattle.poll_runs.specs.{BusyPolling.{Given, busy_report, is_below, no_report}, Polling.is_absent, Polls.Chain}
+use Rattle.poll_shared.specs.Seat.{SeatBusyTakes, SeatCompletes, SeatGives, SeatHolds, SeatMade, SeatRequeues, SeatStops, packets_by}
+use Rattle.poll_shared.specs.SharedBusy.{BusyPollsBy, BusyTakesBy, LeavesBy, PollsBusilyBy, StopsBy, held_by, held_in, is_held}
+use Rattle.poll_shared.specs.{SharedPolling.{CompletesBy, EndsBy, HandsTo}, declared.seat.Seat.Seat}
+use Rattle.poll_runs.specs.declared.bench.{BusyReport.BusyReport, Next.{Next, TheVariants.{Absent, Gone, Again, Repoll}}}
 use Rattle.poll_shared.proofs.{Joined.{end_made, filled}, SeatPolling.{same_pass, seat_behind}}
 use Rattle.napi_model.specs.declared.state.Kind.TheVariants as kind
 use Rattle.napi_model.specs.declared.event.Done.TheVariants as done
@@ -60,7 +69,8 @@ bytes-append a b = sum-map (λ (p : Packet). p.bytes) (a ++ b) ∙ sum_by-append
 
 module _ {R : Type 0} where
   -- a poll makes no operation
-  then_given : (s : Seat R) (os : List Operation) (before : List Packet) (t : Seat R) (weight : ℕ) (packets : List Packet) (work : ℕ) (u : Seat R)
+  then_given : (s : Seat R) (os : List Operation) (before : List Packet) (t : Seat R) (weight : ℕ) (packets : List Packet) (work : ℕ)
+      (u : Seat R)
       → SeatMade s os before t → SeatGives t weight packets work u → SeatMade s os (before ++ packets) u
   then_given s os before t weight packets work u m g = record {
     from = m.from;
@@ -82,13 +92,15 @@ module _ {R : Type 0} where
     abbrev Rounds : ℕ → Seat R → List (Given P) → Seat R → Type 0
     Rounds weight = Chain (busy.Round SeatBusyTakes Gives SeatHolds SeatStops SeatRequeues SeatCompletes weight)
 
-    held_made : (below : Bool) (s : Seat R) (os : List Operation) (packets : List Packet) (t u : Seat R) → SeatMade s os packets t → HoldsIf below t u
+    held_made : (below : Bool) (s : Seat R) (os : List Operation) (packets : List Packet) (t u : Seat R) → SeatMade s os packets t
+        → HoldsIf below t u
         → SeatMade s (os ++ (if below then Complete done.Held ∷ [] else [])) packets u
     held_made true s os packets t u m h = seat_behind s t u os (Complete done.Held ∷ []) packets (λ none. cc none) m h
     held_made false s os packets t u m h = rw (append-nil os) (rw h m)
 
     -- the rounds, behind other operations and packets
-    rounds_made : (weight : ℕ) (s : Seat R) (os : List Operation) (before : List Packet) (t : Seat R) (rounds : List (Given P)) (u : Seat R) → SeatMade s os before t → Rounds weight t rounds u
+    rounds_made : (weight : ℕ) (s : Seat R) (os : List Operation) (before : List Packet) (t : Seat R) (rounds : List (Given P)) (u : Seat R)
+        → SeatMade s os before t → Rounds weight t rounds u
         → SeatMade s (os ++ flat_map (held_by weight) (lists items rounds)) (before ++ joined_lists (lists items rounds)) u
     rounds_made weight s os before t [] u m c = rw (append-nil os, append-nil before) (rw c m)
     rounds_made weight s os before t (poll ∷ rounds) u m c =
@@ -96,12 +108,19 @@ module _ {R : Type 0} where
         let batch = items poll.packets in
         let given = then_given s os before t weight batch poll.work r.0 m r.1 in
         let held = held_made (is_below weight poll) s os (before ++ batch) r.0 c.0 given r.2 in
-        let same = subst (λ (n : ℕ). SeatMade s (os ++ (if nat_lt n weight then Complete done.Held ∷ [] else [])) (before ++ batch) c.0) r.1.counts held in
-        rw (← append_assoc os (held_by weight batch) (flat_map (held_by weight) (lists items rounds)), ← append_assoc before batch (joined_lists (lists items rounds)))
+        let same =
+        subst (λ (n : ℕ). SeatMade s (os ++ (if nat_lt n weight then Complete done.Held ∷ [] else [])) (before ++ batch) c.0) r.1.counts
+        held in
+        rw (
+          ← append_assoc os (held_by weight batch) (flat_map (held_by weight) (lists items rounds)),
+          ← append_assoc before batch
+              (joined_lists (lists items rounds)),
+        )
         (rounds_made weight s (os ++ held_by weight batch) (before ++ batch) c.0 rounds u same c.2)
 
     -- none gave more than its weight
-    rounds_fit : (weight : ℕ) (s : Seat R) (rounds : List (Given P)) (t : Seat R) → Rounds weight s rounds t → AllByRecursion (λ (round : List Packet). length round ≤ weight) (lists items rounds)
+    rounds_fit : (weight : ℕ) (s : Seat R) (rounds : List (Given P)) (t : Seat R) → Rounds weight s rounds t
+        → AllByRecursion (λ (round : List Packet). length round ≤ weight) (lists items rounds)
     rounds_fit weight s [] t c = tt
     rounds_fit weight s (poll ∷ rounds) t c = (c.1.1.gives.poll.0, rounds_fit weight c.0 rounds t c.2)
 
@@ -115,20 +134,26 @@ module _ {R : Type 0} where
         let more = rounds_told weight c.0 rounds t c.2 in
         let work : length (items poll.packets) ≡ poll.work = sym c.1.1.counts in (
           omega (arith, more.0),
-          length-append (items poll.packets) (joined_lists (lists items rounds)) ∙ omega (arith, more.1, work) ∙ sym (sum_by-cons (λ (g : Given P). g.work) poll rounds),
-          bytes-append (items poll.packets) (joined_lists (lists items rounds)) ∙ omega (arith, more.2) ∙ sym (sum_by-cons (λ (g : Given P). bytes_of (items g.packets)) poll rounds),
+          length-append (items poll.packets) (joined_lists (lists items rounds)) ∙ omega (arith, more.1, work)
+              ∙ sym (sum_by-cons (λ (g : Given P). g.work) poll rounds),
+          bytes-append (items poll.packets) (joined_lists (lists items rounds)) ∙ omega (arith, more.2)
+              ∙ sym (sum_by-cons (λ (g : Given P). bytes_of (items g.packets)) poll rounds),
           held-append (held_by weight (items poll.packets)) (flat_map (held_by weight) (lists items rounds)) ∙ one poll work more.3,
         )
       where
-        one : (poll : Given P) → length (items poll.packets) ≡ poll.work → held_in (flat_map (held_by weight) (lists items rounds)) ≡ length (filter (is_below weight) rounds)
-            → held_in (held_by weight (items poll.packets)) + held_in (flat_map (held_by weight) (lists items rounds)) ≡ length (filter (is_below weight) (poll ∷ rounds))
+        one : (poll : Given P) → length (items poll.packets) ≡ poll.work
+            → held_in (flat_map (held_by weight) (lists items rounds)) ≡ length (filter (is_below weight) rounds)
+            → held_in (held_by weight (items poll.packets)) + held_in (flat_map (held_by weight) (lists items rounds))
+            ≡ length (filter (is_below weight) (poll ∷ rounds))
         one poll work more = rw work (by (is_below weight poll))
           where
-            by : (b : Bool) → held_in (if b then Complete done.Held ∷ [] else []) + held_in (flat_map (held_by weight) (lists items rounds)) ≡ length (if b then poll ∷ filter (is_below weight) rounds else filter (is_below weight) rounds)
+            by : (b : Bool) → held_in (if b then Complete done.Held ∷ [] else []) + held_in (flat_map (held_by weight) (lists items rounds))
+                ≡ length (if b then poll ∷ filter (is_below weight) rounds else filter (is_below weight) rounds)
             by true = omega (arith, more)
             by false = omega (arith, more)
 
-    leaves_made : (below : Bool) (s : Seat R) (next : Next) (t : Seat R) → s.thread ≡ true → busy.Leaves SeatBusyTakes Gives SeatHolds SeatStops SeatRequeues SeatCompletes below s next t
+    leaves_made : (below : Bool) (s : Seat R) (next : Next) (t : Seat R) → s.thread ≡ true
+        → busy.Leaves SeatBusyTakes Gives SeatHolds SeatStops SeatRequeues SeatCompletes below s next t
         → (os : List Operation) × (os ≢ []) × SeatMade s os [] t × LeavesBy below next os
     leaves_made below s Absent t thread l = absurd l
     leaves_made below s Repoll t thread l = (Hand kind.List ∷ [], (λ none. cc none), l.1, (l.0, refl))
@@ -138,7 +163,8 @@ module _ {R : Type 0} where
         let e = subst (λ (b : Bool). EndsBy b (Again k) l.1.0) thread l.1.2 in (l.1.0, end_made true (Again k) l.1.0 e, l.1.1, (l.0, e))
 
     -- what is told of the rounds, the stop and the last poll
-    busy_made : (weight count : ℕ) (s : Seat R) (report : BusyReport) (rounds : List (Given P)) (last : Given P) (t : Seat R) → s.thread ≡ true
+    busy_made : (weight count : ℕ) (s : Seat R) (report : BusyReport) (rounds : List (Given P)) (last : Given P) (t : Seat R)
+        → s.thread ≡ true
         → busy.BusyPolls SeatBusyTakes Gives SeatHolds SeatStops SeatRequeues SeatCompletes weight count s rounds last report.next t
         → report ≡ busy_report (λ x. bytes_of (items x)) weight rounds last report.next
         → (os : List Operation) × SeatMade s os (joined_lists (lists items rounds) ++ items last.packets) t
@@ -186,19 +212,27 @@ module _ {R : Type 0} where
           held ∙ omega (arith, told.3, split, split', split'', none, none', none''),
         )
 
-    pub busily_made : (weight count : ℕ) (s : Seat R) (packets : P) (report : BusyReport) (packets' : P) (t : Seat R) → s.thread ≡ true → items packets ≡ []
-        → busy.PollsBusily SeatBusyTakes Gives SeatHolds SeatStops SeatRequeues SeatCompletes (λ x. bytes_of (items x)) weight count s packets report packets' t
+    pub busily_made : (weight count : ℕ) (s : Seat R) (packets : P) (report : BusyReport) (packets' : P) (t : Seat R) → s.thread ≡ true
+        → items packets ≡ []
+        → busy.PollsBusily SeatBusyTakes Gives SeatHolds SeatStops SeatRequeues SeatCompletes
+        (λ x. bytes_of (items x)) weight count s packets report packets' t
         → (os : List Operation) × (all : List Packet) × SeatMade s os all t × PollsBusilyBy weight count report all (items packets') os
     busily_made weight count s packets report packets' t thread empty b = by (is_absent report.next) refl b
       where
         by : (absent : Bool) → is_absent report.next ≡ absent
             → MatchBool absent
             (SeatBusyTakes s false t × (packets' ≡ packets) × (report ≡ no_report))
-            ((rounds : List (Given P)) × (last : Given P) × busy.BusyPolls SeatBusyTakes Gives SeatHolds SeatStops SeatRequeues SeatCompletes weight count s rounds last report.next t
+            ((rounds : List (Given P)) × (last : Given P)
+            × busy.BusyPolls SeatBusyTakes Gives SeatHolds SeatStops SeatRequeues SeatCompletes weight count s rounds last report.next t
             × (packets' ≡ last.packets) × (report ≡ busy_report (λ x. bytes_of (items x)) weight rounds last report.next))
             → (os : List Operation) × (all : List Packet) × SeatMade s os all t × PollsBusilyBy weight count report all (items packets') os
         by true e b = (b.0.0, [], b.0.1, rw e (b.0.2, refl, ap items b.1 ∙ empty, b.2))
         by false e b =
             let m = busy_made weight count s report b.0 b.1 t thread b.2 b.4 in
-            let same : items packets' ≡ items b.1.packets = ap items b.3 in
-            (m.0, joined_lists (lists items b.0) ++ items b.1.packets, m.1, rw (e, same) (lists items b.0, m.2, m.3, m.4, refl, m.5, m.6, m.7, m.8))
+            let same : items packets' ≡ items b.1.packets = ap items b.3 in (
+              m.0,
+              joined_lists (lists items b.0)
+                  ++ items b.1.packets,
+              m.1,
+              rw (e, same) (lists items b.0, m.2, m.3, m.4, refl, m.5, m.6, m.7, m.8),
+            )

@@ -1,9 +1,14 @@
 -- The polling of a shared instance through its caller's seat, told by the operations of the caller.
-use Rattle.{std.proofs.Common.{◌≡◌, ◌≢◌, ◌∙◌, ◌==◌, ◌-◌, ℕ, Bool, true, false, List, [], ◌∷◌, ◌++◌, Option, Some, None, MatchBool, append-nil, append_assoc, ap, length, refl, sym, subst}, rx_ring.specs.declared.packet.Packet.Packet}
-use Rattle.{napi_model.specs.declared.{state.Kind.Kind, event.Operation.{Operation, TheVariants.{Look, Hand, Take}}}, napi_word.specs.declared.table.Pass.Pass, napi_calls.specs.{Dealt.Delivers, Made.Made}}
-use Rattle.{poll_runs.specs.declared.bench.{Next.{Next, TheVariants.{Absent, Gone, Again, Repoll}}, Once.Once}, napi_calls.specs.declared.types.Caller.Caller, poll_shared.specs.declared.seat.{Hold.{Hold, TheVariants.Rests}, Seat.Seat}}
-use Rattle.{poll_runs.specs.{Polls.is_repoll, Polling.{goes_on, is_absent, next_of}}, poll_shared.specs.Seat.{SeatCompletes, SeatGives, SeatLooks, SeatMade, SeatRequeues, SeatTakes, packets_by, pass_of}}
-use Rattle.poll_shared.{specs.SharedPolling.{EndsBy, GivesEach, LooksAndEndsBy, PollsBy, PollsOnceBy, ThreadPollsBy, let_go, retaken}, proofs.Joined.{joined, end_made, filled_behind}}
+use Rattle.std.proofs.Common.{◌≡◌, ◌≢◌, ◌∙◌, ◌==◌, ◌-◌, ℕ, Bool, true, false, List, [], ◌∷◌, ◌++◌, Option, Some, None, MatchBool}
+use Rattle.{std.proofs.Common.{append-nil, append_assoc, ap, length, refl, sym, subst}, rx_ring.specs.declared.packet.Packet.Packet}
+use Rattle.napi_model.specs.declared.{state.Kind.Kind, event.Operation.{Operation, TheVariants.{Look, Hand, Take}}}
+use Rattle.{napi_word.specs.declared.table.Pass.Pass, napi_calls.specs.{Dealt.Delivers, Made.Made}}
+use Rattle.poll_runs.specs.declared.bench.{Next.{Next, TheVariants.{Absent, Gone, Again, Repoll}}, Once.Once}
+use Rattle.{napi_calls.specs.declared.types.Caller.Caller, poll_shared.specs.declared.seat.{Hold.{Hold, TheVariants.Rests}, Seat.Seat}}
+use Rattle.poll_runs.specs.{Polls.is_repoll, Polling.{goes_on, is_absent, next_of}}
+use Rattle.poll_shared.specs.Seat.{SeatCompletes, SeatGives, SeatLooks, SeatMade, SeatRequeues, SeatTakes, packets_by, pass_of}
+use Rattle.poll_shared.specs.SharedPolling.{EndsBy, GivesEach, LooksAndEndsBy, PollsBy, PollsOnceBy, ThreadPollsBy, let_go, retaken}
+use Rattle.poll_shared.proofs.Joined.{joined, end_made, filled_behind}
 use Rattle.napi_model.specs.declared.state.Kind.TheVariants as kind
 use Rattle.poll_runs.specs.Polling as polling
 
@@ -19,7 +24,8 @@ module _ {R : Type 0} where
   same_pass s p q a b = some_inj (sym a ∙ b)
 
   -- one call after another
-  pub seat_joined : (s t u : Seat R) (os ps : List Operation) (packets more : List Packet) → ps ≢ [] → SeatMade s os packets t → SeatMade t ps more u → SeatMade s (os ++ ps) (packets ++ more) u
+  pub seat_joined : (s t u : Seat R) (os ps : List Operation) (packets more : List Packet) → ps ≢ [] → SeatMade s os packets t
+      → SeatMade t ps more u → SeatMade s (os ++ ps) (packets ++ more) u
   seat_joined s t u os ps packets more some a b = record {
     from = a.from;
     to = b.to;
@@ -31,11 +37,14 @@ module _ {R : Type 0} where
   }
 
   -- the second of them polls nothing
-  pub seat_behind : (s t u : Seat R) (os ps : List Operation) (packets : List Packet) → ps ≢ [] → SeatMade s os packets t → SeatMade t ps [] u → SeatMade s (os ++ ps) packets u
-  seat_behind s t u os ps packets some a b = subst (λ (l : List Packet). SeatMade s (os ++ ps) l u) (append-nil packets) (seat_joined s t u os ps packets [] some a b)
+  pub seat_behind : (s t u : Seat R) (os ps : List Operation) (packets : List Packet) → ps ≢ [] → SeatMade s os packets t
+      → SeatMade t ps [] u → SeatMade s (os ++ ps) packets u
+  seat_behind s t u os ps packets some a b =
+      subst (λ (l : List Packet). SeatMade s (os ++ ps) l u) (append-nil packets) (seat_joined s t u os ps packets [] some a b)
 
   -- a poll makes no operation
-  given_made : (s : Seat R) (weight : ℕ) (packets : List Packet) (work : ℕ) (t u : Seat R) (os : List Operation) → SeatGives s weight packets work t → SeatMade t os [] u → SeatMade s os packets u
+  given_made : (s : Seat R) (weight : ℕ) (packets : List Packet) (work : ℕ) (t u : Seat R) (os : List Operation)
+      → SeatGives s weight packets work t → SeatMade t os [] u → SeatMade s os packets u
   given_made s weight packets work t u os g m = record {
     from = g.pass;
     to = m.to;
@@ -47,14 +56,16 @@ module _ {R : Type 0} where
   }
 
   -- what the seat made, from caller to caller
-  pub rises : (s t : Seat R) (p q : Pass) (os : List Operation) (packets : List Packet) → pass_of s.hold ≡ Some p → pass_of t.hold ≡ Some q → SeatMade s os packets t → Made p os q
+  pub rises : (s t : Seat R) (p q : Pass) (os : List Operation) (packets : List Packet) → pass_of s.hold ≡ Some p → pass_of t.hold ≡ Some q
+      → SeatMade s os packets t → Made p os q
   rises s t p q os packets was is m =
       let from : m.from ≡ p = same_pass s m.from p m.was was in
       let to : m.to ≡ q = same_pass t m.to q m.is is in
       subst (λ (x : Pass). Made x os q) from (subst (λ (x : Pass). Made m.from os x) to m.made)
 
   -- its caller delivers what it polled
-  pub delivers : (s t : Seat R) (b c : Caller) (os : List Operation) (packets : List Packet) → s.hold ≡ Rests b → t.hold ≡ Rests c → SeatMade s os packets t → Delivers b.pass packets c.pass
+  pub delivers : (s t : Seat R) (b c : Caller) (os : List Operation) (packets : List Packet) → s.hold ≡ Rests b → t.hold ≡ Rests c
+      → SeatMade s os packets t → Delivers b.pass packets c.pass
   delivers s t b c os packets was is m = ap packets_by (sym is) ∙ m.gave ∙ ap (λ (h : Hold). packets_by h ++ packets) was
 
   -- what the seat made, one operation at least, and polled
@@ -74,7 +85,8 @@ module _ {R : Type 0} where
     abbrev Held : ℕ → Seat R → P → Once → Seat R → Type 0
     Held = polling.PollsHeld SeatTakes Gives SeatLooks SeatRequeues SeatCompletes
 
-    ended_made : (full : Bool) (s : Seat R) (again : Option Kind) (t looked : Seat R) → polling.LooksAfter SeatTakes Gives SeatLooks SeatRequeues SeatCompletes full true s looked
+    ended_made : (full : Bool) (s : Seat R) (again : Option Kind) (t looked : Seat R)
+        → polling.LooksAfter SeatTakes Gives SeatLooks SeatRequeues SeatCompletes full true s looked
         → SeatCompletes looked again t → Makes s [] (LooksAndEndsBy s.thread full (next_of again)) t
     ended_made false s again t looked l e = record {
       os = e.0;
@@ -97,7 +109,8 @@ module _ {R : Type 0} where
     ends_made full s (Again k) t e = ended_made full s (Some k) t e.0 e.1 e.2
 
     -- a poll of an instance in the caller's hands
-    held_made : (weight : ℕ) (s : Seat R) (packets : P) (once : Once) (t : Seat R) → Held weight s packets once t → Makes s (items packets) (PollsBy s.thread (once.work == weight) once.next) t
+    held_made : (weight : ℕ) (s : Seat R) (packets : P) (once : Once) (t : Seat R) → Held weight s packets once t
+        → Makes s (items packets) (PollsBy s.thread (once.work == weight) once.next) t
     held_made weight s packets once t h =
         let m = ends_made (once.work == weight) h.0 once.next t h.2 in record {
           os = m.os;
@@ -110,20 +123,24 @@ module _ {R : Type 0} where
     Go = polling.LetsGo SeatTakes Gives SeatLooks SeatRequeues SeatCompletes
 
     -- with the letting go
-    gone_made : (next : Next) (s t u : Seat R) (os : List Operation) (packets : List Packet) → os ≢ [] → SeatMade s os packets t → Go next t u → SeatMade s (os ++ let_go next) packets u
+    gone_made : (next : Next) (s t u : Seat R) (os : List Operation) (packets : List Packet) → os ≢ [] → SeatMade s os packets t
+        → Go next t u → SeatMade s (os ++ let_go next) packets u
     gone_made Repoll s t u os packets some m g = seat_behind s t u os (Hand kind.List ∷ []) packets (λ none. cc none) m g
     gone_made Absent s t u os packets some m g = rw (append-nil os) (rw g m)
     gone_made Gone s t u os packets some m g = rw (append-nil os) (rw g m)
     gone_made (Again k) s t u os packets some m g = rw (append-nil os) (rw g m)
 
     -- taken, polled and let go
-    found_made : (kind : Kind) (weight : ℕ) (s : Seat R) (packets : P) (once : Once) (taken t u : Seat R) → SeatTakes s kind true taken → Held weight taken packets once t → Go once.next t u
-        → (os : List Operation) × PollsBy s.thread (once.work == weight) once.next os × SeatMade s (Take kind true ∷ os ++ let_go once.next) (items packets) u
+    found_made : (kind : Kind) (weight : ℕ) (s : Seat R) (packets : P) (once : Once) (taken t u : Seat R) → SeatTakes s kind true taken
+        → Held weight taken packets once t → Go once.next t u
+        → (os : List Operation) × PollsBy s.thread (once.work == weight) once.next os
+        × SeatMade s (Take kind true ∷ os ++ let_go once.next) (items packets) u
     found_made kind weight s packets once taken t u tk h g =
         let m = held_made weight taken packets once t h in (
           m.os,
           subst (λ (b : Bool). PollsBy b (once.work == weight) once.next m.os) tk.thread m.are,
-          gone_made once.next s t u (Take kind true ∷ m.os) (items packets) (λ none. cc none) (seat_joined s taken t (Take kind true ∷ []) m.os [] (items packets) m.some tk m.made) g,
+          gone_made once.next s t u (Take kind true ∷ m.os) (items packets) (λ none. cc none)
+              (seat_joined s taken t (Take kind true ∷ []) m.os [] (items packets) m.some tk m.made) g,
         )
 
     -- ---- a poll from the list
@@ -135,9 +152,11 @@ module _ {R : Type 0} where
     Found = polling.Found SeatTakes Gives SeatLooks SeatRequeues SeatCompletes
 
     abbrev Once-case : ℕ → Seat R → P → Once → P → Seat R → Bool → Type 0
-    Once-case weight s packets once packets' t absent = MatchBool absent ((once.work ≡ 0) × SeatTakes s kind.List false t × (packets' ≡ packets)) (Found weight s packets' once t)
+    Once-case weight s packets once packets' t absent =
+        MatchBool absent ((once.work ≡ 0) × SeatTakes s kind.List false t × (packets' ≡ packets)) (Found weight s packets' once t)
 
-    once_case : (weight : ℕ) (s : Seat R) (packets : P) (once : Once) (packets' : P) (t : Seat R) (next : Next) → Once-polls weight s packets once packets' t → once.next ≡ next
+    once_case : (weight : ℕ) (s : Seat R) (packets : P) (once : Once) (packets' : P) (t : Seat R) (next : Next)
+        → Once-polls weight s packets once packets' t → once.next ≡ next
         → Once-case weight s packets once packets' t (is_absent next)
     once_case weight s packets once packets' t next o e = subst (Once-case weight s packets once packets' t) (ap is_absent e) o
 
@@ -147,16 +166,24 @@ module _ {R : Type 0} where
         (os : List Operation) × SeatMade s os (items packets') t × PollsOnceBy s.thread (once.work == weight) next os
         × (once.work ≡ length (items packets')) × (next ≡ Absent → items packets' ≡ [])
 
-    pub once_made : (weight : ℕ) (s : Seat R) (packets : P) (once : Once) (packets' : P) (t : Seat R) → Once-polls weight s packets once packets' t → items packets ≡ []
+    pub once_made : (weight : ℕ) (s : Seat R) (packets : P) (once : Once) (packets' : P) (t : Seat R)
+        → Once-polls weight s packets once packets' t → items packets ≡ []
         → (os : List Operation) × SeatMade s os (items packets') t × PollsOnceBy s.thread (once.work == weight) once.next os
         × (once.work ≡ length (items packets')) × (once.next ≡ Absent → items packets' ≡ [])
     once_made weight s packets once packets' t o empty = by once.next refl o
       where
         found : (next : Next) → once.next ≡ next → Found weight s packets' once t
-            → (os : List Operation) × SeatMade s os (items packets') t × (polled : List Operation) × PollsBy s.thread (once.work == weight) next polled × (os ≡ Take kind.List true ∷ polled ++ let_go next)
+            → (os : List Operation) × SeatMade s os (items packets') t × (polled : List Operation)
+            × PollsBy s.thread (once.work == weight) next polled × (os ≡ Take kind.List true ∷ polled ++ let_go next)
         found next e f =
-            let m = found_made kind.List weight s packets' once f.taken f.polled t f.was_there f.polls f.lets_go in
-            (Take kind.List true ∷ m.0 ++ let_go once.next, m.2, m.0, subst (λ (n : Next). PollsBy s.thread (once.work == weight) n m.0) e m.1, ap (λ (n : Next). Take kind.List true ∷ m.0 ++ let_go n) e)
+            let m = found_made kind.List weight s packets' once f.taken f.polled t f.was_there f.polls f.lets_go in (
+              Take kind.List true ∷ m.0 ++ let_go once.next,
+              m.2,
+              m.0,
+              subst (λ (n : Next). PollsBy s.thread (once.work == weight) n m.0) e
+                  m.1,
+              ap (λ (n : Next). Take kind.List true ∷ m.0 ++ let_go n) e,
+            )
 
         by : (next : Next) → once.next ≡ next → Once-polls weight s packets once packets' t → Did weight s once.next once packets' t
         by Absent e o =
@@ -192,20 +219,32 @@ module _ {R : Type 0} where
     -- a take, where there is one, and a poll
     turn_made : (weight : ℕ) (held : Bool) (s taken : Seat R) (packets : P) (once : Once) (t : Seat R)
         → polling.TakesUnless SeatTakes Gives SeatLooks SeatRequeues SeatCompletes held s taken → Held weight taken packets once t
-        → (os : List Operation) × PollsBy s.thread (once.work == weight) once.next os × (retaken held ++ os ≢ []) × SeatMade s (retaken held ++ os) (items packets) t
+        → (os : List Operation) × PollsBy s.thread (once.work == weight) once.next os × (retaken held ++ os ≢ [])
+        × SeatMade s (retaken held ++ os) (items packets) t
     turn_made weight true s taken packets once t tk h =
-        let m = held_made weight taken packets once t h in
-        (m.os, subst (λ (u : Seat R). PollsBy u.thread (once.work == weight) once.next m.os) tk m.are, m.some, subst (λ (u : Seat R). SeatMade u m.os (items packets) t) tk m.made)
+        let m = held_made weight taken packets once t h in (
+          m.os,
+          subst (λ (u : Seat R). PollsBy u.thread (once.work == weight) once.next m.os) tk m.are,
+          m.some,
+          subst
+              (λ (u : Seat R). SeatMade u m.os (items packets) t) tk m.made,
+        )
     turn_made weight false s taken packets once t tk h =
-        let m = held_made weight taken packets once t h in
-        (m.os, subst (λ (b : Bool). PollsBy b (once.work == weight) once.next m.os) tk.thread m.are, (λ none. cc none), seat_joined s taken t (Take kind.Thread true ∷ []) m.os [] (items packets) m.some tk m.made)
+        let m = held_made weight taken packets once t h in (
+          m.os,
+          subst (λ (b : Bool). PollsBy b (once.work == weight) once.next m.os) tk.thread m.are,
+          (λ none. cc none),
+          seat_joined s taken
+              t (Take kind.Thread true ∷ []) m.os [] (items packets) m.some tk m.made,
+        )
 
     -- what a thread's polls make, and their packets, of which the batch has the last poll's
     abbrev Thread-did : ℕ → ℕ → Bool → Seat R → P → List Once → P → Seat R → Type 0
     Thread-did weight most held s packets polls last t =
         (all : List Packet) × Makes s all (ThreadPollsBy weight most held polls) t × GivesEach (items packets) polls all (items last)
 
-    pub thread_made : (weight most : ℕ) (held : Bool) (s : Seat R) (packets : P) (polls : List Once) (last : P) (t : Seat R) → s.thread ≡ true → By-thread weight most held s packets polls last t
+    pub thread_made : (weight most : ℕ) (held : Bool) (s : Seat R) (packets : P) (polls : List Once) (last : P) (t : Seat R)
+        → s.thread ≡ true → By-thread weight most held s packets polls last t
         → (all : List Packet) × Makes s all (ThreadPollsBy weight most held polls) t × GivesEach (items packets) polls all (items last)
     thread_made weight most held s packets [] last t thread b = (
       [],
@@ -218,16 +257,20 @@ module _ {R : Type 0} where
       (refl, ap items b.2),
     )
     thread_made weight most held s packets (once ∷ more) last t thread b =
-        by (goes_on once.next most) refl b.5 (λ (r : By-thread weight (most - 1) (is_repoll once.next) b.2 b.1 more last t). thread_made weight (most - 1) (is_repoll once.next) b.2 b.1 more last t (turn.3.thread ∙ thread) r)
+        by (goes_on once.next most) refl b.5
+        (λ (r : By-thread weight (most - 1) (is_repoll once.next) b.2 b.1 more last t). thread_made weight (most - 1)
+        (is_repoll once.next) b.2 b.1 more last t (turn.3.thread ∙ thread) r)
       where
-        turn : (os : List Operation) × PollsBy s.thread (once.work == weight) once.next os × (retaken held ++ os ≢ []) × SeatMade s (retaken held ++ os) (items b.1) b.2
+        turn : (os : List Operation) × PollsBy s.thread (once.work == weight) once.next os × (retaken held ++ os ≢ [])
+            × SeatMade s (retaken held ++ os) (items b.1) b.2
         turn = turn_made weight held s b.0 b.1 once b.2 b.3 b.4
 
         polls_by : PollsBy true (once.work == weight) once.next turn.0
         polls_by = subst (λ (x : Bool). PollsBy x (once.work == weight) once.next turn.0) thread turn.1
 
         by : (goes : Bool) → goes_on once.next most ≡ goes → Rest weight most once b.2 b.1 more last t
-            → (By-thread weight (most - 1) (is_repoll once.next) b.2 b.1 more last t → Thread-did weight (most - 1) (is_repoll once.next) b.2 b.1 more last t)
+            → (By-thread weight (most - 1) (is_repoll once.next) b.2 b.1 more last t
+            → Thread-did weight (most - 1) (is_repoll once.next) b.2 b.1 more last t)
             → Thread-did weight most held s packets (once ∷ more) last t
         by true e rest behind =
             let m = behind (rw e at rest) in (

@@ -1,5 +1,6 @@
 -- Busy polling of a shared instance, told by the operations of the caller that polls it.
-use Rattle.std.specs.Prelude.{◌≡◌, ◌+◌, ◌≤◌, ℕ, nat_lt, Bool, true, false, List, [], ◌∷◌, ◌++◌, length, filter, flat_map, if◌then◌else◌, MatchBool}
+use Rattle.std.specs.Prelude.{◌≡◌, ◌+◌, ◌≤◌, ℕ, nat_lt, Bool, true, false, List, [], ◌∷◌, ◌++◌, length, filter, flat_map, if◌then◌else◌}
+use Rattle.std.specs.Prelude.{MatchBool}
 use Rattle.std.specs.List.{AllByRecursion}
 use Rattle.rx_ring.specs.declared.packet.Packet.{Packet}
 use Rattle.rx_ring.specs.ReceiveRing.{bytes_of}
@@ -20,7 +21,8 @@ use Rattle.poll_runs.specs.declared.bench.Next.TheVariants as next
 
 -- it takes the instance, try after try until one decides, or is refused it (`napi_busy_loop`)
 abbrev pub BusyTakesBy : Bool → List Operation → Type 0
-BusyTakesBy true os = (ts : List (Lost call.BusyTake)) × (x : Seen) × MayBusyTake x.flags × (os ≡ flat_map looks ts ++ Look x ∷ BusyTake ∷ [])
+BusyTakesBy true os =
+    (ts : List (Lost call.BusyTake)) × (x : Seen) × MayBusyTake x.flags × (os ≡ flat_map looks ts ++ Look x ∷ BusyTake ∷ [])
 BusyTakesBy false os = (ts : List (Lost call.BusyTake)) × (x : Seen) × ¬ MayBusyTake x.flags × (os ≡ flat_map looks ts ++ Look x ∷ [])
 
 -- it stops (`busy_poll_stop`)
@@ -39,7 +41,8 @@ LeavesBy below next.Gone os = (below ≡ true) × EndsBy true next.Gone os
 LeavesBy below (next.Again k) os = (below ≡ true) × EndsBy true (next.Again k) os
 
 -- the rounds gave these packets each, and the last poll those
-pub record BusyPollsBy (weight count : ℕ) (rounds : List (List Packet)) (last : List Packet) (next : Next) (os : List Operation) : Type 0 where
+pub record BusyPollsBy (weight count : ℕ) (rounds : List (List Packet)) (last : List Packet) (next : Next)
+    (os : List Operation) : Type 0 where
   pub taken : List Operation
   pub stopped : List Operation
   pub left : List Operation

@@ -1,5 +1,6 @@
 -- Lists side by side.
-use Rattle.std.{proofs.Common.{◌≡◌, zero, suc, List, [], ◌∷◌, ◌++◌, length, sym, refl, ap, ◌∙◌, append-nil, arith, All}, specs.List.{AllByRecursion, AllZip}}
+use Rattle.std.proofs.Common.{◌≡◌, zero, suc, List, [], ◌∷◌, ◌++◌, length, sym, refl, ap, ◌∙◌, append-nil, arith, All}
+use Rattle.std.specs.List.{AllByRecursion, AllZip}
 
 pub none_left : {A : Type 0} (all xs rest : List A) → xs ++ rest ≡ all → rest ≡ [] → xs ≡ all
 none_left all xs rest e n = sym (append-nil xs) ∙ ap (λ l. xs ++ l) (sym n) ∙ e
@@ -23,12 +24,14 @@ module _ {A B : Type 0} where
   zip_and R S (x ∷ xs) (y ∷ ys) h k = ((h.0, k.0), zip_and R S xs ys h.1 k.1)
   zip_and R S xs ys h k = absurd h
 
-  pub zip_each : (R : A → B → Type 0) (P : B → Type 0) (xs : List A) (ys : List B) → ((x : A) (y : B) → R x y → P y) → AllZip R xs ys → AllByRecursion P ys
+  pub zip_each : (R : A → B → Type 0) (P : B → Type 0) (xs : List A) (ys : List B) → ((x : A) (y : B) → R x y → P y) → AllZip R xs ys
+      → AllByRecursion P ys
   zip_each R P [] [] f h = tt
   zip_each R P (x ∷ xs) (y ∷ ys) f h = (f x y h.0, zip_each R P xs ys f h.1)
   zip_each R P xs ys f h = absurd h
 
-  pub zip_all : (R : A → B → Type 0) (P : A → Type 0) (xs : List A) (ys : List B) → All P xs → AllZip R xs ys → AllZip (λ x y. P x × R x y) xs ys
+  pub zip_all : (R : A → B → Type 0) (P : A → Type 0) (xs : List A) (ys : List B) → All P xs → AllZip R xs ys
+      → AllZip (λ x y. P x × R x y) xs ys
   zip_all R P [] [] a h = tt
   zip_all R P (x ∷ xs) (y ∷ ys) a h = ((a 0 x (omega arith), h.0), zip_all R P xs ys (λ k d b. a (suc k) d (omega arith)) h.1)
   zip_all R P xs ys a h = absurd h

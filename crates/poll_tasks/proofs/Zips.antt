@@ -1,7 +1,9 @@
 -- Lists side by side.
-use Rattle.std.{proofs.Common.{◌≡◌, ℕ, ◌+◌, ◌<◌, length, List, [], ◌∷◌, ◌++◌, refl, arith, length-append, ap, ◌∙◌, sym, get_or, suc, append_assoc, append-nil}, specs.List.AllZip}
+use Rattle.std.proofs.Common.{◌≡◌, ℕ, ◌+◌, ◌<◌, length, List, [], ◌∷◌, ◌++◌, refl, arith, length-append, ap, ◌∙◌, sym, get_or, suc}
+use Rattle.std.{proofs.Common.{append_assoc, append-nil}, specs.List.AllZip}
 
-pub zip_push : {A B : Type 0} (R : A → B → Type 0) (xs : List A) (ys : List B) (x : A) (y : B) → AllZip R xs ys → R x y → AllZip R (xs ++ x ∷ []) (ys ++ y ∷ [])
+pub zip_push : {A B : Type 0} (R : A → B → Type 0) (xs : List A) (ys : List B) (x : A) (y : B) → AllZip R xs ys → R x y
+    → AllZip R (xs ++ x ∷ []) (ys ++ y ∷ [])
 zip_push R [] [] x y h r = (r, tt)
 zip_push R (a ∷ xs) (b ∷ ys) x y h r = (h.0, zip_push R xs ys x y h.1 r)
 zip_push R xs ys x y h r = absurd h
@@ -17,7 +19,8 @@ at_turn all [] rest x e = ap (λ l. get_or l 0 x) e
 at_turn all (a ∷ xs) rest x e = ap (λ l. get_or l (suc (length xs)) x) e ∙ at_turn (xs ++ x ∷ rest) xs rest x refl
 
 -- one more item was yielded
-pub before_more : {A : Type 0} (all xs rest rest' : List A) (x : A) → xs ++ rest ≡ all → rest ≡ x ∷ rest' → (length xs < length all) × (get_or all (length xs) x ≡ x) × ((xs ++ x ∷ []) ++ rest' ≡ all)
+pub before_more : {A : Type 0} (all xs rest rest' : List A) (x : A) → xs ++ rest ≡ all → rest ≡ x ∷ rest'
+    → (length xs < length all) × (get_or all (length xs) x ≡ x) × ((xs ++ x ∷ []) ++ rest' ≡ all)
 before_more all xs rest rest' x e r =
     let whole : all ≡ xs ++ x ∷ rest' = sym e ∙ ap (λ l. xs ++ l) r in (
       (let n = ap (λ l. length l) whole in omega (arith, length-append xs (x ∷ rest'))),

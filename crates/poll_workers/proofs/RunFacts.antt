@@ -1,28 +1,46 @@
 -- What the parts of a crew come to for its stations.
-use Rattle.std.{proofs.Common.{◌≡◌, ℕ, suc, ◌≤◌, Bool, true, false, Option, None, is_some, List, [], ◌∷◌, ◌++◌, length, sym, ap, ◌∙◌, refl, subst, IsSome, Some, All, arith, rules}, specs.{Prelude.{IfOk, Ok, Err, Result, map, vec_items, MatchBool, MatchOption}, Global.Vec, List.{AllByRecursion, AllZip}}}
-use Rattle.{rx_ring.specs.{declared.{ends.RxIn.RxIn, packet.Packet.Packet}, Ends.{SameIn, capacity_of, put_list}, ReceiveRing.{bytes_of, capped}}, napi_calls.specs.declared.{kept.Kept.Kept, types.{Caller.Caller, Napi.Napi}}}
-use Rattle.{napi_calls.specs.{Instance.IsSeatOf, Seats.{number_of, own_list}}, poll_interrupts.specs.declared.{acts.Act.Act, opening.{Loose.Loose, Placed.Placed}, station.{Station.Station, Finished.Finished}, job.Job.Job}}
-use Rattle.poll_interrupts.specs.{declared.{job.Worked.Worked, worker.Seats.Seats}, Acts.{after_acts, arrivals}, Ends.{AreFinishesOf, HasAllOf, IsCallerAt, IsDoneAt, IsFinishOf, IsTurnedAt}, Opens.{IsInputOf, IsKeptLoose, IsKeptSideOf, IsLoose}, Runs.{HasRun, IsEnded}}
-use Rattle.{poll_interrupts.specs.{Runs.{Ledger, Whose, WorksBy, blank, controller_number, worker_number}, Seats.AreSeatsOf, Works.{IsWorkOf, ledger_of, whose}}, poll_seats.specs.declared.{seat.Seat.Seat, thread_poller.{Own.Own, ThreadSide.ThreadSide}}}
-use Rattle.{poll_seats.specs.{SeatKeeping.{IsCallerOf, AreSameSeats, IsSameSeat}, Gives.{GivesCaller, IsPolledAlone}}, poll_workers.specs.{Finishes.{IsFinished, IsWorkedOf}, Spreads.{IsJobAt, IsKeptJobOf, IsKeptSeatFor, IsKeptThreadFor, IsSeatAt, IsThreadAt}}}
-use Rattle.{poll_list.specs.{declared.shared.SharedList.SharedList, SharedList.IsNewList}, poll_tasks.specs.{Asks.IsAsked, declared.{pace.{Pace.Pace, Setting.Setting}, tasks.Turned.Turned}}, poll_workers.specs.Courses.{AreOfCrew, Course, HasPolled, HasTurned, IsCourse, IsFreshSeat, IsSpentSeat, TakesTurns, TurnsIfThread}}
+use Rattle.std.proofs.Common.{◌≡◌, ℕ, suc, ◌≤◌, Bool, true, false, Option, None, is_some, List, [], ◌∷◌, ◌++◌, length, sym, ap, ◌∙◌, refl}
+use Rattle.std.proofs.Common.{subst, IsSome, Some, All, arith, rules}
+use Rattle.std.specs.{Prelude.{IfOk, Ok, Err, Result, map, vec_items, MatchBool, MatchOption}, Global.Vec, List.{AllByRecursion, AllZip}}
+use Rattle.rx_ring.specs.{declared.{ends.RxIn.RxIn, packet.Packet.Packet}, Ends.{SameIn, capacity_of, put_list}}
+use Rattle.{rx_ring.specs.ReceiveRing.{bytes_of, capped}, napi_calls.specs.declared.{kept.Kept.Kept, types.{Caller.Caller, Napi.Napi}}}
+use Rattle.napi_calls.specs.{Instance.IsSeatOf, Seats.{number_of, own_list}}
+use Rattle.poll_interrupts.specs.declared.{acts.Act.Act, opening.{Loose.Loose, Placed.Placed}, station.{Station.Station, Finished.Finished}}
+use Rattle.poll_interrupts.specs.declared.job.Job.{Job}
+use Rattle.poll_interrupts.specs.{declared.{job.Worked.Worked, worker.Seats.Seats}, Acts.{after_acts, arrivals}}
+use Rattle.poll_interrupts.specs.Ends.{AreFinishesOf, HasAllOf, IsCallerAt, IsDoneAt, IsFinishOf, IsTurnedAt}
+use Rattle.poll_interrupts.specs.{Opens.{IsInputOf, IsKeptLoose, IsKeptSideOf, IsLoose}, Runs.{HasRun, IsEnded}}
+use Rattle.poll_interrupts.specs.{Runs.{Ledger, Whose, WorksBy, blank, controller_number, worker_number}, Seats.AreSeatsOf}
+use Rattle.poll_interrupts.specs.Works.{IsWorkOf, ledger_of, whose}
+use Rattle.poll_seats.specs.declared.{seat.Seat.Seat, thread_poller.{Own.Own, ThreadSide.ThreadSide}}
+use Rattle.poll_seats.specs.{SeatKeeping.{IsCallerOf, AreSameSeats, IsSameSeat}, Gives.{GivesCaller, IsPolledAlone}}
+use Rattle.poll_workers.specs.Finishes.{IsFinished, IsWorkedOf}
+use Rattle.poll_workers.specs.Spreads.{IsJobAt, IsKeptJobOf, IsKeptSeatFor, IsKeptThreadFor, IsSeatAt, IsThreadAt}
+use Rattle.poll_list.specs.{declared.shared.SharedList.SharedList, SharedList.IsNewList}
+use Rattle.poll_tasks.specs.{Asks.IsAsked, declared.{pace.{Pace.Pace, Setting.Setting}, tasks.Turned.Turned}}
+use Rattle.poll_workers.specs.Courses.{AreOfCrew, Course, HasPolled, HasTurned, IsCourse, IsFreshSeat, IsSpentSeat, TakesTurns}
+use Rattle.poll_workers.specs.Courses.{TurnsIfThread}
 use Rattle.poll_tasks.{specs.Paces.IsLawful, proofs.ListFacts.{each_index, zip_all, zip_and, zip_both, zip_each, zip_flip, zip_same}}
 
 same_ring : (a b c : RxIn) (napi : Napi) → b ≡ a → SameIn b c → IsInputOf a napi → IsInputOf c napi
-same_ring a b c napi e s h = let whole : IsInputOf b napi = subst (λ (r : RxIn). IsInputOf r napi) (sym e) h in (whole.0, whole.1, search rules)
+same_ring a b c napi e s h = let whole : IsInputOf b napi = subst (λ (r : RxIn). IsInputOf r napi) (sym e) h in
+    (whole.0, whole.1, search rules)
 
 capped_small : (n : ℕ) → n ≤ 4294967295 → capped n ≡ n
 capped_small n h = omega arith
 
 -- the acts of a station's worker were a run, by a history in which all stands that the others did
-record Runs {D : Type 0} (acts : D → ℕ) (answer : D → ℕ → Act) (after : D → ℕ → D) (station : Station D) (poller thread : Caller) (end : Finished D) : Type 0 where
+record Runs {D : Type 0} (acts : D → ℕ) (answer : D → ℕ → Act) (after : D → ℕ → D) (station : Station D) (poller thread : Caller)
+    (end : Finished D) : Type 0 where
   pub run : HasRun answer after station.capacity station.thread station.device (acts station.device) end.totals
   pub worker : run.caller ≡ worker_number
   pub by_poller : HasAllOf run.ended.history poller
   pub by_thread : HasAllOf run.ended.history thread
 
-run_of : {R D : Type 0} (acts : D → ℕ) (answer : D → ℕ → Act) (after : D → ℕ → D) (station : Station D) (loose : Kept R (Loose D)) (worked : Worked R D) (poller thread : Kept R Caller) (end : Finished D)
-    → IsLoose station loose.value → IsWorkedOf acts answer after loose worked → worked.done.whole ≡ true → IsFinishOf worked poller thread end
+run_of : {R D : Type 0} (acts : D → ℕ) (answer : D → ℕ → Act) (after : D → ℕ → D) (station : Station D) (loose : Kept R (Loose D))
+    (worked : Worked R D) (poller thread : Kept R Caller) (end : Finished D)
+    → IsLoose station loose.value → IsWorkedOf acts answer after loose worked → worked.done.whole ≡ true
+    → IsFinishOf worked poller thread end
     → Runs acts answer after station poller.value thread.value end
 run_of {R} {D} acts answer after station loose worked poller thread end opened made whole ended =
     let work = made.1 in
@@ -33,7 +51,8 @@ run_of {R} {D} acts answer after station loose worked poller thread end opened m
     let seats = worked.done.seats.value in
     let left = ledger_of seats worked.done.rx (done.run whole).0 in
     let w : Whose = record { caller = worker_number; controller = controller_number; places = station.capacity; thread = station.thread } in
-    let number : number_of work.seats.value.caller.pass ≡ worker_number = ap (λ (s : Seats). number_of s.caller.pass) was ∙ new.caller.number_is in
+    let number : number_of work.seats.value.caller.pass ≡ worker_number =
+    ap (λ (s : Seats). number_of s.caller.pass) was ∙ new.caller.number_is in
     let same_whose : whose work.seats.value work.rx (is_some loose.value.pause) ≡ w = λ i. record {
       caller = number i;
       controller = (ap (λ (s : Seats). number_of s.control.pass) was ∙ new.number) i;
@@ -47,10 +66,14 @@ run_of {R} {D} acts answer after station loose worked poller thread end opened m
       on = false;
       threaded = false;
     } in
-    let by_whose = subst (λ (v : Whose). WorksBy v answer after work.device (acts work.device) (ledger_of work.seats.value work.rx false) left) same_whose (done.run whole).1 in
+    let by_whose =
+    subst (λ (v : Whose). WorksBy v answer after work.device (acts work.device) (ledger_of work.seats.value work.rx false) left) same_whose
+    (done.run whole).1 in
     let by_device = subst (λ (d : D). WorksBy w answer after d (acts d) (ledger_of work.seats.value work.rx false) left) device by_whose in
     let caller : number_of seats.caller.pass ≡ worker_number = done.same.0 ∙ number in
-    let all = subst (λ n. (e : IsEnded n left.calls left.controls left.put end.totals) × HasAllOf e.history poller.value × HasAllOf e.history thread.value) caller (ended.is.ended, ended.is.by_poller, ended.is.by_thread) in
+    let all =
+    subst (λ n. (e : IsEnded n left.calls left.controls left.put end.totals) × HasAllOf e.history poller.value
+    × HasAllOf e.history thread.value) caller (ended.is.ended, ended.is.by_poller, ended.is.by_thread) in
     record {
       run = record {
         caller = worker_number;
@@ -64,8 +87,10 @@ run_of {R} {D} acts answer after station loose worked poller thread end opened m
     }
 
 -- a station whose worker made all its acts, and which was ended, is finished
-finished_of : {R D : Type 0} (acts : D → ℕ) (answer : D → ℕ → Act) (after : D → ℕ → D) (station : Station D) (loose : Kept R (Loose D)) (worked : Worked R D) (poller thread : Kept R Caller) (end : Finished D)
-    → IsLoose station loose.value → IsWorkedOf acts answer after loose worked → worked.done.whole ≡ true → IsFinishOf worked poller thread end
+finished_of : {R D : Type 0} (acts : D → ℕ) (answer : D → ℕ → Act) (after : D → ℕ → D) (station : Station D) (loose : Kept R (Loose D))
+    (worked : Worked R D) (poller thread : Kept R Caller) (end : Finished D)
+    → IsLoose station loose.value → IsWorkedOf acts answer after loose worked → worked.done.whole ≡ true
+    → IsFinishOf worked poller thread end
     → IsFinished acts answer after station end
 finished_of {R} {D} acts answer after station loose worked poller thread end opened made whole ended =
     let work = made.1 in
@@ -75,8 +100,10 @@ finished_of {R} {D} acts answer after station loose worked poller thread end ope
     let nothing : put_list work.rx ≡ [] = ap (λ (r : RxIn). put_list r) made.3 ∙ opened.nothing_put in
     let none : length (put_list work.rx) ≡ 0 = ap (λ (l : List Packet). length l) nothing in
     let places : capacity_of work.rx ≡ station.capacity = ap (λ (r : RxIn). capacity_of r) made.3 ∙ opened.places in
-    let same : arrivals answer after work.device (acts work.device) ≡ arrivals answer after station.device (acts station.device) = ap (λ (d : D). arrivals answer after d (acts d)) device in
-    let long : length (arrivals answer after work.device (acts work.device)) ≡ length (arrivals answer after station.device (acts station.device)) = ap (λ (l : List Packet). length l) same in
+    let same : arrivals answer after work.device (acts work.device) ≡ arrivals answer after station.device (acts station.device) =
+    ap (λ (d : D). arrivals answer after d (acts d)) device in
+    let long : length (arrivals answer after work.device (acts work.device))
+    ≡ length (arrivals answer after station.device (acts station.device)) = ap (λ (l : List Packet). length l) same in
     let few = done.few in
     record {
       same_number = ended.same_number ∙ is.same_number ∙ opened.same_number;
@@ -84,8 +111,10 @@ finished_of {R} {D} acts answer after station loose worked poller thread end ope
       sum = ended.sum (omega arith);
       put = λ room.
           let all : put_list worked.done.rx ≡ arrivals answer after station.device (acts station.device) =
-          done.put whole (omega arith) ∙ ap (λ (l : List Packet). l ++ arrivals answer after work.device (acts work.device)) nothing ∙ same in
-          let count : length (put_list worked.done.rx) ≡ length (arrivals answer after station.device (acts station.device)) = ap (λ (l : List Packet). length l) all in (
+          done.put whole (omega arith) ∙ ap (λ (l : List Packet). l ++ arrivals answer after work.device (acts work.device)) nothing
+          ∙ same in
+          let count : length (put_list worked.done.rx) ≡ length (arrivals answer after station.device (acts station.device)) =
+          ap (λ (l : List Packet). length l) all in (
             ended.put ∙ capped_small (length (put_list worked.done.rx)) (omega arith) ∙ count,
             ended.bytes ∙ ap (λ (l : List Packet). capped (bytes_of l)) all,
           );
@@ -101,7 +130,8 @@ record Post (R D : Type 0) : Type 0 where
   pub thread : Turned (Kept R Caller)
   pub end : Finished D
 
-record Posts {R D : Type 0} (ws : List (Worked R D)) (ps : List (Kept R Caller)) (ts : List (Turned (Kept R Caller))) (es : List (Finished D)) : Type 0 where
+record Posts {R D : Type 0} (ws : List (Worked R D)) (ps : List (Kept R Caller)) (ts : List (Turned (Kept R Caller)))
+    (es : List (Finished D)) : Type 0 where
   pub all : List (Post R D)
   pub worked_are : map (λ p. p.worked) all ≡ ws
   pub pollers_are : map (λ p. p.poller) all ≡ ps
@@ -109,7 +139,8 @@ record Posts {R D : Type 0} (ws : List (Worked R D)) (ps : List (Kept R Caller))
   pub ends_are : map (λ p. p.end) all ≡ es
   pub each : AllByRecursion (λ p. IsFinishOf p.worked p.poller p.thread.back p.end) all
 
-posts_of : {R D : Type 0} (ws : List (Worked R D)) (ps : List (Kept R Caller)) (ts : List (Turned (Kept R Caller))) (es : List (Finished D)) → AreFinishesOf ws ps ts es → Posts ws ps ts es
+posts_of : {R D : Type 0} (ws : List (Worked R D)) (ps : List (Kept R Caller)) (ts : List (Turned (Kept R Caller))) (es : List (Finished D))
+    → AreFinishesOf ws ps ts es → Posts ws ps ts es
 posts_of [] [] [] [] h = record { all = []; worked_are = refl; pollers_are = refl; threads_are = refl; ends_are = refl; each = tt }
 posts_of (w ∷ ws) (p ∷ ps) (t ∷ ts) (e ∷ es) h =
     let more = posts_of ws ps ts es h.1 in record {
@@ -130,13 +161,17 @@ module _ {R D : Type 0} (acts : D → ℕ) (answer : D → ℕ → Act) (after :
   abbrev Turns : Station D → Turned (Kept R Caller) → Type 0
   Turns station given = (loose : Kept R (Loose D)) × IsKeptLoose station loose × HasTurned asked pace loose given
 
-  course_of : (station : Station D) (post : Post R D) → Works station post.worked → Turns station post.thread → post.worked.done.whole ≡ true → post.thread.polled ≡ true
+  course_of : (station : Station D) (post : Post R D) → Works station post.worked → Turns station post.thread
+      → post.worked.done.whole ≡ true → post.thread.polled ≡ true
       → IsFinishOf post.worked post.poller post.thread.back post.end
-      → IsCourse R asked pace acts answer after (record { station = station; end = post.end; poller = post.poller.value; thread = post.thread.back.value })
+      → IsCourse R asked pace acts answer after
+      (record { station = station; end = post.end; poller = post.poller.value; thread = post.thread.back.value })
   course_of station post works turns whole polled finish =
       let run = run_of acts answer after station works.0 post.worked post.poller post.thread.back post.end works.1 works.2 whole finish in
       let loose = turns.0.value in
-      let number = subst (λ n. TurnsIfThread R asked pace (is_some loose.pause) n loose.thread post.thread.back.value) turns.1.same_number (turns.2 polled) in
+      let number =
+      subst (λ n. TurnsIfThread R asked pace (is_some loose.pause) n loose.thread post.thread.back.value) turns.1.same_number
+      (turns.2 polled) in
       record {
         run = run.run;
         worker = run.worker;
@@ -156,11 +191,13 @@ module _ {R D : Type 0} (acts : D → ℕ) (answer : D → ℕ → Act) (after :
     pub each : AllByRecursion (IsCourse R asked pace acts answer after) all
     pub finished : AllZip (IsFinished acts answer after) stations (map (λ p. p.end) posts)
 
-  courses_of : (stations : List (Station D)) (posts : List (Post R D)) → AllZip Works stations (map (λ p. p.worked) posts) → AllZip Turns stations (map (λ p. p.thread) posts)
+  courses_of : (stations : List (Station D)) (posts : List (Post R D)) → AllZip Works stations (map (λ p. p.worked) posts)
+      → AllZip Turns stations (map (λ p. p.thread) posts)
       → AllByRecursion (λ (w : Worked R D). w.done.whole ≡ true) (map (λ p. p.worked) posts)
       → AllByRecursion (λ (t : Turned (Kept R Caller)). t.polled ≡ true) (map (λ p. p.thread) posts)
       → AllByRecursion (λ (p : Post R D). IsFinishOf p.worked p.poller p.thread.back p.end) posts → Courses stations posts
-  courses_of [] [] works turns whole polled finish = record { all = []; stations_are = refl; ends_are = refl; pollers_are = refl; each = tt; finished = tt }
+  courses_of [] [] works turns whole polled finish =
+      record { all = []; stations_are = refl; ends_are = refl; pollers_are = refl; each = tt; finished = tt }
   courses_of [] (p ∷ ps) works turns whole polled finish = absurd works
   courses_of (s ∷ ss) [] works turns whole polled finish = absurd works
   courses_of (s ∷ ss) (p ∷ ps) works turns whole polled finish =
@@ -170,16 +207,21 @@ module _ {R D : Type 0} (acts : D → ℕ) (answer : D → ℕ → Act) (after :
         ends_are = ap (λ l. p.end ∷ l) more.ends_are;
         pollers_are = ap (λ l. p.poller.value ∷ l) more.pollers_are;
         each = (course_of s p works.0 turns.0 whole.0 polled.0 finish.0, more.each);
-        finished = (finished_of acts answer after s works.0.0 p.worked p.poller p.thread.back p.end works.0.1 works.0.2 whole.0 finish.0, more.finished);
+        finished = (
+          finished_of acts answer after s works.0.0 p.worked p.poller p.thread.back p.end works.0.1 works.0.2 whole.0 finish.0,
+          more.finished,
+        );
       }
 
 -- of what was mapped
-zip_mapped : {A B C : Type 0} (f : A → B) (Q : B → C → Type 0) (xs : List A) (ys : List C) → AllZip Q (map f xs) ys → AllZip (λ x y. Q (f x) y) xs ys
+zip_mapped : {A B C : Type 0} (f : A → B) (Q : B → C → Type 0) (xs : List A) (ys : List C) → AllZip Q (map f xs) ys
+    → AllZip (λ x y. Q (f x) y) xs ys
 zip_mapped f Q [] [] h = tt
 zip_mapped f Q (x ∷ xs) (y ∷ ys) h = (h.0, zip_mapped f Q xs ys h.1)
 zip_mapped f Q xs ys h = absurd h
 
-zip_values : {A B C : Type 0} (f : A → B) (Q : B → C → Type 0) (xs : List A) (ys : List C) → AllZip (λ x y. Q (f x) y) xs ys → AllZip Q (map f xs) ys
+zip_values : {A B C : Type 0} (f : A → B) (Q : B → C → Type 0) (xs : List A) (ys : List C) → AllZip (λ x y. Q (f x) y) xs ys
+    → AllZip Q (map f xs) ys
 zip_values f Q [] [] h = tt
 zip_values f Q (x ∷ xs) (y ∷ ys) h = (h.0, zip_values f Q xs ys h.1)
 zip_values f Q xs ys h = absurd h
@@ -188,16 +230,26 @@ pub each_of : {A : Type 0} (P : A → Type 0) (xs : List A) → All P xs → All
 each_of P [] h = tt
 each_of P (x ∷ xs) h = (h 0 x (omega arith), each_of P xs (λ k d b. h (suc k) d (omega arith)))
 
-fresh_of : {R D : Type 0} (station : Station D) (seat : Seat) → (loose : Kept R (Loose D)) × IsKeptLoose station loose × IsKeptSeatFor loose seat → IsFreshSeat station seat
+fresh_of : {R D : Type 0} (station : Station D) (seat : Seat)
+    → (loose : Kept R (Loose D)) × IsKeptLoose station loose × IsKeptSeatFor loose seat → IsFreshSeat station seat
 fresh_of station seat (loose, opened, for) =
-    record { number = for.number ∙ opened.same_number; thread = for.thread ∙ opened.thread; caller = loose.value.poller; there = for.caller; unused = opened.poller }
+    record {
+      number = for.number ∙ opened.same_number;
+      thread = for.thread ∙ opened.thread;
+      caller = loose.value.poller;
+      there = for.caller;
+      unused = opened.poller;
+    }
 
 -- what the threads of a crew came to, where the answer is no fault
-module _ {R D : Type 0} (acts : D → ℕ) (answer : D → ℕ → Act) (after : D → ℕ → D) (asked : ℕ → Type 0) (pace : Pace) (number : ℕ) (list : SharedList R)
-    (stations : List (Station D)) (loose : List (Kept R (Loose D))) (worked : List (Worked R D)) (pollers : List (Kept R Caller)) (threads : List (Turned (Kept R Caller)))
+module _ {R D : Type 0} (acts : D → ℕ) (answer : D → ℕ → Act) (after : D → ℕ → D) (asked : ℕ → Type 0) (pace : Pace) (number : ℕ)
+    (list : SharedList R)
+    (stations : List (Station D)) (loose : List (Kept R (Loose D))) (worked : List (Worked R D)) (pollers : List (Kept R Caller))
+    (threads : List (Turned (Kept R Caller)))
     (polled : Bool) (opened : AllZip IsKeptLoose stations loose) (made : AllZip (IsWorkedOf acts answer after) loose worked)
     (ran : polled ≡ true → HasPolled asked pace number list loose pollers) (turned : AllZip (HasTurned asked pace) loose threads) where
-  crew_courses : (ends : List (Finished D)) → All (λ w. w.done.whole ≡ true) worked → All (λ t. t.polled ≡ true) threads → (posts : Posts worked pollers threads ends)
+  crew_courses : (ends : List (Finished D)) → All (λ w. w.done.whole ≡ true) worked → All (λ t. t.polled ≡ true) threads
+      → (posts : Posts worked pollers threads ends)
       → Courses acts answer after asked pace stations posts.all
   crew_courses ends whole whole_turns posts =
       courses_of acts answer after asked pace stations posts.all
@@ -212,14 +264,17 @@ module _ {R D : Type 0} (acts : D → ℕ) (answer : D → ℕ → Act) (after :
     pub finished : AllZip (IsFinished acts answer after) stations ends
     pub of_crew : AreOfCrew R asked pace acts answer after number stations ends
 
-  both : (ends : List (Finished D)) (n : ℕ) → IsNewList n list → All (λ w. w.done.whole ≡ true) worked → polled ≡ true → All (λ t. t.polled ≡ true) threads
+  both : (ends : List (Finished D)) (n : ℕ) → IsNewList n list → All (λ w. w.done.whole ≡ true) worked → polled ≡ true
+      → All (λ t. t.polled ≡ true) threads
       → AreFinishesOf worked pollers threads ends → Both ends
   both ends n new whole whole_run whole_turns finish =
       let posts = posts_of worked pollers threads ends finish in
       let courses = crew_courses ends whole whole_turns posts in
       let has = ran whole_run in
-      let fresh : AllZip IsFreshSeat stations has.before = zip_same _ _ _ _ (λ s b h. fresh_of s b h) (zip_both _ _ _ _ _ opened has.from) in
-      let spent : AllZip IsSpentSeat (map (λ k. k.value) pollers) has.after = zip_values (λ k. k.value) IsSpentSeat pollers has.after (zip_same _ _ _ _ (λ k a h. h.1) (zip_flip _ _ _ has.to)) in
+      let fresh : AllZip IsFreshSeat stations has.before =
+      zip_same _ _ _ _ (λ s b h. fresh_of s b h) (zip_both _ _ _ _ _ opened has.from) in
+      let spent : AllZip IsSpentSeat (map (λ k. k.value) pollers) has.after =
+      zip_values (λ k. k.value) IsSpentSeat pollers has.after (zip_same _ _ _ _ (λ k a h. h.1) (zip_flip _ _ _ has.to)) in
       let callers = courses.pollers_are ∙ ap (λ (l : List (Kept R Caller)). map (λ k. k.value) l) posts.pollers_are in
       record {
         finished = subst (λ l. AllZip (IsFinished acts answer after) stations l) posts.ends_are courses.finished;
@@ -234,28 +289,37 @@ module _ {R D : Type 0} (acts : D → ℕ) (answer : D → ℕ → Act) (after :
             new = new;
             before = has.before;
             after = has.after;
-            from = zip_mapped (λ c. c.station) IsFreshSeat courses.all has.before (subst (λ l. AllZip IsFreshSeat l has.before) (sym courses.stations_are) fresh);
+            from = zip_mapped (λ c. c.station) IsFreshSeat courses.all has.before
+                (subst (λ l. AllZip IsFreshSeat l has.before) (sym courses.stations_are) fresh);
             turns = has.turns;
-            to = zip_mapped (λ c. c.poller) IsSpentSeat courses.all has.after (subst (λ l. AllZip IsSpentSeat l has.after) (sym callers) spent);
+            to = zip_mapped (λ c. c.poller) IsSpentSeat courses.all has.after
+                (subst (λ l. AllZip IsSpentSeat l has.after) (sym callers) spent);
           };
         };
       }
 
   pub answer_finished : {F : Type 0} (ends : Result (Vec (Finished D)) F) (n : ℕ) → IsNewList n list
-      → IfOk ends (λ _. All (λ w. w.done.whole ≡ true) worked) → IfOk ends (λ _. polled ≡ true) → IfOk ends (λ _. All (λ t. t.polled ≡ true) threads)
-      → IfOk ends (λ all. AreFinishesOf worked pollers threads (vec_items all)) → IfOk ends (λ all. AllZip (IsFinished acts answer after) stations (vec_items all))
-  answer_finished (Ok all) n new whole whole_run whole_turns finish = (both (vec_items all) n new whole whole_run whole_turns finish).finished
+      → IfOk ends (λ _. All (λ w. w.done.whole ≡ true) worked) → IfOk ends (λ _. polled ≡ true)
+      → IfOk ends (λ _. All (λ t. t.polled ≡ true) threads)
+      → IfOk ends (λ all. AreFinishesOf worked pollers threads (vec_items all))
+      → IfOk ends (λ all. AllZip (IsFinished acts answer after) stations (vec_items all))
+  answer_finished (Ok all) n new whole whole_run whole_turns finish =
+      (both (vec_items all) n new whole whole_run whole_turns finish).finished
   answer_finished (Err fault) n new whole whole_run whole_turns finish = tt
 
   pub answer_polled : {F : Type 0} (ends : Result (Vec (Finished D)) F) (n : ℕ) → IsNewList n list
-      → IfOk ends (λ _. All (λ w. w.done.whole ≡ true) worked) → IfOk ends (λ _. polled ≡ true) → IfOk ends (λ _. All (λ t. t.polled ≡ true) threads)
-      → IfOk ends (λ all. AreFinishesOf worked pollers threads (vec_items all)) → IfOk ends (λ all. AreOfCrew R asked pace acts answer after number stations (vec_items all))
+      → IfOk ends (λ _. All (λ w. w.done.whole ≡ true) worked) → IfOk ends (λ _. polled ≡ true)
+      → IfOk ends (λ _. All (λ t. t.polled ≡ true) threads)
+      → IfOk ends (λ all. AreFinishesOf worked pollers threads (vec_items all))
+      → IfOk ends (λ all. AreOfCrew R asked pace acts answer after number stations (vec_items all))
   answer_polled (Ok all) n new whole whole_run whole_turns finish = (both (vec_items all) n new whole whole_run whole_turns finish).of_crew
   answer_polled (Err fault) n new whole whole_run whole_turns finish = tt
 
 -- what the workers of the jobs gave back is of the stations
-worked_of : {R D G : Type 0} (acts : D → ℕ) (answer : D → ℕ → Act) (after : D → ℕ → D) (loose : Kept R (Loose D)) (job : Job R D G) (worked : Worked R D)
-    → IsKeptJobOf loose job → IsWorkOf acts answer after job.desk.napi.now (is_some job.desk.thread) job.desk.number job.work worked → IsWorkedOf acts answer after loose worked
+worked_of : {R D G : Type 0} (acts : D → ℕ) (answer : D → ℕ → Act) (after : D → ℕ → D) (loose : Kept R (Loose D)) (job : Job R D G)
+    (worked : Worked R D)
+    → IsKeptJobOf loose job → IsWorkOf acts answer after job.desk.napi.now (is_some job.desk.thread) job.desk.number job.work worked
+    → IsWorkedOf acts answer after loose worked
 worked_of {R} {D} acts answer after loose job worked given made =
     (job.desk.napi.now, job.work, given.same_device, given.same_rx, given.same_seats, rw (← given.same_number, ← given.thread) made)
 
@@ -267,8 +331,10 @@ pub all_worked : {R D G : Type 0} (acts : D → ℕ) (answer : D → ℕ → Act
 all_worked acts answer after loose jobs worked given made =
     zip_same _ _ _ _ (λ k w h. worked_of acts answer after k h.0 w h.1 h.2) (zip_both _ _ _ _ _ given made)
 
-done_at : {R D G : Type 0} (acts : D → ℕ) (answer : D → ℕ → Act) (after : D → ℕ → D) (placed : Kept R Placed) (loose : Kept R (Loose D)) (job : Job R D G) (worked : Worked R D)
-    → IsKeptSideOf loose placed → IsKeptJobOf loose job → IsJobAt placed job → IsWorkOf acts answer after job.desk.napi.now (is_some job.desk.thread) job.desk.number job.work worked
+done_at : {R D G : Type 0} (acts : D → ℕ) (answer : D → ℕ → Act) (after : D → ℕ → D) (placed : Kept R Placed) (loose : Kept R (Loose D))
+    (job : Job R D G) (worked : Worked R D)
+    → IsKeptSideOf loose placed → IsKeptJobOf loose job → IsJobAt placed job
+    → IsWorkOf acts answer after job.desk.napi.now (is_some job.desk.thread) job.desk.number job.work worked
     → IsDoneAt worked placed
 done_at acts answer after placed loose job worked side given at made = record {
   seats = subst (λ (n : Napi). AreSeatsOf n worked.done.seats.value) at made.done.seats;
@@ -291,7 +357,8 @@ all_done_at acts answer after placed loose jobs worked sides given at made =
     let k = h.1.0.0 in
     done_at acts answer after p k j w h.1.0.1 h.1.0.2 h.1.1 h.2) b)
 
-seat_at : {R : Type 0} (placed : Kept R Placed) (seat after : Seat) (caller : Kept R Caller) → IsSeatAt placed seat → IsSameSeat seat after → IsCallerOf after caller → IsCallerAt caller placed
+seat_at : {R : Type 0} (placed : Kept R Placed) (seat after : Seat) (caller : Kept R Caller) → IsSeatAt placed seat → IsSameSeat seat after
+    → IsCallerOf after caller → IsCallerAt caller placed
 seat_at placed seat after caller at same of = subst (λ (n : Napi). IsSeatOf n caller.value.pass) (ap (λ b. b.now) same.napi ∙ at.napi) of.0
 
 -- the callers of the poller's seats are of the instances that stayed behind
@@ -303,47 +370,62 @@ all_pollers_at placed seats afters callers at same of =
     zip_flip _ _ _ (zip_same _ _ _ _ (λ p k h. seat_at p h.1.0 h.0 k h.1.1 h.1.2 h.2) b)
 
 -- they are there again
-pub all_there : {R : Type 0} (placed : List (Kept R Placed)) (seats afters : List Seat) → AllZip IsSeatAt placed seats → AreSameSeats seats afters → AllByRecursion (λ s. IsSome s.caller) afters
+pub all_there : {R : Type 0} (placed : List (Kept R Placed)) (seats afters : List Seat) → AllZip IsSeatAt placed seats
+    → AreSameSeats seats afters → AllByRecursion (λ s. IsSome s.caller) afters
 all_there placed seats afters at same =
     let a = zip_both _ _ _ _ _ at same in
     zip_each _ _ _ _ (λ p s h. h.2.caller h.1.caller) a
 
 -- so are those of the instances' threads
-pub all_threads_at : {R G : Type 0} (answers : G → ℕ → ℕ → Bool → Type 0) (placed : List (Kept R Placed)) (sides : List (ThreadSide R G)) (given : List (Turned (Kept R Caller)))
+pub all_threads_at : {R G : Type 0} (answers : G → ℕ → ℕ → Bool → Type 0) (placed : List (Kept R Placed)) (sides : List (ThreadSide R G))
+    (given : List (Turned (Kept R Caller)))
     → AllZip IsThreadAt placed sides → AllZip (GivesCaller answers) sides given → AllZip IsTurnedAt given placed
 all_threads_at answers placed sides given at of =
-    zip_flip _ _ _ (zip_same _ _ _ _ (λ p k h. subst (λ (n : Napi). IsSeatOf n k.back.value.pass) h.1.napi h.2.of) (zip_both _ _ _ _ _ at of))
+    zip_flip _ _ _
+    (zip_same _ _ _ _ (λ p k h. subst (λ (n : Napi). IsSeatOf n k.back.value.pass) h.1.napi h.2.of) (zip_both _ _ _ _ _ at of))
 
 -- and these took their turns
-turned_by : {R D G : Type 0} (answers : G → ℕ → ℕ → Bool → Type 0) (setting : Setting R G) (loose : Kept R (Loose D)) (side : ThreadSide R G) (given : Turned (Kept R Caller)) (own : Option (Own R))
+turned_by : {R D G : Type 0} (answers : G → ℕ → ℕ → Bool → Type 0) (setting : Setting R G) (loose : Kept R (Loose D))
+    (side : ThreadSide R G) (given : Turned (Kept R Caller)) (own : Option (Own R))
     → side.own ≡ own → IsKeptThreadFor setting loose side
     → MatchOption own (given.back ≡ side.caller)
     (λ o. IsPolledAlone R (IsAsked answers side.setting.now.gate.now) side.setting.now.pace side.number side.caller.value given.back.value)
-    → TurnsIfThread R (IsAsked answers setting.gate.now) setting.pace (is_some loose.value.pause) loose.value.number loose.value.thread given.back.value
+    → TurnsIfThread R (IsAsked answers setting.gate.now) setting.pace
+    (is_some loose.value.pause) loose.value.number loose.value.thread given.back.value
 turned_by {R} answers setting loose side given None is for same =
     let none : is_some loose.value.pause ≡ false = sym for.own ∙ ap (λ o. is_some o) is in
     rw none (ap (λ (k : Kept R Caller). k.value) same ∙ for.caller)
 turned_by {R} {D} {G} answers setting loose side given (Some o) is for turns =
     let some : is_some loose.value.pause ≡ true = sym for.own ∙ ap (λ o. is_some o) is in
     let asked : ℕ → Type 0 = IsAsked answers setting.gate.now in
-    let by_setting = subst (λ (s : Setting R G). IsPolledAlone R (IsAsked answers s.gate.now) s.pace side.number side.caller.value given.back.value) for.has turns in
+    let by_setting =
+    subst (λ (s : Setting R G). IsPolledAlone R (IsAsked answers s.gate.now) s.pace side.number side.caller.value given.back.value) for.has
+    turns in
     let by_number = subst (λ (n : ℕ). IsPolledAlone R asked setting.pace n side.caller.value given.back.value) for.number by_setting in
     rw some (subst (λ (c : Caller). IsPolledAlone R asked setting.pace loose.value.number c given.back.value) for.caller by_number)
 
-turned_of : {R D G : Type 0} (answers : G → ℕ → ℕ → Bool → Type 0) (setting : Setting R G) (loose : Kept R (Loose D)) (side : ThreadSide R G) (given : Turned (Kept R Caller))
-    → IsKeptThreadFor setting loose side → GivesCaller answers side given → HasTurned (IsAsked answers setting.gate.now) setting.pace loose given
-turned_of answers setting loose side given for gives polled = turned_by answers setting loose side given side.own refl for (gives.turns polled)
+turned_of : {R D G : Type 0} (answers : G → ℕ → ℕ → Bool → Type 0) (setting : Setting R G) (loose : Kept R (Loose D))
+    (side : ThreadSide R G) (given : Turned (Kept R Caller))
+    → IsKeptThreadFor setting loose side → GivesCaller answers side given
+    → HasTurned (IsAsked answers setting.gate.now) setting.pace loose given
+turned_of answers setting loose side given for gives polled =
+    turned_by answers setting loose side given side.own refl for (gives.turns polled)
 
-pub all_turned : {R D G : Type 0} (answers : G → ℕ → ℕ → Bool → Type 0) (setting : Setting R G) (loose : List (Kept R (Loose D))) (sides : List (ThreadSide R G)) (given : List (Turned (Kept R Caller)))
-    → AllZip (IsKeptThreadFor setting) loose sides → AllZip (GivesCaller answers) sides given → AllZip (HasTurned (IsAsked answers setting.gate.now) setting.pace) loose given
+pub all_turned : {R D G : Type 0} (answers : G → ℕ → ℕ → Bool → Type 0) (setting : Setting R G) (loose : List (Kept R (Loose D)))
+    (sides : List (ThreadSide R G)) (given : List (Turned (Kept R Caller)))
+    → AllZip (IsKeptThreadFor setting) loose sides → AllZip (GivesCaller answers) sides given
+    → AllZip (HasTurned (IsAsked answers setting.gate.now) setting.pace) loose given
 all_turned answers setting loose sides given for gives =
     zip_same _ _ _ _ (λ k g h. turned_of answers setting k h.0 g h.1 h.2) (zip_both _ _ _ _ _ for gives)
 
 -- all jobs may be done, and all sides may be run
-pub all_can_work : {R D G : Type 0} (loose : List (Kept R (Loose D))) (jobs : List (Job R D G)) → AllZip IsKeptJobOf loose jobs → All (λ (j : Job R D G). AreSeatsOf j.desk.napi.now j.work.seats.value) jobs
+pub all_can_work : {R D G : Type 0} (loose : List (Kept R (Loose D))) (jobs : List (Job R D G)) → AllZip IsKeptJobOf loose jobs
+    → All (λ (j : Job R D G). AreSeatsOf j.desk.napi.now j.work.seats.value) jobs
 all_can_work loose jobs given = each_index _ _ (zip_each _ _ _ _ (λ k j h. h.seats) given)
 
 pub all_can_poll : {R G : Type 0} (placed : List (Kept R Placed)) (sides : List (ThreadSide R G)) → AllZip IsThreadAt placed sides
     → All (λ (s : ThreadSide R G). IsSeatOf s.napi.now s.caller.value.pass × (s.number ≤ 16) × IsLawful s.setting.now.pace) sides
 all_can_poll {R} {G} placed sides at =
-    each_index _ _ (zip_each IsThreadAt (λ (s : ThreadSide R G). IsSeatOf s.napi.now s.caller.value.pass × (s.number ≤ 16) × IsLawful s.setting.now.pace) _ _ (λ p s h. (h.seat, h.name, h.lawful)) at)
+    each_index _ _
+    (zip_each IsThreadAt (λ (s : ThreadSide R G). IsSeatOf s.napi.now s.caller.value.pass × (s.number ≤ 16) × IsLawful s.setting.now.pace) _
+    _ (λ p s h. (h.seat, h.name, h.lawful)) at)

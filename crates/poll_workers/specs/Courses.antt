@@ -70,7 +70,8 @@ module _ (R : Type 0) (asked : ℕ → Type 0) (pace : Pace) where
     -- The station's acts were a run, by the one history of its instance. All that the caller of its poller did stands there,
     -- and all that the caller of its thread did.
     pub record IsCourse (course : Course D) : Type 0 where
-      pub run : HasRun answer after course.station.capacity course.station.thread course.station.device (acts course.station.device) course.end.totals
+      pub run : HasRun answer after course.station.capacity course.station.thread course.station.device
+          (acts course.station.device) course.end.totals
       pub worker : run.caller ≡ worker_number
       pub by_poller : HasAllOf run.ended.history course.poller
       pub by_thread : HasAllOf run.ended.history course.thread
@@ -109,4 +110,5 @@ module _ {R D : Type 0} (asked : ℕ → Type 0) (pace : Pace) where
 
   -- an instance's thread took its turns, unless it or another one was refused
   abbrev pub HasTurned : Kept R (Loose D) → Turned (Kept R Caller) → Type 0
-  HasTurned loose given = given.polled ≡ true → TurnsIfThread R asked pace (is_some loose.value.pause) loose.value.number loose.value.thread given.back.value
+  HasTurned loose given = given.polled ≡ true
+      → TurnsIfThread R asked pace (is_some loose.value.pause) loose.value.number loose.value.thread given.back.value

@@ -1,6 +1,8 @@
 -- A fault whose status is that of a bad trace is no fault from outside.
-use Rattle.{std.proofs.Common.{◌≡◌, ◌⊎◌, inl, inr, subst, arith}, device_rows.specs.declared.fault.TraceFault.TraceFault, replay_text.specs.{Outside.IsOutside, declared.fault.ReplayFault.ReplayFault}}
-use Rattle.{replay_text.specs.declared.fault.ReplayFault.TheVariants.{Trace, Pending, RingTooSmall, GateShut, OutputFailed, SpawnFailed}, replay_c.specs.Faults.{fault_status, trace_status}}
+use Rattle.{std.proofs.Common.{◌≡◌, ◌⊎◌, inl, inr, subst, arith}, device_rows.specs.declared.fault.TraceFault.TraceFault}
+use Rattle.replay_text.specs.{Outside.IsOutside, declared.fault.ReplayFault.ReplayFault}
+use Rattle.replay_text.specs.declared.fault.ReplayFault.TheVariants.{Trace, Pending, RingTooSmall, GateShut, OutputFailed, SpawnFailed}
+use Rattle.replay_c.specs.Faults.{fault_status, trace_status}
 
 never : (fault : ReplayFault) → IsOutside fault → fault_status fault ≡ 120 → ⊥
 never (Trace fault) (inl failed) bad =

@@ -4,7 +4,8 @@ use Rattle.replay_c.specs.Status.{BAD_TRACE, OUT_OF_MEMORY}
 use Rattle.replay_text.specs.declared.fault.ReplayFault.{ReplayFault}
 use Rattle.replay_text.specs.declared.fault.ReplayFault.TheVariants.{Trace, Pending, OutputFailed}
 use Rattle.device_rows.specs.declared.fault.TraceFault.{TraceFault}
-use Rattle.device_rows.specs.declared.fault.TraceFault.TheVariants.{BadHeader, BadFields, BadNumber, BadEvent, OutOfRange, UnknownDevice, OpenTwice, WrongState, TooManyRows, ReadFailed, OutOfMemory}
+use Rattle.device_rows.specs.declared.fault.TraceFault.TheVariants.{BadHeader, BadFields, BadNumber, BadEvent, OutOfRange, UnknownDevice}
+use Rattle.device_rows.specs.declared.fault.TraceFault.TheVariants.{OpenTwice, WrongState, TooManyRows, ReadFailed, OutOfMemory}
 
 -- a fault that no trace has is for want of memory
 abbrev pub trace_status : TraceFault → ℕ

@@ -1,7 +1,12 @@
 -- How one more row carries a replay on.
-use Rattle.std.{proofs.Common.{◌≡◌, ◌∙◌, ℕ, zero, suc, ◌+◌, ◌<◌, Bool, true, false, Ok, Err, inl, inr, List, [], ◌∷◌, ◌++◌, length, append_assoc, take, drop, get_or, ap, refl, sym, arith}, specs.Prelude.{◌⊎◌, IfErr, Result, if◌then◌else◌}}
-use Rattle.{std.proofs.lemmas.List.{length-take, take_more}, device_transmit.specs.Transmits.Transmits, device_rows.specs.declared.row.Row.Row, replay_rows.specs.Replay.{after_row, after_rows, is_early, start, after_all}}
-use Rattle.{replay_rows.specs.{Report.{report_of, serial_report}, Transmits.{after_transmit, after_transmits, transmits_of}, ReplayState.ReplayState}, replay_text.specs.declared.fault.ReplayFault.{ReplayFault, TheVariants.{OutputFailed, Pending, Trace}}, device_rows.specs.declared.fault.TraceFault.TheVariants.OutOfMemory}
+use Rattle.std.proofs.Common.{◌≡◌, ◌∙◌, ℕ, zero, suc, ◌+◌, ◌<◌, Bool, true, false, Ok, Err, inl, inr, List, [], ◌∷◌, ◌++◌, length}
+use Rattle.std.{proofs.Common.{append_assoc, take, drop, get_or, ap, refl, sym, arith}, specs.Prelude.{◌⊎◌, IfErr, Result, if◌then◌else◌}}
+use Rattle.{std.proofs.lemmas.List.{length-take, take_more}, device_transmit.specs.Transmits.Transmits}
+use Rattle.{device_rows.specs.declared.row.Row.Row, replay_rows.specs.Replay.{after_row, after_rows, is_early, start, after_all}}
+use Rattle.replay_rows.specs.{Report.{report_of, serial_report}, Transmits.{after_transmit, after_transmits, transmits_of}}
+use Rattle.replay_rows.specs.ReplayState.{ReplayState}
+use Rattle.replay_text.specs.declared.fault.ReplayFault.{ReplayFault, TheVariants.{OutputFailed, Pending, Trace}}
+use Rattle.device_rows.specs.declared.fault.TraceFault.TheVariants.{OutOfMemory}
 use Rattle.replay_words.specs.declared.settings.Settings.{Settings}
 
 -- the rest of the rows, where those before it were played
@@ -9,13 +14,16 @@ then_rows : Settings → ℕ → List Row → Result ReplayState ReplayFault →
 then_rows s n rows (Ok w) = after_rows s n rows w
 then_rows s n rows (Err fault) = Err fault
 
-after_rows-append : (s : Settings) (n m : ℕ) (xs ys : List Row) (w : ReplayState) → m ≡ n + length xs → after_rows s n (xs ++ ys) w ≡ then_rows s m ys (after_rows s n xs w)
+after_rows-append : (s : Settings) (n m : ℕ) (xs ys : List Row) (w : ReplayState) → m ≡ n + length xs
+    → after_rows s n (xs ++ ys) w ≡ then_rows s m ys (after_rows s n xs w)
 unfolding then_rows
 after_rows-append s n m [] ys w e = let at : m ≡ n = omega arith in rw at refl
-after_rows-append s n m (x ∷ xs) ys w e = by (is_early x.event x.device w) (after_rows-append s (n + 1) m xs ys (after_row s n x w) (omega arith))
+after_rows-append s n m (x ∷ xs) ys w e =
+    by (is_early x.event x.device w) (after_rows-append s (n + 1) m xs ys (after_row s n x w) (omega arith))
   where
     by : (b : Bool) → after_rows s (n + 1) (xs ++ ys) (after_row s n x w) ≡ then_rows s m ys (after_rows s (n + 1) xs (after_row s n x w))
-        → (if b then Err (Pending n) else after_rows s (n + 1) (xs ++ ys) (after_row s n x w)) ≡ then_rows s m ys (if b then Err (Pending n) else after_rows s (n + 1) xs (after_row s n x w))
+        → (if b then Err (Pending n) else after_rows s (n + 1) (xs ++ ys) (after_row s n x w))
+        ≡ then_rows s m ys (if b then Err (Pending n) else after_rows s (n + 1) xs (after_row s n x w))
     by true h = refl
     by false h = h
 
@@ -27,8 +35,10 @@ split-at (row ∷ rows) (suc i) d below =
     rw next (ap (λ (l : List Row). row ∷ l) (split-at rows i d (omega (arith, below))))
 
 -- one more row that isn't early
-pub played-more : (s : Settings) (rows : List Row) (i : ℕ) (d : Row) (old new : ReplayState) → i < length rows → after_rows s 1 (take i rows) start ≡ Ok old
-    → is_early (get_or rows i d).event (get_or rows i d).device old ≡ false → new ≡ after_row s (i + 1) (get_or rows i d) old → after_rows s 1 (take (i + 1) rows) start ≡ Ok new
+pub played-more : (s : Settings) (rows : List Row) (i : ℕ) (d : Row) (old new : ReplayState) → i < length rows
+    → after_rows s 1 (take i rows) start ≡ Ok old
+    → is_early (get_or rows i d).event (get_or rows i d).device old ≡ false → new ≡ after_row s (i + 1) (get_or rows i d) old
+    → after_rows s 1 (take (i + 1) rows) start ≡ Ok new
 unfolding then_rows
 played-more s rows i d old new below before on_time step =
     let row : Row = get_or rows i d in
@@ -36,7 +46,8 @@ played-more s rows i d old new below before on_time step =
     ap (λ (l : List Row). after_rows s 1 l start) (take_more rows i d below) ∙ appended ∙ rw (before, on_time, step) refl
 
 -- a row that is early ends all
-pub played-early : (s : Settings) (rows : List Row) (i : ℕ) (d : Row) (old : ReplayState) → i < length rows → after_rows s 1 (take i rows) start ≡ Ok old
+pub played-early : (s : Settings) (rows : List Row) (i : ℕ) (d : Row) (old : ReplayState) → i < length rows
+    → after_rows s 1 (take i rows) start ≡ Ok old
     → is_early (get_or rows i d).event (get_or rows i d).device old ≡ true → after_all s rows ≡ Err (Pending (i + 1))
 unfolding then_rows
 played-early s rows i d old below before early =
@@ -45,7 +56,8 @@ played-early s rows i d old below before early =
     let appended = after_rows-append s 1 (i + 1) (take i rows) (row ∷ drop (i + 1) rows) start (omega (arith, length-take i rows)) in
     ap (λ (l : List Row). after_rows s 1 l start) whole ∙ appended ∙ rw (before, early) refl
 
-after_transmits-push : (rows : List Row) (row : Row) (all : Transmits) → after_transmits (rows ++ row ∷ []) all ≡ after_transmit row (after_transmits rows all)
+after_transmits-push : (rows : List Row) (row : Row) (all : Transmits)
+    → after_transmits (rows ++ row ∷ []) all ≡ after_transmit row (after_transmits rows all)
 after_transmits-push [] row all = refl
 after_transmits-push (r ∷ rows) row all = after_transmits-push rows row (after_transmit r all)
 
@@ -55,11 +67,13 @@ pub after_transmits-more : (rows : List Row) (all : Transmits) (i : ℕ) (d : Ro
 after_transmits-more rows all i d below = rw (take_more rows i d below) (after_transmits-push (take i rows) (get_or rows i d) all)
 
 -- where the rows have a fault, so has their report
-pub report-early : (s : Settings) (rows : List Row) (fault : ReplayFault) → after_all s rows ≡ Err fault → (version : ℕ) → serial_report s version rows ≡ Err fault
+pub report-early : (s : Settings) (rows : List Row) (fault : ReplayFault) → after_all s rows ≡ Err fault → (version : ℕ)
+    → serial_report s version rows ≡ Err fault
 report-early s rows fault early version = ap (report_of version (transmits_of rows)) early
 
 -- rows are refused for an early enable alone
-rows-fault : (s : Settings) (n : ℕ) (rows : List Row) (w : ReplayState) (fault : ReplayFault) → after_rows s n rows w ≡ Err fault → (m : ℕ) × (fault ≡ Pending m)
+rows-fault : (s : Settings) (n : ℕ) (rows : List Row) (w : ReplayState) (fault : ReplayFault) → after_rows s n rows w ≡ Err fault
+    → (m : ℕ) × (fault ≡ Pending m)
 rows-fault s n [] w fault e = absurd (cc e)
 rows-fault s n (row ∷ rows) w fault e = by (is_early row.event row.device w) (rows-fault s (n + 1) rows (after_row s n row w) fault) e
   where
@@ -80,7 +94,8 @@ report_written s version rows e = by (after_all s rows) refl e
         cc (sym early.1 ∙ failed)
 
 pub unwritten : {A : Type 0} (s : Settings) (version : ℕ) (rows : List Row) (r : Result A ReplayFault)
-    → IfErr r (λ fault. (fault ≡ Trace OutOfMemory) ⊎ (serial_report s version rows ≡ Err fault)) → IfErr r (λ fault. fault ≡ OutputFailed → ⊥)
+    → IfErr r (λ fault. (fault ≡ Trace OutOfMemory) ⊎ (serial_report s version rows ≡ Err fault))
+    → IfErr r (λ fault. fault ≡ OutputFailed → ⊥)
 unwritten s version rows (Ok a) h = tt
 unwritten s version rows (Err fault) h = λ failed. elim h [
   | inl memory ↦ cc (sym memory ∙ failed)

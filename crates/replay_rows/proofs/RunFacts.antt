@@ -1,16 +1,23 @@
 -- A run over the poll list is the one that its definition gives, and keeps the list within the devices that wait on it.
-use Rattle.std.{proofs.{Common.{◌≡◌, ℕ, ◌+◌, ◌≤◌, cond, List, [], ◌∷◌, ◌++◌, length, length-append, take, drop, ap, refl, arith}, lemmas.List.{length-drop, length-take, Sums.sum_by-cons}}, specs.Prelude.sum_by}
-use Rattle.{device_bench.specs.{Bench.{ArePolls, Devices, polled_at}, Waiting.leaves}, device_transmit.specs.Transmits.{Keeps, Transmits}, poll_runs.specs.{Function.run_report, Laws.IsPlainRun}}
-use Rattle.poll_runs.specs.{Polls.{At, Chain, Poll, arrivals, ids, is_arrival, is_repoll, repolled}, declared.{bench.{Next.{Next, TheVariants.{Absent, Gone, Again, Repoll}}, Once.Once}, run.RunReport.RunReport}}
-use Rattle.{poll_runs.proofs.{FunctionFacts.run-is-shown, PlainFacts.list-afterwards, PollFacts.{arrivals-append, arrivals-one, length-ids, repolled-append, repolled-one}}, replay_rows.specs.Run.run_of}
+use Rattle.std.proofs.Common.{◌≡◌, ℕ, ◌+◌, ◌≤◌, cond, List, [], ◌∷◌, ◌++◌, length, length-append, take, drop, ap, refl, arith}
+use Rattle.std.{proofs.lemmas.List.{length-drop, length-take, Sums.sum_by-cons}, specs.Prelude.sum_by}
+use Rattle.{device_bench.specs.{Bench.{ArePolls, Devices, polled_at}, Waiting.leaves}, device_transmit.specs.Transmits.{Keeps, Transmits}}
+use Rattle.poll_runs.specs.{Function.run_report, Laws.IsPlainRun}
+use Rattle.poll_runs.specs.Polls.{At, Chain, Poll, arrivals, ids, is_arrival, is_repoll, repolled}
+use Rattle.poll_runs.specs.declared.{bench.{Next.{Next, TheVariants.{Absent, Gone, Again, Repoll}}, Once.Once}, run.RunReport.RunReport}
+use Rattle.poll_runs.proofs.{FunctionFacts.run-is-shown, PlainFacts.list-afterwards}
+use Rattle.poll_runs.proofs.PollFacts.{arrivals-append, arrivals-one, length-ids, repolled-append, repolled-one}
+use Rattle.replay_rows.specs.Run.{run_of}
 use Rattle.replay_words.specs.declared.settings.Settings.{Settings}
 use Rattle.napi_model.specs.declared.state.Kind.TheVariants as kind
 
 abbrev pub Leads : {B : Type 0} → (B → ℕ → ℕ → Once → B → Type 0) → Settings → B → List Poll → B → Type 0
 Leads relation s before polls after = Chain (At relation s.weight) before polls after
 
-pub transmits-stay : {B : Type 0} (devices : B → Devices) (shows : B → Transmits → Type 0) (waiting : B → ℕ) (relation : B → ℕ → ℕ → Once → B → Type 0)
-    → ArePolls devices shows waiting relation → (s : Settings) (before after : B) (polls : List Poll) → Leads relation s before polls after → Keeps shows before after
+pub transmits-stay : {B : Type 0} (devices : B → Devices) (shows : B → Transmits → Type 0) (waiting : B → ℕ)
+    (relation : B → ℕ → ℕ → Once → B → Type 0)
+    → ArePolls devices shows waiting relation → (s : Settings) (before after : B) (polls : List Poll) → Leads relation s before polls after
+    → Keeps shows before after
 transmits-stay devices shows waiting relation are s before after [] leads all shown = rw leads shown
 transmits-stay devices shows waiting relation are s before after (poll ∷ polls) leads all shown =
     let is = are before leads.0 poll.id s.weight poll.once leads.1 in
@@ -23,11 +30,16 @@ pub record IsRunOf (s : Settings) (devices : Devices) (list : List ℕ) (after :
   pub reported : report ≡ run_report s.budget s.window (run_of s devices list).0.polls
 
 -- by the law of runs over what a bench shows, its devices
-pub only-run : {B : Type 0} (devices : B → Devices) (shows : B → Transmits → Type 0) (waiting : B → ℕ) (relation : B → ℕ → ℕ → Once → B → Type 0)
-    → ArePolls devices shows waiting relation → (s : Settings) (before after : B) (list left : List ℕ) (polls : List Poll) (report : RunReport)
-    → Leads relation s before polls after → IsPlainRun s.budget s.window list polls left report → IsRunOf s (devices before) list (devices after) left report
+pub only-run : {B : Type 0} (devices : B → Devices) (shows : B → Transmits → Type 0) (waiting : B → ℕ)
+    (relation : B → ℕ → ℕ → Once → B → Type 0)
+    → ArePolls devices shows waiting relation
+    → (s : Settings) (before after : B) (list left : List ℕ) (polls : List Poll) (report : RunReport)
+    → Leads relation s before polls after → IsPlainRun s.budget s.window list polls left report
+    → IsRunOf s (devices before) list (devices after) left report
 only-run devices shows waiting relation are s before after list left polls report leads run =
-    let is = run-is-shown relation devices polled_at (λ b a id weight once h. (are b a id weight once h).exact) s.budget s.weight s.window s.budget_in.0 s.window_in.0 before after list left polls report leads run in
+    let is =
+    run-is-shown relation devices polled_at (λ b a id weight once h. (are b a id weight once h).exact) s.budget s.weight s.window
+    s.budget_in.0 s.window_in.0 before after list left polls report leads run in
     record { devices_after = is.1; list_after = is.2; reported = is.3 }
 
 -- ---- room on the list
@@ -35,16 +47,24 @@ only-run devices shows waiting relation are s before after list left polls repor
 leavers : List Poll → ℕ
 leavers polls = sum_by (λ poll. leaves poll.once.next) polls
 
-waits-less : {B : Type 0} (devices : B → Devices) (shows : B → Transmits → Type 0) (waiting : B → ℕ) (relation : B → ℕ → ℕ → Once → B → Type 0)
+waits-less : {B : Type 0} (devices : B → Devices) (shows : B → Transmits → Type 0) (waiting : B → ℕ)
+    (relation : B → ℕ → ℕ → Once → B → Type 0)
     → ArePolls devices shows waiting relation → (s : Settings) (before after : B) (polls : List Poll) → Leads relation s before polls after
     → waiting before ≤ waiting after + leavers polls
 unfolding leavers
 waits-less devices shows waiting relation are s before after [] leads = rw leads (omega arith)
 waits-less devices shows waiting relation are s before after (poll ∷ polls) leads =
     let is = are before leads.0 poll.id s.weight poll.once leads.1 in
-    omega (arith, is.waits, waits-less devices shows waiting relation are s leads.0 after polls leads.2, sum_by-cons (λ (p : Poll). leaves p.once.next) poll polls)
+    omega (
+      arith,
+      is.waits,
+      waits-less devices shows waiting relation are s leads.0 after polls leads.2,
+      sum_by-cons
+          (λ (p : Poll). leaves p.once.next) poll polls,
+    )
 
-one-goes : (id : ℕ) (next : Next) → length (cond (is_arrival next) (id ∷ []) []) + length (cond (is_repoll next) (id ∷ []) []) + leaves next ≡ 1
+one-goes : (id : ℕ) (next : Next)
+    → length (cond (is_arrival next) (id ∷ []) []) + length (cond (is_repoll next) (id ∷ []) []) + leaves next ≡ 1
 one-goes id Absent = refl
 one-goes id Gone = refl
 one-goes id Repoll = refl
@@ -68,9 +88,12 @@ each-goes (poll ∷ polls) =
       each-goes polls,
     ))
 
-pub run-room : {B : Type 0} (devices : B → Devices) (shows : B → Transmits → Type 0) (waiting : B → ℕ) (relation : B → ℕ → ℕ → Once → B → Type 0)
-    → ArePolls devices shows waiting relation → (s : Settings) (before after : B) (list left : List ℕ) (polls : List Poll) (report : RunReport)
-    → Leads relation s before polls after → IsPlainRun s.budget s.window list polls left report → length list ≤ waiting before → length left ≤ waiting after
+pub run-room : {B : Type 0} (devices : B → Devices) (shows : B → Transmits → Type 0) (waiting : B → ℕ)
+    (relation : B → ℕ → ℕ → Once → B → Type 0)
+    → ArePolls devices shows waiting relation
+    → (s : Settings) (before after : B) (list left : List ℕ) (polls : List Poll) (report : RunReport)
+    → Leads relation s before polls after → IsPlainRun s.budget s.window list polls left report → length list ≤ waiting before
+    → length left ≤ waiting after
 run-room devices shows waiting relation are s before after list left polls report leads run room =
     let afterwards = list-afterwards s.budget s.window list left polls report run in
     let all : List ℕ = list ++ arrivals polls in

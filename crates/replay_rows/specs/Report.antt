@@ -1,5 +1,6 @@
 -- The report's text, word by word. See docs/FORMATS.md, "The report".
-use Rattle.std.specs.Prelude.{ℕ, zero, suc, ◌-◌, ◌==◌, Bool, length, slice_get, List, [], ◌∷◌, ◌++◌, Option, Some, None, Result, Ok, Err, codes, decimal, flat_map, if◌then◌else◌, sum_by}
+use Rattle.std.specs.Prelude.{ℕ, zero, suc, ◌-◌, ◌==◌, Bool, length, slice_get, List, [], ◌∷◌, ◌++◌, Option, Some, None, Result, Ok, Err}
+use Rattle.std.specs.Prelude.{codes, decimal, flat_map, if◌then◌else◌, sum_by}
 use Rattle.device_transmit.specs.Transmits.{Transmits, is_used, tx_counts_of}
 use Rattle.device_bench.specs.Bench.{attached, counts_at}
 use Rattle.device_rows.specs.Places.{at}
@@ -22,9 +23,11 @@ use Rattle.replay_text.specs.Lines.{ended, flag, tx_lines, words}
 abbrev pub poll_line : Line → List ℕ
 poll_line (Softirq row run) = words (codes "softirq" ∷ decimal row ∷ codes "polls" ∷ decimal run.polls ∷ codes "work" ∷ decimal run.work
     ∷ codes "squeezed" ∷ decimal (flag run.squeezed) ∷ [])
-poll_line (Kthread row device report) = words (codes "kthread" ∷ decimal row ∷ codes "device" ∷ decimal device ∷ codes "polls" ∷ decimal report.polls
+poll_line (Kthread row device report) =
+    words (codes "kthread" ∷ decimal row ∷ codes "device" ∷ decimal device ∷ codes "polls" ∷ decimal report.polls
     ∷ codes "work" ∷ decimal report.work ∷ [])
-poll_line (Busy row device report) = words (codes "busy" ∷ decimal row ∷ codes "device" ∷ decimal device ∷ codes "polls" ∷ decimal report.polls
+poll_line (Busy row device report) =
+    words (codes "busy" ∷ decimal row ∷ codes "device" ∷ decimal device ∷ codes "polls" ∷ decimal report.polls
     ∷ codes "work" ∷ decimal report.work ∷ [])
 
 -- one device
@@ -34,16 +37,21 @@ state_word Off = codes "off"
 state_word Pending = codes "pending"
 
 abbrev pub device_line : ℕ → DeviceCounts → List ℕ
-device_line number counts = words (codes "device" ∷ decimal number ∷ state_word counts.state ∷ codes "arrived" ∷ decimal counts.arrived ∷ codes "dropped" ∷ decimal counts.dropped
-    ∷ codes "polled" ∷ decimal counts.polled ∷ codes "bytes" ∷ decimal counts.bytes ∷ codes "left" ∷ decimal counts.left ∷ codes "polls" ∷ decimal counts.polls ∷ [])
+device_line number counts =
+    words (codes "device" ∷ decimal number ∷ state_word counts.state ∷ codes "arrived" ∷ decimal counts.arrived
+    ∷ codes "dropped" ∷ decimal counts.dropped
+    ∷ codes "polled" ∷ decimal counts.polled ∷ codes "bytes" ∷ decimal counts.bytes ∷ codes "left" ∷ decimal counts.left
+    ∷ codes "polls" ∷ decimal counts.polls ∷ [])
 
 -- in version 2 the completions that were held, too
 abbrev pub held_part : ℕ → ℕ → List ℕ
 held_part version held = if version == 2 then codes " held " ++ decimal held else []
 
 abbrev pub napi_line : ℕ → ℕ → DeviceCounts → List ℕ
-napi_line version number counts = words (codes "napi" ∷ decimal number ∷ codes "granted" ∷ decimal counts.granted ∷ codes "missed" ∷ decimal counts.missed
-    ∷ codes "disabled" ∷ decimal counts.disabled ∷ codes "again" ∷ decimal counts.again ∷ codes "released" ∷ decimal counts.released ∷ codes "word" ∷ decimal counts.word ∷ []) ++ held_part version counts.held
+napi_line version number counts =
+    words (codes "napi" ∷ decimal number ∷ codes "granted" ∷ decimal counts.granted ∷ codes "missed" ∷ decimal counts.missed
+    ∷ codes "disabled" ∷ decimal counts.disabled ∷ codes "again" ∷ decimal counts.again ∷ codes "released" ∷ decimal counts.released
+    ∷ codes "word" ∷ decimal counts.word ∷ []) ++ held_part version counts.held
 
 -- the lines of a device, where there is one: the third one only where its transmit side had a row
 abbrev pub device_lines : ℕ → ℕ → Bool → Option DeviceCounts → List ℕ

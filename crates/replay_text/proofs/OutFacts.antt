@@ -1,5 +1,6 @@
 -- What went out of some bytes, a front at a time.
-use Rattle.std.proofs.Common.{◌≡◌, ◌∙◌, ◌<◌, ◌+◌, ℕ, List, [], ◌++◌, Option, None, Some, refl, sym, ap, subst, arith, length, take, append_assoc, append-nil, length-append, take_at}
+use Rattle.std.proofs.Common.{◌≡◌, ◌∙◌, ◌<◌, ◌+◌, ℕ, List, [], ◌++◌, Option, None, Some, refl, sym, ap, subst, arith, length, take}
+use Rattle.std.proofs.Common.{append_assoc, append-nil, length-append, take_at}
 use Rattle.{std.specs.Io.KnownBytes.{Appends, Keeps}, replay_text.specs.Written.AppendsPart}
 
 nothing : (known : Option (List ℕ)) → Appends known known []
@@ -19,11 +20,14 @@ then_kept (Some x) (Some y) None bs p q = absurd q
 then_kept (Some x) (Some y) (Some z) bs p q = q ∙ p
 
 -- no more went out
-pub none_more : (a b c : Option (List ℕ)) (done rest : List ℕ) (n : ℕ) → n ≡ 0 → Appends a b done → Appends b c (take n rest) → Appends a c done
-none_more a b c done rest n e p q = subst (Appends a c) (ap (λ (m : ℕ). done ++ take m rest) e ∙ append-nil done) (then_more a b c done (take n rest) p q)
+pub none_more : (a b c : Option (List ℕ)) (done rest : List ℕ) (n : ℕ) → n ≡ 0 → Appends a b done → Appends b c (take n rest)
+    → Appends a c done
+none_more a b c done rest n e p q =
+    subst (Appends a c) (ap (λ (m : ℕ). done ++ take m rest) e ∙ append-nil done) (then_more a b c done (take n rest) p q)
 
 -- what went out is a front, and something is left
-pub cut_behind : (a b : Option (List ℕ)) (all done rest : List ℕ) → all ≡ done ++ rest → 0 < length rest → Appends a b done → AppendsPart a b all
+pub cut_behind : (a b : Option (List ℕ)) (all done rest : List ℕ) → all ≡ done ++ rest → 0 < length rest → Appends a b done
+    → AppendsPart a b all
 cut_behind a b all done rest split some p = (
   length done,
   let whole : length all ≡ length done + length rest = ap length split ∙ length-append done rest in omega (arith, whole, some),

@@ -25,7 +25,8 @@ abbrev pub IsTextBy : {A : Type 0} → (A → Type 0) → (A → List ℕ → Li
 IsTextBy {A} AskedFor IsText bytes text = (asked : A) × AskedFor asked × IsText asked bytes text
 
 -- the fault is that of the words or, by what they ask for, that of the bytes, where these are known; else it is none of theirs
-abbrev pub IsFaultOf : {A : Type 0} → Type 0 → (A → Type 0) → (A → ReplayFault → Type 0) → (A → List ℕ → ReplayFault → Type 0) → Option (List ℕ) → ProgramFault → Type 0
+abbrev pub IsFaultOf : {A : Type 0} → Type 0 → (A → Type 0) → (A → ReplayFault → Type 0) → (A → List ℕ → ReplayFault → Type 0)
+    → Option (List ℕ) → ProgramFault → Type 0
 IsFaultOf {A} Refused AskedFor IsOutside IsFault input (Words Usage) = Refused
 IsFaultOf {A} Refused AskedFor IsOutside IsFault input (Words OutOfMemory) = Unit {0}
 IsFaultOf {A} Refused AskedFor IsOutside IsFault input (Replay fault) =
@@ -42,7 +43,8 @@ abbrev pub KeepsOutput : Option (List ℕ) → Option (List ℕ) → ProgramFaul
 KeepsOutput old new fault = fault ≢ Replay OutputFailed → Keeps old new
 
 -- the program failed by some fault that it can have; on each but a failed output nothing was written
-pub record FailedBy (can_be : ProgramFault → Type 0) (output_old output_new errors_old errors_new : Option (List ℕ)) (ending : Ending) : Type 0 where
+pub record FailedBy (can_be : ProgramFault → Type 0) (output_old output_new errors_old errors_new : Option (List ℕ))
+    (ending : Ending) : Type 0 where
   pub fault : ProgramFault
   pub why : can_be fault
   pub untouched : KeepsOutput output_old output_new fault

@@ -1,13 +1,17 @@
 -- Stations in rising order of their numbers.
-use Rattle.std.{proofs.{Common.{◌≡◌, ◌∙◌, ℕ, zero, suc, ◌+◌, ◌<◌, Bool, true, false, List, [], ◌∷◌, ap, refl, arith}, lemmas.Bool.ne_eqb}, specs.{Prelude.{◌==◌, filter}, List.{AllZip, list_any, range_with_len}}}
-use Rattle.{poll_interrupts.specs.declared.station.Station.Station, poll_workers.specs.Numbers.{are_distinct, have_distinct_numbers, numbers_of}}
+use Rattle.std.proofs.{Common.{◌≡◌, ◌∙◌, ℕ, zero, suc, ◌+◌, ◌<◌, Bool, true, false, List, [], ◌∷◌, ap, refl, arith}, lemmas.Bool.ne_eqb}
+use Rattle.std.specs.{Prelude.{◌==◌, filter}, List.{AllZip, list_any, range_with_len}}
+use Rattle.poll_interrupts.specs.declared.station.Station.{Station}
+use Rattle.poll_workers.specs.Numbers.{are_distinct, have_distinct_numbers, numbers_of}
 
 -- none of the numbers from here on is a lower one
 none-below : (p : ℕ → Bool) (n a k : ℕ) → k < a → list_any (λ m. m == k) (filter p (range_with_len a n)) ≡ false
 none-below p zero a k below = refl
-none-below p (suc n) a k below = by (p a) refl (none-below p n (a + 1) k (omega (arith, below))) (ne_eqb a k (λ same. omega (arith, below, same)))
+none-below p (suc n) a k below =
+    by (p a) refl (none-below p n (a + 1) k (omega (arith, below))) (ne_eqb a k (λ same. omega (arith, below, same)))
   where
-    by : (b : Bool) → p a ≡ b → list_any (λ m. m == k) (filter p (range_with_len (a + 1) n)) ≡ false → (a == k) ≡ false → list_any (λ m. m == k) (filter p (range_with_len a (suc n))) ≡ false
+    by : (b : Bool) → p a ≡ b → list_any (λ m. m == k) (filter p (range_with_len (a + 1) n)) ≡ false → (a == k) ≡ false
+        → list_any (λ m. m == k) (filter p (range_with_len a (suc n))) ≡ false
     by true h rest other = rw (h, other) rest
     by false h rest other = rw h rest
 
@@ -15,7 +19,8 @@ rising-distinct : (p : ℕ → Bool) (n a : ℕ) → are_distinct (filter p (ran
 rising-distinct p zero a = refl
 rising-distinct p (suc n) a = by (p a) refl (rising-distinct p n (a + 1)) (none-below p n (a + 1) a (omega arith))
   where
-    by : (b : Bool) → p a ≡ b → are_distinct (filter p (range_with_len (a + 1) n)) ≡ true → list_any (λ m. m == a) (filter p (range_with_len (a + 1) n)) ≡ false → are_distinct (filter p (range_with_len a (suc n))) ≡ true
+    by : (b : Bool) → p a ≡ b → are_distinct (filter p (range_with_len (a + 1) n)) ≡ true
+        → list_any (λ m. m == a) (filter p (range_with_len (a + 1) n)) ≡ false → are_distinct (filter p (range_with_len a (suc n))) ≡ true
     by true h rest none = rw (h, none) rest
     by false h rest none = rw h rest
 
@@ -27,5 +32,6 @@ module _ {D : Type 0} (Of : ℕ → Station D → Type 0) (numbered : (n : ℕ) 
   same-numbers (n ∷ ns) (s ∷ ss) h = rw (numbered n s h.0, same-numbers ns ss h.1) refl
 
   -- stations of some of the numbers from here on, in order
-  pub rising-numbers : (p : ℕ → Bool) (n a : ℕ) (ss : List (Station D)) → AllZip Of (filter p (range_with_len a n)) ss → have_distinct_numbers ss ≡ true
+  pub rising-numbers : (p : ℕ → Bool) (n a : ℕ) (ss : List (Station D)) → AllZip Of (filter p (range_with_len a n)) ss
+      → have_distinct_numbers ss ≡ true
   rising-numbers p n a ss h = ap (λ ns. are_distinct ns) (same-numbers (filter p (range_with_len a n)) ss h) ∙ rising-distinct p n a

@@ -33,13 +33,15 @@ pub record IsEndOf (rows : List Row) (device : ℕ) (end : Finished Script) : Ty
   pub its_put : end.totals.put ≡ arrived device rows
   pub its_bytes : end.totals.bytes ≡ bytes device rows
   pub sum : end.totals.polled + end.totals.left ≡ end.totals.put
-  pub its_run : HasRun answer after end.device.opening.value (has_thread end.device.rows) (record end.device { made = 0 }) (length end.device.rows) end.totals
+  pub its_run : HasRun answer after end.device.opening.value (has_thread end.device.rows) (record end.device { made = 0 })
+      (length end.device.rows) end.totals
 
 -- The devices that the rows open ran and were polled, by as many pollers as the settings say, and by their numbers.
 pub record AreRunBy (R : Type 0) (asked : ℕ → Type 0) (settings : Settings) (rows : List Row) (ends : List (Finished Script)) : Type 0 where
   pub stations : List (Station Script)
   pub are : AllZip (IsStationOf rows) (opened rows) stations
-  pub polled : ArePolled R asked (pace_of settings.budget settings.weight settings.window) acts answer after 0 settings.pollers stations ends
+  pub polled : ArePolled R asked
+      (pace_of settings.budget settings.weight settings.window) acts answer after 0 settings.pollers stations ends
 
 -- its lines of the report
 abbrev pub end_lines : Finished Script → List ℕ

@@ -1,5 +1,6 @@
 -- The options that words give, for a program whose options have these names: each at most once, and each with a value.
-use Rattle.std.specs.Prelude.{ℕ, [], ◌∷◌, ◌++◌, Bool, ◌&&◌, not, List, Option, Some, None, length, nat_le, if◌then◌else◌, option_and_then, option_map, is_some, find, fold}
+use Rattle.std.specs.Prelude.{ℕ, [], ◌∷◌, ◌++◌, Bool, ◌&&◌, not, List, Option, Some, None, length, nat_le, if◌then◌else◌, option_and_then}
+use Rattle.std.specs.Prelude.{option_map, is_some, find, fold}
 use Rattle.std.specs.List.{list_any}
 use Rattle.std.specs.Str.{all_ascii_digits, bytes_eq}
 use Rattle.std.specs.Str.Parse.{digits_value}
@@ -70,5 +71,6 @@ value_of name given = option_map (λ g. g.1) (find (λ g. bytes_eq g.0 name) giv
 -- the number from `low` to `high` that one to so many digits write
 abbrev pub number_within : ℕ → ℕ → ℕ → Text → Option ℕ
 number_within digits low high text =
-    if nat_le 1 (length text) && (nat_le (length text) digits && (all_ascii_digits text && (nat_le low (digits_value 10 text) && nat_le (digits_value 10 text) high)))
+    if nat_le 1 (length text)
+    && (nat_le (length text) digits && (all_ascii_digits text && (nat_le low (digits_value 10 text) && nat_le (digits_value 10 text) high)))
     then Some (digits_value 10 text) else None

@@ -1,5 +1,6 @@
 -- Sums of sizes.
-use Rattle.std.proofs.{Common.{◌≡◌, ℕ, ◌+◌, List, [], ◌∷◌, take, drop, sum, slice_get, Some, ap, ◌∙◌, arith}, Math.Seq.take-add, lemmas.List.Sums.{sum_by-take-drop, sum_by-append, sum_by-cons}}
+use Rattle.std.proofs.{Common.{◌≡◌, ℕ, ◌+◌, List, [], ◌∷◌, take, drop, sum, slice_get, Some, ap, ◌∙◌, arith}, Math.Seq.take-add}
+use Rattle.std.proofs.lemmas.List.Sums.{sum_by-take-drop, sum_by-append, sum_by-cons}
 
 -- the first size and the rest
 pub sum_front : (l : List ℕ) (x : ℕ) → Some x ≡ slice_get l 0 → x + sum (drop 1 l) ≡ sum l

@@ -1,4 +1,5 @@
-use Rattle.{std.proofs.Common.{subst, inl}, napi_model.specs.declared.event.{Prep.Prep, Operation.TheVariants.Schedule}, napi_word.{specs.{Events.Steps, Passes.view_of}, proofs.Knowing.schedule_grants}}
+use Rattle.{std.proofs.Common.{subst, inl}, napi_model.specs.declared.event.{Prep.Prep, Operation.TheVariants.Schedule}}
+use Rattle.napi_word.{specs.{Events.Steps, Passes.view_of}, proofs.Knowing.schedule_grants}
 use Rattle.bench_word.proofs.turns.schedule.Goals as goal
 
 pub hand-requires-clause-owner : goal.hand-requires-clause-owner

@@ -10,7 +10,12 @@ returns-clause-added c met =
     let small : c.args.moment < 2 ^ 64 = search rules in
     let passes = c.pass.ensures pass c.args.moment in
     record {
-      row = record { moment = c.args.moment; device = c.short_number-device.result; event = c.in-Some.event; value = c.number-value.result };
+      row = record {
+        moment = c.args.moment;
+        device = c.short_number-device.result;
+        event = c.in-Some.event;
+        value = c.number-value.result;
+      };
       told = short-row _ _ _ _ _ _ _ _ _ c.requires.numeral c.requires.moment
           (c.short_number-device.ensures.numeral device) (c.short_number-device.ensures.number device)
           (c.number-value.ensures.numeral value) (c.number-value.ensures.number value) names small passes.device passes.value;

@@ -1,4 +1,5 @@
-use Rattle.{std.{proofs.Common.{◌≡◌, ◌<◌, ◌^◌, length, true, rules, arith}}, device_rows.{specs.Record.{is_numeral, numeral}, proofs.JoinFacts.{digits-join, digits-of, numeral-join}}}
+use Rattle.std.proofs.Common.{◌≡◌, ◌<◌, ◌^◌, length, true, rules, arith}
+use Rattle.device_rows.{specs.Record.{is_numeral, numeral}, proofs.JoinFacts.{digits-join, digits-of, numeral-join}}
 use Rattle.device_rows.proofs.record.front_number.Goals as goal
 
 pub returns-clause-digits : goal.returns-clause-digits

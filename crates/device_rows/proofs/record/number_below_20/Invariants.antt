@@ -1,4 +1,5 @@
-use Rattle.{std.{proofs.Common.{◌≡◌, ◌<◌, ◌^◌, drop}, specs.Str.{all_ascii_digits, Parse.digits_value_after}}, device_rows.specs.Record.numeral}
+use Rattle.std.{proofs.Common.{◌≡◌, ◌<◌, ◌^◌, drop}, specs.Str.{all_ascii_digits, Parse.digits_value_after}}
+use Rattle.device_rows.specs.Record.{numeral}
 use Rattle.device_rows.proofs.record.number_below_20.Given as goal
 
 abbrev pub invariant-loop-place : goal.invariant-loop-place

@@ -1,4 +1,5 @@
-use Rattle.{std.proofs.Common.{◌+◌, length, length-append, sym, vec_items}, device_rows.proofs.{Accepted.accepted-push, RowsFacts.with_row-good, SwitchFacts.tracks-same}}
+use Rattle.std.proofs.Common.{◌+◌, length, length-append, sym, vec_items}
+use Rattle.device_rows.proofs.{Accepted.accepted-push, RowsFacts.with_row-good, SwitchFacts.tracks-same}
 use Rattle.device_rows.proofs.trace.add_next.Goals as goal
 
 pub returns-then-add_short_row : goal.returns-then-add_short_row

@@ -1,4 +1,5 @@
-use Rattle.{std.proofs.{Common.{length-append, vec_items}, lemmas.Result.err_from_is_err_and}, device_rows.proofs.{Accepted.accepted-push, RowsFacts.{with_row-bad, with_row-good, with_row-refused}}}
+use Rattle.std.proofs.{Common.{length-append, vec_items}, lemmas.Result.err_from_is_err_and}
+use Rattle.device_rows.proofs.{Accepted.accepted-push, RowsFacts.{with_row-bad, with_row-good, with_row-refused}}
 use Rattle.device_rows.proofs.trace.add_row.Goals as goal
 
 pub returns-in_err-row : goal.returns-in_err-row

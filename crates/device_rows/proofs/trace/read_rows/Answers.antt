@@ -1,5 +1,9 @@
-use Rattle.{std.{proofs.{Common.{◌≡◌, ◌∙◌, ◌-◌, length, ap, inr, true, false, rules, arith}, lemmas.{Bool.{le-ltb, lt-ltb}, Result.err_from_is_err_and}}, specs.Prelude.nat_lt}, csv.specs.{Records.fields_of, Reading.reader_state}}
-use Rattle.device_rows.{specs.Trace.rows_after, proofs.{RowsFacts.{ends, goes-on, records-zero, rows-bad, rows-end, rows-good, rows-over}, trace.read_rows.Goals.{else-loop-before-test, then-loop-before-test+in-End}}}
+use Rattle.std.proofs.Common.{◌≡◌, ◌∙◌, ◌-◌, length, ap, inr, true, false, rules, arith}
+use Rattle.std.{proofs.lemmas.{Bool.{le-ltb, lt-ltb}, Result.err_from_is_err_and}, specs.Prelude.nat_lt}
+use Rattle.csv.specs.{Records.fields_of, Reading.reader_state}
+use Rattle.device_rows.specs.Trace.{rows_after}
+use Rattle.device_rows.proofs.RowsFacts.{ends, goes-on, records-zero, rows-bad, rows-end, rows-good, rows-over}
+use Rattle.device_rows.proofs.trace.read_rows.Goals.{else-loop-before-test, then-loop-before-test+in-End}
 use Rattle.device_rows.specs.declared.trace.Next.TheVariants as came
 use Rattle.device_rows.proofs.trace.read_rows.Goals as goal
 
@@ -8,7 +12,9 @@ returns-then-before-eq-MOST_ROWS-clause-fault g c bytes start =
     let (left, at, so_far) = c.loop-before.invariant.goes_on bytes start in
     let found : c.next_record.result ≡ came.Record = search rules in
     let next = c.next_record.ensures.record found left at in
-    let (rest, stands, one) = goes-on _ g.R.Read.remaining c.loop-before.reader c.next_record.new.reader (fields_of c.next_record.new.fields) c.loop-before.rows.items c.loop-before.before _ left (omega arith) next so_far in
+    let (rest, stands, one) =
+    goes-on _ g.R.Read.remaining c.loop-before.reader c.next_record.new.reader
+    (fields_of c.next_record.new.fields) c.loop-before.rows.items c.loop-before.before _ left (omega arith) next so_far in
     let full : nat_lt (length c.loop-before.rows.items) 100000 ≡ false = le-ltb _ _ (omega (arith, c.loop-before.invariant.count)) in
     inr (one ∙ rows-over _ _ _ _ full)
 
@@ -19,7 +25,9 @@ returns-in_err-add_next-clause-fault g c =
     let (left, at, so_far) = c.loop-before.invariant.goes_on bytes start in
     let found : c.next_record.result ≡ came.Record = search rules in
     let next = c.next_record.ensures.record found left at in
-    let (rest, stands, one) = goes-on _ g.R.Read.remaining c.loop-before.reader c.next_record.new.reader (fields_of c.next_record.new.fields) c.loop-before.rows.items c.loop-before.before _ left (omega arith) next so_far in
+    let (rest, stands, one) =
+    goes-on _ g.R.Read.remaining c.loop-before.reader c.next_record.new.reader
+    (fields_of c.next_record.new.fields) c.loop-before.rows.items c.loop-before.before _ left (omega arith) next so_far in
     let room : nat_lt (length c.loop-before.rows.items) 100000 ≡ true = lt-ltb _ _ (omega (arith, c.loop-before.invariant.count)) in
     inr (one ∙ rows-bad _ _ _ _ _ room c.in_err-add_next.ensures))
 
@@ -44,7 +52,9 @@ loop-before-preserved g c =
       goes_on = λ bytes start.
           let (left, at, so_far) = c.loop-before.invariant.goes_on bytes start in
           let next = c.next_record.ensures.record found left at in
-          let (rest, stands, one) = goes-on _ g.R.Read.remaining c.loop-before.reader c.next_record.new.reader (fields_of c.next_record.new.fields) c.loop-before.rows.items c.loop-before.before _ left (omega arith) next so_far in
+          let (rest, stands, one) =
+          goes-on _ g.R.Read.remaining c.loop-before.reader c.next_record.new.reader
+          (fields_of c.next_record.new.fields) c.loop-before.rows.items c.loop-before.before _ left (omega arith) next so_far in
           let room : nat_lt (length c.loop-before.rows.items) 100000 ≡ true = lt-ltb _ _ (omega (arith, c.loop-before.invariant.count)) in
           (rest, stands, one ∙ rows-good _ _ _ _ _ room c.in_ok-add_next.ensures.rows);
     }
@@ -53,9 +63,11 @@ pub returns-clause-rows : goal.returns-clause-rows
 returns-clause-rows g c bytes start =
     let (left, at, so_far) = c.loop-before.invariant.goes_on bytes start in
     elim c.loop-before-test.branch [
-      | else-loop-before-test w ↦ so_far ∙ ap (rows_after c.args.version c.loop-before.rows.items) (records-zero (100001 - c.loop-before.before) (reader_state c.loop-before.reader) left (omega arith)) ∙ rows-end _ _
+      | else-loop-before-test w ↦ so_far ∙ ap (rows_after c.args.version c.loop-before.rows.items)
+          (records-zero (100001 - c.loop-before.before) (reader_state c.loop-before.reader) left (omega arith)) ∙ rows-end _ _
       | then-loop-before-test+in-End w ↦
           let ended : w.next_record.result ≡ came.End = search rules in
           let next = w.next_record.ensures.end ended left at in
-          ends _ g.R.Read.remaining c.loop-before.reader w.next_record.new.reader (fields_of w.next_record.new.fields) c.loop-before.rows.items c.loop-before.before _ left (omega arith) next so_far
+          ends _ g.R.Read.remaining c.loop-before.reader w.next_record.new.reader
+          (fields_of w.next_record.new.fields) c.loop-before.rows.items c.loop-before.before _ left (omega arith) next so_far
     ]

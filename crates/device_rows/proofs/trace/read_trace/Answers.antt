@@ -1,5 +1,8 @@
-use Rattle.{std.proofs.{Common.{◌≡◌, ◌∙◌, refl, inr, sym, Some, None, rules, arith}, lemmas.Result.{IfErr-weaker, IfOk-weaker}}, csv.specs.{Records.fields_of, Reading.strip_bom}, device_rows.specs.Record.version_of}
-use Rattle.device_rows.{proofs.{DecidingFacts.{asked-decide, asked-version}, RowsFacts.{first-version, records-more, records-none, trace-none, trace-other, trace-rows}}, specs.declared.trace.Next.Next}
+use Rattle.std.proofs.{Common.{◌≡◌, ◌∙◌, refl, inr, sym, Some, None, rules, arith}, lemmas.Result.{IfErr-weaker, IfOk-weaker}}
+use Rattle.{csv.specs.{Records.fields_of, Reading.strip_bom}, device_rows.specs.Record.version_of}
+use Rattle.device_rows.proofs.DecidingFacts.{asked-decide, asked-version}
+use Rattle.device_rows.proofs.RowsFacts.{first-version, records-more, records-none, trace-none, trace-other, trace-rows}
+use Rattle.device_rows.specs.declared.trace.Next.{Next}
 use Rattle.device_rows.proofs.trace.read_trace.Goals as goal
 
 pub returns-in-End-clause-fault : goal.returns-in-End-clause-fault
@@ -7,7 +10,9 @@ returns-in-End-clause-fault g c bytes known =
     let start = c.reader_of-reader.ensures.start bytes known in
     let ended : c.next_record.result ≡ Next.End = search rules in
     let next = c.next_record.ensures.end ended (strip_bom bytes) start in
-    let done = records-none g.R.Read.remaining c.reader_of-reader.result c.next_record.new.reader (fields_of c.next_record.new.fields) 100002 100001 (strip_bom bytes) refl next in
+    let done =
+    records-none g.R.Read.remaining c.reader_of-reader.result c.next_record.new.reader (fields_of c.next_record.new.fields) 100002 100001
+    (strip_bom bytes) refl next in
     inr (asked-decide 100002 _ bytes (omega arith) c.reader_of-reader.ensures.state ∙ trace-none _ done)
 
 pub returns-in_default-version_of-clause-fault : goal.returns-in_default-version_of-clause-fault
@@ -15,7 +20,9 @@ returns-in_default-version_of-clause-fault g c bytes known =
     let start = c.reader_of-reader.ensures.start bytes known in
     let found : c.next_record.result ≡ Next.Record = search rules in
     let next = c.next_record.ensures.record found (strip_bom bytes) start in
-    let (rest, stands, one) = records-more g.R.Read.remaining c.reader_of-reader.result c.next_record.new.reader (fields_of c.next_record.new.fields) 100002 100001 (strip_bom bytes) refl next in
+    let (rest, stands, one) =
+    records-more g.R.Read.remaining c.reader_of-reader.result c.next_record.new.reader (fields_of c.next_record.new.fields) 100002 100001
+    (strip_bom bytes) refl next in
     let other : version_of (fields_of c.next_record.new.fields) ≡ None = search rules in
     inr (asked-decide 100002 _ bytes (omega arith) c.reader_of-reader.ensures.state ∙ trace-other _ _ _ one other)
 
@@ -25,9 +32,12 @@ returns-clause-rows g c =
     let start = c.reader_of-reader.ensures.start bytes known in
     let found : c.next_record.result ≡ Next.Record = search rules in
     let next = c.next_record.ensures.record found (strip_bom bytes) start in
-    let (rest, stands, one) = records-more g.R.Read.remaining c.reader_of-reader.result c.next_record.new.reader (fields_of c.next_record.new.fields) 100002 100001 (strip_bom bytes) refl next in
+    let (rest, stands, one) =
+    records-more g.R.Read.remaining c.reader_of-reader.result c.next_record.new.reader (fields_of c.next_record.new.fields) 100002 100001
+    (strip_bom bytes) refl next in
     let same : version_of (fields_of c.next_record.new.fields) ≡ Some c.in-Some.version = search rules in
-    asked-decide 100002 _ bytes (omega arith) c.reader_of-reader.ensures.state ∙ trace-rows _ _ _ _ one same ∙ told rest stands) c.read_rows.ensures.rows
+    asked-decide 100002 _ bytes (omega arith) c.reader_of-reader.ensures.state ∙ trace-rows _ _ _ _ one same
+    ∙ told rest stands) c.read_rows.ensures.rows
 
 pub returns-clause-version : goal.returns-clause-version
 returns-clause-version g c =
@@ -35,9 +45,12 @@ returns-clause-version g c =
     let start = c.reader_of-reader.ensures.start bytes known in
     let found : c.next_record.result ≡ Next.Record = search rules in
     let next = c.next_record.ensures.record found (strip_bom bytes) start in
-    let (rest, stands, one) = records-more g.R.Read.remaining c.reader_of-reader.result c.next_record.new.reader (fields_of c.next_record.new.fields) 100002 100001 (strip_bom bytes) refl next in
+    let (rest, stands, one) =
+    records-more g.R.Read.remaining c.reader_of-reader.result c.next_record.new.reader (fields_of c.next_record.new.fields) 100002 100001
+    (strip_bom bytes) refl next in
     let same : version_of (fields_of c.next_record.new.fields) ≡ Some c.in-Some.version = search rules in
-    told ∙ sym (asked-version 100002 _ bytes (omega arith) c.reader_of-reader.ensures.state ∙ first-version _ _ _ _ one same)) c.read_rows.ensures.version
+    told ∙ sym (asked-version 100002 _ bytes (omega arith) c.reader_of-reader.ensures.state ∙ first-version _ _ _ _ one same))
+    c.read_rows.ensures.version
 
 pub returns-clause-fault : goal.returns-clause-fault
 returns-clause-fault g c =
@@ -45,6 +58,9 @@ returns-clause-fault g c =
     let start = c.reader_of-reader.ensures.start bytes known in
     let found : c.next_record.result ≡ Next.Record = search rules in
     let next = c.next_record.ensures.record found (strip_bom bytes) start in
-    let (rest, stands, one) = records-more g.R.Read.remaining c.reader_of-reader.result c.next_record.new.reader (fields_of c.next_record.new.fields) 100002 100001 (strip_bom bytes) refl next in
+    let (rest, stands, one) =
+    records-more g.R.Read.remaining c.reader_of-reader.result c.next_record.new.reader (fields_of c.next_record.new.fields) 100002 100001
+    (strip_bom bytes) refl next in
     let same : version_of (fields_of c.next_record.new.fields) ≡ Some c.in-Some.version = search rules in
-    rw (asked-decide 100002 _ bytes (omega arith) c.reader_of-reader.ensures.state ∙ trace-rows _ _ _ _ one same) (told rest stands)) c.read_rows.ensures.fault
+    rw (asked-decide 100002 _ bytes (omega arith) c.reader_of-reader.ensures.state ∙ trace-rows _ _ _ _ one same)
+    (told rest stands)) c.read_rows.ensures.fault

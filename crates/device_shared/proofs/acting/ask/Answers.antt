@@ -1,4 +1,5 @@
-use Rattle.{std.proofs.Common.{[], ◌∷◌, ◌++◌, ◌∙◌, flat_map, refl, true}, napi_model.specs.declared.event.{Operation.TheVariants.{Look, Schedule}, Prep.TheVariants.Granted}, napi_calls.specs.Made.looks}
+use Rattle.std.proofs.Common.{[], ◌∷◌, ◌++◌, ◌∙◌, flat_map, refl, true}
+use Rattle.{napi_model.specs.declared.event.{Operation.TheVariants.{Look, Schedule}, Prep.TheVariants.Granted}, napi_calls.specs.Made.looks}
 use Rattle.poll_shared.proofs.Joined.{hand_made, joined}
 use Rattle.device_shared.proofs.acting.ask.Goals as goal
 

@@ -1,4 +1,6 @@
-use Rattle.{std.proofs.Common.{[], ◌∷◌, true, false, subst}, napi_model.specs.declared.event.Operation.TheVariants.{Look, Schedule, Take, Complete}, library_tests.proofs.Telling.{then, one, tried, said}}
+use Rattle.std.proofs.Common.{[], ◌∷◌, true, false, subst}
+use Rattle.napi_model.specs.declared.event.Operation.TheVariants.{Look, Schedule, Take, Complete}
+use Rattle.library_tests.proofs.Telling.{then, one, tried, said}
 use Rattle.{napi_word.specs.declared.table.Pass.Pass, napi_calls.specs.Made.Made}
 use Rattle.napi_model.specs.declared.state.Kind.TheVariants as kind
 use Rattle.napi_model.specs.declared.event.Prep.TheVariants as prep
@@ -8,9 +10,16 @@ use Rattle.library_tests.proofs.busy.miss_while_busy.Goals as goal
 pub returns-clause-first : goal.returns-clause-first
 returns-clause-first g c =
     let a0 = c.busied-busy.ensures.did in
-    let a1 = then a0 (one (Complete done.Held) (subst (λ (p : Pass). Made p (Complete done.Held ∷ []) c.complete_held.new.self.pass) c.poll.ensures.pass c.complete_held.ensures.event)) in
+    let a1 =
+    then a0
+    (one (Complete done.Held)
+    (subst (λ (p : Pass). Made p (Complete done.Held ∷ []) c.complete_held.new.self.pass) c.poll.ensures.pass
+    c.complete_held.ensures.event)) in
     let a2 = then a1 (c.stopped-polling.ensures.did) in
-    then a2 (let m = c.released-first.ensures.made in tried (Complete done.Released) (m.0, subst (λ (p : Pass). Made p (Look m.0 ∷ Complete done.Released ∷ []) c.released-first.result.pass) c.poll-2.ensures.pass m.1))
+    then a2
+    (let m = c.released-first.ensures.made in
+    tried (Complete done.Released)
+    (m.0, subst (λ (p : Pass). Made p (Look m.0 ∷ Complete done.Released ∷ []) c.released-first.result.pass) c.poll-2.ensures.pass m.1))
 
 pub returns-clause-second : goal.returns-clause-second
 returns-clause-second g c =

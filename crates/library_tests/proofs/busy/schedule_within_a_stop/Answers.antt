@@ -1,4 +1,6 @@
-use Rattle.{std.proofs.Common.{true, false, subst, Option, Some}, napi_model.specs.declared.event.Operation.TheVariants.{Schedule, Complete}, library_tests.proofs.Telling.{then, tried, lost, said}}
+use Rattle.std.proofs.Common.{true, false, subst, Option, Some}
+use Rattle.napi_model.specs.declared.event.Operation.TheVariants.{Schedule, Complete}
+use Rattle.library_tests.proofs.Telling.{then, tried, lost, said}
 use Rattle.{napi_calls.specs.declared.answers.TryPrep.TryPrep, library_tests.specs.OwnLists.Asked}
 use Rattle.napi_model.specs.declared.event.Call.TheVariants as call
 use Rattle.napi_model.specs.declared.event.Prep.TheVariants as prep
@@ -15,6 +17,9 @@ returns-clause-first g c =
 pub returns-clause-second : goal.returns-clause-second
 returns-clause-second g c =
     let a0 = said c.looked.ensures.made in
-    let a1 = then a0 (tried (Schedule prep.Missed) (subst (λ (o : Option TryPrep). Asked (Some c.looked.new.caller) o) c.in-Missed.ensures.answer c.in-Changed.ensures.run.1)) in
+    let a1 =
+    then a0
+    (tried (Schedule prep.Missed)
+    (subst (λ (o : Option TryPrep). Asked (Some c.looked.new.caller) o) c.in-Missed.ensures.answer c.in-Changed.ensures.run.1)) in
     let a2 = then a1 (said c.looked-2.ensures.made) in
     then a2 (said c.looked-3.ensures.made)

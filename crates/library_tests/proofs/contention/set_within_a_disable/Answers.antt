@@ -1,4 +1,6 @@
-use Rattle.{std.proofs.Common.{true, false}, napi_model.specs.declared.event.Operation.TheVariants.{MarkDisable, TakeDisable, Unmark, SetThreaded}, library_tests.proofs.Telling.{then, one, lost, disabled, said}}
+use Rattle.std.proofs.Common.{true, false}
+use Rattle.napi_model.specs.declared.event.Operation.TheVariants.{MarkDisable, TakeDisable, Unmark, SetThreaded}
+use Rattle.library_tests.proofs.Telling.{then, one, lost, disabled, said}
 use Rattle.napi_model.specs.declared.event.Call.TheVariants as call
 use Rattle.library_tests.proofs.contention.set_within_a_disable.Goals as goal
 

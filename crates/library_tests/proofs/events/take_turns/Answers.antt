@@ -1,4 +1,6 @@
-use Rattle.{std.proofs.Common.{[], ◌∷◌, subst, true, false}, napi_model.specs.declared.event.Operation.TheVariants.{Look, Schedule, Hand, Take, Complete}, napi_word.specs.declared.table.Pass.Pass, napi_calls.specs.Made.Made}
+use Rattle.std.proofs.Common.{[], ◌∷◌, subst, true, false}
+use Rattle.napi_model.specs.declared.event.Operation.TheVariants.{Look, Schedule, Hand, Take, Complete}
+use Rattle.{napi_word.specs.declared.table.Pass.Pass, napi_calls.specs.Made.Made}
 use Rattle.napi_calls.proofs.Making.{more}
 use Rattle.napi_model.specs.declared.state.Kind.TheVariants as kind
 use Rattle.napi_model.specs.declared.event.Prep.TheVariants as prep
@@ -12,7 +14,8 @@ returns-clause-first g c =
     let asks = c.granted-owner.ensures.made in
     let misses = c.missed-first.ensures.made in
     let ends = c.released-first.ensures.made in
-    let polled = subst (λ (p : Pass). Made p (Look ends.0 ∷ Complete done.Released ∷ []) c.released-first.result.pass) c.poll.ensures.pass ends.1 in
+    let polled =
+    subst (λ (p : Pass). Made p (Look ends.0 ∷ Complete done.Released ∷ []) c.released-first.result.pass) c.poll.ensures.pass ends.1 in
     let granted = more (Look asks.0) (Schedule prep.Granted ∷ []) meets.1 asks.1 in
     let handed = more (Hand kind.List) [] granted c.handed-first.ensures.made in
     let not_there = more (Take kind.List false) [] handed c.not_there-first.ensures.made in

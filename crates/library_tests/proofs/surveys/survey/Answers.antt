@@ -1,4 +1,5 @@
-use Rattle.{std.proofs.Common.{[], ◌∷◌, ◌++◌, ◌∙◌, arith}, napi_model.specs.{declared.event.Operation.TheVariants.Look, Step.event}, napi_word.specs.View.{mine, number_of}}
+use Rattle.{std.proofs.Common.{[], ◌∷◌, ◌++◌, ◌∙◌, arith}, napi_model.specs.{declared.event.Operation.TheVariants.Look, Step.event}}
+use Rattle.napi_word.specs.View.{mine, number_of}
 use Rattle.library_tests.proofs.surveys.survey.Goals as goal
 
 pub survey-first-requires-clause-rest : goal.survey-first-requires-clause-rest
@@ -9,4 +10,5 @@ survey-first-requires-clause-rest c =
 pub returns-clause-control : goal.returns-clause-control
 returns-clause-control c =
     let o = c.in_ok-table.ensures in
-    c.survey-first.ensures.look.event.grows ∙ (λ i. mine (o.control.view i) ++ event (number_of (o.control.view i)) (Look c.survey-first.result.3) ∷ [])
+    c.survey-first.ensures.look.event.grows
+    ∙ (λ i. mine (o.control.view i) ++ event (number_of (o.control.view i)) (Look c.survey-first.result.3) ∷ [])

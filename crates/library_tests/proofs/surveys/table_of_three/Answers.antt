@@ -1,4 +1,5 @@
-use Rattle.{std.proofs.Common.{◌≡◌, List, [], ◌∷◌, ◌++◌, length, length-append, slice_get, refl, sym, ap, ◌∙◌, arith}, napi_word.specs.declared.table.Pass.Pass}
+use Rattle.std.proofs.Common.{◌≡◌, List, [], ◌∷◌, ◌++◌, length, length-append, slice_get, refl, sym, ap, ◌∙◌, arith}
+use Rattle.napi_word.specs.declared.table.Pass.{Pass}
 use Rattle.library_tests.proofs.surveys.table_of_three.Goals as goal
 
 alone : (xs : List Pass) (a b d e : Pass) → length ((((xs ++ a ∷ []) ++ b ∷ []) ++ d ∷ []) ++ e ∷ []) ≡ 4 → xs ≡ []
@@ -26,7 +27,9 @@ module _ (c : goal.After-drop-room) where
 
   popped : c.in-Ok.room.items ≡ (((c.pop-last-4.new.self.items ++ a ∷ []) ++ b ∷ []) ++ d ∷ []) ++ e ∷ []
   popped = c.in-Some.ensures.items
-      ∙ ap (λ (l : List Pass). l ++ e ∷ []) (c.in-Some-last.ensures.items ∙ ap (λ (l : List Pass). l ++ d ∷ []) (c.in-Some-last-2.ensures.items ∙ ap (λ (l : List Pass). l ++ b ∷ []) c.in-Some-last-3.ensures.items))
+      ∙ ap (λ (l : List Pass). l ++ e ∷ [])
+      (c.in-Some-last.ensures.items ∙ ap (λ (l : List Pass). l ++ d ∷ [])
+      (c.in-Some-last-2.ensures.items ∙ ap (λ (l : List Pass). l ++ b ∷ []) c.in-Some-last-3.ensures.items))
 
   whole : c.in-Ok.room.items ≡ a ∷ b ∷ d ∷ e ∷ []
   whole = popped ∙ ap (λ (l : List Pass). (((l ++ a ∷ []) ++ b ∷ []) ++ d ∷ []) ++ e ∷ [])

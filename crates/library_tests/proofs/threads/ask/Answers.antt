@@ -1,4 +1,5 @@
-use Rattle.{napi_model.specs.declared.{event.Operation.TheVariants.Hand, state.Kind.TheVariants.List}, library_tests.{specs.CallCounts.is_schedule, proofs.Counting.{scheduled, refused, apart, then}}}
+use Rattle.napi_model.specs.declared.{event.Operation.TheVariants.Hand, state.Kind.TheVariants.List}
+use Rattle.library_tests.{specs.CallCounts.is_schedule, proofs.Counting.{scheduled, refused, apart, then}}
 use Rattle.std.proofs.Common.{refl}
 use Rattle.napi_model.specs.declared.event.Prep.TheVariants as prep
 use Rattle.library_tests.proofs.threads.ask.Goals as goal

@@ -1,4 +1,5 @@
-use Rattle.{napi_model.specs.declared.{event.Operation.TheVariants.Hand, state.Kind.TheVariants.List}, library_tests.{specs.CallCounts.is_take, proofs.Counting.{completed, apart, then}}}
+use Rattle.napi_model.specs.declared.{event.Operation.TheVariants.Hand, state.Kind.TheVariants.List}
+use Rattle.library_tests.{specs.CallCounts.is_take, proofs.Counting.{completed, apart, then}}
 use Rattle.std.proofs.Common.{refl}
 use Rattle.napi_model.specs.declared.event.Done.TheVariants as done
 use Rattle.library_tests.proofs.threads.end_poll.Goals as goal

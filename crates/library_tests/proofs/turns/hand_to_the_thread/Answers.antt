@@ -1,4 +1,6 @@
-use Rattle.{std.proofs.Common.{true, false, subst, [], ◌∷◌}, napi_model.specs.declared.event.Operation.TheVariants.{Schedule, Hand, Take, Complete, SetThreaded}, library_tests.proofs.Telling.{then, one, tried, said}}
+use Rattle.std.proofs.Common.{true, false, subst, [], ◌∷◌}
+use Rattle.napi_model.specs.declared.event.Operation.TheVariants.{Schedule, Hand, Take, Complete, SetThreaded}
+use Rattle.library_tests.proofs.Telling.{then, one, tried, said}
 use Rattle.{napi_word.specs.declared.table.Pass.Pass, napi_calls.specs.Made.Made}
 use Rattle.napi_model.specs.declared.state.Kind.TheVariants as kind
 use Rattle.napi_model.specs.declared.event.Prep.TheVariants as prep

@@ -1,4 +1,6 @@
-use Rattle.{std.proofs.Common.{true, false, subst, [], ◌∷◌}, napi_model.specs.declared.event.Operation.TheVariants.{Look, Schedule, Hand, Take, Complete}, library_tests.proofs.Telling.{then, one, met, tried, said}}
+use Rattle.std.proofs.Common.{true, false, subst, [], ◌∷◌}
+use Rattle.napi_model.specs.declared.event.Operation.TheVariants.{Look, Schedule, Hand, Take, Complete}
+use Rattle.library_tests.proofs.Telling.{then, one, met, tried, said}
 use Rattle.{napi_word.specs.declared.table.Pass.Pass, napi_calls.specs.Made.Made}
 use Rattle.napi_model.specs.declared.state.Kind.TheVariants as kind
 use Rattle.napi_model.specs.declared.event.Prep.TheVariants as prep
@@ -19,7 +21,11 @@ returns-clause-first g c =
     let a9 = then a8 (said c.looked-5.ensures.made) in
     let a10 = then a9 (said c.looked-6.ensures.made) in
     let a11 = then a10 (one (Take kind.List true) c.taken-poller-2.ensures.made) in
-    let a12 = then a11 (let m = c.released-first.ensures.made in tried (Complete done.Released) (m.0, subst (λ (p : Pass). Made p (Look m.0 ∷ Complete done.Released ∷ []) c.released-first.result.pass) c.poll.ensures.pass m.1)) in
+    let a12 =
+    then a11
+    (let m = c.released-first.ensures.made in
+    tried (Complete done.Released)
+    (m.0, subst (λ (p : Pass). Made p (Look m.0 ∷ Complete done.Released ∷ []) c.released-first.result.pass) c.poll.ensures.pass m.1)) in
     let a13 = then a12 (said c.looked-8.ensures.made) in
     then a13 (said c.looked-9.ensures.made)
 

@@ -1,4 +1,5 @@
-use Rattle.{std.proofs.Common.{◌≡◌, ℕ, [], ◌∷◌, ◌++◌, refl, sym, ap, ◌∙◌, subst}, napi_model.specs.{declared.event.Operation.TheVariants.{Look, Schedule}, Step.{event, opening}, History.{LegalHistory, own}}}
+use Rattle.std.proofs.Common.{◌≡◌, ℕ, [], ◌∷◌, ◌++◌, refl, sym, ap, ◌∙◌, subst}
+use Rattle.napi_model.specs.{declared.event.Operation.TheVariants.{Look, Schedule}, Step.{event, opening}, History.{LegalHistory, own}}
 use Rattle.napi_word.specs.View.{number_of, mine}
 use Rattle.napi_model.specs.declared.event.Prep.TheVariants as prep
 use Rattle.library_tests.proofs.word.lost_exchange.Goals as goal
@@ -16,9 +17,11 @@ returns c =
       history = e.history;
       legal = subst (λ (k : ℕ). LegalHistory k (opening k) e.history) o.controller e.legal;
       of_first = ap (λ (n : ℕ). own n e.history) (sym n0) ∙ e.exact 0 c.swaps.new.first refl ∙ s.first
-          ∙ (λ i. mine (o.first.view i) ++ event (number_of (o.first.view i)) (Look c.in_ok-idle.idle) ∷ event (number_of (o.first.view i)) (Schedule prep.Granted) ∷ []);
+          ∙ (λ i. mine (o.first.view i) ++ event (number_of (o.first.view i)) (Look c.in_ok-idle.idle)
+          ∷ event (number_of (o.first.view i)) (Schedule prep.Granted) ∷ []);
       of_second = ap (λ (n : ℕ). own n e.history) (sym n1) ∙ e.exact 1 c.swaps.new.second refl ∙ s.second
-          ∙ (λ i. mine (o.second.view i) ++ event (number_of (o.second.view i)) (Look c.in_ok-idle.found) ∷ event (number_of (o.second.view i)) (Schedule prep.Missed) ∷ []);
+          ∙ (λ i. mine (o.second.view i) ++ event (number_of (o.second.view i)) (Look c.in_ok-idle.found)
+          ∷ event (number_of (o.second.view i)) (Schedule prep.Missed) ∷ []);
       of_control = ap (λ (n : ℕ). own n e.history) (sym n2) ∙ e.exact 2 c.look-last.new.pass refl ∙ l.grows
           ∙ (λ i. c.if-not-enable.ensures.own refl i ++ event (c.enable.ensures.number i) (Look c.look-last.result) ∷ []);
     }

@@ -1,4 +1,5 @@
-use Rattle.{std.proofs.Common.{◌≡◌, List, [], ◌∷◌, ◌++◌, length, slice_get, sym, ap, ◌∙◌}, napi_word.specs.declared.table.Pass.Pass, library_tests.proofs.Popped.none_left}
+use Rattle.{std.proofs.Common.{◌≡◌, List, [], ◌∷◌, ◌++◌, length, slice_get, sym, ap, ◌∙◌}, napi_word.specs.declared.table.Pass.Pass}
+use Rattle.library_tests.proofs.Popped.{none_left}
 use Rattle.library_tests.proofs.word.table_of_two.Goals as goal
 
 -- the three passes, in order
@@ -13,7 +14,9 @@ module _ (c : goal.In-Some-last-2) where
   d = c.in-Some.control
 
   popped : c.in-Ok.room.items ≡ ((c.pop-last-3.new.self.items ++ a ∷ []) ++ b ∷ []) ++ d ∷ []
-  popped = c.in-Some.ensures.items ∙ ap (λ (l : List Pass). l ++ d ∷ []) (c.in-Some-last.ensures.items ∙ ap (λ (l : List Pass). l ++ b ∷ []) c.in-Some-last-2.ensures.items)
+  popped =
+      c.in-Some.ensures.items ∙ ap (λ (l : List Pass). l ++ d ∷ [])
+      (c.in-Some-last.ensures.items ∙ ap (λ (l : List Pass). l ++ b ∷ []) c.in-Some-last-2.ensures.items)
 
   whole : c.in-Ok.room.items ≡ a ∷ b ∷ d ∷ []
   whole = popped ∙ ap (λ (l : List Pass). ((l ++ a ∷ []) ++ b ∷ []) ++ d ∷ [])

@@ -1,4 +1,5 @@
-use Rattle.{std.proofs.Common.{◌∙◌, ◌*◌, ◌≤◌, arith, length, string_bytes}, machine_model.specs.Machine.device_report, machine_report.proofs.ReportFacts.{no_device_sum, no_devices, one_device, one_device_sum}}
+use Rattle.{std.proofs.Common.{◌∙◌, ◌*◌, ◌≤◌, arith, length, string_bytes}, machine_model.specs.Machine.device_report}
+use Rattle.machine_report.proofs.ReportFacts.{no_device_sum, no_devices, one_device, one_device_sum}
 use Rattle.machine_report.proofs.report.add_devices.Goals as goal
 
 pub loop-before-init : goal.loop-before-init
@@ -9,8 +10,11 @@ loop-before-init c = record {
 
 pub loop-before-preserved : goal.loop-before-preserved
 loop-before-preserved c = record {
-  text = one_device (λ n. device_report n c.args.machine.now) c.loop-before.before c.device-device.result _ _ _ c.device-device.ensures c.loop-before.invariant.text c.in_ok-add_place.ensures.text;
-  totals = one_device_sum (λ n. device_report n c.args.machine.now) c.loop-before.before c.device-device.result _ _ c.device-device.ensures c.loop-before.invariant.totals c.in_ok-add_place.ensures.totals;
+  text = one_device (λ n. device_report n c.args.machine.now) c.loop-before.before c.device-device.result _ _ _ c.device-device.ensures
+      c.loop-before.invariant.text c.in_ok-add_place.ensures.text;
+  totals =
+      one_device_sum (λ n. device_report n c.args.machine.now) c.loop-before.before c.device-device.result _ _ c.device-device.ensures
+      c.loop-before.invariant.totals c.in_ok-add_place.ensures.totals;
 }
 
 pub device-device-requires : goal.device-device-requires

@@ -1,4 +1,5 @@
-use Rattle.{std.proofs.Common.{Some, string_bytes}, machine_report.specs.Report.processor_in, machine_report.proofs.ReportFacts.{no_processor_sum, no_processors, one_processor, one_processor_sum}}
+use Rattle.{std.proofs.Common.{Some, string_bytes}, machine_report.specs.Report.processor_in}
+use Rattle.machine_report.proofs.ReportFacts.{no_processor_sum, no_processors, one_processor, one_processor_sum}
 use Rattle.machine_report.proofs.report.add_processors.Goals as goal
 
 pub loop-number-init : goal.loop-number-init
@@ -9,8 +10,11 @@ loop-number-init c = record {
 
 pub loop-number-preserved : goal.loop-number-preserved
 loop-number-preserved c = record {
-  text = one_processor (processor_in c.args.machine.now) c.loop-number.number (Some c.processor-processor.result) _ _ _ c.processor-processor.ensures c.loop-number.invariant.text
+  text = one_processor (processor_in c.args.machine.now) c.loop-number.number
+      (Some c.processor-processor.result) _ _ _ c.processor-processor.ensures c.loop-number.invariant.text
       c.in_ok-add_processor.ensures;
-  totals = one_processor_sum (processor_in c.args.machine.now) c.args.totals.now c.loop-number.number (Some c.processor-processor.result) _ _ c.processor-processor.ensures
+  totals =
+      one_processor_sum (processor_in c.args.machine.now) c.args.totals.now c.loop-number.number
+      (Some c.processor-processor.result) _ _ c.processor-processor.ensures
       c.loop-number.invariant.totals c.count_processor.ensures;
 }

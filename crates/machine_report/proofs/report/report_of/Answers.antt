@@ -1,9 +1,13 @@
-use Rattle.{std.proofs.Common.{◌≡◌, ◌∙◌, ◌*◌, ap, sym}, machine_model.specs.Machine.device_report, machine_report.{specs.Report.{processor_in, sums_of_devices, sums_of_processors}, proofs.ReportFacts.three_parts}}
+use Rattle.{std.proofs.Common.{◌≡◌, ◌∙◌, ◌*◌, ap, sym}, machine_model.specs.Machine.device_report}
+use Rattle.machine_report.{specs.Report.{processor_in, sums_of_devices, sums_of_processors}, proofs.ReportFacts.three_parts}
 use Rattle.machine_report.proofs.report.report_of.Goals as goal
 
 pub returns : goal.returns
 returns c =
     let processor = processor_in c.args.machine.now in
-    let sums : c.add_processors.new.totals ≡ sums_of_processors processor (sums_of_devices (λ n. device_report n c.args.machine.now) (64 * c.args.processors)) c.args.processors
+    let sums : c.add_processors.new.totals ≡ sums_of_processors processor
+    (sums_of_devices (λ n. device_report n c.args.machine.now) (64 * c.args.processors)) c.args.processors
     = c.in_ok-add_processors.ensures.totals ∙ ap (λ t. sums_of_processors processor t c.args.processors) c.in_ok-totals.ensures.totals in
-    rw (sym sums) (three_parts _ _ _ _ _ _ _ c.new-text.ensures.bytes c.in_ok-totals.ensures.text c.in_ok-add_processors.ensures.text c.in_ok-add_totals.ensures)
+    rw (sym sums)
+    (three_parts _ _ _ _ _ _ _ c.new-text.ensures.bytes c.in_ok-totals.ensures.text c.in_ok-add_processors.ensures.text
+    c.in_ok-add_totals.ensures)

@@ -1,8 +1,10 @@
-use Rattle.{std.proofs.{Common.{[], ◌∙◌, ◌∷◌, ◌++◌, refl, sym}, lemmas.Result.err_from_is_err_and}, machine_report.proofs.TakingFacts.takes-push}
+use Rattle.std.proofs.{Common.{[], ◌∙◌, ◌∷◌, ◌++◌, refl, sym}, lemmas.Result.err_from_is_err_and}
+use Rattle.machine_report.proofs.TakingFacts.{takes-push}
 use Rattle.machine_report.proofs.run.take_all.Goals as goal
 
 pub rows-init : goal.rows-init
-rows-init g c = record { opened = c.requires.opened; processors = c.requires.processors; count = refl; given = λ all given. ([], given, refl) }
+rows-init g c =
+    record { opened = c.requires.opened; processors = c.requires.processors; count = refl; given = λ all given. ([], given, refl) }
 
 pub returns-in_err-next-clause-fault : goal.returns-in_err-next-clause-fault
 returns-in_err-next-clause-fault g c =

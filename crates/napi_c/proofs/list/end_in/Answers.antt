@@ -13,4 +13,5 @@ returns-in-List-clause-makes c =
       refused = said.refused;
       kept = said.kept;
     } in
-    rw c.in-List.is (subst (λ (l : Lister). IsEnd c.args.report.now c.end.new.report l c.end.result c.end.new.self) c.deref_mut.ensures.value made)
+    rw c.in-List.is
+    (subst (λ (l : Lister). IsEnd c.args.report.now c.end.new.report l c.end.result c.end.new.self) c.deref_mut.ensures.value made)

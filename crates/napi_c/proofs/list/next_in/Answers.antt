@@ -14,4 +14,5 @@ returns-in-List-clause-makes c =
       refused = said.refused;
       kept = said.kept;
     } in
-    rw c.in-List.is (subst (λ (l : Lister). IsNext c.args.id.now c.next.new.id l c.next.result c.next.new.self) c.deref_mut.ensures.value made)
+    rw c.in-List.is
+    (subst (λ (l : Lister). IsNext c.args.id.now c.next.new.id l c.next.result c.next.new.self) c.deref_mut.ensures.value made)

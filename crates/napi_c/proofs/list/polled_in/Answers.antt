@@ -12,4 +12,5 @@ returns-in-List c =
       settings = said.settings;
       kept = said.kept;
     } in
-    rw c.in-List.is (subst (λ (l : Lister). IsPolled c.args.work c.args.next l c.polled.result c.polled.new.self) c.deref_mut.ensures.value made)
+    rw c.in-List.is
+    (subst (λ (l : Lister). IsPolled c.args.work c.args.next l c.polled.result c.polled.new.self) c.deref_mut.ensures.value made)

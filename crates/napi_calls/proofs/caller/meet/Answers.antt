@@ -11,4 +11,5 @@ pub returns-clause-first : goal.returns-clause-first
 returns-clause-first c = (_, step c.meet.new.first (nothing c.args.first.now.stands) c.meet.ensures.first.table c.meet.ensures.first.event)
 
 pub returns-clause-second : goal.returns-clause-second
-returns-clause-second c = (_, step c.meet.new.second (nothing c.args.second.now.stands) c.meet.ensures.second.table c.meet.ensures.second.event)
+returns-clause-second c =
+    (_, step c.meet.new.second (nothing c.args.second.now.stands) c.meet.ensures.second.table c.meet.ensures.second.event)

@@ -1,4 +1,5 @@
-use Rattle.{std.{proofs.Common.{rules, ◌≡◌, ◌+◌, List, [], ◌∷◌, ◌++◌, length, sym, ap, ◌∙◌, append_assoc, length-append, arith}, specs.Vec.Iter.into_iter_items}, napi_word.specs.declared.table.Pass.Pass, napi_calls.specs.Closed.seats_of}
+use Rattle.std.proofs.Common.{rules, ◌≡◌, ◌+◌, List, [], ◌∷◌, ◌++◌, length, sym, ap, ◌∙◌, append_assoc, length-append, arith}
+use Rattle.{std.specs.Vec.Iter.into_iter_items, napi_word.specs.declared.table.Pass.Pass, napi_calls.specs.Closed.seats_of}
 use Rattle.napi_calls.proofs.Ending.{next_seat, seats_more}
 use Rattle.napi_calls.proofs.instance.seat_callers.Goals as goal
 
@@ -7,7 +8,9 @@ caller_of-requires c =
     let new = c.requires.new in
     let seated = c.loop-pass.callers.items in
     let parts = c.loop-pass.invariant.0 ∙ ap (λ (l : List Pass). seats_of seated ++ l) c.in-Some.ensures.items in
-    let next = next_seat seated c.args.passes.items (into_iter_items c.next.new.self) c.in-Some.pass c.loop-pass.number parts c.loop-pass.invariant.1 in
+    let next =
+    next_seat seated c.args.passes.items
+    (into_iter_items c.next.new.self) c.in-Some.pass c.loop-pass.number parts c.loop-pass.invariant.1 in
     let few = new.3 in
     let left = next.0 in
     (new.0, new.1, new.2, omega (arith, few, left), new.5 c.loop-pass.number c.in-Some.pass next.1)
@@ -16,7 +19,9 @@ pub push_reserved-requires : goal.push_reserved-requires
 push_reserved-requires c =
     let seated = c.loop-pass.callers.items in
     let parts = c.loop-pass.invariant.0 ∙ ap (λ (l : List Pass). seats_of seated ++ l) c.in-Some.ensures.items in
-    let left = (next_seat seated c.args.passes.items (into_iter_items c.next.new.self) c.in-Some.pass c.loop-pass.number parts c.loop-pass.invariant.1).0 in
+    let left =
+    (next_seat seated c.args.passes.items
+    (into_iter_items c.next.new.self) c.in-Some.pass c.loop-pass.number parts c.loop-pass.invariant.1).0 in
     let number = c.loop-pass.invariant.1 in
     let len = c.loop-pass.invariant.2 in
     let room = c.loop-pass.invariant.3 in
@@ -27,7 +32,9 @@ overflow_add-number c =
     let new = c.requires.new in
     let seated = c.loop-pass.callers.items in
     let parts = c.loop-pass.invariant.0 ∙ ap (λ (l : List Pass). seats_of seated ++ l) c.in-Some.ensures.items in
-    let left = (next_seat seated c.args.passes.items (into_iter_items c.next.new.self) c.in-Some.pass c.loop-pass.number parts c.loop-pass.invariant.1).0 in
+    let left =
+    (next_seat seated c.args.passes.items
+    (into_iter_items c.next.new.self) c.in-Some.pass c.loop-pass.number parts c.loop-pass.invariant.1).0 in
     let few = new.3 in
     let least = new.4 in
     search (rules, arith, left, few, least)
@@ -40,7 +47,8 @@ loop-pass-preserved c =
     let pushed = c.push_reserved.ensures in
     let parts = c.loop-pass.invariant.0 ∙ ap (λ (l : List Pass). seats_of seated ++ l) c.in-Some.ensures.items in
     let here : seats_of seated ++ c.in-Some.pass ∷ rest ≡ (seats_of seated ++ one.pass ∷ []) ++ rest =
-    sym (append_assoc (seats_of seated) (c.in-Some.pass ∷ []) rest) ∙ ap (λ (p : Pass). (seats_of seated ++ p ∷ []) ++ rest) (sym c.caller_of.ensures) in
+    sym (append_assoc (seats_of seated) (c.in-Some.pass ∷ []) rest)
+    ∙ ap (λ (p : Pass). (seats_of seated ++ p ∷ []) ++ rest) (sym c.caller_of.ensures) in
     let longer : length (seated ++ one ∷ []) ≡ length seated + 1 = length-append seated (one ∷ []) in
     let items = ap length pushed.items in
     let number = c.loop-pass.invariant.1 in

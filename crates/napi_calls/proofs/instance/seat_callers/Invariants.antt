@@ -1,4 +1,5 @@
-use Rattle.{std.{proofs.Common.{◌≡◌, ◌≤◌, ◌++◌, length, vec_len, vec_capacity}, specs.Vec.Iter.{into_iter_items, into_iter_len}}, napi_calls.specs.Closed.seats_of}
+use Rattle.std.{proofs.Common.{◌≡◌, ◌≤◌, ◌++◌, length, vec_len, vec_capacity}, specs.Vec.Iter.{into_iter_items, into_iter_len}}
+use Rattle.napi_calls.specs.Closed.{seats_of}
 use Rattle.napi_calls.proofs.instance.seat_callers.Given as goal
 
 abbrev pub invariant-loop-pass : goal.invariant-loop-pass

@@ -4,12 +4,16 @@ use Rattle.napi_calls.proofs.surveying.survey_beside.Goals as goal
 pub invariant_of-result : goal.invariant_of-result
 invariant_of-result g c =
     let u = c.survey-a.ensures.surveys in
-    record { stands = stands_up _ u.found _ _ u.deliveries u.whole _ _ (u.each 0 _ _ refl refl) (u.controllers 0 _ refl) c.args.first.stands }
+    record {
+      stands = stands_up _ u.found _ _ u.deliveries u.whole _ _ (u.each 0 _ _ refl refl) (u.controllers 0 _ refl) c.args.first.stands;
+    }
 
 pub invariant_of-result-2 : goal.invariant_of-result-2
 invariant_of-result-2 g c =
     let u = c.survey-a.ensures.surveys in
-    record { stands = stands_up _ u.found _ _ u.deliveries u.whole _ _ (u.each 1 _ _ refl refl) (u.controllers 1 _ refl) c.args.second.stands }
+    record {
+      stands = stands_up _ u.found _ _ u.deliveries u.whole _ _ (u.each 1 _ _ refl refl) (u.controllers 1 _ refl) c.args.second.stands;
+    }
 
 pub invariant_of-result-3 : goal.invariant_of-result-3
 invariant_of-result-3 g c =

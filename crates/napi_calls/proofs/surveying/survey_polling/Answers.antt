@@ -1,4 +1,5 @@
-use Rattle.{std.proofs.Common.{Some, refl}, napi_calls.{specs.Seats.number_of, proofs.{Making.{nothing, step}, Surveyed.{stands_up, busy_up, has_up}}}}
+use Rattle.std.proofs.Common.{Some, refl}
+use Rattle.napi_calls.{specs.Seats.number_of, proofs.{Making.{nothing, step}, Surveyed.{stands_up, busy_up, has_up}}}
 use Rattle.napi_calls.proofs.surveying.survey_polling.Goals as goal
 
 pub invariant_of-polling : goal.invariant_of-polling

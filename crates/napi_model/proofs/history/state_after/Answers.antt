@@ -1,4 +1,5 @@
-use Rattle.{std.proofs.Common.{refl, sym, ap, ◌∙◌, get_or}, napi_model.{specs.{Step.after, History.state_after}, proofs.Histories.{no_event, state_after-more}}}
+use Rattle.std.proofs.Common.{refl, sym, ap, ◌∙◌, get_or}
+use Rattle.napi_model.{specs.{Step.after, History.state_after}, proofs.Histories.{no_event, state_after-more}}
 use Rattle.napi_model.proofs.history.state_after.Goals as goal
 
 pub loop-event-init : goal.loop-event-init

@@ -9,4 +9,11 @@ pub loop-device-preserved : goal.loop-device-preserved
 unfolding lines_below
 loop-device-preserved c = λ s rows n before after.
     let next : c.loop-device.device + 1 ≡ suc c.loop-device.device = omega arith in
-    rw (next, c.in_ok-add_gave.ensures, c.counts.ensures s rows n before, c.counts-in-loop-device.ensures s rows (n + 1) after, c.loop-device.invariant s rows n before after) (simp append_assoc)
+    rw (
+      next,
+      c.in_ok-add_gave.ensures,
+      c.counts.ensures s rows n before,
+      c.counts-in-loop-device.ensures s rows
+          (n + 1) after,
+      c.loop-device.invariant s rows n before after,
+    ) (simp append_assoc)

@@ -1,5 +1,8 @@
-use Rattle.{std.proofs.Common.{[], ap, subst, ◌∙◌, sym}, atomic_table.specs.Table.Me, napi_word.specs.{View.{View, is_pass, ring_of, received_in, Continues}, Slot.{Content, hold_of, owns_slot, ring_in, beside_in, ctx_in, carried_received}}}
-use Rattle.napi_word.{specs.Rule.{left_of, right_of}, proofs.{Deliveries.{prefix_self, of_prefix}, Said.one_there, Start.{maker_more, owns_nothing}, Splitting.gives_number}}
+use Rattle.{std.proofs.Common.{[], ap, subst, ◌∙◌, sym}, atomic_table.specs.Table.Me}
+use Rattle.napi_word.specs.View.{View, is_pass, ring_of, received_in, Continues}
+use Rattle.napi_word.specs.Slot.{Content, hold_of, owns_slot, ring_in, beside_in, ctx_in, carried_received}
+use Rattle.napi_word.specs.Rule.{left_of, right_of}
+use Rattle.napi_word.proofs.{Deliveries.{prefix_self, of_prefix}, Said.one_there, Start.{maker_more, owns_nothing}, Splitting.gives_number}
 use Rattle.napi_word.proofs.making.next_pass.Goals as goal
 
 pub split_seat-requires : goal.split_seat-requires
@@ -18,7 +21,8 @@ invariant_of-result c =
       right = ap (λ (m : Me Content View). owns_slot m.0) is ∙ owns_nothing key.controller key.ring.value c.args.number c.requires.number;
       ring = ap (λ (m : Me Content View). ring_in m.1 m.0) is ∙ sym (ap (λ (m : Me Content View). ring_of m.0) is);
       unmarked = ap (λ (m : Me Content View). beside_in m.1) is;
-      received = subst (λ (m : Me Content View). Continues (received_in m.0) (carried_received m.1 m.0)) (sym is) (of_prefix _ _ (prefix_self _));
+      received =
+          subst (λ (m : Me Content View). Continues (received_in m.0) (carried_received m.1 m.0)) (sym is) (of_prefix _ _ (prefix_self _));
     }
 
 pub returns-clause-view : goal.returns-clause-view

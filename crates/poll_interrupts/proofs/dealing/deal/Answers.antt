@@ -1,4 +1,5 @@
-use Rattle.{std.proofs.{Common.{◌≡◌, true, false, rules, ◌++◌, ◌∷◌, [], length, vec_items, arith, ◌∙◌, ap, sym}, lemmas.Grind.common_steps}, poll_tasks.proofs.Zips.before_more}
+use Rattle.std.proofs.{Common.{◌≡◌, true, false, rules, ◌++◌, ◌∷◌, [], length, vec_items, arith, ◌∙◌, ap, sym}, lemmas.Grind.common_steps}
+use Rattle.poll_tasks.proofs.Zips.{before_more}
 use Rattle.poll_interrupts.{proofs.DealFacts.{dealt_more, others_no, others_yes, picked_no, picked_yes}, specs.Deals.is_dealt}
 use Rattle.poll_interrupts.proofs.dealing.deal.Goals as goal
 

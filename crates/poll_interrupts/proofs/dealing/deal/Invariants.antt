@@ -1,4 +1,5 @@
-use Rattle.{std.{proofs.Common.{◌≡◌, ◌+◌, ◌≤◌, ◌++◌, vec_len, vec_capacity, vec_items, length}, specs.{Prelude.map, Vec.Iter.{into_iter_items, into_iter_len}}}, poll_interrupts.specs.Deals.{is_dealt, others, picked}}
+use Rattle.std.proofs.Common.{◌≡◌, ◌+◌, ◌≤◌, ◌++◌, vec_len, vec_capacity, vec_items, length}
+use Rattle.{std.specs.{Prelude.map, Vec.Iter.{into_iter_items, into_iter_len}}, poll_interrupts.specs.Deals.{is_dealt, others, picked}}
 use Rattle.poll_interrupts.proofs.dealing.deal.Given as goal
 
 abbrev pub invariant-loop-station : goal.invariant-loop-station
@@ -12,5 +13,6 @@ invariant-loop-station g l = record {
   dealt : vec_items l.order ≡ map (is_dealt l.fn.number l.fn.pollers) l.yielded;
   mine : vec_items l.mine ≡ picked (vec_items l.order) l.yielded;
   others : vec_items l.others ≡ others (vec_items l.order) l.yielded;
-  room : (vec_len l.fn.stations ≤ vec_capacity l.mine) × (vec_len l.fn.stations ≤ vec_capacity l.others) × (vec_len l.fn.stations ≤ vec_capacity l.order);
+  room : (vec_len l.fn.stations ≤ vec_capacity l.mine) × (vec_len l.fn.stations ≤ vec_capacity l.others)
+      × (vec_len l.fn.stations ≤ vec_capacity l.order);
 }

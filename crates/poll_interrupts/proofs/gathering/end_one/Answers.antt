@@ -1,5 +1,7 @@
-use Rattle.{std.proofs.Common.{◌≡◌, refl, ap, subst}, rx_ring.specs.{declared.packet.Totals.Totals, Ends.{put_list, received_list}}, napi_calls.specs.Instance.{callers_of, first_of_instance}}
-use Rattle.{napi_calls.specs.declared.types.Caller.Caller, poll_interrupts.{specs.{declared.worker.Seats.Seats, Ends.IsEndedBy}, proofs.EndFacts.ended_of}}
+use Rattle.{std.proofs.Common.{◌≡◌, refl, ap, subst}, rx_ring.specs.{declared.packet.Totals.Totals, Ends.{put_list, received_list}}}
+use Rattle.napi_calls.specs.Instance.{callers_of, first_of_instance}
+use Rattle.napi_calls.specs.declared.types.Caller.{Caller}
+use Rattle.poll_interrupts.{specs.{declared.worker.Seats.Seats, Ends.IsEndedBy}, proofs.EndFacts.ended_of}
 use Rattle.poll_interrupts.proofs.gathering.end_one.Goals as goal
 
 pub returns : goal.returns
@@ -8,7 +10,8 @@ returns g c =
     let rx = c.args.worked.done.rx in
     let all = c.finish.ensures in
     let ended = ended_of c.open.result.napi c.open-2.result c.open-3.result c.open-4.result rx c.close-ctx.result c.finish.result
-    (rw c.open.ensures done.home.callers) (rw c.open.ensures done.home.nothing_received) (rw c.open-2.ensures done.controller) c.close-ctx.ensures all.totals all.order in
+    (rw c.open.ensures done.home.callers) (rw c.open.ensures done.home.nothing_received)
+    (rw c.open-2.ensures done.controller) c.close-ctx.ensures all.totals all.order in
     record {
       same_number = refl;
       same_device = refl;

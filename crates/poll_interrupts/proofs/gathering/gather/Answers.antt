@@ -1,4 +1,5 @@
-use Rattle.{std.{proofs.{Common.{◌≡◌, ◌∷◌, ◌++◌, [], vec_items, arith}, lemmas.{Grind.common_steps, List.nil_from_length}}, specs.Vec.Iter.into_iter_items}, poll_tasks.proofs.{Zips.before_more, ListFacts.{none_left, zip_empty, zip_flip}}}
+use Rattle.std.proofs.{Common.{◌≡◌, ◌∷◌, ◌++◌, [], vec_items, arith}, lemmas.{Grind.common_steps, List.nil_from_length}}
+use Rattle.{std.specs.Vec.Iter.into_iter_items, poll_tasks.proofs.{Zips.before_more, ListFacts.{none_left, zip_empty, zip_flip}}}
 use Rattle.poll_interrupts.{proofs.EndFacts.finishes_push, specs.Ends.{IsCallerAt, IsDoneAt, IsTurnedAt}}
 use Rattle.poll_interrupts.proofs.gathering.gather.Goals as goal
 
@@ -47,20 +48,30 @@ loop-done-preserved g c =
         threads = other.1;
         count = grind (arith, common_steps, i.3.count, c.in-Some.ensures.len, c.push_reserved.ensures.len);
         room = grind (arith, i.3.room, c.push_reserved.ensures.capacity);
-        long = (let a = i.3.long in let b = c.in-Some.ensures.items in let d = c.in-Some.ensures.len in grind (arith, common_steps, a, b, d));
-        as_long = (let a = i.3.as_long in let b = c.in-Some-next.ensures.items in let d = c.in-Some-next.ensures.len in grind (arith, common_steps, a, b, d));
-        seats_long = (let a = i.3.seats_long in let b = c.in-Some-next-2.ensures.items in let d = c.in-Some-next-2.ensures.len in grind (arith, common_steps, a, b, d));
-        sides_long = (let a = i.3.sides_long in let b = c.in-Some-next-3.ensures.items in let d = c.in-Some-next-3.ensures.len in grind (arith, common_steps, a, b, d));
+        long = (let a = i.3.long in let b = c.in-Some.ensures.items in let d = c.in-Some.ensures.len in
+            grind (arith, common_steps, a, b, d));
+        as_long =
+            (let a = i.3.as_long in let b = c.in-Some-next.ensures.items in let d = c.in-Some-next.ensures.len in
+            grind (arith, common_steps, a, b, d));
+        seats_long =
+            (let a = i.3.seats_long in let b = c.in-Some-next-2.ensures.items in let d = c.in-Some-next-2.ensures.len in
+            grind (arith, common_steps, a, b, d));
+        sides_long =
+            (let a = i.3.sides_long in let b = c.in-Some-next-3.ensures.items in let d = c.in-Some-next-3.ensures.len in
+            grind (arith, common_steps, a, b, d));
       },
     )
 
 pub returns : goal.returns
 returns g c =
     let i = c.loop-done.invariant in
-    let empty : into_iter_items c.loop-done.dones ≡ [] = nil_from_length _ (grind (arith, common_steps, i.3.long, c.in_default.ensures.len)) in
+    let empty : into_iter_items c.loop-done.dones ≡ [] =
+    nil_from_length _ (grind (arith, common_steps, i.3.long, c.in_default.ensures.len)) in
     let behind : into_iter_items c.loop-done.all ≡ [] = zip_empty IsDoneAt _ _ i.3.beside empty in
-    let no_seats : into_iter_items c.loop-done.seats ≡ [] = zip_empty (λ y x. IsCallerAt x y) _ _ (zip_flip IsCallerAt _ _ i.3.polled) behind in
-    let no_sides : into_iter_items c.loop-done.sides ≡ [] = zip_empty (λ y x. IsTurnedAt x y) _ _ (zip_flip IsTurnedAt _ _ i.3.threads) behind in
+    let no_seats : into_iter_items c.loop-done.seats ≡ [] =
+    zip_empty (λ y x. IsCallerAt x y) _ _ (zip_flip IsCallerAt _ _ i.3.polled) behind in
+    let no_sides : into_iter_items c.loop-done.sides ≡ [] =
+    zip_empty (λ y x. IsTurnedAt x y) _ _ (zip_flip IsTurnedAt _ _ i.3.threads) behind in
     let whole = none_left (vec_items c.args.worked) i.0 (into_iter_items c.loop-done.dones) i.3.whole empty in
     let polled = none_left (vec_items c.args.pollers) i.1 (into_iter_items c.loop-done.seats) i.3.seats_whole no_seats in
     let turned = none_left (vec_items c.args.threads) i.2 (into_iter_items c.loop-done.sides) i.3.sides_whole no_sides in

@@ -1,10 +1,13 @@
-use Rattle.{std.{proofs.Common.{◌≡◌, ◌+◌, ◌≤◌, ◌++◌, vec_len, vec_capacity, vec_items, length, List}, specs.{Vec.Iter.{into_iter_items, into_iter_len}, List.AllZip}}, poll_interrupts.specs.declared.job.Worked.Worked}
-use Rattle.{napi_calls.specs.declared.{kept.Kept.Kept, types.Caller.Caller}, poll_tasks.specs.declared.tasks.Turned.Turned, poll_interrupts.specs.Ends.{AreFinishesOf, IsCallerAt, IsDoneAt, IsTurnedAt}}
+use Rattle.std.proofs.Common.{◌≡◌, ◌+◌, ◌≤◌, ◌++◌, vec_len, vec_capacity, vec_items, length, List}
+use Rattle.{std.specs.{Vec.Iter.{into_iter_items, into_iter_len}, List.AllZip}, poll_interrupts.specs.declared.job.Worked.Worked}
+use Rattle.{napi_calls.specs.declared.{kept.Kept.Kept, types.Caller.Caller}, poll_tasks.specs.declared.tasks.Turned.Turned}
+use Rattle.poll_interrupts.specs.Ends.{AreFinishesOf, IsCallerAt, IsDoneAt, IsTurnedAt}
 use Rattle.poll_interrupts.proofs.gathering.gather.Given as goal
 
 abbrev pub invariant-loop-done : goal.invariant-loop-done
 invariant-loop-done g l =
-    (did : List (Worked g.row.R.Denot g.row.D.Denot)) × (polled : List (Kept g.row.R.Denot Caller)) × (turned : List (Turned (Kept g.row.R.Denot Caller))) × record {
+    (did : List (Worked g.row.R.Denot g.row.D.Denot)) × (polled : List (Kept g.row.R.Denot Caller))
+    × (turned : List (Turned (Kept g.row.R.Denot Caller))) × record {
       whole : did ++ into_iter_items l.dones ≡ vec_items l.fn.worked;
       seats_whole : polled ++ into_iter_items l.seats ≡ vec_items l.fn.pollers;
       sides_whole : turned ++ into_iter_items l.sides ≡ vec_items l.fn.threads;

@@ -1,4 +1,5 @@
-use Rattle.{std.proofs.{Common.{ap, refl, ◌∙◌, rules, arith}, lemmas.Grind.common_steps}, rx_ring.specs.{declared.ends.RxCtx.RxCtx, Ends.received_list}}
+use Rattle.std.proofs.{Common.{ap, refl, ◌∙◌, rules, arith}, lemmas.Grind.common_steps}
+use Rattle.rx_ring.specs.{declared.ends.RxCtx.RxCtx, Ends.received_list}
 use Rattle.poll_interrupts.proofs.opening.open.Goals as goal
 
 pub returns-clause-side : goal.returns-clause-side
@@ -14,7 +15,8 @@ returns-clause-side g c =
       home = record {
         callers = new.count.1;
         nothing_received = ap (λ (x : RxCtx). received_list x) new.first ∙ c.in-Ok.ensures.empty.1;
-        empty = grind (arith, common_steps, new.count.2, c.next-thread.ensures.left, c.next-poller.ensures.left, c.next-caller.ensures.left);
+        empty =
+            grind (arith, common_steps, new.count.2, c.next-thread.ensures.left, c.next-poller.ensures.left, c.next-caller.ensures.left);
         room = grind (arith, common_steps, new.count.2, c.next-thread.ensures.room, c.next-poller.ensures.room, c.next-caller.ensures.room);
       };
     }
@@ -32,10 +34,21 @@ returns-clause-loose g c =
       nothing_put = search rules;
       thread = search rules;
       unused = record {
-        caller = record { number_is = c.next-caller.ensures.caller.number_is ∙ grind (arith, common_steps, new.count.2, three, two, one); nothing_done = c.next-caller.ensures.caller.nothing_done };
+        caller =
+            record {
+              number_is = c.next-caller.ensures.caller.number_is ∙ grind (arith, common_steps, new.count.2, three, two, one);
+              nothing_done = c.next-caller.ensures.caller.nothing_done;
+            };
         control = new.control.nothing_done;
         number = new.control.number_is;
       };
-      poller = record { number_is = c.next-poller.ensures.caller.number_is ∙ grind (arith, common_steps, new.count.2, three, two); nothing_done = c.next-poller.ensures.caller.nothing_done };
-      own = record { number_is = c.next-thread.ensures.caller.number_is ∙ grind (arith, common_steps, new.count.2, three); nothing_done = c.next-thread.ensures.caller.nothing_done };
+      poller =
+          record {
+            number_is = c.next-poller.ensures.caller.number_is ∙ grind (arith, common_steps, new.count.2, three, two);
+            nothing_done = c.next-poller.ensures.caller.nothing_done;
+          };
+      own = record {
+        number_is = c.next-thread.ensures.caller.number_is ∙ grind (arith, common_steps, new.count.2, three);
+        nothing_done = c.next-thread.ensures.caller.nothing_done;
+      };
     }

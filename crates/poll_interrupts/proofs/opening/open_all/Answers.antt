@@ -1,4 +1,5 @@
-use Rattle.{std.proofs.{Common.{◌≡◌, length, ◌<◌, get_or, vec_items, rules, arith}, lemmas.Grind.common_steps}, poll_tasks.proofs.Zips.{zip_push, before_more, all_done}, poll_interrupts.specs.Opens.{IsLoose, IsSideOf}}
+use Rattle.std.proofs.{Common.{◌≡◌, length, ◌<◌, get_or, vec_items, rules, arith}, lemmas.Grind.common_steps}
+use Rattle.{poll_tasks.proofs.Zips.{zip_push, before_more, all_done}, poll_interrupts.specs.Opens.{IsLoose, IsSideOf}}
 use Rattle.poll_interrupts.proofs.opening.open_all.Goals as goal
 
 pub open-requires : goal.open-requires
@@ -22,7 +23,9 @@ loop-station-preserved g c =
       room = search rules;
       as_room = search rules;
       made = rw c.push_reserved-in-Ok.ensures.items (zip_push _ _ _ _ _ now.made (rw c.new-in-Ok.ensures ok.0));
-      sides = rw (c.push_reserved-in-Ok.ensures.items, c.push_reserved.ensures.items) (zip_push _ _ _ _ _ now.sides (rw (c.new-in-Ok.ensures, c.new.ensures) ok.1));
+      sides =
+          rw (c.push_reserved-in-Ok.ensures.items, c.push_reserved.ensures.items)
+          (zip_push _ _ _ _ _ now.sides (rw (c.new-in-Ok.ensures, c.new.ensures) ok.1));
     }
 
 pub returns-clause-loose : goal.returns-clause-loose

@@ -1,4 +1,5 @@
-use Rattle.{std.{proofs.Common.{◌≡◌, ◌+◌, ◌≤◌, ◌++◌, vec_len, vec_capacity, vec_items, length}, specs.{Vec.Iter.{into_iter_items, into_iter_len}, List.AllZip}}, poll_interrupts.specs.Opens.{IsKeptLoose, IsKeptSideOf}}
+use Rattle.std.proofs.Common.{◌≡◌, ◌+◌, ◌≤◌, ◌++◌, vec_len, vec_capacity, vec_items, length}
+use Rattle.{std.specs.{Vec.Iter.{into_iter_items, into_iter_len}, List.AllZip}, poll_interrupts.specs.Opens.{IsKeptLoose, IsKeptSideOf}}
 use Rattle.poll_interrupts.proofs.opening.open_all.Given as goal
 
 abbrev pub invariant-loop-station : goal.invariant-loop-station

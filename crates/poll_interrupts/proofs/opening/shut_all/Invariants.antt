@@ -1,4 +1,5 @@
-use Rattle.{std.{proofs.Common.{◌≡◌, length}, specs.{Vec.Iter.{into_iter_items, into_iter_len}, List.AllZip}}, poll_interrupts.specs.Opens.IsKeptSideOf}
+use Rattle.std.{proofs.Common.{◌≡◌, length}, specs.{Vec.Iter.{into_iter_items, into_iter_len}, List.AllZip}}
+use Rattle.poll_interrupts.specs.Opens.{IsKeptSideOf}
 use Rattle.poll_interrupts.proofs.opening.shut_all.Given as goal
 
 abbrev pub invariant-loop-other : goal.invariant-loop-other

@@ -1,8 +1,10 @@
-use Rattle.{std.proofs.Common.{◌≡◌, ◌++◌, map}, crossbeam_queue.specs.Passes.{view, IsPassOf}, poll_list.specs.{PushOrder.poller, SharedList.as_returned}}
+use Rattle.{std.proofs.Common.{◌≡◌, ◌++◌, map}, crossbeam_queue.specs.Passes.{view, IsPassOf}}
+use Rattle.poll_list.specs.{PushOrder.poller, SharedList.as_returned}
 use Rattle.poll_list.proofs.list_ends.take_back.Given as goal
 
 abbrev pub invariant-loop-end : goal.invariant-loop-end
 invariant-loop-end g l = record {
   pass : IsPassOf l.queue l.pass;
-  knows : view l.pass ≡ poller (view l.initial.pass).made (view l.initial.pass).pushed (view l.initial.pass).popped ((view l.initial.pass).returned ++ map as_returned l.yielded);
+  knows : view l.pass ≡ poller (view l.initial.pass).made (view l.initial.pass).pushed (view l.initial.pass).popped
+      ((view l.initial.pass).returned ++ map as_returned l.yielded);
 }

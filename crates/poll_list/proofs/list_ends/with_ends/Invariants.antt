@@ -1,4 +1,5 @@
-use Rattle.{std.{proofs.Common.{◌≡◌, ◌+◌, [], length, All, ℕ, ◌<◌, slice_index_or}, specs.Arc.arc_value}, poll_list.specs.{declared.list_in.ListIn.ListIn, PushOrder.poller}, crossbeam_queue.specs.Passes.{view, IsPassOf}}
+use Rattle.std.{proofs.Common.{◌≡◌, ◌+◌, [], length, All, ℕ, ◌<◌, slice_index_or}, specs.Arc.arc_value}
+use Rattle.{poll_list.specs.{declared.list_in.ListIn.ListIn, PushOrder.poller}, crossbeam_queue.specs.Passes.{view, IsPassOf}}
 use Rattle.poll_list.specs.SharedList.{pushed_by, number_of}
 use Rattle.poll_list.proofs.list_ends.with_ends.Given as goal
 

@@ -3,7 +3,8 @@ use Rattle.poll_runs.proofs.polling.poll_thread_of.Given as goal
 
 abbrev pub invariant-loop-held : goal.invariant-loop-held
 invariant-loop-held g l = let i = g.I.Instance in record {
-  going : Going i.takes i.gives i.looks i.requeues i.completes l.weight l.most l.fn.instance l.fn.packets l.held l.instance l.packets l.report;
+  going : Going i.takes i.gives i.looks i.requeues i.completes l.weight l.most l.fn.instance l.fn.packets l.held l.instance l.packets
+      l.report;
   bound : l.report.work ≤ 64 * l.report.polls;
   hands : MatchBool l.held (i.in_hand l.instance) (i.rests l.instance);
 }

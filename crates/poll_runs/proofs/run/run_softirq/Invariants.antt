@@ -7,7 +7,8 @@ invariant-loop-own g l = record {
   few : length l.own + length l.repoll ≤ 64;
   bounds : (l.polls ≤ l.window) × (l.work < l.budget + l.weight);
   goes : (polls : List Poll) × Chain (At g.B.Bench.polls l.weight) l.fn.bench polls l.bench
-      × Going g.L.PollList.entries g.L.PollList.moves g.L.PollList.is_all l.budget l.window l.fn.list polls l.list l.own l.repoll l.polls l.work;
+      × Going g.L.PollList.entries g.L.PollList.moves g.L.PollList.is_all l.budget l.window l.fn.list polls l.list l.own l.repoll l.polls
+      l.work;
 }
 
 abbrev pub decreases-loop-own : goal.decreases-loop-own

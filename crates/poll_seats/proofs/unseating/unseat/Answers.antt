@@ -1,4 +1,5 @@
-use Rattle.{std.proofs.{Common.{◌≡◌, ◌∷◌, ◌++◌, [], vec_items, arith}, lemmas.{Grind.common_steps, List.nil_from_length}}, poll_tasks.proofs.Zips.{zip_push, before_more}}
+use Rattle.std.proofs.{Common.{◌≡◌, ◌∷◌, ◌++◌, [], vec_items, arith}, lemmas.{Grind.common_steps, List.nil_from_length}}
+use Rattle.poll_tasks.proofs.Zips.{zip_push, before_more}
 use Rattle.poll_seats.proofs.unseating.unseat.Goals as goal
 
 pub loop-seat-init : goal.loop-seat-init
@@ -27,9 +28,11 @@ loop-seat-preserved g c =
       record {
         whole = more.2;
         there = there.1;
-        taken = rw c.push_reserved.ensures.items (zip_push _ _ _ _ _ i.1.taken (rw c.new.ensures (c.leave.ensures.of, c.leave.ensures.caller)));
+        taken =
+            rw c.push_reserved.ensures.items (zip_push _ _ _ _ _ i.1.taken (rw c.new.ensures (c.leave.ensures.of, c.leave.ensures.caller)));
         count = grind (arith, common_steps, i.1.count, c.in-Some.ensures.len, c.push_reserved.ensures.len);
         room = grind (arith, i.1.room, c.push_reserved.ensures.capacity);
-        long = (let a = i.1.long in let b = c.in-Some.ensures.items in let d = c.in-Some.ensures.len in grind (arith, common_steps, a, b, d));
+        long = (let a = i.1.long in let b = c.in-Some.ensures.items in let d = c.in-Some.ensures.len in
+            grind (arith, common_steps, a, b, d));
       },
     )

@@ -1,4 +1,5 @@
-use Rattle.{std.{proofs.Common.{◌≡◌, ◌+◌, ◌≤◌, ◌++◌, vec_len, vec_capacity, vec_items, length, List, IsSome}, specs.{Vec.Iter.{into_iter_items, into_iter_len}, List.{AllByRecursion, AllZip}}}, poll_seats.specs.declared.seat.Seat.Seat}
+use Rattle.std.proofs.Common.{◌≡◌, ◌+◌, ◌≤◌, ◌++◌, vec_len, vec_capacity, vec_items, length, List, IsSome}
+use Rattle.{std.specs.{Vec.Iter.{into_iter_items, into_iter_len}, List.{AllByRecursion, AllZip}}, poll_seats.specs.declared.seat.Seat.Seat}
 use Rattle.poll_seats.specs.SeatKeeping.{IsCallerOf}
 use Rattle.poll_seats.proofs.unseating.unseat.Given as goal
 

@@ -1,4 +1,5 @@
-use Rattle.{std.proofs.Common.refl, napi_calls.{specs.Packets.polled, proofs.Dealing.{delivers_back, delivers_before}}, poll_shared.proofs.Joined.again_made}
+use Rattle.{std.proofs.Common.refl, napi_calls.{specs.Packets.polled, proofs.Dealing.{delivers_back, delivers_before}}}
+use Rattle.poll_shared.proofs.Joined.{again_made}
 use Rattle.poll_shared.proofs.seat.complete.Goals as goal
 
 pub returns-in-Released-clause-packets : goal.returns-in-Released-clause-packets
@@ -15,4 +16,5 @@ returns-in-Again-clause-packets g c =
     let w = c.args.polling in
     let q = c.in-Again.granted.pass in
     let r = c.hand_over-caller.result.0.pass in
-    delivers_before (polled w.pass w.ctx) w.pass q r (delivers_back w.pass q w.ctx c.in-Again.ensures.packets c.in-Again.ensures.events.2.seat.number) c.hand_over-caller.ensures.packets
+    delivers_before (polled w.pass w.ctx) w.pass q r
+    (delivers_back w.pass q w.ctx c.in-Again.ensures.packets c.in-Again.ensures.events.2.seat.number) c.hand_over-caller.ensures.packets

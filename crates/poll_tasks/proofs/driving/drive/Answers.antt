@@ -5,4 +5,12 @@ pub scoped-requires : goal.scoped-requires
 scoped-requires g c =
     let r = c.requires in
     let b = c.type_bounds in
-    record { at = λ s. (r.poller, (r.workers, (r.threads, (r.beside, (search rules, search rules, search rules, search rules, search rules, search rules, search rules))))) }
+    record {
+      at = λ s. (
+        r.poller,
+        (
+          r.workers,
+          (r.threads, (r.beside, (search rules, search rules, search rules, search rules, search rules, search rules, search rules))),
+        ),
+      );
+    }

@@ -1,4 +1,5 @@
-use Rattle.{std.{proofs.Common.{◌≡◌, ◌+◌, ◌≤◌, ◌++◌, length, vec_len, vec_capacity, vec_items}, specs.{Vec.Iter.{into_iter_items, into_iter_len}, List.AllZip}}, poll_tasks.specs.Tasks.IsBegun}
+use Rattle.std.proofs.Common.{◌≡◌, ◌+◌, ◌≤◌, ◌++◌, length, vec_len, vec_capacity, vec_items}
+use Rattle.{std.specs.{Vec.Iter.{into_iter_items, into_iter_len}, List.AllZip}, poll_tasks.specs.Tasks.IsBegun}
 use Rattle.poll_tasks.proofs.tasks.end_all.Given as goal
 
 abbrev pub invariant-loop-one : goal.invariant-loop-one

@@ -1,4 +1,6 @@
-use Rattle.{std.proofs.{Common.{rules, arith}, lemmas.Grind.common_steps}, poll_tasks.proofs.Zips.zip_long, poll_workers.proofs.RunFacts.{all_can_poll, all_can_work, all_done_at, all_pollers_at, all_there, all_threads_at, all_turned, all_worked}}
+use Rattle.{std.proofs.{Common.{rules, arith}, lemmas.Grind.common_steps}, poll_tasks.proofs.Zips.zip_long}
+use Rattle.poll_workers.proofs.RunFacts.{all_can_poll, all_can_work, all_done_at, all_pollers_at, all_there, all_threads_at, all_turned}
+use Rattle.poll_workers.proofs.RunFacts.{all_worked}
 use Rattle.poll_workers.proofs.crew.run_threads.Goals as goal
 
 pub drive-driven-requires-clause-workers : goal.drive-driven-requires-clause-workers
@@ -23,7 +25,8 @@ drive-driven-requires-clause-threads g c κs within =
     }
 
 pub unseat-requires-clause-there : goal.unseat-requires-clause-there
-unseat-requires-clause-there g c = all_there _ _ _ c.spread-jobs.ensures.seat_places (rw (← c.open.ensures, c.new.ensures) at c.drive-driven.ensures.polled.same)
+unseat-requires-clause-there g c =
+    all_there _ _ _ c.spread-jobs.ensures.seat_places (rw (← c.open.ensures, c.new.ensures) at c.drive-driven.ensures.polled.same)
 
 pub unseat-requires-clause-room : goal.unseat-requires-clause-room
 unseat-requires-clause-room g c =
@@ -37,7 +40,8 @@ pub returns-clause-worked : goal.returns-clause-worked
 returns-clause-worked g c = all_worked _ _ _ _ _ _ c.spread-jobs.ensures.jobs c.drive-driven.ensures.worked
 
 pub returns-clause-dones : goal.returns-clause-dones
-returns-clause-dones g c = all_done_at _ _ _ _ _ _ _ c.requires.sides c.spread-jobs.ensures.jobs c.spread-jobs.ensures.job_places c.drive-driven.ensures.worked
+returns-clause-dones g c =
+    all_done_at _ _ _ _ _ _ _ c.requires.sides c.spread-jobs.ensures.jobs c.spread-jobs.ensures.job_places c.drive-driven.ensures.worked
 
 pub returns-clause-pollers : goal.returns-clause-pollers
 returns-clause-pollers g c =
@@ -51,7 +55,8 @@ pub returns-clause-len : goal.returns-clause-len
 returns-clause-len g c =
     let a = zip_long _ _ _ c.spread-jobs.ensures.jobs in
     let b = zip_long _ _ _ c.drive-driven.ensures.worked in
-    first_of (grind (arith, common_steps, a, b) steps 10000000, grind (arith, a, b) steps 10000000, grind (arith, common_steps, a, b) steps 1000000)
+    first_of
+    (grind (arith, common_steps, a, b) steps 10000000, grind (arith, a, b) steps 10000000, grind (arith, common_steps, a, b) steps 1000000)
 
 pub returns-clause-polled : goal.returns-clause-polled
 returns-clause-polled g c polled =

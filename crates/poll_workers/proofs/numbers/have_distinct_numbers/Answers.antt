@@ -5,6 +5,7 @@ pub loop-preserved : goal.loop-preserved
 loop-preserved g c =
     let parts = c.in-Some.ensures.cases in
     record {
-      same = c.loop.invariant.same ∙ ap (λ stations. have_distinct_numbers stations) parts.0 ∙ rw (sym c.is_among.ensures ∙ c.if-is_among.false) refl;
+      same = c.loop.invariant.same ∙ ap (λ stations. have_distinct_numbers stations) parts.0
+          ∙ rw (sym c.is_among.ensures ∙ c.if-is_among.false) refl;
       left = omega (arith, parts.1, c.loop.invariant.left);
     }

@@ -1,4 +1,5 @@
-use Rattle.{std.{proofs.{Common.{◌≡◌, ◌∷◌, ◌++◌, [], vec_items, rules, arith, refl}, lemmas.{Grind.common_steps, List.nil_from_length}}, specs.Vec.Iter.into_iter_items}, poll_tasks.proofs.Zips.{zip_push, before_more}}
+use Rattle.std.proofs.{Common.{◌≡◌, ◌∷◌, ◌++◌, [], vec_items, rules, arith, refl}, lemmas.{Grind.common_steps, List.nil_from_length}}
+use Rattle.{std.specs.Vec.Iter.into_iter_items, poll_tasks.proofs.Zips.{zip_push, before_more}}
 use Rattle.poll_tasks.proofs.ListFacts.{none_left, zip_empty}
 use Rattle.poll_workers.proofs.spreading.spread.Goals as goal
 
@@ -60,48 +61,55 @@ loop-rest-preserved g c =
         room = grind (arith, now.room, c.push_reserved.ensures.capacity);
         as_room = grind (arith, now.as_room, c.push_reserved-in-Some.ensures.capacity);
         side_room = grind (arith, now.side_room, c.push_reserved-in-Some-2.ensures.capacity);
-        long = (let a = now.long in let b = c.in-Some.ensures.items in let d = c.in-Some.ensures.len in grind (arith, common_steps, a, b, d));
+        long = (let a = now.long in let b = c.in-Some.ensures.items in let d = c.in-Some.ensures.len in
+            grind (arith, common_steps, a, b, d));
       },
     )
 
 pub returns-clause-jobs : goal.returns-clause-jobs
 returns-clause-jobs g c =
     let now = c.loop-rest.invariant.2 in
-    let empty : into_iter_items c.loop-rest.rests ≡ [] = nil_from_length _ (grind (arith, common_steps, now.long, c.in_default.ensures.len)) in
+    let empty : into_iter_items c.loop-rest.rests ≡ [] =
+    nil_from_length _ (grind (arith, common_steps, now.long, c.in_default.ensures.len)) in
     let whole = none_left _ _ _ now.whole empty in
     rw (← whole) now.made
 
 pub returns-clause-job_places : goal.returns-clause-job_places
 returns-clause-job_places g c =
     let now = c.loop-rest.invariant.2 in
-    let empty : into_iter_items c.loop-rest.rests ≡ [] = nil_from_length _ (grind (arith, common_steps, now.long, c.in_default.ensures.len)) in
+    let empty : into_iter_items c.loop-rest.rests ≡ [] =
+    nil_from_length _ (grind (arith, common_steps, now.long, c.in_default.ensures.len)) in
     let whole = none_left _ _ _ now.all_places (zip_empty _ _ _ now.sides empty) in
     rw (← whole) now.job_places
 
 pub returns-clause-seat_places : goal.returns-clause-seat_places
 returns-clause-seat_places g c =
     let now = c.loop-rest.invariant.2 in
-    let empty : into_iter_items c.loop-rest.rests ≡ [] = nil_from_length _ (grind (arith, common_steps, now.long, c.in_default.ensures.len)) in
+    let empty : into_iter_items c.loop-rest.rests ≡ [] =
+    nil_from_length _ (grind (arith, common_steps, now.long, c.in_default.ensures.len)) in
     let whole = none_left _ _ _ now.all_places (zip_empty _ _ _ now.sides empty) in
     rw (← whole) now.seat_places
 
 pub returns-clause-seats : goal.returns-clause-seats
 returns-clause-seats g c =
     let now = c.loop-rest.invariant.2 in
-    let empty : into_iter_items c.loop-rest.rests ≡ [] = nil_from_length _ (grind (arith, common_steps, now.long, c.in_default.ensures.len)) in
+    let empty : into_iter_items c.loop-rest.rests ≡ [] =
+    nil_from_length _ (grind (arith, common_steps, now.long, c.in_default.ensures.len)) in
     let whole = none_left _ _ _ now.whole empty in
     rw (← whole) now.seats
 
 pub returns-clause-thread_places : goal.returns-clause-thread_places
 returns-clause-thread_places g c =
     let now = c.loop-rest.invariant.2 in
-    let empty : into_iter_items c.loop-rest.rests ≡ [] = nil_from_length _ (grind (arith, common_steps, now.long, c.in_default.ensures.len)) in
+    let empty : into_iter_items c.loop-rest.rests ≡ [] =
+    nil_from_length _ (grind (arith, common_steps, now.long, c.in_default.ensures.len)) in
     let whole = none_left _ _ _ now.all_places (zip_empty _ _ _ now.sides empty) in
     rw (← whole) now.thread_places
 
 pub returns-clause-threads : goal.returns-clause-threads
 returns-clause-threads g c =
     let now = c.loop-rest.invariant.2 in
-    let empty : into_iter_items c.loop-rest.rests ≡ [] = nil_from_length _ (grind (arith, common_steps, now.long, c.in_default.ensures.len)) in
+    let empty : into_iter_items c.loop-rest.rests ≡ [] =
+    nil_from_length _ (grind (arith, common_steps, now.long, c.in_default.ensures.len)) in
     let whole = none_left _ _ _ now.whole empty in
     rw (← whole) now.threads

@@ -1,5 +1,7 @@
-use Rattle.{std.{proofs.Common.{◌≡◌, ◌+◌, ◌≤◌, ◌++◌, vec_len, vec_capacity, vec_items, length, List}, specs.{Vec.Iter.{into_iter_items, into_iter_len}, List.AllZip}}, napi_calls.specs.declared.kept.Kept.Kept}
-use Rattle.{poll_interrupts.specs.{declared.opening.{Loose.Loose, Placed.Placed}, Opens.IsKeptSideOf}, poll_workers.specs.Spreads.{IsJobAt, IsKeptJobOf, IsKeptSeatFor, IsKeptThreadFor, IsSeatAt, IsThreadAt}}
+use Rattle.std.proofs.Common.{◌≡◌, ◌+◌, ◌≤◌, ◌++◌, vec_len, vec_capacity, vec_items, length, List}
+use Rattle.{std.specs.{Vec.Iter.{into_iter_items, into_iter_len}, List.AllZip}, napi_calls.specs.declared.kept.Kept.Kept}
+use Rattle.poll_interrupts.specs.{declared.opening.{Loose.Loose, Placed.Placed}, Opens.IsKeptSideOf}
+use Rattle.poll_workers.specs.Spreads.{IsJobAt, IsKeptJobOf, IsKeptSeatFor, IsKeptThreadFor, IsSeatAt, IsThreadAt}
 use Rattle.poll_workers.proofs.spreading.spread.Given as goal
 
 abbrev pub invariant-loop-rest : goal.invariant-loop-rest

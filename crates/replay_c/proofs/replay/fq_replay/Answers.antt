@@ -1,4 +1,5 @@
-use Rattle.{std.proofs.Common.{◌≡◌, ◌<◌, ℕ, List, Ok, length, sym, ap, subst, arith, ◌∙◌}, replay_rows.specs.Answer.replay_of, replay_c.proofs.Outside.theirs}
+use Rattle.{std.proofs.Common.{◌≡◌, ◌<◌, ℕ, List, Ok, length, sym, ap, subst, arith, ◌∙◌}, replay_rows.specs.Answer.replay_of}
+use Rattle.replay_c.proofs.Outside.{theirs}
 use Rattle.replay_c.proofs.replay.fq_replay.Goals as goal
 
 pub returns-in-Ok-report_of-clause-written : goal.returns-in-Ok-report_of-clause-written
@@ -19,5 +20,13 @@ returns-in-Ok-report_of-clause-no_room c = λ no.
     )
 
 pub returns-in-Err-report_of-clause-fault : goal.returns-in-Err-report_of-clause-fault
-returns-in-Err-report_of-clause-fault c = λ bad.
-    (c.in-Err-report_of.fault, (c.in-Ok.asked, c.in-Ok.ensures.asked.0, theirs c.in-Err-report_of.fault _ c.in-Err-report_of.ensures.fault (sym c.tell.ensures.status ∙ bad)), c.tell.ensures.told bad)
+returns-in-Err-report_of-clause-fault c = λ bad. (
+  c.in-Err-report_of.fault,
+  (
+    c.in-Ok.asked,
+    c.in-Ok.ensures.asked.0,
+    theirs c.in-Err-report_of.fault _ c.in-Err-report_of.ensures.fault
+        (sym c.tell.ensures.status ∙ bad),
+  ),
+  c.tell.ensures.told bad,
+)

@@ -1,15 +1,18 @@
-use Rattle.{std.proofs.Common.{◌≡◌, ◌∙◌, ◌++◌, ◌-◌, ℕ, List, length, take, drop, sym, ap, append_assoc, take-append-drop, rules, arith}, std.proofs.lemmas.List.take_rest, replay_text.proofs.OutFacts.{cut_behind, none_more, then_kept, then_more}}
+use Rattle.std.proofs.Common.{◌≡◌, ◌∙◌, ◌++◌, ◌-◌, ℕ, List, length, take, drop, sym, ap, append_assoc, take-append-drop, rules, arith}
+use Rattle.{std.proofs.lemmas.List.take_rest, replay_text.proofs.OutFacts.{cut_behind, none_more, then_kept, then_more}}
 use Rattle.replay_text.proofs.lines.write_out.Goals.{in-Err, in-Ok+else-count-eq0}
 use Rattle.replay_text.proofs.lines.write_out.Goals as goal
 
 moves_front : (all done rest : List ℕ) (n : ℕ) → all ≡ done ++ rest → all ≡ (done ++ take n rest) ++ take (length rest - n) (drop n rest)
 moves_front all done rest n e =
-    e ∙ ap (λ l. done ++ l) (sym (take-append-drop n rest)) ∙ sym (append_assoc done (take n rest) (drop n rest)) ∙ ap (λ l. (done ++ take n rest) ++ l) (sym (take_rest rest n))
+    e ∙ ap (λ l. done ++ l) (sym (take-append-drop n rest)) ∙ sym (append_assoc done (take n rest) (drop n rest))
+    ∙ ap (λ l. (done ++ take n rest) ++ l) (sym (take_rest rest n))
 
 pub returns-then-count-eq0-clause-cut : goal.returns-then-count-eq0-clause-cut
 returns-then-count-eq0-clause-cut g c =
     let (done, split, appended) = c.loop.invariant in
-    λ e. cut_behind _ _ _ done c.loop.rest.now split (search rules) (none_more _ _ _ done c.loop.rest.now c.in-Ok.count (omega arith) appended c.in-Ok.ensures.bytes)
+    λ e. cut_behind _ _ _ done c.loop.rest.now split (search rules)
+    (none_more _ _ _ done c.loop.rest.now c.in-Ok.count (omega arith) appended c.in-Ok.ensures.bytes)
 
 pub returns-in-Err-2-clause-cut : goal.returns-in-Err-2-clause-cut
 returns-in-Err-2-clause-cut g c =

@@ -3,4 +3,5 @@ use Rattle.{std.proofs.Common.{◌≡◌, ℕ, List, ◌++◌}, std.specs.Io.Kno
 use Rattle.replay_text.proofs.lines.write_out.Given as goal
 
 abbrev pub invariant-loop : goal.invariant-loop
-invariant-loop g l = (done : List ℕ) × (l.bytes ≡ done ++ l.rest) × Appends (g.W.Write.contents l.initial.writer) (g.W.Write.contents l.writer) done
+invariant-loop g l =
+    (done : List ℕ) × (l.bytes ≡ done ++ l.rest) × Appends (g.W.Write.contents l.initial.writer) (g.W.Write.contents l.writer) done

@@ -1,20 +1,25 @@
-use Rattle.{std.{proofs.Common.{◌≡◌, ◌∙◌, ap, false, map, sym, true≢false}, specs.List.{list_any}}, clap.specs.{Words.app_of, declared.error.kind.ErrorKind.TheVariants.OutOfMemory}}
-use Rattle.{clap.specs.contracts.error.kind.ErrorKind.the_type, replay_words.{specs.Given.is_stray, proofs.ClapFacts.{none-given, read_err, read_is_given, read_ok, stray_is_refused}}}
+use Rattle.std.{proofs.Common.{◌≡◌, ◌∙◌, ap, false, map, sym, true≢false}, specs.List.list_any}
+use Rattle.clap.specs.{Words.app_of, declared.error.kind.ErrorKind.TheVariants.OutOfMemory}
+use Rattle.clap.specs.contracts.error.kind.ErrorKind.{the_type}
+use Rattle.replay_words.{specs.Given.is_stray, proofs.ClapFacts.{none-given, read_err, read_is_given, read_ok, stray_is_refused}}
 use denote.Enum.Bare.{sameb}
 use Rattle.replay_words.proofs.options.read_options.Goals as goal
 
 pub returns-then-has_stray-clause-usage : goal.returns-then-has_stray-clause-usage
-returns-then-has_stray-clause-usage c = λ _ rest same. stray_is_refused _ rest (ap (list_any is_stray) (sym same) ∙ sym c.has_stray.ensures ∙ c.if-has_stray.true)
+returns-then-has_stray-clause-usage c =
+    λ _ rest same. stray_is_refused _ rest (ap (list_any is_stray) (sym same) ∙ sym c.has_stray.ensures ∙ c.if-has_stray.true)
 
 pub returns-in-Ok-clause-given : goal.returns-in-Ok-clause-given
 returns-in-Ok-clause-given c = λ rest same.
     let plain : list_any is_stray rest ≡ false = ap (list_any is_stray) (sym same) ∙ sym c.has_stray.ensures ∙ c.if-has_stray.false in
     sym (read_is_given (map (λ s. s.now) c.args.names.now) rest plain)
-    ∙ read_ok (map (λ s. s.now) c.args.names.now) (app_of c.in_ok-tool.field-0) _ rest _ c.in_ok-tool.ensures same c.in-Ok.ensures.kinds (λ e. (c.in-Ok.ensures.matches e).0)
+    ∙ read_ok (map (λ s. s.now) c.args.names.now) (app_of c.in_ok-tool.field-0) _ rest _ c.in_ok-tool.ensures same c.in-Ok.ensures.kinds
+    (λ e. (c.in-Ok.ensures.matches e).0)
 
 pub returns-clause-usage : goal.returns-clause-usage
 returns-clause-usage c = λ _ rest same.
     let plain : list_any is_stray rest ≡ false = ap (list_any is_stray) (sym same) ∙ sym c.has_stray.ensures ∙ c.if-has_stray.false in
     none-given _ (sym (read_is_given (map (λ s. s.now) c.args.names.now) rest plain)
-    ∙ read_err (map (λ s. s.now) c.args.names.now) (app_of c.in_ok-tool.field-0) _ rest c.in-Err.error c.in_ok-tool.ensures same c.in-Err.ensures.kinds
+    ∙ read_err (map (λ s. s.now) c.args.names.now)
+    (app_of c.in_ok-tool.field-0) _ rest c.in-Err.error c.in_ok-tool.ensures same c.in-Err.ensures.kinds
     (λ e. true≢false (sym (ap (λ k. sameb the_type k OutOfMemory) (c.kind.ensures ∙ e)) ∙ sym c.eq.ensures ∙ c.if-eq.false)))

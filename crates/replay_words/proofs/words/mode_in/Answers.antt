@@ -6,4 +6,5 @@ pub returns-in-None : goal.returns-in-None
 returns-in-None c = ap (or_usual Serial mode_of) (c.in-None.ensures ∙ first_value-rows (found_of c.args.matches.now) (codes "mode"))
 
 pub returns-in-Some : goal.returns-in-Some
-returns-in-Some c = c.mode_of.ensures ∙ ap (or_usual Serial mode_of) (c.in-Some.ensures ∙ first_value-rows (found_of c.args.matches.now) (codes "mode"))
+returns-in-Some c =
+    c.mode_of.ensures ∙ ap (or_usual Serial mode_of) (c.in-Some.ensures ∙ first_value-rows (found_of c.args.matches.now) (codes "mode"))

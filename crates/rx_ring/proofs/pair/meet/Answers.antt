@@ -1,4 +1,5 @@
-use Rattle.{std.proofs.Common.{◌≡◌, ◌++◌, List, length, refl, sym, ap, ◌∙◌, arith, length-append}, rtrb.specs.Ring.{sent, received, known_items}, rx_ring.{specs.declared.packet.Packet.Packet, proofs.Places.known_all}}
+use Rattle.std.proofs.Common.{◌≡◌, ◌++◌, List, length, refl, sym, ap, ◌∙◌, arith, length-append}
+use Rattle.{rtrb.specs.Ring.{sent, received, known_items}, rx_ring.{specs.declared.packet.Packet.Packet, proofs.Places.known_all}}
 use lib.ListN.{length-drop}
 use Rattle.rx_ring.proofs.pair.meet.Goals as goal
 
@@ -21,7 +22,19 @@ returns c =
       same_lists = λ i. record { put = put i; received = got i };
       order = (known_items c.slots_beside-2.new.self, fifo);
       known = known_all _ _ _ fifo;
-      free = omega (arith, held, whole, sum, free.all_free, free.value, known.producer.2, ap length free.looked.1, ap length free.consumer.1, a.1);
+      free = omega (
+        arith,
+        held,
+        whole,
+        sum,
+        free.all_free,
+        free.value,
+        known.producer.2,
+        ap length free.looked.1,
+        ap length
+            free.consumer.1,
+        a.1,
+      );
       polls = refl;
       marked = refl;
     }

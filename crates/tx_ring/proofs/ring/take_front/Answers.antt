@@ -3,7 +3,8 @@ use Rattle.tx_ring.proofs.ring.take_front.Goals as goal
 
 pub loop-preserved : goal.loop-preserved
 loop-preserved c =
-    let first : c.in-Some.size + sum (drop 1 c.loop.sizes.items) ≡ sum c.loop.sizes.items = sum_front c.loop.sizes.items c.in-Some.size c.in-Some.ensures.value in
+    let first : c.in-Some.size + sum (drop 1 c.loop.sizes.items) ≡ sum c.loop.sizes.items =
+    sum_front c.loop.sizes.items c.in-Some.size c.in-Some.ensures.value in
     let items : c.pop_front.new.self.items ≡ drop 1 c.loop.sizes.items = ap (λ b. b.items) c.in-Some.ensures.items in
     let rest : sum c.pop_front.new.self.items ≡ sum (drop 1 c.loop.sizes.items) = ap sum items in
     let parts = c.loop.invariant.parts in

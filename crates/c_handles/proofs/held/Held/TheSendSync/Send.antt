@@ -1,8 +1,10 @@
 -- A held value may cross threads, as what it leads to may.
 use mir.Raw.{raw}
 use base.Shift.{Keyless}
-use denote.{Memory.lone, RawPtr.Ptr, Struct.{Struct.exits_of, Owning.{shape, fields, to}}, Param.Send.{IsSend, AllSend, owning_send, struct_send, sendable}}
-use Rattle.{std.specs.{Prelude.{Option, Some, None}, Global.Global}, std_alloc.proofs.SendSync.{quiet, lies}, c_handles.{proofs.body.Body.TheSendSync.the_send as body, specs.{Held.held_owns, contracts.held.Held.{the_row, the_type}}}}
+use denote.{Memory.lone, RawPtr.Ptr, Struct.{Struct.exits_of, Owning.{shape, fields, to}}}
+use denote.Param.Send.{IsSend, AllSend, owning_send, struct_send, sendable}
+use Rattle.{std.specs.{Prelude.{Option, Some, None}, Global.Global}, std_alloc.proofs.SendSync.{quiet, lies}}
+use Rattle.c_handles.{proofs.body.Body.TheSendSync.the_send as body, specs.{Held.held_owns, contracts.held.Held.{the_row, the_type}}}
 use Rattle.std.proofs.Crossing as heap
 use Rattle.std_heap.proofs.Global.TheSendSync as handle
 use Rattle.c_handles.specs.contracts.body.Body as Body

@@ -4,12 +4,17 @@ use seplogic.Ra.Ura.{Ura}
 use mir.Val.{Val, vstruct, vcons, vnil, has_ty}
 use base.{Logic.{SProp, ent, emp, id⊢}, Fml.{ftrue, fsep}}
 use prog.{Memory.Memory, Routine.Routine, Wp.{WpFn, Tables}}
-use types.{Logic.Logic, Kit.{Item, ‵, raw, ◌⊛◌, ◌$◌, ◌∵◌, !, qed, by, move, keep, drop, use1, join, split, fsplit, fjoin, fpack, feq_i, suffices, done}, Part.agg, Run.{lit, no_more, and_then, returns, enter}}
+use types.Logic.{Logic}
+use types.Kit.{Item, ‵, raw, ◌⊛◌, ◌$◌, ◌∵◌, !, qed, by, move, keep, drop, use1, join, split, fsplit, fjoin, fpack, feq_i, suffices, done}
+use types.{Part.agg, Run.{lit, no_more, and_then, returns, enter}}
 use types.ByLocal.{alloc_all, pass_all, free_all, look_at, get, sets}
 use contract.{Monad.Fun, Running.{tables, tables_of}}
 use sound.WpLaws.{WpFn-mono}
-use Rattle.{std.{proofs.{Common.lit<, alloc.Calls.{α, handle_tells}}, specs.Prelude.None}, std_alloc.proofs.{ResultValues.and_tt, BoxSteps.Form.handle}, c_handles.{proofs.AsBox.E, specs.contracts.held.Held.none.Key.name as #self}}
-use denote.{Exit.yes, RattleType.Valss, RawPtr.{RawPtr, null_ptr, ptr_val}, Signature.{Slot, plain, type_at}, Steps.nothing, Struct.{Struct.within, Owning.{shape, to}}, Triple.{Spec.triple_of, Table.entered}}
+use Rattle.std.{proofs.{Common.lit<, alloc.Calls.{α, handle_tells}}, specs.Prelude.None}
+use Rattle.std_alloc.proofs.{ResultValues.and_tt, BoxSteps.Form.handle}
+use Rattle.c_handles.{proofs.AsBox.E, specs.contracts.held.Held.none.Key.name as #self}
+use denote.{Exit.yes, RattleType.Valss, RawPtr.{RawPtr, null_ptr, ptr_val}, Signature.{Slot, plain, type_at}, Steps.nothing}
+use denote.{Struct.{Struct.within, Owning.{shape, to}}, Triple.{Spec.triple_of, Table.entered}}
 use denote.Triple.Walked.{says, Stays, stay_dropped, walk_of, ends_at, Goes-dropped, walk_Meets}
 use Rattle.std_heap.specs.contracts.Global as Heap
 use Rattle.c_handles.specs.contracts.held.Held as Held
@@ -27,7 +32,8 @@ module _ {M : Type 1} {𝓤 : Ura M} (𝓛 : Logic 𝓤) (at_mem : Memory → SP
   open 𝓛 use {H}
 
   walk : (z : (walk_of 𝓛 F.ended stayed (F.clauses 𝓛 at_mem run)).Ghost)
-      → ent 𝓤 ((walk_of 𝓛 F.ended stayed (F.clauses 𝓛 at_mem run)).pre z) (WpFn 𝓤 H 𝓣.C 𝓣.Λ code.function (z.0.4.0 ++ []) ((walk_of 𝓛 F.ended stayed (F.clauses 𝓛 at_mem run)).post z))
+      → ent 𝓤 ((walk_of 𝓛 F.ended stayed (F.clauses 𝓛 at_mem run)).pre z)
+      (WpFn 𝓤 H 𝓣.C 𝓣.Λ code.function (z.0.4.0 ++ []) ((walk_of 𝓛 F.ended stayed (F.clauses 𝓛 at_mem run)).post z))
   walk z =
       let Post = (walk_of 𝓛 F.ended stayed (F.clauses 𝓛 at_mem run)).post z in
       let a = z.0.3.0 in
@@ -39,10 +45,13 @@ module _ {M : Type 1} {𝓤 : Ura M} (𝓛 : Logic 𝓤) (at_mem : Memory → SP
       let Γ : List (Item 𝓤) = ‵ (handle E a hv) ∷ [] in
       by ! (subst (λ (us : List Val). ent 𝓤 (types.Kit.⋆ 𝓛 Γ) (WpFn 𝓤 H 𝓣.C 𝓣.Λ code.function (us ++ []) Post)) (sym ea)
       (qed 𝓛 Γ ∵ enter ! 𝓣.C 𝓣.Λ code.function (hv ∷ []) _ $ alloc_all ! (λ ls. pass_all ! refl (fa, tt) $
-      sets ! (agg ! (and_then ! (lit ! tt) (and_then ! (get ! refl) (no_more !)))) refl (and_tt (has_ty (α E.al) hv) fa.0, (record { fits = lit< tt }, (fa.1, tt))) $ returns ! (look_at ! 0 refl) $ free_all ! refl $
-      nothing ! $ nothing ! $ move ! (2 ∷ 0 ∷ []) $ fjoin ! $ feq_i ! (List Val) (ptr_val null_ptr ∷ []) (ptr_val null_ptr ∷ []) refl $ fjoin ! $
+      sets ! (agg ! (and_then ! (lit ! tt) (and_then ! (get ! refl) (no_more !)))) refl
+      (and_tt (has_ty (α E.al) hv) fa.0, (record { fits = lit< tt }, (fa.1, tt))) $ returns ! (look_at ! 0 refl) $ free_all ! refl $
+      nothing ! $ nothing ! $ move ! (2 ∷ 0 ∷ []) $ fjoin ! $ feq_i ! (List Val) (ptr_val null_ptr ∷ []) (ptr_val null_ptr ∷ []) refl
+      $ fjoin ! $
       feq_i ! (List Val) (w ∷ []) (w ∷ []) refl $ fjoin ! $
-      fpack ! (Valss (RawPtr ∷ Heap.the_row ∷ [])) (within (shape Held.the_type) (to Held.the_type made) (w ∷ [])) (ptr_val null_ptr ∷ [], (hv ∷ [], tt)) $ fjoin ! $
+      fpack ! (Valss (RawPtr ∷ Heap.the_row ∷ [])) (within (shape Held.the_type) (to Held.the_type made) (w ∷ []))
+      (ptr_val null_ptr ∷ [], (hv ∷ [], tt)) $ fjoin ! $
       use1 𝓛 (‵ (To.own_val made (w ∷ []))) (id⊢ 𝓤 _) $
       suffices ! _ (ends_at 𝓛 F.ended stayed (F.clauses 𝓛 at_mem run) z w made (tt, tt) (tt, tt)) $ says ! refl $
       nothing ! $ nothing ! $ fjoin ! $ join ! $ nothing ! $ join ! $ done !))))
@@ -52,5 +61,6 @@ unfolding tables_of
 none_spec 𝓤 𝓛 𝓜 𝓡 wired =
     let 𝓣 : Tables 𝓤 𝓛.H = tables_of 𝓤 𝓛.H 𝓜 (tables 𝓤 𝓛.H 𝓜 𝓡 𝓡.env) in
     entered 𝓤 𝓛.H (triple_of 𝓛 F.signature (F.spec 𝓛 𝓜.mem 𝓡.returns)) 𝓣.C 𝓣.Λ #self code.function (code.unfolded 𝓤 𝓛.H 𝓜 𝓡 wired)
-    (walk_Meets 𝓛 F.ended stayed (Goes-dropped 𝓛 0 From yes (λ κs x f. refl), tt) (F.clauses 𝓛 𝓜.mem 𝓡.returns) (WpFn 𝓤 𝓛.H 𝓣.C 𝓣.Λ code.function) (WpFn-mono 𝓤 𝓛.H 𝓛.laws 𝓣 code.function)
+    (walk_Meets 𝓛 F.ended stayed (Goes-dropped 𝓛 0 From yes (λ κs x f. refl), tt) (F.clauses 𝓛 𝓜.mem 𝓡.returns)
+    (WpFn 𝓤 𝓛.H 𝓣.C 𝓣.Λ code.function) (WpFn-mono 𝓤 𝓛.H 𝓛.laws 𝓣 code.function)
     (walk 𝓛 𝓜.mem 𝓡.returns 𝓣))

@@ -1,4 +1,6 @@
-use Rattle.{std.proofs.Common.{◌≡◌, ◌∙◌, ◌<◌, Some, None, ap, length, refl, sym, arith}, device_rows.{specs.Places.{at}, proofs.PlaceFacts.{at-index, none-of}}, device_bench.proofs.{BenchFacts.kept-opened, Waiting.waiting-added}}
+use Rattle.std.proofs.Common.{◌≡◌, ◌∙◌, ◌<◌, Some, None, ap, length, refl, sym, arith}
+use Rattle.device_rows.{specs.Places.at, proofs.PlaceFacts.{at-index, none-of}}
+use Rattle.device_bench.proofs.{BenchFacts.kept-opened, Waiting.waiting-added}
 use Rattle.device_bench.specs.DeviceView.{DeviceView}
 use Rattle.device_bench.proofs.bench.DeviceBench.keep.Goals as goal
 
@@ -11,13 +13,15 @@ invariant_of-self g c =
 pub returns-clause-devices : goal.returns-clause-devices
 returns-clause-devices g c =
     let below : c.args.device < length c.args.self.now.devices.items = omega (arith, c.args.self.now.kept.places, c.requires.device.1) in
-    let here : at c.args.device c.args.self.now.devices.items ≡ None = at-index _ c.args.device _ below (sym c.index.ensures) ∙ none-of _ (sym c.is_some.ensures ∙ c.if-is_some.false) in
+    let here : at c.args.device c.args.self.now.devices.items ≡ None =
+    at-index _ c.args.device _ below (sym c.index.ensures) ∙ none-of _ (sym c.is_some.ensures ∙ c.if-is_some.false) in
     let is = c.fill.ensures ∙ ap (λ (d : DeviceView). Some d) (c.new-opened.ensures c.args.capacity c.in_ok-open.ensures) in
     rw (is, here) refl
 
 pub returns-clause-waiting : goal.returns-clause-waiting
 returns-clause-waiting g c =
     let below : c.args.device < length c.args.self.now.devices.items = omega (arith, c.args.self.now.kept.places, c.requires.device.1) in
-    let here : at c.args.device c.args.self.now.devices.items ≡ None = at-index _ c.args.device _ below (sym c.index.ensures) ∙ none-of _ (sym c.is_some.ensures ∙ c.if-is_some.false) in
+    let here : at c.args.device c.args.self.now.devices.items ≡ None =
+    at-index _ c.args.device _ below (sym c.index.ensures) ∙ none-of _ (sym c.is_some.ensures ∙ c.if-is_some.false) in
     let is = c.fill.ensures ∙ ap (λ (d : DeviceView). Some d) (c.new-opened.ensures c.args.capacity c.in_ok-open.ensures) in
     rw is (waiting-added c.args.self.now.devices.items c.args.device c.args.capacity below here)

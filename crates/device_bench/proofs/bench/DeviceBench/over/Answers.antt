@@ -1,4 +1,5 @@
-use Rattle.{std.proofs.Common.{◌≡◌, false, subst, sym, arith}, device_bench.{specs.Kept.IsKept, proofs.BenchFacts.kept-empty}, device_rows.specs.Places.empty}
+use Rattle.{std.proofs.Common.{◌≡◌, false, subst, sym, arith}, device_bench.{specs.Kept.IsKept, proofs.BenchFacts.kept-empty}}
+use Rattle.device_rows.specs.Places.{empty}
 use Rattle.device_bench.proofs.bench.DeviceBench.over.Goals as goal
 
 pub invariant_of-result : goal.invariant_of-result

@@ -1,5 +1,8 @@
-use Rattle.{std.proofs.Common.{◌≡◌, ◌∙◌, Some, ap, refl, sym, arith}, device_bench.{specs.{Device.is_pending, Kept.is_sound}, proofs.{BenchFacts.{kept-changed, sound-at}, DeviceFacts.once-keeps}}, device_rows.specs.Places.at}
-use Rattle.{device_rows.proofs.PlaceFacts.at-index, std.specs.Prelude.is_some, device_bench.proofs.{SideFacts.sides-set, Waiting.waiting-less}}
+use Rattle.std.proofs.Common.{◌≡◌, ◌∙◌, Some, ap, refl, sym, arith}
+use Rattle.device_bench.{specs.{Device.is_pending, Kept.is_sound}, proofs.{BenchFacts.{kept-changed, sound-at}, DeviceFacts.once-keeps}}
+use Rattle.device_rows.specs.Places.{at}
+use Rattle.{device_rows.proofs.PlaceFacts.at-index, std.specs.Prelude.is_some}
+use Rattle.device_bench.proofs.{SideFacts.sides-set, Waiting.waiting-less}
 use Rattle.device_bench.proofs.bench.DeviceBenchBench.poll_once.Goals as goal
 
 pub invariant_of-self : goal.invariant_of-self
@@ -8,7 +11,8 @@ invariant_of-self g c =
     at-index _ c.args.id _ (omega (arith, c.args.self.now.kept.places)) (sym c.index_mut.ensures.value) ∙ c.in-Some.is in
     let keeps = once-keeps c.args.weight c.in-Some.device (sound-at _ _ c.args.id _ c.args.self.now.kept here) in
     record {
-      kept = kept-changed _ _ c.args.id c.in-Some.device _ c.args.self.now.kept here (ap is_sound c.poll_once.ensures.device ∙ keeps.sound) (ap is_pending c.poll_once.ensures.device ∙ keeps.pending);
+      kept = kept-changed _ _ c.args.id c.in-Some.device _ c.args.self.now.kept here (ap is_sound c.poll_once.ensures.device ∙ keeps.sound)
+          (ap is_pending c.poll_once.ensures.device ∙ keeps.pending);
     }
 
 pub returns-in-Some-clause-leads : goal.returns-in-Some-clause-leads

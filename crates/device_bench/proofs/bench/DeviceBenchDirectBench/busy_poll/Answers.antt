@@ -1,5 +1,8 @@
-use Rattle.{std.proofs.Common.{◌≡◌, ◌∙◌, Some, ap, refl, sym, arith}, device_bench.{specs.{Device.is_pending, Kept.is_sound}, proofs.{BenchFacts.{kept-changed, sound-at}, BusyFacts.busy-keeps}}, device_rows.specs.Places.at}
-use Rattle.{device_rows.proofs.PlaceFacts.at-index, std.specs.Prelude.is_some, device_bench.proofs.{SideFacts.sides-set, Waiting.waiting-more}}
+use Rattle.std.proofs.Common.{◌≡◌, ◌∙◌, Some, ap, refl, sym, arith}
+use Rattle.device_bench.{specs.{Device.is_pending, Kept.is_sound}, proofs.{BenchFacts.{kept-changed, sound-at}, BusyFacts.busy-keeps}}
+use Rattle.device_rows.specs.Places.{at}
+use Rattle.{device_rows.proofs.PlaceFacts.at-index, std.specs.Prelude.is_some}
+use Rattle.device_bench.proofs.{SideFacts.sides-set, Waiting.waiting-more}
 use Rattle.device_bench.proofs.bench.DeviceBenchDirectBench.busy_poll.Goals as goal
 
 pub invariant_of-self : goal.invariant_of-self
@@ -8,7 +11,8 @@ invariant_of-self g c =
     at-index _ c.args.id _ (omega (arith, c.args.self.now.kept.places)) (sym c.index_mut.ensures.value) ∙ c.in-Some.is in
     let keeps = busy-keeps c.args.rounds c.args.weight c.in-Some.device (sound-at _ _ c.args.id _ c.args.self.now.kept here) in
     record {
-      kept = kept-changed _ _ c.args.id c.in-Some.device _ c.args.self.now.kept here (ap is_sound c.busy_poll.ensures.device ∙ keeps.sound) (ap is_pending c.busy_poll.ensures.device ∙ keeps.pending);
+      kept = kept-changed _ _ c.args.id c.in-Some.device _ c.args.self.now.kept here (ap is_sound c.busy_poll.ensures.device ∙ keeps.sound)
+          (ap is_pending c.busy_poll.ensures.device ∙ keeps.pending);
     }
 
 pub returns-in-Some : goal.returns-in-Some
@@ -20,6 +24,8 @@ returns-in-Some g c =
       leads = record {
         exact = (rw (here, c.busy_poll.ensures.report) refl, rw (here, c.busy_poll.ensures.device) refl);
         transmits = λ all shown. record { sides = shown.sides; each = sides-set _ all c.args.id _ (ap is_some (sym here)) shown.each };
-        waits = waiting-more c.args.self.now.devices.items c.args.id _ c.in-Some.device c.busy_poll.new.self here (rw (c.busy_poll.ensures.device, c.busy_poll.ensures.report) keeps.listed);
+        waits =
+            waiting-more c.args.self.now.devices.items c.args.id _ c.in-Some.device c.busy_poll.new.self here
+            (rw (c.busy_poll.ensures.device, c.busy_poll.ensures.report) keeps.listed);
       };
     }

@@ -1,5 +1,7 @@
-use Rattle.{std.proofs.Common.{rules, ◌≡◌, ◌∙◌, ◌<◌, Some, [], ap, length, slice_set, refl, sym, arith}, device_bench.specs.{Device.{is_pending, polled_by_thread}, Kept.is_sound}, device_rows.specs.Places.at}
-use Rattle.{device_bench.proofs.{BenchFacts.{kept-changed, sound-at}, DeviceFacts.thread-keeps, SideFacts.{set-back, sides-set}, Waiting.waiting-more}, device_rows.proofs.PlaceFacts.at-index, std.specs.Prelude.is_some}
+use Rattle.std.proofs.Common.{rules, ◌≡◌, ◌∙◌, ◌<◌, Some, [], ap, length, slice_set, refl, sym, arith}
+use Rattle.{device_bench.specs.{Device.{is_pending, polled_by_thread}, Kept.is_sound}, device_rows.specs.Places.at}
+use Rattle.device_bench.proofs.{BenchFacts.{kept-changed, sound-at}, DeviceFacts.thread-keeps, SideFacts.{set-back, sides-set}}
+use Rattle.{device_bench.proofs.Waiting.waiting-more, device_rows.proofs.PlaceFacts.at-index, std.specs.Prelude.is_some}
 use Rattle.device_bench.proofs.bench.DeviceBenchDirectBench.poll_thread.Goals as goal
 
 pub invariant_of-self : goal.invariant_of-self
@@ -8,7 +10,8 @@ invariant_of-self g c =
     at-index _ c.args.id _ (omega (arith, c.args.self.now.kept.places)) (sym c.index_mut.ensures.value) ∙ c.in-Some.is in
     let keeps = thread-keeps c.args.most c.args.weight c.in-Some.device (sound-at _ _ c.args.id _ c.args.self.now.kept here) in
     record {
-      kept = kept-changed _ _ c.args.id c.in-Some.device _ c.args.self.now.kept here (ap is_sound c.poll_thread.ensures.device ∙ keeps.sound) (ap is_pending c.poll_thread.ensures.device ∙ keeps.pending);
+      kept = kept-changed _ _ c.args.id c.in-Some.device _ c.args.self.now.kept here
+          (ap is_sound c.poll_thread.ensures.device ∙ keeps.sound) (ap is_pending c.poll_thread.ensures.device ∙ keeps.pending);
     }
 
 pub returns-in-Some : goal.returns-in-Some
@@ -20,7 +23,9 @@ returns-in-Some g c =
       record {
         exact = (rw here refl, rw (here, c.poll_thread.ensures.device) refl);
         transmits = λ all shown. record { sides = shown.sides; each = sides-set _ all c.args.id _ (ap is_some (sym here)) shown.each };
-        waits = waiting-more c.args.self.now.devices.items c.args.id _ c.in-Some.device c.poll_thread.new.self here (rw c.poll_thread.ensures.device keeps.listed);
+        waits =
+            waiting-more c.args.self.now.devices.items c.args.id _ c.in-Some.device c.poll_thread.new.self here
+            (rw c.poll_thread.ensures.device keeps.listed);
       },
       c.poll_thread.ensures.report,
     )
@@ -28,8 +33,10 @@ returns-in-Some g c =
 pub returns-in_default : goal.returns-in_default
 returns-in_default g c =
     let below : c.args.id < length c.args.self.now.devices.items = omega (arith, c.args.self.now.kept.places) in
-    let here : at c.args.id c.args.self.now.devices.items ≡ c.index_mut.result.now = at-index _ c.args.id _ below (sym c.index_mut.ensures.value) in
-    let back : slice_set c.args.self.now.devices.items c.args.id c.index_mut.result.now ≡ c.args.self.now.devices.items = set-back _ c.args.id _ below here in (
+    let here : at c.args.id c.args.self.now.devices.items ≡ c.index_mut.result.now =
+    at-index _ c.args.id _ below (sym c.index_mut.ensures.value) in
+    let back : slice_set c.args.self.now.devices.items c.args.id c.index_mut.result.now ≡ c.args.self.now.devices.items =
+    set-back _ c.args.id _ below here in (
       [],
       record {
         exact = (search rules, search rules);

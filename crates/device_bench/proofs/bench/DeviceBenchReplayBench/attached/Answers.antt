@@ -2,4 +2,5 @@ use Rattle.{std.proofs.Common.{◌∙◌, sym}, device_bench.proofs.SideFacts.si
 use Rattle.device_bench.proofs.bench.DeviceBenchReplayBench.attached.Goals as goal
 
 pub returns-clause-transmits : goal.returns-clause-transmits
-returns-clause-transmits g c all shown = c.taken_places.ensures ∙ sides-attached _ all (shown.sides.places ∙ sym c.args.self.now.kept.places) shown.each
+returns-clause-transmits g c all shown =
+    c.taken_places.ensures ∙ sides-attached _ all (shown.sides.places ∙ sym c.args.self.now.kept.places) shown.each

@@ -1,4 +1,7 @@
-use Rattle.{std.proofs.Common.{◌∙◌, ap, refl, sym, arith}, device_bench.{specs.Waiting.waiting, proofs.{BenchFacts.{beyond, settled-all, settled-more, settled-none, settled-off, up-to}, SideFacts.sides-settled, Waiting.waiting-settled}}}
+use Rattle.std.proofs.Common.{◌∙◌, ap, refl, sym, arith}
+use Rattle.device_bench.specs.Waiting.{waiting}
+use Rattle.device_bench.proofs.{BenchFacts.{beyond, settled-all, settled-more, settled-none, settled-off, up-to}, SideFacts.sides-settled}
+use Rattle.device_bench.proofs.Waiting.{waiting-settled}
 use Rattle.device_bench.proofs.bench.DeviceBenchReplayBench.settle.Goals.{then-settle_one, else-settle_one}
 use Rattle.device_bench.proofs.bench.DeviceBenchReplayBench.settle.Goals as goal
 
@@ -15,19 +18,24 @@ loop-device-init g c = record {
 
 pub loop-device-preserved : goal.loop-device-preserved
 loop-device-preserved g c = record {
-  devices = c.settle_one.ensures.devices ∙ settled-more c.loop-device.device _ _ (omega (arith, c.args.self.now.kept.places, c.loop-device-test.true)) c.loop-device.invariant.devices;
+  devices =
+      c.settle_one.ensures.devices ∙ settled-more c.loop-device.device _ _
+      (omega (arith, c.args.self.now.kept.places, c.loop-device-test.true)) c.loop-device.invariant.devices;
   transmits = c.settle_one.ensures.transmits ∙ c.loop-device.invariant.transmits;
   marked = c.settle_one.ensures.unsettled ∙ c.loop-device.invariant.marked;
   pending = λ off number below.
       elim c.if-settle_one.branch [
         | then-settle_one w ↦ cc (sym w.unsettled-is ∙ off)
-        | else-settle_one w ↦ up-to c.loop-device.device number c.loop-device.self.devices.items c.settle_one.new.self.devices.items c.settle_one.ensures.devices
+        | else-settle_one w ↦
+            up-to c.loop-device.device number c.loop-device.self.devices.items c.settle_one.new.self.devices.items
+            c.settle_one.ensures.devices
             (sym c.settle_one.ensures.pending ∙ w.if-settle_one.false) (c.loop-device.invariant.pending (sym w.unsettled-is ∙ off)) below
       ];
 }
 
 pub returns-clause-devices : goal.returns-clause-devices
-returns-clause-devices g c = c.loop-device.invariant.devices ∙ settled-all c.loop-device.device _ (omega (arith, c.args.self.now.kept.places, c.loop-device-test.false))
+returns-clause-devices g c = c.loop-device.invariant.devices
+    ∙ settled-all c.loop-device.device _ (omega (arith, c.args.self.now.kept.places, c.loop-device-test.false))
 
 pub invariant_of-self : goal.invariant_of-self
 invariant_of-self g c = record {
@@ -35,7 +43,9 @@ invariant_of-self g c = record {
     places = c.loop-device.self.kept.places;
     sound = c.loop-device.self.kept.sound;
     few = c.loop-device.self.kept.few;
-    settled = λ off. beyond c.loop-device.device c.loop-device.self.devices.items (omega (arith, c.loop-device.self.kept.places, c.loop-device-test.false)) (c.loop-device.invariant.pending off);
+    settled =
+        λ off. beyond c.loop-device.device c.loop-device.self.devices.items
+        (omega (arith, c.loop-device.self.kept.places, c.loop-device-test.false)) (c.loop-device.invariant.pending off);
   };
 }
 
@@ -43,4 +53,7 @@ pub returns-clause-waiting : goal.returns-clause-waiting
 returns-clause-waiting g c = ap waiting (returns-clause-devices g c) ∙ waiting-settled _ _ c.args.self.now.kept
 
 pub returns-clause-transmits : goal.returns-clause-transmits
-returns-clause-transmits g c all shown = record { sides = rw c.loop-device.invariant.transmits shown.sides; each = rw (returns-clause-devices g c) (sides-settled _ all shown.each) }
+returns-clause-transmits g c all shown = record {
+  sides = rw c.loop-device.invariant.transmits shown.sides;
+  each = rw (returns-clause-devices g c) (sides-settled _ all shown.each);
+}

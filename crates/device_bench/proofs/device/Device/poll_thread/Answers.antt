@@ -1,4 +1,5 @@
-use Rattle.{std.proofs.Common.{List, ap, subst}, poll_runs.specs.{Thread.IsThreadPolling, declared.bench.Once.Once}, device_bench.{specs.DeviceView.DeviceView, proofs.InstanceFacts.by_thread_is}}
+use Rattle.{std.proofs.Common.{List, ap, subst}, poll_runs.specs.{Thread.IsThreadPolling, declared.bench.Once.Once}}
+use Rattle.device_bench.{specs.DeviceView.DeviceView, proofs.InstanceFacts.by_thread_is}
 use Rattle.device_bench.proofs.device.Device.poll_thread.Goals as goal
 
 pub returns-clause-device : goal.returns-clause-device

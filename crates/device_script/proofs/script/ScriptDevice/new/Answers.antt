@@ -1,8 +1,11 @@
-use Rattle.{std.proofs.Common.{◌∙◌, sym, arith}, device_script.{specs.Script.is_act_of, proofs.{OpeningFacts.opened-within, Rows.filter-long}}}
+use Rattle.std.proofs.Common.{◌∙◌, sym, arith}
+use Rattle.device_script.{specs.Script.is_act_of, proofs.{OpeningFacts.opened-within, Rows.filter-long}}
 use Rattle.device_script.proofs.script.ScriptDevice.new.Goals as goal
 
 pub of-requires-clause-places : goal.of-requires-clause-places
-of-requires-clause-places c = opened-within _ c.rows-rows.result.now c.args.device c.in-Some.opening c.rows-rows.ensures.accepted (sym c.opening_of.ensures ∙ c.in-Some.is)
+of-requires-clause-places c =
+    opened-within _ c.rows-rows.result.now c.args.device c.in-Some.opening c.rows-rows.ensures.accepted
+    (sym c.opening_of.ensures ∙ c.in-Some.is)
 
 pub of-requires-clause-count : goal.of-requires-clause-count
 of-requires-clause-count c =

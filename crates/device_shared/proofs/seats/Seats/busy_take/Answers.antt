@@ -9,7 +9,8 @@ returns-in_default-clause-acts g c = ([], rw (not_on c.args.self.turn c.in_defau
 
 pub returns-in_default-posts : goal.returns-in_default-posts
 returns-in_default-posts g c = record {
-  acts = rw c.in-On.is ([], rw (not_rest c.in-On.posts c.in_default-posts.not-Rest) (refl, refl), none_turn List _ _ (rw c.in-On.is at c.requires));
+  acts = rw c.in-On.is
+      ([], rw (not_rest c.in-On.posts c.in_default-posts.not-Rest) (refl, refl), none_turn List _ _ (rw c.in-On.is at c.requires));
   role = rw c.in-On.is refl;
 }
 

@@ -10,10 +10,12 @@ returns-clause-acts g c = elim c.match-posts.branch [
       let was = c.in-On.is ∙ ap (λ (x : Posts). On x c.in-On.enabled) w.in-ListPolls.is in
       let e = w.complete-poller.ensures in
       let p = w.in-ListPolls.polling in
-      rw (w.poller-is, was) (e.made.0, e.made.2, first_turn _ _ _ _ refl (rw was at c.requires.seats) (given _ _ p.ctx e.made.1 e.packets p.has) refl refl)
+      rw (w.poller-is, was)
+      (e.made.0, e.made.2, first_turn _ _ _ _ refl (rw was at c.requires.seats) (given _ _ p.ctx e.made.1 e.packets p.has) refl refl)
   | in-ThreadPolls w ↦
       let was = c.in-On.is ∙ ap (λ (x : Posts). On x c.in-On.enabled) w.in-ThreadPolls.is in
       let e = w.complete-thread.ensures in
       let p = w.in-ThreadPolls.polling in
-      rw (w.poller-is, was) (e.made.0, e.made.2, second_turn _ _ _ _ refl (rw was at c.requires.seats) (given _ _ p.ctx e.made.1 e.packets p.has) refl refl)
+      rw (w.poller-is, was)
+      (e.made.0, e.made.2, second_turn _ _ _ _ refl (rw was at c.requires.seats) (given _ _ p.ctx e.made.1 e.packets p.has) refl refl)
 ]

@@ -10,5 +10,6 @@ returns-clause-acts g c =
     let x = c.in-Off.control.state.ctx in (
       _,
       (m.0, m.1, refl),
-      control_turn c.args.self.interrupt c.args.self.turn _ _ c.in-Off.is c.requires.seats (given _ _ x m.2 (delivers_back _ _ x e.packets m.2.seat.number) c.in-Off.control.has) refl refl,
+      control_turn c.args.self.interrupt c.args.self.turn _ _ c.in-Off.is c.requires.seats
+          (given _ _ x m.2 (delivers_back _ _ x e.packets m.2.seat.number) c.in-Off.control.has) refl refl,
     )

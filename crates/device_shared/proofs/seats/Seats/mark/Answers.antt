@@ -6,4 +6,5 @@ use Rattle.device_shared.proofs.seats.Seats.mark.Goals as goal
 pub returns-clause-acts : goal.returns-clause-acts
 returns-clause-acts c =
     let e = c.mark.ensures in
-    control_turn c.args.self.interrupt c.args.self.turn _ _ c.in-On.is c.requires.seats (quiet _ _ (ctx_at c.in-On.posts) e.made e.packets) refl refl
+    control_turn c.args.self.interrupt c.args.self.turn _ _ c.in-On.is c.requires.seats
+    (quiet _ _ (ctx_at c.in-On.posts) e.made e.packets) refl refl

@@ -11,10 +11,14 @@ returns-clause-acts c = elim c.match-posts.branch [
       let was = c.in-On.is ∙ ap (λ (x : Posts). On x c.in-On.enabled) w.in-ListPolls.is in
       let e = w.requeue.ensures in
       let p = w.in-ListPolls.polling in
-      rw (w.poller-is, was) (first_turn _ _ _ _ refl (rw was at c.requires.seats) (given _ _ p.ctx e.event (delivers_back _ _ _ e.packets e.event.seat.number) p.has) refl refl)
+      rw (w.poller-is, was)
+      (first_turn _ _ _ _ refl (rw was at c.requires.seats)
+      (given _ _ p.ctx e.event (delivers_back _ _ _ e.packets e.event.seat.number) p.has) refl refl)
   | in-ThreadPolls w ↦
       let was = c.in-On.is ∙ ap (λ (x : Posts). On x c.in-On.enabled) w.in-ThreadPolls.is in
       let e = w.requeue-in-ThreadPolls.ensures in
       let p = w.in-ThreadPolls.polling in
-      rw (w.poller-is, was) (second_turn _ _ _ _ refl (rw was at c.requires.seats) (given _ _ p.ctx e.event (delivers_back _ _ _ e.packets e.event.seat.number) p.has) refl refl)
+      rw (w.poller-is, was)
+      (second_turn _ _ _ _ refl (rw was at c.requires.seats)
+      (given _ _ p.ctx e.event (delivers_back _ _ _ e.packets e.event.seat.number) p.has) refl refl)
 ]

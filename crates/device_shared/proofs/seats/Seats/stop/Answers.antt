@@ -7,5 +7,9 @@ pub returns-clause-acts : goal.returns-clause-acts
 returns-clause-acts g c =
     let e = c.stop.ensures in
     let m = e.events in
-    let was = c.in-On.is ∙ ap (λ (x : Posts). On x c.in-On.enabled) c.in-PollsBusily.is in
-    (_, (m.0, m.1, refl), first_turn c.args.self.interrupt c.args.self.turn _ _ was c.requires.seats (held _ _ _ _ m.2 e.packets e.ctx) refl refl)
+    let was = c.in-On.is ∙ ap (λ (x : Posts). On x c.in-On.enabled) c.in-PollsBusily.is in (
+      _,
+      (m.0, m.1, refl),
+      first_turn c.args.self.interrupt c.args.self.turn _ _ was c.requires.seats
+          (held _ _ _ _ m.2 e.packets e.ctx) refl refl,
+    )

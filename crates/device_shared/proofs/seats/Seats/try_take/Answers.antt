@@ -17,7 +17,17 @@ returns-clause-acts c =
           let e = w.try_at_rest.ensures in
           let r = w.try_at_rest.result in
           let rests = was ∙ ap (λ (x : Posts). On x (Marked control)) w.in-Rest.is in
-          rw w.turn-is (e.acts.0, rw (c.in-On.is, w.in-Rest.is) e.acts.1, control_turn i t _ r.0 rests c.requires.seats (tried control.pass r.0 r.1 e.acts.2 e.packets) e.others.0 e.others.1)
+          rw w.turn-is (
+            e.acts.0,
+            rw (c.in-On.is, w.in-Rest.is) e.acts.1,
+            control_turn i t _ r.0 rests c.requires.seats
+                (tried control.pass r.0 r.1 e.acts.2 e.packets) e.others.0 e.others.1,
+          )
       | in_default-posts w ↦
-          rw w.turn-is ([], rw (c.in-On.is, not_rest posts w.in_default-posts.not-Rest) (refl, refl), control_turn i t _ _ was c.requires.seats (idle (ctx_at posts) control.controls.stands) refl refl)
+          rw w.turn-is (
+            [],
+            rw (c.in-On.is, not_rest posts w.in_default-posts.not-Rest) (refl, refl),
+            control_turn i t _ _ was c.requires.seats
+                (idle (ctx_at posts) control.controls.stands) refl refl,
+          )
     ]

@@ -1,4 +1,5 @@
-use Rattle.{std.proofs.Common.{refl}, device_shared.proofs.EndingFacts.{held_still, later_same}, device_shared.specs.declared.seats.Posts.TheVariants.Rest}
+use Rattle.{std.proofs.Common.refl, device_shared.proofs.EndingFacts.{held_still, later_same}}
+use Rattle.device_shared.specs.declared.seats.Posts.TheVariants.{Rest}
 use Rattle.device_shared.proofs.seats.Turn.leave.Goals as goal
 
 pub returns-in-On-clause-step : goal.returns-in-On-clause-step
@@ -6,8 +7,12 @@ returns-in-On-clause-step g c = (Rest c.in-Rest.poller c.in-Rest.thread, c.in-Re
 
 pub returns-in-Marked-clause-step : goal.returns-in-Marked-clause-step
 returns-in-Marked-clause-step g c =
-    let a = c.try_at_rest.ensures.acts in
-    (Rest c.in-Rest.poller c.in-Rest.thread, c.in-Rest.ensures.step, rw c.in-Marked.is (a.0, c.try_at_rest.result.1, a.1, a.2, c.try_at_rest.ensures.role))
+    let a = c.try_at_rest.ensures.acts in (
+      Rest c.in-Rest.poller c.in-Rest.thread,
+      c.in-Rest.ensures.step,
+      rw c.in-Marked.is
+          (a.0, c.try_at_rest.result.1, a.1, a.2, c.try_at_rest.ensures.role),
+    )
 
 pub returns-in_default : goal.returns-in_default
 returns-in_default g c = record {

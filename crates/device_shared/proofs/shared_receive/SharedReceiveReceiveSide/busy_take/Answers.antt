@@ -1,4 +1,5 @@
-use Rattle.{std.proofs.Common.{◌∙◌}, device_shared.proofs.{Reading.{took_busily}, WholeFacts.{called, kept_as, legal, packets, role_before, sound, state, viewed}}}
+use Rattle.std.proofs.Common.{◌∙◌}
+use Rattle.device_shared.proofs.{Reading.took_busily, WholeFacts.{called, kept_as, legal, packets, role_before, sound, state, viewed}}
 use Rattle.device_shared.proofs.shared_receive.SharedReceiveReceiveSide.busy_take.Goals as goal
 
 pub invariant_of-self : goal.invariant_of-self

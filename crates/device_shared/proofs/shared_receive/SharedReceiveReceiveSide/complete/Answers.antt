@@ -1,9 +1,13 @@
-use Rattle.{std.proofs.Common.{◌∙◌, ℕ, ap}, device_shared.proofs.{Reading.{may_complete, completed}, WholeFacts.{called, kept_as, legal, packets, role_before, role_there, state, viewed}}}
+use Rattle.std.proofs.Common.{◌∙◌, ℕ, ap}
+use Rattle.device_shared.proofs.Reading.{may_complete, completed}
+use Rattle.device_shared.proofs.WholeFacts.{called, kept_as, legal, packets, role_before, role_there, state, viewed}
 use Rattle.{device_bench.specs.Receive.done_by, napi_model.specs.Step.complete_reply, device_shared.specs.SharedReceive.napi_at}
 use Rattle.device_shared.proofs.shared_receive.SharedReceiveReceiveSide.complete.Goals as goal
 
 pub complete-seats-requires-clause-polls : goal.complete-seats-requires-clause-polls
-complete-seats-requires-clause-polls g c = (may_complete _ _ (role_there _ _ _ _ _ _ c.take_out-seats.result c.take_out-seats.ensures.was c.self.invariant.0) (rw (← c.self.view_is) at c.requires)).0
+complete-seats-requires-clause-polls g c =
+    (may_complete _ _ (role_there _ _ _ _ _ _ c.take_out-seats.result c.take_out-seats.ensures.was c.self.invariant.0)
+    (rw (← c.self.view_is) at c.requires)).0
 
 pub invariant_of-self : goal.invariant_of-self
 invariant_of-self g c =
@@ -27,4 +31,7 @@ returns-clause-side g c =
     let k = called c.take_out-seats.result c.take_out-seats.ensures.was c.self.invariant.0 a.2 c.keep.ensures in
     let m = may_complete _ _ (role_before k) (rw (← c.self.view_is) at c.requires) in
     let r = completed _ _ _ _ _ (role_before k) m.0 a.1 (legal k) in
-    rw (← c.self.view_is) (viewed c.self.inside.capacity (state k ∙ r.1 ∙ ap (λ (n : ℕ). done_by n (complete_reply (napi_at c.self.inside.seats)) (napi_at c.self.inside.seats)) m.1) (packets k))
+    rw (← c.self.view_is)
+    (viewed c.self.inside.capacity
+    (state k ∙ r.1 ∙ ap (λ (n : ℕ). done_by n (complete_reply (napi_at c.self.inside.seats)) (napi_at c.self.inside.seats)) m.1)
+    (packets k))

@@ -4,11 +4,15 @@ use Rattle.device_shared.proofs.shared_receive.SharedReceiveReceiveSide.put.Goal
 pub invariant_of-self : goal.invariant_of-self
 invariant_of-self g c =
     let s = c.self.inside in
-    let p : Packet = record { number = c.saturating_add-self-inside.result; bytes = c.args.bytes } in
-    (put_whole s.napi s.seats s.input c.put.new.self p s.held s.capacity s.seen c.self.invariant.0 c.in-Ok.ensures.ring c.in-Ok.ensures.ok c.in-Ok.ensures.used, c.self.invariant.1)
+    let p : Packet = record { number = c.saturating_add-self-inside.result; bytes = c.args.bytes } in (
+      put_whole s.napi s.seats s.input c.put.new.self p s.held s.capacity s.seen c.self.invariant.0 c.in-Ok.ensures.ring c.in-Ok.ensures.ok
+          c.in-Ok.ensures.used,
+      c.self.invariant.1,
+    )
 
 pub returns-clause-side : goal.returns-clause-side
 returns-clause-side g c =
     let s = c.self.inside in
     let p : Packet = record { number = c.saturating_add-self-inside.result; bytes = c.args.bytes } in
-    put_side s.napi s.seats s.input c.put.new.self p s.held s.capacity s.seen c.args.self.now c.self.invariant.0 c.in-Ok.ensures.ok c.self.view_is
+    put_side s.napi s.seats s.input c.put.new.self p s.held s.capacity s.seen c.args.self.now c.self.invariant.0 c.in-Ok.ensures.ok
+    c.self.view_is

@@ -1,5 +1,7 @@
 use Rattle.{std.proofs.Common.{◌∙◌, ap}, device_bench.specs.Receive.{ReceiveView, is_polling}}
-use Rattle.device_shared.{specs.Seats.{role_of, state_in}, proofs.{Reading.polling_of, RingFacts.{bytes_given, input_of_two, received_side, received_whole, side_in, whole_in}}}
+use Rattle.device_shared.specs.Seats.{role_of, state_in}
+use Rattle.device_shared.proofs.Reading.{polling_of}
+use Rattle.device_shared.proofs.RingFacts.{bytes_given, input_of_two, received_side, received_whole, side_in, whole_in}
 use Rattle.device_shared.proofs.shared_receive.SharedReceiveReceiveSide.receive.Goals as goal
 
 pub receive-seats-requires-clause-one : goal.receive-seats-requires-clause-one
@@ -42,7 +44,9 @@ returns-clause-bytes g c =
     let r = c.receive-seats in
     let w = whole_in i.napi i.seats s i.input i.held i.capacity i.seen c.take_out-seats.ensures.was c.self.invariant.0 in
     let view = side_in i.seats s i.input i.capacity c.args.self.now c.take_out-seats.ensures.was c.self.view_is in
-    c.batch_bytes.ensures.sum ∙ bytes_given i.napi c.args.weight s r.result i.input r.new.input r.new.batch.items i.held i.capacity i.seen w r.ensures.next c.args.self.now view
+    c.batch_bytes.ensures.sum
+    ∙ bytes_given i.napi c.args.weight s r.result i.input r.new.input r.new.batch.items i.held i.capacity i.seen w r.ensures.next
+    c.args.self.now view
 
 pub returns-clause-side : goal.returns-clause-side
 returns-clause-side g c =

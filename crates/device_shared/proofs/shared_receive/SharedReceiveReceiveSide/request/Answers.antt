@@ -1,4 +1,6 @@
-use Rattle.{std.proofs.Common.{◌∙◌}, device_shared.proofs.{Reading.{asked, asked_role}, WholeFacts.{called, kept_at, legal, packets, role_before, sound, state, viewed}}}
+use Rattle.std.proofs.Common.{◌∙◌}
+use Rattle.device_shared.proofs.Reading.{asked, asked_role}
+use Rattle.device_shared.proofs.WholeFacts.{called, kept_at, legal, packets, role_before, sound, state, viewed}
 use Rattle.device_shared.proofs.shared_receive.SharedReceiveReceiveSide.request.Goals as goal
 
 pub invariant_of-self : goal.invariant_of-self

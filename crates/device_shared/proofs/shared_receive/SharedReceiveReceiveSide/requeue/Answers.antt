@@ -1,11 +1,15 @@
-use Rattle.{std.proofs.Common.{◌∙◌, ℕ, ap}, device_shared.proofs.{Reading.{may_complete, requeued}, WholeFacts.{called, kept_as, packets, role_before, role_there, state, viewed}}}
+use Rattle.std.proofs.Common.{◌∙◌, ℕ, ap}
+use Rattle.device_shared.proofs.Reading.{may_complete, requeued}
+use Rattle.device_shared.proofs.WholeFacts.{called, kept_as, packets, role_before, role_there, state, viewed}
 use Rattle.device_shared.specs.SharedReceive.{napi_at}
 use Rattle.napi_model.specs.{Step.{after, event}, declared.event.Operation.TheVariants.Hand}
 use Rattle.napi_model.specs.declared.state.Kind.TheVariants as kind
 use Rattle.device_shared.proofs.shared_receive.SharedReceiveReceiveSide.requeue.Goals as goal
 
 pub requeue-seats-requires-clause-polls : goal.requeue-seats-requires-clause-polls
-requeue-seats-requires-clause-polls g c = (may_complete _ _ (role_there _ _ _ _ _ _ c.take_out-seats.result c.take_out-seats.ensures.was c.self.invariant.0) (rw (← c.self.view_is) at c.requires)).0
+requeue-seats-requires-clause-polls g c =
+    (may_complete _ _ (role_there _ _ _ _ _ _ c.take_out-seats.result c.take_out-seats.ensures.was c.self.invariant.0)
+    (rw (← c.self.view_is) at c.requires)).0
 
 pub invariant_of-self : goal.invariant_of-self
 invariant_of-self g c =
@@ -21,4 +25,8 @@ returns g c =
     let k = called c.take_out-seats.result c.take_out-seats.ensures.was c.self.invariant.0 a c.keep.ensures in
     let m = may_complete _ _ (role_before k) (rw (← c.self.view_is) at c.requires) in
     let r = requeued _ _ _ (role_before k) m.0 in
-    record { side = rw (← c.self.view_is) (viewed c.self.inside.capacity (state k ∙ r.0 ∙ ap (λ (n : ℕ). after (napi_at c.self.inside.seats) (event n (Hand kind.List))) m.1) (packets k)) }
+    record {
+      side = rw (← c.self.view_is)
+          (viewed c.self.inside.capacity
+          (state k ∙ r.0 ∙ ap (λ (n : ℕ). after (napi_at c.self.inside.seats) (event n (Hand kind.List))) m.1) (packets k));
+    }

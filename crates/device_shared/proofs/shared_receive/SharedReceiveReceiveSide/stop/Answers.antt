@@ -1,8 +1,12 @@
-use Rattle.{std.proofs.Common.{◌∙◌}, device_shared.proofs.{Reading.{polls_busily, stopped}, WholeFacts.{called, kept_as, legal, packets, role_before, role_there, state, viewed}}}
+use Rattle.std.proofs.Common.{◌∙◌}
+use Rattle.device_shared.proofs.Reading.{polls_busily, stopped}
+use Rattle.device_shared.proofs.WholeFacts.{called, kept_as, legal, packets, role_before, role_there, state, viewed}
 use Rattle.device_shared.proofs.shared_receive.SharedReceiveReceiveSide.stop.Goals as goal
 
 pub stop-seats-requires-clause-polls : goal.stop-seats-requires-clause-polls
-stop-seats-requires-clause-polls g c = polls_busily _ _ (role_there _ _ _ _ _ _ c.take_out-seats.result c.take_out-seats.ensures.was c.self.invariant.0) (rw (← c.self.view_is) at c.requires)
+stop-seats-requires-clause-polls g c =
+    polls_busily _ _ (role_there _ _ _ _ _ _ c.take_out-seats.result c.take_out-seats.ensures.was c.self.invariant.0)
+    (rw (← c.self.view_is) at c.requires)
 
 pub invariant_of-self : goal.invariant_of-self
 invariant_of-self g c =

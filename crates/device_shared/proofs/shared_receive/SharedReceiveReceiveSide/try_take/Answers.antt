@@ -1,8 +1,12 @@
-use Rattle.{std.proofs.Common.{◌∙◌}, device_shared.proofs.{Reading.{marked_of, tried}, WholeFacts.{called, kept_as, legal, packets, role_before, role_there, sound, state, viewed}}}
+use Rattle.std.proofs.Common.{◌∙◌}
+use Rattle.device_shared.proofs.Reading.{marked_of, tried}
+use Rattle.device_shared.proofs.WholeFacts.{called, kept_as, legal, packets, role_before, role_there, sound, state, viewed}
 use Rattle.device_shared.proofs.shared_receive.SharedReceiveReceiveSide.try_take.Goals as goal
 
 pub try_take-seats-requires-clause-marked : goal.try_take-seats-requires-clause-marked
-try_take-seats-requires-clause-marked g c = marked_of _ _ (role_there _ _ _ _ _ _ c.take_out-seats.result c.take_out-seats.ensures.was c.self.invariant.0) (rw (← c.self.view_is) at c.requires)
+try_take-seats-requires-clause-marked g c =
+    marked_of _ _ (role_there _ _ _ _ _ _ c.take_out-seats.result c.take_out-seats.ensures.was c.self.invariant.0)
+    (rw (← c.self.view_is) at c.requires)
 
 pub invariant_of-self : goal.invariant_of-self
 invariant_of-self g c =

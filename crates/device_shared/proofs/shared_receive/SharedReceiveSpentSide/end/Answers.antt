@@ -7,7 +7,8 @@ empty-requires g c =
     let s = c.in-Some.seats in
     let w = whole_in i.napi i.seats s i.input i.held i.capacity i.seen c.in-Some.is c.self.invariant.0 in
     let control = c.disable-poller.result.2 in
-    ring_closed i.napi s i.input i.held i.capacity i.seen w control.pass c.disable-poller.ensures.later c.close-ctx.result control.state.ctx c.close-ctx.ensures.ctx control.has.ring
+    ring_closed i.napi s i.input i.held i.capacity i.seen w control.pass c.disable-poller.ensures.later c.close-ctx.result control.state.ctx
+    c.close-ctx.ensures.ctx control.has.ring
 
 pub finish-requires : goal.finish-requires
 finish-requires g c =
@@ -15,7 +16,9 @@ finish-requires g c =
     let s = c.in-Some.seats in
     let w = whole_in i.napi i.seats s i.input i.held i.capacity i.seen c.in-Some.is c.self.invariant.0 in
     let control = c.disable-poller.result.2 in
-    let one = ring_closed i.napi s i.input i.held i.capacity i.seen w control.pass c.disable-poller.ensures.later c.close-ctx.result control.state.ctx c.close-ctx.ensures.ctx control.has.ring in
+    let one =
+    ring_closed i.napi s i.input i.held i.capacity i.seen w control.pass c.disable-poller.ensures.later c.close-ctx.result control.state.ctx
+    c.close-ctx.ensures.ctx control.has.ring in
     ring_still i.input c.empty.new.input c.close-ctx.result c.empty.new.ctx c.empty.ensures.input c.empty.ensures.ctx one
 
 pub returns : goal.returns
@@ -24,7 +27,10 @@ returns g c =
     let s = c.in-Some.seats in
     let w = whole_in i.napi i.seats s i.input i.held i.capacity i.seen c.in-Some.is c.self.invariant.0 in
     let d = c.disable-poller.result in
-    let one = ring_closed i.napi s i.input i.held i.capacity i.seen w d.2.pass c.disable-poller.ensures.later c.close-ctx.result d.2.state.ctx c.close-ctx.ensures.ctx d.2.has.ring in
-    side_ended i.napi s i.input i.held i.capacity i.seen w d.2.pass c.disable-poller.ensures.later s.interrupt d.0 d.1 c.close-ctx.result c.close-ctx.ensures.closed one
+    let one =
+    ring_closed i.napi s i.input i.held i.capacity i.seen w d.2.pass c.disable-poller.ensures.later c.close-ctx.result d.2.state.ctx
+    c.close-ctx.ensures.ctx d.2.has.ring in
+    side_ended i.napi s i.input i.held i.capacity i.seen w d.2.pass c.disable-poller.ensures.later s.interrupt d.0 d.1 c.close-ctx.result
+    c.close-ctx.ensures.closed one
     c.empty.new.input c.empty.new.ctx c.empty.ensures.ctx c.empty.ensures.put c.empty.ensures.polled c.finish.result c.finish.ensures.totals
     c.args.self (side_in i.seats s i.input i.capacity c.args.self c.in-Some.is c.self.view_is)

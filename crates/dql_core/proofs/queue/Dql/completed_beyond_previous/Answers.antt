@@ -9,5 +9,6 @@ returns-clause-most c =
     let ahead = distance_of previous completed in
     let wrapped : IsWrapped previous (completed + ahead) = omega (arith, c.completed_after.ensures.counter.1) in
     let difference : c.positive_difference.result ≡ (completed + c.args.count) - (completed + ahead) =
-    c.positive_difference.ensures.counters (completed + c.args.count) (completed + ahead) c.completed_after.ensures.counter.0 wrapped (omega arith, omega arith) in
+    c.positive_difference.ensures.counters (completed + c.args.count) (completed + ahead) c.completed_after.ensures.counter.0 wrapped
+    (omega arith, omega arith) in
     omega arith

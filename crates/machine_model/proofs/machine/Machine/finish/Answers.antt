@@ -10,11 +10,13 @@ loop-number-preserved c =
     let i = c.loop-number.invariant in
     let end : c.len-number-end.result ≡ length c.self.inside.processors.items = search rules in
     let size : length c.args.self.now ≡ length c.self.inside.processors.items = ap (λ (m : Machine). length m) (sym c.self.view_is) in
-    finished-more c.args.self.now c.loop-number.self-inside.processors.items c.loop-number.number c.index_mut.result.now c.run_until.new.self i
+    finished-more c.args.self.now c.loop-number.self-inside.processors.items c.loop-number.number c.index_mut.result.now
+    c.run_until.new.self i
     (omega (arith, i.size, end, size, c.loop-number-test.true)) (sym c.index_mut.ensures.value) c.run_until.ensures
 
 pub returns-clause-finishes : goal.returns-clause-finishes
 returns-clause-finishes c =
     let end : c.len-number-end.result ≡ length c.self.inside.processors.items = search rules in
     let size : length c.args.self.now ≡ length c.self.inside.processors.items = ap (λ (m : Machine). length m) (sym c.self.view_is) in
-    finished-all c.args.self.now c.loop-number.self-inside.processors.items c.loop-number.number c.loop-number.invariant (omega (arith, end, size, c.loop-number-test.false))
+    finished-all c.args.self.now c.loop-number.self-inside.processors.items c.loop-number.number c.loop-number.invariant
+    (omega (arith, end, size, c.loop-number-test.false))

@@ -8,7 +8,9 @@ invariant_of-self c =
     let s = i.settings in
     let none : i.softirq.run ≡ None = rw (← c.self.view_is) at c.requires.run in
     let q = begun i.clock s.budget s.weight s.window i.softirq in
-    rw (c.next.ensures.softirq, c.begin.ensures) (kept-next s i.work Poll i.devices q i.batch (kept-begun s i.work i.devices i.softirq i.batch i.clock c.self.invariant none) refl (λ not. cc not))
+    rw (c.next.ensures.softirq, c.begin.ensures)
+    (kept-next s i.work Poll i.devices q i.batch (kept-begun s i.work i.devices i.softirq i.batch i.clock c.self.invariant none) refl
+    (λ not. cc not))
 
 pub invariant_of-self-in_default : goal.invariant_of-self-in_default
 invariant_of-self-in_default c =
@@ -17,4 +19,6 @@ invariant_of-self-in_default c =
     let none : i.softirq.run ≡ None = rw (← c.self.view_is) at c.requires.run in
     let q = begun i.clock s.budget s.weight s.window i.softirq in
     let ends = rw (c.next.ensures.softirq, c.begin.ensures) at (sym c.next.ensures.answer ∙ c.in_default.is) in
-    rw (c.next.ensures.softirq, c.begin.ensures) (kept-next s i.work i.work i.devices q i.batch (kept-begun s i.work i.devices i.softirq i.batch i.clock c.self.invariant none) refl (λ not. ends))
+    rw (c.next.ensures.softirq, c.begin.ensures)
+    (kept-next s i.work i.work i.devices q i.batch (kept-begun s i.work i.devices i.softirq i.batch i.clock c.self.invariant none) refl
+    (λ not. ends))

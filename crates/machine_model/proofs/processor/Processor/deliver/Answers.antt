@@ -5,4 +5,5 @@ pub invariant_of-self : goal.invariant_of-self
 unfolding delivered
 invariant_of-self c =
     let i = c.self.inside in
-    rw (c.deliver.ensures, c.packets-batch.ensures.packets) (kept-changed i.settings i.work i.devices i.softirq i.batch (delivered i.clock i.batch) c.args.number c.self.invariant (λ d. refl))
+    rw (c.deliver.ensures, c.packets-batch.ensures.packets)
+    (kept-changed i.settings i.work i.devices i.softirq i.batch (delivered i.clock i.batch) c.args.number c.self.invariant (λ d. refl))

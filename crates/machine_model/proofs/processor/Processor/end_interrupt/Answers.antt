@@ -12,4 +12,5 @@ pub invariant_of-self-2 : goal.invariant_of-self-2
 unfolding ended_interrupt
 invariant_of-self-2 c =
     let i = c.self-2.inside in
-    rw c.end_interrupt.ensures (kept-changed i.settings i.work i.devices i.softirq i.batch ended_interrupt c.args.number c.self-2.invariant (λ d. refl))
+    rw c.end_interrupt.ensures
+    (kept-changed i.settings i.work i.devices i.softirq i.batch ended_interrupt c.args.number c.self-2.invariant (λ d. refl))

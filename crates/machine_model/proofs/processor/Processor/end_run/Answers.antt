@@ -6,7 +6,8 @@ pub invariant_of-self : goal.invariant_of-self
 invariant_of-self c =
     let i = c.self.inside in
     let nothing = rw (← c.self.view_is) at c.requires in
-    rw c.end-spent.ensures.softirq (kept-ended i.settings i.work i.devices i.softirq i.batch c.self.invariant (c.self.invariant.asked (rw nothing refl)))
+    rw c.end-spent.ensures.softirq
+    (kept-ended i.settings i.work i.devices i.softirq i.batch c.self.invariant (c.self.invariant.asked (rw nothing refl)))
 
 pub returns-clause-run : goal.returns-clause-run
 returns-clause-run c = rw c.end-spent.ensures.softirq (run-ended c.self.inside.softirq)

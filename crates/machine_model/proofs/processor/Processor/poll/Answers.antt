@@ -5,4 +5,5 @@ pub invariant_of-self : goal.invariant_of-self
 unfolding polled taken
 invariant_of-self c =
     let i = c.self.inside in
-    rw (c.poll.ensures.devices, c.poll.ensures.batch) (kept-poll i.settings i.work i.devices i.softirq i.batch (polled i.settings.weight) c.args.number c.self.invariant (λ d. refl))
+    rw (c.poll.ensures.devices, c.poll.ensures.batch)
+    (kept-poll i.settings i.work i.devices i.softirq i.batch (polled i.settings.weight) c.args.number c.self.invariant (λ d. refl))

@@ -1,4 +1,5 @@
-use Rattle.{std.proofs.Common.{refl, ◌∙◌}, napi_calls.proofs.{Standing.{control_marked, has_none}, Packets.quiet_step, Making.{nothing, step}}}
+use Rattle.std.proofs.Common.{refl, ◌∙◌}
+use Rattle.napi_calls.proofs.{Standing.{control_marked, has_none}, Packets.quiet_step, Making.{nothing, step}}
 use Rattle.napi_calls.proofs.control.Control+On.mark.Goals as goal
 
 pub invariant_of-result : goal.invariant_of-result

@@ -3,4 +3,5 @@ use Rattle.napi_calls.proofs.types.Busy.poll.Goals as goal
 
 pub returns-clause-polled : goal.returns-clause-polled
 returns-clause-polled c =
-    polled_more (received_before c.args.self.now.pass) (received_list c.args.self.now.ctx) (received_list c.poll.new.self) c.poll.new.batch.items c.args.self.now.has.received c.poll.ensures.next.poll.1
+    polled_more (received_before c.args.self.now.pass) (received_list c.args.self.now.ctx)
+    (received_list c.poll.new.self) c.poll.new.batch.items c.args.self.now.has.received c.poll.ensures.next.poll.1

@@ -1,4 +1,5 @@
-use Rattle.{std.proofs.Common.{refl, [], ◌∷◌, ◌∙◌}, napi_model.specs.declared.event.Operation.TheVariants.{Look, BusyTake}, napi_calls.proofs.{Packets.fresh_behind, Making.{nothing, more, more_lost}}}
+use Rattle.{std.proofs.Common.{refl, [], ◌∷◌, ◌∙◌}, napi_model.specs.declared.event.Operation.TheVariants.{Look, BusyTake}}
+use Rattle.napi_calls.proofs.{Packets.fresh_behind, Making.{nothing, more, more_lost}}
 use Rattle.napi_calls.proofs.types.Caller.busy.Goals as goal
 
 pub loop-init : goal.loop-init
@@ -8,7 +9,8 @@ pub try_busy-requires : goal.try_busy-requires
 try_busy-requires g c = c.loop.invariant.1.1.seat.table ∙ c.requires
 
 pub loop-preserved : goal.loop-preserved
-loop-preserved g c = (c.in-Changed.ensures.packets ∙ c.loop.invariant.0, more_lost c.loop.invariant.1.0 c.loop.invariant.1.1 c.in-Changed.ensures.events)
+loop-preserved g c =
+    (c.in-Changed.ensures.packets ∙ c.loop.invariant.0, more_lost c.loop.invariant.1.0 c.loop.invariant.1.1 c.in-Changed.ensures.events)
 
 pub returns-in-Taken-clause-events : goal.returns-in-Taken-clause-events
 returns-in-Taken-clause-events g c =

@@ -1,4 +1,5 @@
-use Rattle.{std.proofs.Common.{refl, [], ◌∷◌, ◌∙◌}, napi_model.specs.declared.event.{Operation.TheVariants.{Look, Schedule}, Prep.Prep}, napi_calls.proofs.Making.{nothing, more, more_lost}}
+use Rattle.{std.proofs.Common.{refl, [], ◌∷◌, ◌∙◌}, napi_model.specs.declared.event.{Operation.TheVariants.{Look, Schedule}, Prep.Prep}}
+use Rattle.napi_calls.proofs.Making.{nothing, more, more_lost}
 use Rattle.napi_calls.proofs.types.Caller.schedule.Goals as goal
 
 pub loop-init : goal.loop-init
@@ -8,7 +9,8 @@ pub try_schedule-requires : goal.try_schedule-requires
 try_schedule-requires g c = c.loop.invariant.1.1.seat.table ∙ c.requires
 
 pub loop-preserved : goal.loop-preserved
-loop-preserved g c = (c.in-Changed.ensures.packets ∙ c.loop.invariant.0, more_lost c.loop.invariant.1.0 c.loop.invariant.1.1 c.in-Changed.ensures.events)
+loop-preserved g c =
+    (c.in-Changed.ensures.packets ∙ c.loop.invariant.0, more_lost c.loop.invariant.1.0 c.loop.invariant.1.1 c.in-Changed.ensures.events)
 
 pub returns-in-Granted-clause-events : goal.returns-in-Granted-clause-events
 returns-in-Granted-clause-events g c =
@@ -21,7 +23,8 @@ returns-in-Missed-clause-events g c =
     (c.loop.invariant.1.0, e.0, more (Look e.0) (Schedule Prep.Missed ∷ []) c.loop.invariant.1.1 e.1)
 
 pub returns-in-Disabled-clause-events : goal.returns-in-Disabled-clause-events
-returns-in-Disabled-clause-events g c = (c.loop.invariant.1.0, more (Schedule Prep.Disabled) [] c.loop.invariant.1.1 c.in-Disabled.ensures.events)
+returns-in-Disabled-clause-events g c =
+    (c.loop.invariant.1.0, more (Schedule Prep.Disabled) [] c.loop.invariant.1.1 c.in-Disabled.ensures.events)
 
 pub returns-in-Granted-clause-packets : goal.returns-in-Granted-clause-packets
 returns-in-Granted-clause-packets g c = c.in-Granted.ensures.packets ∙ c.loop.invariant.0

@@ -5,7 +5,8 @@ pub invariant_of-self : goal.invariant_of-self
 invariant_of-self c = record { stands = kept c.threaded.new.pass c.args.self.now.stands c.threaded.ensures.step.event (λ s. refl) }
 
 pub returns-clause-event : goal.returns-clause-event
-returns-clause-event c = step c.threaded.new.pass (nothing c.args.self.now.stands) c.threaded.ensures.step.table c.threaded.ensures.step.event
+returns-clause-event c =
+    step c.threaded.new.pass (nothing c.args.self.now.stands) c.threaded.ensures.step.table c.threaded.ensures.step.event
 
 pub returns-clause-packets : goal.returns-clause-packets
 returns-clause-packets c = quiet_step c.args.self.now.pass c.threaded.new.pass c.threaded.ensures.step.event c.threaded.ensures.step.packets

@@ -1,4 +1,6 @@
-use Rattle.{std.proofs.Common.{refl, sym, ◌∙◌, true≢false}, napi_calls.proofs.{Standing.{looked, made, self_polling, moved, busy_made, busy_moved, outside}, Packets.{quiet_step, quiet_more, taken, fresh_behind}}}
+use Rattle.std.proofs.Common.{refl, sym, ◌∙◌, true≢false}
+use Rattle.napi_calls.proofs.Standing.{looked, made, self_polling, moved, busy_made, busy_moved, outside}
+use Rattle.napi_calls.proofs.Packets.{quiet_step, quiet_more, taken, fresh_behind}
 use Rattle.{napi_calls.proofs.Making.{nothing, step, still, lost}, napi_model.specs.declared.{state.Place.Place, event.Call.Call}}
 use Rattle.napi_calls.proofs.types.Caller.try_busy_between.Goals as goal
 
@@ -42,14 +44,16 @@ returns-in-Err-clause-events g c =
     lost Call.BusyTake _ _ (c.may_busy_take.ensures.0 c.if-not-may_busy_take.false) c.in-Err.ensures.other two
 
 pub returns-then-not-may_busy_take-clause-packets : goal.returns-then-not-may_busy_take-clause-packets
-returns-then-not-may_busy_take-clause-packets g c = quiet_step c.args.self.pass c.look-seen.new.pass c.look-seen.ensures.step.event c.look-seen.ensures.step.packets
+returns-then-not-may_busy_take-clause-packets g c =
+    quiet_step c.args.self.pass c.look-seen.new.pass c.look-seen.ensures.step.event c.look-seen.ensures.step.packets
 
 pub returns-in-Ok-clause-packets : goal.returns-in-Ok-clause-packets
 returns-in-Ok-clause-packets g c =
     let e = c.slot_out-ctx.ensures in
     let looks = quiet_step c.args.self.pass c.look-seen.new.pass c.look-seen.ensures.step.event c.look-seen.ensures.step.packets in
     fresh_behind c.args.self.pass c.look-seen.new.pass _ _ looks
-    (taken c.look-seen.new.pass c.busy_swap.new.pass c.slot_out-ctx.new.pass c.slot_out-ctx.result c.in-Ok.ensures.step.event c.in-Ok.ensures.step.packets e.received e.keeps.view e.unmarked)
+    (taken c.look-seen.new.pass c.busy_swap.new.pass c.slot_out-ctx.new.pass c.slot_out-ctx.result c.in-Ok.ensures.step.event
+    c.in-Ok.ensures.step.packets e.received e.keeps.view e.unmarked)
 
 pub returns-in-Err-clause-packets : goal.returns-in-Err-clause-packets
 returns-in-Err-clause-packets g c =

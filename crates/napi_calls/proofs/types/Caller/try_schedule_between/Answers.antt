@@ -1,4 +1,5 @@
-use Rattle.{std.proofs.Common.{◌≡◌, Bool, true, false, refl}, napi_word.specs.Told.prep_of, napi_calls.proofs.{Standing.{kept, looked, made, self_granted}, Packets.{quiet_step, quiet_more}, Making.{nothing, step, lost}}}
+use Rattle.{std.proofs.Common.{◌≡◌, Bool, true, false, refl}, napi_word.specs.Told.prep_of}
+use Rattle.napi_calls.proofs.{Standing.{kept, looked, made, self_granted}, Packets.{quiet_step, quiet_more}, Making.{nothing, step, lost}}
 use Rattle.napi_model.specs.declared.event.Prep.TheVariants as prep
 use Rattle.napi_model.specs.declared.state.Place.TheVariants as place
 use Rattle.napi_model.specs.declared.event.Call.TheVariants as call
@@ -8,12 +9,17 @@ pub invariant_of-result : goal.invariant_of-result
 invariant_of-result g c = record { stands = kept c.schedule_load.new.pass c.args.self.stands c.in_default.ensures.step.event (λ s. refl) }
 
 pub returns-in_default-clause-events : goal.returns-in_default-clause-events
-returns-in_default-clause-events g c = step c.schedule_load.new.pass (nothing c.args.self.stands) c.schedule_load.ensures.step.table c.in_default.ensures.step.event
+returns-in_default-clause-events g c =
+    step c.schedule_load.new.pass (nothing c.args.self.stands) c.schedule_load.ensures.step.table c.in_default.ensures.step.event
 
 pub invariant_of-result-in-Ok-Granted : goal.invariant_of-result-in-Ok-Granted
 invariant_of-result-in-Ok-Granted g c =
     let st = looked c.schedule_load.new.pass c.args.self.stands c.in-Some.ensures.step.event in
-    record { stands = made place.Granted c.schedule_swap.new.pass st (rw c.in-Ok-Granted.field-0-is at c.in-Ok-Granted.ensures).step.event (λ s. self_granted _) }
+    record {
+      stands =
+          made place.Granted c.schedule_swap.new.pass st (rw c.in-Ok-Granted.field-0-is at c.in-Ok-Granted.ensures).step.event
+          (λ s. self_granted _);
+    }
 
 pub invariant_of-result-in-Ok-Missed : goal.invariant_of-result-in-Ok-Missed
 invariant_of-result-in-Ok-Missed g c =
@@ -34,21 +40,31 @@ invariant_of-result-in-Err g c =
 
 pub returns-in-Ok-Granted-clause-events : goal.returns-in-Ok-Granted-clause-events
 returns-in-Ok-Granted-clause-events g c =
-    let one = step c.schedule_load.new.pass (nothing c.args.self.stands) c.schedule_load.ensures.step.table c.in-Some.ensures.step.event in
-    (_, step c.schedule_swap.new.pass one c.schedule_swap.ensures.step.table (rw c.in-Ok-Granted.field-0-is at c.in-Ok-Granted.ensures).step.event)
+    let one =
+    step c.schedule_load.new.pass (nothing c.args.self.stands) c.schedule_load.ensures.step.table c.in-Some.ensures.step.event in (
+      _,
+      step c.schedule_swap.new.pass one c.schedule_swap.ensures.step.table
+          (rw c.in-Ok-Granted.field-0-is at c.in-Ok-Granted.ensures).step.event,
+    )
 
 pub returns-in-Ok-Missed-clause-events : goal.returns-in-Ok-Missed-clause-events
 returns-in-Ok-Missed-clause-events g c =
-    let one = step c.schedule_load.new.pass (nothing c.args.self.stands) c.schedule_load.ensures.step.table c.in-Some.ensures.step.event in
-    (_, step c.schedule_swap.new.pass one c.schedule_swap.ensures.step.table (rw c.in-Ok-Missed.field-0-is at c.in-Ok-Missed.ensures).step.event)
+    let one =
+    step c.schedule_load.new.pass (nothing c.args.self.stands) c.schedule_load.ensures.step.table c.in-Some.ensures.step.event in (
+      _,
+      step c.schedule_swap.new.pass one c.schedule_swap.ensures.step.table
+          (rw c.in-Ok-Missed.field-0-is at c.in-Ok-Missed.ensures).step.event,
+    )
 
 pub returns-in-Err-clause-events : goal.returns-in-Err-clause-events
 returns-in-Err-clause-events g c =
     let one = step c.schedule_load.new.pass (nothing c.args.self.stands) c.schedule_load.ensures.step.table c.in-Some.ensures.step.event in
-    lost call.Schedule _ _ c.in-Some.ensures.enabled c.in-Err.ensures.other (step c.schedule_swap.new.pass one c.schedule_swap.ensures.step.table c.in-Err.ensures.step.event)
+    lost call.Schedule _ _ c.in-Some.ensures.enabled c.in-Err.ensures.other
+    (step c.schedule_swap.new.pass one c.schedule_swap.ensures.step.table c.in-Err.ensures.step.event)
 
 pub returns-in_default-clause-packets : goal.returns-in_default-clause-packets
-returns-in_default-clause-packets g c = quiet_step c.args.self.pass c.schedule_load.new.pass c.in_default.ensures.step.event c.in_default.ensures.step.packets
+returns-in_default-clause-packets g c =
+    quiet_step c.args.self.pass c.schedule_load.new.pass c.in_default.ensures.step.event c.in_default.ensures.step.packets
 
 pub returns-in-Ok-Granted-clause-packets : goal.returns-in-Ok-Granted-clause-packets
 returns-in-Ok-Granted-clause-packets g c =

@@ -12,4 +12,5 @@ returns-clause-has c =
     let j = c.join_seat.ensures in
     let xs : View = c.args.gathering.now.seat.me.0 in
     let both = ap (λ m. m.0) j.2 ∙ ap (λ (l : View). xs ++ l) (ap (λ m. m.0) g.seat) in
-    λ taken old. gathered_more c.args.pass taken xs c.join_seat.new.seat.me.0 c.args.gathering.now.found c.give_up-seat.new.found old g.found both
+    λ taken old.
+    gathered_more c.args.pass taken xs c.join_seat.new.seat.me.0 c.args.gathering.now.found c.give_up-seat.new.found old g.found both

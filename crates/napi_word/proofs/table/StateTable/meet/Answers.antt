@@ -1,15 +1,23 @@
-use Rattle.{std.proofs.Common.{sym, ap, ◌∙◌, subst}, napi_model.specs.declared.event.Operation.TheVariants.Look, atomic_table.specs.Table.Me, napi_word.specs.{Slot.{Content, stays, Delivers}, View.{View, shown}, Rule.joined, Events.Steps}}
+use Rattle.{std.proofs.Common.{sym, ap, ◌∙◌, subst}, napi_model.specs.declared.event.Operation.TheVariants.Look}
+use Rattle.{atomic_table.specs.Table.Me, napi_word.specs.{Slot.{Content, stays, Delivers}, View.{View, shown}, Rule.joined, Events.Steps}}
 use Rattle.napi_word.proofs.{Said.one_there, Splitting.{notes, joins}, Meets.{steps_joined, delivers_joined, meets}}
 use mathlib.Core.List.{IsPrefix}
 use Rattle.napi_word.proofs.table.StateTable.meet.Goals as goal
 
 pub split_seat-note-requires : goal.split_seat-note-requires
-split_seat-note-requires c = (c.look-found.ensures.step.table ∙ c.requires.first, one_there c.args.self.now, notes _ _ _ c.look-found.new.pass.is_pass)
+split_seat-note-requires c =
+    (c.look-found.ensures.step.table ∙ c.requires.first, one_there c.args.self.now, notes _ _ _ c.look-found.new.pass.is_pass)
 
 pub join_seat-requires : goal.join_seat-requires
 join_seat-requires c =
-    let n = c.split_seat-note.ensures in
-    (c.requires.second, n.3 ∙ c.look-found.ensures.step.table ∙ c.requires.first, ap (λ m. m.1) n.4, one_there c.args.self.now, joins _ _ _ _ _ c.args.second.now.is_pass)
+    let n = c.split_seat-note.ensures in (
+      c.requires.second,
+      n.3 ∙ c.look-found.ensures.step.table
+          ∙ c.requires.first,
+      ap (λ m. m.1) n.4,
+      one_there c.args.self.now,
+      joins _ _ _ _ _ c.args.second.now.is_pass,
+    )
 
 pub returns-clause-second : goal.returns-clause-second
 returns-clause-second c =
@@ -17,7 +25,14 @@ returns-clause-second c =
     let j = c.join_seat.ensures in
     let l = c.look.ensures.step in
     let e = subst (λ (u : View). Steps u (Look c.look.result) c.look.new.pass.seat.me.0) (ap (λ m. m.0) j.2) l.event in
-    record { table = l.table ∙ j.0; holds = l.holds; event = steps_joined v c.split_seat-note.result.me.0 (Look c.look.result) c.look.new.pass.seat.me.0 c.args.second.now.is_pass e; packets = delivers_joined v c.split_seat-note.result.me.0 c.args.second.now.seat.me.1 c.look.new.pass.seat.me c.args.second.now.is_pass (subst (λ (m : Me Content View). Delivers stays m c.look.new.pass.seat.me) j.2 l.packets) }
+    record {
+      table = l.table ∙ j.0;
+      holds = l.holds;
+      event = steps_joined v c.split_seat-note.result.me.0 (Look c.look.result) c.look.new.pass.seat.me.0 c.args.second.now.is_pass e;
+      packets =
+          delivers_joined v c.split_seat-note.result.me.0 c.args.second.now.seat.me.1 c.look.new.pass.seat.me c.args.second.now.is_pass
+          (subst (λ (m : Me Content View). Delivers stays m c.look.new.pass.seat.me) j.2 l.packets);
+    }
 
 pub returns-clause-met : goal.returns-clause-met
 returns-clause-met c =
@@ -27,4 +42,5 @@ returns-clause-met c =
     let j = c.join_seat.ensures in
     let is = ap (λ m. m.0) j.2 ∙ ap (λ (w : View). joined v w) (ap (λ m. m.0) n.4) in
     let e = subst (λ (u : View). Steps u (Look c.look.result) c.look.new.pass.seat.me.0) is c.look.ensures.step.event in
-    subst (λ (u : View). IsPrefix (shown u) (shown c.look.new.pass.seat.me.0)) (sym (ap (λ m. m.0) n.2)) (meets v a (Look c.look.result) c.look.new.pass.seat.me.0 c.look-found.new.pass.is_pass e)
+    subst (λ (u : View). IsPrefix (shown u) (shown c.look.new.pass.seat.me.0)) (sym (ap (λ m. m.0) n.2))
+    (meets v a (Look c.look.result) c.look.new.pass.seat.me.0 c.look-found.new.pass.is_pass e)

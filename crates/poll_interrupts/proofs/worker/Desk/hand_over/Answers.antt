@@ -12,7 +12,9 @@ returns-clause-handed g c =
     rw c.in-Some.is (c.look.result, c.look.new.self.pass, c.look.ensures.event, rw on c.hand-caller.ensures.event)
 
 pub returns-then-not-look-clause-lists : goal.returns-then-not-look-clause-lists
-returns-then-not-look-clause-lists g c = lists_more (lists_none c.args.list.now refl c.look.ensures.event) c.hand_to_list-then-not-look.ensures.lists
+returns-then-not-look-clause-lists g c =
+    lists_more (lists_none c.args.list.now refl c.look.ensures.event) c.hand_to_list-then-not-look.ensures.lists
 
 pub returns-clause-lists : goal.returns-clause-lists
-returns-clause-lists g c = lists_more (lists_none c.args.list.now refl c.look.ensures.event) (lists_none c.args.list.now refl c.hand-caller.ensures.event)
+returns-clause-lists g c =
+    lists_more (lists_none c.args.list.now refl c.look.ensures.event) (lists_none c.args.list.now refl c.hand-caller.ensures.event)

@@ -1,4 +1,5 @@
-use Rattle.{std.proofs.Common.{◌≡◌, ◌∙◌, ◌+◌, ◌++◌, ℕ, List, append_assoc, append-nil, Some, suc, ap, arith, string_bytes, sym}, device_rows.proofs.PlaceFacts.none-of}
+use Rattle.std.proofs.Common.{◌≡◌, ◌∙◌, ◌+◌, ◌++◌, ℕ, List, append_assoc, append-nil, Some, suc, ap, arith, string_bytes, sym}
+use Rattle.device_rows.proofs.PlaceFacts.{none-of}
 use Rattle.replay_rows.specs.{Played.state_in, Report.{counts_of, device_lines, lines_below, lines_of}}
 use Rattle.replay_rows.proofs.replay.Replay.add_devices.Goals.{then-is_attached+in_ok-add_device, else-is_attached}
 use Rattle.replay_rows.proofs.replay.Replay.add_devices.Goals as goal
@@ -19,10 +20,13 @@ loop-number-preserved g c = λ all shows.
     let before = c.loop-number.invariant all shows in
     elim c.if-is_attached.branch [
       | then-is_attached+in_ok-add_device w ↦
-          let here : device_lines version number w.uses_transmit-used.result (Some w.counts.result) ≡ lines_of version (state_in g.B.ReplayBench.devices c.args.self.now) all number =
+          let here : device_lines version number w.uses_transmit-used.result (Some w.counts.result)
+          ≡ lines_of version (state_in g.B.ReplayBench.devices c.args.self.now) all number =
           ap (λ o. device_lines version number w.uses_transmit-used.result o) (w.counts.ensures.devices all shows)
-          ∙ ap (λ used. device_lines version number used (counts_of (state_in g.B.ReplayBench.devices c.args.self.now) all number)) (w.uses_transmit-used.ensures all shows) in
-          rw (next, w.text-is) (one-more _ _ _ _ _ (w.in_ok-add_device.ensures ∙ ap (λ (l : List ℕ). string_bytes c.loop-number.text ++ l) here) before)
+          ∙ ap (λ used. device_lines version number used (counts_of (state_in g.B.ReplayBench.devices c.args.self.now) all number))
+          (w.uses_transmit-used.ensures all shows) in
+          rw (next, w.text-is)
+          (one-more _ _ _ _ _ (w.in_ok-add_device.ensures ∙ ap (λ (l : List ℕ). string_bytes c.loop-number.text ++ l) here) before)
       | else-is_attached w ↦
           rw (next, w.text-is, before, none-of _ (sym c.is_attached.ensures.devices ∙ w.if-is_attached.false)) (simp append-nil)
     ]

@@ -1,5 +1,8 @@
-use Rattle.{std.proofs.{Common.{inl, inr, take, subst, sym, arith}, lemmas.Result.err_from_is_err_and}, device_bench.specs.DeviceBench.ShowsTransmits, device_rows.specs.{Places.empty, declared.{event.Event.TheVariants.Opened, row.Row.Row}}}
-use Rattle.{replay_rows.{specs.Transmits.after_transmits, proofs.PlayFacts.{after_transmits-more, played-early, played-more}}, device_rows.proofs.Accepted.accepted-at}
+use Rattle.std.proofs.{Common.{inl, inr, take, subst, sym, arith}, lemmas.Result.err_from_is_err_and}
+use Rattle.device_bench.specs.DeviceBench.{ShowsTransmits}
+use Rattle.device_rows.specs.{Places.empty, declared.{event.Event.TheVariants.Opened, row.Row.Row}}
+use Rattle.replay_rows.{specs.Transmits.after_transmits, proofs.PlayFacts.{after_transmits-more, played-early, played-more}}
+use Rattle.device_rows.proofs.Accepted.{accepted-at}
 use Rattle.replay_rows.proofs.serial_replay.SerialReplay.play_row.Goals as goal
 
 -- the row that an index out of the rows would give
@@ -15,8 +18,11 @@ play-requires-clause-value c = (accepted-at _ c.args.rows.now c.args.index none 
 pub returns-clause-after : goal.returns-clause-after
 returns-clause-after c =
     record {
-      state = played-more c.args.settings.now c.args.rows.now c.args.index none _ _ c.requires.index c.requires.after.state c.in_ok-play.ensures.on_time c.in_ok-play.ensures.state;
-      transmits = subst (ShowsTransmits c.play.new.self.bench) (sym (after_transmits-more c.args.rows.now empty c.args.index none c.requires.index))
+      state =
+          played-more c.args.settings.now c.args.rows.now c.args.index none _ _ c.requires.index c.requires.after.state
+          c.in_ok-play.ensures.on_time c.in_ok-play.ensures.state;
+      transmits =
+          subst (ShowsTransmits c.play.new.self.bench) (sym (after_transmits-more c.args.rows.now empty c.args.index none c.requires.index))
           (c.in_ok-play.ensures.transmits (after_transmits (take c.args.index c.args.rows.now) empty) c.requires.after.transmits);
     }
 
@@ -26,5 +32,7 @@ returns-in_err-play-clause-fault c =
     rw (p.1, p.2)
     (elim c.in_err-play.ensures.fault [
       | inl memory ↦ inl memory
-      | inr early ↦ inr (rw early.1 (played-early c.args.settings.now c.args.rows.now c.args.index none _ c.requires.index c.requires.after.state early.2))
+      | inr early ↦
+          inr (rw early.1
+          (played-early c.args.settings.now c.args.rows.now c.args.index none _ c.requires.index c.requires.after.state early.2))
     ])

@@ -1,11 +1,13 @@
-use Rattle.{std.proofs.{Common.{◌≡◌, ◌&&◌, sum, take, drop, length, arith, length-drop, ap, sym, ◌∙◌}, lemmas.List.drop-drop}, dql_core.specs.{Dql.Shows, Limit.after_completed}, tx_ring.specs.Queue.{bytes_of, is_over}}
+use Rattle.std.proofs.{Common.{◌≡◌, ◌&&◌, sum, take, drop, length, arith, length-drop, ap, sym, ◌∙◌}, lemmas.List.drop-drop}
+use Rattle.{dql_core.specs.{Dql.Shows, Limit.after_completed}, tx_ring.specs.Queue.{bytes_of, is_over}}
 use Rattle.tx_ring.proofs.{Done.{after_done-none, after_done-some}, Sums.sum-take-add}
 use Rattle.tx_ring.proofs.ring.TxRing.done.Goals as goal
 
 pub returns-else-bytes-gt0-clause-ok : goal.returns-else-bytes-gt0-clause-ok
 returns-else-bytes-gt0-clause-ok c = λ t shown.
     let n = c.args.count in
-    let bytes : bytes_of t n ≡ c.take_front-bytes.result = ap (λ l. sum (take n l)) (sym shown.held) ∙ sym c.take_front-bytes.ensures.taken in
+    let bytes : bytes_of t n ≡ c.take_front-bytes.result =
+    ap (λ l. sum (take n l)) (sym shown.held) ∙ sym c.take_front-bytes.ensures.taken in
     let held : length c.args.self.now.sizes.items ≡ length (drop t.done t.sizes) = ap length shown.held in
     let left = length-drop t.done t.sizes in
     let within = shown.within in
@@ -24,7 +26,8 @@ returns-else-bytes-gt0-clause-ok c = λ t shown.
 pub returns-in-Ok-clause-ok : goal.returns-in-Ok-clause-ok
 returns-in-Ok-clause-ok c = λ t shown.
     let n = c.args.count in
-    let bytes : bytes_of t n ≡ c.take_front-bytes.result = ap (λ l. sum (take n l)) (sym shown.held) ∙ sym c.take_front-bytes.ensures.taken in
+    let bytes : bytes_of t n ≡ c.take_front-bytes.result =
+    ap (λ l. sum (take n l)) (sym shown.held) ∙ sym c.take_front-bytes.ensures.taken in
     let held : length c.args.self.now.sizes.items ≡ length (drop t.done t.sizes) = ap length shown.held in
     let left = length-drop t.done t.sizes in
     let within = shown.within in

@@ -1,4 +1,5 @@
-use Rattle.std.proofs.{Common.{◌+◌, ◌∷◌, [], sum, arith, length-append, ap, ◌∙◌, sym}, lemmas.{Grind.common_steps, List.{drop-append-le, take-append-le, Sums.sum_by_push}}}
+use Rattle.std.proofs.Common.{◌+◌, ◌∷◌, [], sum, arith, length-append, ap, ◌∙◌, sym}
+use Rattle.std.proofs.lemmas.{Grind.common_steps, List.{drop-append-le, take-append-le, Sums.sum_by_push}}
 use Rattle.tx_ring.proofs.ring.TxRing.send.Goals as goal
 
 pub returns-clause-ok : goal.returns-clause-ok
