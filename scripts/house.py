@@ -8,6 +8,7 @@ import re
 import sys
 
 WIDEST_CLAUSE = 100
+WIDEST_LINE = 140
 LONGEST_FUNCTION = 40
 LONGEST_FILE = 800
 COLUMNS = ("code", "contracts", "tests", "specs", "proofs", "edits", "functions", "clause", "function")
@@ -152,6 +153,7 @@ def crate_of(folder):
             Source(crate, path).read()
         elif path.suffix == ".antt":
             crate.count(part, sum(1 for line in lines_of(path) if line.strip()))
+            crate.over += [f"{path}:{number}: it has {len(line)} columns" for number, line in enumerate(lines_of(path), 1) if len(line) > WIDEST_LINE]
         elif path.suffix == ".edit":
             crate.count("edits")
     return crate
