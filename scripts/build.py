@@ -162,7 +162,7 @@ class Build:
 
     def run(self):
         new = sum(not os.path.exists(f"{it.own}/out/incremental") for it in self.crates)
-        takes = f", {new} for the first time: on 4 cores some {(new * 20 + 59) // 60} minutes, {new * 250} MB of disk and up to 7 GB of memory"
+        takes = f", {new} for the first time: on 4 cores some {(new * 40 + 59) // 60} minutes, {new * 250} MB of disk and up to 7 GB of memory"
         say(f"proving and building {self.names} and what they stand on, {len(self.crates)} crates{takes if new else ''}")
         for crate in self.asked:  # so that no old one answers for new sources
             with contextlib.suppress(FileNotFoundError):

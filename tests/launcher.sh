@@ -133,7 +133,7 @@ building() {
     small_checkout
     cd "$scratch/deep" || exit
     RT_SECONDS=0.6 CDPATH=$scratch launcher=./link-of-a-link gives 'a first call by a symlink, from another folder, builds and replays' '0 words --budget 7' ../trace.csv --budget 7
-    check 'it says what it does and takes, which crate is at work, and that it is done' "$(grep -c -e '^replay: proving and building napi_serial and what they stand on, 4 crates, 4 for the first time: on 4 cores some 2 minutes, 1000 MB of disk' \
+    check 'it says what it does and takes, which crate is at work, and that it is done' "$(grep -c -e '^replay: proving and building napi_serial and what they stand on, 4 crates, 4 for the first time: on 4 cores some 3 minutes, 1000 MB of disk' \
         -e 'crate 4 of 4 (napi_serial), [0-9]* of [0-9]* functions checked, 0:0' -e 'napi_serial: proved and built, in' "$scratch/err")" 3
     check 'libraries that need nothing begin side by side, one that needs another behind it, and the program last' \
         "$(head -n 2 "$scratch/rt.log" | sort | paste -s -d ' ') $(grep -e 'end low' -e 'begin high' "$scratch/rt.log" | paste -s -d ' ') $(tail -n 1 "$scratch/rt.log")" 'begin low begin side end low begin high end napi_serial'

@@ -30,7 +30,7 @@ impl Lister {
     /// An empty list.
     pub fn new() -> Lister
         ensures list { result.list ≡ [] }
-        ensures run { (run_of result) ≡ None }
+        ensures run { run_of result ≡ None }
     {
         Lister {
             list: PlainList::new(),
@@ -64,7 +64,7 @@ impl Lister {
     pub fn push(&mut self, id: u32) -> u32
         ensures status { result ≡ push_status self.old id }
         ensures pushed { result ≡ OK → self.new.list ≡ self.old.list ++ id ∷ [] }
-        ensures run { (run_of self.new) ≡ (run_of self.old) }
+        ensures run { run_of self.new ≡ run_of self.old }
         ensures kept { result ≢ OK → self.new ≡ self.old }
     {
         if self.is_listed(id) {
@@ -77,7 +77,7 @@ impl Lister {
         status::OK
     }
 
-    /// Begins a run (`PollingRun::begin`).
+    /// Begins a run (`PollingRun::restart`).
     pub fn begin(&mut self, budget: u32, weight: u32, window: u32) -> u32
         ensures status { result ≡ begin_status self.old budget weight window }
         ensures going { result ≡ OK → Runs self.old.list [] self.new }
@@ -169,7 +169,7 @@ impl Lister {
         status::OK
     }
 
-    /// Ends the run (`PollingRun::end`).
+    /// Ends the run (`PollingRun::finish`).
     pub fn end(&mut self, report: &mut FqRunReport) -> u32
         ensures run { (start : _) (polls : List Poll) (budget weight window : _) → result ≡ OK
             → HasSettings budget weight window (run_of self.old)
@@ -180,7 +180,7 @@ impl Lister {
         ensures bounds { (budget weight window : _) → result ≡ OK
             → HasSettings budget weight window (run_of self.old)
             → (report.new.polls ≤ window) × (report.new.work < budget + weight) }
-        ensures over { result ≡ OK → (run_of self.new) ≡ None }
+        ensures over { result ≡ OK → run_of self.new ≡ None }
         ensures refused { result ≢ OK ↔ ¬ IsBetweenPolls self.old }
         ensures kept { result ≢ OK → (self.new ≡ self.old) × (report.new ≡ report.old) }
     {
