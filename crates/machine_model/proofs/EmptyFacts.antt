@@ -5,19 +5,21 @@ use Rattle.std.specs.Prelude.{◌==◌, ◌&&◌, ◌||◌, if◌then◌else◌,
 use Rattle.{std.specs.List.position_or_len, device_rows.specs.Places.{at, changed}, machine_words.specs.declared.settings.Settings.Settings}
 use Rattle.poll_runs.specs.{Turn.asked_for, declared.bench.{Next.TheVariants.{Gone, Repoll}}}
 use Rattle.machine_model.specs.Device.{DeviceView, after_packet, ended_interrupt, ended_poll, interrupted, polled}
-use Rattle.machine_model.specs.{Devices.{Devices, batch_at, is_handed_at, mask_at, raises_at, with_device}, Waits.held}
+use Rattle.machine_model.specs.{Devices.{Devices, batch_at, is_handed_at, raises_at, with_device}, Waits.held}
 use Rattle.machine_model.specs.Device as device
 use Rattle.machine_model.specs.Fates.{NothingIsLeft, ring_in}
 use Rattle.machine_model.specs.Laws.{Event, behind, end, packet}
-use Rattle.machine_model.specs.Processor.{ProcessorView, comes, delivers, ends_by, ends_current, ends_interrupt, ends_poll, ends_polls}
+use Rattle.machine_model.specs.Processor.{ProcessorView, comes, delivers, ends_by, ends_current, ends_interrupt, ends_poll}
 use Rattle.machine_model.specs.Processor.{ends_run, interrupts, is_busy, is_polling, polls, step}
-use Rattle.machine_model.specs.Softirq.{RunView, SoftirqView, asked_in, begun, ended, filled, is_spent, left_of, next_from, next_in}
+use Rattle.machine_model.specs.Softirq.{RunView, SoftirqView, asked_in, begun, ended, filled, is_spent, next_from}
 use Rattle.machine_model.specs.Softirq.{next_of, pushed, told}
 use Rattle.machine_model.specs.declared.processor.Work.{Work}
 use Rattle.machine_model.specs.declared.processor.Work.TheVariants.{Interrupt, Nothing, Poll, Use}
 use Rattle.machine_model.proofs.FateFacts.{at-apart, at-here, at-kept, made_at, with-apart, with-here}
 use Rattle.machine_model.proofs.{PlacesFacts.map_at, TimeFacts.timed, WalkFacts.{Free, Still, Walk, arrived, nexted, walk, walk-comes}}
 use Rattle.machine_model.proofs.WorkFacts.{Goes, Rests, free-ended, goes-on, work-ended, work-walk}
+use Rattle.machine_model.specs.Kept.{masks, mask_at}
+use Rattle.machine_model.proofs.StepFacts.{ends_polls}
 
 -- ---- how often a number stands on the list and in the run
 
@@ -38,8 +40,8 @@ unfoldable pub stands : ℕ → SoftirqView → ℕ
 stands n q = count n q.list + count_in n q.run
 
 count-moves : (n : ℕ) (own repoll list : List ℕ)
-    → count n (left_of own repoll list)
-    + (count n (asked_for (slice_get (filled own repoll list) 0)) + (count n (drop 1 (filled own repoll list)) + count n repoll))
+    → count n ((filled own repoll list).1)
+    + (count n (asked_for (slice_get (filled own repoll list).0 0)) + (count n (drop 1 (filled own repoll list).0) + count n repoll))
     ≡ count n list + (count n own + count n repoll)
 unfolding count
 count-moves n (x ∷ own) repoll list = omega arith
@@ -53,8 +55,8 @@ asked-none n None none = refl
 asked-none n (Some x) none = cc none
 
 count-next : (n : ℕ) (list : List ℕ) (run : Option RunView) (began : ℕ) → asked_in run ≡ None
-    → let q : SoftirqView = record { list = list; run = run; began = began } in stands n (next_in run q) ≡ stands n q
-unfolding stands count_in
+    → let q : SoftirqView = record { list = list; run = run; began = began } in stands n (next_of q) ≡ stands n q
+unfolding stands count_in next_of
 count-next n list None began none = refl
 count-next n list (Some r) began none = by (is_spent r)
   where

@@ -1,11 +1,12 @@
 -- Behind what ends, nothing is asked.
 use Rattle.std.{proofs.Common.{◌≡◌, ℕ, Bool, true, false, Option, Some, None, refl}, specs.Prelude.if◌then◌else◌}
 use Rattle.machine_model.specs.Kept.{is_poll}
-use Rattle.machine_model.specs.Processor.{ProcessorView, delivers, ends_by, ends_current, ends_interrupt, ends_poll, ends_polls, is_polling}
+use Rattle.machine_model.specs.Processor.{ProcessorView, delivers, ends_by, ends_current, ends_interrupt, ends_poll, is_polling}
 use Rattle.machine_model.specs.Softirq.{asked_in}
 use Rattle.machine_model.specs.declared.processor.Work.{Work}
 use Rattle.machine_model.specs.declared.processor.Work.TheVariants.{Interrupt, Nothing, Poll, Use}
 use Rattle.machine_model.proofs.ListedFacts.{asked-told}
+use Rattle.machine_model.proofs.StepFacts.{ends_polls}
 
 asked-lone : (b : Bool) (n : ℕ) (p : ProcessorView) → asked_in p.softirq.run ≡ None
     → asked_in (if b then p else ends_interrupt n p).softirq.run ≡ None

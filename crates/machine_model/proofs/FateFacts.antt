@@ -7,18 +7,20 @@ use Rattle.std.specs.Prelude.{◌==◌, ◌&&◌, ◌||◌, if◌then◌else◌,
 use Rattle.device_rows.specs.Places.{added_at, at, changed, changed_from}
 use Rattle.machine_words.specs.declared.settings.Settings.{Settings}
 use Rattle.machine_model.specs.Device.{DeviceView, after_packet, ended_interrupt, ended_poll, interrupted, opened, polled}
-use Rattle.machine_model.specs.{Devices.{Devices, batch_at, with_device, with_place}, Waits.held}
+use Rattle.machine_model.specs.{Devices.{Devices, batch_at, with_device}, Waits.held}
 use Rattle.machine_model.specs.Fates as fate
 use Rattle.machine_model.specs.Fates.{DeliversInOrder, came, finds_room, given, given_from, gives_by, polled_by, ring_in, taken_by}
 use Rattle.machine_model.specs.Device as device
 use Rattle.machine_model.specs.Laws.{Event, behind, end, packet}
-use Rattle.machine_model.specs.Processor.{ProcessorView, comes, delivers, ends_by, ends_current, ends_interrupt, ends_poll, ends_polls}
+use Rattle.machine_model.specs.Processor.{ProcessorView, comes, delivers, ends_by, ends_current, ends_interrupt, ends_poll}
 use Rattle.machine_model.specs.Processor.{ends_run, interrupts, is_busy, is_polling, polls, step}
 use Rattle.machine_model.specs.Softirq.{asked_in, next_of}
 use Rattle.machine_model.specs.declared.processor.Work.{Work}
 use Rattle.machine_model.specs.declared.processor.Work.TheVariants.{Interrupt, Nothing, Poll, Use}
 use Rattle.machine_model.proofs.{PlacesFacts.{at-changed, map_at}, WalkFacts.{Walk, arrived, nexted, walk, walk-comes}}
 use Rattle.machine_model.proofs.WorkFacts.{Goes, free-ended, goes-on}
+use Rattle.machine_model.proofs.StepFacts.{ends_polls}
+use Rattle.machine_model.proofs.PlacesFacts.{with_place}
 
 -- ---- what stands at a number
 

@@ -4,13 +4,14 @@ use Rattle.std.{proofs.Common.{sym, arith}, specs.Prelude.{◌||◌, if◌then�
 use Rattle.machine_words.specs.declared.settings.Settings.{Settings}
 use Rattle.poll_runs.specs.declared.bench.{Next.TheVariants.{Gone, Repoll}, Once.Once}
 use Rattle.machine_model.specs.{Device.{DeviceView, after_packet, ended_poll, interrupted}, Waits.held}
-use Rattle.machine_model.specs.{Devices.{Devices, batch_at, is_handed_at, masks}, Kept.{Kept, is_poll}}
+use Rattle.machine_model.specs.{Devices.{Devices, batch_at, is_handed_at}, Kept.{Kept, is_poll}}
 use Rattle.machine_model.specs.Softirq.{SoftirqView, asked_in, begun, ended, next_of, pushed, told}
 use Rattle.machine_model.specs.declared.processor.Work.{Work}
 use Rattle.machine_model.specs.declared.processor.Work.TheVariants.{Poll}
 use Rattle.device_rows.specs.Places.{at, changed}
 use Rattle.machine_model.proofs.ListedFacts.{asked-told, listed-begun, listed-ended, listed-pushed, listed-told, next-keeps, weight-told}
 use Rattle.machine_model.proofs.PlacesFacts.{masks-ended, masks-interrupted, masks-same}
+use Rattle.machine_model.specs.Kept.{masks}
 
 -- devices change, none is unmasked
 pub kept-devices : (s : Settings) (w : Work) (ds es : Devices) (q : SoftirqView) (b : List ℕ) → Kept s w ds q b → masks ds ≤ masks es

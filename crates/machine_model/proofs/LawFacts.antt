@@ -19,7 +19,7 @@ runs-as-one moment p q r f g =
 pub arrives-as-one : ArrivesAsOne
 arrives-as-one moment device before after other f g =
     let old : g.old ≡ f.old = same-some g.old f.old (sym g.own ∙ f.own) in
-    let runs : RunsTo moment f.old g.arrives.ready = rw old at g.arrives.runs in
-    let ready : f.arrives.ready ≡ g.arrives.ready = runs-as-one moment f.old f.arrives.ready g.arrives.ready f.arrives.runs runs in
-    let new : f.new ≡ g.new = f.arrives.comes ∙ (ap (comes moment (number_of device before)) ready ∙ sym g.arrives.comes) in
+    let runs : RunsTo moment f.old g.arrives.0 = rw old at g.arrives.1 in
+    let ready : f.arrives.0 ≡ g.arrives.0 = runs-as-one moment f.old f.arrives.0 g.arrives.0 f.arrives.1 runs in
+    let new : f.new ≡ g.new = f.arrives.2 ∙ (ap (comes moment (number_of device before)) ready ∙ sym g.arrives.2) in
     f.others ∙ (ap (λ (p : ProcessorView). slice_set before (processor_of device before) p) new ∙ sym g.others)

@@ -11,8 +11,8 @@ use Rattle.machine_model.specs.Device as device
 use Rattle.machine_model.specs.Fates.{NoWaitIsLess, given, given_from, gives_by, kept_from, least_time, polled_by, ring_in, room_for}
 use Rattle.machine_model.specs.Fates.{use_waits, using, waits}
 use Rattle.machine_model.specs.Laws.{Event, InTurn, behind, end, packet}
-use Rattle.machine_model.specs.Processor.{ProcessorView, comes, delivers, ends_by, ends_current, ends_interrupt, ends_polls, ends_run}
-use Rattle.machine_model.specs.Processor.{interrupt_time, interrupts, is_busy, is_due, is_polling, poll_time, polls, step, uses_from}
+use Rattle.machine_model.specs.Processor.{ProcessorView, comes, delivers, ends_by, ends_current, ends_interrupt, ends_run}
+use Rattle.machine_model.specs.Processor.{interrupts, is_busy, is_due, is_polling, polls, step}
 use Rattle.machine_model.specs.declared.processor.Work.{Work}
 use Rattle.machine_model.specs.declared.processor.Work.TheVariants.{Interrupt, Nothing, Poll, Use}
 use Rattle.machine_model.proofs.FateFacts.{at-apart, at-here, at-kept, capacities, capacity_in, comes-ring, made_at, poll-ring, with-apart}
@@ -20,6 +20,14 @@ use Rattle.machine_model.proofs.FateFacts.{with-here}
 use Rattle.machine_model.proofs.{PlacesFacts.map_at, SocketFacts.ended-by, TimeFacts.{clock-ended, clocks-never-fall, due-parts, timed}}
 use Rattle.machine_model.proofs.WalkFacts.{Free, Walk, arrived, implied, nexted, walk, walk-comes}
 use Rattle.machine_model.proofs.WorkFacts.{Goes, Rests, RunsIn, free-ended, goes-on, work-ended, work-walk}
+use Rattle.machine_model.proofs.StepFacts.{ends_polls}
+use Rattle.machine_model.specs.Processor.{uses}
+
+abbrev pub interrupt_time : Settings → ℕ
+interrupt_time s = if is_polling s then s.interrupt else s.interrupt + s.packet
+
+abbrev pub poll_time : Settings → List ℕ → ℕ
+poll_time s batch = s.poll + s.packet * length batch
 
 -- ---- lists
 
@@ -213,7 +221,7 @@ unfolding ends_run
 calm-over s c late p h rests = record { rests = rests; clock = h.clock; rings = h.rings; raises = h.raises; socket = h.socket }
 
 due-uses : (s : Settings) (c : ℕ) → c < 2 ^ 64 → (came : ℕ) (more : List ℕ) (p : ProcessorView) → Calm s c p → p.socket.items ≡ came ∷ more
-    → Due s c (uses_from (came ∷ more) p)
+    → Due s c (uses (came ∷ more) p)
 unfolding given
 due-uses s c fits came more p h is =
     let items = rw is at h.socket in

@@ -5,17 +5,19 @@ use Rattle.std.proofs.lemmas.{Bool.{eqb-true, eqb-false}, List.Quantifiers.posit
 use Rattle.std.specs.Prelude.{◌==◌, ◌&&◌, if◌then◌else◌, is_some, min, nat_le, nat_lt, not, position, sum_by}
 use Rattle.device_rows.{specs.Places.{at, changed}, proofs.PlaceFacts.none-of}
 use Rattle.poll_runs.specs.{Turn.asked_for, declared.bench.{Next.TheVariants.{Gone, Repoll}, Once.Once}}
-use Rattle.machine_model.specs.Device.{DeviceView, batch_of, delivered, ended_interrupt, ended_poll, interrupted, polled, taken}
+use Rattle.machine_model.specs.Device.{DeviceView, delivered, ended_interrupt, ended_poll, interrupted, polled, taken}
 use Rattle.machine_model.specs.{Devices.{Devices, batch_at, is_handed_at, raises_at}, Kept.IsKept}
-use Rattle.machine_model.specs.Processor.{ProcessorView, begins, delivers, ends_by, ends_current, ends_interrupt, ends_poll, ends_polls}
-use Rattle.machine_model.specs.Processor.{ends_run, goes_on, interrupts, is_busy, is_polling, polls, polls_or, rests, step, takes_up}
-use Rattle.machine_model.specs.Processor.{takes_up_by, uses, uses_from}
-use Rattle.machine_model.specs.Softirq.{RunView, SoftirqView, asked_in, begun, ended, held_in, listed, next_of, pushed, told}
+use Rattle.machine_model.specs.Processor.{ProcessorView, begins, delivers, ends_by, ends_current, ends_interrupt, ends_poll}
+use Rattle.machine_model.specs.Processor.{ends_run, goes_on, interrupts, is_busy, is_polling, polls, rests, step, takes_up}
+use Rattle.machine_model.specs.Processor.{uses}
+use Rattle.machine_model.specs.Softirq.{RunView, SoftirqView, asked_in, begun, ended, next_of, pushed, told}
 use Rattle.machine_model.specs.declared.processor.Work.{Work}
 use Rattle.machine_model.specs.declared.processor.Work.TheVariants.{Interrupt, Nothing, Poll, Use}
 use Rattle.machine_model.proofs.{EndFacts.asked-ends, KeptFacts.run-ended}
 use Rattle.machine_model.proofs.ListedFacts.{asked-told, listed-begun, listed-ended, listed-pushed, listed-told, next-keeps}
 use Rattle.machine_model.proofs.PlacesFacts.{at-changed, map_at, sum-at, sum-changed}
+use Rattle.machine_model.specs.Shown.{held_in, listed}
+use Rattle.machine_model.proofs.StepFacts.{ends_polls, polls_or, takes_up_by}
 
 -- ---- devices
 
@@ -60,7 +62,7 @@ drained weight None short = refl
 drained weight (Some d) short =
     let count = length-take (min weight (length d.ring)) d.ring in
     let empty : length (drop (min weight (length d.ring)) d.ring) ≡ 0 =
-    omega (arith, count, eqb-false (length (batch_of weight d)) weight short, length-drop (min weight (length d.ring)) d.ring) in
+    omega (arith, count, eqb-false (length (batch_at weight (Some d))) weight short, length-drop (min weight (length d.ring)) d.ring) in
     rw empty refl
 
 pot-interrupted : (polling : Bool) (o : Option DeviceView) → raises_at o ≡ true → pot_at (map_at (interrupted polling) o) + 2 ≡ pot_at o
@@ -256,7 +258,7 @@ polls-less n p asked =
     = omega (arith, none, sum-changed pot_at (polled weight) n p.devices, pot-polled weight o) in
     rw asked whole
 
-uses-less : (items : List ℕ) (p : ProcessorView) → p.socket.items ≡ items → p.work ≡ Nothing → left (uses_from items p) ≤ base p
+uses-less : (items : List ℕ) (p : ProcessorView) → p.socket.items ≡ items → p.work ≡ Nothing → left (uses items p) ≤ base p
 unfolding left left_by base
 uses-less [] p is nothing = omega (arith, idle-left p.work p nothing)
 uses-less (came ∷ more) p is nothing = omega (arith, ap length is)
@@ -284,13 +286,13 @@ begins-less p nothing none =
     asks-less (asked_in (next_of b).run) q q (base p) refl (omega (arith, more)) (omega (arith, more, idle-left p.work q nothing))
 
 rests-less : (p : ProcessorView) → p.work ≡ Nothing → p.softirq.run ≡ None → left (rests p) ≤ base p
-unfolding rests uses base
+unfolding rests base
 rests-less p nothing none =
     let over : ProcessorView = record p { slice = 0 } in
-    left-if (nat_lt 0 p.slice && not (length p.socket.items == 0)) (uses p)
-    (if is_polling p.settings && not (length p.softirq.list == 0) then begins over else uses over) (base p)
+    left-if (nat_lt 0 p.slice && not (length p.socket.items == 0)) (uses p.socket.items p)
+    (if is_polling p.settings && not (length p.softirq.list == 0) then begins over else uses p.socket.items over) (base p)
     (uses-less p.socket.items p refl nothing)
-    (left-if (is_polling p.settings && not (length p.softirq.list == 0)) (begins over) (uses over) (base p) (begins-less over nothing none)
+    (left-if (is_polling p.settings && not (length p.softirq.list == 0)) (begins over) (uses p.socket.items over) (base p) (begins-less over nothing none)
     (uses-less p.socket.items over refl nothing))
 
 over-less : (late : Bool) (p : ProcessorView) → p.work ≡ Nothing → asked_in p.softirq.run ≡ None → left (rests (ends_run late p)) ≤ base p

@@ -1,3 +1,4 @@
+pub mod StepFacts
 pub mod WaitFacts
 pub mod SoftirqFacts
 pub mod ListedFacts
@@ -5,7 +6,6 @@ pub mod PlacesFacts
 pub mod KeptFacts
 pub mod EndFacts
 pub mod LeftFacts
-pub mod StepFacts
 pub mod MachineFacts
 pub mod LawFacts
 pub mod WalkFacts

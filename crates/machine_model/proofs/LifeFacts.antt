@@ -107,17 +107,17 @@ lived-arrives s until moment device packets before m most l a = record {
         let inside : place < length before = slice_get_within before place a.old a.own in
         let new : p ≡ a.new = same-some p a.new (sym is ∙ (rw (a.others, ← here) (slice_get-set_same before place a.new inside))) in
         let old : Lived s moment (own s.processors place packets) a.old = l.each place a.old a.own in
-        let ready : Lived s moment (own s.processors place packets) a.arrives.ready =
-        lived-runs s moment _ a.old a.arrives.ready old a.arrives.runs in
+        let ready : Lived s moment (own s.processors place packets) a.arrives.0 =
+        lived-runs s moment _ a.old a.arrives.0 old a.arrives.1 in
         let came : Lived s moment ((moment, (device - 1) / length before) ∷ own s.processors place packets)
-        (comes moment ((device - 1) / length before) a.arrives.ready)
-        = lived-comes s moment _ _ a.arrives.ready ready a.arrives.runs.none in
+        (comes moment ((device - 1) / length before) a.arrives.0)
+        = lived-comes s moment _ _ a.arrives.0 ready a.arrives.1.none in
         let listed : own s.processors number ((moment, device) ∷ packets)
         ≡ (moment, (device - 1) / length before) ∷ own s.processors place packets
         = own-here s.processors number moment device packets (rw (← l.count) here)
         ∙ (ap (λ (k : ℕ). (moment, (device - 1) / k) ∷ own s.processors number packets) (sym l.count)
         ∙ ap (λ (k : ℕ). (moment, (device - 1) / length before) ∷ own s.processors k packets) (sym here)) in
-        rw (new, a.arrives.comes, listed) (lived-later s moment until _ _ most came)
+        rw (new, a.arrives.2, listed) (lived-later s moment until _ _ most came)
     by number p is false other =
         let apart : slice_get before number ≡ Some p =
         sym (slice_get-set_other before place number a.new (λ e. eqb-false place number other (sym e))) ∙ (rw (← a.others) is) in

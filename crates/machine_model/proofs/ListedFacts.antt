@@ -2,8 +2,11 @@
 use Rattle.std.proofs.Common.{◌≡◌, ℕ, ◌+◌, Bool, true, false, Option, Some, None, List, [], ◌∷◌, ◌++◌, drop, length, length-append, refl}
 use Rattle.std.{proofs.Common.arith, specs.Prelude.{is_some, slice_get, if◌then◌else◌}}
 use Rattle.poll_runs.specs.{Turn.asked_for, declared.bench.{Next.TheVariants.{Gone, Repoll}, Once.Once}}
-use Rattle.machine_model.specs.Softirq.{RunView, SoftirqView, asked_in, begun, ended, filled, is_spent, left_of, listed, next_from, next_in}
-use Rattle.machine_model.specs.Softirq.{next_of, pushed, told, told_in, weight_in}
+use Rattle.machine_model.specs.Softirq.{RunView, SoftirqView, asked_in, begun, ended, filled, is_spent, next_from}
+use Rattle.machine_model.specs.Softirq.{next_of, pushed, told}
+use Rattle.machine_model.specs.Shown.{weight_in, listed}
+use Rattle.machine_model.specs.Softirq.{told_run}
+use Rattle.std.specs.Prelude.{option_map}
 
 pub listed-pushed : (n : ℕ) (q : SoftirqView) → listed (pushed n q) ≡ listed q + 1
 listed-pushed n q = omega (arith, length-append q.list (n ∷ []))
@@ -16,8 +19,8 @@ pub record Same (q r : SoftirqView) : Type 0 where
 
 -- one poll more, or none, only moves numbers
 next-moves : (own repoll list : List ℕ)
-    → length (left_of own repoll list)
-    + (length (asked_for (slice_get (filled own repoll list) 0) ++ drop 1 (filled own repoll list)) + length repoll)
+    → length ((filled own repoll list).1)
+    + (length (asked_for (slice_get (filled own repoll list).0 0) ++ drop 1 (filled own repoll list).0) + length repoll)
     ≡ length list + (length own + length repoll)
 next-moves (n ∷ own) repoll list = omega arith
 next-moves [] (n ∷ repoll) list = omega arith
@@ -25,7 +28,8 @@ next-moves [] [] (n ∷ list) = omega arith
 next-moves [] [] [] = omega arith
 
 next-same : (list : List ℕ) (run : Option RunView) (began : ℕ) → asked_in run ≡ None
-    → let q : SoftirqView = record { list = list; run = run; began = began } in Same q (next_in run q)
+    → let q : SoftirqView = record { list = list; run = run; began = began } in Same q (next_of q)
+unfolding next_of
 next-same list None began none = record { listed = refl; some = refl; weight = refl }
 next-same list (Some r) began none = by (is_spent r)
   where
@@ -80,7 +84,7 @@ pub listed-told : (full : Bool) (work n : ℕ) (q : SoftirqView) → asked_in q.
     → listed (told (record { work = work; next = if full then Repoll else Gone }) q) + (if full then 0 else 1) ≡ listed q
 listed-told full work n q asked = told-moves full work n q.list q.run q.began asked
 
-told-rests : (run : Option RunView) (once : Once) → asked_in (told_in once run) ≡ None
+told-rests : (run : Option RunView) (once : Once) → asked_in (option_map (told_run once) run) ≡ None
 told-rests None once = refl
 told-rests (Some r) once = refl
 
@@ -89,7 +93,7 @@ unfolding told
 asked-told once q = told-rests q.run once
 
 told-weighs : (run : Option RunView) (once : Once)
-    → (weight_in (told_in once run) ≡ weight_in run) × (is_some (told_in once run) ≡ is_some run)
+    → (weight_in (option_map (told_run once) run) ≡ weight_in run) × (is_some (option_map (told_run once) run) ≡ is_some run)
 told-weighs None once = (refl, refl)
 told-weighs (Some r) once = (refl, refl)
 

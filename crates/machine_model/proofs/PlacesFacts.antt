@@ -5,7 +5,13 @@ use Rattle.std.proofs.lemmas.{Grind.get_or-set_at, List.{replicate-append-replic
 use Rattle.std.specs.Prelude.{◌||◌, ◌&&◌, not, sum_by, if◌then◌else◌}
 use Rattle.device_rows.{specs.Places.{added_at, at, changed, changed_from}, proofs.PlaceFacts.below-some}
 use Rattle.machine_model.specs.Device.{DeviceView, ended_poll, interrupted, opened}
-use Rattle.machine_model.specs.Devices.{Devices, is_handed_at, mask_at, masks, with_device, with_place}
+use Rattle.machine_model.specs.Devices.{Devices, is_handed_at, with_device}
+use Rattle.machine_model.specs.Kept.{masks, mask_at}
+use Rattle.machine_model.specs.Shown.{listed}
+
+-- the places up to a number
+abbrev pub with_place : ℕ → Devices → Devices
+with_place number devices = devices ++ replicate (number + 1 - length devices) None
 
 unfoldable pub map_at : (DeviceView → DeviceView) → Option DeviceView → Option DeviceView
 map_at f None = None

@@ -6,12 +6,13 @@ use Rattle.machine_model.specs.{Devices.batch_at, Waits.{WaitsView, counted, hel
 use Rattle.machine_model.specs.Fates.{TellsOfUse, UsesInOrder, counting, gives_by, kept, kept_from, refused, refused_from, use_waits, used}
 use Rattle.machine_model.specs.Fates.{using}
 use Rattle.machine_model.specs.Laws.{Event, behind, end, packet}
-use Rattle.machine_model.specs.Processor.{ProcessorView, delivers, ends_by, ends_current, ends_interrupt, ends_poll, ends_polls, ends_run}
+use Rattle.machine_model.specs.Processor.{ProcessorView, delivers, ends_by, ends_current, ends_interrupt, ends_poll, ends_run}
 use Rattle.machine_model.specs.Processor.{interrupts, is_busy, is_polling, polls, step}
 use Rattle.machine_model.specs.Softirq.{asked_in}
 use Rattle.machine_model.specs.declared.processor.Work.{Work}
 use Rattle.machine_model.specs.declared.processor.Work.TheVariants.{Interrupt, Nothing, Poll, Use}
 use Rattle.machine_model.proofs.{WalkFacts.{Walk, nexted, walk, walk-comes}, WorkFacts.{free-ended, goes-on}}
+use Rattle.machine_model.proofs.StepFacts.{ends_polls}
 
 -- what stands in the socket, and what is told
 pub record Holds (xs : List ℕ) (refused : ℕ) (waits : WaitsView) (p : ProcessorView) : Type 0 where

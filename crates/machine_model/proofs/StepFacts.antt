@@ -1,6 +1,19 @@
 -- Steps one after the other.
-use Rattle.std.proofs.{Common.{◌≡◌, ℕ, suc, ◌<◌, true, inl, inr, arith}, Math.Nat.eq-or-lt_of_le}
-use Rattle.machine_model.specs.Processor.{ProcessorView, after, is_due}
+use Rattle.std.proofs.{Common.{◌≡◌, ℕ, suc, ◌<◌, true, inl, inr, arith, Option}, Math.Nat.eq-or-lt_of_le}
+use Rattle.std.specs.{Prelude.{if◌then◌else◌, is_some}, Option.option_map_or}
+use Rattle.machine_model.specs.Processor.{ProcessorView, after, ends_poll, goes_on, interrupts, is_due, polls, rests}
+
+-- what is taken up where an interrupt is raised, and where none is
+abbrev pub takes_up_by : Option ℕ → ProcessorView → ProcessorView
+takes_up_by raised p = option_map_or (λ number. interrupts number p) raised (if is_some p.softirq.run then goes_on p else rests p)
+
+-- the poll of the number that is asked, and what is taken up where none is
+abbrev pub polls_or : ProcessorView → Option ℕ → ProcessorView → ProcessorView
+polls_or other asked p = option_map_or (λ number. polls number p) asked other
+
+-- the poll of the number that is asked ends
+abbrev pub ends_polls : Option ℕ → ProcessorView → ProcessorView
+ends_polls asked p = option_map_or (λ number. ends_poll number p) asked p
 
 -- what is due at each of the first steps, and at one more
 pub each-more : (moment : ℕ) (p : ProcessorView) (count : ℕ) → ((n : ℕ) → n < count → is_due moment (after n p) ≡ true)

@@ -11,13 +11,14 @@ use Rattle.machine_model.specs.Fates as fate
 use Rattle.machine_model.specs.Fates.{TellsOfDevice, Tells, came, counting, counts_in, finds_room, given, given_from, gives_by, polled_by}
 use Rattle.machine_model.specs.Fates.{ring_in, taken_by, waits, waits_in}
 use Rattle.machine_model.specs.Laws.{Event, behind, end, packet}
-use Rattle.machine_model.specs.Processor.{ProcessorView, comes, delivers, ends_by, ends_current, ends_interrupt, ends_poll, ends_polls}
+use Rattle.machine_model.specs.Processor.{ProcessorView, comes, delivers, ends_by, ends_current, ends_interrupt, ends_poll}
 use Rattle.machine_model.specs.Processor.{interrupts, is_polling, polls, step}
 use Rattle.machine_model.specs.declared.processor.Work.{Work}
 use Rattle.machine_model.specs.declared.processor.Work.TheVariants.{Interrupt, Nothing, Poll, Use}
 use Rattle.machine_model.proofs.FateFacts.{Blind, Seen, at-apart, at-here, at-kept, capacities, capacity_in, made-ring, made_at, seen-walk}
 use Rattle.machine_model.proofs.FateFacts.{with-apart, with-here}
 use Rattle.machine_model.proofs.{PlacesFacts.{map_at}, WalkFacts.{Walk, arrived, nexted, walk, walk-comes}, WorkFacts.{free-ended, goes-on}}
+use Rattle.machine_model.proofs.StepFacts.{ends_polls}
 
 -- what is counted of packets
 pub record Tally : Type 0 where

@@ -6,11 +6,12 @@ use Rattle.device_rows.{specs.Places.{at, changed}, proofs.PlaceFacts.none-of}
 use Rattle.machine_words.specs.declared.settings.Settings.{Settings}
 use Rattle.machine_model.specs.{Device.after_packet, Devices.{raises_at, with_device}, Kept.is_poll}
 use Rattle.machine_model.specs.Softirq.{SoftirqView, asked_in, begun, ended, next_of}
-use Rattle.machine_model.specs.Processor.{ProcessorView, begins, comes, ends_run, goes_on, interrupts, is_busy, is_polling, polls, polls_or}
-use Rattle.machine_model.specs.Processor.{rests, takes_up, takes_up_by, uses, uses_from}
+use Rattle.machine_model.specs.Processor.{ProcessorView, begins, comes, ends_run, goes_on, interrupts, is_busy, is_polling, polls}
+use Rattle.machine_model.specs.Processor.{rests, takes_up, uses}
 use Rattle.machine_model.specs.declared.processor.Work.{Work}
 use Rattle.machine_model.specs.declared.processor.Work.TheVariants.{Interrupt, Nothing, Poll, Use}
 use Rattle.machine_model.proofs.KeptFacts.{run-ended}
+use Rattle.machine_model.proofs.StepFacts.{polls_or, takes_up_by}
 
 -- nothing is under way
 pub record Free (p : ProcessorView) : Type 0 where
@@ -40,7 +41,7 @@ pub record Walk (P Q : ProcessorView → Type 0) : Type 0 where
   pub over : (late : Bool) (p : ProcessorView) → Free p → P p → P (ends_run late p)
   pub slice : (p : ProcessorView) → P p → P (rested p)
   pub begins : (p : ProcessorView) → P p → p.softirq.run ≡ None → is_polling p.settings ≡ true → P (started p)
-  pub uses : (came : ℕ) (more : List ℕ) (p : ProcessorView) → Free p → P p → p.socket.items ≡ came ∷ more → Q (uses_from (came ∷ more) p)
+  pub uses : (came : ℕ) (more : List ℕ) (p : ProcessorView) → Free p → P p → p.socket.items ≡ came ∷ more → Q (uses (came ∷ more) p)
   pub stays : (p : ProcessorView) → Free p → P p → Still p → Q p
 
 pub implied : (P Q R : ProcessorView → Type 0) → Walk P Q → ((p : ProcessorView) → Q p → R p) → Walk P R
@@ -60,7 +61,7 @@ either Q true x y first second = first refl
 either Q false x y first second = second refl
 
 walk-uses : (P Q : ProcessorView → Type 0) → Walk P Q → (items : List ℕ) (p : ProcessorView) → p.socket.items ≡ items → Free p → P p
-    → (p.socket.items ≡ [] → Still p) → Q (uses_from items p)
+    → (p.socket.items ≡ [] → Still p) → Q (uses items p)
 walk-uses P Q w [] p is free held still = w.stays p free held (still is)
 walk-uses P Q w (came ∷ more) p is free held still = w.uses came more p free held is
 
@@ -114,15 +115,15 @@ empty-socket b items some none = cc (rw none at (both-second b (not (length item
 
 walk-rests : (P Q : ProcessorView → Type 0) → Walk P Q → (p : ProcessorView) → Free p → P p → p.softirq.run ≡ None
     → position raises_at p.devices ≡ None → Q (rests p)
-unfolding rests uses
+unfolding rests
 walk-rests P Q w p free held none quiet =
     let over : ProcessorView = rested p in
     let new : Free over = record { nothing = free.nothing; unasked = free.unasked } in
     let over-held : P over = w.slice p held in
-    either Q (nat_lt 0 p.slice && not (length p.socket.items == 0)) (uses p)
-    (if is_polling p.settings && not (length p.softirq.list == 0) then begins over else uses over)
+    either Q (nat_lt 0 p.slice && not (length p.socket.items == 0)) (uses p.socket.items p)
+    (if is_polling p.settings && not (length p.softirq.list == 0) then begins over else uses p.socket.items over)
     (λ yes. walk-uses P Q w p.socket.items p refl free held (λ empty. absurd (empty-socket (nat_lt 0 p.slice) p.socket.items yes empty)))
-    (λ no. either Q (is_polling p.settings && not (length p.softirq.list == 0)) (begins over) (uses over)
+    (λ no. either Q (is_polling p.settings && not (length p.softirq.list == 0)) (begins over) (uses p.socket.items over)
     (λ yes. walk-begins P Q w over new over-held none (both-first (is_polling p.settings) (not (length p.softirq.list == 0)) yes)
     (both-second (is_polling p.settings) (not (length p.softirq.list == 0)) yes))
     (λ none-listed. walk-uses P Q w p.socket.items over refl new over-held

@@ -6,14 +6,16 @@ use Rattle.poll_runs.specs.declared.bench.{Next.TheVariants.{Gone, Repoll}, Once
 use Rattle.machine_words.specs.declared.settings.Settings.{Settings}
 use Rattle.machine_model.specs.{Device.DeviceView, Devices.{batch_at, is_handed_at}, Kept.is_poll}
 use Rattle.machine_model.specs.Laws.{Event, WorksWithin, behind, end, packet}
-use Rattle.machine_model.specs.Softirq.{RunView, SoftirqView, asked_in, ended, filled, is_spent, next_from, next_in, next_of, pushed, told}
-use Rattle.machine_model.specs.Softirq.{told_in}
-use Rattle.machine_model.specs.Processor.{ProcessorView, comes, delivers, ends_by, ends_current, ends_interrupt, ends_poll, ends_polls}
+use Rattle.machine_model.specs.Softirq.{RunView, SoftirqView, asked_in, ended, filled, is_spent, next_from, next_of, pushed, told}
+use Rattle.machine_model.specs.Processor.{ProcessorView, comes, delivers, ends_by, ends_current, ends_interrupt, ends_poll}
 use Rattle.machine_model.specs.Processor.{ends_run, interrupts, is_polling, polls, step}
 use Rattle.device_rows.specs.Places.{at}
 use Rattle.machine_model.specs.declared.processor.Work.{Work}
 use Rattle.machine_model.specs.declared.processor.Work.TheVariants.{Interrupt, Nothing, Poll, Use}
 use Rattle.machine_model.proofs.{EndFacts.asked-ends, WalkFacts.{Free, Walk, walk, walk-comes}}
+use Rattle.machine_model.proofs.StepFacts.{ends_polls}
+use Rattle.machine_model.specs.Softirq.{told_run}
+use Rattle.std.specs.Prelude.{option_map}
 
 -- what is true of a run of these settings
 pub record Runs (s : Settings) (r : RunView) : Type 0 where
@@ -36,7 +38,8 @@ pub record Goes (s : Settings) (p : ProcessorView) : Type 0 where
   pub asked : is_poll p.work ≡ false → asked_in p.softirq.run ≡ None
 
 next-runs : (s : Settings) (list : List ℕ) (run : Option RunView) (began : ℕ) → asked_in run ≡ None → RunsIn s run
-    → RunsIn s (next_in run (record { list = list; run = run; began = began })).run
+    → RunsIn s (next_of (record { list = list; run = run; began = began })).run
+unfolding next_of
 next-runs s list None began none held = tt
 next-runs s list (Some r) began none held = by (is_spent r) refl
   where
@@ -59,7 +62,7 @@ unfolding next_of
 runs-next s q none held = next-runs s q.list q.run q.began none held
 
 runs-told : (s : Settings) (run : Option RunView) (once : Once) (n : ℕ) → asked_in run ≡ Some n → once.work ≤ s.weight → RunsIn s run
-    → RunsIn s (told_in once run)
+    → RunsIn s (option_map (told_run once) run)
 runs-told s None once n asked few held = tt
 runs-told s (Some r) once n asked few held =
     let below : r.work < s.budget = held.asked (rw asked refl) in

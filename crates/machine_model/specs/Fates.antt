@@ -5,13 +5,14 @@ use Rattle.std.specs.List.{AllByRecursion}
 use Rattle.circular_buffer.specs.Buffer.{Buffer}
 use Rattle.device_rows.specs.Places.{at}
 use Rattle.machine_words.specs.declared.settings.Settings.{Settings}
-use Rattle.machine_model.specs.Device.{DeviceView, no_counts}
+use Rattle.machine_model.specs.Device.{DeviceView}
 use Rattle.machine_model.specs.Devices.{batch_at}
 use Rattle.machine_model.specs.Laws.{Event, InTurn, behind, end, packet}
 use Rattle.machine_model.specs.Processor.{ProcessorView, is_due, is_polling}
 use Rattle.machine_model.specs.Softirq.{asked_in}
 use Rattle.machine_model.specs.Waits.{WaitsView, counted, held, no_waits}
 use Rattle.machine_model.specs.declared.device.DeviceCounts.{DeviceCounts}
+use Rattle.machine_model.specs.declared.device.TheConstants.DeviceCounts.{NONE}
 use Rattle.machine_model.specs.declared.processor.Work.{Work}
 use Rattle.machine_model.specs.declared.processor.Work.TheVariants.{Nothing, Interrupt, Poll, Use}
 
@@ -148,7 +149,7 @@ NoWaitIsLess = (s : Settings) (until : ℕ) (events : List Event) → until < 2 
 
 -- what is told of a device, nothing of one that isn't there
 abbrev pub counts_in : Option DeviceView → DeviceCounts
-counts_in None = no_counts
+counts_in None = NONE
 counts_in (Some d) = d.told
 
 abbrev pub waits_in : Option DeviceView → WaitsView

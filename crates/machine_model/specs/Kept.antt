@@ -1,11 +1,21 @@
 -- What is true of each processor.
-use Rattle.std.specs.Prelude.{◌≡◌, ◌≤◌, Bool, true, false, is_some, List, ℕ, length, None}
+use Rattle.std.specs.Prelude.{◌≡◌, ◌≤◌, Bool, true, false, is_some, List, ℕ, length, sum_by, Option, None, if◌then◌else◌}
+use Rattle.std.specs.Option.{option_map_or}
 use Rattle.machine_words.specs.declared.settings.Settings.{Settings}
-use Rattle.machine_model.specs.Devices.{Devices, masks}
-use Rattle.machine_model.specs.Softirq.{SoftirqView, asked_in, listed, weight_in}
+use Rattle.machine_model.specs.Device.{DeviceView}
+use Rattle.machine_model.specs.Devices.{Devices}
+use Rattle.machine_model.specs.Shown.{listed, weight_in}
+use Rattle.machine_model.specs.Softirq.{SoftirqView, asked_in}
 use Rattle.machine_model.specs.Processor.{ProcessorView}
 use Rattle.machine_model.specs.declared.processor.Work.{Work}
 use Rattle.machine_model.specs.declared.processor.Work.TheVariants.{Poll}
+
+-- how many devices are masked
+abbrev pub mask_at : Option DeviceView → ℕ
+mask_at place = option_map_or (λ d. if d.masked then 1 else 0) place 0
+
+abbrev pub masks : Devices → ℕ
+masks devices = sum_by mask_at devices
 
 abbrev pub is_poll : Work → Bool
 is_poll Poll = true

@@ -1,5 +1,6 @@
 pub mod Waits
 pub mod Softirq
+pub mod Shown
 pub mod Device
 pub mod Devices
 pub mod Processor

@@ -1,6 +1,6 @@
 -- The machine: its processors, what arrivals make of them, and what the report tells.
-use Rattle.std.specs.Prelude.{◌≡◌, ℕ, ◌-◌, ◌/◌, ◌%◌, ◌^◌, List, length, replicate, slice_get, slice_set, Option, Some, None}
-use Rattle.std.specs.Option.{option_map}
+use Rattle.std.specs.Prelude.{◌≡◌, ℕ, ◌-◌, ◌/◌, ◌%◌, ◌^◌, List, length, replicate, slice_get, slice_set, Option, Some}
+use Rattle.std.specs.Option.{option_and_then, option_map}
 use Rattle.device_rows.specs.Places.{at}
 use Rattle.machine_words.specs.declared.settings.Settings.{Settings}
 use Rattle.machine_model.specs.Device.{DeviceView}
@@ -24,10 +24,8 @@ abbrev pub number_of : ℕ → Machine → ℕ
 number_of device m = (device - 1) / length m
 
 -- a packet comes to a device of this processor: before it ends all that ends at or before the moment
-pub record ArrivesAt (moment number : ℕ) (before after : ProcessorView) : Type 0 where
-  pub ready : ProcessorView
-  pub runs : RunsTo moment before ready
-  pub comes : after ≡ comes moment number ready
+abbrev pub ArrivesAt : ℕ → ℕ → ProcessorView → ProcessorView → Type 0
+ArrivesAt moment number before after = (ready : ProcessorView) × RunsTo moment before ready × (after ≡ comes moment number ready)
 
 -- a packet comes to a device, and only its processor changes
 pub record Arrives (moment device : ℕ) (before after : Machine) : Type 0 where
@@ -48,13 +46,10 @@ pub record Finishes (before after : Machine) : Type 0 where
 abbrev pub report_of : DeviceView → DeviceReport
 report_of d = record { counts = d.told; waits = told_of d.waits }
 
-abbrev pub device_in : ℕ → Option ProcessorView → Option DeviceReport
-device_in number None = None
-device_in number (Some p) = option_map report_of (at number p.devices)
-
 -- of a device that a packet came for
 abbrev pub device_report : ℕ → Machine → Option DeviceReport
-device_report device m = device_in (number_of device m) (slice_get m (processor_of device m))
+device_report device m =
+    option_and_then (λ p. option_map report_of (at (number_of device m) p.devices)) (slice_get m (processor_of device m))
 
 abbrev pub processor_report : ProcessorView → ProcessorReport
 processor_report p = record { counts = p.told; end = p.clock; waits = told_of p.waits }

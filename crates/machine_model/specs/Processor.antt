@@ -1,15 +1,17 @@
 -- A processor: what it takes up, and what ends.
 use Rattle.std.specs.Prelude.{◌≡◌, ℕ, zero, suc, ◌+◌, ◌-◌, ◌*◌, ◌<◌, ◌==◌, ◌||◌, ◌&&◌, not, min, nat_le, nat_lt, Bool, true, false, List}
-use Rattle.std.specs.Prelude.{[], ◌∷◌, ◌++◌, length, take, position, Option, Some, None, is_some, if◌then◌else◌}
+use Rattle.std.specs.Prelude.{[], ◌∷◌, ◌++◌, length, take, position, None, is_some, if◌then◌else◌}
+use Rattle.std.specs.Option.{option_map_or}
 use Rattle.circular_buffer.specs.Buffer.{Buffer, buffer}
 use Rattle.device_rows.specs.Places.{at, changed}
 use Rattle.machine_words.specs.declared.settings.Settings.{Settings}
 use Rattle.poll_runs.specs.declared.bench.Next.TheVariants.{Gone, Repoll}
 use Rattle.machine_model.specs.Device.{after_packet, delivered, ended_interrupt, ended_poll, interrupted, polled, taken}
 use Rattle.machine_model.specs.Devices.{Devices, batch_at, is_handed_at, raises_at, with_device}
-use Rattle.machine_model.specs.Softirq.{SoftirqView, asked_in, begun, ended, is_spent_in, next_of, pushed, told}
+use Rattle.machine_model.specs.Softirq.{SoftirqView, asked_in, begun, ended, is_spent, next_of, pushed, told}
 use Rattle.machine_model.specs.Waits.{WaitsView, counted, held, no_waits}
 use Rattle.machine_model.specs.declared.processor.ProcessorCounts.{ProcessorCounts}
+use Rattle.machine_model.specs.declared.processor.TheConstants.ProcessorCounts.{NONE}
 use Rattle.machine_model.specs.declared.processor.Work.{Work}
 use Rattle.machine_model.specs.declared.processor.Work.TheVariants.{Nothing, Interrupt, Poll, Use}
 
@@ -33,107 +35,71 @@ pub record ProcessorView : Type 0 where
 abbrev pub is_polling : Settings → Bool
 is_polling s = not (s.budget == 0)
 
-abbrev pub count_if : Bool → ℕ
-count_if true = 1
-count_if false = 0
-
 -- ---- work begins
 
--- an interrupt, of the device with this number
-abbrev pub interrupt_time : Settings → ℕ
-interrupt_time s = if is_polling s then s.interrupt else s.interrupt + s.packet
+-- it takes so long
+abbrev pub takes : Work → ℕ → ProcessorView → ProcessorView
+takes work time p = record p { work = work; ends = held (p.clock + time) }
 
+-- an interrupt, of the device with this number; without polling it takes a packet too
 unfoldable pub interrupts : ℕ → ProcessorView → ProcessorView
 interrupts number p =
     let polling = is_polling p.settings in
-    record p {
-      work = Interrupt number;
-      ends = held (p.clock + interrupt_time p.settings);
-      devices = changed (interrupted polling) number p.devices;
-      softirq = if is_handed_at polling (at number p.devices) then pushed number p.softirq else p.softirq;
-      told = record p.told {
-        interrupts = held (p.told.interrupts + 1);
-        interrupt_time = held (p.told.interrupt_time + interrupt_time p.settings);
-      };
-    }
+    let time = if polling then p.settings.interrupt else p.settings.interrupt + p.settings.packet in
+    let counts = record p.told { interrupts = held (p.told.interrupts + 1); interrupt_time = held (p.told.interrupt_time + time) } in
+    let softirq = if is_handed_at polling (at number p.devices) then pushed number p.softirq else p.softirq in
+    takes (Interrupt number) time (record p { devices = changed (interrupted polling) number p.devices; softirq = softirq; told = counts })
 
 -- a poll takes packets out of the ring at once
-abbrev pub poll_time : Settings → List ℕ → ℕ
-poll_time s batch = s.poll + s.packet * length batch
-
 unfoldable pub polls : ℕ → ProcessorView → ProcessorView
 polls number p =
     let batch = batch_at p.settings.weight (at number p.devices) in
-    record p {
-      work = Poll;
-      ends = held (p.clock + poll_time p.settings batch);
-      devices = changed (polled p.settings.weight) number p.devices;
-      batch = batch;
-      told = record p.told { poll_time = held (p.told.poll_time + poll_time p.settings batch) };
-    }
+    let time = p.settings.poll + p.settings.packet * length batch in
+    let counts = record p.told { poll_time = held (p.told.poll_time + time) } in
+    takes Poll time (record p { devices = changed (polled p.settings.weight) number p.devices; batch = batch; told = counts })
 
 -- the socket's oldest packet is used, if there is one
-abbrev pub uses_from : List ℕ → ProcessorView → ProcessorView
-uses_from [] p = p
-uses_from (came ∷ more) p = record p {
-  work = Use came;
-  ends = held (p.clock + p.settings.use_time);
-  slice = p.slice - p.settings.use_time;
-  socket = buffer more p.socket.capacity;
-  told = record p.told { use_time = held (p.told.use_time + p.settings.use_time) };
-}
-
-unfoldable pub uses : ProcessorView → ProcessorView
-uses p = uses_from p.socket.items p
+abbrev pub uses : List ℕ → ProcessorView → ProcessorView
+uses [] p = p
+uses (came ∷ more) p =
+    let time = p.settings.use_time in
+    let counts = record p.told { use_time = held (p.told.use_time + time) } in
+    takes (Use came) time (record p { slice = p.slice - time; socket = buffer more p.socket.capacity; told = counts })
 
 -- ---- what is taken up: the first that there is
-
--- the run's next poll, and what is taken up where there is none
-abbrev pub polls_or : ProcessorView → Option ℕ → ProcessorView → ProcessorView
-polls_or other None p = other
-polls_or other (Some number) p = polls number p
 
 -- a run begins and makes its first poll
 unfoldable pub begins : ProcessorView → ProcessorView
 begins p =
-    let s = p.settings in
-    let q = record p { softirq = next_of (begun p.clock s.budget s.weight s.window p.softirq) } in
-    polls_or q (asked_in q.softirq.run) q
+    let q = record p { softirq = next_of (begun p.clock p.settings.budget p.settings.weight p.settings.window p.softirq) } in
+    option_map_or (λ number. polls number q) (asked_in q.softirq.run) q
 
 -- no run is under way: the slice; if it is over, a run over the list if that isn't empty; the socket
 unfoldable pub rests : ProcessorView → ProcessorView
 rests p =
     let over = record p { slice = 0 } in
-    if nat_lt 0 p.slice && not (length p.socket.items == 0) then uses p
-    else (if is_polling p.settings && not (length p.softirq.list == 0) then begins over else uses over)
+    if nat_lt 0 p.slice && not (length p.socket.items == 0) then uses p.socket.items p
+    else (if is_polling p.settings && not (length p.softirq.list == 0) then begins over else uses p.socket.items over)
 
--- the run ends, and the application has a slice
+-- the run ends, squeezed if it spent its budget or its window or is late, and the application has a slice
 unfoldable pub ends_run : Bool → ProcessorView → ProcessorView
 ends_run late p =
-    let spent = is_spent_in p.softirq.run in
-    record p {
-      softirq = ended p.softirq;
-      slice = p.settings.slice;
-      told = record p.told {
-        runs = held (p.told.runs + 1);
-        squeezed = held (p.told.squeezed + count_if (spent || late));
-        late = held (p.told.late + count_if (late && not spent));
-      };
-    }
+    let spent = option_map_or is_spent p.softirq.run false in
+    let squeezed = held (p.told.squeezed + (if spent || late then 1 else 0)) in
+    let alone = held (p.told.late + (if late && not spent then 1 else 0)) in
+    let counts = record p.told { runs = held (p.told.runs + 1); squeezed = squeezed; late = alone } in
+    record p { softirq = ended p.softirq; slice = p.settings.slice; told = counts }
 
 -- a run is under way: its end or its next poll
 unfoldable pub goes_on : ProcessorView → ProcessorView
 goes_on p =
     let q = record p { softirq = next_of p.softirq } in
     if nat_le p.settings.longest (p.clock - p.softirq.began) then rests (ends_run true p)
-    else polls_or (rests (ends_run false q)) (asked_in q.softirq.run) q
-
-abbrev pub takes_up_by : Option ℕ → ProcessorView → ProcessorView
-takes_up_by (Some number) p = interrupts number p
-takes_up_by None p = if is_some p.softirq.run then goes_on p else rests p
+    else option_map_or (λ number. polls number q) (asked_in q.softirq.run) (rests (ends_run false q))
 
 unfoldable pub takes_up : ProcessorView → ProcessorView
-takes_up p = takes_up_by (position raises_at p.devices) p
+takes_up p =
+    option_map_or (λ number. interrupts number p) (position raises_at p.devices) (if is_some p.softirq.run then goes_on p else rests p)
 
 -- ---- work ends
 
@@ -141,11 +107,9 @@ takes_up p = takes_up_by (position raises_at p.devices) p
 unfoldable pub delivers : ℕ → ProcessorView → ProcessorView
 delivers number p =
     let room = min (length p.batch) (p.socket.capacity - length p.socket.items) in
-    record p {
-      devices = changed (delivered p.clock p.batch) number p.devices;
-      socket = buffer (p.socket.items ++ take room p.batch) p.socket.capacity;
-      told = record p.told { refused = held (p.told.refused + (length p.batch - room)) };
-    }
+    let socket = buffer (p.socket.items ++ take room p.batch) p.socket.capacity in
+    let counts = record p.told { refused = held (p.told.refused + (length p.batch - room)) } in
+    record p { devices = changed (delivered p.clock p.batch) number p.devices; socket = socket; told = counts }
 
 -- an interrupt without polling delivers the oldest packet
 unfoldable pub ends_interrupt : ℕ → ProcessorView → ProcessorView
@@ -158,20 +122,14 @@ unfoldable pub ends_poll : ℕ → ProcessorView → ProcessorView
 ends_poll number p =
     let full = length p.batch == p.settings.weight in
     let q = delivers number p in
-    record q {
-      devices = changed (ended_poll full) number q.devices;
-      softirq = told (record { work = length p.batch; next = if full then Repoll else Gone }) q.softirq;
-      told = record q.told { polls = held (q.told.polls + 1); work = held (q.told.work + length p.batch) };
-    }
-
-abbrev pub ends_polls : Option ℕ → ProcessorView → ProcessorView
-ends_polls None p = p
-ends_polls (Some number) p = ends_poll number p
+    let softirq = told (record { work = length p.batch; next = if full then Repoll else Gone }) q.softirq in
+    let counts = record q.told { polls = held (q.told.polls + 1); work = held (q.told.work + length p.batch) } in
+    record q { devices = changed (ended_poll full) number q.devices; softirq = softirq; told = counts }
 
 abbrev pub ends_by : Work → ProcessorView → ProcessorView
 ends_by Nothing p = p
 ends_by (Interrupt number) p = if is_polling p.settings then p else ends_interrupt number p
-ends_by Poll p = ends_polls (asked_in p.softirq.run) p
+ends_by Poll p = option_map_or (λ number. ends_poll number p) (asked_in p.softirq.run) p
 ends_by (Use came) p = record p { waits = counted (p.clock - came) p.waits }
 
 unfoldable pub ends_current : ProcessorView → ProcessorView
@@ -204,25 +162,10 @@ pub record RunsTo (moment : ℕ) (p q : ProcessorView) : Type 0 where
 -- a packet comes to a device of a processor on which nothing ends at or before that moment
 unfoldable pub comes : ℕ → ℕ → ProcessorView → ProcessorView
 comes moment number p =
-    let devices = changed (after_packet moment) number (with_device p.settings.ring number p.devices) in
-    let q = record p { devices = devices } in
+    let q = record p { devices = changed (after_packet moment) number (with_device p.settings.ring number p.devices) } in
     if is_busy p.work then q else takes_up (record q { clock = moment })
 
 -- ---- a new processor
-
-abbrev pub no_counts : ProcessorCounts
-no_counts = record {
-  interrupts = 0;
-  runs = 0;
-  polls = 0;
-  work = 0;
-  squeezed = 0;
-  late = 0;
-  refused = 0;
-  interrupt_time = 0;
-  poll_time = 0;
-  use_time = 0;
-}
 
 abbrev pub opened_processor : Settings → ProcessorView
 opened_processor s = record {
@@ -235,6 +178,6 @@ opened_processor s = record {
   batch = [];
   slice = 0;
   socket = buffer [] s.socket;
-  told = no_counts;
+  told = NONE;
   waits = no_waits;
 }

@@ -1,10 +1,9 @@
 -- A processor's poll list, and the polling run that is under way over it (`struct softnet_data`).
-use Rattle.std.specs.Prelude.{ℕ, ◌+◌, nat_le, ◌||◌, Bool, false, List, [], ◌∷◌, ◌++◌, length, drop, slice_get, Option, Some, None}
-use Rattle.std.specs.Prelude.{if◌then◌else◌}
+use Rattle.std.specs.Prelude.{ℕ, ◌+◌, nat_le, ◌||◌, Bool, List, [], ◌∷◌, ◌++◌, drop, slice_get, Option, Some, None, if◌then◌else◌}
+use Rattle.std.specs.Option.{option_and_then, option_map, option_map_or}
 use Rattle.poll_runs.specs.Polls.{is_repoll}
 use Rattle.poll_runs.specs.Turn.{asked_for}
 use Rattle.poll_runs.specs.declared.bench.Once.{Once}
-use Rattle.poll_runs.specs.declared.polling_run.PollingRun.{PollingRun}
 
 pub record RunView : Type 0 where
   -- what it took and hasn't polled, and what is to be repolled
@@ -19,19 +18,6 @@ pub record RunView : Type 0 where
   pub weight : ℕ
   pub window : ℕ
 
--- a driven run as it stands
-abbrev pub shown : PollingRun → RunView
-shown run = record {
-  own = run.own;
-  repoll = run.repoll;
-  asked = run.asked;
-  polls = run.polls;
-  work = run.work;
-  budget = run.budget;
-  weight = run.weight;
-  window = run.window;
-}
-
 pub record SoftirqView : Type 0 where
   pub list : List ℕ
   pub run : Option RunView
@@ -39,86 +25,43 @@ pub record SoftirqView : Type 0 where
   pub began : ℕ
 
 abbrev pub asked_in : Option RunView → Option ℕ
-asked_in None = None
-asked_in (Some r) = r.asked
-
--- the most packets that a poll of the run may give
-abbrev pub weight_in : Option RunView → ℕ
-weight_in None = 0
-weight_in (Some r) = r.weight
-
--- how many numbers stand in the run, and on the list
-abbrev pub held_in : Option RunView → ℕ
-held_in None = 0
-held_in (Some r) = length (asked_for r.asked ++ r.own) + length r.repoll
-
-abbrev pub listed : SoftirqView → ℕ
-listed q = length q.list + held_in q.run
+asked_in run = option_and_then (λ r. r.asked) run
 
 abbrev pub pushed : ℕ → SoftirqView → SoftirqView
 pushed number q = record q { list = q.list ++ number ∷ [] }
 
 -- a run begins and takes the whole list
 abbrev pub begun : ℕ → ℕ → ℕ → ℕ → SoftirqView → SoftirqView
-begun moment budget weight window q = record {
-  list = [];
-  run = Some (record { own = q.list; repoll = []; asked = None; polls = 0; work = 0; budget = budget; weight = weight; window = window });
-  began = moment;
-}
+begun moment budget weight window q =
+    let r : RunView =
+    record { own = q.list; repoll = []; asked = None; polls = 0; work = 0; budget = budget; weight = weight; window = window } in
+    record { list = []; run = Some r; began = moment }
 
 -- the work meets the budget, or the polls meet the window
 abbrev pub is_spent : RunView → Bool
 is_spent r = nat_le r.budget r.work || nat_le r.window r.polls
 
--- if all that it took is polled and nothing is to be repolled it takes the whole list
-abbrev pub filled : List ℕ → List ℕ → List ℕ → List ℕ
-filled (number ∷ own) repoll list = number ∷ own
-filled [] (number ∷ repoll) list = []
-filled [] [] list = list
-
-abbrev pub left_of : List ℕ → List ℕ → List ℕ → List ℕ
-left_of (number ∷ own) repoll list = list
-left_of [] (number ∷ repoll) list = list
-left_of [] [] list = []
+-- what is left of its own, and the list: if all that it took is polled and nothing is to be repolled it takes the whole list
+abbrev pub filled : List ℕ → List ℕ → List ℕ → List ℕ × List ℕ
+filled [] [] list = (list, [])
+filled own repoll list = (own, list)
 
 -- what is polled next, if anything is
-abbrev pub next_from : List ℕ → RunView → SoftirqView → SoftirqView
-next_from own r q = record q {
-  list = left_of r.own r.repoll q.list;
-  run = Some (record r { own = drop 1 own; asked = slice_get own 0 });
-}
-
-abbrev pub next_in : Option RunView → SoftirqView → SoftirqView
-next_in None q = q
-next_in (Some r) q = if is_spent r then q else next_from (filled r.own r.repoll q.list) r q
+abbrev pub next_from : List ℕ × List ℕ → RunView → SoftirqView → SoftirqView
+next_from (own, list) r q = record q { list = list; run = Some (record r { own = drop 1 own; asked = slice_get own 0 }) }
 
 unfoldable pub next_of : SoftirqView → SoftirqView
-next_of q = next_in q.run q
+next_of q = option_map_or (λ r. if is_spent r then q else next_from (filled r.own r.repoll q.list) r q) q.run q
 
 -- what the poll did of the number that is being polled
 abbrev pub told_run : Once → RunView → RunView
-told_run once r = record r {
-  repoll = r.repoll ++ (if is_repoll once.next then asked_for r.asked else []);
-  asked = None;
-  polls = r.polls + 1;
-  work = r.work + once.work;
-}
-
-abbrev pub told_in : Once → Option RunView → Option RunView
-told_in once None = None
-told_in once (Some r) = Some (told_run once r)
+told_run once r =
+    let repoll = r.repoll ++ (if is_repoll once.next then asked_for r.asked else []) in
+    record r { repoll = repoll; asked = None; polls = r.polls + 1; work = r.work + once.work }
 
 unfoldable pub told : Once → SoftirqView → SoftirqView
-told once q = record q { run = told_in once q.run }
+told once q = record q { run = option_map (told_run once) q.run }
 
 -- the run ends: what it took and didn't poll, what came meanwhile, and what is to be repolled
-abbrev pub list_after : Option RunView → List ℕ → List ℕ
-list_after None list = list
-list_after (Some r) list = r.own ++ list ++ r.repoll
-
 unfoldable pub ended : SoftirqView → SoftirqView
-ended q = record q { list = list_after q.run q.list; run = None }
-
-abbrev pub is_spent_in : Option RunView → Bool
-is_spent_in None = false
-is_spent_in (Some r) = is_spent r
+ended q = record q { list = option_map_or (λ r. r.own ++ q.list ++ r.repoll) q.run q.list; run = None }

@@ -1,5 +1,5 @@
 -- Waits, as they are counted.
-use Rattle.std.specs.Prelude.{ℕ, ◌+◌, ◌-◌, ◌*◌, ◌/◌, ◌^◌, ◌==◌, nat_le, min, max, List, [], ◌∷◌, replicate, slice_index_or, slice_set}
+use Rattle.std.specs.Prelude.{ℕ, ◌+◌, ◌-◌, ◌*◌, ◌/◌, ◌^◌, ◌==◌, nat_le, min, max, List, [], ◌∷◌, fold, replicate, slice_index_or, slice_set}
 use Rattle.std.specs.Prelude.{if◌then◌else◌}
 use Rattle.std.specs.Int.{leading_zeros, w64}
 use Rattle.machine_model.specs.declared.waits.WaitCounts.{WaitCounts}
@@ -15,20 +15,13 @@ pub record WaitsView : Type 0 where
   pub most : ℕ
   pub buckets : List ℕ
 
-unfoldable pub empty : List ℕ
-empty = replicate 28672 0
-
-abbrev pub no_waits : WaitsView
-no_waits = record { count = 0; sum = 0; most = 0; buckets = empty }
-
--- how many binary digits of a wait follow the first ten
-abbrev pub rest_of : ℕ → ℕ
-rest_of wait = 54 - leading_zeros w64 wait
+unfoldable pub no_waits : WaitsView
+no_waits = record { count = 0; sum = 0; most = 0; buckets = replicate 28672 0 }
 
 -- Its bucket is that of its first ten binary digits: the first 1024 are of one wait each, and each further 512 of waits of a
 -- digit more.
 abbrev pub bucket_of : ℕ → ℕ
-bucket_of wait = 512 * rest_of wait + wait / 2 ^ rest_of wait
+bucket_of wait = let rest = 54 - leading_zeros w64 wait in 512 * rest + wait / 2 ^ rest
 
 -- the least wait of a bucket
 abbrev pub least_of : ℕ → ℕ
@@ -36,17 +29,13 @@ least_of bucket = let rest = bucket / 512 - 1 in (bucket - 512 * rest) * 2 ^ res
 
 -- one wait more
 unfoldable pub counted : ℕ → WaitsView → WaitsView
-counted wait w = record {
-  count = held (w.count + 1);
-  sum = held (w.sum + wait);
-  most = max w.most wait;
-  buckets = slice_set w.buckets (bucket_of wait) (held (slice_index_or w.buckets (bucket_of wait) 0 + 1));
-}
+counted wait w =
+    let buckets = slice_set w.buckets (bucket_of wait) (held (slice_index_or w.buckets (bucket_of wait) 0 + 1)) in
+    record { count = held (w.count + 1); sum = held (w.sum + wait); most = max w.most wait; buckets = buckets }
 
 -- the waits of packets that came at these moments
 unfoldable pub counted_all : ℕ → List ℕ → WaitsView → WaitsView
-counted_all now [] w = w
-counted_all now (came ∷ batch) w = counted_all now batch (counted (now - came) w)
+counted_all now batch w = fold (λ all came. counted (now - came) all) w batch
 
 -- the first bucket that has, with those before it, so many waits
 unfoldable pub first_with : ℕ → ℕ → List ℕ → ℕ
@@ -59,12 +48,7 @@ wait_at share w = if w.count == 0 then 0 else least_of (first_with ((share * w.c
 
 -- what the report tells
 abbrev pub told_of : WaitsView → WaitCounts
-told_of w = record {
-  count = w.count;
-  mean = if w.count == 0 then 0 else w.sum / w.count;
-  wait50 = wait_at 500 w;
-  wait90 = wait_at 900 w;
-  wait99 = wait_at 990 w;
-  wait999 = wait_at 999 w;
-  most = w.most;
-}
+told_of w =
+    let mean = if w.count == 0 then 0 else w.sum / w.count in
+    let wait = λ (share : ℕ). wait_at share w in
+    record { count = w.count; mean = mean; wait50 = wait 500; wait90 = wait 900; wait99 = wait 990; wait999 = wait 999; most = w.most }

@@ -1,8 +1,9 @@
 //! One device: its ring, its instance, and what was counted.
 
-ghost use Rattle.std.specs.Prelude.{◌≡◌, ◌≤◌, ◌<◌, true, false, length, take, IfOk};
+ghost use Rattle.std.specs.Prelude.{◌≡◌, ◌≤◌, ◌<◌, true, false, length, take, Some, IfOk};
 ghost use Rattle.machine_model.specs.Machine.{report_of};
-ghost use Rattle.machine_model.specs.Device.{after_packet, batch_of, delivered, ended_interrupt, ended_poll, interrupted, is_handed, opened, polled, taken};
+ghost use Rattle.machine_model.specs.Device.{after_packet, delivered, ended_interrupt, ended_poll, interrupted, opened, polled, taken};
+ghost use Rattle.machine_model.specs.Devices.{batch_at, is_handed_at};
 
 use crate::waits::{WaitCounts, Waits};
 use circular_buffer::HeapCircularBuffer;
@@ -37,6 +38,17 @@ pub struct DeviceCounts {
     pub polls: u64,
 }
 
+impl DeviceCounts {
+    /// Nothing was counted.
+    pub(crate) const NONE: DeviceCounts = DeviceCounts {
+        arrived: 0,
+        dropped: 0,
+        polled: 0,
+        interrupts: 0,
+        polls: 0,
+    };
+}
+
 /// What is told of a device.
 #[derive(Clone, Copy, Debug, PartialEq, Eq)]
 pub struct DeviceReport {
@@ -58,7 +70,8 @@ pub(crate) struct Device {
 
 impl Model for Device {
     ghost use Rattle.std.specs.Prelude.{◌≡◌};
-    ghost use Rattle.machine_model.specs.Device.{DeviceView, instance_of};
+    ghost use Rattle.machine_model.specs.Device.{DeviceView};
+    ghost use Rattle.machine_model.specs.Shown.{instance_of};
     ghost use Rattle.napi_model.specs.Serial.{state_of};
 
     ghost Value = { DeviceView };
@@ -147,13 +160,7 @@ impl Device {
             ring,
             napi,
             raises: false,
-            told: DeviceCounts {
-                arrived: 0,
-                dropped: 0,
-                polled: 0,
-                interrupts: 0,
-                polls: 0,
-            },
+            told: DeviceCounts::NONE,
             waits,
         })
     }
@@ -183,7 +190,7 @@ impl Device {
     #[tactic(auto, unfolding(crate::specs::Device::interrupted))]
     pub(crate) fn interrupt(&mut self, polling: bool) -> bool
         ensures device { self.new ≡ interrupted polling self.old }
-        ensures handed { result ≡ is_handed polling self.old }
+        ensures handed { result ≡ is_handed_at polling (Some self.old) }
     {
         self.raises = false;
         self.told.interrupts = self.told.interrupts.saturating_add(1);
@@ -200,7 +207,7 @@ impl Device {
     #[tactic(auto, unfolding(crate::specs::Device::taken))]
     pub(crate) fn take(&mut self, weight: u32, batch: &mut Batch)
         requires { weight ≤ 64 }
-        ensures batch { batch.new ≡ batch_of weight self.old }
+        ensures batch { batch.new ≡ batch_at weight (Some self.old) }
         ensures device { self.new ≡ taken weight self.old }
     {
         batch.take_from(&mut self.ring, weight);
@@ -210,7 +217,7 @@ impl Device {
     #[tactic(auto, unfolding(crate::specs::Device::taken, crate::specs::Device::polled))]
     pub(crate) fn poll(&mut self, weight: u32, batch: &mut Batch)
         requires { weight ≤ 64 }
-        ensures batch { batch.new ≡ batch_of weight self.old }
+        ensures batch { batch.new ≡ batch_at weight (Some self.old) }
         ensures device { self.new ≡ polled weight self.old }
     {
         self.told.polls = self.told.polls.saturating_add(1);

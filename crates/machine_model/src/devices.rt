@@ -1,11 +1,12 @@
 //! The devices of a processor.
 
-ghost use Rattle.std.specs.Prelude.{◌≡◌, ◌≤◌, ◌<◌, ◌+◌, [], IfOk, IfSome, OnOk, length, position, is_some, true, Some};
+ghost use Rattle.std.specs.Prelude.{◌≡◌, ◌≤◌, ◌<◌, ◌+◌, ◌-◌, ◌++◌, [], IfOk, IfSome, OnOk, length, position, replicate, is_some, true, None, Some};
 ghost use Rattle.std.specs.Option.{option_map};
 ghost use Rattle.machine_model.specs.Machine.{report_of};
 ghost use Rattle.device_rows.specs.Places.{at, changed};
 ghost use Rattle.machine_model.specs.Device.{after_packet, delivered, ended_interrupt, ended_poll, interrupted, polled, taken};
-ghost use Rattle.machine_model.specs.Devices.{batch_at, is_handed_at, masks, raises_at, with_device, with_place};
+ghost use Rattle.machine_model.specs.Devices.{batch_at, is_handed_at, raises_at, with_device};
+ghost use Rattle.machine_model.specs.Kept.{masks};
 
 use crate::device::{Batch, Device, DeviceReport};
 use std::alloc::{AllocError, Global};
@@ -42,7 +43,8 @@ fn raises(place: &Option<Device>) -> bool
 fn make_place(places: &mut Vec<Option<Device>>, number: usize) -> Result<(), AllocError>
     requires number { number < 64 }
     requires few { length places.old.items ≤ 64 }
-    ensures places { OnOk result (places.new.items ≡ with_place number places.old.items) }
+    ensures places { OnOk result (places.new.items
+        ≡ places.old.items ++ replicate (number + 1 - length places.old.items) None) }
     ensures few { length places.new.items ≤ 64 }
     ensures masks { masks places.old.items ≤ masks places.new.items }
 {

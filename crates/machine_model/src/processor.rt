@@ -1,9 +1,9 @@
 //! One processor: what it takes up, and what ends.
 
-ghost use Rattle.std.specs.Prelude.{◌≡◌, ◌≤◌, ◌<◌, false, true, None, Some, IfOk, OnOk, is_some, length, take, min, ◌-◌, ◌==◌, ◌&&◌, not, nat_le};
+ghost use Rattle.std.specs.Prelude.{◌≡◌, ◌≤◌, ◌<◌, false, true, None, Some, IfOk, OnOk, is_some, length, take, min, ◌-◌, ◌==◌, ◌&&◌, not, nat_le, if◌then◌else◌};
+ghost use Rattle.poll_runs.specs.declared.bench.Next.TheVariants.{Gone, Repoll};
 ghost use Rattle.machine_model.specs.Processor.{RunsTo, begins, comes, delivers, ends_interrupt, ends_poll, ends_current, ends_run, goes_on, interrupts, is_busy, is_due, is_polling, opened_processor, polls, rests, step, takes_up, uses};
 ghost use Rattle.machine_model.specs.declared.processor.Work.TheVariants.{Nothing, Poll};
-ghost use Rattle.machine_model.specs.Device.{next_by};
 ghost use Rattle.machine_model.specs.Kept.{IsKept, is_poll};
 ghost use Rattle.std.specs.Option.{option_map};
 ghost use Rattle.device_rows.specs.Places.{at};
@@ -133,7 +133,7 @@ fn is_polling(settings: &Settings) -> bool
 
 // How a poll ends that gave its whole weight, or less.
 fn next_after(full: bool) -> Next
-    ensures { result ≡ next_by full }
+    ensures { result ≡ (if full then Repoll else Gone) }
 {
     if full { Next::Repoll } else { Next::Gone }
 }
@@ -176,10 +176,10 @@ impl Processor {
     }
 
     // The socket's oldest packet is used, if there is one.
-    #[tactic(auto, unfolding(crate::specs::Processor::uses))]
+    #[tactic(auto)]
     fn use_first(&mut self)
         requires { self.old.work ≡ Nothing }
-        ensures { self.new ≡ uses self.old }
+        ensures { self.new ≡ uses self.old.socket.items self.old }
     {
         let Some(came) = self.socket.pop_front() else {
             return;

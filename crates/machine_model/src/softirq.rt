@@ -1,7 +1,9 @@
 //! A processor's poll list and its polling run.
 
 ghost use Rattle.std.specs.Prelude.{◌≡◌, ◌<◌, ◌≤◌, None, true, false, is_some, length};
-ghost use Rattle.machine_model.specs.Softirq.{asked_in, begun, ended, is_spent_in, listed, next_of, pushed, told, weight_in};
+ghost use Rattle.machine_model.specs.Shown.{listed, weight_in};
+ghost use Rattle.machine_model.specs.Softirq.{asked_in, begun, ended, is_spent, next_of, pushed, told};
+ghost use Rattle.std.specs.Option.{option_map_or};
 ghost use Rattle.poll_runs.specs.Polls.{is_arrival};
 
 use poll_runs::{Next, Once, PlainList, PollList, PollingRun};
@@ -18,7 +20,8 @@ pub(crate) struct Softirq {
 impl Model for Softirq {
     ghost use Rattle.std.specs.Prelude.{◌≤◌};
     ghost use Rattle.std.specs.Option.{option_map};
-    ghost use Rattle.machine_model.specs.Softirq.{SoftirqView, listed, shown};
+    ghost use Rattle.machine_model.specs.Shown.{listed, shown};
+    ghost use Rattle.machine_model.specs.Softirq.{SoftirqView};
 
     ghost Value = { SoftirqView };
 
@@ -29,7 +32,9 @@ impl Model for Softirq {
 
 impl Softirq {
     ghost use Rattle.std.specs.Prelude.{◌≡◌, ◌<◌, ◌≤◌, None, Some, [], ◌==◌, true, false, is_some, length};
-    ghost use Rattle.machine_model.specs.Softirq.{asked_in, begun, ended, is_spent_in, listed, next_of, pushed, told, weight_in};
+    ghost use Rattle.machine_model.specs.Shown.{listed, weight_in};
+    ghost use Rattle.machine_model.specs.Softirq.{asked_in, begun, ended, is_spent, next_of, pushed, told};
+    ghost use Rattle.std.specs.Option.{option_map_or};
     ghost use Rattle.poll_runs.specs.Polls.{is_arrival};
 
     /// No numbers, and no run.
@@ -126,7 +131,7 @@ impl Softirq {
     pub(crate) fn end(&mut self) -> bool
         requires { asked_in self.old.run ≡ None }
         ensures softirq { self.new ≡ ended self.old }
-        ensures spent { result ≡ is_spent_in self.old.run }
+        ensures spent { result ≡ option_map_or is_spent self.old.run false }
     {
         match self.run.take() {
             Some(run) => run.end(&mut self.list).squeezed,

@@ -82,7 +82,7 @@ fn least_of(bucket: usize) -> u64
 
 impl Waits {
     /// No waits.
-    #[tactic(auto, unfolding(crate::specs::Waits::empty))]
+    #[tactic(auto, unfolding(crate::specs::Waits::no_waits))]
     pub fn new(alloc: Global) -> Result<Waits, AllocError>
         ensures { IfOk result (λ w. w ≡ no_waits) }
     {
