@@ -7,6 +7,41 @@ use Rattle.machine_model.specs.declared.processor.Work.{Work}
 use Rattle.machine_model.specs.declared.processor.Work.TheVariants.{Interrupt, Nothing, Poll, Use}
 use Rattle.machine_model.proofs.ListedFacts.{asked-told}
 use Rattle.machine_model.proofs.StepFacts.{ends_polls}
+use Rattle.machine_model.specs.Waits.{counted}
+use Rattle.std.specs.Option.{option_map_or}
+use Rattle.std.specs.Prelude.{◌-◌}
+use Rattle.std.specs.Prelude.{List, [], ◌∷◌}
+use Rattle.device_rows.specs.Places.{at}
+use Rattle.machine_model.specs.Devices.{batch_at}
+use Rattle.machine_model.specs.Fates.{gives_by, polled_by, using}
+
+-- What holds of what is given and used, and behind it, for each way to end: nothing is delivered, an interrupt without polling, a
+-- poll, a use.
+pub ends : (Q : Option (ℕ × List ℕ) → List ℕ → ProcessorView → Type 0) (w : Work) (p : ProcessorView) (clock : ℕ)
+    → let q : ProcessorView = record p { clock = clock } in Q None [] q
+    → ((n : ℕ) → w ≡ Interrupt n → is_polling p.settings ≡ false → Q (Some (n, batch_at 1 (at n p.devices))) [] (ends_interrupt n q))
+    → ((n : ℕ) → w ≡ Poll → asked_in p.softirq.run ≡ Some n → Q (Some (n, p.batch)) [] (ends_poll n q))
+    → ((came : ℕ) → Q None (came ∷ []) (record q { waits = counted (clock - came) p.waits })) → Q (gives_by w p) (using w) (ends_by w q)
+ends Q Nothing p clock rests lone poll used = rests
+ends Q (Interrupt n) p clock rests lone poll used = by (is_polling p.settings) refl
+  where
+    q : ProcessorView
+    q = record p { clock = clock }
+
+    by : (b : Bool) → is_polling p.settings ≡ b
+        → Q (if b then None else Some (n, batch_at 1 (at n p.devices))) [] (if b then q else ends_interrupt n q)
+    by true polling = rests
+    by false alone = lone n refl alone
+ends Q Poll p clock rests lone poll used = by (asked_in p.softirq.run) refl
+  where
+    q : ProcessorView
+    q = record p { clock = clock }
+
+    by : (o : Option ℕ) → asked_in p.softirq.run ≡ o
+        → Q (polled_by o p.batch) [] (option_map_or (λ number. ends_poll number q) o q)
+    by None none = rests
+    by (Some n) asked = poll n refl asked
+ends Q (Use came) p clock rests lone poll used = used came
 
 asked-lone : (b : Bool) (n : ℕ) (p : ProcessorView) → asked_in p.softirq.run ≡ None
     → asked_in (if b then p else ends_interrupt n p).softirq.run ≡ None

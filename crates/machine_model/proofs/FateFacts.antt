@@ -21,6 +21,7 @@ use Rattle.machine_model.proofs.{PlacesFacts.{at-changed, map_at}, WalkFacts.{Wa
 use Rattle.machine_model.proofs.WorkFacts.{Goes, free-ended, goes-on}
 use Rattle.machine_model.proofs.StepFacts.{ends_polls}
 use Rattle.machine_model.proofs.PlacesFacts.{with_place}
+use Rattle.machine_model.proofs.EndFacts.{ends}
 
 -- ---- what stands at a number
 
@@ -314,27 +315,19 @@ ended-poll-capacity false d = refl
 ends-capacity : (capacity n : ℕ) (w : Work) (p : ProcessorView)
     → capacity_in capacity (at n (ends_by w p).devices) ≡ capacity_in capacity (at n p.devices)
 unfolding capacity_in ends_interrupt ends_poll delivers ended_interrupt device.delivered device.taken
-ends-capacity capacity n Nothing p = refl
-ends-capacity capacity n (Interrupt m) p = by (is_polling p.settings)
-  where
-    by : (b : Bool) → capacity_in capacity (at n (if b then p else ends_interrupt m p).devices) ≡ capacity_in capacity (at n p.devices)
-    by true = refl
-    by false =
-        let g = capacity_in capacity in
-        let one = changed (device.taken 1) m p.devices in
-        let step = device.delivered p.clock (batch_at 1 (at m p.devices)) in
-        at-kept g ended_interrupt m n (changed step m one) (λ d. refl)
-        ∙ (at-kept g step m n one (λ d. refl) ∙ at-kept g (device.taken 1) m n p.devices (λ d. refl))
-ends-capacity capacity n Poll p = by (asked_in p.softirq.run)
-  where
-    by : (o : Option ℕ) → capacity_in capacity (at n (ends_polls o p).devices) ≡ capacity_in capacity (at n p.devices)
-    by None = refl
-    by (Some m) =
-        let g = capacity_in capacity in
-        let full = length p.batch == p.settings.weight in
-        let step = device.delivered p.clock p.batch in
-        at-kept g (ended_poll full) m n (changed step m p.devices) (ended-poll-capacity full) ∙ at-kept g step m n p.devices (λ d. refl)
-ends-capacity capacity n (Use at) p = refl
+ends-capacity capacity n w p =
+    let g = capacity_in capacity in
+    ends (λ gives used q. g (at n q.devices) ≡ g (at n p.devices)) w p p.clock refl
+    (λ m is lone.
+    let one = changed (device.taken 1) m p.devices in
+    let step = device.delivered p.clock (batch_at 1 (at m p.devices)) in
+    at-kept g ended_interrupt m n (changed step m one) (λ d. refl)
+    ∙ (at-kept g step m n one (λ d. refl) ∙ at-kept g (device.taken 1) m n p.devices (λ d. refl)))
+    (λ m is asked.
+    let full = length p.batch == p.settings.weight in
+    let step = device.delivered p.clock p.batch in
+    at-kept g (ended_poll full) m n (changed step m p.devices) (ended-poll-capacity full) ∙ at-kept g step m n p.devices (λ d. refl))
+    (λ came. refl)
 
 packet-capacity : (moment : ℕ) (d : DeviceView) → (after_packet moment d).capacity ≡ d.capacity
 unfolding after_packet

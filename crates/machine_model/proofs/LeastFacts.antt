@@ -22,6 +22,7 @@ use Rattle.machine_model.proofs.WalkFacts.{Free, Walk, arrived, implied, nexted,
 use Rattle.machine_model.proofs.WorkFacts.{Goes, Rests, RunsIn, free-ended, goes-on, work-ended, work-walk}
 use Rattle.machine_model.proofs.StepFacts.{ends_polls}
 use Rattle.machine_model.specs.Processor.{uses}
+use Rattle.machine_model.proofs.EndFacts.{ends}
 
 abbrev pub interrupt_time : Settings → ℕ
 interrupt_time s = if is_polling s then s.interrupt else s.interrupt + s.packet
@@ -298,24 +299,17 @@ taken-ring m n ds P all = by (m == n) refl
 ends-rings : (P : ℕ → Type 0) (n : ℕ) (w : Work) (p : ProcessorView) → AllByRecursion P (ring_in (at n p.devices))
     → AllByRecursion P (ring_in (at n (ends_by w p).devices))
 unfolding ends_interrupt delivers ended_interrupt device.delivered
-ends-rings P n Nothing p all = all
-ends-rings P n (Interrupt m) p all = by (is_polling p.settings)
-  where
-    by : (b : Bool) → AllByRecursion P (ring_in (at n (if b then p else ends_interrupt m p).devices))
-    by true = all
-    by false =
-        let one = changed (device.taken 1) m p.devices in
-        let batch = batch_at 1 (at m p.devices) in
-        let two = changed (device.delivered p.clock batch) m one in
-        let kept : ring_in (at n (changed ended_interrupt m two)) ≡ ring_in (at n one)
-        = at-kept ring_in ended_interrupt m n two (λ d. refl) ∙ at-kept ring_in (device.delivered p.clock batch) m n one (λ d. refl) in
-        subst (λ (xs : List ℕ). AllByRecursion P xs) (sym kept) (taken-ring m n p.devices P all)
-ends-rings P n Poll p all = by (asked_in p.softirq.run)
-  where
-    by : (o : Option ℕ) → AllByRecursion P (ring_in (at n (ends_polls o p).devices))
-    by None = all
-    by (Some m) = subst (λ (xs : List ℕ). AllByRecursion P xs) (sym (poll-ring n m p)) all
-ends-rings P n (Use came) p all = all
+ends-rings P n w p all =
+    ends (λ gives used q. AllByRecursion P (ring_in (at n q.devices))) w p p.clock all
+    (λ m is lone.
+    let one = changed (device.taken 1) m p.devices in
+    let batch = batch_at 1 (at m p.devices) in
+    let two = changed (device.delivered p.clock batch) m one in
+    let kept : ring_in (at n (changed ended_interrupt m two)) ≡ ring_in (at n one)
+    = at-kept ring_in ended_interrupt m n two (λ d. refl) ∙ at-kept ring_in (device.delivered p.clock batch) m n one (λ d. refl) in
+    subst (λ (xs : List ℕ). AllByRecursion P xs) (sym kept) (taken-ring m n p.devices P all))
+    (λ m is asked. subst (λ (xs : List ℕ). AllByRecursion P xs) (sym (poll-ring n m p)) all)
+    (λ came. all)
 
 positive : (k : ℕ) → not (k == 0) ≡ true → 0 < k
 positive zero is = cc is
@@ -334,27 +328,18 @@ ends-raises : (s : Settings) (n : ℕ) (w : Work) (p : ProcessorView) → is_pol
     → HasIfRaises (at n p.devices)
     → HasIfRaises (at n (ends_by w p).devices)
 unfolding ends_interrupt delivers
-ends-raises s n Nothing p lone same run has = has
-ends-raises s n (Interrupt m) p lone same run has = by (is_polling p.settings)
+ends-raises s n w p lone same run has =
+    ends (λ gives used q. HasIfRaises (at n q.devices)) w p p.clock has
+    (λ m is alone.
+    let one = changed (device.taken 1) m p.devices in
+    let step = device.delivered p.clock (batch_at 1 (at m p.devices)) in
+    split m (m == n) refl (changed step m one) (λ apart. at-apart step m n one apart ∙ at-apart (device.taken 1) m n p.devices apart))
+    (λ m is asked. absurd (cc (lone, asked-polling s p.softirq.run m run asked))) (λ came. has)
   where
-    by : (b : Bool) → HasIfRaises (at n (if b then p else ends_interrupt m p).devices)
-    by true = has
-    by false =
-        let one = changed (device.taken 1) m p.devices in
-        let step = device.delivered p.clock (batch_at 1 (at m p.devices)) in
-        let two = changed step m one in
-        split (m == n) refl one two (λ apart. at-apart step m n one apart ∙ at-apart (device.taken 1) m n p.devices apart)
-      where
-        split : (b : Bool) → (m == n) ≡ b → (one two : Devices) → ((m == n) ≡ false → at n two ≡ at n p.devices)
-            → HasIfRaises (at n (changed ended_interrupt m two))
-        split true here one two same = rw (at-here ended_interrupt m n two here) (raised-has (at n two))
-        split false apart one two same = rw (at-apart ended_interrupt m n two apart, same apart) has
-ends-raises s n Poll p lone same run has = by (asked_in p.softirq.run) refl
-  where
-    by : (o : Option ℕ) → asked_in p.softirq.run ≡ o → HasIfRaises (at n (ends_polls o p).devices)
-    by None asked = has
-    by (Some m) asked = absurd (cc (lone, asked-polling s p.softirq.run m run asked))
-ends-raises s n (Use came) p lone same run has = has
+    split : (m : ℕ) (b : Bool) → (m == n) ≡ b → (two : Devices) → ((m == n) ≡ false → at n two ≡ at n p.devices)
+        → HasIfRaises (at n (changed ended_interrupt m two))
+    split m true here two same = rw (at-here ended_interrupt m n two here) (raised-has (at n two))
+    split m false apart two same = rw (at-apart ended_interrupt m n two apart, same apart) has
 
 kept-each : (P : ℕ → Type 0) (socket : Buffer ℕ) (g : Option (ℕ × List ℕ)) → ((n : ℕ) → AllByRecursion P (given_from n g))
     → AllByRecursion P (kept_from socket g)

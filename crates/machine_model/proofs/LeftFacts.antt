@@ -292,8 +292,8 @@ rests-less p nothing none =
     left-if (nat_lt 0 p.slice && not (length p.socket.items == 0)) (uses p.socket.items p)
     (if is_polling p.settings && not (length p.softirq.list == 0) then begins over else uses p.socket.items over) (base p)
     (uses-less p.socket.items p refl nothing)
-    (left-if (is_polling p.settings && not (length p.softirq.list == 0)) (begins over) (uses p.socket.items over) (base p) (begins-less over nothing none)
-    (uses-less p.socket.items over refl nothing))
+    (left-if (is_polling p.settings && not (length p.softirq.list == 0)) (begins over) (uses p.socket.items over) (base p)
+    (begins-less over nothing none) (uses-less p.socket.items over refl nothing))
 
 over-less : (late : Bool) (p : ProcessorView) → p.work ≡ Nothing → asked_in p.softirq.run ≡ None → left (rests (ends_run late p)) ≤ base p
 unfolding base ends_run

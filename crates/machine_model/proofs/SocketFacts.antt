@@ -13,6 +13,7 @@ use Rattle.machine_model.specs.declared.processor.Work.{Work}
 use Rattle.machine_model.specs.declared.processor.Work.TheVariants.{Interrupt, Nothing, Poll, Use}
 use Rattle.machine_model.proofs.{WalkFacts.{Walk, nexted, walk, walk-comes}, WorkFacts.{free-ended, goes-on}}
 use Rattle.machine_model.proofs.StepFacts.{ends_polls}
+use Rattle.machine_model.proofs.EndFacts.{ends}
 
 -- what stands in the socket, and what is told
 pub record Holds (xs : List ℕ) (refused : ℕ) (waits : WaitsView) (p : ProcessorView) : Type 0 where
@@ -60,10 +61,10 @@ counting-more [] wait w = refl
 counting-more (x ∷ xs) wait w = counting-more xs wait (counted x w)
 
 -- what has ended: what stood in the socket, with what was kept
-pub record Ended (w : Work) (p q : ProcessorView) : Type 0 where
-  pub items : q.socket.items ≡ p.socket.items ++ kept_from p.socket (gives_by w p)
-  pub told : (a : ℕ) → p.told.refused ≡ held a → q.told.refused ≡ held (a + length (refused_from p.socket (gives_by w p)))
-  pub counts : (xs : List ℕ) → p.waits ≡ counting xs no_waits → q.waits ≡ counting (xs ++ map (λ at. p.ends - at) (using w)) no_waits
+pub record Ended (p : ProcessorView) (gives : Option (ℕ × List ℕ)) (used : List ℕ) (q : ProcessorView) : Type 0 where
+  pub items : q.socket.items ≡ p.socket.items ++ kept_from p.socket gives
+  pub told : (a : ℕ) → p.told.refused ≡ held a → q.told.refused ≡ held (a + length (refused_from p.socket gives))
+  pub counts : (xs : List ℕ) → p.waits ≡ counting xs no_waits → q.waits ≡ counting (xs ++ map (λ at. p.ends - at) used) no_waits
 
 refused-size : (batch : List ℕ) (room r a : ℕ) → r ≡ held a → held (r + (length batch - room)) ≡ held (a + length (drop room batch))
 refused-size batch room r a is = omega (arith, is, length-drop room batch)
@@ -74,63 +75,28 @@ same-waits xs w is = rw (append-nil xs) is
 same-told : (r a : ℕ) → r ≡ held a → r ≡ held (a + 0)
 same-told r a is = omega (arith, is)
 
-ended-lone : (n : ℕ) (p : ProcessorView) (clock : ℕ) → let batch = batch_at 1 (at n p.devices) in let q =
-    ends_interrupt n (record p { clock = clock }) in
-    (q.socket.items ≡ p.socket.items ++ kept_from p.socket (Some (n, batch)))
-    × ((a : ℕ) → p.told.refused ≡ held a → q.told.refused ≡ held (a + length (refused_from p.socket (Some (n, batch)))))
-    × (q.waits ≡ p.waits)
-unfolding ends_interrupt delivers
-ended-lone n p clock =
-    let batch = batch_at 1 (at n p.devices) in
-    (refl, λ a is. refused-size batch (min (length batch) (p.socket.capacity - length p.socket.items)) p.told.refused a is, refl)
-
-ended-polls : (n : ℕ) (p : ProcessorView) (clock : ℕ) → let q = ends_poll n (record p { clock = clock }) in
-    (q.socket.items ≡ p.socket.items ++ kept_from p.socket (Some (n, p.batch)))
-    × ((a : ℕ) → p.told.refused ≡ held a → q.told.refused ≡ held (a + length (refused_from p.socket (Some (n, p.batch)))))
-    × (q.waits ≡ p.waits)
-unfolding ends_poll delivers
-ended-polls n p clock =
-    (refl, λ a is. refused-size p.batch (min (length p.batch) (p.socket.capacity - length p.socket.items)) p.told.refused a is, refl)
-
-pub ended-by : (w : Work) (p : ProcessorView) → Ended w p (ends_by w (record p { clock = p.ends }))
-ended-by Nothing p = record {
-  items = sym (append-nil p.socket.items);
-  told = λ a is. same-told p.told.refused a is;
-  counts = λ xs is. same-waits xs p.waits is;
-}
-ended-by (Interrupt n) p = by (is_polling p.settings) refl
-  where
-    q : ProcessorView
-    q = record p { clock = p.ends }
-
-    by : (b : Bool) → is_polling p.settings ≡ b → Ended (Interrupt n) p (if b then q else ends_interrupt n q)
-    by true polling = record {
-      items = rw polling (sym (append-nil p.socket.items));
-      told = λ a is. rw polling (same-told p.told.refused a is);
+pub ended-by : (w : Work) (p : ProcessorView) → Ended p (gives_by w p) (using w) (ends_by w (record p { clock = p.ends }))
+unfolding ends_interrupt ends_poll delivers
+ended-by w p =
+    ends (Ended p) w p p.ends (record { items = same; told = λ a is. same-told p.told.refused a is; counts = λ xs is. same-waits xs p.waits is })
+    (λ n is lone. record {
+      items = refl;
+      told = λ a is. refused-size (batch_at 1 (at n p.devices)) _ p.told.refused a is;
       counts = λ xs is. same-waits xs p.waits is;
-    }
-    by false lone =
-        let e = ended-lone n p p.ends in
-        record { items = rw lone e.0; told = λ a is. rw lone (e.1 a is); counts = λ xs is. rw e.2 (same-waits xs p.waits is) }
-ended-by Poll p = by (asked_in p.softirq.run) refl
-  where
-    q : ProcessorView
-    q = record p { clock = p.ends }
-
-    by : (o : Option ℕ) → asked_in p.softirq.run ≡ o → Ended Poll p (ends_polls o q)
-    by None asked = record {
-      items = rw asked (sym (append-nil p.socket.items));
-      told = λ a is. rw asked (same-told p.told.refused a is);
+    })
+    (λ n is asked. record {
+      items = refl;
+      told = λ a is. refused-size p.batch _ p.told.refused a is;
       counts = λ xs is. same-waits xs p.waits is;
-    }
-    by (Some n) asked =
-        let e = ended-polls n p p.ends in
-        record { items = rw asked e.0; told = λ a is. rw asked (e.1 a is); counts = λ xs is. rw e.2 (same-waits xs p.waits is) }
-ended-by (Use came) p = record {
-  items = sym (append-nil p.socket.items);
-  told = λ a is. same-told p.told.refused a is;
-  counts = λ xs is. ap (counted (p.ends - came)) is ∙ sym (counting-more xs (p.ends - came) no_waits);
-}
+    })
+    (λ came. record {
+      items = same;
+      told = λ a is. same-told p.told.refused a is;
+      counts = λ xs is. ap (counted (p.ends - came)) is ∙ sym (counting-more xs (p.ends - came) no_waits);
+    })
+  where
+    same : p.socket.items ≡ p.socket.items ++ []
+    same = sym (append-nil p.socket.items)
 
 -- ---- over a life
 

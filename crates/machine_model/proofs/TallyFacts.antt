@@ -19,6 +19,7 @@ use Rattle.machine_model.proofs.FateFacts.{Blind, Seen, at-apart, at-here, at-ke
 use Rattle.machine_model.proofs.FateFacts.{with-apart, with-here}
 use Rattle.machine_model.proofs.{PlacesFacts.{map_at}, WalkFacts.{Walk, arrived, nexted, walk, walk-comes}, WorkFacts.{free-ended, goes-on}}
 use Rattle.machine_model.proofs.StepFacts.{ends_polls}
+use Rattle.machine_model.proofs.EndFacts.{ends}
 
 -- what is counted of packets
 pub record Tally : Type 0 where
@@ -176,27 +177,12 @@ lone-given n m p =
 given-by : (n : ℕ) (w : Work) (p : ProcessorView) (clock : ℕ)
     → (at n p.devices ≡ None → taken_by n w (polled_by (asked_in p.softirq.run) p.batch) ≡ [])
     → Given clock (given_from n (gives_by w p)) (tally (at n p.devices)) (tally (at n (ends_by w (record p { clock = clock })).devices))
-given-by n Nothing p clock there = given-none clock (tally (at n p.devices))
-given-by n (Interrupt m) p clock there = by (is_polling p.settings)
-  where
-    q : ProcessorView
-    q = record p { clock = clock }
-
-    by : (b : Bool)
-        → Given clock (given_from n (if b then None else Some (m, batch_at 1 (at m p.devices)))) (tally (at n p.devices))
-        (tally (at n (if b then q else ends_interrupt m q).devices))
-    by true = given-none clock (tally (at n p.devices))
-    by false = lone-given n m q
-given-by n Poll p clock there = by (asked_in p.softirq.run) there
-  where
-    q : ProcessorView
-    q = record p { clock = clock }
-
-    by : (o : Option ℕ) → (at n p.devices ≡ None → given_from n (polled_by o p.batch) ≡ [])
-        → Given clock (given_from n (polled_by o p.batch)) (tally (at n p.devices)) (tally (at n (ends_polls o q).devices))
-    by None there = given-none clock (tally (at n p.devices))
-    by (Some m) there = poll-given n m q (λ here none. rw here at (there none))
-given-by n (Use moment) p clock there = given-none clock (tally (at n p.devices))
+given-by n w p clock there =
+    let q : ProcessorView = record p { clock = clock } in
+    ends (λ gives used q. Given clock (given_from n gives) (tally (at n p.devices)) (tally (at n q.devices))) w p clock
+    (given-none clock (tally (at n p.devices))) (λ m is lone. lone-given n m q)
+    (λ m is asked. poll-given n m q (λ here none. rw (is, asked, here) at (there none)))
+    (λ came. given-none clock (tally (at n p.devices)))
 
 -- ---- what comes
 

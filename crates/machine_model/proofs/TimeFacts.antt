@@ -10,6 +10,7 @@ use Rattle.machine_model.specs.declared.processor.Work.{Work}
 use Rattle.machine_model.specs.declared.processor.Work.TheVariants.{Interrupt, Nothing, Poll, Use}
 use Rattle.machine_model.proofs.{WalkFacts.{Walk, implied, walk, walk-comes}, WorkFacts.{Goes, free-ended, goes-on}}
 use Rattle.machine_model.proofs.StepFacts.{ends_polls}
+use Rattle.machine_model.proofs.EndFacts.{ends}
 
 -- the clock stands there
 pub record Stands (c : ℕ) (p : ProcessorView) : Type 0 where
@@ -56,21 +57,9 @@ time-walk c = record {
 }
 
 -- what ends leaves the clock there
-clock-lone : (b : Bool) (n : ℕ) (p : ProcessorView) → (if b then p else ends_interrupt n p).clock ≡ p.clock
-unfolding ends_interrupt delivers
-clock-lone true n p = refl
-clock-lone false n p = refl
-
-clock-polls : (o : Option ℕ) (p : ProcessorView) → (ends_polls o p).clock ≡ p.clock
-unfolding ends_poll delivers
-clock-polls None p = refl
-clock-polls (Some n) p = refl
-
 clock-by : (w : Work) (p : ProcessorView) → (ends_by w p).clock ≡ p.clock
-clock-by Nothing p = refl
-clock-by (Interrupt n) p = clock-lone (is_polling p.settings) n p
-clock-by Poll p = clock-polls (asked_in p.softirq.run) p
-clock-by (Use came) p = refl
+unfolding ends_interrupt ends_poll delivers
+clock-by w p = ends (λ gives used q. q.clock ≡ p.clock) w p p.clock refl (λ n is lone. refl) (λ n is asked. refl) (λ came. refl)
 
 pub clock-ended : (p : ProcessorView) → (ends_current p).clock ≡ p.ends
 unfolding ends_current

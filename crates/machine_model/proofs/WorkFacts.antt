@@ -16,6 +16,7 @@ use Rattle.machine_model.proofs.{EndFacts.asked-ends, WalkFacts.{Free, Walk, wal
 use Rattle.machine_model.proofs.StepFacts.{ends_polls}
 use Rattle.machine_model.specs.Softirq.{told_run}
 use Rattle.std.specs.Prelude.{option_map}
+use Rattle.machine_model.proofs.EndFacts.{ends}
 
 -- what is true of a run of these settings
 pub record Runs (s : Settings) (r : RunView) : Type 0 where
@@ -138,26 +139,17 @@ work-walk s = record {
   stays = λ p free held still. record { rests = held; asked = λ not. free.unasked };
 }
 
-work-lone : (s : Settings) (b : Bool) (n : ℕ) (p : ProcessorView) → 1 ≤ s.weight → Rests s p → Rests s (if b then p else ends_interrupt n p)
-unfolding ends_interrupt delivers
-work-lone s true n p most held = held
-work-lone s false n p most held =
-    record { settings = held.settings; batch = omega (arith, most, batch-few 1 (at n p.devices)); run = held.run }
-
-next-work : (full : Bool) (work : ℕ) → let once : Once = record { work = work; next = if full then Repoll else Gone } in once.work ≡ work
-next-work full work = refl
-
-work-polls : (s : Settings) (o : Option ℕ) (p : ProcessorView) → asked_in p.softirq.run ≡ o → Rests s p → Rests s (ends_polls o p)
-unfolding ends_poll delivers
-work-polls s None p asked held = held
-work-polls s (Some n) p asked held =
-    record { settings = held.settings; batch = held.batch; run = runs-said s p.softirq _ n asked held.batch held.run }
-
 work-by : (s : Settings) (w : Work) (p : ProcessorView) → Rests s p → Rests s (ends_by w p)
-work-by s Nothing p held = held
-work-by s (Interrupt n) p held = work-lone s (is_polling p.settings) n p s.weight_in.0 held
-work-by s Poll p held = work-polls s (asked_in p.softirq.run) p refl held
-work-by s (Use came) p held = record { settings = held.settings; batch = held.batch; run = held.run }
+unfolding ends_interrupt ends_poll delivers
+work-by s w p held =
+    ends (λ gives used q. Rests s q) w p p.clock held
+    (λ n is lone. record {
+      settings = held.settings;
+      batch = omega (arith, s.weight_in.0, batch-few 1 (at n p.devices));
+      run = held.run;
+    })
+    (λ n is asked. record { settings = held.settings; batch = held.batch; run = runs-said s p.softirq _ n asked held.batch held.run })
+    (λ came. record { settings = held.settings; batch = held.batch; run = held.run })
 
 -- what has ended leaves nothing under way
 pub free-ended : (s : Settings) (p : ProcessorView) → Goes s p → Free (record (ends_current p) { work = Nothing })
