@@ -20,6 +20,8 @@ use Rattle.machine_model.proofs.{PlacesFacts.map_at, TimeFacts.timed, WalkFacts.
 use Rattle.machine_model.proofs.WorkFacts.{Goes, Rests, free-ended, goes-on, work-ended, work-walk}
 use Rattle.machine_model.specs.Kept.{masks, mask_at}
 use Rattle.machine_model.proofs.StepFacts.{ends_polls}
+use Rattle.machine_model.proofs.PlacesFacts.{packet-by}
+use Rattle.machine_model.proofs.FateFacts.{at-arrived}
 
 -- ---- how often a number stands on the list and in the run
 
@@ -474,21 +476,16 @@ pub record Fed (old new : Option DeviceView) : Type 0 where
       → min 1 (length (ring_in new)) ≤ up_at new + (mask_at new + a)
 
 fed-packet : (moment : ℕ) (d : DeviceView) → Fed (Some d) (Some (after_packet moment d))
-unfolding after_packet
-fed-packet moment d = by (nat_lt (length d.ring) d.capacity)
+fed-packet moment d =
+    packet-by (λ room e. Fed (Some d) (Some e)) moment d (
+      record { mask = refl; held = λ a before. up d.raises d.masked a (length (d.ring ++ moment ∷ [])) },
+      record { mask = refl; held = λ a before. before },
+    )
   where
-    counted : DeviceView
-    counted = record d { told = record d.told { arrived = held (d.told.arrived + 1) } }
-
     up : (r m : Bool) (a k : ℕ) → min 1 k ≤ (if (r || not m) then 1 else 0) + ((if m then 1 else 0) + a)
     up true m a k = omega arith
     up false true a k = omega arith
     up false false a k = omega arith
-
-    by : (b : Bool) → Fed (Some d) (Some (if b then record counted { ring = d.ring ++ moment ∷ []; raises = d.raises || not d.masked }
-        else record counted { told = record counted.told { dropped = held (d.told.dropped + 1) } }))
-    by true = record { mask = refl; held = λ a before. up d.raises d.masked a (length (d.ring ++ moment ∷ [])) }
-    by false = record { mask = refl; held = λ a before. before }
 
 fed-made : (capacity : ℕ) (o : Option DeviceView) → Fed o (Some (made_at capacity o))
 unfolding made_at
@@ -496,25 +493,13 @@ fed-made capacity None = record { mask = refl; held = λ a before. omega arith }
 fed-made capacity (Some d) = record { mask = refl; held = λ a before. before }
 
 fed-at : (moment m n : ℕ) (p : ProcessorView) → Fed (at n p.devices) (at n (arrived moment m p).devices)
-unfolding map_at
-fed-at moment m n p = by (m == n) refl
-  where
-    by : (b : Bool) → (m == n) ≡ b → Fed (at n p.devices) (at n (arrived moment m p).devices)
-    by true here =
-        let capacity = p.settings.ring in
-        let d = made_at capacity (at n p.devices) in
-        let stands-there : at n (with_device capacity m p.devices) ≡ Some d = rw (eqb-true m n here) (with-here capacity n p.devices) in
-        let now : at n (arrived moment m p).devices ≡ Some (after_packet moment d)
-        = at-here (after_packet moment) m n (with_device capacity m p.devices) here ∙ ap (map_at (after_packet moment)) stands-there in
-        let first = fed-made capacity (at n p.devices) in
-        let second = fed-packet moment d in
-        subst (λ (o : Option DeviceView). Fed (at n p.devices) o) (sym now)
-        (record { mask = second.mask ∙ first.mask; held = λ a before. second.held a (first.held a before) })
-    by false apart =
-        let same : at n (arrived moment m p).devices ≡ at n p.devices
-        = at-apart (after_packet moment) m n (with_device p.settings.ring m p.devices) apart
-        ∙ with-apart p.settings.ring m n p.devices apart in
-        subst (λ (o : Option DeviceView). Fed (at n p.devices) o) (sym same) (record { mask = refl; held = λ a before. before })
+fed-at moment m n p =
+    let capacity = p.settings.ring in
+    let first = fed-made capacity (at n p.devices) in
+    let second = fed-packet moment (made_at capacity (at n p.devices)) in
+    at-arrived (λ same o. Fed (at n p.devices) o) moment capacity m n p.devices
+    (record { mask = second.mask ∙ first.mask; held = λ a before. second.held a (first.held a before) })
+    (record { mask = refl; held = λ a before. before })
 
 idle-alone : (s : Settings) (n : ℕ) (w : Work) → is_busy w ≡ false → alone_by s n w ≡ 0
 idle-alone s n Nothing idle = refl

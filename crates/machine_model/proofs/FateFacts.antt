@@ -22,6 +22,8 @@ use Rattle.machine_model.proofs.WorkFacts.{Goes, free-ended, goes-on}
 use Rattle.machine_model.proofs.StepFacts.{ends_polls}
 use Rattle.machine_model.proofs.PlacesFacts.{with_place}
 use Rattle.machine_model.proofs.EndFacts.{ends}
+use Rattle.machine_model.proofs.PlacesFacts.{packet-by}
+use Rattle.std.proofs.Common.{subst}
 
 -- ---- what stands at a number
 
@@ -223,18 +225,8 @@ capacity_in capacity (Some d) = d.capacity
 
 packet-ring : (moment : ℕ) (d : DeviceView)
     → (after_packet moment d).ring ≡ d.ring ++ (if nat_lt (length d.ring) d.capacity then moment ∷ [] else [])
-unfolding after_packet
-packet-ring moment d = by (nat_lt (length d.ring) d.capacity)
-  where
-    counted : DeviceView
-    counted = record d { told = record d.told { arrived = held (d.told.arrived + 1) } }
-
-    by : (b : Bool) → (if b then record counted { ring = d.ring ++ moment ∷ []; raises = d.raises || not d.masked }
-        else record counted {
-          told = record counted.told { dropped = held (d.told.dropped + 1) };
-        }).ring ≡ d.ring ++ (if b then moment ∷ [] else [])
-    by true = refl
-    by false = sym (append-nil d.ring)
+packet-ring moment d =
+    packet-by (λ room e. e.ring ≡ d.ring ++ (if room then moment ∷ [] else [])) moment d (refl, sym (append-nil d.ring))
 
 pub made-ring : (capacity : ℕ) (o : Option DeviceView) → capacity_in capacity o ≡ capacity
     → ((made_at capacity o).ring ≡ ring_in o) × ((made_at capacity o).capacity ≡ capacity)
@@ -242,28 +234,40 @@ unfolding made_at capacity_in
 made-ring capacity None is = (refl, refl)
 made-ring capacity (Some d) is = (refl, is)
 
+-- what holds of the device that a packet came to, with the packet, and of each other as it was
+pub at-arrived : (Q : Bool → Option DeviceView → Type 0) (moment capacity m n : ℕ) (ds : Devices)
+    → Q true (Some (after_packet moment (made_at capacity (at n ds)))) → Q false (at n ds)
+    → Q (m == n) (at n (changed (after_packet moment) m (with_device capacity m ds)))
+unfolding map_at
+at-arrived Q moment capacity m n ds here apart = by (m == n) refl
+  where
+    new : Devices
+    new = with_device capacity m ds
+
+    by : (b : Bool) → (m == n) ≡ b → Q b (at n (changed (after_packet moment) m new))
+    by true is =
+        let stands : at n new ≡ Some (made_at capacity (at n ds)) = rw (eqb-true m n is) (with-here capacity n ds) in
+        subst (Q true) (sym (at-here (after_packet moment) m n new is ∙ ap (map_at (after_packet moment)) stands)) here
+    by false is = subst (Q false) (sym (at-apart (after_packet moment) m n new is ∙ with-apart capacity m n ds is)) apart
+
 pub comes-ring : (capacity moment m n : ℕ) (ds : Devices) → capacity_in capacity (at n ds) ≡ capacity
     → ring_in (at n (changed (after_packet moment) m (with_device capacity m ds)))
     ≡ ring_in (at n ds) ++ (if m == n && nat_lt (length (ring_in (at n ds))) capacity then moment ∷ [] else [])
-unfolding map_at made_at
-comes-ring capacity moment m n ds holds = by (m == n) refl
+comes-ring capacity moment m n ds holds =
+    at-arrived
+    (λ same o. ring_in o ≡ ring_in (at n ds) ++ (if same && nat_lt (length (ring_in (at n ds))) capacity then moment ∷ [] else []))
+    moment capacity m n ds
+    (packet-ring moment made ∙ (ap (λ (xs : List ℕ). with-packet xs made.capacity) fits.0 ∙ ap (with-packet (ring_in (at n ds))) fits.1))
+    (sym (append-nil (ring_in (at n ds))))
   where
-    by : (b : Bool) → (m == n) ≡ b → ring_in (at n (changed (after_packet moment) m (with_device capacity m ds)))
-        ≡ ring_in (at n ds) ++ (if b && nat_lt (length (ring_in (at n ds))) capacity then moment ∷ [] else [])
-    by true here =
-        let d = made_at capacity (at n ds) in
-        let number : m ≡ n = eqb-true m n here in
-        let made = made-ring capacity (at n ds) holds in
-        let stands : at n (with_device capacity m ds) ≡ Some d = rw number (with-here capacity n ds) in
-        let now : at n (changed (after_packet moment) m (with_device capacity m ds)) ≡ Some (after_packet moment d)
-        = at-here (after_packet moment) m n (with_device capacity m ds) here ∙ ap (map_at (after_packet moment)) stands in
-        let ring : (after_packet moment d).ring
-        ≡ ring_in (at n ds) ++ (if nat_lt (length (ring_in (at n ds))) capacity then moment ∷ [] else [])
-        = rw (made.0, made.1) at (packet-ring moment d) in
-        ap ring_in now ∙ ring
-    by false apart =
-        ap ring_in (at-apart (after_packet moment) m n (with_device capacity m ds) apart ∙ with-apart capacity m n ds apart)
-        ∙ sym (append-nil (ring_in (at n ds)))
+    with-packet : List ℕ → ℕ → List ℕ
+    with-packet xs size = xs ++ (if nat_lt (length xs) size then moment ∷ [] else [])
+
+    made : DeviceView
+    made = made_at capacity (at n ds)
+
+    fits : (made.ring ≡ ring_in (at n ds)) × (made.capacity ≡ capacity)
+    fits = made-ring capacity (at n ds) holds
 
 -- ---- what no work changes
 
@@ -330,26 +334,14 @@ ends-capacity capacity n w p =
     (λ came. refl)
 
 packet-capacity : (moment : ℕ) (d : DeviceView) → (after_packet moment d).capacity ≡ d.capacity
-unfolding after_packet
-packet-capacity moment d = by (nat_lt (length d.ring) d.capacity)
-  where
-    counted : DeviceView
-    counted = record d { told = record d.told { arrived = held (d.told.arrived + 1) } }
-
-    by : (b : Bool) → (if b then record counted { ring = d.ring ++ moment ∷ []; raises = d.raises || not d.masked }
-        else record counted { told = record counted.told { dropped = held (d.told.dropped + 1) } }).capacity ≡ d.capacity
-    by true = refl
-    by false = refl
+packet-capacity moment d = packet-by (λ room e. e.capacity ≡ d.capacity) moment d (refl, refl)
 
 comes-capacity : (capacity moment m n : ℕ) (ds : Devices) → capacity_in capacity (at n ds) ≡ capacity
     → capacity_in capacity (at n (changed (after_packet moment) m (with_device capacity m ds))) ≡ capacity
 unfolding capacity_in
 comes-capacity capacity moment m n ds holds =
-    at-kept (capacity_in capacity) (after_packet moment) m n (with_device capacity m ds) (packet-capacity moment) ∙ by (m == n) refl
-  where
-    by : (b : Bool) → (m == n) ≡ b → capacity_in capacity (at n (with_device capacity m ds)) ≡ capacity
-    by true here = rw (eqb-true m n here) (ap (capacity_in capacity) (with-here capacity n ds) ∙ (made-ring capacity (at n ds) holds).1)
-    by false apart = ap (capacity_in capacity) (with-apart capacity m n ds apart) ∙ holds
+    at-arrived (λ same o. capacity_in capacity o ≡ capacity) moment capacity m n ds
+    (packet-capacity moment (made_at capacity (at n ds)) ∙ (made-ring capacity (at n ds) holds).1) holds
 
 -- each ring has the size of the settings
 pub capacities : (s : Settings) (n : ℕ) (events : List Event) → capacity_in s.ring (at n (behind s events).devices) ≡ s.ring

@@ -12,6 +12,7 @@ use Rattle.device_rows.specs.Places.{at, changed}
 use Rattle.machine_model.proofs.ListedFacts.{asked-told, listed-begun, listed-ended, listed-pushed, listed-told, next-keeps, weight-told}
 use Rattle.machine_model.proofs.PlacesFacts.{masks-ended, masks-interrupted, masks-same}
 use Rattle.machine_model.specs.Kept.{masks}
+use Rattle.machine_model.proofs.PlacesFacts.{packet-by}
 
 -- devices change, none is unmasked
 pub kept-devices : (s : Settings) (w : Work) (ds es : Devices) (q : SoftirqView) (b : List ℕ) → Kept s w ds q b → masks ds ≤ masks es
@@ -117,16 +118,7 @@ kept-poll s w ds q b f n k same = record {
 }
 
 packet-masks : (moment : ℕ) (d : DeviceView) → (after_packet moment d).masked ≡ d.masked
-unfolding after_packet
-packet-masks moment d = by (nat_lt (length d.ring) d.capacity)
-  where
-    counted : DeviceView
-    counted = record d { told = record d.told { arrived = held (d.told.arrived + 1) } }
-
-    by : (b : Bool) → (if b then record counted { ring = d.ring ++ moment ∷ []; raises = d.raises || not d.masked }
-        else record counted { told = record counted.told { dropped = held (d.told.dropped + 1) } }).masked ≡ d.masked
-    by true = refl
-    by false = refl
+packet-masks moment d = packet-by (λ room e. e.masked ≡ d.masked) moment d (refl, refl)
 
 -- a packet comes
 pub kept-packet : (s : Settings) (w : Work) (ds opened es : Devices) (q : SoftirqView) (b : List ℕ) (moment n : ℕ) → Kept s w ds q b

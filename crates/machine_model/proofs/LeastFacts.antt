@@ -23,6 +23,8 @@ use Rattle.machine_model.proofs.WorkFacts.{Goes, Rests, RunsIn, free-ended, goes
 use Rattle.machine_model.proofs.StepFacts.{ends_polls}
 use Rattle.machine_model.specs.Processor.{uses}
 use Rattle.machine_model.proofs.EndFacts.{ends}
+use Rattle.machine_model.proofs.PlacesFacts.{packet-by}
+use Rattle.machine_model.proofs.FateFacts.{at-arrived}
 
 abbrev pub interrupt_time : Settings → ℕ
 interrupt_time s = if is_polling s then s.interrupt else s.interrupt + s.packet
@@ -393,16 +395,8 @@ grown-each : (P : ℕ → Type 0) (moment : ℕ) (old new : List ℕ) → Grown 
 grown-each P moment old new g now all = rw g.is (both P old g.extra all (weaker (λ at. at ≡ moment) P g.extra (λ at is. rw is now) g.all))
 
 packet-raises : (moment : ℕ) (d : DeviceView) → HasIfRaises (Some d) → HasIfRaises (Some (after_packet moment d))
-unfolding after_packet
-packet-raises moment d has = by (nat_lt (length d.ring) d.capacity)
-  where
-    counted : DeviceView
-    counted = record d { told = record d.told { arrived = held (d.told.arrived + 1) } }
-
-    by : (b : Bool) → HasIfRaises (Some (if b then record counted { ring = d.ring ++ moment ∷ []; raises = d.raises || not d.masked }
-        else record counted { told = record counted.told { dropped = held (d.told.dropped + 1) } }))
-    by true = λ raises. omega (arith, length-append d.ring (moment ∷ []))
-    by false = has
+packet-raises moment d has =
+    packet-by (λ room e. HasIfRaises (Some e)) moment d (λ raises. omega (arith, length-append d.ring (moment ∷ [])), has)
 
 made-raises : (capacity : ℕ) (o : Option DeviceView) → HasIfRaises o → HasIfRaises (Some (made_at capacity o))
 unfolding made_at
@@ -410,22 +404,10 @@ made-raises capacity None has = λ raises. cc raises
 made-raises capacity (Some d) has = has
 
 arrived-raises : (moment m n : ℕ) (p : ProcessorView) → HasIfRaises (at n p.devices) → HasIfRaises (at n (arrived moment m p).devices)
-unfolding map_at
-arrived-raises moment m n p has = by (m == n) refl
-  where
-    by : (b : Bool) → (m == n) ≡ b → HasIfRaises (at n (arrived moment m p).devices)
-    by true here =
-        let capacity = p.settings.ring in
-        let stands : at n (with_device capacity m p.devices) ≡ Some (made_at capacity (at n p.devices)) =
-        rw (eqb-true m n here) (with-here capacity n p.devices) in
-        let now : at n (arrived moment m p).devices ≡ Some (after_packet moment (made_at capacity (at n p.devices)))
-        = at-here (after_packet moment) m n (with_device capacity m p.devices) here ∙ ap (map_at (after_packet moment)) stands in
-        subst HasIfRaises (sym now) (packet-raises moment _ (made-raises capacity (at n p.devices) has))
-    by false apart =
-        let same : at n (arrived moment m p).devices ≡ at n p.devices
-        = at-apart (after_packet moment) m n (with_device p.settings.ring m p.devices) apart
-        ∙ with-apart p.settings.ring m n p.devices apart in
-        subst HasIfRaises (sym same) has
+arrived-raises moment m n p has =
+    let capacity = p.settings.ring in
+    at-arrived (λ same o. HasIfRaises o) moment capacity m n p.devices
+    (packet-raises moment _ (made-raises capacity (at n p.devices) has)) has
 
 batch-is : (o : Option DeviceView) → batch_at 1 o ≡ take (min 1 (length (ring_in o))) (ring_in o)
 batch-is None = refl

@@ -8,6 +8,8 @@ use Rattle.machine_model.specs.Device.{DeviceView, ended_poll, interrupted, open
 use Rattle.machine_model.specs.Devices.{Devices, is_handed_at, with_device}
 use Rattle.machine_model.specs.Kept.{masks, mask_at}
 use Rattle.machine_model.specs.Shown.{listed}
+use Rattle.std.specs.Prelude.{nat_lt}
+use Rattle.machine_model.specs.{Device.after_packet, Waits.held}
 
 -- the places up to a number
 abbrev pub with_place : ℕ → Devices → Devices
@@ -38,6 +40,24 @@ at-changed f n xs = by (at n xs) refl
     by : (o : Option DeviceView) → at n xs ≡ o → at n (changed_from f n o xs) ≡ map_at f o
     by None here = here
     by (Some d) here = get_or-set_at xs n n (Some (f d)) None refl (below-some xs n d here)
+
+-- what holds of a device that has room for a packet, with it in its ring, and of one that drops it
+pub packet-by : (Q : Bool → DeviceView → Type 0) (moment : ℕ) (d : DeviceView)
+    → (let counted : DeviceView = record d { told = record d.told { arrived = held (d.told.arrived + 1) } } in
+    Q true (record counted { ring = d.ring ++ moment ∷ []; raises = d.raises || not d.masked })
+    × Q false (record counted { told = record counted.told { dropped = held (d.told.dropped + 1) } }))
+    → Q (nat_lt (length d.ring) d.capacity) (after_packet moment d)
+unfolding after_packet
+packet-by Q moment d each = by (nat_lt (length d.ring) d.capacity)
+  where
+    counted : DeviceView
+    counted = record d { told = record d.told { arrived = held (d.told.arrived + 1) } }
+
+    by : (b : Bool)
+        → Q b (if b then record counted { ring = d.ring ++ moment ∷ []; raises = d.raises || not d.masked }
+        else record counted { told = record counted.told { dropped = held (d.told.dropped + 1) } })
+    by true = each.0
+    by false = each.1
 
 mask-same : (f : DeviceView → DeviceView) → ((d : DeviceView) → (f d).masked ≡ d.masked) → (o : Option DeviceView)
     → mask_at (map_at f o) ≡ mask_at o

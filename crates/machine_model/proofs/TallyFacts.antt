@@ -20,6 +20,8 @@ use Rattle.machine_model.proofs.FateFacts.{with-apart, with-here}
 use Rattle.machine_model.proofs.{PlacesFacts.{map_at}, WalkFacts.{Walk, arrived, nexted, walk, walk-comes}, WorkFacts.{free-ended, goes-on}}
 use Rattle.machine_model.proofs.StepFacts.{ends_polls}
 use Rattle.machine_model.proofs.EndFacts.{ends}
+use Rattle.machine_model.proofs.PlacesFacts.{packet-by}
+use Rattle.machine_model.proofs.FateFacts.{at-arrived}
 
 -- what is counted of packets
 pub record Tally : Type 0 where
@@ -83,19 +85,8 @@ present-walk n = record {
 
 -- a device that a packet came for is there
 arrived-none : (moment m n : ℕ) (p : ProcessorView) → at n (arrived moment m p).devices ≡ None → at n p.devices ≡ None
-unfolding map_at
-arrived-none moment m n p none = by (m == n) refl
-  where
-    by : (b : Bool) → (m == n) ≡ b → at n p.devices ≡ None
-    by true here =
-        let stands : at n (with_device p.settings.ring m p.devices) ≡ Some (made_at p.settings.ring (at n p.devices)) =
-        rw (eqb-true m n here) (with-here p.settings.ring n p.devices) in
-        let now =
-        at-here (after_packet moment) m n (with_device p.settings.ring m p.devices) here ∙ ap (map_at (after_packet moment)) stands in
-        absurd (cc (now, none))
-    by false apart =
-        sym (at-apart (after_packet moment) m n (with_device p.settings.ring m p.devices) apart
-        ∙ with-apart p.settings.ring m n p.devices apart) ∙ none
+arrived-none moment m n p =
+    at-arrived (λ same o. o ≡ None → at n p.devices ≡ None) moment p.settings.ring m n p.devices (λ none. cc none) (λ none. none)
 
 pub present : (s : Settings) (n : ℕ) (events : List Event) → Present n (behind s events)
 unfolding behind step
@@ -195,17 +186,9 @@ pub record Took (room : Bool) (old new : Tally) : Type 0 where
 
 packet-took : (moment : ℕ) (d : DeviceView)
     → Took (nat_lt (length d.ring) d.capacity) (tally (Some d)) (tally (Some (after_packet moment d)))
-unfolding after_packet
-packet-took moment d = by (nat_lt (length d.ring) d.capacity)
-  where
-    counted : DeviceView
-    counted = record d { told = record d.told { arrived = held (d.told.arrived + 1) } }
-
-    by : (b : Bool)
-        → Took b (tally (Some d)) (tally (Some (if b then record counted { ring = d.ring ++ moment ∷ []; raises = d.raises || not d.masked }
-        else record counted { told = record counted.told { dropped = held (d.told.dropped + 1) } })))
-    by true = record { arrived = refl; dropped = refl; polled = refl; waits = refl }
-    by false = record { arrived = refl; dropped = refl; polled = refl; waits = refl }
+packet-took moment d =
+    packet-by (λ room e. Took room (tally (Some d)) (tally (Some e))) moment d
+    (record { arrived = refl; dropped = refl; polled = refl; waits = refl }, record { arrived = refl; dropped = refl; polled = refl; waits = refl })
 
 made-tally : (capacity : ℕ) (o : Option DeviceView) → tally (Some (made_at capacity o)) ≡ tally o
 unfolding made_at
@@ -231,8 +214,12 @@ arrived-counts : (s : Settings) (moment m n a d : ℕ) (p : ProcessorView) → p
     → Counts (a + length (if m == n && finds_room n p then moment ∷ [] else []))
     (d + length (if m == n && not (finds_room n p) then moment ∷ [] else []))
     (tally (at n p.devices)) (tally (at n (arrived moment m p).devices))
-unfolding map_at
-arrived-counts s moment m n a d p same holds old-arrived old-dropped = by (m == n) refl
+arrived-counts s moment m n a d p same holds old-arrived old-dropped =
+    at-arrived
+    (λ here t. Counts (a + length (if here && finds_room n p then moment ∷ [] else []))
+    (d + length (if here && not (finds_room n p) then moment ∷ [] else [])) (tally o) (tally t))
+    moment capacity m n p.devices (counts-took (finds_room n p) moment a d (tally o) _ took old-arrived old-dropped)
+    (record { arrived = omega (arith, old-arrived); dropped = omega (arith, old-dropped); polled = refl; waits = refl })
   where
     capacity : ℕ
     capacity = p.settings.ring
@@ -240,34 +227,16 @@ arrived-counts s moment m n a d p same holds old-arrived old-dropped = by (m == 
     o : Option DeviceView
     o = at n p.devices
 
-    by : (b : Bool) → (m == n) ≡ b
-        → Counts (a + length (if b && finds_room n p then moment ∷ [] else []))
-        (d + length (if b && not (finds_room n p) then moment ∷ [] else []))
-        (tally o) (tally (at n (arrived moment m p).devices))
-    by true here =
-        let stands : at n (with_device capacity m p.devices) ≡ Some (made_at capacity o) =
-        rw (eqb-true m n here) (with-here capacity n p.devices) in
-        let now : at n (arrived moment m p).devices ≡ Some (after_packet moment (made_at capacity o))
-        = at-here (after_packet moment) m n (with_device capacity m p.devices) here ∙ ap (map_at (after_packet moment)) stands in
-        let fits : capacity_in capacity o ≡ capacity = rw same holds in
-        let made = made-ring capacity o fits in
-        let room : nat_lt (length (made_at capacity o).ring) (made_at capacity o).capacity ≡ finds_room n p
-        = ap (λ (k : List ℕ). nat_lt (length k) (made_at capacity o).capacity) made.0
-        ∙ ap (λ (k : ℕ). nat_lt (length (ring_in o)) k) made.1 in
-        let took = packet-took moment (made_at capacity o) in
-        let took-2 =
-        subst (λ (b : Bool). Took b (tally (Some (made_at capacity o))) (tally (Some (after_packet moment (made_at capacity o))))) room
-        took in
-        let took-3 =
-        subst (λ (t : Tally). Took (finds_room n p) t (tally (Some (after_packet moment (made_at capacity o)))))
-        (made-tally capacity o) took-2 in
-        let took-4 = subst (λ (t : Tally). Took (finds_room n p) (tally o) t) (ap tally (sym now)) took-3 in
-        counts-took (finds_room n p) moment a d (tally o) _ took-4 old-arrived old-dropped
-    by false apart =
-        let same : at n (arrived moment m p).devices ≡ o =
-        at-apart (after_packet moment) m n (with_device capacity m p.devices) apart ∙ with-apart capacity m n p.devices apart in
-        subst (λ (t : Tally). Counts (a + 0) (d + 0) (tally o) t) (ap tally (sym same))
-        (record { arrived = omega (arith, old-arrived); dropped = omega (arith, old-dropped); polled = refl; waits = refl })
+    made : DeviceView
+    made = made_at capacity o
+
+    took : Took (finds_room n p) (tally o) (tally (Some (after_packet moment made)))
+    took =
+        let rings = made-ring capacity o (rw same holds) in
+        let room : nat_lt (length made.ring) made.capacity ≡ finds_room n p
+        = ap (λ (k : List ℕ). nat_lt (length k) made.capacity) rings.0 ∙ ap (λ (k : ℕ). nat_lt (length (ring_in o)) k) rings.1 in
+        subst (λ (t : Tally). Took (finds_room n p) t (tally (Some (after_packet moment made)))) (made-tally capacity o)
+        (subst (λ (b : Bool). Took b (tally (Some made)) (tally (Some (after_packet moment made)))) room (packet-took moment made))
 
 -- ---- over a life
 
