@@ -22,6 +22,7 @@ use Rattle.machine_model.specs.Kept.{masks, mask_at}
 use Rattle.machine_model.proofs.StepFacts.{ends_polls}
 use Rattle.machine_model.proofs.PlacesFacts.{packet-by}
 use Rattle.machine_model.proofs.FateFacts.{at-arrived}
+use Rattle.machine_model.proofs.FateFacts.{at-either}
 
 -- ---- how often a number stands on the list and in the run
 
@@ -164,12 +165,9 @@ lowered polling (Some d) = record { ring = refl; mask = masked polling d.masked;
     some false false = omega arith
 
 lowered-at : (polling : Bool) (m n : ℕ) (ds : Devices) → Lowered polling (m == n) (at n ds) (at n (changed (interrupted polling) m ds))
-lowered-at polling m n ds = by (m == n) refl
-  where
-    by : (b : Bool) → (m == n) ≡ b → Lowered polling b (at n ds) (at n (changed (interrupted polling) m ds))
-    by true here = rw (at-here (interrupted polling) m n ds here) (lowered polling (at n ds))
-    by false apart =
-        rw (at-apart (interrupted polling) m n ds apart) (record { ring = refl; mask = omega arith; up = omega arith; some = omega arith })
+lowered-at polling m n ds =
+    at-either (λ own o. Lowered polling own (at n ds) o) (interrupted polling) m n ds (λ here. lowered polling (at n ds))
+    (record { ring = refl; mask = omega arith; up = omega arith; some = omega arith })
 
 stands-if : (b : Bool) (n m : ℕ) (q : SoftirqView)
     → stands n (if b then pushed m q else q) ≡ stands n q + (if b then (if m == n then 1 else 0) else 0)
@@ -236,15 +234,12 @@ tend-raises s n m p t =
 
 polled-less : (weight m n : ℕ) (ds : Devices) → length (ring_in (at n (changed (polled weight) m ds))) ≤ length (ring_in (at n ds))
 unfolding map_at polled device.taken
-polled-less weight m n ds = by (m == n) refl
+polled-less weight m n ds =
+    at-either (λ here o. length (ring_in o) ≤ length (ring_in (at n ds))) (polled weight) m n ds (λ here. less (at n ds)) (omega arith)
   where
     less : (o : Option DeviceView) → length (ring_in (map_at (polled weight) o)) ≤ length (ring_in o)
     less None = omega arith
     less (Some d) = omega (arith, length-drop (min weight (length d.ring)) d.ring)
-
-    by : (b : Bool) → (m == n) ≡ b → length (ring_in (at n (changed (polled weight) m ds))) ≤ length (ring_in (at n ds))
-    by true here = rw (at-here (polled weight) m n ds here) (less (at n ds))
-    by false apart = rw (at-apart (polled weight) m n ds apart) (omega arith)
 
 tend-asks : (s : Settings) (n m : ℕ) (p : ProcessorView) → Tended s n p → Attended s n (polls m p)
 unfolding polls polled device.taken

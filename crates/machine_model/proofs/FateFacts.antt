@@ -37,20 +37,25 @@ at-apart f m n ds other = by (at m ds)
     by None = refl
     by (Some d) = get_or-set_other ds m n (Some (f d)) None (λ e. eqb-false m n other (sym e))
 
+-- what holds of the device that changes, and of each other as it was
+pub at-either : (Q : Bool → Option DeviceView → Type 0) (f : DeviceView → DeviceView) (m n : ℕ) (ds : Devices)
+    → ((m == n) ≡ true → Q true (map_at f (at n ds))) → Q false (at n ds) → Q (m == n) (at n (changed f m ds))
+at-either Q f m n ds here apart = by (m == n) refl
+  where
+    by : (b : Bool) → (m == n) ≡ b → Q b (at n (changed f m ds))
+    by true is = subst (Q true) (sym (at-here f m n ds is)) (here is)
+    by false is = subst (Q false) (sym (at-apart f m n ds is)) apart
+
 -- what a change keeps of a device, it keeps of each
 pub at-kept : {A : Type 0} → (g : Option DeviceView → A) (f : DeviceView → DeviceView) (m n : ℕ) (ds : Devices)
     → ((d : DeviceView) → g (Some (f d)) ≡ g (Some d))
     → g (at n (changed f m ds)) ≡ g (at n ds)
 unfolding map_at
-at-kept g f m n ds same = by (m == n) refl
+at-kept g f m n ds same = at-either (λ here o. g o ≡ g (at n ds)) f m n ds (λ here. each (at n ds)) refl
   where
     each : (o : Option DeviceView) → g (map_at f o) ≡ g o
     each None = refl
     each (Some d) = same d
-
-    by : (b : Bool) → (m == n) ≡ b → g (at n (changed f m ds)) ≡ g (at n ds)
-    by true here = ap g (at-here f m n ds here) ∙ each (at n ds)
-    by false apart = ap g (at-apart f m n ds apart)
 
 -- places that are made are empty
 at-places : (n count : ℕ) (ds : Devices) → at n (ds ++ replicate count None) ≡ at n ds
@@ -98,7 +103,7 @@ unfolding map_at device.taken
 batch-ring weight None = refl
 batch-ring weight (Some d) = take-append-drop (min weight (length d.ring)) d.ring
 
-polled-ring : (weight : ℕ) (o : Option DeviceView) → ring_in (map_at (polled weight) o) ≡ ring_in (map_at (device.taken weight) o)
+pub polled-ring : (weight : ℕ) (o : Option DeviceView) → ring_in (map_at (polled weight) o) ≡ ring_in (map_at (device.taken weight) o)
 unfolding map_at polled device.taken
 polled-ring weight None = refl
 polled-ring weight (Some d) = refl
@@ -106,14 +111,9 @@ polled-ring weight (Some d) = refl
 given-ring : (f : DeviceView → DeviceView) (weight m n : ℕ) (ds : Devices)
     → ((o : Option DeviceView) → ring_in (map_at f o) ≡ ring_in (map_at (device.taken weight) o))
     → given_from n (Some (m, batch_at weight (at m ds))) ++ ring_in (at n (changed f m ds)) ≡ ring_in (at n ds)
-given-ring f weight m n ds takes = by (m == n) refl
-  where
-    by : (b : Bool) → (m == n) ≡ b → (if b then batch_at weight (at m ds) else []) ++ ring_in (at n (changed f m ds)) ≡ ring_in (at n ds)
-    by true here =
-        let same : at n (changed f m ds) ≡ map_at f (at n ds) = at-here f m n ds here in
-        let number : m ≡ n = eqb-true m n here in
-        rw (same, takes (at n ds), number) (batch-ring weight (at n ds))
-    by false apart = ap ring_in (at-apart f m n ds apart)
+given-ring f weight m n ds takes =
+    at-either (λ same o. (if same then batch_at weight (at m ds) else []) ++ ring_in o ≡ ring_in (at n ds)) f m n ds
+    (λ here. rw (takes (at n ds), eqb-true m n here) (batch-ring weight (at n ds))) refl
 
 ended-poll-ring : (full : Bool) (d : DeviceView) → (ended_poll full d).ring ≡ d.ring
 unfolding ended_poll

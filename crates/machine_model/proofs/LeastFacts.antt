@@ -25,6 +25,7 @@ use Rattle.machine_model.specs.Processor.{uses}
 use Rattle.machine_model.proofs.EndFacts.{ends}
 use Rattle.machine_model.proofs.PlacesFacts.{packet-by}
 use Rattle.machine_model.proofs.FateFacts.{at-arrived}
+use Rattle.machine_model.proofs.FateFacts.{at-either, polled-ring}
 
 abbrev pub interrupt_time : Settings → ℕ
 interrupt_time s = if is_polling s then s.interrupt else s.interrupt + s.packet
@@ -87,15 +88,12 @@ grown c cost xs fits all = weaker (λ at. at ≤ c) (λ at. at ≤ held (c + cos
 raises-other : (polling : Bool) (m n : ℕ) (ds : Devices) → raises_at (at n (changed (interrupted polling) m ds)) ≡ true
     → (raises_at (at n ds) ≡ true)
 unfolding map_at interrupted
-raises-other polling m n ds raises = by (m == n) refl
+raises-other polling m n ds =
+    at-either (λ here o. raises_at o ≡ true → raises_at (at n ds) ≡ true) (interrupted polling) m n ds (λ here. never (at n ds)) (λ up. up)
   where
     never : (o : Option DeviceView) → raises_at (map_at (interrupted polling) o) ≡ true → raises_at o ≡ true
     never None raises = raises
     never (Some d) raises = cc raises
-
-    by : (b : Bool) → (m == n) ≡ b → raises_at (at n ds) ≡ true
-    by true here = never (at n ds) (rw (at-here (interrupted polling) m n ds here) at raises)
-    by false apart = rw (at-apart (interrupted polling) m n ds apart) at raises
 
 ring-interrupted : (polling : Bool) (m n : ℕ) (ds : Devices) → ring_in (at n (changed (interrupted polling) m ds)) ≡ ring_in (at n ds)
 unfolding interrupted
@@ -162,21 +160,20 @@ batch-time s c (x ∷ xs) polling all =
     let more : s.packet * length (x ∷ xs) ≡ s.packet + s.packet * length xs = omega arith in
     weaker (λ at. at ≤ c) (Waited s 0 (held (c + cost))) (x ∷ xs) (λ at below. omega (arith, below, time, more)) all
 
-polled-here : (P : ℕ → Type 0) (weight : ℕ) (o : Option DeviceView) → AllByRecursion P (ring_in o)
-    → AllByRecursion P (ring_in (map_at (polled weight) o))
-unfolding map_at polled device.taken
-polled-here P weight None all = tt
-polled-here P weight (Some d) all =
-    let k = min weight (length d.ring) in
-    (parts P (take k d.ring) (drop k d.ring) (subst (λ (ys : List ℕ). AllByRecursion P ys) (sym (take-append-drop k d.ring)) all)).1
-
-polled-each : (P : ℕ → Type 0) (weight m n : ℕ) (ds : Devices) → AllByRecursion P (ring_in (at n ds))
-    → AllByRecursion P (ring_in (at n (changed (polled weight) m ds)))
-polled-each P weight m n ds all = by (m == n) refl
+-- what holds of a ring's packets holds where some of them were taken
+taken-each : (P : ℕ → Type 0) (f : DeviceView → DeviceView) (weight m n : ℕ) (ds : Devices)
+    → ((o : Option DeviceView) → ring_in (map_at f o) ≡ ring_in (map_at (device.taken weight) o)) → AllByRecursion P (ring_in (at n ds))
+    → AllByRecursion P (ring_in (at n (changed f m ds)))
+unfolding map_at device.taken
+taken-each P f weight m n ds takes all =
+    at-either (λ here o. AllByRecursion P (ring_in o)) f m n ds
+    (λ here. subst (λ (xs : List ℕ). AllByRecursion P xs) (sym (takes (at n ds))) (rest (at n ds) all)) all
   where
-    by : (b : Bool) → (m == n) ≡ b → AllByRecursion P (ring_in (at n (changed (polled weight) m ds)))
-    by true here = rw (at-here (polled weight) m n ds here) (polled-here P weight (at n ds) all)
-    by false apart = rw (at-apart (polled weight) m n ds apart) all
+    rest : (o : Option DeviceView) → AllByRecursion P (ring_in o) → AllByRecursion P (ring_in (map_at (device.taken weight) o))
+    rest None all = tt
+    rest (Some d) all =
+        let k = min weight (length d.ring) in
+        (parts P (take k d.ring) (drop k d.ring) (subst (λ (ys : List ℕ). AllByRecursion P ys) (sym (take-append-drop k d.ring)) all)).1
 
 positive-is : (n : ℕ) → 0 < n → not (n == 0) ≡ true
 positive-is n below = by (n == 0) refl
@@ -209,7 +206,7 @@ due-asks s c fits m p h asked =
       clock = h.clock;
       rings =
           λ n. rw h.clock
-          (grown c (poll_time p.settings batch) (ring_in (at n ds)) fits (polled-each (λ at. at ≤ c) weight m n p.devices (h.rings n)));
+          (grown c (poll_time p.settings batch) (ring_in (at n ds)) fits (taken-each (λ at. at ≤ c) (polled weight) weight m n p.devices (polled-ring weight) (h.rings n)));
       raises = λ n lone up. absurd (cc (polling, lone));
       lone = λ n lone is. cc is;
       given = whole;
@@ -283,21 +280,6 @@ due-walk s c fits =
 
 -- ---- what ends
 
-taken-ring : (m n : ℕ) (ds : Devices) → (P : ℕ → Type 0) → AllByRecursion P (ring_in (at n ds))
-    → AllByRecursion P (ring_in (at n (changed (device.taken 1) m ds)))
-unfolding map_at device.taken
-taken-ring m n ds P all = by (m == n) refl
-  where
-    here-ring : (o : Option DeviceView) → AllByRecursion P (ring_in o) → AllByRecursion P (ring_in (map_at (device.taken 1) o))
-    here-ring None all = tt
-    here-ring (Some d) all =
-        let k = min 1 (length d.ring) in
-        (parts P (take k d.ring) (drop k d.ring) (subst (λ (ys : List ℕ). AllByRecursion P ys) (sym (take-append-drop k d.ring)) all)).1
-
-    by : (b : Bool) → (m == n) ≡ b → AllByRecursion P (ring_in (at n (changed (device.taken 1) m ds)))
-    by true here = rw (at-here (device.taken 1) m n ds here) (here-ring (at n ds) all)
-    by false apart = rw (at-apart (device.taken 1) m n ds apart) all
-
 ends-rings : (P : ℕ → Type 0) (n : ℕ) (w : Work) (p : ProcessorView) → AllByRecursion P (ring_in (at n p.devices))
     → AllByRecursion P (ring_in (at n (ends_by w p).devices))
 unfolding ends_interrupt delivers ended_interrupt device.delivered
@@ -309,7 +291,7 @@ ends-rings P n w p all =
     let two = changed (device.delivered p.clock batch) m one in
     let kept : ring_in (at n (changed ended_interrupt m two)) ≡ ring_in (at n one)
     = at-kept ring_in ended_interrupt m n two (λ d. refl) ∙ at-kept ring_in (device.delivered p.clock batch) m n one (λ d. refl) in
-    subst (λ (xs : List ℕ). AllByRecursion P xs) (sym kept) (taken-ring m n p.devices P all))
+    subst (λ (xs : List ℕ). AllByRecursion P xs) (sym kept) (taken-each P (device.taken 1) 1 m n p.devices (λ o. refl) all))
     (λ m is asked. subst (λ (xs : List ℕ). AllByRecursion P xs) (sym (poll-ring n m p)) all)
     (λ came. all)
 

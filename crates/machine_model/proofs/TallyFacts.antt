@@ -22,6 +22,7 @@ use Rattle.machine_model.proofs.StepFacts.{ends_polls}
 use Rattle.machine_model.proofs.EndFacts.{ends}
 use Rattle.machine_model.proofs.PlacesFacts.{packet-by}
 use Rattle.machine_model.proofs.FateFacts.{at-arrived}
+use Rattle.machine_model.proofs.FateFacts.{at-either}
 
 -- what is counted of packets
 pub record Tally : Type 0 where
@@ -121,12 +122,9 @@ given-here now batch (Some d) empty = record { arrived = refl; dropped = refl; p
 
 given-at : (now m n : ℕ) (batch : List ℕ) (ds : Devices) → ((m == n) ≡ true → at n ds ≡ None → batch ≡ [])
     → Given now (given_from n (Some (m, batch))) (tally (at n ds)) (tally (at n (changed (device.delivered now batch) m ds)))
-given-at now m n batch ds empty = by (m == n) refl
-  where
-    by : (b : Bool) → (m == n) ≡ b
-        → Given now (if b then batch else []) (tally (at n ds)) (tally (at n (changed (device.delivered now batch) m ds)))
-    by true here = rw (at-here (device.delivered now batch) m n ds here) (given-here now batch (at n ds) (empty here))
-    by false apart = rw (at-apart (device.delivered now batch) m n ds apart) (given-none now (tally (at n ds)))
+given-at now m n batch ds empty =
+    at-either (λ same o. Given now (if same then batch else []) (tally (at n ds)) (tally o)) (device.delivered now batch) m n ds
+    (λ here. given-here now batch (at n ds) (empty here)) (given-none now (tally (at n ds)))
 
 ended-tally : (full : Bool) (d : DeviceView) → tally (Some (ended_poll full d)) ≡ tally (Some d)
 unfolding ended_poll
