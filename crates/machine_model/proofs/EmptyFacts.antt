@@ -1,11 +1,11 @@
 -- Where nothing is under way, nothing is left to do.
 use Rattle.std.proofs.Common.{◌≡◌, ◌∙◌, ℕ, zero, suc, ◌+◌, ◌-◌, ◌<◌, ◌≤◌, ◌^◌, Bool, true, false, Option, Some, None, List, [], ◌∷◌, ◌++◌}
-use Rattle.std.proofs.{Common.{drop, length, length-drop, refl, sym, ap, subst, arith}, lemmas.Bool.{eqb-true, le-leb, lt-ltb}}
+use Rattle.std.proofs.{Common.{drop, length, length-drop, refl, arith}, lemmas.Bool.{eqb-true, le-leb, lt-ltb}}
 use Rattle.std.specs.Prelude.{◌==◌, ◌&&◌, ◌||◌, if◌then◌else◌, min, nat_le, nat_lt, not, position, slice_get}
 use Rattle.{std.specs.List.position_or_len, device_rows.specs.Places.{at, changed}, machine_words.specs.declared.settings.Settings.Settings}
 use Rattle.poll_runs.specs.{Turn.asked_for, declared.bench.{Next.TheVariants.{Gone, Repoll}}}
 use Rattle.machine_model.specs.Device.{DeviceView, after_packet, ended_interrupt, ended_poll, interrupted, polled}
-use Rattle.machine_model.specs.{Devices.{Devices, batch_at, is_handed_at, raises_at, with_device}, Waits.held}
+use Rattle.machine_model.specs.{Devices.{Devices, batch_at, is_handed_at, raises_at}, Waits.held}
 use Rattle.machine_model.specs.Device as device
 use Rattle.machine_model.specs.Fates.{NothingIsLeft, ring_in}
 use Rattle.machine_model.specs.Laws.{Event, behind, end, packet}
@@ -15,7 +15,7 @@ use Rattle.machine_model.specs.Softirq.{RunView, SoftirqView, asked_in, begun, e
 use Rattle.machine_model.specs.Softirq.{next_of, pushed, told}
 use Rattle.machine_model.specs.declared.processor.Work.{Work}
 use Rattle.machine_model.specs.declared.processor.Work.TheVariants.{Interrupt, Nothing, Poll, Use}
-use Rattle.machine_model.proofs.FateFacts.{at-apart, at-here, at-kept, made_at, with-apart, with-here}
+use Rattle.machine_model.proofs.FateFacts.{at-apart, at-here, at-kept, made_at}
 use Rattle.machine_model.proofs.{PlacesFacts.map_at, TimeFacts.timed, WalkFacts.{Free, Still, Walk, arrived, nexted, walk, walk-comes}}
 use Rattle.machine_model.proofs.WorkFacts.{Goes, Rests, free-ended, goes-on, work-ended, work-walk}
 use Rattle.machine_model.specs.Kept.{masks, mask_at}

@@ -3,11 +3,11 @@ use Rattle.std.proofs.Common.{◌≡◌, ◌∙◌, ℕ, zero, suc, ◌+◌, ◌
 use Rattle.std.proofs.Common.{append_assoc, length, length-append, replicate, refl, sym, ap, arith}
 use Rattle.std.proofs.lemmas.{Bool.{eqb-false, eqb-true}, Grind.get_or-set_at}
 use Rattle.std.proofs.lemmas.List.{append-nil, get_or-set_other, length-replicate, take-append-drop}
-use Rattle.std.specs.Prelude.{◌==◌, ◌&&◌, ◌||◌, if◌then◌else◌, min, nat_lt, not}
+use Rattle.std.specs.Prelude.{◌==◌, ◌&&◌, if◌then◌else◌, min, nat_lt}
 use Rattle.device_rows.specs.Places.{added_at, at, changed, changed_from}
 use Rattle.machine_words.specs.declared.settings.Settings.{Settings}
 use Rattle.machine_model.specs.Device.{DeviceView, after_packet, ended_interrupt, ended_poll, interrupted, opened, polled}
-use Rattle.machine_model.specs.{Devices.{Devices, batch_at, with_device}, Waits.held}
+use Rattle.machine_model.specs.{Devices.{Devices, batch_at, with_device}}
 use Rattle.machine_model.specs.Fates as fate
 use Rattle.machine_model.specs.Fates.{DeliversInOrder, came, finds_room, given, given_from, gives_by, polled_by, ring_in, taken_by}
 use Rattle.machine_model.specs.Device as device

@@ -1,9 +1,9 @@
 -- What is true of each processor stays so.
-use Rattle.std.proofs.Common.{◌≡◌, ◌∙◌, ℕ, ◌+◌, ◌≤◌, Bool, true, false, Option, Some, None, List, [], ◌∷◌, ◌++◌, length, length-take, refl}
-use Rattle.std.{proofs.Common.{sym, arith}, specs.Prelude.{◌||◌, if◌then◌else◌, min, nat_lt, not}}
+use Rattle.std.proofs.Common.{◌≡◌, ◌∙◌, ℕ, ◌+◌, ◌≤◌, Bool, true, false, Option, Some, None, List, length, length-take, refl}
+use Rattle.std.{proofs.Common.{sym, arith}, specs.Prelude.{if◌then◌else◌, min}}
 use Rattle.machine_words.specs.declared.settings.Settings.{Settings}
 use Rattle.poll_runs.specs.declared.bench.{Next.TheVariants.{Gone, Repoll}, Once.Once}
-use Rattle.machine_model.specs.{Device.{DeviceView, after_packet, ended_poll, interrupted}, Waits.held}
+use Rattle.machine_model.specs.{Device.{DeviceView, after_packet, ended_poll, interrupted}}
 use Rattle.machine_model.specs.{Devices.{Devices, batch_at, is_handed_at}, Kept.{Kept, is_poll}}
 use Rattle.machine_model.specs.Softirq.{SoftirqView, asked_in, begun, ended, next_of, pushed, told}
 use Rattle.machine_model.specs.declared.processor.Work.{Work}

@@ -3,10 +3,10 @@ use Rattle.std.proofs.Common.{◌≡◌, ◌∙◌, ℕ, zero, suc, ◌+◌, ◌
 use Rattle.std.proofs.Common.{◌++◌, length, length-append, map, take, drop, refl, sym, ap, subst, arith}
 use Rattle.std.proofs.lemmas.{Bool.{eq-eqb, eqb-true, leb-false}, List.take-append-drop}
 use Rattle.circular_buffer.specs.Buffer.{Buffer}
-use Rattle.std.specs.{Prelude.{◌==◌, ◌&&◌, ◌||◌, if◌then◌else◌, min, nat_lt, not}, List.AllByRecursion}
+use Rattle.std.specs.{Prelude.{◌==◌, ◌&&◌, if◌then◌else◌, min, nat_lt, not}, List.AllByRecursion}
 use Rattle.{device_rows.specs.Places.{at, changed}, machine_words.specs.declared.settings.Settings.Settings}
 use Rattle.machine_model.specs.Device.{DeviceView, after_packet, ended_interrupt, interrupted, polled}
-use Rattle.machine_model.specs.{Devices.{Devices, batch_at, raises_at, with_device}, Softirq.{RunView, asked_in}, Waits.held}
+use Rattle.machine_model.specs.{Devices.{Devices, batch_at, raises_at}, Softirq.{RunView, asked_in}, Waits.held}
 use Rattle.machine_model.specs.Device as device
 use Rattle.machine_model.specs.Fates.{NoWaitIsLess, given, given_from, gives_by, kept_from, least_time, polled_by, ring_in, room_for}
 use Rattle.machine_model.specs.Fates.{use_waits, using, waits}
@@ -15,12 +15,10 @@ use Rattle.machine_model.specs.Processor.{ProcessorView, comes, delivers, ends_b
 use Rattle.machine_model.specs.Processor.{interrupts, is_busy, is_due, is_polling, polls, step}
 use Rattle.machine_model.specs.declared.processor.Work.{Work}
 use Rattle.machine_model.specs.declared.processor.Work.TheVariants.{Interrupt, Nothing, Poll, Use}
-use Rattle.machine_model.proofs.FateFacts.{at-apart, at-here, at-kept, capacities, capacity_in, comes-ring, made_at, poll-ring, with-apart}
-use Rattle.machine_model.proofs.FateFacts.{with-here}
+use Rattle.machine_model.proofs.FateFacts.{at-apart, at-here, at-kept, capacities, capacity_in, comes-ring, made_at, poll-ring}
 use Rattle.machine_model.proofs.{PlacesFacts.map_at, SocketFacts.ended-by, TimeFacts.{clock-ended, clocks-never-fall, due-parts, timed}}
 use Rattle.machine_model.proofs.WalkFacts.{Free, Walk, arrived, implied, nexted, walk, walk-comes}
 use Rattle.machine_model.proofs.WorkFacts.{Goes, Rests, RunsIn, free-ended, goes-on, work-ended, work-walk}
-use Rattle.machine_model.proofs.StepFacts.{ends_polls}
 use Rattle.machine_model.specs.Processor.{uses}
 use Rattle.machine_model.proofs.EndFacts.{ends}
 use Rattle.machine_model.proofs.PlacesFacts.{packet-by}

@@ -1,18 +1,16 @@
 -- What becomes of packets behind their delivery: each is used in its order, or refused.
-use Rattle.std.proofs.Common.{◌≡◌, ◌∙◌, ℕ, ◌+◌, ◌-◌, Bool, true, false, Option, Some, None, List, [], ◌∷◌, ◌++◌, append_assoc, length}
+use Rattle.std.proofs.Common.{◌≡◌, ◌∙◌, ℕ, ◌+◌, ◌-◌, Bool, false, Option, List, [], ◌∷◌, ◌++◌, append_assoc, length}
 use Rattle.std.proofs.{Common.{length-append, length-drop, map, drop, refl, sym, ap, arith}, lemmas.List.append-nil}
-use Rattle.{std.specs.Prelude.{if◌then◌else◌, min}, machine_words.specs.declared.settings.Settings.Settings, device_rows.specs.Places.at}
+use Rattle.{machine_words.specs.declared.settings.Settings.Settings, device_rows.specs.Places.at}
 use Rattle.machine_model.specs.{Devices.batch_at, Waits.{WaitsView, counted, held, no_waits}}
 use Rattle.machine_model.specs.Fates.{TellsOfUse, UsesInOrder, counting, gives_by, kept, kept_from, refused, refused_from, use_waits, used}
 use Rattle.machine_model.specs.Fates.{using}
 use Rattle.machine_model.specs.Laws.{Event, behind, end, packet}
 use Rattle.machine_model.specs.Processor.{ProcessorView, delivers, ends_by, ends_current, ends_interrupt, ends_poll, ends_run}
-use Rattle.machine_model.specs.Processor.{interrupts, is_busy, is_polling, polls, step}
-use Rattle.machine_model.specs.Softirq.{asked_in}
+use Rattle.machine_model.specs.Processor.{interrupts, is_busy, polls, step}
 use Rattle.machine_model.specs.declared.processor.Work.{Work}
 use Rattle.machine_model.specs.declared.processor.Work.TheVariants.{Interrupt, Nothing, Poll, Use}
 use Rattle.machine_model.proofs.{WalkFacts.{Walk, nexted, walk, walk-comes}, WorkFacts.{free-ended, goes-on}}
-use Rattle.machine_model.proofs.StepFacts.{ends_polls}
 use Rattle.machine_model.proofs.EndFacts.{ends}
 
 -- what stands in the socket, and what is told

@@ -1,15 +1,12 @@
 -- Clocks never fall.
-use Rattle.std.proofs.Common.{◌≡◌, ℕ, ◌+◌, ◌<◌, ◌≤◌, ◌^◌, Bool, true, false, Option, Some, None, List, [], ◌∷◌, refl, arith}
+use Rattle.std.proofs.Common.{◌≡◌, ℕ, ◌+◌, ◌<◌, ◌≤◌, ◌^◌, Bool, true, List, [], ◌∷◌, refl, arith}
 use Rattle.std.proofs.lemmas.Bool.{and_parts, leb-true}
-use Rattle.{std.specs.Prelude.{◌&&◌, if◌then◌else◌, nat_le}, machine_words.specs.declared.settings.Settings.{Settings}}
+use Rattle.{std.specs.Prelude.{◌&&◌, nat_le}, machine_words.specs.declared.settings.Settings.{Settings}}
 use Rattle.machine_model.specs.{Laws.{ClocksNeverFall, Event, InTurn, behind, end, packet}, Waits.held}
 use Rattle.machine_model.specs.Processor.{ProcessorView, comes, delivers, ends_by, ends_current, ends_interrupt, ends_poll}
-use Rattle.machine_model.specs.Processor.{ends_run, interrupts, is_busy, is_polling, polls, step}
-use Rattle.machine_model.specs.Softirq.{asked_in}
+use Rattle.machine_model.specs.Processor.{ends_run, interrupts, is_busy, polls, step}
 use Rattle.machine_model.specs.declared.processor.Work.{Work}
-use Rattle.machine_model.specs.declared.processor.Work.TheVariants.{Interrupt, Nothing, Poll, Use}
 use Rattle.machine_model.proofs.{WalkFacts.{Walk, implied, walk, walk-comes}, WorkFacts.{Goes, free-ended, goes-on}}
-use Rattle.machine_model.proofs.StepFacts.{ends_polls}
 use Rattle.machine_model.proofs.EndFacts.{ends}
 
 -- the clock stands there

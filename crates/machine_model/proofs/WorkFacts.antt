@@ -2,7 +2,7 @@
 use Rattle.std.proofs.Common.{◌≡◌, ℕ, ◌+◌, ◌<◌, ◌≤◌, Bool, true, false, Option, Some, None, List, [], ◌∷◌, length, length-take, refl, sym}
 use Rattle.std.proofs.{Common.arith, lemmas.Bool.{eqb-false, leb-false}}
 use Rattle.std.specs.Prelude.{◌==◌, ◌||◌, IfSome, if◌then◌else◌, is_some, min, nat_le, not}
-use Rattle.poll_runs.specs.declared.bench.{Next.TheVariants.{Gone, Repoll}, Once.Once}
+use Rattle.poll_runs.specs.declared.bench.{Once.Once}
 use Rattle.machine_words.specs.declared.settings.Settings.{Settings}
 use Rattle.machine_model.specs.{Device.DeviceView, Devices.{batch_at, is_handed_at}, Kept.is_poll}
 use Rattle.machine_model.specs.Laws.{Event, WorksWithin, behind, end, packet}
@@ -11,9 +11,8 @@ use Rattle.machine_model.specs.Processor.{ProcessorView, comes, delivers, ends_b
 use Rattle.machine_model.specs.Processor.{ends_run, interrupts, is_polling, polls, step}
 use Rattle.device_rows.specs.Places.{at}
 use Rattle.machine_model.specs.declared.processor.Work.{Work}
-use Rattle.machine_model.specs.declared.processor.Work.TheVariants.{Interrupt, Nothing, Poll, Use}
+use Rattle.machine_model.specs.declared.processor.Work.TheVariants.{Nothing}
 use Rattle.machine_model.proofs.{EndFacts.asked-ends, WalkFacts.{Free, Walk, walk, walk-comes}}
-use Rattle.machine_model.proofs.StepFacts.{ends_polls}
 use Rattle.machine_model.specs.Softirq.{told_run}
 use Rattle.std.specs.Prelude.{option_map}
 use Rattle.machine_model.proofs.EndFacts.{ends}
