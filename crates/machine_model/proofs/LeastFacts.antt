@@ -204,7 +204,8 @@ due-asks s c fits m p h asked =
       clock = h.clock;
       rings =
           λ n. rw h.clock
-          (grown c (poll_time p.settings batch) (ring_in (at n ds)) fits (taken-each (λ at. at ≤ c) (polled weight) weight m n p.devices (polled-ring weight) (h.rings n)));
+          (grown c (poll_time p.settings batch) (ring_in (at n ds)) fits
+          (taken-each (λ at. at ≤ c) (polled weight) weight m n p.devices (polled-ring weight) (h.rings n)));
       raises = λ n lone up. absurd (cc (polling, lone));
       lone = λ n lone is. cc is;
       given = whole;

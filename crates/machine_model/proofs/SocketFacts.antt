@@ -76,7 +76,8 @@ same-told r a is = omega (arith, is)
 pub ended-by : (w : Work) (p : ProcessorView) → Ended p (gives_by w p) (using w) (ends_by w (record p { clock = p.ends }))
 unfolding ends_interrupt ends_poll delivers
 ended-by w p =
-    ends (Ended p) w p p.ends (record { items = same; told = λ a is. same-told p.told.refused a is; counts = λ xs is. same-waits xs p.waits is })
+    ends (Ended p) w p p.ends
+    (record { items = same; told = λ a is. same-told p.told.refused a is; counts = λ xs is. same-waits xs p.waits is })
     (λ n is lone. record {
       items = refl;
       told = λ a is. refused-size (batch_at 1 (at n p.devices)) _ p.told.refused a is;

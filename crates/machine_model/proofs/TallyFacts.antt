@@ -183,8 +183,10 @@ pub record Took (room : Bool) (old new : Tally) : Type 0 where
 packet-took : (moment : ℕ) (d : DeviceView)
     → Took (nat_lt (length d.ring) d.capacity) (tally (Some d)) (tally (Some (after_packet moment d)))
 packet-took moment d =
-    packet-by (λ room e. Took room (tally (Some d)) (tally (Some e))) moment d
-    (record { arrived = refl; dropped = refl; polled = refl; waits = refl }, record { arrived = refl; dropped = refl; polled = refl; waits = refl })
+    packet-by (λ room e. Took room (tally (Some d)) (tally (Some e))) moment d (
+      record { arrived = refl; dropped = refl; polled = refl; waits = refl },
+      record { arrived = refl; dropped = refl; polled = refl; waits = refl },
+    )
 
 made-tally : (capacity : ℕ) (o : Option DeviceView) → tally (Some (made_at capacity o)) ≡ tally o
 unfolding made_at

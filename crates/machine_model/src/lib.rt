@@ -1,7 +1,8 @@
 //! Behind the door `machine`: a receiving machine in time, over the driven runs and the instances of one thread.
 //!
-//! `specs/` is its definition: `Waits` has how waits are counted, `Device` and `Softirq` what a device and a processor's poll
-//! list do, `Processor` what a processor takes up and what ends, `Machine` what arrivals make of all.
+//! `specs/` is its definition: `Waits` has how waits are counted, `Device`, `Devices` and `Softirq` what a device and a processor's
+//! poll list do, `Processor` what a processor takes up and what ends, `Machine` what arrivals make of all. `Laws` and `Fates` follow
+//! from it; by `Shown` and `Kept` the program is tied to it.
 #![tactic(auto)]
 
 mod device;

@@ -1,3 +1,4 @@
+pub mod FaultFacts
 pub mod ReadingFacts
 pub mod ReportFacts
 pub mod TakingFacts

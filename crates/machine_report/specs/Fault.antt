@@ -30,13 +30,17 @@ status_of OutOfMemory = 4
 status_of OutputFailed = 4
 status_of _ = 2
 
--- the reader, the memory or the writer failed
+-- the reader or the memory failed
+abbrev pub IsReadFailure : MachineFault → Type 0
+IsReadFailure fault = (fault ≡ ReadFailed) ⊎ (fault ≡ OutOfMemory)
+
+-- or the writer
 abbrev pub IsOutside : MachineFault → Type 0
-IsOutside fault = (fault ≡ ReadFailed) ⊎ (fault ≡ OutOfMemory) ⊎ (fault ≡ OutputFailed)
+IsOutside fault = IsReadFailure fault ⊎ (fault ≡ OutputFailed)
 
 -- a fault is one of the bytes read, or none of theirs
-abbrev pub IsFaultBy : (List ℕ → MachineFault → Type 0) → Option (List ℕ) → MachineFault → Type 0
-IsFaultBy IsFault input fault = (bytes : List ℕ) → input ≡ Some bytes → IsOutside fault ⊎ IsFault bytes fault
+abbrev pub IsFaultBy : (MachineFault → Type 0) → (List ℕ → MachineFault → Type 0) → Option (List ℕ) → MachineFault → Type 0
+IsFaultBy IsOutside IsFault input fault = (bytes : List ℕ) → input ≡ Some bytes → IsOutside fault ⊎ IsFault bytes fault
 
 -- on each fault but a failed output nothing was written
 abbrev pub LeavesAsItWas : Option (List ℕ) → Option (List ℕ) → MachineFault → Type 0

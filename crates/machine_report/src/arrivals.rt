@@ -28,7 +28,7 @@ impl<R: Read + Drop> Arrivals<R> {
     ghost use Rattle.device_rows.specs.Source.{IsOpen};
     ghost use Rattle.device_rows.specs.Trace.{records_of};
     ghost use Rattle.machine_report.specs.Arrivals.{IsInRange, arrivals_of};
-    ghost use Rattle.machine_report.specs.Fault.{IsFaultBy, IsOutside};
+    ghost use Rattle.machine_report.specs.Fault.{IsFaultBy, IsReadFailure};
     ghost use Rattle.machine_report.specs.Reading.{GivesNext, HasGiven};
     ghost use Rattle.machine_report.specs.declared.arrival.Arrival.{Arrival};
     ghost use Rattle.machine_report.specs.declared.fault.MachineFault.{MachineFault};
@@ -40,7 +40,7 @@ impl<R: Read + Drop> Arrivals<R> {
         ensures processors { IfOk result (λ arrivals. arrivals.processors ≡ processors) }
         ensures start { IfOk result (λ arrivals. (bytes : List ℕ) → R.remaining source ≡ Some bytes
             → HasGiven R.remaining arrivals [] (arrivals_of processors (records_of bytes))) }
-        ensures fault { IfErr result (IsFaultBy
+        ensures fault { IfErr result (IsFaultBy IsReadFailure
             (λ bytes fault. arrivals_of processors (records_of bytes) ≡ Err fault)
             (R.remaining source)) }
     {
@@ -77,7 +77,7 @@ impl<R: Read + Drop> Arrivals<R> {
         ensures processors { self.new.processors ≡ self.old.processors }
         ensures fault { IfErr result (λ fault. (earlier : List Arrival)
             (all : Result (List Arrival) MachineFault) → HasGiven R.remaining self.old earlier all
-            → IsOutside fault ⊎ (all ≡ Err fault)) }
+            → IsReadFailure fault ⊎ (all ≡ Err fault)) }
     {
         match next_record(&mut self.reader, &mut self.fields) {
             Next::Record => {}

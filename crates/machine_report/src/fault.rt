@@ -32,7 +32,7 @@ pub enum MachineFault {
     /// 11: memory was refused.
     #[error("out of memory")]
     OutOfMemory,
-    /// 15: the writer failed. How much of the report went out isn't known.
+    /// 15: the writer failed. Less than the whole report went out.
     #[error("the report could not be written")]
     OutputFailed,
 }

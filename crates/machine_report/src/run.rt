@@ -1,21 +1,21 @@
 //! A whole run of the machine: from the bytes of arrivals to the bytes of its report.
 
 ghost use Rattle.std.specs.Prelude.{◌≡◌, ◌≤◌, ◌⊎◌, ℕ, [], List, Some, Ok, Err, IfErr, IfOk, OnOk, Result, length, string_bytes};
-ghost use Rattle.std.specs.Io.KnownBytes.{Appends};
 ghost use Rattle.device_rows.specs.Source.{IsOpen};
 ghost use Rattle.machine_report.specs.Answer.{IsFaultOf, IsReportOf, Takes};
-ghost use Rattle.machine_report.specs.Fault.{IsFaultBy, IsOutside, LeavesAsItWas};
+ghost use Rattle.machine_report.specs.Fault.{IsFaultBy, IsOutside, IsReadFailure, LeavesAsItWas};
 ghost use Rattle.machine_report.specs.Reading.{HasGiven};
 ghost use Rattle.machine_report.specs.declared.arrival.Arrival.{Arrival};
 ghost use Rattle.machine_report.specs.declared.fault.MachineFault.{MachineFault};
 ghost use Rattle.machine_report.specs.declared.fault.MachineFault.TheVariants.{OutputFailed};
-ghost use Rattle.replay_text.specs.Written.{Writes};
+ghost use Rattle.replay_text.specs.Written.{Writes, WritesPart};
 
 use crate::arrivals::Arrivals;
 use crate::fault::MachineFault;
 use crate::report::report_of;
 use machine_model::Machine;
 use machine_words::Settings;
+use replay_text::write_text;
 use std::alloc::Global;
 use std::io::{Read, Write};
 
@@ -32,7 +32,7 @@ fn take_all<R: Read + Drop>(
         → (given : List Arrival) × (all ≡ Ok given) × Takes given machine.old machine.new) }
     ensures processors { OnOk result (length machine.new ≡ length machine.old) }
     ensures fault { IfErr result (λ fault. (all : Result (List Arrival) MachineFault)
-        → HasGiven R.remaining arrivals.old [] all → IsOutside fault ⊎ (all ≡ Err fault)) }
+        → HasGiven R.remaining arrivals.old [] all → IsReadFailure fault ⊎ (all ≡ Err fault)) }
 {
     'rows: for _ in 0..u64::MAX {
         let next = arrivals.next()?;
@@ -53,7 +53,8 @@ fn text_of_all<R: Read + Drop>(
 ) -> Result<String, MachineFault>
     ensures text { IfOk result (λ text. (bytes : List ℕ) → R.remaining reader ≡ Some bytes
         → IsReportOf settings.now bytes (string_bytes text)) }
-    ensures fault { IfErr result (IsFaultBy (IsFaultOf settings.now) (R.remaining reader)) }
+    ensures fault { IfErr result
+        (IsFaultBy IsReadFailure (IsFaultOf settings.now) (R.remaining reader)) }
 {
     let mut machine = Machine::new(alloc, settings)?;
     let mut arrivals = Arrivals::new(alloc, reader, settings.processors)?;
@@ -63,22 +64,10 @@ fn text_of_all<R: Read + Drop>(
     Ok(text)
 }
 
-// Writes the text of the report, all of it at once.
-fn write_text<W: Write>(writer: &mut W, text: &String) -> Result<(), MachineFault>
-    ensures written { OnOk result
-        (Appends (W.contents writer.old) (W.contents writer.new) (string_bytes text.now)) }
-    ensures fault { IfErr result (λ fault. fault ≡ OutputFailed) }
-{
-    match writer.write_all(text.as_bytes()) {
-        Ok(()) => Ok(()),
-        Err(_) => Err(MachineFault::OutputFailed),
-    }
-}
-
 /// Runs the machine that the settings tell on the arrivals of the reader, and writes its report.
 ///
 /// The arrivals are read one row at a time, and the memory taken doesn't grow with them. Nothing is written before all are read and
-/// nothing is left to do, so on every fault but `OutputFailed` nothing was. After a failed write it isn't known how much went out.
+/// nothing is left to do, so on every fault but `OutputFailed` nothing was. On that one a front of the report was, and not all of it.
 /// Want of memory may come before any other fault.
 pub fn run_machine<R: Read + Drop, W: Write>(
     alloc: Global,
@@ -90,13 +79,18 @@ pub fn run_machine<R: Read + Drop, W: Write>(
     ensures written { OnOk result (Writes (IsReportOf settings.now)
         (R.remaining reader) (W.contents writer.old) (W.contents writer.new)) }
 
+    // Where the output failed the bytes read have a report, of which less than the whole was written.
+    ensures cut { result ≡ Err OutputFailed → WritesPart (IsReportOf settings.now)
+        (R.remaining reader) (W.contents writer.old) (W.contents writer.new) }
+
     // A fault is the first one of the bytes read, unless the reader, the memory or the writer failed.
-    ensures fault { IfErr result (IsFaultBy (IsFaultOf settings.now) (R.remaining reader)) }
+    ensures fault { IfErr result
+        (IsFaultBy IsOutside (IsFaultOf settings.now) (R.remaining reader)) }
     ensures untouched { IfErr result
         (LeavesAsItWas (W.contents writer.old) (W.contents writer.new)) }
 {
     match text_of_all(alloc, reader, settings) {
-        Ok(text) => write_text(writer, &text),
+        Ok(text) => write_text(writer, &text).map_err(|_| MachineFault::OutputFailed),
         Err(fault) => Err(fault),
     }
 }
