@@ -1,13 +1,14 @@
 -- The program: what it writes and how it ends, of the words after its name and the bytes of its input.
-use Rattle.std.specs.Prelude.{◌≡◌, ◌≢◌, ℕ, true, List, ◌++◌, Option, Some, None, codes}
+use Rattle.std.specs.Prelude.{◌≡◌, ◌≢◌, ℕ, false, true, List, ◌++◌, Option, Some, None, codes}
 use Rattle.std.specs.Io.KnownBytes.{Appends, Keeps}
 use Rattle.machine_report.specs.Answer.{IsReportOf, IsFaultOf}
-use Rattle.machine_report.specs.Fault.{IsFaultBy, line_of as machine_line, status_of as machine_status}
+use Rattle.machine_report.specs.Fault.{IsFaultBy, IsOutside, line_of as machine_line, status_of as machine_status}
 use Rattle.machine_report.specs.declared.fault.MachineFault.TheVariants.{OutputFailed}
 use Rattle.machine_words.specs.Words.{asked_for, asked_of}
 use Rattle.machine_words.specs.declared.settings.Settings.{Settings}
 use Rattle.napi_machine.specs.declared.program.ProgramFault.{ProgramFault}
 use Rattle.napi_machine.specs.declared.program.ProgramFault.TheVariants.{Words, Machine}
+use Rattle.replay_text.specs.Written.{AppendsPart}
 use Rattle.replay_text.specs.declared.program.Ending.{Ending}
 use Rattle.replay_words.specs.Given.{Text}
 use Rattle.replay_words.specs.Words.{line_of as word_line, status_of as word_status}
@@ -34,12 +35,13 @@ IsReport words bytes text = (settings : Settings) × AskFor words settings × Is
 abbrev pub IsFault : List Text → Option (List ℕ) → ProgramFault → Type 0
 IsFault words input (Words Usage) = asked_for words ≡ None
 IsFault words input (Words OutOfMemory) = Unit {0}
-IsFault words input (Machine fault) = (settings : Settings) × AskFor words settings × IsFaultBy (IsFaultOf settings) input fault
+IsFault words input (Machine fault) = (settings : Settings) × AskFor words settings × IsFaultBy IsOutside (IsFaultOf settings) input fault
 
--- the line of this fault is all that went to standard error, where it could be told, and the status is its status
+-- the line of this fault is all that went to standard error where it was told, and else less of it did; the status is its status
 pub record EndsBy (fault : ProgramFault) (errors_old errors_new : Option (List ℕ)) (ending : Ending) : Type 0 where
   pub status : ending.status ≡ status_of fault
   pub line : ending.told ≡ true → Appends errors_old errors_new (line_of fault)
+  pub untold : ending.told ≡ false → AppendsPart errors_old errors_new (line_of fault)
 
 -- on each fault but a failed output nothing was written
 abbrev pub KeepsOutput : Option (List ℕ) → Option (List ℕ) → ProgramFault → Type 0

@@ -2,13 +2,14 @@
 
 ghost use Rattle.std.specs.Prelude.{◌≡◌, ◌≢◌, IfErr, OnOk, map, string_bytes, true, false};
 ghost use Rattle.std.specs.Io.KnownBytes.{Appends, Keeps};
-ghost use Rattle.napi_machine.specs.Program.{EndsBy, FailedBy, IsFault, IsReport, KeepsOutput, line_of, status_of};
-ghost use Rattle.replay_text.specs.Written.{Writes};
+ghost use Rattle.napi_machine.specs.Program.{EndsBy, FailedBy, IsFault, IsReport, KeepsOutput, line_of};
+ghost use Rattle.napi_machine.specs.declared.program.ProgramFault.TheVariants.{Machine};
+ghost use Rattle.replay_text.specs.Written.{AppendsPart, Writes};
 
 use machine_report::{MachineFault, fault_line, run_machine, status};
 use machine_words::parse_words;
-use replay_text::Ending;
-use replay_words::{WordFault, word_line, word_status};
+use replay_text::{Ending, write_text};
+use replay_words::WordFault;
 use std::alloc::Global;
 use std::io::{Read, Write};
 use thiserror::Error;
@@ -24,27 +25,17 @@ pub(crate) enum ProgramFault {
     Machine(MachineFault),
 }
 
-// The exit status of a fault.
-fn status_of(fault: &ProgramFault) -> u8
-    ensures { result ≡ status_of fault.now }
+// Writes the line of a fault of the machine, and says whether it went out.
+#[tactic(auto, using(replay_text::proofs::OutFacts::none_out))]
+fn tell<E: Write>(alloc: Global, fault: &MachineFault, errors: &mut E) -> bool
+    ensures told { result ≡ true
+        → Appends (E.contents errors.old) (E.contents errors.new) (line_of (Machine fault.now)) }
+    ensures untold { result ≡ false → AppendsPart (E.contents errors.old) (E.contents errors.new)
+        (line_of (Machine fault.now)) }
 {
-    match fault {
-        ProgramFault::Words(fault) => word_status(fault),
-        ProgramFault::Machine(fault) => status(fault),
-    }
-}
-
-// Writes the line of a fault, and says whether it went out.
-fn tell<E: Write>(alloc: Global, fault: &ProgramFault, errors: &mut E) -> bool
-    ensures { result ≡ true
-        → Appends (E.contents errors.old) (E.contents errors.new) (line_of fault.now) }
-{
-    match fault {
-        ProgramFault::Words(fault) => errors.write_all(word_line(fault).as_bytes()).is_ok(),
-        ProgramFault::Machine(fault) => match fault_line(alloc, fault) {
-            Ok(line) => errors.write_all(line.as_bytes()).is_ok(),
-            Err(_) => false,
-        },
+    match fault_line(alloc, fault) {
+        Ok(line) => write_text(errors, &line).is_ok(),
+        Err(_) => false,
     }
 }
 
@@ -52,9 +43,14 @@ fn tell<E: Write>(alloc: Global, fault: &ProgramFault, errors: &mut E) -> bool
 fn end_by<E: Write>(alloc: Global, fault: &ProgramFault, errors: &mut E) -> Ending
     ensures { EndsBy fault.now (E.contents errors.old) (E.contents errors.new) result }
 {
-    Ending {
-        status: status_of(fault),
-        told: tell(alloc, fault, errors),
+    match fault {
+        ProgramFault::Words(fault) => {
+            replay_text::end_by(alloc, &replay_text::ProgramFault::Words(*fault), errors)
+        }
+        ProgramFault::Machine(fault) => Ending {
+            status: status(fault),
+            told: tell(alloc, fault, errors),
+        },
     }
 }
 
