@@ -155,6 +155,12 @@ fn take_known(consumer: &mut Consumer<Packet>, count: usize, bytes: u64, batch: 
     ensures bytes { result ≡ capped (bytes_of (received consumer.new)) }
 {
     resize(batch, count);
+    // One packet, as under light load, needs no slice.
+    if count == 1 {
+        let packet = consumer.pop_known();
+        batch.as_mut_slice()[0] = packet;
+        return bytes.saturating_add(u64::from(packet.bytes));
+    }
     let Ok(()) = consumer.pop_entire_slice(batch.as_mut_slice()) else {
         unreachable!();
     };
