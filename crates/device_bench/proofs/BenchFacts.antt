@@ -1,18 +1,23 @@
 -- How a change of one device keeps what is true of all.
 use Rattle.std.proofs.Common.{◌≡◌, ◌≢◌, ◌∙◌, ℕ, zero, suc, ◌+◌, ◌<◌, ◌≤◌, Bool, true, false, Option, Some, None, [], ◌∷◌, length, ◌++◌}
-use Rattle.std.{proofs.Common.{length-set, replicate, slice_set, take, drop, ap, refl, sym, arith}, specs.Prelude.{◌==◌, nat_lt}}
+use Rattle.std.{proofs.Common.{get_or, length-set, replicate, slice_set, take, drop, ap, refl, sym, arith}, specs.Prelude.{◌==◌, nat_lt}}
 use Rattle.std.proofs.lemmas.{Bool.{eqb-true, eqb-false, ltb-true, ltb-false}, List.{append-nil, drop_all, get_or-set_other, take_all}}
 use Rattle.device_bench.specs.{Bench.{all_settled, settled_at}, Device.{is_pending, opened, settled}}
 use Rattle.device_bench.specs.{DeviceView.DeviceView, Kept.{IsKept, is_pending_at, is_sound, is_sound_at}}
 use Rattle.device_bench.proofs.{DeviceFacts.settled-same, Waiting.{waiting-empty, waiting-most}}
-use Rattle.device_rows.{specs.Places.{Places, at, changed, changed_from, empty}, proofs.PlaceFacts.{at-set, below-some}}
+use Rattle.device_rows.{specs.Places.{Places, at, changed, changed_from, empty}, proofs.PlaceFacts.{at-index, at-set, below-some}}
 
-pub sound-at : (u : Bool) (xs : Places DeviceView) (n : ℕ) (d : DeviceView) → IsKept u xs → at n xs ≡ Some d → is_sound d ≡ true
-sound-at u xs n d k e = ap is_sound_at (sym e) ∙ k.sound n
+-- what a call reads at a number, and finds a device
+pub here-at : {u : Bool} {xs : Places DeviceView} {o : Option DeviceView} {d : DeviceView} (n : ℕ) → IsKept u xs → n < 17 → o ≡ get_or xs n o
+    → o ≡ Some d → at n xs ≡ Some d
+here-at {xs = xs} {o = o} n k below read is = at-index xs n o (omega (arith, below, k.places)) (sym read) ∙ is
 
-pub pending-off : (u : Bool) (xs : Places DeviceView) (n : ℕ) (d : DeviceView) → IsKept u xs → at n xs ≡ Some d → u ≡ false
+pub sound-at : {u : Bool} {xs : Places DeviceView} {d : DeviceView} (n : ℕ) → IsKept u xs → at n xs ≡ Some d → is_sound d ≡ true
+sound-at n k here = ap is_sound_at (sym here) ∙ k.sound n
+
+pub pending-off : {u : Bool} {xs : Places DeviceView} {d : DeviceView} (n : ℕ) → IsKept u xs → at n xs ≡ Some d → u ≡ false
     → is_pending d ≡ false
-pending-off u xs n d k e off = ap is_pending_at (sym e) ∙ k.settled off n
+pending-off n k here off = ap is_pending_at (sym here) ∙ k.settled off n
 
 -- one place is set to a device that is sound, and that is pending only where a disable may be
 pub kept-set : (u v : Bool) (xs : Places DeviceView) (n : ℕ) (e : DeviceView) → IsKept u xs → n < length xs → is_sound e ≡ true
@@ -44,11 +49,11 @@ pub kept-opened : (u : Bool) (xs : Places DeviceView) (n capacity : ℕ) → IsK
 kept-opened u xs n capacity k below = kept-set u u xs n (opened capacity) k below refl (λ off. off) (λ off. refl)
 
 -- a change of one device that keeps both
-pub kept-changed : (u : Bool) (xs : Places DeviceView) (n : ℕ) (d e : DeviceView) → IsKept u xs → at n xs ≡ Some d → is_sound e ≡ true
-    → is_pending e ≡ is_pending d
-    → IsKept u (slice_set xs n (Some e))
-kept-changed u xs n d e k here sound pending =
-    kept-set u u xs n e k (below-some xs n d here) sound (λ off. off) (λ off. pending ∙ ap is_pending_at (sym here) ∙ k.settled off n)
+pub kept-changed : {u : Bool} {xs : Places DeviceView} {d e f : DeviceView} (n : ℕ) → IsKept u xs → at n xs ≡ Some d → e ≡ f
+    → is_sound f ≡ true → is_pending f ≡ is_pending d → IsKept u (slice_set xs n (Some e))
+kept-changed {u} {xs} {d} {e} n k here is sound pending =
+    kept-set u u xs n e k (below-some xs n d here) (ap is_sound is ∙ sound) (λ off. off)
+    (λ off. ap is_pending is ∙ pending ∙ ap is_pending_at (sym here) ∙ k.settled off n)
 
 -- ---- settling
 

@@ -1,17 +1,17 @@
 -- What rows and polls keep of a device: that it is sound, whether a disable is pending, and whether it waits on the list.
 use Rattle.std.proofs.Common.{◌≡◌, ◌∙◌, ℕ, zero, suc, ◌+◌, ◌≤◌, Bool, true, false, Option, Some, None, List, [], ◌∷◌, length, refl, arith}
-use Rattle.{std.specs.Prelude.{◌==◌, ◌||◌, is_some, not, if◌then◌else◌}, napi_model.specs.Step.is_handed}
+use Rattle.{std.specs.Prelude.{◌||◌, is_some, not, if◌then◌else◌}, napi_model.specs.Step.is_handed}
 use Rattle.napi_model.specs.declared.{event.{Prep.TheVariants.{Granted, Missed, Disabled}, Done.Done}, state.{Kind.Kind, Place.Place}}
-use Rattle.poll_runs.specs.{Polling.next_of, Polls.is_arrival, Thread.{is_for_thread, last_next}, declared.bench.Next.Next}
+use Rattle.poll_runs.specs.{Polling.{goes_on, next_of}, Polls.is_arrival, Thread.{is_for_thread, last_next}, declared.bench.Next.Next}
 use Rattle.poll_runs.specs.declared.bench.{Next.TheVariants.{Again, Repoll}, Once.Once}
 use Rattle.{device_bench.specs.Waiting.{count, is_left_to_list, is_listed, leaves, waits}, device_transmit.specs.Counter.raised}
 use Rattle.device_bench.specs.Device.{after_disable, after_enable, after_packet, after_poll, after_reply, after_request, after_take}
 use Rattle.device_bench.specs.Device.{after_threaded, asks_again, completed, completed_told, disabled_from, enabled_from, ended, ended_by}
-use Rattle.device_bench.specs.Device.{goes_on, is_pending, let_go, made, polled, polled_by_thread, polled_once, retaken, settled, state_of}
+use Rattle.device_bench.specs.Device.{is_pending, let_go, made, polled, polled_by_thread, polled_once, retaken, settled, state_of}
 use Rattle.device_bench.specs.Device.{taken, thread_polls, with_napi}
 use Rattle.device_bench.specs.{DeviceView.DeviceView, Kept.{is_held, is_sound}}
 use Rattle.device_bench.specs.declared.{counts.DeviceState.DeviceState, device.TheConstants.{INTERRUPT, POLLER, THREAD}}
-use Rattle.device_bench.proofs.ThreadFacts.{goes-more, goes-next, some-polls}
+use Rattle.{device_bench.proofs.ThreadFacts.some-polls, poll_runs.proofs.PollingFacts.{goes-room, goes-thread}}
 use Rattle.device_bench.specs.Receive.{done_by, given_of, handed_again, has_place, is_control, put_if, tried_by}
 use Rattle.napi_model.specs.declared.event.Operation.TheVariants as operation
 
@@ -213,7 +213,7 @@ thread-leaves : (most weight : ℕ) (d : DeviceView) → IsInHand d → let afte
 unfolding thread_polls
 thread-leaves zero weight d hand =
     record { sound = sound-of d.side.napi.place d.side.napi.flags.sched hand.sched; pending = refl; listed = rw hand.off refl }
-thread-leaves (suc most) weight d hand = by (goes_on poll.0.next (most == 0)) refl (thread-leaves most weight (retaken poll.0.next poll.1))
+thread-leaves (suc most) weight d hand = by (goes_on poll.0.next (suc most)) refl (thread-leaves most weight (retaken poll.0.next poll.1))
   where
     poll : Once × DeviceView
     poll = after_poll THREAD weight d
@@ -224,13 +224,13 @@ thread-leaves (suc most) weight d hand = by (goes_on poll.0.next (most == 0)) re
     more : List Once × DeviceView
     more = thread_polls most weight (retaken poll.0.next poll.1)
 
-    by : (b : Bool) → goes_on poll.0.next (most == 0) ≡ b
+    by : (b : Bool) → goes_on poll.0.next (suc most) ≡ b
         → (IsInHand (retaken poll.0.next poll.1) → LeavesPolled (retaken poll.0.next poll.1) more.1 (last_next more.0))
         → LeavesPolled d (thread_polls (suc most) weight d).1 (last_next (thread_polls (suc most) weight d).0)
     by true h next =
-        let hands = retakes d poll.1 poll.0.next left (goes-next poll.0.next most h) in
+        let hands = retakes d poll.1 poll.0.next left (goes-thread poll.0.next (suc most) h) in
         let after = next hands.0 in
-        rw (h, last-of poll.0 more.0 (some-polls most weight (retaken poll.0.next poll.1) (goes-more poll.0.next most h)))
+        rw (h, last-of poll.0 more.0 (some-polls most weight (retaken poll.0.next poll.1) (omega (arith, goes-room poll.0.next (suc most) h))))
         (record { sound = after.sound; pending = after.pending ∙ hands.1; listed = after.listed })
     by false h next = let after = lets d poll.1 poll.0.next left in
         rw h (record { sound = after.sound; pending = after.pending; listed = after.listed })

@@ -3,12 +3,12 @@ use Rattle.std.proofs.Common.{◌≡◌, ◌≢◌, ◌∙◌, ◌<◌, ◌≤�
 use Rattle.std.proofs.Common.{length-append, length-set, get_or-set_other, replicate, slice_set, ap, refl, arith}
 use Rattle.std.proofs.lemmas.Bool.{eqb-true, eqb-false}
 use Rattle.std.specs.Prelude.{◌==◌}
-use Rattle.{rx_ring.specs.declared.packet.Totals.Totals, device_rows.specs.Places.{Places, at}}
+use Rattle.device_rows.specs.Places.{Places, at}
 use Rattle.device_bench.specs.{Bench.Devices, DeviceView.DeviceView, Ending.{AllEnded, IsEndedAt}, Receive.ReceiveView}
 use Rattle.device_bench.proofs.BenchFacts.{at-beyond}
 
 -- those from here on were ended, and those before them are left
-pub record EndedFrom (ended : ReceiveView → Totals → Type 0) (all left : Devices) (ends : Places Totals) : Type 0 where
+pub record EndedFrom {Totals : Type 0} (ended : ReceiveView → Totals → Type 0) (all left : Devices) (ends : Places Totals) : Type 0 where
   pub places : length ends ≡ 17
   pub most : length left ≤ 17
   pub same : (number : ℕ) → number < length left → at number all ≡ at number left
@@ -29,7 +29,7 @@ none-at : {A : Type 0} → (count number : ℕ) → at {A = A} number (replicate
 none-at (suc count) (suc number) = none-at count number
 none-at count number = refl
 
-module _ (ended : ReceiveView → Totals → Type 0) (all : Devices) where
+module _ {Totals : Type 0} (ended : ReceiveView → Totals → Type 0) (all : Devices) where
   pub ended-none : length all ≡ 17 → EndedFrom ended all all (replicate 17 None)
   ended-none places = record {
     places = refl;

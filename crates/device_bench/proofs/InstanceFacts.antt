@@ -3,12 +3,12 @@ use Rattle.std.proofs.Common.{◌≡◌, ◌∙◌, ℕ, zero, suc, ◌-◌, ◌
 use Rattle.std.{proofs.Common.{sym, subst, arith}, specs.Prelude.{◌==◌, ◌&&◌, not, if◌then◌else◌}}
 use Rattle.napi_model.specs.Step.{complete_reply, take_reply}
 use Rattle.napi_model.specs.declared.{event.Done.Done, state.{Kind.Kind, Place.TheVariants.{Polling, ToThread}}}
-use Rattle.poll_runs.specs.{Polling.{is_absent, next_of}, Polls.is_repoll}
+use Rattle.poll_runs.specs.{Polling.{goes_on, is_absent, next_of}, Polls.is_repoll}
 use Rattle.poll_runs.specs.{declared.bench.{Next.{Next, TheVariants.{Absent, Gone, Again, Repoll}}, Once.Once}, Thread.is_for_thread}
-use Rattle.{std.proofs.lemmas.Bool.{lt-ltb, ne_eqb}, napi_model.specs.declared.event.Operation.Operation}
-use Rattle.device_bench.specs.Device.{after_poll, after_take, asks_again, completed, ended, ended_by, goes_on, let_go, made, polled}
+use Rattle.napi_model.specs.declared.event.Operation.{Operation}
+use Rattle.device_bench.specs.Device.{after_poll, after_take, asks_again, completed, ended, ended_by, let_go, made, polled}
 use Rattle.device_bench.specs.Device.{polled_by_thread, polled_once, retaken, taken, thread_polls}
-use Rattle.device_bench.proofs.ThreadFacts.{goes-next}
+use Rattle.poll_runs.proofs.PollingFacts.{goes-last, goes-thread}
 use Rattle.device_bench.specs.{DeviceView.DeviceView, Instance.{Completes, Gives, Looks, Requeues, Takes, poller_of}}
 use Rattle.device_bench.specs.declared.device.TheConstants.{POLLER, THREAD}
 use Rattle.device_bench.specs.Receive.{done_by, given_of, handed_again, poller_in}
@@ -133,21 +133,13 @@ completed_place c d e = by (complete_reply d.side.napi) d.side.napi.flags.thread
     by Done.Again true t e = rw t refl
     by Done.Again false t e = cc (rw t at e)
 
-never : (b : Bool) → (b && false) ≡ false
-never true = refl
-never false = refl
-
-goes_same : (next : Next) (n : ℕ) → polling.goes_on next (suc n) ≡ goes_on next (n == 0)
-goes_same next zero = refl
-goes_same next (suc n) = rw (lt-ltb 1 (suc (suc n)) (omega arith), ne_eqb (suc n) 0 (λ (z : suc n ≡ 0). absurd (omega arith))) refl
-
-polls-more : (n weight : ℕ) (t : DeviceView) → goes_on (after_poll THREAD weight t).0.next (n == 0) ≡ true
+polls-more : (n weight : ℕ) (t : DeviceView) → goes_on (after_poll THREAD weight t).0.next (suc n) ≡ true
     → let poll = after_poll THREAD weight t in let more = thread_polls n weight (retaken poll.0.next poll.1) in
     thread_polls (suc n) weight t ≡ (poll.0 ∷ more.0, more.1)
 unfolding thread_polls
 polls-more n weight t goes = rw goes refl
 
-polls-last : (n weight : ℕ) (t : DeviceView) → goes_on (after_poll THREAD weight t).0.next (n == 0) ≡ false
+polls-last : (n weight : ℕ) (t : DeviceView) → goes_on (after_poll THREAD weight t).0.next (suc n) ≡ false
     → let poll = after_poll THREAD weight t in thread_polls (suc n) weight t ≡ (poll.0 ∷ [], let_go THREAD poll.0.next poll.1)
 unfolding thread_polls
 polls-last n weight t goes = rw goes refl
@@ -198,20 +190,20 @@ module _ (weight n : ℕ) (t : DeviceView) (packets : ℕ) (once : Once) (p : De
   is : (once ≡ (after_poll THREAD weight t).0) × (p ≡ (after_poll THREAD weight t).1)
   is = held_is THREAD weight t packets once p place h
 
-  last_poll : (more : List Once) (last : ℕ) (e : DeviceView) → goes_on once.next (n == 0) ≡ false
+  last_poll : (more : List Once) (last : ℕ) (e : DeviceView) → goes_on once.next (suc n) ≡ false
       → Rest false weight (suc n) once p packets more last e → (once ∷ more, e) ≡ thread_polls (suc n) weight t
   last_poll more last e goes r =
       let go = go_is THREAD once.next p e (kept_place THREAD weight t packets once p place h) r.2 in
-      let stops = subst (λ (o : Once). goes_on o.next (n == 0) ≡ false) is.0 goes in
+      let stops = subst (λ (o : Once). goes_on o.next (suc n) ≡ false) is.0 goes in
       rw (r.0, go, polls-last n weight t stops, is.0, is.1) refl
 
-  more_polls : (more : List Once) (e : DeviceView) → goes_on once.next (n == 0) ≡ true → (more, e) ≡ From (is_repoll once.next) n weight p
+  more_polls : (more : List Once) (e : DeviceView) → goes_on once.next (suc n) ≡ true → (more, e) ≡ From (is_repoll once.next) n weight p
       → (once ∷ more, e) ≡ thread_polls (suc n) weight t
   more_polls more e goes m =
       let there : once.next ≡ Again Kind.Thread → p.side.napi.place ≡ ToThread =
       λ a. ap (λ (x : DeviceView). x.side.napi.place) is.1 ∙ poll_place THREAD weight t (ap (λ (o : Once). o.next) (sym is.0) ∙ a) in
-      let whole = m ∙ goes_from n weight once.next p (goes-next once.next n goes) there in
-      let on = subst (λ (o : Once). goes_on o.next (n == 0) ≡ true) is.0 goes in
+      let whole = m ∙ goes_from n weight once.next p (goes-thread once.next (suc n) goes) there in
+      let on = subst (λ (o : Once). goes_on o.next (suc n) ≡ true) is.0 goes in
       ap (λ (x : List Once × DeviceView). (once ∷ x.0, x.1)) whole ∙ sym (polls-more n weight t on
       ∙ ap (λ (o : Once). (
         o ∷ (thread_polls n weight (retaken o.next (after_poll THREAD weight t).1)).0,
@@ -227,11 +219,10 @@ thread_is weight n true d packets [] last e place b = cc b.0
 thread_is weight n false d packets [] last e place b = rw (← b.1.0) (ap (λ (x : DeviceView). ([], x)) b.1.1)
 thread_is weight zero held d packets (once ∷ more) last e place b =
     let tf = turn_from held 1 weight d b.0 b.3 place in
-    let stops = goes_same once.next 0 in
-    let no : polling.goes_on once.next 1 ≡ false = never (is_for_thread once.next) in
-    last_poll weight 0 b.0 b.1 once b.2 tf.1 b.4 more last e (sym stops ∙ no) (rw no at b.5) ∙ sym tf.0
+    let no = goes-last once.next 1 (omega arith) in
+    last_poll weight 0 b.0 b.1 once b.2 tf.1 b.4 more last e no (rw no at b.5) ∙ sym tf.0
 thread_is weight (suc m) held d packets (once ∷ more) last e place b =
-    by (polling.goes_on once.next (suc (suc m))) refl b.5
+    by (goes_on once.next (suc (suc m))) refl b.5
     (λ (r : By-thread weight (suc m) (is_repoll once.next) b.2 b.1 more last e). thread_is weight m
     (is_repoll once.next) b.2 b.1 more last e kept r)
   where
@@ -244,13 +235,13 @@ thread_is weight (suc m) held d packets (once ∷ more) last e place b =
     one_less : suc (suc m) - 1 ≡ suc m
     one_less = omega arith
 
-    by : (goes : Bool) → polling.goes_on once.next (suc (suc m)) ≡ goes → Rest goes weight (suc (suc m)) once b.2 b.1 more last e
+    by : (goes : Bool) → goes_on once.next (suc (suc m)) ≡ goes → Rest goes weight (suc (suc m)) once b.2 b.1 more last e
         → (By-thread weight (suc m) (is_repoll once.next) b.2 b.1 more last e → (more, e) ≡ From (is_repoll once.next) (suc m) weight b.2)
         → (once ∷ more, e) ≡ From held (suc (suc m)) weight d
-    by false g r on = last_poll weight (suc m) b.0 b.1 once b.2 tf.1 b.4 more last e (sym (goes_same once.next (suc m)) ∙ g) r ∙ sym tf.0
+    by false g r on = last_poll weight (suc m) b.0 b.1 once b.2 tf.1 b.4 more last e g r ∙ sym tf.0
     by true g r on =
         let r' = subst (λ (k : ℕ). By-thread weight k (is_repoll once.next) b.2 b.1 more last e) one_less r in
-        more_polls weight (suc m) b.0 b.1 once b.2 tf.1 b.4 more e (sym (goes_same once.next (suc m)) ∙ g) (on r') ∙ sym tf.0
+        more_polls weight (suc m) b.0 b.1 once b.2 tf.1 b.4 more e g (on r') ∙ sym tf.0
 
 pub by_thread_is : (weight most : ℕ) (d : DeviceView) (packets : ℕ) (polls : List Once) (last : ℕ) (e : DeviceView) → 1 ≤ most
     → By-thread weight most false d packets polls last e

@@ -8,8 +8,7 @@ use Rattle.napi_model.specs.declared.event.Prep.TheVariants.{Granted, Missed, Di
 use Rattle.napi_model.specs.declared.state.Kind.{Kind}
 use Rattle.napi_model.specs.declared.state.Kind.TheVariants as kind
 use Rattle.napi_model.specs.declared.state.State.{State}
-use Rattle.poll_runs.specs.Polling.{next_of}
-use Rattle.poll_runs.specs.Thread.{is_for_thread}
+use Rattle.poll_runs.specs.Polling.{goes_on, next_of}
 use Rattle.poll_runs.specs.declared.bench.Next.{Next}
 use Rattle.poll_runs.specs.declared.bench.Next.TheVariants as next
 use Rattle.poll_runs.specs.declared.bench.Once.{Once}
@@ -131,20 +130,16 @@ retaken next.Repoll d = d
 retaken next.Absent d = d
 retaken next.Gone d = d
 
--- it polls an instance once more that is left to it, unless this was the last poll that it may make
-abbrev pub goes_on : Next → Bool → Bool
-goes_on next is_last = is_for_thread next && not is_last
-
-abbrev pub followed : Next → Bool → DeviceView → DeviceView
-followed next is_last d = if goes_on next is_last then retaken next d else let_go THREAD next d
+abbrev pub followed : Next → ℕ → DeviceView → DeviceView
+followed next most d = if goes_on next most then retaken next d else let_go THREAD next d
 
 -- the polls of an instance that is in the thread's hands, at most so many, and the device afterwards
 unfoldable pub thread_polls : ℕ → ℕ → DeviceView → List Once × DeviceView
 thread_polls zero weight d = ([], d)
 thread_polls (suc most) weight d =
     let poll = after_poll THREAD weight d in
-    let after = followed poll.0.next (most == 0) poll.1 in
-    if goes_on poll.0.next (most == 0) then (let more = thread_polls most weight after in (poll.0 ∷ more.0, more.1))
+    let after = followed poll.0.next (suc most) poll.1 in
+    if goes_on poll.0.next (suc most) then (let more = thread_polls most weight after in (poll.0 ∷ more.0, more.1))
     else (poll.0 ∷ [], after)
 
 -- the thread takes the instance, if it was handed to it, and polls it

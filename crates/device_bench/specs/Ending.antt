@@ -1,18 +1,17 @@
 -- The end of a bench whose receive sides must be spent.
 use Rattle.std.specs.Prelude.{ℕ, Option, Some, None}
-use Rattle.rx_ring.specs.declared.packet.Totals.{Totals}
 use Rattle.device_rows.specs.Places.{Places, at}
 use Rattle.device_bench.specs.Bench.{Devices}
 use Rattle.device_bench.specs.DeviceView.{DeviceView}
 use Rattle.device_bench.specs.Receive.{ReceiveView}
 
 -- a device was ended; where there is none, nothing was counted
-abbrev pub IsEndedAt : (ReceiveView → Totals → Type 0) → Option DeviceView → Option Totals → Type 0
+abbrev pub IsEndedAt : {Totals : Type 0} → (ReceiveView → Totals → Type 0) → Option DeviceView → Option Totals → Type 0
 IsEndedAt ended (Some d) (Some totals) = ended d.side totals
 IsEndedAt ended None None = Unit {0}
 IsEndedAt ended (Some d) None = ⊥
 IsEndedAt ended None (Some totals) = ⊥
 
 -- each device was ended, and these are the counts of its ring
-abbrev pub AllEnded : (ReceiveView → Totals → Type 0) → Devices → Places Totals → Type 0
+abbrev pub AllEnded : {Totals : Type 0} → (ReceiveView → Totals → Type 0) → Devices → Places Totals → Type 0
 AllEnded ended devices ends = (number : ℕ) → IsEndedAt ended (at number devices) (at number ends)

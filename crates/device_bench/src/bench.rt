@@ -12,7 +12,6 @@ use device_rows::PLACES;
 use device_transmit::{Transmit, TransmitSides};
 use napi_model::Kind;
 use poll_runs::{Bench, BusyReport, DirectBench, Next, Once, ThreadReport};
-use rx_ring::Totals;
 use std::alloc::{AllocError, Global};
 use std::mem;
 
@@ -144,7 +143,7 @@ impl<S: SpentSide, O: Opener<S> + Drop> DeviceBench<S, O> {
 
     /// Ends the receive side of each device, which may wait. It takes no memory, and may be called in any state, after a fault
     /// too. Answers what was counted of each ring, in the place of its device's number.
-    pub fn end(self) -> [Option<Totals>; PLACES as usize]
+    pub fn end(self) -> [Option<S::Totals>; PLACES as usize]
         ensures { AllEnded S.ended (devices_of self) result }
     {
         let DeviceBench {

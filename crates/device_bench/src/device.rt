@@ -16,7 +16,6 @@ use poll_runs::{
     BusyInstance, BusyReport, Instance, Once, ThreadReport, poll_busy_of, poll_once_of,
     poll_thread_of,
 };
-use rx_ring::Totals;
 use std::marker::Model;
 
 /// The caller that the interrupt of a device is.
@@ -218,7 +217,7 @@ impl<S: ReceiveSide> Device<S> {
 
 impl<S: SpentSide> Device<S> {
     /// Ends the device's receive side.
-    pub(crate) fn end(self) -> Totals
+    pub(crate) fn end(self) -> S::Totals
         ensures { S.ended self.side result }
     {
         let Device {

@@ -7,10 +7,8 @@ ghost use Rattle.napi_model.specs.declared.state.Kind.TheVariants as kind;
 ghost use Rattle.device_bench.specs.declared.device.TheConstants.{CONTROLLER, POLLER};
 ghost use Rattle.device_bench.specs.Receive.{ReceiveView, busy_taken, bytes_of, done_by, given_of, handed_again, handed_on, has_place, is_control, is_idle, is_polling, opened_side, poller_in, put_if, requested, taker_of, tried_by};
 ghost use Rattle.device_rows.specs.Range.{IsWithin};
-ghost use Rattle.rx_ring.specs.declared.packet.Totals.{Totals};
 
 use napi_model::{Kind, Prep, Seen};
-use rx_ring::Totals;
 use std::alloc::{AllocError, Global};
 
 /// A device's receive side: its receive ring, and its NAPI instance with the four that make calls on it, all in one hand.
@@ -141,12 +139,15 @@ pub trait ReceiveSide {
 
 /// A receive side that must be spent: nothing but [`end`](SpentSide::end) takes it.
 pub trait SpentSide: ReceiveSide {
+    /// What was counted of its ring.
+    type Totals: Copy;
+
     /// `ended side totals`: a side that showed this was ended, and these are the counts of its ring.
-    ghost ended: { ReceiveView → Totals → Type 0 };
+    ghost ended: { ReceiveView → Self.Totals → Type 0 };
 
     /// Waits until nobody has the instance, takes it out of use, and polls what the ring holds. Answers what was counted of
     /// the ring.
-    fn end(self) -> Totals
+    fn end(self) -> Self::Totals
         ensures { ended (Self.side self) result };
 }
 

@@ -186,6 +186,8 @@ impl<R: Wait + Drop> ReceiveSide for SharedReceive<R> {
 impl<R: Wait + Drop> SpentSide for SharedReceive<R> {
     ghost use Rattle.device_shared.specs.Ending.{IsEnded};
 
+    type Totals = Totals;
+
     ghost ended = { IsEnded };
 
     fn end(self) -> Totals {

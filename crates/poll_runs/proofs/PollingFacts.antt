@@ -30,10 +30,10 @@ tells-more polls once report t = record {
   last = sym (last-snoc polls once);
 }
 
-goes-room : (next : Next) (most : ℕ) → goes_on next most ≡ true → 1 < most
+pub goes-room : (next : Next) (most : ℕ) → goes_on next most ≡ true → 1 < most
 goes-room next most goes = ltb-true 1 most (and_r (is_for_thread next) (nat_lt 1 most) goes)
 
-goes-thread : (next : Next) (most : ℕ) → goes_on next most ≡ true → is_for_thread next ≡ true
+pub goes-thread : (next : Next) (most : ℕ) → goes_on next most ≡ true → is_for_thread next ≡ true
 goes-thread next most goes = and_l (is_for_thread next) (nat_lt 1 most) goes
 
 no-repoll : (next : Next) → is_repoll next ≡ false → next ≢ Repoll
@@ -68,7 +68,7 @@ small-more weight [] once all small = (small, tt)
 small-more weight (first ∷ polls) once all small = (all.0, small-more weight polls once all.1 small)
 
 -- the thread may make one poll only, or more
-goes-last : (next : Next) (most : ℕ) → most ≤ 1 → goes_on next most ≡ false
+pub goes-last : (next : Next) (most : ℕ) → most ≤ 1 → goes_on next most ≡ false
 goes-last next most few = rw (le-ltb 1 most few) (and-false (is_for_thread next))
 
 goes-more : (next : Next) (most : ℕ) → 1 < most → goes_on next most ≡ is_for_thread next

@@ -1,18 +1,17 @@
-use Rattle.std.proofs.Common.{◌≡◌, ◌∙◌, Some, ap, sym, arith}
-use Rattle.device_bench.{specs.{Device.is_pending, Kept.is_sound}, proofs.BenchFacts.{kept-set, pending-off, sound-at}}
-use Rattle.device_rows.{specs.Places.at, proofs.PlaceFacts.{at-index, below-some}}
+use Rattle.std.proofs.Common.{◌∙◌, ap, arith}
+use Rattle.device_bench.{specs.{Device.is_pending, Kept.is_sound}, proofs.BenchFacts.{kept-set, pending-off, here-at, sound-at}}
+use Rattle.device_rows.{proofs.PlaceFacts.{below-some}}
 use Rattle.device_bench.proofs.DeviceFacts.{settle-keeps, settled-same}
 use Rattle.device_bench.proofs.bench.DeviceBench.settle_one.Goals as goal
 
 pub invariant_of-self : goal.invariant_of-self
 invariant_of-self g c =
-    let here : at c.args.device c.args.self.now.devices.items ≡ Some c.in-Some.device =
-    at-index _ c.args.device _ (omega (arith, c.args.self.now.kept.places)) (sym c.index_mut.ensures.value) ∙ c.in-Some.is in
-    let keeps = settle-keeps c.in-Some.device (sound-at _ _ c.args.device _ c.args.self.now.kept here) in
+    let here = here-at c.args.device c.args.self.now.kept (omega arith) c.index_mut.ensures.value c.in-Some.is in
+    let keeps = settle-keeps c.in-Some.device (sound-at c.args.device c.args.self.now.kept here) in
     record {
       kept = kept-set c.args.self.now.unsettled c.args.self.now.unsettled c.args.self.now.devices.items c.args.device c.settle.new.self
           c.args.self.now.kept (below-some c.args.self.now.devices.items c.args.device c.in-Some.device here)
           (ap is_sound c.settle.ensures.device ∙ keeps.sound) (λ off. off) (λ off.
-          let was = pending-off _ _ c.args.device _ c.args.self.now.kept here off in
+          let was = pending-off c.args.device c.args.self.now.kept here off in
           ap is_pending (c.settle.ensures.device ∙ settled-same _ was) ∙ was);
     }

@@ -1,25 +1,19 @@
-use Rattle.std.proofs.Common.{◌≡◌, ◌∙◌, Some, ap, refl, sym, arith}
-use Rattle.device_bench.{specs.{Device.is_pending, Kept.is_sound}, proofs.{BenchFacts.{kept-changed, sound-at}, BusyFacts.busy-keeps}}
-use Rattle.device_rows.specs.Places.{at}
-use Rattle.{device_rows.proofs.PlaceFacts.at-index, std.specs.Prelude.is_some}
+use Rattle.std.proofs.Common.{ap, refl, sym, arith}
+use Rattle.device_bench.{proofs.{BenchFacts.{kept-changed, here-at, sound-at}, BusyFacts.busy-keeps}}
+use Rattle.{std.specs.Prelude.is_some}
 use Rattle.device_bench.proofs.{SideFacts.sides-set, Waiting.waiting-more}
 use Rattle.device_bench.proofs.bench.DeviceBenchDirectBench.busy_poll.Goals as goal
 
 pub invariant_of-self : goal.invariant_of-self
 invariant_of-self g c =
-    let here : at c.args.id c.args.self.now.devices.items ≡ Some c.in-Some.device =
-    at-index _ c.args.id _ (omega (arith, c.args.self.now.kept.places)) (sym c.index_mut.ensures.value) ∙ c.in-Some.is in
-    let keeps = busy-keeps c.args.rounds c.args.weight c.in-Some.device (sound-at _ _ c.args.id _ c.args.self.now.kept here) in
-    record {
-      kept = kept-changed _ _ c.args.id c.in-Some.device _ c.args.self.now.kept here (ap is_sound c.busy_poll.ensures.device ∙ keeps.sound)
-          (ap is_pending c.busy_poll.ensures.device ∙ keeps.pending);
-    }
+    let here = here-at c.args.id c.args.self.now.kept (omega arith) c.index_mut.ensures.value c.in-Some.is in
+    let keeps = busy-keeps c.args.rounds c.args.weight c.in-Some.device (sound-at c.args.id c.args.self.now.kept here) in
+    record { kept = kept-changed c.args.id c.args.self.now.kept here c.busy_poll.ensures.device keeps.sound keeps.pending }
 
 pub returns-in-Some : goal.returns-in-Some
 returns-in-Some g c =
-    let here : at c.args.id c.args.self.now.devices.items ≡ Some c.in-Some.device =
-    at-index _ c.args.id _ (omega (arith, c.args.self.now.kept.places)) (sym c.index_mut.ensures.value) ∙ c.in-Some.is in
-    let keeps = busy-keeps c.args.rounds c.args.weight c.in-Some.device (sound-at _ _ c.args.id _ c.args.self.now.kept here) in
+    let here = here-at c.args.id c.args.self.now.kept (omega arith) c.index_mut.ensures.value c.in-Some.is in
+    let keeps = busy-keeps c.args.rounds c.args.weight c.in-Some.device (sound-at c.args.id c.args.self.now.kept here) in
     record {
       leads = record {
         exact = (rw (here, c.busy_poll.ensures.report) refl, rw (here, c.busy_poll.ensures.device) refl);

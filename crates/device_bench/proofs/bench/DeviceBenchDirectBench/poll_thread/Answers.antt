@@ -1,24 +1,19 @@
-use Rattle.std.proofs.Common.{rules, ◌≡◌, ◌∙◌, ◌<◌, Some, [], ap, length, slice_set, refl, sym, arith}
-use Rattle.{device_bench.specs.{Device.{is_pending, polled_by_thread}, Kept.is_sound}, device_rows.specs.Places.at}
-use Rattle.device_bench.proofs.{BenchFacts.{kept-changed, sound-at}, DeviceFacts.thread-keeps, SideFacts.{set-back, sides-set}}
+use Rattle.std.proofs.Common.{rules, ◌≡◌, ◌<◌, [], ap, length, slice_set, refl, sym, arith}
+use Rattle.{device_bench.specs.{Device.{polled_by_thread}}, device_rows.specs.Places.at}
+use Rattle.device_bench.proofs.{BenchFacts.{kept-changed, here-at, sound-at}, DeviceFacts.thread-keeps, SideFacts.{set-back, sides-set}}
 use Rattle.{device_bench.proofs.Waiting.waiting-more, device_rows.proofs.PlaceFacts.at-index, std.specs.Prelude.is_some}
 use Rattle.device_bench.proofs.bench.DeviceBenchDirectBench.poll_thread.Goals as goal
 
 pub invariant_of-self : goal.invariant_of-self
 invariant_of-self g c =
-    let here : at c.args.id c.args.self.now.devices.items ≡ Some c.in-Some.device =
-    at-index _ c.args.id _ (omega (arith, c.args.self.now.kept.places)) (sym c.index_mut.ensures.value) ∙ c.in-Some.is in
-    let keeps = thread-keeps c.args.most c.args.weight c.in-Some.device (sound-at _ _ c.args.id _ c.args.self.now.kept here) in
-    record {
-      kept = kept-changed _ _ c.args.id c.in-Some.device _ c.args.self.now.kept here
-          (ap is_sound c.poll_thread.ensures.device ∙ keeps.sound) (ap is_pending c.poll_thread.ensures.device ∙ keeps.pending);
-    }
+    let here = here-at c.args.id c.args.self.now.kept (omega arith) c.index_mut.ensures.value c.in-Some.is in
+    let keeps = thread-keeps c.args.most c.args.weight c.in-Some.device (sound-at c.args.id c.args.self.now.kept here) in
+    record { kept = kept-changed c.args.id c.args.self.now.kept here c.poll_thread.ensures.device keeps.sound keeps.pending }
 
 pub returns-in-Some : goal.returns-in-Some
 returns-in-Some g c =
-    let here : at c.args.id c.args.self.now.devices.items ≡ Some c.in-Some.device =
-    at-index _ c.args.id _ (omega (arith, c.args.self.now.kept.places)) (sym c.index_mut.ensures.value) ∙ c.in-Some.is in
-    let keeps = thread-keeps c.args.most c.args.weight c.in-Some.device (sound-at _ _ c.args.id _ c.args.self.now.kept here) in (
+    let here = here-at c.args.id c.args.self.now.kept (omega arith) c.index_mut.ensures.value c.in-Some.is in
+    let keeps = thread-keeps c.args.most c.args.weight c.in-Some.device (sound-at c.args.id c.args.self.now.kept here) in (
       (polled_by_thread c.args.most c.args.weight c.in-Some.device).0,
       record {
         exact = (rw here refl, rw (here, c.poll_thread.ensures.device) refl);

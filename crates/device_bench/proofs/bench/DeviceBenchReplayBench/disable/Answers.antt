@@ -1,14 +1,12 @@
-use Rattle.std.proofs.Common.{◌≡◌, ◌∙◌, Some, true, ap, sym, arith}
-use Rattle.device_bench.{specs.{DeviceView.DeviceView, Kept.is_sound, Waiting.waits}, proofs.BenchFacts.{kept-set, sound-at}}
-use Rattle.device_rows.specs.Places.{at}
-use Rattle.{device_rows.proofs.PlaceFacts.{at-index, below-some}, device_bench.proofs.{DeviceFacts.disable-keeps, Waiting.waiting-same}}
+use Rattle.std.proofs.Common.{◌∙◌, Some, true, ap, arith}
+use Rattle.device_bench.{specs.{DeviceView.DeviceView, Kept.is_sound, Waiting.waits}, proofs.BenchFacts.{kept-set, here-at, sound-at}}
+use Rattle.{device_rows.proofs.PlaceFacts.{below-some}, device_bench.proofs.{DeviceFacts.disable-keeps, Waiting.waiting-same}}
 use Rattle.device_bench.proofs.bench.DeviceBenchReplayBench.disable.Goals as goal
 
 pub invariant_of-self : goal.invariant_of-self
 invariant_of-self g c =
-    let here : at c.args.device c.args.self.now.devices.items ≡ Some c.in-Some.device =
-    at-index _ c.args.device _ (omega (arith, c.args.self.now.kept.places)) (sym c.index_mut.ensures.value) ∙ c.in-Some.is in
-    let keeps = disable-keeps c.in-Some.device (sound-at _ _ c.args.device _ c.args.self.now.kept here) in
+    let here = here-at c.args.device c.args.self.now.kept (omega arith) c.index_mut.ensures.value c.in-Some.is in
+    let keeps = disable-keeps c.in-Some.device (sound-at c.args.device c.args.self.now.kept here) in
     record {
       kept = kept-set c.args.self.now.unsettled true c.args.self.now.devices.items c.args.device c.disable.new.self c.args.self.now.kept
           (below-some c.args.self.now.devices.items c.args.device c.in-Some.device here) (ap is_sound c.disable.ensures ∙ keeps.sound)
@@ -17,8 +15,7 @@ invariant_of-self g c =
 
 pub returns-in-Some-clause-waiting : goal.returns-in-Some-clause-waiting
 returns-in-Some-clause-waiting g c =
-    let here : at c.args.device c.args.self.now.devices.items ≡ Some c.in-Some.device =
-    at-index _ c.args.device _ (omega (arith, c.args.self.now.kept.places)) (sym c.index_mut.ensures.value) ∙ c.in-Some.is in
-    let keeps = disable-keeps c.in-Some.device (sound-at _ _ c.args.device _ c.args.self.now.kept here) in
+    let here = here-at c.args.device c.args.self.now.kept (omega arith) c.index_mut.ensures.value c.in-Some.is in
+    let keeps = disable-keeps c.in-Some.device (sound-at c.args.device c.args.self.now.kept here) in
     waiting-same c.args.self.now.devices.items c.args.device c.in-Some.device c.disable.new.self here
     (ap (λ (d : DeviceView). waits (Some d)) c.disable.ensures ∙ keeps.listed)
