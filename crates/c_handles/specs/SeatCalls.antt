@@ -155,12 +155,6 @@ mode_counts mode.Gone = None
 
 -- ---- the controller
 
-abbrev pub OnWith : (Pass → Type 0) → Mode → Type 0
-OnWith P (mode.On c) = P c.pass
-OnWith P (mode.Off c) = ⊥
-OnWith P (mode.Marked c) = ⊥
-OnWith P mode.Gone = ⊥
-
 abbrev pub MarkedWith : (Pass → Type 0) → Mode → Type 0
 MarkedWith P (mode.Marked c) = P c.pass
 MarkedWith P (mode.Off c) = ⊥
