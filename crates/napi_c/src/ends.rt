@@ -1,5 +1,5 @@
 //! The two ends of a receive ring of which no instance has one, and what is counted of a ring.
-ghost use Rattle.std.specs.Prelude.{◌≡◌, ◌≢◌, Some, None};
+ghost use Rattle.std.specs.Prelude.{◌≡◌, ◌≢◌, ◌⊎◌, ◌↔◌, Some, None, IsNone, IsSome};
 ghost use Rattle.rx_ring.specs.declared.packet.RxCounts.{RxCounts};
 ghost use Rattle.rx_ring.specs.ReceiveRing.{IsInOrder, totals_of};
 ghost use Rattle.rx_ring.specs.Ends.{ring_of};
@@ -8,7 +8,7 @@ ghost use Rattle.c_handles.specs.declared.body.Body.TheVariants as variant;
 ghost use Rattle.c_handles.specs.declared.input.Input.{Input};
 ghost use Rattle.c_handles.specs.Inputs.{shown_of};
 ghost use Rattle.c_handles.specs.Rings.{LeadsTo, HasInput, LeadsToItsInput, CountsAre, counts_in};
-ghost use Rattle.c_handles.specs.Status.{OK};
+ghost use Rattle.c_handles.specs.Status.{OK, NOT_ALLOWED, BAD_HANDLE, IN_USE, OUT_OF_MEMORY};
 ghost use Rattle.napi_c.specs.Counts.{counted, totalled};
 
 use crate::counts::{FqCounts, FqTotals};
@@ -25,6 +25,9 @@ pub extern "C" fn fq_ring_split(alloc: Global, ring: &mut FqHandle, ctx: &mut Fq
         × (ctx.new.held.body ≡ Some (variant.Ctx r.ctx)) }
     ensures kept { result ≢ OK → (ring.new.held.body ≡ ring.old.held.body)
         × (ctx.new ≡ ctx.old) }
+    ensures in_use { (result ≡ IN_USE) ↔ IsSome ctx.old.held.body }
+    ensures refused { (r : Ring) → LeadsTo ring.old r → result ≢ OK → result ≢ IN_USE
+        → result ≡ OUT_OF_MEMORY }
 {
     if ctx.is_set() {
         return status::IN_USE;
@@ -60,7 +63,7 @@ pub extern "C" fn fq_ring_finish(alloc: Global, ring: &mut FqHandle, totals: &mu
     ensures order { (r : Ring) → LeadsTo ring.old r → IsInOrder (ring_of r.input.end r.ctx) }
     ensures left { result ≡ OK → ring.new.held.body ≡ None }
     ensures kept { result ≢ OK → (ring.new.held.body ≡ ring.old.held.body)
-        × (totals.new ≡ totals.old) }
+        × (totals.new ≡ totals.old) × (result ≡ BAD_HANDLE) }
 {
     let Some(mut first) = ring.take(alloc) else {
         return status::BAD_HANDLE;
@@ -98,6 +101,8 @@ pub extern "C" fn fq_count(alloc: Global, handle: &mut FqHandle, counts: &mut Fq
     ensures counts { (c : RxCounts) → CountsAre c handle.old.held.body → (result ≡ OK)
         × (counts.new ≡ counted c) }
     ensures kept { result ≢ OK → counts.new ≡ counts.old }
+    ensures bad { (result ≡ BAD_HANDLE) ↔ IsNone handle.old.held.body }
+    ensures refused { result ≢ OK → result ≢ BAD_HANDLE → result ≡ NOT_ALLOWED }
     ensures same { handle.new.held.body ≡ handle.old.held.body }
 {
     let Some(boxed) = handle.take(alloc) else {
@@ -117,7 +122,7 @@ pub extern "C" fn fq_count(alloc: Global, handle: &mut FqHandle, counts: &mut Fq
 fn shown_in(at: &Body, shown: &mut FqRingShown) -> u32
     ensures shown { (i : Input) → HasInput i at.now → (result ≡ OK)
         × (shown.new ≡ shown_of i.end) }
-    ensures kept { result ≢ OK → shown.new ≡ shown.old }
+    ensures kept { result ≢ OK → (shown.new ≡ shown.old) × (result ≡ BAD_HANDLE) }
 {
     match at {
         Body::Ring(ring) => *shown = ring.input.shown(),
@@ -132,7 +137,7 @@ fn shown_in(at: &Body, shown: &mut FqRingShown) -> u32
 pub extern "C" fn fq_ring_show(alloc: Global, handle: &mut FqHandle, shown: &mut FqRingShown) -> u32
     ensures shown { (i : Input) → LeadsToItsInput i handle.old.held.body → (result ≡ OK)
         × (shown.new ≡ shown_of i.end) }
-    ensures kept { result ≢ OK → shown.new ≡ shown.old }
+    ensures kept { result ≢ OK → (shown.new ≡ shown.old) × (result ≡ BAD_HANDLE) }
     ensures same { handle.new.held.body ≡ handle.old.held.body }
 {
     let Some(boxed) = handle.take(alloc) else {

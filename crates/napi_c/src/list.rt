@@ -1,8 +1,8 @@
 //! Poll lists and runs for C.
-ghost use Rattle.std.specs.Prelude.{◌≡◌, ◌≢◌};
+ghost use Rattle.std.specs.Prelude.{◌≡◌, ◌≢◌, ◌↔◌, IsSome};
 ghost use Rattle.c_handles.specs.Handles.{LeadsToList, ListMakes, ListMakesIn};
 ghost use Rattle.c_handles.specs.Runs.{IsNewList, IsLength, IsPush, IsBegin, IsNext, IsPolled, IsEnd};
-ghost use Rattle.c_handles.specs.Status.{OK};
+ghost use Rattle.c_handles.specs.Status.{OK, IN_USE, OUT_OF_MEMORY};
 
 use c_handles::{Body, FqHandle, FqRunReport, Lister, status};
 use std::alloc::Global;
@@ -12,6 +12,8 @@ use std::alloc::Global;
 pub extern "C" fn fq_list_new(alloc: Global, handle: &mut FqHandle) -> u32
     ensures made { result ≡ OK → LeadsToList IsNewList handle.new.held.body }
     ensures kept { result ≢ OK → handle.new ≡ handle.old }
+    ensures in_use { (result ≡ IN_USE) ↔ IsSome handle.old.held.body }
+    ensures memory { result ≢ OK → result ≢ IN_USE → result ≡ OUT_OF_MEMORY }
 {
     if handle.is_set() {
         return status::IN_USE;

@@ -1,11 +1,12 @@
 //! Receive rings for C, both ends in one handle.
-ghost use Rattle.std.specs.Prelude.{◌≡◌, ◌≢◌, ◌<◌, ◌≤◌, ◌-◌, [], ◌∷◌, length, take, min, Some};
+ghost use Rattle.std.specs.Prelude.{◌≡◌, ◌≢◌, ◌<◌, ◌≤◌, ◌-◌, ◌⊎◌, ◌↔◌, [], ◌∷◌, length, take, min, Some, IsNone, IsSome};
+ghost use Rattle.rx_ring.specs.ReceiveRing.{most_places};
 ghost use Rattle.rx_ring.specs.Ends.{put_list, capacity_of, GivesNext};
 ghost use Rattle.rx_ring.specs.declared.ends.RxCtx.{RxCtx};
 ghost use Rattle.c_handles.specs.declared.body.Ring.{Ring};
 ghost use Rattle.c_handles.specs.declared.input.Input.{Input};
 ghost use Rattle.c_handles.specs.declared.body.Body.TheVariants as variant;
-ghost use Rattle.c_handles.specs.Status.{OK, BAD_HANDLE};
+ghost use Rattle.c_handles.specs.Status.{OK, BAD_HANDLE, IN_USE, OUT_OF_MEMORY, BAD_CAPACITY, BAD_WEIGHT, NO_ROOM};
 ghost use Rattle.c_handles.specs.Rings.{LeadsTo, LeadsToRing, IsRingWith, IsInputWith, LeadsToInput, IsCtxWith, LeadsToCtx, IsNewRing, IsAfterPut, IsAfterInput, IsAfterPoll, burst_in, burst_status};
 
 use c_handles::{Body, FqHandle, Input, Ring, status};
@@ -17,6 +18,11 @@ use std::alloc::Global;
 pub extern "C" fn fq_ring_new(alloc: Global, handle: &mut FqHandle, capacity: usize) -> u32
     ensures made { result ≡ OK → LeadsToRing (IsNewRing capacity) handle.new.held.body }
     ensures kept { result ≢ OK → handle.new ≡ handle.old }
+    ensures in_use { (result ≡ IN_USE) ↔ IsSome handle.old.held.body }
+    ensures capacity { (result ≡ BAD_CAPACITY) ↔ (IsNone handle.old.held.body
+        × ((capacity ≡ 0) ⊎ (most_places < capacity))) }
+    ensures memory { result ≢ OK → result ≢ IN_USE → result ≢ BAD_CAPACITY
+        → result ≡ OUT_OF_MEMORY }
 {
     if handle.is_set() {
         return status::IN_USE;
@@ -143,6 +149,11 @@ pub extern "C" fn fq_ring_poll(
         → LeadsToCtx
         (λ d. GivesNext weight c d (take count.new out.new)) handle.new.held.body }
     ensures work { (count.new ≤ weight) × (count.new ≤ length out.new) }
+    ensures none { result ≢ OK → (count.new ≡ 0) × (out.new ≡ out.old) }
+    ensures kept { result ≢ OK → handle.new.held.body ≡ handle.old.held.body }
+    ensures weight { (result ≡ BAD_WEIGHT) ↔ ((weight ≡ 0) ⊎ (64 < weight)) }
+    ensures room { (result ≡ NO_ROOM) ↔ ((1 ≤ weight) × (weight ≤ 64)
+        × (length out.old < weight)) }
 {
     *count = 0;
     if weight == 0 || weight > MAX_WEIGHT {
@@ -172,6 +183,7 @@ fn poll_into(body: &mut Body, weight: usize, batch: &mut Batch) -> u32
     ensures context { (c : RxCtx) → body.old ≡ variant.Ctx c → result ≡ OK
         → IsCtxWith (λ d. GivesNext weight c d batch.new.items) body.new }
     ensures room { result ≡ OK → length batch.new.items ≤ weight }
+    ensures only { result ≢ OK → (result ≡ BAD_HANDLE) × (body.new ≡ body.old) }
 {
     match body {
         Body::Ring(ring) => {

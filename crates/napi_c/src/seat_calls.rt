@@ -1,10 +1,11 @@
 //! The calls of the callers of a shared instance. Each makes one try, and answers changed where another thread came between.
-ghost use Rattle.std.specs.Prelude.{◌≡◌, ◌≢◌, ◌≤◌, true, false, length, take, Some, None};
+ghost use Rattle.rx_ring.specs.declared.packet.Packet.{Packet};
+ghost use Rattle.std.specs.Prelude.{◌≡◌, ◌≢◌, ◌<◌, ◌≤◌, ◌⊎◌, List, true, false, length, take, Some, None};
 ghost use Rattle.napi_model.specs.declared.state.Kind.{Kind};
 ghost use Rattle.napi_model.specs.declared.event.Done.TheVariants as done;
 ghost use Rattle.c_handles.specs.declared.hold.SeatCall.TheVariants as seat_call;
 ghost use Rattle.c_handles.specs.Kinds.{kind_in};
-ghost use Rattle.c_handles.specs.Status.{OK, RELEASED, AGAIN, BAD_KIND, BAD_HANDLE};
+ghost use Rattle.c_handles.specs.Status.{OK, RELEASED, AGAIN, BAD_KIND, BAD_HANDLE, BAD_WEIGHT, NO_ROOM};
 ghost use Rattle.c_handles.specs.SeatCalls.{RestsWith, GrantedWith};
 ghost use Rattle.c_handles.specs.Endings.{EndsBy, LeadsToSeat};
 ghost use Rattle.c_handles.specs.declared.seat.Seat.{Seat};
@@ -174,7 +175,11 @@ pub extern "C" fn fq_seat_poll(
     ensures polls { result ≡ OK
         → SeatGives weight (take count.new out.new) handle.old result handle.new }
     ensures most { (count.new ≤ weight) × (count.new ≤ length out.new) }
-    ensures none { result ≢ OK → count.new ≡ 0 }
+    ensures none { result ≢ OK → (count.new ≡ 0) × (out.new ≡ out.old) }
+    ensures refused { result ≢ OK → (handle.new ≡ handle.old)
+        ⊎ ((given : List Packet) × SeatGives weight given handle.old result handle.new) }
+    ensures weight { (weight ≡ 0) ⊎ (64 < weight) → result ≡ BAD_WEIGHT }
+    ensures room { 1 ≤ weight → weight ≤ 64 → length out.old < weight → result ≡ NO_ROOM }
 {
     *count = 0;
     if weight == 0 || weight > MAX_WEIGHT {
@@ -200,7 +205,7 @@ pub extern "C" fn fq_seat_poll(
 fn answers_in(at: &Body, answers: &mut FqAnswers) -> u32
     ensures shown { (s : Seat) → at.now ≡ variant.Seat s → (result ≡ OK)
         × (answers.new ≡ s.answers) }
-    ensures kept { result ≢ OK → answers.new ≡ answers.old }
+    ensures kept { result ≢ OK → (answers.new ≡ answers.old) × (result ≡ BAD_HANDLE) }
 {
     match at {
         Body::Seat(seat) => {
@@ -220,7 +225,7 @@ pub extern "C" fn fq_seat_count(
 ) -> u32
     ensures shown { (s : Seat) → handle.old.held.body ≡ Some (variant.Seat s) → (result ≡ OK)
         × (answers.new ≡ s.answers) }
-    ensures kept { result ≢ OK → answers.new ≡ answers.old }
+    ensures kept { result ≢ OK → (answers.new ≡ answers.old) × (result ≡ BAD_HANDLE) }
     ensures same { handle.new.held.body ≡ handle.old.held.body }
 {
     let Some(boxed) = handle.take(alloc) else {

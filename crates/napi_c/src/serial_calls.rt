@@ -1,5 +1,5 @@
 //! What anyone may call on the instance of one thread.
-ghost use Rattle.std.specs.Prelude.{◌≡◌, ◌≢◌, ◌↔◌, ◌⊎◌, true, false, Some};
+ghost use Rattle.std.specs.Prelude.{◌≡◌, ◌≢◌, ◌↔◌, ◌⊎◌, true, false, None, Some};
 ghost use Rattle.napi_model.specs.declared.event.Operation.TheVariants as operation;
 ghost use Rattle.napi_model.specs.declared.event.Prep.TheVariants as prep;
 ghost use Rattle.napi_model.specs.declared.event.Done.TheVariants as done;
@@ -40,8 +40,9 @@ pub extern "C" fn fq_napi_schedule(napi: &mut FqNapi, who: u32) -> u32
 pub extern "C" fn fq_napi_hand(napi: &mut FqNapi, who: u32, kind: u32) -> u32
     ensures made { result ≡ OK → (k : Kind) → kind_in kind ≡ Some k
         → Steps napi.old who (operation.Hand k) napi.new }
-    ensures refused { (result ≡ NOT_ALLOWED) → (k : Kind) → kind_in kind ≡ Some k
-        → ¬ MayCall who (call.Hand k) (state_in napi.old) }
+    ensures refused { (k : Kind) → kind_in kind ≡ Some k
+        → (result ≡ NOT_ALLOWED ↔ ¬ MayCall who (call.Hand k) (state_in napi.old)) }
+    ensures bad { (result ≡ BAD_KIND) ↔ (kind_in kind ≡ None) }
     ensures kept { result ≢ OK → napi.new ≡ napi.old }
     ensures only { (result ≡ OK) ⊎ (result ≡ NOT_ALLOWED) ⊎ (result ≡ BAD_KIND) }
 {
@@ -61,6 +62,8 @@ pub extern "C" fn fq_napi_take(napi: &mut FqNapi, who: u32, kind: u32) -> u32
         → Steps napi.old who (operation.Take k true) napi.new }
     ensures absent { result ≡ NOT_THERE → (k : Kind) → kind_in kind ≡ Some k
         → Steps napi.old who (operation.Take k false) napi.new }
+    ensures bad { (result ≡ BAD_KIND) ↔ (kind_in kind ≡ None) }
+    ensures kept { result ≡ BAD_KIND → napi.new ≡ napi.old }
     ensures only { (result ≡ TAKEN) ⊎ (result ≡ NOT_THERE) ⊎ (result ≡ BAD_KIND) }
 {
     let Some(kind) = kind_of(kind) else {

@@ -1,5 +1,5 @@
 //! A shared instance is made over the poll context of a ring.
-ghost use Rattle.std.specs.Prelude.{◌≡◌, ◌≢◌, ◌≤◌, ℕ, true, Some, length, slice_get, IfOk, IfErr};
+ghost use Rattle.std.specs.Prelude.{◌≡◌, ◌≢◌, ◌≤◌, ℕ, true, Some, length, slice_get, IfOk, IfErr, IsSome};
 ghost use Rattle.std.specs.Arc.{arc_value};
 ghost use Rattle.napi_calls.specs.declared.types.Caller.{Caller};
 ghost use Rattle.napi_calls.specs.Instance.{IsSeatOf};
@@ -7,7 +7,7 @@ ghost use Rattle.c_handles.specs.declared.body.Body.TheVariants as variant;
 ghost use Rattle.c_handles.specs.declared.body.Ring.{Ring};
 ghost use Rattle.c_handles.specs.Rings.{LeadsTo};
 ghost use Rattle.napi_c.specs.Shared.{LeadsToRestingSeat, LeadsToOffController};
-ghost use Rattle.c_handles.specs.Status.{OK, OUT_OF_MEMORY};
+ghost use Rattle.c_handles.specs.Status.{OK, IN_USE, OUT_OF_MEMORY};
 
 use c_handles::{
     Body, Controller, FqAnswers, FqHandle, Hold, Input, Mode, Ring, Seat, Shared, status,
@@ -218,6 +218,8 @@ pub extern "C" fn fq_shared_new(
         → input.new.held.body ≡ Some (variant.In r.input) }
     ensures kept { result ≢ OK → result ≢ OUT_OF_MEMORY → (control.new ≡ control.old)
         × (seats.new ≡ seats.old) × (input.new.held.body ≡ input.old.held.body) }
+    ensures in_use { IsSome control.old.held.body → result ≡ IN_USE }
+    ensures count { result ≡ OK → (2 ≤ length seats.old) × (length seats.old ≤ 8) }
 {
     if control.is_set() || is_any_set(seats) {
         return status::IN_USE;
@@ -244,6 +246,8 @@ pub extern "C" fn fq_shared_bare(
     ensures control { result ≡ OK → LeadsToOffController control.new.held.body }
     ensures kept { result ≢ OK → result ≢ OUT_OF_MEMORY → (control.new ≡ control.old)
         × (seats.new ≡ seats.old) }
+    ensures in_use { IsSome control.old.held.body → result ≡ IN_USE }
+    ensures count { result ≡ OK → (2 ≤ length seats.old) × (length seats.old ≤ 8) }
 {
     if control.is_set() || is_any_set(seats) {
         return status::IN_USE;

@@ -1,11 +1,11 @@
 //! Transmit rings for C, under a byte queue limit each.
-ghost use Rattle.std.specs.Prelude.{◌≡◌, ◌≢◌, ◌<◌, ◌⊎◌, ◌↔◌, None};
+ghost use Rattle.std.specs.Prelude.{◌≡◌, ◌≢◌, ◌<◌, ◌⊎◌, ◌↔◌, None, IsSome};
 ghost use Rattle.dql_core.specs.Bounds.{DQL_MAX_LIMIT};
 ghost use Rattle.dql_core.specs.Limit.{opening};
 ghost use Rattle.tx_ring.specs.Queue.{TransmitQueue, opening_queue, state_of, after_send, after_done, send_fault, done_fault};
 ghost use Rattle.tx_ring.specs.Ring.{ShowsQueue};
 ghost use Rattle.tx_ring.specs.declared.event.TxFault.{TxFault};
-ghost use Rattle.c_handles.specs.Status.{OK};
+ghost use Rattle.c_handles.specs.Status.{OK, IN_USE, BAD_HANDLE};
 ghost use Rattle.c_handles.specs.Transmits.{IsTxWith, TxShows, tx_status};
 
 use c_handles::{Body, FqHandle, status};
@@ -42,6 +42,7 @@ pub extern "C" fn fq_tx_new(
         → TxShows handle.new (opening_queue capacity (opening min max hold now)) }
     ensures kept { result ≢ OK → handle.new ≡ handle.old }
     ensures bounds { result ≡ OK → ¬ ((max < min) ⊎ (DQL_MAX_LIMIT < max)) }
+    ensures in_use { IsSome handle.old.held.body → result ≡ IN_USE }
 {
     if handle.is_set() {
         return status::IN_USE;
@@ -133,7 +134,7 @@ fn done_in(body: &mut Body, count: u32, now: u64) -> u32
 pub extern "C" fn fq_tx_state(alloc: Global, handle: &mut FqHandle, state: &mut TxState) -> u32
     ensures shown { (t : TransmitQueue) → TxShows handle.old t → (result ≡ OK)
         × (state.new ≡ state_of t) }
-    ensures kept { result ≢ OK → state.new ≡ state.old }
+    ensures kept { result ≢ OK → (state.new ≡ state.old) × (result ≡ BAD_HANDLE) }
     ensures same { handle.new.held.body ≡ handle.old.held.body }
 {
     let Some(body) = handle.take(alloc) else {
@@ -147,7 +148,7 @@ pub extern "C" fn fq_tx_state(alloc: Global, handle: &mut FqHandle, state: &mut 
 fn state_in(body: &Body, state: &mut TxState) -> u32
     ensures shown { (t : TransmitQueue) → IsTxWith (λ r. ShowsQueue r t) body.now → (result ≡ OK)
         × (state.new ≡ state_of t) }
-    ensures kept { result ≢ OK → state.new ≡ state.old }
+    ensures kept { result ≢ OK → (state.new ≡ state.old) × (result ≡ BAD_HANDLE) }
 {
     match body {
         Body::Tx(ring) => {

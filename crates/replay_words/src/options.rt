@@ -5,7 +5,8 @@ ghost use Rattle.std.specs.List.{list_any};
 ghost use Rattle.clap.specs.Words.{app_of, found_of, rows_of, rule_of};
 ghost use Rattle.replay_words.specs.Given.{Text, given_by, is_stray, number_within, or_usual};
 ghost use Rattle.replay_words.specs.Options.{option, rows_for, tool, value_in, with_name};
-ghost use Rattle.replay_words.specs.declared.words.WordFault.TheVariants.{Usage};
+ghost use Rattle.replay_words.specs.Refusals.{IsRefused};
+ghost use Rattle.replay_words.specs.declared.words.WordFault.TheVariants.{OutOfMemory, Usage};
 
 use crate::words::WordFault;
 use clap::error::ErrorKind;
@@ -111,7 +112,8 @@ pub fn with_name<'a>(alloc: Global, words: &'a [String]) -> Result<Vec<&'a str>,
 ///
 /// # Errors
 ///
-/// [`WordFault::Usage`] where the words aren't so. [`WordFault::OutOfMemory`] where memory was refused, whatever the words are.
+/// [`WordFault::Usage`] where the words aren't so. [`WordFault::OutOfMemory`] where a push or clap was refused memory, whatever
+/// the words are.
 pub fn read_options<'a>(
     alloc: Global,
     names: &[&'a str],
@@ -124,6 +126,7 @@ pub fn read_options<'a>(
     ensures usage { result ≡ Err Usage → (rest : List Text)
         → map (λ s. s.now) words.now ≡ with_name rest
         → given_by (map (λ s. s.now) names.now) rest ≡ None }
+    ensures memory { result ≡ Err OutOfMemory → IsRefused }
 {
     if has_stray(words) {
         return Err(WordFault::Usage);

@@ -3,9 +3,10 @@
 ghost use Rattle.std.specs.Prelude.{◌≡◌, ◌≤◌, Some, None, Err, IfOk, IfSome, option_map, map, string_bytes, codes};
 ghost use Rattle.replay_words.specs.Given.{or_usual};
 ghost use Rattle.replay_words.specs.Options.{value_in};
+ghost use Rattle.replay_words.specs.Refusals.{IsRefused};
 ghost use Rattle.replay_words.specs.Words.{asked_for, asked_of, asked_with, fault_number, line_of, mode_of, number_of, serial_asked_for, status_of};
 ghost use Rattle.replay_words.specs.declared.mode.Mode.TheVariants.{Serial};
-ghost use Rattle.replay_words.specs.declared.words.WordFault.TheVariants.{Usage};
+ghost use Rattle.replay_words.specs.declared.words.WordFault.TheVariants.{OutOfMemory, Usage};
 
 use crate::mode::Mode;
 use crate::options::{number_within, option_number, read_options, with_name};
@@ -143,6 +144,7 @@ pub fn parse_words(alloc: Global, words: &[String]) -> Result<(Mode, Settings), 
     ensures asked { IfOk result
         (λ asked. asked_for (map string_bytes words.now) ≡ Some (asked_of asked)) }
     ensures usage { result ≡ Err Usage → asked_for (map string_bytes words.now) ≡ None }
+    ensures memory { result ≡ Err OutOfMemory → IsRefused }
 {
     let words = with_name(alloc, words)?;
     let matches = read_options(alloc, &OPTIONS, words.as_slice())?;
@@ -161,6 +163,7 @@ pub fn parse_serial_words(alloc: Global, words: &[String]) -> Result<Settings, W
         (λ settings. serial_asked_for (map string_bytes words.now)
         ≡ Some (asked_of (Serial, settings))) }
     ensures usage { result ≡ Err Usage → serial_asked_for (map string_bytes words.now) ≡ None }
+    ensures memory { result ≡ Err OutOfMemory → IsRefused }
 {
     match parse_words(alloc, words) {
         Ok((Mode::Serial, settings)) => Ok(settings),
