@@ -1,5 +1,5 @@
 -- What a contract sees of the two ends of a receive ring, and what a poll and a meeting of the ends do to them.
-use Rattle.std.specs.Prelude.{ℕ, ◌≡◌, ◌↔◌, ◌+◌, ◌≤◌, ◌==◌, not, Bool, true, false, List, ◌++◌, length, take, min}
+use Rattle.std.specs.Prelude.{ℕ, ◌≡◌, ◌↔◌, ◌+◌, ◌≤◌, Bool, true, false, List, ◌++◌, length, take, min}
 use Rattle.std.specs.Global.{Global}
 use denote.RawPtr.{Ptr}
 use mathlib.Core.List.{IsPrefix}
