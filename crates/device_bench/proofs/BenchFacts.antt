@@ -8,8 +8,8 @@ use Rattle.device_bench.proofs.{DeviceFacts.settled-same, Waiting.{waiting-empty
 use Rattle.device_rows.{specs.Places.{Places, at, changed, changed_from, empty}, proofs.PlaceFacts.{at-index, at-set, below-some}}
 
 -- what a call reads at a number, and finds a device
-pub here-at : {u : Bool} {xs : Places DeviceView} {o : Option DeviceView} {d : DeviceView} (n : ℕ) → IsKept u xs → n < 17 → o ≡ get_or xs n o
-    → o ≡ Some d → at n xs ≡ Some d
+pub here-at : {u : Bool} {xs : Places DeviceView} {o : Option DeviceView} {d : DeviceView} (n : ℕ) → IsKept u xs → n < 17
+    → o ≡ get_or xs n o → o ≡ Some d → at n xs ≡ Some d
 here-at {xs = xs} {o = o} n k below read is = at-index xs n o (omega (arith, below, k.places)) (sym read) ∙ is
 
 pub sound-at : {u : Bool} {xs : Places DeviceView} {d : DeviceView} (n : ℕ) → IsKept u xs → at n xs ≡ Some d → is_sound d ≡ true

@@ -7,10 +7,11 @@ use Rattle.poll_runs.specs.{BusyPolling.{Given, busy_report, is_below, no_report
 use Rattle.poll_runs.specs.{Polls.{Chain, is_arrival, is_repoll}, declared.bench.BusyReport.BusyReport}
 use Rattle.poll_runs.specs.declared.bench.Next.{Next, TheVariants.{Absent, Gone, Again, Repoll}}
 use Rattle.device_bench.specs.BusyPolling.{after_last, after_round, begun, gives, held_if, left_by, polled_busily, rounds_of, stopped}
-use Rattle.device_bench.specs.{Device.{completed, is_pending, made, polled}, DeviceView.DeviceView}
+use Rattle.device_bench.specs.{Device.{completed, made, polled}, DeviceView.DeviceView}
 use Rattle.device_bench.specs.{Instance.{BusyTakes, Completes, Gives, Holds, Requeues, Stops, poller_of}, Kept.is_sound}
-use Rattle.device_bench.specs.{Waiting.{count, is_left_to_list, waits}, declared.device.TheConstants.POLLER}
-use Rattle.{device_bench.proofs.DeviceFacts.{Keeps, completed-leaves, unheld}, napi_model.specs.declared.event.Operation.Operation}
+use Rattle.device_bench.specs.{Waiting.{count, is_left_to_list}, declared.device.TheConstants.POLLER}
+use Rattle.device_bench.proofs.DeviceFacts.{Keeps, LeavesPolled, completed-leaves, unheld}
+use Rattle.napi_model.specs.declared.event.Operation.{Operation}
 use Rattle.napi_model.specs.declared.state.Kind.TheVariants as kind
 use Rattle.device_bench.specs.Receive.{handed_again, poller_in}
 use Rattle.poll_runs.specs.BusyPolling as rule
@@ -120,13 +121,8 @@ completed_next d = by (handed_again (complete_reply d.side.napi) d.side.napi)
     by (Some k) = refl
 
 -- the last poll leaves an instance that it has in hand
-record LeavesLast (g e : DeviceView) (next : Next) : Type 0 where
-  sound : is_sound e ≡ true
-  pending : is_pending e ≡ is_pending g
-  listed : waits (Some e) ≡ count (is_left_to_list next)
-
 left-leaves : (below : Bool) (g : DeviceView) → g.side.napi.flags.sched ≡ true → is_handed kind.List g.side.napi.place ≡ false
-    → LeavesLast g (left_by below g).1 (left_by below g).0
+    → LeavesPolled g (left_by below g).1 (left_by below g).0
 left-leaves false g sched off = record { sound = sched; pending = refl; listed = refl }
 left-leaves true g sched off =
     let left = completed-leaves POLLER g (record { sched = sched; off = off }) in

@@ -8,10 +8,10 @@ use Rattle.{device_bench.specs.Waiting.{count, is_left_to_list, is_listed, leave
 use Rattle.device_bench.specs.Device.{after_disable, after_enable, after_packet, after_poll, after_reply, after_request, after_take}
 use Rattle.device_bench.specs.Device.{after_threaded, asks_again, completed, completed_told, disabled_from, enabled_from, ended, ended_by}
 use Rattle.device_bench.specs.Device.{is_pending, let_go, made, polled, polled_by_thread, polled_once, retaken, settled, state_of}
-use Rattle.device_bench.specs.Device.{taken, thread_polls, with_napi}
+use Rattle.device_bench.specs.Device.{followed, taken, thread_polls, with_napi}
 use Rattle.device_bench.specs.{DeviceView.DeviceView, Kept.{is_held, is_sound}}
 use Rattle.device_bench.specs.declared.{counts.DeviceState.DeviceState, device.TheConstants.{INTERRUPT, POLLER, THREAD}}
-use Rattle.{device_bench.proofs.ThreadFacts.some-polls, poll_runs.proofs.PollingFacts.{goes-room, goes-thread}}
+use Rattle.poll_runs.proofs.PollingFacts.{goes-room, goes-thread}
 use Rattle.device_bench.specs.Receive.{done_by, given_of, handed_again, has_place, is_control, put_if, tried_by}
 use Rattle.napi_model.specs.declared.event.Operation.TheVariants as operation
 
@@ -30,11 +30,15 @@ not-listed : (p : Place) → is_handed Kind.Thread p ≡ true → is_handed Kind
 not-listed Place.Listed e = cc e
 not-listed p e = refl
 
--- what is kept from one device to the next, and how many entries are added to the list
-pub record Keeps (d e : DeviceView) (added : ℕ) : Type 0 where
+-- what is kept from one device to the next, and what this says of its waiting on the list
+pub record Stays (d e : DeviceView) (Listed : Type 0) : Type 0 where
   pub sound : is_sound e ≡ true
   pub pending : is_pending e ≡ is_pending d
-  pub listed : waits (Some d) + added ≡ waits (Some e)
+  pub listed : Listed
+
+-- so many entries are added to the list
+abbrev pub Keeps : DeviceView → DeviceView → ℕ → Type 0
+Keeps d e added = Stays d e (waits (Some d) + added ≡ waits (Some e))
 
 -- ---- a packet
 
@@ -150,10 +154,8 @@ poll-leaves poller weight d hand =
     record { sound = left.sound; pending = left.pending; listed = left.listed; sched = left.sched }
 
 -- what is left where the poller lets the instance go
-record Lets (d e : DeviceView) (next : Next) : Type 0 where
-  sound : is_sound e ≡ true
-  pending : is_pending e ≡ is_pending d
-  listed : waits (Some e) + leaves next ≡ 1
+abbrev Lets : DeviceView → DeviceView → Next → Type 0
+Lets d e next = Stays d e (waits (Some e) + leaves next ≡ 1)
 
 lets-go : (poller : ℕ) (d e : DeviceView) (next : Next) → Leaves d e next → Lets d (let_go poller next e) next
 lets-go poller d e Repoll left = record { sound = left.sched refl; pending = left.pending; listed = refl }
@@ -161,10 +163,8 @@ lets-go poller d e (Again Kind.List) left = record { sound = left.sound; pending
 lets-go poller d e next left = record { sound = left.sound; pending = left.pending; listed = rw left.listed refl }
 
 -- what a poll from the list keeps
-pub record KeepsPolled (d e : DeviceView) (next : Next) : Type 0 where
-  pub sound : is_sound e ≡ true
-  pub pending : is_pending e ≡ is_pending d
-  pub listed : waits (Some d) ≤ waits (Some e) + leaves next
+abbrev pub KeepsPolled : DeviceView → DeviceView → Next → Type 0
+KeepsPolled d e next = Stays d e (waits (Some d) ≤ waits (Some e) + leaves next)
 
 pub once-keeps : (weight : ℕ) (d : DeviceView) → is_sound d ≡ true → KeepsPolled d (polled_once weight d).1 (polled_once weight d).0.next
 unfolding polled_once
@@ -182,11 +182,9 @@ once-keeps weight d sound = by (is_handed Kind.List d.side.napi.place) refl
 
 -- ---- the thread's polling
 
--- what a thread's polling leaves of an instance in its hands
-record LeavesPolled (d e : DeviceView) (next : Next) : Type 0 where
-  sound : is_sound e ≡ true
-  pending : is_pending e ≡ is_pending d
-  listed : waits (Some e) ≡ count (is_left_to_list next)
+-- what polls leave of an instance in their poller's hands, where the last one ended so
+abbrev pub LeavesPolled : DeviceView → DeviceView → Next → Type 0
+LeavesPolled d e next = Stays d e (waits (Some e) ≡ count (is_left_to_list next))
 
 lets : (d e : DeviceView) (next : Next) → Leaves d e next → LeavesPolled d (let_go THREAD next e) next
 lets d e Repoll left = record { sound = left.sched refl; pending = left.pending; listed = refl }
@@ -207,6 +205,24 @@ retakes d e next left goes = cc goes
 last-of : (once : Once) (more : List Once) → 1 ≤ length more → last_next (once ∷ more) ≡ last_next more
 last-of once [] some = absurd (omega arith)
 last-of once (second ∷ more) some = refl
+
+some-polls : (most weight : ℕ) (d : DeviceView) → 1 ≤ most → 1 ≤ length (thread_polls most weight d).0
+unfolding thread_polls
+some-polls zero weight d room = absurd (omega arith)
+some-polls (suc most) weight d room = by (goes_on (after_poll THREAD weight d).0.next (suc most))
+  where
+    poll : Once
+    poll = (after_poll THREAD weight d).0
+
+    after : DeviceView
+    after = followed poll.next (suc most) (after_poll THREAD weight d).1
+
+    by : (b : Bool)
+        → 1 ≤ length
+        (if◌then◌else◌ {A = List Once × DeviceView} b (poll ∷ (thread_polls most weight after).0, (thread_polls most weight after).1)
+        (poll ∷ [], after)).0
+    by true = omega arith
+    by false = omega arith
 
 thread-leaves : (most weight : ℕ) (d : DeviceView) → IsInHand d → let after = thread_polls most weight d in
     LeavesPolled d after.1 (last_next after.0)
@@ -230,7 +246,8 @@ thread-leaves (suc most) weight d hand = by (goes_on poll.0.next (suc most)) ref
     by true h next =
         let hands = retakes d poll.1 poll.0.next left (goes-thread poll.0.next (suc most) h) in
         let after = next hands.0 in
-        rw (h, last-of poll.0 more.0 (some-polls most weight (retaken poll.0.next poll.1) (omega (arith, goes-room poll.0.next (suc most) h))))
+        let room : 1 ≤ most = omega (arith, goes-room poll.0.next (suc most) h) in
+        rw (h, last-of poll.0 more.0 (some-polls most weight (retaken poll.0.next poll.1) room))
         (record { sound = after.sound; pending = after.pending ∙ hands.1; listed = after.listed })
     by false h next = let after = lets d poll.1 poll.0.next left in
         rw h (record { sound = after.sound; pending = after.pending; listed = after.listed })

@@ -4,5 +4,4 @@ pub mod DeviceFacts
 pub mod EndingFacts
 pub mod InstanceFacts
 pub mod SideFacts
-pub mod ThreadFacts
 pub mod Waiting
