@@ -74,7 +74,7 @@ inline schedule(number) {
 }
 inline turn_off(number) {
     if
-    :: is_on ->                                                                 /* poll_interrupts/worker leave */
+    :: is_on ->                                                                 /* poll_interrupts/worker turn_off */
        disabling[number] = true;                                                /* napi_calls/control mark */
        atomic { !sched[number] && !npsvc[number] -> sched[number] = true; npsvc[number] = true; threaded[number] = false };  /* napi_calls/control disable_pausing */
        disabling[number] = false; is_on = false                                 /* napi_calls/control try_take_between */

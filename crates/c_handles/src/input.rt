@@ -1,9 +1,9 @@
 //! The end of a ring at which packets are put, with what is counted there.
-ghost use Rattle.std.specs.Prelude.{◌≡◌, ◌<◌, ◌≤◌, ◌-◌, ◌++◌, [], ◌∷◌, length, take, min};
+ghost use Rattle.std.specs.Prelude.{◌≡◌, ◌⊎◌, ◌<◌, ◌≤◌, ◌-◌, ◌++◌, [], ◌∷◌, length, take, min};
 ghost use Rattle.rx_ring.specs.ReceiveRing.{capped};
 ghost use Rattle.rx_ring.specs.Ends.{put_list, capacity_of, SameIn};
 ghost use Rattle.c_handles.specs.Inputs.{shown_of};
-ghost use Rattle.c_handles.specs.Status.{OK};
+ghost use Rattle.c_handles.specs.Status.{FULL, OK};
 
 use crate::status;
 use rx_ring::{Packet, RxIn};
@@ -56,8 +56,10 @@ impl Input {
     /// As `RxIn::put`: ok, or full.
     pub fn put(&mut self, packet: Packet) -> u32
         ensures ring { SameIn self.old.end self.new.end }
+        ensures answers { (result ≡ OK) ⊎ (result ≡ FULL) }
         ensures ok { result ≡ OK
             → put_list self.new.end ≡ put_list self.old.end ++ packet ∷ [] }
+        ensures full { result ≡ FULL → put_list self.new.end ≡ put_list self.old.end }
         ensures first { length (put_list self.old.end) < capacity_of self.old.end → result ≡ OK }
     {
         match self.end.put(packet) {

@@ -7,10 +7,10 @@ use Rattle.{napi_word.specs.{declared.table.Pass.Pass, Slot.has_slot, View.own_d
 use Rattle.napi_calls.specs.{Made.Made, Knows.{Has, Stands}, Dealt.Delivers, Packets.{Quiet, IsFresh, HoldsOn, polled}}
 use Rattle.napi_calls.specs.declared.types.{Napi.Napi, Caller.Caller}
 use Rattle.napi_calls.proofs.{Dealing.delivers_none, Making.nothing}
-use Rattle.device_shared.specs.Acting.{CtxMoves, Acts, TurnTakes, at_rest, nobody}
+use Rattle.device_shared.specs.Acting.{CtxMoves, Acts, TurnTakes, nobody}
 use Rattle.device_shared.specs.Seats.{IsSeatAt, AreSeats, poller_post, thread_post, ctx_at, polls_at, poller_of, thread_of, control_of}
-use Rattle.device_shared.specs.Seats.{ctx_of, role_of}
-use Rattle.device_shared.specs.declared.seats.{Posts.{Posts, TheVariants.{Rest, ListPolls, ThreadPolls, PollsBusily}}, Enabled.Enabled}
+use Rattle.device_shared.specs.Seats.{ctx_of}
+use Rattle.device_shared.specs.declared.seats.Posts.{Posts, TheVariants.{Rest, ListPolls, ThreadPolls, PollsBusily}}
 use Rattle.device_shared.specs.declared.seats.{Turn.Turn, Seats.Seats}
 use Rattle.device_shared.specs.declared.seats.Turn.TheVariants as turn
 
@@ -64,10 +64,6 @@ not_rest (Rest p t) none = absurd (none p t refl)
 not_rest (ListPolls w t) none = refl
 not_rest (ThreadPolls p w) none = refl
 not_rest (PollsBusily b t) none = refl
-
-pub not_on : (t : Turn) → ((posts : Posts) (e : Enabled) → t ≡ turn.On posts e → ⊥) → at_rest (role_of t) ≡ false
-not_on (turn.Off p t c) none = refl
-not_on (turn.On posts e) none = absurd (none posts e refl)
 
 -- ---- one of the four
 

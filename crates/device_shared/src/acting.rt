@@ -1,6 +1,6 @@
 //! The calls on an instance, of which each is made by one of those in the hand alone.
 
-ghost use Rattle.std.specs.Prelude.{◌≡◌, [], ◌∷◌, List, None, Some, if◌then◌else◌, true, false};
+ghost use Rattle.std.specs.Prelude.{◌≡◌, [], ◌∷◌, List, MatchResult, None, Some, if◌then◌else◌, true, false};
 ghost use Rattle.napi_model.specs.declared.event.Done.TheVariants.{Held};
 ghost use Rattle.napi_model.specs.declared.event.Operation.{Operation};
 ghost use Rattle.napi_model.specs.declared.event.Operation.TheVariants as operation;
@@ -13,6 +13,8 @@ ghost use Rattle.poll_shared.specs.SharedPolling.{EndsBy};
 ghost use Rattle.device_bench.specs.Receive.{taker_of};
 ghost use Rattle.poll_shared.specs.SharedBusy.{StopsBy};
 ghost use Rattle.device_shared.specs.Acting.{Acts, AsksBy, EnablesBy, IsMarked, IsUnmarked, MayComplete, PolledBy, TakesBusilyBy, TakesBy, TriesBy, TurnTakes, at_rest, left_by, marked, polled_by, poller_by};
+ghost use Rattle.device_shared.specs.declared.seats.Posts.TheVariants.{Rest};
+ghost use Rattle.device_shared.specs.declared.seats.Turn.TheVariants.{On};
 ghost use Rattle.device_shared.specs.Seats.{AreSeats, control_of, enabled_pass, is_marked, poller_of, role_of, thread_of};
 
 use crate::seats::{Enabled, Posts, Seats, Turn};
@@ -50,6 +52,23 @@ impl Enabled {
         match self {
             Enabled::On(control) => Enabled::Marked(control.mark(napi)),
             _ => unreachable!(),
+        }
+    }
+}
+
+impl Turn {
+    // Those who may poll the instance, and its controller, where nobody has it.
+    fn at_rest(self) -> Result<(Caller, Caller, Enabled), Turn>
+        ensures { MatchResult result
+            (λ r. self ≡ On (Rest r.0 r.1) r.2)
+            (λ turn. (turn ≡ self) × (at_rest (role_of self) ≡ false)) }
+    {
+        match self {
+            Turn::On(posts, enabled) => match posts {
+                Posts::Rest(poller, thread) => Ok((poller, thread, enabled)),
+                posts => Err(Turn::On(posts, enabled)),
+            },
+            turn => Err(turn),
         }
     }
 }
@@ -115,39 +134,22 @@ impl Seats {
             then polled_by (taker_of kind) false (role_of self.turn) else role_of self.turn) }
     {
         let Seats { interrupt, turn } = self;
-        let (posts, enabled) = match turn {
-            Turn::On(posts, enabled) => (posts, enabled),
-            turn => return (Seats { interrupt, turn }, false),
+        let (poller, thread, enabled) = match turn.at_rest() {
+            Ok(rested) => rested,
+            Err(turn) => return (Seats { interrupt, turn }, false),
         };
-        let (poller, thread) = match posts {
-            Posts::Rest(poller, thread) => (poller, thread),
-            posts => {
-                let turn = Turn::On(posts, enabled);
-                return (Seats { interrupt, turn }, false);
-            }
-        };
-        match kind {
+        let (posts, taken) = match kind {
             Kind::List => match poller.take(napi, kind) {
-                Ok(polling) => {
-                    let turn = Turn::On(Posts::ListPolls(polling, thread), enabled);
-                    (Seats { interrupt, turn }, true)
-                }
-                Err(poller) => {
-                    let turn = Turn::On(Posts::Rest(poller, thread), enabled);
-                    (Seats { interrupt, turn }, false)
-                }
+                Ok(polling) => (Posts::ListPolls(polling, thread), true),
+                Err(poller) => (Posts::Rest(poller, thread), false),
             },
             Kind::Thread => match thread.take(napi, kind) {
-                Ok(polling) => {
-                    let turn = Turn::On(Posts::ThreadPolls(poller, polling), enabled);
-                    (Seats { interrupt, turn }, true)
-                }
-                Err(thread) => {
-                    let turn = Turn::On(Posts::Rest(poller, thread), enabled);
-                    (Seats { interrupt, turn }, false)
-                }
+                Ok(polling) => (Posts::ThreadPolls(poller, polling), true),
+                Err(thread) => (Posts::Rest(poller, thread), false),
             },
-        }
+        };
+        let turn = Turn::On(posts, enabled);
+        (Seats { interrupt, turn }, taken)
     }
 
     /// Who polls the instance hands it to the list again.
@@ -208,27 +210,16 @@ impl Seats {
             ≡ (if result.1 then polled_by 1 true (role_of self.turn) else role_of self.turn) }
     {
         let Seats { interrupt, turn } = self;
-        let (posts, enabled) = match turn {
-            Turn::On(posts, enabled) => (posts, enabled),
-            turn => return (Seats { interrupt, turn }, false),
+        let (poller, thread, enabled) = match turn.at_rest() {
+            Ok(rested) => rested,
+            Err(turn) => return (Seats { interrupt, turn }, false),
         };
-        let (poller, thread) = match posts {
-            Posts::Rest(poller, thread) => (poller, thread),
-            posts => {
-                let turn = Turn::On(posts, enabled);
-                return (Seats { interrupt, turn }, false);
-            }
+        let (posts, taken) = match poller.busy(rt, napi) {
+            Ok(busy) => (Posts::PollsBusily(busy, thread), true),
+            Err(poller) => (Posts::Rest(poller, thread), false),
         };
-        match poller.busy(rt, napi) {
-            Ok(busy) => {
-                let turn = Turn::On(Posts::PollsBusily(busy, thread), enabled);
-                (Seats { interrupt, turn }, true)
-            }
-            Err(poller) => {
-                let turn = Turn::On(Posts::Rest(poller, thread), enabled);
-                (Seats { interrupt, turn }, false)
-            }
-        }
+        let turn = Turn::On(posts, enabled);
+        (Seats { interrupt, turn }, taken)
     }
 
     /// The poller, who busy polls the instance, completes a poll.

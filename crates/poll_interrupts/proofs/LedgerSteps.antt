@@ -1,8 +1,8 @@
 -- What the calls at a worker's seats add to its ledger.
-use Rattle.std.proofs.Common.{◌≡◌, ◌⊎◌, ℕ, zero, suc, ◌+◌, ◌≤◌, Bool, true, false, List, [], ◌∷◌, ◌++◌, length, inl, inr, ⊎_elim, refl, sym}
+use Rattle.std.proofs.Common.{◌≡◌, ℕ, zero, suc, ◌≤◌, Bool, true, false, List, [], ◌∷◌, ◌++◌, length, inl, inr, ⊎_elim, refl, sym}
 use Rattle.std.{proofs.{Common.{ap, ◌∙◌, subst, append_assoc}, lemmas.List.map-append}, specs.Prelude.{flat_map, if◌then◌else◌}}
-use Rattle.rx_ring.specs.{declared.{ends.RxIn.RxIn, packet.Packet.Packet}, Ends.{SameIn, capacity_of, put_list}}
-use Rattle.{napi_model.specs.{declared.event.{Event.Event, Operation.Operation}, Step.event}, napi_word.specs.declared.table.Pass.Pass}
+use Rattle.rx_ring.specs.{declared.{ends.RxIn.RxIn, packet.Packet.Packet}, Ends.{capacity_of, put_list}}
+use Rattle.{napi_model.specs.{declared.event.{Operation.Operation}, Step.event}, napi_word.specs.declared.table.Pass.Pass}
 use Rattle.napi_calls.specs.{declared.{answers.Sched.Sched, types.Caller.Caller}, Calls.{Disables, Enables, Schedules}}
 use Rattle.{napi_calls.specs.{Made.{Made, events, looks}, Seats.{number_of, own_list}}, poll_interrupts.specs.declared.acts.Act.Act}
 use Rattle.poll_interrupts.specs.{declared.worker.{Hold.Hold, Seats.Seats, Power.{Power, TheVariants.{On, Off}}}, Acts.after_acts}
@@ -277,16 +277,16 @@ all_same thread answer after d n a b first last h =
 -- ---- a worker's whole run
 
 -- the seats of an instance that was off, was turned on, and is turned off again
-pub works : {D : Type 0} (thread : Bool) (answer : D → ℕ → Act) (after : D → ℕ → D) (d : D) (n : ℕ) (seats ends : Seats) (on acted : Hold)
-    (first last : RxIn)
-    → TurnsOn false (Off seats.control) on.power → on.caller ≡ seats.caller → on.threaded ≡ false
-    → AllActs thread answer after d n on acted first last
+pub works : {D : Type 0} (thread : Bool) (answer : D → ℕ → Act) (after : D → ℕ → D) (d : D) (n : ℕ) (seats ends : Seats) (power : Power)
+    (acted : Hold) (first last : RxIn)
+    → TurnsOn false (Off seats.control) power → AllActs thread answer after d n (hold seats.caller power false) acted first last
     → ends.caller ≡ acted.caller → Leaves acted.power ends.control.pass
     → WorksBy (whose seats first thread) answer after d n (ledger_of seats first false) (ledger_of ends last acted.threaded)
-works thread answer after d n seats ends on acted first last turned same threaded all caller left =
+works thread answer after d n seats ends power acted first last turned all caller left =
     let w = whose seats first thread in
+    let on = hold seats.caller power false in
     let opened =
-    turns_on w seats.caller false (Off seats.control) on first first turned same threaded refl refl
+    turns_on w seats.caller false (Off seats.control) on first first turned refl refl refl refl
     (record { caller = refl; controller = refl; places = refl }) in
     let made = all_add w answer after d n on acted first last all opened.1 in
     let shut =
@@ -298,10 +298,10 @@ left_same : (power : Power) (q : Pass) → Leaves power q → number_of q ≡ nu
 left_same (On control) q h = (disables control.pass q h).2.1
 left_same (Off control) q h = ap (λ p. number_of p) h
 
-pub same_seats : (seats ends : Seats) (on acted : Hold)
-    → TurnsOn false (Off seats.control) on.power → on.caller ≡ seats.caller → IsSameHold on acted → ends.caller ≡ acted.caller
+pub same_seats : (seats ends : Seats) (power : Power) (acted : Hold)
+    → TurnsOn false (Off seats.control) power → IsSameHold (hold seats.caller power false) acted → ends.caller ≡ acted.caller
     → Leaves acted.power ends.control.pass → AreSameSeats seats ends
-same_seats seats ends on acted turned caller same ended left = (
-  ap (λ (c : Caller). number_of c.pass) ended ∙ same.0 ∙ ap (λ (c : Caller). number_of c.pass) caller,
-  left_same acted.power ends.control.pass left ∙ same.1 ∙ (enables false seats.control.pass (pass_of on.power) turned.1).2.1,
+same_seats seats ends power acted turned same ended left = (
+  ap (λ (c : Caller). number_of c.pass) ended ∙ same.0,
+  left_same acted.power ends.control.pass left ∙ same.1 ∙ (enables false seats.control.pass (pass_of power) turned.1).2.1,
 )

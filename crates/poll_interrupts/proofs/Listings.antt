@@ -1,12 +1,10 @@
 -- What is pushed for an instance that is handed over.
-use Rattle.std.proofs.Common.{◌≡◌, ◌∙◌, ℕ, true, false, List, [], ◌∷◌, ◌++◌, ap, refl, sym, append-nil, append_assoc}
+use Rattle.std.proofs.Common.{◌≡◌, ◌∙◌, ℕ, List, [], ◌∷◌, ◌++◌, ap, refl, sym, append-nil, append_assoc}
 use Rattle.{std.specs.Prelude.{flat_map, if◌then◌else◌}, poll_list.specs.{declared.list_in.ListIn.ListIn, SharedList.pushed_by}}
 use Rattle.{napi_model.specs.declared.event.{Event.Event, Operation.Operation}, napi_word.specs.declared.table.Pass.Pass}
-use Rattle.napi_calls.specs.{declared.answers.Sched.Sched, Calls.Schedules, Made.{Lost, Made, events, looks}, Seats.{number_of, own_list}}
+use Rattle.napi_calls.specs.{Made.{Lost, Made, events, looks}, Seats.{number_of, own_list}}
 use Rattle.poll_interrupts.specs.Calls.{Lists, is_listing, listings}
 use Rattle.napi_model.specs.declared.event.Call.TheVariants as call
-use Rattle.napi_model.specs.declared.event.Prep.TheVariants as prep
-use Rattle.napi_model.specs.declared.event.Operation.TheVariants as operation
 
 listings-append : (number : ℕ) (es fs : List Event) → listings number (es ++ fs) ≡ listings number es ++ listings number fs
 listings-append number [] fs = refl

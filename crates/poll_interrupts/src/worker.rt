@@ -4,8 +4,8 @@ ghost use Rattle.std.specs.Prelude.{◌≡◌, ℕ, ◌+◌, ◌≤◌, ◌<◌,
 ghost use Rattle.rx_ring.specs.Ends.{SameIn, capacity_of, put_list};
 ghost use Rattle.napi_calls.specs.Instance.{IsSeatOf};
 ghost use Rattle.poll_interrupts.specs.Acts.{after_acts, arrivals, brings};
-ghost use Rattle.poll_interrupts.specs.Calls.{Acts, AllActs, HandsOver, Interrupts, IsPutLast, IsSameHold, Leaves, Lists, TurnsOff, TurnsOn};
-ghost use Rattle.poll_interrupts.specs.Seats.{AreSeatsOf, IsHoldOf};
+ghost use Rattle.poll_interrupts.specs.Calls.{Acts, AllActs, HandsOver, Interrupts, IsPutLast, IsSameHold, Leaves, Lists, TurnsOn};
+ghost use Rattle.poll_interrupts.specs.Seats.{AreSeatsOf, IsHoldOf, IsPowerOf};
 ghost use Rattle.poll_interrupts.specs.Works.{IsDoneBy};
 
 use crate::acts::{Act, Device};
@@ -143,66 +143,31 @@ impl<'s, 'p, 'n, R: Wait> Desk<'s, 'p, 'n, R> {
     }
 
     // Enables an instance that is off.
-    fn turn_on(&self, hold: Hold) -> Hold
-        requires { IsHoldOf self.now.napi.now hold }
-        ensures of { IsHoldOf self.now.napi.now result }
-        ensures caller { result.caller ≡ hold.caller }
-        ensures power { TurnsOn hold.threaded hold.power result.power }
-        ensures threaded { result.threaded ≡ hold.threaded }
+    fn turn_on(&self, power: Power, threaded: bool) -> Power
+        requires { IsPowerOf self.now.napi.now power }
+        ensures of { IsPowerOf self.now.napi.now result }
+        ensures power { TurnsOn threaded power result }
     {
-        let Hold {
-            caller,
-            power,
-            threaded,
-        } = hold;
-        let control = match power {
-            Power::On(control) => control,
-            Power::Off(control) => control.enable(&self.rt, self.napi, threaded),
-        };
-        Hold {
-            caller,
-            power: Power::On(control),
-            threaded,
+        match power {
+            Power::On(control) => Power::On(control),
+            Power::Off(control) => Power::On(control.enable(&self.rt, self.napi, threaded)),
         }
     }
 
     // Disables an instance that is on, which waits until its polls have ended.
-    fn turn_off(&self, hold: Hold) -> Hold
-        requires { IsHoldOf self.now.napi.now hold }
-        ensures of { IsHoldOf self.now.napi.now result }
-        ensures caller { result.caller ≡ hold.caller }
-        ensures power { TurnsOff hold.power result.power }
-        ensures threaded { result.threaded ≡ hold.threaded }
+    fn turn_off(&self, power: Power) -> Control<Off>
+        requires { IsPowerOf self.now.napi.now power }
+        ensures of { IsSeatOf self.now.napi.now result.pass }
+        ensures power { Leaves power result.pass }
     {
-        let threaded = hold.threaded;
-        let Seats { caller, control } = self.leave(hold);
-        Hold {
-            caller,
-            power: Power::Off(control),
-            threaded,
+        match power {
+            Power::On(control) => control.disable_pausing(&self.rt, self.napi, &mut Yields),
+            Power::Off(control) => control,
         }
     }
 
-    // The seats of an instance, which is disabled for that.
-    fn leave(&self, hold: Hold) -> Seats
-        requires { IsHoldOf self.now.napi.now hold }
-        ensures of { AreSeatsOf self.now.napi.now result }
-        ensures caller { result.caller ≡ hold.caller }
-        ensures power { Leaves hold.power result.control.pass }
-    {
-        let Hold {
-            caller,
-            power,
-            threaded: _threaded,
-        } = hold;
-        let control = match power {
-            Power::On(control) => control.disable_pausing(&self.rt, self.napi, &mut Yields),
-            Power::Off(control) => control,
-        };
-        Seats { caller, control }
-    }
-
     // One act: the device is asked for it, and it is made.
+    #[inline(always)]
     fn make_act<D: Device>(
         &self,
         list: &mut ListIn<R>,
@@ -226,37 +191,27 @@ impl<'s, 'p, 'n, R: Wait> Desk<'s, 'p, 'n, R> {
             ≤ capacity_of rx.old
             → put_list rx.new ≡ put_list rx.old ++ brings (D.answer device.old k) }
     {
+        let mut hold = hold;
         match device.act(k) {
             Act::Arrive(packet) => match rx.put(packet) {
                 Ok(()) => {
-                    let Hold {
-                        caller,
-                        power,
-                        threaded,
-                    } = hold;
-                    let caller = self.interrupt(list, caller, rx, packet);
-                    Hold {
-                        caller,
-                        power,
-                        threaded,
-                    }
+                    hold.caller = self.interrupt(list, hold.caller, rx, packet);
+                    hold
                 }
                 Err(_dropped) => hold,
             },
-            Act::Disable => self.turn_off(hold),
-            Act::Enable => self.turn_on(hold),
+            Act::Disable => {
+                hold.power = Power::Off(self.turn_off(hold.power));
+                hold
+            }
+            Act::Enable => {
+                hold.power = self.turn_on(hold.power, hold.threaded);
+                hold
+            }
             Act::SetThreaded(threaded) => {
-                let Hold {
-                    mut caller,
-                    power,
-                    threaded: _before,
-                } = hold;
-                caller.set_threaded(self.napi, threaded);
-                Hold {
-                    caller,
-                    power,
-                    threaded,
-                }
+                hold.caller.set_threaded(self.napi, threaded);
+                hold.threaded = threaded;
+                hold
             }
             Act::Nothing => hold,
         }
@@ -327,17 +282,23 @@ impl<'s, 'p, 'n, R: Wait + Drop + Copy> Desk<'s, 'p, 'n, R> {
             seats,
         } = work;
         let Seats { caller, control } = seats.open();
-        let hold = self.turn_on(Hold {
+        let hold = Hold {
             caller,
-            power: Power::Off(control),
+            power: self.turn_on(Power::Off(control), false),
             threaded: false,
-        });
+        };
         let (hold, whole) = self.make_acts(&mut list, &mut device, hold, &mut rx, gate);
+        let Hold {
+            caller,
+            power,
+            threaded: _threaded,
+        } = hold;
+        let control = self.turn_off(power);
         Done {
             list,
             device,
             rx,
-            seats: Kept::new(self.rt, self.leave(hold)),
+            seats: Kept::new(self.rt, Seats { caller, control }),
             whole,
         }
     }

@@ -1,5 +1,4 @@
-use Rattle.{std.proofs.Common.{◌≡◌, refl, ap, subst}, rx_ring.specs.{declared.packet.Totals.Totals, Ends.{put_list, received_list}}}
-use Rattle.napi_calls.specs.Instance.{callers_of, first_of_instance}
+use Rattle.{std.proofs.Common.{refl, ap, subst}, rx_ring.specs.{declared.packet.Totals.Totals, Ends.{put_list}}}
 use Rattle.napi_calls.specs.declared.types.Caller.{Caller}
 use Rattle.poll_interrupts.{specs.{declared.worker.Seats.Seats, Ends.IsEndedBy}, proofs.EndFacts.ended_of}
 use Rattle.poll_interrupts.proofs.gathering.end_one.Goals as goal
