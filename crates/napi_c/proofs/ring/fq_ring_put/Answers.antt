@@ -1,5 +1,5 @@
 use Rattle.std.proofs.Common.{◌∙◌, Option, Some, ap, subst, sym}
-use Rattle.c_handles.specs.{Rings.{HasInput, LeadsToItsInput}, declared.{body.Body.Body, input.Input.Input}}
+use Rattle.c_handles.specs.{Rings.{HasInput, LeadsToItsInput}, declared.body.Body.Body}
 use Rattle.napi_c.proofs.ring.fq_ring_put.Goals as goal
 
 pub returns-clause-other : goal.returns-clause-other
