@@ -14,4 +14,5 @@ never s rows fault (inr early) = unwritten {A = ℕ} s 1 rows (Err fault) (inr (
 pub returns-in_err-text-clause-output : goal.returns-in_err-text-clause-output
 returns-in_err-text-clause-output g c =
     let p = err_from_is_err_and c.from_residual-in_err-text.result c.from_residual-in_err-text.ensures.1 in
-    rw (p.1, p.2) (λ is. absurd (never _ _ _ c.in_err-text.ensures.fault is), search rules)
+    let other = never c.args.settings.now c.rows.result.now c.in_err-text.field-0.0 c.in_err-text.ensures.fault in
+    rw (p.1, p.2) (λ is. absurd (other is), search rules)
