@@ -1,3 +1,4 @@
+pub use Rattle.device_rows.specs.Failures
 pub use Rattle.device_rows.specs.Fault
 pub use Rattle.device_rows.specs.Laws
 pub use Rattle.device_rows.specs.Places

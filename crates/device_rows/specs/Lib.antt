@@ -1,5 +1,6 @@
 pub mod Adding
 pub mod Digits
+pub mod Failures
 pub mod Fault
 pub mod Laws
 pub mod Places

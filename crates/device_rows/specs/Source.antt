@@ -4,6 +4,7 @@ use Rattle.csv.specs.Machine.{Read}
 use Rattle.csv.specs.Reading.{Ready, default_config, is_flexible, reader_config, reader_state, reader_trim, source_of}
 use Rattle.csv.specs.declared.reader.Reader.{Reader}
 use Rattle.csv.specs.declared.reader.Trim.TheVariants as trim
+use Rattle.device_rows.specs.Failures.{HasFailed, IsRefused}
 use Rattle.device_rows.specs.declared.fault.TraceFault.{TraceFault}
 use Rattle.device_rows.specs.declared.fault.TraceFault.TheVariants.{ReadFailed, OutOfMemory}
 
@@ -26,4 +27,4 @@ TakesNext remaining (Some read) found fields after =
 
 -- the reader or the memory failed
 abbrev pub IsReadFailure : TraceFault → Type 0
-IsReadFailure fault = (fault ≡ ReadFailed) ⊎ (fault ≡ OutOfMemory)
+IsReadFailure fault = ((fault ≡ ReadFailed) × HasFailed) ⊎ ((fault ≡ OutOfMemory) × IsRefused)

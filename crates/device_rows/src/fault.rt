@@ -3,6 +3,7 @@
 ghost use Rattle.std.specs.Prelude.{◌≡◌};
 ghost use Rattle.device_rows.specs.Fault.{number_of};
 
+use std::alloc::AllocError;
 use thiserror::Error;
 
 /// Why a text is no trace. Faults 2 to 8 name the first row that has one, and of its faults the one with the lowest
@@ -42,6 +43,18 @@ pub enum TraceFault {
     /// 11: memory was refused.
     #[error("out of memory")]
     OutOfMemory,
+}
+
+impl From<AllocError> for TraceFault {
+    ghost use Rattle.std.specs.Prelude.{◌≡◌};
+    ghost use Rattle.device_rows.specs.Failures.{IsRefused};
+    ghost use Rattle.device_rows.specs.declared.fault.TraceFault.TheVariants.{OutOfMemory};
+
+    ghost from_gives = { λ _ fault. (fault ≡ OutOfMemory) × IsRefused };
+
+    fn from(_: AllocError) -> TraceFault {
+        TraceFault::OutOfMemory
+    }
 }
 
 impl TraceFault {

@@ -7,6 +7,7 @@ ghost use Rattle.csv.specs.Records.{fields_of};
 ghost use Rattle.csv.specs.declared.parser.State.TheVariants as state;
 ghost use Rattle.device_rows.specs.Range.{IsWithin};
 ghost use Rattle.device_rows.specs.Adding.{AddsNext, CanAdd};
+ghost use Rattle.device_rows.specs.Failures.{HasFailed, IsRefused};
 ghost use Rattle.device_rows.specs.Source.{IsOpen, IsReadFailure, StandsAt, TakesNext};
 ghost use Rattle.device_rows.specs.Trace.{AcceptedAfter, TraceView, records_of, rows_after, trace_of, version_in, with_row};
 ghost use Rattle.device_rows.specs.declared.trace.Next.TheVariants as next;
@@ -101,6 +102,8 @@ pub fn next_record<R: Read>(reader: &mut Reader<R>, fields: &mut ByteRecord) -> 
         → TakesNext R.remaining
         (next_record default_config (reader_state reader.old) [] [] bytes) false
         (fields_of fields.new) reader.new }
+    ensures failed { result ≡ next.ReadFailed → HasFailed }
+    ensures memory { result ≡ next.OutOfMemory → IsRefused }
 {
     match reader.read_byte_record(fields) {
         Ok(true) => Next::Record,
@@ -171,9 +174,7 @@ pub fn read_trace<R: Read + Drop>(alloc: Global, source: R) -> Result<Trace, Tra
         → IsReadFailure fault ⊎ (trace_of (records_of bytes) ≡ Err fault)) }
 {
     let mut reader = reader_of(alloc, source);
-    let Ok(mut fields) = ByteRecord::with_capacity(alloc, RECORD_BYTES, 4) else {
-        return Err(TraceFault::OutOfMemory);
-    };
+    let mut fields = ByteRecord::with_capacity(alloc, RECORD_BYTES, 4)?;
     match next_record(&mut reader, &mut fields) {
         Next::Record => {}
         Next::End => return Err(TraceFault::BadHeader),
@@ -207,9 +208,7 @@ fn read_rows<R: Read>(
         (records_from default_config 100001 (reader_state reader.old) bytes) ≡ Err fault)) }
 {
     // Room for all rows at once: what is never written costs nothing, and no row is moved.
-    let Ok(mut rows) = Vec::with_capacity(alloc, MOST_ROWS as usize) else {
-        return Err(TraceFault::OutOfMemory);
-    };
+    let mut rows = Vec::with_capacity(alloc, MOST_ROWS as usize)?;
     let mut switches = Switches::new();
     for before in 0..MOST_ROWS + 1 {
         match next_record(reader, fields) {

@@ -1,5 +1,5 @@
 //! The two ends of a receive ring of which no instance has one, and what is counted of a ring.
-ghost use Rattle.std.specs.Prelude.{◌≡◌, ◌≢◌, ◌⊎◌, ◌↔◌, Some, None, IsNone, IsSome};
+ghost use Rattle.std.specs.Prelude.{◌≡◌, ◌≢◌, ◌↔◌, Some, None, IsNone, IsSome};
 ghost use Rattle.rx_ring.specs.declared.packet.RxCounts.{RxCounts};
 ghost use Rattle.rx_ring.specs.ReceiveRing.{IsInOrder, totals_of};
 ghost use Rattle.rx_ring.specs.Ends.{ring_of};

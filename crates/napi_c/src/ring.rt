@@ -7,7 +7,7 @@ ghost use Rattle.c_handles.specs.declared.body.Ring.{Ring};
 ghost use Rattle.c_handles.specs.declared.input.Input.{Input};
 ghost use Rattle.c_handles.specs.declared.body.Body.TheVariants as variant;
 ghost use Rattle.c_handles.specs.Status.{OK, BAD_HANDLE, IN_USE, OUT_OF_MEMORY, BAD_CAPACITY, BAD_WEIGHT, NO_ROOM};
-ghost use Rattle.c_handles.specs.Rings.{LeadsTo, LeadsToRing, IsRingWith, IsInputWith, LeadsToInput, IsCtxWith, LeadsToCtx, IsNewRing, IsAfterPut, IsAfterInput, IsAfterPoll, burst_in, burst_status};
+ghost use Rattle.c_handles.specs.Rings.{HasInput, LeadsTo, LeadsToItsInput, LeadsToRing, IsRingWith, IsInputWith, LeadsToInput, IsCtxWith, LeadsToCtx, IsNewRing, IsAfterPut, IsAfterInput, IsAfterPoll, burst_in, burst_status};
 
 use c_handles::{Body, FqHandle, Input, Ring, status};
 use rx_ring::{Batch, MAX_WEIGHT, Packet, ring};
@@ -56,6 +56,8 @@ pub extern "C" fn fq_ring_put(alloc: Global, handle: &mut FqHandle, number: u64,
     ensures input { (i : Input) → handle.old.held.body ≡ Some (variant.In i) → result ≡ OK
         → LeadsToInput
         (IsAfterInput i (record { number = number; bytes = bytes } ∷ [])) handle.new.held.body }
+    ensures other { ((i : Input) → ¬ LeadsToItsInput i handle.old.held.body)
+        → (result ≡ BAD_HANDLE) × (handle.new.held.body ≡ handle.old.held.body) }
 {
     let Some(mut body) = handle.take(alloc) else {
         return status::BAD_HANDLE;
@@ -72,6 +74,8 @@ fn put_into(body: &mut Body, packet: Packet) -> u32
         → length (put_list r.input.end) < capacity_of r.input.end → result ≡ OK }
     ensures input { (i : Input) → body.old ≡ variant.In i → result ≡ OK
         → IsInputWith (IsAfterInput i (packet ∷ [])) body.new }
+    ensures other { ((i : Input) → ¬ HasInput i body.old)
+        → (result ≡ BAD_HANDLE) × (body.new ≡ body.old) }
 {
     match body {
         Body::Ring(ring) => ring.input.put(packet),

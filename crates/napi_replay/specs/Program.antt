@@ -1,7 +1,8 @@
 -- The whole program: what it writes and how it ends, of the words after its name and the bytes of its input.
-use Rattle.std.specs.Prelude.{◌≡◌, ℕ, List, Option, Some, None, Ok, Err}
-use Rattle.replay_threads.specs.Answer.{threads_of}
+use Rattle.std.specs.Prelude.{◌≡◌, ℕ, Bool, List, Option, Some, None, Ok, Err}
+use Rattle.replay_threads.specs.Answer.{RanBy, threads_of}
 use Rattle.replay_threads.specs.Answer.{IsOutside as IsOutsideThreads}
+use Rattle.replay_threads.specs.declared.polled.Polled.{Polled}
 use Rattle.replay_text.specs.Outside.{IsOutside}
 use Rattle.replay_text.specs.Program.{IsFaultOf, IsTextBy}
 use Rattle.replay_rows.specs.Answer.{replay_of}
@@ -41,3 +42,11 @@ IsReport words = IsTextBy (AskFor words) (λ asked. IsReportIn asked.0 asked.1)
 -- the fault is that of the words or of the bytes; else the reader, the memory, a writer or a thread failed
 abbrev pub IsFault : List Text → Option (List ℕ) → ProgramFault → Type 0
 IsFault words = IsFaultOf (asked_for words ≡ None) (AskFor words) (λ asked. IsOutsideIn asked.0) (λ asked. IsFaultIn asked.0 asked.1)
+
+-- in threads mode the rows of the bytes read were polled as these settings say, whatever a gate answered that is always open
+abbrev pub RanIn : Type 0 → Mode → Settings → Option (List ℕ) → Type 0
+RanIn R mode s input = mode ≡ Threads → (told : List Polled) × RanBy R (λ by. Bool × Unit {0}) s input told
+
+-- in the mode and by the settings that the words ask for
+abbrev pub Ran : Type 0 → List Text → Option (List ℕ) → Type 0
+Ran R words input = (asked : Mode × Settings) × AskFor words asked × RanIn R asked.0 asked.1 input

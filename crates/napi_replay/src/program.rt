@@ -2,9 +2,10 @@
 
 ghost use Rattle.std.specs.Prelude.{◌≡◌, ◌≢◌, IfErr, OnOk, map, string_bytes, false};
 ghost use Rattle.std.specs.Io.KnownBytes.{Keeps};
-ghost use Rattle.napi_replay.specs.Program.{IsFault, IsFaultIn, IsOutsideIn, IsReport, IsReportIn};
-ghost use Rattle.replay_text.specs.Program.{FailedBy, KeepsOutput};
-ghost use Rattle.replay_text.specs.Written.{IsFaultBy, LeavesAsItWas, Writes};
+ghost use Rattle.std.specs.Borrow.{Bor};
+ghost use Rattle.napi_replay.specs.Program.{IsFault, IsFaultIn, IsOutsideIn, IsReport, IsReportIn, Ran, RanIn};
+ghost use Rattle.replay_text.specs.Program.{FailedBy, LeavesOutput};
+ghost use Rattle.replay_text.specs.Written.{IsFaultBy, Leaves, Writes};
 
 use poll_workers::OpenGate;
 use replay_rows::replay_serial;
@@ -33,8 +34,9 @@ where
         (R.remaining input) (W.contents output.old) (W.contents output.new)) }
     ensures fault { IfErr result
         (IsFaultBy (IsOutsideIn mode) (IsFaultIn mode settings.now) (R.remaining input)) }
-    ensures untouched { IfErr result
-        (LeavesAsItWas (W.contents output.old) (W.contents output.new)) }
+    ensures run { OnOk result (RanIn (Bor H) mode settings.now (R.remaining input)) }
+    ensures output { IfErr result (Leaves (IsReportIn mode settings.now)
+        (R.remaining input) (W.contents output.old) (W.contents output.new)) }
 {
     match mode {
         Mode::Serial => replay_serial(alloc, input, output, settings),
@@ -57,8 +59,9 @@ fn replay_asked<H: Threads + Wait + Sync, R: Read + Drop, W: Write>(
     ensures written { OnOk result (Writes (IsReport (map string_bytes words.now))
         (R.remaining input) (W.contents output.old) (W.contents output.new)) }
     ensures fault { IfErr result (IsFault (map string_bytes words.now) (R.remaining input)) }
-    ensures untouched { IfErr result
-        (KeepsOutput (W.contents output.old) (W.contents output.new)) }
+    ensures run { OnOk result (Ran (Bor H) (map string_bytes words.now) (R.remaining input)) }
+    ensures output { IfErr result (LeavesOutput (IsReport (map string_bytes words.now))
+        (R.remaining input) (W.contents output.old) (W.contents output.new)) }
 {
     match parse_words(alloc, words) {
         Ok((mode, settings)) => match replay_in(rt, alloc, mode, input, output, &settings) {
@@ -85,12 +88,16 @@ pub fn run_program<H: Threads + Wait + Sync, R: Read + Drop, W: Write, E: Write>
     // else.
     ensures written { result.status ≡ 0 → Writes (IsReport (map string_bytes words.now))
         (R.remaining input) (W.contents output.old) (W.contents output.new) }
+    // In threads mode it was polled by the settings that the words ask for.
+    ensures run { result.status ≡ 0
+        → Ran (Bor H) (map string_bytes words.now) (R.remaining input) }
     ensures untold { result.status ≡ 0 → result.told ≡ false }
     ensures quiet { result.status ≡ 0 → Keeps (E.contents errors.old) (E.contents errors.new) }
     ensures failed { result.status ≢ 0
         → FailedBy (IsFault (map string_bytes words.now) (R.remaining input))
-        (W.contents output.old) (W.contents output.new) (E.contents errors.old)
-        (E.contents errors.new) result }
+        (LeavesOutput (IsReport (map string_bytes words.now)) (R.remaining input)
+        (W.contents output.old) (W.contents output.new))
+        (E.contents errors.old) (E.contents errors.new) result }
 {
     match replay_asked(rt, alloc, words, input, output) {
         Ok(()) => Ending {

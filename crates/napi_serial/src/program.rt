@@ -3,7 +3,7 @@
 ghost use Rattle.std.specs.Prelude.{◌≡◌, ◌≢◌, IfErr, OnOk, map, string_bytes, false};
 ghost use Rattle.std.specs.Io.KnownBytes.{Keeps};
 ghost use Rattle.napi_serial.specs.Program.{IsFault, IsReport};
-ghost use Rattle.replay_text.specs.Program.{FailedBy, KeepsOutput};
+ghost use Rattle.replay_text.specs.Program.{FailedBy, LeavesOutput};
 ghost use Rattle.replay_text.specs.Written.{Writes};
 
 use replay_rows::replay_serial;
@@ -22,8 +22,8 @@ fn replay_asked<R: Read + Drop, W: Write>(
     ensures written { OnOk result (Writes (IsReport (map string_bytes words.now))
         (R.remaining input) (W.contents output.old) (W.contents output.new)) }
     ensures fault { IfErr result (IsFault (map string_bytes words.now) (R.remaining input)) }
-    ensures untouched { IfErr result
-        (KeepsOutput (W.contents output.old) (W.contents output.new)) }
+    ensures output { IfErr result (LeavesOutput (IsReport (map string_bytes words.now))
+        (R.remaining input) (W.contents output.old) (W.contents output.new)) }
 {
     match parse_serial_words(alloc, words) {
         Ok(settings) => match replay_serial(alloc, input, output, &settings) {
@@ -52,7 +52,8 @@ pub(crate) fn run_program<R: Read + Drop, W: Write, E: Write>(
     ensures quiet { result.status ≡ 0 → Keeps (E.contents errors.old) (E.contents errors.new) }
     ensures failed { result.status ≢ 0
         → FailedBy (IsFault (map string_bytes words.now) (R.remaining input))
-        (W.contents output.old) (W.contents output.new)
+        (LeavesOutput (IsReport (map string_bytes words.now)) (R.remaining input)
+        (W.contents output.old) (W.contents output.new))
         (E.contents errors.old) (E.contents errors.new) result }
 {
     match replay_asked(alloc, words, input, output) {

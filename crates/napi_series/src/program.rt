@@ -3,7 +3,7 @@
 ghost use Rattle.std.specs.Prelude.{◌≡◌, ◌≢◌, IfErr, OnOk, map, string_bytes, false};
 ghost use Rattle.std.specs.Io.KnownBytes.{Keeps};
 ghost use Rattle.napi_series.specs.Program.{IsFault, IsSeries};
-ghost use Rattle.replay_text.specs.Program.{FailedBy, KeepsOutput};
+ghost use Rattle.replay_text.specs.Program.{FailedBy, LeavesOutput};
 ghost use Rattle.replay_text.specs.Written.{Writes};
 
 use crate::series::write_series;
@@ -22,8 +22,8 @@ fn write_asked<R: Read + Drop, W: Write>(
     ensures written { OnOk result (Writes (IsSeries (map string_bytes words.now))
         (R.remaining input) (W.contents output.old) (W.contents output.new)) }
     ensures fault { IfErr result (IsFault (map string_bytes words.now) (R.remaining input)) }
-    ensures untouched { IfErr result
-        (KeepsOutput (W.contents output.old) (W.contents output.new)) }
+    ensures output { IfErr result (LeavesOutput (IsSeries (map string_bytes words.now))
+        (R.remaining input) (W.contents output.old) (W.contents output.new)) }
 {
     match parse_series_words(alloc, words) {
         Ok((every, settings)) => match write_series(alloc, input, output, &settings, every) {
@@ -52,7 +52,8 @@ pub(crate) fn run_program<R: Read + Drop, W: Write, E: Write>(
     ensures quiet { result.status ≡ 0 → Keeps (E.contents errors.old) (E.contents errors.new) }
     ensures failed { result.status ≢ 0
         → FailedBy (IsFault (map string_bytes words.now) (R.remaining input))
-        (W.contents output.old) (W.contents output.new)
+        (LeavesOutput (IsSeries (map string_bytes words.now)) (R.remaining input)
+        (W.contents output.old) (W.contents output.new))
         (E.contents errors.old) (E.contents errors.new) result }
 {
     match write_asked(alloc, words, input, output) {

@@ -2,13 +2,11 @@
 
 ghost use Rattle.std.specs.Prelude.{◌≡◌, ◌≢◌, ◌⊎◌, ◌≤◌, ◌<◌, ◌+◌, ◌++◌, [], ℕ, List, Ok, Err, Some, IfOk, IfErr, OnOk, length, slice_get, string_bytes};
 ghost use Rattle.device_rows.specs.Trace.{AcceptedAfter};
-ghost use Rattle.device_rows.specs.declared.fault.TraceFault.TheVariants.{OutOfMemory};
 ghost use Rattle.napi_series.specs.Series.{part_after, series_by, series_of};
-ghost use Rattle.replay_text.specs.Outside.{IsOutside};
-ghost use Rattle.replay_text.specs.Written.{IsFaultBy, LeavesAsItWas, Writes};
+ghost use Rattle.replay_text.specs.Outside.{IsOutside, IsWantOfMemory};
+ghost use Rattle.replay_text.specs.Written.{IsFaultBy, Leaves, Writes};
 ghost use Rattle.replay_rows.specs.After.{IsAfter};
 ghost use Rattle.replay_rows.specs.Replay.{after_all};
-ghost use Rattle.replay_text.specs.declared.fault.ReplayFault.TheVariants.{Trace};
 
 use crate::line::{add_list, add_told};
 use device_rows::{Row, read_trace};
@@ -77,7 +75,7 @@ fn series_of(
     ensures text { IfOk result
         (λ text. series_of settings.now every rows.now ≡ Ok (string_bytes text)) }
     ensures fault { IfErr result
-        (λ fault. (fault ≡ Trace OutOfMemory) ⊎ (after_all settings.now rows.now ≡ Err fault)) }
+        (λ fault. IsWantOfMemory fault ⊎ (after_all settings.now rows.now ≡ Err fault)) }
 {
     let mut text = String::from_str(alloc, HEADER)?;
     let mut steps = Steps {
@@ -112,8 +110,10 @@ pub(crate) fn write_series<R: Read + Drop, W: Write>(
     // A fault is that of the bytes read, unless the reader, the memory or the writer failed.
     ensures fault { IfErr result (IsFaultBy IsOutside
         (λ bytes fault. series_by settings.now every bytes ≡ Err fault) (R.remaining reader)) }
-    ensures untouched { IfErr result
-        (LeavesAsItWas (W.contents writer.old) (W.contents writer.new)) }
+    // Where the output failed less than the whole series was written, and on each other fault nothing.
+    ensures output { IfErr result
+        (Leaves (λ bytes text. series_by settings.now every bytes ≡ Ok text)
+        (R.remaining reader) (W.contents writer.old) (W.contents writer.new)) }
 {
     let trace = read_trace(alloc, reader)?;
     let text = series_of(alloc, settings, every, trace.rows())?;

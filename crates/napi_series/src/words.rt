@@ -3,7 +3,8 @@
 ghost use Rattle.std.specs.Prelude.{◌≡◌, ◌≤◌, None, Err, IfOk, IfSome, map, option_map, string_bytes};
 ghost use Rattle.napi_series.specs.Program.{AskFor};
 ghost use Rattle.napi_series.specs.Words.{every_of, series_asked_for};
-ghost use Rattle.replay_words.specs.declared.words.WordFault.TheVariants.{Usage};
+ghost use Rattle.replay_words.specs.Refusals.{IsRefused};
+ghost use Rattle.replay_words.specs.declared.words.WordFault.TheVariants.{OutOfMemory, Usage};
 
 use replay_words::{Settings, WordFault, number_of, parse_serial_words};
 use std::alloc::Global;
@@ -34,6 +35,7 @@ pub(crate) fn parse_series_words(
 ) -> Result<(u32, Settings), WordFault>
     ensures asked { IfOk result (AskFor (map string_bytes words.now)) }
     ensures usage { result ≡ Err Usage → series_asked_for (map string_bytes words.now) ≡ None }
+    ensures memory { result ≡ Err OutOfMemory → IsRefused }
     ensures range { IfOk result (λ asked. 1 ≤ asked.0) }
 {
     let Some((every, rest)) = split_every(words) else {

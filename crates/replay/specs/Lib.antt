@@ -1,11 +1,14 @@
+pub use Rattle.device_rows.specs.Failures
 pub use Rattle.device_rows.specs.Trace
 pub use Rattle.replay_words.specs.Defaults
+pub use Rattle.replay_words.specs.Refusals
 pub use Rattle.replay_words.specs.Words
 pub use Rattle.replay_words.specs.declared.mode.Mode
 pub use Rattle.replay_words.specs.declared.settings.Settings
 pub use Rattle.replay_words.specs.declared.words.WordFault
 pub use Rattle.replay_text.specs.Fault
 pub use Rattle.replay_text.specs.Outside
+pub use Rattle.replay_text.specs.Stops
 pub use Rattle.replay_text.specs.Written
 pub use Rattle.replay_text.specs.declared.fault.ReplayFault
 pub use Rattle.replay_rows.specs.Answer

@@ -6,10 +6,10 @@ use Rattle.replay_c.specs.Faults.{fault_status, trace_status}
 
 never : (fault : ReplayFault) → IsOutside fault → fault_status fault ≡ 120 → ⊥
 never (Trace fault) (inl failed) bad =
-    let read : 112 ≡ 120 = subst (λ (f : TraceFault). trace_status f ≡ 120) failed bad in
+    let read : 112 ≡ 120 = subst (λ (f : TraceFault). trace_status f ≡ 120) failed.0 bad in
     omega (arith, read)
 never (Trace fault) (inr failed) bad =
-    let memory : 112 ≡ 120 = subst (λ (f : TraceFault). trace_status f ≡ 120) failed bad in
+    let memory : 112 ≡ 120 = subst (λ (f : TraceFault). trace_status f ≡ 120) failed.0 bad in
     omega (arith, memory)
 never (Pending row) outside bad = outside
 never (RingTooSmall device needs) outside bad = outside

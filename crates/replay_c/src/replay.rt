@@ -72,6 +72,8 @@ fn put_report(text: &[u8], report: &mut [u8], replayed: &mut FqReplayed) -> u32
     ensures no_room { result ≢ OK → (result ≡ NO_ROOM) × (length report.old < length text.now) }
     ensures length { replayed.new.length ≡ length text.now }
     ensures kept { result ≢ OK → report.new ≡ report.old }
+    ensures faultless { (replayed.new.fault ≡ replayed.old.fault)
+        × (replayed.new.row ≡ replayed.old.row) }
 {
     replayed.length = text.len();
     if report.len() < text.len() {
@@ -85,6 +87,7 @@ fn put_report(text: &[u8], report: &mut [u8], replayed: &mut FqReplayed) -> u32
 fn tell(fault: &ReplayFault, replayed: &mut FqReplayed) -> u32
     ensures status { result ≡ fault_status fault.now }
     ensures told { result ≡ BAD_TRACE → Tells fault.now replayed.new }
+    ensures untold { result ≢ BAD_TRACE → replayed.new ≡ replayed.old }
 {
     let status = fault_status(fault);
     if status == status::BAD_TRACE {
@@ -119,6 +122,9 @@ pub extern "C" fn fq_replay(
     ensures weight { (result ≡ BAD_WEIGHT) ↔ ¬ HasWeight settings.now }
     ensures budget { (result ≡ BAD_BUDGET) ↔ (HasWeight settings.now × ¬ HasBudget settings.now) }
     ensures kept { result ≢ OK → report.new ≡ report.old }
+    // What is told beside the status is of the report or of the fault, and else 0.
+    ensures faultless { result ≢ BAD_TRACE → (replayed.new.fault ≡ 0) × (replayed.new.row ≡ 0) }
+    ensures no_report { result ≢ OK → result ≢ NO_ROOM → replayed.new.length ≡ 0 }
 {
     *replayed = FqReplayed {
         length: 0,

@@ -5,8 +5,8 @@ use Rattle.{std.proofs.lemmas.List.{length-take, take_more}, device_transmit.spe
 use Rattle.{device_rows.specs.declared.row.Row.Row, replay_rows.specs.Replay.{after_row, after_rows, is_early, start, after_all}}
 use Rattle.replay_rows.specs.{Report.{report_of, serial_report}, Transmits.{after_transmit, after_transmits, transmits_of}}
 use Rattle.replay_rows.specs.ReplayState.{ReplayState}
-use Rattle.replay_text.specs.declared.fault.ReplayFault.{ReplayFault, TheVariants.{OutputFailed, Pending, Trace}}
-use Rattle.device_rows.specs.declared.fault.TraceFault.TheVariants.{OutOfMemory}
+use Rattle.replay_text.specs.declared.fault.ReplayFault.{ReplayFault, TheVariants.{OutputFailed, Pending}}
+use Rattle.replay_text.specs.Outside.{IsWantOfMemory}
 use Rattle.replay_words.specs.declared.settings.Settings.{Settings}
 
 -- the rest of the rows, where those before it were played
@@ -94,11 +94,11 @@ report_written s version rows e = by (after_all s rows) refl e
         cc (sym early.1 ∙ failed)
 
 pub unwritten : {A : Type 0} (s : Settings) (version : ℕ) (rows : List Row) (r : Result A ReplayFault)
-    → IfErr r (λ fault. (fault ≡ Trace OutOfMemory) ⊎ (serial_report s version rows ≡ Err fault))
+    → IfErr r (λ fault. IsWantOfMemory fault ⊎ (serial_report s version rows ≡ Err fault))
     → IfErr r (λ fault. fault ≡ OutputFailed → ⊥)
 unwritten s version rows (Ok a) h = tt
 unwritten s version rows (Err fault) h = λ failed. elim h [
-  | inl memory ↦ cc (sym memory ∙ failed)
+  | inl memory ↦ cc (sym memory.0 ∙ failed)
   | inr early ↦ report_written s version rows (early ∙ ap Err failed)
 ]
 

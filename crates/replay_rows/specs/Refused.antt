@@ -1,20 +1,20 @@
 -- Why the rows of a trace have no report.
 use Rattle.std.specs.Prelude.{◌≡◌, ◌⊎◌, ℕ, true, List, Err}
 use Rattle.device_rows.specs.declared.event.Event.TheVariants.{Enable}
-use Rattle.device_rows.specs.declared.fault.TraceFault.TheVariants.{OutOfMemory}
 use Rattle.device_rows.specs.declared.row.Row.{Row}
 use Rattle.replay_rows.specs.Replay.{is_early}
 use Rattle.replay_rows.specs.Report.{serial_report}
 use Rattle.replay_rows.specs.ReplayState.{ReplayState}
+use Rattle.replay_text.specs.Outside.{IsWantOfMemory}
 use Rattle.replay_text.specs.declared.fault.ReplayFault.{ReplayFault}
-use Rattle.replay_text.specs.declared.fault.ReplayFault.TheVariants.{Pending, Trace}
+use Rattle.replay_text.specs.declared.fault.ReplayFault.TheVariants.{Pending}
 use Rattle.replay_words.specs.declared.settings.Settings.{Settings}
 
 -- memory was refused, or an enable row met a disable that was pending, which is the rows' own fault
 abbrev pub IsRefused : Settings → List Row → ReplayFault → Type 0
-IsRefused s rows fault = (fault ≡ Trace OutOfMemory) ⊎ ((version : ℕ) → serial_report s version rows ≡ Err fault)
+IsRefused s rows fault = IsWantOfMemory fault ⊎ ((version : ℕ) → serial_report s version rows ≡ Err fault)
 
 -- why row n, with this behind the rows before it, was refused
 abbrev pub IsRefusedAt : ℕ → Row → ReplayState → ReplayFault → Type 0
 IsRefusedAt n row w fault =
-    (fault ≡ Trace OutOfMemory) ⊎ ((row.event ≡ Enable) × (fault ≡ Pending n) × (is_early row.event row.device w ≡ true))
+    IsWantOfMemory fault ⊎ ((row.event ≡ Enable) × (fault ≡ Pending n) × (is_early row.event row.device w ≡ true))

@@ -3,10 +3,10 @@
 ghost use Rattle.std.specs.Prelude.{◌≡◌, ◌≢◌, ◌⊎◌, ◌+◌, ◌^◌, ◌<◌, ◌≤◌, ◌++◌, [], Ok, Err, Some, IfErr, IfOk, OnOk, flat_map, length, string_bytes};
 ghost use Rattle.device_rows.specs.Places.{empty};
 ghost use Rattle.device_rows.specs.Trace.{AcceptedAfter};
-ghost use Rattle.device_rows.specs.declared.fault.TraceFault.TheVariants.{OutOfMemory};
 ghost use Rattle.replay_rows.specs.Report.{device_line, device_lines, held_part, list_line, napi_line, of_run, poll_line, serial_report, spaced, state_word, total_line, totals_of};
 ghost use Rattle.replay_text.specs.Lines.{ended, flag, tx_line};
-ghost use Rattle.replay_text.specs.declared.fault.ReplayFault.TheVariants.{OutputFailed, Trace};
+ghost use Rattle.replay_text.specs.Outside.{IsWantOfMemory};
+ghost use Rattle.replay_text.specs.declared.fault.ReplayFault.TheVariants.{OutputFailed};
 
 use crate::line::Line;
 use crate::replay::{Replay, room_for_lines};
@@ -309,7 +309,7 @@ impl<B: ReplayBench> Replay<B> {
         requires transmits { B.shows self.old.bench empty }
         ensures report { IfOk result
             (λ text. serial_report settings.now version rows.now ≡ Ok (string_bytes text)) }
-        ensures fault { IfErr result (λ fault. (fault ≡ Trace OutOfMemory)
+        ensures fault { IfErr result (λ fault. IsWantOfMemory fault
             ⊎ (serial_report settings.now version rows.now ≡ Err fault)) }
     {
         self.lines = room_for_lines(alloc, rows)?;
@@ -335,7 +335,7 @@ pub(crate) fn report_on<B: ReplayBench>(
     requires transmits { B.shows bench empty }
     ensures report { IfOk result.1
         (λ text. serial_report settings.now version rows.now ≡ Ok (string_bytes text)) }
-    ensures fault { IfErr result.1 (λ fault. (fault ≡ Trace OutOfMemory)
+    ensures fault { IfErr result.1 (λ fault. IsWantOfMemory fault
         ⊎ (serial_report settings.now version rows.now ≡ Err fault)) }
     ensures unwritten { IfErr result.1 (λ fault. fault ≢ OutputFailed) }
 {

@@ -2,8 +2,7 @@
 
 ghost use Rattle.std.specs.Prelude.{◌≡◌, Ok, Err, IfErr, OnOk};
 ghost use Rattle.replay_text.specs.Outside.{IsOutside};
-ghost use Rattle.replay_text.specs.Written.{IsFaultBy, LeavesAsItWas, Writes, WritesPart};
-ghost use Rattle.replay_text.specs.declared.fault.ReplayFault.TheVariants.{OutputFailed};
+ghost use Rattle.replay_text.specs.Written.{IsFaultBy, Leaves, Writes};
 ghost use Rattle.replay_rows.specs.Answer.{replay_of};
 
 use crate::whole::replay_on;
@@ -27,16 +26,13 @@ pub fn replay_serial<R: Read + Drop, W: Write>(
     ensures written { OnOk result (Writes (λ bytes text. replay_of settings.now bytes ≡ Ok text)
         (R.remaining reader) (W.contents writer.old) (W.contents writer.new)) }
 
-    // Where the output failed the bytes read have a report, of which less than the whole was written.
-    ensures cut { result ≡ Err OutputFailed
-        → WritesPart (λ bytes text. replay_of settings.now bytes ≡ Ok text)
-        (R.remaining reader) (W.contents writer.old) (W.contents writer.new) }
-
     // A fault is that of the bytes read, unless the reader, the memory or the writer failed.
     ensures fault { IfErr result (IsFaultBy IsOutside
         (λ bytes fault. replay_of settings.now bytes ≡ Err fault) (R.remaining reader)) }
-    ensures untouched { IfErr result
-        (LeavesAsItWas (W.contents writer.old) (W.contents writer.new)) }
+
+    // Where the output failed less than the whole report was written, and on each other fault nothing.
+    ensures output { IfErr result (Leaves (λ bytes text. replay_of settings.now bytes ≡ Ok text)
+        (R.remaining reader) (W.contents writer.old) (W.contents writer.new)) }
 {
     let bench = SerialBench::new(alloc)?;
     let (_, replayed) = replay_on(alloc, bench, reader, writer, settings);

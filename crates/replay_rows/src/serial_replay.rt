@@ -17,12 +17,11 @@ pub struct SerialReplay {
 impl SerialReplay {
     ghost use Rattle.std.specs.Prelude.{◌≡◌, ◌⊎◌, ◌≤◌, ◌<◌, ◌+◌, ℕ, [], List, Err, IfOk, IfErr, OnOk, length};
     ghost use Rattle.device_rows.specs.Trace.{AcceptedAfter};
-    ghost use Rattle.device_rows.specs.declared.fault.TraceFault.TheVariants.{OutOfMemory};
     ghost use Rattle.device_rows.specs.declared.row.Row.{Row};
     ghost use Rattle.replay_words.specs.declared.settings.Settings.{Settings};
     ghost use Rattle.replay_rows.specs.After.{IsAfter, counts_after, is_used_after, list_after, polled_after};
     ghost use Rattle.replay_rows.specs.Replay.{after_all};
-    ghost use Rattle.replay_text.specs.declared.fault.ReplayFault.TheVariants.{Trace};
+    ghost use Rattle.replay_text.specs.Outside.{IsWantOfMemory};
 
     /// A replay of which no row was played, with room for what these rows will have polled.
     pub fn new(alloc: Global, rows: &[Row]) -> Result<SerialReplay, AllocError>
@@ -48,7 +47,7 @@ impl SerialReplay {
         requires after { IsAfter settings.now rows.now index self.old }
         ensures after { OnOk result (IsAfter settings.now rows.now (index + 1) self.new) }
         ensures fault { IfErr result
-            (λ fault. (fault ≡ Trace OutOfMemory) ⊎ (after_all settings.now rows.now ≡ Err fault)) }
+            (λ fault. IsWantOfMemory fault ⊎ (after_all settings.now rows.now ≡ Err fault)) }
     {
         self.replay
             .play(alloc, settings, index as u32 + 1, &rows[index])?;

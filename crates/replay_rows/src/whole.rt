@@ -3,8 +3,7 @@
 ghost use Rattle.std.specs.Prelude.{◌≡◌, Ok, Err, IfErr, OnOk};
 ghost use Rattle.device_rows.specs.Places.{empty};
 ghost use Rattle.replay_text.specs.Outside.{IsOutside};
-ghost use Rattle.replay_text.specs.Written.{IsFaultBy, LeavesAsItWas, Writes, WritesPart};
-ghost use Rattle.replay_text.specs.declared.fault.ReplayFault.TheVariants.{OutputFailed};
+ghost use Rattle.replay_text.specs.Written.{IsFaultBy, Leaves, Writes};
 ghost use Rattle.replay_rows.specs.Answer.{replay_of};
 
 use crate::report::report_on;
@@ -33,16 +32,13 @@ pub fn replay_on<B: ReplayBench, R: Read + Drop, W: Write>(
     ensures written { OnOk result.1 (Writes (λ bytes text. replay_of settings.now bytes ≡ Ok text)
         (R.remaining reader) (W.contents writer.old) (W.contents writer.new)) }
 
-    // Where the output failed the bytes read have a report, of which less than the whole was written.
-    ensures cut { result.1 ≡ Err OutputFailed
-        → WritesPart (λ bytes text. replay_of settings.now bytes ≡ Ok text)
-        (R.remaining reader) (W.contents writer.old) (W.contents writer.new) }
-
     // A fault is that of the bytes read, unless the reader, the memory or the writer failed.
     ensures fault { IfErr result.1 (IsFaultBy IsOutside
         (λ bytes fault. replay_of settings.now bytes ≡ Err fault) (R.remaining reader)) }
-    ensures untouched { IfErr result.1
-        (LeavesAsItWas (W.contents writer.old) (W.contents writer.new)) }
+
+    // Where the output failed less than the whole report was written, and on each other fault nothing.
+    ensures output { IfErr result.1 (Leaves (λ bytes text. replay_of settings.now bytes ≡ Ok text)
+        (R.remaining reader) (W.contents writer.old) (W.contents writer.new)) }
 {
     let trace = match read_trace(alloc, reader) {
         Ok(trace) => trace,

@@ -1,7 +1,15 @@
 -- Faults that no text has.
+use Rattle.std.specs.Prelude.{◌≡◌}
+use Rattle.device_rows.specs.Failures.{IsRefused}
 use Rattle.device_rows.specs.Source.{IsReadFailure}
+use Rattle.device_rows.specs.declared.fault.TraceFault.TheVariants.{OutOfMemory}
+use Rattle.replay_text.specs.Stops.{HasStopped}
 use Rattle.replay_text.specs.declared.fault.ReplayFault.{ReplayFault}
 use Rattle.replay_text.specs.declared.fault.ReplayFault.TheVariants.{Trace, Pending, RingTooSmall, GateShut, OutputFailed, SpawnFailed}
+
+-- memory was refused
+abbrev pub IsWantOfMemory : ReplayFault → Type 0
+IsWantOfMemory fault = (fault ≡ Trace OutOfMemory) × IsRefused
 
 -- the reader, the memory or the writer failed; a replay that starts no thread gives no fault of threads
 abbrev pub IsOutside : ReplayFault → Type 0
@@ -9,5 +17,5 @@ IsOutside (Trace fault) = IsReadFailure fault
 IsOutside (Pending row) = ⊥
 IsOutside (RingTooSmall device needs) = ⊥
 IsOutside GateShut = ⊥
-IsOutside OutputFailed = Unit {0}
+IsOutside OutputFailed = HasStopped
 IsOutside SpawnFailed = ⊥

@@ -1,13 +1,16 @@
 -- How a program that replays ends.
-use Rattle.std.specs.Prelude.{◌≡◌, ◌≢◌, ℕ, false, true, List, ◌++◌, Option, codes}
-use Rattle.std.specs.Io.KnownBytes.{Appends, Keeps}
+use Rattle.std.specs.Prelude.{◌≡◌, ◌⊎◌, ℕ, false, true, List, ◌++◌, Option, codes}
+use Rattle.std.specs.Io.KnownBytes.{Appends}
 use Rattle.replay_text.specs.Fault.{line_of as replay_line, status_of as replay_status}
-use Rattle.replay_text.specs.Written.{AppendsPart, IsFaultBy}
+use Rattle.replay_text.specs.Stops.{HasStopped}
+use Rattle.replay_text.specs.Written.{AppendsPart, IsFaultBy, LeavesBy}
 use Rattle.replay_text.specs.declared.fault.ReplayFault.{ReplayFault}
 use Rattle.replay_text.specs.declared.fault.ReplayFault.TheVariants.{OutputFailed}
 use Rattle.replay_text.specs.declared.program.Ending.{Ending}
 use Rattle.replay_text.specs.declared.program.ProgramFault.{ProgramFault}
 use Rattle.replay_text.specs.declared.program.ProgramFault.TheVariants.{Words, Replay}
+use Rattle.device_rows.specs.Failures.{IsRefused}
+use Rattle.replay_words.specs.Refusals.{IsRefused as IsRefusedWords}
 use Rattle.replay_words.specs.Words.{line_of as word_line, status_of as word_status}
 use Rattle.replay_words.specs.declared.words.WordFault.TheVariants.{Usage, OutOfMemory}
 
@@ -28,24 +31,25 @@ IsTextBy {A} AskedFor IsText bytes text = (asked : A) × AskedFor asked × IsTex
 abbrev pub IsFaultOf : {A : Type 0} → Type 0 → (A → Type 0) → (A → ReplayFault → Type 0) → (A → List ℕ → ReplayFault → Type 0)
     → Option (List ℕ) → ProgramFault → Type 0
 IsFaultOf {A} Refused AskedFor IsOutside IsFault input (Words Usage) = Refused
-IsFaultOf {A} Refused AskedFor IsOutside IsFault input (Words OutOfMemory) = Unit {0}
+IsFaultOf {A} Refused AskedFor IsOutside IsFault input (Words OutOfMemory) = IsRefusedWords
 IsFaultOf {A} Refused AskedFor IsOutside IsFault input (Replay fault) =
     (asked : A) × AskedFor asked × IsFaultBy (IsOutside asked) (IsFault asked) input fault
 
--- the line of this fault is all that went to standard error where it was told, and else less of it did; the status is its status
+-- the line of this fault is all that went to standard error where it was told, and else, where the writer stopped or memory was
+-- refused, less of it did; the status is its status
 pub record EndsBy (fault : ProgramFault) (errors_old errors_new : Option (List ℕ)) (ending : Ending) : Type 0 where
   pub status : ending.status ≡ status_of fault
   pub line : ending.told ≡ true → Appends errors_old errors_new (line_of fault)
   pub untold : ending.told ≡ false → AppendsPart errors_old errors_new (line_of fault)
+  pub stopped : ending.told ≡ false → HasStopped ⊎ IsRefused
 
--- on each fault but a failed output nothing was written
-abbrev pub KeepsOutput : Option (List ℕ) → Option (List ℕ) → ProgramFault → Type 0
-KeepsOutput old new fault = fault ≢ Replay OutputFailed → Keeps old new
+-- where the output failed a part of a text of the bytes read was written, and on each other fault nothing
+abbrev pub LeavesOutput : (List ℕ → List ℕ → Type 0) → Option (List ℕ) → Option (List ℕ) → Option (List ℕ) → ProgramFault → Type 0
+LeavesOutput IsText = LeavesBy (Replay OutputFailed) IsText
 
--- the program failed by some fault that it can have; on each but a failed output nothing was written
-pub record FailedBy (can_be : ProgramFault → Type 0) (output_old output_new errors_old errors_new : Option (List ℕ))
-    (ending : Ending) : Type 0 where
+-- the program failed by some fault that it can have, and left its output by that
+pub record FailedBy (can_be leaves : ProgramFault → Type 0) (errors_old errors_new : Option (List ℕ)) (ending : Ending) : Type 0 where
   pub fault : ProgramFault
   pub why : can_be fault
-  pub untouched : KeepsOutput output_old output_new fault
+  pub output : leaves fault
   pub ends : EndsBy fault errors_old errors_new ending

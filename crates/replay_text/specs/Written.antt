@@ -12,10 +12,6 @@ Writes IsText input old new = (bytes : List ℕ) → input ≡ Some bytes → (t
 abbrev pub IsFaultBy : (ReplayFault → Type 0) → (List ℕ → ReplayFault → Type 0) → Option (List ℕ) → ReplayFault → Type 0
 IsFaultBy IsOutside IsFault input fault = (bytes : List ℕ) → input ≡ Some bytes → IsOutside fault ⊎ IsFault bytes fault
 
--- on each fault but a failed output nothing was written
-abbrev pub LeavesAsItWas : Option (List ℕ) → Option (List ℕ) → ReplayFault → Type 0
-LeavesAsItWas old new fault = fault ≢ OutputFailed → Keeps old new
-
 -- a front of these bytes was appended, and not all of them
 abbrev pub AppendsPart : Option (List ℕ) → Option (List ℕ) → List ℕ → Type 0
 AppendsPart old new bytes = (n : ℕ) × (n < length bytes) × Appends old new (take n bytes)
@@ -23,3 +19,10 @@ AppendsPart old new bytes = (n : ℕ) × (n < length bytes) × Appends old new (
 -- the bytes read have a text, of which a front was written, and not all of it
 abbrev pub WritesPart : (List ℕ → List ℕ → Type 0) → Option (List ℕ) → Option (List ℕ) → Option (List ℕ) → Type 0
 WritesPart IsText input old new = (bytes : List ℕ) → input ≡ Some bytes → (text : List ℕ) × IsText bytes text × AppendsPart old new text
+
+-- where the output failed a part of a text of the bytes read was written, and on each other fault nothing
+abbrev pub LeavesBy : {F : Type 0} → F → (List ℕ → List ℕ → Type 0) → Option (List ℕ) → Option (List ℕ) → Option (List ℕ) → F → Type 0
+LeavesBy failed IsText input old new fault = (fault ≡ failed → WritesPart IsText input old new) × (fault ≢ failed → Keeps old new)
+
+abbrev pub Leaves : (List ℕ → List ℕ → Type 0) → Option (List ℕ) → Option (List ℕ) → Option (List ℕ) → ReplayFault → Type 0
+Leaves IsText = LeavesBy OutputFailed IsText

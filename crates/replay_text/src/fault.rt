@@ -44,11 +44,9 @@ impl From<TraceFault> for ReplayFault {
 }
 
 impl From<AllocError> for ReplayFault {
-    ghost use Rattle.std.specs.Prelude.{◌≡◌};
-    ghost use Rattle.device_rows.specs.declared.fault.TraceFault.TheVariants.{OutOfMemory};
-    ghost use Rattle.replay_text.specs.declared.fault.ReplayFault.TheVariants.{Trace};
+    ghost use Rattle.replay_text.specs.Outside.{IsWantOfMemory};
 
-    ghost from_gives = { λ _ fault. fault ≡ Trace OutOfMemory };
+    ghost from_gives = { λ _ fault. IsWantOfMemory fault };
 
     fn from(_: AllocError) -> ReplayFault {
         ReplayFault::Trace(TraceFault::OutOfMemory)

@@ -3,6 +3,7 @@
 ghost use Rattle.std.specs.Prelude.{◌≡◌, ◌++◌, IfErr, OnErr, OnOk, false, string_bytes, true};
 ghost use Rattle.std.specs.Io.KnownBytes.{Appends};
 ghost use Rattle.replay_text.specs.Lines.{ended, tx_line};
+ghost use Rattle.replay_text.specs.Stops.{HasStopped};
 ghost use Rattle.replay_text.specs.Written.{AppendsPart};
 ghost use Rattle.replay_text.specs.declared.fault.ReplayFault.TheVariants.{OutputFailed};
 
@@ -37,6 +38,7 @@ pub(crate) fn write_out<W: Write>(writer: &mut W, bytes: &[u8]) -> bool
         → Appends (W.contents writer.old) (W.contents writer.new) bytes.now }
     ensures cut { result ≡ false
         → AppendsPart (W.contents writer.old) (W.contents writer.new) bytes.now }
+    ensures stopped { result ≡ false → HasStopped }
 {
     let mut rest = bytes;
     for _ in 0..u64::MAX {
@@ -62,7 +64,7 @@ pub(crate) fn write_out<W: Write>(writer: &mut W, bytes: &[u8]) -> bool
 pub fn write_text<W: Write>(writer: &mut W, text: &String) -> Result<(), ReplayFault>
     ensures written { OnOk result
         (Appends (W.contents writer.old) (W.contents writer.new) (string_bytes text.now)) }
-    ensures fault { IfErr result (λ fault. fault ≡ OutputFailed) }
+    ensures fault { IfErr result (λ fault. (fault ≡ OutputFailed) × HasStopped) }
     ensures cut { OnErr result
         (AppendsPart (W.contents writer.old) (W.contents writer.new) (string_bytes text.now)) }
 {

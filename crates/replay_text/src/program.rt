@@ -1,8 +1,10 @@
 //! What programs that replay have in common: their words, why they failed, and how they ended.
 
-ghost use Rattle.std.specs.Prelude.{◌≡◌, false, true};
+ghost use Rattle.std.specs.Prelude.{◌≡◌, ◌⊎◌, false, true};
 ghost use Rattle.std.specs.Io.KnownBytes.{Appends};
+ghost use Rattle.device_rows.specs.Failures.{IsRefused};
 ghost use Rattle.replay_text.specs.Program.{EndsBy, line_of, status_of};
+ghost use Rattle.replay_text.specs.Stops.{HasStopped};
 ghost use Rattle.replay_text.specs.Written.{AppendsPart};
 
 use crate::fault::{ReplayFault, fault_line, status};
@@ -66,6 +68,7 @@ fn tell<E: Write>(alloc: Global, fault: &ProgramFault, errors: &mut E) -> bool
         → Appends (E.contents errors.old) (E.contents errors.new) (line_of fault.now) }
     ensures untold { result ≡ false
         → AppendsPart (E.contents errors.old) (E.contents errors.new) (line_of fault.now) }
+    ensures stopped { result ≡ false → HasStopped ⊎ IsRefused }
 {
     match fault {
         ProgramFault::Words(fault) => write_out(errors, word_line(fault).as_bytes()),

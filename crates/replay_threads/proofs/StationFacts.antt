@@ -1,19 +1,21 @@
 -- From the rows of a trace to its stations, and from what a run made of these to the report.
 use Rattle.std.proofs.Common.{◌≡◌, ◌∙◌, ℕ, suc, ◌+◌, ◌-◌, ◌<◌, ◌≤◌, Bool, true, false, Option, Some, None, List, [], ◌∷◌, ◌++◌, length}
-use Rattle.std.proofs.{Common.{slice_index_or, take, append-nil, get_or, ap, refl, sym, subst, arith, flat_map}, Math.Nat.min-eq_left}
+use Rattle.std.proofs.{Common.{inr, slice_index_or, take, append-nil, get_or, ap, refl, sym, subst, arith, flat_map}, Math.Nat.min-eq_left}
 use Rattle.{std.{specs.Global.Vec, proofs.Math.{Seq.take-length, Dec.leb}}, device_rows.specs.{Row.value_fits, Trace.AcceptedAfter}}
 use Rattle.{poll_interrupts.specs.Runs.HasRun, poll_tasks.proofs.Zips.zip_push}
-use Rattle.replay_text.specs.declared.fault.ReplayFault.{ReplayFault, TheVariants.RingTooSmall}
+use Rattle.replay_text.specs.declared.fault.ReplayFault.{ReplayFault, TheVariants.{OutputFailed, RingTooSmall}}
 use Rattle.poll_interrupts.specs.declared.station.{Finished.Finished, Station.Station}
 use Rattle.device_script.specs.ScriptShown.{Script, acts, after, answer}
 use Rattle.std.specs.Prelude.{◌==◌, ◌&&◌, Result, Ok, Err, IfOk, OnOk, vec_items, filter, map, option_map, sum_by}
 use Rattle.device_script.specs.Script.{has_thread, is_act_of, is_open, is_rx, opening_of, openings_of, opens, rx_of, script_of}
 use Rattle.std.{specs.List.{All, AllZip, find, range_with_len}, proofs.lemmas.List.{Elements.{All-filter, filter-append}, Sums.sum_by-le}}
-use Rattle.{replay_threads.specs.Answer.{IsPolled, overflows}, device_script.proofs.ScriptFacts.{acts-made, arrivals-are}}
+use Rattle.replay_threads.specs.Answer.{IsOutside, IsPolled, IsToldAs, overflows}
+use Rattle.device_script.proofs.ScriptFacts.{acts-made, arrivals-are}
 use Rattle.std.proofs.lemmas.Bool.{and_parts, eqb-true, leb-true, ltb-false}
 use Rattle.replay_threads.specs.ThreadsReport.{arrived, bytes, device_lines, is_opened, opened}
 use Rattle.device_script.proofs.Rows.{filter-long, find-among, find-here, find-more, range-more}
 use Rattle.{device_rows.{specs.declared.{event.Event.Event, row.Row.Row}, proofs.Accepted.accepted-at}, poll_interrupts.specs.Acts.arrivals}
+use Rattle.{poll_tasks.specs.Refusals.IsRefused, poll_workers.specs.declared.fault.WorkFault.{WorkFault, TheVariants as work}}
 use Rattle.{poll_workers.specs.Finishes.IsFinished, rx_ring.specs.ReceiveRing.{bytes_of, capped}}
 use Rattle.device_rows.specs.declared.event.Event.TheVariants.{Opened, Rx, Tx, Finish, Softirq, Kthread, Disable, Enable, Threaded, Busy}
 use Rattle.replay_threads.specs.Stations.{AreRunBy, IsEndOf, IsStationOf, end_lines, is_small, polled_of, small_fault}
@@ -217,6 +219,28 @@ run-if-ok R asked settings rows stations (Err fault) of polled = tt
 pub rings-if-ok : {P A E : Type 0} → (answered : Result A E) → P → OnOk answered P
 rings-if-ok (Ok a) p = p
 rings-if-ok (Err e) p = tt
+
+-- a fault that is told as it came is one from outside
+pub told-outside : (may_shut : Type 0) (fault : WorkFault) (told : ReplayFault) → (fault ≡ work.GateShut → may_shut)
+    → (fault ≡ work.SpawnFailed → IsRefused) → IsToldAs fault told → IsOutside may_shut told
+told-outside may_shut work.OutOfMemory told gate spawn is = subst (IsOutside may_shut) (sym is.0) (inr (refl, is.1))
+told-outside may_shut work.GateShut told gate spawn is = subst (IsOutside may_shut) (sym is) (gate refl)
+told-outside may_shut work.SpawnFailed told gate spawn is = subst (IsOutside may_shut) (sym is) (spawn refl)
+
+-- and is that of no output, as is that of a ring which is too small
+pub told-unwritten : (fault : WorkFault) (told : ReplayFault) → IsToldAs fault told → told ≡ OutputFailed → ⊥
+told-unwritten work.OutOfMemory told is failed = cc (sym is.0 ∙ failed)
+told-unwritten work.GateShut told is failed = cc (sym is ∙ failed)
+told-unwritten work.SpawnFailed told is failed = cc (sym is ∙ failed)
+
+pub small-unwritten : (stations : List (Station Script)) (fault : ReplayFault) → small_fault stations ≡ Some fault → fault ≡ OutputFailed
+    → ⊥
+small-unwritten stations fault is failed = by (find is_small stations) is
+  where
+    by : (o : Option (Station Script))
+        → option_map (λ station. RingTooSmall station.number (length (rx_of station.device.rows))) o ≡ Some fault → ⊥
+    by None e = cc e
+    by (Some station) e = cc (e, failed)
 
 -- ---- the report
 

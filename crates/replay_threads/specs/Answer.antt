@@ -4,10 +4,10 @@ use Rattle.std.specs.List.{find}
 use Rattle.device_rows.specs.Trace.{records_of, trace_of}
 use Rattle.device_rows.specs.declared.TraceFault.{TraceFault}
 use Rattle.device_rows.specs.declared.row.Row.{Row}
-use Rattle.replay_text.specs.Outside.{IsOutside as IsSerialOutside}
+use Rattle.replay_text.specs.Outside.{IsOutside as IsSerialOutside, IsWantOfMemory}
 use Rattle.replay_text.specs.declared.fault.ReplayFault.{ReplayFault}
 use Rattle.replay_text.specs.declared.fault.ReplayFault.TheVariants.{GateShut, RingTooSmall, SpawnFailed, Trace}
-use Rattle.device_rows.specs.declared.fault.TraceFault.TheVariants.{OutOfMemory}
+use Rattle.poll_tasks.specs.Refusals.{IsRefused}
 use Rattle.poll_workers.specs.declared.fault.WorkFault.{WorkFault}
 use Rattle.poll_workers.specs.declared.fault.WorkFault.TheVariants as work
 use Rattle.rx_ring.specs.declared.packet.Totals.{Totals}
@@ -47,12 +47,12 @@ threads_of bytes = answer_of (trace_of (records_of bytes))
 -- the reader, the memory, the writer or a thread failed; or the gate did, where it may be shut
 abbrev pub IsOutside : Type 0 → ReplayFault → Type 0
 IsOutside may_shut GateShut = may_shut
-IsOutside may_shut SpawnFailed = Unit {0}
+IsOutside may_shut SpawnFailed = IsRefused
 IsOutside may_shut fault = IsSerialOutside fault
 
 -- the fault of a run as the replay tells it
 abbrev pub IsToldAs : WorkFault → ReplayFault → Type 0
-IsToldAs work.OutOfMemory told = told ≡ Trace OutOfMemory
+IsToldAs work.OutOfMemory told = IsWantOfMemory told
 IsToldAs work.GateShut told = told ≡ GateShut
 IsToldAs work.SpawnFailed told = told ≡ SpawnFailed
 
@@ -75,3 +75,8 @@ pub record IsPolled (rows : List Row) (device : ℕ) (polled : Polled) : Type 0 
 -- what is told of a run is what the pollers made of it, as many as the settings say and by their numbers
 abbrev pub IsRunBy : Type 0 → (ℕ → Type 0) → Settings → List Row → List Polled → Type 0
 IsRunBy R asked settings rows told = (ends : List (Finished Script)) × AreRunBy R asked settings rows ends × (told ≡ map polled_of ends)
+
+-- the same of the rows of the bytes read
+abbrev pub RanBy : Type 0 → (ℕ → Type 0) → Settings → Option (List ℕ) → List Polled → Type 0
+RanBy R asked settings input told =
+    (bytes : List ℕ) → input ≡ Some bytes → (rows : List Row) × (trace_of (records_of bytes) ≡ Ok rows) × IsRunBy R asked settings rows told

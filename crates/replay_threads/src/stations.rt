@@ -1,6 +1,6 @@
 //! The stations of a trace, and their run.
 
-ghost use Rattle.std.specs.Prelude.{◌≡◌, ◌≤◌, ◌⊎◌, ◌+◌, ◌++◌, ◌∷◌, ℕ, [], List, None, Some, filter, IfErr, IfOk, IsSome, IsTrue, OnOk, length, vec_items};
+ghost use Rattle.std.specs.Prelude.{◌≡◌, ◌≢◌, ◌≤◌, ◌⊎◌, ◌+◌, ◌++◌, ◌∷◌, ℕ, [], List, None, Some, filter, IfErr, IfOk, IsSome, IsTrue, OnOk, length, vec_items};
 ghost use Rattle.std.specs.List.{All, AllZip};
 ghost use Rattle.std.specs.Borrow.{Bor};
 ghost use Rattle.device_rows.specs.Range.{IsWithin};
@@ -10,12 +10,12 @@ ghost use Rattle.poll_tasks.specs.Asks.{IsAsked};
 ghost use Rattle.poll_workers.specs.Courses.{ArePolled, pace_of};
 ghost use Rattle.poll_workers.specs.Finishes.{IsFinished};
 ghost use Rattle.poll_workers.specs.Numbers.{have_distinct_numbers};
-ghost use Rattle.poll_workers.specs.declared.fault.WorkFault.TheVariants.{GateShut};
 ghost use Rattle.poll_interrupts.specs.Opens.{IsStation};
 ghost use Rattle.replay_threads.specs.Answer.{IsOutside, IsToldAs, ring_fault};
 ghost use Rattle.device_script.specs.Script.{opening_of, rx_of, script_of};
 ghost use Rattle.device_script.specs.ScriptShown.{acts, after, answer};
 ghost use Rattle.replay_threads.specs.Stations.{AreRunBy, IsEndOf, IsStationOf, is_small, small_fault};
+ghost use Rattle.replay_text.specs.declared.fault.ReplayFault.TheVariants.{OutputFailed};
 ghost use Rattle.replay_threads.specs.ThreadsReport.{is_opened, opened};
 
 use device_rows::{PLACES, Row};
@@ -119,8 +119,7 @@ fn ring_fault(stations: &[Station<ScriptDevice>]) -> Option<ReplayFault>
 
 // Why a run of workers was refused.
 fn work_fault(fault: WorkFault) -> ReplayFault
-    ensures outside { IsOutside (fault ≡ GateShut) result }
-    ensures told { IsToldAs fault result }
+    ensures { IsToldAs fault result }
 {
     match fault {
         WorkFault::OutOfMemory => AllocError.into(),
@@ -156,6 +155,7 @@ where
         (pace_of settings.now.budget settings.now.weight settings.now.window) acts answer after
         0 settings.now.pollers (vec_items stations) (vec_items all)) }
     ensures fault { IfErr result (λ fault. IsOutside G.may_shut fault) }
+    ensures unwritten { IfErr result (λ fault. fault ≢ OutputFailed) }
 {
     let (budget, weight, window) = pace_of(settings);
     let pollers = settings.pollers;
@@ -186,6 +186,7 @@ where
     ensures rings { OnOk result (ring_fault rows.now ≡ None) }
     ensures fault { IfErr result
         (λ fault. IsOutside G.may_shut fault ⊎ (ring_fault rows.now ≡ Some fault)) }
+    ensures unwritten { IfErr result (λ fault. fault ≢ OutputFailed) }
 {
     let stations = stations_of(alloc, rows)?;
     match ring_fault(&stations) {

@@ -1,16 +1,17 @@
 //! A whole run with threads: from the bytes of a trace to the bytes of a report.
 
-ghost use Rattle.std.specs.Prelude.{◌≡◌, ◌⊎◌, ◌≤◌, [], ℕ, List, Ok, Err, Some, IfErr, IfOk, OnOk, length, map, vec_items};
+ghost use Rattle.std.specs.Prelude.{◌≡◌, ◌≢◌, ◌⊎◌, ◌≤◌, [], ℕ, List, Ok, Err, Some, IfErr, IfOk, OnOk, length, map, vec_items};
 ghost use Rattle.std.specs.Borrow.{Bor};
-ghost use Rattle.std.specs.Io.KnownBytes.{Appends};
+ghost use Rattle.std.specs.Io.KnownBytes.{Appends, Keeps};
 ghost use Rattle.std.specs.List.{AllZip};
 ghost use Rattle.device_rows.specs.Trace.{AcceptedAfter, records_of, trace_of};
 ghost use Rattle.device_rows.specs.declared.row.Row.{Row};
 ghost use Rattle.poll_tasks.specs.Asks.{IsAsked};
-ghost use Rattle.replay_threads.specs.Answer.{IsOutside, IsPolled, IsRunBy, answer_of, threads_of};
+ghost use Rattle.replay_threads.specs.Answer.{IsOutside, IsPolled, IsRunBy, RanBy, answer_of, threads_of};
 ghost use Rattle.replay_threads.specs.Stations.{polled_of};
+ghost use Rattle.replay_text.specs.declared.fault.ReplayFault.TheVariants.{OutputFailed};
 ghost use Rattle.replay_threads.specs.ThreadsReport.{opened};
-ghost use Rattle.replay_text.specs.Written.{IsFaultBy, LeavesAsItWas, Writes};
+ghost use Rattle.replay_text.specs.Written.{AppendsPart, IsFaultBy, Leaves, Writes};
 
 use crate::polled::Polled;
 use crate::report::report_of;
@@ -65,8 +66,11 @@ where
         (vec_items all)) }
     ensures fault { IfErr result
         (λ fault. IsOutside G.may_shut fault ⊎ (answer_of (Ok rows.now) ≡ Err fault)) }
+    ensures cut { IfErr result (λ fault. fault ≡ OutputFailed
+        → (text : List ℕ) × (answer_of (Ok rows.now) ≡ Ok text)
+        × AppendsPart (W.contents writer.old) (W.contents writer.new) text) }
     ensures untouched { IfErr result
-        (LeavesAsItWas (W.contents writer.old) (W.contents writer.new)) }
+        (λ fault. fault ≢ OutputFailed → Keeps (W.contents writer.old) (W.contents writer.new)) }
 {
     let ends = run_rows(rt, alloc, rows, settings, gate)?;
     let text = report_of(alloc, ends.as_slice())?;
@@ -84,8 +88,8 @@ where
 ///
 /// `RingTooSmall` comes before any worker starts, for the lowest device whose ring has fewer places than packets that arrive
 /// there; `GateShut` where the gate answers false, so never where that is always open; `SpawnFailed` where a thread can't be started. All threads have ended then.
-/// Nothing is written before the whole run is over, so on every fault but `OutputFailed` nothing was. After a failed write it
-/// isn't known how much went out. Want of memory may come before any other fault.
+/// Nothing is written before the whole run is over, so on every fault but `OutputFailed` nothing was. On that one a front of
+/// the report was, and not all of it. Want of memory may come before any other fault.
 pub fn replay_threads<P, R, W, G>(
     rt: &P,
     alloc: Global,
@@ -107,15 +111,15 @@ where
         → (rows : List Row) × (trace_of (records_of bytes) ≡ Ok rows)
         × AllZip (IsPolled rows) (opened rows) (vec_items all)) }
     // They were polled by as many pollers as the settings ask for, by the settings' budget, weight and window.
-    ensures run { IfOk result (λ all. (bytes : List ℕ) → R.remaining reader ≡ Some bytes
-        → (rows : List Row) × (trace_of (records_of bytes) ≡ Ok rows)
-        × IsRunBy (Bor P) (IsAsked G.answers gate.now) settings.now rows (vec_items all)) }
+    ensures run { IfOk result (λ all. RanBy (Bor P) (IsAsked G.answers gate.now) settings.now
+        (R.remaining reader) (vec_items all)) }
     // A fault is that of the bytes read, unless the reader, the memory, the writer or a thread failed, or the gate, where that
     // may be shut.
     ensures fault { IfErr result (IsFaultBy (IsOutside G.may_shut)
         (λ bytes fault. threads_of bytes ≡ Err fault) (R.remaining reader)) }
-    ensures untouched { IfErr result
-        (LeavesAsItWas (W.contents writer.old) (W.contents writer.new)) }
+    // Where the output failed less than the whole report was written, and on each other fault nothing.
+    ensures output { IfErr result (Leaves (λ bytes text. threads_of bytes ≡ Ok text)
+        (R.remaining reader) (W.contents writer.old) (W.contents writer.new)) }
 {
     let trace = read_trace(alloc, reader)?;
     write_report(rt, alloc, trace.rows(), writer, settings, gate)

@@ -20,7 +20,7 @@ returns-then-before-eq-MOST_ROWS-clause-fault g c bytes start =
 
 pub returns-in_err-add_next-clause-fault : goal.returns-in_err-add_next-clause-fault
 returns-in_err-add_next-clause-fault g c =
-    let p = err_from_is_err_and c.from_residual.result c.from_residual.ensures.1 in
+    let p = err_from_is_err_and c.from_residual-in_err-add_next.result c.from_residual-in_err-add_next.ensures.1 in
     rw (p.1, p.2) (λ bytes start.
     let (left, at, so_far) = c.loop-before.invariant.goes_on bytes start in
     let found : c.next_record.result ≡ came.Record = search rules in

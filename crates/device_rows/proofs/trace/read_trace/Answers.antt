@@ -15,8 +15,8 @@ returns-in-End-clause-fault g c bytes known =
     (strip_bom bytes) refl next in
     inr (asked-decide 100002 _ bytes (omega arith) c.reader_of-reader.ensures.state ∙ trace-none _ done)
 
-pub returns-in_default-version_of-clause-fault : goal.returns-in_default-version_of-clause-fault
-returns-in_default-version_of-clause-fault g c bytes known =
+pub returns-in_default-clause-fault : goal.returns-in_default-clause-fault
+returns-in_default-clause-fault g c bytes known =
     let start = c.reader_of-reader.ensures.start bytes known in
     let found : c.next_record.result ≡ Next.Record = search rules in
     let next = c.next_record.ensures.record found (strip_bom bytes) start in

@@ -1,5 +1,6 @@
 use Rattle.std.proofs.Common.{◌≡◌, ◌∙◌, ◌++◌, ◌-◌, ℕ, List, length, take, drop, sym, ap, append_assoc, take-append-drop, rules, arith}
-use Rattle.{std.proofs.lemmas.List.take_rest, replay_text.proofs.OutFacts.{cut_behind, none_more, then_kept, then_more}}
+use Rattle.{std.proofs.lemmas.List.take_rest, replay_text.specs.Stops.{stopped_at_last, stopped_at_none, stopped_by}}
+use Rattle.{replay_text.proofs.OutFacts.{cut_behind, none_more, then_kept, then_more}}
 use Rattle.replay_text.proofs.lines.write_out.Goals.{in-Err, in-Ok+else-count-eq0}
 use Rattle.replay_text.proofs.lines.write_out.Goals as goal
 
@@ -34,3 +35,12 @@ pub returns-clause-cut : goal.returns-clause-cut
 returns-clause-cut g c =
     let (done, split, appended) = c.loop.invariant in
     λ e. cut_behind _ _ _ done c.loop.rest.now split (search rules) appended
+
+pub returns-then-count-eq0-clause-stopped : goal.returns-then-count-eq0-clause-stopped
+returns-then-count-eq0-clause-stopped g c = λ _. stopped_at_none c.in-Ok.count (omega arith)
+
+pub returns-in-Err-2-clause-stopped : goal.returns-in-Err-2-clause-stopped
+returns-in-Err-2-clause-stopped g c = λ _. stopped_by c.in-Err.error (search rules)
+
+pub returns-clause-stopped : goal.returns-clause-stopped
+returns-clause-stopped g c = λ _. stopped_at_last c.loop.counter (omega arith)

@@ -1,7 +1,7 @@
 use Rattle.std.proofs.Common.{◌≡◌, ◌∙◌, None, Some, inr, sym, vec_items}
 use Rattle.replay_threads.specs.{Stations.{small_fault, IsStationOf}, ThreadsReport.{is_opened, opened}}
 use Rattle.replay_threads.proofs.DistinctNumbers.{rising-numbers}
-use Rattle.replay_threads.proofs.StationFacts.{ends-if-ok, ring-of, rings-if-ok, run-if-ok}
+use Rattle.replay_threads.proofs.StationFacts.{ends-if-ok, ring-of, rings-if-ok, run-if-ok, small-unwritten}
 use Rattle.replay_threads.proofs.stations.run_rows.Goals as goal
 
 pub run_stations-requires-clause-numbers : goal.run_stations-requires-clause-numbers
@@ -15,6 +15,11 @@ returns-in-Some-clause-fault g c =
     let small : small_fault (vec_items c.in_ok-stations.stations) ≡ Some c.in-Some.fault =
     rw c.deref.ensures.value at (sym c.ring_fault.ensures ∙ c.in-Some.is) in
     inr (ring-of c.args.rows.now _ _ c.in_ok-stations.ensures.stations ∙ small)
+
+pub returns-in-Some-clause-unwritten : goal.returns-in-Some-clause-unwritten
+returns-in-Some-clause-unwritten g c =
+    small-unwritten (vec_items c.in_ok-stations.stations) c.in-Some.fault
+    (rw c.deref.ensures.value at (sym c.ring_fault.ensures ∙ c.in-Some.is))
 
 pub returns-in-None-clause-ends : goal.returns-in-None-clause-ends
 returns-in-None-clause-ends g c =

@@ -1,0 +1,24 @@
+-- That a reader failed, or memory was refused: who meets it knows it by the error that came.
+use Rattle.std.specs.Prelude.{◌≡◌}
+use Rattle.std.specs.declared.alloc.AllocError.{AllocError}
+use Rattle.std.specs.declared.io.Error.{Error}
+use Rattle.csv.specs.declared.error.ErrorKind.{ErrorKind}
+use Rattle.csv.specs.declared.error.ErrorKind.TheVariants.{Io, OutOfMemory}
+
+pub HasFailed : Type 0
+HasFailed = Unit {0}
+
+pub failed_by : (kind : ErrorKind) (error : Error) → kind ≡ Io error → HasFailed
+unfolding HasFailed
+failed_by kind error is = tt
+
+pub IsRefused : Type 0
+IsRefused = Unit {0}
+
+pub refused_by : AllocError → IsRefused
+unfolding IsRefused
+refused_by error = tt
+
+pub refused_by_csv : (kind : ErrorKind) → kind ≡ OutOfMemory → IsRefused
+unfolding IsRefused
+refused_by_csv kind is = tt

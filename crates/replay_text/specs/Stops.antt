@@ -1,0 +1,20 @@
+-- That a writer stopped: who meets it knows it by what the writer answered, or by how often it was asked.
+use Rattle.std.specs.Prelude.{◌≡◌, ◌≤◌, ◌-◌, ◌^◌, ℕ}
+use Rattle.std.specs.IoError.{error_kind}
+use Rattle.std.specs.declared.io.Error.{Error}
+use Rattle.std.specs.declared.io.ErrorKind.TheVariants.{Interrupted}
+
+pub HasStopped : Type 0
+HasStopped = Unit {0}
+
+pub stopped_by : (error : Error) → (error_kind error ≡ Interrupted → ⊥) → HasStopped
+unfolding HasStopped
+stopped_by error is = tt
+
+pub stopped_at_none : (count : ℕ) → count ≡ 0 → HasStopped
+unfolding HasStopped
+stopped_at_none count is = tt
+
+pub stopped_at_last : (asked : ℕ) → 2 ^ 64 - 1 ≤ asked → HasStopped
+unfolding HasStopped
+stopped_at_last asked is = tt
