@@ -15,7 +15,8 @@ use Rattle.std.proofs.lemmas.Bool.{and_parts, eqb-true, leb-true, ltb-false}
 use Rattle.replay_threads.specs.ThreadsReport.{arrived, bytes, device_lines, is_opened, opened}
 use Rattle.device_script.proofs.Rows.{filter-long, find-among, find-here, find-more, range-more}
 use Rattle.{device_rows.{specs.declared.{event.Event.Event, row.Row.Row}, proofs.Accepted.accepted-at}, poll_interrupts.specs.Acts.arrivals}
-use Rattle.{poll_tasks.specs.Refusals.IsRefused, poll_workers.specs.declared.fault.WorkFault.{WorkFault, TheVariants as work}}
+use Rattle.{poll_tasks.specs.Refusals.IsRefused, poll_workers.specs.declared.fault.WorkFault.WorkFault}
+use Rattle.poll_workers.specs.declared.fault.WorkFault.TheVariants as work
 use Rattle.{poll_workers.specs.Finishes.IsFinished, rx_ring.specs.ReceiveRing.{bytes_of, capped}}
 use Rattle.device_rows.specs.declared.event.Event.TheVariants.{Opened, Rx, Tx, Finish, Softirq, Kthread, Disable, Enable, Threaded, Busy}
 use Rattle.replay_threads.specs.Stations.{AreRunBy, IsEndOf, IsStationOf, end_lines, is_small, polled_of, small_fault}
