@@ -37,39 +37,33 @@ def version():
 
 
 class Trace:
-    """A trace, open. A file the program reads by itself; all else goes through here, since it can't be read twice."""
+    """A trace, open. It goes to the program through here, since not every one can be read twice."""
 
     def __init__(self, files):
         self.name = None if files in ([], ["-"]) else shown(files[0])
         self.which, self.kept, self.failed = self.name or "standard input", bytearray(), False
-        self.failure = Stop(66, f"{self.which}: a read of it failed")
         if len(files) > 1:
             raise Stop(66, f"two traces are named, {self.name} and {shown(files[1])}: replay one at a time")
         if not files and os.isatty(0):
             raise Stop(66, "no trace: name a file, or give one on standard input")
         try:
-            # (`/proc/kmsg` is a file too, and waits for more)
+            # `/proc/kmsg` is a file too, and waits for more.
             self.end = os.open(files[0], os.O_RDONLY | (os.O_NONBLOCK if os.path.isfile(files[0]) else 0)) if self.name else 0
         except OSError as error:
             why = UNREADABLE.get(error.errno, f"it can't be read: {error.strerror.lower()}")
             raise Stop(66, f"{self.which}: {why}") from None
         if fcntl.fcntl(self.end, fcntl.F_GETFL) & os.O_ACCMODE == os.O_WRONLY:
             raise Stop(66, "no trace: standard input is closed")
-        mode = os.fstat(self.end).st_mode
-        if stat.S_ISDIR(mode):
+        if stat.S_ISDIR(os.fstat(self.end).st_mode):
             raise Stop(66, f"{self.which}: this is a folder, not a trace")
-        self.is_file = stat.S_ISREG(mode)
-        self.start = os.lseek(self.end, 0, os.SEEK_CUR) if self.is_file else 0
 
     def keep(self):
         """Reads it whole, where two runs are to read it."""
-        if self.is_file:
-            return
         try:
             with open(self.end, "rb") as file:
                 self.kept += file.read(MOST_KEPT + 1)
         except OSError:
-            raise self.failure from None
+            raise Stop(66, f"{self.which}: a read of it failed") from None
         if len(self.kept) > MOST_KEPT:
             raise Stop(66, f"{self.which}: over 64 MiB aren't kept for two runs; build first, by ./replay --build")
         self.end = os.open(os.devnull, os.O_RDONLY)
@@ -85,18 +79,6 @@ class Trace:
             process.kill()
         os.close(to)
 
-    def text(self):
-        """All that the program read and may name a row of; nothing where that isn't known."""
-        text, size = bytes(self.kept), len(self.kept)
-        if self.is_file:
-            try:
-                text = os.read(os.open(f"/dev/fd/{self.end}", os.O_RDONLY | os.O_NONBLOCK), MOST_EXPLAINED + 1)
-            except OSError:
-                return None
-            # What the system makes up has another size, and may be read once only.
-            size = -1 if self.start else os.fstat(self.end).st_size
-        return text if len(text) == size <= MOST_EXPLAINED else None
-
     def run(self, command, memory=0, is_kept=True, **where):
         """Runs a program over it, in so many MiB: its status, its output where that is kept, and what it said."""
         def bound():
@@ -106,16 +88,15 @@ class Trace:
             if memory and (soft == resource.RLIM_INFINITY or soft > memory << 20):
                 resource.setrlimit(resource.RLIMIT_AS, (memory << 20, hard))
 
-        signal.pthread_sigmask(signal.SIG_BLOCK, SIGNALS)  # until what is to be ended by one is known
-        source, to = (self.end, os.lseek(self.end, self.start, os.SEEK_SET)) if self.is_file else os.pipe()
+        signal.pthread_sigmask(signal.SIG_BLOCK, SIGNALS)  # until it is known what one has to end
+        source, to = os.pipe()
         try:
             process = subprocess.Popen(command, stdin=source, stdout=subprocess.PIPE if is_kept else None, stderr=subprocess.PIPE,
                                        preexec_fn=bound, restore_signals=False, **where)
         except (OSError, subprocess.SubprocessError) as error:
             raise Stop(70, f"{command[0]} couldn't be started: {error}") from None
-        if not self.is_file:
-            os.close(source)
-            threading.Thread(target=self.pass_on, args=(to, process), daemon=True).start()
+        os.close(source)
+        threading.Thread(target=self.pass_on, args=(to, process), daemon=True).start()
         try:
             signal.pthread_sigmask(signal.SIG_UNBLOCK, SIGNALS)
             output, said = process.communicate()
@@ -124,7 +105,7 @@ class Trace:
                 process.terminate()
                 process.wait()
         if self.failed:
-            raise self.failure
+            raise Stop(66, f"{self.which}: a read of it failed")
         status = process.returncode
         return status if status >= 0 else 128 - status, output, said.decode(errors="replace")
 
@@ -195,7 +176,8 @@ class Call:
         """On a terminal, where the program is to be built: an answer at once, and the proof of it behind."""
         self.trace.keep()
         say("the program is to be proved and built first: meanwhile the answer of an UNPROVED run, in up to a minute")
-        first = self.unproved("this was an UNPROVED run; now it is proved. Ctrl-C leaves what is proved by then, and the next call goes on from there")
+        first = self.unproved("this was an UNPROVED run; now it is proved. Ctrl-C leaves what is proved by then, "
+                              "and the next call goes on from there")
         build([self.program])
         second = self.proved(True)
         if first[:2] == second[:2] and second[2] in first[2]:
@@ -221,17 +203,14 @@ class Call:
         number, row = ([("", "")] + re.findall(r"^trace fault (\d+) \w+(?: row (\d+))?$", said, re.M))[-1]
         if status == 64:
             return f"{judge(self.words) or 'the program knows no such words'} (see ./replay --help)"
-        if number == "10":
-            return self.trace.failure.args[1]
         if said == "memory fault 11 OutOfMemory\n" and self.memory != "unlimited":
             return f"{self.trace.which}: it takes more memory than the program may have, {self.memory} MiB (REPLAY_MEMORY sets that)"
         if status not in (0, 141) and not said:  # (141: who read the report has enough)
             return f"{self.program} ended with status {status}, and no line of it is there"
-        text = self.trace.text() if row else None
-        if text is None:
+        if not row or len(self.trace.kept) > MOST_EXPLAINED:
             return ""
         from explain import explain
-        return explain(text, int(number), int(row), self.trace.name)
+        return explain(bytes(self.trace.kept), int(number), int(row), self.trace.name)
 
 
 if __name__ == "__main__":
