@@ -67,25 +67,23 @@ def end_by(call, *given):
 
 @functools.cache
 def crates():
-    """The crates of crates.txt by their names."""
-    lines = read(f"{TOP}/crates.txt").splitlines(keepends=True)
-    return {it.name: it for it in map(Crate, lines) if it.name}
+    """The crates of crates.txt by their names, each with those there that it needs."""
+    found = {it.name: it for it in map(Crate, read(f"{TOP}/crates.txt").splitlines(keepends=True)) if it.name}
+    for crate in found.values():
+        crate.needs = [found[it] for it in crate.needs if it in found]
+    return found
 
 
 class Crate:
     def __init__(self, line):
         head, colon, needs = line.partition("#")[0].partition(":")
-        self.line, self.named = line, needs.split()
+        self.line, self.needs = line, needs.split()
         self.name, *kinds = head.split() if colon else [""]
         self.folder, self.lane = f"{TOP}/crates/{self.name}", f"{LANES}/{self.name}"
         self.own, self.log = f"{self.lane}/crates/{self.name}", f"{self.lane}/log"  # its folder in its lane, and what `rt` says there
         self.is_program = os.path.exists(f"{self.folder}/src/main.rt")
         self.is_library = not self.is_program and "staticlib" not in kinds
         self.made = f"out/{self.name}" if self.is_program else "out/rlib/stamp" if self.is_library else f"out/lib{self.name}.a"
-
-    @functools.cached_property
-    def needs(self):
-        return [crates()[it] for it in self.named if it in crates()]
 
     @functools.cached_property
     def all(self):
@@ -138,12 +136,16 @@ class Crate:
 
     def begin(self, pace):
         """Begins it in its lane, `pace` behind others. It ends with this process, however that ends."""
+        def prepared():
+            signal.pthread_sigmask(signal.SIG_UNBLOCK, SIGNALS)
+            os.nice(min(3 * pace, 19))
+
         self.lay()
         command = ["setpriv", "--pdeathsig", "TERM"] if shutil.which("setpriv") else []
         # `rt` makes no program without a run.
         command += ["rt", "run", "--", *read(self.given("args")).splitlines()] if self.is_program else ["rt", "lib"]
         with open(self.log, "wb") as log, open(self.given("stdin"), "rb") as source:
-            return subprocess.Popen(command, stdin=source, stdout=log, stderr=log, cwd=self.own, preexec_fn=lambda: os.nice(min(3 * pace, 19)))
+            return subprocess.Popen(command, stdin=source, stdout=log, stderr=log, cwd=self.own, preexec_fn=prepared)
 
 
 def link(source, to):
@@ -172,7 +174,8 @@ class Build:
 
     def run(self):
         new = sum(not os.path.exists(f"{it.own}/out/incremental") for it in self.crates)
-        takes = f", {new} for the first time: on 4 cores some {(new * 40 + 59) // 60} minutes, {new * 250} MB of disk and up to 7 GB of memory"
+        minutes = (new * 40 + 59) // 60
+        takes = f", {new} for the first time: on 4 cores some {minutes} minutes, {new * 250} MB of disk and up to 7 GB of memory"
         say(f"proving and building {self.names} and what they stand on, {len(self.crates)} crates{takes if new else ''}")
         for crate in self.asked:  # so that no old one answers for new sources
             with contextlib.suppress(FileNotFoundError):
@@ -196,7 +199,9 @@ class Build:
         left = [it for it in self.crates if it not in self.done]
         ready = [it for it in left if it not in self.at_work and self.done.issuperset(it.needs)][: self.lanes - len(self.at_work)]
         for crate in ready:
+            signal.pthread_sigmask(signal.SIG_BLOCK, SIGNALS)  # until it is known what one has to end
             self.at_work[crate] = crate.begin(left.index(crate))
+            signal.pthread_sigmask(signal.SIG_UNBLOCK, SIGNALS)
         return bool(ready)
 
     def end(self, crate, status):

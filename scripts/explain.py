@@ -27,7 +27,8 @@ CAUSES = {
     "2 ": "a row has four fields, and this one has {fields}",
     "3 ": "moment, device and value are one to twenty digits, without sign, space or fraction",
     "4 .*,busy,": f"a busy row needs the header of version 2: {HEADER},2",
-    "4 ": "the event is none of open rx tx done softirq kthread disable enable threaded, and busy in version 2, in lower case and without spaces",
+    "4 ": "the event is none of open rx tx done softirq kthread disable enable threaded, and busy in version 2, "
+          "in lower case and without spaces",
     "5 .*,softirq,": "softirq has device 0 and value 0",
     "5 .*,open,": "open has a device of 1..=16 and a value of 1..=65536, its places",
     "5 .*,(rx|tx),": "rx and tx have a device of 1..=16 and a value of 1..=65535 bytes",
