@@ -58,15 +58,17 @@ class Trace:
             raise Stop(66, f"{self.which}: this is a folder, not a trace")
 
     def keep(self):
-        """Reads it whole, where two runs are to read it."""
+        """Reads it whole, where two runs are to read it, and returns whether it isn't too long for that."""
         try:
-            with open(self.end, "rb") as file:
-                self.kept += file.read(MOST_KEPT + 1)
+            while len(self.kept) <= MOST_KEPT:
+                text = os.read(self.end, 1 << 16)
+                if not text:
+                    self.end = os.open(os.devnull, os.O_RDONLY)
+                    return True
+                self.kept += text
         except OSError:
             raise Stop(66, f"{self.which}: a read of it failed") from None
-        if len(self.kept) > MOST_KEPT:
-            raise Stop(66, f"{self.which}: over 64 MiB aren't kept for two runs; build first, by ./replay --build")
-        self.end = os.open(os.devnull, os.O_RDONLY)
+        return False
 
     def pass_on(self, to, process):
         """Half a trace is none: where a read fails the program ends before it could take it for one."""
@@ -148,7 +150,7 @@ class Call:
             return self.unproved("this was an UNPROVED run")[0]
         if not crates()[self.program].is_built():
             self.refuse_words()
-            if os.isatty(1) and shutil.which("rt"):
+            if os.isatty(1) and shutil.which("rt") and self.trace.keep():
                 return self.answer_first()
             build([self.program])
         return self.finish(*self.proved("--json" in self.own))
@@ -174,7 +176,6 @@ class Call:
 
     def answer_first(self):
         """On a terminal, where the program is to be built: an answer at once, and the proof of it behind."""
-        self.trace.keep()
         say("the program is to be proved and built first: meanwhile the answer of an UNPROVED run, in up to a minute")
         first = self.unproved("this was an UNPROVED run; now it is proved. Ctrl-C leaves what is proved by then, "
                               "and the next call goes on from there")

@@ -11,9 +11,7 @@ trap 'rm -rf "$scratch"' EXIT
 chmod 755 "$scratch"
 cd "$scratch" || exit
 . "$top/scripts/checks.sh"
-launcher=$top/replay
-small=$scratch/small
-
+launcher=$top/replay small=$scratch/small
 # is ACTUAL PATTERN
 # shellcheck disable=SC2053
 is() { echo "$1"; [[ $1 = $2 ]]; }
@@ -277,6 +275,8 @@ on a terminal an unproved answer comes first, once, and the proof of it then; th
 crate 2 of 4 (low side), 6 of 8 functions checked, 0:0*crate 4 of 4*proved and built, in * s|replay: the proved program gives the same bytes
 the next call replays % on_terminal $launcher trace.csv % 0 $answer
 so it does for a trace through a pipe % change; on_terminal bash -c '$launcher <(cat trace.csv)' % 0 *|$answer|*gives the same bytes
+one too long to be kept is replayed once % change; DOES='wc -c; exit' on_terminal bash -c 'head -c 70000000 /dev/zero | $launcher' % \
+0 replay: proving and *proved and built, in * s|70000000
 other bytes are told of, and printed % change; TRIES=more on_terminal $launcher trace.csv % 0 *gives OTHER bytes, *|$answer
 a fault is told first and proved then % change; DOES=\$fails on_terminal $launcher bad.csv % 2 *${fault/|/|rt: a hint|}|*the same bytes
 where the build fails the answer stands, and the status is its % change; PROVES='$high_fails' on_terminal $launcher trace.csv % \
