@@ -1,12 +1,10 @@
 """Proves and builds crates of this checkout with all that they stand on, where that isn't done yet or a source has changed since: for
 ./replay, and by build.sh for scripts.
 
-`rt` locks its crate and every crate below, so two libraries over the same ones would wait for each other. Each crate is
-therefore built in a lane: a folder with its sources and those below it, the libraries there as hard links, and its own `out/`,
-which stays for the next build.
+`rt` locks its crate and every crate below, so two libraries over the same ones would wait for each other. Each crate is therefore
+built in a lane: a folder with its sources and those below it, the libraries there as hard links, and its own `out/`, which stays.
 """
 import contextlib
-import errno
 import fcntl
 import functools
 import os
@@ -22,6 +20,7 @@ PARTS = ("src", "specs", "proofs")
 # Where git doesn't look, or, in what is no clone, where caches are.
 CACHE = f"{os.environ.get('XDG_CACHE_HOME') or os.path.expanduser('~/.cache')}/fintaqush/{TOP.replace('/', '%')}"
 LANES = f"{TOP}/.git/lanes" if os.path.isdir(f"{TOP}/.git") else CACHE
+SIGNALS = (signal.SIGINT, signal.SIGTERM, signal.SIGHUP)
 LANE_MEMORY = 2_500_000  # kB, which a check may take
 
 
@@ -29,22 +28,35 @@ class Stop(Exception):
     """The end of a call: its status, and its line on standard error."""
 
 
+def write(text, end=1):
+    """Writes all of it, and returns whether that went well."""
+    try:
+        with open(end, "wb", closefd=False) as file:
+            file.write(text)
+    except OSError:
+        return False
+    return True
+
+
 def say(line):
-    with contextlib.suppress(OSError):
-        os.write(2, f"replay: {line}\n".encode(errors="surrogateescape"))
+    write(f"replay: {line}\n".encode(errors="surrogateescape"), 2)
+
+
+def read(path):
+    with open(path, encoding="utf-8", errors="replace") as file:
+        return file.read()
 
 
 def end_by(call, *given):
     """Ends this process as the call ends, by its status or by a line and a status; or by a signal's."""
-    signals = [it for it in (signal.SIGINT, signal.SIGTERM, signal.SIGHUP) if signal.getsignal(it) != signal.SIG_IGN]
-
     def interrupt(number, _):
-        for it in signals:
+        for it in SIGNALS:
             signal.signal(it, signal.SIG_IGN)
         raise Stop(130 if number == signal.SIGINT else 143, "interrupted")
 
-    for it in signals:
-        signal.signal(it, interrupt)
+    for it in SIGNALS:
+        if signal.getsignal(it) != signal.SIG_IGN:
+            signal.signal(it, interrupt)
     try:
         status = call(*given)
     except Stop as stop:
@@ -55,27 +67,28 @@ def end_by(call, *given):
 
 @functools.cache
 def crates():
-    """The crates of crates.txt by their names, each with those there that it names."""
-    with open(f"{TOP}/crates.txt", encoding="utf-8") as file:
-        found = {line.split()[0].rstrip(":"): Crate(line) for line in file if ":" in line.partition("#")[0]}
+    """The crates of crates.txt by their names, each with those there that it needs."""
+    found = {it.name: it for it in map(Crate, read(f"{TOP}/crates.txt").splitlines(keepends=True)) if it.name}
     for crate in found.values():
-        crate.needs = [found[it] for it in crate.line.partition("#")[0].partition(":")[2].split() if it in found]
+        crate.needs = [found[it] for it in crate.needs if it in found]
     return found
 
 
 class Crate:
     def __init__(self, line):
-        self.line, self.name = line, line.split()[0].rstrip(":")
+        head, colon, needs = line.partition("#")[0].partition(":")
+        self.line, self.needs = line, needs.split()
+        self.name, *kinds = head.split() if colon else [""]
         self.folder, self.lane = f"{TOP}/crates/{self.name}", f"{LANES}/{self.name}"
-        self.own = f"{self.lane}/crates/{self.name}"  # its folder in its lane
+        self.own, self.log = f"{self.lane}/crates/{self.name}", f"{self.lane}/log"  # its folder in its lane, and what `rt` says there
         self.is_program = os.path.exists(f"{self.folder}/src/main.rt")
-        self.is_library = not self.is_program and " staticlib" not in line.partition(":")[0]
+        self.is_library = not self.is_program and "staticlib" not in kinds
         self.made = f"out/{self.name}" if self.is_program else "out/rlib/stamp" if self.is_library else f"out/lib{self.name}.a"
 
-    @functools.cache
-    def below(self):
-        """What it stands on in this checkout, lowest first."""
-        return list(dict.fromkeys(it for need in self.needs for it in (*need.below(), need)))
+    @functools.cached_property
+    def all(self):
+        """It and what it stands on in this checkout, lowest first."""
+        return [*dict.fromkeys(it for need in self.needs for it in need.all), self]
 
     def texts(self):
         """Its folders and files, as the system tells of them."""
@@ -86,7 +99,7 @@ class Crate:
     def is_made(self, folder):
         """Whether it stands there, and nothing that it is made of is newer. Folders count too: one that has lost a file is newer."""
         try:
-            parts = [os.stat(f"{TOP}/crates.txt"), *(it for crate in (*self.below(), self) for it in crate.texts())]
+            parts = [os.stat(f"{TOP}/crates.txt"), *(it for crate in self.all for it in crate.texts())]
             return max(it.st_mtime_ns for it in parts) <= os.stat(f"{folder}/{self.made}").st_mtime_ns
         except OSError:
             return False
@@ -108,32 +121,31 @@ class Crate:
         for old in os.scandir(f"{self.lane}/crates"):
             for part in PARTS if old.name == self.name else ("",):
                 shutil.rmtree(f"{old.path}/{part}", ignore_errors=True)
-        for crate in (*self.below(), self):
+        for crate in self.all:
             for part in filter(lambda it: os.path.isdir(f"{crate.folder}/{it}"), PARTS):
                 shutil.copytree(f"{crate.folder}/{part}", f"{self.lane}/crates/{crate.name}/{part}")
             if crate != self:
                 shutil.copytree(f"{crate.own}/out/rlib", f"{self.lane}/crates/{crate.name}/out/rlib", copy_function=link)
         with open(f"{self.lane}/crates.txt", "w", encoding="utf-8") as file:
-            file.writelines(crate.line for crate in (*self.below(), self))
+            file.writelines(crate.line for crate in self.all)
+
+    def given(self, name):
+        """What the gate runs it on: the file of this name, if it's there."""
+        path = f"{self.folder}/{name}"
+        return path if os.path.exists(path) else os.devnull
 
     def begin(self, pace):
-        """Begins it in its lane, `pace` behind others. `rt` makes no program without a run: this is on what the gate runs it on."""
-        self.lay()
-        words, given = [], os.devnull
-        if self.is_program:
-            given = f"{self.folder}/stdin" if os.path.exists(f"{self.folder}/stdin") else given
-            if os.path.exists(f"{self.folder}/args"):
-                with open(f"{self.folder}/args", encoding="utf-8") as file:
-                    words = file.read().splitlines()
-        # It ends with this process, however that ends.
-        command = ["setpriv", "--pdeathsig", "TERM"] if shutil.which("setpriv") else []
-        command += ["rt", "run", "--", *words] if self.is_program else ["rt", "lib"]
-        with open(f"{self.lane}/log", "wb") as log, open(given, "rb") as source:
-            return subprocess.Popen(command, stdin=source, stdout=log, stderr=log, cwd=self.own, preexec_fn=lambda: os.nice(min(3 * pace, 19)))
+        """Begins it in its lane, `pace` behind others. It ends with this process, however that ends."""
+        def prepared():
+            signal.pthread_sigmask(signal.SIG_UNBLOCK, SIGNALS)
+            os.nice(min(3 * pace, 19))
 
-    def told(self):
-        with open(f"{self.lane}/log", errors="replace", encoding="utf-8") as log:
-            return log.read()
+        self.lay()
+        command = ["setpriv", "--pdeathsig", "TERM"] if shutil.which("setpriv") else []
+        # `rt` makes no program without a run.
+        command += ["rt", "run", "--", *read(self.given("args")).splitlines()] if self.is_program else ["rt", "lib"]
+        with open(self.log, "wb") as log, open(self.given("stdin"), "rb") as source:
+            return subprocess.Popen(command, stdin=source, stdout=log, stderr=log, cwd=self.own, preexec_fn=prepared)
 
 
 def link(source, to):
@@ -144,14 +156,14 @@ def link(source, to):
 
 
 class Build:
-    """A build of these crates: which of them and of those below have begun and are done, and the processes at work."""
+    """A build of these crates: which of them and of those below are done, and the processes at work."""
 
     def __init__(self, asked):
-        self.asked, self.begun, self.shown, self.done, self.at_work, self.since = asked, [], [], set(), {}, time.time_ns()
+        self.asked, self.done, self.at_work, self.since = asked, set(), {}, time.time_ns()
         self.names = " and ".join(it.name for it in asked)
-        every = dict.fromkeys(it for crate in asked for it in (*crate.below(), crate))
-        with open("/proc/meminfo", encoding="ascii") as file:
-            self.lanes = min(max(int(re.search(r"MemAvailable: *(\d+)", file.read())[1]) // LANE_MEMORY, 1), 3)
+        every = dict.fromkeys(it for crate in asked for it in crate.all)
+        memory = int(re.search(r"MemAvailable: *(\d+)", read("/proc/meminfo"))[1])
+        self.lanes = min(max(memory // LANE_MEMORY, 1), 3)
 
         @functools.cache
         def chain(crate):
@@ -162,61 +174,63 @@ class Build:
 
     def run(self):
         new = sum(not os.path.exists(f"{it.own}/out/incremental") for it in self.crates)
-        takes = f", {new} for the first time: on 4 cores some {(new * 40 + 59) // 60} minutes, {new * 250} MB of disk and up to 7 GB of memory"
+        minutes = (new * 40 + 59) // 60
+        takes = f", {new} for the first time: on 4 cores some {minutes} minutes, {new * 250} MB of disk and up to 7 GB of memory"
         say(f"proving and building {self.names} and what they stand on, {len(self.crates)} crates{takes if new else ''}")
         for crate in self.asked:  # so that no old one answers for new sources
             with contextlib.suppress(FileNotFoundError):
                 os.remove(f"{crate.folder}/{crate.made}")
         try:
             while not self.done.issuperset(self.asked):
-                self.step()
-                self.show()
+                for crate in [it for it, process in self.at_work.items() if process.poll() is not None]:
+                    self.end(crate, self.at_work.pop(crate).returncode)
+                self.show(self.begin())
                 time.sleep(0.2)
         finally:
             for process in self.at_work.values():
                 process.terminate()
                 process.wait()
             if os.isatty(2):
-                os.write(2, b"\r\033[K")
+                write(b"\r\033[K", 2)
         say(f"{self.names}: proved and built, in {(time.time_ns() - self.since) // 10**9} s")
 
-    def step(self):
-        """Notes what ended, and begins what has become ready, as far as there are lanes."""
-        for crate in [it for it, process in self.at_work.items() if process.poll() is not None]:
-            self.ended(crate, self.at_work.pop(crate).returncode)
-        for pace, crate in enumerate(it for it in self.crates if it not in self.done):
-            if len(self.at_work) < self.lanes and crate not in self.at_work and self.done.issuperset(crate.needs):
-                self.at_work[crate] = crate.begin(pace)
-                self.begun += [crate] * (crate not in self.begun)
+    def begin(self):
+        """Begins what is ready, as far as there are lanes, and returns whether there was such."""
+        left = [it for it in self.crates if it not in self.done]
+        ready = [it for it in left if it not in self.at_work and self.done.issuperset(it.needs)][: self.lanes - len(self.at_work)]
+        for crate in ready:
+            signal.pthread_sigmask(signal.SIG_BLOCK, SIGNALS)  # until it is known what one has to end
+            self.at_work[crate] = crate.begin(left.index(crate))
+            signal.pthread_sigmask(signal.SIG_UNBLOCK, SIGNALS)
+        return bool(ready)
 
-    def ended(self, crate, status):
-        lines = crate.told().splitlines()
+    def end(self, crate, status):
+        said = read(crate.log)
         # What a program's own run came to says nothing of the build: `rt` runs only what it has built.
-        if any(it.startswith("rt: running ") for it in lines) if crate.is_program else status == 0:
+        if re.search("^rt: running ", said, re.M) if crate.is_program else status == 0:
             self.done.add(crate)
             if crate in self.asked:
                 # As old as the build: what was changed meanwhile is newer.
                 os.utime(f"{crate.own}/{crate.made}", ns=(self.since, self.since))
                 crate.leave()
-        elif self.lanes > 1 and "was killed, most likely for memory" in crate.told():
+        elif self.lanes > 1 and "was killed, most likely for memory" in said:
             self.lanes = 1  # and it is begun again, alone
         else:
-            why = "\n".join(([it for it in lines if "error" in it] or lines[-5:])[:5])
-            raise Stop(70, f"{crate.name} couldn't be built; {crate.lane}/log has all that `rt` said:\n{why}")
+            why = "\n".join((re.findall(".*error.*", said) or said.splitlines()[-5:])[:5])
+            raise Stop(70, f"{crate.name} couldn't be built; {crate.log} has all that `rt` said:\n{why}")
 
-    def show(self):
+    def show(self, is_new):
         """On a terminal one line is written over and over; elsewhere one where a crate begins."""
-        counts = [re.findall(r"^so far: (\d+) of (\d+) functions checked", it.told(), re.M)[-1:] or [(0, 0)] for it in self.begun]
-        checked, of = (sum(int(it[0][at]) for it in counts) for at in (0, 1))
+        begun = [*self.done, *self.at_work]
+        counts = [re.findall(r"^so far: (\d+) of (\d+) functions checked", read(it.log), re.M)[-1:] for it in begun]
+        checked, of = (sum(int(last[at]) for it in counts for last in it) for at in (0, 1))
         minutes, seconds = divmod((time.time_ns() - self.since) // 10**9, 60)
-        at_work = " ".join(it.name for it in self.at_work)
         functions = f", {checked} of {of} functions checked" if of else ""
-        line = f"crate {len(self.begun)} of {len(self.crates)} ({at_work}){functions}, {minutes}:{seconds:02}"
+        line = f"crate {len(begun)} of {len(self.crates)} ({' '.join(it.name for it in self.at_work)}){functions}, {minutes}:{seconds:02}"
         if os.isatty(2):
-            os.write(2, f"\r\033[Kreplay: {line}"[:82].encode())
-        elif self.begun != self.shown:
+            write(f"\r\033[Kreplay: {line}"[:82].encode(), 2)
+        elif is_new:
             say(line)
-        self.shown = self.begun[:]
 
 
 def need_rt():
@@ -232,7 +246,7 @@ def take_turn(asked):
         open(f"{LANES}/MODULE.bazel", "ab").close()  # `rt ci` passes over a folder that has this
         for folder in (f"{it.folder}/out" if os.path.exists(f"{it.folder}/out") else it.folder for it in asked):
             if not os.access(folder, os.W_OK):
-                raise PermissionError(errno.EACCES, "", folder)
+                raise PermissionError(None, None, folder)
     except OSError as error:
         raise Stop(73, f"the program is to be built, and {error.filename} can't be written: build in a checkout of your own") from None
     try:
@@ -255,11 +269,11 @@ def build(names):
     with take_turn(asked):
         try:
             for crate in asked:
-                if not crate.is_built() and crate.is_made(crate.own):
+                if crate.is_made(crate.own):
                     crate.leave()
             if asked := [it for it in asked if not it.is_built()]:
                 Build(asked).run()
-        except (OSError, shutil.Error) as error:
+        except OSError as error:
             raise Stop(70, f"the build failed: {error}") from None
         except Stop as stop:
             kept = "; what was proved so far is kept, and the next call goes on from there" if stop.args[0] > 100 else ""

@@ -12,32 +12,18 @@ import sys
 import threading
 
 sys.path.insert(0, os.path.dirname(os.path.realpath(__file__)))
-from build import TOP, Stop, build, crates, end_by, need_rt, say  # noqa: E402
+from build import SIGNALS, TOP, Stop, build, crates, end_by, need_rt, read, say, write  # noqa: E402
 from words import RANGES, judge  # noqa: E402
 
 MOST_EXPLAINED = 8 << 20  # no trace is longer unless it is padded
 MOST_KEPT = 64 << 20
+UNREADABLE = {errno.ENOENT: "there is no such file", errno.ENXIO: "this is a socket, not a trace"}
 
 
 def shown(name):
     """As it is where it can be printed, else as a word of bash, so that no terminal acts on it."""
-    letters = (it if it.isprintable() and it not in "'\\" else "".join(f"\\{byte:03o}" for byte in os.fsencode(it)) for it in name)
-    return name if name.isprintable() else f"$'{''.join(letters)}'"
-
-
-def write(text, end=1):
-    """Writes all of it, and returns whether that went well."""
-    try:
-        while text:
-            text = text[os.write(end, text) :]
-    except OSError:
-        return False
-    return True
-
-
-def usage():
-    with open(f"{TOP}/docs/usage.txt", encoding="utf-8") as file:
-        return file.read()
+    text = re.sub(rb"[^ -~]|['\\]", lambda it: b"\\%03o" % ord(it[0]), os.fsencode(name)).decode()
+    return name if name.isprintable() else f"$'{text}'"
 
 
 def version():
@@ -51,27 +37,38 @@ def version():
 
 
 class Trace:
-    """A trace, open. A file the program reads by itself; all else goes through here, since it can't be read twice."""
+    """A trace, open. It goes to the program through here, since not every one can be read twice."""
 
-    def __init__(self, end, name):
-        self.end, self.name, self.kept, self.failed = end, name and shown(name), bytearray(), False
-        self.which = self.name or "standard input"
-        mode = os.fstat(end).st_mode
-        self.is_file = stat.S_ISREG(mode)
-        self.start = os.lseek(end, 0, os.SEEK_CUR) if self.is_file else 0
-        if stat.S_ISDIR(mode):
+    def __init__(self, files):
+        self.name = None if files in ([], ["-"]) else shown(files[0])
+        self.which, self.kept, self.failed = self.name or "standard input", bytearray(), False
+        if len(files) > 1:
+            raise Stop(66, f"two traces are named, {self.name} and {shown(files[1])}: replay one at a time")
+        if not files and os.isatty(0):
+            raise Stop(66, "no trace: name a file, or give one on standard input")
+        try:
+            # `/proc/kmsg` is a file too, and waits for more.
+            self.end = os.open(files[0], os.O_RDONLY | (os.O_NONBLOCK if os.path.isfile(files[0]) else 0)) if self.name else 0
+        except OSError as error:
+            why = UNREADABLE.get(error.errno, f"it can't be read: {error.strerror.lower()}")
+            raise Stop(66, f"{self.which}: {why}") from None
+        if fcntl.fcntl(self.end, fcntl.F_GETFL) & os.O_ACCMODE == os.O_WRONLY:
+            raise Stop(66, "no trace: standard input is closed")
+        if stat.S_ISDIR(os.fstat(self.end).st_mode):
             raise Stop(66, f"{self.which}: this is a folder, not a trace")
 
     def keep(self):
-        """Reads it whole, where two runs are to read it."""
+        """Reads it whole, where two runs are to read it, and returns whether it isn't too long for that."""
         try:
-            while not self.is_file and len(self.kept) <= MOST_KEPT and (text := os.read(self.end, 1 << 16)):
+            while len(self.kept) <= MOST_KEPT:
+                text = os.read(self.end, 1 << 16)
+                if not text:
+                    self.end = os.open(os.devnull, os.O_RDONLY)
+                    return True
                 self.kept += text
         except OSError:
             raise Stop(66, f"{self.which}: a read of it failed") from None
-        if len(self.kept) > MOST_KEPT:
-            raise Stop(66, f"{self.which}: over 64 MiB aren't kept for two runs; build first, by ./replay --build")
-        self.end = self.end if self.is_file else os.open(os.devnull, os.O_RDONLY)
+        return False
 
     def pass_on(self, to, process):
         """Half a trace is none: where a read fails the program ends before it could take it for one."""
@@ -84,47 +81,35 @@ class Trace:
             process.kill()
         os.close(to)
 
-    def text(self):
-        """All that the program read and may name a row of; nothing where that isn't known."""
-        if not self.is_file:
-            return bytes(self.kept) if len(self.kept) <= MOST_EXPLAINED else None
-        try:
-            text = os.read(os.open(f"/dev/fd/{self.end}", os.O_RDONLY | os.O_NONBLOCK), MOST_EXPLAINED + 1)
-        except OSError:
-            return None
-        # What the system makes up has another size, and may be read once only.
-        return text if len(text) == os.fstat(self.end).st_size and len(text) <= MOST_EXPLAINED and not self.start else None
-
-
-class Run:
-    """A run of a program over a trace: its status, its output where that is kept, and what it said."""
-
-    def __init__(self, command, trace, memory=0, is_kept=True, **where):
+    def run(self, command, memory=0, is_kept=True, **where):
+        """Runs a program over it, in so many MiB: its status, its output where that is kept, and what it said."""
         def bound():
+            signal.pthread_sigmask(signal.SIG_UNBLOCK, SIGNALS)
             signal.signal(signal.SIGPIPE, signal.SIG_DFL)
             soft, hard = resource.getrlimit(resource.RLIMIT_AS)
             if memory and (soft == resource.RLIM_INFINITY or soft > memory << 20):
                 resource.setrlimit(resource.RLIMIT_AS, (memory << 20, hard))
 
-        source, to = (trace.end, os.lseek(trace.end, trace.start, os.SEEK_SET)) if trace.is_file else os.pipe()
+        signal.pthread_sigmask(signal.SIG_BLOCK, SIGNALS)  # until it is known what one has to end
+        source, to = os.pipe()
         try:
             process = subprocess.Popen(command, stdin=source, stdout=subprocess.PIPE if is_kept else None, stderr=subprocess.PIPE,
                                        preexec_fn=bound, restore_signals=False, **where)
         except (OSError, subprocess.SubprocessError) as error:
             raise Stop(70, f"{command[0]} couldn't be started: {error}") from None
-        if not trace.is_file:
-            os.close(source)
-            threading.Thread(target=trace.pass_on, args=(to, process), daemon=True).start()
+        os.close(source)
+        threading.Thread(target=self.pass_on, args=(to, process), daemon=True).start()
         try:
-            self.output, said = process.communicate()
+            signal.pthread_sigmask(signal.SIG_UNBLOCK, SIGNALS)
+            output, said = process.communicate()
         finally:
             if process.poll() is None:
                 process.terminate()
                 process.wait()
-        if trace.failed:
-            raise Stop(66, f"{trace.which}: a read of it failed")
-        self.said = said.decode(errors="replace")
-        self.status = process.returncode if process.returncode >= 0 else 128 - process.returncode
+        if self.failed:
+            raise Stop(66, f"{self.which}: a read of it failed")
+        status = process.returncode
+        return status if status >= 0 else 128 - status, output, said.decode(errors="replace")
 
 
 class Call:
@@ -138,116 +123,95 @@ class Call:
             elif word == "-" or word and word[0] != "-":
                 self.files.append(word)
             else:
-                value = next(rest, None) if word in RANGES else None
-                self.words += [word] if value is None else [word, value]
-        joined = " ".join(self.words).replace("--mode=", "--mode ")
-        self.program = "napi_replay" if re.search("--mode (shared|threads)( |$)", joined) else "napi_serial"
+                self.words += [word, *([value] if word in RANGES and (value := next(rest, None)) is not None else [])]
+        self.program = "napi_replay" if re.search("--mode[= ](shared|threads)( |$)", " ".join(self.words)) else "napi_serial"
         self.memory = os.environ.get("REPLAY_MEMORY", "2048")
 
     def answer(self):
         if not re.fullmatch("[1-9][0-9]{0,6}|unlimited", self.memory):
             raise Stop(64, f"REPLAY_MEMORY={shown(self.memory)}: it is a number of MiB, or unlimited")
         if self.own & {"-h", "--help", "--version"}:
-            if not write((version() if "--version" in self.own else usage()).encode()):
+            if not write((version() if "--version" in self.own else read(f"{TOP}/docs/usage.txt")).encode()):
                 raise Stop(4, "the text couldn't be written")
             return 0
         if "--build" in self.own:
             if self.own != {"--build"} or self.words or self.files:
                 raise Stop(64, "--build replays nothing, and stands alone (see ./replay --help)")
             return build(["napi_serial", "napi_replay"])
-        self.trace = self.open_trace()
+        try:
+            self.trace = Trace(self.files)
+        except Stop:
+            self.refuse_words()  # a mistyped option takes its value for a trace
+            if not self.files and os.isatty(0):
+                write(read(f"{TOP}/docs/usage.txt").encode(), 2)
+            raise
         if "--unproved" in self.own:
             say("an unproved run: the program is made anew each time and nothing is checked (up to a minute)")
-            return self.unproved("this was an UNPROVED run").status
+            return self.unproved("this was an UNPROVED run")[0]
         if not crates()[self.program].is_built():
             self.refuse_words()
-            if os.isatty(1) and shutil.which("rt"):
+            if os.isatty(1) and shutil.which("rt") and self.trace.keep():
                 return self.answer_first()
             build([self.program])
-        return self.finish(self.proved("--json" in self.own))
+        return self.finish(*self.proved("--json" in self.own))
 
     def refuse_words(self):
-        if judge(self.words):
-            raise Stop(64, f"{judge(self.words)} (see ./replay --help)")
-
-    def open_trace(self):
-        """One that can't be read is told of before anything is built; and bad words before that, since a mistyped option takes its value
-        for a trace."""
-        name = next(iter(self.files), None)
-        why = f"two traces are named, {shown(name)} and {shown(self.files[1])}: replay one at a time" if len(self.files) > 1 else ""
-        try:
-            if not why and name not in (None, "-"):
-                # (`/proc/kmsg` is such a file too, and waits for more)
-                return Trace(os.open(name, os.O_RDONLY | (os.O_NONBLOCK if os.path.isfile(name) else 0)), name)
-        except OSError as error:
-            known = {errno.ENOENT: "there is no such file", errno.ENXIO: "this is a socket, not a trace"}
-            why = f"{shown(name)}: " + known.get(error.errno, f"it can't be read: {error.strerror.lower()}")
-        if not why and fcntl.fcntl(0, fcntl.F_GETFL) & os.O_ACCMODE == os.O_WRONLY:
-            why = "no trace: standard input is closed"
-        if not why and name is None and os.isatty(0):
-            self.refuse_words()
-            write(usage().encode(), 2)
-            why = "no trace: name a file, or give one on standard input"
-        if why:
-            self.refuse_words()
-            raise Stop(66, why)
-        return Trace(0, None)
+        if why := judge(self.words):
+            raise Stop(64, f"{why} (see ./replay --help)")
 
     def proved(self, is_kept):
         memory = 0 if self.memory == "unlimited" else int(self.memory)
-        return Run([f"{TOP}/crates/{self.program}/out/{self.program}", *self.words], self.trace, memory, is_kept)
+        return self.trace.run([f"{TOP}/crates/{self.program}/out/{self.program}", *self.words], memory, is_kept)
 
     def unproved(self, line):
         """`rt try` runs the sources without their proofs, and leaves no program. Its own lines on that are left out."""
         need_rt()
-        run = Run(["rt", "try", "--steps", "4000000000", "--seconds", "600", "--", *self.words], self.trace, cwd=f"{TOP}/crates/{self.program}")
-        run.status = run.status if re.search("^run=ended ", run.said, re.M) else 70
-        run.said = re.sub("^(checked: |races: |run=).*\n", "", run.said, flags=re.M)
-        self.finish(run)
+        command = ["rt", "try", "--steps", "4000000000", "--seconds", "600", "--", *self.words]
+        status, output, said = self.trace.run(command, cwd=f"{TOP}/crates/{self.program}")
+        status = status if re.search("^run=ended ", said, re.M) else 70
+        said = re.sub("^(checked: |races: |run=).*\n", "", said, flags=re.M)
+        self.finish(status, output, said)
         say(line)
-        return run
+        return status, output, said
 
     def answer_first(self):
         """On a terminal, where the program is to be built: an answer at once, and the proof of it behind."""
-        self.trace.keep()
         say("the program is to be proved and built first: meanwhile the answer of an UNPROVED run, in up to a minute")
-        first = self.unproved("this was an UNPROVED run; now it is proved. Ctrl-C leaves what is proved by then, and the next call goes on from there")
+        first = self.unproved("this was an UNPROVED run; now it is proved. Ctrl-C leaves what is proved by then, "
+                              "and the next call goes on from there")
         build([self.program])
         second = self.proved(True)
-        if (first.status, first.output) == (second.status, second.output) and second.said in first.said:
+        if first[:2] == second[:2] and second[2] in first[2]:
             say("the proved program gives the same bytes")
-            return second.status
+            return second[0]
         say("the proved program gives OTHER bytes, and these count:")
-        return self.finish(second)
+        return self.finish(*second)
 
-    def finish(self, run):
-        """Prints the run's output, if it was kept, and what it said; then one line for people behind it."""
-        if run.output and "--json" in self.own and run.status == 0:
-            if subprocess.run([f"{TOP}/tools/report2json"], input=run.output, check=False).returncode != 0:
+    def finish(self, status, output, said):
+        """Prints the output, if it was kept, and what was said; then one line for people behind it."""
+        if output and "--json" in self.own and status == 0:
+            if subprocess.run([f"{TOP}/tools/report2json"], input=output, check=False).returncode != 0:
                 raise Stop(4, "the report couldn't be written as JSON")
-        elif run.output and not write(run.output):
+        elif output and not write(output):
             raise Stop(4, "the report couldn't be written")
-        write(run.said.encode(), 2)
-        if line := self.why(run):
+        write(said.encode(), 2)
+        if line := self.why(status, said):
             say(line)
-        return run.status
+        return status
 
-    def why(self, run):
+    def why(self, status, said):
         """The line for people; none where there is nothing more to say."""
-        number, row = ([("", "")] + re.findall(r"^trace fault (\d+) \w+(?: row (\d+))?$", run.said, re.M))[-1]
-        if run.status == 64:
+        number, row = ([("", "")] + re.findall(r"^trace fault (\d+) \w+(?: row (\d+))?$", said, re.M))[-1]
+        if status == 64:
             return f"{judge(self.words) or 'the program knows no such words'} (see ./replay --help)"
-        if number == "10":
-            return f"{self.trace.which}: a read of it failed"
-        if run.said == "memory fault 11 OutOfMemory\n" and self.memory != "unlimited":
+        if said == "memory fault 11 OutOfMemory\n" and self.memory != "unlimited":
             return f"{self.trace.which}: it takes more memory than the program may have, {self.memory} MiB (REPLAY_MEMORY sets that)"
-        if run.status not in (0, 141) and not run.said:  # (141: who read the report has enough)
-            return f"{self.program} ended with status {run.status}, and no line of it is there"
-        text = self.trace.text() if row else None
-        if text is None:
+        if status not in (0, 141) and not said:  # (141: who read the report has enough)
+            return f"{self.program} ended with status {status}, and no line of it is there"
+        if not row or len(self.trace.kept) > MOST_EXPLAINED:
             return ""
         from explain import explain
-        return explain(text, int(number), int(row), self.trace.name)
+        return explain(bytes(self.trace.kept), int(number), int(row), self.trace.name)
 
 
 if __name__ == "__main__":

@@ -9,9 +9,10 @@ RANGES = {"--mode": "serial, shared or threads"} | {option: f"a whole number, 1.
 OPTIONS = ("--mode", "--pollers", "--budget", "--weight", "--window", "--unproved", "--json", "--build", "--version", "--help")
 
 
-def shown(word):
-    word = re.sub("[^ -~]", "?", word)
-    return f"'{word[:38]}..'" if len(word) > 40 else f"'{word}'"
+def quoted(text, most=40):
+    """In quotes, shortened, and without what acts on a terminal."""
+    text = re.sub("[^ -~]", "?", text)
+    return f"'{text[: most - 2]}..'" if len(text) > most else f"'{text}'"
 
 
 def nearest(word, options):
@@ -25,11 +26,10 @@ def judge(words):
     rest, seen = iter(words), set()
     for word in rest:
         option, is_given, value = word.partition("=") if word.startswith("--") else (word, "", "")
-        near = nearest(option, OPTIONS)
-        if option not in RANGES and near:
-            return f"{shown(option)} is no option: is {near} meant{', ' + RANGES[near] if near in RANGES else ''}?"
         if option not in RANGES:
-            return f"{shown(option)} is no option: they are {' '.join(OPTIONS)}"
+            near = nearest(option, OPTIONS)
+            meant = f"is {near} meant{', ' + RANGES[near] if near in RANGES else ''}?" if near else f"they are {' '.join(OPTIONS)}"
+            return f"{quoted(option)} is no option: {meant}"
         if option in seen:
             return f"{option} is given twice"
         seen.add(option)
@@ -38,7 +38,7 @@ def judge(words):
             return f"{option} has no value: {RANGES[option]}"
         if value not in MODES if option == "--mode" else not (re.fullmatch("[0-9]{1,5}", value) and 1 <= int(value) <= MOST[option]):
             near = option == "--mode" and nearest(value, MODES)
-            return f"{option} {shown(value)}: its value is {RANGES[option]}{f'; is {near} meant?' if near else ''}"
+            return f"{option} {quoted(value)}: its value is {RANGES[option]}{f'; is {near} meant?' if near else ''}"
     return ""
 
 

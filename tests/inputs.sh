@@ -126,8 +126,7 @@ replay: it: it takes more memory than the program may have'
     command -v python3 > /dev/null || return 0
     for how in '' --rows; do
         run python3 "$top/tests/half_read.py" $how "$top/replay"
-        check "half of a trace is no trace $how" is "$status $(cat "$scratch/out" "$scratch/err")" '2 trace fault 10 ReadFailed
-replay: standard input: a read of it failed'
+        check "half of a trace is no trace $how" is "$status $(cat "$scratch/out" "$scratch/err")" '66 replay: standard input: a read of it failed'
     done
 }
 
