@@ -1,10 +1,11 @@
 """Proves and builds crates of this checkout with all that they stand on, where that isn't done yet or a source has changed since: for
 ./replay, and by build.sh for scripts.
 
-`rt` locks its crate and every crate below, so two libraries over the same ones would wait for each other. Each crate is therefore
-built in a lane: a folder with its sources and those below it, the libraries there as hard links, and its own `out/`, which stays.
+Libraries stand in a folder of their own, with their statements alone as `rt ci` leaves them: `rt lib` keeps the proofs too, and a check
+over those loads several times as much. So the kit's `rattle` is called here as `rt ci` calls it.
 """
 import contextlib
+import ctypes
 import fcntl
 import functools
 import os
@@ -16,12 +17,12 @@ import sys
 import time
 
 TOP = os.path.dirname(os.path.dirname(os.path.realpath(__file__)))
-PARTS = ("src", "specs", "proofs")
 # Where git doesn't look, or, in what is no clone, where caches are.
 CACHE = f"{os.environ.get('XDG_CACHE_HOME') or os.path.expanduser('~/.cache')}/fintaqush/{TOP.replace('/', '%')}"
-LANES = f"{TOP}/.git/lanes" if os.path.isdir(f"{TOP}/.git") else CACHE
+BUILT = f"{TOP}/.git/built" if os.path.isdir(f"{TOP}/.git") else CACHE
+CHECK_MEMORY = 2_500_000  # kB, which a check may take
 SIGNALS = (signal.SIGINT, signal.SIGTERM, signal.SIGHUP)
-LANE_MEMORY = 2_500_000  # kB, which a check may take
+LIBC = ctypes.CDLL(None)
 
 
 class Stop(Exception):
@@ -48,7 +49,7 @@ def read(path):
 
 
 def end_by(call, *given):
-    """Ends this process as the call ends, by its status or by a line and a status; or by a signal's."""
+    """Ends this process as the call ends, by its status or by a line and a status; or by a signal's. What it began ends with it."""
     def interrupt(number, _):
         for it in SIGNALS:
             signal.signal(it, signal.SIG_IGN)
@@ -65,25 +66,45 @@ def end_by(call, *given):
     os._exit(status)
 
 
+def child(behind=0):
+    """What a process of this one does as it begins: it ends with this one, however that ends, and stands so far behind others."""
+    parent = os.getpid()
+
+    def begin():
+        LIBC.prctl(1, signal.SIGTERM)  # PR_SET_PDEATHSIG
+        if os.getppid() != parent:
+            os._exit(1)
+        os.nice(min(3 * behind, 19))
+        signal.signal(signal.SIGPIPE, signal.SIG_DFL)
+
+    return begin
+
+
+@functools.cache
+def kit():
+    """The folder of the toolchain."""
+    return os.path.dirname(subprocess.run(["rt", "doc"], stdout=subprocess.PIPE, text=True, check=False).stdout.strip())
+
+
 @functools.cache
 def crates():
     """The crates of crates.txt by their names, each with those there that it needs."""
-    found = {it.name: it for it in map(Crate, read(f"{TOP}/crates.txt").splitlines(keepends=True)) if it.name}
+    found = {it.name: it for it in map(Crate, read(f"{TOP}/crates.txt").splitlines()) if it.name}
     for crate in found.values():
-        crate.needs = [found[it] for it in crate.needs if it in found]
+        crate.needs = [found[it] for it in crate.uses if it in found]
     return found
 
 
 class Crate:
     def __init__(self, line):
-        head, colon, needs = line.partition("#")[0].partition(":")
-        self.line, self.needs = line, needs.split()
+        head, colon, uses = line.partition("#")[0].partition(":")
+        self.uses = uses.split()
         self.name, *kinds = head.split() if colon else [""]
-        self.folder, self.lane = f"{TOP}/crates/{self.name}", f"{LANES}/{self.name}"
-        self.own, self.log = f"{self.lane}/crates/{self.name}", f"{self.lane}/log"  # its folder in its lane, and what `rt` says there
-        self.is_program = os.path.exists(f"{self.folder}/src/main.rt")
-        self.is_library = not self.is_program and "staticlib" not in kinds
-        self.made = f"out/{self.name}" if self.is_program else "out/rlib/stamp" if self.is_library else f"out/lib{self.name}.a"
+        self.folder, self.log = f"{TOP}/crates/{self.name}", f"{BUILT}/{self.name}.log"
+        self.is_program, self.is_archive = os.path.exists(f"{self.folder}/src/main.rt"), "staticlib" in kinds
+        self.is_library = not self.is_program and not self.is_archive
+        out = f"{self.folder}/out/"
+        self.made = f"{BUILT}/{self.name}.rlib" if self.is_library else out + (self.name if self.is_program else f"lib{self.name}.a")
 
     @functools.cached_property
     def all(self):
@@ -92,141 +113,112 @@ class Crate:
 
     def texts(self):
         """Its folders and files, as the system tells of them."""
-        for part in PARTS:
+        for part in ("src", "specs", "proofs"):
             for folder, _, names in os.walk(f"{self.folder}/{part}"):
                 yield from (os.stat(path) for path in (folder, *(f"{folder}/{it}" for it in names)))
 
-    def is_made(self, folder):
-        """Whether it stands there, and nothing that it is made of is newer. Folders count too: one that has lost a file is newer."""
+    def is_built(self):
+        """Whether it stands, and nothing that it is made of is newer. Folders count too: one that has lost a file is newer."""
         try:
+            stands = os.stat(f"{self.made}/format" if self.is_library else self.made).st_mtime_ns
             parts = [os.stat(f"{TOP}/crates.txt"), *(it for crate in self.all for it in crate.texts())]
-            return max(it.st_mtime_ns for it in parts) <= os.stat(f"{folder}/{self.made}").st_mtime_ns
+            # A library of another kit isn't taken.
+            return max(it.st_mtime_ns for it in parts) <= stands and not (self.is_library and os.stat(f"{kit()}/KIT-ID").st_ctime_ns > stands)
         except OSError:
             return False
 
-    def is_built(self):
-        """A library stands in its lane alone, from where `rt` takes it; all else in the checkout, for scripts."""
-        return self.is_made(self.own if self.is_library else self.folder)
+    def begin(self, jobs, behind):
+        """Begins to prove and to build it, by so many processes and so far behind others."""
+        root = "src/main.rt" if self.is_program else "src/lib.rt"
+        command = [f"{kit()}/bin/rattle", "build", "--crate-name", self.name, root, "--jobs", str(jobs), "-o", f"{self.made}.new"]
+        command += ["--antt-project", f"{kit()}/rattle/logic/antt-project.json", "--logic-built", f"{kit()}/logic_built"]
+        command += ["-L", f"dependency={kit()}/rlibs", "-L", f"dependency={BUILT}"]
+        for name in ("std", *self.uses):
+            command += ["--extern", f"{name}={BUILT if name in crates() else f'{kit()}/rlibs'}/{name}.rlib"]
+        command += ["--statements"] if self.is_library else ["--toolchain", f"{kit()}/toolchain", "--backend", "llvm"]
+        command += ["--crate-type", "staticlib"] if self.is_archive else []
+        os.makedirs(os.path.dirname(self.made), exist_ok=True)
+        with open(self.log, "wb") as log:
+            return subprocess.Popen(command, stdin=subprocess.DEVNULL, stdout=log, stderr=log, cwd=self.folder, preexec_fn=child(behind))
 
-    def leave(self):
-        """Puts a program or an archive from its lane into the checkout."""
-        if not self.is_library:
-            os.makedirs(f"{self.folder}/out", exist_ok=True)
-            shutil.copy2(f"{self.own}/{self.made}", f"{self.folder}/{self.made}.new")
-            os.replace(f"{self.folder}/{self.made}.new", f"{self.folder}/{self.made}")
-
-    def lay(self):
-        """Lays its lane, in which all below it stands built."""
-        os.makedirs(f"{self.own}/out", exist_ok=True)
-        for old in os.scandir(f"{self.lane}/crates"):
-            for part in PARTS if old.name == self.name else ("",):
-                shutil.rmtree(f"{old.path}/{part}", ignore_errors=True)
-        for crate in self.all:
-            for part in filter(lambda it: os.path.isdir(f"{crate.folder}/{it}"), PARTS):
-                shutil.copytree(f"{crate.folder}/{part}", f"{self.lane}/crates/{crate.name}/{part}")
-            if crate != self:
-                shutil.copytree(f"{crate.own}/out/rlib", f"{self.lane}/crates/{crate.name}/out/rlib", copy_function=link)
-        with open(f"{self.lane}/crates.txt", "w", encoding="utf-8") as file:
-            file.writelines(crate.line for crate in self.all)
-
-    def given(self, name):
-        """What the gate runs it on: the file of this name, if it's there."""
-        path = f"{self.folder}/{name}"
-        return path if os.path.exists(path) else os.devnull
-
-    def begin(self, pace):
-        """Begins it in its lane, `pace` behind others. It ends with this process, however that ends."""
-        def prepared():
-            signal.pthread_sigmask(signal.SIG_UNBLOCK, SIGNALS)
-            os.nice(min(3 * pace, 19))
-
-        self.lay()
-        command = ["setpriv", "--pdeathsig", "TERM"] if shutil.which("setpriv") else []
-        # `rt` makes no program without a run.
-        command += ["rt", "run", "--", *read(self.given("args")).splitlines()] if self.is_program else ["rt", "lib"]
-        with open(self.log, "wb") as log, open(self.given("stdin"), "rb") as source:
-            return subprocess.Popen(command, stdin=source, stdout=log, stderr=log, cwd=self.own, preexec_fn=prepared)
-
-
-def link(source, to):
-    try:
-        os.link(source, to)
-    except OSError:
-        shutil.copy2(source, to)
+    def leave(self, since):
+        """Puts what was built in its place, as old as the build: what was changed meanwhile is newer. Returns whether that went well."""
+        new = f"{self.made}.new"
+        if self.is_program:
+            os.replace(new, f"{BUILT}/{self.name}.o")
+            command = [f"{kit()}/bin/rattle-link", "--target", "x86_64-unknown-linux-gnu", "--toolchain", f"{kit()}/toolchain", "-o", new]
+            command += [f"{BUILT}/{self.name}.o", f"{kit()}/c/libos_c.a", f"{kit()}/c/liblibc_c.a"]
+            with open(self.log, "ab") as log:
+                if subprocess.run(command, stdout=log, stderr=log, check=False).returncode != 0:
+                    return False
+        os.utime(f"{new}/format" if self.is_library else new, ns=(since, since))
+        os.rename(new, self.made)
+        return True
 
 
 class Build:
-    """A build of these crates: which of them and of those below are done, and the processes at work."""
+    """A build of these crates: which of them and of those below are left, and the processes at work."""
 
     def __init__(self, asked):
-        self.asked, self.done, self.at_work, self.since = asked, set(), {}, time.time_ns()
+        self.left, self.at_work, self.since = [], {}, time.time_ns()
         self.names = " and ".join(it.name for it in asked)
-        every = dict.fromkeys(it for crate in asked for it in crate.all)
+        for crate in dict.fromkeys(it for crate in asked for it in crate.all):
+            if not crate.is_built() or any(it in self.left for it in crate.needs):
+                self.left.append(crate)
+        self.every = {*self.left}
+        self.processors = len(os.sched_getaffinity(0))
         memory = int(re.search(r"MemAvailable: *(\d+)", read("/proc/meminfo"))[1])
-        self.lanes = min(max(memory // LANE_MEMORY, 1), 3)
+        self.lanes = min(max(memory // CHECK_MEMORY, 1), self.processors)
 
         @functools.cache
         def chain(crate):
             """The bytes of the longest chain from the crate upwards, which are what the build takes at least."""
-            return sum(it.st_size for it in crate.texts()) + max((chain(it) for it in every if crate in it.needs), default=0)
+            return sum(it.st_size for it in crate.texts()) + max((chain(it) for it in self.every if crate in it.needs), default=0)
 
-        self.crates = sorted(every, key=chain, reverse=True)
+        self.left.sort(key=chain, reverse=True)
 
     def run(self):
-        new = sum(not os.path.exists(f"{it.own}/out/incremental") for it in self.crates)
-        minutes = (new * 40 + 59) // 60
-        takes = f", {new} for the first time: on 4 cores some {minutes} minutes, {new * 250} MB of disk and up to 7 GB of memory"
-        say(f"proving and building {self.names} and what they stand on, {len(self.crates)} crates{takes if new else ''}")
-        for crate in self.asked:  # so that no old one answers for new sources
-            with contextlib.suppress(FileNotFoundError):
-                os.remove(f"{crate.folder}/{crate.made}")
+        minutes = len(self.every) // 3 + 1
+        say(f"proving and building {self.names} and what they stand on, {len(self.every)} crates: on 4 cores some {minutes} minutes")
+        # No old one answers for new sources, nor does one over other libraries than those that stand.
+        for crate in crates().values():
+            if not self.every.isdisjoint(crate.all) and (crate.is_library or crate in self.every):
+                with contextlib.suppress(FileNotFoundError):
+                    shutil.rmtree(crate.made) if crate.is_library else os.remove(crate.made)
         try:
-            while not self.done.issuperset(self.asked):
+            while self.left or self.at_work:
                 for crate in [it for it, process in self.at_work.items() if process.poll() is not None]:
                     self.end(crate, self.at_work.pop(crate).returncode)
                 self.show(self.begin())
-                time.sleep(0.2)
+                time.sleep(0.1)
         finally:
-            for process in self.at_work.values():
-                process.terminate()
-                process.wait()
             if os.isatty(2):
                 write(b"\r\033[K", 2)
         say(f"{self.names}: proved and built, in {(time.time_ns() - self.since) // 10**9} s")
 
     def begin(self):
         """Begins what is ready, as far as there are lanes, and returns whether there was such."""
-        left = [it for it in self.crates if it not in self.done]
-        ready = [it for it in left if it not in self.at_work and self.done.issuperset(it.needs)][: self.lanes - len(self.at_work)]
+        ready = [it for it in self.left if {*self.left, *self.at_work}.isdisjoint(it.needs)][: self.lanes - len(self.at_work)]
         for crate in ready:
-            signal.pthread_sigmask(signal.SIG_BLOCK, SIGNALS)  # until it is known what one has to end
-            self.at_work[crate] = crate.begin(left.index(crate))
-            signal.pthread_sigmask(signal.SIG_UNBLOCK, SIGNALS)
+            jobs = max(self.processors // (len(self.at_work) + len(ready)), 2) if self.lanes > 1 else 1
+            self.at_work[crate] = crate.begin(jobs, self.left.index(crate))
+        self.left = [it for it in self.left if it not in ready]
         return bool(ready)
 
     def end(self, crate, status):
-        said = read(crate.log)
-        # What a program's own run came to says nothing of the build: `rt` runs only what it has built.
-        if re.search("^rt: running ", said, re.M) if crate.is_program else status == 0:
-            self.done.add(crate)
-            if crate in self.asked:
-                # As old as the build: what was changed meanwhile is newer.
-                os.utime(f"{crate.own}/{crate.made}", ns=(self.since, self.since))
-                crate.leave()
-        elif self.lanes > 1 and "was killed, most likely for memory" in said:
+        if status == -signal.SIGKILL and self.lanes > 1:  # most likely for memory
             self.lanes = 1  # and it is begun again, alone
-        else:
+            self.left.insert(0, crate)
+        elif status != 0 or not crate.leave(self.since):
+            said = read(crate.log)
             why = "\n".join((re.findall(".*error.*", said) or said.splitlines()[-5:])[:5])
-            raise Stop(70, f"{crate.name} couldn't be built; {crate.log} has all that `rt` said:\n{why}")
+            raise Stop(70, f"{crate.name} couldn't be built, status {status}; {crate.log} has all that was said:\n{why}")
 
     def show(self, is_new):
         """On a terminal one line is written over and over; elsewhere one where a crate begins."""
-        begun = [*self.done, *self.at_work]
-        counts = [re.findall(r"^so far: (\d+) of (\d+) functions checked", read(it.log), re.M)[-1:] for it in begun]
-        checked, of = (sum(int(last[at]) for it in counts for last in it) for at in (0, 1))
         minutes, seconds = divmod((time.time_ns() - self.since) // 10**9, 60)
-        functions = f", {checked} of {of} functions checked" if of else ""
-        line = f"crate {len(begun)} of {len(self.crates)} ({' '.join(it.name for it in self.at_work)}){functions}, {minutes}:{seconds:02}"
+        begun = len(self.every) - len(self.left)
+        line = f"crate {begun} of {len(self.every)} ({' '.join(it.name for it in self.at_work)}), {minutes}:{seconds:02}"
         if os.isatty(2):
             write(f"\r\033[Kreplay: {line}"[:82].encode(), 2)
         elif is_new:
@@ -241,9 +233,8 @@ def need_rt():
 def take_turn(asked):
     """One build at a time in a checkout: a second one waits, and mostly finds all built then."""
     try:
-        os.makedirs(LANES, exist_ok=True)
-        lock = open(f"{LANES}/lock", "ab")
-        open(f"{LANES}/MODULE.bazel", "ab").close()  # `rt ci` passes over a folder that has this
+        os.makedirs(BUILT, exist_ok=True)
+        lock = open(f"{BUILT}/lock", "ab")
         for folder in (f"{it.folder}/out" if os.path.exists(f"{it.folder}/out") else it.folder for it in asked):
             if not os.access(folder, os.W_OK):
                 raise PermissionError(None, None, folder)
@@ -268,15 +259,12 @@ def build(names):
     need_rt()
     with take_turn(asked):
         try:
-            for crate in asked:
-                if crate.is_made(crate.own):
-                    crate.leave()
             if asked := [it for it in asked if not it.is_built()]:
                 Build(asked).run()
         except OSError as error:
             raise Stop(70, f"the build failed: {error}") from None
         except Stop as stop:
-            kept = "; what was proved so far is kept, and the next call goes on from there" if stop.args[0] > 100 else ""
+            kept = "; each crate that was proved is kept" if stop.args[0] > 100 else ""
             raise Stop(stop.args[0], stop.args[1] + kept) from None
     return 0
 

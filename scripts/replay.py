@@ -5,14 +5,13 @@ import os
 import re
 import resource
 import shutil
-import signal
 import stat
 import subprocess
 import sys
 import threading
 
 sys.path.insert(0, os.path.dirname(os.path.realpath(__file__)))
-from build import SIGNALS, TOP, Stop, build, crates, end_by, need_rt, read, say, write  # noqa: E402
+from build import TOP, Stop, build, child, crates, end_by, need_rt, read, say, write  # noqa: E402
 from words import RANGES, judge  # noqa: E402
 
 MOST_EXPLAINED = 8 << 20  # no trace is longer unless it is padded
@@ -83,14 +82,14 @@ class Trace:
 
     def run(self, command, memory=0, is_kept=True, **where):
         """Runs a program over it, in so many MiB: its status, its output where that is kept, and what it said."""
+        begin = child()
+
         def bound():
-            signal.pthread_sigmask(signal.SIG_UNBLOCK, SIGNALS)
-            signal.signal(signal.SIGPIPE, signal.SIG_DFL)
+            begin()
             soft, hard = resource.getrlimit(resource.RLIMIT_AS)
             if memory and (soft == resource.RLIM_INFINITY or soft > memory << 20):
                 resource.setrlimit(resource.RLIMIT_AS, (memory << 20, hard))
 
-        signal.pthread_sigmask(signal.SIG_BLOCK, SIGNALS)  # until it is known what one has to end
         source, to = os.pipe()
         try:
             process = subprocess.Popen(command, stdin=source, stdout=subprocess.PIPE if is_kept else None, stderr=subprocess.PIPE,
@@ -99,13 +98,7 @@ class Trace:
             raise Stop(70, f"{command[0]} couldn't be started: {error}") from None
         os.close(source)
         threading.Thread(target=self.pass_on, args=(to, process), daemon=True).start()
-        try:
-            signal.pthread_sigmask(signal.SIG_UNBLOCK, SIGNALS)
-            output, said = process.communicate()
-        finally:
-            if process.poll() is None:
-                process.terminate()
-                process.wait()
+        output, said = process.communicate()
         if self.failed:
             raise Stop(66, f"{self.which}: a read of it failed")
         status = process.returncode

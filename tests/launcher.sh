@@ -1,5 +1,5 @@
 #!/usr/bin/env bash
-# Tries the launcher. What building is about is tried in a small checkout of its own, with an `rt` that proves nothing and makes a
+# Tries the launcher. What building is about is tried in a small checkout of its own, with a kit that proves nothing and makes a
 # program of a few lines; what faults are about, on the real program. The last line is `N passed, M failed`.
 set -u
 unset CDPATH
@@ -36,22 +36,22 @@ change() { touch "$small/crates/${1:-low}/src/lib.rt"; }
 # signalled SIGNAL [HOW]: to the launcher alone, while a build or a program is at work; and what goes on behind that.
 signalled() {
     env --default-signal=INT "$launcher" ${2:-} trace.csv > made &
-    comes pgrep -f "^$scratch/slow|^/bin/sh $scratch/bin/rt lib"
+    comes pgrep -f "^$scratch/slow|^/bin/sh $scratch/bin/rattle build --crate-name ${at:-low}"
     kill -"$1" $!
     status=0
     wait $! || status=$?
     # The stand-in for `rt` doesn't end what it began, as `rt` does.
     [ -z "${2:-}" ] || kill "$(pgrep -f "^$scratch/slow")"
     sleep 0.3
-    pgrep -f "$scratch/bin/rt|^$scratch/slow"
+    pgrep -f "$scratch/bin/rattle|^$scratch/slow"
     return "$status"
 }
 
 # small_checkout [ROW ..]: of crates by their rows of crates.txt; of seven where none are named, of which `wide` is only below the
-# program of all modes, and `apart` none of the replay's. Its `rt` writes down when each begins and ends, and does what PROVES says
+# program of all modes, and `apart` none of the replay's. Its `rattle` writes down when each begins and ends, and does what PROVES says
 # meanwhile; the program does what DOES says, first; TRIES are more words of an unproved run.
 small_checkout() {
-    rm -rf "$small"
+    rm -rf "$small" bin
     mkdir -p "$small"/{.git,tools,docs} bin
     cp -r "$top/replay" "$top/scripts" "$small/"
     cp "$top/docs/usage.txt" "$small/docs"
@@ -66,27 +66,28 @@ small_checkout() {
     printf '#!/bin/sh\nsed "s/^/json /"\n' > "$small/tools/report2json"
     cat > bin/rt << END
 #!/bin/sh
-name=\$(basename "\$PWD")
 case \$1 in
-    version) echo stand-in; exit ;;
-    try) shift 6; NAME=\$name sh "$small/program" "\$@" \$TRIES; status=\$?
+    doc) echo "$scratch/FIRST.md" ;;
+    version) echo stand-in ;;
+    try) shift 6; NAME=\$(basename "\$PWD") sh "$small/program" "\$@" \$TRIES; status=\$?
         printf 'races: not looked for\\nrt: a hint\\nrun=ended status=%s\\n' "\$status" >&2; exit \$status ;;
 esac
+END
+    cat > bin/rattle << END
+#!/bin/sh
+name=\$3 new=\${8}
 echo "begin \$name" >> "$scratch/rt.log"
-[ ! -e out/incremental ] || echo "kept \$name" >> "$scratch/kept"
-for below in ../*; do [ "\$below" = "../\$name" ] || [ -e "\$below/out/rlib/stamp" ] || exit 1; done
-mkdir -p out/incremental out/rlib
-echo 'so far: 3 of 4 functions checked'
+for word; do
+    case \$word in *=*/built/*.rlib) [ -e "\${word#*=}/format" ] || exit 1 ;; esac
+done
 eval "\${PROVES:-sleep 0.05}"
 echo "end \$name" >> "$scratch/rt.log"
-echo > out/rlib/stamp
-[ "\$1" = run ] || exit 0
-cp "$small/program" "out/\$name"
-echo "rt: running out/\$name"
-exit 2
+case \$new in *.rlib.new) mkdir "\$new"; new=\$new/format ;; esac
+echo > "\$new"
 END
-    chmod +x bin/rt "$small/program" "$small/tools/report2json"
-    truncate -s 0 rt.log kept
+    printf '#!/bin/sh\ncp "%s" "$6"\n' "$small/program" > bin/rattle-link
+    chmod +x bin/* "$small/program" "$small/tools/report2json"
+    truncate -s 0 rt.log KIT-ID
 }
 
 header=moment,device,event,value
@@ -169,32 +170,34 @@ END
 launcher=$small/replay PATH=$scratch/bin:$PATH
 fault="trace fault 4 BadEvent row 1|replay: bad.csv line 2, '0,1,Rx,9': $events"
 answer="napi_serial |$header"
-kept='; what was proved so far is kept, and the next call goes on from there'
+kept='; each crate that was proved is kept'
 no_rt="69 *replay: there is no rt on PATH, which proves and builds the program: see 'What it needs' in README.md"
 first='replay: the program is to be proved and built first: meanwhile the answer of an UNPROVED run, in up to a minute'
 unproved='replay: this was an UNPROVED run; now it is proved. Ctrl-C leaves what is proved by then, and the next call goes on from there'
 high_fails='[ $name != high ] || { echo error: not proved; exit 1; }'
-c_is_killed='[ $name != c ] || ! mkdir ../../killed || { echo rt: was killed, most likely for memory; exit 9; }'
+c_is_killed='[ $name != c ] || ! mkdir ../../killed || kill -9 $$'
 export fails='cat > /dev/null; echo trace fault 4 BadEvent row 1 >&2; exit 2'
 small_checkout
 tries << END
 a first call by a symlink, from another folder, builds and replays; it says what it takes and where it is % \
 cd deep; PROVES='sleep 0.6' CDPATH=.. ./link-of-a-link ../trace.csv --budget 7; cd .. % 0 replay: proving and building napi_serial and \
-what they stand on, 4 crates, 4 for the first time: on 4 cores some 3 minutes, 1000 MB of disk *|*|replay: crate 4 of 4 (napi_serial), \
-* of * functions checked, 0:0*|replay: napi_serial: proved and built, in *|napi_serial --budget 7|$header
+what they stand on, 4 crates: on 4 cores some 2 minutes|*|replay: crate 4 of 4 (napi_serial), 0:0*|\
+replay: napi_serial: proved and built, in *|napi_serial --budget 7|$header
 libraries that need nothing begin side by side, one that needs another behind it, and the program last % head -n 2 rt.log | sort; \
 grep -e 'end low' -e 'begin high' rt.log; tail -n 1 rt.log % 0 begin low|begin side|end low|begin high|end napi_serial
 a second call builds nothing, nor where a crate changed that the program is not made of % change apart; replay trace.csv % 0 $answer
-a change of one that it is made of builds, over what was kept % change; built; wc -l < rt.log; wc -l < kept % 0 16|4
-so does a new file % : > $small/crates/low/src/more.rt; built; wc -l < rt.log % 0 24
-and one that is gone % rm $small/crates/low/src/more.rt; built; wc -l < rt.log % 0 32
+a change of one that it is made of builds it, and those above it alone % : > rt.log; change; built; began % 0 high low napi_serial
+so does a new file % : > $small/crates/high/src/more.rt; built; began % 0 high napi_serial
+and one that is gone % rm $small/crates/high/src/more.rt; built; began % 0 high napi_serial
+and a library that is gone % rm -r $small/.git/built/low.rlib; change high; built; began % 0 high low napi_serial
+one that another kit has built is built anew % sleep 0.1; chmod +w KIT-ID; change high; built; began % 0 high low napi_serial side
 what is built needs no rt, and no checkout to write to % chmod -R a-w $small; as_nobody env PATH=few $launcher trace.csv % 0 $answer
-three crates at a time at most, the longest chain first % small_checkout a: b: c: d: one: 'two: one' 'napi_serial: a b c d two'; \
-echo longest > $small/crates/two/src/lib.rt; PROVES='sleep 3' built; head -n 3 rt.log | grep one; \
-awk '/^begin/ { now++ } /^end/ { now-- } now > most { most = now } END { print most }' rt.log % 0 begin one|3
-one that is killed for memory is begun once more % change one; PROVES='$c_is_killed' built; grep -c 'begin c' rt.log % 0 3
+a crate at a time on each processor, the longest chain first % small_checkout a: b: c: d: one: 'two: one' 'napi_serial: a b c d two'; \
+echo longest > $small/crates/two/src/lib.rt; PROVES='sleep 1' taskset -c 0,1 $launcher trace.csv > made 2>&1; head -n 2 rt.log | grep one; \
+awk '/^begin/ { now++ } /^end/ { now-- } now > most { most = now } END { print most }' rt.log % 0 begin one|2
+one that is killed for memory is begun once more % change c; PROVES='$c_is_killed' built; grep -c 'begin c' rt.log % 0 3
 what is no clone is built where caches are % rm -rf $small/.git; change one; XDG_CACHE_HOME=$scratch/cache built; tail -n 2 made; \
-ls cache/fintaqush/*/one/crates % 0 $answer|one
+ls cache/fintaqush/*/one.rlib % 0 $answer|format
 and not beside it % ls -d $small/.git % 2 *
 
 no word for a mode builds what serial mode needs % small_checkout; replay trace.csv 2> made; began % 0 $answer|high low napi_serial side
@@ -205,7 +208,7 @@ threads mode has another % small_checkout; built --mode threads; tail -n 2 made;
 which is tried unproved % replay --unproved trace.csv --mode threads 2> made % 0 napi_replay --mode threads|*
 so has shared mode % small_checkout; built --mode=shared; tail -n 2 made; began % 0 napi_replay *|*|high low napi_replay side wide
 which is tried unproved too % replay --unproved trace.csv --mode=shared 2> made % 0 napi_replay --mode=shared|*
-a build alone, of the programs of all modes % replay --build 2> made; began % 0 high low napi_serial side
+a build alone, of the programs of all modes % replay --build 2> made; began % 0 napi_serial
 a build replays nothing % replay --build trace.csv % 64 replay: --build replays nothing, and stands alone (see ./replay --help)
 
 without rt it says so at once % small_checkout; PATH=few $launcher trace.csv % $no_rt
@@ -213,17 +216,18 @@ for an unproved run too % PATH=few $launcher --unproved trace.csv % $no_rt
 a checkout that is not built and cannot be written to % chmod -R a-w $small; as_nobody $launcher trace.csv; s=\$?; chmod -R u+w $small; \
 (exit \$s) % 73 replay: the program is to be built, and small/* can't be written: build in a checkout of your own
 a proof that fails ends the build, with what rt said and where the rest stands % built; change; PROVES='$high_fails' replay trace.csv % \
-70 *|replay: high couldn't be built; small/.git/lanes/high/log has all that \`rt\` said:|error: not proved
+70 *|replay: high couldn't be built, status 1; small/.git/built/high.log has all that was said:|error: not proved
 and leaves no old program % ls $small/crates/napi_serial/out % 0 
-a full disk is told % change; (ulimit -f 0; $launcher trace.csv) 2>&1 | tail -n 1; (exit \${PIPESTATUS[0]}) % 70 replay: the build failed*
+a full disk is told % change; (ulimit -f 0; $launcher trace.csv) 2>&1 | tail -n 1; (exit \${PIPESTATUS[0]}) % 70 *
 a second build waits for the first one, and each crate is built once % : > rt.log; PROVES='sleep 1' built & comes grep 'begin low' rt.log; \
-replay trace.csv; wait; wc -l < rt.log % 0 replay: another build is at work in this checkout: waiting for it|$answer|8
+replay trace.csv; wait; wc -l < rt.log % 0 replay: another build is at work in this checkout: waiting for it|$answer|6
 a crate that is not there % $small/scripts/build.sh nothing % 64 replay: there is no crate 'nothing' in crates.txt
 
 Ctrl-C ends a build, and all that is at work % small_checkout; PROVES='sleep 5' signalled INT % 130 *|replay: interrupted$kept
 TERM ends one % small_checkout; PROVES='sleep 5' signalled TERM % 143 *|replay: interrupted$kept
 HUP ends one % small_checkout; PROVES='sleep 5' signalled HUP % 143 *|replay: interrupted$kept
-the next call builds over what was kept % built; grep low kept % 0 kept low
+the next call builds what is left % small_checkout; (PROVES='[ \$name != high ] || sleep 5' at=high signalled INT) 2> made; : > rt.log; \
+built; began % 0 high napi_serial
 TERM ends a run % DOES='exec $scratch/slow 20' signalled TERM % 143 replay: interrupted
 and an unproved one % DOES='exec $scratch/slow 20' signalled TERM --unproved % 143 *|replay: interrupted
 
@@ -272,7 +276,7 @@ on a terminal without input: a usage text % on_terminal $launcher --budget 3 % 6
 where no terminal is, only proved bytes % change; replay trace.csv 2> made; ! grep -i unproved made % 0 $answer
 on a terminal an unproved answer comes first, once, and the proof of it then; the build writes one line over and over \
 % change; PROVES='sleep 0.6' on_terminal $launcher trace.csv --weight 4 % 0 $first|napi_serial --weight 4|$header|rt: a hint|$unproved|*\
-crate 2 of 4 (low side), 6 of 8 functions checked, 0:0*crate 4 of 4*proved and built, in * s|replay: the proved program gives the same bytes
+crate 1 of 3 (low), 0:0*crate 3 of 3*proved and built, in * s|replay: the proved program gives the same bytes
 the next call replays % on_terminal $launcher trace.csv % 0 $answer
 so it does for a trace through a pipe % change; on_terminal bash -c '$launcher <(cat trace.csv)' % 0 *|$answer|*gives the same bytes
 one too long to be kept is replayed once % change; DOES='wc -c; exit' on_terminal bash -c 'head -c 70000000 /dev/zero | $launcher' % \
@@ -280,7 +284,7 @@ one too long to be kept is replayed once % change; DOES='wc -c; exit' on_termina
 other bytes are told of, and printed % change; TRIES=more on_terminal $launcher trace.csv % 0 *gives OTHER bytes, *|$answer
 a fault is told first and proved then % change; DOES=\$fails on_terminal $launcher bad.csv % 2 *${fault/|/|rt: a hint|}|*the same bytes
 where the build fails the answer stands, and the status is its % change; PROVES='$high_fails' on_terminal $launcher trace.csv % \
-70 *|$answer|*replay: high couldn't be built*
+70 *|$answer|*replay: high couldn't be built, status 1*
 END
 built
 for how in '' --unproved; do
