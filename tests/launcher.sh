@@ -77,17 +77,14 @@ END
 #!/bin/sh
 name=\$3 new=\${8}
 echo "begin \$name" >> "$scratch/rt.log"
-for word; do
-    case \$word in *=*/built/*.rlib) [ -e "\${word#*=}/format" ] || exit 1 ;; esac
-done
+for word; do case \$word in *=*/built/*.rlib) [ -e "\${word#*=}/format" ] || exit 1 ;; esac; done
 eval "\${PROVES:-sleep 0.05}"
 echo "end \$name" >> "$scratch/rt.log"
 case \$new in *.rlib.new) mkdir "\$new"; new=\$new/format ;; esac
 echo > "\$new"
 END
     printf '#!/bin/sh\ncp "%s" "$6"\n' "$small/program" > bin/rattle-link
-    chmod +x bin/* "$small/program" "$small/tools/report2json"
-    truncate -s 0 rt.log KIT-ID
+    chmod +x bin/* "$small/program" "$small/tools/report2json"; truncate -s 0 rt.log KIT-ID
 }
 
 header=moment,device,event,value
@@ -99,8 +96,7 @@ python3 -c 'import socket; socket.socket(socket.AF_UNIX).bind("socket")'
 mkdir few deep
 for tool in env sh dirname readlink cat; do ln -s "$(command -v "$tool")" "few/$tool"; done
 ln -s "$(as_nobody sh -c 'command -v python3')" few/python3
-ln -s "$small/replay" deep/link
-ln -s link deep/link-of-a-link
+ln -s "$small/replay" deep/link && ln -s link deep/link-of-a-link
 cp "$(command -v sleep)" slow
 cat > reset.py << 'END'
 import os, socket, subprocess, sys
