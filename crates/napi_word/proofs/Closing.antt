@@ -15,9 +15,7 @@ use Rattle.napi_model.specs.declared.state.Place.{Place, TheVariants.{Nobody, Gr
 use Rattle.napi_model.specs.{declared.state.State.State as Napi, History.{state_after, own}, Step.opening, Laws.is_owner}
 use mathlib.Core.{Logic.dite, List.IsPrefix, Option.{Option as Maybe, some-injective}}
 use native.Mathlib.Decide.{dec_le}
-use lib.ListN.{
-  get_elem?,
-}
+use lib.ListN.{get_elem?}
 
 -- ---- strands of one view in another
 abbrev pub Stands : View → View → Type 0

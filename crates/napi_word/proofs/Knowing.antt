@@ -1,5 +1,5 @@
 -- What a pass knows by its last event.
-use Rattle.std.proofs.Common.{eq-eqb, ◌≡◌, ℕ, List, [], ◌∷◌, Bool, true, false, ◌||◌, refl, sym, ap, ◌∙◌, subst, true≢false}
+use Rattle.std.proofs.Common.{eq-eqb, ◌≡◌, ℕ, List, [], ◌∷◌, Bool, true, false, refl, sym, ap, ◌∙◌, subst}
 use Rattle.napi_model.specs.declared.state.{State.State as Napi, Seen.Seen, Kind.Kind, Place.TheVariants.{Granted, Polling}}
 use Rattle.napi_model.specs.declared.event.{Done.TheVariants.{Again, Held}, Event.Event, Operation.{Operation, TheVariants.Look}}
 use Rattle.napi_model.specs.{declared.event.{Operation.TheVariants.{Schedule, Take, Complete}, Prep.Prep}, Step.{event, opening, after_by}}
