@@ -1,19 +1,15 @@
 -- Busy polling of a device by the calls of its trait is the function that the rules say, and what it keeps.
 use Rattle.std.proofs.Common.{◌≡◌, ◌∙◌, ℕ, zero, suc, Bool, true, false, List, [], ◌∷◌, Option, Some, None, MatchBool, ap, length, refl}
-use Rattle.std.{proofs.Common.{sym, subst, arith}, specs.Prelude.{◌||◌, if◌then◌else◌, not}}
-use Rattle.napi_model.specs.{Step.{complete_reply, is_handed}, declared.state.Kind.Kind}
-use Rattle.napi_model.specs.declared.state.State.{State}
-use Rattle.poll_runs.specs.{BusyPolling.{Given, busy_report, is_below, no_report}, Polling.{is_absent, next_of}}
-use Rattle.poll_runs.specs.{Polls.{Chain, is_arrival, is_repoll}, declared.bench.BusyReport.BusyReport}
-use Rattle.poll_runs.specs.declared.bench.Next.{Next, TheVariants.{Absent, Gone, Again, Repoll}}
+use Rattle.{std.{proofs.Common.{sym, subst, arith}, specs.Prelude.{◌||◌, if◌then◌else◌, not}}, napi_model.specs.Step.complete_reply}
+use Rattle.napi_model.specs.{Step.is_handed, declared.{state.{Kind.Kind, State.State}, event.Operation.Operation}}
+use Rattle.poll_runs.specs.{BusyPolling.{Given, busy_report, is_below, no_report}, Polling.{is_absent, next_of}, Polls.{Chain, is_arrival}}
+use Rattle.poll_runs.specs.{Polls.is_repoll, declared.bench.{BusyReport.BusyReport, Next.{Next, TheVariants.{Absent, Gone, Again, Repoll}}}}
 use Rattle.device_bench.specs.BusyPolling.{after_last, after_round, begun, gives, held_if, left_by, polled_busily, rounds_of, stopped}
-use Rattle.device_bench.specs.{Device.{completed, made, polled}, DeviceView.DeviceView}
-use Rattle.device_bench.specs.{Instance.{BusyTakes, Completes, Gives, Holds, Requeues, Stops, poller_of}, Kept.is_sound}
-use Rattle.device_bench.specs.{Waiting.{count, is_left_to_list}, declared.device.TheConstants.POLLER}
-use Rattle.device_bench.proofs.DeviceFacts.{Keeps, LeavesPolled, completed-leaves, unheld}
-use Rattle.napi_model.specs.declared.event.Operation.{Operation}
+use Rattle.device_bench.specs.{Device.{completed, made, polled}, DeviceView.DeviceView, Instance.{BusyTakes, Completes, Gives, Holds}}
+use Rattle.device_bench.specs.{Instance.{Requeues, Stops, poller_of}, Kept.is_sound, Waiting.{count, is_left_to_list}}
+use Rattle.device_bench.{specs.{declared.device.TheConstants.POLLER, Receive.{handed_again, poller_in}}, proofs.DeviceFacts.Keeps}
+use Rattle.device_bench.proofs.DeviceFacts.{LeavesPolled, completed-leaves, unheld}
 use Rattle.napi_model.specs.declared.state.Kind.TheVariants as kind
-use Rattle.device_bench.specs.Receive.{handed_again, poller_in}
 use Rattle.poll_runs.specs.BusyPolling as rule
 
 abbrev Round : ℕ → DeviceView → Given ℕ → DeviceView → Type 0

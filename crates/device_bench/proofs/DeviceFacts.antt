@@ -3,16 +3,14 @@ use Rattle.std.proofs.Common.{◌≡◌, ◌∙◌, ℕ, zero, suc, ◌+◌, ◌
 use Rattle.{std.specs.Prelude.{◌||◌, is_some, not, if◌then◌else◌}, napi_model.specs.Step.is_handed}
 use Rattle.napi_model.specs.declared.{event.{Prep.TheVariants.{Granted, Missed, Disabled}, Done.Done}, state.{Kind.Kind, Place.Place}}
 use Rattle.poll_runs.specs.{Polling.{goes_on, next_of}, Polls.is_arrival, Thread.{is_for_thread, last_next}, declared.bench.Next.Next}
-use Rattle.poll_runs.specs.declared.bench.{Next.TheVariants.{Again, Repoll}, Once.Once}
-use Rattle.{device_bench.specs.Waiting.{count, is_left_to_list, is_listed, leaves, waits}, device_transmit.specs.Counter.raised}
-use Rattle.device_bench.specs.Device.{after_disable, after_enable, after_packet, after_poll, after_reply, after_request, after_take}
-use Rattle.device_bench.specs.Device.{after_threaded, asks_again, completed, completed_told, disabled_from, enabled_from, ended, ended_by}
-use Rattle.device_bench.specs.Device.{is_pending, let_go, made, polled, polled_by_thread, polled_once, retaken, settled, state_of}
-use Rattle.device_bench.specs.Device.{followed, taken, thread_polls, with_napi}
-use Rattle.device_bench.specs.{DeviceView.DeviceView, Kept.{is_held, is_sound}}
-use Rattle.device_bench.specs.declared.{counts.DeviceState.DeviceState, device.TheConstants.{INTERRUPT, POLLER, THREAD}}
-use Rattle.poll_runs.proofs.PollingFacts.{goes-room, goes-thread}
-use Rattle.device_bench.specs.Receive.{done_by, given_of, handed_again, has_place, is_control, put_if, tried_by}
+use Rattle.poll_runs.{specs.declared.bench.{Next.TheVariants.{Again, Repoll}, Once.Once}, proofs.PollingFacts.{goes-room, goes-thread}}
+use Rattle.device_bench.specs.{Waiting.{count, is_left_to_list, is_listed, leaves, waits}, Device.{after_disable, after_enable}}
+use Rattle.device_bench.specs.Device.{after_packet, after_poll, after_reply, after_request, after_take, after_threaded, asks_again}
+use Rattle.device_bench.specs.Device.{completed, completed_told, disabled_from, enabled_from, ended, ended_by, is_pending, let_go, made}
+use Rattle.device_bench.specs.Device.{polled, polled_by_thread, polled_once, retaken, settled, state_of, followed, taken, thread_polls}
+use Rattle.device_bench.specs.{Device.with_napi, DeviceView.DeviceView, Kept.{is_held, is_sound}, declared.counts.DeviceState.DeviceState}
+use Rattle.device_bench.specs.{declared.device.TheConstants.{INTERRUPT, POLLER, THREAD}, Receive.{done_by, given_of, handed_again}}
+use Rattle.{device_bench.specs.Receive.{has_place, is_control, put_if, tried_by}, device_transmit.specs.Counter.raised}
 use Rattle.napi_model.specs.declared.event.Operation.TheVariants as operation
 
 -- an instance that isn't scheduled is on no list

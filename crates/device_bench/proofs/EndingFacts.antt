@@ -1,11 +1,8 @@
 -- The devices of a bench are ended one after the other, the last one first.
 use Rattle.std.proofs.Common.{◌≡◌, ◌≢◌, ◌∙◌, ◌<◌, ◌≤◌, ◌+◌, ℕ, zero, suc, Bool, true, false, Option, Some, None, [], ◌∷◌, ◌++◌, length}
-use Rattle.std.proofs.Common.{length-append, length-set, get_or-set_other, replicate, slice_set, ap, refl, arith}
-use Rattle.std.proofs.lemmas.Bool.{eqb-true, eqb-false}
-use Rattle.std.specs.Prelude.{◌==◌}
-use Rattle.device_rows.specs.Places.{Places, at}
-use Rattle.device_bench.specs.{Bench.Devices, DeviceView.DeviceView, Ending.{AllEnded, IsEndedAt}, Receive.ReceiveView}
-use Rattle.device_bench.proofs.BenchFacts.{at-beyond}
+use Rattle.std.proofs.{Common.{length-append, length-set, get_or-set_other, slice_set, ap, refl, arith}, lemmas.Bool.eqb-true}
+use Rattle.{std.{proofs.lemmas.Bool.eqb-false, specs.Prelude.◌==◌}, device_rows.specs.Places.{Places, at}, device_bench.specs.Bench.Devices}
+use Rattle.device_bench.specs.{DeviceView.DeviceView, Ending.IsEndedAt, Receive.ReceiveView}
 
 -- those from here on were ended, and those before them are left
 pub record EndedFrom {Totals : Type 0} (ended : ReceiveView → Totals → Type 0) (all left : Devices) (ends : Places Totals) : Type 0 where
@@ -25,20 +22,7 @@ at-before [] ys number below = absurd (omega (arith, below))
 at-before (x ∷ xs) ys zero below = refl
 at-before (x ∷ xs) ys (suc number) below = at-before xs ys number (omega (arith, below))
 
-none-at : {A : Type 0} → (count number : ℕ) → at {A = A} number (replicate count None) ≡ None
-none-at (suc count) (suc number) = none-at count number
-none-at count number = refl
-
 module _ {Totals : Type 0} (ended : ReceiveView → Totals → Type 0) (all : Devices) where
-  pub ended-none : length all ≡ 17 → EndedFrom ended all all (replicate 17 None)
-  ended-none places = record {
-    places = refl;
-    most = omega (arith, places);
-    same = λ number below. refl;
-    none = λ number below. none-at 17 number;
-    done = λ number beyond. rw (at-beyond number all beyond, none-at {A = Totals} 17 number) tt;
-  }
-
   module _ (left left' : Devices) (place : Option DeviceView) (ends ends' : Places Totals) (more : left ≡ left' ++ place ∷ [])
       (was : EndedFrom ended all left ends) where
     longer : length left ≡ length left' + 1
@@ -86,6 +70,3 @@ module _ {Totals : Type 0} (ended : ReceiveView → Totals → Type 0) (all : De
         at-same [] n y below = absurd (omega (arith, below))
         at-same (x ∷ xs) zero y below = refl
         at-same (x ∷ xs) (suc n) y below = at-same xs n y (omega (arith, below))
-
-  pub ended-all : (left : Devices) (ends : Places Totals) → length left ≡ 0 → EndedFrom ended all left ends → AllEnded ended all ends
-  ended-all left ends none was number = was.done number (omega (arith, none))

@@ -1,17 +1,14 @@
 -- The polling of a device by the calls of its trait is the function of the device that the rules say.
 use Rattle.std.proofs.Common.{◌≡◌, ◌∙◌, ℕ, zero, suc, ◌-◌, ◌≤◌, Bool, true, false, List, [], ◌∷◌, Option, Some, None, MatchBool, ap, refl}
-use Rattle.std.{proofs.Common.{sym, subst, arith}, specs.Prelude.{◌==◌, ◌&&◌, not, if◌then◌else◌}}
-use Rattle.napi_model.specs.Step.{complete_reply, take_reply}
-use Rattle.napi_model.specs.declared.{event.Done.Done, state.{Kind.Kind, Place.TheVariants.{Polling, ToThread}}}
-use Rattle.poll_runs.specs.{Polling.{goes_on, is_absent, next_of}, Polls.is_repoll}
-use Rattle.poll_runs.specs.{declared.bench.{Next.{Next, TheVariants.{Absent, Gone, Again, Repoll}}, Once.Once}, Thread.is_for_thread}
-use Rattle.napi_model.specs.declared.event.Operation.{Operation}
-use Rattle.device_bench.specs.Device.{after_poll, after_take, asks_again, completed, ended, ended_by, let_go, made, polled}
-use Rattle.device_bench.specs.Device.{polled_by_thread, polled_once, retaken, taken, thread_polls}
-use Rattle.poll_runs.proofs.PollingFacts.{goes-last, goes-thread}
-use Rattle.device_bench.specs.{DeviceView.DeviceView, Instance.{Completes, Gives, Looks, Requeues, Takes, poller_of}}
-use Rattle.device_bench.specs.declared.device.TheConstants.{POLLER, THREAD}
-use Rattle.device_bench.specs.Receive.{done_by, given_of, handed_again, poller_in}
+use Rattle.{std.{proofs.Common.{sym, subst, arith}, specs.Prelude.{◌==◌, ◌&&◌, not, if◌then◌else◌}}, napi_model.specs.Step.complete_reply}
+use Rattle.napi_model.specs.{Step.take_reply, declared.{event.{Done.Done, Operation.Operation}, state.Kind.Kind}}
+use Rattle.{napi_model.specs.declared.state.Place.TheVariants.{Polling, ToThread}, poll_runs.specs.Polling.{goes_on, is_absent, next_of}}
+use Rattle.poll_runs.specs.{Polls.is_repoll, declared.bench.{Next.{Next, TheVariants.{Absent, Gone, Again, Repoll}}, Once.Once}}
+use Rattle.{poll_runs.{specs.Thread.is_for_thread, proofs.PollingFacts.{goes-last, goes-thread}}, device_bench.specs.Device.after_poll}
+use Rattle.device_bench.specs.Device.{after_take, asks_again, completed, ended, ended_by, let_go, made, polled, polled_by_thread}
+use Rattle.device_bench.specs.{Device.{polled_once, retaken, taken, thread_polls}, DeviceView.DeviceView, Instance.{Completes, Gives}}
+use Rattle.device_bench.specs.{Instance.{Looks, Requeues, Takes, poller_of}, declared.device.TheConstants.{POLLER, THREAD}, Receive.done_by}
+use Rattle.device_bench.specs.Receive.{given_of, handed_again, poller_in}
 use Rattle.poll_runs.specs.Polling as polling
 
 abbrev Given : DeviceView → ℕ → ℕ → ℕ → DeviceView → Type 0

@@ -1,10 +1,9 @@
 -- How many devices wait on the poll list: each call changes it as it changes the list.
 use Rattle.std.proofs.Common.{◌≡◌, ℕ, suc, ◌+◌, ◌<◌, ◌≤◌, Bool, true, false, Option, Some, None, [], ◌∷◌, length, get_or, slice_set, map}
-use Rattle.std.{proofs.Common.{ap, refl, arith}, specs.Prelude.{sum_by, if◌then◌else◌}}
-use Rattle.{std.proofs.lemmas.List.Sums.{sum_by-cons, sum_by-set}, napi_model.specs.Step.is_handed}
-use Rattle.device_bench.specs.{Bench.{Devices, all_settled, settled_at}, Device.opened, DeviceView.DeviceView, Kept.{IsKept, is_sound_at}}
-use Rattle.device_rows.{specs.Places.{at, empty}, proofs.PlaceFacts.below-some}
-use Rattle.{device_bench.{specs.Waiting.{waiting, waits}, proofs.DeviceFacts.settle-keeps}, napi_model.specs.declared.state.Kind.Kind}
+use Rattle.std.{proofs.{Common.{ap, refl, arith}, lemmas.List.Sums.{sum_by-cons, sum_by-set}}, specs.Prelude.{sum_by, if◌then◌else◌}}
+use Rattle.{napi_model.specs.{Step.is_handed, declared.state.Kind.Kind}, device_bench.specs.Bench.{Devices, all_settled, settled_at}}
+use Rattle.device_bench.specs.{Device.opened, DeviceView.DeviceView, Kept.{IsKept, is_sound_at}, Waiting.{waiting, waits}}
+use Rattle.{device_bench.proofs.DeviceFacts.settle-keeps, device_rows.{specs.Places.{at, empty}, proofs.PlaceFacts.below-some}}
 
 pub waiting-empty : waiting empty ≡ 0
 unfolding waiting

@@ -1,20 +1,11 @@
 -- What the devices of a bench are, and what its calls and polls do to what it shows.
 use Rattle.std.specs.Prelude.{◌≡◌, ℕ, ◌+◌, ◌≤◌, List, [], Option, Some, None, is_some, filter, length, map}
-use Rattle.napi_model.specs.declared.state.Kind.{Kind}
-use Rattle.poll_runs.specs.BusyPolling.{no_report}
-use Rattle.poll_runs.specs.Thread.{last_next}
-use Rattle.poll_runs.specs.declared.bench.BusyReport.{BusyReport}
-use Rattle.poll_runs.specs.declared.bench.Next.TheVariants.{Absent}
-use Rattle.poll_runs.specs.declared.bench.Once.{Once}
-use Rattle.device_bench.specs.BusyPolling.{polled_busily}
-use Rattle.device_bench.specs.Counts.{counts_of}
-use Rattle.device_bench.specs.Device.{after_packet, polled_by_thread, polled_once, settled}
-use Rattle.device_bench.specs.DeviceView.{DeviceView}
-use Rattle.device_rows.specs.Places.{Places, at, changed}
-use Rattle.device_bench.specs.Waiting.{count, is_left_to_list, leaves}
-use Rattle.device_bench.specs.declared.counts.DeviceCounts.{DeviceCounts}
-use Rattle.device_transmit.specs.declared.transmit.TxCounts.{TxCounts}
-use Rattle.device_transmit.specs.Transmits.{Keeps, Transmits}
+use Rattle.{napi_model.specs.declared.state.Kind.Kind, poll_runs.specs.{BusyPolling.no_report, Thread.last_next}}
+use Rattle.poll_runs.specs.declared.bench.{BusyReport.BusyReport, Next.TheVariants.Absent, Once.Once}
+use Rattle.device_bench.specs.{BusyPolling.polled_busily, Counts.counts_of, Device.{after_packet, polled_by_thread, polled_once, settled}}
+use Rattle.device_bench.specs.{DeviceView.DeviceView, Waiting.{count, is_left_to_list, leaves}, declared.counts.DeviceCounts.DeviceCounts}
+use Rattle.{device_rows.specs.Places.{Places, at, changed}, device_transmit.specs.{declared.transmit.TxCounts.TxCounts, Transmits.Keeps}}
+use Rattle.device_transmit.specs.Transmits.{Transmits}
 
 abbrev pub Devices : Type 0
 Devices = Places DeviceView

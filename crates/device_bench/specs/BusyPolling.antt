@@ -1,17 +1,12 @@
 -- Busy polling of a device (`napi_busy_loop` and `busy_poll_stop`), by the rule that `poll_runs` states.
 use Rattle.std.specs.Prelude.{ℕ, zero, suc, Bool, true, false, List, [], ◌∷◌, if◌then◌else◌}
-use Rattle.napi_model.specs.declared.event.Done.TheVariants.{Held}
+use Rattle.{napi_model.specs.declared.event.Done.TheVariants.Held, poll_runs.specs.BusyPolling.{Given, busy_report, is_below, no_report}}
+use Rattle.{poll_runs.specs.declared.bench.{BusyReport.BusyReport, Next.Next}, device_transmit.specs.Counter.raised}
+use Rattle.device_bench.specs.{Device.{completed, made, polled}, DeviceView.DeviceView, Receive.{bytes_of, given_of, is_idle}}
+use Rattle.device_bench.specs.declared.device.TheConstants.{POLLER}
 use Rattle.napi_model.specs.declared.event.Operation.TheVariants as operation
 use Rattle.napi_model.specs.declared.state.Kind.TheVariants as kind
-use Rattle.poll_runs.specs.BusyPolling.{Given, busy_report, is_below, no_report}
-use Rattle.poll_runs.specs.declared.bench.BusyReport.{BusyReport}
-use Rattle.poll_runs.specs.declared.bench.Next.{Next}
 use Rattle.poll_runs.specs.declared.bench.Next.TheVariants as next
-use Rattle.device_transmit.specs.Counter.{raised}
-use Rattle.device_bench.specs.Device.{completed, made, polled}
-use Rattle.device_bench.specs.DeviceView.{DeviceView}
-use Rattle.device_bench.specs.Receive.{bytes_of, given_of, is_idle}
-use Rattle.device_bench.specs.declared.device.TheConstants.{POLLER}
 
 -- what a poll gives: the bytes of its packets, and their number
 abbrev pub gives : ℕ → DeviceView → Given ℕ

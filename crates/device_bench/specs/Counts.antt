@@ -1,10 +1,6 @@
 -- What the report tells of a device.
-use Rattle.std.specs.Prelude.{length}
-use Rattle.napi_model.specs.Step.{seen_of}
-use Rattle.napi_model.specs.Word.{word_of}
-use Rattle.device_bench.specs.Device.{state_of}
-use Rattle.device_bench.specs.DeviceView.{DeviceView}
-use Rattle.device_bench.specs.declared.counts.DeviceCounts.{DeviceCounts}
+use Rattle.{std.specs.Prelude.length, napi_model.specs.{Step.seen_of, Word.word_of}, device_bench.specs.Device.state_of}
+use Rattle.device_bench.specs.{DeviceView.DeviceView, declared.counts.DeviceCounts.DeviceCounts}
 use Rattle.device_transmit.specs.declared.transmit.TxCounts.{TxCounts}
 
 -- what a device counted, what its ring holds, its state word, and its transmit side

@@ -1,26 +1,16 @@
 -- What rows and polls do to a device.
 use Rattle.std.specs.Prelude.{ℕ, zero, suc, ◌==◌, ◌&&◌, not, Bool, true, false, List, [], ◌∷◌, drop, Option, None, is_some, if◌then◌else◌}
 use Rattle.napi_model.specs.Step.{after, complete_reply, event, schedule_reply, take_disable_reply, take_reply}
-use Rattle.napi_model.specs.declared.event.Operation.{Operation}
-use Rattle.napi_model.specs.declared.event.Operation.TheVariants as operation
-use Rattle.napi_model.specs.declared.event.Prep.{Prep}
-use Rattle.napi_model.specs.declared.event.Prep.TheVariants.{Granted, Missed, Disabled}
-use Rattle.napi_model.specs.declared.state.Kind.{Kind}
-use Rattle.napi_model.specs.declared.state.Kind.TheVariants as kind
-use Rattle.napi_model.specs.declared.state.State.{State}
-use Rattle.poll_runs.specs.Polling.{goes_on, next_of}
-use Rattle.poll_runs.specs.declared.bench.Next.{Next}
-use Rattle.poll_runs.specs.declared.bench.Next.TheVariants as next
-use Rattle.poll_runs.specs.declared.bench.Once.{Once}
-use Rattle.device_transmit.specs.Counter.{raised}
-use Rattle.device_bench.specs.DeviceView.{DeviceView}
+use Rattle.napi_model.specs.declared.{event.{Operation.Operation, Prep.{Prep, TheVariants.{Granted, Missed, Disabled}}}, state.Kind.Kind}
+use Rattle.{napi_model.specs.declared.state.State.State, poll_runs.specs.{Polling.{goes_on, next_of}, declared.bench.Next.Next}}
+use Rattle.{poll_runs.specs.declared.bench.Once.Once, device_transmit.specs.Counter.raised, device_bench.specs.DeviceView.DeviceView}
 use Rattle.device_bench.specs.Receive.{bytes_of, done_by, given_of, handed_again, handed_on, has_place, is_control, opened_side, put_if}
-use Rattle.device_bench.specs.Receive.{requested, tried_by}
-use Rattle.device_bench.specs.declared.counts.DeviceCounts.{DeviceCounts}
-use Rattle.device_bench.specs.declared.counts.DeviceState.{DeviceState}
-use Rattle.device_bench.specs.declared.counts.TheConstants.DeviceCounts.{OPENED}
+use Rattle.device_bench.specs.{Receive.{requested, tried_by}, declared.counts.{DeviceCounts.DeviceCounts, DeviceState.DeviceState}}
+use Rattle.device_bench.specs.declared.{counts.TheConstants.DeviceCounts.OPENED, device.TheConstants.{CONTROLLER, POLLER, THREAD}}
+use Rattle.napi_model.specs.declared.event.Operation.TheVariants as operation
+use Rattle.napi_model.specs.declared.state.Kind.TheVariants as kind
+use Rattle.poll_runs.specs.declared.bench.Next.TheVariants as next
 use Rattle.device_bench.specs.declared.counts.DeviceState.TheVariants as state
-use Rattle.device_bench.specs.declared.device.TheConstants.{CONTROLLER, POLLER, THREAD}
 
 -- its instance comes into this state
 abbrev pub with_napi : State → DeviceView → DeviceView

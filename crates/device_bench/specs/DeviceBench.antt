@@ -1,11 +1,6 @@
 -- What a bench of devices shows.
-use Rattle.std.specs.Prelude.{ℕ}
-use Rattle.device_bench.specs.Bench.{Devices, HaveSides}
-use Rattle.device_transmit.specs.Transmits.{Transmits}
-use Rattle.device_transmit.specs.Sides.{ShowsSides}
-use Rattle.device_bench.specs.Waiting.{waiting}
-use Rattle.device_bench.specs.declared.bench.DeviceBench.{DeviceBench}
-use Rattle.device_bench.specs.declared.receive_side.ReceiveSide.{Ghosts}
+use Rattle.{std.specs.Prelude.ℕ, device_bench.specs.{Bench.{Devices, HaveSides}, Waiting.waiting, declared.bench.DeviceBench.DeviceBench}}
+use Rattle.{device_bench.specs.declared.receive_side.ReceiveSide.Ghosts, device_transmit.specs.{Transmits.Transmits, Sides.ShowsSides}}
 
 module _ {S O : Type 0} {g : Ghosts S} where
   -- the devices that were attached

@@ -1,7 +1,5 @@
 -- A device as plain data.
-use Rattle.std.specs.Prelude.{Bool}
-use Rattle.device_bench.specs.Receive.{ReceiveView}
-use Rattle.device_bench.specs.declared.counts.DeviceCounts.{DeviceCounts}
+use Rattle.{std.specs.Prelude.Bool, device_bench.specs.{Receive.ReceiveView, declared.counts.DeviceCounts.DeviceCounts}}
 
 pub record DeviceView : Type 0 where
   -- its instance and its ring

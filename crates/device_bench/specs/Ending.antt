@@ -1,9 +1,6 @@
 -- The end of a bench whose receive sides must be spent.
-use Rattle.std.specs.Prelude.{ℕ, Option, Some, None}
-use Rattle.device_rows.specs.Places.{Places, at}
-use Rattle.device_bench.specs.Bench.{Devices}
-use Rattle.device_bench.specs.DeviceView.{DeviceView}
-use Rattle.device_bench.specs.Receive.{ReceiveView}
+use Rattle.{std.specs.Prelude.{ℕ, Option, Some, None}, device_rows.specs.Places.{Places, at}, device_bench.specs.Bench.Devices}
+use Rattle.device_bench.specs.{DeviceView.DeviceView, Receive.ReceiveView}
 
 -- a device was ended; where there is none, nothing was counted
 abbrev pub IsEndedAt : {Totals : Type 0} → (ReceiveView → Totals → Type 0) → Option DeviceView → Option Totals → Type 0

@@ -1,8 +1,6 @@
 -- Who owns a device's instance.
-use Rattle.std.specs.Prelude.{◌≡◌, ◌||◌, ◌&&◌, Bool, true, false, not}
-use Rattle.napi_model.specs.declared.state.Place.{Place}
-use Rattle.napi_model.specs.declared.state.Place.TheVariants.{Control, Polling}
-use Rattle.napi_model.specs.declared.state.State.{State}
+use Rattle.{std.specs.Prelude.{◌≡◌, ◌||◌, ◌&&◌, Bool, true, false, not}, napi_model.specs.declared.state.Place.{Place, TheVariants.Control}}
+use Rattle.napi_model.specs.declared.state.{Place.TheVariants.Polling, State.State}
 use Rattle.device_bench.specs.declared.device.TheConstants.{CONTROLLER}
 
 -- only the controller takes an instance out of use

@@ -1,19 +1,12 @@
 -- A device's receive side in the sight of one thread: the state of its instance and what its ring holds, and what its calls make
 -- of these.
 use Rattle.std.specs.Prelude.{ℕ, Bool, true, false, not, ◌||◌, List, [], ◌∷◌, ◌++◌, length, take, sum, min, nat_lt, Option, Some, None}
-use Rattle.std.specs.Prelude.{if◌then◌else◌}
-use Rattle.napi_model.specs.Step.{after, event, opening}
-use Rattle.napi_model.specs.declared.event.Done.{Done}
-use Rattle.napi_model.specs.declared.event.Done.TheVariants.{Released, Again, Held}
-use Rattle.napi_model.specs.declared.event.Operation.TheVariants as operation
-use Rattle.napi_model.specs.declared.event.Prep.{Prep}
-use Rattle.napi_model.specs.declared.event.Prep.TheVariants.{Granted, Missed, Disabled}
-use Rattle.napi_model.specs.declared.state.Kind.{Kind}
-use Rattle.napi_model.specs.declared.state.Kind.TheVariants as kind
-use Rattle.napi_model.specs.declared.state.Place.{Place}
-use Rattle.napi_model.specs.declared.state.Place.TheVariants.{Control, Polling}
-use Rattle.napi_model.specs.declared.state.State.{State}
+use Rattle.{std.specs.Prelude.if◌then◌else◌, napi_model.specs.{Step.{after, event, opening}, declared.event.Done.Done}}
+use Rattle.napi_model.specs.declared.event.{Done.TheVariants.{Released, Again, Held}, Prep.{Prep, TheVariants.{Granted, Missed, Disabled}}}
+use Rattle.napi_model.specs.declared.state.{Kind.Kind, Place.{Place, TheVariants.{Control, Polling}}, State.State}
 use Rattle.device_bench.specs.declared.device.TheConstants.{CONTROLLER, INTERRUPT, POLLER, THREAD}
+use Rattle.napi_model.specs.declared.event.Operation.TheVariants as operation
+use Rattle.napi_model.specs.declared.state.Kind.TheVariants as kind
 
 pub record ReceiveView : Type 0 where
   -- the state of its instance

@@ -1,6 +1,7 @@
 //! The devices of a replay, by their numbers.
 
-ghost use Rattle.std.specs.Prelude.{◌≡◌, None, Some, false, is_some};
+ghost use Rattle.std.specs.Prelude.{◌≡◌, None, Some, IfOk, false, is_some};
+ghost use Rattle.device_rows.specs.Places.{empty};
 ghost use Rattle.device_bench.specs.Kept.{IsKept};
 
 use crate::counts::DeviceCounts;
@@ -40,6 +41,17 @@ fn fill<T>(place: &mut Option<T>, value: T)
     }
 }
 
+// A place for each number, all empty.
+fn no_devices<T>(alloc: Global) -> Result<Vec<Option<T>>, AllocError>
+    ensures { IfOk result (λ places. places.items ≡ empty) }
+{
+    let mut places = Vec::with_capacity(alloc, PLACES as usize)?;
+    for _ in 0..PLACES {
+        places.push_reserved(None);
+    }
+    Ok(places)
+}
+
 impl DeviceBench<SerialReceive, SerialOpener> {
     ghost use Rattle.std.specs.Prelude.{IfOk};
     ghost use Rattle.device_rows.specs.Places.{empty};
@@ -72,13 +84,9 @@ impl<S: ReceiveSide, O: Opener<S>> DeviceBench<S, O> {
         ensures transmits { IfOk result (λ bench. ShowsTransmits bench empty) }
     {
         let transmits = TransmitSides::new(alloc)?;
-        let mut devices = Vec::with_capacity(alloc, PLACES as usize)?;
-        for _ in 0..PLACES {
-            devices.push_reserved(None);
-        }
         Ok(DeviceBench {
             opener,
-            devices,
+            devices: no_devices(alloc)?,
             transmits,
             unsettled: false,
         })

@@ -1,12 +1,10 @@
 -- Which records of a text decide its trace: the first 100002, and those up to the first fault.
 use Rattle.std.proofs.Common.{◌≡◌, ◌∙◌, ℕ, zero, suc, ◌+◌, ◌≤◌, Bool, true, false, List, [], ◌∷◌, ◌++◌, length, length-append, take, refl}
-use Rattle.std.{proofs.Common.{sym, ap, arith, Some, None, Option}, specs.Prelude.{Result, Ok, Err, nat_lt}}
-use Rattle.{std.proofs.lemmas.Bool.ltb-true, csv.specs.{Reading.{default_config, records_from, strip_bom}, declared.parser.State.State}}
-use Rattle.device_rows.specs.{Record.{row_of, version_of}, Switch.{refusal, switch_of, unless_refused}}
-use Rattle.device_rows.specs.Trace.{records_of, rows_after, rows_behind, trace_of, version_in, with_row}
-use Rattle.device_rows.specs.declared.{fault.TraceFault.TraceFault, row.Row.Row}
-use Rattle.device_rows.proofs.RowsFacts.{rows-bad, rows-end, rows-good, rows-over}
-use Rattle.device_rows.proofs.RecordsFacts.{records-all, records-take}
+use Rattle.std.{proofs.{Common.{sym, ap, arith, Some, None, Option}, lemmas.Bool.ltb-true}, specs.Prelude.{Result, Ok, Err, nat_lt}}
+use Rattle.{csv.specs.{Reading.{default_config, records_from, strip_bom}, declared.parser.State.State}, device_rows.specs.Record.row_of}
+use Rattle.device_rows.specs.{Record.version_of, Switch.{refusal, switch_of, unless_refused}, Trace.{records_of, rows_after, rows_behind}}
+use Rattle.device_rows.specs.{Trace.{trace_of, version_in, with_row}, declared.{fault.TraceFault.TraceFault, row.Row.Row}}
+use Rattle.device_rows.proofs.{RowsFacts.{rows-bad, rows-end, rows-good, rows-over}, RecordsFacts.{records-all, records-take}}
 
 module _ (version : ℕ) where
   -- a row that is taken makes the list one longer

@@ -1,6 +1,6 @@
 -- The number that two runs of digits write together.
-use Rattle.std.proofs.Common.{◌≡◌, ap, ℕ, ◌+◌, ◌*◌, ◌^◌, ◌≤◌, Bool, true, false, List, [], ◌∷◌, ◌++◌, length, refl, rules, arith}
-use Rattle.std.proofs.{Math.Nat.pow-suc, lemmas.Bool.le-leb}
+use Rattle.std.proofs.Common.{◌≡◌, ap, ℕ, ◌+◌, ◌*◌, ◌^◌, ◌≤◌, true, List, [], ◌∷◌, ◌++◌, length, refl, arith}
+use Rattle.std.proofs.{Math.Nat.pow-suc, lemmas.Bool.{and_from, and_parts, le-leb}}
 use Rattle.std.specs.{Prelude.{◌&&◌, nat_le}, Char.{digit_value, is_ascii_digit}}
 use Rattle.{std.specs.Str.{all_ascii_digits, Parse.{digits_value, digits_value_after}}, device_rows.specs.Record.{is_numeral, numeral}}
 
@@ -25,27 +25,16 @@ numeral-join field front back e eight =
     let whole' = rw eight at whole in
     rw e (omega (arith, whole'))
 
-both : (a b : Bool) → a ≡ true → b ≡ true → (a && b) ≡ true
-both a b h k = rw (h, k) refl
-
-right : (a b : Bool) → (a && b) ≡ true → b ≡ true
-right true b h = h
-right false b h = search rules
-
-left : (a b : Bool) → (a && b) ≡ true → a ≡ true
-left true b h = refl
-left false b h = h
-
 pub digits-of : (field : List ℕ) → is_numeral field ≡ true → all_ascii_digits field ≡ true
 digits-of field h =
-    right (nat_le (length field) 20) (all_ascii_digits field)
-    (right (nat_le 1 (length field)) (nat_le (length field) 20 && all_ascii_digits field) h)
+    (and_parts (nat_le (length field) 20) (all_ascii_digits field)
+    (and_parts (nat_le 1 (length field)) (nat_le (length field) 20 && all_ascii_digits field) h).1).1
 
 join : (front back : List ℕ) → all_ascii_digits front ≡ true → all_ascii_digits back ≡ true → all_ascii_digits (front ++ back) ≡ true
 join [] back f b = b
 join (c ∷ front) back f b =
-    both (is_ascii_digit c) (all_ascii_digits (front ++ back)) (left (is_ascii_digit c) (all_ascii_digits front) f)
-    (join front back (right (is_ascii_digit c) (all_ascii_digits front) f) b)
+    let parts = and_parts (is_ascii_digit c) (all_ascii_digits front) f in
+    and_from (is_ascii_digit c) (all_ascii_digits (front ++ back)) parts.0 (join front back parts.1 b)
 
 pub digits-join : (field front back : List ℕ) → field ≡ front ++ back → all_ascii_digits front ≡ true → all_ascii_digits back ≡ true
     → all_ascii_digits field ≡ true

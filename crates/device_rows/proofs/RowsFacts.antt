@@ -1,9 +1,8 @@
 -- How the rows of the records that are left follow from the next record.
 use Rattle.std.proofs.Common.{◌≡◌, ◌∙◌, ℕ, suc, ◌+◌, ◌-◌, ◌≤◌, true, false, List, [], ◌∷◌, ◌++◌, length, refl, sym, ap, arith, Some, None}
 use Rattle.{std.{proofs.Common.Option, specs.Prelude.{Result, Ok, Err, nat_lt}}, csv.specs.Machine.{Read, next_record}}
-use Rattle.csv.specs.Reading.{default_config, reader_state, records_from, records_next}
-use Rattle.csv.specs.declared.{reader.Reader.Reader, parser.State.State}
-use Rattle.device_rows.specs.{Source.{StandsAt, TakesNext}, Record.{row_of, version_of}}
+use Rattle.csv.specs.{Reading.{default_config, reader_state, records_from, records_next}, declared.reader.Reader.Reader}
+use Rattle.{csv.specs.declared.parser.State.State, device_rows.specs.{Source.{StandsAt, TakesNext}, Record.{row_of, version_of}}}
 use Rattle.device_rows.specs.{Switch.{refusal, switch_of}, Trace.{rows_after, trace_of, version_in, with_row}}
 use Rattle.device_rows.specs.declared.{fault.TraceFault.TraceFault, row.Row.Row}
 

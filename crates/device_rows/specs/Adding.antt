@@ -1,9 +1,6 @@
 -- One more row in the vector of rows.
 use Rattle.std.specs.Prelude.{◌≡◌, ◌<◌, ◌+◌, ℕ, List, [], Ok, Vec, length, vec_capacity, vec_items, vec_len}
-use Rattle.device_rows.specs.Switch.{Tracks}
-use Rattle.device_rows.specs.Trace.{AcceptedAfter, with_row}
-use Rattle.device_rows.specs.declared.row.Row.{Row}
-use Rattle.device_rows.specs.declared.switch.Switch.{Switch}
+use Rattle.device_rows.specs.{Switch.Tracks, Trace.{AcceptedAfter, with_row}, declared.{row.Row.Row, switch.Switch.Switch}}
 
 -- there is room for the row of this number, and the table has the switches behind those before it
 pub record CanAdd {A : Type 0} (number : ℕ) (table : List Switch) (rows : Vec Row A) : Type 0 where

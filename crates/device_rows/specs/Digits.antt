@@ -1,6 +1,5 @@
 -- A table of what digits are worth.
-use Rattle.std.specs.Prelude.{◌≡◌, ℕ, ◌+◌, ◌*◌, ◌^◌, ◌<◌, List, if◌then◌else◌, slice_index_or}
-use Rattle.std.specs.Char.{digit_value, is_ascii_digit}
+use Rattle.std.specs.{Prelude.{◌≡◌, ℕ, ◌+◌, ◌*◌, ◌^◌, ◌<◌, List, if◌then◌else◌, slice_index_or}, Char.{digit_value, is_ascii_digit}}
 
 -- what a byte adds to a number at this place, counted from its last one; one that is no digit adds more than eight digits write
 unfoldable pub worth : ℕ → ℕ → ℕ

@@ -1,8 +1,7 @@
 -- The numbers of the faults. See docs/FORMATS.md, "Faults".
-use Rattle.std.specs.Prelude.{ℕ}
-use Rattle.device_rows.specs.declared.fault.TraceFault.{TraceFault}
-use Rattle.device_rows.specs.declared.fault.TraceFault.TheVariants.{BadHeader, BadFields, BadNumber, BadEvent, OutOfRange, UnknownDevice}
-use Rattle.device_rows.specs.declared.fault.TraceFault.TheVariants.{OpenTwice, WrongState, TooManyRows, ReadFailed, OutOfMemory}
+use Rattle.{std.specs.Prelude.ℕ, device_rows.specs.declared.fault.TraceFault.{TraceFault, TheVariants.{BadHeader, BadFields, BadNumber}}}
+use Rattle.device_rows.specs.declared.fault.TraceFault.TheVariants.{BadEvent, OutOfRange, UnknownDevice, OpenTwice, WrongState, TooManyRows}
+use Rattle.device_rows.specs.declared.fault.TraceFault.TheVariants.{ReadFailed, OutOfMemory}
 
 -- the number by which a fault is known
 abbrev pub number_of : TraceFault → ℕ

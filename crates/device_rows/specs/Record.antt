@@ -1,15 +1,9 @@
 -- What the fields of one record say by themselves: a row, or one of the faults 2 to 5. See docs/FORMATS.md, "The trace".
 use Rattle.std.specs.Prelude.{ℕ, ◌^◌, ◌==◌, ◌&&◌, Bool, false, List, length, Option, Some, None, option_and_then, if◌then◌else◌, nat_le}
-use Rattle.std.specs.Prelude.{nat_lt, codes, Result, Ok, Err}
-use Rattle.std.specs.Str.{all_ascii_digits, bytes_eq}
-use Rattle.std.specs.Str.Parse.{digits_value}
-use Rattle.csv.specs.Records.{field_at}
-use Rattle.device_rows.specs.Row.{device_fits, value_fits}
-use Rattle.device_rows.specs.declared.event.Event.{Event}
-use Rattle.device_rows.specs.declared.event.Event.TheVariants.{Opened, Rx, Tx, Finish, Softirq, Kthread, Disable, Enable, Threaded, Busy}
-use Rattle.device_rows.specs.declared.fault.TraceFault.{TraceFault}
-use Rattle.device_rows.specs.declared.fault.TraceFault.TheVariants.{BadFields, BadNumber, BadEvent, OutOfRange}
-use Rattle.device_rows.specs.declared.row.Row.{Row}
+use Rattle.std.specs.{Prelude.{nat_lt, codes, Result, Ok, Err}, Str.{all_ascii_digits, bytes_eq, Parse.digits_value}}
+use Rattle.{csv.specs.Records.field_at, device_rows.specs.{Row.{device_fits, value_fits}, declared.event.Event.{Event, TheVariants.Opened}}}
+use Rattle.device_rows.specs.declared.event.Event.TheVariants.{Rx, Tx, Finish, Softirq, Kthread, Disable, Enable, Threaded, Busy}
+use Rattle.device_rows.specs.declared.{fault.TraceFault.{TraceFault, TheVariants.{BadFields, BadNumber, BadEvent, OutOfRange}}, row.Row.Row}
 
 -- a chain of steps that ends where one gives nothing
 infixl 10 ◌>>=◌

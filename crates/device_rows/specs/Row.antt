@@ -1,7 +1,6 @@
 -- The numbers that a row of each event may bear. See docs/FORMATS.md, "The trace".
-use Rattle.std.specs.Prelude.{ℕ, ◌==◌, ◌&&◌, Bool, nat_le}
-use Rattle.device_rows.specs.declared.event.Event.{Event}
-use Rattle.device_rows.specs.declared.event.Event.TheVariants.{Opened, Rx, Tx, Finish, Softirq, Kthread, Disable, Enable, Threaded, Busy}
+use Rattle.{std.specs.Prelude.{ℕ, ◌==◌, ◌&&◌, Bool, nat_le}, device_rows.specs.declared.event.Event.{Event, TheVariants.{Opened, Rx, Tx}}}
+use Rattle.device_rows.specs.declared.event.Event.TheVariants.{Finish, Softirq, Kthread, Disable, Enable, Threaded, Busy}
 
 abbrev pub is_within : ℕ → ℕ → ℕ → Bool
 is_within low high n = nat_le low n && nat_le n high

@@ -1,12 +1,9 @@
 -- Where a reader of records stands.
-use Rattle.std.specs.Prelude.{◌≡◌, ◌⊎◌, ℕ, Bool, true, false, List, Option, Some, None}
-use Rattle.csv.specs.Machine.{Read}
-use Rattle.csv.specs.Reading.{Ready, default_config, is_flexible, reader_config, reader_state, reader_trim, source_of}
-use Rattle.csv.specs.declared.reader.Reader.{Reader}
+use Rattle.{std.specs.Prelude.{◌≡◌, ◌⊎◌, ℕ, Bool, true, false, List, Option, Some, None}, csv.specs.{Machine.Read, Reading.Ready}}
+use Rattle.csv.specs.Reading.{default_config, is_flexible, reader_config, reader_state, reader_trim, source_of}
+use Rattle.{csv.specs.declared.reader.Reader.Reader, device_rows.specs.Failures.{HasFailed, IsRefused}}
+use Rattle.device_rows.specs.declared.fault.TraceFault.{TraceFault, TheVariants.{ReadFailed, OutOfMemory}}
 use Rattle.csv.specs.declared.reader.Trim.TheVariants as trim
-use Rattle.device_rows.specs.Failures.{HasFailed, IsRefused}
-use Rattle.device_rows.specs.declared.fault.TraceFault.{TraceFault}
-use Rattle.device_rows.specs.declared.fault.TraceFault.TheVariants.{ReadFailed, OutOfMemory}
 
 -- the reader gives the next record by csv's defaults, whatever its length
 pub record IsOpen {R : Type 0} (reader : Reader R) : Type 0 where

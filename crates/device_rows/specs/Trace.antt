@@ -1,13 +1,8 @@
 -- The rows of a trace, or its first fault, as a function of the records of the text. See docs/FORMATS.md, "The trace".
 use Rattle.std.specs.Prelude.{◌≡◌, ⊤, ℕ, ◌+◌, true, List, [], ◌∷◌, ◌++◌, length, Option, Some, None, if◌then◌else◌, nat_lt, unwrap_or}
-use Rattle.std.specs.Prelude.{Result, Ok, Err}
-use Rattle.csv.specs.Reading.{default_config, records, strip_bom}
-use Rattle.device_rows.specs.Record.{row_of, version_of}
-use Rattle.device_rows.specs.Row.{device_fits, value_fits}
-use Rattle.device_rows.specs.Switch.{refusal, switch_of, unless_refused}
-use Rattle.device_rows.specs.declared.fault.TraceFault.{TraceFault}
-use Rattle.device_rows.specs.declared.fault.TraceFault.TheVariants.{BadHeader, TooManyRows}
-use Rattle.device_rows.specs.declared.row.Row.{Row}
+use Rattle.{std.specs.Prelude.{Result, Ok, Err}, csv.specs.Reading.{default_config, records, strip_bom}, device_rows.specs.Record.row_of}
+use Rattle.device_rows.specs.{Record.version_of, Row.{device_fits, value_fits}, Switch.{refusal, switch_of, unless_refused}}
+use Rattle.device_rows.specs.declared.{fault.TraceFault.{TraceFault, TheVariants.{BadHeader, TooManyRows}}, row.Row.Row}
 
 -- a chain of steps that ends at the first fault
 infixl 10 ◌>>=◌

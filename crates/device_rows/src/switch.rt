@@ -14,7 +14,7 @@ use crate::row::Row;
 const MOST_DEVICES: usize = 16;
 
 /// What the rows of a device leave it: whether it was opened, and whether its last switch was on or off.
-#[derive(Clone, Copy, Debug, PartialEq, Eq)]
+#[derive(Clone, Copy)]
 pub enum Switch {
     /// No row opened it.
     Unopened,
@@ -74,7 +74,7 @@ impl Switches {
             → (earlier : List Row) → Tracks self.now.of earlier
             → switch_of device earlier ≢ Unopened }
     {
-        1 <= device && device <= 16 && self.of[device as usize - 1] != Switch::Unopened
+        1 <= device && device <= 16 && !matches!(self.of[device as usize - 1], Switch::Unopened)
     }
 
     /// Whether a row of this event changes no switch, isn't refused, and may name this device and bear this value: one look at

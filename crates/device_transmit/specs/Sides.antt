@@ -1,10 +1,7 @@
 -- The transmit sides of a bench, as it keeps them.
-use Rattle.std.specs.Prelude.{◌≡◌, ℕ, Option, Some, None, length}
-use Rattle.device_transmit.specs.Transmits.{Transmits}
+use Rattle.{std.specs.Prelude.{◌≡◌, ℕ, Option, Some, None, length}, device_transmit.specs.{Transmits.Transmits, Transmit.ShowsTransmit}}
+use Rattle.device_transmit.specs.{Transmit.TransmitView, declared.{sides.TransmitSides.TransmitSides, transmit.Transmit.Transmit}}
 use Rattle.device_rows.specs.Places.{at}
-use Rattle.device_transmit.specs.Transmit.{ShowsTransmit, TransmitView}
-use Rattle.device_transmit.specs.declared.sides.TransmitSides.{TransmitSides}
-use Rattle.device_transmit.specs.declared.transmit.Transmit.{Transmit}
 
 -- what is kept of a transmit side shows this
 abbrev pub ShowsAt : Option Transmit → Option TransmitView → Type 0

@@ -1,9 +1,6 @@
 -- The transmit sides of devices, by their numbers, and what calls do to them.
-use Rattle.std.specs.Prelude.{Bool, false, Option, Some, None}
-use Rattle.device_rows.specs.Places.{Places}
-use Rattle.device_transmit.specs.Transmit.{TransmitView, tx_counts}
-use Rattle.device_transmit.specs.declared.transmit.TxCounts.{TxCounts}
-use Rattle.device_transmit.specs.declared.transmit.TheConstants.TxCounts.{NONE}
+use Rattle.{std.specs.Prelude.{Bool, false, Option, Some, None}, device_rows.specs.Places.Places}
+use Rattle.device_transmit.specs.{Transmit.{TransmitView, tx_counts}, declared.transmit.{TxCounts.TxCounts, TheConstants.TxCounts.NONE}}
 
 abbrev pub Transmits : Type 0
 Transmits = Places TransmitView

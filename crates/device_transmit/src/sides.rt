@@ -28,7 +28,7 @@ impl TransmitSides {
     {
         let mut of = Vec::with_capacity(alloc, PLACES as usize)?;
         for _ in 0..PLACES {
-            of.push(None)?;
+            of.push_reserved(None);
         }
         Ok(TransmitSides { of })
     }

@@ -1,7 +1,6 @@
 -- The numbers of the faults.
-use Rattle.std.specs.Prelude.{ℕ}
-use Rattle.dql_core.specs.declared.event.DqlFault.{DqlFault}
-use Rattle.dql_core.specs.declared.event.DqlFault.TheVariants.{BadBounds, TooLarge, TooMuchInFlight, MoreThanQueued}
+use Rattle.{std.specs.Prelude.ℕ, dql_core.specs.declared.event.DqlFault.{DqlFault, TheVariants.{BadBounds, TooLarge, TooMuchInFlight}}}
+use Rattle.dql_core.specs.declared.event.DqlFault.TheVariants.{MoreThanQueued}
 
 -- the number by which a fault is known
 abbrev pub number_of : DqlFault → ℕ

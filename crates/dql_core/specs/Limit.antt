@@ -1,13 +1,9 @@
 -- The rules of dynamic queue limits in whole numbers that never wrap, after `lib/dynamic_queue_limits.c` of Linux 6.6.
 -- `Limit` is the struct of `src/whole.rt`, which names each number. A `-` stops at 0, as the kernel's `POSDIFF` does.
 use Rattle.std.specs.Prelude.{ℕ, ◌+◌, ◌-◌, ◌*◌, Bool, ◌&&◌, ◌||◌, not, nat_eq, nat_lt, nat_le, min, max, if◌then◌else◌, Option, Some, None}
-use Rattle.std.specs.Prelude.{ℤ, pos, ◌-ℤ◌}
-use Rattle.dql_core.specs.Bounds.{DQL_MAX_OBJECT, most_in_flight}
-use Rattle.dql_core.specs.declared.event.DqlFault.{DqlFault}
-use Rattle.dql_core.specs.declared.event.DqlFault.TheVariants.{TooLarge, TooMuchInFlight, MoreThanQueued}
-use Rattle.dql_core.specs.declared.event.LimitEvent.{LimitEvent}
-use Rattle.dql_core.specs.declared.event.LimitEvent.TheVariants.{Queued, Completed, Reset}
-use Rattle.dql_core.specs.declared.whole.Limit.{Limit}
+use Rattle.{std.specs.Prelude.{ℤ, pos, ◌-ℤ◌}, dql_core.specs.{Bounds.{DQL_MAX_OBJECT, most_in_flight}, declared.event.DqlFault.DqlFault}}
+use Rattle.dql_core.specs.declared.event.{DqlFault.TheVariants.{TooLarge, TooMuchInFlight, MoreThanQueued}, LimitEvent.LimitEvent}
+use Rattle.dql_core.specs.declared.{event.LimitEvent.TheVariants.{Queued, Completed, Reset}, whole.Limit.Limit}
 
 -- a new limit, between min_limit and max_limit, that holds its slack so long and was made at the moment now (`dql_init`)
 abbrev pub opening : ℕ → ℕ → ℕ → ℕ → Limit

@@ -1,23 +1,24 @@
 -- Between two surveys one caller alone made calls: the history grew by its operations.
 use Rattle.std.proofs.Common.{◌≡◌, ◌≢◌, ◌∙◌, ◌≤◌, MatchBool, nat_eq, ℕ, zero, suc, ◌<◌, Bool, true, false, List, [], ◌∷◌, ◌++◌, refl, sym}
 use Rattle.std.proofs.Common.{ap, subst, arith, append-nil, append_assoc, eqb, eqb-true, eq-eqb, ne_eqb, true≢false}
-use Rattle.std.proofs.lemmas.List.{append_cancel_left}
-use Rattle.napi_model.specs.declared.{event.{Event.Event, Operation.{Operation, TheVariants.Look}}, state.{Seen.Seen, State.State}}
-use Rattle.napi_model.specs.Step.{IsLegal, after, event, opening, seen_of}
-use Rattle.napi_model.specs.History.{LegalHistory, own, state_after}
-use Rattle.napi_model.proofs.Histories.{legal_back, legal_front, own-append, state_after-append}
-use Rattle.napi_word.specs.{declared.{table.Pass.Pass, view.Delivery.Delivery}, View.{own_deliveries, packets_of}}
-use Rattle.napi_word.{specs.Surveys.{IsSurveyed, Surveys}, proofs.{CatchingUp.state_looked, Deliveries.own_both, Whole.front_none}}
-use Rattle.{napi_calls.specs.{Dealt.Delivers, Packets.delivered, Made.{Made, events}}, rx_ring.specs.declared.packet.Packet.Packet}
-use Rattle.napi_calls.specs.Seats.{controller_of, number_of, own_list, shown}
+use Rattle.{std.proofs.lemmas.List.append_cancel_left, napi_model.specs.declared.event.{Event.Event, Operation.Operation}}
+use Rattle.napi_model.specs.{declared.{event.Operation.TheVariants.Look, state.{Seen.Seen, State.State}}, Step.{IsLegal, after, event}}
+use Rattle.napi_model.{specs.{Step.{opening, seen_of}, History.{LegalHistory, own, state_after}}, proofs.Histories.legal_back}
+use Rattle.{napi_model.proofs.Histories.{legal_front, own-append, state_after-append}, napi_word.specs.declared.table.Pass.Pass}
+use Rattle.napi_word.specs.{declared.view.Delivery.Delivery, View.{own_deliveries, packets_of}, Surveys.{IsSurveyed, Surveys}}
+use Rattle.napi_word.proofs.{CatchingUp.state_looked, Deliveries.{own_both, own_deliveries_none}, Whole.front_none}
+use Rattle.napi_calls.specs.{Dealt.Delivers, Packets.delivered, Made.{Made, events}, Seats.{controller_of, number_of, own_list, shown}}
 use Rattle.napi_calls.{specs.Alone.{AllShow, GrewBy, MakesAlone, NoneIsLost, OneActsAlone, Shows}, proofs.Steps.prefix_trans}
-use mathlib.Core.List.{IsPrefix}
+use Rattle.rx_ring.specs.declared.packet.Packet.{Packet}
+use mathlib.Core.List.{
+  IsPrefix,
+}
 
-own_at : (c : ℕ) (e : Event) (es : List Event) → e.caller ≡ c → own c (e ∷ es) ≡ e ∷ own c es
+pub own_at : (c : ℕ) (e : Event) (es : List Event) → e.caller ≡ c → own c (e ∷ es) ≡ e ∷ own c es
 unfolding own
 own_at c e es is = rw (eq-eqb e.caller c is) refl
 
-own_off : (c : ℕ) (e : Event) (es : List Event) → e.caller ≢ c → own c (e ∷ es) ≡ own c es
+pub own_off : (c : ℕ) (e : Event) (es : List Event) → e.caller ≢ c → own c (e ∷ es) ≡ own c es
 unfolding own
 own_off c e es apart = rw (ne_eqb e.caller c apart) refl
 
@@ -91,12 +92,8 @@ dealt_off : (c : ℕ) (d : Delivery) (es : List Delivery) → d.by ≢ c → own
 unfolding own_deliveries
 dealt_off c d es apart = rw (ne_eqb d.by c apart) refl
 
-dealt_nil : (c : ℕ) → own_deliveries c [] ≡ []
-unfolding own_deliveries
-dealt_nil c = refl
-
 all_dealt : (c : ℕ) (es : List Delivery) → ((n : ℕ) → n ≢ c → own_deliveries n es ≡ []) → own_deliveries c es ≡ es
-all_dealt c [] none = dealt_nil c
+all_dealt c [] none = own_deliveries_none c
 all_dealt c (d ∷ es) none = by (eqb d.by c) refl (λ is. all_dealt c es (behind is))
   where
     behind : d.by ≡ c → (n : ℕ) → n ≢ c → own_deliveries n es ≡ []

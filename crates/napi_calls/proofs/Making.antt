@@ -1,12 +1,11 @@
 -- What a call made, step by step, and call by call.
 use Rattle.std.proofs.Common.{◌≡◌, ◌≢◌, ℕ, List, [], ◌∷◌, ◌++◌, flat_map, Option, Some, None, false, refl, sym, ap, ◌∙◌, subst, append-nil}
-use Rattle.std.proofs.{Common.append_assoc, lemmas.List.{map-append, Concat.flat_map-append}}
-use Rattle.napi_model.specs.declared.event.{Event.Event, Call.Call, Operation.{Operation, TheVariants.{Look, MarkDisable, TakeDisable}}}
+use Rattle.{std.proofs.{Common.append_assoc, lemmas.List.{map-append, Concat.flat_map-append}}, napi_model.specs.declared.event.Event.Event}
+use Rattle.napi_model.specs.declared.event.{Call.Call, Operation.{Operation, TheVariants.{Look, MarkDisable, TakeDisable}}}
 use Rattle.napi_model.specs.{declared.state.{Seen.Seen, Place.Place}, Step.{event, opening}, History.{LegalHistory, own}}
 use Rattle.napi_word.specs.{declared.table.Pass.Pass, View.View, Events.Steps, Passes.{view_of, SameTable}}
-use Rattle.napi_calls.specs.{Seats.{SameSeat, number_of, shown, own_list}, Knows.Stands}
-use Rattle.napi_calls.specs.Made.{EndsWith, Made, GoesOn, Lost, WasLost, looks, waits, events}
-use Rattle.napi_calls.proofs.{Steps.{shows_more, shows_legal, prefix_trans}, Standing.shows_of}
+use Rattle.napi_calls.specs.{Seats.{SameSeat, number_of, shown, own_list}, Knows.Stands, Made.{EndsWith, Made, GoesOn, Lost, WasLost}}
+use Rattle.napi_calls.{specs.Made.{looks, waits, events}, proofs.{Steps.{shows_more, shows_legal, prefix_trans}, Standing.shows_of}}
 use mathlib.Core.List.{IsPrefix}
 use Rattle.napi_word.specs.View as view
 

@@ -1,11 +1,9 @@
 -- What steps do with the packets, one after another.
 use Rattle.std.proofs.Common.{◌≡◌, ℕ, Bool, true, false, List, [], ◌∷◌, ◌++◌, length, drop, Some, refl, sym, ap, ◌∙◌, subst, append_assoc}
-use Rattle.rx_ring.specs.declared.{packet.Packet.Packet, ends.RxCtx.RxCtx}
-use Rattle.{rx_ring.specs.Ends.{received_list, is_beside}, napi_model.specs.declared.event.Operation.Operation}
-use Rattle.napi_word.specs.declared.{table.Pass.Pass, view.Holds.Holds}
-use Rattle.napi_word.specs.{View.{View, own_deliveries, delivery, Continues}, Slot.{Delivers, Gives, owns_slot, has_slot, ctx_in}}
-use Rattle.napi_word.specs.{Events.Steps, Passes.{view_of, ctx_of, received_of, IsLaid}}
-use Rattle.napi_word.proofs.Deliveries.{drop_front, received_stays, some_is}
+use Rattle.rx_ring.specs.{declared.{packet.Packet.Packet, ends.RxCtx.RxCtx}, Ends.{received_list, is_beside}}
+use Rattle.{napi_model.specs.declared.event.Operation.Operation, napi_word.specs.{declared.{table.Pass.Pass, view.Holds.Holds}, View.View}}
+use Rattle.napi_word.specs.{View.{own_deliveries, delivery, Continues}, Slot.{Delivers, Gives, owns_slot, has_slot, ctx_in}, Events.Steps}
+use Rattle.napi_word.{specs.Passes.{view_of, ctx_of, received_of, IsLaid}, proofs.Deliveries.{drop_front, received_stays, some_is}}
 use Rattle.napi_calls.specs.{Seats.number_of, Packets.{delivered, received_before, polled, IsSame, Quiet, HoldsOn, IsFresh, GivesBack}}
 use Rattle.napi_calls.proofs.Standing.{fresh}
 use Rattle.napi_word.specs.View as view

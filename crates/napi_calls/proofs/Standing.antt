@@ -1,17 +1,15 @@
 -- What a value knows after a step.
 use Rattle.std.proofs.Common.{◌≡◌, ℕ, Bool, true, false, cond, List, Option, Some, None, unwrap_or, true≢false, eq-eqb, refl, sym, ap, ◌∙◌}
-use Rattle.{std.proofs.Common.subst, napi_model.specs.declared.state.Place.TheVariants.{Nobody, Granted, Polling, Control}}
-use Rattle.rx_ring.specs.{declared.ends.{RxIn.RxIn, RxCtx.RxCtx}, Ends.{RingName, ring_name, received_list, IsOneRing}}
-use Rattle.{napi_word.specs.{Slot.{Delivers, has_slot}, View.View, Events.Steps}, napi_model.specs.Step.{opening, after_by}}
-use Rattle.{rx_ring.specs.declared.packet.Packet.Packet, napi_word.specs.declared.view.Holds.TheVariants.{Out, Nothing}}
-use Rattle.napi_calls.proofs.Steps.{found, state_stepped, shows_legal}
+use Rattle.{std.proofs.Common.subst, napi_model.specs.declared.state.Place.{TheVariants.{Nobody, Granted, Polling, Control}, Place}}
+use Rattle.napi_model.specs.declared.{state.{Kind.Kind, Seen.Seen, State.State}, event.Operation.{Operation, TheVariants.{Look, Hand}}}
+use Rattle.napi_model.specs.{declared.event.Operation.TheVariants.{Take, MarkDisable, TakeDisable, Unmark, Enable}, Step.opening}
+use Rattle.napi_model.specs.{Step.after_by, History.{LegalHistory, own}, Laws.{is_owner, IsOwnedBy, IsPolled}}
+use Rattle.rx_ring.specs.{declared.{ends.{RxIn.RxIn, RxCtx.RxCtx}, packet.Packet.Packet}, Ends.{RingName, ring_name, received_list}}
+use Rattle.{rx_ring.specs.Ends.IsOneRing, napi_word.specs.{Slot.{Delivers, has_slot}, View.View, Events.Steps}}
+use Rattle.napi_word.specs.{declared.{view.Holds.TheVariants.{Out, Nothing}, table.Pass.Pass}, Passes.{view_of, received_of}}
 use Rattle.napi_word.proofs.{Deliveries.{of_prefix, prefix_self, received_stays}, Knowing.{unbusy, take_polls, quiet_polls, step_of}}
-use Rattle.napi_calls.{specs.Knows.{own_place, Free, Stands, BusyPolls, Controls, Has}, proofs.Whole.whole}
-use Rattle.napi_model.specs.{declared.state.{Kind.Kind, Seen.Seen, State.State, Place.Place}, History.{LegalHistory, own}}
-use Rattle.napi_model.specs.Laws.{is_owner, IsOwnedBy, IsPolled}
-use Rattle.napi_word.specs.{declared.table.Pass.Pass, Passes.{view_of, received_of}}
-use Rattle.napi_model.specs.declared.event.Operation.{Operation, TheVariants.{Look, Hand, Take, MarkDisable, TakeDisable, Unmark, Enable}}
-use Rattle.napi_calls.specs.Seats.{number_of, controller_of, shown, state_of, ring_of, ShowsLegal, IsInputOf}
+use Rattle.napi_calls.{proofs.{Steps.{found, state_stepped, shows_legal}, Whole.whole}, specs.Knows.{own_place, Free, Stands, BusyPolls}}
+use Rattle.napi_calls.specs.{Knows.{Controls, Has}, Seats.{number_of, controller_of, shown, state_of, ring_of, ShowsLegal, IsInputOf}}
 use Rattle.napi_word.specs.Slot as slot
 use Rattle.napi_word.specs.View as view
 

@@ -1,11 +1,10 @@
 -- What one step tells of the seat that made it, in the words of seats.
 use Rattle.std.proofs.Common.{◌≡◌, ℕ, List, [], ◌∷◌, ◌++◌, refl, sym, ap, ◌∙◌, subst, append_assoc}
 use Rattle.napi_model.specs.{declared.{event.{Event.Event, Operation.Operation}, state.State.State}, Step.{event, opening, after_by}}
-use Rattle.napi_model.specs.History.{LegalHistory, own}
-use Rattle.napi_word.specs.{declared.{table.Pass.Pass, view.Strand.Strand}, View.View, Events.Steps, Passes.view_of}
-use Rattle.napi_word.proofs.Knowing.{found_state, state_then}
-use Rattle.napi_calls.specs.Seats.{number_of, shown, state_of, ShowsLegal}
-use mathlib.Core.{Option.{Option as Maybe}, List.IsPrefix}
+use Rattle.{napi_model.specs.History.{LegalHistory, own}, napi_word.specs.{declared.{table.Pass.Pass, view.Strand.Strand}, View.View}}
+use Rattle.{napi_word.{specs.{Events.Steps, Passes.view_of}, proofs.Knowing.{found_state, state_then}}, napi_calls.specs.Seats.number_of}
+use Rattle.napi_calls.specs.Seats.{shown, state_of, ShowsLegal}
+use mathlib.Core.{Option.Option as Maybe, List.IsPrefix}
 use lib.ListN.{get_elem?}
 use Rattle.napi_word.specs.View as view
 

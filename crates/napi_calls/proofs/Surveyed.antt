@@ -1,14 +1,12 @@
 -- What a value knows after a survey.
 use Rattle.std.proofs.Common.{◌≡◌, ℕ, Bool, true, List, [], ◌∷◌, ◌++◌, Option, Some, None, refl, sym, ap, ◌∙◌, subst, eq-eqb}
 use Rattle.{rx_ring.specs.{declared.{ends.RxCtx.RxCtx, packet.Packet.Packet}, Ends.received_list}, napi_word.proofs.Deliveries.ring_as}
-use Rattle.napi_model.specs.declared.{event.{Event.Event, Operation.TheVariants.Look}, state.{State.State, Seen.Seen, Place.Place}}
-use Rattle.napi_model.specs.{Step.{event, opening}, History.{LegalHistory, state_after, own}, Laws.is_owner}
-use Rattle.napi_word.specs.declared.{table.Pass.Pass, view.Delivery.Delivery}
-use Rattle.napi_word.specs.{View.Continues, Slot.has_slot, Passes.view_of, Surveys.{IsWhole, CatchesUp, IsSurveyed}}
-use Rattle.napi_word.proofs.{CatchingUp.state_looked, Deliveries.{of_prefix, prefix_self}}
-use Rattle.napi_calls.specs.Seats.{controller_of, number_of, state_of}
+use Rattle.napi_word.{proofs.{Deliveries.{of_prefix, prefix_self, received_as}, CatchingUp.state_looked}, specs.declared.table.Pass.Pass}
+use Rattle.napi_word.specs.{declared.view.Delivery.Delivery, View.Continues, Slot.has_slot, Passes.view_of, Surveys.{IsWhole, CatchesUp}}
+use Rattle.{napi_word.specs.Surveys.IsSurveyed, napi_model.specs.declared.event.{Event.Event, Operation.TheVariants.Look}}
+use Rattle.napi_model.specs.{declared.state.{State.State, Seen.Seen, Place.Place}, Step.{event, opening}, History.LegalHistory}
+use Rattle.{napi_model.specs.{History.{state_after, own}, Laws.is_owner}, napi_calls.specs.Seats.{controller_of, number_of, state_of}}
 use Rattle.napi_calls.{specs.Knows.{own_place, Stands, BusyPolls, Controls, Has, received_held}, proofs.Standing.{is_kept, is_polling}}
-use Rattle.napi_word.proofs.Deliveries.{received_as}
 use Rattle.napi_word.specs.View as view
 use Rattle.napi_model.specs.declared.state.Place.TheVariants as place
 

@@ -1,9 +1,8 @@
 -- A history of which it is only known that it is legal somehow is legal: the choice that the table of legal steps leaves
 -- open is made by looking at the flags.
 use Rattle.std.proofs.Common.{◌≡◌, ◌⊎◌, ◌||◌, ℕ, Bool, true, false, List, [], ◌∷◌, inl, inr, refl, sym, ap, ◌∙◌, true≢false}
-use Rattle.{std.proofs.{Math.Logic.∥∥₁_elim, Props.props}, napi_model.specs.{Step.{after, IsLegalBy}, declared.state.Kind.Kind}}
-use Rattle.napi_model.specs.declared.state.State.{State}
-use Rattle.napi_model.specs.declared.event.{Event.Event, Prep.Prep, Done.TheVariants.Again}
+use Rattle.{std.proofs.{lemmas.Bool.or_cases, Math.Logic.∥∥₁_elim, Props.props}, napi_model.specs.Step.{after, IsLegalBy}}
+use Rattle.napi_model.specs.declared.{state.{Kind.Kind, State.State}, event.{Event.Event, Prep.Prep, Done.TheVariants.Again}}
 use Rattle.napi_model.specs.declared.event.Operation.{Operation, TheVariants.{Schedule, Hand, Take, Complete, MarkDisable, TakeDisable}}
 use Rattle.napi_model.specs.History.{IsBy, LegalHistory}
 
@@ -31,10 +30,6 @@ either true b t = refl
 either false b (inl e) = absurd (true≢false (sym e))
 either false b (inr e) = e
 
-which : (a b : Bool) → (a || b) ≡ true → (a ≡ true) ⊎ (b ≡ true)
-which true b e = inl refl
-which false b e = inr e
-
 tells : (c : ℕ) (o : Operation) (s : State) → IsLegalBy c o s → Told c o s
 tells c (Schedule Prep.Disabled) s l = l
 tells c (Take kind true) s l = l
@@ -46,7 +41,7 @@ is_legal : (c : ℕ) (o : Operation) (s : State) → Told c o s → IsLegalBy c 
 is_legal c (Schedule Prep.Disabled) s l = l
 is_legal c (Take kind true) s l = l
 is_legal c (Complete Again) s l = l
-is_legal c (TakeDisable false) s l = (l.0, which s.flags.sched s.flags.npsvc l.1)
+is_legal c (TakeDisable false) s l = (l.0, or_cases s.flags.sched s.flags.npsvc l.1)
 is_legal c o s l = l
 
 by_prop : (k c : ℕ) (o : Operation) → IsProp (IsBy k c o)

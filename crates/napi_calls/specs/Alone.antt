@@ -1,22 +1,10 @@
 -- Between two surveys of an instance with three callers one of its numbers alone makes calls.
 use Rattle.std.specs.Prelude.{◌≡◌, ◌<◌, ◌≤◌, ℕ, nat_eq, List, [], ◌∷◌, ◌++◌, flat_map, MatchBool}
-use Rattle.rx_ring.specs.declared.packet.Packet.{Packet}
-use Rattle.napi_model.specs.declared.event.Event.{Event}
-use Rattle.napi_model.specs.declared.event.Call.{Call}
-use Rattle.napi_model.specs.declared.event.Operation.{Operation}
-use Rattle.napi_model.specs.declared.event.Operation.TheVariants.{Look}
-use Rattle.napi_model.specs.declared.state.Seen.{Seen}
-use Rattle.napi_model.specs.declared.state.State.{State}
-use Rattle.napi_model.specs.Step.{event, opening}
-use Rattle.napi_model.specs.History.{LegalHistory, own, state_after}
-use Rattle.napi_word.specs.declared.table.Pass.{Pass}
-use Rattle.napi_word.specs.declared.view.Delivery.{Delivery}
-use Rattle.napi_word.specs.View.{own_deliveries, packets_of}
-use Rattle.napi_word.specs.Surveys.{Surveys}
-use Rattle.napi_calls.specs.Dealt.{Delivers}
-use Rattle.napi_calls.specs.Packets.{delivered}
-use Rattle.napi_calls.specs.Made.{Lost, Made, events, looks}
-use Rattle.napi_calls.specs.Seats.{controller_of, number_of, own_list, shown}
+use Rattle.{rx_ring.specs.declared.packet.Packet.Packet, napi_model.specs.declared.event.{Event.Event, Call.Call, Operation.Operation}}
+use Rattle.napi_model.specs.{declared.{event.Operation.TheVariants.Look, state.{Seen.Seen, State.State}}, Step.{event, opening}}
+use Rattle.{napi_model.specs.History.{LegalHistory, own, state_after}, napi_word.specs.declared.{table.Pass.Pass, view.Delivery.Delivery}}
+use Rattle.{napi_word.specs.{View.{own_deliveries, packets_of}, Surveys.Surveys}, napi_calls.specs.{Dealt.Delivers, Packets.delivered}}
+use Rattle.napi_calls.specs.{Made.{Lost, Made, events, looks}, Seats.{controller_of, number_of, own_list, shown}}
 
 -- the seat of this number shows this history, in which its own list is exact, and these deliveries
 pub record Shows (h : List Event) (ds : List Delivery) (c : ℕ) (p : Pass) : Type 0 where

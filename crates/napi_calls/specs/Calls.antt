@@ -1,32 +1,20 @@
 -- The events of each answer.
 use Rattle.std.specs.Prelude.{Bool, true, false, List, [], ◌∷◌, ◌++◌, flat_map, Option, Result, Ok, Err}
-use Rattle.napi_model.specs.declared.state.Seen.{Seen}
-use Rattle.napi_model.specs.declared.state.Kind.{Kind}
+use Rattle.napi_model.specs.declared.{state.{Seen.Seen, Kind.Kind}, event.Operation.TheVariants.{Look, Schedule, Take, Complete, BusyTake}}
+use Rattle.napi_model.specs.{declared.event.Operation.TheVariants.{BusyStop, MarkDisable, TakeDisable, Unmark, Enable}, Step.MayBusyTake}
+use Rattle.{napi_word.specs.declared.table.Pass.Pass, napi_calls.specs.declared.types.{Caller.Caller, Polling.Polling, Busy.Busy}}
+use Rattle.napi_calls.specs.declared.answers.{TryPrep.TryPrep, Sched.Sched, TryDone.TryDone, Completed.Completed, TryBusy.TryBusy}
+use Rattle.napi_calls.specs.{declared.answers.{TryStop.TryStop, TryTake.TryTake}, Made.{Made, Lost, WasLost, looks, waits}}
 use Rattle.napi_model.specs.declared.event.Prep.TheVariants as prep
 use Rattle.napi_model.specs.declared.event.Done.TheVariants as done
 use Rattle.napi_model.specs.declared.event.Call.TheVariants as call
-use Rattle.napi_model.specs.declared.event.Operation.TheVariants.{Look, Schedule, Take, Complete, BusyTake, BusyStop, MarkDisable}
-use Rattle.napi_model.specs.declared.event.Operation.TheVariants.{TakeDisable, Unmark, Enable}
-use Rattle.napi_model.specs.Step.{MayBusyTake}
-use Rattle.napi_word.specs.declared.table.Pass.{Pass}
-use Rattle.napi_calls.specs.declared.types.Caller.{Caller}
-use Rattle.napi_calls.specs.declared.types.Polling.{Polling}
-use Rattle.napi_calls.specs.declared.types.Busy.{Busy}
-use Rattle.napi_calls.specs.declared.answers.TryPrep.{TryPrep}
 use Rattle.napi_calls.specs.declared.answers.TryPrep.TheVariants as try_prep
-use Rattle.napi_calls.specs.declared.answers.Sched.{Sched}
 use Rattle.napi_calls.specs.declared.answers.Sched.TheVariants as sched
-use Rattle.napi_calls.specs.declared.answers.TryDone.{TryDone}
 use Rattle.napi_calls.specs.declared.answers.TryDone.TheVariants as try_done
-use Rattle.napi_calls.specs.declared.answers.Completed.{Completed}
 use Rattle.napi_calls.specs.declared.answers.Completed.TheVariants as completed
-use Rattle.napi_calls.specs.declared.answers.TryBusy.{TryBusy}
 use Rattle.napi_calls.specs.declared.answers.TryBusy.TheVariants as try_busy
-use Rattle.napi_calls.specs.declared.answers.TryStop.{TryStop}
 use Rattle.napi_calls.specs.declared.answers.TryStop.TheVariants as try_stop
-use Rattle.napi_calls.specs.declared.answers.TryTake.{TryTake}
 use Rattle.napi_calls.specs.declared.answers.TryTake.TheVariants as try_take
-use Rattle.napi_calls.specs.Made.{Made, Lost, WasLost, looks, waits}
 
 -- the seat with which the caller goes on
 abbrev pub seat_of : TryPrep → Pass

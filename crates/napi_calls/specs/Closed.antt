@@ -1,22 +1,12 @@
 -- What an instance was that is closed: its one history.
 use Rattle.std.specs.Prelude.{◌≡◌, ℕ, ◌<◌, ◌≤◌, List, [], ◌∷◌, ◌++◌, length, slice_get, Some, false}
+use Rattle.rx_ring.specs.{declared.ends.RxCtx.RxCtx, Ends.{ring_name, received_list}}
+use Rattle.napi_model.specs.{declared.{state.Place.TheVariants.Control, event.Event.Event}, Step.opening, History.LegalHistory}
+use Rattle.{napi_model.specs.History.{state_after, own, IsAcceptedSchedule}, napi_word.specs.declared.table.Pass.Pass}
+use Rattle.napi_word.specs.{declared.view.Delivery.Delivery, View.{own_deliveries, received_by, deliverers}, Slot.givers}
+use Rattle.napi_calls.specs.{declared.types.{Napi.Napi, Caller.Caller}, Seats.{number_of, shown, own_list}, Instance.callers_of}
+use Rattle.napi_calls.specs.{Instance.{ring_of_instance, first_of_instance}, Packets.own_delivered, Served.IsServed}
 use mathlib.Core.List.{IsPrefix}
-use Rattle.rx_ring.specs.declared.ends.RxCtx.{RxCtx}
-use Rattle.napi_model.specs.declared.state.Place.TheVariants.{Control}
-use Rattle.napi_model.specs.declared.event.Event.{Event}
-use Rattle.napi_model.specs.Step.{opening}
-use Rattle.napi_model.specs.History.{LegalHistory, state_after, own, IsAcceptedSchedule}
-use Rattle.napi_word.specs.declared.table.Pass.{Pass}
-use Rattle.rx_ring.specs.Ends.{ring_name, received_list}
-use Rattle.napi_word.specs.declared.view.Delivery.{Delivery}
-use Rattle.napi_word.specs.View.{own_deliveries, received_by, deliverers}
-use Rattle.napi_word.specs.Slot.{givers}
-use Rattle.napi_calls.specs.declared.types.Napi.{Napi}
-use Rattle.napi_calls.specs.declared.types.Caller.{Caller}
-use Rattle.napi_calls.specs.Seats.{number_of, shown, own_list}
-use Rattle.napi_calls.specs.Instance.{callers_of, ring_of_instance, first_of_instance}
-use Rattle.napi_calls.specs.Packets.{own_delivered}
-use Rattle.napi_calls.specs.Served.{IsServed}
 
 -- the callers' seats
 abbrev pub seats_of : List Caller → List Pass

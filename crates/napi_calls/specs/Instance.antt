@@ -1,12 +1,7 @@
 -- What a contract sees of an instance, and its new seats.
-use Rattle.std.specs.Prelude.{◌≡◌, ℕ, Some, []}
-use Rattle.rx_ring.specs.declared.ends.RxCtx.{RxCtx}
-use Rattle.rx_ring.specs.Ends.{RingName}
-use Rattle.napi_word.specs.declared.table.Pass.{Pass}
-use Rattle.napi_word.specs.Passes.{IsPassOf, ring_of_table, first_of_table}
-use Rattle.napi_calls.specs.declared.types.Napi.{Napi}
-use Rattle.napi_calls.specs.Seats.{number_of, controller_of, shown, own_list, ring_of}
-use Rattle.napi_calls.specs.Packets.{delivered}
+use Rattle.{std.specs.Prelude.{◌≡◌, ℕ, Some, []}, rx_ring.specs.{declared.ends.RxCtx.RxCtx, Ends.RingName}}
+use Rattle.napi_word.specs.{declared.table.Pass.Pass, Passes.{IsPassOf, ring_of_table, first_of_table}}
+use Rattle.napi_calls.specs.{declared.types.Napi.Napi, Seats.{number_of, controller_of, shown, own_list, ring_of}, Packets.delivered}
 
 -- how many callers were made with it; the controller has this number
 abbrev pub callers_of : Napi → ℕ

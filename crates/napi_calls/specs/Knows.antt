@@ -1,19 +1,11 @@
 -- What the type of a value says of its seat.
-use Rattle.std.specs.Prelude.{◌≡◌, ℕ, Bool, cond, List, Option, Some, None}
-use Rattle.rx_ring.specs.declared.ends.RxCtx.{RxCtx}
-use Rattle.napi_model.specs.declared.state.Place.{Place}
+use Rattle.{std.specs.Prelude.{◌≡◌, ℕ, Bool, cond, List, Option, Some, None}, rx_ring.specs.declared.ends.RxCtx.RxCtx}
+use Rattle.rx_ring.specs.{declared.packet.Packet.Packet, Ends.{RingName, ring_name, received_list}}
+use Rattle.napi_model.specs.{declared.state.Place.Place, Laws.is_owner, Step.opening, History.{LegalHistory, own}}
+use Rattle.napi_word.specs.{View.{received_in, Continues}, Passes.view_of, declared.{table.Pass.Pass, view.Holds.Holds}}
+use Rattle.{napi_word.specs.declared.view.Holds.TheVariants.{Nothing, Out}, napi_calls.specs.Seats.{number_of, controller_of, shown}}
+use Rattle.napi_calls.specs.Seats.{own_list, state_of, ring_of}
 use Rattle.napi_model.specs.declared.state.Place.TheVariants as place
-use Rattle.rx_ring.specs.declared.packet.Packet.{Packet}
-use Rattle.rx_ring.specs.Ends.{RingName, ring_name, received_list}
-use Rattle.napi_word.specs.View.{received_in, Continues}
-use Rattle.napi_word.specs.Passes.{view_of}
-use Rattle.napi_model.specs.Laws.{is_owner}
-use Rattle.napi_model.specs.Step.{opening}
-use Rattle.napi_model.specs.History.{LegalHistory, own}
-use Rattle.napi_word.specs.declared.table.Pass.{Pass}
-use Rattle.napi_word.specs.declared.view.Holds.{Holds}
-use Rattle.napi_word.specs.declared.view.Holds.TheVariants.{Nothing, Out}
-use Rattle.napi_calls.specs.Seats.{number_of, controller_of, shown, own_list, state_of, ring_of}
 
 -- the place as number c has it: where another has it or nobody, that is all one
 abbrev pub own_place : ℕ → Place → Place

@@ -1,16 +1,10 @@
 -- What a call adds to the history and to its caller's own list.
 use Rattle.std.specs.Prelude.{◌≡◌, ◌≢◌, ℕ, true, false, List, [], ◌∷◌, ◌++◌, map, Option, Some, None}
+use Rattle.napi_model.specs.declared.{state.{Flags.Flags, Seen.Seen}, event.{Call.Call, Event.Event, Operation.Operation}}
+use Rattle.napi_model.specs.{declared.event.Operation.TheVariants.{Look, TakeDisable}, Step.{event, MayBusyTake}}
+use Rattle.{napi_word.specs.declared.table.Pass.Pass, napi_calls.specs.Seats.{SameSeat, ShowsLegal, number_of, shown, own_list}}
 use mathlib.Core.List.{IsPrefix}
-use Rattle.napi_model.specs.declared.state.Flags.{Flags}
-use Rattle.napi_model.specs.declared.state.Seen.{Seen}
-use Rattle.napi_model.specs.declared.event.Call.{Call}
 use Rattle.napi_model.specs.declared.event.Call.TheVariants as call
-use Rattle.napi_model.specs.declared.event.Event.{Event}
-use Rattle.napi_model.specs.declared.event.Operation.{Operation}
-use Rattle.napi_model.specs.declared.event.Operation.TheVariants.{Look, TakeDisable}
-use Rattle.napi_model.specs.Step.{event, MayBusyTake}
-use Rattle.napi_word.specs.declared.table.Pass.{Pass}
-use Rattle.napi_calls.specs.Seats.{SameSeat, ShowsLegal, number_of, shown, own_list}
 
 -- the events of number c that did these, with these replies
 abbrev pub events : ℕ → List Operation → List Event

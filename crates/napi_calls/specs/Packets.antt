@@ -1,31 +1,18 @@
 -- What a call does with the packets of its instance's ring: who takes the context has all that was delivered, and who gives it
 -- back delivers what it polled since.
 use Rattle.std.specs.Prelude.{◌≡◌, ℕ, false, List, [], ◌∷◌, ◌++◌, length, drop, Result, Ok, Err}
-use Rattle.rx_ring.specs.declared.packet.Packet.{Packet}
-use Rattle.rx_ring.specs.declared.ends.RxCtx.{RxCtx}
-use Rattle.rx_ring.specs.Ends.{SameCtx, received_list, known_list, polls_of, is_beside}
-use Rattle.napi_word.specs.declared.table.Pass.{Pass}
-use Rattle.napi_word.specs.declared.view.Delivery.{Delivery}
+use Rattle.rx_ring.specs.{declared.{packet.Packet.Packet, ends.RxCtx.RxCtx}, Ends.{SameCtx, received_list, known_list, polls_of, is_beside}}
+use Rattle.napi_word.specs.{declared.{table.Pass.Pass, view.Delivery.Delivery}, Passes.view_of}
+use Rattle.napi_calls.specs.declared.{types.{Caller.Caller, Polling.Polling, Busy.Busy}, answers.{TryPrep.TryPrep, Sched.Sched}}
+use Rattle.napi_calls.specs.declared.answers.{TryDone.TryDone, Completed.Completed, TryBusy.TryBusy, TryStop.TryStop, TryTake.TryTake}
+use Rattle.napi_calls.specs.{Seats.number_of, Calls.seat_of}
 use Rattle.napi_word.specs.View as view
-use Rattle.napi_word.specs.Passes.{view_of}
-use Rattle.napi_calls.specs.declared.types.Caller.{Caller}
-use Rattle.napi_calls.specs.declared.types.Polling.{Polling}
-use Rattle.napi_calls.specs.declared.types.Busy.{Busy}
-use Rattle.napi_calls.specs.declared.answers.TryPrep.{TryPrep}
-use Rattle.napi_calls.specs.declared.answers.Sched.{Sched}
 use Rattle.napi_calls.specs.declared.answers.Sched.TheVariants as sched
-use Rattle.napi_calls.specs.declared.answers.TryDone.{TryDone}
 use Rattle.napi_calls.specs.declared.answers.TryDone.TheVariants as try_done
-use Rattle.napi_calls.specs.declared.answers.Completed.{Completed}
 use Rattle.napi_calls.specs.declared.answers.Completed.TheVariants as completed
-use Rattle.napi_calls.specs.declared.answers.TryBusy.{TryBusy}
 use Rattle.napi_calls.specs.declared.answers.TryBusy.TheVariants as try_busy
-use Rattle.napi_calls.specs.declared.answers.TryStop.{TryStop}
 use Rattle.napi_calls.specs.declared.answers.TryStop.TheVariants as try_stop
-use Rattle.napi_calls.specs.declared.answers.TryTake.{TryTake}
 use Rattle.napi_calls.specs.declared.answers.TryTake.TheVariants as try_take
-use Rattle.napi_calls.specs.Seats.{number_of}
-use Rattle.napi_calls.specs.Calls.{seat_of}
 
 -- the deliveries that a seat has seen, and those of its own number among them
 abbrev pub delivered : Pass → List Delivery

@@ -1,15 +1,9 @@
 -- What a seat of an instance shows. The other definitions here speak of seats by these words alone.
-use Rattle.std.specs.Prelude.{◌≡◌, ℕ, List, Option, Some}
-use Rattle.rx_ring.specs.declared.ends.RxIn.{RxIn}
-use Rattle.rx_ring.specs.declared.ends.RxCtx.{RxCtx}
-use Rattle.rx_ring.specs.Ends.{RingName, ring_name, IsOneRing}
-use Rattle.napi_model.specs.declared.event.Event.{Event}
-use Rattle.napi_model.specs.declared.state.State.{State}
-use Rattle.napi_model.specs.Step.{opening}
-use Rattle.napi_model.specs.History.{LegalHistory, state_after, own}
-use Rattle.napi_word.specs.declared.table.Pass.{Pass}
+use Rattle.{std.specs.Prelude.{◌≡◌, ℕ, List, Option, Some}, rx_ring.specs.{declared.ends.{RxIn.RxIn, RxCtx.RxCtx}, Ends.RingName}}
+use Rattle.{rx_ring.specs.Ends.{ring_name, IsOneRing}, napi_model.specs.{declared.{event.Event.Event, state.State.State}, Step.opening}}
+use Rattle.{napi_model.specs.History.{LegalHistory, state_after, own}, napi_word.specs.{declared.table.Pass.Pass, Passes.view_of}}
+use Rattle.napi_word.specs.Passes.{SameTable}
 use Rattle.napi_word.specs.View as view
-use Rattle.napi_word.specs.Passes.{view_of, SameTable}
 
 -- the seat's number, and the controller's, which is the greatest
 abbrev pub number_of : Pass → ℕ

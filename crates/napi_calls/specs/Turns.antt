@@ -1,18 +1,12 @@
 -- Two callers in turn, each of whose calls is decided in one try: all its events. Number 0 is granted the instance, hands it to
 -- the list, doesn't find it there, and asks again while number 1 polls it; number 1 hands it over again, and number 0 polls it.
-use Rattle.std.specs.Prelude.{◌≡◌, true, false, List, [], ◌∷◌, length}
-use Rattle.napi_model.specs.declared.state.Seen.{Seen}
+use Rattle.{std.specs.Prelude.{◌≡◌, true, false, List, [], ◌∷◌, length}, napi_model.specs.declared.state.Seen.Seen}
+use Rattle.napi_model.specs.declared.{state.Place.TheVariants.Control, event.{Event.Event, Operation.{Operation, TheVariants.Look}}}
+use Rattle.napi_model.specs.declared.event.Operation.TheVariants.{Schedule, Hand, Take, Complete, MarkDisable, TakeDisable, Unmark, Enable}
+use Rattle.{napi_model.specs.{Step.opening, History.{LegalHistory, state_after, own}}, napi_calls.specs.Made.events}
 use Rattle.napi_model.specs.declared.state.Kind.TheVariants as kind
-use Rattle.napi_model.specs.declared.state.Place.TheVariants.{Control}
 use Rattle.napi_model.specs.declared.event.Prep.TheVariants as prep
 use Rattle.napi_model.specs.declared.event.Done.TheVariants as done
-use Rattle.napi_model.specs.declared.event.Event.{Event}
-use Rattle.napi_model.specs.declared.event.Operation.{Operation}
-use Rattle.napi_model.specs.declared.event.Operation.TheVariants.{Look, Schedule, Hand, Take, Complete, MarkDisable, TakeDisable, Unmark}
-use Rattle.napi_model.specs.declared.event.Operation.TheVariants.{Enable}
-use Rattle.napi_model.specs.Step.{opening}
-use Rattle.napi_model.specs.History.{LegalHistory, state_after, own}
-use Rattle.napi_calls.specs.Made.{events}
 
 -- what their looks tell is left open
 abbrev pub by_first : Seen → Seen → Seen → Seen → List Operation

@@ -1,10 +1,9 @@
 -- Histories that grow at their end, and histories joined.
 use Rattle.std.proofs.Common.{◌≡◌, ◌≢◌, ℕ, ◌+◌, ◌<◌, List, [], ◌∷◌, ◌++◌, length, take, drop, get_or, nat_eq, eqb, true, false, refl, sym}
 use Rattle.std.proofs.{Common.{ap, ◌∙◌, subst, ⊎_elim}, lemmas.{Bool.Decides.eqb_tells, List.{Elements.filter-append, take_more}}}
-use Rattle.std.proofs.lemmas.List.{take-append-drop}
-use Rattle.napi_model.specs.History.{IsLegalFor, LegalHistory, state_after, own}
-use Rattle.napi_model.specs.declared.{state.State.State, event.{Operation.TheVariants.Look, Event.Event}}
-use Rattle.napi_model.specs.Step.{after, event, seen_of, idle}
+use Rattle.{std.proofs.lemmas.List.take-append-drop, napi_model.specs.History.{IsLegalFor, LegalHistory, state_after, own}}
+use Rattle.napi_model.specs.{declared.{state.State.State, event.{Operation.TheVariants.Look, Event.Event}}, Step.{after, event, seen_of}}
+use Rattle.napi_model.specs.Step.{idle}
 
 pub state_after-append : (s : State) (g h : List Event) → state_after s (g ++ h) ≡ state_after (state_after s g) h
 unfolding state_after

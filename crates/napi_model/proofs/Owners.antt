@@ -1,16 +1,14 @@
 -- The laws of legal histories.
 use Rattle.std.proofs.Common.{◌≡◌, ◌≢◌, ℕ, Bool, List, [], ◌∷◌, ne_eqb, true, false, refl, sym, ap, ◌∙◌, subst, ⊎_elim, true≢false}
-use Rattle.napi_model.specs.declared.state.Place.TheVariants.{Nobody, Granted, Listed, ToThread, Polling, Control}
-use Rattle.napi_model.specs.declared.{state.{Place.Place, State.State, Kind.Kind}, event.{Event.Event, Prep.Prep}}
-use Rattle.napi_model.specs.declared.event.{Done.TheVariants.{Released, Again, Held}, Operation.Operation}
-use Rattle.napi_model.specs.History.{LegalHistory, IsBy, state_after, own}
-use Rattle.napi_model.proofs.Histories.{state_after-append, legal_front, legal_back, own_first}
-use Rattle.napi_model.specs.declared.event.Operation.TheVariants.{Look, Schedule, Hand, Take, Complete, BusyTake, BusyStop, MarkDisable}
-use Rattle.napi_model.specs.declared.event.Operation.TheVariants.{TakeDisable, Unmark, Enable, SetThreaded}
-use Rattle.napi_model.specs.Step.{after, after_by, opening, IsLegalBy, Polls, MayHand}
+use Rattle.napi_model.specs.declared.state.{Place.{TheVariants.{Nobody, Granted, Listed, ToThread, Polling, Control}, Place}, State.State}
+use Rattle.napi_model.specs.declared.{state.Kind.Kind, event.{Event.Event, Prep.Prep, Done.TheVariants.{Released, Again, Held}}}
+use Rattle.napi_model.specs.declared.event.Operation.{Operation, TheVariants.{Look, Schedule, Hand, Take, Complete, BusyTake, BusyStop}}
+use Rattle.napi_model.specs.declared.event.Operation.TheVariants.{MarkDisable, TakeDisable, Unmark, Enable, SetThreaded}
+use Rattle.napi_model.specs.{History.{LegalHistory, IsBy, state_after, own}, Step.{after, after_by, opening, IsLegalBy, Polls, MayHand}}
 use Rattle.napi_model.specs.Laws.{IsSound, is_owner, IsOwnedBy, stand_of, IsPolled, BusyIsPolled, IsHandedOrPolled, ThreadsIsHanded}
 use Rattle.napi_model.specs.Laws.{IsControlled, SchedClearIsNobody, BusyPollIsPolling, SchedThreadedIsHanded, OthersLeaveOwner}
-use Rattle.napi_model.specs.Laws.{OthersLeaveOwnership, ControlIsTheControllers, OthersLeaveDisable}
+use Rattle.napi_model.{specs.Laws.{OthersLeaveOwnership, ControlIsTheControllers, OthersLeaveDisable}, proofs.Histories.state_after-append}
+use Rattle.napi_model.proofs.Histories.{legal_front, legal_back, own_first}
 
 -- ---- SCHED clear, and nobody has the instance
 

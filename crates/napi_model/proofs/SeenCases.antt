@@ -1,6 +1,7 @@
 -- A `Seen` has 2 ^ 7 * 3 values: a fact of each is a test that computes. And equality of two, by the derived `==`.
 use Rattle.std.proofs.{Common.{◌≡◌, ◌&&◌, Bool, true, false, Option, Some, None, refl, sym, true≢false}, Math.Bool.beq}
-use Rattle.{std.specs.Option.option_eq, napi_model.specs.declared.state.{Kind.{Kind, TheVariants.{List, Thread}}, Seen.Seen}}
+use Rattle.std.{proofs.lemmas.Bool.and_parts, specs.Option.option_eq}
+use Rattle.napi_model.specs.declared.state.{Kind.{Kind, TheVariants.{List, Thread}}, Seen.Seen}
 use Rattle.napi_model.specs.contracts.state.KindPartialEq.TheImpl as kind_eq
 
 -- ---- a test of every value
@@ -25,22 +26,14 @@ every_seen p =
     (λ b. every_bool
     (λ c. every_bool (λ d. every_bool (λ e. every_bool (λ f. every_bool (λ g. every_mark (λ m. p (seen_at a b c d e f g m)))))))))
 
-pub and_l : (a b : Bool) → (a && b) ≡ true → a ≡ true
-and_l true b h = refl
-and_l false b h = h
-
-pub and_r : (a b : Bool) → (a && b) ≡ true → b ≡ true
-and_r true b h = h
-and_r false b h = absurd (true≢false (sym h))
-
 bool_holds : (p : Bool → Bool) → every_bool p ≡ true → (b : Bool) → p b ≡ true
-bool_holds p h true = and_l (p true) (p false) h
-bool_holds p h false = and_r (p true) (p false) h
+bool_holds p h true = (and_parts (p true) (p false) h).0
+bool_holds p h false = (and_parts (p true) (p false) h).1
 
 mark_holds : (p : Option Kind → Bool) → every_mark p ≡ true → (m : Option Kind) → p m ≡ true
-mark_holds p h None = and_l (p None) (p (Some List)) (and_l (p None && p (Some List)) (p (Some Thread)) h)
-mark_holds p h (Some List) = and_r (p None) (p (Some List)) (and_l (p None && p (Some List)) (p (Some Thread)) h)
-mark_holds p h (Some Thread) = and_r (p None && p (Some List)) (p (Some Thread)) h
+mark_holds p h None = (and_parts (p None) (p (Some List)) (and_parts (p None && p (Some List)) (p (Some Thread)) h).0).0
+mark_holds p h (Some List) = (and_parts (p None) (p (Some List)) (and_parts (p None && p (Some List)) (p (Some Thread)) h).0).1
+mark_holds p h (Some Thread) = (and_parts (p None && p (Some List)) (p (Some Thread)) h).1
 
 pub seen_holds : (p : Seen → Bool) → every_seen p ≡ true → (s : Seen) → p s ≡ true
 seen_holds p h s =
@@ -97,20 +90,21 @@ mark_is a b h = absurd (true≢false (sym h))
 
 pub seen_is : (x y : Seen) → same_seen x y ≡ true → x ≡ y
 seen_is x y h =
-    let flags = and_l _ _ h in
-    let h1 = and_r _ _ flags in
-    let h2 = and_r _ _ h1 in
-    let h3 = and_r _ _ h2 in
-    let h4 = and_r _ _ h3 in
-    let e1 = bool_is x.flags.sched y.flags.sched (and_l _ _ flags) in
-    let e2 = bool_is x.flags.missed y.flags.missed (and_l _ _ h1) in
-    let e3 = bool_is x.flags.disable y.flags.disable (and_l _ _ h2) in
-    let e4 = bool_is x.flags.npsvc y.flags.npsvc (and_l _ _ h3) in
-    let h5 = and_r _ _ h4 in
-    let e5 = bool_is x.flags.in_busy_poll y.flags.in_busy_poll (and_l _ _ h4) in
-    let e6 = bool_is x.flags.threaded y.flags.threaded (and_l _ _ h5) in
-    let e7 = bool_is x.flags.sched_threaded y.flags.sched_threaded (and_r _ _ h5) in
-    let e8 = mark_is x.handed y.handed (and_r _ _ h) in
+    let t = and_parts _ _ h in
+    let sched = and_parts _ _ t.0 in
+    let missed = and_parts _ _ sched.1 in
+    let disable = and_parts _ _ missed.1 in
+    let npsvc = and_parts _ _ disable.1 in
+    let busy = and_parts _ _ npsvc.1 in
+    let threads = and_parts _ _ busy.1 in
+    let e1 = bool_is x.flags.sched y.flags.sched sched.0 in
+    let e2 = bool_is x.flags.missed y.flags.missed missed.0 in
+    let e3 = bool_is x.flags.disable y.flags.disable disable.0 in
+    let e4 = bool_is x.flags.npsvc y.flags.npsvc npsvc.0 in
+    let e5 = bool_is x.flags.in_busy_poll y.flags.in_busy_poll busy.0 in
+    let e6 = bool_is x.flags.threaded y.flags.threaded threads.0 in
+    let e7 = bool_is x.flags.sched_threaded y.flags.sched_threaded threads.1 in
+    let e8 = mark_is x.handed y.handed t.1 in
     λ i. seen_at (e1 i) (e2 i) (e3 i) (e4 i) (e5 i) (e6 i) (e7 i) (e8 i)
 
 pub seen_same : (x : Seen) → same_seen x x ≡ true

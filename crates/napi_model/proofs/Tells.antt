@@ -1,11 +1,9 @@
 -- The word tells the next word.
-use Rattle.std.proofs.Common.{◌≡◌, ℕ, Option, true, refl, sym, ap}
-use Rattle.napi_model.specs.Step.{IsLegalBy, after_by, seen_of, seen_after, handed_at, handed_after, flags_after, place_after}
-use Rattle.napi_model.specs.declared.state.{State.State, Seen.Seen}
-use Rattle.napi_model.specs.declared.state.{Flags.Flags, Kind.Kind}
-use Rattle.napi_model.specs.declared.event.Operation.{Operation}
-use Rattle.napi_model.specs.declared.event.Operation.TheVariants.{Schedule, Hand, Take, Complete, BusyTake, TakeDisable, Enable}
-use Rattle.napi_model.specs.{declared.event.{Prep.Prep, Done.TheVariants.{Released, Again}}, Laws.IsSound}
+use Rattle.{std.proofs.Common.{◌≡◌, ℕ, Option, true, refl, sym, ap}, napi_model.specs.Step.{IsLegalBy, after_by, seen_of, seen_after}}
+use Rattle.napi_model.specs.{Step.{handed_at, handed_after, flags_after, place_after}, declared.state.{State.State, Seen.Seen, Flags.Flags}}
+use Rattle.napi_model.specs.declared.{state.Kind.Kind, event.Operation.{Operation, TheVariants.{Schedule, Hand, Take, Complete, BusyTake}}}
+use Rattle.napi_model.specs.declared.event.{Operation.TheVariants.{TakeDisable, Enable}, Prep.Prep, Done.TheVariants.{Released, Again}}
+use Rattle.napi_model.specs.Laws.{IsSound}
 
 handed_next : (c : ℕ) (o : Operation) (s : State) → IsLegalBy c o s → IsSound s
     → handed_at (place_after c o s.place) ≡ handed_after o (handed_at s.place)

@@ -1,12 +1,10 @@
 -- The word tells what was seen: sums of bits.
 use Rattle.std.proofs.Common.{◌≡◌, ◌≢◌, ◌⊎◌, ℕ, ◌+◌, ◌*◌, ◌^◌, ◌<◌, min, ◌&&◌, not, ◌==◌, eqb, eq-eqb, ne_eqb, zero, suc, ⊎_elim, Bool}
-use Rattle.std.proofs.Common.{true, false, refl, sym, ap, ◌∙◌, subst, inl, inr, arith, bit_and, bit_or, true≢false}
-use Rattle.std.proofs.lemmas.Bool.{eqb-true, Decides.eqb_tells}
-use Rattle.std.proofs.lemmas.Nat.{or_disjoint, and-not, and_comm, pow_pos}
-use Rattle.std.{proofs.lemmas.Nat.Bits.{bit_at_and, bit_at_or, same_from_bits, bit_at-zero, and_pow, bit_at-lt}, specs.Int.bit_at}
-use Rattle.napi_model.specs.declared.state.Seen.{Seen}
-use Rattle.napi_model.specs.Word.{bit_if, word_of, mark_word, both_marks, named_bits, other_bits, IsMalformed, seen_in, mark_in}
-use Rattle.napi_model.proofs.SeenCases.{seen_holds, seen_is, same_seen, and_l, and_r}
+use Rattle.std.proofs.{Common.{true, false, refl, sym, ap, ◌∙◌, subst, inl, inr, arith, bit_and, bit_or, true≢false}, lemmas.Bool.and_parts}
+use Rattle.std.proofs.lemmas.{Bool.{eqb-true, Decides.eqb_tells}, Nat.{or_disjoint, and-not, and_comm, pow_pos, Bits.bit_at_and}}
+use Rattle.std.{proofs.lemmas.Nat.Bits.{bit_at_or, same_from_bits, bit_at-zero, and_pow, bit_at-lt}, specs.Int.bit_at}
+use Rattle.napi_model.specs.{declared.state.Seen.Seen, Word.{bit_if, word_of, mark_word, both_marks, named_bits, other_bits, IsMalformed}}
+use Rattle.napi_model.{specs.Word.{seen_in, mark_in}, proofs.SeenCases.{seen_holds, seen_is, same_seen}}
 
 -- ---- bits of sums
 
@@ -94,8 +92,8 @@ pub not_malformed : (s : Seen) → ¬ IsMalformed (word_of s)
 not_malformed s m =
     let t = well_formed s in
     ⊎_elim
-    (λ (other : bit_and (word_of s) other_bits ≢ 0). other (eqb-true _ _ (and_l _ _ t)))
-    (λ (both : bit_and (word_of s) both_marks ≡ both_marks). true≢false (sym (and_r _ _ t) ∙ ap not (eq-eqb _ _ both)))
+    (λ (other : bit_and (word_of s) other_bits ≢ 0). other (eqb-true _ _ (and_parts _ _ t).0))
+    (λ (both : bit_and (word_of s) both_marks ≡ both_marks). true≢false (sym (and_parts _ _ t).1 ∙ ap not (eq-eqb _ _ both)))
     m
 
 -- a word with no other bit is its bits with names

@@ -1,12 +1,9 @@
 -- Histories: lists of events, from an opening state that is an argument throughout.
-use Rattle.std.specs.Prelude.{◌≡◌, ℕ, Bool, true, false, nat_eq, List, [], ◌∷◌, filter}
-use Rattle.napi_model.specs.declared.state.Place.{Place}
-use Rattle.napi_model.specs.declared.state.State.{State}
+use Rattle.{std.specs.Prelude.{◌≡◌, ℕ, Bool, true, false, nat_eq, List, [], ◌∷◌, filter}, napi_model.specs.declared.state.Place.Place}
+use Rattle.napi_model.specs.declared.{state.State.State, event.Operation.{Operation, TheVariants.{Schedule, Take, BusyStop, MarkDisable}}}
+use Rattle.napi_model.specs.{declared.event.{Operation.TheVariants.{TakeDisable, Unmark, Enable}, Event.Event}, Step.{after, IsLegal}}
+use Rattle.napi_model.specs.Step.{IsControl}
 use Rattle.napi_model.specs.declared.event.Prep.TheVariants as prep
-use Rattle.napi_model.specs.declared.event.Operation.{Operation}
-use Rattle.napi_model.specs.declared.event.Operation.TheVariants.{Schedule, Take, BusyStop, MarkDisable, TakeDisable, Unmark, Enable}
-use Rattle.napi_model.specs.declared.event.Event.{Event}
-use Rattle.napi_model.specs.Step.{after, IsLegal, IsControl}
 
 -- the state after a history
 unfoldable pub state_after : State → List Event → State

@@ -1,10 +1,7 @@
 -- Laws of legal histories.
-use Rattle.std.specs.Prelude.{◌≡◌, ℕ, Bool, true, false, nat_eq, List, [], ◌++◌}
-use Rattle.napi_model.specs.declared.state.Place.{Place}
-use Rattle.napi_model.specs.declared.state.Place.TheVariants.{Nobody, Granted, Listed, ToThread, Polling, Control}
-use Rattle.napi_model.specs.declared.state.State.{State}
-use Rattle.napi_model.specs.declared.event.Event.{Event}
-use Rattle.napi_model.specs.History.{LegalHistory, state_after, own}
+use Rattle.{std.specs.Prelude.{◌≡◌, ℕ, Bool, true, false, nat_eq, List, [], ◌++◌}, napi_model.specs.declared.state.Place.Place}
+use Rattle.napi_model.specs.declared.state.{Place.TheVariants.{Nobody, Granted, Listed, ToThread, Polling, Control}, State.State}
+use Rattle.napi_model.specs.{declared.event.Event.Event, History.{LegalHistory, state_after, own}}
 
 -- SCHED says that somebody has the instance: clear, nobody has it
 abbrev pub IsSound : State → Type 0

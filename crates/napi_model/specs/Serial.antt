@@ -1,9 +1,6 @@
 -- The one-thread object: what its private fields hold, and a call of it as a legal step.
-use Rattle.std.specs.Prelude.{◌≡◌, ℕ}
-use Rattle.napi_model.specs.declared.state.State.{State}
-use Rattle.napi_model.specs.declared.event.Operation.{Operation}
-use Rattle.napi_model.specs.declared.serial.SerialNapi.{SerialNapi}
-use Rattle.napi_model.specs.Step.{event, LegalStep}
+use Rattle.{std.specs.Prelude.{◌≡◌, ℕ}, napi_model.specs.declared.{state.State.State, event.Operation.Operation}}
+use Rattle.napi_model.specs.{declared.serial.SerialNapi.SerialNapi, Step.{event, LegalStep}}
 
 abbrev pub state_of : SerialNapi → State
 state_of napi = napi.state

@@ -1,23 +1,13 @@
 -- The legal steps of the one-thread NAPI object: `napi_schedule_prep`, `____napi_schedule`, `napi_complete_done`,
 -- `napi_disable`, `napi_enable`, `dev_set_threaded`, `napi_busy_loop` and `busy_poll_stop` of net/core/dev.c.
 use Rattle.std.specs.Prelude.{◌≡◌, ◌≢◌, ℕ, Bool, true, false, not, ◌||◌, ◌⊎◌, Option, Some, None, if◌then◌else◌}
-use Rattle.napi_model.specs.declared.state.Flags.{Flags}
-use Rattle.napi_model.specs.declared.state.Kind.{Kind}
-use Rattle.napi_model.specs.declared.state.Kind.TheVariants.{List, Thread}
-use Rattle.napi_model.specs.declared.state.Seen.{Seen}
-use Rattle.napi_model.specs.declared.state.Place.{Place}
-use Rattle.napi_model.specs.declared.state.Place.TheVariants.{Nobody, Granted, Listed, ToThread, Polling, Control}
-use Rattle.napi_model.specs.declared.state.State.{State}
-use Rattle.napi_model.specs.declared.event.Prep.{Prep}
-use Rattle.napi_model.specs.declared.event.Prep.TheVariants as prep
-use Rattle.napi_model.specs.declared.event.Done.{Done}
-use Rattle.napi_model.specs.declared.event.Done.TheVariants.{Released, Again, Held}
-use Rattle.napi_model.specs.declared.event.Call.{Call}
-use Rattle.napi_model.specs.declared.event.Call.TheVariants as call
-use Rattle.napi_model.specs.declared.event.Operation.{Operation}
+use Rattle.napi_model.specs.declared.state.{Flags.Flags, Kind.{Kind, TheVariants.{List, Thread}}, Seen.Seen, Place.Place}
+use Rattle.napi_model.specs.declared.state.{Place.TheVariants.{Nobody, Granted, Listed, ToThread, Polling, Control}, State.State}
+use Rattle.napi_model.specs.declared.event.{Prep.Prep, Done.{Done, TheVariants.{Released, Again, Held}}, Call.Call, Operation.Operation}
 use Rattle.napi_model.specs.declared.event.Operation.TheVariants.{Look, Schedule, Hand, Take, Complete, BusyTake, BusyStop, MarkDisable}
-use Rattle.napi_model.specs.declared.event.Operation.TheVariants.{TakeDisable, Unmark, Enable, SetThreaded}
-use Rattle.napi_model.specs.declared.event.Event.{Event}
+use Rattle.napi_model.specs.declared.event.{Operation.TheVariants.{TakeDisable, Unmark, Enable, SetThreaded}, Event.Event}
+use Rattle.napi_model.specs.declared.event.Prep.TheVariants as prep
+use Rattle.napi_model.specs.declared.event.Call.TheVariants as call
 
 -- ---- states
 

@@ -1,10 +1,7 @@
 -- The state word. The flags have the bits of `NAPI_STATE_..` in include/linux/netdevice.h; the two marks of an instance
 -- that was handed over and not yet taken, bits 32 and 33, are this project's own.
 use Rattle.std.specs.Prelude.{◌≡◌, ◌≢◌, ◌==◌, not, ℕ, ◌+◌, ◌-◌, Bool, true, false, ◌⊎◌, bit_and, Option, Some, None}
-use Rattle.napi_model.specs.declared.state.Flags.{Flags}
-use Rattle.napi_model.specs.declared.state.Kind.{Kind}
-use Rattle.napi_model.specs.declared.state.Kind.TheVariants.{List, Thread}
-use Rattle.napi_model.specs.declared.state.Seen.{Seen}
+use Rattle.napi_model.specs.declared.state.{Flags.Flags, Kind.{Kind, TheVariants.{List, Thread}}, Seen.Seen}
 
 abbrev pub bit_if : Bool → ℕ → ℕ
 bit_if true bit = bit

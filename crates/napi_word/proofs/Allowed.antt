@@ -1,22 +1,18 @@
 -- A step is allowed where it is a legal one whose word is right, at each state that the view allows.
-use Rattle.napi_word.specs.Told.{told, laid_down}
-use Rattle.napi_word.specs.View.{View, is_pass, number_of, place_in, ring_of, delivery, own_deliveries, delivered, received_by, received_in}
-use Rattle.napi_word.specs.{View.{first_in, last_of, Continues}, declared.view.{Key.Key, Delivery.Delivery}}
+use Rattle.napi_word.specs.{Told.{told, laid_down}, View.{View, is_pass, number_of, place_in, ring_of, delivery, own_deliveries, delivered}}
+use Rattle.napi_word.specs.{View.{received_by, received_in, first_in, last_of, Continues}, declared.view.{Key.Key, Delivery.Delivery}}
 use Rattle.napi_word.specs.{declared.view.Holds.{Holds, TheVariants.{Nothing, Within, Out}}, Rule.{Home, Homes, Owned, Fits, Kept, Holding}}
-use Rattle.napi_word.specs.Slot.{Content, Carried, has_at, is_out, owns_slot, hold_of, has_slot, ring_in, beside_in}
-use Rattle.napi_word.specs.Slot.{carried_received, Tied, Moves, stays, taken, given, moved, Gives, Shifts, Delivers}
-use Rattle.napi_word.proofs.Places.{has_out, has_same, in_no_hand}
-use Rattle.napi_word.proofs.Keeps.{St, Open, opened, grown, running, Knows, knows, own_fits, owned}
-use Rattle.napi_word.proofs.Keeps.{found, steps, grew, again}
-use Rattle.napi_word.proofs.Deliveries.{some_is, prefix_self, to_prefix, of_prefix, received_snoc, last_snoc, More, not_given, more_none}
-use Rattle.{napi_word.proofs.Deliveries.{more_one}, rx_ring.specs.declared.ends.RxCtx.RxCtx}
-use Rattle.rx_ring.specs.{declared.packet.Packet.Packet, Ends.{ring_name, received_list}}
-use Rattle.napi_model.specs.History.{IsLegalFor, state_after}
-use Rattle.napi_model.specs.declared.{state.{State.State as Napi, Place.Place, Seen.Seen}, event.Operation.Operation}
-use Rattle.napi_model.{specs.{Step.{event, opening, seen_of, after_by}, Word.word_of}, proofs.Histories.state_after-snoc}
-use Rattle.std.proofs.Common.{◌≡◌, ◌≢◌, ℕ, zero, set, length, [], ◌∷◌, ◌++◌, Option, Some, None, Bool, List, true, false}
-use Rattle.std.proofs.Common.{not, ◌&&◌, unwrap_or, refl, sym, ap, ◌∙◌, subst, inr, true≢false, arith}
-use Rattle.atomic_table.specs.Table.{Me, Act, keeps, takes, gives, rest, put_back, homes_after, carried_after, Valid, Allows}
+use Rattle.napi_word.specs.Slot.{Content, Carried, has_at, is_out, owns_slot, hold_of, has_slot, ring_in, beside_in, carried_received, Tied}
+use Rattle.napi_word.{specs.Slot.{Moves, stays, taken, given, moved, Gives, Shifts, Delivers}, proofs.Places.{has_out, has_same}}
+use Rattle.napi_word.proofs.{Places.in_no_hand, Keeps.{St, Open, opened, grown, running, Knows, knows, own_fits, owned, found, steps, grew}}
+use Rattle.napi_word.proofs.{Keeps.again, Deliveries.{some_is, prefix_self, to_prefix, of_prefix, received_snoc, last_snoc, More}}
+use Rattle.{napi_word.proofs.Deliveries.{not_given, more_none, more_one}, rx_ring.specs.declared.{ends.RxCtx.RxCtx, packet.Packet.Packet}}
+use Rattle.{rx_ring.specs.Ends.{ring_name, received_list}, napi_model.specs.History.{IsLegalFor, state_after}}
+use Rattle.napi_model.specs.{declared.{state.{State.State as Napi, Place.Place, Seen.Seen}, event.Operation.Operation}, Step.event}
+use Rattle.{napi_model.{specs.{Step.{opening, seen_of, after_by}, Word.word_of}, proofs.Histories.state_after-snoc}, std.proofs.Common.◌≡◌}
+use Rattle.std.proofs.Common.{◌≢◌, ℕ, zero, set, length, [], ◌∷◌, ◌++◌, Option, Some, None, Bool, List, true, false, not, ◌&&◌, unwrap_or}
+use Rattle.{std.proofs.Common.{refl, sym, ap, ◌∙◌, subst, inr, true≢false, arith}, atomic_table.specs.Table.{Me, Act, keeps, takes, gives}}
+use Rattle.atomic_table.specs.Table.{rest, put_back, homes_after, carried_after, Valid, Allows}
 use mathlib.Core.{Option.{Option as Maybe, some-ne-none}, List.IsPrefix}
 use lib.ListN.{get_elem?}
 

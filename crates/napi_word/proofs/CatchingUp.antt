@@ -1,27 +1,22 @@
 -- All strands of one seat catch up with the whole history by a look.
 use Rattle.std.proofs.Common.{◌≡◌, ◌≢◌, ℕ, zero, suc, List, [], ◌∷◌, ◌++◌, length, slice_get, Some, None, Bool, true, unwrap_or, is_some}
-use Rattle.std.proofs.Common.{refl, sym, ap, ◌∙◌, subst, inr, arith, true≢false}
-use Rattle.atomic_table.{specs.Table.{Me, keeps, Allows}, proofs.Lists.at_longer}
-use Rattle.rx_ring.specs.{declared.{packet.Packet.Packet, ends.RxCtx.RxCtx}, Ends.received_list}
-use Rattle.napi_model.specs.declared.{event.{Event.Event, Operation.TheVariants.Look}, state.Seen.Seen}
-use Rattle.napi_model.specs.{declared.state.{State.State as Napi, Place.Place}, Step.{event, opening, seen_of}}
-use Rattle.napi_model.{specs.{History.{LegalHistory, state_after, own}, Laws.is_owner}, proofs.Histories.{legal_snoc, state_after-snoc}}
-use Rattle.napi_word.specs.declared.view.{Key.Key, Strand.Strand, Delivery.Delivery}
-use Rattle.napi_word.specs.declared.{view.Holds.{Holds, TheVariants.Nothing}, table.Pass.Pass}
-use Rattle.napi_word.specs.View.{View, is_pass, mine, number_of, controller_of, first_in, received_in, own_deliveries, place_in, Continues}
-use Rattle.napi_word.specs.Slot.{Content, Carried, stays, has_at, is_given, one_if, hold_of, has_slot, carried_received, Tied}
-use Rattle.napi_word.specs.Rule.{Fits, Kept, Holding}
-use Rattle.napi_word.specs.Surveys.{IsWhole, CatchesUp, Knew, Surveyed, Surveys, front, with_front, but_last, last_alone, caught_up, looked}
-use Rattle.napi_word.specs.Surveys.{all_looked}
-use Rattle.napi_word.specs.{Surveys.all_caught_up, Passes.{Makes, SameTable, view_of, tie_of}}
+use Rattle.{std.proofs.Common.{refl, sym, ap, ◌∙◌, subst, inr, arith, true≢false}, atomic_table.specs.Table.{Me, keeps, Allows}}
+use Rattle.{atomic_table.proofs.Lists.at_longer, rx_ring.specs.{declared.{packet.Packet.Packet, ends.RxCtx.RxCtx}, Ends.received_list}}
+use Rattle.napi_model.specs.declared.{event.{Event.Event, Operation.TheVariants.Look}, state.{Seen.Seen, State.State as Napi, Place.Place}}
+use Rattle.napi_model.specs.{Step.{event, opening, seen_of}, History.{LegalHistory, state_after, own}, Laws.is_owner}
+use Rattle.{napi_model.proofs.Histories.{legal_snoc, state_after-snoc}, napi_word.specs.declared.view.{Key.Key, Strand.Strand}}
+use Rattle.napi_word.specs.{declared.{view.{Delivery.Delivery, Holds.{Holds, TheVariants.Nothing}}, table.Pass.Pass}, View.{View, is_pass}}
+use Rattle.napi_word.specs.{View.{mine, number_of, controller_of, first_in, received_in, own_deliveries, place_in, Continues}, Slot.Content}
+use Rattle.napi_word.specs.{Slot.{Carried, stays, has_at, is_given, one_if, hold_of, has_slot, carried_received, Tied}, Rule.{Fits, Kept}}
+use Rattle.napi_word.specs.{Rule.Holding, Surveys.{IsWhole, CatchesUp, Knew, Surveyed, Surveys, front, with_front, but_last, last_alone}}
+use Rattle.napi_word.specs.{Surveys.{caught_up, looked, all_looked, all_caught_up}, Passes.{Makes, SameTable, view_of, tie_of}}
 use Rattle.napi_word.proofs.{Splitting.{but_last_is, last_alone_is}, Owns.{own_mine, own_other}, Places.has_same, Closing.is_pass_more}
-use Rattle.napi_word.proofs.{Deliveries.{prefix_self, of_prefix, More, more_none, not_given, givers_snoc}, Allowed.{ring_kept, some_held}}
-use Rattle.napi_word.proofs.Allowed.{hold_nothing}
-use Rattle.napi_word.proofs.Keeps.{St, Open, opened, running, found, grown, steps, own_fits, owned, owner_since, stand_since, disable_since}
-use Rattle.napi_word.proofs.Deliveries.{some_is, ring_as, received_as}
+use Rattle.napi_word.proofs.Deliveries.{prefix_self, of_prefix, More, more_none, not_given, givers_snoc, some_is, ring_as, received_as}
+use Rattle.napi_word.proofs.{Allowed.{ring_kept, some_held, hold_nothing}, Keeps.{St, Open, opened, running, found, grown, steps, own_fits}}
+use Rattle.napi_word.proofs.Keeps.{owned, owner_since, stand_since, disable_since}
 use lib.ListN.{get_elem?}
-use mathlib.Core.Option as maybe
 use mathlib.Core.List.{IsPrefix}
+use mathlib.Core.Option as maybe
 
 at_caught : (h : List Event) (ds : List Delivery) (v : View) (k : ℕ) (z : Strand) → get_elem? (all_caught_up h ds v) k ≡ maybe.some z
     → (x : Strand) × (get_elem? v k ≡ maybe.some x) × (caught_up h ds x ≡ z)

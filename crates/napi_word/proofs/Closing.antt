@@ -1,23 +1,18 @@
 -- The end of a table: what its passes had, and what stands behind their views.
-use Rattle.napi_word.proofs.{Keeps.{St, Open, opened, running, owner_since, place_since}, Deliveries.some_is}
-use Rattle.napi_word.proofs.{Places.{has_owner, has_same, is_false}, Whole.whole}
-use Rattle.napi_word.proofs.Counting.{numbers_of, numbers_length, find_number, every_number, no_more}
-use Rattle.napi_word.specs.Rule.{Fits, Kept, Holding}
-use Rattle.napi_word.specs.declared.view.{Key.Key, Holds.{Holds, TheVariants.{Nothing, Within, Out}}, Delivery.Delivery, Strand.Strand}
-use Rattle.napi_word.specs.declared.{table.{Pass.Pass, StateTable.StateTable}, gathering.Found.Found}
-use Rattle.napi_word.specs.Ends.{Finds, picked, IsOut, IsEnded, views_of, Gathered}
-use Rattle.napi_word.specs.View.{View, first_in, delivered, own_deliveries, received_by, last_of, is_pass, shown, mine, number_of}
-use Rattle.napi_word.specs.{View.{controller_of, place_in, ring_of}, Passes.view_of}
-use Rattle.napi_word.specs.{Passes.controller_of_table, Slot.{Content, is_out, has_at, has_slot}}
+use Rattle.napi_word.proofs.{Keeps.{St, Open, opened, running, owner_since, place_since}, Deliveries.some_is, Places.{has_owner, has_same}}
+use Rattle.napi_word.proofs.{Places.is_false, Whole.whole, Counting.{numbers_of, numbers_length, find_number, every_number, no_more}}
+use Rattle.napi_word.specs.{Rule.{Fits, Kept, Holding}, declared.view.{Key.Key, Holds.{Holds, TheVariants.{Nothing, Within, Out}}}}
+use Rattle.napi_word.specs.declared.{view.{Delivery.Delivery, Strand.Strand}, table.{Pass.Pass, StateTable.StateTable}}
+use Rattle.napi_word.specs.{declared.gathering.Found.Found, Ends.{Finds, picked, IsOut, IsEnded, views_of, Gathered}, View.{View, first_in}}
+use Rattle.napi_word.specs.View.{delivered, own_deliveries, received_by, last_of, is_pass, shown, mine, number_of, controller_of, place_in}
+use Rattle.napi_word.specs.{View.ring_of, Passes.{view_of, controller_of_table}, Slot.{Content, is_out, has_at, has_slot}}
 use Rattle.rx_ring.{proofs.Names.same_name, specs.{Ends.{RingName, ring_name, received_list}, declared.ends.RxCtx.RxCtx}}
-use Rattle.atomic_table.{proofs.Lists.at_longer, specs.Table.{Final, Seen}}
-use Rattle.std.specs.List.{AllByRecursion, IsDistinct, list_any}
-use Rattle.std.proofs.Common.{◌<◌, ◌+◌, ◌≡◌, ◌≢◌, ℕ, zero, suc, ◌≤◌, List, [], ◌∷◌, ◌++◌, length, length-append}
-use Rattle.std.proofs.Common.{slice_get, Option, Some, None, Bool, true, false, unwrap_or, eqb, eq-eqb, ne_eqb, refl, sym, ap, ◌∙◌, subst}
-use Rattle.{std.proofs.Common.{arith, true≢false, lt_of_not-le}, napi_model.proofs.Owners.{ownership_kept, opens_sound}}
-use Rattle.napi_model.specs.declared.event.Event.{Event}
+use Rattle.{atomic_table.{proofs.Lists.at_longer, specs.Table.{Final, Seen}}, std.specs.List.{AllByRecursion, IsDistinct, list_any}}
+use Rattle.std.proofs.Common.{◌<◌, ◌+◌, ◌≡◌, ◌≢◌, ℕ, zero, suc, ◌≤◌, List, [], ◌∷◌, ◌++◌, length, length-append, slice_get, Option, Some}
+use Rattle.std.proofs.Common.{None, Bool, true, false, unwrap_or, eqb, eq-eqb, ne_eqb, refl, sym, ap, ◌∙◌, subst, arith, true≢false}
+use Rattle.{std.proofs.Common.lt_of_not-le, napi_model.{proofs.Owners.{ownership_kept, opens_sound}, specs.declared.event.Event.Event}}
 use Rattle.napi_model.specs.declared.state.Place.{Place, TheVariants.{Nobody, Granted, Listed, ToThread, Polling, Control}}
-use Rattle.napi_model.specs.{declared.state.{State.State as Napi}, History.{state_after, own}, Step.opening, Laws.is_owner}
+use Rattle.napi_model.specs.{declared.state.State.State as Napi, History.{state_after, own}, Step.opening, Laws.is_owner}
 use mathlib.Core.{Logic.dite, List.IsPrefix, Option.{Option as Maybe, some-injective}}
 use native.Mathlib.Decide.{dec_le}
 use lib.ListN.{get_elem?}

@@ -1,7 +1,7 @@
 -- As many different numbers as there are up to the last are all of them.
 use Rattle.std.proofs.Common.{◌≡◌, ℕ, suc, ◌+◌, ◌<◌, ◌≤◌, ◌||◌, List, [], ◌∷◌, length, slice_get, Some, Bool, true, false, eqb, refl, sym}
 use Rattle.std.{proofs.Common.{ap, ◌∙◌, arith, true≢false}, specs.List.{AllByRecursion, IsDistinct, list_any}}
-use Rattle.std.proofs.lemmas.{Bool.eqb-true, Map.Steps.length-le_from_distinct_below}
+use Rattle.std.proofs.lemmas.{Bool.{eqb-true, or_parts}, Map.Steps.length-le_from_distinct_below}
 use Rattle.napi_word.specs.{declared.table.Pass.Pass, View.number_of, Passes.view_of}
 
 abbrev pub numbers_of : List Pass → List ℕ
@@ -12,13 +12,9 @@ pub numbers_length : (ps : List Pass) → length (numbers_of ps) ≡ length ps
 numbers_length [] = refl
 numbers_length (p ∷ ps) = ap suc (numbers_length ps)
 
-or_false : (a b : Bool) → (a || b) ≡ false → (a ≡ false) × (b ≡ false)
-or_false true b e = absurd (true≢false e)
-or_false false b e = (refl, e)
-
 absent : (c : ℕ) (xs : List ℕ) → list_any (eqb c) xs ≡ false → AllByRecursion (λ y. eqb c y ≡ false) xs
 absent c [] e = tt
-absent c (x ∷ xs) e = let t = or_false (eqb c x) (list_any (eqb c) xs) e in (t.0, absent c xs t.1)
+absent c (x ∷ xs) e = let t = or_parts (eqb c x) (list_any (eqb c) xs) e in (t.0, absent c xs t.1)
 
 pub find_number : (c : ℕ) (ps : List Pass) → list_any (eqb c) (numbers_of ps) ≡ true
     → (k : ℕ) × (p : Pass) × (slice_get ps k ≡ Some p) × (number_of (view_of p) ≡ c)

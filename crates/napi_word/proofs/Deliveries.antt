@@ -4,13 +4,11 @@ use Rattle.std.proofs.{Common.{append_assoc, length, drop, subst, Option, Some, 
 use Rattle.{std.proofs.lemmas.{List.Elements.filter-append, Bool.eqb-true}, atomic_table.specs.Table.Me}
 use Rattle.rx_ring.specs.{declared.{packet.Packet.Packet, ends.RxCtx.RxCtx}, Ends.{received_list, ring_name}}
 use Rattle.napi_model.specs.declared.{state.{State.State as Napi, Place.{Place, TheVariants.{Polling, Control}}}, event.Event.Event}
-use Rattle.napi_model.specs.{Step.after, History.{LegalHistory, IsLegalFor, state_after}}
-use Rattle.napi_model.{specs.Laws.IsSound, proofs.Owners.{ownership_kept, owner_kept}}
-use Rattle.napi_word.specs.declared.view.Delivery.{Delivery}
-use Rattle.napi_word.specs.View.{View, first_in, received_in, delivered, delivery, packets_of, own_deliveries, received_by}
-use Rattle.napi_word.specs.View.{last_of, deliverers, Continues, ring_of}
-use Rattle.napi_word.specs.Slot.{Content, stays, Delivers, owns_slot, has_at, is_out, is_given, one_if, givers}
-use Rattle.napi_word.proofs.{Places.{has_same, has_out}, Owns.own_no}
+use Rattle.napi_model.{specs.{Step.after, History.{LegalHistory, IsLegalFor, state_after}, Laws.IsSound}, proofs.Owners.ownership_kept}
+use Rattle.{napi_model.proofs.Owners.owner_kept, napi_word.specs.{declared.view.Delivery.Delivery, View.{View, first_in, received_in}}}
+use Rattle.napi_word.specs.View.{delivered, delivery, packets_of, own_deliveries, received_by, last_of, deliverers, Continues, ring_of}
+use Rattle.napi_word.{specs.Slot.{Content, stays, Delivers, owns_slot, has_at, is_out, is_given, one_if, givers}, proofs.Places.has_same}
+use Rattle.napi_word.proofs.{Places.has_out, Owns.own_no}
 use mathlib.Core.List.{IsPrefix}
 
 pub some_is : {A : Type 0} {a b : A} → Some a ≡ Some b → a ≡ b

@@ -1,19 +1,16 @@
 -- One event more keeps the rule.
-use Rattle.napi_word.proofs.Owns.{own_mine, own_other, own_rest, begins_self, begins_more}
-use Rattle.napi_word.proofs.Deliveries.{prefix_self, has_others, givers_snoc, More, some_is}
-use Rattle.napi_word.specs.{Events.Steps, Slot.{Content, has_at, is_out, is_given, one_if}}
-use Rattle.napi_word.specs.View.{View, is_pass, number_of, controller_of, mine, ring_of, state_in, place_in, disable_in, busy_in}
-use Rattle.napi_word.specs.{declared.view.{Strand.Strand, Key.Key, Delivery.Delivery}, Rule.{first_view, Home, Homes, Owned, Fits}}
-use Rattle.napi_word.specs.Rule.{Kept, Starts, Holding}
-use Rattle.napi_model.specs.History.{LegalHistory, IsLegalFor, state_after, own}
+use Rattle.napi_word.proofs.{Owns.{own_mine, own_other, own_rest, begins_self, begins_more}, Deliveries.{prefix_self, has_others}}
+use Rattle.napi_word.{proofs.Deliveries.{givers_snoc, More, some_is}, specs.{Events.Steps, Slot.{Content, has_at, is_out, is_given}}}
+use Rattle.napi_word.specs.{Slot.one_if, View.{View, is_pass, number_of, controller_of, mine, ring_of, state_in, place_in, disable_in}}
+use Rattle.napi_word.specs.{View.busy_in, declared.view.{Strand.Strand, Key.Key, Delivery.Delivery}, Rule.{first_view, Home, Homes, Owned}}
+use Rattle.{napi_word.specs.Rule.{Fits, Kept, Starts, Holding}, napi_model.specs.History.{LegalHistory, IsLegalFor, state_after, own}}
 use Rattle.napi_model.specs.{Laws.{IsSound, ThreadsIsHanded, IsControlled, is_owner, stand_of}, Step.{event, opening, seen_of, after}}
 use Rattle.napi_model.specs.{declared.{state.{State.State as Napi, Place.Place}, event.{Event.Event, Operation.Operation}}, Word.word_of}
-use Rattle.napi_model.proofs.Owners.{sound_after, opens_sound, ownership_kept, owner_kept, disable_kept, threads_after}
-use Rattle.napi_model.proofs.Owners.{opens_unthreaded, controlled_after, opens_controlled}
-use Rattle.napi_model.proofs.Histories.{state_after-snoc, state_after-append, legal_snoc, legal_front, legal_back}
-use Rattle.std.proofs.Common.{◌≡◌, ◌≢◌, ℕ, zero, suc, List, [], ◌∷◌}
-use Rattle.std.proofs.Common.{◌++◌, get_or, set, Option, Some, None, Bool, true, false, is_some, unwrap_or, refl, sym, ap, ◌∙◌, subst}
-use Rattle.{std.proofs.Common.{⊎_elim, arith, true≢false}, atomic_table.{proofs.Lists.{at_set, set_again}, specs.Table.State}}
+use Rattle.napi_model.proofs.Owners.{sound_after, opens_sound, ownership_kept, owner_kept, disable_kept, threads_after, opens_unthreaded}
+use Rattle.napi_model.proofs.{Owners.{controlled_after, opens_controlled}, Histories.{state_after-snoc, state_after-append, legal_snoc}}
+use Rattle.{napi_model.proofs.Histories.{legal_front, legal_back}, std.proofs.Common.{◌≡◌, ◌≢◌, ℕ, zero, suc, List, [], ◌∷◌, ◌++◌, get_or}}
+use Rattle.std.proofs.Common.{set, Option, Some, None, Bool, true, false, is_some, unwrap_or, refl, sym, ap, ◌∙◌, subst, ⊎_elim, arith}
+use Rattle.{std.proofs.Common.true≢false, atomic_table.{proofs.Lists.{at_set, set_again}, specs.Table.State}}
 use lib.ListN.{get_elem?}
 use mathlib.Core.Option as maybe
 

@@ -1,18 +1,12 @@
 -- What a pass knows by its last event.
-use Rattle.std.proofs.Common.{eq-eqb, ◌≡◌, ℕ, List, [], ◌∷◌, Bool, true, false, ◌||◌, refl, sym, ap, ◌∙◌, subst, true≢false}
-use Rattle.napi_model.specs.declared.state.{State.State as Napi, Seen.Seen, Kind.Kind, Place.TheVariants.Granted}
-use Rattle.napi_model.specs.declared.state.Place.TheVariants.{Polling}
-use Rattle.napi_model.specs.declared.event.{Done.TheVariants.{Again, Held}, Event.Event}
-use Rattle.napi_model.specs.declared.event.Operation.{Operation, TheVariants.{Look, Schedule, Take, Complete}}
-use Rattle.napi_model.specs.Step.{event, opening, after_by, place_of}
-use Rattle.napi_model.specs.{History.{LegalHistory, IsLegalFor, state_after}, Laws.{is_owner, IsPolled}}
+use Rattle.std.proofs.Common.{eq-eqb, ◌≡◌, ℕ, List, [], ◌∷◌, Bool, true, false, refl, sym, ap, ◌∙◌, subst}
+use Rattle.napi_model.specs.declared.state.{State.State as Napi, Seen.Seen, Kind.Kind, Place.TheVariants.{Granted, Polling}}
+use Rattle.napi_model.specs.declared.event.{Done.TheVariants.{Again, Held}, Event.Event, Operation.{Operation, TheVariants.Look}}
+use Rattle.napi_model.specs.{declared.event.{Operation.TheVariants.{Schedule, Take, Complete}, Prep.Prep}, Step.{event, opening, after_by}}
+use Rattle.napi_model.specs.{Step.place_of, History.{LegalHistory, IsLegalFor, state_after}, Laws.{is_owner, IsPolled}}
 use Rattle.napi_model.proofs.{Histories.{legal_front, legal_back, state_after-snoc}, Owners.{busy_after, opens_sound, opens_unbusy}}
 use Rattle.napi_word.specs.{View.{View, number_of, controller_of, state_at, state_in, place_in, disable_in}, Events.Steps, Told.done_of}
-use Rattle.{napi_word.{specs.Passes.{HasController, HasPoll}, proofs.Places.is_false}, napi_model.specs.declared.event.Prep.Prep}
-
-pub either_not : (a b : Bool) → (a || b) ≡ false → (a ≡ false) × (b ≡ false)
-either_not true b e = absurd (true≢false e)
-either_not false b e = (refl, e)
+use Rattle.napi_word.{specs.Passes.{HasController, HasPoll}, proofs.Places.is_false}
 
 -- IN_BUSY_POLL stands at a Polling alone
 pub unbusy : (k : ℕ) (h : List Event) → LegalHistory k (opening k) h → ¬ IsPolled (state_after (opening k) h).place

@@ -1,9 +1,8 @@
 -- What a pass that took in a note shows after its next step.
-use Rattle.std.proofs.Common.{◌≡◌, List, [], ◌∷◌, length, true, refl, sym, subst, true≢false}
-use Rattle.atomic_table.proofs.Lists.{at_longer, at_last}
-use Rattle.napi_model.specs.{declared.event.{Event.Event, Operation.Operation}, Step.event}
-use Rattle.napi_word.specs.{View.{View, is_pass, number_of, shown}, Rule.{note, note_of, joined}, Events.Steps}
-use Rattle.{napi_word.{specs.Slot.{Content, Carried, stays, Delivers}, proofs.Owns.begins_more}, atomic_table.specs.Table.Me}
+use Rattle.{std.proofs.Common.{◌≡◌, List, [], ◌∷◌, length, true, refl, sym, subst, true≢false}, atomic_table.proofs.Lists.at_longer}
+use Rattle.{atomic_table.{proofs.Lists.at_last, specs.Table.Me}, napi_model.specs.declared.event.{Event.Event, Operation.Operation}}
+use Rattle.{napi_model.specs.Step.event, napi_word.specs.{View.{View, is_pass, number_of, shown}, Rule.{note, note_of, joined}}}
+use Rattle.napi_word.{specs.{Events.Steps, Slot.{Content, Carried, stays, Delivers}}, proofs.Owns.begins_more}
 use mathlib.Core.List.{IsPrefix}
 
 -- a step of a pass that took in another is a step of the pass

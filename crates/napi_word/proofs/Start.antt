@@ -1,15 +1,13 @@
 -- The table is made, and its first seat takes the slot.
 use Rattle.std.proofs.Common.{◌≡◌, ◌⊎◌, ℕ, zero, suc, ◌+◌, ◌-◌, ◌<◌, ◌≤◌, List, [], ◌∷◌, ◌++◌, length, get_or, set, slice_get, Some, None}
 use Rattle.std.proofs.Common.{Bool, true, false, cond, eqb, eq-eqb, ne_eqb, unwrap_or, refl, sym, ap, ◌∙◌, subst, inl, inr, ⊎_elim, arith}
-use Rattle.std.proofs.Common.{true≢false}
-use Rattle.{atomic_table.specs.Table.{Me, opening, takes, Allows}, rx_ring.specs.declared.ends.RxCtx.RxCtx}
-use Rattle.{napi_model.specs.{Step.seen_of, History.{LegalHistory, state_after}, Word.word_of}, napi_word.specs.declared.view.Key.Key}
-use Rattle.napi_word.specs.{declared.view.{Strand.Strand, Holds.TheVariants.Within}, View.{View, number_of, place_in, disable_in}}
-use Rattle.{napi_word.specs.Slot.{Content, is_out, owns_slot}, napi_model.specs.declared.state.Place.TheVariants.Control}
-use Rattle.napi_word.specs.Rule.{strand, strands_from, maker_at, first_view, begun_view, begun_slot, Homes, Owned, Fits, Kept, Starts}
-use Rattle.napi_word.specs.{Rule.Holding, Told.begun, declared.table.{Pass.Pass, StateTable.StateTable}}
-use Rattle.napi_word.specs.Passes.{ctx_of, IsLaid, view_of, IsPassOf, IsNew, Controls, Disable}
-use Rattle.napi_word.proofs.{Owns.own_none, Deliveries.{own_deliveries_none, givers_none, some_is}}
+use Rattle.{std.proofs.Common.true≢false, atomic_table.specs.Table.{Me, opening, takes, Allows}, rx_ring.specs.declared.ends.RxCtx.RxCtx}
+use Rattle.napi_model.specs.{Step.seen_of, History.{LegalHistory, state_after}, Word.word_of, declared.state.Place.TheVariants.Control}
+use Rattle.napi_word.specs.declared.{view.{Key.Key, Strand.Strand, Holds.TheVariants.Within}, table.{Pass.Pass, StateTable.StateTable}}
+use Rattle.napi_word.specs.{View.{View, number_of, place_in, disable_in}, Slot.{Content, is_out, owns_slot}, Rule.{strand, strands_from}}
+use Rattle.napi_word.specs.{Rule.{maker_at, first_view, begun_view, begun_slot, Homes, Owned, Fits, Kept, Starts, Holding}, Told.begun}
+use Rattle.napi_word.{specs.Passes.{ctx_of, IsLaid, view_of, IsPassOf, IsNew, Controls, Disable}, proofs.Owns.own_none}
+use Rattle.napi_word.proofs.Deliveries.{own_deliveries_none, givers_none, some_is}
 use lib.ListN.{get_elem?}
 use mathlib.Core.Option as maybe
 use Rattle.napi_model.specs.Step as model

@@ -1,23 +1,19 @@
 -- Each kind of step, at each state that the view of its pass allows.
-use Rattle.napi_model.specs.Step.{event, seen_of, seen_after, after_by, handed_at, place_of, MayHand, IsControl}
-use Rattle.napi_model.specs.{Laws.{is_owner, IsHandedOrPolled}, History.IsLegalFor, Word.word_of, declared.event.Operation.Operation}
+use Rattle.napi_model.specs.{Step.{event, seen_of, seen_after, after_by, handed_at, place_of, MayHand, IsControl}, Laws.is_owner}
+use Rattle.napi_model.specs.{Laws.IsHandedOrPolled, History.IsLegalFor, Word.word_of, declared.event.Operation.Operation}
 use Rattle.napi_model.specs.declared.event.Operation.TheVariants.{Look, Schedule, Hand, Take, Complete, BusyTake, BusyStop, MarkDisable}
 use Rattle.napi_model.specs.declared.event.{Operation.TheVariants.{TakeDisable, Unmark, Enable, SetThreaded}, Done.TheVariants.Held}
-use Rattle.napi_model.specs.declared.{state.State.State as Napi}
-use Rattle.napi_model.specs.declared.state.{Kind.Kind, Seen.Seen, Place.{TheVariants.{Granted, Listed, ToThread, Polling, Control}, Place}}
-use Rattle.{napi_model.proofs.{Words.word_of-injective, Tells.tells_next}, atomic_table.specs.Table.Me}
-use Rattle.napi_word.proofs.{Places.is_false, Keeps.Knows}
+use Rattle.napi_model.specs.declared.state.{State.State as Napi, Kind.Kind, Seen.Seen, Place.TheVariants.{Granted, Listed, ToThread}}
+use Rattle.napi_model.{specs.declared.state.Place.{TheVariants.{Polling, Control}, Place}, proofs.Words.word_of-injective}
+use Rattle.{napi_model.proofs.Tells.tells_next, atomic_table.specs.Table.Me, napi_word.proofs.{Places.is_false, Keeps.Knows}}
 use Rattle.napi_word.proofs.Bits.{hand_bits, take_mask, added, subtracted, hand_list, hand_thread, take_word, threaded_word}
 use Rattle.napi_word.proofs.{Bits.{unthreaded_word, mark_word, unmark_word}, Allowed.{nothing, Fitting, Turn, allowed}}
-use Rattle.napi_word.specs.declared.{view.Holds.Holds, table.{Pass.Pass, StateTable.StateTable}}
-use Rattle.napi_word.specs.Slot.{Content, has_at, is_out, owns_slot, Tied, Moves, stays, taken, given, Gives, Delivers}
-use Rattle.napi_word.specs.Passes.{tie_of, IsWithin, HandsOver, HasPoll}
-use Rattle.napi_word.specs.{Passes.{Polls, IsController, Controls, IsNoOwner, Disable}, Atoms.{MayMake, MayExchange}}
-use Rattle.napi_word.specs.Told.{Did, when, either_op, no_move, load_op, prep_of, done_of, is_marked, is_busy, busy_op}
-use Rattle.napi_word.specs.View.{View, number_of}
-use Rattle.napi_word.specs.View.{controller_of, place_in}
-use Rattle.std.proofs.Common.{◌≡◌, ◌⊎◌, ◌||◌, ℕ, eqb, eq-eqb, None, Bool, true, false, refl, sym, ap, ◌∙◌, subst, inl, inr, ⊎_elim}
-use Rattle.std.proofs.{Common.{true≢false, bit_and, bit_or}, lemmas.Bool.eqb-true}
+use Rattle.napi_word.specs.{declared.{view.Holds.Holds, table.{Pass.Pass, StateTable.StateTable}}, Slot.{Content, has_at, is_out}}
+use Rattle.napi_word.specs.{Slot.{owns_slot, Tied, Moves, stays, taken, given, Gives, Delivers}, Passes.{tie_of, IsWithin, HandsOver}}
+use Rattle.napi_word.specs.{Passes.{HasPoll, Polls, IsController, Controls, IsNoOwner, Disable}, Atoms.{MayMake, MayExchange}, Told.Did}
+use Rattle.napi_word.specs.{Told.{when, either_op, no_move, load_op, prep_of, done_of, is_marked, is_busy, busy_op}, View.{View, number_of}}
+use Rattle.{napi_word.specs.View.{controller_of, place_in}, std.proofs.Common.{◌≡◌, ◌⊎◌, ℕ, eqb, eq-eqb, None, Bool, true, false}}
+use Rattle.std.proofs.{Common.{refl, sym, ap, ◌∙◌, subst, inl, inr, ⊎_elim, true≢false, bit_and, bit_or}, lemmas.Bool.{eqb-true, or_cases}}
 use prog.Atomic.{either}
 use Rattle.napi_model.specs.Step as step
 
@@ -40,10 +36,6 @@ take_said k now b is = take_word k (seen_of now) ∙ ap (λ (v : Bool). word_of 
 home_at : (k : Kind) → is_out (place_of k) ≡ false
 home_at Kind.List = refl
 home_at Kind.Thread = refl
-
-or_is : (a b : Bool) → (a || b) ≡ true → (a ≡ true) ⊎ (b ≡ true)
-or_is true b e = inl refl
-or_is false b e = inr e
 
 control_is : (p : Place) → IsControl p → (d : ℕ) × (p ≡ Control d)
 control_is (Control c) h = (c, refl)
@@ -114,7 +106,7 @@ module _ (t : StateTable) (p : Pass) where
   ask_turn : (now : Napi) (c : ℕ) → c ≡ last → now.flags.disable ≡ true → (b : Bool) → is_busy (seen_of now) ≡ b
       → Turn last now c (busy_op b (seen_of now)) stays (λ n. n)
   ask_turn now c top off true is =
-      record { legal = ((off, or_is now.flags.sched now.flags.npsvc is), top); word = refl; slot = (refl, refl) }
+      record { legal = ((off, or_cases now.flags.sched now.flags.npsvc is), top); word = refl; slot = (refl, refl) }
   ask_turn now c top off false is = record { legal = (refl, tt); word = refl; slot = (refl, refl) }
 
   pub asks : IsController p → Disable true p → MayMake t p.seat (λ n. n) (λ x. busy_op (is_busy x) x) no_move

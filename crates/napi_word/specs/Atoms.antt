@@ -1,18 +1,9 @@
 -- When an atomic step may be made: at every state of the table that the seat's view allows, it is a legal step, and what it
 -- makes of the word is the word of the state after.
-use Rattle.std.specs.Prelude.{ℕ, ◌==◌}
+use Rattle.{std.specs.Prelude.{ℕ, ◌==◌}, atomic_table.specs.{Table.Allows, declared.shared.Seat.Seat}}
+use Rattle.napi_model.specs.{declared.{state.Seen.Seen, event.Operation.Operation}, Step.seen_after, Word.word_of}
+use Rattle.napi_word.specs.{declared.table.StateTable.StateTable, View.View, Slot.{Content, Moves}, Rule.Holding, Told.{told, exchanged}}
 use prog.Atomic.{either}
-use Rattle.atomic_table.specs.Table.{Allows}
-use Rattle.atomic_table.specs.declared.shared.Seat.{Seat}
-use Rattle.napi_model.specs.declared.state.Seen.{Seen}
-use Rattle.napi_model.specs.declared.event.Operation.{Operation}
-use Rattle.napi_model.specs.Step.{seen_after}
-use Rattle.napi_model.specs.Word.{word_of}
-use Rattle.napi_word.specs.declared.table.StateTable.{StateTable}
-use Rattle.napi_word.specs.View.{View}
-use Rattle.napi_word.specs.Slot.{Content, Moves}
-use Rattle.napi_word.specs.Rule.{Holding}
-use Rattle.napi_word.specs.Told.{told, exchanged}
 
 -- a step that makes g of the word
 abbrev pub MayMake : StateTable → Seat Content View → (ℕ → ℕ) → (Seen → Operation) → (Seen → Moves) → Type 0

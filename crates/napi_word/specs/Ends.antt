@@ -1,24 +1,12 @@
 -- A table that has ended: the one history, read off.
 use Rattle.std.specs.Prelude.{◌≡◌, ◌↔◌, ℕ, ◌<◌, ◌≤◌, ◌+◌, Bool, true, false, List, length, slice_get, Option, Some, None, ◌≢◌, [], ◌∷◌}
-use Rattle.std.specs.Prelude.{◌++◌}
+use Rattle.{std.specs.Prelude.◌++◌, rx_ring.specs.{declared.ends.RxCtx.RxCtx, Ends.{RingName, ring_name, received_list, SameCtx}}}
+use Rattle.napi_model.specs.{declared.event.Event.Event, Step.opening, History.{LegalHistory, state_after, own}, Laws.is_owner}
+use Rattle.napi_word.specs.declared.{view.{Holds.{Holds, TheVariants.{Nothing, Within, Out}}, Delivery.Delivery}, gathering.Found.Found}
+use Rattle.napi_word.specs.{declared.{gathering.Gathering.Gathering, table.{Pass.Pass, StateTable.StateTable}}, View.{View, first_in}}
+use Rattle.napi_word.specs.View.{delivered, own_deliveries, received_by, last_of, deliverers, ring_of, place_in, controller_of, shown, mine}
+use Rattle.napi_word.specs.{View.number_of, Slot.givers, Passes.{view_of, controller_of_table, ring_of_table, first_of_table}}
 use mathlib.Core.List.{IsPrefix}
-use Rattle.rx_ring.specs.declared.ends.RxCtx.{RxCtx}
-use Rattle.rx_ring.specs.Ends.{RingName, ring_name, received_list, SameCtx}
-use Rattle.napi_model.specs.declared.event.Event.{Event}
-use Rattle.napi_model.specs.Step.{opening}
-use Rattle.napi_model.specs.History.{LegalHistory, state_after, own}
-use Rattle.napi_model.specs.Laws.{is_owner}
-use Rattle.napi_word.specs.declared.view.Holds.{Holds}
-use Rattle.napi_word.specs.declared.view.Holds.TheVariants.{Nothing, Within, Out}
-use Rattle.napi_word.specs.declared.gathering.Found.{Found}
-use Rattle.napi_word.specs.declared.gathering.Gathering.{Gathering}
-use Rattle.napi_word.specs.declared.table.Pass.{Pass}
-use Rattle.napi_word.specs.declared.table.StateTable.{StateTable}
-use Rattle.napi_word.specs.declared.view.Delivery.{Delivery}
-use Rattle.napi_word.specs.View.{View, first_in, delivered, own_deliveries, received_by, last_of, deliverers, ring_of, place_in}
-use Rattle.napi_word.specs.View.{controller_of, shown, mine, number_of}
-use Rattle.napi_word.specs.Slot.{givers}
-use Rattle.napi_word.specs.Passes.{view_of, controller_of_table, ring_of_table, first_of_table}
 
 -- what a pass that held this adds to what was found
 abbrev pub Finds : Holds → Option RingName → Found → Found → Type 0

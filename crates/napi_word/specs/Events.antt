@@ -1,20 +1,13 @@
 -- The contract of every step: one event more.
 use Rattle.std.specs.Prelude.{◌≡◌, ℕ, Bool, true, false, List, [], ◌∷◌, ◌++◌, Option, Some, None, Result, Ok, Err}
-use mathlib.Core.Option as maybe
+use Rattle.napi_model.specs.declared.{state.Seen.Seen, event.{Prep.Prep, Done.Done, Operation.{Operation, TheVariants.{Look, Schedule}}}}
+use Rattle.napi_model.specs.{declared.event.{Operation.TheVariants.{Complete, TakeDisable}, Event.Event}, Step.{event, opening}}
+use Rattle.{napi_model.specs.{History.{LegalHistory, own}, Laws.is_owner}, napi_word.specs.{declared.view.Strand.Strand, View.View}}
+use Rattle.napi_word.specs.View.{is_pass, shown, mine, number_of, controller_of, ring_of, state_at, place_in, disable_in, busy_in}
 use mathlib.Core.List.{IsPrefix}
 use lib.ListN.{get_elem?}
-use Rattle.napi_model.specs.declared.state.Seen.{Seen}
-use Rattle.napi_model.specs.declared.event.Prep.{Prep}
+use mathlib.Core.Option as maybe
 use Rattle.napi_model.specs.declared.event.Prep.TheVariants as prep
-use Rattle.napi_model.specs.declared.event.Done.{Done}
-use Rattle.napi_model.specs.declared.event.Operation.{Operation}
-use Rattle.napi_model.specs.declared.event.Operation.TheVariants.{Look, Schedule, Complete, TakeDisable}
-use Rattle.napi_model.specs.declared.event.Event.{Event}
-use Rattle.napi_model.specs.Step.{event, opening}
-use Rattle.napi_model.specs.History.{LegalHistory, own}
-use Rattle.napi_model.specs.Laws.{is_owner}
-use Rattle.napi_word.specs.declared.view.Strand.{Strand}
-use Rattle.napi_word.specs.View.{View, is_pass, shown, mine, number_of, controller_of, ring_of, state_at, place_in, disable_in, busy_in}
 
 -- the pass made its event, behind all that had happened until then
 pub record Steps (v : View) (o : Operation) (w : View) : Type 0 where

@@ -1,20 +1,12 @@
 -- Passes to a table, and what a step makes of one.
 use Rattle.std.specs.Prelude.{◌≡◌, ◌≢◌, ℕ, ◌<◌, Bool, true, false, List, [], ◌∷◌, Option, Some}
-use Rattle.rx_ring.specs.declared.packet.Packet.{Packet}
-use Rattle.rx_ring.specs.declared.ends.RxCtx.{RxCtx}
-use Rattle.rx_ring.specs.Ends.{RingName, ring_name, SameCtx, received_list, known_list, polls_of, is_beside}
-use Rattle.napi_model.specs.declared.state.Kind.{Kind}
-use Rattle.napi_model.specs.declared.state.Place.TheVariants.{Control}
-use Rattle.napi_model.specs.declared.event.Operation.{Operation}
+use Rattle.rx_ring.specs.{declared.{packet.Packet.Packet, ends.RxCtx.RxCtx}, Ends.{RingName, ring_name, SameCtx, received_list, known_list}}
+use Rattle.{rx_ring.specs.Ends.{polls_of, is_beside}, napi_model.specs.declared.state.{Kind.Kind, Place.TheVariants.Control}}
+use Rattle.{napi_model.specs.{declared.event.Operation.Operation, Laws.is_owner}, napi_word.specs.declared.view.Holds.TheVariants.Nothing}
+use Rattle.napi_word.specs.{declared.{view.Holds.TheVariants.{Within, Out}, table.{Pass.Pass, StateTable.StateTable}}, View.View}
+use Rattle.napi_word.specs.{View.{number_of, controller_of, state_in, place_in, disable_in, ring_of}, Slot.{Tied, Moves, moved, owns_slot}}
+use Rattle.napi_word.specs.{Slot.{ctx_in, carried_received, Delivers}, Rule.strand, Events.Steps}
 use Rattle.napi_model.specs.Step as step
-use Rattle.napi_model.specs.Laws.{is_owner}
-use Rattle.napi_word.specs.declared.view.Holds.TheVariants.{Nothing, Within, Out}
-use Rattle.napi_word.specs.declared.table.Pass.{Pass}
-use Rattle.napi_word.specs.declared.table.StateTable.{StateTable}
-use Rattle.napi_word.specs.View.{View, number_of, controller_of, state_in, place_in, disable_in, ring_of}
-use Rattle.napi_word.specs.Slot.{Tied, Moves, moved, owns_slot, ctx_in, carried_received, Delivers}
-use Rattle.napi_word.specs.Rule.{strand}
-use Rattle.napi_word.specs.Events.{Steps}
 
 abbrev pub view_of : Pass → View
 view_of p = p.seat.me.0

@@ -1,21 +1,13 @@
 -- The one rule of a table: there is one legal history, whose state the word tells, of which each number's events are one
 -- seat's own list, and of which every list shown is a beginning.
 use Rattle.std.specs.Prelude.{◌≡◌, ◌⊎◌, ℕ, zero, suc, ◌+◌, ◌-◌, ◌<◌, ◌≤◌, true, false, List, [], ◌∷◌, ◌++◌, Some, None}
-use mathlib.Core.Option as maybe
+use Rattle.{atomic_table.specs.Table.State, rx_ring.specs.{declared.ends.RxCtx.RxCtx, Ends.{ring_name, is_beside, received_list}}}
+use Rattle.napi_model.specs.{declared.event.Event.Event, Step.{opening, seen_of}, History.{LegalHistory, state_after, own}, Word.word_of}
+use Rattle.napi_word.specs.{declared.view.{Key.Key, Strand.Strand, Delivery.Delivery}, View.{View, own_deliveries, received_by, last_of}}
+use Rattle.napi_word.specs.{View.deliverers, Slot.{Content, Carried, has_at, is_out, givers}}
 use mathlib.Core.List.{IsPrefix}
 use lib.ListN.{get_elem?}
-use Rattle.atomic_table.specs.Table.{State}
-use Rattle.rx_ring.specs.declared.ends.RxCtx.{RxCtx}
-use Rattle.rx_ring.specs.Ends.{ring_name, is_beside, received_list}
-use Rattle.napi_model.specs.declared.event.Event.{Event}
-use Rattle.napi_model.specs.Step.{opening, seen_of}
-use Rattle.napi_model.specs.History.{LegalHistory, state_after, own}
-use Rattle.napi_model.specs.Word.{word_of}
-use Rattle.napi_word.specs.declared.view.Key.{Key}
-use Rattle.napi_word.specs.declared.view.Strand.{Strand}
-use Rattle.napi_word.specs.declared.view.Delivery.{Delivery}
-use Rattle.napi_word.specs.View.{View, own_deliveries, received_by, last_of, deliverers}
-use Rattle.napi_word.specs.Slot.{Content, Carried, has_at, is_out, givers}
+use mathlib.Core.Option as maybe
 
 -- what is in the slot while no seat holds it
 abbrev pub Homes : Type 0

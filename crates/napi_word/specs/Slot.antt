@@ -1,23 +1,14 @@
 -- The slot of the poll context: who has it, and what a seat holds of it.
 use Rattle.std.specs.Prelude.{◌≡◌, ℕ, zero, Bool, true, false, not, ◌&&◌, nat_eq, List, [], ◌∷◌, ◌++◌, Option, Some, None}
-use mathlib.Core.Option as maybe
+use Rattle.{atomic_table.specs.Table.Me, rx_ring.specs.{declared.{packet.Packet.Packet, ends.RxCtx.RxCtx}, Ends.{RingName, ring_name}}}
+use Rattle.{rx_ring.specs.Ends.{is_beside, received_list}, napi_model.specs.declared.state.Place.{Place, TheVariants.{Nobody, Granted}}}
+use Rattle.napi_model.specs.declared.{state.{Place.TheVariants.{Listed, ToThread, Polling, Control}, State.State}, event.Event.Event}
+use Rattle.{napi_model.specs.Step.after, napi_word.specs.declared.view.{Holds.{Holds, TheVariants.{Nothing, Within, Out}}, Strand.Strand}}
+use Rattle.napi_word.specs.{declared.view.Delivery.Delivery, View.{View, number_of, place_in, ring_of, delivery, own_deliveries, delivered}}
+use Rattle.napi_word.specs.View.{received_in, last_in, first_in, Continues}
 use mathlib.Core.List.{IsPrefix}
 use lib.ListN.{get_elem?}
-use Rattle.atomic_table.specs.Table.{Me}
-use Rattle.rx_ring.specs.declared.packet.Packet.{Packet}
-use Rattle.rx_ring.specs.declared.ends.RxCtx.{RxCtx}
-use Rattle.rx_ring.specs.Ends.{RingName, ring_name, is_beside, received_list}
-use Rattle.napi_model.specs.declared.state.Place.{Place}
-use Rattle.napi_model.specs.declared.state.State.{State}
-use Rattle.napi_model.specs.declared.event.Event.{Event}
-use Rattle.napi_model.specs.Step.{after}
-use Rattle.napi_model.specs.declared.state.Place.TheVariants.{Nobody, Granted, Listed, ToThread, Polling, Control}
-use Rattle.napi_word.specs.declared.view.Holds.{Holds}
-use Rattle.napi_word.specs.declared.view.Holds.TheVariants.{Nothing, Within, Out}
-use Rattle.napi_word.specs.declared.view.Strand.{Strand}
-use Rattle.napi_word.specs.declared.view.Delivery.{Delivery}
-use Rattle.napi_word.specs.View.{View, number_of, place_in, ring_of, delivery, own_deliveries, delivered, received_in, last_in, first_in}
-use Rattle.napi_word.specs.View.{Continues}
+use mathlib.Core.Option as maybe
 
 -- whoever polls or controls has the slot
 abbrev pub has_at : ℕ → Place → Bool

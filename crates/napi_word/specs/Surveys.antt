@@ -1,25 +1,15 @@
 -- A survey: all passes of a table meet at once, and one of them looks. Then each shows the whole history and all deliveries.
-use Rattle.std.specs.Prelude.{◌≡◌, ℕ, ◌<◌, true, List, [], ◌∷◌, ◌++◌, slice_get, Some}
-use mathlib.Core.Option as maybe
+use Rattle.{std.specs.Prelude.{◌≡◌, ℕ, ◌<◌, true, List, [], ◌∷◌, ◌++◌, slice_get, Some}, atomic_table.specs.Table.Me}
+use Rattle.{rx_ring.specs.declared.ends.RxCtx.RxCtx, napi_model.specs.declared.{state.Seen.Seen, event.Event.Event}}
+use Rattle.napi_model.specs.{declared.event.Operation.TheVariants.Look, Step.{event, opening, seen_of}, Word.word_of, History.LegalHistory}
+use Rattle.{napi_model.specs.{History.{state_after, own}, Laws.is_owner}, napi_word.specs.declared.view.{Strand.Strand, Delivery.Delivery}}
+use Rattle.napi_word.specs.{declared.table.Pass.Pass, View.{View, is_pass, number_of, controller_of, first_in, own_deliveries, deliverers}}
+use Rattle.napi_word.specs.{View.{place_in, busy_in, disable_in, state_at}, Slot.{Content, givers, has_at, owns_slot}, Passes.view_of}
+use Rattle.napi_word.specs.Passes.{SameTable}
 use mathlib.Core.List.{IsPrefix}
 use lib.ListN.{get_elem?}
-use Rattle.atomic_table.specs.Table.{Me}
-use Rattle.rx_ring.specs.declared.ends.RxCtx.{RxCtx}
-use Rattle.napi_model.specs.declared.state.Seen.{Seen}
-use Rattle.napi_model.specs.declared.event.Event.{Event}
-use Rattle.napi_model.specs.declared.event.Operation.TheVariants.{Look}
-use Rattle.napi_model.specs.Step.{event, opening, seen_of}
-use Rattle.napi_model.specs.Word.{word_of}
-use Rattle.napi_model.specs.History.{LegalHistory, state_after, own}
-use Rattle.napi_model.specs.Laws.{is_owner}
-use Rattle.napi_word.specs.declared.view.Strand.{Strand}
-use Rattle.napi_word.specs.declared.view.Delivery.{Delivery}
-use Rattle.napi_word.specs.declared.table.Pass.{Pass}
+use mathlib.Core.Option as maybe
 use Rattle.napi_word.specs.View as view
-use Rattle.napi_word.specs.View.{View, is_pass, number_of, controller_of, first_in, own_deliveries, deliverers, place_in, busy_in}
-use Rattle.napi_word.specs.View.{disable_in, state_at}
-use Rattle.napi_word.specs.Slot.{Content, givers, has_at, owns_slot}
-use Rattle.napi_word.specs.Passes.{view_of, SameTable}
 
 -- the whole history, and all deliveries, where the controller has this number
 pub record IsWhole (k : ℕ) (h : List Event) (ds : List Delivery) : Type 0 where

@@ -1,21 +1,11 @@
 -- What each step's operation and its move of the slot are, told by the word that it finds.
-use Rattle.std.specs.Prelude.{◌≡◌, ℕ, ◌==◌, Bool, true, false, ◌||◌, [], Option, Some, None}
-use Rattle.atomic_table.specs.Table.{Me}
-use Rattle.napi_model.specs.declared.state.Kind.{Kind}
+use Rattle.{std.specs.Prelude.{◌≡◌, ℕ, ◌==◌, Bool, true, false, ◌||◌, [], Option, Some, None}, atomic_table.specs.Table.Me}
+use Rattle.napi_model.specs.declared.{state.{Kind.Kind, Seen.Seen}, event.{Prep.Prep, Done.{Done, TheVariants.{Released, Again}}}}
+use Rattle.napi_model.specs.{declared.event.Operation.{Operation, TheVariants.{Look, Schedule, TakeDisable}}, Word.word_of}
+use Rattle.napi_word.specs.{declared.view.Holds.Holds, View.View, Slot.{Content, Tied, Moves, stays, moved, Delivers}, Rule.begun_view}
+use Rattle.napi_word.specs.{Rule.begun_slot, Events.Steps}
 use Rattle.napi_model.specs.declared.state.Kind.TheVariants as kind
-use Rattle.napi_model.specs.declared.state.Seen.{Seen}
-use Rattle.napi_model.specs.declared.event.Prep.{Prep}
 use Rattle.napi_model.specs.declared.event.Prep.TheVariants as prep
-use Rattle.napi_model.specs.declared.event.Done.{Done}
-use Rattle.napi_model.specs.declared.event.Done.TheVariants.{Released, Again}
-use Rattle.napi_model.specs.declared.event.Operation.{Operation}
-use Rattle.napi_model.specs.declared.event.Operation.TheVariants.{Look, Schedule, TakeDisable}
-use Rattle.napi_model.specs.Word.{word_of}
-use Rattle.napi_word.specs.declared.view.Holds.{Holds}
-use Rattle.napi_word.specs.View.{View}
-use Rattle.napi_word.specs.Slot.{Content, Tied, Moves, stays, moved, Delivers}
-use Rattle.napi_word.specs.Rule.{begun_view, begun_slot}
-use Rattle.napi_word.specs.Events.{Steps}
 
 -- the seat did this operation, and what it holds moved so
 abbrev pub Did : Operation → Moves → Me Content View → Me Content View → Type 0

@@ -1,16 +1,8 @@
 -- What a thread knows of an instance, and what a contract sees of it.
 use Rattle.std.specs.Prelude.{ℕ, nat_eq, Bool, false, is_some, unwrap_or, List, [], ◌∷◌, ◌++◌, filter, length, drop, ◌≡◌, Option, Some}
-use Rattle.std.specs.Prelude.{None}
-use Rattle.rx_ring.specs.declared.packet.Packet.{Packet}
-use Rattle.rx_ring.specs.declared.ends.RxCtx.{RxCtx}
-use Rattle.rx_ring.specs.Ends.{RingName, ring_name, received_list}
-use Rattle.napi_model.specs.declared.state.Place.{Place}
-use Rattle.napi_model.specs.declared.state.State.{State}
-use Rattle.napi_model.specs.declared.event.Event.{Event}
-use Rattle.napi_model.specs.Step.{opening}
-use Rattle.napi_model.specs.History.{state_after}
-use Rattle.napi_word.specs.declared.view.Strand.{Strand}
-use Rattle.napi_word.specs.declared.view.Delivery.{Delivery}
+use Rattle.{std.specs.Prelude.None, rx_ring.specs.{declared.{packet.Packet.Packet, ends.RxCtx.RxCtx}, Ends.{RingName, ring_name}}}
+use Rattle.{rx_ring.specs.Ends.received_list, napi_model.specs.declared.{state.{Place.Place, State.State}, event.Event.Event}}
+use Rattle.{napi_model.specs.{Step.opening, History.state_after}, napi_word.specs.declared.view.{Strand.Strand, Delivery.Delivery}}
 
 -- a pass's own strand comes first; the others are of the seats that it took in
 abbrev pub View : Type 0

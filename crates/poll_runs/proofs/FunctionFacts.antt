@@ -1,14 +1,13 @@
 -- The run as a function is a run, and every run over a list of one thread is that one.
 use Rattle.std.proofs.Common.{◌≡◌, ◌≢◌, ◌∙◌, ◌⊎◌, inl, inr, ℕ, zero, suc, ◌+◌, ◌<◌, ◌≤◌, Bool, true, false, cond, List, [], ◌∷◌, ◌++◌}
 use Rattle.std.proofs.{Common.{length, length-append, drop, refl, sym, ap, subst, arith, append_assoc}, Math.Seq.drop-append_seam}
-use Rattle.std.{specs.Prelude.{◌&&◌, ◌==◌, not, if◌then◌else◌}, proofs.lemmas.Bool.Decides.{eqb_tells, leb_tells}}
-use Rattle.poll_runs.{specs.Plain.{NothingBehind, OwnPushes, all_held}, proofs.PlainFacts.{IsPlainBatch, handed-most, runs-agree}}
-use Rattle.{std.proofs.lemmas.List.append-nil, poll_runs.specs.{Laws.{HasOneOutcome, IsPlainRun}, Run.is_spent, Driven.Going, Turn.HandsOn}}
-use Rattle.poll_runs.specs.Function.{IsGivenBy, Progress, RunIsFunction, after_batch, after_poll, from_batch, run_of, run_report}
-use Rattle.poll_runs.specs.Function.{takes_more, IsShownBy, RunIsShown}
-use Rattle.poll_runs.proofs.RunFacts.{going-ends, going-poll, going-spliced, going-start}
-use Rattle.poll_runs.specs.{Polls.{At, Chain, Poll, arrivals, is_arrival, is_repoll, repolled, work_of}, declared.bench.Once.Once}
-use Rattle.poll_runs.proofs.PollFacts.{chain-push, work-push, arrivals-cons, repolled-cons}
+use Rattle.std.{proofs.lemmas.{Bool.Decides.{eqb_tells, leb_tells}, List.append-nil}, specs.Prelude.{◌&&◌, ◌==◌, not, if◌then◌else◌}}
+use Rattle.poll_runs.specs.{Plain.{NothingBehind, OwnPushes, all_held}, Laws.{HasOneOutcome, IsPlainRun}, Run.is_spent, Driven.Going}
+use Rattle.poll_runs.specs.{Turn.HandsOn, Function.{IsGivenBy, Progress, RunIsFunction, after_batch, after_poll, from_batch, run_of}}
+use Rattle.poll_runs.specs.{Function.{run_report, takes_more, IsShownBy, RunIsShown}, Polls.{At, Chain, Poll, arrivals, is_arrival}}
+use Rattle.poll_runs.{specs.{Polls.{is_repoll, repolled, work_of}, declared.bench.Once.Once}, proofs.PlainFacts.{IsPlainBatch, handed-most}}
+use Rattle.poll_runs.proofs.{PlainFacts.runs-agree, RunFacts.{going-ends, going-poll, going-spliced, going-start}, PollFacts.chain-push}
+use Rattle.poll_runs.proofs.PollFacts.{work-push, arrivals-cons, repolled-cons}
 
 -- budget and window are left
 unspent : (budget window : ℕ) (polls : List Poll) → is_spent budget window polls ≡ false

@@ -1,14 +1,12 @@
 -- Runs over a list of one thread: by their polls alone, and that two of them agree.
 use Rattle.std.proofs.Common.{◌≡◌, ◌≢◌, ◌∙◌, ◌⊎◌, inl, inr, ℕ, ◌+◌, ◌<◌, ◌≤◌, Bool, false, cond, List, [], ◌∷◌, ◌++◌, length, length-append}
-use Rattle.std.{proofs.Common.{take, drop, refl, sym, ap, arith, append_assoc}, specs.List.{AllByRecursion, concat}}
-use Rattle.std.proofs.Math.Seq.{drop-append_seam, take-add, take-append_seam}
+use Rattle.std.proofs.{Common.{take, drop, refl, sym, ap, arith, append_assoc}, Math.Seq.{drop-append_seam, take-add, take-append_seam}}
 use Rattle.std.proofs.lemmas.{List.{append-nil, append_cancel_left, drop-drop, take-append-drop, take-append-le, take_all}, Bool.cases_lt}
-use Rattle.poll_runs.specs.Laws.{FollowEachOther, HasOneOutcome, IsPlainRun, NoOtherArrivals, PlainListAfterwards}
-use Rattle.poll_runs.specs.Plain.{NothingBehind, OwnPushes, all_held}
-use Rattle.poll_runs.specs.Polls.{At, Chain, Poll, arrivals, ids, is_arrival, is_repoll, repolled}
-use Rattle.poll_runs.specs.{Run.{AreBatches, IsBatch, is_spent}, declared.bench.Next.Next}
-use Rattle.poll_runs.proofs.PollFacts.{arrivals-append, ids-append, length-ids, taken-le, arrivals-cons, repolled-cons}
+use Rattle.{std.specs.List.{AllByRecursion, concat}, poll_runs.specs.Laws.{FollowEachOther, HasOneOutcome, IsPlainRun, NoOtherArrivals}}
+use Rattle.poll_runs.specs.{Laws.PlainListAfterwards, Plain.{NothingBehind, OwnPushes, all_held}, Polls.{At, Chain, Poll, arrivals, ids}}
+use Rattle.poll_runs.specs.{Polls.{is_arrival, is_repoll, repolled}, Run.{AreBatches, IsBatch, is_spent}, declared.bench.Next.Next}
 use Rattle.poll_runs.specs.declared.{bench.{Next.TheVariants.{Absent, Gone, Again, Repoll}, Once.Once}, run.RunReport.RunReport}
+use Rattle.poll_runs.proofs.PollFacts.{arrivals-append, ids-append, length-ids, taken-le, arrivals-cons, repolled-cons}
 use Rattle.napi_model.specs.declared.state.Kind.{Kind}
 
 -- a batch over a list of one thread

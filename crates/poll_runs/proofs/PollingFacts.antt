@@ -1,14 +1,11 @@
 -- A thread's polling of one instance on its way, and what its polls are.
 use Rattle.std.proofs.Common.{◌≡◌, ◌≢◌, ◌∙◌, ℕ, zero, suc, ◌+◌, ◌-◌, ◌<◌, ◌≤◌, Bool, true, false, List, [], ◌∷◌, ◌++◌, length}
 use Rattle.std.proofs.{Common.{length-append, append_assoc, ap, refl, sym, arith, nat_lt}, Math.Bool.{and-false, and-true}}
-use Rattle.std.specs.{Prelude.{◌==◌, sum_by, Option, MatchBool}, List.AllByRecursion}
-use Rattle.std.proofs.lemmas.{Bool.{eq-eqb, le-ltb, lt-ltb, ltb-true, ne_eqb}, List.Sums.sum_by-append}
-use Rattle.napi_model.specs.declared.state.Kind.{Kind}
-use Rattle.poll_runs.specs.{Polls.is_repoll, Polling.{Ends, Follows, LetsGo, PollsByThread, PollsHeld, goes_on}}
-use Rattle.poll_runs.specs.{Thread.{Continues, IsThreadPolling, is_for_thread, last_next}, declared.bench.Next.Next}
-use Rattle.napi_model.proofs.SeenCases.{and_l}
-use Rattle.poll_runs.specs.declared.bench.{Next.TheVariants.{Absent, Gone, Again, Repoll}, Once.Once, ThreadReport.ThreadReport}
-use Rattle.napi_model.proofs.SeenCases.{and_r}
+use Rattle.std.{proofs.lemmas.{Bool.{and_parts, eq-eqb, le-ltb, lt-ltb, ltb-true, ne_eqb}, List.Sums.sum_by-append}, specs.Prelude.◌==◌}
+use Rattle.{std.specs.{Prelude.{sum_by, Option, MatchBool}, List.AllByRecursion}, napi_model.specs.declared.state.Kind.Kind}
+use Rattle.poll_runs.specs.{Polls.is_repoll, Polling.{Ends, Follows, LetsGo, PollsByThread, PollsHeld, goes_on}, Thread.Continues}
+use Rattle.poll_runs.specs.{Thread.{IsThreadPolling, is_for_thread, last_next}, declared.bench.Next.{Next, TheVariants.{Absent, Gone}}}
+use Rattle.poll_runs.specs.declared.bench.{Next.TheVariants.{Again, Repoll}, Once.Once, ThreadReport.ThreadReport}
 
 last-snoc : (polls : List Once) (once : Once) → last_next (polls ++ once ∷ []) ≡ once.next
 last-snoc (first ∷ second ∷ more) once = last-snoc (second ∷ more) once
@@ -31,10 +28,10 @@ tells-more polls once report t = record {
 }
 
 pub goes-room : (next : Next) (most : ℕ) → goes_on next most ≡ true → 1 < most
-goes-room next most goes = ltb-true 1 most (and_r (is_for_thread next) (nat_lt 1 most) goes)
+goes-room next most goes = ltb-true 1 most (and_parts (is_for_thread next) (nat_lt 1 most) goes).1
 
 pub goes-thread : (next : Next) (most : ℕ) → goes_on next most ≡ true → is_for_thread next ≡ true
-goes-thread next most goes = and_l (is_for_thread next) (nat_lt 1 most) goes
+goes-thread next most goes = (and_parts (is_for_thread next) (nat_lt 1 most) goes).0
 
 no-repoll : (next : Next) → is_repoll next ≡ false → next ≢ Repoll
 no-repoll next h = λ e. let bad : true ≡ false = ap is_repoll (sym e) ∙ h in cc bad

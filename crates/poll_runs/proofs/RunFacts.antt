@@ -1,15 +1,14 @@
 -- A run on its way, and how each turn of the loop carries it on.
 use Rattle.std.proofs.Common.{◌≡◌, ◌≢◌, ◌∙◌, ◌⊎◌, inl, inr, ℕ, ◌+◌, ◌<◌, ◌≤◌, Bool, true, false, cond, List, [], ◌∷◌, ◌++◌, length}
 use Rattle.std.proofs.{Common.{length-append, take, refl, sym, ap, subst, arith, append_assoc}, lemmas.{Bool.lt-leb, List.append-nil}}
-use Rattle.std.proofs.{lemmas.List.{take-append-le, take_all, Folds.concat-append}, Math.Nat.eq-or-lt_of_le}
-use Rattle.{std.specs.{Prelude.{nat_le, ◌||◌, Option, Some, None, MatchOption}, List.{AllByRecursion, concat}}, poll_runs.specs.Polls.Poll}
-use Rattle.poll_runs.specs.{Polls.{arrivals, ids, is_arrival, is_repoll, repolled, work_of}, Run.{AreBatches, IsBatch, IsRun, is_spent}}
-use Rattle.poll_runs.specs.{Driven.{Going, IsGoing, IsOver}, Steps.{Begins, has_spent}, Turn.{HandsOn, Refills, Takes, asked_for}}
-use Rattle.poll_runs.specs.declared.{polling_run.PollingRun.PollingRun, run.RunReport.RunReport}
-use Rattle.poll_runs.specs.declared.bench.Next.{Next, TheVariants.{Absent, Gone, Again, Repoll}}
+use Rattle.std.{proofs.{lemmas.List.{take-append-le, take_all, Folds.concat-append}, Math.Nat.eq-or-lt_of_le}, specs.Prelude.{nat_le, ◌||◌}}
+use Rattle.{std.specs.{Prelude.{Option, Some, None, MatchOption}, List.{AllByRecursion, concat}}, poll_runs.specs.Polls.{Poll, arrivals}}
+use Rattle.poll_runs.specs.{Polls.{ids, is_arrival, is_repoll, repolled, work_of}, Run.{AreBatches, IsBatch, IsRun, is_spent}, Driven.Going}
+use Rattle.poll_runs.specs.{Driven.{IsGoing, IsOver}, Steps.{Begins, has_spent}, Turn.{HandsOn, Refills, Takes, asked_for}}
+use Rattle.poll_runs.specs.declared.{polling_run.PollingRun.PollingRun, run.RunReport.RunReport, bench.Next.{Next, TheVariants.Absent}}
+use Rattle.poll_runs.{specs.declared.bench.Next.TheVariants.{Gone, Again, Repoll}, proofs.PollFacts.{arrivals-append, arrivals-one}}
+use Rattle.poll_runs.proofs.PollFacts.{ids-append, length-ids, repolled-append, repolled-one, taken-le, work-push}
 use Rattle.napi_model.specs.declared.state.Kind.{Kind}
-use Rattle.poll_runs.proofs.PollFacts.{arrivals-append, arrivals-one, ids-append, length-ids, repolled-append, repolled-one, taken-le}
-use Rattle.poll_runs.proofs.PollFacts.{work-push}
 
 -- batches stay batches as polls are added
 pub batches-push : (takes : List Poll → List ℕ → Type 0) (polls : List Poll) (poll : Poll) (taken : List ℕ) (batches : List (List ℕ))

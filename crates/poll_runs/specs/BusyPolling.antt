@@ -1,11 +1,7 @@
 -- Busy polling (`napi_busy_loop` and `busy_poll_stop`): so many rounds, and behind the stop one more poll.
 use Rattle.std.specs.Prelude.{◌≡◌, ◌+◌, ℕ, nat_lt, Bool, true, false, List, length, filter, sum_by, MatchBool, Option, Some, None}
-use Rattle.napi_model.specs.declared.state.Kind.{Kind}
-use Rattle.poll_runs.specs.Polls.{Chain}
-use Rattle.poll_runs.specs.Polling.{is_absent}
-use Rattle.poll_runs.specs.declared.bench.BusyReport.{BusyReport}
-use Rattle.poll_runs.specs.declared.bench.Next.{Next}
-use Rattle.poll_runs.specs.declared.bench.Next.TheVariants.{Absent, Gone, Again, Repoll}
+use Rattle.{napi_model.specs.declared.state.Kind.Kind, poll_runs.specs.{Polls.Chain, Polling.is_absent}}
+use Rattle.poll_runs.specs.declared.bench.{BusyReport.BusyReport, Next.{Next, TheVariants.{Absent, Gone, Again, Repoll}}}
 
 -- what one poll gave: the packets, and how many they are
 pub record Given (P : Type 0) : Type 0 where

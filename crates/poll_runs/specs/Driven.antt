@@ -1,11 +1,7 @@
 -- A polling run whose polls its caller makes, and where it stands between them.
-use Rattle.std.specs.Prelude.{◌≡◌, ◌≢◌, ◌⊎◌, ℕ, ◌+◌, ◌<◌, ◌==◌, ◌||◌, Bool, false, List, [], ◌∷◌, ◌++◌, length, take}
-use Rattle.std.specs.List.{AllByRecursion, concat, list_any}
-use Rattle.poll_runs.specs.Polls.{Poll, arrivals, ids, repolled, work_of}
-use Rattle.poll_runs.specs.Run.{AreBatches, IsBatch, is_spent}
-use Rattle.poll_runs.specs.Turn.{asked_for}
-use Rattle.poll_runs.specs.declared.bench.Once.{Once}
-use Rattle.poll_runs.specs.declared.polling_run.PollingRun.{PollingRun}
+use Rattle.std.specs.{Prelude.{◌≡◌, ◌≢◌, ◌⊎◌, ℕ, ◌+◌, ◌<◌, ◌==◌, ◌||◌, Bool, false, List, [], ◌∷◌, ◌++◌, length, take}, List.AllByRecursion}
+use Rattle.{std.specs.List.{concat, list_any}, poll_runs.specs.{Polls.{Poll, arrivals, ids, repolled, work_of}, Run.{AreBatches, IsBatch}}}
+use Rattle.poll_runs.specs.{Run.is_spent, Turn.asked_for, declared.{bench.Once.Once, polling_run.PollingRun.PollingRun}}
 
 -- what was taken from the list and isn't polled: the number that is being polled, and then the rest
 abbrev pub ahead : PollingRun → List ℕ

@@ -1,10 +1,7 @@
 -- The polling run over a list of one thread, as a function: for a bench whose polls are a function of bench, number and
 -- weight, to the answer and the bench afterwards.
 use Rattle.std.specs.Prelude.{◌≡◌, ◌↔◌, ℕ, zero, suc, ◌≤◌, Bool, ◌&&◌, ◌==◌, not, if◌then◌else◌, List, [], ◌∷◌, ◌++◌, length, drop}
-use Rattle.poll_runs.specs.Laws.{IsPlainRun}
-use Rattle.poll_runs.specs.Polls.{At, Chain, Poll, arrivals, repolled, work_of}
-use Rattle.poll_runs.specs.Run.{is_spent}
-use Rattle.poll_runs.specs.declared.bench.Once.{Once}
+use Rattle.poll_runs.specs.{Laws.IsPlainRun, Polls.{At, Chain, Poll, arrivals, repolled, work_of}, Run.is_spent, declared.bench.Once.Once}
 use Rattle.poll_runs.specs.declared.run.RunReport.{RunReport}
 
 -- a run so far: the bench, and the polls made

@@ -1,12 +1,8 @@
 -- The polling of one instance, put together of what its calls do.
 use Rattle.std.specs.Prelude.{◌≡◌, ◌==◌, ◌-◌, ◌&&◌, ℕ, nat_lt, Bool, true, false, List, [], ◌∷◌, Option, Some, None, MatchBool}
-use Rattle.napi_model.specs.declared.state.Kind.{Kind}
+use Rattle.{napi_model.specs.declared.state.Kind.Kind, poll_runs.specs.{Polls.is_repoll, Thread.is_for_thread, declared.bench.Next.Next}}
+use Rattle.poll_runs.specs.declared.bench.{Next.TheVariants.{Absent, Gone, Again, Repoll}, Once.Once}
 use Rattle.napi_model.specs.declared.state.Kind.TheVariants as kind
-use Rattle.poll_runs.specs.Polls.{is_repoll}
-use Rattle.poll_runs.specs.Thread.{is_for_thread}
-use Rattle.poll_runs.specs.declared.bench.Next.{Next}
-use Rattle.poll_runs.specs.declared.bench.Next.TheVariants.{Absent, Gone, Again, Repoll}
-use Rattle.poll_runs.specs.declared.bench.Once.{Once}
 
 abbrev pub is_absent : Next → Bool
 is_absent Absent = true

@@ -1,9 +1,7 @@
 -- Polls, and what lists of them come to.
-use Rattle.std.specs.Prelude.{◌≡◌, ℕ, Bool, true, false, List, [], ◌∷◌, map, filter, sum_by}
+use Rattle.{std.specs.Prelude.{◌≡◌, ℕ, Bool, true, false, List, [], ◌∷◌, map, filter, sum_by}, poll_runs.specs.declared.bench.Next.Next}
+use Rattle.poll_runs.specs.declared.bench.{Next.TheVariants.{Absent, Gone, Again, Repoll}, Once.Once}
 use Rattle.napi_model.specs.declared.state.Kind.TheVariants as kind
-use Rattle.poll_runs.specs.declared.bench.Next.{Next}
-use Rattle.poll_runs.specs.declared.bench.Next.TheVariants.{Absent, Gone, Again, Repoll}
-use Rattle.poll_runs.specs.declared.bench.Once.{Once}
 
 -- a poll of a run: the number of the instance, and what the poll did
 pub record Poll : Type 0 where

@@ -1,9 +1,7 @@
 -- The polling run (`net_rx_action`), told by its batches: over whole lists, by what the list states of itself (its entries,
 -- what was pushed and came between two moments, and that nothing was left behind).
-use Rattle.std.specs.Prelude.{◌≡◌, ◌≢◌, ◌⊎◌, ℕ, ◌<◌, Bool, ◌||◌, nat_le, false, List, [], ◌∷◌, ◌++◌, length, take}
-use Rattle.std.specs.List.{AllByRecursion, concat}
-use Rattle.poll_runs.specs.Polls.{Poll, arrivals, ids, repolled, work_of}
-use Rattle.poll_runs.specs.declared.run.RunReport.{RunReport}
+use Rattle.std.specs.{Prelude.{◌≡◌, ◌≢◌, ◌⊎◌, ℕ, ◌<◌, Bool, ◌||◌, nat_le, false, List, [], ◌∷◌, ◌++◌, length, take}, List.AllByRecursion}
+use Rattle.{std.specs.List.concat, poll_runs.specs.{Polls.{Poll, arrivals, ids, repolled, work_of}, declared.run.RunReport.RunReport}}
 
 -- A batch that a run takes after these polls is all that the list holds then: with what was taken before, which is what
 -- was polled, it is what the list held at the start and what came until then. It is taken only where no poll asked for a

@@ -1,11 +1,7 @@
 -- The polling of an instance by its thread (`napi_threaded_poll`).
-use Rattle.std.specs.Prelude.{◌≡◌, ◌≢◌, ℕ, ◌<◌, ◌≤◌, Bool, true, false, List, [], ◌∷◌, length, sum_by}
-use Rattle.std.specs.List.{AllByRecursion}
+use Rattle.std.specs.{Prelude.{◌≡◌, ◌≢◌, ℕ, ◌<◌, ◌≤◌, Bool, true, false, List, [], ◌∷◌, length, sum_by}, List.AllByRecursion}
+use Rattle.poll_runs.specs.declared.bench.{Next.{Next, TheVariants.{Absent, Gone, Again, Repoll}}, Once.Once, ThreadReport.ThreadReport}
 use Rattle.napi_model.specs.declared.state.Kind.TheVariants as kind
-use Rattle.poll_runs.specs.declared.bench.Next.{Next}
-use Rattle.poll_runs.specs.declared.bench.Next.TheVariants.{Absent, Gone, Again, Repoll}
-use Rattle.poll_runs.specs.declared.bench.Once.{Once}
-use Rattle.poll_runs.specs.declared.bench.ThreadReport.{ThreadReport}
 
 -- the thread may poll once more: the instance is still in its hands, or was handed to it again
 abbrev pub is_for_thread : Next → Bool

@@ -1,13 +1,11 @@
 -- A run over the poll list is the one that its definition gives, and keeps the list within the devices that wait on it.
 use Rattle.std.proofs.Common.{◌≡◌, ℕ, ◌+◌, ◌≤◌, cond, List, [], ◌∷◌, ◌++◌, length, length-append, take, drop, ap, refl, arith}
-use Rattle.std.{proofs.lemmas.List.{length-drop, length-take, Sums.sum_by-cons}, specs.Prelude.sum_by}
-use Rattle.{device_bench.specs.{Bench.{ArePolls, Devices, polled_at}, Waiting.leaves}, device_transmit.specs.Transmits.{Keeps, Transmits}}
-use Rattle.poll_runs.specs.{Function.run_report, Laws.IsPlainRun}
-use Rattle.poll_runs.specs.Polls.{At, Chain, Poll, arrivals, ids, is_arrival, is_repoll, repolled}
+use Rattle.{std.{proofs.lemmas.List.{length-drop, length-take, Sums.sum_by-cons}, specs.Prelude.sum_by}, device_bench.specs.Bench.ArePolls}
+use Rattle.{device_bench.specs.{Bench.{Devices, polled_at}, Waiting.leaves}, device_transmit.specs.Transmits.{Keeps, Transmits}}
+use Rattle.poll_runs.specs.{Function.run_report, Laws.IsPlainRun, Polls.{At, Chain, Poll, arrivals, ids, is_arrival, is_repoll, repolled}}
 use Rattle.poll_runs.specs.declared.{bench.{Next.{Next, TheVariants.{Absent, Gone, Again, Repoll}}, Once.Once}, run.RunReport.RunReport}
-use Rattle.poll_runs.proofs.{FunctionFacts.run-is-shown, PlainFacts.list-afterwards}
-use Rattle.poll_runs.proofs.PollFacts.{arrivals-append, arrivals-one, length-ids, repolled-append, repolled-one}
-use Rattle.replay_rows.specs.Run.{run_of}
+use Rattle.poll_runs.proofs.{FunctionFacts.run-is-shown, PlainFacts.list-afterwards, PollFacts.{arrivals-append, arrivals-one, length-ids}}
+use Rattle.{poll_runs.proofs.PollFacts.{repolled-append, repolled-one}, replay_rows.specs.Run.run_of}
 use Rattle.replay_words.specs.declared.settings.Settings.{Settings}
 use Rattle.napi_model.specs.declared.state.Kind.TheVariants as kind
 

@@ -1,11 +1,7 @@
 -- What a replay of a text answers: the serial report of its rows, or its first fault.
-use Rattle.std.specs.Prelude.{ℕ, List, Result, Ok, Err}
-use Rattle.device_rows.specs.Trace.{records_of, trace_of, version_in}
-use Rattle.device_rows.specs.declared.fault.TraceFault.{TraceFault}
-use Rattle.device_rows.specs.declared.row.Row.{Row}
-use Rattle.replay_rows.specs.Report.{serial_report}
-use Rattle.replay_text.specs.declared.fault.ReplayFault.{ReplayFault}
-use Rattle.replay_text.specs.declared.fault.ReplayFault.TheVariants.{Trace}
+use Rattle.{std.specs.Prelude.{ℕ, List, Result, Ok, Err}, device_rows.specs.Trace.{records_of, trace_of, version_in}}
+use Rattle.{device_rows.specs.declared.{fault.TraceFault.TraceFault, row.Row.Row}, replay_rows.specs.Report.serial_report}
+use Rattle.replay_text.specs.declared.fault.ReplayFault.{ReplayFault, TheVariants.Trace}
 use Rattle.replay_words.specs.declared.settings.Settings.{Settings}
 
 abbrev pub answer_of : Settings → ℕ → Result (List Row) TraceFault → Result (List ℕ) ReplayFault

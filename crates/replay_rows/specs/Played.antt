@@ -1,7 +1,5 @@
 -- What a replay keeps, as plain data.
-use Rattle.device_bench.specs.Bench.{Devices}
-use Rattle.replay_rows.specs.ReplayState.{ReplayState}
-use Rattle.replay_rows.specs.declared.replay.Replay.{Replay}
+use Rattle.{device_bench.specs.Bench.Devices, replay_rows.specs.{ReplayState.ReplayState, declared.replay.Replay.Replay}}
 
 -- the devices are those that its bench shows
 abbrev pub state_in : {B : Type 0} {polled beside shown : _} → (B → Devices) → Replay B polled beside shown → ReplayState

@@ -1,13 +1,7 @@
 -- Why the rows of a trace have no report.
-use Rattle.std.specs.Prelude.{◌≡◌, ◌⊎◌, ℕ, true, List, Err}
-use Rattle.device_rows.specs.declared.event.Event.TheVariants.{Enable}
-use Rattle.device_rows.specs.declared.row.Row.{Row}
-use Rattle.replay_rows.specs.Replay.{is_early}
-use Rattle.replay_rows.specs.Report.{serial_report}
-use Rattle.replay_rows.specs.ReplayState.{ReplayState}
-use Rattle.replay_text.specs.Outside.{IsWantOfMemory}
-use Rattle.replay_text.specs.declared.fault.ReplayFault.{ReplayFault}
-use Rattle.replay_text.specs.declared.fault.ReplayFault.TheVariants.{Pending}
+use Rattle.{std.specs.Prelude.{◌≡◌, ◌⊎◌, ℕ, true, List, Err}, device_rows.specs.declared.{event.Event.TheVariants.Enable, row.Row.Row}}
+use Rattle.{replay_rows.specs.{Replay.is_early, Report.serial_report, ReplayState.ReplayState}, replay_text.specs.Outside.IsWantOfMemory}
+use Rattle.replay_text.specs.declared.fault.ReplayFault.{ReplayFault, TheVariants.Pending}
 use Rattle.replay_words.specs.declared.settings.Settings.{Settings}
 
 -- memory was refused, or an enable row met a disable that was pending, which is the rows' own fault

@@ -1,24 +1,14 @@
 -- What the rows of a trace do, one after the other.
 use Rattle.std.specs.Prelude.{ℕ, ◌+◌, ◌==◌, Bool, false, if◌then◌else◌, List, [], ◌∷◌, ◌++◌, length, Result, Ok, Err, sum_by}
 use Rattle.device_bench.specs.Bench.{all_settled, arrived, busily_polled_at, busy_report_of, handed_by, thread_polls_of}
-use Rattle.device_bench.specs.Device.{after_disable, after_enable, after_threaded, opened, polled_by_thread}
-use Rattle.device_bench.specs.Kept.{is_pending_at}
-use Rattle.device_rows.specs.Places.{added, at, changed, empty}
-use Rattle.device_bench.specs.Waiting.{is_left_to_list, is_listed}
-use Rattle.device_rows.specs.declared.event.Event.{Event}
-use Rattle.device_rows.specs.declared.event.Event.TheVariants.{Opened, Rx, Tx, Finish, Softirq, Kthread, Disable, Enable, Threaded, Busy}
-use Rattle.device_rows.specs.declared.row.Row.{Row}
-use Rattle.poll_runs.specs.Function.{run_report}
-use Rattle.poll_runs.specs.Thread.{last_next}
-use Rattle.poll_runs.specs.declared.bench.Once.{Once}
-use Rattle.poll_runs.specs.declared.bench.ThreadReport.{ThreadReport}
-use Rattle.replay_rows.specs.Run.{run_of}
-use Rattle.replay_rows.specs.ReplayState.{ReplayState}
-use Rattle.replay_text.specs.declared.fault.ReplayFault.{ReplayFault}
-use Rattle.replay_text.specs.declared.fault.ReplayFault.TheVariants.{Pending}
-use Rattle.replay_rows.specs.declared.line.Line.{Line}
-use Rattle.replay_rows.specs.declared.line.Line.TheVariants as line
+use Rattle.device_bench.specs.{Device.{after_disable, after_enable, after_threaded, opened, polled_by_thread}, Kept.is_pending_at}
+use Rattle.{device_bench.specs.Waiting.{is_left_to_list, is_listed}, device_rows.specs.Places.{added, at, changed, empty}}
+use Rattle.device_rows.specs.declared.event.Event.{Event, TheVariants.{Opened, Rx, Tx, Finish, Softirq, Kthread, Disable, Enable, Threaded}}
+use Rattle.{device_rows.specs.declared.{event.Event.TheVariants.Busy, row.Row.Row}, poll_runs.specs.{Function.run_report, Thread.last_next}}
+use Rattle.{poll_runs.specs.declared.bench.{Once.Once, ThreadReport.ThreadReport}, replay_rows.specs.{Run.run_of, ReplayState.ReplayState}}
+use Rattle.{replay_rows.specs.declared.line.Line.Line, replay_text.specs.declared.fault.ReplayFault.{ReplayFault, TheVariants.Pending}}
 use Rattle.replay_words.specs.declared.settings.Settings.{Settings}
+use Rattle.replay_rows.specs.declared.line.Line.TheVariants as line
 
 abbrev pub start : ReplayState
 start = record { devices = empty; list = []; lines = [] }

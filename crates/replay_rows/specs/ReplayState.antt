@@ -1,7 +1,5 @@
 -- A replay as plain data.
-use Rattle.std.specs.Prelude.{ℕ, List}
-use Rattle.device_bench.specs.Bench.{Devices}
-use Rattle.replay_rows.specs.declared.line.Line.{Line}
+use Rattle.{std.specs.Prelude.{ℕ, List}, device_bench.specs.Bench.Devices, replay_rows.specs.declared.line.Line.Line}
 
 pub record ReplayState : Type 0 where
   -- the devices that were opened

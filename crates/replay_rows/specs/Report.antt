@@ -1,23 +1,13 @@
 -- The report's text, word by word. See docs/FORMATS.md, "The report".
 use Rattle.std.specs.Prelude.{ℕ, zero, suc, ◌-◌, ◌==◌, Bool, length, slice_get, List, [], ◌∷◌, ◌++◌, Option, Some, None, Result, Ok, Err}
-use Rattle.std.specs.Prelude.{codes, decimal, flat_map, if◌then◌else◌, sum_by}
-use Rattle.device_transmit.specs.Transmits.{Transmits, is_used, tx_counts_of}
-use Rattle.device_bench.specs.Bench.{attached, counts_at}
-use Rattle.device_rows.specs.Places.{at}
-use Rattle.replay_rows.specs.Replay.{after_all}
-use Rattle.replay_rows.specs.Transmits.{transmits_of}
-use Rattle.replay_rows.specs.ReplayState.{ReplayState}
-use Rattle.device_bench.specs.declared.counts.DeviceCounts.{DeviceCounts}
-use Rattle.device_bench.specs.declared.counts.DeviceState.{DeviceState}
-use Rattle.device_bench.specs.declared.counts.DeviceState.TheVariants.{On, Off, Pending}
-use Rattle.replay_text.specs.declared.fault.ReplayFault.{ReplayFault}
-use Rattle.replay_rows.specs.declared.report.Totals.{Totals}
-use Rattle.device_rows.specs.declared.row.Row.{Row}
-use Rattle.replay_rows.specs.declared.line.Line.{Line}
-use Rattle.replay_rows.specs.declared.line.Line.TheVariants.{Softirq, Kthread, Busy}
-use Rattle.poll_runs.specs.declared.run.RunReport.{RunReport}
+use Rattle.{std.specs.Prelude.{codes, decimal, flat_map, if◌then◌else◌, sum_by}, device_transmit.specs.Transmits.{Transmits, is_used}}
+use Rattle.{device_transmit.specs.Transmits.tx_counts_of, device_bench.specs.Bench.{attached, counts_at}}
+use Rattle.device_bench.specs.declared.counts.{DeviceCounts.DeviceCounts, DeviceState.{DeviceState, TheVariants.{On, Off, Pending}}}
+use Rattle.{device_rows.specs.{Places.at, declared.row.Row.Row}, replay_rows.specs.{Replay.after_all, Transmits.transmits_of}}
+use Rattle.replay_rows.specs.{ReplayState.ReplayState, declared.{report.Totals.Totals, line.Line.{Line, TheVariants.{Softirq, Kthread}}}}
+use Rattle.{replay_rows.specs.declared.line.Line.TheVariants.Busy, replay_text.specs.{declared.fault.ReplayFault.ReplayFault, Lines.ended}}
+use Rattle.{replay_text.specs.Lines.{flag, tx_lines, words}, poll_runs.specs.declared.run.RunReport.RunReport}
 use Rattle.replay_words.specs.declared.settings.Settings.{Settings}
-use Rattle.replay_text.specs.Lines.{ended, flag, tx_lines, words}
 
 -- what a row that polls did
 abbrev pub poll_line : Line → List ℕ

@@ -1,9 +1,6 @@
 -- One run over the poll list (`net_rx_action`): the function by batches that `poll_runs` defines, over the devices.
-use Rattle.std.specs.Prelude.{ℕ, List}
-use Rattle.device_bench.specs.Bench.{Devices, polled_at}
-use Rattle.poll_runs.specs.Function.{Progress}
-use Rattle.poll_runs.specs.Function.{run_of as run_by}
-use Rattle.replay_words.specs.declared.settings.Settings.{Settings}
+use Rattle.{std.specs.Prelude.{ℕ, List}, device_bench.specs.Bench.{Devices, polled_at}, poll_runs.specs.Function.Progress}
+use Rattle.{poll_runs.specs.Function.run_of as run_by, replay_words.specs.declared.settings.Settings.Settings}
 
 abbrev pub run_of : Settings → Devices → List ℕ → Progress Devices × List ℕ
 run_of s devices list = run_by polled_at s.budget s.weight s.window devices list

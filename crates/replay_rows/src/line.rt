@@ -3,7 +3,7 @@
 use poll_runs::{BusyReport, RunReport, ThreadReport};
 
 /// What one row that polls did.
-#[derive(Clone, Copy, Debug, PartialEq, Eq)]
+#[derive(Clone, Copy)]
 pub enum Line {
     /// A softirq row: its number, and its run over the poll list.
     Softirq {

@@ -69,7 +69,7 @@ impl<B: ReplayBench> Replay<B> {
         ensures transmits { Keeps B.shows self.old.bench self.new.bench }
         ensures lines { self.new.lines ≡ self.old.lines }
     {
-        if self.bench.arrive(device, bytes) == Some(Kind::List) {
+        if matches!(self.bench.arrive(device, bytes), Some(Kind::List)) {
             self.list.push(device);
         }
     }

@@ -173,7 +173,7 @@ pub fn add_numbers(text: &mut String, numbers: &[u32]) -> Result<(), AllocError>
 }
 
 /// The sums of the last line: opened devices, and over the runs of all softirq rows.
-#[derive(Clone, Copy, Debug, PartialEq, Eq)]
+#[derive(Clone, Copy)]
 pub(crate) struct Totals {
     /// Opened devices.
     pub devices: usize,

@@ -1,6 +1,5 @@
 -- Lines of the report that every replay has. See docs/FORMATS.md, "The report".
-use Rattle.std.specs.Prelude.{ℕ, Bool, List, [], ◌∷◌, ◌++◌, codes, decimal, if◌then◌else◌}
-use Rattle.std.specs.Fmt.{signed_decimal}
+use Rattle.std.specs.{Prelude.{ℕ, Bool, List, [], ◌∷◌, ◌++◌, codes, decimal, if◌then◌else◌}, Fmt.signed_decimal}
 use Rattle.device_transmit.specs.declared.transmit.TxCounts.{TxCounts}
 
 -- words with a space between two of them

@@ -1,11 +1,8 @@
 -- Faults that no text has.
-use Rattle.std.specs.Prelude.{◌≡◌}
-use Rattle.device_rows.specs.Failures.{IsRefused}
-use Rattle.device_rows.specs.Source.{IsReadFailure}
-use Rattle.device_rows.specs.declared.fault.TraceFault.TheVariants.{OutOfMemory}
-use Rattle.replay_text.specs.Stops.{HasStopped}
-use Rattle.replay_text.specs.declared.fault.ReplayFault.{ReplayFault}
-use Rattle.replay_text.specs.declared.fault.ReplayFault.TheVariants.{Trace, Pending, RingTooSmall, GateShut, OutputFailed, SpawnFailed}
+use Rattle.{std.specs.Prelude.◌≡◌, device_rows.specs.{Failures.IsRefused, Source.IsReadFailure}}
+use Rattle.{device_rows.specs.declared.fault.TraceFault.TheVariants.OutOfMemory, replay_text.specs.Stops.HasStopped}
+use Rattle.replay_text.specs.declared.fault.ReplayFault.{ReplayFault, TheVariants.{Trace, Pending, RingTooSmall, GateShut, OutputFailed}}
+use Rattle.replay_text.specs.declared.fault.ReplayFault.TheVariants.{SpawnFailed}
 
 -- memory was refused
 abbrev pub IsWantOfMemory : ReplayFault → Type 0

@@ -1,18 +1,10 @@
 -- How a program that replays ends.
-use Rattle.std.specs.Prelude.{◌≡◌, ◌⊎◌, ℕ, false, true, List, ◌++◌, Option, codes}
-use Rattle.std.specs.Io.KnownBytes.{Appends}
-use Rattle.replay_text.specs.Fault.{line_of as replay_line, status_of as replay_status}
-use Rattle.replay_text.specs.Stops.{HasStopped}
-use Rattle.replay_text.specs.Written.{AppendsPart, IsFaultBy, LeavesBy}
-use Rattle.replay_text.specs.declared.fault.ReplayFault.{ReplayFault}
-use Rattle.replay_text.specs.declared.fault.ReplayFault.TheVariants.{OutputFailed}
-use Rattle.replay_text.specs.declared.program.Ending.{Ending}
-use Rattle.replay_text.specs.declared.program.ProgramFault.{ProgramFault}
-use Rattle.replay_text.specs.declared.program.ProgramFault.TheVariants.{Words, Replay}
-use Rattle.device_rows.specs.Failures.{IsRefused}
-use Rattle.replay_words.specs.Refusals.{IsRefused as IsRefusedWords}
-use Rattle.replay_words.specs.Words.{line_of as word_line, status_of as word_status}
-use Rattle.replay_words.specs.declared.words.WordFault.TheVariants.{Usage, OutOfMemory}
+use Rattle.std.specs.{Prelude.{◌≡◌, ◌⊎◌, ℕ, false, true, List, ◌++◌, Option, codes}, Io.KnownBytes.Appends}
+use Rattle.replay_text.specs.{Fault.{line_of as replay_line, status_of as replay_status}, Stops.HasStopped, Written.AppendsPart}
+use Rattle.replay_text.specs.{Written.{IsFaultBy, LeavesBy}, declared.fault.ReplayFault.{ReplayFault, TheVariants.OutputFailed}}
+use Rattle.replay_text.specs.declared.program.{Ending.Ending, ProgramFault.{ProgramFault, TheVariants.{Words, Replay}}}
+use Rattle.{device_rows.specs.Failures.IsRefused, replay_words.specs.{Refusals.IsRefused as IsRefusedWords, Words.line_of as word_line}}
+use Rattle.replay_words.specs.{Words.status_of as word_status, declared.words.WordFault.TheVariants.{Usage, OutOfMemory}}
 
 -- the line on standard error, and the exit status
 abbrev pub line_of : ProgramFault → List ℕ

@@ -1,8 +1,5 @@
 -- That a writer stopped: who meets it knows it by what the writer answered, or by how often it was asked.
-use Rattle.std.specs.Prelude.{◌≡◌, ◌≤◌, ◌-◌, ◌^◌, ℕ}
-use Rattle.std.specs.IoError.{error_kind}
-use Rattle.std.specs.declared.io.Error.{Error}
-use Rattle.std.specs.declared.io.ErrorKind.TheVariants.{Interrupted}
+use Rattle.std.specs.{Prelude.{◌≡◌, ◌≤◌, ◌-◌, ◌^◌, ℕ}, IoError.error_kind, declared.io.{Error.Error, ErrorKind.TheVariants.Interrupted}}
 
 pub HasStopped : Type 0
 HasStopped = Unit {0}

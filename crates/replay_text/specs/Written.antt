@@ -1,8 +1,6 @@
 -- What a call that makes a text of an input does to its output. Input and output are their bytes, where these are known.
-use Rattle.std.specs.Prelude.{◌≡◌, ◌≢◌, ◌<◌, ◌⊎◌, ℕ, List, Option, Some, length, take}
-use Rattle.std.specs.Io.KnownBytes.{Appends, Keeps}
-use Rattle.replay_text.specs.declared.fault.ReplayFault.{ReplayFault}
-use Rattle.replay_text.specs.declared.fault.ReplayFault.TheVariants.{OutputFailed}
+use Rattle.std.specs.{Prelude.{◌≡◌, ◌≢◌, ◌<◌, ◌⊎◌, ℕ, List, Option, Some, length, take}, Io.KnownBytes.{Appends, Keeps}}
+use Rattle.replay_text.specs.declared.fault.ReplayFault.{ReplayFault, TheVariants.OutputFailed}
 
 -- what was written is a text of the bytes read, and nothing else
 abbrev pub Writes : (List ℕ → List ℕ → Type 0) → Option (List ℕ) → Option (List ℕ) → Option (List ℕ) → Type 0

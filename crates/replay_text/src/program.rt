@@ -16,7 +16,7 @@ use std::io::{ErrorKind, Write};
 use thiserror::Error;
 
 /// Why the program gave no report.
-#[derive(Clone, Copy, Debug, PartialEq, Eq, Error)]
+#[derive(Clone, Copy, Debug, Error)]
 pub enum ProgramFault {
     /// The words were refused, and nothing was read.
     #[error(transparent)]
@@ -27,7 +27,7 @@ pub enum ProgramFault {
 }
 
 /// How the program ended.
-#[derive(Clone, Copy, Debug, PartialEq, Eq)]
+#[derive(Clone, Copy)]
 pub struct Ending {
     /// The exit status.
     pub status: u8,

@@ -1,28 +1,24 @@
 -- What clap reads of the words, by its own account (`matches_of`, `fault_of`), is what they give.
 use Rattle.std.proofs.Common.{◌≡◌, ◌∙◌, subst, ◌+◌, ◌<◌, Bor, get_or, inl, inr, take, ◌&&◌, ◌||◌, Bool, ℕ, cond, true, false, not, refl}
 use Rattle.std.proofs.Common.{sym, ap, codes, List, [], ◌∷◌, ◌++◌, map, length, Option, Some, None, is_some, option_map, true≢false}
-use Rattle.clap.specs.declared.builder.command.Command.{Command}
-use Rattle.std.specs.Prelude.{if◌then◌else◌, nat_lt, IfOk, Result, Ok, Err, fold, find, count_by, option_and_then, slice_get}
-use Rattle.std.specs.Option.{option_map_or}
-use Rattle.clap.specs.Simple.{App, Shape, app_of, entered, filled, filled_from, is_simple, matches_of, new_app, new_shape, on_top}
-use Rattle.clap.specs.Simple.{with_rule}
-use Rattle.std.specs.{List.{list_all, list_any}, Result.result_ok, Str.bytes_eq}
-use Rattle.std.proofs.{Math.{Bool.or-false, Dec.eqb-suc-zero}, lemmas.Bool.or_parts}
-use Rattle.clap.specs.{Kinds.{HasKind, IsAmong, Kinds, check_kinds, or_else}, Values.kind_of, Takes.is_given}
-use Rattle.{std.proofs.lemmas.{List.take_more, Slice.Eq.bytes_eq-Decides, Option.none-some}, clap.proofs.WalkLemmas.list_any-map}
-use Rattle.replay_words.specs.Options.{option, read_by_clap, row_of, rows_for, tool, with_name, without_help}
-use Rattle.clap.specs.{Lexer.{long_of, long_of_rest, short_of, short_of_rest, strip_byte}, Built.AddsArg}
-use Rattle.clap.specs.declared.error.{Error.Error, kind.ErrorKind.{ErrorKind, TheVariants.{ArgumentConflict, OutOfMemory, UnknownArgument}}}
-use Rattle.clap.specs.declared.parser.matches.ValueSource.TheVariants.{CommandLine}
-use Rattle.clap.specs.Walk.{option_word as value_word, used_by_id, Held, Row, Rule, Step, Waiting, Walk, after_flag, after_step, arg_by_id}
-use Rattle.clap.specs.Walk.{arg_by_index, arg_by_long, at_row, first_of, finished, has_long, has_row, idle, is_early_multiple, is_empty}
-use Rattle.clap.specs.Walk.{long_met, long_or_other, more_values, next, nothing_held, option as waits_for, reading_by, rows_after, settled}
-use Rattle.clap.specs.Walk.{settled_rows, short_or_plain, trailing, used, walk, walked, rule_of, with_default, with_values}
-use Rattle.clap.specs.Faults.{built_fault, bundle_fault, check_fault, defaults_fault, entered_fault, fault_of, is_simple_and_free}
-use Rattle.clap.specs.Faults.{flag_word_fault, long_fault, positional_fault, settle_fault, step_fault, turn_fault, use_fault, walk_fault}
-use Rattle.clap.specs.declared.builder.arg.Arg.{Arg}
-use Rattle.replay_words.specs.Given.{Given, Reading, Text, complete, given_by, is_hyphened, is_option, is_stray, next_word, option_word}
-use Rattle.replay_words.specs.Given.{read_on, value_of, with_option}
+use Rattle.std.proofs.{Math.{Bool.or-false, Dec.eqb-suc-zero}, lemmas.{Bool.or_parts, List.take_more, Slice.Eq.bytes_eq-Decides}}
+use Rattle.std.{proofs.lemmas.Option.none-some, specs.Prelude.{if◌then◌else◌, nat_lt, IfOk, Result, Ok, Err, fold, find, count_by}}
+use Rattle.std.specs.{Prelude.{option_and_then, slice_get}, Option.option_map_or, List.{list_all, list_any}, Result.result_ok, Str.bytes_eq}
+use Rattle.clap.specs.declared.{builder.{command.Command.Command, arg.Arg.Arg}, error.{Error.Error, kind.ErrorKind.ErrorKind}}
+use Rattle.clap.specs.declared.error.kind.ErrorKind.TheVariants.{ArgumentConflict, OutOfMemory, UnknownArgument}
+use Rattle.clap.specs.{declared.parser.matches.ValueSource.TheVariants.CommandLine, Simple.{App, Shape, app_of, entered, filled}}
+use Rattle.clap.specs.{Simple.{filled_from, is_simple, matches_of, new_app, new_shape, on_top, with_rule}, Kinds.{HasKind, IsAmong, Kinds}}
+use Rattle.clap.specs.{Kinds.{check_kinds, or_else}, Values.kind_of, Takes.is_given, Lexer.{long_of, long_of_rest, short_of, short_of_rest}}
+use Rattle.clap.specs.{Lexer.strip_byte, Built.AddsArg, Walk.{option_word as value_word, used_by_id, Held, Row, Rule, Step, Waiting, Walk}}
+use Rattle.clap.specs.Walk.{after_flag, after_step, arg_by_id, arg_by_index, arg_by_long, at_row, first_of, finished, has_long, has_row}
+use Rattle.clap.specs.Walk.{idle, is_early_multiple, is_empty, long_met, long_or_other, more_values, next, nothing_held}
+use Rattle.clap.specs.Walk.{option as waits_for, reading_by, rows_after, settled, settled_rows, short_or_plain, trailing, used, walk}
+use Rattle.clap.specs.{Walk.{walked, rule_of, with_default, with_values}, Faults.{built_fault, bundle_fault, check_fault, defaults_fault}}
+use Rattle.clap.specs.Faults.{entered_fault, fault_of, is_simple_and_free, flag_word_fault, long_fault, positional_fault, settle_fault}
+use Rattle.clap.{specs.Faults.{step_fault, turn_fault, use_fault, walk_fault}, proofs.WalkLemmas.list_any-map}
+use Rattle.replay_words.specs.{Options.{option, read_by_clap, row_of, rows_for, tool, with_name, without_help}, Given.{Given, Reading}}
+use Rattle.replay_words.specs.Given.{Text, complete, given_by, is_hyphened, is_option, is_stray, next_word, option_word, read_on, value_of}
+use Rattle.replay_words.specs.Given.{with_option}
 use mathlib.Core.List.{append-nil, map-append}
 
 module _ (names : List Text) where

@@ -1,9 +1,6 @@
 -- The options that words give, for a program whose options have these names: each at most once, and each with a value.
 use Rattle.std.specs.Prelude.{ℕ, [], ◌∷◌, ◌++◌, Bool, ◌&&◌, not, List, Option, Some, None, length, nat_le, if◌then◌else◌, option_and_then}
-use Rattle.std.specs.Prelude.{option_map, is_some, find, fold}
-use Rattle.std.specs.List.{list_any}
-use Rattle.std.specs.Str.{all_ascii_digits, bytes_eq}
-use Rattle.std.specs.Str.Parse.{digits_value}
+use Rattle.std.specs.{Prelude.{option_map, is_some, find, fold}, List.list_any, Str.{all_ascii_digits, bytes_eq, Parse.digits_value}}
 use Rattle.clap.specs.Lexer.{strip_byte, long_of}
 
 -- a text, as its bytes

@@ -1,8 +1,7 @@
 -- The words after the program's name: what they ask for, and the number, the line and the exit status of each refusal.
-use Rattle.std.specs.Prelude.{ℕ, [], ◌∷◌, List, Option, Some, None, if◌then◌else◌, codes}
-use Rattle.std.specs.Str.{bytes_eq}
-use Rattle.replay_words.specs.Defaults.{usual_budget, usual_pollers, usual_weight, usual_window}
-use Rattle.replay_words.specs.Given.{◌>>=◌, given_by, number_within, or_usual, value_of}
+use Rattle.std.specs.{Prelude.{ℕ, [], ◌∷◌, List, Option, Some, None, if◌then◌else◌, codes}, Str.bytes_eq}
+use Rattle.replay_words.specs.{Defaults.{usual_budget, usual_pollers, usual_weight, usual_window}, Given.{◌>>=◌, given_by, number_within}}
+use Rattle.replay_words.specs.Given.{or_usual, value_of}
 pub use Rattle.replay_words.specs.Given.{Text}
 use Rattle.replay_words.specs.declared.mode.Mode.{Mode}
 use Rattle.replay_words.specs.declared.mode.Mode.TheVariants.{Serial, Shared, Threads}

@@ -1,15 +1,10 @@
 -- What a contract sees of the two ends of a receive ring, and what a poll and a meeting of the ends do to them.
-use Rattle.std.specs.Prelude.{ℕ, ◌≡◌, ◌↔◌, ◌+◌, ◌≤◌, Bool, true, false, List, ◌++◌, length, take, min}
-use Rattle.std.specs.Global.{Global}
+use Rattle.std.specs.{Prelude.{ℕ, ◌≡◌, ◌↔◌, ◌+◌, ◌≤◌, Bool, true, false, List, ◌++◌, length, take, min}, Global.Global}
+use Rattle.rtrb.specs.{Shared.Names, Ring.{sent, received, known_items, known_free, producer_capacity, IsPair, SameProducer, SameConsumer}}
+use Rattle.rx_ring.specs.{ReceiveRing.{ReceiveRing, IsInOrder, held_of, IsPoll, capped}, declared.{packet.Packet.Packet, ends.RxIn.RxIn}}
+use Rattle.rx_ring.specs.declared.ends.{RxCtx.RxCtx, PollEnd.PollEnd}
 use denote.RawPtr.{Ptr}
 use mathlib.Core.List.{IsPrefix}
-use Rattle.rtrb.specs.Shared.{Names}
-use Rattle.rtrb.specs.Ring.{sent, received, known_items, known_free, producer_capacity, IsPair, SameProducer, SameConsumer}
-use Rattle.rx_ring.specs.ReceiveRing.{ReceiveRing, IsInOrder, held_of, IsPoll, capped}
-use Rattle.rx_ring.specs.declared.packet.Packet.{Packet}
-use Rattle.rx_ring.specs.declared.ends.RxIn.{RxIn}
-use Rattle.rx_ring.specs.declared.ends.RxCtx.{RxCtx}
-use Rattle.rx_ring.specs.declared.ends.PollEnd.{PollEnd}
 
 -- every packet put so far, oldest first
 abbrev pub put_list : RxIn → List Packet

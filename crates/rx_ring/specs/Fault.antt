@@ -1,7 +1,5 @@
 -- The numbers of the faults.
-use Rattle.std.specs.Prelude.{ℕ}
-use Rattle.rx_ring.specs.declared.fault.RingFault.{RingFault}
-use Rattle.rx_ring.specs.declared.fault.RingFault.TheVariants.{OutOfMemory, BadCapacity}
+use Rattle.{std.specs.Prelude.ℕ, rx_ring.specs.declared.fault.RingFault.{RingFault, TheVariants.{OutOfMemory, BadCapacity}}}
 
 -- the number by which a fault is known
 abbrev pub number_of : RingFault → ℕ

@@ -1,8 +1,6 @@
 -- The numbers of the faults.
-use Rattle.std.specs.Prelude.{ℕ}
-use Rattle.tx_ring.specs.declared.event.TxFault.{TxFault}
-use Rattle.tx_ring.specs.declared.event.TxFault.TheVariants.{Stopped, Full, TooLarge, TooMuchInFlight, MoreThanSent, BadCapacity}
-use Rattle.tx_ring.specs.declared.event.TxFault.TheVariants.{OutOfMemory}
+use Rattle.{std.specs.Prelude.ℕ, tx_ring.specs.declared.event.TxFault.{TxFault, TheVariants.{Stopped, Full, TooLarge, TooMuchInFlight}}}
+use Rattle.tx_ring.specs.declared.event.TxFault.TheVariants.{MoreThanSent, BadCapacity, OutOfMemory}
 
 -- the number by which a fault is known
 abbrev pub number_of : TxFault → ℕ

@@ -1,8 +1,7 @@
-use Rattle.{std.proofs.Common.{[], ap, subst, ◌∙◌, sym}, atomic_table.specs.Table.Me}
-use Rattle.napi_word.specs.View.{View, is_pass, ring_of, received_in, Continues}
-use Rattle.napi_word.specs.Slot.{Content, hold_of, owns_slot, ring_in, beside_in, ctx_in, carried_received}
-use Rattle.napi_word.specs.Rule.{left_of, right_of}
-use Rattle.napi_word.proofs.{Deliveries.{prefix_self, of_prefix}, Said.one_there, Start.{maker_more, owns_nothing}, Splitting.gives_number}
+use Rattle.{std.proofs.Common.{[], ap, subst, ◌∙◌, sym}, atomic_table.specs.Table.Me, napi_word.specs.View.{View, is_pass, ring_of}}
+use Rattle.napi_word.specs.{View.{received_in, Continues}, Slot.{Content, hold_of, owns_slot, ring_in, beside_in, ctx_in, carried_received}}
+use Rattle.napi_word.{specs.Rule.{left_of, right_of}, proofs.{Deliveries.{prefix_self, of_prefix}, Said.one_there, Start.maker_more}}
+use Rattle.napi_word.proofs.{Start.owns_nothing, Splitting.gives_number}
 use Rattle.napi_word.proofs.making.next_pass.Goals as goal
 
 pub split_seat-requires : goal.split_seat-requires

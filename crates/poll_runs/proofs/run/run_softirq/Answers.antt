@@ -1,7 +1,6 @@
 use Rattle.std.proofs.Common.{◌≡◌, ◌≢◌, ◌∙◌, ◌⊎◌, ◌∷◌, ◌+◌, ℕ, false, true, List, [], length, ap, refl, sym, subst, arith, rules}
 use Rattle.poll_runs.specs.{Driven.{Going, and_poll}, Polls.{At, repolled}, Run.{IsBatch, is_spent}, Turn.Takes}
-use Rattle.poll_runs.proofs.PollFacts.{chain-push}
-use Rattle.poll_runs.proofs.RunFacts.{filled-room, going-ends, going-filled, going-poll, going-start, handed-room}
+use Rattle.poll_runs.proofs.{PollFacts.chain-push, RunFacts.{filled-room, going-ends, going-filled, going-poll, going-start, handed-room}}
 use Rattle.poll_runs.proofs.run.run_softirq.Goals.{else-loop-own-test, then-loop-own-test+in_default}
 use Rattle.poll_runs.proofs.run.run_softirq.Goals as goal
 

@@ -1,7 +1,6 @@
 use Rattle.std.proofs.Common.{◌≡◌, ◌∙◌, ◌++◌, ◌-◌, ℕ, List, length, take, drop, sym, ap, append_assoc, take-append-drop, rules, arith}
 use Rattle.{std.proofs.lemmas.List.take_rest, replay_text.specs.Stops.{stopped_at_last, stopped_at_none, stopped_by}}
-use Rattle.{replay_text.proofs.OutFacts.{cut_behind, none_more, then_kept, then_more}}
-use Rattle.replay_text.proofs.lines.write_out.Goals.{in-Err, in-Ok+else-count-eq0}
+use Rattle.replay_text.proofs.{OutFacts.{cut_behind, none_more, then_kept, then_more}, lines.write_out.Goals.{in-Err, in-Ok+else-count-eq0}}
 use Rattle.replay_text.proofs.lines.write_out.Goals as goal
 
 moves_front : (all done rest : List ℕ) (n : ℕ) → all ≡ done ++ rest → all ≡ (done ++ take n rest) ++ take (length rest - n) (drop n rest)

@@ -1,8 +1,7 @@
-use Rattle.std.{proofs.Common.{◌≡◌, ◌∙◌, ap, false, map, rules, sym, true≢false}, specs.List.list_any}
-use Rattle.clap.specs.{Words.app_of, declared.error.kind.ErrorKind.TheVariants.OutOfMemory}
-use Rattle.clap.specs.contracts.error.kind.ErrorKind.{the_type}
-use Rattle.replay_words.specs.{Given.is_stray, Refusals.{refused_by, refused_by_clap}}
-use Rattle.replay_words.proofs.ClapFacts.{none-given, read_err, read_is_given, read_ok, stray_is_refused}
+use Rattle.{std.{proofs.Common.{◌≡◌, ◌∙◌, ap, false, map, rules, sym, true≢false}, specs.List.list_any}, clap.specs.Words.app_of}
+use Rattle.clap.specs.{declared.error.kind.ErrorKind.TheVariants.OutOfMemory, contracts.error.kind.ErrorKind.the_type}
+use Rattle.replay_words.{specs.{Given.is_stray, Refusals.{refused_by, refused_by_clap}}, proofs.ClapFacts.{none-given, read_err}}
+use Rattle.replay_words.proofs.ClapFacts.{read_is_given, read_ok, stray_is_refused}
 use denote.Enum.Bare.{sameb}
 use Rattle.replay_words.proofs.options.read_options.Goals as goal
 

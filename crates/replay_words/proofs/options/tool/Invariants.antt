@@ -1,5 +1,4 @@
-use Rattle.{std.proofs.Common.{◌≡◌, take, map}, clap.specs.Simple.app_of}
-use Rattle.replay_words.specs.Options.{tool}
+use Rattle.{std.proofs.Common.{◌≡◌, take, map}, clap.specs.Simple.app_of, replay_words.specs.Options.tool}
 use Rattle.replay_words.proofs.options.tool.Given as goal
 
 abbrev pub invariant-loop-name : goal.invariant-loop-name

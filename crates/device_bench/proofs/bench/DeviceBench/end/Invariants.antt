@@ -1,5 +1,4 @@
-use Rattle.std.proofs.Common.{length}
-use Rattle.device_bench.proofs.EndingFacts.{EndedFrom}
+use Rattle.{std.proofs.Common.length, device_bench.proofs.EndingFacts.EndedFrom}
 use Rattle.device_bench.proofs.bench.DeviceBench.end.Given as goal
 
 abbrev pub invariant-loop-place : goal.invariant-loop-place

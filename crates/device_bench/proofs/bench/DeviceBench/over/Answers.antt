@@ -1,9 +1,5 @@
-use Rattle.{std.proofs.Common.{◌≡◌, false, subst, sym, arith}, device_bench.{specs.Kept.IsKept, proofs.BenchFacts.kept-empty}}
-use Rattle.device_rows.specs.Places.{empty}
+use Rattle.{std.proofs.Common.{sym, subst, false}, device_bench.{specs.Kept.IsKept, proofs.BenchFacts.kept-empty}}
 use Rattle.device_bench.proofs.bench.DeviceBench.over.Goals as goal
 
 pub invariant_of-result : goal.invariant_of-result
-invariant_of-result g c =
-    let all : c.loop.counter ≡ 17 = omega (arith, c.loop-test.false) in
-    let none : c.loop.devices.items ≡ empty = rw all at c.loop.invariant in
-    record { kept = subst (IsKept false) (sym none) kept-empty }
+invariant_of-result g c = record { kept = subst (IsKept false) (sym c.in_ok-no_devices.ensures) kept-empty }

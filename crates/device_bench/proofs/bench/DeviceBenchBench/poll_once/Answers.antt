@@ -1,7 +1,5 @@
-use Rattle.std.proofs.Common.{ap, refl, sym, arith}
-use Rattle.device_bench.{proofs.{BenchFacts.{kept-changed, here-at, sound-at}, DeviceFacts.once-keeps}}
-use Rattle.{std.specs.Prelude.is_some}
-use Rattle.device_bench.proofs.{SideFacts.sides-set, Waiting.waiting-less}
+use Rattle.{std.{proofs.Common.{ap, refl, sym, arith}, specs.Prelude.is_some}, device_bench.proofs.BenchFacts.{kept-changed, here-at}}
+use Rattle.device_bench.proofs.{BenchFacts.sound-at, DeviceFacts.once-keeps, SideFacts.sides-set, Waiting.waiting-less}
 use Rattle.device_bench.proofs.bench.DeviceBenchBench.poll_once.Goals as goal
 
 pub invariant_of-self : goal.invariant_of-self

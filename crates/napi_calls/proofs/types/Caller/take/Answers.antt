@@ -1,6 +1,5 @@
-use Rattle.std.proofs.Common.{refl}
-use Rattle.napi_calls.proofs.{Standing.{kept, made, self_polling, moved, busy_taken, busy_moved, outside}, Packets.{quiet_step, taken}}
-use Rattle.{napi_calls.proofs.Making.{nothing, step, still}, napi_model.specs.declared.state.Place.Place}
+use Rattle.{std.proofs.Common.refl, napi_calls.proofs.Standing.{kept, made, self_polling, moved, busy_taken, busy_moved, outside}}
+use Rattle.{napi_calls.proofs.{Packets.{quiet_step, taken}, Making.{nothing, step, still}}, napi_model.specs.declared.state.Place.Place}
 use Rattle.napi_calls.proofs.types.Caller.take.Goals as goal
 
 pub invariant_of-result : goal.invariant_of-result

@@ -1,6 +1,5 @@
-use Rattle.{std.proofs.Common.ap, napi_word.specs.Slot.has_at}
-use Rattle.napi_calls.specs.{Seats.number_of, Knows.Free}
-use Rattle.napi_calls.proofs.{Packets.quiet_given, Standing.{made, hand_free, is_granted}, Making.{nothing, step}}
+use Rattle.{std.proofs.Common.ap, napi_word.specs.Slot.has_at, napi_calls.{specs.{Seats.number_of, Knows.Free}, proofs.Packets.quiet_given}}
+use Rattle.napi_calls.proofs.{Standing.{made, hand_free, is_granted}, Making.{nothing, step}}
 use Rattle.napi_calls.proofs.types.Granted.hand.Goals as goal
 
 pub invariant_of-result : goal.invariant_of-result

@@ -1,12 +1,11 @@
-use Rattle.{std.proofs.Common.{ℕ, List, Some, ap, ◌∙◌, sym, refl}, atomic_table.specs.Table.Me}
-use Rattle.napi_model.specs.{declared.event.{Event.Event, Operation.TheVariants.Look}, Step.{event, opening, seen_of}, History.state_after}
-use Rattle.napi_word.specs.declared.table.Pass.{Pass}
-use Rattle.napi_word.specs.{View.{View, number_of}, Passes.view_of, Slot.Content, Surveys.IsSurveyed}
-use Rattle.napi_word.proofs.{Said.one_there, Allowed.hold_nothing, Splitting.{joins_front, parts_last_of}}
-use Rattle.napi_word.proofs.CatchingUp.{answers_step, answers_survey, surveys, first_pass, second_pass, third_pass, caught_is}
-use Rattle.napi_word.proofs.CatchingUp.{caught_is_pass, second_left, second_left_pass, first_left, first_left_pass, first_back, second_back}
-use Rattle.napi_word.proofs.CatchingUp.{third_back, last_back, last_slot, last_tied, rest_tied, last_steps, whole_is, told_is, all_led}
-use Rattle.napi_word.proofs.CatchingUp.{all_named, of_both_four}
+use Rattle.{std.proofs.Common.{ℕ, List, Some, ap, ◌∙◌, sym, refl}, atomic_table.specs.Table.Me, napi_model.specs.declared.event.Event.Event}
+use Rattle.napi_model.specs.{declared.event.Operation.TheVariants.Look, Step.{event, opening, seen_of}, History.state_after}
+use Rattle.napi_word.specs.{declared.table.Pass.Pass, View.{View, number_of}, Passes.view_of, Slot.Content, Surveys.IsSurveyed}
+use Rattle.napi_word.proofs.{Said.one_there, Allowed.hold_nothing, Splitting.{joins_front, parts_last_of}, CatchingUp.answers_step}
+use Rattle.napi_word.proofs.CatchingUp.{answers_survey, surveys, first_pass, second_pass, third_pass, caught_is, caught_is_pass}
+use Rattle.napi_word.proofs.CatchingUp.{second_left, second_left_pass, first_left, first_left_pass, first_back, second_back, third_back}
+use Rattle.napi_word.proofs.CatchingUp.{last_back, last_slot, last_tied, rest_tied, last_steps, whole_is, told_is, all_led, all_named}
+use Rattle.napi_word.proofs.CatchingUp.{of_both_four}
 use Rattle.napi_word.proofs.table.StateTable.survey.Goals as goal
 
 pub join_seat-requires : goal.join_seat-requires

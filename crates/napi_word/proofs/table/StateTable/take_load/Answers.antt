@@ -1,5 +1,5 @@
-use Rattle.std.proofs.Common.{Bool, ◌∙◌, sym, subst}
-use Rattle.napi_word.{specs.{Events.Steps, Told.busy_op}, proofs.{Knowing.{either_not, look_disable}, Turns.asks}}
+use Rattle.std.proofs.{Common.{Bool, ◌∙◌, sym, subst}, lemmas.Bool.or_parts}
+use Rattle.napi_word.{specs.{Events.Steps, Told.busy_op}, proofs.{Knowing.look_disable, Turns.asks}}
 use Rattle.napi_word.proofs.table.StateTable.take_load.Goals as goal
 
 pub load-seen-requires-clause-may : goal.load-seen-requires-clause-may
@@ -12,5 +12,5 @@ returns-else-is_busy-clause-idle c =
     let x = c.load-seen.result in
     let idle = sym c.is_busy.ensures ∙ c.if-is_busy.false in
     let looked = subst (λ (b : Bool). Steps v (busy_op b x) w) idle c.load-seen.ensures.did.0 in
-    let parts = either_not x.flags.sched x.flags.npsvc idle in
+    let parts = or_parts x.flags.sched x.flags.npsvc idle in
     (look_disable v x w looked c.requires.controller ∙ c.requires.marked, parts.0, parts.1)

@@ -1,7 +1,6 @@
 use Rattle.std.proofs.Common.{◌≡◌, ◌∙◌, ◌+◌, ◌++◌, ℕ, List, append_assoc, append-nil, Some, suc, ap, arith, string_bytes, sym}
-use Rattle.device_rows.proofs.PlaceFacts.{none-of}
-use Rattle.replay_rows.specs.{Played.state_in, Report.{counts_of, device_lines, lines_below, lines_of}}
-use Rattle.replay_rows.proofs.replay.Replay.add_devices.Goals.{then-is_attached+in_ok-add_device, else-is_attached}
+use Rattle.{device_rows.proofs.PlaceFacts.none-of, replay_rows.specs.{Played.state_in, Report.{counts_of, device_lines, lines_below}}}
+use Rattle.replay_rows.{specs.Report.lines_of, proofs.replay.Replay.add_devices.Goals.{then-is_attached+in_ok-add_device, else-is_attached}}
 use Rattle.replay_rows.proofs.replay.Replay.add_devices.Goals as goal
 
 pub loop-number-init : goal.loop-number-init

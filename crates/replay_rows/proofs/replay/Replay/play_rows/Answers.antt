@@ -1,7 +1,6 @@
 use Rattle.std.proofs.{Common.{inl, inr, ◌<◌, length, take, subst, sym, arith}, lemmas.Result.err_from_is_err_and}
-use Rattle.device_rows.specs.declared.{event.Event.TheVariants.Opened, row.Row.Row}
+use Rattle.device_rows.{specs.declared.{event.Event.TheVariants.Opened, row.Row.Row}, proofs.Accepted.accepted-at}
 use Rattle.replay_rows.{specs.Transmits.after_transmits, proofs.PlayFacts.{after_transmits-more, played-early, played-more, report-early}}
-use Rattle.device_rows.proofs.Accepted.{accepted-at}
 use Rattle.replay_rows.proofs.replay.Replay.play_rows.Goals as goal
 
 -- the row that an index out of the rows would give

@@ -1,7 +1,6 @@
-use Rattle.{std.specs.Prelude.flat_map, device_bench.specs.Bench.attached}
-use Rattle.replay_rows.specs.{Played.state_in, Report.{lines_below, lines_of, list_line, poll_line, text_by, total_line, totals_of}}
+use Rattle.{std.specs.Prelude.flat_map, device_bench.specs.Bench.attached, replay_rows.specs.{Played.state_in, Report.lines_below}}
+use Rattle.replay_rows.{specs.Report.{lines_of, list_line, poll_line, text_by, total_line, totals_of}, proofs.PlayFacts.four-parts}
 use Rattle.replay_text.specs.Lines.{ended}
-use Rattle.replay_rows.proofs.PlayFacts.{four-parts}
 use Rattle.replay_rows.proofs.replay.Replay.report.Goals as goal
 
 pub returns : goal.returns
