@@ -1,28 +1,18 @@
 -- Where nothing is under way, nothing is left to do.
-use Rattle.std.proofs.Common.{◌≡◌, ◌∙◌, ℕ, zero, suc, ◌+◌, ◌-◌, ◌<◌, ◌≤◌, ◌^◌, Bool, true, false, Option, Some, None, List, [], ◌∷◌, ◌++◌}
-use Rattle.std.proofs.{Common.{drop, length, length-drop, refl, arith}, lemmas.Bool.{eqb-true, le-leb, lt-ltb}}
-use Rattle.std.specs.Prelude.{◌==◌, ◌&&◌, ◌||◌, if◌then◌else◌, min, nat_le, nat_lt, not, position, slice_get}
-use Rattle.{std.specs.List.position_or_len, device_rows.specs.Places.{at, changed}, machine_words.specs.declared.settings.Settings.Settings}
-use Rattle.poll_runs.specs.{Turn.asked_for, declared.bench.{Next.TheVariants.{Gone, Repoll}}}
-use Rattle.machine_model.specs.Device.{DeviceView, after_packet, ended_interrupt, ended_poll, interrupted, polled}
-use Rattle.machine_model.specs.{Devices.{Devices, batch_at, is_handed_at, raises_at}, Waits.held}
+use Rattle.std.proofs.{lemmas.Bool.{eqb-true, le-leb, lt-ltb}, Common.{◌≡◌, ◌∙◌, ℕ, zero, suc, ◌+◌, ◌-◌, ◌<◌, ◌≤◌, ◌^◌, Bool, true, false}}
+use Rattle.std.{proofs.Common.{Option, Some, None, List, [], ◌∷◌, ◌++◌, drop, length, length-drop, refl, arith}, specs.Prelude.{◌==◌, ◌&&◌}}
+use Rattle.std.specs.{Prelude.{◌||◌, if◌then◌else◌, min, nat_le, nat_lt, not, position, slice_get}, List.position_or_len}
+use Rattle.machine_model.proofs.{PlacesFacts.{map_at, packet-by}, FateFacts.{at-apart, at-here, at-kept, made_at, at-arrived, at-either}}
+use Rattle.machine_model.proofs.{StepFacts.ends_polls, TimeFacts.timed, WalkFacts.{Free, Still, Walk, arrived, nexted, walk, walk-comes}}
+use Rattle.machine_model.{proofs.WorkFacts.{Goes, Rests, free-ended, goes-on, work-ended, work-walk}, specs.Softirq.{RunView, SoftirqView}}
+use Rattle.machine_model.specs.{Softirq.{asked_in, begun, ended, filled, is_spent, next_from, next_of, pushed, told}, Laws.{Event, behind}}
+use Rattle.machine_model.specs.{Laws.{end, packet}, declared.processor.Work.{Work, TheVariants.{Interrupt, Nothing, Poll, Use}}}
+use Rattle.machine_model.specs.{Devices.{Devices, batch_at, is_handed_at, raises_at}, Processor.{ProcessorView, comes, delivers, ends_by}}
+use Rattle.machine_model.specs.Processor.{ends_current, ends_interrupt, ends_poll, ends_run, interrupts, is_busy, is_polling, polls, step}
+use Rattle.machine_model.specs.{Device.{DeviceView, after_packet, ended_interrupt, ended_poll, interrupted, polled}, Kept.{masks, mask_at}}
+use Rattle.{machine_model.specs.{Fates.{NothingIsLeft, ring_in}, Waits.held}, machine_words.specs.declared.settings.Settings.Settings}
+use Rattle.{poll_runs.specs.{Turn.asked_for, declared.bench.Next.TheVariants.{Gone, Repoll}}, device_rows.specs.Places.{at, changed}}
 use Rattle.machine_model.specs.Device as device
-use Rattle.machine_model.specs.Fates.{NothingIsLeft, ring_in}
-use Rattle.machine_model.specs.Laws.{Event, behind, end, packet}
-use Rattle.machine_model.specs.Processor.{ProcessorView, comes, delivers, ends_by, ends_current, ends_interrupt, ends_poll}
-use Rattle.machine_model.specs.Processor.{ends_run, interrupts, is_busy, is_polling, polls, step}
-use Rattle.machine_model.specs.Softirq.{RunView, SoftirqView, asked_in, begun, ended, filled, is_spent, next_from}
-use Rattle.machine_model.specs.Softirq.{next_of, pushed, told}
-use Rattle.machine_model.specs.declared.processor.Work.{Work}
-use Rattle.machine_model.specs.declared.processor.Work.TheVariants.{Interrupt, Nothing, Poll, Use}
-use Rattle.machine_model.proofs.FateFacts.{at-apart, at-here, at-kept, made_at}
-use Rattle.machine_model.proofs.{PlacesFacts.map_at, TimeFacts.timed, WalkFacts.{Free, Still, Walk, arrived, nexted, walk, walk-comes}}
-use Rattle.machine_model.proofs.WorkFacts.{Goes, Rests, free-ended, goes-on, work-ended, work-walk}
-use Rattle.machine_model.specs.Kept.{masks, mask_at}
-use Rattle.machine_model.proofs.StepFacts.{ends_polls}
-use Rattle.machine_model.proofs.PlacesFacts.{packet-by}
-use Rattle.machine_model.proofs.FateFacts.{at-arrived}
-use Rattle.machine_model.proofs.FateFacts.{at-either}
 
 -- ---- how often a number stands on the list and in the run
 

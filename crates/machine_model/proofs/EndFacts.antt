@@ -1,19 +1,9 @@
 -- Behind what ends, nothing is asked.
-use Rattle.std.{proofs.Common.{◌≡◌, ℕ, Bool, true, false, Option, Some, None, refl}, specs.Prelude.if◌then◌else◌}
-use Rattle.machine_model.specs.Kept.{is_poll}
-use Rattle.machine_model.specs.Processor.{ProcessorView, delivers, ends_by, ends_current, ends_interrupt, ends_poll, is_polling}
-use Rattle.machine_model.specs.Softirq.{asked_in}
-use Rattle.machine_model.specs.declared.processor.Work.{Work}
-use Rattle.machine_model.specs.declared.processor.Work.TheVariants.{Interrupt, Nothing, Poll, Use}
-use Rattle.machine_model.proofs.ListedFacts.{asked-told}
-use Rattle.machine_model.proofs.StepFacts.{ends_polls}
-use Rattle.machine_model.specs.Waits.{counted}
-use Rattle.std.specs.Option.{option_map_or}
-use Rattle.std.specs.Prelude.{◌-◌}
-use Rattle.std.specs.Prelude.{List, [], ◌∷◌}
-use Rattle.device_rows.specs.Places.{at}
-use Rattle.machine_model.specs.Devices.{batch_at}
-use Rattle.machine_model.specs.Fates.{gives_by, polled_by, using}
+use Rattle.{device_rows.specs.Places.at, machine_model.specs.{Fates.{gives_by, polled_by, using}, Processor.{ProcessorView, delivers}}}
+use Rattle.machine_model.specs.{Processor.{ends_by, ends_current, ends_interrupt, ends_poll, is_polling}, Softirq.asked_in, Waits.counted}
+use Rattle.machine_model.specs.{Devices.batch_at, declared.processor.Work.{Work, TheVariants.{Interrupt, Nothing, Poll, Use}}, Kept.is_poll}
+use Rattle.{machine_model.proofs.{StepFacts.ends_polls, ListedFacts.asked-told}, std.specs.Prelude.{if◌then◌else◌, ◌-◌, List, [], ◌∷◌}}
+use Rattle.std.{specs.Option.option_map_or, proofs.Common.{◌≡◌, ℕ, Bool, true, false, Option, Some, None, refl}}
 
 -- What holds of what is given and used, and behind it, for each way to end: nothing is delivered, an interrupt without polling, a
 -- poll, a use.

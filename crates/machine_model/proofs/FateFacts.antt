@@ -1,29 +1,18 @@
 -- What becomes of packets: each is delivered in its order.
 use Rattle.std.proofs.Common.{◌≡◌, ◌∙◌, ℕ, zero, suc, ◌+◌, ◌-◌, ◌<◌, Bool, true, false, Option, Some, None, List, [], ◌∷◌, ◌++◌}
-use Rattle.std.proofs.Common.{append_assoc, length, length-append, replicate, refl, sym, ap, arith}
-use Rattle.std.proofs.lemmas.{Bool.{eqb-false, eqb-true}, Grind.get_or-set_at}
-use Rattle.std.proofs.lemmas.List.{append-nil, get_or-set_other, length-replicate, take-append-drop}
-use Rattle.std.specs.Prelude.{◌==◌, ◌&&◌, if◌then◌else◌, min, nat_lt}
-use Rattle.device_rows.specs.Places.{added_at, at, changed, changed_from}
-use Rattle.machine_words.specs.declared.settings.Settings.{Settings}
-use Rattle.machine_model.specs.Device.{DeviceView, after_packet, ended_interrupt, ended_poll, interrupted, opened, polled}
-use Rattle.machine_model.specs.{Devices.{Devices, batch_at, with_device}}
-use Rattle.machine_model.specs.Fates as fate
+use Rattle.std.proofs.{Common.{append_assoc, length, length-append, replicate, refl, sym, ap, arith, subst}, lemmas.Bool.eqb-false}
+use Rattle.std.proofs.lemmas.{Bool.eqb-true, Grind.get_or-set_at, List.{append-nil, get_or-set_other, length-replicate, take-append-drop}}
+use Rattle.{std.specs.Prelude.{◌==◌, ◌&&◌, if◌then◌else◌, min, nat_lt}, device_rows.specs.Places.{added_at, at, changed, changed_from}}
+use Rattle.{machine_words.specs.declared.settings.Settings.Settings, machine_model.specs.Device.{DeviceView, after_packet, ended_interrupt}}
+use Rattle.machine_model.specs.{Device.{ended_poll, interrupted, opened, polled}, Devices.{Devices, batch_at, with_device}}
 use Rattle.machine_model.specs.Fates.{DeliversInOrder, came, finds_room, given, given_from, gives_by, polled_by, ring_in, taken_by}
+use Rattle.machine_model.specs.{Laws.{Event, behind, end, packet}, Processor.{ProcessorView, comes, delivers, ends_by, ends_current}}
+use Rattle.machine_model.specs.Processor.{ends_interrupt, ends_poll, ends_run, interrupts, is_busy, is_polling, polls, step}
+use Rattle.machine_model.specs.{Softirq.{asked_in, next_of}, declared.processor.Work.{Work, TheVariants.{Interrupt, Nothing, Poll, Use}}}
+use Rattle.machine_model.proofs.{PlacesFacts.{at-changed, map_at, with_place, packet-by}, WalkFacts.{Walk, arrived, nexted, walk}}
+use Rattle.machine_model.proofs.{WalkFacts.walk-comes, WorkFacts.{Goes, free-ended, goes-on}, StepFacts.ends_polls, EndFacts.ends}
+use Rattle.machine_model.specs.Fates as fate
 use Rattle.machine_model.specs.Device as device
-use Rattle.machine_model.specs.Laws.{Event, behind, end, packet}
-use Rattle.machine_model.specs.Processor.{ProcessorView, comes, delivers, ends_by, ends_current, ends_interrupt, ends_poll}
-use Rattle.machine_model.specs.Processor.{ends_run, interrupts, is_busy, is_polling, polls, step}
-use Rattle.machine_model.specs.Softirq.{asked_in, next_of}
-use Rattle.machine_model.specs.declared.processor.Work.{Work}
-use Rattle.machine_model.specs.declared.processor.Work.TheVariants.{Interrupt, Nothing, Poll, Use}
-use Rattle.machine_model.proofs.{PlacesFacts.{at-changed, map_at}, WalkFacts.{Walk, arrived, nexted, walk, walk-comes}}
-use Rattle.machine_model.proofs.WorkFacts.{Goes, free-ended, goes-on}
-use Rattle.machine_model.proofs.StepFacts.{ends_polls}
-use Rattle.machine_model.proofs.PlacesFacts.{with_place}
-use Rattle.machine_model.proofs.EndFacts.{ends}
-use Rattle.machine_model.proofs.PlacesFacts.{packet-by}
-use Rattle.std.proofs.Common.{subst}
 
 -- ---- what stands at a number
 

@@ -1,18 +1,12 @@
 -- What is true of each processor stays so.
-use Rattle.std.proofs.Common.{◌≡◌, ◌∙◌, ℕ, ◌+◌, ◌≤◌, Bool, true, false, Option, Some, None, List, length, length-take, refl}
-use Rattle.std.{proofs.Common.{sym, arith}, specs.Prelude.{if◌then◌else◌, min}}
-use Rattle.machine_words.specs.declared.settings.Settings.{Settings}
-use Rattle.poll_runs.specs.declared.bench.{Next.TheVariants.{Gone, Repoll}, Once.Once}
-use Rattle.machine_model.specs.{Device.{DeviceView, after_packet, ended_poll, interrupted}}
-use Rattle.machine_model.specs.{Devices.{Devices, batch_at, is_handed_at}, Kept.{Kept, is_poll}}
-use Rattle.machine_model.specs.Softirq.{SoftirqView, asked_in, begun, ended, next_of, pushed, told}
-use Rattle.machine_model.specs.declared.processor.Work.{Work}
-use Rattle.machine_model.specs.declared.processor.Work.TheVariants.{Poll}
-use Rattle.device_rows.specs.Places.{at, changed}
-use Rattle.machine_model.proofs.ListedFacts.{asked-told, listed-begun, listed-ended, listed-pushed, listed-told, next-keeps, weight-told}
-use Rattle.machine_model.proofs.PlacesFacts.{masks-ended, masks-interrupted, masks-same}
-use Rattle.machine_model.specs.Kept.{masks}
-use Rattle.machine_model.proofs.PlacesFacts.{packet-by}
+use Rattle.std.proofs.Common.{◌≡◌, ◌∙◌, ℕ, ◌+◌, ◌≤◌, Bool, true, false, Option, Some, None, List, length, length-take, refl, sym, arith}
+use Rattle.{std.specs.Prelude.{if◌then◌else◌, min}, machine_words.specs.declared.settings.Settings.Settings}
+use Rattle.{poll_runs.specs.declared.bench.{Next.TheVariants.{Gone, Repoll}, Once.Once}, device_rows.specs.Places.{at, changed}}
+use Rattle.machine_model.specs.{Device.{DeviceView, after_packet, ended_poll, interrupted}, Devices.{Devices, batch_at, is_handed_at}}
+use Rattle.machine_model.specs.{Kept.{Kept, is_poll, masks}, Softirq.{SoftirqView, asked_in, begun, ended, next_of, pushed, told}}
+use Rattle.machine_model.{specs.declared.processor.Work.{Work, TheVariants.Poll}, proofs.ListedFacts.{asked-told, listed-begun}}
+use Rattle.machine_model.proofs.{ListedFacts.{listed-ended, listed-pushed, listed-told, next-keeps, weight-told}, PlacesFacts.masks-ended}
+use Rattle.machine_model.proofs.PlacesFacts.{masks-interrupted, masks-same, packet-by}
 
 -- devices change, none is unmasked
 pub kept-devices : (s : Settings) (w : Work) (ds es : Devices) (q : SoftirqView) (b : List ℕ) → Kept s w ds q b → masks ds ≤ masks es

@@ -1,29 +1,20 @@
 -- No wait is less than what its work takes.
-use Rattle.std.proofs.Common.{◌≡◌, ◌∙◌, ℕ, zero, suc, ◌+◌, ◌-◌, ◌*◌, ◌<◌, ◌≤◌, ◌^◌, Bool, true, false, Option, Some, None, List, [], ◌∷◌}
-use Rattle.std.proofs.Common.{◌++◌, length, length-append, map, take, drop, refl, sym, ap, subst, arith}
-use Rattle.std.proofs.lemmas.{Bool.{eq-eqb, eqb-true, leb-false}, List.take-append-drop}
-use Rattle.circular_buffer.specs.Buffer.{Buffer}
-use Rattle.std.specs.{Prelude.{◌==◌, ◌&&◌, if◌then◌else◌, min, nat_lt, not}, List.AllByRecursion}
 use Rattle.{device_rows.specs.Places.{at, changed}, machine_words.specs.declared.settings.Settings.Settings}
-use Rattle.machine_model.specs.Device.{DeviceView, after_packet, ended_interrupt, interrupted, polled}
-use Rattle.machine_model.specs.{Devices.{Devices, batch_at, raises_at}, Softirq.{RunView, asked_in}, Waits.held}
+use Rattle.machine_model.specs.{Softirq.{RunView, asked_in}, Fates.{NoWaitIsLess, given, given_from, gives_by, kept_from, least_time}}
+use Rattle.machine_model.specs.{Fates.{polled_by, ring_in, room_for, use_waits, using, waits}, Device.{DeviceView, after_packet}}
+use Rattle.machine_model.specs.{Device.{ended_interrupt, interrupted, polled}, Devices.{Devices, batch_at, raises_at}}
+use Rattle.machine_model.specs.Processor.{ProcessorView, comes, delivers, ends_by, ends_current, ends_interrupt, ends_run, interrupts}
+use Rattle.machine_model.specs.{Processor.{is_busy, is_due, is_polling, polls, step, uses}, Laws.{Event, InTurn, behind, end, packet}}
+use Rattle.machine_model.specs.{Waits.held, declared.processor.Work.{Work, TheVariants.{Interrupt, Nothing, Poll, Use}}}
+use Rattle.machine_model.proofs.{WalkFacts.{Free, Walk, arrived, implied, nexted, walk, walk-comes}, PlacesFacts.{map_at, packet-by}}
+use Rattle.machine_model.proofs.{SocketFacts.ended-by, EndFacts.ends, WorkFacts.{Goes, Rests, RunsIn, free-ended, goes-on, work-ended}}
+use Rattle.machine_model.proofs.{WorkFacts.work-walk, TimeFacts.{clock-ended, clocks-never-fall, due-parts, timed}, FateFacts.at-apart}
+use Rattle.machine_model.proofs.FateFacts.{at-here, at-kept, capacities, capacity_in, comes-ring, made_at, poll-ring, at-arrived, at-either}
+use Rattle.{machine_model.proofs.FateFacts.polled-ring, std.proofs.lemmas.{List.take-append-drop, Bool.{eq-eqb, eqb-true, leb-false}}}
+use Rattle.std.proofs.Common.{◌≡◌, ◌∙◌, ℕ, zero, suc, ◌+◌, ◌-◌, ◌*◌, ◌<◌, ◌≤◌, ◌^◌, Bool, true, false, Option, Some, None, List, [], ◌∷◌}
+use Rattle.std.{proofs.Common.{◌++◌, length, length-append, map, take, drop, refl, sym, ap, subst, arith}, specs.Prelude.{◌==◌, ◌&&◌}}
+use Rattle.{std.specs.{Prelude.{if◌then◌else◌, min, nat_lt, not}, List.AllByRecursion}, circular_buffer.specs.Buffer.Buffer}
 use Rattle.machine_model.specs.Device as device
-use Rattle.machine_model.specs.Fates.{NoWaitIsLess, given, given_from, gives_by, kept_from, least_time, polled_by, ring_in, room_for}
-use Rattle.machine_model.specs.Fates.{use_waits, using, waits}
-use Rattle.machine_model.specs.Laws.{Event, InTurn, behind, end, packet}
-use Rattle.machine_model.specs.Processor.{ProcessorView, comes, delivers, ends_by, ends_current, ends_interrupt, ends_run}
-use Rattle.machine_model.specs.Processor.{interrupts, is_busy, is_due, is_polling, polls, step}
-use Rattle.machine_model.specs.declared.processor.Work.{Work}
-use Rattle.machine_model.specs.declared.processor.Work.TheVariants.{Interrupt, Nothing, Poll, Use}
-use Rattle.machine_model.proofs.FateFacts.{at-apart, at-here, at-kept, capacities, capacity_in, comes-ring, made_at, poll-ring}
-use Rattle.machine_model.proofs.{PlacesFacts.map_at, SocketFacts.ended-by, TimeFacts.{clock-ended, clocks-never-fall, due-parts, timed}}
-use Rattle.machine_model.proofs.WalkFacts.{Free, Walk, arrived, implied, nexted, walk, walk-comes}
-use Rattle.machine_model.proofs.WorkFacts.{Goes, Rests, RunsIn, free-ended, goes-on, work-ended, work-walk}
-use Rattle.machine_model.specs.Processor.{uses}
-use Rattle.machine_model.proofs.EndFacts.{ends}
-use Rattle.machine_model.proofs.PlacesFacts.{packet-by}
-use Rattle.machine_model.proofs.FateFacts.{at-arrived}
-use Rattle.machine_model.proofs.FateFacts.{at-either, polled-ring}
 
 abbrev pub interrupt_time : Settings → ℕ
 interrupt_time s = if is_polling s then s.interrupt else s.interrupt + s.packet

@@ -1,23 +1,17 @@
 -- How much is left to be done on a processor: each piece of work leaves less.
-use Rattle.std.proofs.Common.{◌≡◌, ◌∙◌, ℕ, ◌+◌, ◌-◌, ◌*◌, ◌<◌, ◌≤◌, Bool, true, false, Option, Some, None, List, [], ◌∷◌, ◌++◌, length}
-use Rattle.std.proofs.Common.{length-append, length-drop, length-take, take, drop, refl, ap, arith}
-use Rattle.std.proofs.lemmas.{Bool.{eqb-true, eqb-false}, List.Quantifiers.position-Some}
+use Rattle.machine_model.proofs.{PlacesFacts.{at-changed, map_at, sum-at, sum-changed}, StepFacts.{ends_polls, polls_or, takes_up_by}}
+use Rattle.machine_model.proofs.{EndFacts.asked-ends, ListedFacts.{asked-told, listed-begun, listed-ended, listed-pushed, listed-told}}
+use Rattle.machine_model.{proofs.{ListedFacts.next-keeps, KeptFacts.run-ended}, specs.Devices.{Devices, batch_at, is_handed_at, raises_at}}
+use Rattle.machine_model.specs.{Device.{DeviceView, delivered, ended_interrupt, ended_poll, interrupted, polled, taken}, Kept.IsKept}
+use Rattle.machine_model.specs.Processor.{ProcessorView, begins, delivers, ends_by, ends_current, ends_interrupt, ends_poll, ends_run}
+use Rattle.machine_model.specs.{Processor.{goes_on, interrupts, is_busy, is_polling, polls, rests, step, takes_up, uses}, Softirq.RunView}
+use Rattle.machine_model.specs.{Softirq.{SoftirqView, asked_in, begun, ended, next_of, pushed, told}, Shown.{held_in, listed}}
+use Rattle.{machine_model.specs.declared.processor.Work.{Work, TheVariants.{Interrupt, Nothing, Poll, Use}}, device_rows.specs.Places.at}
+use Rattle.{device_rows.{specs.Places.changed, proofs.PlaceFacts.none-of}, std.proofs.Common.{◌≡◌, ◌∙◌, ℕ, ◌+◌, ◌-◌, ◌*◌, ◌<◌, ◌≤◌, Bool}}
+use Rattle.std.proofs.Common.{true, false, Option, Some, None, List, [], ◌∷◌, ◌++◌, length, length-append, length-drop, length-take, take}
+use Rattle.std.proofs.{Common.{drop, refl, ap, arith}, lemmas.{Bool.{eqb-true, eqb-false}, List.Quantifiers.position-Some}}
 use Rattle.std.specs.Prelude.{◌==◌, ◌&&◌, if◌then◌else◌, is_some, min, nat_le, nat_lt, not, position, sum_by}
-use Rattle.device_rows.{specs.Places.{at, changed}, proofs.PlaceFacts.none-of}
-use Rattle.poll_runs.specs.{Turn.asked_for, declared.bench.{Next.TheVariants.{Gone, Repoll}, Once.Once}}
-use Rattle.machine_model.specs.Device.{DeviceView, delivered, ended_interrupt, ended_poll, interrupted, polled, taken}
-use Rattle.machine_model.specs.{Devices.{Devices, batch_at, is_handed_at, raises_at}, Kept.IsKept}
-use Rattle.machine_model.specs.Processor.{ProcessorView, begins, delivers, ends_by, ends_current, ends_interrupt, ends_poll}
-use Rattle.machine_model.specs.Processor.{ends_run, goes_on, interrupts, is_busy, is_polling, polls, rests, step, takes_up}
-use Rattle.machine_model.specs.Processor.{uses}
-use Rattle.machine_model.specs.Softirq.{RunView, SoftirqView, asked_in, begun, ended, next_of, pushed, told}
-use Rattle.machine_model.specs.declared.processor.Work.{Work}
-use Rattle.machine_model.specs.declared.processor.Work.TheVariants.{Interrupt, Nothing, Poll, Use}
-use Rattle.machine_model.proofs.{EndFacts.asked-ends, KeptFacts.run-ended}
-use Rattle.machine_model.proofs.ListedFacts.{asked-told, listed-begun, listed-ended, listed-pushed, listed-told, next-keeps}
-use Rattle.machine_model.proofs.PlacesFacts.{at-changed, map_at, sum-at, sum-changed}
-use Rattle.machine_model.specs.Shown.{held_in, listed}
-use Rattle.machine_model.proofs.StepFacts.{ends_polls, polls_or, takes_up_by}
+use Rattle.poll_runs.specs.{declared.bench.{Next.TheVariants.{Gone, Repoll}, Once.Once}, Turn.asked_for}
 
 -- ---- devices
 

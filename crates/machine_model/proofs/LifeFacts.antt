@@ -1,15 +1,11 @@
 -- Each processor of a machine lived.
+use Rattle.machine_model.{proofs.MachineFacts.same-some, specs.Laws.{EachLives, Event, InTurn, Lived, Took, behind, end, own, packet}}
+use Rattle.machine_model.specs.{Laws.packets_in, Processor.{ProcessorView, RunsTo, after, comes, is_busy, is_due, opened_processor, step}}
+use Rattle.{machine_model.specs.Machine.{Arrives, Finishes, Machine, opened_machine}, circular_buffer.proofs.Places.slice_get-set_other}
+use Rattle.{circular_buffer.proofs.Places.{slice_get-set_same, slice_get-some}, machine_words.specs.declared.settings.Settings.Settings}
 use Rattle.std.proofs.Common.{◌≡◌, ◌∙◌, ℕ, zero, suc, ◌-◌, ◌/◌, ◌%◌, ◌<◌, ◌≤◌, ◌^◌, Bool, true, false, Some, List, [], ◌∷◌, length}
-use Rattle.std.proofs.Common.{length-set, replicate, refl, sym, ap, arith}
-use Rattle.std.proofs.lemmas.{Bool.{and_parts, eq-eqb, eqb-false, eqb-true, le-leb, leb-true}, List.length-replicate}
-use Rattle.std.proofs.lemmas.Option.{slice_get_within}
-use Rattle.std.specs.Prelude.{◌==◌, nat_le, slice_get}
-use Rattle.circular_buffer.proofs.Places.{slice_get-set_other, slice_get-set_same, slice_get-some}
-use Rattle.machine_words.specs.declared.settings.Settings.{Settings}
-use Rattle.machine_model.specs.Laws.{EachLives, Event, InTurn, Lived, Took, behind, end, own, packet, packets_in}
-use Rattle.machine_model.specs.Machine.{Arrives, Finishes, Machine, opened_machine}
-use Rattle.machine_model.specs.Processor.{ProcessorView, RunsTo, after, comes, is_busy, is_due, opened_processor, step}
-use Rattle.machine_model.proofs.MachineFacts.{same-some}
+use Rattle.std.proofs.{Common.{length-set, replicate, refl, sym, ap, arith}, lemmas.Bool.{and_parts, eq-eqb, eqb-false, eqb-true, le-leb}}
+use Rattle.std.{proofs.lemmas.{Bool.leb-true, Option.slice_get_within, List.length-replicate}, specs.Prelude.{◌==◌, nat_le, slice_get}}
 
 -- what is due by a moment is due by a later one
 due-later : (moment until : ℕ) (p : ProcessorView) → moment ≤ until → is_due moment p ≡ true → is_due until p ≡ true

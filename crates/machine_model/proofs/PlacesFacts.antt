@@ -1,15 +1,10 @@
 -- Sums over a processor's devices as one of them changes, and how many are masked.
-use Rattle.std.proofs.Common.{append_assoc, ◌≡◌, ℕ, zero, suc, ◌+◌, ◌-◌, ◌<◌, ◌≤◌, Bool, true, false, Option, Some, None, [], ◌∷◌, ◌++◌}
-use Rattle.std.proofs.Common.{length, slice_set, replicate, refl, subst, arith}
-use Rattle.std.proofs.lemmas.{Grind.get_or-set_at, List.{replicate-append-replicate, Sums.{sum_by-append, sum_by-cons, sum_by-set}}}
-use Rattle.std.specs.Prelude.{◌||◌, ◌&&◌, not, sum_by, if◌then◌else◌}
-use Rattle.device_rows.{specs.Places.{added_at, at, changed, changed_from}, proofs.PlaceFacts.below-some}
-use Rattle.machine_model.specs.Device.{DeviceView, ended_poll, interrupted, opened}
-use Rattle.machine_model.specs.Devices.{Devices, is_handed_at, with_device}
-use Rattle.machine_model.specs.Kept.{masks, mask_at}
-use Rattle.machine_model.specs.Shown.{listed}
-use Rattle.std.specs.Prelude.{nat_lt}
-use Rattle.machine_model.specs.{Device.after_packet, Waits.held}
+use Rattle.{device_rows.{specs.Places.{added_at, at, changed, changed_from}, proofs.PlaceFacts.below-some}, machine_model.specs.Waits.held}
+use Rattle.machine_model.specs.{Kept.{masks, mask_at}, Devices.{Devices, is_handed_at, with_device}, Shown.listed, Device.DeviceView}
+use Rattle.{machine_model.specs.Device.{ended_poll, interrupted, opened, after_packet}, std.proofs.lemmas.List.replicate-append-replicate}
+use Rattle.std.proofs.{lemmas.{List.Sums.{sum_by-append, sum_by-cons, sum_by-set}, Grind.get_or-set_at}, Common.{append_assoc, ◌≡◌, ℕ}}
+use Rattle.std.proofs.Common.{zero, suc, ◌+◌, ◌-◌, ◌<◌, ◌≤◌, Bool, true, false, Option, Some, None, [], ◌∷◌, ◌++◌, length, slice_set}
+use Rattle.std.{proofs.Common.{replicate, refl, subst, arith}, specs.Prelude.{◌||◌, ◌&&◌, not, sum_by, if◌then◌else◌, nat_lt}}
 
 -- the places up to a number
 abbrev pub with_place : ℕ → Devices → Devices

@@ -1,17 +1,12 @@
 -- What becomes of packets behind their delivery: each is used in its order, or refused.
-use Rattle.std.proofs.Common.{◌≡◌, ◌∙◌, ℕ, ◌+◌, ◌-◌, Bool, false, Option, List, [], ◌∷◌, ◌++◌, append_assoc, length}
-use Rattle.std.proofs.{Common.{length-append, length-drop, map, drop, refl, sym, ap, arith}, lemmas.List.append-nil}
-use Rattle.{machine_words.specs.declared.settings.Settings.Settings, device_rows.specs.Places.at}
-use Rattle.machine_model.specs.{Devices.batch_at, Waits.{WaitsView, counted, held, no_waits}}
-use Rattle.machine_model.specs.Fates.{TellsOfUse, UsesInOrder, counting, gives_by, kept, kept_from, refused, refused_from, use_waits, used}
-use Rattle.machine_model.specs.Fates.{using}
-use Rattle.machine_model.specs.Laws.{Event, behind, end, packet}
-use Rattle.machine_model.specs.Processor.{ProcessorView, delivers, ends_by, ends_current, ends_interrupt, ends_poll, ends_run}
-use Rattle.machine_model.specs.Processor.{interrupts, is_busy, polls, step}
-use Rattle.machine_model.specs.declared.processor.Work.{Work}
-use Rattle.machine_model.specs.declared.processor.Work.TheVariants.{Interrupt, Nothing, Poll, Use}
-use Rattle.machine_model.proofs.{WalkFacts.{Walk, nexted, walk, walk-comes}, WorkFacts.{free-ended, goes-on}}
-use Rattle.machine_model.proofs.EndFacts.{ends}
+use Rattle.machine_model.specs.{declared.processor.Work.{Work, TheVariants.{Interrupt, Nothing, Poll, Use}}, Fates.TellsOfUse}
+use Rattle.machine_model.specs.Fates.{UsesInOrder, counting, gives_by, kept, kept_from, refused, refused_from, use_waits, used, using}
+use Rattle.machine_model.specs.{Waits.{WaitsView, counted, held, no_waits}, Processor.{ProcessorView, delivers, ends_by, ends_current}}
+use Rattle.machine_model.specs.{Processor.{ends_interrupt, ends_poll, ends_run, interrupts, is_busy, polls, step}, Laws.{Event, behind}}
+use Rattle.machine_model.{specs.{Laws.{end, packet}, Devices.batch_at}, proofs.{WorkFacts.{free-ended, goes-on}, EndFacts.ends}}
+use Rattle.{machine_model.proofs.WalkFacts.{Walk, nexted, walk, walk-comes}, std.proofs.Common.{◌≡◌, ◌∙◌, ℕ, ◌+◌, ◌-◌, Bool, false, Option}}
+use Rattle.std.proofs.Common.{List, [], ◌∷◌, ◌++◌, append_assoc, length, length-append, length-drop, map, drop, refl, sym, ap, arith}
+use Rattle.{std.proofs.lemmas.List.append-nil, device_rows.specs.Places.at, machine_words.specs.declared.settings.Settings.Settings}
 
 -- what stands in the socket, and what is told
 pub record Holds (xs : List ℕ) (refused : ℕ) (waits : WaitsView) (p : ProcessorView) : Type 0 where

@@ -1,26 +1,18 @@
 -- What is told of a device is told of its packets.
 use Rattle.std.proofs.Common.{◌≡◌, ◌∙◌, ℕ, ◌+◌, ◌-◌, Bool, true, false, Option, Some, None, List, [], ◌∷◌, ◌++◌, length, length-append, map}
-use Rattle.std.proofs.{Common.{refl, sym, ap, subst, arith}, lemmas.Bool.{eqb-true}}
-use Rattle.{std.specs.Prelude.{◌==◌, ◌&&◌, if◌then◌else◌, nat_lt, not}, device_rows.specs.Places.{at, changed}}
-use Rattle.machine_words.specs.declared.settings.Settings.{Settings}
-use Rattle.machine_model.specs.Device.{DeviceView, after_packet, ended_interrupt, ended_poll, interrupted, polled}
-use Rattle.machine_model.specs.{Devices.{Devices, batch_at}, Softirq.asked_in}
-use Rattle.machine_model.specs.Waits.{WaitsView, counted, counted_all, held, no_waits}
+use Rattle.std.{proofs.{Common.{refl, sym, ap, subst, arith}, lemmas.Bool.eqb-true}, specs.Prelude.{◌==◌, ◌&&◌, if◌then◌else◌, nat_lt, not}}
+use Rattle.{device_rows.specs.Places.{at, changed}, machine_words.specs.declared.settings.Settings.Settings}
+use Rattle.machine_model.specs.{Device.{DeviceView, after_packet, ended_interrupt, ended_poll, interrupted, polled}, Devices.Devices}
+use Rattle.machine_model.specs.{Devices.batch_at, Softirq.asked_in, Waits.{WaitsView, counted, counted_all, held, no_waits}}
+use Rattle.machine_model.specs.Fates.{TellsOfDevice, Tells, came, counting, counts_in, finds_room, given, given_from, gives_by, polled_by}
+use Rattle.machine_model.specs.{Fates.{ring_in, taken_by, waits, waits_in}, Laws.{Event, behind, end, packet}, Processor.ProcessorView}
+use Rattle.machine_model.specs.Processor.{comes, delivers, ends_by, ends_current, ends_interrupt, ends_poll, interrupts, polls, step}
+use Rattle.machine_model.{specs.declared.processor.Work.{Work, TheVariants.{Interrupt, Nothing, Poll, Use}}, proofs.FateFacts.{Blind, Seen}}
+use Rattle.machine_model.proofs.FateFacts.{at-here, at-kept, capacities, capacity_in, made-ring, made_at, seen-walk, at-arrived, at-either}
+use Rattle.machine_model.proofs.{PlacesFacts.{map_at, packet-by}, WalkFacts.{Walk, arrived, nexted, walk, walk-comes}, WorkFacts.free-ended}
+use Rattle.machine_model.proofs.{WorkFacts.goes-on, EndFacts.ends}
 use Rattle.machine_model.specs.Device as device
 use Rattle.machine_model.specs.Fates as fate
-use Rattle.machine_model.specs.Fates.{TellsOfDevice, Tells, came, counting, counts_in, finds_room, given, given_from, gives_by, polled_by}
-use Rattle.machine_model.specs.Fates.{ring_in, taken_by, waits, waits_in}
-use Rattle.machine_model.specs.Laws.{Event, behind, end, packet}
-use Rattle.machine_model.specs.Processor.{ProcessorView, comes, delivers, ends_by, ends_current, ends_interrupt, ends_poll}
-use Rattle.machine_model.specs.Processor.{interrupts, polls, step}
-use Rattle.machine_model.specs.declared.processor.Work.{Work}
-use Rattle.machine_model.specs.declared.processor.Work.TheVariants.{Interrupt, Nothing, Poll, Use}
-use Rattle.machine_model.proofs.FateFacts.{Blind, Seen, at-here, at-kept, capacities, capacity_in, made-ring, made_at, seen-walk}
-use Rattle.machine_model.proofs.{PlacesFacts.{map_at}, WalkFacts.{Walk, arrived, nexted, walk, walk-comes}, WorkFacts.{free-ended, goes-on}}
-use Rattle.machine_model.proofs.EndFacts.{ends}
-use Rattle.machine_model.proofs.PlacesFacts.{packet-by}
-use Rattle.machine_model.proofs.FateFacts.{at-arrived}
-use Rattle.machine_model.proofs.FateFacts.{at-either}
 
 -- what is counted of packets
 pub record Tally : Type 0 where

@@ -1,13 +1,10 @@
 -- Clocks never fall.
-use Rattle.std.proofs.Common.{◌≡◌, ℕ, ◌+◌, ◌<◌, ◌≤◌, ◌^◌, Bool, true, List, [], ◌∷◌, refl, arith}
-use Rattle.std.proofs.lemmas.Bool.{and_parts, leb-true}
-use Rattle.{std.specs.Prelude.{◌&&◌, nat_le}, machine_words.specs.declared.settings.Settings.{Settings}}
-use Rattle.machine_model.specs.{Laws.{ClocksNeverFall, Event, InTurn, behind, end, packet}, Waits.held}
-use Rattle.machine_model.specs.Processor.{ProcessorView, comes, delivers, ends_by, ends_current, ends_interrupt, ends_poll}
-use Rattle.machine_model.specs.Processor.{ends_run, interrupts, is_busy, polls, step}
-use Rattle.machine_model.specs.declared.processor.Work.{Work}
-use Rattle.machine_model.proofs.{WalkFacts.{Walk, implied, walk, walk-comes}, WorkFacts.{Goes, free-ended, goes-on}}
-use Rattle.machine_model.proofs.EndFacts.{ends}
+use Rattle.std.proofs.{Common.{◌≡◌, ℕ, ◌+◌, ◌<◌, ◌≤◌, ◌^◌, Bool, true, List, [], ◌∷◌, refl, arith}, lemmas.Bool.{and_parts, leb-true}}
+use Rattle.{std.specs.Prelude.{◌&&◌, nat_le}, machine_words.specs.declared.settings.Settings.Settings}
+use Rattle.machine_model.specs.{Laws.{ClocksNeverFall, Event, InTurn, behind, end, packet}, Waits.held, Processor.{ProcessorView, comes}}
+use Rattle.machine_model.specs.Processor.{delivers, ends_by, ends_current, ends_interrupt, ends_poll, ends_run, interrupts, is_busy, polls}
+use Rattle.machine_model.{specs.{Processor.step, declared.processor.Work.Work}, proofs.WalkFacts.{Walk, implied, walk, walk-comes}}
+use Rattle.machine_model.proofs.{WorkFacts.{Goes, free-ended, goes-on}, EndFacts.ends}
 
 -- the clock stands there
 pub record Stands (c : ℕ) (p : ProcessorView) : Type 0 where

@@ -1,17 +1,12 @@
 -- What is taken up, case by case: a property that each case keeps.
 use Rattle.std.proofs.Common.{◌≡◌, ◌-◌, ◌<◌, ℕ, zero, suc, arith, Bool, true, false, Option, Some, None, List, [], ◌∷◌, length, refl}
-use Rattle.std.proofs.lemmas.{Bool.lt-leb, List.Quantifiers.position-Some}
-use Rattle.std.specs.Prelude.{◌==◌, ◌&&◌, if◌then◌else◌, is_some, nat_le, nat_lt, not, position}
-use Rattle.device_rows.{specs.Places.{at, changed}, proofs.PlaceFacts.none-of}
-use Rattle.machine_words.specs.declared.settings.Settings.{Settings}
-use Rattle.machine_model.specs.{Device.after_packet, Devices.{raises_at, with_device}, Kept.is_poll}
-use Rattle.machine_model.specs.Softirq.{SoftirqView, asked_in, begun, ended, next_of}
-use Rattle.machine_model.specs.Processor.{ProcessorView, begins, comes, ends_run, goes_on, interrupts, is_busy, is_polling, polls}
-use Rattle.machine_model.specs.Processor.{rests, takes_up, uses}
-use Rattle.machine_model.specs.declared.processor.Work.{Work}
-use Rattle.machine_model.specs.declared.processor.Work.TheVariants.{Interrupt, Nothing, Poll, Use}
-use Rattle.machine_model.proofs.KeptFacts.{run-ended}
-use Rattle.machine_model.proofs.StepFacts.{polls_or, takes_up_by}
+use Rattle.std.{proofs.lemmas.{Bool.lt-leb, List.Quantifiers.position-Some}, specs.Prelude.{◌==◌, ◌&&◌, if◌then◌else◌, is_some, nat_le}}
+use Rattle.{std.specs.Prelude.{nat_lt, not, position}, device_rows.{specs.Places.{at, changed}, proofs.PlaceFacts.none-of}}
+use Rattle.{machine_words.specs.declared.settings.Settings.Settings, machine_model.specs.{Device.after_packet, Devices.raises_at}}
+use Rattle.machine_model.specs.{Devices.with_device, Kept.is_poll, Softirq.{SoftirqView, asked_in, begun, ended, next_of}}
+use Rattle.machine_model.specs.Processor.{ProcessorView, begins, comes, ends_run, goes_on, interrupts, is_busy, is_polling, polls, rests}
+use Rattle.machine_model.specs.{Processor.{takes_up, uses}, declared.processor.Work.{Work, TheVariants.{Interrupt, Nothing, Poll, Use}}}
+use Rattle.machine_model.proofs.{KeptFacts.run-ended, StepFacts.{polls_or, takes_up_by}}
 
 -- nothing is under way
 pub record Free (p : ProcessorView) : Type 0 where

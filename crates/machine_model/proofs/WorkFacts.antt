@@ -1,21 +1,13 @@
 -- A run's work is below budget and weight together, whatever happens.
 use Rattle.std.proofs.Common.{◌≡◌, ℕ, ◌+◌, ◌<◌, ◌≤◌, Bool, true, false, Option, Some, None, List, [], ◌∷◌, length, length-take, refl, sym}
-use Rattle.std.proofs.{Common.arith, lemmas.Bool.{eqb-false, leb-false}}
-use Rattle.std.specs.Prelude.{◌==◌, ◌||◌, IfSome, if◌then◌else◌, is_some, min, nat_le, not}
-use Rattle.poll_runs.specs.declared.bench.{Once.Once}
-use Rattle.machine_words.specs.declared.settings.Settings.{Settings}
-use Rattle.machine_model.specs.{Device.DeviceView, Devices.{batch_at, is_handed_at}, Kept.is_poll}
-use Rattle.machine_model.specs.Laws.{Event, WorksWithin, behind, end, packet}
-use Rattle.machine_model.specs.Softirq.{RunView, SoftirqView, asked_in, ended, filled, is_spent, next_from, next_of, pushed, told}
-use Rattle.machine_model.specs.Processor.{ProcessorView, comes, delivers, ends_by, ends_current, ends_interrupt, ends_poll}
-use Rattle.machine_model.specs.Processor.{ends_run, interrupts, is_polling, polls, step}
-use Rattle.device_rows.specs.Places.{at}
-use Rattle.machine_model.specs.declared.processor.Work.{Work}
-use Rattle.machine_model.specs.declared.processor.Work.TheVariants.{Nothing}
-use Rattle.machine_model.proofs.{EndFacts.asked-ends, WalkFacts.{Free, Walk, walk, walk-comes}}
-use Rattle.machine_model.specs.Softirq.{told_run}
-use Rattle.std.specs.Prelude.{option_map}
-use Rattle.machine_model.proofs.EndFacts.{ends}
+use Rattle.std.{proofs.{Common.arith, lemmas.Bool.{eqb-false, leb-false}}, specs.Prelude.{◌==◌, ◌||◌, IfSome, if◌then◌else◌, is_some, min}}
+use Rattle.{std.specs.Prelude.{nat_le, not, option_map}, poll_runs.specs.declared.bench.Once.Once}
+use Rattle.{machine_words.specs.declared.settings.Settings.Settings, device_rows.specs.Places.at, machine_model.specs.Device.DeviceView}
+use Rattle.machine_model.specs.{Devices.{batch_at, is_handed_at}, Kept.is_poll, Laws.{Event, WorksWithin, behind, end, packet}}
+use Rattle.machine_model.specs.Softirq.{RunView, SoftirqView, asked_in, ended, filled, is_spent, next_from, next_of, pushed, told, told_run}
+use Rattle.machine_model.specs.Processor.{ProcessorView, comes, delivers, ends_by, ends_current, ends_interrupt, ends_poll, ends_run}
+use Rattle.machine_model.specs.{Processor.{interrupts, is_polling, polls, step}, declared.processor.Work.{Work, TheVariants.Nothing}}
+use Rattle.machine_model.proofs.{EndFacts.{asked-ends, ends}, WalkFacts.{Free, Walk, walk, walk-comes}}
 
 -- what is true of a run of these settings
 pub record Runs (s : Settings) (r : RunView) : Type 0 where
