@@ -32,10 +32,9 @@ polled_by None batch = None
 polled_by (Some number) batch = Some (number, batch)
 
 abbrev pub gives_by : Work → ProcessorView → Option (ℕ × List ℕ)
-gives_by Nothing p = None
 gives_by (Interrupt number) p = if is_polling p.settings then None else Some (number, batch_at 1 (at number p.devices))
 gives_by Poll p = polled_by (asked_in p.softirq.run) p.batch
-gives_by (Use came) p = None
+gives_by _ p = None
 
 abbrev pub given_from : ℕ → Option (ℕ × List ℕ) → List ℕ
 given_from n None = []
