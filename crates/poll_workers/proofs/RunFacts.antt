@@ -7,7 +7,7 @@ use Rattle.poll_interrupts.specs.{Runs.{Ledger, Whose, WorksBy, blank, controlle
 use Rattle.poll_interrupts.specs.declared.{station.Finished.Finished, worker.Seats.Seats, opening.{Loose.Loose, Placed.Placed}}
 use Rattle.poll_interrupts.specs.{declared.{job.{Worked.Worked, Job.Job}, acts.Act.Act}, Works.{IsWorkOf, ledger_of, whose}}
 use Rattle.poll_interrupts.specs.{Seats.AreSeatsOf, Opens.{IsInputOf, IsKeptLoose, IsKeptSideOf, IsLoose}}
-use Rattle.poll_tasks.{proofs.ListFacts.{each_index, zip_all, zip_and, zip_both, zip_each, zip_flip, zip_same}, specs.Paces.IsLawful}
+use Rattle.poll_tasks.{proofs.ListFacts.{each_index, zip_and, zip_both, zip_each, zip_flip, zip_same}, specs.Paces.IsLawful}
 use Rattle.{poll_tasks.specs.{Asks.IsAsked, declared.{tasks.Turned.Turned, pace.{Setting.Setting, Pace.Pace}}}, rx_ring.specs.Ends.SameIn}
 use Rattle.{rx_ring.specs.{Ends.{capacity_of, put_list}, declared.ends.RxIn.RxIn, ReceiveRing.capped}, poll_list.specs.SharedList.IsNewList}
 use Rattle.{poll_list.specs.declared.shared.SharedList.SharedList, poll_seats.specs.SeatKeeping.{IsCallerOf, AreSameSeats, IsSameSeat}}
