@@ -1,14 +1,12 @@
 -- The end of a poll releases the instance exactly if no request was missed until then.
 use Rattle.std.proofs.Common.{◌≡◌, ℕ, [], ◌∷◌, ◌++◌, true, false, Option, Some, None, Bool, ◌||◌, nat_eq, ap, sym, subst}
-use Rattle.napi_model.{proofs.Histories.legal_back, specs.{Step.{opening, event}, History.LegalHistory, declared.state.Seen.Seen}}
+use Rattle.{c_handles.specs.Status.{RELEASED, AGAIN}, napi_calls.specs.{Calls.TriesToComplete, Seats.{number_of, controller_of, shown}}}
+use Rattle.{napi_calls.specs.{Made.Made, Packets.TriesToGiveBack, declared.types.Polling.Polling}, napi_word.specs.declared.table.Pass.Pass}
+use Rattle.napi_model.{proofs.Histories.legal_back, specs.{History.LegalHistory, Step.{opening, event}, declared.state.Seen.Seen}}
+use Rattle.c_handles.specs.{declared.{hold.Hold.Hold, body.Body.Body}, Handles.{OnHandle, SeatMakesIn}, Endings.{EndsBy, LeadsToSeat}}
+use Rattle.c_handles.specs.{Tries.{Is, completed}, SeatCalls.{Completes, RestsWith, GrantedWith}, Status.{HELD, NOT_ALLOWED, BAD_HANDLE}}
 use Rattle.napi_model.specs.declared.event.Done.TheVariants as done
 use Rattle.napi_model.specs.declared.event.Operation.TheVariants as operation
-use Rattle.napi_word.specs.declared.table.Pass.{Pass}
-use Rattle.napi_calls.specs.{Made.Made, Calls.TriesToComplete, Packets.TriesToGiveBack, declared.types.Polling.Polling}
-use Rattle.napi_calls.specs.Seats.{number_of, controller_of, shown}
-use Rattle.c_handles.specs.{Tries.{Is, completed}, SeatCalls.{Completes, RestsWith, GrantedWith}, Handles.{OnHandle, SeatMakesIn}}
-use Rattle.c_handles.specs.{Endings.{EndsBy, LeadsToSeat}, Status.{HELD, NOT_ALLOWED, BAD_HANDLE, RELEASED, AGAIN}}
-use Rattle.c_handles.specs.declared.{hold.Hold.Hold, body.Body.Body}
 use Rattle.c_handles.specs.declared.hold.Hold.TheVariants as hold
 use Rattle.c_handles.specs.declared.hold.SeatCall.TheVariants as seat_call
 use Rattle.c_handles.specs.declared.body.Body.TheVariants as body
@@ -32,37 +30,19 @@ ends_released p x q m =
 polls_released : (w : Polling) (k : Hold) → Is (λ r. TriesToComplete w.pass r × TriesToGiveBack w.pass w.ctx r) (completed k RELEASED)
     → RestsWith (EndsBy done.Released false) k
 polls_released w (hold.Rests c) m = ends_released w.pass m.0.0 c.pass m.0.1
-polls_released w (hold.Granted g) m = absurd m
-polls_released w (hold.Polls v) m = absurd m
-polls_released w (hold.Busy b) m = absurd m
-polls_released w hold.Gone m = absurd m
+polls_released w _ m = absurd m
 
 completes_released : (h k : Hold) → Completes h RELEASED k → RestsWith (EndsBy done.Released false) k
 completes_released (hold.Polls w) k m = polls_released w k m
-completes_released (hold.Busy d) k m = let bad : false ≡ true = ap is_held m.0 in absurd (cc bad)
-completes_released (hold.Rests d) k m = let bad : false ≡ true = ap is_held m.0 in absurd (cc bad)
-completes_released (hold.Granted d) k m = let bad : false ≡ true = ap is_held m.0 in absurd (cc bad)
-completes_released hold.Gone k m = let bad : false ≡ true = ap is_held m.0 in absurd (cc bad)
+completes_released _ k m = let bad : false ≡ true = ap is_held m.0 in absurd (cc bad)
 
 pub made_released : (before after : Option Body) → OnHandle (SeatMakesIn seat_call.Complete) before RELEASED after
     → LeadsToSeat (λ s. RestsWith (EndsBy done.Released false) s.hold) after
 made_released None after m = let bad : false ≡ true = ap is_held m.0 in absurd (cc bad)
 made_released (Some x) None m = absurd m
 made_released (Some (body.Seat s)) (Some (body.Seat t)) m = completes_released s.hold t.hold m.0
-made_released (Some (body.Seat s)) (Some (body.Ring r)) m = absurd m
-made_released (Some (body.Seat s)) (Some (body.In i)) m = absurd m
-made_released (Some (body.Seat s)) (Some (body.Ctx ctx)) m = absurd m
-made_released (Some (body.Seat s)) (Some (body.List l)) m = absurd m
-made_released (Some (body.Seat s)) (Some (body.Controller c)) m = absurd m
-made_released (Some (body.Seat s)) (Some (body.Tx x)) m = absurd m
-made_released (Some (body.Seat s)) (Some body.Gone) m = absurd m
-made_released (Some (body.Ring r)) (Some y) m = let bad : false ≡ true = ap is_held m.0 in absurd (cc bad)
-made_released (Some (body.In i)) (Some y) m = let bad : false ≡ true = ap is_held m.0 in absurd (cc bad)
-made_released (Some (body.Ctx ctx)) (Some y) m = let bad : false ≡ true = ap is_held m.0 in absurd (cc bad)
-made_released (Some (body.List l)) (Some y) m = let bad : false ≡ true = ap is_held m.0 in absurd (cc bad)
-made_released (Some (body.Controller c)) (Some y) m = let bad : false ≡ true = ap is_held m.0 in absurd (cc bad)
-made_released (Some (body.Tx x)) (Some y) m = let bad : false ≡ true = ap is_held m.0 in absurd (cc bad)
-made_released (Some body.Gone) (Some y) m = let bad : false ≡ true = ap is_held m.0 in absurd (cc bad)
+made_released (Some (body.Seat s)) (Some _) m = absurd m
+made_released (Some _) (Some _) m = let bad : false ≡ true = ap is_held m.0 in absurd (cc bad)
 
 -- ---- again
 
@@ -79,35 +59,17 @@ ends_again p x q m =
 
 polls_again : (w : Polling) (k : Hold) → Is (λ r. TriesToComplete w.pass r × TriesToGiveBack w.pass w.ctx r) (completed k AGAIN)
     → GrantedWith (EndsBy done.Again true) k
-polls_again w (hold.Rests c) m = absurd m
 polls_again w (hold.Granted g) m = ends_again w.pass m.0.0 g.pass m.0.1
-polls_again w (hold.Polls v) m = absurd m
-polls_again w (hold.Busy b) m = absurd m
-polls_again w hold.Gone m = absurd m
+polls_again w _ m = absurd m
 
 completes_again : (h k : Hold) → Completes h AGAIN k → GrantedWith (EndsBy done.Again true) k
 completes_again (hold.Polls w) k m = polls_again w k m
-completes_again (hold.Busy d) k m = let bad : false ≡ true = ap is_held m.0 in absurd (cc bad)
-completes_again (hold.Rests d) k m = let bad : false ≡ true = ap is_held m.0 in absurd (cc bad)
-completes_again (hold.Granted d) k m = let bad : false ≡ true = ap is_held m.0 in absurd (cc bad)
-completes_again hold.Gone k m = let bad : false ≡ true = ap is_held m.0 in absurd (cc bad)
+completes_again _ k m = let bad : false ≡ true = ap is_held m.0 in absurd (cc bad)
 
 pub made_again : (before after : Option Body) → OnHandle (SeatMakesIn seat_call.Complete) before AGAIN after
     → LeadsToSeat (λ s. GrantedWith (EndsBy done.Again true) s.hold) after
 made_again None after m = let bad : false ≡ true = ap is_held m.0 in absurd (cc bad)
 made_again (Some x) None m = absurd m
 made_again (Some (body.Seat s)) (Some (body.Seat t)) m = completes_again s.hold t.hold m.0
-made_again (Some (body.Seat s)) (Some (body.Ring r)) m = absurd m
-made_again (Some (body.Seat s)) (Some (body.In i)) m = absurd m
-made_again (Some (body.Seat s)) (Some (body.Ctx ctx)) m = absurd m
-made_again (Some (body.Seat s)) (Some (body.List l)) m = absurd m
-made_again (Some (body.Seat s)) (Some (body.Controller c)) m = absurd m
-made_again (Some (body.Seat s)) (Some (body.Tx x)) m = absurd m
-made_again (Some (body.Seat s)) (Some body.Gone) m = absurd m
-made_again (Some (body.Ring r)) (Some y) m = let bad : false ≡ true = ap is_held m.0 in absurd (cc bad)
-made_again (Some (body.In i)) (Some y) m = let bad : false ≡ true = ap is_held m.0 in absurd (cc bad)
-made_again (Some (body.Ctx ctx)) (Some y) m = let bad : false ≡ true = ap is_held m.0 in absurd (cc bad)
-made_again (Some (body.List l)) (Some y) m = let bad : false ≡ true = ap is_held m.0 in absurd (cc bad)
-made_again (Some (body.Controller c)) (Some y) m = let bad : false ≡ true = ap is_held m.0 in absurd (cc bad)
-made_again (Some (body.Tx x)) (Some y) m = let bad : false ≡ true = ap is_held m.0 in absurd (cc bad)
-made_again (Some body.Gone) (Some y) m = let bad : false ≡ true = ap is_held m.0 in absurd (cc bad)
+made_again (Some (body.Seat s)) (Some _) m = absurd m
+made_again (Some _) (Some _) m = let bad : false ≡ true = ap is_held m.0 in absurd (cc bad)

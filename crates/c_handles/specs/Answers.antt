@@ -1,8 +1,6 @@
 -- How often a seat's calls were answered what: each answer is counted once, and a count stays at its greatest value.
-use Rattle.std.specs.Prelude.{ℕ, ◌+◌, ◌==◌, if◌then◌else◌}
-use Rattle.rx_ring.specs.ReceiveRing.{capped}
-use Rattle.c_handles.specs.Status.{GRANTED, MISSED, DISABLED, RELEASED, AGAIN, HELD, CHANGED}
-use Rattle.c_handles.specs.declared.answers.FqAnswers.{FqAnswers}
+use Rattle.{std.specs.Prelude.{ℕ, ◌+◌, ◌==◌, if◌then◌else◌}, rx_ring.specs.ReceiveRing.capped, c_handles.specs.Status.{GRANTED, MISSED}}
+use Rattle.c_handles.specs.{Status.{DISABLED, RELEASED, AGAIN, HELD, CHANGED}, declared.answers.FqAnswers.FqAnswers}
 
 abbrev pub no_answers : FqAnswers
 no_answers = record { granted = 0; missed = 0; disabled = 0; released = 0; again = 0; held = 0; changed = 0 }

@@ -1,16 +1,9 @@
 -- What the end of a poll goes by: the instance is released exactly if no request was missed until then, and is to be handed over again
 -- exactly if one was.
-use Rattle.std.specs.Prelude.{◌≡◌, Bool, List, [], ◌∷◌, ◌++◌, Option, Some, None}
-use Rattle.napi_model.specs.declared.event.Done.{Done}
-use Rattle.napi_model.specs.declared.event.Event.{Event}
+use Rattle.{napi_word.specs.declared.table.Pass.Pass, c_handles.specs.{Handles.IsSeatWith, declared.{seat.Seat.Seat, body.Body.Body}}}
+use Rattle.{napi_model.specs.{History.state_after, declared.event.{Event.Event, Done.Done}, Step.{opening, event}}, std.specs.Prelude.◌≡◌}
+use Rattle.{std.specs.Prelude.{Bool, List, [], ◌∷◌, ◌++◌, Option, Some, None}, napi_calls.specs.Seats.{number_of, controller_of, shown}}
 use Rattle.napi_model.specs.declared.event.Operation.TheVariants as operation
-use Rattle.napi_model.specs.Step.{opening, event}
-use Rattle.napi_model.specs.History.{state_after}
-use Rattle.napi_word.specs.declared.table.Pass.{Pass}
-use Rattle.napi_calls.specs.Seats.{number_of, controller_of, shown}
-use Rattle.c_handles.specs.declared.body.Body.{Body}
-use Rattle.c_handles.specs.declared.seat.Seat.{Seat}
-use Rattle.c_handles.specs.Handles.{IsSeatWith}
 
 -- the last event shown is the seat's own completion with this reply, and just before it the flag of a missed request was this
 abbrev pub EndsBy : Done → Bool → Pass → Type 0

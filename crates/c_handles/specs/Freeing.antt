@@ -1,37 +1,24 @@
 -- What may be freed, and what that is answered.
-use Rattle.std.specs.Prelude.{ℕ, Bool, true, false, not, is_some, if◌then◌else◌, Option, Some, None}
-use Rattle.c_handles.specs.declared.hold.Hold.{Hold}
+use Rattle.{c_handles.specs.Status.IN_USE, std.specs.Prelude.{ℕ, Bool, true, false, not, is_some, if◌then◌else◌, Option, Some, None}}
+use Rattle.c_handles.specs.{Runs.run_of, declared.{body.Body.Body, hold.Hold.Hold, mode.Mode.Mode}, Status.{OK, NOT_ALLOWED, BAD_HANDLE}}
 use Rattle.c_handles.specs.declared.hold.Hold.TheVariants as hold
-use Rattle.c_handles.specs.declared.mode.Mode.{Mode}
 use Rattle.c_handles.specs.declared.mode.Mode.TheVariants as mode
-use Rattle.c_handles.specs.declared.body.Body.{Body}
 use Rattle.c_handles.specs.declared.body.Body.TheVariants as body
-use Rattle.c_handles.specs.Runs.{run_of}
-use Rattle.c_handles.specs.Status.{OK, NOT_ALLOWED, BAD_HANDLE, IN_USE}
 
 abbrev pub rests : Hold → Bool
 rests (hold.Rests c) = true
-rests (hold.Granted g) = false
-rests (hold.Polls w) = false
-rests (hold.Busy b) = false
-rests hold.Gone = false
+rests _ = false
 
 abbrev pub is_off : Mode → Bool
 is_off (mode.Off c) = true
-is_off (mode.On c) = false
-is_off (mode.Marked c) = false
-is_off mode.Gone = false
+is_off _ = false
 
 -- nobody waits for it: a seat that rests, a controller that is off, a list with no run under way, a ring
 abbrev pub is_freeable : Body → Bool
 is_freeable (body.Seat s) = rests s.hold
 is_freeable (body.Controller c) = is_off c.mode
 is_freeable (body.List l) = not (is_some (run_of l.value))
-is_freeable (body.Ring r) = true
-is_freeable (body.In i) = true
-is_freeable (body.Ctx c) = true
-is_freeable (body.Tx r) = true
-is_freeable body.Gone = true
+is_freeable _ = true
 
 abbrev pub free_status : Option Body → ℕ
 free_status None = BAD_HANDLE

@@ -1,21 +1,11 @@
 -- What calls on handles are answered and leave, by what a handle leads to. One that leads to nothing, or to another kind than the
 -- call is for, is answered BAD_HANDLE, and stays as it is.
-use Rattle.std.specs.Prelude.{◌≡◌, ◌⊎◌, ℕ, List, Option, Some, None}
-use Rattle.napi_model.specs.declared.state.Seen.{Seen}
-use Rattle.napi_model.specs.Word.{word_of}
-use Rattle.rx_ring.specs.declared.packet.Packet.{Packet}
-use Rattle.c_handles.specs.declared.seat.Seat.{Seat}
-use Rattle.c_handles.specs.declared.seat.Controller.{Controller}
-use Rattle.c_handles.specs.declared.lister.Lister.{Lister}
-use Rattle.c_handles.specs.declared.body.Body.{Body}
+use Rattle.{std.specs.Prelude.{◌≡◌, ◌⊎◌, ℕ, List, Option, Some, None}, napi_model.specs.{declared.state.Seen.Seen, Word.word_of}}
+use Rattle.{rx_ring.specs.declared.packet.Packet.Packet, c_handles.specs.declared.seat.{Seat.Seat, Controller.Controller}}
+use Rattle.c_handles.specs.declared.{lister.Lister.Lister, body.Body.Body, handle.FqHandle.FqHandle, hold.{Hold.Hold, SeatCall.SeatCall}}
+use Rattle.c_handles.specs.{declared.mode.ControlCall.ControlCall, Answers.counting, Status.{OK, BAD_HANDLE}, SeatCalls.Refused}
+use Rattle.c_handles.specs.SeatCalls.{SeatAnswers, SeatLooks, SeatPolls, ControlAnswers}
 use Rattle.c_handles.specs.declared.body.Body.TheVariants as body
-use Rattle.c_handles.specs.declared.handle.FqHandle.{FqHandle}
-use Rattle.c_handles.specs.declared.hold.Hold.{Hold}
-use Rattle.c_handles.specs.declared.hold.SeatCall.{SeatCall}
-use Rattle.c_handles.specs.declared.mode.ControlCall.{ControlCall}
-use Rattle.c_handles.specs.Answers.{counting}
-use Rattle.c_handles.specs.Status.{OK, BAD_HANDLE}
-use Rattle.c_handles.specs.SeatCalls.{Refused, SeatAnswers, SeatLooks, SeatPolls, ControlAnswers}
 
 -- another kind
 abbrev pub OtherKind : Body → ℕ → Body → Type 0
@@ -32,24 +22,12 @@ OnHandle P (Some x) n (Some y) = P x n y
 -- it is a caller with this
 abbrev pub IsSeatWith : (Seat → Type 0) → Body → Type 0
 IsSeatWith P (body.Seat s) = P s
-IsSeatWith P (body.Ring r) = ⊥
-IsSeatWith P (body.In i) = ⊥
-IsSeatWith P (body.Ctx c) = ⊥
-IsSeatWith P (body.List l) = ⊥
-IsSeatWith P (body.Controller c) = ⊥
-IsSeatWith P (body.Tx r) = ⊥
-IsSeatWith P body.Gone = ⊥
+IsSeatWith P _ = ⊥
 
 -- of a caller, this
 abbrev pub OnSeat : (Seat → ℕ → Body → Type 0) → Body → ℕ → Body → Type 0
 OnSeat P (body.Seat s) n after = P s n after
-OnSeat P (body.Ring r) n after = OtherKind (body.Ring r) n after
-OnSeat P (body.In i) n after = OtherKind (body.In i) n after
-OnSeat P (body.Ctx c) n after = OtherKind (body.Ctx c) n after
-OnSeat P (body.List l) n after = OtherKind (body.List l) n after
-OnSeat P (body.Controller c) n after = OtherKind (body.Controller c) n after
-OnSeat P (body.Tx r) n after = OtherKind (body.Tx r) n after
-OnSeat P body.Gone n after = OtherKind body.Gone n after
+OnSeat P other n after = OtherKind other n after
 
 abbrev pub SeatMakesIn : SeatCall → Body → ℕ → Body → Type 0
 SeatMakesIn call = OnSeat (λ s n after. IsSeatWith (λ t. SeatAnswers call s.hold n t.hold × (t.answers ≡ counting n s.answers)) after)
@@ -78,13 +56,7 @@ SeatGives weight given old n new = OnHandle (SeatGivesIn weight given) old.held.
 -- it is a controller with this
 abbrev pub IsControllerWith : (Controller → Type 0) → Body → Type 0
 IsControllerWith P (body.Controller c) = P c
-IsControllerWith P (body.Ring r) = ⊥
-IsControllerWith P (body.In i) = ⊥
-IsControllerWith P (body.Ctx c) = ⊥
-IsControllerWith P (body.List l) = ⊥
-IsControllerWith P (body.Seat s) = ⊥
-IsControllerWith P (body.Tx r) = ⊥
-IsControllerWith P body.Gone = ⊥
+IsControllerWith P _ = ⊥
 
 abbrev pub LeadsToController : (Controller → Type 0) → Option Body → Type 0
 LeadsToController P None = ⊥
@@ -93,13 +65,7 @@ LeadsToController P (Some x) = IsControllerWith P x
 -- of a controller, this
 abbrev pub OnController : (Controller → ℕ → Body → Type 0) → Body → ℕ → Body → Type 0
 OnController P (body.Controller c) n after = P c n after
-OnController P (body.Ring r) n after = OtherKind (body.Ring r) n after
-OnController P (body.In i) n after = OtherKind (body.In i) n after
-OnController P (body.Ctx c) n after = OtherKind (body.Ctx c) n after
-OnController P (body.List l) n after = OtherKind (body.List l) n after
-OnController P (body.Seat s) n after = OtherKind (body.Seat s) n after
-OnController P (body.Tx r) n after = OtherKind (body.Tx r) n after
-OnController P body.Gone n after = OtherKind body.Gone n after
+OnController P other n after = OtherKind other n after
 
 abbrev pub ControlMakesIn : ControlCall → Body → ℕ → Body → Type 0
 ControlMakesIn call = OnController (λ c n after. IsControllerWith (λ d. ControlAnswers call c.mode n d.mode) after)
@@ -112,13 +78,7 @@ ControlMakes call old n new = OnHandle (ControlMakesIn call) old.held.body n new
 -- it is a list with this
 abbrev pub IsListWith : (Lister → Type 0) → Body → Type 0
 IsListWith P (body.List l) = P l.value
-IsListWith P (body.Ring r) = ⊥
-IsListWith P (body.In i) = ⊥
-IsListWith P (body.Ctx c) = ⊥
-IsListWith P (body.Seat s) = ⊥
-IsListWith P (body.Controller c) = ⊥
-IsListWith P (body.Tx r) = ⊥
-IsListWith P body.Gone = ⊥
+IsListWith P _ = ⊥
 
 abbrev pub LeadsToList : (Lister → Type 0) → Option Body → Type 0
 LeadsToList P None = ⊥
@@ -127,13 +87,7 @@ LeadsToList P (Some x) = IsListWith P x
 -- of a list, this
 abbrev pub OnList : (Lister → ℕ → Body → Type 0) → Body → ℕ → Body → Type 0
 OnList P (body.List l) n after = P l.value n after
-OnList P (body.Ring r) n after = OtherKind (body.Ring r) n after
-OnList P (body.In i) n after = OtherKind (body.In i) n after
-OnList P (body.Ctx c) n after = OtherKind (body.Ctx c) n after
-OnList P (body.Seat s) n after = OtherKind (body.Seat s) n after
-OnList P (body.Controller c) n after = OtherKind (body.Controller c) n after
-OnList P (body.Tx r) n after = OtherKind (body.Tx r) n after
-OnList P body.Gone n after = OtherKind body.Gone n after
+OnList P other n after = OtherKind other n after
 
 abbrev pub ListMakesIn : (Lister → ℕ → Lister → Type 0) → Body → ℕ → Body → Type 0
 ListMakesIn P = OnList (λ l n after. IsListWith (λ m. P l n m) after)

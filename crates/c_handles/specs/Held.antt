@@ -1,13 +1,8 @@
 -- What a handle's pointer owns: the value and its block, or nothing.
-use Rattle.std.specs.Prelude.{Option, Some, None}
-use base.Fml.{Fml, ftrue}
-use base.Stored.{Coded}
-use Rattle.std.specs.Coded.{coded_option}
+use Rattle.std.specs.{Prelude.{Option, Some, None}, Coded.coded_option, Box.Ownership.box_owns, Global.Global}
+use Rattle.{std_heap.specs.contracts.GlobalAllocator.TheImpl.ghosts, c_handles.specs.contracts.body.Body.the_row}
+use base.{Fml.{Fml, ftrue}, Stored.Coded}
 use denote.RawPtr.{Ptr}
-use Rattle.std.specs.Box.Ownership.{box_owns}
-use Rattle.std.specs.Global.{Global}
-use Rattle.std_heap.specs.contracts.GlobalAllocator.TheImpl.{ghosts}
-use Rattle.c_handles.specs.contracts.body.Body.{the_row}
 
 abbrev pub held_owns : Global → Ptr → Option the_row.Denot → Fml
 held_owns alloc p None = ftrue

@@ -1,8 +1,5 @@
 -- What the end of a ring shows at which packets are put.
-use Rattle.std.specs.Prelude.{length}
-use Rattle.rx_ring.specs.ReceiveRing.{capped}
-use Rattle.rx_ring.specs.Ends.{put_list, capacity_of}
-use Rattle.rx_ring.specs.declared.ends.RxIn.{RxIn}
+use Rattle.{std.specs.Prelude.length, rx_ring.specs.{ReceiveRing.capped, Ends.{put_list, capacity_of}, declared.ends.RxIn.RxIn}}
 use Rattle.c_handles.specs.declared.input.FqRingShown.{FqRingShown}
 
 abbrev pub shown_of : RxIn → FqRingShown

@@ -1,6 +1,5 @@
 -- A poll list of one thread and the run over it, as C drives it: what the run, if one is under way, has of the list.
-use Rattle.std.specs.Prelude.{ℕ, Bool, true, false, Option, Some, None}
-use Rattle.poll_runs.specs.Driven.{held}
+use Rattle.{std.specs.Prelude.{ℕ, Bool, true, false, Option, Some, None}, poll_runs.specs.Driven.held}
 use Rattle.poll_runs.specs.declared.polling_run.PollingRun.{PollingRun}
 
 -- how many of the list's numbers it holds

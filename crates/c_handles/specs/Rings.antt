@@ -1,16 +1,9 @@
 -- What a handle leads to.
-use Rattle.std.specs.Prelude.{◌≡◌, ℕ, ◌==◌, if◌then◌else◌, List, Option, Some, None, [], ◌++◌, length}
-use Rattle.rx_ring.specs.declared.packet.Packet.{Packet}
-use Rattle.c_handles.specs.declared.body.Body.{Body}
-use Rattle.c_handles.specs.declared.input.Input.{Input}
-use Rattle.rx_ring.specs.declared.ends.RxCtx.{RxCtx}
-use Rattle.rx_ring.specs.Ends.{GivesNext, SameIn, put_list, capacity_of, received_list}
-use Rattle.rx_ring.specs.declared.packet.RxCounts.{RxCounts}
-use Rattle.c_handles.specs.Status.{OK, FULL, BAD_HANDLE}
-use Rattle.c_handles.specs.SeatCalls.{ctx_counts, hold_counts, mode_counts}
-use Rattle.c_handles.specs.declared.body.Ring.{Ring}
+use Rattle.rx_ring.specs.{declared.{ends.RxCtx.RxCtx, packet.{Packet.Packet, RxCounts.RxCounts}}, Ends.{GivesNext, SameIn, put_list}}
+use Rattle.{rx_ring.specs.Ends.{capacity_of, received_list}, c_handles.specs.declared.{body.{Ring.Ring, Body.Body}, input.Input.Input}}
+use Rattle.{c_handles.specs.Status.BAD_HANDLE, std.specs.Prelude.{◌≡◌, ℕ, ◌==◌, if◌then◌else◌, List, Option, Some, None, [], ◌++◌, length}}
+use Rattle.c_handles.specs.{declared.handle.FqHandle.FqHandle, SeatCalls.{ctx_counts, hold_counts, mode_counts}, Status.{OK, FULL}}
 use Rattle.c_handles.specs.declared.body.Body.TheVariants as body
-use Rattle.c_handles.specs.declared.handle.FqHandle.{FqHandle}
 
 -- the handle leads to the ring
 abbrev pub LeadsTo : FqHandle → Ring → Type 0
@@ -19,13 +12,7 @@ LeadsTo handle ring = handle.held.body ≡ Some (body.Ring ring)
 -- it is a ring with this
 abbrev pub IsRingWith : (Ring → Type 0) → Body → Type 0
 IsRingWith P (body.Ring ring) = P ring
-IsRingWith P (body.In input) = ⊥
-IsRingWith P (body.Ctx ctx) = ⊥
-IsRingWith P (body.List list) = ⊥
-IsRingWith P (body.Seat seat) = ⊥
-IsRingWith P (body.Controller controller) = ⊥
-IsRingWith P (body.Tx tx) = ⊥
-IsRingWith P body.Gone = ⊥
+IsRingWith P _ = ⊥
 
 -- the handle leads to a ring with this
 abbrev pub LeadsToRing : (Ring → Type 0) → Option Body → Type 0
@@ -35,13 +22,7 @@ LeadsToRing P (Some x) = IsRingWith P x
 -- the input of a ring, and the other end, alone
 abbrev pub IsInputWith : (Input → Type 0) → Body → Type 0
 IsInputWith P (body.In input) = P input
-IsInputWith P (body.Ring ring) = ⊥
-IsInputWith P (body.Ctx ctx) = ⊥
-IsInputWith P (body.List list) = ⊥
-IsInputWith P (body.Seat seat) = ⊥
-IsInputWith P (body.Controller controller) = ⊥
-IsInputWith P (body.Tx tx) = ⊥
-IsInputWith P body.Gone = ⊥
+IsInputWith P _ = ⊥
 
 abbrev pub LeadsToInput : (Input → Type 0) → Option Body → Type 0
 LeadsToInput P None = ⊥
@@ -51,12 +32,7 @@ LeadsToInput P (Some x) = IsInputWith P x
 abbrev pub HasInput : Input → Body → Type 0
 HasInput i (body.Ring ring) = ring.input ≡ i
 HasInput i (body.In input) = input ≡ i
-HasInput i (body.Ctx ctx) = ⊥
-HasInput i (body.List list) = ⊥
-HasInput i (body.Seat seat) = ⊥
-HasInput i (body.Controller controller) = ⊥
-HasInput i (body.Tx tx) = ⊥
-HasInput i body.Gone = ⊥
+HasInput i _ = ⊥
 
 abbrev pub LeadsToItsInput : Input → Option Body → Type 0
 LeadsToItsInput i None = ⊥
@@ -64,13 +40,7 @@ LeadsToItsInput i (Some x) = HasInput i x
 
 abbrev pub IsCtxWith : (RxCtx → Type 0) → Body → Type 0
 IsCtxWith P (body.Ctx ctx) = P ctx
-IsCtxWith P (body.Ring ring) = ⊥
-IsCtxWith P (body.In input) = ⊥
-IsCtxWith P (body.List list) = ⊥
-IsCtxWith P (body.Seat seat) = ⊥
-IsCtxWith P (body.Controller controller) = ⊥
-IsCtxWith P (body.Tx tx) = ⊥
-IsCtxWith P body.Gone = ⊥
+IsCtxWith P _ = ⊥
 
 abbrev pub LeadsToCtx : (RxCtx → Type 0) → Option Body → Type 0
 LeadsToCtx P None = ⊥
@@ -96,12 +66,7 @@ pub record IsAfterInput (before : Input) (packets : List Packet) (after : Input)
 abbrev pub burst_in : Body → ℕ → List Packet → ℕ
 burst_in (body.Ring ring) count packets = if count == length packets then OK else FULL
 burst_in (body.In input) count packets = if count == length packets then OK else FULL
-burst_in (body.Ctx ctx) count packets = BAD_HANDLE
-burst_in (body.List list) count packets = BAD_HANDLE
-burst_in (body.Seat seat) count packets = BAD_HANDLE
-burst_in (body.Controller controller) count packets = BAD_HANDLE
-burst_in (body.Tx tx) count packets = BAD_HANDLE
-burst_in body.Gone count packets = BAD_HANDLE
+burst_in _ count packets = BAD_HANDLE
 
 abbrev pub burst_status : Option Body → ℕ → List Packet → ℕ
 burst_status None count packets = BAD_HANDLE
@@ -120,10 +85,7 @@ counts_in (body.Ring ring) = Some (ctx_counts ring.ctx)
 counts_in (body.Ctx ctx) = Some (ctx_counts ctx)
 counts_in (body.Seat seat) = hold_counts seat.hold
 counts_in (body.Controller controller) = mode_counts controller.mode
-counts_in (body.In input) = None
-counts_in (body.List list) = None
-counts_in (body.Tx tx) = None
-counts_in body.Gone = None
+counts_in _ = None
 
 abbrev pub CountsAre : RxCounts → Option Body → Type 0
 CountsAre counts None = ⊥

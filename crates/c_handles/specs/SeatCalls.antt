@@ -1,64 +1,39 @@
 -- What a caller or the controller of a shared instance does with a call, in whatever state it is, told by the clauses of the
 -- calls below. A call that its state doesn't have is refused, and leaves all as it was.
-use Rattle.std.specs.Prelude.{◌≡◌, ℕ, Bool, List, [], ◌∷◌, Option, Some, None}
+use Rattle.napi_calls.specs.Packets.{Quiet, HoldsOn, GivesBack, IsSame, PreparesQuietly, TakesFresh, TriesToGiveBack, TriesToBusyPollFresh}
+use Rattle.napi_calls.specs.{Packets.{TriesToStopHolding, TriesToTakeFresh}, Calls.{Prepares, Takes, TriesToComplete, TriesToBusyPoll}}
+use Rattle.napi_calls.specs.{Calls.{TriesToStop, TriesToTake, EnablesAt}, declared.types.{Polling.Polling, Busy.Busy}, Made.{Made, WasLost}}
+use Rattle.{napi_model.specs.declared.{state.Seen.Seen, event.Operation.Operation}, rx_ring.specs.ReceiveRing.counts_of}
+use Rattle.rx_ring.specs.{declared.{packet.{Packet.Packet, RxCounts.RxCounts}, ends.RxCtx.RxCtx}, Ends.{GivesNext, polls_of, received_list}}
+use Rattle.{std.specs.Prelude.{◌≡◌, ℕ, Bool, List, [], ◌∷◌, Option, Some, None}, napi_word.specs.declared.table.Pass.Pass}
+use Rattle.c_handles.specs.{declared.{hold.{SeatCall.SeatCall, Hold.Hold}, mode.{ControlCall.ControlCall, Mode.Mode}}, Status.{OK, HELD}}
+use Rattle.c_handles.specs.{Status.{CHANGED, NOT_ALLOWED}, Tries.{Is, scheduled, taken, completed, busy_taken, busy_stopped, disable_tried}}
 use Rattle.napi_model.specs.declared.state.Kind.TheVariants as kind
 use Rattle.napi_model.specs.declared.event.Done.TheVariants as done
 use Rattle.napi_model.specs.declared.event.Call.TheVariants as call
-use Rattle.napi_model.specs.declared.event.Operation.{Operation}
 use Rattle.napi_model.specs.declared.event.Operation.TheVariants as operation
-use Rattle.rx_ring.specs.declared.packet.Packet.{Packet}
-use Rattle.rx_ring.specs.declared.packet.RxCounts.{RxCounts}
-use Rattle.rx_ring.specs.declared.ends.RxCtx.{RxCtx}
-use Rattle.rx_ring.specs.ReceiveRing.{counts_of}
-use Rattle.rx_ring.specs.Ends.{GivesNext, polls_of, received_list}
-use Rattle.napi_model.specs.declared.state.Seen.{Seen}
-use Rattle.napi_calls.specs.declared.types.Polling.{Polling}
-use Rattle.napi_calls.specs.declared.types.Busy.{Busy}
-use Rattle.napi_word.specs.declared.table.Pass.{Pass}
-use Rattle.napi_calls.specs.Made.{Made, WasLost}
-use Rattle.napi_calls.specs.Packets.{Quiet, HoldsOn, GivesBack, IsSame, PreparesQuietly, TakesFresh, TriesToGiveBack, TriesToBusyPollFresh}
-use Rattle.napi_calls.specs.Packets.{TriesToStopHolding, TriesToTakeFresh}
-use Rattle.napi_calls.specs.Calls.{Prepares, Takes, TriesToComplete, TriesToBusyPoll, TriesToStop, TriesToTake, EnablesAt}
-use Rattle.c_handles.specs.declared.hold.Hold.{Hold}
 use Rattle.c_handles.specs.declared.hold.Hold.TheVariants as hold
-use Rattle.c_handles.specs.declared.hold.SeatCall.{SeatCall}
 use Rattle.c_handles.specs.declared.hold.SeatCall.TheVariants as seat_call
-use Rattle.c_handles.specs.declared.mode.Mode.{Mode}
 use Rattle.c_handles.specs.declared.mode.Mode.TheVariants as mode
-use Rattle.c_handles.specs.declared.mode.ControlCall.{ControlCall}
 use Rattle.c_handles.specs.declared.mode.ControlCall.TheVariants as control_call
-use Rattle.c_handles.specs.Status.{OK, HELD, CHANGED, NOT_ALLOWED}
-use Rattle.c_handles.specs.Tries.{Is, scheduled, taken, completed, busy_taken, busy_stopped, disable_tried}
 
 -- ---- what is held then
 
 abbrev pub RestsWith : (Pass → Type 0) → Hold → Type 0
 RestsWith P (hold.Rests c) = P c.pass
-RestsWith P (hold.Granted g) = ⊥
-RestsWith P (hold.Polls w) = ⊥
-RestsWith P (hold.Busy b) = ⊥
-RestsWith P hold.Gone = ⊥
+RestsWith P _ = ⊥
 
 abbrev pub GrantedWith : (Pass → Type 0) → Hold → Type 0
 GrantedWith P (hold.Granted g) = P g.pass
-GrantedWith P (hold.Rests c) = ⊥
-GrantedWith P (hold.Polls w) = ⊥
-GrantedWith P (hold.Busy b) = ⊥
-GrantedWith P hold.Gone = ⊥
+GrantedWith P _ = ⊥
 
 abbrev pub BusyWith : (Busy → Type 0) → Hold → Type 0
 BusyWith P (hold.Busy b) = P b
-BusyWith P (hold.Rests c) = ⊥
-BusyWith P (hold.Granted g) = ⊥
-BusyWith P (hold.Polls w) = ⊥
-BusyWith P hold.Gone = ⊥
+BusyWith P _ = ⊥
 
 abbrev pub PollsWith : (Polling → Type 0) → Hold → Type 0
 PollsWith P (hold.Polls w) = P w
-PollsWith P (hold.Rests c) = ⊥
-PollsWith P (hold.Granted g) = ⊥
-PollsWith P (hold.Busy b) = ⊥
-PollsWith P hold.Gone = ⊥
+PollsWith P _ = ⊥
 
 -- ---- the calls of each state, and all others
 
@@ -67,31 +42,19 @@ Refused before n after = (n ≡ NOT_ALLOWED) × (after ≡ before)
 
 abbrev pub IfRests : (Pass → ℕ → Hold → Type 0) → Hold → ℕ → Hold → Type 0
 IfRests P (hold.Rests c) n after = P c.pass n after
-IfRests P (hold.Granted g) n after = Refused (hold.Granted g) n after
-IfRests P (hold.Polls w) n after = Refused (hold.Polls w) n after
-IfRests P (hold.Busy b) n after = Refused (hold.Busy b) n after
-IfRests P hold.Gone n after = Refused hold.Gone n after
+IfRests P other n after = Refused other n after
 
 abbrev pub IfGranted : (Pass → ℕ → Hold → Type 0) → Hold → ℕ → Hold → Type 0
 IfGranted P (hold.Granted g) n after = P g.pass n after
-IfGranted P (hold.Rests c) n after = Refused (hold.Rests c) n after
-IfGranted P (hold.Polls w) n after = Refused (hold.Polls w) n after
-IfGranted P (hold.Busy b) n after = Refused (hold.Busy b) n after
-IfGranted P hold.Gone n after = Refused hold.Gone n after
+IfGranted P other n after = Refused other n after
 
 abbrev pub IfPolls : (Polling → ℕ → Hold → Type 0) → Hold → ℕ → Hold → Type 0
 IfPolls P (hold.Polls w) n after = P w n after
-IfPolls P (hold.Rests c) n after = Refused (hold.Rests c) n after
-IfPolls P (hold.Granted g) n after = Refused (hold.Granted g) n after
-IfPolls P (hold.Busy b) n after = Refused (hold.Busy b) n after
-IfPolls P hold.Gone n after = Refused hold.Gone n after
+IfPolls P other n after = Refused other n after
 
 abbrev pub IfBusy : (Busy → ℕ → Hold → Type 0) → Hold → ℕ → Hold → Type 0
 IfBusy P (hold.Busy b) n after = P b n after
-IfBusy P (hold.Rests c) n after = Refused (hold.Rests c) n after
-IfBusy P (hold.Granted g) n after = Refused (hold.Granted g) n after
-IfBusy P (hold.Polls w) n after = Refused (hold.Polls w) n after
-IfBusy P hold.Gone n after = Refused hold.Gone n after
+IfBusy P other n after = Refused other n after
 
 -- the operations of a call in the history, and what it does with the packets: its caller delivers none
 abbrev pub Does : List Operation → Pass → Pass → Type 0
@@ -107,9 +70,7 @@ abbrev pub Completes : Hold → ℕ → Hold → Type 0
 Completes (hold.Polls w) n after = Is (λ r. TriesToComplete w.pass r × TriesToGiveBack w.pass w.ctx r) (completed after n)
 Completes (hold.Busy b) n after =
     (n ≡ HELD) × BusyWith (λ x. Made b.pass (operation.Complete done.Held ∷ []) x.pass × HoldsOn b.pass x.pass × (x.ctx ≡ b.ctx)) after
-Completes (hold.Rests c) n after = Refused (hold.Rests c) n after
-Completes (hold.Granted g) n after = Refused (hold.Granted g) n after
-Completes hold.Gone n after = Refused hold.Gone n after
+Completes other n after = Refused other n after
 
 -- `SeatAnswers call before n after`: the call is answered this number, and leaves this
 abbrev pub SeatAnswers : SeatCall → Hold → ℕ → Hold → Type 0
@@ -143,49 +104,36 @@ ctx_counts ctx = counts_of (polls_of ctx) (received_list ctx)
 abbrev pub hold_counts : Hold → Option RxCounts
 hold_counts (hold.Polls w) = Some (ctx_counts w.ctx)
 hold_counts (hold.Busy b) = Some (ctx_counts b.ctx)
-hold_counts (hold.Rests c) = None
-hold_counts (hold.Granted g) = None
-hold_counts hold.Gone = None
+hold_counts _ = None
 
 abbrev pub mode_counts : Mode → Option RxCounts
 mode_counts (mode.Off c) = Some (ctx_counts c.state.ctx)
-mode_counts (mode.On c) = None
-mode_counts (mode.Marked c) = None
-mode_counts mode.Gone = None
+mode_counts _ = None
 
 -- ---- the controller
 
 abbrev pub MarkedWith : (Pass → Type 0) → Mode → Type 0
 MarkedWith P (mode.Marked c) = P c.pass
-MarkedWith P (mode.Off c) = ⊥
-MarkedWith P (mode.On c) = ⊥
-MarkedWith P mode.Gone = ⊥
+MarkedWith P _ = ⊥
 
 -- `napi_enable`, in one try: what was polled is delivered, or the controller has it still
 abbrev pub EnablesIn : Pass → RxCtx → Bool → ℕ → Mode → Type 0
 EnablesIn p ctx threaded n (mode.On c) = (n ≡ OK) × EnablesAt threaded p c.pass × GivesBack p ctx c.pass
 EnablesIn p ctx threaded n (mode.Off c) =
     (n ≡ CHANGED) × WasLost (call.Enable threaded) p c.pass × HoldsOn p c.pass × IsSame ctx c.state.ctx
-EnablesIn p ctx threaded n (mode.Marked c) = ⊥
-EnablesIn p ctx threaded n mode.Gone = ⊥
+EnablesIn p ctx threaded n _ = ⊥
 
 abbrev pub IfOff : (Pass → RxCtx → ℕ → Mode → Type 0) → Mode → ℕ → Mode → Type 0
 IfOff P (mode.Off c) n after = P c.pass c.state.ctx n after
-IfOff P (mode.On c) n after = Refused (mode.On c) n after
-IfOff P (mode.Marked c) n after = Refused (mode.Marked c) n after
-IfOff P mode.Gone n after = Refused mode.Gone n after
+IfOff P other n after = Refused other n after
 
 abbrev pub IfOn : (Pass → ℕ → Mode → Type 0) → Mode → ℕ → Mode → Type 0
 IfOn P (mode.On c) n after = P c.pass n after
-IfOn P (mode.Off c) n after = Refused (mode.Off c) n after
-IfOn P (mode.Marked c) n after = Refused (mode.Marked c) n after
-IfOn P mode.Gone n after = Refused mode.Gone n after
+IfOn P other n after = Refused other n after
 
 abbrev pub IfMarked : (Pass → ℕ → Mode → Type 0) → Mode → ℕ → Mode → Type 0
 IfMarked P (mode.Marked c) n after = P c.pass n after
-IfMarked P (mode.Off c) n after = Refused (mode.Off c) n after
-IfMarked P (mode.On c) n after = Refused (mode.On c) n after
-IfMarked P mode.Gone n after = Refused mode.Gone n after
+IfMarked P other n after = Refused other n after
 
 abbrev pub ControlAnswers : ControlCall → Mode → ℕ → Mode → Type 0
 ControlAnswers (control_call.Enable threaded) = IfOff (λ p ctx n after. EnablesIn p ctx threaded n after)
@@ -198,6 +146,4 @@ ControlAnswers control_call.TryTake = IfMarked (λ p n after. Tries TriesToTake 
 abbrev pub SeatPolls : ℕ → List Packet → Hold → ℕ → Hold → Type 0
 SeatPolls weight given (hold.Polls w) n after = (n ≡ OK) × PollsWith (λ x. GivesNext weight w.ctx x.ctx given × (x.pass ≡ w.pass)) after
 SeatPolls weight given (hold.Busy b) n after = (n ≡ OK) × BusyWith (λ x. GivesNext weight b.ctx x.ctx given × (x.pass ≡ b.pass)) after
-SeatPolls weight given (hold.Rests c) n after = Refused (hold.Rests c) n after
-SeatPolls weight given (hold.Granted g) n after = Refused (hold.Granted g) n after
-SeatPolls weight given hold.Gone n after = Refused hold.Gone n after
+SeatPolls weight given other n after = Refused other n after

@@ -1,10 +1,7 @@
 -- The callers and the controller of a shared instance, as handles of C's lead to them.
-use Rattle.std.proofs.Props.{props}
-use Rattle.napi_calls.specs.declared.types.Napi.{Napi}
-use Rattle.napi_calls.specs.Instance.{IsSeatOf}
-use Rattle.c_handles.specs.declared.hold.Hold.{Hold}
-use Rattle.c_handles.specs.declared.hold.Hold.TheVariants as hold
+use Rattle.{std.proofs.Props.props, napi_calls.specs.{declared.types.Napi.Napi, Instance.IsSeatOf}, c_handles.specs.declared.hold.Hold.Hold}
 use Rattle.c_handles.specs.declared.mode.Mode.{Mode}
+use Rattle.c_handles.specs.declared.hold.Hold.TheVariants as hold
 use Rattle.c_handles.specs.declared.mode.Mode.TheVariants as mode
 
 -- the caller is one of the instance's, or in a call
@@ -25,31 +22,19 @@ sits_prop n hold.Gone = Prim.hlevel props
 -- what it is
 abbrev pub IsResting : Hold → Type 0
 IsResting (hold.Rests c) = Unit
-IsResting (hold.Granted g) = ⊥
-IsResting (hold.Polls w) = ⊥
-IsResting (hold.Busy b) = ⊥
-IsResting hold.Gone = ⊥
+IsResting _ = ⊥
 
 abbrev pub IsGranted : Hold → Type 0
-IsGranted (hold.Rests c) = ⊥
 IsGranted (hold.Granted g) = Unit
-IsGranted (hold.Polls w) = ⊥
-IsGranted (hold.Busy b) = ⊥
-IsGranted hold.Gone = ⊥
+IsGranted _ = ⊥
 
 abbrev pub IsPolling : Hold → Type 0
-IsPolling (hold.Rests c) = ⊥
-IsPolling (hold.Granted g) = ⊥
 IsPolling (hold.Polls w) = Unit
-IsPolling (hold.Busy b) = ⊥
-IsPolling hold.Gone = ⊥
+IsPolling _ = ⊥
 
 abbrev pub IsBusy : Hold → Type 0
-IsBusy (hold.Rests c) = ⊥
-IsBusy (hold.Granted g) = ⊥
-IsBusy (hold.Polls w) = ⊥
 IsBusy (hold.Busy b) = Unit
-IsBusy hold.Gone = ⊥
+IsBusy _ = ⊥
 
 -- the controller is the instance's, or in a call
 abbrev pub ControlsAt : Napi → Mode → Type 0

@@ -1,8 +1,6 @@
 -- The numbers that calls answer C, no number twice: 0 where a call was made that has nothing else to say; 1 to 15 the faults
 -- of a queue limit, as `DqlFault::number` has them; 16 to 99 what a call found that was made; from 100 on why none was made.
-use Rattle.std.specs.Prelude.{ℕ, Option, Some, None}
-use Rattle.dql_core.specs.declared.event.DqlFault.{DqlFault}
-use Rattle.dql_core.specs.Fault.{number_of}
+use Rattle.{std.specs.Prelude.{ℕ, Option, Some, None}, dql_core.specs.{declared.event.DqlFault.DqlFault, Fault.number_of}}
 
 abbrev pub OK : ℕ
 OK = 0

@@ -1,27 +1,15 @@
 -- Transmit rings behind handles, and the numbers of what their calls answer.
-use Rattle.std.specs.Prelude.{ℕ, Option, Some, None}
+use Rattle.{std.specs.Prelude.{ℕ, Option, Some, None}, dql_core.specs.Fault.number_of, tx_ring.specs.{Queue.TransmitQueue, Ring.ShowsQueue}}
+use Rattle.{tx_ring.specs.declared.{event.TxFault.TxFault, ring.TxRing.TxRing}, c_handles.specs.declared.body.Body.Body}
+use Rattle.c_handles.specs.{declared.handle.FqHandle.FqHandle, Status.{OK, FULL, STOPPED, MORE_THAN_SENT, OUT_OF_MEMORY, BAD_CAPACITY}}
 use Rattle.dql_core.specs.declared.event.DqlFault.TheVariants as limit_fault
-use Rattle.dql_core.specs.Fault.{number_of}
-use Rattle.tx_ring.specs.Queue.{TransmitQueue}
-use Rattle.tx_ring.specs.Ring.{ShowsQueue}
-use Rattle.tx_ring.specs.declared.event.TxFault.{TxFault}
 use Rattle.tx_ring.specs.declared.event.TxFault.TheVariants as tx_fault
-use Rattle.tx_ring.specs.declared.ring.TxRing.{TxRing}
-use Rattle.c_handles.specs.declared.body.Body.{Body}
 use Rattle.c_handles.specs.declared.body.Body.TheVariants as body
-use Rattle.c_handles.specs.declared.handle.FqHandle.{FqHandle}
-use Rattle.c_handles.specs.Status.{OK, FULL, STOPPED, MORE_THAN_SENT, OUT_OF_MEMORY, BAD_CAPACITY}
 
 -- it is a transmit ring with this
 abbrev pub IsTxWith : (TxRing → Type 0) → Body → Type 0
 IsTxWith P (body.Tx r) = P r
-IsTxWith P (body.Ring r) = ⊥
-IsTxWith P (body.In i) = ⊥
-IsTxWith P (body.Ctx ctx) = ⊥
-IsTxWith P (body.List l) = ⊥
-IsTxWith P (body.Seat s) = ⊥
-IsTxWith P (body.Controller c) = ⊥
-IsTxWith P body.Gone = ⊥
+IsTxWith P _ = ⊥
 
 abbrev pub LeadsToTx : (TxRing → Type 0) → Option Body → Type 0
 LeadsToTx P None = ⊥

@@ -1,14 +1,11 @@
 -- How one more act carries a script on, and what all its acts bring.
-use Rattle.std.proofs.Common.{◌≡◌, ◌∙◌, ℕ, zero, suc, ◌+◌, ◌<◌, ◌≤◌, List, [], ◌∷◌, ◌++◌, length, length-append, take, get_or, ap, refl}
-use Rattle.std.{proofs.{Common.{sym, arith}, lemmas.{Bool.eq-eqb, List.{length-take, take_more}}}, specs.Prelude.sum_by}
-use Rattle.std.proofs.lemmas.List.{Elements.filter-append, Sums.{sum-map, sum_by-append}}
-use Rattle.{device_transmit.specs.Transmit.{ShowsTransmit, TransmitView, opened_transmit}, device_rows.specs.declared.event.Event.Event}
-use Rattle.device_rows.specs.declared.event.Event.TheVariants.{Opened, Rx, Tx, Finish, Softirq, Kthread, Disable, Enable, Threaded, Busy}
-use Rattle.{device_rows.specs.declared.row.Row.Row, device_transmit.specs.declared.transmit.Transmit.Transmit}
-use Rattle.{poll_interrupts.specs.Acts.{after_acts, arrivals, brings}, rx_ring.specs.{ReceiveRing.bytes_of, declared.packet.Packet.Packet}}
-use Rattle.device_script.specs.Script.{act_at, act_of, is_rx, rx_of, transmit_after, transmit_by}
-use Rattle.device_script.{specs.ScriptShown.{IsKept, Script, after, answer}, proofs.Rows.filter-long}
-use Rattle.{poll_interrupts.specs.declared.acts.Act.Act, device_rows.proofs.Accepted.get-at}
+use Rattle.std.proofs.{Common.{[], ◌∷◌, ◌++◌, length, length-append, take, get_or, ap, refl, sym, arith}, lemmas.Bool.eq-eqb}
+use Rattle.std.{proofs.lemmas.{Grind.common_steps, List.{take_more, Sums.sum_by-append, Elements.filter-append}}, specs.Prelude.sum_by}
+use Rattle.device_rows.{proofs.Accepted.get-at, specs.declared.{row.Row.Row, event.Event.{Event, TheVariants.Opened}}}
+use Rattle.{poll_interrupts.specs.{Acts.{after_acts, arrivals, brings}, declared.acts.Act.Act}, device_script.proofs.Rows.filter-long}
+use Rattle.{rx_ring.specs.{declared.packet.Packet.Packet, ReceiveRing.bytes_of}, device_transmit.specs.declared.transmit.Transmit.Transmit}
+use Rattle.{device_transmit.specs.Transmit.{ShowsTransmit, TransmitView}, std.proofs.Common.{◌≡◌, ◌∙◌, ℕ, zero, suc, ◌+◌, ◌<◌, ◌≤◌, List}}
+use Rattle.device_script.specs.{ScriptShown.{IsKept, Script, after, answer}, Script.{act_at, act_of, rx_of, transmit_after, transmit_by}}
 
 -- a row that an index out of the rows would give
 abbrev pub none : Row
@@ -28,28 +25,11 @@ pub kept-more : (opening : Row) (rows : List Row) (k packets counted : ℕ) (row
     → IsKept opening rows k packets old → k < length rows → get_or rows k row ≡ row
     → ((view : TransmitView) → ShowsTransmit old view → ShowsTransmit new (transmit_by row.event row view))
     → counted ≡ packets + length (rx_of (row ∷ [])) → IsKept opening rows (k + 1) counted new
-kept-more opening rows k packets counted row old new kept below here shows more =
-    let front : take (k + 1) rows ≡ take k rows ++ row ∷ [] = take_more rows k row below ∙ ap (λ (r : Row). take k rows ++ r ∷ []) here in
-    record {
-      few = kept.few;
-      within = omega (arith, below);
-      packets =
-          let long : rx_of (take (k + 1) rows) ≡ rx_of (take k rows) ++ rx_of (row ∷ []) =
-          rw front (filter-append _ (take k rows) (row ∷ [])) in
-          more ∙ ap (λ (n : ℕ). n + length (rx_of (row ∷ []))) kept.packets ∙ sym (length-append (rx_of (take k rows)) (rx_of (row ∷ [])))
-          ∙ ap (λ (l : List Row). length l) (sym long);
-      transmit = rw (front, transmit_after-push (take k rows) row (opened_transmit opening.value opening.moment)) (shows _ kept.transmit);
-    }
+kept-more opening rows k packets counted row old new kept below here shows more = grind (arith, common_steps, transmit_after-push)
 
 pub few-packets : (opening : Row) (rows : List Row) (k packets : ℕ) (side : Transmit) → IsKept opening rows k packets side
     → packets ≤ 100000
-few-packets opening rows k packets side kept =
-    let all = filter-long (λ (row : Row). is_rx row.event) (take k rows) in
-    let front = length-take k rows in
-    let few = kept.few in
-    let within = kept.within in
-    let counted = kept.packets in
-    omega (arith, all, front, few, within, counted)
+few-packets opening rows k packets side kept = grind (arith, common_steps, filter-long)
 
 -- the act of a row
 pub act-at : (rows : List Row) (k : ℕ) (d : Row) → k < length rows
@@ -59,46 +39,24 @@ act-at rows k d below = rw (get-at rows k d below) refl
 pub answer-in-turn : (s : Script) (k packets : ℕ) (row : Row) (act : Act) → k ≡ s.made → k < length s.rows → get_or s.rows k row ≡ row
     → packets ≡ length (rx_of (take s.made s.rows))
     → act ≡ act_of (packets + 1) row.event row.value → act ≡ answer s k
-answer-in-turn s k packets row act turn below here counted is =
-    is ∙ sym (rw (eq-eqb k s.made turn, act-at s.rows k row below, here, counted, turn) refl)
+answer-in-turn s k packets row act turn below here counted is = grind (arith, common_steps, act-at)
 
 -- ---- all acts
 
 pub acts-made : (s : Script) (n : ℕ) → s.made ≡ 0 → after_acts after s n ≡ record s { made = n }
 acts-made s zero e = ap (λ (m : ℕ). record s { made = m }) e
-acts-made s (suc n) e =
-    let next : n + 1 ≡ suc n = omega arith in
-    rw (acts-made s n e, eq-eqb n n refl) (ap (λ (m : ℕ). record s { made = m }) next)
+acts-made s (suc n) e = grind (arith, common_steps, acts-made s n e)
 
 -- what a row's act brings
 brought-count : (e : Event) (n : ℕ) (row : Row) → row.event ≡ e → length (brings (act_of n row.event row.value)) ≡ length (rx_of (row ∷ []))
-brought-count Opened n row h = rw h refl
-brought-count Rx n row h = rw h refl
-brought-count Tx n row h = rw h refl
-brought-count Finish n row h = rw h refl
-brought-count Softirq n row h = rw h refl
-brought-count Kthread n row h = rw h refl
-brought-count Disable n row h = rw h refl
-brought-count Enable n row h = rw h refl
-brought-count Threaded n row h = rw h refl
-brought-count Busy n row h = rw h refl
+brought-count e n row h = grind (arith, common_steps)
 
 brought-bytes : (e : Event) (n : ℕ) (row : Row) → row.event ≡ e
     → bytes_of (brings (act_of n row.event row.value)) ≡ sum_by (λ (r : Row). r.value) (rx_of (row ∷ []))
-brought-bytes Opened n row h = rw h refl
-brought-bytes Rx n row h = rw h refl
-brought-bytes Tx n row h = rw h refl
-brought-bytes Finish n row h = rw h refl
-brought-bytes Softirq n row h = rw h refl
-brought-bytes Kthread n row h = rw h refl
-brought-bytes Disable n row h = rw h refl
-brought-bytes Enable n row h = rw h refl
-brought-bytes Threaded n row h = rw h refl
-brought-bytes Busy n row h = rw h refl
+brought-bytes e n row h = grind (arith, common_steps)
 
 bytes_of-append : (xs ys : List Packet) → bytes_of (xs ++ ys) ≡ bytes_of xs + bytes_of ys
-bytes_of-append xs ys = sum-map (λ (p : Packet). p.bytes) (xs ++ ys) ∙ sum_by-append (λ (p : Packet). p.bytes) xs ys
-    ∙ sym (let a = sum-map (λ (p : Packet). p.bytes) xs in let b = sum-map (λ (p : Packet). p.bytes) ys in rw (a, b) refl)
+bytes_of-append xs ys = grind (arith, common_steps)
 
 -- the packets of the first n acts of a script are those of its rx rows
 abbrev pub AreArrivals : Script → ℕ → Type 0

@@ -1,8 +1,6 @@
 -- The scripts of all devices, by their places.
-use Rattle.std.specs.Prelude.{◌≡◌, ℕ, ◌+◌, ◌<◌, List, [], map, slice_index_or, vec_items}
-use Rattle.std.specs.Global.{Vec}
-use Rattle.device_rows.specs.declared.row.Row.{Row}
-use Rattle.device_script.specs.Script.{script_of}
+use Rattle.std.specs.{Prelude.{◌≡◌, ℕ, ◌+◌, ◌<◌, List, [], map, slice_index_or, vec_items}, Global.Vec}
+use Rattle.{device_rows.specs.declared.row.Row.Row, device_script.specs.Script.script_of}
 
 abbrev pub lists : Vec (Vec Row) → List (List Row)
 lists scripts = map (λ script. vec_items script) (vec_items scripts)

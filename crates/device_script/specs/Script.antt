@@ -1,12 +1,8 @@
 -- What the rows of a trace say of one device: filters over the rows, which know nothing of polls.
+use Rattle.{poll_interrupts.specs.declared.acts.Act.Act, device_rows.specs.declared.{row.Row.Row, event.Event.Event}, std.specs.List.find}
 use Rattle.std.specs.Prelude.{is_some, ℕ, ◌+◌, ◌==◌, ◌&&◌, Bool, true, false, not, List, [], ◌∷◌, Option, Some, None, filter, length}
-use Rattle.std.specs.Prelude.{slice_get, take}
-use Rattle.std.specs.List.{find}
-use Rattle.device_transmit.specs.Transmit.{TransmitView, after_finish, after_tx, opened_transmit}
-use Rattle.device_rows.specs.declared.event.Event.{Event}
+use Rattle.{std.specs.Prelude.{slice_get, take}, device_transmit.specs.Transmit.{TransmitView, after_finish, after_tx, opened_transmit}}
 use Rattle.device_rows.specs.declared.event.Event.TheVariants as event
-use Rattle.device_rows.specs.declared.row.Row.{Row}
-use Rattle.poll_interrupts.specs.declared.acts.Act.{Act}
 use Rattle.poll_interrupts.specs.declared.acts.Act.TheVariants as act
 
 abbrev pub is_open : Event → Bool

@@ -1,17 +1,13 @@
 -- How a call of one seat is one of its number alone.
-use Rattle.std.proofs.Common.{◌≡◌, ◌∙◌, ℕ, Bool, true, false, List, [], Option, Some, None, refl, sym, ap, subst, arith}
-use Rattle.rx_ring.specs.declared.{ends.RxCtx.RxCtx, packet.Packet.Packet}
-use Rattle.napi_model.specs.declared.{event.Operation.Operation, state.{Kind.Kind, Place.Place}}
+use Rattle.std.proofs.{Common.{ℕ, Bool, true, false, List, [], Option, Some, None, refl, sym, ap, subst, arith}, lemmas.Grind.common_steps}
+use Rattle.napi_calls.{proofs.{Dealing.delivers_none, Making.nothing}, specs.{Made.Made, Packets.{Quiet, IsFresh, HoldsOn, polled}}}
+use Rattle.{napi_calls.specs.{Dealt.Delivers, Knows.{Has, Stands}, declared.types.{Caller.Caller, Napi.Napi}}, std.proofs.Common.{◌≡◌, ◌∙◌}}
+use Rattle.{rx_ring.specs.declared.{packet.Packet.Packet, ends.RxCtx.RxCtx}, napi_word.specs.{Slot.has_slot, declared.table.Pass.Pass}}
+use Rattle.{device_bench.specs.Receive.taker_of, napi_model.specs.declared.{state.{Place.Place, Kind.Kind}, event.Operation.Operation}}
+use Rattle.device_shared.specs.declared.seats.{Seats.Seats, Turn.Turn, Posts.{Posts, TheVariants.{Rest, ListPolls, ThreadPolls}}}
+use Rattle.device_shared.specs.{declared.seats.Posts.TheVariants.PollsBusily, Seats.{IsSeatAt, AreSeats, poller_post, thread_post, ctx_at}}
+use Rattle.device_shared.specs.{Seats.{polls_at, poller_of, thread_of, control_of, ctx_of}, Acting.{CtxMoves, Acts, TurnTakes, nobody}}
 use Rattle.napi_model.specs.declared.state.Kind.TheVariants as kind
-use Rattle.{napi_word.specs.{declared.table.Pass.Pass, Slot.has_slot, View.own_deliveries}, device_bench.specs.Receive.taker_of}
-use Rattle.napi_calls.specs.{Made.Made, Knows.{Has, Stands}, Dealt.Delivers, Packets.{Quiet, IsFresh, HoldsOn, polled}}
-use Rattle.napi_calls.specs.declared.types.{Napi.Napi, Caller.Caller}
-use Rattle.napi_calls.proofs.{Dealing.delivers_none, Making.nothing}
-use Rattle.device_shared.specs.Acting.{CtxMoves, Acts, TurnTakes, nobody}
-use Rattle.device_shared.specs.Seats.{IsSeatAt, AreSeats, poller_post, thread_post, ctx_at, polls_at, poller_of, thread_of, control_of}
-use Rattle.device_shared.specs.Seats.{ctx_of}
-use Rattle.device_shared.specs.declared.seats.Posts.{Posts, TheVariants.{Rest, ListPolls, ThreadPolls, PollsBusily}}
-use Rattle.device_shared.specs.declared.seats.{Turn.Turn, Seats.Seats}
 use Rattle.device_shared.specs.declared.seats.Turn.TheVariants as turn
 
 pub seat_made : {n : Napi} {p q : Pass} {os : List Operation} → IsSeatAt n p → Made p os q → IsSeatAt n q
@@ -19,8 +15,7 @@ seat_made s m = record { instance = m.seat.table ∙ s.instance; controller = m.
 
 -- the context stays where it is
 pub stays : (p q : Pass) (o : Option RxCtx) → CtxMoves [] p q o o
-stays p q None = refl
-stays p q (Some x) = (refl, refl)
+stays p q o = grind (arith, common_steps)
 
 -- ---- one seat made these, and the context moved so
 
@@ -39,8 +34,7 @@ pub taken : {os : List Operation} (p q : Pass) (x : RxCtx) → Made p os q → I
 taken p q x m f has = record { made = m; gave = delivers_none p q f.quiet; moves = (refl, f.received, q.right ∙ ap has_slot has.holds) }
 
 pub held : {os : List Operation} (p q : Pass) (x y : RxCtx) → Made p os q → HoldsOn p q → y ≡ x → Moved os [] p q (Some x) (Some y)
-held p q x y m h e =
-    record { made = m; gave = delivers_none p q (λ i. own_deliveries (m.seat.number i) (h.deliveries i)); moves = (refl, e) }
+held p q x y m h e = grind (arith, common_steps)
 
 pub given : {os : List Operation} (p q : Pass) (x : RxCtx) → Made p os q → Delivers p (polled p x) q → Has p (Some x)
     → Moved os (polled p x) p q (Some x) None
@@ -60,10 +54,7 @@ thread_rests (ThreadPolls p w) = idle (Some w.ctx) w.stands
 thread_rests (PollsBusily b t) = idle (Some b.ctx) t.stands
 
 pub not_rest : (posts : Posts) → ((p t : Caller) → posts ≡ Rest p t → ⊥) → nobody (polls_at posts) ≡ false
-not_rest (Rest p t) none = absurd (none p t refl)
-not_rest (ListPolls w t) none = refl
-not_rest (ThreadPolls p w) none = refl
-not_rest (PollsBusily b t) none = refl
+not_rest posts none = grind (arith, common_steps)
 
 -- ---- one of the four
 
@@ -88,62 +79,17 @@ module _ {n : Napi} {os : List Operation} {packets : List Packet} (i : Caller) (
   pub first_turn : Moved os packets (poller_of before) (poller_of after) (ctx_of before) (ctx_of after) → thread_of after ≡ thread_of before
       → control_of after ≡ control_of before
       → Acts 1 os n (with_turn i t) (with_turn i after)
-  first_turn m two three = let seats = rw was at s in rw was (record {
-    low = omega arith;
-    packets = packets;
-    zeroth = refl;
-    one = (m.made, m.gave);
-    two = two;
-    three = three;
-    moves = m.moves;
-    seats =
-        record {
-          zeroth = seats.zeroth;
-          one = seat_made seats.one m.made;
-          two = subst (IsSeatAt n) (sym two) seats.two;
-          three = subst (IsSeatAt n) (sym three) seats.three;
-        };
-  })
+  first_turn m two three = grind (arith, common_steps, seat_made)
 
   pub second_turn : Moved os packets (thread_of before) (thread_of after) (ctx_of before) (ctx_of after)
       → poller_of after ≡ poller_of before → control_of after ≡ control_of before
       → Acts 2 os n (with_turn i t) (with_turn i after)
-  second_turn m one three = let seats = rw was at s in rw was (record {
-    low = omega arith;
-    packets = packets;
-    zeroth = refl;
-    one = one;
-    two = (m.made, m.gave);
-    three = three;
-    moves = m.moves;
-    seats =
-        record {
-          zeroth = seats.zeroth;
-          one = subst (IsSeatAt n) (sym one) seats.one;
-          two = seat_made seats.two m.made;
-          three = subst (IsSeatAt n) (sym three) seats.three;
-        };
-  })
+  second_turn m one three = grind (arith, common_steps, seat_made)
 
   pub control_turn : Moved os packets (control_of before) (control_of after) (ctx_of before) (ctx_of after)
       → poller_of after ≡ poller_of before → thread_of after ≡ thread_of before
       → Acts 3 os n (with_turn i t) (with_turn i after)
-  control_turn m one two = let seats = rw was at s in rw was (record {
-    low = omega arith;
-    packets = packets;
-    zeroth = refl;
-    one = one;
-    two = two;
-    three = (m.made, m.gave);
-    moves = m.moves;
-    seats =
-        record {
-          zeroth = seats.zeroth;
-          one = subst (IsSeatAt n) (sym one) seats.one;
-          two = subst (IsSeatAt n) (sym two) seats.two;
-          three = seat_made seats.three m.made;
-        };
-  })
+  control_turn m one two = grind (arith, common_steps, seat_made)
 
 -- nobody calls
 pub none_turn : {n : Napi} (k : Kind) (i : Caller) (t : Turn) → AreSeats n (with_turn i t)

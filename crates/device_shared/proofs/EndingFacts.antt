@@ -1,19 +1,15 @@
 -- How a side ends.
-use Rattle.std.proofs.Common.{◌≡◌, ◌∙◌, ℕ, List, [], ◌∷◌, length, take, Some, refl, sym, ap, subst, arith}
-use Rattle.std.proofs.lemmas.List.{append-nil, length-drop, take-append-drop}
-use Rattle.rx_ring.specs.declared.{ends.{RxCtx.RxCtx, RxIn.RxIn}, packet.{Packet.Packet, Totals.Totals}}
-use Rattle.rx_ring.specs.Ends.{IsOneRing, SameCtx, SameIn, put_list, received_list, ring_name, ring_of}
-use Rattle.rx_ring.specs.ReceiveRing.{capped, held_of, totals_of}
-use Rattle.{napi_word.{specs.declared.table.Pass.Pass, proofs.Deliveries.some_is}, device_bench.specs.Receive.ReceiveView}
-use Rattle.napi_calls.specs.{Closed.IsClosed, Seats.shown, declared.types.{Caller.Caller, Napi.Napi}}
-use Rattle.napi_calls.proofs.{Dealing.named_ring, Steps.prefix_trans}
+use Rattle.std.proofs.{Common.{subst, arith}, lemmas.{List.{append-nil, take-append-drop}, Grind.common_steps}}
+use Rattle.{napi_model.specs.declared.state.Seen.Seen, std.proofs.Common.{◌≡◌, ◌∙◌, ℕ, List, [], ◌∷◌, length, take, Some, refl, sym, ap}}
+use Rattle.{device_shared.specs.declared.seats.{Posts.{Posts, TheVariants.Rest}, Seats.Seats}, rx_ring.specs.declared.packet.Totals.Totals}
+use Rattle.rx_ring.specs.{declared.{packet.Packet.Packet, ends.{RxCtx.RxCtx, RxIn.RxIn}}, Ends.{IsOneRing, SameCtx, SameIn, put_list}}
+use Rattle.{rx_ring.specs.{Ends.{received_list, ring_name, ring_of}, ReceiveRing.totals_of}, device_bench.specs.Receive.ReceiveView}
+use Rattle.napi_calls.{proofs.{Steps.prefix_trans, Dealing.named_ring}, specs.{Seats.shown, declared.types.{Napi.Napi, Caller.Caller}}}
+use Rattle.{napi_calls.specs.Closed.IsClosed, napi_word.{specs.declared.table.Pass.Pass, proofs.Deliveries.some_is}}
+use Rattle.device_shared.{proofs.{Gathering.{at_three, ring_from}, RingFacts.side_at}, specs.Seats.{control_of, polls_at, received_by}}
+use Rattle.device_shared.specs.{SharedReceive.{IsWhole, left_in}, Ending.{IsEnded, IsLater, TakesHold}, declared.seats.Enabled.Enabled}
 use Rattle.napi_calls.specs.Seats as seats
-use Rattle.napi_model.specs.declared.state.Seen.{Seen}
-use Rattle.device_shared.specs.{declared.seats.Seats.Seats, Ending.{IsEnded, IsLater, TakesHold}, Seats.{control_of, polls_at, received_by}}
-use Rattle.device_shared.specs.SharedReceive.{IsWhole, left_in}
-use Rattle.device_shared.specs.declared.seats.{Enabled.Enabled, Posts.{Posts, TheVariants.{Rest, ListPolls, ThreadPolls, PollsBusily}}}
 use Rattle.device_shared.specs.declared.seats.Turn.TheVariants as turn
-use Rattle.device_shared.proofs.{Gathering.{at_three, ring_from}, RingFacts.{one_still, side_at}}
 
 -- ---- one seat, and one ring, at several moments
 
@@ -24,16 +20,11 @@ pub later_then : (p q r : Pass) → IsLater p q → IsLater q r → IsLater p r
 later_then p q r a b = record { begins = prefix_trans (shown p) (shown q) (shown r) a.begins b.begins; ring = b.ring ∙ a.ring }
 
 pub ring_still : (input input' : RxIn) (x x' : RxCtx) → SameIn input input' → SameCtx x x' → IsOneRing input x → IsOneRing input' x'
-ring_still input input' x x' a b one =
-    let still = one_still input input' x a one in
-    (b.0.0 ∙ still.0, b.0.1 ∙ still.1, b.0.2 ∙ still.2, b.0.3 ∙ still.3)
+ring_still input input' x x' a b one = grind (arith, common_steps)
 
 -- who polls it has it still
 pub held_still : (posts : Posts) (e : Enabled) → ((p t : Caller) → posts ≡ Rest p t → ⊥) → TakesHold (polls_at posts) e (turn.On posts e)
-held_still (Rest p t) e none = absurd (none p t refl)
-held_still (ListPolls w t) e none = refl
-held_still (ThreadPolls p w) e none = refl
-held_still (PollsBusily b t) e none = refl
+held_still posts e none = grind (arith, common_steps)
 
 -- ---- a side ended
 
@@ -54,10 +45,7 @@ module _ (n : Napi) (s : Seats) (input : RxIn) (held_many capacity : ℕ) (seen 
     ring_is = ap (λ (l : List Packet). record { put = l; received = received_list last }) put
 
     none_left : totals.left ≡ 0
-    none_left =
-        let none : length (held_of (ring_of input last)) ≡ 0 =
-        length-drop (length (received_list last)) (put_list input) ∙ omega (arith, ap length polled) in
-        ap (λ (t : Totals). t.left) (are ∙ ap totals_of ring_is) ∙ ap capped none
+    none_left = grind (arith, common_steps, ring_is)
 
     pub side_ended : (now : ReceiveView) → side_at (Some s) input capacity ≡ now → IsEnded now totals
     side_ended now view =

@@ -1,30 +1,25 @@
 -- One of the seats acted alone, and then all met: what all of them know now.
+use Rattle.std.proofs.Common.{rules}
+use Rattle.std.proofs.lemmas.Grind.{common_steps}
 use Rattle.std.proofs.Common.{◌≡◌, ◌∙◌, ◌≤◌, ℕ, zero, suc, List, [], ◌∷◌, ◌++◌, Option, Some, None, refl, sym, ap, subst, arith, ne_eqb}
-use Rattle.std.proofs.Common.{append-nil, append_assoc}
-use Rattle.rx_ring.specs.{declared.{ends.RxCtx.RxCtx, packet.Packet.Packet}, Ends.{ring_name, received_list}}
-use Rattle.napi_model.specs.declared.{event.{Event.Event, Operation.{Operation, TheVariants.Look}}, state.{Seen.Seen, State.State}}
-use Rattle.napi_model.specs.{Step.{event, opening, seen_of}, History.{LegalHistory, state_after}, Laws.IsSound}
-use Rattle.napi_model.proofs.Owners.{opens_sound, sound_after}
-use Rattle.napi_word.specs.{declared.{table.Pass.Pass, view.Delivery.Delivery}, Passes.{OwnsSlot, view_of}}
-use Rattle.napi_word.specs.{View.{View, first_in, received_in, packets_of}, Surveys.{IsSurveyed, Surveys}}
-use Rattle.napi_word.proofs.{CatchingUp.state_looked, Deliveries.some_is}
+use Rattle.{std.proofs.Common.{append-nil, append_assoc}, rx_ring.specs.{declared.{ends.RxCtx.RxCtx, packet.Packet.Packet}, Ends.ring_name}}
+use Rattle.{rx_ring.specs.Ends.received_list, napi_model.specs.declared.event.{Event.Event, Operation.{Operation, TheVariants.Look}}}
+use Rattle.napi_model.specs.{declared.state.{Seen.Seen, State.State}, Step.{event, opening, seen_of}, History.{LegalHistory, state_after}}
+use Rattle.{napi_model.{specs.Laws.IsSound, proofs.Owners.{opens_sound, sound_after}}, napi_word.specs.declared.table.Pass.Pass}
+use Rattle.napi_word.specs.{declared.view.Delivery.Delivery, Passes.{OwnsSlot, view_of}, View.{View, first_in, received_in, packets_of}}
+use Rattle.napi_word.{specs.Surveys.{IsSurveyed, Surveys}, proofs.{CatchingUp.state_looked, Deliveries.some_is}}
 use Rattle.napi_calls.specs.{Alone.{AllShow, GrewBy, MakesAlone}, Knows.received_held, Made.events, Packets.{delivered, received_before}}
 use Rattle.napi_calls.{specs.{Seats.{controller_of, ring_of, shown, state_of}, declared.types.Napi.Napi}, proofs.Alone.one_alone}
-use Rattle.device_shared.specs.{declared.seats.Seats.Seats, Acting.{Acts, CtxMoves, seat_at}, Meeting.{Meets, passes_of}}
-use Rattle.device_shared.specs.Seats.{IsSeatAt, ShowAll, control_of, ctx_of, poller_of, received_by, state_in, thread_of}
+use Rattle.device_shared.specs.{declared.seats.Seats.Seats, Acting.{Acts, CtxMoves, seat_at}, Meeting.{Meets, passes_of}, Seats.IsSeatAt}
+use Rattle.device_shared.specs.Seats.{ShowAll, control_of, ctx_of, poller_of, received_by, state_in, thread_of}
 
 -- what the context has received by the deliveries shown
 pub received_from : (v : View) (first : RxCtx) → first_in v ≡ Some first
     → received_in v ≡ received_list first ++ packets_of (Rattle.napi_word.specs.View.delivered v)
-received_from [] first e = absurd (cc e)
-received_from (x ∷ xs) first e = ap (λ (c : RxCtx). received_list c ++ packets_of x.delivered) (some_is e)
+received_from v first e = grind (arith, common_steps, some_is)
 
 pub ring_from : (p : Pass) (first : RxCtx) → first_in (view_of p) ≡ Some first → ring_of p ≡ Some (ring_name first)
-ring_from p first e = by (view_of p) e
-  where
-    by : (v : View) → first_in v ≡ Some first → Rattle.napi_word.specs.View.ring_of v ≡ Some (ring_name first)
-    by [] e = absurd (cc e)
-    by (x ∷ xs) e = ap (λ (c : RxCtx). Some (ring_name c)) (some_is e)
+ring_from p first e = grind (arith, common_steps, some_is)
 
 pub at_three : (p : Pass) → controller_of p ≡ 3 → state_of p ≡ state_after (opening 3) (shown p)
 at_three p three = ap (λ (k : ℕ). state_after (opening k) (shown p)) three
@@ -153,8 +148,7 @@ module _ (c : ℕ) (os : List Operation) (n : Napi) (first : RxCtx) (s0 s1 s2 : 
       (legal_now c os n (shown p3) (delivered p3) s0 s1 s2 x g.all a m)
 
   pub leads_then : state_in s2 ≡ state_after (state_in s0) (events c os)
-  leads_then =
-      leads_to c os n (shown p3) (delivered p3) s0 s1 s2 x g.all a m ∙ ap (λ (s : State). state_after s (events c os)) (sym state_then)
+  leads_then = search (rules, leads_to, state_then)
 
   pub seen_then : x ≡ seen_of (state_in s2)
   seen_then = seen_now c os n (shown p3) (delivered p3) s0 s1 s2 x g.all a m

@@ -1,45 +1,27 @@
 -- How a receive side is opened: its seats are new, meet, and then the controller enables the instance.
-use Rattle.std.proofs.Common.{◌≡◌, ◌∙◌, ◌≤◌, ℕ, List, [], ◌∷◌, ◌++◌, length, length-append, append-nil, slice_get, Option, Some, None}
-use Rattle.std.proofs.Common.{false, refl, sym, ap, subst, arith}
-use Rattle.rx_ring.specs.declared.{ends.{RxCtx.RxCtx, RxIn.RxIn}, packet.Packet.Packet}
-use Rattle.rx_ring.specs.Ends.{IsOneRing, capacity_of, free_of, put_list, received_list, ring_name}
-use Rattle.napi_model.specs.declared.{event.Operation.{Operation, TheVariants.Enable}, state.{Seen.Seen, State.State}}
-use Rattle.napi_model.specs.{Step.{after, event, opening}, History.{own, state_after}}
-use Rattle.napi_word.{specs.{declared.{table.Pass.Pass}, View.{own_deliveries, received_in}, Passes.view_of}, proofs.Deliveries.some_is}
-use Rattle.napi_calls.specs.{declared.types.{Caller.Caller, Napi.Napi}, Alone.{AllShow, Shows}}
-use Rattle.napi_calls.specs.{Instance.{IsNewSeat, callers_of, ring_of_instance}, Knows.received_held, Made.events}
-use Rattle.napi_calls.proofs.{Dealing.named_ring, Making.nothing}
-use Rattle.device_shared.specs.{declared.seats.Seats.Seats, Acting.{Acts, EnablesBy}, Meeting.Meets}
-use Rattle.device_shared.specs.Seats.{AreSeats, IsRole, IsSeatAt, Role, ShowAll, control_of, ctx_of, poller_of, received_by, role_of}
-use Rattle.device_shared.specs.Seats.{state_in, thread_of}
-use Rattle.device_shared.specs.SharedReceive.{IsWhole, bytes_each, left_in}
-use Rattle.device_shared.proofs.ActingFacts.{stays}
-use Rattle.device_shared.proofs.Gathering.{leads_then, leads_to, legal_then, received_then, ring_from, seen_then, shows, shows_still}
-use Rattle.device_shared.proofs.{Reading.enables, RingFacts.seen_side, WholeFacts.viewed}
-use Rattle.device_bench.specs.Receive.{opened_side}
+use Rattle.std.proofs.{lemmas.Grind.common_steps, Common.{◌≡◌, ◌∙◌, ◌≤◌, ℕ, List, [], ◌∷◌, ◌++◌, length, append-nil, slice_get, Option}}
+use Rattle.{std.proofs.Common.{Some, None, false, refl, sym, ap, subst, arith}, rx_ring.specs.declared.ends.{RxCtx.RxCtx, RxIn.RxIn}}
+use Rattle.rx_ring.specs.{declared.packet.Packet.Packet, Ends.{IsOneRing, capacity_of, free_of, put_list, received_list, ring_name}}
+use Rattle.napi_model.specs.{declared.{event.Operation.{Operation, TheVariants.Enable}, state.Seen.Seen}, Step.{after, event, opening}}
+use Rattle.{napi_model.specs.History.{own, state_after}, napi_word.specs.{declared.table.Pass.Pass, View.{own_deliveries, received_in}}}
+use Rattle.{napi_word.{specs.Passes.view_of, proofs.Deliveries.some_is}, napi_calls.specs.declared.types.{Caller.Caller, Napi.Napi}}
+use Rattle.napi_calls.specs.{Alone.{AllShow, Shows}, Instance.{IsNewSeat, callers_of, ring_of_instance}, Knows.received_held, Made.events}
+use Rattle.{napi_calls.proofs.{Dealing.named_ring, Making.nothing}, device_bench.specs.Receive.opened_side}
+use Rattle.device_shared.specs.{declared.seats.Seats.Seats, Acting.{Acts, EnablesBy}, Meeting.Meets, Seats.{AreSeats, IsRole, IsSeatAt}}
+use Rattle.device_shared.specs.Seats.{Role, ShowAll, control_of, ctx_of, poller_of, received_by, role_of, state_in, thread_of}
+use Rattle.device_shared.{specs.SharedReceive.{IsWhole, bytes_each, left_in}, proofs.{ActingFacts.stays, Gathering.{leads_then, leads_to}}}
+use Rattle.device_shared.proofs.{Gathering.{legal_then, received_then, ring_from, seen_then, shows, shows_still}, Reading.enables}
+use Rattle.device_shared.proofs.{RingFacts.seen_side, WholeFacts.viewed}
 use mathlib.Core.List.{IsPrefix}
 
 -- three were popped one after the other
 pub none_left : (items l1 l2 l3 : List Caller) (a b c : Caller) → items ≡ l1 ++ c ∷ [] → l1 ≡ l2 ++ b ∷ [] → l2 ≡ l3 ++ a ∷ []
     → length items ≡ 3 → length l3 ≡ 0
-none_left items l1 l2 l3 a b c e1 e2 e3 three =
-    omega (
-      arith,
-      three,
-      ap length e1,
-      length-append l1 (c ∷ []),
-      ap length e2,
-      length-append l2 (b ∷ []),
-      ap length e3,
-      length-append l3
-          (a ∷ []),
-    )
+none_left items l1 l2 l3 a b c e1 e2 e3 three = grind (arith, common_steps)
 
 pub popped : (items l1 l2 l3 : List Caller) (a b c : Caller) → items ≡ l1 ++ c ∷ [] → l1 ≡ l2 ++ b ∷ [] → l2 ≡ l3 ++ a ∷ []
     → length items ≡ 3 → items ≡ a ∷ b ∷ c ∷ []
-popped items l1 l2 [] a b c e1 e2 e3 three = e1 ∙ ap (λ (l : List Caller). l ++ c ∷ []) (e2 ∙ ap (λ (l : List Caller). l ++ b ∷ []) e3)
-popped items l1 l2 (x ∷ xs) a b c e1 e2 e3 three =
-    absurd (omega (arith, none_left items l1 l2 (x ∷ xs) a b c e1 e2 e3 three))
+popped items l1 l2 l3 a b c e1 e2 e3 three = grind (arith, common_steps, none_left)
 
 pub new_callers : (n : Napi) (items : List Caller) (a b c : Caller) → items ≡ a ∷ b ∷ c ∷ []
     → ((k : ℕ) (d : Caller) → slice_get items k ≡ Some d → IsNewSeat n k d.pass)
@@ -61,13 +43,7 @@ delivers_none_yet n = refl
 
 -- a new seat shows nothing yet
 new_shows : (n : Napi) (c : ℕ) (p : Pass) → callers_of n ≡ 3 → IsNewSeat n c p → Shows [] [] c p
-new_shows n c p three new = record {
-  number = new.number_is;
-  controller = new.controller ∙ three;
-  shows = new.nothing_shown;
-  exact = own_none c ∙ sym new.nothing_done;
-  delivers = new.nothing_delivered;
-}
+new_shows n c p three new = grind (arith, common_steps, own_none)
 
 new_seat : (n : Napi) (c : ℕ) (p : Pass) → callers_of n ≡ 3 → IsNewSeat n c p → IsSeatAt n p
 new_seat n c p three new = record { instance = new.instance; controller = new.controller ∙ three }
@@ -100,22 +76,10 @@ are_new n t0 given items l1 l2 l3 a b c p e1 e2 e3 many three each control is3 i
 
 module _ (n : Napi) (t0 : Seats) (given : RxCtx) (k : AreNew n t0 given) where
   pub new_seats : AreSeats n t0
-  new_seats = record {
-    zeroth = new_seat n 0 t0.interrupt.pass k.three k.new0;
-    one = new_seat n 1 (poller_of t0.turn) k.three k.new1;
-    two = new_seat n 2 (thread_of t0.turn) k.three k.new2;
-    three = new_seat n 3 (control_of t0.turn) k.three k.new3;
-  }
+  new_seats = grind (arith, common_steps, new_seat)
 
   new_show : AllShow [] [] t0.interrupt.pass (poller_of t0.turn) (thread_of t0.turn) (control_of t0.turn)
-  new_show = record {
-    zeroth = new_shows n 0 t0.interrupt.pass k.three k.new0;
-    one = new_shows n 1 (poller_of t0.turn) k.three k.new1;
-    two = new_shows n 2 (thread_of t0.turn) k.three k.new2;
-    three = new_shows n 3 (control_of t0.turn) k.three k.new3;
-    others = λ k low. own_none k;
-    few = λ k low. delivers_none_yet k;
-  }
+  new_show = grind (arith, common_steps, delivers_none_yet, new_shows, own_none)
 
   still : Acts 0 [] n t0 t0
   still = record {
@@ -139,9 +103,6 @@ module _ (n : Napi) (t0 : Seats) (given : RxCtx) (k : AreNew n t0 given) where
     state_met : state_in t1 ≡ opening 3
     unfolding state_after
     state_met = leads_to 0 [] n [] [] t0 t0 t1 x new_show still m
-
-    pub role_met : role_of t1.turn ≡ None
-    role_met = m.role ∙ k.off
 
     idle_met : IsRole None (state_in t1)
     idle_met = subst (IsRole None) (sym state_met) (refl, refl, refl)
@@ -185,8 +146,7 @@ module _ (n : Napi) (t0 : Seats) (given : RxCtx) (k : AreNew n t0 given) where
 
       pub opened_view : put_list input ≡ [] → received_list given ≡ []
           → seen_side (state_in t2) (bytes_each (left_in input t2)) capacity ≡ opened_side capacity
-      opened_view empty none =
-          viewed capacity (leads ∙ done.0 ∙ ap (λ (s : State). after s (event 3 (Enable false))) state_met) (rw (received none, empty) refl)
+      opened_view empty none = grind (arith, common_steps, done, leads, state_met, viewed)
 
 -- nothing was received of nothing
 pub none_received : (received put : List Packet) → IsPrefix received put → put ≡ [] → received ≡ []

@@ -1,4 +1,6 @@
 -- Passes that met, in another order.
+use Rattle.std.proofs.Common.{arith}
+use Rattle.std.proofs.lemmas.Grind.{common_steps}
 use Rattle.{std.proofs.Common.{◌≡◌, ◌∙◌, ℕ, zero, suc, List, [], ◌∷◌, Some, refl, ap, subst, sym}, std.specs.Prelude.slice_get}
 use Rattle.napi_model.specs.{declared.state.Seen.Seen, Step.{opening, seen_of}, History.state_after}
 use Rattle.napi_word.{specs.{declared.table.Pass.Pass, Surveys.Surveys}, proofs.CatchingUp.state_looked}
@@ -34,11 +36,7 @@ second_from (suc (suc (suc zero))) = 2
 second_from i = i
 
 second_last : (a b c d : Pass) (i : ℕ) → slice_get (a ∷ b ∷ c ∷ d ∷ []) i ≡ slice_get (a ∷ c ∷ d ∷ b ∷ []) (second_from i)
-second_last a b c d zero = refl
-second_last a b c d (suc zero) = refl
-second_last a b c d (suc (suc zero)) = refl
-second_last a b c d (suc (suc (suc zero))) = refl
-second_last a b c d (suc (suc (suc (suc i)))) = refl
+second_last a b c d i = grind (arith, common_steps)
 
 -- the third did
 abbrev third_from : ℕ → ℕ
@@ -47,11 +45,7 @@ third_from (suc (suc (suc zero))) = 2
 third_from i = i
 
 third_last : (a b c d : Pass) (i : ℕ) → slice_get (a ∷ b ∷ c ∷ d ∷ []) i ≡ slice_get (a ∷ b ∷ d ∷ c ∷ []) (third_from i)
-third_last a b c d zero = refl
-third_last a b c d (suc zero) = refl
-third_last a b c d (suc (suc zero)) = refl
-third_last a b c d (suc (suc (suc zero))) = refl
-third_last a b c d (suc (suc (suc (suc i)))) = refl
+third_last a b c d i = grind (arith, common_steps)
 
 module _ {a b c d a' b' c' d' : Pass} {k looker : ℕ} {x : Seen} (three : k ≡ 3) where
   pub meet_straight : Surveys k looker x (a ∷ b ∷ c ∷ d ∷ []) (a' ∷ b' ∷ c' ∷ d' ∷ []) → x ≡ seen_of (state_of d')

@@ -1,25 +1,17 @@
 -- What the operations of one who acts alone make of the state and of the roles.
-use Rattle.std.proofs.Common.{◌≡◌, ◌≢◌, ◌∙◌, ℕ, Bool, true, false, List, [], ◌∷◌, ◌++◌, Option, Some, None, refl, sym, ap, subst, flat_map}
-use Rattle.std.proofs.Common.{append_assoc, true≢false, ⊎_elim}
-use Rattle.std.specs.Prelude.{◌⊎◌, ◌||◌, not, if◌then◌else◌}
-use Rattle.napi_model.specs.declared.state.{Kind.Kind, Seen.Seen, State.State}
-use Rattle.napi_model.specs.declared.state.Place.{Place, TheVariants.{Nobody, Listed, ToThread, Polling, Control}}
-use Rattle.napi_model.specs.declared.event.{Call.Call, Done.Done, Prep.Prep}
-use Rattle.napi_model.specs.declared.event.Operation.{Operation}
-use Rattle.napi_model.specs.declared.event.Operation.TheVariants.{Look, Schedule, Hand, Take, Complete, BusyTake, BusyStop, MarkDisable}
-use Rattle.napi_model.specs.declared.event.Operation.TheVariants.{TakeDisable, Enable, SetThreaded}
-use Rattle.napi_model.specs.Step.{MayBusyTake, Polls, after, complete_reply, event, is_handed, place_of, schedule_reply, seen_of}
-use Rattle.napi_model.specs.Step.{take_disable_reply, take_reply}
-use Rattle.napi_model.specs.{History.{LegalHistory, state_after}, Laws.IsSound}
-use Rattle.napi_calls.{specs.Made.{Lost, events, looks}, proofs.Alone.none_lost}
-use Rattle.poll_runs.specs.Polling.{next_of}
-use Rattle.poll_shared.specs.{SharedPolling.EndsBy, SharedBusy.StopsBy}
+use Rattle.std.proofs.Common.{arith, ◌≡◌, ◌≢◌, ◌∙◌, ℕ, Bool, true, false, List, [], ◌∷◌, ◌++◌, Option, Some, None, refl, sym, ap, subst}
+use Rattle.std.{proofs.{Common.{flat_map, append_assoc, true≢false}, lemmas.Grind.common_steps}, specs.Prelude.{◌||◌, not, if◌then◌else◌}}
+use Rattle.napi_model.specs.declared.{state.{Kind.Kind, Seen.Seen, State.State, Place.Place}, event.{Call.Call, Done.Done, Prep.Prep}}
+use Rattle.napi_model.specs.declared.event.Operation.{Operation, TheVariants.{Look, Schedule, Hand, Take, Complete, BusyTake, BusyStop}}
+use Rattle.napi_model.specs.{declared.event.Operation.TheVariants.{MarkDisable, Enable, SetThreaded}, Step.{MayBusyTake, Polls, after}}
+use Rattle.napi_model.specs.Step.{complete_reply, event, is_handed, place_of, schedule_reply, seen_of, take_disable_reply, take_reply}
+use Rattle.{napi_model.specs.{History.{LegalHistory, state_after}, Laws.IsSound}, napi_calls.specs.Made.{Lost, events, looks}}
+use Rattle.{napi_calls.proofs.Alone.none_lost, poll_runs.specs.Polling.next_of, poll_shared.specs.SharedPolling.EndsBy}
+use Rattle.{poll_shared.specs.SharedBusy.StopsBy, device_bench.specs.Receive.{busy_taken, done_by, handed_again, handed_on, is_control}}
+use Rattle.{device_bench.specs.Receive.{is_polling, kind_for, poller_in, requested, taker_of, tried_by}, device_shared.specs.Seats.IsRole}
+use Rattle.device_shared.specs.{Seats.{Role, rests}, Acting.{AsksBy, EnablesBy, IsMarked, IsUnmarked, MayComplete, PolledBy, TakesBusilyBy}}
+use Rattle.device_shared.specs.Acting.{TakesBy, TriesBy, at_rest, left_by, marked, nobody, poller_by, polled_by}
 use Rattle.poll_shared.specs.SharedPolling as shared
-use Rattle.device_bench.specs.Receive.{busy_taken, done_by, handed_again, handed_on, is_control, is_polling, kind_for, poller_in, requested}
-use Rattle.device_bench.specs.Receive.{taker_of, tried_by}
-use Rattle.device_shared.specs.Seats.{ArePlaced, IsRole, Role, rests}
-use Rattle.device_shared.specs.Acting.{AsksBy, EnablesBy, IsMarked, IsUnmarked, MayComplete, PolledBy, TakesBusilyBy, TakesBy, TriesBy}
-use Rattle.device_shared.specs.Acting.{at_rest, left_by, marked, nobody, poller_by, polled_by}
 
 -- ---- the operations are those behind the tries, none of which was lost
 
@@ -41,52 +33,37 @@ decided {call} c s ts os rest is l =
 -- ---- places
 
 at_rest_uncontrolled : (p : Place) → rests p ≡ true → is_control p ≡ false
-at_rest_uncontrolled (Control c) e = absurd (true≢false (sym e))
-at_rest_uncontrolled p e = refl
+at_rest_uncontrolled p e = grind (arith, common_steps)
 
 at_rest_unpolled : (p : Place) → rests p ≡ true → is_polling p ≡ false
-at_rest_unpolled (Polling c) e = absurd (true≢false (sym e))
-at_rest_unpolled p e = refl
+at_rest_unpolled p e = grind (arith, common_steps)
 
 -- not at rest, it isn't on the list, nor with the thread
 away : (k : Kind) (p : Place) → rests p ≡ false → is_handed k p ≡ false
-away Kind.List Listed e = absurd (true≢false e)
-away Kind.Thread ToThread e = absurd (true≢false e)
-away k p e = refl
+away k p e = grind (arith, common_steps)
 
 -- it isn't where a take looks for it
 unhanded : (k : Kind) (p : Place) → p ≢ place_of k → is_handed k p ≡ false
-unhanded Kind.List Listed e = absurd (e refl)
-unhanded Kind.Thread ToThread e = absurd (e refl)
-unhanded k p e = refl
+unhanded k p e = grind (arith, common_steps)
 
 handed_there : (k : Kind) → is_handed k (place_of k) ≡ true
-handed_there Kind.List = refl
-handed_there Kind.Thread = refl
+handed_there k = grind (arith, common_steps)
 
 -- handed over, an instance is at rest
 hand_rests : (k : Kind) (c : ℕ) (s : State) (m : Bool) → s.flags.disable ≡ m → s.flags.in_busy_poll ≡ false
     → IsRole (Some (m, None)) (after s (event c (Hand k)))
-hand_rests Kind.List c s m d b = (d, (refl, b))
-hand_rests Kind.Thread c s m d b = (d, (refl, b))
+hand_rests k c s m d b = grind (arith, common_steps)
 
 -- ---- from a role to what a call asks
 
 pub control_is : (r : Role) (s : State) → IsRole r s → is_control s.place ≡ nobody r
-control_is None s role = ap is_control role.0
-control_is (Some (m, None)) s role = at_rest_uncontrolled s.place role.1.0
-control_is (Some (m, Some who)) s role = ap is_control role.1.0
+control_is r s role = grind (arith, common_steps, at_rest_uncontrolled)
 
 -- who polls it in its state polls it in the role
 polls_as : (r : Role) (s : State) (c : ℕ) (busy : Bool) → IsRole r s → Polls c busy s → PolledBy c busy r
 polls_as None s c busy role p = let was = role.0 in let now = p.0 in absurd (cc)
 polls_as (Some (m, None)) s c busy role p = absurd (true≢false (sym (ap is_polling p.0) ∙ at_rest_unpolled s.place role.1.0))
-polls_as (Some (m, Some (d, b))) s c busy role p =
-    let was = role.1.0 in
-    let now = p.0 in
-    let who : d ≡ c = cc in
-    let how : b ≡ busy = sym role.1.1 ∙ p.1 in
-    (m, λ i. Some (m, Some (who i, how i)))
+polls_as (Some (m, Some (d, b))) s c busy role p = grind (arith, common_steps, at_rest_unpolled)
 
 pub may_complete : (r : Role) (s : State) → IsRole r s → Polls (poller_in s.place) false s
     → MayComplete r × (poller_by r ≡ poller_in s.place)
@@ -106,8 +83,7 @@ marked_of None s role f = absurd (true≢false (sym f ∙ role.1))
 marked_of (Some (m, who)) s role f = (who, ap (λ (b : Bool). Some (b, who)) (sym role.0 ∙ f))
 
 pub off_of : (r : Role) (s : State) → IsRole r s → is_control s.place ≡ true → r ≡ None
-off_of None s role off = refl
-off_of (Some q) s role off = absurd (true≢false (sym off ∙ control_is (Some q) s role))
+off_of r s role off = grind (arith, common_steps, control_is)
 
 pub polling_of : (r : Role) (s : State) → IsRole r s → is_polling s.place ≡ true → (c : ℕ) × (busy : Bool) × PolledBy c busy r
 polling_of None s role is = absurd (true≢false (sym is ∙ ap is_polling role.0))
@@ -147,24 +123,7 @@ asked s Prep.Disabled k os a l =
 
 -- a request never changes whose turn it is
 pub asked_role : (r : Role) (s : State) (prep : Prep) → IsRole r s → IsSound s → prep ≡ schedule_reply s → IsRole r (requested prep s)
-asked_role r s Prep.Granted role sound is = granted r role (nobody_has s.flags.disable s.flags.sched refl is)
-  where
-    nobody_has : (d b : Bool) → s.flags.sched ≡ b → Prep.Granted ≡ (if d then Prep.Disabled else (if b then Prep.Missed else Prep.Granted))
-        → s.place ≡ Nobody
-    nobody_has true b e g = absurd (cc g)
-    nobody_has false true e g = absurd (cc g)
-    nobody_has false false e g = sound e
-
-    granted : (q : Role) → IsRole q s → s.place ≡ Nobody → IsRole q (requested Prep.Granted s)
-    granted None role free = let was = role.0 in absurd (cc)
-    granted (Some (m, None)) role free = hand_rests (kind_for s) 0 (after s (event 0 (Schedule Prep.Granted))) m role.0 role.1.1
-    granted (Some (m, Some who)) role free = let was = role.1.0 in absurd (cc)
-asked_role None s Prep.Missed role sound is = role
-asked_role (Some (m, None)) s Prep.Missed role sound is = role
-asked_role (Some (m, Some who)) s Prep.Missed role sound is = role
-asked_role None s Prep.Disabled role sound is = role
-asked_role (Some (m, None)) s Prep.Disabled role sound is = role
-asked_role (Some (m, Some who)) s Prep.Disabled role sound is = role
+asked_role r s prep role sound is = grind (arith, common_steps, hand_rests)
 
 -- ---- takes
 
@@ -174,33 +133,7 @@ pub took : (r : Role) (s : State) (k : Kind) (taken : Bool) (os : List Operation
     × IsRole (if taken then polled_by (taker_of k) false r else r) (state_after s (events (taker_of k) os))
     × (taken ≡ true → s.flags.in_busy_poll ≡ false)
 unfolding LegalHistory state_after
-took None s k true os role t l = absurd (true≢false t.0)
-took None s k false os role t l =
-    let led = leads (taker_of k) s os [] t.1 in
-    (sym (ap (is_handed k) role.0 ∙ away k (Control 3) refl), led, subst (IsRole None) (sym led) role, λ e. absurd (true≢false (sym e)))
-took (Some (m, None)) s k true os role t l =
-    let led = leads (taker_of k) s os (Take k true ∷ []) t in
-    let legal = legal_as (taker_of k) s os _ t l in
-    let was : s.place ≡ place_of k = legal.0.0 in (
-      sym (ap (is_handed k) was ∙ handed_there k),
-      led,
-      subst (IsRole (Some (m, Some (taker_of k, false)))) (sym led)
-          (role.0, (refl, role.1.1)),
-      λ e. role.1.1,
-    )
-took (Some (m, None)) s k false os role t l =
-    let led = leads (taker_of k) s os (Take k false ∷ []) t in
-    let legal = legal_as (taker_of k) s os _ t l in
-    (sym (unhanded k s.place legal.0.0), led, subst (IsRole (Some (m, None))) (sym led) role, λ e. absurd (true≢false (sym e)))
-took (Some (m, Some who)) s k true os role t l = absurd (true≢false t.0)
-took (Some (m, Some who)) s k false os role t l =
-    let led = leads (taker_of k) s os [] t.1 in (
-      sym (ap (is_handed k) role.1.0 ∙ away k (Polling who.0) refl),
-      led,
-      subst (IsRole (Some (m, Some who))) (sym led) role,
-      λ e. absurd
-          (true≢false (sym e)),
-    )
+took r s k taken os role t l = grind (arith, common_steps, away, handed_there, leads, legal_as, unhanded)
 
 -- ---- polls end
 
@@ -208,9 +141,7 @@ pub requeued : (r : Role) (s : State) (c : ℕ) → IsRole r s → MayComplete r
     → (state_after s (events c (Hand Kind.List ∷ [])) ≡ after s (event c (Hand Kind.List)))
     × IsRole (left_by r) (state_after s (events c (Hand Kind.List ∷ [])))
 unfolding state_after
-requeued r s c role may =
-    let was = subst (λ (q : Role). IsRole q s) may.1.1 role in
-    (refl, subst (λ (q : Role). IsRole (left_by q) (after s (event c (Hand Kind.List)))) (sym may.1.1) (was.0, (refl, was.1.1)))
+requeued r s c role may = grind (arith, common_steps)
 
 pub completed : (r : Role) (s : State) (c : ℕ) (again : Option Kind) (os : List Operation) → IsRole r s → MayComplete r
     → EndsBy true (next_of again) os
@@ -254,10 +185,7 @@ completed r s c (Some k) os role may e l =
 -- ---- busy polls
 
 busy_refused : (d s b : Bool) → ¬ ((d ≡ false) × (s ≡ false) × (b ≡ false)) → false ≡ not (d || (s || b))
-busy_refused true s b may = refl
-busy_refused false true b may = refl
-busy_refused false false true may = refl
-busy_refused false false false may = absurd (may (refl, refl, refl))
+busy_refused d s b may = grind (arith, common_steps)
 
 pub took_busily : (r : Role) (s : State) (taken : Bool) (os : List Operation) → IsRole r s → IsSound s → TakesBusilyBy (at_rest r) taken os
     → LegalHistory 3 s (events 1 os)
@@ -265,35 +193,26 @@ pub took_busily : (r : Role) (s : State) (taken : Bool) (os : List Operation) �
     × IsRole (if taken then polled_by 1 true r else r) (state_after s (events 1 os))
 unfolding LegalHistory state_after
 took_busily None s true os role sound t l = absurd (true≢false t.0)
-took_busily None s false os role sound t l =
-    let led = leads 1 s os [] t.1 in (
-      busy_refused s.flags.disable s.flags.sched s.flags.in_busy_poll
-          (λ m. let free = sound m.1 in let was = role.0 in absurd (cc)),
-      led,
-      subst (IsRole None) (sym led) role,
-    )
-took_busily (Some (m, None)) s true os role sound t l =
-    let d = decided 1 s t.0 os (Look t.1 ∷ BusyTake ∷ []) t.3 l in
+took_busily None s false os role sound t l = grind (arith, common_steps, busy_refused, decided, leads)
+took_busily (Some (m, None)) s true os role sound t l = let d = decided 1 s t.0 os (Look t.1 ∷ BusyTake ∷ []) t.3 l in
     let may : MayBusyTake s.flags = d.1.1.0.0 in
     let off = may.0 in
     let free = may.1 in
     let idle = may.2 in
     let led = leads 1 s os _ d.0 in
     (rw (off, free, idle) refl, led, subst (IsRole (Some (m, Some (1, true)))) (sym led) (role.0, (refl, refl)))
-took_busily (Some (m, None)) s false os role sound t l =
-    let d = decided 1 s t.0 os (Look t.1 ∷ []) t.3 l in
+took_busily (Some (m, None)) s false os role sound t l = let d = decided 1 s t.0 os (Look t.1 ∷ []) t.3 l in
     let seen : t.1 ≡ seen_of s = d.1.0.0 in
     let led = leads 1 s os _ d.0 in
     let refused = subst (λ (x : Seen). ¬ MayBusyTake x.flags) seen t.2 in
     (busy_refused s.flags.disable s.flags.sched s.flags.in_busy_poll refused, led, subst (IsRole (Some (m, None))) (sym led) role)
 took_busily (Some (m, Some who)) s true os role sound t l = absurd (true≢false t.0)
-took_busily (Some (m, Some who)) s false os role sound t l =
-    let led = leads 1 s os [] t.1 in (
-      busy_refused s.flags.disable s.flags.sched s.flags.in_busy_poll
-          (λ f. let free = sound f.1 in let was = role.1.0 in absurd (cc)),
-      led,
-      subst (IsRole (Some (m, Some who))) (sym led) role,
-    )
+took_busily (Some (m, Some who)) s false os role sound t l = let led = leads 1 s os [] t.1 in (
+  busy_refused s.flags.disable s.flags.sched s.flags.in_busy_poll
+      (λ f. let free = sound f.1 in let was = role.1.0 in absurd (cc)),
+  led,
+  subst (IsRole (Some (m, Some who))) (sym led) role,
+)
 
 pub held : (s : State) → state_after s (events 1 (Complete Done.Held ∷ [])) ≡ s
 unfolding state_after
@@ -317,51 +236,14 @@ pub marks : (r : Role) (s : State) → IsRole r s → IsUnmarked r
     → (state_after s (events 3 (MarkDisable ∷ [])) ≡ after s (event 3 MarkDisable))
     × IsRole (marked r) (state_after s (events 3 (MarkDisable ∷ [])))
 unfolding state_after
-marks r s role un =
-    let was = subst (λ (q : Role). IsRole q s) un.1 role in
-    (refl, subst (λ (q : Role). IsRole (marked q) (after s (event 3 MarkDisable))) (sym un.1) (refl, placed un.0 was.1))
-  where
-    placed : (who : Option (ℕ × Bool)) → ArePlaced who s → ArePlaced who (after s (event 3 MarkDisable))
-    placed None p = p
-    placed (Some w) p = p
+marks r s role un = grind (arith, common_steps)
 
 pub tried : (r : Role) (s : State) (taken : Bool) (os : List Operation) → IsRole r s → IsSound s → IsMarked r → TriesBy (at_rest r) taken os
     → LegalHistory 3 s (events 3 os)
     → (taken ≡ take_disable_reply s) × (state_after s (events 3 os) ≡ tried_by taken s)
     × IsRole (if taken then None else r) (state_after s (events 3 os))
 unfolding LegalHistory state_after
-tried None s taken os role sound mark t l = absurd (cc (mark.1))
-tried (Some (m, None)) s true os role sound mark t l =
-    let led = leads 3 s os _ t.1 in
-    let legal = legal_as 3 s os _ t.1 l in
-    let free : s.flags.sched ≡ false = legal.1.0.0.1 in
-    let enabled : s.flags.npsvc ≡ false = legal.1.0.0.2 in
-    (rw (free, enabled) refl, led, subst (IsRole None) (sym led) (refl, refl, role.1.1))
-tried (Some (m, None)) s false os role sound mark t l = ⊎_elim refused lost t
-  where
-    has : (b n : Bool) → (b ≡ true) ⊎ (n ≡ true) → not (b || n) ≡ false
-    has true n e = refl
-    has false true e = refl
-    has false false e = absurd (true≢false (sym (⊎_elim (λ x. x) (λ x. x) e)))
-
-    refused : os ≡ TakeDisable false ∷ [] → (false ≡ take_disable_reply s) × (state_after s (events 3 os) ≡ tried_by false s)
-        × IsRole (Some (m, None)) (state_after s (events 3 os))
-    refused is =
-        let led = leads 3 s os _ is in
-        let legal = legal_as 3 s os _ is l in
-        (sym (has s.flags.sched s.flags.npsvc legal.0.0.1), led, subst (IsRole (Some (m, None))) (sym led) role)
-
-    lost : (x : Lost Call.TakeDisable) × (os ≡ looks x) → (false ≡ take_disable_reply s) × (state_after s (events 3 os) ≡ tried_by false s)
-        × IsRole (Some (m, None)) (state_after s (events 3 os))
-    lost x = let none = none_lost 3 3 Call.TakeDisable s (x.0 ∷ []) [] (legal_as 3 s os _ x.1 l) in absurd (cc none)
-tried (Some (m, Some who)) s true os role sound mark t l = absurd (true≢false t.0)
-tried (Some (m, Some who)) s false os role sound mark t l =
-    let led = leads 3 s os [] t.1 in
-    (sym (has s.flags.sched refl), led, subst (IsRole (Some (m, Some who))) (sym led) role)
-  where
-    has : (b : Bool) → s.flags.sched ≡ b → not (b || s.flags.npsvc) ≡ false
-    has true e = refl
-    has false e = let free = sound e in let was = role.1.0 in absurd (cc)
+tried r s taken os role sound mark t l = grind (arith, common_steps, leads, legal_as)
 
 pub enables : (s : State) (threaded : Bool) (os : List Operation) → IsRole None s → EnablesBy threaded os → LegalHistory 3 s (events 3 os)
     → (state_after s (events 3 os) ≡ after s (event 3 (Enable threaded))) × IsRole (Some (false, None)) (state_after s (events 3 os))
@@ -377,6 +259,4 @@ pub threads : (r : Role) (s : State) (t : Bool) → IsRole r s
     → (state_after s (events 0 (SetThreaded t ∷ [])) ≡ after s (event 3 (SetThreaded t)))
     × IsRole r (state_after s (events 0 (SetThreaded t ∷ [])))
 unfolding state_after
-threads None s t role = (refl, role)
-threads (Some (m, None)) s t role = (refl, role)
-threads (Some (m, Some who)) s t role = (refl, role)
+threads r s t role = grind (arith, common_steps)

@@ -1,17 +1,13 @@
 -- What puts and polls make of the packets that are left in a ring, and of what is known of a whole receive side.
-use Rattle.std.proofs.Common.{◌≡◌, ◌∙◌, ◌+◌, ◌-◌, ◌≤◌, ℕ, true, List, [], ◌∷◌, ◌++◌, length, drop, take, min, sum, Option, Some, None, sym}
-use Rattle.std.proofs.Common.{ap, subst, arith, length-append, length-drop}
-use Rattle.std.proofs.lemmas.List.{drop-append-le, drop-drop, drop-map, length-map, length-take, map-append, take-map, take_min}
-use Rattle.rx_ring.specs.declared.{ends.{RxCtx.RxCtx, RxIn.RxIn}, packet.Packet.Packet}
-use Rattle.rx_ring.specs.Ends.{IsOneRing, SameIn, free_of, put_list, received_list}
-use Rattle.napi_model.specs.{declared.state.{Seen.Seen, State.State}, Step.seen_of}
-use Rattle.napi_word.specs.{declared.table.Pass.Pass, View.received_in, Passes.view_of}
-use Rattle.napi_calls.specs.{Knows.received_held, Seats.{IsInputOf, state_of}, declared.types.Napi.Napi}
-use Rattle.device_bench.specs.Receive.{ReceiveView, bytes_of, given_of, put_if}
-use Rattle.device_shared.proofs.Gathering.{ring_from}
-use Rattle.device_shared.specs.{declared.seats.Seats.Seats, Receiving.SeatsReceive}
-use Rattle.device_shared.specs.Seats.{IsRole, ShowAll, control_of, poller_of, received_by, role_of, state_in, thread_of}
-use Rattle.device_shared.specs.SharedReceive.{IsWhole, IsWholeAt, bytes_each, left_in, napi_at, packets_at}
+use Rattle.std.proofs.lemmas.{List.{drop-append-le, drop-map, length-map, length-take, take-map, take_min}, Grind.common_steps}
+use Rattle.std.proofs.Common.{rules, ◌≡◌, ◌∙◌, ◌+◌, ◌-◌, ◌≤◌, ℕ, true, List, [], ◌∷◌, ◌++◌, length, drop, take, min, sum, Option, Some}
+use Rattle.{device_bench.specs.Receive.{ReceiveView, bytes_of, given_of, put_if}, napi_model.specs.declared.state.{Seen.Seen, State.State}}
+use Rattle.{napi_model.specs.Step.seen_of, napi_calls.specs.{declared.types.Napi.Napi, Seats.{IsInputOf, state_of}, Knows.received_held}}
+use Rattle.rx_ring.specs.{declared.{ends.{RxCtx.RxCtx, RxIn.RxIn}, packet.Packet.Packet}, Ends.{IsOneRing, SameIn, free_of, put_list}}
+use Rattle.{rx_ring.specs.Ends.received_list, device_shared.specs.{declared.seats.Seats.Seats, Seats.{IsRole, ShowAll, control_of}}}
+use Rattle.{std.proofs.Common.{None, sym, ap, subst, arith, length-append, length-drop}, napi_word.specs.{View.received_in, Passes.view_of}}
+use Rattle.device_shared.specs.{Seats.{poller_of, received_by, role_of, state_in, thread_of}, Receiving.SeatsReceive, SharedReceive.IsWhole}
+use Rattle.device_shared.{specs.SharedReceive.{IsWholeAt, bytes_each, left_in, napi_at, packets_at}, proofs.Gathering.ring_from}
 
 -- at two moments it is an end of one ring
 pub one_still : (input input' : RxIn) (x : RxCtx) → SameIn input input' → IsOneRing input x → IsOneRing input' x
@@ -64,28 +60,19 @@ put_whole n (Some s) input input' p held capacity seen w same is used =
 put_packets : (n : Napi) (place : Option Seats) (input input' : RxIn) (p : Packet) (held capacity : ℕ) (seen : Seen)
     → IsWholeAt n place input held capacity seen
     → put_list input' ≡ put_list input ++ p ∷ [] → packets_at input' place ≡ packets_at input place ++ p.bytes ∷ []
-put_packets n None input input' p held capacity seen w is = absurd w
-put_packets n (Some s) input input' p held capacity seen w is =
-    ap bytes_each (put_left (length (received_by s)) (put_list input) (put_list input') p w.order is)
-    ∙ map-append (λ (q : Packet). q.bytes) (left_in input s) (p ∷ [])
+put_packets n place input input' p held capacity seen w is = grind (arith, common_steps, put_left)
 
 pub put_side : (n : Napi) (place : Option Seats) (input input' : RxIn) (p : Packet) (held capacity : ℕ) (seen : Seen) (now : ReceiveView)
     → IsWholeAt n place input held capacity seen
     → put_list input' ≡ put_list input ++ p ∷ [] → side_at place input capacity ≡ now
     → side_at place input' capacity ≡ put_if true p.bytes now
-put_side n place input input' p held capacity seen now w is view =
-    ap (λ (l : List ℕ). record (side_at place input capacity) { packets = l }) (put_packets n place input input' p held capacity seen w is)
-    ∙ ap (put_if true p.bytes) view
+put_side n place input input' p held capacity seen now w is view = grind (arith, common_steps, put_packets)
 
 -- ---- the next packets are received
 
 pub input_of_two : (n : Napi) (s : Seats) (input : RxIn) (held capacity : ℕ) (seen : Seen) → IsWhole n s input held capacity seen
     → IsInputOf input (poller_of s.turn) × IsInputOf input (thread_of s.turn)
-input_of_two n s input held capacity seen w =
-    let show = w.gathered.show in (
-      (w.first, ring_from (poller_of s.turn) w.first show.first_one, w.one),
-      (w.first, ring_from (thread_of s.turn) w.first show.first_two, w.one),
-    )
+input_of_two n s input held capacity seen w = search (rules, ring_from)
 
 -- the packets that a poll gives, by their number and their bytes
 given_number : (weight : ℕ) (packets : List Packet) → length (take weight packets) ≡ min weight (length (bytes_each packets))
@@ -110,17 +97,13 @@ module _ (n : Napi) (weight : ℕ) (s s' : Seats) (input input' : RxIn) (given :
   given_is = r.next.next ∙ ap (λ (l : List Packet). take weight (drop (length l) (put_list input))) (sym had)
 
   left_now : left_in input' s' ≡ drop (length given) (left_in input s)
-  left_now =
-      (λ i. drop (length (received_more i)) (r.next.put i)) ∙ ap (λ (k : ℕ). drop k (put_list input)) (length-append (received_by s) given)
-      ∙ sym (drop-drop (length given) (length (received_by s)) (put_list input))
+  left_now = grind (arith, common_steps, received_more)
 
   state_still : state_in s' ≡ state_in s
   state_still = ap state_of r.three
 
   shows_still : ShowAll n w.first s'.interrupt.pass (poller_of s'.turn) (thread_of s'.turn) (control_of s'.turn)
-  shows_still =
-      subst (λ (q : Pass × Pass × Pass × Pass). ShowAll n w.first q.0 q.1 q.2 q.3)
-      (λ i. (sym r.zeroth i, sym r.one i, sym r.two i, sym r.three i)) w.gathered.show
+  shows_still = grind (arith, common_steps)
 
   whole_still : (count : ℕ) → count ≡ length given → role_of s'.turn ≡ role_of s.turn → IsWhole n s' input' (held - count) capacity seen
   whole_still count counted role =
@@ -150,8 +133,7 @@ module _ (n : Napi) (weight : ℕ) (s s' : Seats) (input input' : RxIn) (given :
 
   pub received_whole : (place' : Option Seats) (count : ℕ) → place' ≡ Some s' → count ≡ length given → role_of s'.turn ≡ role_of s.turn
       → IsWholeAt n place' input' (held - count) capacity seen
-  received_whole place' count is counted role =
-      subst (λ (o : Option Seats). IsWholeAt n o input' (held - count) capacity seen) (sym is) (whole_still count counted role)
+  received_whole place' count is counted role = grind (arith, common_steps, whole_still)
 
   abbrev side : ReceiveView
   side = side_at (Some s) input capacity
@@ -160,8 +142,7 @@ module _ (n : Napi) (weight : ℕ) (s s' : Seats) (input input' : RxIn) (given :
   number_given = ap length given_is ∙ given_number weight (left_in input s)
 
   pub bytes_given : (now : ReceiveView) → side ≡ now → sum (bytes_each given) ≡ bytes_of weight now
-  bytes_given now view =
-      ap (λ (l : List Packet). sum (bytes_each l)) given_is ∙ ap sum (given_bytes weight (left_in input s)) ∙ ap (bytes_of weight) view
+  bytes_given now view = grind (arith, common_steps, given_bytes, given_is)
 
   packets_now : bytes_each (left_in input' s') ≡ drop (given_of weight side) side.packets
   packets_now = ap bytes_each left_now ∙ sym (drop-map (λ (p : Packet). p.bytes) (length given) (left_in input s))
@@ -169,8 +150,4 @@ module _ (n : Napi) (weight : ℕ) (s s' : Seats) (input input' : RxIn) (given :
 
   pub received_side : (place' : Option Seats) (now : ReceiveView) → place' ≡ Some s' → side ≡ now
       → side_at place' input' capacity ≡ record now { packets = drop (given_of weight now) now.packets }
-  received_side place' now is view =
-      let dropped : side_at (Some s') input' capacity ≡ record side { packets = drop (given_of weight side) side.packets } =
-      (λ i. record { napi = state_still i; packets = packets_now i; capacity = capacity }) in
-      ap (λ (o : Option Seats). side_at o input' capacity) is ∙ dropped
-      ∙ ap (λ (v : ReceiveView). record v { packets = drop (given_of weight v) v.packets }) view
+  received_side place' now is view = grind (arith, common_steps, packets_now, state_still)

@@ -1,13 +1,13 @@
 -- What a call makes of a receive side, behind which all met.
-use Rattle.std.proofs.Common.{◌≡◌, ◌∙◌, ◌≤◌, ℕ, List, Option, Some, sym, ap, subst, length, drop}
-use Rattle.rx_ring.specs.{declared.{ends.RxIn.RxIn, packet.Packet.Packet}, Ends.put_list}
-use Rattle.napi_model.specs.{declared.{event.Operation.Operation, state.{Seen.Seen, State.State}}, History.{LegalHistory, state_after}}
-use Rattle.{napi_model.specs.Laws.IsSound, napi_calls.specs.{Made.events, declared.types.Napi.Napi}}
-use Rattle.device_shared.specs.{declared.seats.Seats.Seats, Acting.Acts, Meeting.Meets}
-use Rattle.device_shared.specs.Seats.{IsRole, Role, received_by, role_of, state_in}
-use Rattle.device_shared.specs.SharedReceive.{IsWhole, IsWholeAt, bytes_each, left_in, napi_at, packets_at}
-use Rattle.device_shared.proofs.Gathering.{leads_then, legal_then, received_then, seen_then, shows_still, sound_then}
-use Rattle.device_shared.proofs.RingFacts.{seen_side, whole_in}
+use Rattle.std.proofs.Common.{arith}
+use Rattle.std.proofs.lemmas.Grind.{common_steps}
+use Rattle.{std.proofs.Common.{◌≡◌, ◌∙◌, ◌≤◌, ℕ, List, Option, Some, sym, ap, subst, length, drop}, rx_ring.specs.declared.ends.RxIn.RxIn}
+use Rattle.{rx_ring.specs.{declared.packet.Packet.Packet, Ends.put_list}, napi_model.specs.declared.event.Operation.Operation}
+use Rattle.napi_model.specs.{declared.state.{Seen.Seen, State.State}, History.{LegalHistory, state_after}, Laws.IsSound}
+use Rattle.{napi_calls.specs.{Made.events, declared.types.Napi.Napi}, device_shared.specs.{declared.seats.Seats.Seats, Acting.Acts}}
+use Rattle.device_shared.specs.{Meeting.Meets, Seats.{IsRole, Role, received_by, role_of, state_in}, SharedReceive.{IsWhole, IsWholeAt}}
+use Rattle.device_shared.{specs.SharedReceive.{bytes_each, left_in, napi_at, packets_at}, proofs.Gathering.{leads_then, legal_then}}
+use Rattle.device_shared.proofs.{Gathering.{received_then, seen_then, shows_still, sound_then}, RingFacts.{seen_side, whole_in}}
 
 -- a call was made, and then all met
 pub record Called (c : ℕ) (os : List Operation) (n : Napi) (place place' : Option Seats) (s1 : Seats) (input : RxIn) (held capacity : ℕ)
@@ -87,8 +87,7 @@ module _ {c : ℕ} {os : List Operation} {n : Napi} {place place' : Option Seats
 -- whose turn it was
 pub role_there : (n : Napi) (place : Option Seats) (input : RxIn) (held capacity : ℕ) (seen : Seen) (s0 : Seats) → place ≡ Some s0
     → IsWholeAt n place input held capacity seen → IsRole (role_of s0.turn) (napi_at place)
-role_there n place input held capacity seen s0 was at =
-    subst (IsRole (role_of s0.turn)) (sym (ap napi_at was)) (whole_in n place s0 input held capacity seen was at).gathered.role
+role_there n place input held capacity seen s0 was at = grind (arith, common_steps, whole_in)
 
 -- the side as it is seen
 pub viewed : {s t : State} {l k : List ℕ} (capacity : ℕ) → s ≡ t → l ≡ k → seen_side s l capacity ≡ seen_side t k capacity

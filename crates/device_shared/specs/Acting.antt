@@ -1,27 +1,12 @@
 -- What one of those who make calls on an instance did alone.
+use Rattle.device_shared.specs.{declared.seats.{Seats.Seats, Turn.Turn}, Seats.{AreSeats, Role, control_of, ctx_of, poller_of, thread_of}}
 use Rattle.std.specs.Prelude.{◌≡◌, ℕ, zero, suc, ◌≤◌, ◌⊎◌, Bool, true, false, List, [], ◌∷◌, ◌++◌, flat_map, Option, Some, None}
-use Rattle.rx_ring.specs.declared.ends.RxCtx.{RxCtx}
-use Rattle.rx_ring.specs.declared.packet.Packet.{Packet}
-use Rattle.rx_ring.specs.Ends.{received_list}
-use Rattle.napi_model.specs.declared.state.Kind.{Kind}
-use Rattle.napi_model.specs.declared.state.Seen.{Seen}
+use Rattle.napi_model.specs.declared.event.Operation.{Operation, TheVariants.{Look, Schedule, Take, TakeDisable, Unmark, Enable}}
+use Rattle.napi_model.specs.declared.{event.Prep.{Prep, TheVariants.{Granted, Missed, Disabled}}, state.{Seen.Seen, Kind.Kind}}
+use Rattle.napi_calls.specs.{Alone.MakesAlone, declared.types.Napi.Napi, Packets.{Quiet, polled, received_before}, Made.{Lost, looks}}
+use Rattle.{napi_word.specs.{declared.table.Pass.Pass, View.Continues, Passes.OwnsSlot}, poll_shared.specs.SharedBusy.BusyTakesBy}
+use Rattle.{poll_shared.specs.SharedPolling.HandsTo, rx_ring.specs.{declared.{packet.Packet.Packet, ends.RxCtx.RxCtx}, Ends.received_list}}
 use Rattle.napi_model.specs.declared.event.Call.TheVariants as call
-use Rattle.napi_model.specs.declared.event.Operation.{Operation}
-use Rattle.napi_model.specs.declared.event.Operation.TheVariants.{Look, Schedule, Take, TakeDisable, Unmark, Enable}
-use Rattle.napi_model.specs.declared.event.Prep.{Prep}
-use Rattle.napi_model.specs.declared.event.Prep.TheVariants.{Granted, Missed, Disabled}
-use Rattle.napi_word.specs.declared.table.Pass.{Pass}
-use Rattle.napi_word.specs.Passes.{OwnsSlot}
-use Rattle.napi_word.specs.View.{Continues}
-use Rattle.napi_calls.specs.Alone.{MakesAlone}
-use Rattle.napi_calls.specs.Made.{Lost, looks}
-use Rattle.napi_calls.specs.Packets.{Quiet, polled, received_before}
-use Rattle.napi_calls.specs.declared.types.Napi.{Napi}
-use Rattle.poll_shared.specs.SharedPolling.{HandsTo}
-use Rattle.poll_shared.specs.SharedBusy.{BusyTakesBy}
-use Rattle.device_shared.specs.declared.seats.Seats.{Seats}
-use Rattle.device_shared.specs.declared.seats.Turn.{Turn}
-use Rattle.device_shared.specs.Seats.{AreSeats, Role, control_of, ctx_of, poller_of, thread_of}
 
 abbrev pub seat_at : ℕ → Seats → Pass
 seat_at zero s = s.interrupt.pass

@@ -1,34 +1,17 @@
 -- How a receive side over an instance that threads could share ends.
 use Rattle.std.specs.Prelude.{◌≡◌, ℕ, Bool, true, false, List, [], ◌∷◌, ◌++◌, Option, Some, None, if◌then◌else◌}
+use Rattle.rx_ring.specs.{declared.{ends.{RxCtx.RxCtx, RxIn.RxIn}, packet.{Packet.Packet, Totals.Totals}}, Ends.{IsOneRing, SameCtx}}
+use Rattle.{rx_ring.specs.{Ends.{put_list, received_list, ring_of}, ReceiveRing.totals_of}, napi_model.specs.declared.event.Event.Event}
+use Rattle.napi_model.specs.{declared.event.Operation.{Operation, TheVariants.{MarkDisable, Take}}, History.state_after, Step.opening}
+use Rattle.{napi_word.specs.declared.table.Pass.Pass, napi_calls.specs.{Closed.IsClosed, Made.Made, Seats.shown}}
+use Rattle.{napi_calls.specs.declared.types.{Caller.Caller, Napi.Napi}, device_bench.specs.Receive.ReceiveView}
+use Rattle.device_shared.specs.declared.seats.{Enabled.Enabled, Posts.{Posts, TheVariants.{Rest, ListPolls, ThreadPolls, PollsBusily}}}
+use Rattle.device_shared.specs.{declared.seats.Turn.Turn, Acting.TriesBy, Seats.{control_of, is_marked, poller_post, polls_at, role_of}}
+use Rattle.device_shared.specs.{Seats.thread_post, SharedReceive.bytes_each}
 use mathlib.Core.List.{IsPrefix}
-use Rattle.rx_ring.specs.declared.ends.RxCtx.{RxCtx}
-use Rattle.rx_ring.specs.declared.ends.RxIn.{RxIn}
-use Rattle.rx_ring.specs.declared.packet.Packet.{Packet}
-use Rattle.rx_ring.specs.declared.packet.Totals.{Totals}
-use Rattle.rx_ring.specs.Ends.{IsOneRing, SameCtx, put_list, received_list, ring_of}
-use Rattle.rx_ring.specs.ReceiveRing.{totals_of}
-use Rattle.napi_model.specs.declared.event.Event.{Event}
-use Rattle.napi_model.specs.declared.event.Operation.{Operation}
-use Rattle.napi_model.specs.declared.event.Operation.TheVariants.{MarkDisable, Take}
 use Rattle.napi_model.specs.declared.state.Kind.TheVariants as kind
-use Rattle.napi_model.specs.History.{state_after}
-use Rattle.napi_model.specs.Step.{opening}
-use Rattle.napi_word.specs.declared.table.Pass.{Pass}
-use Rattle.napi_calls.specs.Closed.{IsClosed}
-use Rattle.napi_calls.specs.Made.{Made}
-use Rattle.napi_calls.specs.Seats.{shown}
 use Rattle.napi_calls.specs.Seats as seats
-use Rattle.napi_calls.specs.declared.types.Caller.{Caller}
-use Rattle.napi_calls.specs.declared.types.Napi.{Napi}
-use Rattle.device_bench.specs.Receive.{ReceiveView}
-use Rattle.device_shared.specs.declared.seats.Enabled.{Enabled}
 use Rattle.device_shared.specs.declared.seats.Enabled.TheVariants as enabled
-use Rattle.device_shared.specs.declared.seats.Posts.{Posts}
-use Rattle.device_shared.specs.declared.seats.Posts.TheVariants.{Rest, ListPolls, ThreadPolls, PollsBusily}
-use Rattle.device_shared.specs.declared.seats.Turn.{Turn}
-use Rattle.device_shared.specs.Acting.{TriesBy}
-use Rattle.device_shared.specs.Seats.{control_of, is_marked, poller_post, polls_at, role_of, thread_post}
-use Rattle.device_shared.specs.SharedReceive.{bytes_each}
 
 -- ---- steps towards an instance that the controller has
 

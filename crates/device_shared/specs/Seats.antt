@@ -1,29 +1,13 @@
 -- All that make calls on one instance, in one hand: the interrupt is caller 0, the poller of the list 1, the device's thread 2, and
 -- the controller 3.
-use Rattle.std.specs.Prelude.{◌≡◌, ℕ, Bool, true, false, List, Option, Some, None}
-use Rattle.rx_ring.specs.declared.ends.RxCtx.{RxCtx}
-use Rattle.rx_ring.specs.declared.packet.Packet.{Packet}
-use Rattle.napi_model.specs.declared.state.Place.{Place}
-use Rattle.napi_model.specs.declared.state.Place.TheVariants.{Nobody, Granted, Listed, ToThread, Polling, Control}
-use Rattle.napi_model.specs.declared.state.State.{State}
-use Rattle.napi_model.specs.History.{LegalHistory}
-use Rattle.napi_model.specs.Step.{Polls, opening}
-use Rattle.napi_word.specs.declared.table.Pass.{Pass}
-use Rattle.napi_word.specs.View.{first_in, received_in}
-use Rattle.napi_word.specs.Passes.{view_of}
-use Rattle.napi_calls.specs.Alone.{AllShow}
-use Rattle.napi_calls.specs.Instance.{IsSeatOf}
-use Rattle.napi_calls.specs.Knows.{received_held}
-use Rattle.napi_calls.specs.Packets.{delivered}
-use Rattle.napi_calls.specs.Seats.{controller_of, shown, state_of}
-use Rattle.napi_calls.specs.declared.types.Napi.{Napi}
-use Rattle.device_shared.specs.declared.seats.Enabled.{Enabled}
+use Rattle.napi_calls.specs.{Packets.delivered, Seats.{controller_of, shown, state_of}, declared.types.Napi.Napi, Instance.IsSeatOf}
+use Rattle.{napi_calls.specs.{Knows.received_held, Alone.AllShow}, std.specs.Prelude.{◌≡◌, ℕ, Bool, true, false, List, Option, Some, None}}
+use Rattle.{rx_ring.specs.declared.{packet.Packet.Packet, ends.RxCtx.RxCtx}, device_shared.specs.declared.seats.{Turn.Turn, Posts.Posts}}
+use Rattle.napi_model.specs.{declared.state.{State.State, Place.{Place, TheVariants.{Granted, Polling, Control}}}, Step.{Polls, opening}}
+use Rattle.{napi_model.specs.History.LegalHistory, napi_word.specs.{Passes.view_of, View.{first_in, received_in}, declared.table.Pass.Pass}}
+use Rattle.device_shared.specs.declared.seats.{Posts.TheVariants.{Rest, ListPolls, ThreadPolls, PollsBusily}, Seats.Seats, Enabled.Enabled}
 use Rattle.device_shared.specs.declared.seats.Enabled.TheVariants as enabled
-use Rattle.device_shared.specs.declared.seats.Posts.{Posts}
-use Rattle.device_shared.specs.declared.seats.Posts.TheVariants.{Rest, ListPolls, ThreadPolls, PollsBusily}
-use Rattle.device_shared.specs.declared.seats.Turn.{Turn}
 use Rattle.device_shared.specs.declared.seats.Turn.TheVariants as turn
-use Rattle.device_shared.specs.declared.seats.Seats.{Seats}
 
 -- ---- the seat of each number
 
@@ -93,12 +77,10 @@ is_off (Some r) = false
 
 -- nobody has it, but maybe the list or the thread
 abbrev pub rests : Place → Bool
-rests Nobody = true
-rests Listed = true
-rests ToThread = true
 rests (Granted c) = false
 rests (Polling c) = false
 rests (Control c) = false
+rests _ = true
 
 abbrev pub ArePlaced : Option (ℕ × Bool) → State → Type 0
 ArePlaced None s = (rests s.place ≡ true) × (s.flags.in_busy_poll ≡ false)

@@ -1,28 +1,18 @@
 -- Where nothing is under way, nothing is left to do.
-use Rattle.std.proofs.Common.{◌≡◌, ◌∙◌, ℕ, zero, suc, ◌+◌, ◌-◌, ◌<◌, ◌≤◌, ◌^◌, Bool, true, false, Option, Some, None, List, [], ◌∷◌, ◌++◌}
-use Rattle.std.proofs.{Common.{drop, length, length-drop, refl, arith}, lemmas.Bool.{eqb-true, le-leb, lt-ltb}}
-use Rattle.std.specs.Prelude.{◌==◌, ◌&&◌, ◌||◌, if◌then◌else◌, min, nat_le, nat_lt, not, position, slice_get}
-use Rattle.{std.specs.List.position_or_len, device_rows.specs.Places.{at, changed}, machine_words.specs.declared.settings.Settings.Settings}
-use Rattle.poll_runs.specs.{Turn.asked_for, declared.bench.{Next.TheVariants.{Gone, Repoll}}}
-use Rattle.machine_model.specs.Device.{DeviceView, after_packet, ended_interrupt, ended_poll, interrupted, polled}
-use Rattle.machine_model.specs.{Devices.{Devices, batch_at, is_handed_at, raises_at}, Waits.held}
+use Rattle.std.proofs.Common.{◌+◌, ◌-◌, ◌<◌, ◌≤◌, ◌^◌, Bool, true, false, Option, Some, None, List, [], ◌∷◌, ◌++◌, drop, length, refl}
+use Rattle.std.{proofs.{Common.arith, lemmas.Grind.common_steps}, specs.{List.position_or_len, Prelude.{◌==◌, ◌&&◌, ◌||◌, if◌then◌else◌}}}
+use Rattle.{poll_runs.specs.{Turn.asked_for, declared.bench.Next.TheVariants.{Gone, Repoll}}, device_rows.specs.Places.{at, changed}}
+use Rattle.{machine_model.proofs.WalkFacts.{Still, Walk, arrived, nexted, walk, walk-comes}, std.proofs.Common.{◌≡◌, ◌∙◌, ℕ, zero, suc}}
+use Rattle.{std.specs.Prelude.{min, nat_le, not, position, slice_get}, machine_words.specs.declared.settings.Settings.Settings}
+use Rattle.machine_model.specs.{declared.processor.Work.{Work, TheVariants.{Interrupt, Nothing}}, Device.{DeviceView, after_packet}}
+use Rattle.machine_model.specs.{Device.{ended_interrupt, ended_poll, interrupted, polled}, Processor.{ProcessorView, comes, delivers}}
+use Rattle.machine_model.specs.Processor.{ends_by, ends_current, ends_interrupt, ends_poll, ends_run, interrupts, is_busy, is_polling}
+use Rattle.machine_model.specs.{Processor.{polls, step}, Devices.{Devices, is_handed_at, raises_at}, Softirq.{RunView, SoftirqView}}
+use Rattle.machine_model.specs.{Softirq.{asked_in, begun, ended, filled, next_of, pushed, told}, Laws.{Event, behind, end, packet}}
+use Rattle.machine_model.{specs.{Waits.held, Kept.{masks, mask_at}, Fates.{NothingIsLeft, ring_in}}, proofs.WorkFacts.{Goes, Rests}}
+use Rattle.machine_model.proofs.{WorkFacts.{free-ended, goes-on, work-ended, work-walk}, FateFacts.{at-apart, at-here, at-kept, made_at}}
+use Rattle.machine_model.proofs.{FateFacts.{at-arrived, at-either}, TimeFacts.timed, PlacesFacts.{map_at, packet-by}, WalkFacts.Free}
 use Rattle.machine_model.specs.Device as device
-use Rattle.machine_model.specs.Fates.{NothingIsLeft, ring_in}
-use Rattle.machine_model.specs.Laws.{Event, behind, end, packet}
-use Rattle.machine_model.specs.Processor.{ProcessorView, comes, delivers, ends_by, ends_current, ends_interrupt, ends_poll}
-use Rattle.machine_model.specs.Processor.{ends_run, interrupts, is_busy, is_polling, polls, step}
-use Rattle.machine_model.specs.Softirq.{RunView, SoftirqView, asked_in, begun, ended, filled, is_spent, next_from}
-use Rattle.machine_model.specs.Softirq.{next_of, pushed, told}
-use Rattle.machine_model.specs.declared.processor.Work.{Work}
-use Rattle.machine_model.specs.declared.processor.Work.TheVariants.{Interrupt, Nothing, Poll, Use}
-use Rattle.machine_model.proofs.FateFacts.{at-apart, at-here, at-kept, made_at}
-use Rattle.machine_model.proofs.{PlacesFacts.map_at, TimeFacts.timed, WalkFacts.{Free, Still, Walk, arrived, nexted, walk, walk-comes}}
-use Rattle.machine_model.proofs.WorkFacts.{Goes, Rests, free-ended, goes-on, work-ended, work-walk}
-use Rattle.machine_model.specs.Kept.{masks, mask_at}
-use Rattle.machine_model.proofs.StepFacts.{ends_polls}
-use Rattle.machine_model.proofs.PlacesFacts.{packet-by}
-use Rattle.machine_model.proofs.FateFacts.{at-arrived}
-use Rattle.machine_model.proofs.FateFacts.{at-either}
 
 -- ---- how often a number stands on the list and in the run
 
@@ -47,31 +37,16 @@ count-moves : (n : ℕ) (own repoll list : List ℕ)
     + (count n (asked_for (slice_get (filled own repoll list).0 0)) + (count n (drop 1 (filled own repoll list).0) + count n repoll))
     ≡ count n list + (count n own + count n repoll)
 unfolding count
-count-moves n (x ∷ own) repoll list = omega arith
-count-moves n [] (x ∷ repoll) list = omega arith
-count-moves n [] [] (x ∷ list) = omega arith
-count-moves n [] [] [] = omega arith
+count-moves n own repoll list = grind (arith, common_steps)
 
 asked-none : (n : ℕ) (o : Option ℕ) → o ≡ None → count n (asked_for o) ≡ 0
 unfolding count
-asked-none n None none = refl
-asked-none n (Some x) none = cc none
+asked-none n o none = grind (arith, common_steps)
 
 count-next : (n : ℕ) (list : List ℕ) (run : Option RunView) (began : ℕ) → asked_in run ≡ None
     → let q : SoftirqView = record { list = list; run = run; began = began } in stands n (next_of q) ≡ stands n q
 unfolding stands count_in next_of
-count-next n list None began none = refl
-count-next n list (Some r) began none = by (is_spent r)
-  where
-    before : SoftirqView
-    before = record { list = list; run = Some r; began = began }
-
-    nobody : count n (asked_for r.asked) ≡ 0
-    nobody = asked-none n r.asked none
-
-    by : (b : Bool) → stands n (if b then before else next_from (filled r.own r.repoll list) r before) ≡ stands n before
-    by true = refl
-    by false = omega (arith, nobody, count-moves n r.own r.repoll list)
+count-next n list run began none = grind (arith, common_steps, asked-none, count-moves)
 
 stands-next : (n : ℕ) (q : SoftirqView) → asked_in q.run ≡ None → stands n (next_of q) ≡ stands n q
 unfolding next_of
@@ -80,18 +55,12 @@ stands-next n q none = count-next n q.list q.run q.began none
 count-begun : (n : ℕ) (list : List ℕ) (run : Option RunView) (began clock budget weight window : ℕ) → run ≡ None
     → let q : SoftirqView = record { list = list; run = run; began = began } in stands n (begun clock budget weight window q) ≡ stands n q
 unfolding stands count_in count
-count-begun n list None began clock budget weight window none = omega arith
-count-begun n list (Some r) began clock budget weight window none = cc none
+count-begun n list run began clock budget weight window none = grind (arith, common_steps)
 
 count-ended : (n : ℕ) (list : List ℕ) (run : Option RunView) (began : ℕ) → asked_in run ≡ None
     → let q : SoftirqView = record { list = list; run = run; began = began } in stands n (ended q) ≡ stands n q
 unfolding stands count_in ended
-count-ended n list None began none = refl
-count-ended n list (Some r) began none =
-    let nobody : count n (asked_for r.asked) ≡ 0 = asked-none n r.asked none in
-    let size : count n (r.own ++ list ++ r.repoll) + 0 ≡ count n list + (count n (asked_for r.asked) + (count n r.own + count n r.repoll))
-    = omega (arith, nobody, count-append n (r.own ++ list) r.repoll, count-append n r.own list) in
-    size
+count-ended n list run began none = grind (arith, common_steps, asked-none, count-append)
 
 stands-pushed : (n m : ℕ) (q : SoftirqView) → stands n (pushed m q) ≡ stands n q + (if m == n then 1 else 0)
 unfolding stands count
@@ -102,9 +71,7 @@ count-told : (n m : ℕ) (full : Bool) (work : ℕ) (list : List ℕ) (run : Opt
     stands n (told (record { work = work; next = if full then Repoll else Gone }) q) + (if full then 0 else (if m == n then 1 else 0))
     ≡ stands n q
 unfolding stands count_in told count
-count-told n m full work list None began asked = cc asked
-count-told n m true work list (Some r) began asked = rw asked (omega (arith, count-append n r.repoll (m ∷ [])))
-count-told n m false work list (Some r) began asked = rw asked (omega (arith, count-append n r.repoll []))
+count-told n m full work list run began asked = grind (arith, common_steps, count-append)
 
 -- ---- what holds of a device
 
@@ -141,28 +108,7 @@ pub record Lowered (polling : Bool) (own : Bool) (old new : Option DeviceView) :
 
 lowered : (polling : Bool) (o : Option DeviceView) → Lowered polling true o (map_at (interrupted polling) o)
 unfolding map_at interrupted
-lowered polling None = by polling
-  where
-    by : (b : Bool) → Lowered b true None None
-    by true = record { ring = refl; mask = refl; up = omega arith; some = omega arith }
-    by false = record { ring = refl; mask = refl; up = omega arith; some = omega arith }
-lowered polling (Some d) = record { ring = refl; mask = masked polling d.masked; up = raised d.raises; some = some polling d.masked }
-  where
-    masked : (p m : Bool) → (if (m || p) then 1 else 0) ≡ (if m then 1 else 0) + (if (p && not m) then 1 else 0)
-    masked true true = refl
-    masked true false = refl
-    masked false true = refl
-    masked false false = refl
-
-    raised : (b : Bool) → (if b then 1 else 0) ≤ 0 + 1
-    raised true = omega arith
-    raised false = omega arith
-
-    some : (p m : Bool) → (if p then min 1 (length d.ring) else 0) ≤ (if (m || p) then 1 else 0)
-    some true true = omega arith
-    some true false = omega arith
-    some false true = omega arith
-    some false false = omega arith
+lowered polling o = grind (arith, common_steps)
 
 lowered-at : (polling : Bool) (m n : ℕ) (ds : Devices) → Lowered polling (m == n) (at n ds) (at n (changed (interrupted polling) m ds))
 lowered-at polling m n ds =
@@ -171,39 +117,26 @@ lowered-at polling m n ds =
 
 stands-if : (b : Bool) (n m : ℕ) (q : SoftirqView)
     → stands n (if b then pushed m q else q) ≡ stands n q + (if b then (if m == n then 1 else 0) else 0)
-stands-if true n m q = stands-pushed n m q
-stands-if false n m q = omega arith
+stands-if b n m q = grind (arith, common_steps, stands-pushed)
 
 -- a device that is handed over is pushed
 handed-more : (same handed : Bool) → (if same && handed then 1 else 0) ≤ (if handed then (if same then 1 else 0) else 0)
-handed-more true true = omega arith
-handed-more true false = omega arith
-handed-more false true = omega arith
-handed-more false false = omega arith
+handed-more same handed = grind (arith, common_steps)
 
 lone-held : (polling same : Bool) (ring up mask new-up new-mask : ℕ) → ring ≤ 1 → ring ≤ up + mask → up ≤ new-up + (if same then 1 else 0)
     → mask ≤ new-mask → (if same && polling then ring else 0) ≤ new-mask
     → ring ≤ new-up + (new-mask + (if polling then 0 else (if same then 1 else 0)))
-lone-held true true ring up mask new-up new-mask few held risen more some = omega (arith, held, risen, more, some)
-lone-held true false ring up mask new-up new-mask few held risen more some = omega (arith, held, risen, more, some)
-lone-held false true ring up mask new-up new-mask few held risen more some = omega (arith, few, held, risen, more, some)
-lone-held false false ring up mask new-up new-mask few held risen more some = omega (arith, held, risen, more, some)
+lone-held polling same ring up mask new-up new-mask few held risen more some = grind (arith, common_steps)
 
 abbrev pub bit : Bool → ℕ
 bit b = if b then 1 else 0
 
 none-handed : (own polling : Bool) (o : Option DeviceView) → polling ≡ false → bit (own && is_handed_at polling o) ≡ 0
-none-handed true polling None none = refl
-none-handed true polling (Some d) none = rw none refl
-none-handed false polling o none = refl
+none-handed own polling o none = grind (arith, common_steps)
 
 same-handed : (polling : Bool) (m n : ℕ) (ds : Devices)
     → bit (m == n && is_handed_at polling (at n ds)) ≡ bit (m == n && is_handed_at polling (at m ds))
-same-handed polling m n ds = by (m == n) refl
-  where
-    by : (b : Bool) → (m == n) ≡ b → bit (b && is_handed_at polling (at n ds)) ≡ bit (b && is_handed_at polling (at m ds))
-    by true here = rw (eqb-true m n here) refl
-    by false apart = refl
+same-handed polling m n ds = grind (arith, common_steps)
 
 one-most : (k : ℕ) → min 1 k ≤ 1
 one-most k = omega arith
@@ -234,12 +167,7 @@ tend-raises s n m p t =
 
 polled-less : (weight m n : ℕ) (ds : Devices) → length (ring_in (at n (changed (polled weight) m ds))) ≤ length (ring_in (at n ds))
 unfolding map_at polled device.taken
-polled-less weight m n ds =
-    at-either (λ here o. length (ring_in o) ≤ length (ring_in (at n ds))) (polled weight) m n ds (λ here. less (at n ds)) (omega arith)
-  where
-    less : (o : Option DeviceView) → length (ring_in (map_at (polled weight) o)) ≤ length (ring_in o)
-    less None = omega arith
-    less (Some d) = omega (arith, length-drop (min weight (length d.ring)) d.ring)
+polled-less weight m n ds = grind (arith, common_steps, at-either)
 
 tend-asks : (s : Settings) (n m : ℕ) (p : ProcessorView) → Tended s n p → Attended s n (polls m p)
 unfolding polls polled device.taken
@@ -259,13 +187,7 @@ tend-asks s n m p t =
 tend-over : (s : Settings) (n : ℕ) (late : Bool) (p : ProcessorView) → Free p → Tended s n p → Rests s (ends_run late p)
     → Tended s n (ends_run late p)
 unfolding ends_run
-tend-over s n late p free t rests =
-    record {
-      rests = rests;
-      masks = omega (arith, t.masks, count-ended n p.softirq.list p.softirq.run p.softirq.began free.unasked);
-      never = t.never;
-      held = t.held;
-    }
+tend-over s n late p free t rests = grind (arith, common_steps, count-ended)
 
 tend-walk : (s : Settings) (n : ℕ) → Walk (Tended s n) (Attended s n)
 tend-walk s n =
@@ -310,52 +232,23 @@ pub record Cared (s : Settings) (n : ℕ) (p : ProcessorView) : Type 0 where
   pub held : min 1 (length (ring_in (at n p.devices))) ≤ up_at (at n p.devices) + mask_at (at n p.devices)
 
 up-if : (k : ℕ) → min 1 k ≤ (if not (k == 0) then 1 else 0)
-up-if k = by (k == 0) refl
-  where
-    by : (b : Bool) → (k == 0) ≡ b → min 1 k ≤ (if not b then 1 else 0)
-    by true none = omega (arith, eqb-true k 0 none)
-    by false some = omega arith
+up-if k = grind (arith, common_steps)
 
 lone-care : (o : Option DeviceView) → min 1 (length (ring_in (map_at ended_interrupt o))) ≤ up_at (map_at ended_interrupt o)
 unfolding map_at ended_interrupt
-lone-care None = omega arith
-lone-care (Some d) = up-if (length d.ring)
+lone-care o = grind (arith, common_steps, up-if)
 
 short-care : (o : Option DeviceView) → (mask_at (map_at (ended_poll false) o) ≡ 0)
     × (min 1 (length (ring_in (map_at (ended_poll false) o))) ≤ up_at (map_at (ended_poll false) o))
 unfolding map_at ended_poll
-short-care None = (refl, omega arith)
-short-care (Some d) = (refl, up-if (length d.ring))
+short-care o = grind (arith, common_steps, up-if)
 
 cared-lone : (s : Settings) (n m : ℕ) (p : ProcessorView) → mask_at (at n p.devices) ≤ stands n p.softirq
     → (is_polling s ≡ false → mask_at (at n p.devices) ≡ 0)
     → min 1 (length (ring_in (at n p.devices))) ≤ up_at (at n p.devices) + (mask_at (at n p.devices) + (if m == n then 1 else 0))
     → Cared s n (ends_interrupt m p)
 unfolding ends_interrupt delivers device.delivered device.taken ended_interrupt
-cared-lone s n m p masks never held =
-    record { masks = omega (arith, mask, masks); never = λ lone. mask ∙ never lone; held = by (m == n) refl held }
-  where
-    one : Devices
-    one = changed (device.taken 1) m p.devices
-
-    two : Devices
-    two = changed (device.delivered p.clock (batch_at 1 (at m p.devices))) m one
-
-    mask : mask_at (at n (changed ended_interrupt m two)) ≡ mask_at (at n p.devices)
-    mask = at-kept mask_at ended_interrupt m n two (λ d. refl)
-        ∙ (at-kept mask_at (device.delivered p.clock (batch_at 1 (at m p.devices))) m n one (λ d. refl)
-        ∙ at-kept mask_at (device.taken 1) m n p.devices (λ d. refl))
-
-    by : (b : Bool) → (m == n) ≡ b
-        → min 1 (length (ring_in (at n p.devices))) ≤ up_at (at n p.devices) + (mask_at (at n p.devices) + (if b then 1 else 0))
-        → min 1 (length (ring_in (at n (changed ended_interrupt m two))))
-        ≤ up_at (at n (changed ended_interrupt m two)) + mask_at (at n (changed ended_interrupt m two))
-    by true here held = rw (at-here ended_interrupt m n two here) (omega (arith, lone-care (at n two)))
-    by false apart held =
-        let same : at n (changed ended_interrupt m two) ≡ at n p.devices = at-apart ended_interrupt m n two apart
-        ∙ (at-apart (device.delivered p.clock (batch_at 1 (at m p.devices))) m n one apart
-        ∙ at-apart (device.taken 1) m n p.devices apart) in
-        rw same (omega (arith, held))
+cared-lone s n m p masks never held = grind (arith, common_steps, at-apart, at-here, at-kept, lone-care)
 
 full-mask : (d : DeviceView) → mask_at (Some (ended_poll true d)) ≡ mask_at (Some d)
 unfolding ended_poll
@@ -439,21 +332,7 @@ cared-by : (s : Settings) (n : ℕ) (w : Work) (p : ProcessorView) → p.setting
     → (is_polling s ≡ false → mask_at (at n p.devices) ≡ 0)
     → min 1 (length (ring_in (at n p.devices))) ≤ up_at (at n p.devices) + (mask_at (at n p.devices) + alone_by s n w)
     → Cared s n (ends_by w p)
-cared-by s n Nothing p same masks never held = record { masks = masks; never = never; held = omega (arith, held) }
-cared-by s n (Interrupt m) p same masks never held = by (is_polling p.settings) (rw same refl)
-  where
-    by : (b : Bool) → is_polling s ≡ b → Cared s n (if b then p else ends_interrupt m p)
-    by true polling = record { masks = masks; never = never; held = omega (arith, rw polling at held) }
-    by false lone = cared-lone s n m p masks never (rw lone at held)
-cared-by s n Poll p same masks never held = by (asked_in p.softirq.run) refl
-  where
-    care : Cared s n p
-    care = record { masks = masks; never = never; held = omega (arith, held) }
-
-    by : (o : Option ℕ) → asked_in p.softirq.run ≡ o → Cared s n (ends_polls o p)
-    by None asked = care
-    by (Some m) asked = cared-poll s n m p asked care
-cared-by s n (Use came) p same masks never held = record { masks = masks; never = never; held = omega (arith, held) }
+cared-by s n w p same masks never held = grind (arith, common_steps, cared-lone, cared-poll)
 
 tend-ended : (s : Settings) (n : ℕ) (p : ProcessorView) → Goes s p → Attended s n p
     → Tended s n (record (ends_current p) { work = Nothing })
@@ -484,8 +363,7 @@ fed-packet moment d =
 
 fed-made : (capacity : ℕ) (o : Option DeviceView) → Fed o (Some (made_at capacity o))
 unfolding made_at
-fed-made capacity None = record { mask = refl; held = λ a before. omega arith }
-fed-made capacity (Some d) = record { mask = refl; held = λ a before. before }
+fed-made capacity o = grind (arith, common_steps)
 
 fed-at : (moment m n : ℕ) (p : ProcessorView) → Fed (at n p.devices) (at n (arrived moment m p).devices)
 fed-at moment m n p =
@@ -497,14 +375,10 @@ fed-at moment m n p =
     (record { mask = refl; held = λ a before. before })
 
 idle-alone : (s : Settings) (n : ℕ) (w : Work) → is_busy w ≡ false → alone_by s n w ≡ 0
-idle-alone s n Nothing idle = refl
-idle-alone s n (Interrupt m) idle = cc idle
-idle-alone s n Poll idle = refl
-idle-alone s n (Use came) idle = refl
+idle-alone s n w idle = grind (arith, common_steps)
 
 none-listed : (b : Bool) → (b && false) ≡ false
-none-listed true = refl
-none-listed false = refl
+none-listed b = grind (arith, common_steps)
 
 tend-comes : (s : Settings) (moment m n : ℕ) (p : ProcessorView) → Goes s p → Attended s n p → Attended s n (comes moment m p)
 tend-comes s moment m n p goes a =
@@ -527,25 +401,14 @@ tend-comes s moment m n p goes a =
 
 pub attended : (s : Settings) (n : ℕ) (events : List Event) → Attended s n (behind s events)
 unfolding behind step
-attended s n [] =
-    record {
-      masks = omega arith;
-      never = λ lone. refl;
-      held = omega arith;
-      still = λ nothing. record { quiet = refl; idle = refl; list = none-listed (is_polling s); socket = refl };
-    }
+attended s n [] = grind (arith, common_steps, goes-on, none-listed)
 attended s n (packet moment m ∷ earlier) = tend-comes s moment m n (behind s earlier) (goes-on s earlier) (attended s n earlier)
-attended s n (end ∷ earlier) =
-    let p = behind s earlier in
+attended s n (end ∷ earlier) = let p = behind s earlier in
     let goes = goes-on s earlier in
     walk (Tended s n) (Attended s n) (tend-walk s n) _ (free-ended s p goes) (tend-ended s n p goes (attended s n earlier))
 
 first-later : (x : Option DeviceView) (ds : Devices) (n : ℕ) → position_or_len raises_at ds ≤ n → position_or_len raises_at (x ∷ ds) ≤ suc n
-first-later x ds n most = by (raises_at x) refl
-  where
-    by : (b : Bool) → raises_at x ≡ b → position_or_len raises_at (x ∷ ds) ≤ suc n
-    by true here = rw here (omega arith)
-    by false here = rw here (omega (arith, most))
+first-later x ds n most = grind (arith, common_steps)
 
 first-raises : (ds : Devices) (n : ℕ) → raises_at (at n ds) ≡ true → (position_or_len raises_at ds ≤ n) × (n < length ds)
 first-raises [] n up = cc up
@@ -553,57 +416,18 @@ first-raises (x ∷ ds) zero up = (rw up (omega arith), omega arith)
 first-raises (x ∷ ds) (suc n) up = let next = first-raises ds n up in (first-later x ds n next.0, omega (arith, next.1))
 
 quiet-at : (ds : Devices) (n : ℕ) → position raises_at ds ≡ None → raises_at (at n ds) ≡ true → ⊥
-quiet-at ds n quiet up =
-    let first = first-raises ds n up in
-    let below : nat_lt (position_or_len raises_at ds) (length ds) ≡ true =
-    lt-ltb (position_or_len raises_at ds) (length ds) (omega (arith, first.0, first.1)) in
-    cc (rw below at quiet)
+quiet-at ds n quiet up = grind (arith, common_steps, first-raises)
 
 zero-if : (k : ℕ) → not (k == 0) ≡ false → k ≡ 0
-zero-if k none = by (k == 0) refl none
-  where
-    by : (b : Bool) → (k == 0) ≡ b → not b ≡ false → k ≡ 0
-    by true is none = eqb-true k 0 is
-    by false is none = cc none
+zero-if k none = grind (arith, common_steps)
 
 -- nothing raises, and no number stands anywhere
 empty-ring : (s : Settings) (n : ℕ) (p : ProcessorView) → p.settings ≡ s → Attended s n p → p.work ≡ Nothing → ring_in (at n p.devices) ≡ []
 unfolding stands count_in count
-empty-ring s n p same a nothing = by (raises_at (at n p.devices)) refl (ring_in (at n p.devices)) refl
-  where
-    still : Still p
-    still = a.still nothing
-
-    alone : alone_by s n p.work ≡ 0
-    alone = rw nothing refl
-
-    mask : mask_at (at n p.devices) ≡ 0
-    mask = by-polling (is_polling s) refl
-      where
-        by-list : (list : List ℕ) → p.softirq.list ≡ list → (true && not (length list == 0)) ≡ false → count n p.softirq.list ≡ 0
-        by-list [] is none = rw is refl
-        by-list (x ∷ list) is none = absurd (omega (arith, zero-if (length (x ∷ list)) none))
-
-        by-polling : (b : Bool) → is_polling s ≡ b → mask_at (at n p.devices) ≡ 0
-        by-polling false lone = a.never lone
-        by-polling true polling =
-            let list : count n p.softirq.list ≡ 0 = by-list p.softirq.list refl (rw (same, polling) at still.list) in
-            let run : count_in n p.softirq.run ≡ 0 = rw still.idle refl in
-            omega (arith, a.masks, list, run)
-
-    by : (b : Bool) → raises_at (at n p.devices) ≡ b → (ring : List ℕ) → ring_in (at n p.devices) ≡ ring → ring_in (at n p.devices) ≡ []
-    by true up ring is = absurd (quiet-at p.devices n still.quiet up)
-    by false down [] is = is
-    by false down (x ∷ ring) is =
-        let up : up_at (at n p.devices) ≡ 0 = rw down refl in
-        let size : length (ring_in (at n p.devices)) ≡ suc (length ring) = rw is refl in
-        absurd (omega (arith, a.held, up, mask, alone, size))
+empty-ring s n p same a nothing = grind (arith, common_steps, quiet-at, zero-if)
 
 idle-work : (w : Work) (ends : ℕ) → (is_busy w && nat_le ends (2 ^ 64 - 1)) ≡ false → (is_busy w ≡ true → ends < 2 ^ 64) → w ≡ Nothing
-idle-work Nothing ends none fits = refl
-idle-work (Interrupt n) ends none fits = absurd (cc (rw (le-leb ends (2 ^ 64 - 1) (omega (arith, fits refl))) at none))
-idle-work Poll ends none fits = absurd (cc (rw (le-leb ends (2 ^ 64 - 1) (omega (arith, fits refl))) at none))
-idle-work (Use came) ends none fits = absurd (cc (rw (le-leb ends (2 ^ 64 - 1) (omega (arith, fits refl))) at none))
+idle-work w ends none fits = grind (arith, common_steps)
 
 pub nothing-is-left : NothingIsLeft
 nothing-is-left s events turns none =

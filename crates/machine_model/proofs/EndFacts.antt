@@ -1,19 +1,9 @@
 -- Behind what ends, nothing is asked.
-use Rattle.std.{proofs.Common.{◌≡◌, ℕ, Bool, true, false, Option, Some, None, refl}, specs.Prelude.if◌then◌else◌}
-use Rattle.machine_model.specs.Kept.{is_poll}
-use Rattle.machine_model.specs.Processor.{ProcessorView, delivers, ends_by, ends_current, ends_interrupt, ends_poll, is_polling}
-use Rattle.machine_model.specs.Softirq.{asked_in}
-use Rattle.machine_model.specs.declared.processor.Work.{Work}
-use Rattle.machine_model.specs.declared.processor.Work.TheVariants.{Interrupt, Nothing, Poll, Use}
-use Rattle.machine_model.proofs.ListedFacts.{asked-told}
-use Rattle.machine_model.proofs.StepFacts.{ends_polls}
-use Rattle.machine_model.specs.Waits.{counted}
-use Rattle.std.specs.Option.{option_map_or}
-use Rattle.std.specs.Prelude.{◌-◌}
-use Rattle.std.specs.Prelude.{List, [], ◌∷◌}
-use Rattle.device_rows.specs.Places.{at}
-use Rattle.machine_model.specs.Devices.{batch_at}
-use Rattle.machine_model.specs.Fates.{gives_by, polled_by, using}
+use Rattle.std.proofs.{Common.{arith, ◌≡◌, ℕ, Bool, false, Option, Some, None}, lemmas.Grind.common_steps}
+use Rattle.{device_rows.specs.Places.at, machine_model.specs.{Kept.is_poll, Processor.{ProcessorView, delivers, ends_by, ends_current}}}
+use Rattle.{machine_model.proofs.{ListedFacts.asked-told, StepFacts.ends_polls}, std.specs.Prelude.{if◌then◌else◌, ◌-◌, List, [], ◌∷◌}}
+use Rattle.machine_model.specs.{Processor.{ends_interrupt, ends_poll, is_polling}, Softirq.asked_in, Devices.batch_at}
+use Rattle.machine_model.specs.{declared.processor.Work.{Work, TheVariants.{Interrupt, Poll}}, Waits.counted, Fates.{gives_by, using}}
 
 -- What holds of what is given and used, and behind it, for each way to end: nothing is delivered, an interrupt without polling, a
 -- poll, a use.
@@ -22,43 +12,19 @@ pub ends : (Q : Option (ℕ × List ℕ) → List ℕ → ProcessorView → Type
     → ((n : ℕ) → w ≡ Interrupt n → is_polling p.settings ≡ false → Q (Some (n, batch_at 1 (at n p.devices))) [] (ends_interrupt n q))
     → ((n : ℕ) → w ≡ Poll → asked_in p.softirq.run ≡ Some n → Q (Some (n, p.batch)) [] (ends_poll n q))
     → ((came : ℕ) → Q None (came ∷ []) (record q { waits = counted (clock - came) p.waits })) → Q (gives_by w p) (using w) (ends_by w q)
-ends Q Nothing p clock rests lone poll used = rests
-ends Q (Interrupt n) p clock rests lone poll used = by (is_polling p.settings) refl
-  where
-    q : ProcessorView
-    q = record p { clock = clock }
-
-    by : (b : Bool) → is_polling p.settings ≡ b
-        → Q (if b then None else Some (n, batch_at 1 (at n p.devices))) [] (if b then q else ends_interrupt n q)
-    by true polling = rests
-    by false alone = lone n refl alone
-ends Q Poll p clock rests lone poll used = by (asked_in p.softirq.run) refl
-  where
-    q : ProcessorView
-    q = record p { clock = clock }
-
-    by : (o : Option ℕ) → asked_in p.softirq.run ≡ o
-        → Q (polled_by o p.batch) [] (option_map_or (λ number. ends_poll number q) o q)
-    by None none = rests
-    by (Some n) asked = poll n refl asked
-ends Q (Use came) p clock rests lone poll used = used came
+ends Q w p clock rests lone poll used = grind (arith, common_steps)
 
 asked-lone : (b : Bool) (n : ℕ) (p : ProcessorView) → asked_in p.softirq.run ≡ None
     → asked_in (if b then p else ends_interrupt n p).softirq.run ≡ None
 unfolding ends_interrupt delivers
-asked-lone true n p none = none
-asked-lone false n p none = none
+asked-lone b n p none = grind (arith, common_steps)
 
 asked-polls : (o : Option ℕ) (p : ProcessorView) → asked_in p.softirq.run ≡ o → asked_in (ends_polls o p).softirq.run ≡ None
 unfolding ends_poll delivers
-asked-polls None p asked = asked
-asked-polls (Some n) p asked = asked-told _ p.softirq
+asked-polls o p asked = grind (arith, common_steps, asked-told)
 
 asked-by : (w : Work) (p : ProcessorView) → (is_poll w ≡ false → asked_in p.softirq.run ≡ None) → asked_in (ends_by w p).softirq.run ≡ None
-asked-by Nothing p rests = rests refl
-asked-by (Interrupt n) p rests = asked-lone (is_polling p.settings) n p (rests refl)
-asked-by Poll p rests = asked-polls (asked_in p.softirq.run) p refl
-asked-by (Use came) p rests = rests refl
+asked-by w p rests = grind (arith, common_steps, asked-lone, asked-polls)
 
 pub asked-ends : (p : ProcessorView) → (is_poll p.work ≡ false → asked_in p.softirq.run ≡ None)
     → asked_in (ends_current p).softirq.run ≡ None

@@ -1,29 +1,16 @@
 -- What becomes of packets: each is delivered in its order.
-use Rattle.std.proofs.Common.{◌≡◌, ◌∙◌, ℕ, zero, suc, ◌+◌, ◌-◌, ◌<◌, Bool, true, false, Option, Some, None, List, [], ◌∷◌, ◌++◌}
-use Rattle.std.proofs.Common.{append_assoc, length, length-append, replicate, refl, sym, ap, arith}
-use Rattle.std.proofs.lemmas.{Bool.{eqb-false, eqb-true}, Grind.get_or-set_at}
-use Rattle.std.proofs.lemmas.List.{append-nil, get_or-set_other, length-replicate, take-append-drop}
-use Rattle.std.specs.Prelude.{◌==◌, ◌&&◌, if◌then◌else◌, min, nat_lt}
-use Rattle.device_rows.specs.Places.{added_at, at, changed, changed_from}
-use Rattle.machine_words.specs.declared.settings.Settings.{Settings}
-use Rattle.machine_model.specs.Device.{DeviceView, after_packet, ended_interrupt, ended_poll, interrupted, opened, polled}
-use Rattle.machine_model.specs.{Devices.{Devices, batch_at, with_device}}
+use Rattle.std.proofs.Common.{◌≡◌, ◌∙◌, ℕ, ◌<◌, Bool, true, false, Option, Some, None, List, [], ◌∷◌, ◌++◌, append_assoc, length, replicate}
+use Rattle.std.proofs.{Common.{refl, sym, ap, arith}, lemmas.{List.append-nil, Bool.eqb-true, Grind.common_steps}}
+use Rattle.{machine_words.specs.declared.settings.Settings.Settings, std.specs.Prelude.{◌==◌, ◌&&◌, if◌then◌else◌, nat_lt}}
+use Rattle.{machine_model.specs.Fates.{gives_by, polled_by, ring_in, taken_by}, device_rows.specs.Places.{added_at, at, changed}}
+use Rattle.machine_model.proofs.{EndFacts.ends, WalkFacts.{Walk, arrived, nexted, walk, walk-comes}, WorkFacts.{Goes, free-ended, goes-on}}
+use Rattle.machine_model.{proofs.PlacesFacts.{at-changed, map_at, packet-by}, specs.Processor.{ProcessorView, comes, delivers, ends_by}}
+use Rattle.machine_model.specs.Processor.{ends_current, ends_interrupt, ends_poll, ends_run, interrupts, is_busy, is_polling, polls, step}
+use Rattle.machine_model.specs.{Softirq.{asked_in, next_of}, declared.processor.Work.{Work, TheVariants.Nothing}, Laws.{Event, behind, end}}
+use Rattle.machine_model.specs.{Laws.packet, Device.{DeviceView, after_packet, ended_interrupt, ended_poll, interrupted, opened, polled}}
+use Rattle.machine_model.specs.{Devices.{Devices, batch_at, with_device}, Fates.{DeliversInOrder, came, finds_room, given, given_from}}
 use Rattle.machine_model.specs.Fates as fate
-use Rattle.machine_model.specs.Fates.{DeliversInOrder, came, finds_room, given, given_from, gives_by, polled_by, ring_in, taken_by}
 use Rattle.machine_model.specs.Device as device
-use Rattle.machine_model.specs.Laws.{Event, behind, end, packet}
-use Rattle.machine_model.specs.Processor.{ProcessorView, comes, delivers, ends_by, ends_current, ends_interrupt, ends_poll}
-use Rattle.machine_model.specs.Processor.{ends_run, interrupts, is_busy, is_polling, polls, step}
-use Rattle.machine_model.specs.Softirq.{asked_in, next_of}
-use Rattle.machine_model.specs.declared.processor.Work.{Work}
-use Rattle.machine_model.specs.declared.processor.Work.TheVariants.{Interrupt, Nothing, Poll, Use}
-use Rattle.machine_model.proofs.{PlacesFacts.{at-changed, map_at}, WalkFacts.{Walk, arrived, nexted, walk, walk-comes}}
-use Rattle.machine_model.proofs.WorkFacts.{Goes, free-ended, goes-on}
-use Rattle.machine_model.proofs.StepFacts.{ends_polls}
-use Rattle.machine_model.proofs.PlacesFacts.{with_place}
-use Rattle.machine_model.proofs.EndFacts.{ends}
-use Rattle.machine_model.proofs.PlacesFacts.{packet-by}
-use Rattle.std.proofs.Common.{subst}
 
 -- ---- what stands at a number
 
@@ -31,39 +18,23 @@ pub at-here : (f : DeviceView → DeviceView) (m n : ℕ) (ds : Devices) → (m 
 at-here f m n ds same = rw (eqb-true m n same) (at-changed f n ds)
 
 pub at-apart : (f : DeviceView → DeviceView) (m n : ℕ) (ds : Devices) → (m == n) ≡ false → at n (changed f m ds) ≡ at n ds
-at-apart f m n ds other = by (at m ds)
-  where
-    by : (o : Option DeviceView) → at n (changed_from f m o ds) ≡ at n ds
-    by None = refl
-    by (Some d) = get_or-set_other ds m n (Some (f d)) None (λ e. eqb-false m n other (sym e))
+at-apart f m n ds other = grind (arith, common_steps)
 
 -- what holds of the device that changes, and of each other as it was
 pub at-either : (Q : Bool → Option DeviceView → Type 0) (f : DeviceView → DeviceView) (m n : ℕ) (ds : Devices)
     → ((m == n) ≡ true → Q true (map_at f (at n ds))) → Q false (at n ds) → Q (m == n) (at n (changed f m ds))
-at-either Q f m n ds here apart = by (m == n) refl
-  where
-    by : (b : Bool) → (m == n) ≡ b → Q b (at n (changed f m ds))
-    by true is = subst (Q true) (sym (at-here f m n ds is)) (here is)
-    by false is = subst (Q false) (sym (at-apart f m n ds is)) apart
+at-either Q f m n ds here apart = grind (arith, common_steps, at-apart, at-here)
 
 -- what a change keeps of a device, it keeps of each
 pub at-kept : {A : Type 0} → (g : Option DeviceView → A) (f : DeviceView → DeviceView) (m n : ℕ) (ds : Devices)
     → ((d : DeviceView) → g (Some (f d)) ≡ g (Some d))
     → g (at n (changed f m ds)) ≡ g (at n ds)
 unfolding map_at
-at-kept g f m n ds same = at-either (λ here o. g o ≡ g (at n ds)) f m n ds (λ here. each (at n ds)) refl
-  where
-    each : (o : Option DeviceView) → g (map_at f o) ≡ g o
-    each None = refl
-    each (Some d) = same d
+at-kept g f m n ds same = grind (arith, common_steps, at-either)
 
 -- places that are made are empty
 at-places : (n count : ℕ) (ds : Devices) → at n (ds ++ replicate count None) ≡ at n ds
-at-places n zero [] = refl
-at-places zero (suc count) [] = refl
-at-places (suc n) (suc count) [] = at-places n count []
-at-places zero count (x ∷ ds) = refl
-at-places (suc n) count (x ∷ ds) = at-places n count ds
+at-places n count ds = grind (arith, common_steps)
 
 unfoldable pub made_at : ℕ → Option DeviceView → DeviceView
 made_at capacity None = opened capacity
@@ -72,41 +43,30 @@ made_at capacity (Some d) = d
 at-added-here : (capacity n : ℕ) (ds : Devices) (o : Option DeviceView) → at n ds ≡ o → n < length ds
     → at n (added_at n (opened capacity) o ds) ≡ Some (made_at capacity o)
 unfolding made_at
-at-added-here capacity n ds (Some d) is below = is
-at-added-here capacity n ds None is below = get_or-set_at ds n n (Some (opened capacity)) None refl below
+at-added-here capacity n ds o is below = grind (arith, common_steps)
 
 at-added-apart : (capacity m n : ℕ) (ds : Devices) (o : Option DeviceView) → (m == n) ≡ false
     → at n (added_at m (opened capacity) o ds) ≡ at n ds
-at-added-apart capacity m n ds (Some d) other = refl
-at-added-apart capacity m n ds None other = get_or-set_other ds m n (Some (opened capacity)) None (λ e. eqb-false m n other (sym e))
+at-added-apart capacity m n ds o other = grind (arith, common_steps)
 
 pub with-here : (capacity n : ℕ) (ds : Devices) → at n (with_device capacity n ds) ≡ Some (made_at capacity (at n ds))
 unfolding with_device
-with-here capacity n ds =
-    let none : Option DeviceView = None in
-    let count = n + 1 - length ds in
-    let places : at n (with_place n ds) ≡ at n ds = at-places n count ds in
-    let size : n < length (with_place n ds) = omega (arith, length-append ds (replicate count none), length-replicate count none) in
-    at-added-here capacity n (with_place n ds) (at n (with_place n ds)) refl size
-    ∙ ap (λ (o : Option DeviceView). Some (made_at capacity o)) places
+with-here capacity n ds = grind (arith, common_steps, at-added-here, at-places)
 
 pub with-apart : (capacity m n : ℕ) (ds : Devices) → (m == n) ≡ false → at n (with_device capacity m ds) ≡ at n ds
 unfolding with_device
-with-apart capacity m n ds other =
-    at-added-apart capacity m n (with_place m ds) (at m (with_place m ds)) other ∙ at-places n (m + 1 - length ds) ds
+with-apart capacity m n ds other = grind (arith, common_steps, at-added-apart, at-places)
 
 -- ---- rings
 
 -- what is taken out of a ring, and what stays
 batch-ring : (weight : ℕ) (o : Option DeviceView) → batch_at weight o ++ ring_in (map_at (device.taken weight) o) ≡ ring_in o
 unfolding map_at device.taken
-batch-ring weight None = refl
-batch-ring weight (Some d) = take-append-drop (min weight (length d.ring)) d.ring
+batch-ring weight o = grind (arith, common_steps)
 
 pub polled-ring : (weight : ℕ) (o : Option DeviceView) → ring_in (map_at (polled weight) o) ≡ ring_in (map_at (device.taken weight) o)
 unfolding map_at polled device.taken
-polled-ring weight None = refl
-polled-ring weight (Some d) = refl
+polled-ring weight o = grind (arith, common_steps)
 
 given-ring : (f : DeviceView → DeviceView) (weight m n : ℕ) (ds : Devices)
     → ((o : Option DeviceView) → ring_in (map_at f o) ≡ ring_in (map_at (device.taken weight) o))
@@ -117,8 +77,7 @@ given-ring f weight m n ds takes =
 
 ended-poll-ring : (full : Bool) (d : DeviceView) → (ended_poll full d).ring ≡ d.ring
 unfolding ended_poll
-ended-poll-ring true d = refl
-ended-poll-ring false d = refl
+ended-poll-ring full d = grind (arith, common_steps)
 
 -- ---- the walk
 
@@ -135,22 +94,14 @@ ring-raises n xs m p h = record { stands = at-kept ring_in (interrupted (is_poll
 ring-asks : (n : ℕ) (xs : List ℕ) (m : ℕ) (p : ProcessorView) → Rings n xs (nexted p) → asked_in (next_of p.softirq).run ≡ Some m
     → Stands n xs (polls m (nexted p))
 unfolding polls
-ring-asks n xs m p h asked =
-    let weight = p.settings.weight in
-    let whole : given_from n (polled_by (asked_in (next_of p.softirq).run) (batch_at weight (at m p.devices)))
-    ++ ring_in (at n (changed (polled weight) m p.devices)) ≡ xs
-    = rw asked (given-ring (polled weight) weight m n p.devices (polled-ring weight) ∙ h.ring) in
-    record { stands = whole }
+ring-asks n xs m p h asked = grind (arith, common_steps, given-ring, polled-ring)
 
 ring-over : (n : ℕ) (xs : List ℕ) (late : Bool) (p : ProcessorView) → Rings n xs p → Rings n xs (ends_run late p)
 unfolding ends_run
 ring-over n xs late p h = record { ring = h.ring }
 
 idle-stands : (n : ℕ) (xs : List ℕ) (w : Work) (gives : Option (ℕ × List ℕ)) → w ≡ Nothing → taken_by n w gives ≡ []
-idle-stands n xs Nothing gives nothing = refl
-idle-stands n xs (Interrupt m) gives nothing = refl
-idle-stands n xs Poll gives nothing = cc nothing
-idle-stands n xs (Use at) gives nothing = refl
+idle-stands n xs w gives nothing = grind (arith, common_steps)
 
 pub ring-walk : (n : ℕ) (xs : List ℕ) → Walk (Rings n xs) (Stands n xs)
 ring-walk n xs = record {
@@ -180,34 +131,12 @@ lone-ring n m p =
 
 pub poll-ring : (n m : ℕ) (p : ProcessorView) → ring_in (at n (ends_poll m p).devices) ≡ ring_in (at n p.devices)
 unfolding ends_poll delivers device.delivered
-poll-ring n m p =
-    let full = length p.batch == p.settings.weight in
-    at-kept ring_in (ended_poll full) m n (changed (device.delivered p.clock p.batch) m p.devices) (ended-poll-ring full)
-    ∙ at-kept ring_in (device.delivered p.clock p.batch) m n p.devices (λ d. refl)
+poll-ring n m p = grind (arith, common_steps, at-kept, ended-poll-ring)
 
 ring-by : (n : ℕ) (w : Work) (p : ProcessorView) (clock : ℕ)
     → given_from n (gives_by w p) ++ ring_in (at n (ends_by w (record p { clock = clock })).devices)
     ≡ taken_by n w (polled_by (asked_in p.softirq.run) p.batch) ++ ring_in (at n p.devices)
-ring-by n Nothing p clock = refl
-ring-by n (Interrupt m) p clock = by (is_polling p.settings)
-  where
-    q : ProcessorView
-    q = record p { clock = clock }
-
-    by : (b : Bool) → given_from n (if b then None else Some (m, batch_at 1 (at m p.devices)))
-        ++ ring_in (at n (if b then q else ends_interrupt m q).devices) ≡ ring_in (at n p.devices)
-    by true = refl
-    by false = lone-ring n m q
-ring-by n Poll p clock = by (asked_in p.softirq.run)
-  where
-    q : ProcessorView
-    q = record p { clock = clock }
-
-    by : (o : Option ℕ) → given_from n (polled_by o p.batch) ++ ring_in (at n (ends_polls o q).devices)
-        ≡ given_from n (polled_by o p.batch) ++ ring_in (at n p.devices)
-    by None = refl
-    by (Some m) = ap (λ (xs : List ℕ). given_from n (Some (m, p.batch)) ++ xs) (poll-ring n m q)
-ring-by n (Use at) p clock = refl
+ring-by n w p clock = grind (arith, common_steps, lone-ring, poll-ring)
 
 pub step-stands : (s : Settings) (n : ℕ) (p : ProcessorView) → Goes s p
     → given n p ++ (fate.taken n (step p) ++ ring_in (at n (step p).devices)) ≡ fate.taken n p ++ ring_in (at n p.devices)
@@ -231,24 +160,14 @@ packet-ring moment d =
 pub made-ring : (capacity : ℕ) (o : Option DeviceView) → capacity_in capacity o ≡ capacity
     → ((made_at capacity o).ring ≡ ring_in o) × ((made_at capacity o).capacity ≡ capacity)
 unfolding made_at capacity_in
-made-ring capacity None is = (refl, refl)
-made-ring capacity (Some d) is = (refl, is)
+made-ring capacity o is = grind (arith, common_steps)
 
 -- what holds of the device that a packet came to, with the packet, and of each other as it was
 pub at-arrived : (Q : Bool → Option DeviceView → Type 0) (moment capacity m n : ℕ) (ds : Devices)
     → Q true (Some (after_packet moment (made_at capacity (at n ds)))) → Q false (at n ds)
     → Q (m == n) (at n (changed (after_packet moment) m (with_device capacity m ds)))
 unfolding map_at
-at-arrived Q moment capacity m n ds here apart = by (m == n) refl
-  where
-    new : Devices
-    new = with_device capacity m ds
-
-    by : (b : Bool) → (m == n) ≡ b → Q b (at n (changed (after_packet moment) m new))
-    by true is =
-        let stands : at n new ≡ Some (made_at capacity (at n ds)) = rw (eqb-true m n is) (with-here capacity n ds) in
-        subst (Q true) (sym (at-here (after_packet moment) m n new is ∙ ap (map_at (after_packet moment)) stands)) here
-    by false is = subst (Q false) (sym (at-apart (after_packet moment) m n new is ∙ with-apart capacity m n ds is)) apart
+at-arrived Q moment capacity m n ds here apart = grind (arith, common_steps, at-apart, at-here, with-apart, with-here)
 
 pub comes-ring : (capacity moment m n : ℕ) (ds : Devices) → capacity_in capacity (at n ds) ≡ capacity
     → ring_in (at n (changed (after_packet moment) m (with_device capacity m ds)))
@@ -282,8 +201,7 @@ pub record Seen {A : Type 0} (g : Option DeviceView → A) (n : ℕ) (x : A) (p 
 seen-raises : {A : Type 0} (g : Option DeviceView → A) → Blind g → (n : ℕ) (x : A) (m : ℕ) (p : ProcessorView) → Seen g n x p
     → Seen g n x (interrupts m p)
 unfolding interrupts
-seen-raises g b n x m p h =
-    record { seen = at-kept g (interrupted (is_polling p.settings)) m n p.devices (b.interrupted (is_polling p.settings)) ∙ h.seen }
+seen-raises g b n x m p h = grind (arith, common_steps, at-kept)
 
 seen-asks : {A : Type 0} (g : Option DeviceView → A) → Blind g → (n : ℕ) (x : A) (m : ℕ) (p : ProcessorView) → Seen g n x p
     → Seen g n x (polls m p)
@@ -313,8 +231,7 @@ capacity-blind capacity = record { interrupted = λ polling d. refl; polled = λ
 
 ended-poll-capacity : (full : Bool) (d : DeviceView) → (ended_poll full d).capacity ≡ d.capacity
 unfolding ended_poll
-ended-poll-capacity true d = refl
-ended-poll-capacity false d = refl
+ended-poll-capacity full d = grind (arith, common_steps)
 
 ends-capacity : (capacity n : ℕ) (w : Work) (p : ProcessorView)
     → capacity_in capacity (at n (ends_by w p).devices) ≡ capacity_in capacity (at n p.devices)
@@ -367,10 +284,7 @@ capacities s n (end ∷ earlier) =
 -- ---- over a life
 
 idle-taken : (n : ℕ) (w : Work) (gives : Option (ℕ × List ℕ)) → is_busy w ≡ false → taken_by n w gives ≡ []
-idle-taken n Nothing gives idle = refl
-idle-taken n (Interrupt m) gives idle = cc idle
-idle-taken n Poll gives idle = cc idle
-idle-taken n (Use at) gives idle = cc idle
+idle-taken n w gives idle = grind (arith, common_steps)
 
 pub comes-stands : (s : Settings) (moment m n : ℕ) (p : ProcessorView) → Goes s p → capacity_in s.ring (at n p.devices) ≡ s.ring
     → fate.taken n (comes moment m p) ++ ring_in (at n (comes moment m p).devices)

@@ -1,18 +1,12 @@
 -- What is true of each processor stays so.
-use Rattle.std.proofs.Common.{◌≡◌, ◌∙◌, ℕ, ◌+◌, ◌≤◌, Bool, true, false, Option, Some, None, List, length, length-take, refl}
-use Rattle.std.{proofs.Common.{sym, arith}, specs.Prelude.{if◌then◌else◌, min}}
-use Rattle.machine_words.specs.declared.settings.Settings.{Settings}
-use Rattle.poll_runs.specs.declared.bench.{Next.TheVariants.{Gone, Repoll}, Once.Once}
-use Rattle.machine_model.specs.{Device.{DeviceView, after_packet, ended_poll, interrupted}}
-use Rattle.machine_model.specs.{Devices.{Devices, batch_at, is_handed_at}, Kept.{Kept, is_poll}}
-use Rattle.machine_model.specs.Softirq.{SoftirqView, asked_in, begun, ended, next_of, pushed, told}
-use Rattle.machine_model.specs.declared.processor.Work.{Work}
-use Rattle.machine_model.specs.declared.processor.Work.TheVariants.{Poll}
-use Rattle.device_rows.specs.Places.{at, changed}
-use Rattle.machine_model.proofs.ListedFacts.{asked-told, listed-begun, listed-ended, listed-pushed, listed-told, next-keeps, weight-told}
-use Rattle.machine_model.proofs.PlacesFacts.{masks-ended, masks-interrupted, masks-same}
-use Rattle.machine_model.specs.Kept.{masks}
-use Rattle.machine_model.proofs.PlacesFacts.{packet-by}
+use Rattle.std.proofs.Common.{rules, ◌≡◌, ◌∙◌, ℕ, ◌≤◌, Bool, true, false, Option, Some, None, List, length, refl, sym, arith}
+use Rattle.{std.{proofs.lemmas.Grind.common_steps, specs.Prelude.if◌then◌else◌}, machine_words.specs.declared.settings.Settings.Settings}
+use Rattle.{poll_runs.specs.declared.bench.Next.TheVariants.{Gone, Repoll}, device_rows.specs.Places.{at, changed}}
+use Rattle.machine_model.specs.{Device.{DeviceView, after_packet, ended_poll, interrupted}, Devices.{Devices, batch_at, is_handed_at}}
+use Rattle.machine_model.specs.{Kept.{Kept, is_poll, masks}, Softirq.{SoftirqView, asked_in, begun, ended, next_of, pushed, told}}
+use Rattle.machine_model.{specs.declared.processor.Work.{Work, TheVariants.Poll}, proofs.ListedFacts.{asked-told, listed-begun}}
+use Rattle.machine_model.proofs.{ListedFacts.{listed-ended, listed-pushed, listed-told, next-keeps, weight-told}, PlacesFacts.masks-ended}
+use Rattle.machine_model.proofs.PlacesFacts.{masks-interrupted, masks-same, packet-by}
 
 -- devices change, none is unmasked
 pub kept-devices : (s : Settings) (w : Work) (ds es : Devices) (q : SoftirqView) (b : List ℕ) → Kept s w ds q b → masks ds ≤ masks es
@@ -24,19 +18,13 @@ pub kept-changed : (s : Settings) (w : Work) (ds : Devices) (q : SoftirqView) (b
 kept-changed s w ds q b f n k same = kept-devices s w ds (changed f n ds) q b k (omega (arith, masks-same f n ds same))
 
 batch-few : (weight : ℕ) (o : Option DeviceView) → length (batch_at weight o) ≤ weight
-batch-few weight None = omega arith
-batch-few weight (Some d) = omega (arith, length-take (min weight (length d.ring)) d.ring)
+batch-few weight o = grind (arith, common_steps)
 
 -- packets are taken out of a ring, at most the weight
 pub kept-taken : (s : Settings) (w : Work) (ds : Devices) (q : SoftirqView) (b : List ℕ) (f : DeviceView → DeviceView) (n count : ℕ)
     → Kept s w ds q b → ((d : DeviceView) → (f d).masked ≡ d.masked) → count ≤ s.weight
     → Kept s w (changed f n ds) q (batch_at count (at n ds))
-kept-taken s w ds q b f n count k same within = record {
-  few = omega (arith, k.few, masks-same f n ds same);
-  asked = k.asked;
-  weight = k.weight;
-  within = omega (arith, within, batch-few count (at n ds));
-}
+kept-taken s w ds q b f n count k same within = grind (arith, common_steps, batch-few, masks-same)
 
 -- other work, of which none is asked
 pub kept-work : (s : Settings) (w v : Work) (ds : Devices) (q : SoftirqView) (b : List ℕ) → Kept s w ds q b → asked_in q.run ≡ None
@@ -57,12 +45,7 @@ kept-next s w v ds q b k none asked =
 
 pub kept-begun : (s : Settings) (w : Work) (ds : Devices) (q : SoftirqView) (b : List ℕ) (moment : ℕ) → Kept s w ds q b → q.run ≡ None
     → Kept s w ds (begun moment s.budget s.weight s.window q) b
-kept-begun s w ds q b moment k none = record {
-  few = omega (arith, k.few, listed-begun moment s.budget s.weight s.window q none);
-  asked = λ not. refl;
-  weight = λ some. refl;
-  within = k.within;
-}
+kept-begun s w ds q b moment k none = grind (arith, common_steps, listed-begun)
 
 pub run-ended : (q : SoftirqView) → (ended q).run ≡ None
 unfolding ended
@@ -71,51 +54,29 @@ run-ended q = refl
 pub kept-ended : (s : Settings) (w : Work) (ds : Devices) (q : SoftirqView) (b : List ℕ) → Kept s w ds q b → asked_in q.run ≡ None
     → Kept s w ds (ended q) b
 unfolding ended
-kept-ended s w ds q b k none = record {
-  few = omega (arith, k.few, listed-ended q none);
-  asked = λ not. refl;
-  weight = λ some. cc some;
-  within = k.within;
-}
+kept-ended s w ds q b k none = grind (arith, common_steps, listed-ended)
 
 -- a number is pushed whose device was masked, and no other is
 pub kept-pushed : (s : Settings) (w v : Work) (ds es : Devices) (q : SoftirqView) (b : List ℕ) (polling : Bool) (n : ℕ) → Kept s w ds q b
     → asked_in q.run ≡ None
     → es ≡ changed (interrupted polling) n ds → is_handed_at polling (at n ds) ≡ true → Kept s v es (pushed n q) b
-kept-pushed s w v ds es q b polling n k none is handed =
-    let more : masks es ≡ masks ds + 1 = rw is (rw handed at (masks-interrupted polling n ds)) in
-    record { few = omega (arith, k.few, more, listed-pushed n q); asked = λ not. none; weight = k.weight; within = k.within }
+kept-pushed s w v ds es q b polling n k none is handed = grind (arith, common_steps, listed-pushed, masks-interrupted)
 
 pub kept-unpushed : (s : Settings) (w v : Work) (ds es : Devices) (q : SoftirqView) (b : List ℕ) (polling : Bool) (n : ℕ) → Kept s w ds q b
     → asked_in q.run ≡ None
     → es ≡ changed (interrupted polling) n ds → is_handed_at polling (at n ds) ≡ false → Kept s v es q b
-kept-unpushed s w v ds es q b polling n k none is handed =
-    let more : masks es ≡ masks ds + 0 = rw is (rw handed at (masks-interrupted polling n ds)) in
-    record { few = omega (arith, k.few, more); asked = λ not. none; weight = k.weight; within = k.within }
+kept-unpushed s w v ds es q b polling n k none is handed = grind (arith, common_steps, masks-interrupted)
 
 -- a poll ends
 pub kept-told : (s : Settings) (w : Work) (ds : Devices) (q : SoftirqView) (b : List ℕ) (full : Bool) (work n : ℕ) → Kept s w ds q b
     → asked_in q.run ≡ Some n
     → Kept s w (changed (ended_poll full) n ds) (told (record { work = work; next = if full then Repoll else Gone }) q) b
-kept-told s w ds q b full work n k asked =
-    let once : Once = record { work = work; next = if full then Repoll else Gone } in
-    let weighs = weight-told once q in
-    record {
-      few = omega (arith, k.few, masks-ended full n ds, listed-told full work n q asked);
-      asked = λ not. asked-told once q;
-      weight = λ some. weighs.0 ∙ k.weight (sym weighs.1 ∙ some);
-      within = k.within;
-    }
+kept-told s w ds q b full work n k asked = search (rules, asked-told, listed-told, masks-ended, weight-told)
 
 -- a poll begins
 pub kept-poll : (s : Settings) (w : Work) (ds : Devices) (q : SoftirqView) (b : List ℕ) (f : DeviceView → DeviceView) (n : ℕ)
     → Kept s w ds q b → ((d : DeviceView) → (f d).masked ≡ d.masked) → Kept s Poll (changed f n ds) q (batch_at s.weight (at n ds))
-kept-poll s w ds q b f n k same = record {
-  few = omega (arith, k.few, masks-same f n ds same);
-  asked = λ not. cc not;
-  weight = k.weight;
-  within = batch-few s.weight (at n ds);
-}
+kept-poll s w ds q b f n k same = grind (arith, common_steps, batch-few, masks-same)
 
 packet-masks : (moment : ℕ) (d : DeviceView) → (after_packet moment d).masked ≡ d.masked
 packet-masks moment d = packet-by (λ room e. e.masked ≡ d.masked) moment d (refl, refl)
@@ -124,6 +85,4 @@ packet-masks moment d = packet-by (λ room e. e.masked ≡ d.masked) moment d (r
 pub kept-packet : (s : Settings) (w : Work) (ds opened es : Devices) (q : SoftirqView) (b : List ℕ) (moment n : ℕ) → Kept s w ds q b
     → masks ds ≤ masks opened
     → es ≡ changed (after_packet moment) n opened → Kept s w es q b
-kept-packet s w ds opened es q b moment n k more is =
-    let same : masks es ≡ masks opened = rw is (masks-same (after_packet moment) n opened (packet-masks moment)) in
-    kept-devices s w ds es q b k (omega (arith, more, same))
+kept-packet s w ds opened es q b moment n k more is = grind (arith, common_steps, kept-devices, masks-same, packet-masks)

@@ -1,15 +1,12 @@
 -- A processor's steps up to a moment are determined, and so is an arrival.
-use Rattle.std.proofs.Common.{◌≡◌, ◌∙◌, ℕ, ◌<◌, slice_set, sym, arith, ap}
+use Rattle.std.proofs.lemmas.Grind.{common_steps}
+use Rattle.{std.proofs.Common.{◌≡◌, ◌∙◌, ℕ, ◌<◌, slice_set, sym, arith, ap}, machine_model.specs.Laws.{ArrivesAsOne, RunsAsOne}}
+use Rattle.machine_model.specs.{Machine.{number_of, processor_of}, Processor.{ProcessorView, RunsTo, after, comes}}
 use Rattle.machine_model.proofs.MachineFacts.{same-some}
-use Rattle.machine_model.specs.{Laws.{ArrivesAsOne, RunsAsOne}, Machine.{number_of, processor_of}}
-use Rattle.machine_model.specs.Processor.{ProcessorView, RunsTo, after, comes}
 
 -- the one doesn't stop before the other
 never-less : (moment : ℕ) (p q r : ProcessorView) → (f : RunsTo moment p q) → (g : RunsTo moment p r) → f.count < g.count → ⊥
-never-less moment p q r f g less =
-    let due = g.each f.count less in
-    let not = rw f.last at f.none in
-    cc (sym due ∙ not)
+never-less moment p q r f g less = grind (arith, common_steps)
 
 pub runs-as-one : RunsAsOne
 runs-as-one moment p q r f g =

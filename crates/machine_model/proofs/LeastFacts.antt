@@ -1,29 +1,19 @@
 -- No wait is less than what its work takes.
-use Rattle.std.proofs.Common.{◌≡◌, ◌∙◌, ℕ, zero, suc, ◌+◌, ◌-◌, ◌*◌, ◌<◌, ◌≤◌, ◌^◌, Bool, true, false, Option, Some, None, List, [], ◌∷◌}
-use Rattle.std.proofs.Common.{◌++◌, length, length-append, map, take, drop, refl, sym, ap, subst, arith}
-use Rattle.std.proofs.lemmas.{Bool.{eq-eqb, eqb-true, leb-false}, List.take-append-drop}
-use Rattle.circular_buffer.specs.Buffer.{Buffer}
-use Rattle.std.specs.{Prelude.{◌==◌, ◌&&◌, if◌then◌else◌, min, nat_lt, not}, List.AllByRecursion}
-use Rattle.{device_rows.specs.Places.{at, changed}, machine_words.specs.declared.settings.Settings.Settings}
-use Rattle.machine_model.specs.Device.{DeviceView, after_packet, ended_interrupt, interrupted, polled}
-use Rattle.machine_model.specs.{Devices.{Devices, batch_at, raises_at}, Softirq.{RunView, asked_in}, Waits.held}
+use Rattle.std.proofs.{lemmas.{Grind.common_steps, List.take-append-drop, Bool.{eq-eqb, leb-false}}, Common.{◌≡◌, ◌∙◌, ℕ, ◌+◌, ◌-◌, ◌*◌}}
+use Rattle.std.proofs.Common.{◌<◌, ◌≤◌, ◌^◌, Bool, true, false, Option, Some, None, List, [], ◌∷◌, ◌++◌, length, length-append, map, take}
+use Rattle.std.{proofs.Common.{drop, refl, sym, ap, subst, arith}, specs.{List.AllByRecursion, Prelude.{◌==◌, if◌then◌else◌, min, not}}}
+use Rattle.{machine_words.specs.declared.settings.Settings.Settings, circular_buffer.specs.Buffer.Buffer}
+use Rattle.{device_rows.specs.Places.{at, changed}, machine_model.proofs.WorkFacts.{Goes, Rests, RunsIn, free-ended, goes-on, work-ended}}
+use Rattle.machine_model.proofs.{WorkFacts.work-walk, TimeFacts.{clock-ended, clocks-never-fall, due-parts, timed}, SocketFacts.ended-by}
+use Rattle.machine_model.proofs.FateFacts.{at-apart, at-here, at-kept, capacities, capacity_in, comes-ring, made_at, poll-ring, at-arrived}
+use Rattle.machine_model.proofs.{FateFacts.{at-either, polled-ring}, WalkFacts.{Free, Walk, arrived, implied, nexted, walk, walk-comes}}
+use Rattle.machine_model.{proofs.{EndFacts.ends, PlacesFacts.{map_at, packet-by}}, specs.{Softirq.{RunView, asked_in}, Device.DeviceView}}
+use Rattle.machine_model.specs.{Device.{after_packet, ended_interrupt, interrupted, polled}, Devices.{Devices, batch_at, raises_at}}
+use Rattle.machine_model.specs.Processor.{ProcessorView, comes, delivers, ends_by, ends_current, ends_interrupt, ends_run, interrupts}
+use Rattle.machine_model.specs.{Processor.{is_busy, is_due, is_polling, polls, step, uses}, Fates.{NoWaitIsLess, given, given_from}}
+use Rattle.machine_model.specs.{Fates.{gives_by, kept_from, least_time, polled_by, ring_in, room_for, use_waits, using, waits}, Waits.held}
+use Rattle.machine_model.specs.{Laws.{Event, InTurn, behind, end, packet}, declared.processor.Work.{Work, TheVariants.{Interrupt, Nothing}}}
 use Rattle.machine_model.specs.Device as device
-use Rattle.machine_model.specs.Fates.{NoWaitIsLess, given, given_from, gives_by, kept_from, least_time, polled_by, ring_in, room_for}
-use Rattle.machine_model.specs.Fates.{use_waits, using, waits}
-use Rattle.machine_model.specs.Laws.{Event, InTurn, behind, end, packet}
-use Rattle.machine_model.specs.Processor.{ProcessorView, comes, delivers, ends_by, ends_current, ends_interrupt, ends_run}
-use Rattle.machine_model.specs.Processor.{interrupts, is_busy, is_due, is_polling, polls, step}
-use Rattle.machine_model.specs.declared.processor.Work.{Work}
-use Rattle.machine_model.specs.declared.processor.Work.TheVariants.{Interrupt, Nothing, Poll, Use}
-use Rattle.machine_model.proofs.FateFacts.{at-apart, at-here, at-kept, capacities, capacity_in, comes-ring, made_at, poll-ring}
-use Rattle.machine_model.proofs.{PlacesFacts.map_at, SocketFacts.ended-by, TimeFacts.{clock-ended, clocks-never-fall, due-parts, timed}}
-use Rattle.machine_model.proofs.WalkFacts.{Free, Walk, arrived, implied, nexted, walk, walk-comes}
-use Rattle.machine_model.proofs.WorkFacts.{Goes, Rests, RunsIn, free-ended, goes-on, work-ended, work-walk}
-use Rattle.machine_model.specs.Processor.{uses}
-use Rattle.machine_model.proofs.EndFacts.{ends}
-use Rattle.machine_model.proofs.PlacesFacts.{packet-by}
-use Rattle.machine_model.proofs.FateFacts.{at-arrived}
-use Rattle.machine_model.proofs.FateFacts.{at-either, polled-ring}
 
 abbrev pub interrupt_time : Settings → ℕ
 interrupt_time s = if is_polling s then s.interrupt else s.interrupt + s.packet
@@ -34,8 +24,7 @@ poll_time s batch = s.poll + s.packet * length batch
 -- ---- lists
 
 both : (P : ℕ → Type 0) (xs ys : List ℕ) → AllByRecursion P xs → AllByRecursion P ys → AllByRecursion P (xs ++ ys)
-both P [] ys first second = second
-both P (x ∷ xs) ys first second = (first.0, both P xs ys first.1 second)
+both P xs ys first second = grind (arith, common_steps)
 
 parts : (P : ℕ → Type 0) (xs ys : List ℕ) → AllByRecursion P (xs ++ ys) → AllByRecursion P xs × AllByRecursion P ys
 parts P [] ys all = (tt, all)
@@ -86,37 +75,22 @@ grown c cost xs fits all = weaker (λ at. at ≤ c) (λ at. at ≤ held (c + cos
 raises-other : (polling : Bool) (m n : ℕ) (ds : Devices) → raises_at (at n (changed (interrupted polling) m ds)) ≡ true
     → (raises_at (at n ds) ≡ true)
 unfolding map_at interrupted
-raises-other polling m n ds =
-    at-either (λ here o. raises_at o ≡ true → raises_at (at n ds) ≡ true) (interrupted polling) m n ds (λ here. never (at n ds)) (λ up. up)
-  where
-    never : (o : Option DeviceView) → raises_at (map_at (interrupted polling) o) ≡ true → raises_at o ≡ true
-    never None raises = raises
-    never (Some d) raises = cc raises
+raises-other polling m n ds = grind (arith, common_steps, at-either)
 
 ring-interrupted : (polling : Bool) (m n : ℕ) (ds : Devices) → ring_in (at n (changed (interrupted polling) m ds)) ≡ ring_in (at n ds)
 unfolding interrupted
 ring-interrupted polling m n ds = at-kept ring_in (interrupted polling) m n ds (λ d. refl)
 
 batch-each : (P : ℕ → Type 0) (weight : ℕ) (o : Option DeviceView) → AllByRecursion P (ring_in o) → AllByRecursion P (batch_at weight o)
-batch-each P weight None all = tt
-batch-each P weight (Some d) all = first-of P (min weight (length d.ring)) d.ring all
+batch-each P weight o all = grind (arith, common_steps)
 
 given-each : (P : ℕ → Type 0) (m n : ℕ) (batch : List ℕ) → AllByRecursion P batch → AllByRecursion P (given_from n (Some (m, batch)))
-given-each P m n batch all = by (m == n)
-  where
-    by : (b : Bool) → AllByRecursion P (if b then batch else [])
-    by true = all
-    by false = tt
+given-each P m n batch all = grind (arith, common_steps)
 
 lone-given : (s : Settings) (c m n : ℕ) (ds : Devices) → ((k : ℕ) → AllByRecursion (λ at. at ≤ c) (ring_in (at k ds))) → (b : Bool)
     → is_polling s ≡ b
     → AllByRecursion (Waited s 0 (held (c + interrupt_time s))) (given_from n (if b then None else Some (m, batch_at 1 (at m ds))))
-lone-given s c m n ds rings true polling = tt
-lone-given s c m n ds rings false lone =
-    let time : least_time s ≡ interrupt_time s = rw lone (omega arith) in
-    given-each (Waited s 0 (held (c + interrupt_time s))) m n (batch_at 1 (at m ds))
-    (weaker (λ at. at ≤ c) (Waited s 0 (held (c + interrupt_time s))) (batch_at 1 (at m ds)) (λ at below. omega (arith, below, time))
-    (batch-each (λ at. at ≤ c) 1 (at m ds) (rings m)))
+lone-given s c m n ds rings b polling = grind (arith, common_steps)
 
 same-number : (m n : ℕ) → Interrupt m ≡ Interrupt n → m ≡ n
 same-number m n is = cc is
@@ -174,17 +148,10 @@ taken-each P f weight m n ds takes all =
         (parts P (take k d.ring) (drop k d.ring) (subst (λ (ys : List ℕ). AllByRecursion P ys) (sym (take-append-drop k d.ring)) all)).1
 
 positive-is : (n : ℕ) → 0 < n → not (n == 0) ≡ true
-positive-is n below = by (n == 0) refl
-  where
-    by : (b : Bool) → (n == 0) ≡ b → not b ≡ true
-    by true none = absurd (omega (arith, below, eqb-true n 0 none))
-    by false some = refl
+positive-is n below = grind (arith, common_steps)
 
 asked-polling : (s : Settings) (run : Option RunView) (m : ℕ) → RunsIn s run → asked_in run ≡ Some m → is_polling s ≡ true
-asked-polling s None m held asked = cc asked
-asked-polling s (Some r) m held asked =
-    let below : r.work < s.budget = held.asked (rw asked refl) in
-    positive-is s.budget (omega (arith, below))
+asked-polling s run m held asked = grind (arith, common_steps, positive-is)
 
 due-asks : (s : Settings) (c : ℕ) → c < 2 ^ 64 → (m : ℕ) (p : ProcessorView) → Calm s c p → asked_in p.softirq.run ≡ Some m
     → Due s c (polls m p)
@@ -238,10 +205,7 @@ due-uses s c fits came more p h is =
 
 idle-gives : (n : ℕ) (w : Work) (p : ProcessorView) → w ≡ Nothing
     → (given_from n (gives_by w p) ≡ []) × (using w ≡ []) × (is_busy w ≡ false)
-idle-gives n Nothing p nothing = (refl, refl, refl)
-idle-gives n (Interrupt m) p nothing = cc nothing
-idle-gives n Poll p nothing = cc nothing
-idle-gives n (Use came) p nothing = cc nothing
+idle-gives n w p nothing = grind (arith, common_steps)
 
 due-stays : (s : Settings) (c : ℕ) (p : ProcessorView) → Free p → Calm s c p → Due s c p
 unfolding given
@@ -295,8 +259,7 @@ ends-rings P n w p all =
     (λ came. all)
 
 positive : (k : ℕ) → not (k == 0) ≡ true → 0 < k
-positive zero is = cc is
-positive (suc k) is = omega arith
+positive k is = grind (arith, common_steps)
 
 -- a device that raises its interrupt has packets
 abbrev pub HasIfRaises : Option DeviceView → Type 0
@@ -304,8 +267,7 @@ HasIfRaises o = raises_at o ≡ true → 0 < length (ring_in o)
 
 raised-has : (o : Option DeviceView) → HasIfRaises (map_at ended_interrupt o)
 unfolding map_at ended_interrupt
-raised-has None = λ raises. cc raises
-raised-has (Some d) = λ raises. positive (length d.ring) raises
+raised-has o = grind (arith, common_steps, positive)
 
 ends-raises : (s : Settings) (n : ℕ) (w : Work) (p : ProcessorView) → is_polling s ≡ false → p.settings ≡ s → RunsIn s p.softirq.run
     → HasIfRaises (at n p.devices)
@@ -358,18 +320,11 @@ pub record Grown (moment : ℕ) (old new : List ℕ) : Type 0 where
   pub all : AllByRecursion (λ at. at ≡ moment) extra
 
 extra-is : (b : Bool) (moment : ℕ) → AllByRecursion (λ at. at ≡ moment) (if b then moment ∷ [] else [])
-extra-is true moment = (refl, tt)
-extra-is false moment = tt
+extra-is b moment = grind (arith, common_steps)
 
 grown-ring : (s : Settings) (moment m n : ℕ) (p : ProcessorView) → p.settings ≡ s → capacity_in s.ring (at n p.devices) ≡ s.ring
     → Grown moment (ring_in (at n p.devices)) (ring_in (at n (arrived moment m p).devices))
-grown-ring s moment m n p same holds =
-    let fits : capacity_in p.settings.ring (at n p.devices) ≡ p.settings.ring = rw same holds in
-    record {
-      extra = if m == n && nat_lt (length (ring_in (at n p.devices))) p.settings.ring then moment ∷ [] else [];
-      is = comes-ring p.settings.ring moment m n p.devices fits;
-      all = extra-is (m == n && nat_lt (length (ring_in (at n p.devices))) p.settings.ring) moment;
-    }
+grown-ring s moment m n p same holds = grind (arith, common_steps, comes-ring, extra-is)
 
 grown-each : (P : ℕ → Type 0) (moment : ℕ) (old new : List ℕ) → Grown moment old new → P moment → AllByRecursion P old
     → AllByRecursion P new
@@ -381,8 +336,7 @@ packet-raises moment d has =
 
 made-raises : (capacity : ℕ) (o : Option DeviceView) → HasIfRaises o → HasIfRaises (Some (made_at capacity o))
 unfolding made_at
-made-raises capacity None has = λ raises. cc raises
-made-raises capacity (Some d) has = has
+made-raises capacity o has = grind (arith, common_steps)
 
 arrived-raises : (moment m n : ℕ) (p : ProcessorView) → HasIfRaises (at n p.devices) → HasIfRaises (at n (arrived moment m p).devices)
 arrived-raises moment m n p has =
@@ -391,37 +345,17 @@ arrived-raises moment m n p has =
     (packet-raises moment _ (made-raises capacity (at n p.devices) has)) has
 
 batch-is : (o : Option DeviceView) → batch_at 1 o ≡ take (min 1 (length (ring_in o))) (ring_in o)
-batch-is None = refl
-batch-is (Some d) = refl
+batch-is o = grind (arith, common_steps)
 
 same-first : (old extra : List ℕ) → 0 < length old → take (min 1 (length (old ++ extra))) (old ++ extra) ≡ take (min 1 (length old)) old
-same-first [] extra some = absurd (omega (arith, some))
-same-first (x ∷ old) extra some =
-    let one : min 1 (length (x ∷ (old ++ extra))) ≡ 1 = omega arith in
-    let other : min 1 (length (x ∷ old)) ≡ 1 = omega arith in
-    rw (one, other) refl
+same-first old extra some = grind (arith, common_steps)
 
 -- what is given at the end stays: an interrupt's oldest packet is there already
 given-stays : (s : Settings) (moment m n : ℕ) (p : ProcessorView) → p.settings ≡ s
     → ((k : ℕ) → Grown moment (ring_in (at k p.devices)) (ring_in (at k (arrived moment m p).devices)))
     → (w : Work) → ((k : ℕ) → is_polling s ≡ false → w ≡ Interrupt k → 0 < length (ring_in (at k p.devices)))
     → given_from n (gives_by w (arrived moment m p)) ≡ given_from n (gives_by w p)
-given-stays s moment m n p same grows Nothing lone = refl
-given-stays s moment m n p same grows (Interrupt k) lone = by (is_polling p.settings) refl
-  where
-    by : (b : Bool) → is_polling p.settings ≡ b
-        → given_from n (if b then None else Some (k, batch_at 1 (at k (arrived moment m p).devices)))
-        ≡ given_from n (if b then None else Some (k, batch_at 1 (at k p.devices)))
-    by true polling = refl
-    by false alone =
-        let g = grows k in
-        let some : 0 < length (ring_in (at k p.devices)) = lone k (rw same at alone) refl in
-        let first : batch_at 1 (at k (arrived moment m p).devices) ≡ batch_at 1 (at k p.devices)
-        = batch-is (at k (arrived moment m p).devices) ∙ (ap (λ (xs : List ℕ). take (min 1 (length xs)) xs) g.is
-        ∙ (same-first (ring_in (at k p.devices)) g.extra some ∙ sym (batch-is (at k p.devices)))) in
-        ap (λ (xs : List ℕ). given_from n (Some (k, xs))) first
-given-stays s moment m n p same grows Poll lone = refl
-given-stays s moment m n p same grows (Use came) lone = refl
+given-stays s moment m n p same grows w lone = grind (arith, common_steps, batch-is, same-first)
 
 stays-given : (s : Settings) (moment m n : ℕ) (p : ProcessorView) → p.settings ≡ s
     → ((k : ℕ) → Grown moment (ring_in (at k p.devices)) (ring_in (at k (arrived moment m p).devices)))
@@ -484,24 +418,13 @@ due-step s p goes h busy later fits =
 due-behind : (s : Settings) (until : ℕ) (events : List Event) → until < 2 ^ 64 → InTurn s until events
     → Due s (behind s events).clock (behind s events)
 unfolding behind InTurn given
-due-behind s until [] fits turns =
-    record {
-      clock = refl;
-      rings = λ n. tt;
-      raises = λ n lone raises. cc raises;
-      lone = λ n lone is. cc is;
-      given = λ n. tt;
-      socket = tt;
-      using = tt;
-    }
-due-behind s until (packet moment m ∷ earlier) fits turns =
-    let p = behind s earlier in
+due-behind s until [] fits turns = grind (arith, common_steps, capacities, due-comes, due-parts, due-step, ends, goes-on, timed)
+due-behind s until (packet moment m ∷ earlier) fits turns = let p = behind s earlier in
     let small : moment < 2 ^ 64 = omega (arith, fits, turns.0) in
     let u = timed s moment earlier small turns.2 in
     due-comes s moment m p (goes-on s earlier) (λ n. capacities s n earlier) small turns.1 u.clock
     (due-behind s moment earlier small turns.2)
-due-behind s until (end ∷ earlier) fits turns =
-    let p = behind s earlier in
+due-behind s until (end ∷ earlier) fits turns = let p = behind s earlier in
     let due = due-parts p.work p.ends until turns.0 in
     let u = timed s until earlier fits turns.1 in
     let d = due-step s p (goes-on s earlier) (due-behind s until earlier fits turns.1) due.0 (u.ends due.0) (omega (arith, due.1, fits)) in

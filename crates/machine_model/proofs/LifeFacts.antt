@@ -1,33 +1,25 @@
 -- Each processor of a machine lived.
-use Rattle.std.proofs.Common.{◌≡◌, ◌∙◌, ℕ, zero, suc, ◌-◌, ◌/◌, ◌%◌, ◌<◌, ◌≤◌, ◌^◌, Bool, true, false, Some, List, [], ◌∷◌, length}
-use Rattle.std.proofs.Common.{length-set, replicate, refl, sym, ap, arith}
-use Rattle.std.proofs.lemmas.{Bool.{and_parts, eq-eqb, eqb-false, eqb-true, le-leb, leb-true}, List.length-replicate}
-use Rattle.std.proofs.lemmas.Option.{slice_get_within}
-use Rattle.std.specs.Prelude.{◌==◌, nat_le, slice_get}
-use Rattle.circular_buffer.proofs.Places.{slice_get-set_other, slice_get-set_same, slice_get-some}
-use Rattle.machine_words.specs.declared.settings.Settings.{Settings}
-use Rattle.machine_model.specs.Laws.{EachLives, Event, InTurn, Lived, Took, behind, end, own, packet, packets_in}
-use Rattle.machine_model.specs.Machine.{Arrives, Finishes, Machine, opened_machine}
-use Rattle.machine_model.specs.Processor.{ProcessorView, RunsTo, after, comes, is_busy, is_due, opened_processor, step}
-use Rattle.machine_model.proofs.MachineFacts.{same-some}
+use Rattle.std.proofs.Common.{rules, ◌≡◌, ◌∙◌, ℕ, zero, suc, ◌-◌, ◌/◌, ◌%◌, ◌<◌, ◌≤◌, ◌^◌, Bool, true, false, Some, List, [], ◌∷◌, length}
+use Rattle.std.proofs.{Common.{length-set, replicate, refl, sym, ap, arith}, lemmas.{Option.slice_get_within, Bool.{eq-eqb, eqb-false}}}
+use Rattle.{circular_buffer.proofs.Places.{slice_get-set_other, slice_get-set_same, slice_get-some}, std.specs.Prelude.{◌==◌, slice_get}}
+use Rattle.{std.proofs.lemmas.{Bool.eqb-true, Grind.common_steps}, machine_words.specs.declared.settings.Settings.Settings}
+use Rattle.machine_model.specs.{Processor.{ProcessorView, RunsTo, after, comes, is_due, opened_processor, step}, Laws.{EachLives, Event}}
+use Rattle.machine_model.specs.{Laws.{InTurn, Lived, Took, behind, end, own, packet, packets_in}, Machine.{Arrives, Finishes, Machine}}
+use Rattle.machine_model.{specs.Machine.opened_machine, proofs.MachineFacts.same-some}
 
 -- what is due by a moment is due by a later one
 due-later : (moment until : ℕ) (p : ProcessorView) → moment ≤ until → is_due moment p ≡ true → is_due until p ≡ true
-due-later moment until p most due =
-    let both = and_parts (is_busy p.work) (nat_le p.ends moment) due in
-    rw (both.0, le-leb p.ends until (omega (arith, leb-true p.ends moment both.1, most))) refl
+due-later moment until p most due = grind (arith, common_steps)
 
 turns-later : (s : Settings) (moment until : ℕ) (events : List Event) → moment ≤ until → InTurn s moment events → InTurn s until events
 unfolding InTurn
 turns-later s moment until [] most turns = tt
 turns-later s moment until (packet at n ∷ earlier) most turns = (omega (arith, most, turns.0), turns.1, turns.2)
-turns-later s moment until (end ∷ earlier) most turns =
-    (due-later moment until (behind s earlier) most turns.0, turns-later s moment until earlier most turns.1)
+turns-later s moment until (end ∷ earlier) most turns = search (rules, due-later, turns-later s moment until earlier most turns.1)
 
 pub lived-later : (s : Settings) (moment until : ℕ) (packets : List (ℕ × ℕ)) (p : ProcessorView) → moment ≤ until → Lived s moment packets p
     → Lived s until packets p
-lived-later s moment until packets p most l =
-    record { events = l.events; behind = l.behind; turns = turns-later s moment until l.events most l.turns; came = l.came }
+lived-later s moment until packets p most l = grind (arith, common_steps, turns-later)
 
 lived-end : (s : Settings) (moment : ℕ) (packets : List (ℕ × ℕ)) (p : ProcessorView) → Lived s moment packets p → is_due moment p ≡ true
     → Lived s moment packets (step p)
@@ -41,8 +33,7 @@ lived-after : (s : Settings) (moment : ℕ) (packets : List (ℕ × ℕ)) (p : P
 unfolding after
 lived-after s moment packets p l zero each = l
 lived-after s moment packets p l (suc count) each =
-    lived-end s moment packets (after count p) (lived-after s moment packets p l count (λ n below. each n (omega (arith, below))))
-    (each count (omega arith))
+    grind (arith, common_steps, lived-end, lived-after s moment packets p l count (λ n below. each n (omega (arith, below))))
 
 pub lived-runs : (s : Settings) (moment : ℕ) (packets : List (ℕ × ℕ)) (p q : ProcessorView) → Lived s moment packets p → RunsTo moment p q
     → Lived s moment packets q
@@ -74,10 +65,7 @@ opened-each s (suc count) (suc number) p is = opened-each s count number p is
 
 lived-opened : (s : Settings) (until : ℕ) → AllLived s until [] (opened_machine s)
 unfolding own InTurn behind packets_in
-lived-opened s until = record {
-  count = length-replicate s.processors (opened_processor s);
-  each = λ number p is. record { events = []; behind = opened-each s s.processors number p is; turns = tt; came = refl };
-}
+lived-opened s until = grind (arith, common_steps, opened-each)
 
 own-here : (count number moment device : ℕ) (packets : List (ℕ × ℕ)) → (device - 1) % count ≡ number
     → own count number ((moment, device) ∷ packets) ≡ (moment, (device - 1) / count) ∷ own count number packets
@@ -127,8 +115,7 @@ lived-arrives s until moment device packets before m most l a = record {
 pub all-lived : (s : Settings) (until : ℕ) (packets : List (ℕ × ℕ)) (m : Machine) → Took s until packets m → AllLived s until packets m
 unfolding Took
 all-lived s until [] m took = rw took (lived-opened s until)
-all-lived s until ((moment, device) ∷ earlier) m took =
-    lived-arrives s until moment device earlier took.1 m took.0 (all-lived s moment earlier took.1 took.2) took.3
+all-lived s until ((moment, device) ∷ earlier) m took = search (rules, lived-arrives, all-lived s moment earlier took.1 took.2)
 
 pub each-lives : EachLives
 each-lives s until packets m took =

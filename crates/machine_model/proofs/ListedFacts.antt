@@ -1,12 +1,10 @@
 -- How many numbers stand on the poll list and in its run, behind each call, and of what weight the run is.
+use Rattle.std.proofs.lemmas.Grind.{common_steps}
 use Rattle.std.proofs.Common.{◌≡◌, ℕ, ◌+◌, Bool, true, false, Option, Some, None, List, [], ◌∷◌, ◌++◌, drop, length, length-append, refl}
-use Rattle.std.{proofs.Common.arith, specs.Prelude.{is_some, slice_get, if◌then◌else◌}}
-use Rattle.poll_runs.specs.{Turn.asked_for, declared.bench.{Next.TheVariants.{Gone, Repoll}, Once.Once}}
-use Rattle.machine_model.specs.Softirq.{RunView, SoftirqView, asked_in, begun, ended, filled, is_spent, next_from}
-use Rattle.machine_model.specs.Softirq.{next_of, pushed, told}
+use Rattle.{std.{proofs.Common.arith, specs.Prelude.{is_some, slice_get, if◌then◌else◌, option_map}}, poll_runs.specs.Turn.asked_for}
+use Rattle.{poll_runs.specs.declared.bench.{Next.TheVariants.{Gone, Repoll}, Once.Once}, machine_model.specs.Softirq.{RunView, SoftirqView}}
+use Rattle.machine_model.specs.Softirq.{asked_in, begun, ended, filled, is_spent, next_from, next_of, pushed, told, told_run}
 use Rattle.machine_model.specs.Shown.{weight_in, listed}
-use Rattle.machine_model.specs.Softirq.{told_run}
-use Rattle.std.specs.Prelude.{option_map}
 
 pub listed-pushed : (n : ℕ) (q : SoftirqView) → listed (pushed n q) ≡ listed q + 1
 listed-pushed n q = omega (arith, length-append q.list (n ∷ []))
@@ -22,10 +20,7 @@ next-moves : (own repoll list : List ℕ)
     → length ((filled own repoll list).1)
     + (length (asked_for (slice_get (filled own repoll list).0 0) ++ drop 1 (filled own repoll list).0) + length repoll)
     ≡ length list + (length own + length repoll)
-next-moves (n ∷ own) repoll list = omega arith
-next-moves [] (n ∷ repoll) list = omega arith
-next-moves [] [] (n ∷ list) = omega arith
-next-moves [] [] [] = omega arith
+next-moves own repoll list = grind (arith, common_steps)
 
 next-same : (list : List ℕ) (run : Option RunView) (began : ℕ) → asked_in run ≡ None
     → let q : SoftirqView = record { list = list; run = run; began = began } in Same q (next_of q)
@@ -46,8 +41,7 @@ next-keeps q none = next-same q.list q.run q.began none
 
 begun-same : (list : List ℕ) (run : Option RunView) (began moment budget weight window : ℕ) → run ≡ None
     → let q : SoftirqView = record { list = list; run = run; began = began } in listed (begun moment budget weight window q) ≡ listed q
-begun-same list None began moment budget weight window none = omega arith
-begun-same list (Some r) began moment budget weight window none = cc none
+begun-same list run began moment budget weight window none = grind (arith, common_steps)
 
 pub listed-begun : (moment budget weight window : ℕ) (q : SoftirqView) → q.run ≡ None
     → listed (begun moment budget weight window q) ≡ listed q
@@ -56,11 +50,7 @@ listed-begun moment budget weight window q none = begun-same q.list q.run q.bega
 ended-same : (list : List ℕ) (run : Option RunView) (began : ℕ) → asked_in run ≡ None
     → let q : SoftirqView = record { list = list; run = run; began = began } in listed (ended q) ≡ listed q
 unfolding ended
-ended-same list None began none = refl
-ended-same list (Some r) began none =
-    let size : length (r.own ++ list ++ r.repoll) + 0 ≡ length list + (length r.own + length r.repoll) =
-    omega (arith, length-append (r.own ++ list) r.repoll, length-append r.own list) in
-    rw none size
+ended-same list run began none = grind (arith, common_steps)
 
 pub listed-ended : (q : SoftirqView) → asked_in q.run ≡ None → listed (ended q) ≡ listed q
 listed-ended q none = ended-same q.list q.run q.began none
@@ -70,23 +60,14 @@ told-moves : (full : Bool) (work n : ℕ) (list : List ℕ) (run : Option RunVie
     → let q : SoftirqView = record { list = list; run = run; began = began } in
     listed (told (record { work = work; next = if full then Repoll else Gone }) q) + (if full then 0 else 1) ≡ listed q
 unfolding told
-told-moves full work n list None began asked = cc asked
-told-moves true work n list (Some r) began asked =
-    let size : length list + (length r.own + length (r.repoll ++ n ∷ [])) + 0 ≡ length list + (length (n ∷ r.own) + length r.repoll) =
-    omega (arith, length-append r.repoll (n ∷ [])) in
-    rw asked size
-told-moves false work n list (Some r) began asked =
-    let size : length list + (length r.own + length (r.repoll ++ [])) + 1 ≡ length list + (length (n ∷ r.own) + length r.repoll) =
-    omega (arith, length-append r.repoll []) in
-    rw asked size
+told-moves full work n list run began asked = grind (arith, common_steps)
 
 pub listed-told : (full : Bool) (work n : ℕ) (q : SoftirqView) → asked_in q.run ≡ Some n
     → listed (told (record { work = work; next = if full then Repoll else Gone }) q) + (if full then 0 else 1) ≡ listed q
 listed-told full work n q asked = told-moves full work n q.list q.run q.began asked
 
 told-rests : (run : Option RunView) (once : Once) → asked_in (option_map (told_run once) run) ≡ None
-told-rests None once = refl
-told-rests (Some r) once = refl
+told-rests run once = grind (arith, common_steps)
 
 pub asked-told : (once : Once) (q : SoftirqView) → asked_in (told once q).run ≡ None
 unfolding told
@@ -94,8 +75,7 @@ asked-told once q = told-rests q.run once
 
 told-weighs : (run : Option RunView) (once : Once)
     → (weight_in (option_map (told_run once) run) ≡ weight_in run) × (is_some (option_map (told_run once) run) ≡ is_some run)
-told-weighs None once = (refl, refl)
-told-weighs (Some r) once = (refl, refl)
+told-weighs run once = grind (arith, common_steps)
 
 pub weight-told : (once : Once) (q : SoftirqView)
     → (weight_in (told once q).run ≡ weight_in q.run) × (is_some (told once q).run ≡ is_some q.run)
@@ -103,5 +83,4 @@ unfolding told
 weight-told once q = told-weighs q.run once
 
 pub run-some : (n : ℕ) (run : Option RunView) → asked_in run ≡ Some n → is_some run ≡ true
-run-some n None asked = cc asked
-run-some n (Some r) asked = refl
+run-some n run asked = grind (arith, common_steps)

@@ -1,17 +1,12 @@
 -- What becomes of packets behind their delivery: each is used in its order, or refused.
-use Rattle.std.proofs.Common.{◌≡◌, ◌∙◌, ℕ, ◌+◌, ◌-◌, Bool, false, Option, List, [], ◌∷◌, ◌++◌, append_assoc, length}
-use Rattle.std.proofs.{Common.{length-append, length-drop, map, drop, refl, sym, ap, arith}, lemmas.List.append-nil}
-use Rattle.{machine_words.specs.declared.settings.Settings.Settings, device_rows.specs.Places.at}
-use Rattle.machine_model.specs.{Devices.batch_at, Waits.{WaitsView, counted, held, no_waits}}
-use Rattle.machine_model.specs.Fates.{TellsOfUse, UsesInOrder, counting, gives_by, kept, kept_from, refused, refused_from, use_waits, used}
-use Rattle.machine_model.specs.Fates.{using}
-use Rattle.machine_model.specs.Laws.{Event, behind, end, packet}
-use Rattle.machine_model.specs.Processor.{ProcessorView, delivers, ends_by, ends_current, ends_interrupt, ends_poll, ends_run}
-use Rattle.machine_model.specs.Processor.{interrupts, is_busy, polls, step}
-use Rattle.machine_model.specs.declared.processor.Work.{Work}
-use Rattle.machine_model.specs.declared.processor.Work.TheVariants.{Interrupt, Nothing, Poll, Use}
-use Rattle.machine_model.proofs.{WalkFacts.{Walk, nexted, walk, walk-comes}, WorkFacts.{free-ended, goes-on}}
-use Rattle.machine_model.proofs.EndFacts.{ends}
+use Rattle.std.proofs.{lemmas.{Grind.common_steps, List.append-nil}, Common.{◌≡◌, ◌∙◌, ℕ, ◌+◌, ◌-◌, Bool, false, Option, List, [], ◌∷◌}}
+use Rattle.std.proofs.Common.{◌++◌, append_assoc, length, length-append, length-drop, map, drop, refl, sym, ap, arith}
+use Rattle.{device_rows.specs.Places.at, machine_words.specs.declared.settings.Settings.Settings}
+use Rattle.machine_model.specs.{declared.processor.Work.{Work, TheVariants.Nothing}, Fates.{TellsOfUse, UsesInOrder, counting, gives_by}}
+use Rattle.machine_model.specs.{Fates.{kept, kept_from, refused, refused_from, use_waits, used, using}, Waits.{WaitsView, counted, held}}
+use Rattle.machine_model.specs.{Waits.no_waits, Processor.{ProcessorView, delivers, ends_by, ends_current, ends_interrupt, ends_poll}}
+use Rattle.machine_model.specs.{Processor.{ends_run, interrupts, is_busy, polls, step}, Laws.{Event, behind, end, packet}}
+use Rattle.machine_model.proofs.{WorkFacts.{free-ended, goes-on}, EndFacts.ends, WalkFacts.{Walk, nexted, walk, walk-comes}}
 
 -- what stands in the socket, and what is told
 pub record Holds (xs : List ℕ) (refused : ℕ) (waits : WaitsView) (p : ProcessorView) : Type 0 where
@@ -50,9 +45,6 @@ use-walk xs r v = record {
 
 -- ---- what ends
 
-held-more : (r a b : ℕ) → r ≡ held a → held (r + b) ≡ held (a + b)
-held-more r a b is = omega (arith, is)
-
 pub counting-more : (xs : List ℕ) (wait : ℕ) (w : WaitsView) → counting (xs ++ wait ∷ []) w ≡ counted wait (counting xs w)
 unfolding counting
 counting-more [] wait w = refl
@@ -75,27 +67,7 @@ same-told r a is = omega (arith, is)
 
 pub ended-by : (w : Work) (p : ProcessorView) → Ended p (gives_by w p) (using w) (ends_by w (record p { clock = p.ends }))
 unfolding ends_interrupt ends_poll delivers
-ended-by w p =
-    ends (Ended p) w p p.ends
-    (record { items = same; told = λ a is. same-told p.told.refused a is; counts = λ xs is. same-waits xs p.waits is })
-    (λ n is lone. record {
-      items = refl;
-      told = λ a is. refused-size (batch_at 1 (at n p.devices)) _ p.told.refused a is;
-      counts = λ xs is. same-waits xs p.waits is;
-    })
-    (λ n is asked. record {
-      items = refl;
-      told = λ a is. refused-size p.batch _ p.told.refused a is;
-      counts = λ xs is. same-waits xs p.waits is;
-    })
-    (λ came. record {
-      items = same;
-      told = λ a is. same-told p.told.refused a is;
-      counts = λ xs is. ap (counted (p.ends - came)) is ∙ sym (counting-more xs (p.ends - came) no_waits);
-    })
-  where
-    same : p.socket.items ≡ p.socket.items ++ []
-    same = sym (append-nil p.socket.items)
+ended-by w p = grind (arith, common_steps, counting-more, ends, refused-size, same-told, same-waits)
 
 -- ---- over a life
 
@@ -105,10 +77,7 @@ pub record Lives (s : Settings) (events : List Event) : Type 0 where
   pub counts : (behind s events).waits ≡ counting (use_waits s events) no_waits
 
 idle-using : (w : Work) → is_busy w ≡ false → using w ≡ []
-idle-using Nothing idle = refl
-idle-using (Interrupt n) idle = cc idle
-idle-using Poll idle = cc idle
-idle-using (Use came) idle = cc idle
+idle-using w idle = grind (arith, common_steps)
 
 pub uses-live : (s : Settings) (events : List Event) → Lives s events
 unfolding behind kept refused used use_waits counting step ends_current

@@ -1,7 +1,7 @@
 -- Steps one after the other.
-use Rattle.std.proofs.{Common.{◌≡◌, ℕ, suc, ◌<◌, true, inl, inr, arith, Option}, Math.Nat.eq-or-lt_of_le}
-use Rattle.std.specs.{Prelude.{if◌then◌else◌, is_some}, Option.option_map_or}
-use Rattle.machine_model.specs.Processor.{ProcessorView, after, ends_poll, goes_on, interrupts, is_due, polls, rests}
+use Rattle.std.{proofs.{lemmas.Grind.common_steps, Common.{◌≡◌, ℕ, suc, ◌<◌, true, arith, Option}}, specs.Prelude.{if◌then◌else◌, is_some}}
+use Rattle.{std.specs.Option.option_map_or, machine_model.specs.Processor.{ProcessorView, after, ends_poll, goes_on, interrupts, is_due}}
+use Rattle.machine_model.specs.Processor.{polls, rests}
 
 -- what is taken up where an interrupt is raised, and where none is
 abbrev pub takes_up_by : Option ℕ → ProcessorView → ProcessorView
@@ -19,5 +19,4 @@ ends_polls asked p = option_map_or (λ number. ends_poll number p) asked p
 pub each-more : (moment : ℕ) (p : ProcessorView) (count : ℕ) → ((n : ℕ) → n < count → is_due moment (after n p) ≡ true)
     → is_due moment (after count p) ≡ true
     → (n : ℕ) → n < suc count → is_due moment (after n p) ≡ true
-each-more moment p count each last n below =
-    elim (eq-or-lt_of_le {n = n} {m = count} (omega (arith, below))) [ inl same ↦ rw same last | inr less ↦ each n less ]
+each-more moment p count each last n below = grind (arith, common_steps)

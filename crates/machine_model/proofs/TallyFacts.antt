@@ -1,26 +1,18 @@
 -- What is told of a device is told of its packets.
-use Rattle.std.proofs.Common.{◌≡◌, ◌∙◌, ℕ, ◌+◌, ◌-◌, Bool, true, false, Option, Some, None, List, [], ◌∷◌, ◌++◌, length, length-append, map}
-use Rattle.std.proofs.{Common.{refl, sym, ap, subst, arith}, lemmas.Bool.{eqb-true}}
-use Rattle.{std.specs.Prelude.{◌==◌, ◌&&◌, if◌then◌else◌, nat_lt, not}, device_rows.specs.Places.{at, changed}}
-use Rattle.machine_words.specs.declared.settings.Settings.{Settings}
-use Rattle.machine_model.specs.Device.{DeviceView, after_packet, ended_interrupt, ended_poll, interrupted, polled}
-use Rattle.machine_model.specs.{Devices.{Devices, batch_at}, Softirq.asked_in}
-use Rattle.machine_model.specs.Waits.{WaitsView, counted, counted_all, held, no_waits}
+use Rattle.std.proofs.{lemmas.{Grind.common_steps, Bool.eqb-true}, Common.{◌≡◌, ◌∙◌, ℕ, ◌+◌, ◌-◌, Bool, true, false, Option, Some, None}}
+use Rattle.std.{proofs.Common.{List, [], ◌∷◌, ◌++◌, length, length-append, map, refl, sym, ap, subst, arith}, specs.Prelude.{◌==◌, ◌&&◌}}
+use Rattle.{std.specs.Prelude.{if◌then◌else◌, nat_lt, not}, machine_words.specs.declared.settings.Settings.Settings}
+use Rattle.{device_rows.specs.Places.{at, changed}, machine_model.specs.Device.{DeviceView, after_packet, ended_interrupt, ended_poll}}
+use Rattle.machine_model.specs.{Device.{interrupted, polled}, Laws.{Event, behind, end, packet}, Devices.{Devices, batch_at}}
+use Rattle.machine_model.specs.{Softirq.asked_in, declared.processor.Work.{Work, TheVariants.Nothing}, Fates.{TellsOfDevice, Tells, came}}
+use Rattle.machine_model.specs.Fates.{counting, counts_in, finds_room, given, given_from, gives_by, polled_by, ring_in, taken_by, waits}
+use Rattle.machine_model.specs.{Fates.waits_in, Waits.{WaitsView, counted, counted_all, held, no_waits}, Processor.{ProcessorView, comes}}
+use Rattle.machine_model.specs.Processor.{delivers, ends_by, ends_current, ends_interrupt, ends_poll, interrupts, polls, step}
+use Rattle.machine_model.proofs.FateFacts.{seen-walk, at-arrived, at-either, Blind, Seen, at-here, at-kept, capacities, capacity_in}
+use Rattle.machine_model.proofs.{FateFacts.{made-ring, made_at}, EndFacts.ends, WalkFacts.{Walk, arrived, nexted, walk, walk-comes}}
+use Rattle.machine_model.proofs.{PlacesFacts.{map_at, packet-by}, WorkFacts.{free-ended, goes-on}}
 use Rattle.machine_model.specs.Device as device
 use Rattle.machine_model.specs.Fates as fate
-use Rattle.machine_model.specs.Fates.{TellsOfDevice, Tells, came, counting, counts_in, finds_room, given, given_from, gives_by, polled_by}
-use Rattle.machine_model.specs.Fates.{ring_in, taken_by, waits, waits_in}
-use Rattle.machine_model.specs.Laws.{Event, behind, end, packet}
-use Rattle.machine_model.specs.Processor.{ProcessorView, comes, delivers, ends_by, ends_current, ends_interrupt, ends_poll}
-use Rattle.machine_model.specs.Processor.{interrupts, polls, step}
-use Rattle.machine_model.specs.declared.processor.Work.{Work}
-use Rattle.machine_model.specs.declared.processor.Work.TheVariants.{Interrupt, Nothing, Poll, Use}
-use Rattle.machine_model.proofs.FateFacts.{Blind, Seen, at-here, at-kept, capacities, capacity_in, made-ring, made_at, seen-walk}
-use Rattle.machine_model.proofs.{PlacesFacts.{map_at}, WalkFacts.{Walk, arrived, nexted, walk, walk-comes}, WorkFacts.{free-ended, goes-on}}
-use Rattle.machine_model.proofs.EndFacts.{ends}
-use Rattle.machine_model.proofs.PlacesFacts.{packet-by}
-use Rattle.machine_model.proofs.FateFacts.{at-arrived}
-use Rattle.machine_model.proofs.FateFacts.{at-either}
 
 -- what is counted of packets
 pub record Tally : Type 0 where
@@ -47,25 +39,10 @@ present-raises n m p = record { present = λ none. refl }
 
 present-asks : (n m : ℕ) (p : ProcessorView) → asked_in p.softirq.run ≡ Some m → Present n (polls m p)
 unfolding polls map_at
-present-asks n m p asked = record { present = λ none. rw asked (by (m == n) refl none) }
-  where
-    weight : ℕ
-    weight = p.settings.weight
-
-    nothing : (o : Option DeviceView) → map_at (polled weight) o ≡ None → batch_at weight o ≡ []
-    nothing None none = refl
-    nothing (Some d) none = cc none
-
-    by : (b : Bool) → (m == n) ≡ b → at n (changed (polled weight) m p.devices) ≡ None
-        → (if b then batch_at weight (at m p.devices) else []) ≡ []
-    by true here none = rw (eqb-true m n here) (nothing (at n p.devices) (sym (at-here (polled weight) m n p.devices here) ∙ none))
-    by false apart none = refl
+present-asks n m p asked = grind (arith, common_steps, at, at-here)
 
 nothing-taken : (n : ℕ) (w : Work) (gives : Option (ℕ × List ℕ)) → w ≡ Nothing → taken_by n w gives ≡ []
-nothing-taken n Nothing gives nothing = refl
-nothing-taken n (Interrupt m) gives nothing = refl
-nothing-taken n Poll gives nothing = cc nothing
-nothing-taken n (Use moment) gives nothing = refl
+nothing-taken n w gives nothing = grind (arith, common_steps)
 
 pub record Any (p : ProcessorView) : Type 0 where
   pub any : p ≡ p
@@ -114,9 +91,7 @@ given-none now t = record { arrived = refl; dropped = refl; polled = λ a is. om
 given-here : (now : ℕ) (batch : List ℕ) (o : Option DeviceView) → (o ≡ None → batch ≡ [])
     → Given now batch (tally o) (tally (map_at (device.delivered now batch) o))
 unfolding map_at device.delivered counted_all
-given-here now batch None empty =
-    subst (λ (xs : List ℕ). Given now xs (tally None) (tally None)) (sym (empty refl)) (given-none now (tally None))
-given-here now batch (Some d) empty = record { arrived = refl; dropped = refl; polled = λ a is. omega (arith, is); waits = refl }
+given-here now batch o empty = grind (arith, common_steps)
 
 given-at : (now m n : ℕ) (batch : List ℕ) (ds : Devices) → ((m == n) ≡ true → at n ds ≡ None → batch ≡ [])
     → Given now (given_from n (Some (m, batch))) (tally (at n ds)) (tally (at n (changed (device.delivered now batch) m ds)))
@@ -126,8 +101,7 @@ given-at now m n batch ds empty =
 
 ended-tally : (full : Bool) (d : DeviceView) → tally (Some (ended_poll full d)) ≡ tally (Some d)
 unfolding ended_poll
-ended-tally true d = refl
-ended-tally false d = refl
+ended-tally full d = grind (arith, common_steps)
 
 poll-given : (n m : ℕ) (p : ProcessorView) → ((m == n) ≡ true → at n p.devices ≡ None → p.batch ≡ [])
     → Given p.clock (given_from n (Some (m, p.batch))) (tally (at n p.devices)) (tally (at n (ends_poll m p).devices))
@@ -141,8 +115,7 @@ poll-given n m p empty =
 
 taken-nothing : (o : Option DeviceView) → map_at (device.taken 1) o ≡ None → batch_at 1 o ≡ []
 unfolding map_at
-taken-nothing None none = refl
-taken-nothing (Some d) none = cc none
+taken-nothing o none = grind (arith, common_steps)
 
 lone-given : (n m : ℕ) (p : ProcessorView)
     → Given p.clock (given_from n (Some (m, batch_at 1 (at m p.devices)))) (tally (at n p.devices))
@@ -190,8 +163,7 @@ packet-took moment d =
 
 made-tally : (capacity : ℕ) (o : Option DeviceView) → tally (Some (made_at capacity o)) ≡ tally o
 unfolding made_at
-made-tally capacity None = refl
-made-tally capacity (Some d) = refl
+made-tally capacity o = grind (arith, common_steps)
 
 -- what is counted behind it
 pub record Counts (a d : ℕ) (old new : Tally) : Type 0 where
@@ -202,10 +174,7 @@ pub record Counts (a d : ℕ) (old new : Tally) : Type 0 where
 
 counts-took : (room : Bool) (moment a d : ℕ) (old new : Tally) → Took room old new → old.arrived ≡ held (a + d) → old.dropped ≡ held d
     → Counts (a + length (if room then moment ∷ [] else [])) (d + length (if not room then moment ∷ [] else [])) old new
-counts-took true moment a d old new t arrived dropped =
-    record { arrived = omega (arith, t.arrived, arrived); dropped = omega (arith, t.dropped, dropped); polled = t.polled; waits = t.waits }
-counts-took false moment a d old new t arrived dropped =
-    record { arrived = omega (arith, t.arrived, arrived); dropped = omega (arith, t.dropped, dropped); polled = t.polled; waits = t.waits }
+counts-took room moment a d old new t arrived dropped = grind (arith, common_steps)
 
 arrived-counts : (s : Settings) (moment m n a d : ℕ) (p : ProcessorView) → p.settings ≡ s → capacity_in s.ring (at n p.devices) ≡ s.ring
     → (tally (at n p.devices)).arrived ≡ held (a + d) → (tally (at n p.devices)).dropped ≡ held d

@@ -1,13 +1,11 @@
 -- Clocks never fall.
-use Rattle.std.proofs.Common.{◌≡◌, ℕ, ◌+◌, ◌<◌, ◌≤◌, ◌^◌, Bool, true, List, [], ◌∷◌, refl, arith}
-use Rattle.std.proofs.lemmas.Bool.{and_parts, leb-true}
-use Rattle.{std.specs.Prelude.{◌&&◌, nat_le}, machine_words.specs.declared.settings.Settings.{Settings}}
-use Rattle.machine_model.specs.{Laws.{ClocksNeverFall, Event, InTurn, behind, end, packet}, Waits.held}
-use Rattle.machine_model.specs.Processor.{ProcessorView, comes, delivers, ends_by, ends_current, ends_interrupt, ends_poll}
-use Rattle.machine_model.specs.Processor.{ends_run, interrupts, is_busy, polls, step}
-use Rattle.machine_model.specs.declared.processor.Work.{Work}
-use Rattle.machine_model.proofs.{WalkFacts.{Walk, implied, walk, walk-comes}, WorkFacts.{Goes, free-ended, goes-on}}
-use Rattle.machine_model.proofs.EndFacts.{ends}
+use Rattle.std.proofs.lemmas.Grind.{common_steps}
+use Rattle.std.proofs.{Common.{◌≡◌, ℕ, ◌+◌, ◌<◌, ◌≤◌, ◌^◌, Bool, true, List, [], ◌∷◌, refl, arith}, lemmas.Bool.{and_parts, leb-true}}
+use Rattle.{std.specs.Prelude.{◌&&◌, nat_le}, machine_words.specs.declared.settings.Settings.Settings}
+use Rattle.machine_model.specs.{Laws.{ClocksNeverFall, Event, InTurn, behind, end, packet}, Waits.held, Processor.{ProcessorView, comes}}
+use Rattle.machine_model.specs.Processor.{delivers, ends_by, ends_current, ends_interrupt, ends_poll, ends_run, interrupts, is_busy, polls}
+use Rattle.machine_model.{specs.{Processor.step, declared.processor.Work.Work}, proofs.WalkFacts.{Walk, implied, walk, walk-comes}}
+use Rattle.machine_model.proofs.{WorkFacts.{Goes, free-ended, goes-on}, EndFacts.ends}
 
 -- the clock stands there
 pub record Stands (c : ℕ) (p : ProcessorView) : Type 0 where
@@ -74,8 +72,7 @@ pub record Until (until : ℕ) (p : ProcessorView) : Type 0 where
   pub fits : is_busy p.work ≡ true → p.ends < 2 ^ 64
 
 until-of : (c until : ℕ) (p : ProcessorView) → Timed c p → c ≤ until → Until until p
-until-of c until p t most =
-    record { clock = omega (arith, t.clock, most); ends = λ busy. omega (arith, t.clock, t.ends busy); fits = t.fits }
+until-of c until p t most = grind (arith, common_steps, ends)
 
 pub due-parts : (w : Work) (ends until : ℕ) → (is_busy w && nat_le ends until) ≡ true → (is_busy w ≡ true) × (ends ≤ until)
 due-parts w ends until due = let both = and_parts (is_busy w) (nat_le ends until) due in (both.0, leb-true ends until both.1)
@@ -87,9 +84,7 @@ pub record Rises (until : ℕ) (p q : ProcessorView) : Type 0 where
 
 rises-ends : (s : Settings) (until : ℕ) (p : ProcessorView) → Goes s p → until < 2 ^ 64 → Until until p → is_busy p.work ≡ true
     → p.ends ≤ until → Rises until p (step p)
-rises-ends s until p goes fits u busy most =
-    let t = time-step s p goes (omega (arith, most, fits)) in
-    record { rises = omega (arith, t.clock, u.ends busy); within = until-of p.ends until (step p) t most }
+rises-ends s until p goes fits u busy most = grind (arith, common_steps, ends, time-step, until-of)
 
 -- what follows from what a walk gives
 risen : (until moment : ℕ) (p q : ProcessorView) → moment ≤ until → p.clock ≤ moment → Timed moment q → Rises until p q

@@ -1,17 +1,11 @@
 -- What is taken up, case by case: a property that each case keeps.
-use Rattle.std.proofs.Common.{◌≡◌, ◌-◌, ◌<◌, ℕ, zero, suc, arith, Bool, true, false, Option, Some, None, List, [], ◌∷◌, length, refl}
-use Rattle.std.proofs.lemmas.{Bool.lt-leb, List.Quantifiers.position-Some}
-use Rattle.std.specs.Prelude.{◌==◌, ◌&&◌, if◌then◌else◌, is_some, nat_le, nat_lt, not, position}
-use Rattle.device_rows.{specs.Places.{at, changed}, proofs.PlaceFacts.none-of}
-use Rattle.machine_words.specs.declared.settings.Settings.{Settings}
-use Rattle.machine_model.specs.{Device.after_packet, Devices.{raises_at, with_device}, Kept.is_poll}
-use Rattle.machine_model.specs.Softirq.{SoftirqView, asked_in, begun, ended, next_of}
-use Rattle.machine_model.specs.Processor.{ProcessorView, begins, comes, ends_run, goes_on, interrupts, is_busy, is_polling, polls}
-use Rattle.machine_model.specs.Processor.{rests, takes_up, uses}
-use Rattle.machine_model.specs.declared.processor.Work.{Work}
-use Rattle.machine_model.specs.declared.processor.Work.TheVariants.{Interrupt, Nothing, Poll, Use}
-use Rattle.machine_model.proofs.KeptFacts.{run-ended}
-use Rattle.machine_model.proofs.StepFacts.{polls_or, takes_up_by}
+use Rattle.std.{specs.Prelude.{not, position}, proofs.Common.{rules, ◌≡◌, ◌<◌, ℕ, arith, Bool, true, false, Option, Some, None, List, []}}
+use Rattle.std.proofs.{Common.{◌∷◌, length, refl}, lemmas.{List.Quantifiers.position-Some, Grind.common_steps}}
+use Rattle.{machine_model.proofs.{StepFacts.{polls_or, takes_up_by}, KeptFacts.run-ended}, std.specs.Prelude.{◌==◌, ◌&&◌, if◌then◌else◌}}
+use Rattle.{device_rows.{proofs.PlaceFacts.none-of, specs.Places.{at, changed}}, machine_words.specs.declared.settings.Settings.Settings}
+use Rattle.machine_model.specs.{Kept.is_poll, declared.processor.Work.{Work, TheVariants.Nothing}, Device.after_packet, Devices.raises_at}
+use Rattle.machine_model.specs.{Devices.with_device, Softirq.{SoftirqView, asked_in, begun, next_of}, Processor.{ProcessorView, begins}}
+use Rattle.machine_model.specs.Processor.{comes, ends_run, goes_on, interrupts, is_busy, is_polling, polls, rests, takes_up, uses}
 
 -- nothing is under way
 pub record Free (p : ProcessorView) : Type 0 where
@@ -45,54 +39,35 @@ pub record Walk (P Q : ProcessorView → Type 0) : Type 0 where
   pub stays : (p : ProcessorView) → Free p → P p → Still p → Q p
 
 pub implied : (P Q R : ProcessorView → Type 0) → Walk P Q → ((p : ProcessorView) → Q p → R p) → Walk P R
-implied P Q R w so = record {
-  raises = λ n p free held raises. so _ (w.raises n p free held raises);
-  next = w.next;
-  asks = λ n p held asked. so _ (w.asks n p held asked);
-  over = w.over;
-  slice = w.slice;
-  begins = w.begins;
-  uses = λ came more p free held is. so _ (w.uses came more p free held is);
-  stays = λ p free held still. so _ (w.stays p free held still);
-}
+implied P Q R w so = grind (arith, common_steps)
 
 pub either : (Q : ProcessorView → Type 0) (b : Bool) (x y : ProcessorView) → (b ≡ true → Q x) → (b ≡ false → Q y) → Q (if b then x else y)
-either Q true x y first second = first refl
-either Q false x y first second = second refl
+either Q b x y first second = grind (arith, common_steps)
 
 walk-uses : (P Q : ProcessorView → Type 0) → Walk P Q → (items : List ℕ) (p : ProcessorView) → p.socket.items ≡ items → Free p → P p
     → (p.socket.items ≡ [] → Still p) → Q (uses items p)
-walk-uses P Q w [] p is free held still = w.stays p free held (still is)
-walk-uses P Q w (came ∷ more) p is free held still = w.uses came more p free held is
+walk-uses P Q w items p is free held still = grind (arith, common_steps)
 
 walk-asked : (P Q : ProcessorView → Type 0) → Walk P Q → (o : Option ℕ) (p other : ProcessorView) → asked_in (next_of p.softirq).run ≡ o
     → P (nexted p)
     → (asked_in (next_of p.softirq).run ≡ None → Q other) → Q (polls_or other o (nexted p))
-walk-asked P Q w None p other asked held rest = rest asked
-walk-asked P Q w (Some n) p other asked held rest = w.asks n p held asked
+walk-asked P Q w o p other asked held rest = grind (arith, common_steps)
 
 both-first : (a b : Bool) → (a && b) ≡ true → a ≡ true
-both-first true b both = refl
-both-first false b both = both
+both-first a b both = grind (arith, common_steps)
 
 both-second : (a b : Bool) → (a && b) ≡ true → b ≡ true
-both-second true b both = both
-both-second false b both = cc both
+both-second a b both = grind (arith, common_steps)
 
 pub positive : (k : ℕ) → not (k == 0) ≡ true → 0 < k
-positive zero is = cc is
-positive (suc k) is = omega arith
+positive k is = grind (arith, common_steps)
 
 -- a run that begins over a list that isn't empty asks
 begun-asks : (s : Settings) (list : List ℕ) (began clock : ℕ) → is_polling s ≡ true → not (length list == 0) ≡ true
     → let q : SoftirqView = record { list = list; run = None; began = began } in
     asked_in (next_of (begun clock s.budget s.weight s.window q)).run ≡ None → ⊥
 unfolding next_of
-begun-asks s [] began clock polling some none = cc some
-begun-asks s (x ∷ list) began clock polling some none =
-    let budget : nat_le s.budget 0 ≡ false = lt-leb s.budget 0 (positive s.budget polling) in
-    let window : nat_le s.window 0 ≡ false = lt-leb s.window 0 (omega (arith, s.window_in.0)) in
-    cc (rw (budget, window) at none)
+begun-asks s list began clock polling some none = grind (arith, common_steps, positive)
 
 asks-one : (p : ProcessorView) → p.softirq.run ≡ None → is_polling p.settings ≡ true → not (length p.softirq.list == 0) ≡ true
     → asked_in (next_of (started p).softirq).run ≡ None → ⊥
@@ -116,44 +91,22 @@ empty-socket b items some none = cc (rw none at (both-second b (not (length item
 walk-rests : (P Q : ProcessorView → Type 0) → Walk P Q → (p : ProcessorView) → Free p → P p → p.softirq.run ≡ None
     → position raises_at p.devices ≡ None → Q (rests p)
 unfolding rests
-walk-rests P Q w p free held none quiet =
-    let over : ProcessorView = rested p in
-    let new : Free over = record { nothing = free.nothing; unasked = free.unasked } in
-    let over-held : P over = w.slice p held in
-    either Q (nat_lt 0 p.slice && not (length p.socket.items == 0)) (uses p.socket.items p)
-    (if is_polling p.settings && not (length p.softirq.list == 0) then begins over else uses p.socket.items over)
-    (λ yes. walk-uses P Q w p.socket.items p refl free held (λ empty. absurd (empty-socket (nat_lt 0 p.slice) p.socket.items yes empty)))
-    (λ no. either Q (is_polling p.settings && not (length p.softirq.list == 0)) (begins over) (uses p.socket.items over)
-    (λ yes. walk-begins P Q w over new over-held none (both-first (is_polling p.settings) (not (length p.softirq.list == 0)) yes)
-    (both-second (is_polling p.settings) (not (length p.softirq.list == 0)) yes))
-    (λ none-listed. walk-uses P Q w p.socket.items over refl new over-held
-    (λ empty. record { quiet = quiet; idle = none; list = none-listed; socket = empty })))
+walk-rests P Q w p free held none quiet = search (rules, both-first, both-second, either, empty-socket, walk-begins, walk-uses)
 
 walk-over : (P Q : ProcessorView → Type 0) → Walk P Q → (late : Bool) (p : ProcessorView) → Free p → P p
     → position raises_at p.devices ≡ None → Q (rests (ends_run late p))
 unfolding ends_run
-walk-over P Q w late p free held quiet =
-    let none : (ended p.softirq).run ≡ None = run-ended p.softirq in
-    walk-rests P Q w (ends_run late p) (record { nothing = free.nothing; unasked = rw none refl }) (w.over late p free held) none quiet
+walk-over P Q w late p free held quiet = grind (arith, common_steps, run-ended, walk-rests)
 
 walk-goes : (P Q : ProcessorView → Type 0) → Walk P Q → (p : ProcessorView) → Free p → P p → position raises_at p.devices ≡ None
     → Q (goes_on p)
 unfolding goes_on
-walk-goes P Q w p free held quiet =
-    let q = nexted p in
-    let new : P q = w.next p free held in
-    either Q (nat_le p.settings.longest (p.clock - p.softirq.began)) (rests (ends_run true p))
-    (polls_or (rests (ends_run false q)) (asked_in q.softirq.run) q)
-    (λ late. walk-over P Q w true p free held quiet)
-    (λ goes. walk-asked P Q w (asked_in q.softirq.run) p (rests (ends_run false q)) refl new
-    (λ asked. walk-over P Q w false q (record { nothing = free.nothing; unasked = asked }) new quiet))
+walk-goes P Q w p free held quiet = grind (arith, common_steps, either, walk-asked, walk-over)
 
 walk-by : (P Q : ProcessorView → Type 0) → Walk P Q → (o : Option ℕ) (p : ProcessorView) → position raises_at p.devices ≡ o → Free p → P p
     → Q (takes_up_by o p)
 walk-by P Q w (Some n) p lowest free held = w.raises n p free held (position-Some raises_at p.devices n None lowest).1
-walk-by P Q w None p lowest free held =
-    either Q (is_some p.softirq.run) (goes_on p) (rests p) (λ some. walk-goes P Q w p free held lowest)
-    (λ none. walk-rests P Q w p free held (none-of p.softirq.run none) lowest)
+walk-by P Q w None p lowest free held = grind (arith, common_steps, either, none-of, walk-goes, walk-rests)
 
 pub walk : (P Q : ProcessorView → Type 0) → Walk P Q → (p : ProcessorView) → Free p → P p → Q (takes_up p)
 unfolding takes_up
@@ -164,10 +117,7 @@ abbrev pub arrived : ℕ → ℕ → ProcessorView → ProcessorView
 arrived moment n p = record p { devices = changed (after_packet moment) n (with_device p.settings.ring n p.devices) }
 
 idle-is : (w : Work) → is_busy w ≡ false → (w ≡ Nothing) × (is_poll w ≡ false)
-idle-is Nothing idle = (refl, refl)
-idle-is (Interrupt n) idle = cc idle
-idle-is Poll idle = cc idle
-idle-is (Use came) idle = cc idle
+idle-is w idle = grind (arith, common_steps)
 
 -- a packet is taken up only where nothing is under way
 pub walk-comes : (P Q : ProcessorView → Type 0) → Walk P Q → (moment n : ℕ) (p : ProcessorView)

@@ -1,21 +1,12 @@
 -- A run's work is below budget and weight together, whatever happens.
-use Rattle.std.proofs.Common.{◌≡◌, ℕ, ◌+◌, ◌<◌, ◌≤◌, Bool, true, false, Option, Some, None, List, [], ◌∷◌, length, length-take, refl, sym}
-use Rattle.std.proofs.{Common.arith, lemmas.Bool.{eqb-false, leb-false}}
-use Rattle.std.specs.Prelude.{◌==◌, ◌||◌, IfSome, if◌then◌else◌, is_some, min, nat_le, not}
-use Rattle.poll_runs.specs.declared.bench.{Once.Once}
-use Rattle.machine_words.specs.declared.settings.Settings.{Settings}
-use Rattle.machine_model.specs.{Device.DeviceView, Devices.{batch_at, is_handed_at}, Kept.is_poll}
-use Rattle.machine_model.specs.Laws.{Event, WorksWithin, behind, end, packet}
-use Rattle.machine_model.specs.Softirq.{RunView, SoftirqView, asked_in, ended, filled, is_spent, next_from, next_of, pushed, told}
-use Rattle.machine_model.specs.Processor.{ProcessorView, comes, delivers, ends_by, ends_current, ends_interrupt, ends_poll}
-use Rattle.machine_model.specs.Processor.{ends_run, interrupts, is_polling, polls, step}
-use Rattle.device_rows.specs.Places.{at}
-use Rattle.machine_model.specs.declared.processor.Work.{Work}
-use Rattle.machine_model.specs.declared.processor.Work.TheVariants.{Nothing}
-use Rattle.machine_model.proofs.{EndFacts.asked-ends, WalkFacts.{Free, Walk, walk, walk-comes}}
-use Rattle.machine_model.specs.Softirq.{told_run}
-use Rattle.std.specs.Prelude.{option_map}
-use Rattle.machine_model.proofs.EndFacts.{ends}
+use Rattle.std.proofs.{lemmas.Grind.common_steps, Common.{◌≡◌, ℕ, ◌+◌, ◌<◌, ◌≤◌, Bool, true, false, Option, Some, None, List, [], ◌∷◌}}
+use Rattle.std.{proofs.Common.{length, refl, arith}, specs.Prelude.{◌==◌, IfSome, if◌then◌else◌, is_some, not, option_map}}
+use Rattle.{poll_runs.specs.declared.bench.Once.Once, machine_words.specs.declared.settings.Settings.Settings, device_rows.specs.Places.at}
+use Rattle.machine_model.specs.{Device.DeviceView, Devices.batch_at, Kept.is_poll, Laws.{Event, WorksWithin, behind, end, packet}}
+use Rattle.machine_model.specs.{Softirq.{RunView, SoftirqView, asked_in, ended, next_of, pushed, told, told_run}, Processor.ProcessorView}
+use Rattle.machine_model.specs.Processor.{comes, delivers, ends_by, ends_current, ends_interrupt, ends_poll, ends_run, interrupts}
+use Rattle.machine_model.specs.{Processor.{is_polling, polls, step}, declared.processor.Work.{Work, TheVariants.Nothing}}
+use Rattle.machine_model.proofs.{EndFacts.{asked-ends, ends}, WalkFacts.{Free, Walk, walk, walk-comes}}
 
 -- what is true of a run of these settings
 pub record Runs (s : Settings) (r : RunView) : Type 0 where
@@ -40,22 +31,7 @@ pub record Goes (s : Settings) (p : ProcessorView) : Type 0 where
 next-runs : (s : Settings) (list : List ℕ) (run : Option RunView) (began : ℕ) → asked_in run ≡ None → RunsIn s run
     → RunsIn s (next_of (record { list = list; run = run; began = began })).run
 unfolding next_of
-next-runs s list None began none held = tt
-next-runs s list (Some r) began none held = by (is_spent r) refl
-  where
-    before : SoftirqView
-    before = record { list = list; run = Some r; began = began }
-
-    below : is_spent r ≡ false → r.work < r.budget
-    below fresh = leb-false r.budget r.work (first (nat_le r.budget r.work) _ fresh)
-      where
-        first : (a b : Bool) → (a || b) ≡ false → a ≡ false
-        first true b none = none
-        first false b none = refl
-
-    by : (b : Bool) → is_spent r ≡ b → RunsIn s (if b then before else next_from (filled r.own r.repoll list) r before).run
-    by true spent = held
-    by false fresh = record { budget = held.budget; work = held.work; asked = λ asked. rw held.budget at (below fresh) }
+next-runs s list run began none held = grind (arith, common_steps)
 
 runs-next : (s : Settings) (q : SoftirqView) → asked_in q.run ≡ None → RunsIn s q.run → RunsIn s (next_of q).run
 unfolding next_of
@@ -63,10 +39,7 @@ runs-next s q none held = next-runs s q.list q.run q.began none held
 
 runs-told : (s : Settings) (run : Option RunView) (once : Once) (n : ℕ) → asked_in run ≡ Some n → once.work ≤ s.weight → RunsIn s run
     → RunsIn s (option_map (told_run once) run)
-runs-told s None once n asked few held = tt
-runs-told s (Some r) once n asked few held =
-    let below : r.work < s.budget = held.asked (rw asked refl) in
-    record { budget = held.budget; work = omega (arith, below, few); asked = λ some. cc some }
+runs-told s run once n asked few held = grind (arith, common_steps)
 
 runs-said : (s : Settings) (q : SoftirqView) (once : Once) (n : ℕ) → asked_in q.run ≡ Some n → once.work ≤ s.weight → RunsIn s q.run
     → RunsIn s (told once q).run
@@ -75,32 +48,21 @@ runs-said s q once n asked few held = runs-told s q.run once n asked few held
 
 pushed-runs : (s : Settings) (b : Bool) (n : ℕ) (q : SoftirqView) → RunsIn s q.run → asked_in q.run ≡ None
     → RunsIn s (if b then pushed n q else q).run × (asked_in (if b then pushed n q else q).run ≡ None)
-pushed-runs s true n q held none = (held, none)
-pushed-runs s false n q held none = (held, none)
+pushed-runs s b n q held none = grind (arith, common_steps)
 
 batch-few : (weight : ℕ) (o : Option DeviceView) → length (batch_at weight o) ≤ weight
-batch-few weight None = omega arith
-batch-few weight (Some d) = omega (arith, length-take (min weight (length d.ring)) d.ring)
+batch-few weight o = grind (arith, common_steps)
 
 positive : (n : ℕ) → not (n == 0) ≡ true → 0 < n
-positive n is = omega (arith, eqb-false n 0 (flip (n == 0) is))
-  where
-    flip : (b : Bool) → not b ≡ true → b ≡ false
-    flip true is = sym is
-    flip false is = refl
+positive n is = grind (arith, common_steps)
 
 work-raises : (s : Settings) (n : ℕ) (p : ProcessorView) → Free p → Rests s p → Goes s (interrupts n p)
 unfolding interrupts
-work-raises s n p free held =
-    let pair = pushed-runs s (is_handed_at (is_polling p.settings) (at n p.devices)) n p.softirq held.run free.unasked in
-    record { rests = record { settings = held.settings; batch = held.batch; run = pair.0 }; asked = λ not. pair.1 }
+work-raises s n p free held = grind (arith, common_steps, pushed-runs)
 
 work-asks : (s : Settings) (n : ℕ) (p : ProcessorView) → Rests s p → Goes s (polls n p)
 unfolding polls
-work-asks s n p held = record {
-  rests = record { settings = held.settings; batch = rw (← held.settings) (batch-few p.settings.weight (at n p.devices)); run = held.run };
-  asked = λ not. cc not;
-}
+work-asks s n p held = grind (arith, common_steps, batch-few)
 
 work-over : (s : Settings) (late : Bool) (p : ProcessorView) → Rests s p → Rests s (ends_run late p)
 unfolding ends_run ended
@@ -118,10 +80,7 @@ work-begins : (s : Settings) (p : ProcessorView) → Rests s p → is_polling p.
       weight = p.settings.weight;
       window = p.settings.window;
     })
-work-begins s p held polling =
-    let some : 0 < p.settings.budget = positive p.settings.budget polling in
-    let same : 0 < s.budget = rw held.settings at some in
-    record { budget = rw held.settings refl; work = omega (arith, same); asked = λ none. cc none }
+work-begins s p held polling = grind (arith, common_steps, positive)
 
 pub work-walk : (s : Settings) → Walk (Rests s) (Goes s)
 work-walk s = record {

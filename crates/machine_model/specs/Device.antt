@@ -1,7 +1,6 @@
 -- What packets, interrupts and polls do to a device.
 use Rattle.std.specs.Prelude.{ℕ, ◌+◌, ◌==◌, ◌||◌, not, min, nat_lt, Bool, false, List, [], ◌∷◌, ◌++◌, length, drop, if◌then◌else◌}
-use Rattle.machine_model.specs.Waits.{WaitsView, counted_all, held, no_waits}
-use Rattle.machine_model.specs.declared.device.DeviceCounts.{DeviceCounts}
+use Rattle.machine_model.specs.{Waits.{WaitsView, counted_all, held, no_waits}, declared.device.DeviceCounts.DeviceCounts}
 use Rattle.machine_model.specs.declared.device.TheConstants.DeviceCounts.{NONE}
 
 pub record DeviceView : Type 0 where

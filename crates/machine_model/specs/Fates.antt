@@ -1,19 +1,10 @@
 -- What becomes of packets over a processor's life. Lists are in the order in which things happened.
 use Rattle.std.specs.Prelude.{◌≡◌, ℕ, ◌+◌, ◌-◌, ◌<◌, ◌≤◌, ◌^◌, ◌==◌, ◌&&◌, nat_lt, not, min, Bool, true, false, List, [], ◌∷◌, ◌++◌, length}
-use Rattle.std.specs.Prelude.{take, drop, map, Option, Some, None, if◌then◌else◌}
-use Rattle.std.specs.List.{AllByRecursion}
-use Rattle.circular_buffer.specs.Buffer.{Buffer}
-use Rattle.device_rows.specs.Places.{at}
-use Rattle.machine_words.specs.declared.settings.Settings.{Settings}
-use Rattle.machine_model.specs.Device.{DeviceView}
-use Rattle.machine_model.specs.Devices.{batch_at}
-use Rattle.machine_model.specs.Laws.{Event, InTurn, behind, end, packet}
-use Rattle.machine_model.specs.Processor.{ProcessorView, is_due, is_polling}
-use Rattle.machine_model.specs.Softirq.{asked_in}
-use Rattle.machine_model.specs.Waits.{WaitsView, counted, held, no_waits}
-use Rattle.machine_model.specs.declared.device.DeviceCounts.{DeviceCounts}
-use Rattle.machine_model.specs.declared.device.TheConstants.DeviceCounts.{NONE}
-use Rattle.machine_model.specs.declared.processor.Work.{Work}
+use Rattle.std.specs.{Prelude.{take, drop, map, Option, Some, None, if◌then◌else◌}, List.AllByRecursion}
+use Rattle.{circular_buffer.specs.Buffer.Buffer, device_rows.specs.Places.at, machine_words.specs.declared.settings.Settings.Settings}
+use Rattle.machine_model.specs.{Device.DeviceView, Devices.batch_at, Laws.{Event, InTurn, behind, end, packet}, Processor.ProcessorView}
+use Rattle.machine_model.specs.{Processor.{is_due, is_polling}, Softirq.asked_in, Waits.{WaitsView, counted, held, no_waits}}
+use Rattle.machine_model.specs.declared.{device.{DeviceCounts.DeviceCounts, TheConstants.DeviceCounts.NONE}, processor.Work.Work}
 use Rattle.machine_model.specs.declared.processor.Work.TheVariants.{Nothing, Interrupt, Poll, Use}
 
 -- ---- at a device
@@ -41,10 +32,9 @@ polled_by None batch = None
 polled_by (Some number) batch = Some (number, batch)
 
 abbrev pub gives_by : Work → ProcessorView → Option (ℕ × List ℕ)
-gives_by Nothing p = None
 gives_by (Interrupt number) p = if is_polling p.settings then None else Some (number, batch_at 1 (at number p.devices))
 gives_by Poll p = polled_by (asked_in p.softirq.run) p.batch
-gives_by (Use came) p = None
+gives_by _ p = None
 
 abbrev pub given_from : ℕ → Option (ℕ × List ℕ) → List ℕ
 given_from n None = []

@@ -1,14 +1,8 @@
 -- What is true of each processor.
 use Rattle.std.specs.Prelude.{◌≡◌, ◌≤◌, Bool, true, false, is_some, List, ℕ, length, sum_by, Option, None, if◌then◌else◌}
-use Rattle.std.specs.Option.{option_map_or}
-use Rattle.machine_words.specs.declared.settings.Settings.{Settings}
-use Rattle.machine_model.specs.Device.{DeviceView}
-use Rattle.machine_model.specs.Devices.{Devices}
-use Rattle.machine_model.specs.Shown.{listed, weight_in}
-use Rattle.machine_model.specs.Softirq.{SoftirqView, asked_in}
-use Rattle.machine_model.specs.Processor.{ProcessorView}
-use Rattle.machine_model.specs.declared.processor.Work.{Work}
-use Rattle.machine_model.specs.declared.processor.Work.TheVariants.{Poll}
+use Rattle.{std.specs.Option.option_map_or, machine_words.specs.declared.settings.Settings.Settings, machine_model.specs.Device.DeviceView}
+use Rattle.machine_model.specs.{Devices.Devices, Shown.{listed, weight_in}, Softirq.{SoftirqView, asked_in}, Processor.ProcessorView}
+use Rattle.machine_model.specs.declared.processor.Work.{Work, TheVariants.Poll}
 
 -- how many devices are masked
 abbrev pub mask_at : Option DeviceView → ℕ

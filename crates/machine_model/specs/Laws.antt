@@ -1,9 +1,8 @@
 -- Laws of the machine.
 use Rattle.std.specs.Prelude.{◌≡◌, ◌≤◌, ◌<◌, ℕ, ◌+◌, ◌-◌, ◌/◌, ◌%◌, ◌^◌, ◌==◌, true, false, List, [], ◌∷◌, Some, IfSome, slice_get}
-use Rattle.std.specs.Prelude.{if◌then◌else◌}
-use Rattle.machine_words.specs.declared.settings.Settings.{Settings}
-use Rattle.machine_model.specs.Machine.{Arrives, Finishes, Machine, opened_machine}
-use Rattle.machine_model.specs.Processor.{ProcessorView, RunsTo, comes, is_due, opened_processor, step}
+use Rattle.{std.specs.Prelude.if◌then◌else◌, machine_words.specs.declared.settings.Settings.Settings, machine_model.specs.Machine.Arrives}
+use Rattle.machine_model.specs.{Machine.{Finishes, Machine, opened_machine}, Processor.{ProcessorView, RunsTo, comes, is_due}}
+use Rattle.machine_model.specs.Processor.{opened_processor, step}
 
 -- law: what ends up to a moment, and what stands behind it, is determined
 abbrev pub RunsAsOne : Type 0

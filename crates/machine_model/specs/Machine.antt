@@ -1,13 +1,8 @@
 -- The machine: its processors, what arrivals make of them, and what the report tells.
-use Rattle.std.specs.Prelude.{◌≡◌, ℕ, ◌-◌, ◌/◌, ◌%◌, ◌^◌, List, length, replicate, slice_get, slice_set, Option, Some}
-use Rattle.std.specs.Option.{option_and_then, option_map}
-use Rattle.device_rows.specs.Places.{at}
-use Rattle.machine_words.specs.declared.settings.Settings.{Settings}
-use Rattle.machine_model.specs.Device.{DeviceView}
-use Rattle.machine_model.specs.Processor.{ProcessorView, RunsTo, comes, opened_processor}
-use Rattle.machine_model.specs.Waits.{told_of}
-use Rattle.machine_model.specs.declared.device.DeviceReport.{DeviceReport}
-use Rattle.machine_model.specs.declared.processor.ProcessorReport.{ProcessorReport}
+use Rattle.{device_rows.specs.Places.at, machine_words.specs.declared.settings.Settings.Settings, std.specs.Prelude.{◌≡◌, ℕ, ◌-◌, ◌/◌, ◌%◌}}
+use Rattle.std.specs.{Prelude.{◌^◌, List, length, replicate, slice_get, slice_set, Option, Some}, Option.{option_and_then, option_map}}
+use Rattle.machine_model.specs.{declared.{processor.ProcessorReport.ProcessorReport, device.DeviceReport.DeviceReport}, Waits.told_of}
+use Rattle.machine_model.specs.{Processor.{ProcessorView, RunsTo, comes, opened_processor}, Device.DeviceView}
 
 -- the processors, in the order of their numbers
 abbrev pub Machine : Type 0

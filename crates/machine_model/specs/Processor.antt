@@ -1,18 +1,12 @@
 -- A processor: what it takes up, and what ends.
 use Rattle.std.specs.Prelude.{◌≡◌, ℕ, zero, suc, ◌+◌, ◌-◌, ◌*◌, ◌<◌, ◌==◌, ◌||◌, ◌&&◌, not, min, nat_le, nat_lt, Bool, true, false, List}
-use Rattle.std.specs.Prelude.{[], ◌∷◌, ◌++◌, length, take, position, None, is_some, if◌then◌else◌}
-use Rattle.std.specs.Option.{option_map_or}
-use Rattle.circular_buffer.specs.Buffer.{Buffer, buffer}
-use Rattle.device_rows.specs.Places.{at, changed}
-use Rattle.machine_words.specs.declared.settings.Settings.{Settings}
-use Rattle.poll_runs.specs.declared.bench.Next.TheVariants.{Gone, Repoll}
-use Rattle.machine_model.specs.Device.{after_packet, delivered, ended_interrupt, ended_poll, interrupted, polled, taken}
-use Rattle.machine_model.specs.Devices.{Devices, batch_at, is_handed_at, raises_at, with_device}
-use Rattle.machine_model.specs.Softirq.{SoftirqView, asked_in, begun, ended, is_spent, next_of, pushed, told}
-use Rattle.machine_model.specs.Waits.{WaitsView, counted, held, no_waits}
-use Rattle.machine_model.specs.declared.processor.ProcessorCounts.{ProcessorCounts}
-use Rattle.machine_model.specs.declared.processor.TheConstants.ProcessorCounts.{NONE}
-use Rattle.machine_model.specs.declared.processor.Work.{Work}
+use Rattle.std.specs.{Prelude.{[], ◌∷◌, ◌++◌, length, take, position, None, is_some, if◌then◌else◌}, Option.option_map_or}
+use Rattle.{circular_buffer.specs.Buffer.{Buffer, buffer}, device_rows.specs.Places.{at, changed}}
+use Rattle.{machine_words.specs.declared.settings.Settings.Settings, poll_runs.specs.declared.bench.Next.TheVariants.{Gone, Repoll}}
+use Rattle.machine_model.specs.{Device.{after_packet, delivered, ended_interrupt, ended_poll, interrupted, polled, taken}, Devices.Devices}
+use Rattle.machine_model.specs.{Devices.{batch_at, is_handed_at, raises_at, with_device}, Softirq.{SoftirqView, asked_in, begun, ended}}
+use Rattle.machine_model.specs.{Softirq.{is_spent, next_of, pushed, told}, Waits.{WaitsView, counted, held, no_waits}}
+use Rattle.machine_model.specs.declared.processor.{ProcessorCounts.ProcessorCounts, TheConstants.ProcessorCounts.NONE, Work.Work}
 use Rattle.machine_model.specs.declared.processor.Work.TheVariants.{Nothing, Interrupt, Poll, Use}
 
 pub record ProcessorView : Type 0 where

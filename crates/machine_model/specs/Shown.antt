@@ -1,12 +1,7 @@
 -- How what the program holds is seen by the definition.
-use Rattle.std.specs.Prelude.{ℕ, ◌+◌, Bool, true, false, ◌++◌, length, Option}
-use Rattle.std.specs.Option.{option_map_or}
-use Rattle.napi_model.specs.Step.{idle, no_flags}
-use Rattle.napi_model.specs.declared.state.Place.TheVariants.{Listed}
-use Rattle.napi_model.specs.declared.state.State.{State}
-use Rattle.poll_runs.specs.Turn.{asked_for}
-use Rattle.poll_runs.specs.declared.polling_run.PollingRun.{PollingRun}
-use Rattle.machine_model.specs.Softirq.{RunView, SoftirqView}
+use Rattle.{std.specs.{Prelude.{ℕ, ◌+◌, Bool, true, false, ◌++◌, length, Option}, Option.option_map_or}, napi_model.specs.Step.idle}
+use Rattle.{napi_model.specs.{Step.no_flags, declared.state.{Place.TheVariants.Listed, State.State}}, poll_runs.specs.Turn.asked_for}
+use Rattle.{poll_runs.specs.declared.polling_run.PollingRun.PollingRun, machine_model.specs.Softirq.{RunView, SoftirqView}}
 
 -- a device's instance: a masked device's was handed to the list, any other's is idle
 abbrev pub instance_of : Bool → State

@@ -1,14 +1,14 @@
 -- How the arrivals of the records that are left follow from the next record.
+use Rattle.std.proofs.Common.{rules}
+use Rattle.std.proofs.lemmas.Grind.{common_steps}
 use Rattle.std.proofs.Common.{◌≡◌, ◌∙◌, ℕ, ◌+◌, ◌-◌, ◌<◌, ◌≤◌, true, false, List, [], ◌∷◌, ◌++◌, length, length-append, refl, sym, ap}
-use Rattle.std.{proofs.Common.{arith, Some, None, Option}, specs.Prelude.{Result, Ok, Err, fold}}
-use Rattle.csv.specs.Machine.{Read, ends_at_end, next_record}
-use Rattle.csv.specs.Reading.{default_config, reader_state, records_from, records_next, strip_bom}
-use Rattle.csv.specs.declared.{reader.Reader.Reader, parser.State.State}
-use Rattle.device_rows.specs.{Source.{StandsAt, TakesNext}, Trace.records_of}
-use Rattle.device_rows.proofs.{RecordsFacts.{next-end, next-short, records-all}, RowsFacts.{records-next, records-none}}
-use Rattle.machine_report.specs.Arrivals.{arrival_of, arrivals_after, arrivals_of, is_title, of_three, three_of}
-use Rattle.machine_report.specs.Reading.{HasGiven, records_in}
-use Rattle.machine_report.specs.declared.{arrival.Arrival.Arrival, arrivals.Arrivals.Arrivals, fault.MachineFault.MachineFault}
+use Rattle.{std.{proofs.Common.{arith, Some, None, Option}, specs.Prelude.{Result, Ok, Err, fold}}, csv.specs.Machine.{Read, ends_at_end}}
+use Rattle.csv.specs.{Machine.next_record, Reading.{default_config, reader_state, records_from, records_next, strip_bom}}
+use Rattle.{csv.specs.declared.{reader.Reader.Reader, parser.State.State}, device_rows.specs.Source.{StandsAt, TakesNext}}
+use Rattle.device_rows.{specs.Trace.records_of, proofs.{RecordsFacts.{next-end, next-short, records-all}, RowsFacts.records-next}}
+use Rattle.{device_rows.proofs.RowsFacts.records-none, machine_report.specs.Arrivals.{arrival_of, arrivals_after, arrivals_of, is_title}}
+use Rattle.machine_report.specs.{Arrivals.{of_three, three_of}, Reading.{HasGiven, records_in}, declared.arrival.Arrival.Arrival}
+use Rattle.machine_report.specs.declared.{arrivals.Arrivals.Arrivals, fault.MachineFault.MachineFault}
 
 -- one record, and then those that the reader has left
 more-in : {R : Type 0} (remaining : R → Option (List ℕ)) (reader after : Reader R) (fields : List (List ℕ)) (left : List ℕ)
@@ -85,16 +85,14 @@ module _ (processors : ℕ) where
 
 pub last-push : (first : ℕ) (earlier : List Arrival) (arrival : Arrival)
     → fold (λ _ a. a.moment) first (earlier ++ arrival ∷ []) ≡ arrival.moment
-last-push first [] arrival = refl
-last-push first (a ∷ earlier) arrival = last-push a.moment earlier arrival
+last-push first earlier arrival = grind (arith, common_steps)
 
 -- a first record that is none, or another one
 pub refused-start : {R : Type 0} (remaining : R → Option (List ℕ)) (reader after : Reader R) (fields : List (List ℕ)) (processors : ℕ)
     (bytes : List ℕ) → reader_state reader ≡ State.StartRecord
     → TakesNext remaining (next_record default_config (reader_state reader) [] [] (strip_bom bytes)) false fields after
     → arrivals_of processors (records_of bytes) ≡ Err MachineFault.BadHeader
-refused-start remaining reader after fields processors bytes at h =
-    arrivals-none processors _ (all-in _ bytes at ∙ none-in remaining reader after fields _ h)
+refused-start remaining reader after fields processors bytes at h = grind (arith, common_steps, all-in, arrivals-none, none-in)
 
 between-start : (state : State) → state ≡ State.StartRecord → ends_at_end state ≡ false
 between-start state e = ap ends_at_end e
@@ -114,16 +112,7 @@ pub given-start : {R : Type 0} (remaining : R → Option (List ℕ)) (reader : R
     → TakesNext remaining (next_record default_config (reader_state reader) [] [] (strip_bom bytes)) true fields arrivals.reader
     → is_title (three_of fields) ≡ true
     → arrivals.rows ≡ 0 → arrivals.last ≡ 0 → HasGiven remaining arrivals [] (arrivals_of arrivals.processors (records_of bytes))
-given-start remaining reader arrivals fields bytes at h titled rows last =
-    let (rest, stands, between, one) = more-in remaining reader arrivals.reader fields (strip_bom bytes) (between-start _ at) h in
-    record {
-      left = rest;
-      stands = stands;
-      between = between;
-      rows = rows;
-      last = last;
-      gives = arrivals-behind arrivals.processors _ _ fields (all-in _ bytes at ∙ one) titled;
-    }
+given-start remaining reader arrivals fields bytes at h titled rows last = search (rules, all-in, arrivals-behind, between-start, more-in)
 
 module _ {R : Type 0} (remaining : R → Option (List ℕ)) (old : Arrivals R) (earlier : List Arrival)
     (all : Result (List Arrival) MachineFault) (given : HasGiven remaining old earlier all) where
@@ -142,8 +131,7 @@ module _ {R : Type 0} (remaining : R → Option (List ℕ)) (old : Arrivals R) (
 
   told-as : (row : ℕ) (fields : List (List ℕ)) → row ≡ old.rows + 1
       → arrival_of old.processors earlier fields ≡ of_three old.processors row old.last (three_of fields)
-  told-as row fields rows =
-      λ i. of_three old.processors ((ap (λ n. n + 1) (sym given.rows) ∙ sym rows) i) (sym given.last i) (three_of fields)
+  told-as row fields rows = grind (arith, common_steps)
 
   -- at a faulty row
   pub given-fault : (after : Reader R) (fields : List (List ℕ)) (row : ℕ) (fault : MachineFault) → Takes after fields → row ≡ old.rows + 1

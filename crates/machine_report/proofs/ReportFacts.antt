@@ -1,9 +1,8 @@
 -- One device and one processor more.
-use Rattle.std.proofs.Common.{◌≡◌, ◌∙◌, ℕ, ◌+◌, [], ◌++◌, Option, List, refl, add-one, ap, append_assoc, append-nil, sym}
+use Rattle.std.proofs.{Common.{arith, ◌≡◌, ◌∙◌, ℕ, ◌+◌, [], ◌++◌, Option, List, refl, add-one, append-nil, sym}, lemmas.Grind.common_steps}
 use Rattle.machine_model.specs.declared.{device.DeviceReport.DeviceReport, processor.ProcessorReport.ProcessorReport}
-use Rattle.machine_report.specs.declared.report.Totals.{Totals}
-use Rattle.machine_report.specs.Report.{device_lines, lines_of_devices, lines_of_processors, none_counted, processor_lines, sums_of_devices}
-use Rattle.machine_report.specs.Report.{sums_of_processors, with_device, with_processor}
+use Rattle.machine_report.specs.{declared.report.Totals.Totals, Report.{device_lines, lines_of_devices, lines_of_processors, none_counted}}
+use Rattle.machine_report.specs.Report.{processor_lines, sums_of_devices, sums_of_processors, with_device, with_processor}
 
 pub more-devices : (device : ℕ → Option DeviceReport) (n : ℕ)
     → lines_of_devices device (n + 1) ≡ lines_of_devices device n ++ device_lines (n + 1) (device (n + 1))
@@ -28,10 +27,7 @@ more-processor-sums processor t n = rw (add-one n) refl
 pub one_device : (device : ℕ → Option DeviceReport) (n : ℕ) (told : Option DeviceReport) (start before after : List ℕ)
     → told ≡ device (n + 1) → before ≡ start ++ lines_of_devices device n
     → after ≡ before ++ device_lines (n + 1) told → after ≡ start ++ lines_of_devices device (n + 1)
-one_device device n told start before after is so_far added =
-    added ∙ (λ i. so_far i ++ device_lines (n + 1) (is i))
-    ∙ append_assoc start (lines_of_devices device n) (device_lines (n + 1) (device (n + 1)))
-    ∙ ap (λ l. start ++ l) (sym (more-devices device n))
+one_device device n told start before after is so_far added = grind (arith, common_steps, more-devices)
 
 pub one_device_sum : (device : ℕ → Option DeviceReport) (n : ℕ) (told : Option DeviceReport) (before after : Totals) → told ≡ device (n + 1)
     → before ≡ sums_of_devices device n
@@ -41,22 +37,16 @@ one_device_sum device n told before after is so_far added = added ∙ (λ i. wit
 pub one_processor : (processor : ℕ → Option ProcessorReport) (n : ℕ) (told : Option ProcessorReport) (start before after : List ℕ)
     → told ≡ processor n → before ≡ start ++ lines_of_processors processor n
     → after ≡ before ++ processor_lines n told → after ≡ start ++ lines_of_processors processor (n + 1)
-one_processor processor n told start before after is so_far added =
-    added ∙ (λ i. so_far i ++ processor_lines n (is i))
-    ∙ append_assoc start (lines_of_processors processor n) (processor_lines n (processor n))
-    ∙ ap (λ l. start ++ l) (sym (more-processors processor n))
+one_processor processor n told start before after is so_far added = grind (arith, common_steps, more-processors)
 
 pub one_processor_sum : (processor : ℕ → Option ProcessorReport) (t : Totals) (n : ℕ) (told : Option ProcessorReport)
     (before after : Totals) → told ≡ processor n
     → before ≡ sums_of_processors processor t n → after ≡ with_processor told before → after ≡ sums_of_processors processor t (n + 1)
-one_processor_sum processor t n told before after is so_far added =
-    added ∙ (λ i. with_processor (is i) (so_far i)) ∙ sym (more-processor-sums processor t n)
+one_processor_sum processor t n told before after is so_far added = grind (arith, common_steps, more-processor-sums)
 
 pub three_parts : (start first second third a b c : List ℕ) → start ≡ [] → a ≡ start ++ first → b ≡ a ++ second → c ≡ b ++ third
     → c ≡ first ++ (second ++ third)
-three_parts start first second third a b c empty one two three =
-    three ∙ (λ i. two i ++ third) ∙ (λ i. (one i ++ second) ++ third) ∙ (λ i. ((empty i ++ first) ++ second) ++ third)
-    ∙ append_assoc first second third
+three_parts start first second third a b c empty one two three = grind (arith, common_steps)
 
 pub no_devices : (device : ℕ → Option DeviceReport) (text : List ℕ) → text ≡ text ++ lines_of_devices device 0
 unfolding lines_of_devices

@@ -1,12 +1,7 @@
 -- What the machine answers to the bytes of arrivals: its report, or their first fault.
-use Rattle.std.specs.Prelude.{◌≡◌, ℕ, List, [], ◌∷◌, Ok, Err}
-use Rattle.device_rows.specs.Trace.{records_of}
-use Rattle.machine_model.specs.Machine.{Arrives, Finishes, Machine, opened_machine}
-use Rattle.machine_report.specs.Arrivals.{arrivals_of}
-use Rattle.machine_report.specs.Report.{text_of}
-use Rattle.machine_report.specs.declared.arrival.Arrival.{Arrival}
-use Rattle.machine_report.specs.declared.fault.MachineFault.{MachineFault}
-use Rattle.machine_words.specs.declared.settings.Settings.{Settings}
+use Rattle.{std.specs.Prelude.{◌≡◌, ℕ, List, [], ◌∷◌, Ok, Err}, device_rows.specs.Trace.records_of, machine_model.specs.Machine.Arrives}
+use Rattle.{machine_model.specs.Machine.{Finishes, Machine, opened_machine}, machine_words.specs.declared.settings.Settings.Settings}
+use Rattle.machine_report.specs.{Arrivals.arrivals_of, Report.text_of, declared.{arrival.Arrival.Arrival, fault.MachineFault.MachineFault}}
 
 -- the arrivals come to the machine, one after the other
 abbrev pub Takes : List Arrival → Machine → Machine → Type 0

@@ -1,9 +1,7 @@
 -- The line, the number and the exit status of each fault. See docs/FORMATS.md, "Arrivals".
-use Rattle.std.specs.Prelude.{◌≡◌, ◌≢◌, ◌⊎◌, ℕ, List, ◌++◌, Option, Some, codes, decimal}
-use Rattle.std.specs.Io.KnownBytes.{Keeps}
-use Rattle.machine_report.specs.declared.fault.MachineFault.{MachineFault}
-use Rattle.machine_report.specs.declared.fault.MachineFault.TheVariants.{BadHeader, BadFields, BadNumber, OutOfRange, Falls, ReadFailed}
-use Rattle.machine_report.specs.declared.fault.MachineFault.TheVariants.{OutOfMemory, OutputFailed}
+use Rattle.std.specs.{Prelude.{◌≡◌, ◌≢◌, ◌⊎◌, ℕ, List, ◌++◌, Option, Some, codes, decimal}, Io.KnownBytes.Keeps}
+use Rattle.machine_report.specs.declared.fault.MachineFault.{MachineFault, TheVariants.{BadHeader, BadFields, BadNumber, OutOfRange, Falls}}
+use Rattle.machine_report.specs.declared.fault.MachineFault.TheVariants.{ReadFailed, OutOfMemory, OutputFailed}
 
 abbrev pub number_of : MachineFault → ℕ
 number_of BadHeader = 1

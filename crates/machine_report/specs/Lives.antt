@@ -1,10 +1,7 @@
 -- A law of reports: the machine that is told lived by its laws.
-use Rattle.std.specs.Prelude.{◌≡◌, ℕ, ◌-◌, ◌^◌, false, List, [], ◌∷◌, Some, slice_get}
-use Rattle.machine_model.specs.Laws.{Lived, own}
-use Rattle.machine_model.specs.Processor.{ProcessorView, is_due}
-use Rattle.machine_report.specs.Answer.{IsReportOf}
-use Rattle.machine_report.specs.declared.arrival.Arrival.{Arrival}
-use Rattle.machine_words.specs.declared.settings.Settings.{Settings}
+use Rattle.{std.specs.Prelude.{◌≡◌, ℕ, ◌-◌, ◌^◌, false, List, [], ◌∷◌, Some, slice_get}, machine_model.specs.Laws.{Lived, own}}
+use Rattle.{machine_model.specs.Processor.{ProcessorView, is_due}, machine_words.specs.declared.settings.Settings.Settings}
+use Rattle.machine_report.specs.{Answer.IsReportOf, declared.arrival.Arrival.Arrival}
 
 -- the packets of arrivals behind earlier ones, the last the first
 abbrev pub packets_of : List (ℕ × ℕ) → List Arrival → List (ℕ × ℕ)

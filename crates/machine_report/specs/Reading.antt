@@ -1,13 +1,8 @@
 -- Where a reader of arrivals stands.
 use Rattle.std.specs.Prelude.{◌≡◌, ℕ, ◌+◌, false, List, [], ◌∷◌, ◌++◌, length, Option, Some, None, Result, Ok}
-use Rattle.csv.specs.Machine.{ends_at_end}
-use Rattle.csv.specs.Reading.{default_config, reader_state, records_from}
-use Rattle.csv.specs.declared.parser.State.{State}
-use Rattle.device_rows.specs.Source.{StandsAt}
-use Rattle.machine_report.specs.Arrivals.{arrivals_after, last_moment}
-use Rattle.machine_report.specs.declared.arrival.Arrival.{Arrival}
-use Rattle.machine_report.specs.declared.arrivals.Arrivals.{Arrivals}
-use Rattle.machine_report.specs.declared.fault.MachineFault.{MachineFault}
+use Rattle.csv.specs.{Machine.ends_at_end, Reading.{default_config, reader_state, records_from}, declared.parser.State.State}
+use Rattle.{device_rows.specs.Source.StandsAt, machine_report.specs.Arrivals.{arrivals_after, last_moment}}
+use Rattle.machine_report.specs.declared.{arrival.Arrival.Arrival, arrivals.Arrivals.Arrivals, fault.MachineFault.MachineFault}
 
 -- every record of these bytes, from a state between two records
 abbrev pub records_in : State → List ℕ → List (List (List ℕ))

@@ -1,12 +1,8 @@
 -- The report's text, word by word. See docs/FORMATS.md, "The machine's report".
 use Rattle.std.specs.Prelude.{ℕ, zero, suc, ◌+◌, ◌-◌, ◌*◌, List, [], ◌∷◌, ◌++◌, Option, Some, None, codes, decimal, option_map, slice_get}
-use Rattle.machine_model.specs.declared.waits.WaitCounts.{WaitCounts}
-use Rattle.machine_model.specs.declared.device.DeviceReport.{DeviceReport}
-use Rattle.machine_model.specs.declared.processor.ProcessorReport.{ProcessorReport}
-use Rattle.machine_model.specs.Machine.{Machine, device_report, processor_report}
-use Rattle.machine_model.specs.Waits.{held}
-use Rattle.machine_report.specs.declared.report.Totals.{Totals}
-use Rattle.replay_text.specs.Lines.{ended, words}
+use Rattle.machine_model.specs.declared.{waits.WaitCounts.WaitCounts, device.DeviceReport.DeviceReport}
+use Rattle.machine_model.specs.{declared.processor.ProcessorReport.ProcessorReport, Machine.{Machine, device_report, processor_report}}
+use Rattle.{machine_model.specs.Waits.held, replay_text.specs.Lines.{ended, words}, machine_report.specs.declared.report.Totals.Totals}
 
 -- what is told of waits
 unfoldable pub waits_text : WaitCounts → List ℕ

@@ -1,7 +1,7 @@
 -- One act more.
-use Rattle.std.proofs.Common.{◌≡◌, ℕ, ◌+◌, ◌≤◌, length, List, ◌++◌, sym, arith, length-append, append_assoc, add-one, ap, subst, Bool, ◌∙◌}
-use Rattle.rx_ring.specs.{declared.{packet.Packet.Packet, ends.RxIn.RxIn}, Ends.SameIn}
-use Rattle.poll_interrupts.specs.{declared.{acts.Act.Act, worker.Hold.Hold}, Acts.{after_acts, arrivals, brings}, Calls.{Acts, AllActs}}
+use Rattle.std.proofs.{lemmas.Grind.common_steps, Common.{◌≡◌, ℕ, ◌+◌, ◌≤◌, length, List, ◌++◌, sym, arith, add-one, ap, subst, Bool}}
+use Rattle.{rx_ring.specs.{declared.{packet.Packet.Packet, ends.RxIn.RxIn}, Ends.SameIn}, poll_interrupts.specs.declared.acts.Act.Act}
+use Rattle.poll_interrupts.specs.{declared.worker.Hold.Hold, Acts.{after_acts, arrivals, brings}, Calls.{Acts, AllActs}}
 
 pub after_acts-more : {D : Type 0} (after : D → ℕ → D) (d : D) (n : ℕ) → after_acts after d (n + 1) ≡ after (after_acts after d n) n
 after_acts-more after d n = ap (λ m. after_acts after d m) (add-one n)
@@ -25,10 +25,4 @@ pub put_more : (old arrived brought all now after : List Packet) (places : ℕ)
     → (length old + length arrived ≤ places → now ≡ old ++ arrived)
     → (length now + length brought ≤ places → after ≡ now ++ brought)
     → length old + length all ≤ places → after ≡ old ++ all
-put_more old arrived brought all now after places more before then room =
-    let size : length all ≡ length (arrived ++ brought) = ap (λ l. length l) more in
-    let parts = length-append arrived brought in
-    let was = before (omega arith) in
-    let long : length now ≡ length (old ++ arrived) = ap (λ l. length l) was in
-    let pieces = length-append old arrived in
-    then (omega arith) ∙ ap (λ l. l ++ brought) was ∙ append_assoc old arrived brought ∙ ap (λ l. old ++ l) (sym more)
+put_more old arrived brought all now after places more before then room = grind (arith, common_steps)

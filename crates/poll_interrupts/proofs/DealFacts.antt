@@ -1,15 +1,13 @@
 -- What is dealt in two and put together again.
-use Rattle.std.proofs.Common.{◌≡◌, ℕ, zero, suc, ◌+◌, Bool, true, false, List, [], ◌∷◌, ◌++◌, length, refl, sym, ap, ◌∙◌, arith, All}
-use Rattle.std.{proofs.lemmas.List.map-append, specs.{List.AllZip, Prelude.map}}
-use Rattle.poll_interrupts.specs.{declared.station.Station.Station, Deals.{is_dealt, merged, others, picked}}
+use Rattle.std.proofs.{lemmas.Grind.common_steps, Common.{◌≡◌, ℕ, zero, suc, ◌+◌, Bool, true, false, List, [], ◌∷◌, ◌++◌, length, refl, ap}}
+use Rattle.{std.{proofs.Common.{arith, All}, specs.{List.AllZip, Prelude.map}}, poll_interrupts.specs.declared.station.Station.Station}
+use Rattle.poll_interrupts.specs.Deals.{is_dealt, merged, others, picked}
 
 -- one more is looked at
 pub dealt_more : {D : Type 0} (number pollers : ℕ) (order : List Bool) (stations : List (Station D)) {b : Bool} (x : Station D)
     → order ≡ map (is_dealt number pollers) stations → is_dealt number pollers x ≡ b
     → order ++ b ∷ [] ≡ map (is_dealt number pollers) (stations ++ x ∷ [])
-dealt_more number pollers order stations {b} x e is =
-    ap (λ l. l ++ b ∷ []) e ∙ ap (λ d. map (is_dealt number pollers) stations ++ d ∷ []) (sym is)
-    ∙ sym (map-append (is_dealt number pollers) stations (x ∷ []))
+dealt_more number pollers order stations {b} x e is = grind (arith, common_steps)
 
 -- one more is dealt
 pub picked_yes : {A : Type 0} (bs : List Bool) (xs : List A) (x : A) → length bs ≡ length xs

@@ -1,14 +1,11 @@
 -- How a closed instance tells of what was done with it.
-use Rattle.std.proofs.Common.{◌≡◌, List, [], ◌∷◌, ◌++◌, refl, ap, ◌∙◌, subst}
-use Rattle.rx_ring.specs.declared.{ends.{RxCtx.RxCtx, RxIn.RxIn}, packet.{Packet.Packet, Totals.Totals}}
-use Rattle.rx_ring.specs.Ends.{put_list, received_list, ring_of}
-use Rattle.{rx_ring.specs.ReceiveRing.{IsInOrder, totals_of}, napi_model.specs.{Step.opening, History.own}}
-use Rattle.napi_word.specs.{View.{deliverers, packets_of}, Slot.givers}
-use Rattle.napi_calls.specs.declared.{kept.Kept.Kept, types.{Caller.Caller, Napi.Napi}}
-use Rattle.napi_calls.specs.{Closed.{IsClosed, IsHistoryOf, seats_of}, Instance.{callers_of, first_of_instance}}
-use Rattle.{napi_calls.specs.Seats.{number_of, own_list}, poll_tasks.specs.declared.tasks.Turned.Turned}
-use Rattle.poll_interrupts.specs.declared.{worker.Seats.Seats, job.Worked.Worked, station.Finished.Finished}
-use Rattle.poll_interrupts.specs.{Ends.{AreFinishesOf, IsEndedBy, IsFinishOf}, Runs.controller_number}
+use Rattle.{napi_word.specs.{View.{deliverers, packets_of}, Slot.givers}, poll_interrupts.specs.Ends.{AreFinishesOf, IsEndedBy, IsFinishOf}}
+use Rattle.napi_calls.specs.{declared.{types.{Caller.Caller, Napi.Napi}, kept.Kept.Kept}, Closed.{IsClosed, IsHistoryOf, seats_of}}
+use Rattle.{napi_calls.specs.{Instance.{callers_of, first_of_instance}, Seats.{number_of, own_list}}, std.proofs.Common.{◌≡◌, List, []}}
+use Rattle.{std.proofs.Common.{◌∷◌, ◌++◌, refl, ap, ◌∙◌, subst}, napi_model.specs.{History.own, Step.opening}}
+use Rattle.{poll_tasks.specs.declared.tasks.Turned.Turned, rx_ring.specs.declared.{ends.{RxIn.RxIn, RxCtx.RxCtx}, packet.Packet.Packet}}
+use Rattle.rx_ring.specs.{declared.packet.Totals.Totals, Ends.{put_list, received_list, ring_of}, ReceiveRing.{IsInOrder, totals_of}}
+use Rattle.poll_interrupts.specs.{declared.{worker.Seats.Seats, station.Finished.Finished, job.Worked.Worked}, Runs.controller_number}
 use mathlib.Core.List.{IsPrefix}
 
 pub ended_of : (napi : Napi) (seats : Seats) (poller thread : Caller) (rx : RxIn) (ctx : RxCtx) (totals : Totals)

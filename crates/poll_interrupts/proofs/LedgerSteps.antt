@@ -1,15 +1,14 @@
 -- What the calls at a worker's seats add to its ledger.
-use Rattle.std.proofs.Common.{◌≡◌, ℕ, zero, suc, ◌≤◌, Bool, true, false, List, [], ◌∷◌, ◌++◌, length, inl, inr, ⊎_elim, refl, sym}
-use Rattle.std.{proofs.{Common.{ap, ◌∙◌, subst, append_assoc}, lemmas.List.map-append}, specs.Prelude.{flat_map, if◌then◌else◌}}
+use Rattle.std.proofs.Common.{arith, rules, ◌≡◌, ℕ, zero, suc, ◌≤◌, Bool, true, false, List, [], ◌∷◌, ◌++◌, length, inl, inr, ⊎_elim, refl}
+use Rattle.std.{proofs.{Common.{sym, ap, ◌∙◌, subst, append_assoc}, lemmas.Grind.common_steps}, specs.Prelude.{flat_map, if◌then◌else◌}}
 use Rattle.rx_ring.specs.{declared.{ends.RxIn.RxIn, packet.Packet.Packet}, Ends.{capacity_of, put_list}}
-use Rattle.{napi_model.specs.{declared.event.{Operation.Operation}, Step.event}, napi_word.specs.declared.table.Pass.Pass}
-use Rattle.napi_calls.specs.{declared.{answers.Sched.Sched, types.Caller.Caller}, Calls.{Disables, Enables, Schedules}}
-use Rattle.{napi_calls.specs.{Made.{Made, events, looks}, Seats.{number_of, own_list}}, poll_interrupts.specs.declared.acts.Act.Act}
-use Rattle.poll_interrupts.specs.{declared.worker.{Hold.Hold, Seats.Seats, Power.{Power, TheVariants.{On, Off}}}, Acts.after_acts}
-use Rattle.poll_interrupts.specs.Calls.{Acts, AllActs, Arrives, GoesOn, HandsOver, Interrupts, IsSameHold, Leaves, TurnsOff, TurnsOn, is_on}
-use Rattle.poll_interrupts.specs.Calls.{pass_of}
-use Rattle.poll_interrupts.specs.Runs.{Adds, AllAdd, IsDisabling, IsEnabling, IsHandingOver, IsInterrupt, Ledger, SwitchesOff, SwitchesOn}
-use Rattle.poll_interrupts.specs.{Runs.{Whose, WorksBy}, Works.{AreSameSeats, ledger_of, whose}}
+use Rattle.{napi_model.specs.declared.event.Operation.Operation, napi_word.specs.declared.table.Pass.Pass}
+use Rattle.napi_calls.specs.{declared.{answers.Sched.Sched, types.Caller.Caller}, Calls.{Disables, Enables, Schedules}, Made.{Made, events}}
+use Rattle.{napi_calls.specs.{Made.looks, Seats.{number_of, own_list}}, poll_interrupts.specs.declared.{acts.Act.Act, worker.Hold.Hold}}
+use Rattle.poll_interrupts.specs.{declared.worker.{Seats.Seats, Power.{Power, TheVariants.{On, Off}}}, Acts.after_acts, Calls.Acts}
+use Rattle.poll_interrupts.specs.Calls.{AllActs, Arrives, GoesOn, HandsOver, Interrupts, IsSameHold, Leaves, TurnsOff, TurnsOn, is_on}
+use Rattle.poll_interrupts.specs.{Calls.pass_of, Runs.{Adds, AllAdd, IsDisabling, IsEnabling, IsHandingOver, IsInterrupt, Ledger}}
+use Rattle.poll_interrupts.specs.{Runs.{SwitchesOff, SwitchesOn, Whose, WorksBy}, Works.{AreSameSeats, ledger_of, whose}}
 use Rattle.napi_model.specs.declared.state.Kind.TheVariants as kind
 use Rattle.napi_model.specs.declared.event.Prep.TheVariants as prep
 use Rattle.napi_model.specs.declared.event.Operation.TheVariants as operation
@@ -28,12 +27,7 @@ made_grew p os q m = (m.grown, m.seat.number)
 -- one call, and then another
 grew_both : (p : Pass) (os : List Operation) (q : Pass) (rest : List Operation) (r : Pass) → Grew p os q → Grew q rest r
     → Grew p (os ++ rest) r
-grew_both p os q rest r a b = (
-  b.0 ∙ ap (λ l. l ++ events (number_of q) rest) a.0 ∙ ap (λ n. (own_list p ++ events (number_of p) os) ++ events n rest) a.1
-      ∙ append_assoc (own_list p) (events (number_of p) os) (events (number_of p) rest)
-      ∙ ap (λ l. own_list p ++ l) (sym (map-append (event (number_of p)) os rest)),
-  b.1 ∙ a.1,
-)
+grew_both p os q rest r a b = grind (arith, common_steps)
 
 -- a call of one of some kind made these operations
 abbrev Grows : (List Operation → Type 0) → Pass → Pass → Type 0
@@ -50,8 +44,7 @@ hands_over true p q h =
     )
 
 answered : (thread : Bool) (p : Pass) (s : Sched) (q : Pass) → Schedules p s → GoesOn thread s q → Grows (IsInterrupt thread) p q
-answered thread p (sched.Granted g) q m on =
-    let tries = flat_map looks m.0 in
+answered thread p (sched.Granted g) q m on = let tries = flat_map looks m.0 in
     let reply = operation.Look m.1 ∷ operation.Schedule prep.Granted ∷ [] in
     let over = hands_over thread g.pass q on in
     let all = grew_both p (tries ++ reply) g.pass over.0 q (made_grew p _ g.pass m.2) over.2 in (
@@ -60,20 +53,13 @@ answered thread p (sched.Granted g) q m on =
       subst (λ os. Grew p os q)
           (append_assoc tries reply over.0) all,
     )
-answered thread p (sched.Missed c) q m on =
-    let reply = operation.Look m.1 ∷ operation.Schedule prep.Missed ∷ [] in (
-      flat_map looks m.0 ++ reply,
-      (m.0, prep.Missed, reply, (m.1, refl), refl),
-      subst (λ r. Grew p (flat_map looks m.0 ++ reply) r) (sym on)
-          (made_grew p _ c.pass m.2),
-    )
-answered thread p (sched.Disabled c) q m on =
-    let reply = operation.Schedule prep.Disabled ∷ [] in (
-      flat_map looks m.0 ++ reply,
-      (m.0, prep.Disabled, reply, refl, refl),
-      subst (λ r. Grew p (flat_map looks m.0 ++ reply) r) (sym on)
-          (made_grew p _ c.pass m.1),
-    )
+answered thread p (sched.Missed c) q m on = grind (arith, common_steps)
+answered thread p (sched.Disabled c) q m on = let reply = operation.Schedule prep.Disabled ∷ [] in (
+  flat_map looks m.0 ++ reply,
+  (m.0, prep.Disabled, reply, refl, refl),
+  subst (λ r. Grew p (flat_map looks m.0 ++ reply) r) (sym on)
+      (made_grew p _ c.pass m.1),
+)
 
 interrupts : (thread : Bool) (p q : Pass) → Interrupts thread p q → Grows (IsInterrupt thread) p q
 interrupts thread p q h = answered thread p h.0 q h.1 h.2
@@ -112,13 +98,7 @@ Did w Is a before b after = Is (holds a before) (holds b after) × IsOf w b afte
 same_ledger : (a b : Hold) (before after : RxIn) → b.caller ≡ a.caller → b.power ≡ a.power → b.threaded ≡ a.threaded
     → put_list after ≡ put_list before
     → holds b after ≡ holds a before
-same_ledger a b before after caller power threaded put = λ i. record {
-  calls = own_list (caller i).pass;
-  controls = own_list (pass_of (power i));
-  put = put i;
-  on = is_on (power i);
-  threaded = threaded i;
-}
+same_ledger a b before after caller power threaded put = grind (arith, common_steps)
 
 arrives : (w : Whose) (packet : Packet) (a b : Hold) (before after : RxIn)
     → Arrives w.thread packet a.caller.pass b.caller.pass before after → b.power ≡ a.power → b.threaded ≡ a.threaded
@@ -166,36 +146,20 @@ arrives w packet a b before after h power threaded places of = ⊎_elim
 still_of : (w : Whose) (a b : Hold) (before after : RxIn)
     → number_of b.caller.pass ≡ number_of a.caller.pass → number_of (pass_of b.power) ≡ number_of (pass_of a.power)
     → capacity_of after ≡ capacity_of before → IsOf w a before → IsOf w b after
-still_of w a b before after caller controller places of =
-    record { caller = caller ∙ of.caller; controller = controller ∙ of.controller; places = places ∙ of.places }
+still_of w a b before after caller controller places of = grind (arith, common_steps)
 
 -- the controller's own events grew, and it is on now or isn't
 switched : (w : Whose) (a b : Hold) (before after : RxIn) (os : List Operation) (on : Bool)
     → own_list (pass_of b.power) ≡ own_list (pass_of a.power) ++ events (number_of (pass_of a.power)) os → is_on b.power ≡ on
     → b.caller ≡ a.caller → b.threaded ≡ a.threaded → put_list after ≡ put_list before → IsOf w a before
     → holds b after ≡ record (holds a before) { controls = own_list (pass_of a.power) ++ events w.controller os; on = on }
-switched w a b before after os on grown now caller threaded put of = λ i. record {
-  calls = own_list (caller i).pass;
-  controls = (grown ∙ ap (λ n. own_list (pass_of a.power) ++ events n os) of.controller) i;
-  put = put i;
-  on = now i;
-  threaded = threaded i;
-}
+switched w a b before after os on grown now caller threaded put of = grind (arith, common_steps)
 
 turns_on : (w : Whose) (caller : Caller) (set : Bool) (power : Power) (b : Hold) (before after : RxIn)
     → TurnsOn set power b.power → b.caller ≡ caller → b.threaded ≡ set → put_list after ≡ put_list before
     → capacity_of after ≡ capacity_of before
     → IsOf w (hold caller power set) before → Did w (SwitchesOn w (is_on power)) (hold caller power set) before b after
-turns_on w caller set (On control) b before after h same threaded put places of = (
-  same_ledger (hold caller (On control) set) b before after same h threaded put,
-  still_of w (hold caller (On control) set) b before after (ap (λ (c : Caller). number_of c.pass) same)
-      (ap (λ p. number_of (pass_of p)) h) places of,
-)
-turns_on w caller set (Off control) b before after h same threaded put places of =
-    let grew = enables set control.pass (pass_of b.power) h.1 in (
-      (grew.0, grew.1, switched w (hold caller (Off control) set) b before after grew.0 true grew.2.0 h.0 same threaded put of),
-      still_of w (hold caller (Off control) set) b before after (ap (λ (c : Caller). number_of c.pass) same) grew.2.1 places of,
-    )
+turns_on w caller set power b before after h same threaded put places of = search (rules, enables, same_ledger, still_of, switched)
 
 turns_off : (w : Whose) (caller : Caller) (set : Bool) (power : Power) (b : Hold) (before after : RxIn)
     → TurnsOff power b.power → b.caller ≡ caller → b.threaded ≡ set → put_list after ≡ put_list before
@@ -206,32 +170,13 @@ turns_off w caller set (On control) b before after h same threaded put places of
       (grew.0, grew.1, switched w (hold caller (On control) set) b before after grew.0 false grew.2.0 h.0 same threaded put of),
       still_of w (hold caller (On control) set) b before after (ap (λ (c : Caller). number_of c.pass) same) grew.2.1 places of,
     )
-turns_off w caller set (Off control) b before after h same threaded put places of = (
-  λ i. record {
-    calls = own_list (same i).pass;
-    controls = own_list (h.1 i);
-    put = put i;
-    on = h.0 i;
-    threaded = threaded i;
-  },
-  still_of w (hold caller (Off control) set) b before after (ap (λ (c : Caller). number_of c.pass) same)
-      (ap (λ p. number_of p) h.1) places of,
-)
+turns_off w caller set (Off control) b before after h same threaded put places of = search (rules, disables, still_of, switched)
 
 sets : (w : Whose) (set : Bool) (a b : Hold) (before after : RxIn)
     → Made a.caller.pass (operation.SetThreaded set ∷ []) b.caller.pass → b.power ≡ a.power → b.threaded ≡ set
     → put_list after ≡ put_list before → capacity_of after ≡ capacity_of before
     → IsOf w a before → Did w (Adds w (act.SetThreaded set)) a before b after
-sets w set a b before after made power threaded put places of = (
-  λ i. record {
-    calls = (made.grown ∙ ap (λ n. own_list a.caller.pass ++ events n (operation.SetThreaded set ∷ [])) of.caller) i;
-    controls = own_list (pass_of (power i));
-    put = put i;
-    on = is_on (power i);
-    threaded = threaded i;
-  },
-  still_of w a b before after made.seat.number (ap (λ p. number_of (pass_of p)) power) places of,
-)
+sets w set a b before after made power threaded put places of = grind (arith, common_steps, still_of)
 
 -- ---- acts
 
@@ -241,22 +186,12 @@ acts_add w (act.Arrive packet) a b before after h places of = arrives w packet a
 acts_add w act.Disable a b before after h places of = turns_off w a.caller a.threaded a.power b before after h.1 h.0 h.2 h.3 places of
 acts_add w act.Enable a b before after h places of = turns_on w a.caller a.threaded a.power b before after h.1 h.0 h.2 h.3 places of
 acts_add w (act.SetThreaded set) a b before after h places of = sets w set a b before after h.0 h.1 h.2 h.3 places of
-acts_add w act.Nothing a b before after h places of = (
-  same_ledger a b before after (ap (λ (k : Hold). k.caller) h.0) (ap (λ (k : Hold). k.power) h.0) (ap (λ (k : Hold). k.threaded) h.0) h.1,
-  still_of w a b before after (ap (λ (k : Hold). number_of k.caller.pass) h.0)
-      (ap (λ (k : Hold). number_of (pass_of k.power)) h.0) places of,
-)
+acts_add w act.Nothing a b before after h places of = grind (arith, common_steps, arrives, same_ledger, sets, still_of, turns_off, turns_on)
 
 pub all_add : {D : Type 0} (w : Whose) (answer : D → ℕ → Act) (after : D → ℕ → D) (d : D) (n : ℕ) (a b : Hold) (first last : RxIn)
     → AllActs w.thread answer after d n a b first last → IsOf w a first → Did w (AllAdd w answer after d n) a first b last
-all_add w answer after d zero a b first last h of = (
-  same_ledger a b first last (ap (λ (k : Hold). k.caller) h.0) (ap (λ (k : Hold). k.power) h.0) (ap (λ (k : Hold). k.threaded) h.0)
-      (ap (λ (r : RxIn). put_list r) h.1),
-  still_of w a b first last (ap (λ (k : Hold). number_of k.caller.pass) h.0) (ap (λ (k : Hold). number_of (pass_of k.power)) h.0)
-      (ap (λ (r : RxIn). capacity_of r) h.1) of,
-)
-all_add w answer after d (suc n) a b first last h of =
-    let before = all_add w answer after d n a h.0 first h.1 h.2 of in
+all_add w answer after d zero a b first last h of = grind (arith, common_steps, acts_add, same_ledger, still_of)
+all_add w answer after d (suc n) a b first last h of = let before = all_add w answer after d n a h.0 first h.1 h.2 of in
     let one = acts_add w (answer (after_acts after d n) n) h.0 b h.1 last h.4 h.3.1 before.1 in
     ((holds h.0 h.1, before.0, one.0), one.1)
 
@@ -295,13 +230,9 @@ works thread answer after d n seats ends power acted first last turned all calle
     (holds on first, holds acted last, opened.0, made.0, shut.0)
 
 left_same : (power : Power) (q : Pass) → Leaves power q → number_of q ≡ number_of (pass_of power)
-left_same (On control) q h = (disables control.pass q h).2.1
-left_same (Off control) q h = ap (λ p. number_of p) h
+left_same power q h = grind (arith, common_steps, disables)
 
 pub same_seats : (seats ends : Seats) (power : Power) (acted : Hold)
     → TurnsOn false (Off seats.control) power → IsSameHold (hold seats.caller power false) acted → ends.caller ≡ acted.caller
     → Leaves acted.power ends.control.pass → AreSameSeats seats ends
-same_seats seats ends power acted turned same ended left = (
-  ap (λ (c : Caller). number_of c.pass) ended ∙ same.0,
-  left_same acted.power ends.control.pass left ∙ same.1 ∙ (enables false seats.control.pass (pass_of power) turned.1).2.1,
-)
+same_seats seats ends power acted turned same ended left = grind (arith, common_steps, enables, ends, left_same)

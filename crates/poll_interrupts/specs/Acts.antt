@@ -1,8 +1,6 @@
 -- What a device's acts come to.
-use Rattle.std.specs.Prelude.{ℕ, zero, suc, List, [], ◌∷◌, ◌++◌}
-use Rattle.rx_ring.specs.declared.packet.Packet.{Packet}
-use Rattle.poll_interrupts.specs.declared.acts.Act.{Act}
-use Rattle.poll_interrupts.specs.declared.acts.Act.TheVariants.{Arrive, Disable, Enable, SetThreaded, Nothing}
+use Rattle.{std.specs.Prelude.{ℕ, zero, suc, List, [], ◌∷◌, ◌++◌}, rx_ring.specs.declared.packet.Packet.Packet}
+use Rattle.poll_interrupts.specs.declared.acts.Act.{Act, TheVariants.Arrive}
 
 -- the device after its first n acts, each once and in order
 abbrev pub after_acts : {D : Type 0} → (D → ℕ → D) → D → ℕ → D
@@ -11,10 +9,7 @@ after_acts after d (suc n) = after (after_acts after d n) n
 
 abbrev pub brings : Act → List Packet
 brings (Arrive p) = p ∷ []
-brings Disable = []
-brings Enable = []
-brings (SetThreaded b) = []
-brings Nothing = []
+brings _ = []
 
 -- the packets that its first n acts bring
 abbrev pub arrivals : {D : Type 0} → (D → ℕ → Act) → (D → ℕ → D) → D → ℕ → List Packet

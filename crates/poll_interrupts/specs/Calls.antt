@@ -1,27 +1,14 @@
 -- What acts make of a worker's seats at its instance.
 use Rattle.std.specs.Prelude.{◌≡◌, ◌⊎◌, ◌≤◌, ℕ, zero, suc, Bool, true, false, List, [], ◌∷◌, ◌++◌, length, if◌then◌else◌}
-use Rattle.rx_ring.specs.declared.ends.RxIn.{RxIn}
-use Rattle.rx_ring.specs.declared.packet.Packet.{Packet}
-use Rattle.rx_ring.specs.Ends.{SameIn, capacity_of, put_list}
+use Rattle.rx_ring.specs.{declared.{ends.RxIn.RxIn, packet.Packet.Packet}, Ends.{SameIn, capacity_of, put_list}}
+use Rattle.{napi_model.specs.declared.{state.Seen.Seen, event.{Event.Event, Operation.Operation}}, napi_word.specs.declared.table.Pass.Pass}
+use Rattle.napi_calls.specs.{declared.answers.Sched.Sched, Calls.{Disables, Enables, Schedules}, Made.Made, Seats.{number_of, own_list}}
+use Rattle.{poll_list.specs.{declared.list_in.ListIn.ListIn, SharedList.pushed_by}, poll_interrupts.specs.declared.acts.Act.Act}
+use Rattle.poll_interrupts.specs.declared.{acts.Act.TheVariants.{Arrive, Disable, Enable, SetThreaded, Nothing}, worker.Hold.Hold}
+use Rattle.poll_interrupts.specs.{declared.worker.Power.{Power, TheVariants.{On, Off}}, Acts.after_acts}
 use Rattle.napi_model.specs.declared.state.Kind.TheVariants as kind
-use Rattle.napi_model.specs.declared.state.Seen.{Seen}
-use Rattle.napi_model.specs.declared.event.Event.{Event}
-use Rattle.napi_model.specs.declared.event.Operation.{Operation}
 use Rattle.napi_model.specs.declared.event.Operation.TheVariants as operation
-use Rattle.napi_word.specs.declared.table.Pass.{Pass}
-use Rattle.napi_calls.specs.declared.answers.Sched.{Sched}
 use Rattle.napi_calls.specs.declared.answers.Sched.TheVariants as sched
-use Rattle.napi_calls.specs.Calls.{Disables, Enables, Schedules}
-use Rattle.napi_calls.specs.Made.{Made}
-use Rattle.napi_calls.specs.Seats.{number_of, own_list}
-use Rattle.poll_list.specs.declared.list_in.ListIn.{ListIn}
-use Rattle.poll_list.specs.SharedList.{pushed_by}
-use Rattle.poll_interrupts.specs.declared.acts.Act.{Act}
-use Rattle.poll_interrupts.specs.declared.acts.Act.TheVariants.{Arrive, Disable, Enable, SetThreaded, Nothing}
-use Rattle.poll_interrupts.specs.declared.worker.Hold.{Hold}
-use Rattle.poll_interrupts.specs.declared.worker.Power.{Power}
-use Rattle.poll_interrupts.specs.declared.worker.Power.TheVariants.{On, Off}
-use Rattle.poll_interrupts.specs.Acts.{after_acts}
 
 -- Granted, the instance is handed over: where it has a thread of its own to whom a look says, else to the list.
 abbrev pub HandsOver : Bool → Pass → Pass → Type 0

@@ -1,23 +1,10 @@
 -- How a station ends.
-use Rattle.std.specs.Prelude.{◌≡◌, ◌+◌, ◌<◌, ◌^◌, List, [], ◌∷◌, length}
-use Rattle.rx_ring.specs.declared.packet.Packet.{Packet}
-use Rattle.rx_ring.specs.declared.packet.Totals.{Totals}
-use Rattle.rx_ring.specs.Ends.{put_list}
-use Rattle.rx_ring.specs.ReceiveRing.{bytes_of, capped}
-use Rattle.napi_model.specs.declared.event.Event.{Event}
-use Rattle.napi_model.specs.History.{own}
-use Rattle.napi_calls.specs.Seats.{number_of, own_list}
-use Rattle.napi_calls.specs.declared.kept.Kept.{Kept}
-use Rattle.napi_calls.specs.declared.types.Caller.{Caller}
-use Rattle.napi_calls.specs.Instance.{IsSeatOf}
-use Rattle.poll_tasks.specs.declared.tasks.Turned.{Turned}
-use Rattle.poll_interrupts.specs.declared.opening.Placed.{Placed}
-use Rattle.poll_interrupts.specs.declared.job.Worked.{Worked}
-use Rattle.poll_interrupts.specs.declared.station.Finished.{Finished}
-use Rattle.poll_interrupts.specs.declared.worker.Seats.{Seats}
-use Rattle.poll_interrupts.specs.Opens.{IsHome, IsInputOf}
-use Rattle.poll_interrupts.specs.Runs.{IsEnded, controller_number}
-use Rattle.poll_interrupts.specs.Seats.{AreSeatsOf}
+use Rattle.{std.specs.Prelude.{◌≡◌, ◌+◌, ◌<◌, ◌^◌, List, [], ◌∷◌, length}, rx_ring.specs.declared.packet.{Packet.Packet, Totals.Totals}}
+use Rattle.{rx_ring.specs.{Ends.put_list, ReceiveRing.{bytes_of, capped}}, napi_model.specs.{declared.event.Event.Event, History.own}}
+use Rattle.napi_calls.specs.{Seats.{number_of, own_list}, declared.{kept.Kept.Kept, types.Caller.Caller}, Instance.IsSeatOf}
+use Rattle.{poll_tasks.specs.declared.tasks.Turned.Turned, poll_interrupts.specs.declared.{opening.Placed.Placed, job.Worked.Worked}}
+use Rattle.poll_interrupts.specs.{declared.{station.Finished.Finished, worker.Seats.Seats}, Opens.{IsHome, IsInputOf}, Runs.IsEnded}
+use Rattle.poll_interrupts.specs.{Runs.controller_number, Seats.AreSeatsOf}
 
 -- the caller's events in the history are all that it made
 abbrev pub HasAllOf : List Event → Caller → Type 0

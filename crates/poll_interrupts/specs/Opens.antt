@@ -1,17 +1,9 @@
 -- The instances of stations.
-use Rattle.std.specs.Prelude.{◌≡◌, ◌≤◌, [], is_some, vec_len, vec_capacity}
-use Rattle.rx_ring.specs.declared.ends.RxCtx.{RxCtx}
-use Rattle.rx_ring.specs.declared.ends.RxIn.{RxIn}
-use Rattle.rx_ring.specs.Ends.{IsOneRing, capacity_of, put_list, received_list, ring_name}
-use Rattle.napi_calls.specs.declared.kept.Kept.{Kept}
-use Rattle.napi_calls.specs.declared.types.Napi.{Napi}
-use Rattle.napi_calls.specs.Instance.{IsSeatOf, callers_of, first_of_instance, ring_of_instance}
-use Rattle.napi_calls.specs.Seats.{number_of}
-use Rattle.poll_interrupts.specs.declared.station.Station.{Station}
-use Rattle.poll_interrupts.specs.declared.opening.Placed.{Placed}
-use Rattle.poll_interrupts.specs.declared.opening.Loose.{Loose}
-use Rattle.poll_interrupts.specs.Seats.{AreSeatsOf, AreUnused, IsUnused}
-use Rattle.poll_interrupts.specs.Runs.{controller_number, poller_number, thread_number}
+use Rattle.poll_interrupts.specs.{Runs.{controller_number, poller_number, thread_number}, declared.station.Station.Station}
+use Rattle.poll_interrupts.specs.{declared.opening.{Placed.Placed, Loose.Loose}, Seats.{AreSeatsOf, AreUnused, IsUnused}}
+use Rattle.{std.specs.Prelude.{◌≡◌, ◌≤◌, [], is_some, vec_len, vec_capacity}, napi_calls.specs.declared.{types.Napi.Napi, kept.Kept.Kept}}
+use Rattle.napi_calls.specs.{Seats.number_of, Instance.{IsSeatOf, callers_of, first_of_instance, ring_of_instance}}
+use Rattle.rx_ring.specs.{Ends.{IsOneRing, capacity_of, put_list, received_list, ring_name}, declared.ends.{RxCtx.RxCtx, RxIn.RxIn}}
 
 -- its number is 1 to 16, and its ring has 1 to 65536 places
 pub record IsStation {D : Type 0} (station : Station D) : Type 0 where

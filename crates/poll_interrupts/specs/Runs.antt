@@ -1,29 +1,17 @@
 -- What a worker's run leaves behind: what each act adds to the events of its own, and the one history in which these stand.
 use Rattle.std.specs.Prelude.{◌≡◌, ◌⊎◌, ◌≤◌, ℕ, zero, suc, Bool, true, false, List, [], ◌∷◌, ◌++◌, length, flat_map, if◌then◌else◌, Option}
+use Rattle.rx_ring.specs.{declared.packet.{Packet.Packet, Totals.Totals}, ReceiveRing.totals_of}
+use Rattle.napi_model.specs.declared.{state.Seen.Seen, event.{Prep.Prep, Event.Event, Operation.{Operation, TheVariants.{Look, Schedule}}}}
+use Rattle.napi_model.specs.declared.event.Operation.TheVariants.{Hand, MarkDisable, TakeDisable, Unmark, Enable, SetThreaded}
+use Rattle.napi_model.specs.{Step.opening, History.{LegalHistory, state_after, own, IsAcceptedSchedule}}
+use Rattle.{napi_word.specs.{declared.view.Delivery.Delivery, View.{deliverers, packets_of}, Slot.givers}, napi_calls.specs.Made.Lost}
+use Rattle.{napi_calls.specs.{Made.{events, looks, waits}, Served.IsServed}, poll_interrupts.specs.{declared.acts.Act.Act, Acts.after_acts}}
 use mathlib.Core.List.{IsPrefix}
-use Rattle.rx_ring.specs.declared.packet.Packet.{Packet}
-use Rattle.rx_ring.specs.declared.packet.Totals.{Totals}
-use Rattle.rx_ring.specs.ReceiveRing.{totals_of}
 use Rattle.napi_model.specs.declared.state.Kind.TheVariants as kind
-use Rattle.napi_model.specs.declared.state.Seen.{Seen}
 use Rattle.napi_model.specs.declared.state.Place.TheVariants as place
-use Rattle.napi_model.specs.declared.event.Prep.{Prep}
 use Rattle.napi_model.specs.declared.event.Prep.TheVariants as prep
 use Rattle.napi_model.specs.declared.event.Call.TheVariants as call
-use Rattle.napi_model.specs.declared.event.Event.{Event}
-use Rattle.napi_model.specs.declared.event.Operation.{Operation}
-use Rattle.napi_model.specs.declared.event.Operation.TheVariants.{Look, Schedule, Hand, MarkDisable, TakeDisable, Unmark, Enable}
-use Rattle.napi_model.specs.declared.event.Operation.TheVariants.{SetThreaded}
-use Rattle.napi_model.specs.Step.{opening}
-use Rattle.napi_model.specs.History.{LegalHistory, state_after, own, IsAcceptedSchedule}
-use Rattle.napi_word.specs.declared.view.Delivery.{Delivery}
-use Rattle.napi_word.specs.View.{deliverers, packets_of}
-use Rattle.napi_word.specs.Slot.{givers}
-use Rattle.napi_calls.specs.Made.{Lost, events, looks, waits}
-use Rattle.napi_calls.specs.Served.{IsServed}
-use Rattle.poll_interrupts.specs.declared.acts.Act.{Act}
 use Rattle.poll_interrupts.specs.declared.acts.Act.TheVariants as act
-use Rattle.poll_interrupts.specs.Acts.{after_acts}
 
 -- ---- what a thread does of its own: the tries that were lost, and the one that decided
 

@@ -1,14 +1,7 @@
 -- Whose instance the seats are of that a thread has.
-use Rattle.std.specs.Prelude.{◌≡◌, ℕ, []}
-use Rattle.napi_calls.specs.declared.types.Caller.{Caller}
-use Rattle.napi_calls.specs.declared.types.Napi.{Napi}
-use Rattle.napi_calls.specs.Instance.{IsSeatOf}
-use Rattle.napi_calls.specs.Seats.{number_of, own_list}
-use Rattle.poll_interrupts.specs.declared.worker.Power.{Power}
-use Rattle.poll_interrupts.specs.declared.worker.Power.TheVariants.{On, Off}
-use Rattle.poll_interrupts.specs.declared.worker.Hold.{Hold}
-use Rattle.poll_interrupts.specs.declared.worker.Seats.{Seats}
-use Rattle.poll_interrupts.specs.Runs.{controller_number, worker_number}
+use Rattle.{std.specs.Prelude.{◌≡◌, ℕ, []}, napi_calls.specs.{declared.types.{Caller.Caller, Napi.Napi}, Instance.IsSeatOf}}
+use Rattle.{napi_calls.specs.Seats.{number_of, own_list}, poll_interrupts.specs.declared.worker.Power.{Power, TheVariants.{On, Off}}}
+use Rattle.poll_interrupts.specs.{declared.worker.{Hold.Hold, Seats.Seats}, Runs.{controller_number, worker_number}}
 
 abbrev pub IsPowerOf : Napi → Power → Type 0
 IsPowerOf napi (On control) = IsSeatOf napi control.pass

@@ -1,18 +1,8 @@
 -- What a worker promises of its own station.
-use Rattle.std.specs.Prelude.{◌≡◌, ℕ, ◌+◌, ◌≤◌, ◌++◌, Bool, true, false, length}
-use Rattle.rx_ring.specs.declared.ends.RxIn.{RxIn}
-use Rattle.rx_ring.specs.Ends.{SameIn, capacity_of, put_list}
-use Rattle.napi_calls.specs.declared.types.Napi.{Napi}
-use Rattle.poll_interrupts.specs.declared.acts.Act.{Act}
-use Rattle.poll_interrupts.specs.declared.worker.Seats.{Seats}
-use Rattle.poll_interrupts.specs.declared.worker.Work.{Work}
-use Rattle.poll_interrupts.specs.declared.worker.Done.{Done}
-use Rattle.poll_interrupts.specs.declared.job.Worked.{Worked}
-use Rattle.napi_calls.specs.Seats.{number_of, own_list}
-use Rattle.poll_interrupts.specs.Acts.{after_acts, arrivals}
-use Rattle.poll_interrupts.specs.Calls.{Lists}
-use Rattle.poll_interrupts.specs.Runs.{Ledger, Whose, WorksBy}
-use Rattle.poll_interrupts.specs.Seats.{AreSeatsOf}
+use Rattle.{std.specs.Prelude.{◌≡◌, ℕ, ◌+◌, ◌≤◌, ◌++◌, Bool, true, false, length}, rx_ring.specs.{declared.ends.RxIn.RxIn, Ends.SameIn}}
+use Rattle.{rx_ring.specs.Ends.{capacity_of, put_list}, napi_calls.specs.{declared.types.Napi.Napi, Seats.{number_of, own_list}}}
+use Rattle.poll_interrupts.specs.{declared.{acts.Act.Act, worker.{Seats.Seats, Work.Work, Done.Done}, job.Worked.Worked}, Acts.after_acts}
+use Rattle.poll_interrupts.specs.{Acts.arrivals, Calls.Lists, Runs.{Ledger, Whose, WorksBy}, Seats.AreSeatsOf}
 
 -- the ledger of a worker whose instance is off, by its seats, the ring's input and the threaded setting
 abbrev pub ledger_of : Seats → RxIn → Bool → Ledger

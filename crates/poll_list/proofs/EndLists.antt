@@ -1,8 +1,7 @@
 -- Lists of what the ends know, by index, and the pushes of one end.
-use Rattle.std.proofs.Common.{◌≡◌, ◌≢◌, ℕ, zero, suc, ◌+◌, ◌<◌, ◌≤◌, ◌⊎◌, Bool, true, false, List, [], ◌∷◌, ◌++◌, length, set, eqb, cond}
-use Rattle.std.{proofs.Common.{sym, refl, ap, ◌∙◌, subst, inl, inr, ⊎_elim, append_assoc, eq-eqb, ne_eqb, arith}, specs.List.sum_by}
-use Rattle.{std.proofs.lemmas.List.{map-append, Sums.sum_by-cons}, crossbeam_queue.proofs.Lists.at_set}
-use Rattle.poll_list.specs.PushOrder.{Push, push_of, ids_of, pushes_by}
+use Rattle.std.proofs.{lemmas.{Grind.common_steps, List.Sums.sum_by-cons}, Common.{◌≡◌, ◌≢◌, ℕ, zero, suc, ◌+◌, ◌<◌, ◌≤◌, ◌⊎◌, Bool, List}}
+use Rattle.std.proofs.Common.{[], ◌∷◌, ◌++◌, length, set, cond, sym, refl, ap, subst, inl, inr, ⊎_elim, eq-eqb, ne_eqb, arith}
+use Rattle.{std.specs.List.sum_by, crossbeam_queue.proofs.Lists.at_set, poll_list.specs.PushOrder.{Push, push_of, ids_of, pushes_by}}
 use mathlib.Core.Option.{some, some-ne-none, some-injective}
 use lib.ListN.{get_elem?}
 
@@ -37,8 +36,7 @@ module _ {A : Type 0} where
       → f a + f b ≤ sum_by f l
   two_weights f [] i j a b n e d = absurd (some-ne-none a (sym e))
   two_weights f (x ∷ xs) zero zero a b n e d = absurd (n refl)
-  two_weights f (x ∷ xs) zero (suc j) a b n e d = let q : f x ≡ f a = ap f (some-injective x a e) in let h = one_weight f xs j b d in
-      omega (arith, sum_by-cons f x xs)
+  two_weights f (x ∷ xs) zero (suc j) a b n e d = grind (arith, common_steps, one_weight)
   two_weights f (x ∷ xs) (suc i) zero a b n e d = let q : f x ≡ f b = ap f (some-injective x b d) in let h = one_weight f xs i a e in
       omega (arith, sum_by-cons f x xs)
   two_weights f (x ∷ xs) (suc i) (suc j) a b n e d = let h = two_weights f xs i j a b (λ q. n (ap suc q)) e d in
@@ -55,17 +53,12 @@ module _ {A : Type 0} where
 
 pub by_mine : (p x : ℕ) (order : List Push) → pushes_by p (order ++ push_of p x ∷ []) ≡ pushes_by p order ++ x ∷ []
 by_mine p x [] = ap (λ (b : Bool). cond b (x ∷ []) []) (eq-eqb p p refl)
-by_mine p x (e ∷ es) =
-    elim (eqb e.by p) as (λ b. cond b (e.id ∷ pushes_by p (es ++ push_of p x ∷ [])) (pushes_by p (es ++ push_of p x ∷ []))
-    ≡ cond b (e.id ∷ pushes_by p es) (pushes_by p es) ++ x ∷ []) [ true ↦ ap (λ l. e.id ∷ l) (by_mine p x es) | false ↦ by_mine p x es ]
+by_mine p x (e ∷ es) = grind (arith, common_steps, by_mine p x es)
 
 pub by_other : (p q x : ℕ) (order : List Push) → p ≢ q → pushes_by p (order ++ push_of q x ∷ []) ≡ pushes_by p order
 by_other p q x [] n = ap (λ (b : Bool). cond b (x ∷ []) []) (ne_eqb q p (λ h. n (sym h)))
-by_other p q x (e ∷ es) n =
-    elim (eqb e.by p) as (λ b. cond b (e.id ∷ pushes_by p (es ++ push_of q x ∷ [])) (pushes_by p (es ++ push_of q x ∷ []))
-    ≡ cond b (e.id ∷ pushes_by p es) (pushes_by p es)) [ true ↦ ap (λ l. e.id ∷ l) (by_other p q x es n) | false ↦ by_other p q x es n ]
+by_other p q x (e ∷ es) n = grind (arith, common_steps, by_other p q x es n)
 
 pub ids_push : (order : List Push) (p x : ℕ) (got items : List ℕ) → ids_of order ≡ got ++ items
     → ids_of (order ++ push_of p x ∷ []) ≡ got ++ (items ++ x ∷ [])
-ids_push order p x got items e =
-    map-append (λ (y : Push). y.id) order (push_of p x ∷ []) ∙ ap (λ l. l ++ x ∷ []) e ∙ append_assoc got items (x ∷ [])
+ids_push order p x got items e = grind (arith, common_steps)

@@ -1,12 +1,11 @@
 -- Once all ends came back, there are no more pushes than theirs and the poller's.
 use Rattle.std.proofs.Common.{◌≡◌, ℕ, zero, suc, ◌+◌, ◌<◌, ◌≤◌, ◌⊎◌, Bool, true, false, List, [], ◌∷◌, ◌++◌, length, map, cond, eqb, sym}
 use Rattle.std.proofs.Common.{refl, ap, ◌∙◌, subst, inl, inr, ⊎_elim, length-append, append-nil, eq-eqb, lt_of_not-le, arith}
-use Rattle.std.{specs.List.{sum_by, All}, proofs.lemmas.List.{length-map, nil_from_length, Sums.sum_by-cons}}
-use Rattle.{poll_list.specs.declared.list_rule.{Returned.Returned, EndView.EndView}, crossbeam_queue.specs.Passes.view}
-use Rattle.poll_list.specs.declared.{list_in.ListIn.ListIn, shared.SharedList.SharedList}
-use Rattle.poll_list.specs.PushOrder.{Push, ids_of, poller, pushes_by, IsReturned, KnowsOrder, PopsMore, WasEmpty, returned_pushes}
-use Rattle.poll_list.specs.SharedList.{as_returned, number_of, own_pushes, popped_by, pushed_by, IsOneOrder}
-use Rattle.std.proofs.lemmas.List.Elements.{All-nil, All-cons}
+use Rattle.std.{proofs.lemmas.List.{length-map, nil_from_length, Sums.sum_by-cons, Elements.{All-nil, All-cons}}, specs.List.{sum_by, All}}
+use Rattle.{crossbeam_queue.specs.Passes.view, poll_list.specs.declared.list_rule.{Returned.Returned, EndView.EndView}}
+use Rattle.poll_list.specs.{declared.{list_in.ListIn.ListIn, shared.SharedList.SharedList}, PushOrder.{Push, ids_of, poller, pushes_by}}
+use Rattle.poll_list.specs.{PushOrder.{IsReturned, KnowsOrder, PopsMore, WasEmpty, returned_pushes}, SharedList.{as_returned, number_of}}
+use Rattle.poll_list.specs.SharedList.{own_pushes, popped_by, pushed_by, IsOneOrder}
 use mathlib.Core.{Option.{some, some-ne-none, some-injective}, Logic.dite}
 use native.Mathlib.Decide.{dec_le}
 use lib.ListN.{get_elem?}

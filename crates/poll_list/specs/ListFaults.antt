@@ -1,7 +1,5 @@
 -- The numbers of the faults of a shared list.
-use Rattle.std.specs.Prelude.{ℕ}
-use Rattle.poll_list.specs.declared.list_fault.ListFault.{ListFault}
-use Rattle.poll_list.specs.declared.list_fault.ListFault.TheVariants.{BadSize, OutOfMemory, NotAll}
+use Rattle.{std.specs.Prelude.ℕ, poll_list.specs.declared.list_fault.ListFault.{ListFault, TheVariants.{BadSize, OutOfMemory, NotAll}}}
 
 -- the number by which a fault is known
 abbrev pub number_of : ListFault → ℕ

@@ -2,11 +2,9 @@
 -- The kernel has one such order by itself: `____napi_schedule` adds to the poll_list of its own processor alone, with
 -- interrupts off (`net/core/dev.c`). Here several threads push, and the queue's steps make the order.
 use Rattle.std.specs.Prelude.{◌≡◌, ℕ, ◌+◌, ◌<◌, ◌≤◌, true, false, List, [], ◌∷◌, ◌++◌, map, length, nat_eq, if◌then◌else◌, ◌⊎◌}
-use Rattle.std.specs.List.{sum_by}
+use Rattle.{std.specs.List.sum_by, poll_list.specs.declared.list_rule.{Returned.Returned, EndView.EndView}}
 use mathlib.Core.Option.{some}
 use lib.ListN.{get_elem?}
-use Rattle.poll_list.specs.declared.list_rule.Returned.{Returned}
-use Rattle.poll_list.specs.declared.list_rule.EndView.{EndView}
 
 -- a push: by the end with this number, of this instance
 pub record Push : Type 0 where

@@ -1,12 +1,7 @@
 -- What a contract sees of a shared poll list and of the ends that push to it.
-use Rattle.std.specs.Prelude.{◌≡◌, ℕ, ◌+◌, ◌<◌, ◌≤◌, List, [], ◌++◌, map, length, slice_index_or, ◌⊎◌}
-use Rattle.std.specs.List.{All}
-use Rattle.crossbeam_queue.specs.Passes.{view}
-use Rattle.poll_list.specs.declared.list_in.ListIn.{ListIn}
-use Rattle.poll_list.specs.declared.shared.SharedList.{SharedList}
-use Rattle.poll_list.specs.declared.list_rule.Returned.{Returned}
-use Rattle.poll_list.specs.EmptyPops.{CountsOne}
-use Rattle.poll_list.specs.PushOrder.{Push, returned_end, ids_of, pushes_by, IsReturned, WasEmpty, returned_pushes}
+use Rattle.{crossbeam_queue.specs.Passes.view, std.specs.Prelude.{◌≡◌, ℕ, ◌+◌, ◌<◌, ◌≤◌, List, [], ◌++◌, map, length, slice_index_or, ◌⊎◌}}
+use Rattle.{std.specs.List.All, poll_list.specs.declared.{list_in.ListIn.ListIn, shared.SharedList.SharedList, list_rule.Returned.Returned}}
+use Rattle.poll_list.specs.{PushOrder.{Push, returned_end, ids_of, pushes_by, IsReturned, WasEmpty, returned_pushes}, EmptyPops.CountsOne}
 
 module _ {R : Type 0} where
   -- the instances that were pushed at this end, in order

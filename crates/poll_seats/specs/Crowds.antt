@@ -1,11 +1,7 @@
 -- What a poll makes of a poller's seats.
 use Rattle.std.specs.Prelude.{◌≡◌, ◌==◌, ◌<◌, ℕ, length, get_or, set, position, is_some, vec_items, MatchOption}
-use Rattle.poll_runs.specs.declared.bench.Next.TheVariants.{Absent}
-use Rattle.poll_runs.specs.declared.bench.Once.{Once}
-use Rattle.poll_seats.specs.declared.seat.Seat.{Seat}
-use Rattle.poll_seats.specs.declared.poller.Crowd.{Crowd}
-use Rattle.poll_seats.specs.Polled.{Polls}
-use Rattle.poll_seats.specs.SeatKeeping.{IsSameSeat}
+use Rattle.{poll_runs.specs.declared.bench.{Next.TheVariants.Absent, Once.Once}, poll_seats.specs.declared.seat.Seat.Seat}
+use Rattle.poll_seats.specs.{declared.poller.Crowd.Crowd, Polled.Polls, SeatKeeping.IsSameSeat}
 
 module _ {R : Type 0} where
   -- the seat at this place was polled once, with this weight and this answer, and no other one

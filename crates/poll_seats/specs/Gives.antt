@@ -1,21 +1,9 @@
 -- What a poller's thread, and the thread of an instance, give back.
-use Rattle.std.specs.Prelude.{◌≡◌, ℕ, ◌+◌, Bool, true, List, Some, IsSome, MatchOption, vec_items}
-use Rattle.std.specs.Global.{Vec}
-use Rattle.napi_calls.specs.declared.kept.Kept.{Kept}
-use Rattle.napi_calls.specs.declared.types.Caller.{Caller}
-use Rattle.napi_calls.specs.Instance.{IsSeatOf}
-use Rattle.poll_list.specs.declared.shared.SharedList.{SharedList}
-use Rattle.poll_tasks.specs.declared.pace.Pace.{Pace}
-use Rattle.poll_tasks.specs.declared.tasks.Turned.{Turned}
-use Rattle.poll_tasks.specs.Asks.{IsAsked}
-use Rattle.poll_seats.specs.declared.seat.Seat.{Seat}
-use Rattle.poll_seats.specs.declared.poller.Poller.{Poller}
-use Rattle.poll_seats.specs.declared.poller.PollTask.{PollTask}
-use Rattle.poll_seats.specs.declared.thread_poller.Alone.{Alone}
-use Rattle.poll_seats.specs.declared.thread_poller.ThreadSide.{ThreadSide}
-use Rattle.poll_seats.specs.SeatKeeping.{AreSameSeats}
-use Rattle.poll_seats.specs.Serving.{IsServed}
-use Rattle.poll_seats.specs.Turns.{TurnsAlone, TurnsByRun}
+use Rattle.{poll_list.specs.declared.shared.SharedList.SharedList, napi_calls.specs.declared.{kept.Kept.Kept, types.Caller.Caller}}
+use Rattle.{napi_calls.specs.Instance.IsSeatOf, poll_tasks.specs.{Asks.IsAsked, declared.{pace.Pace.Pace, tasks.Turned.Turned}}}
+use Rattle.std.specs.{Global.Vec, Prelude.{◌≡◌, ℕ, ◌+◌, Bool, true, List, Some, IsSome, MatchOption, vec_items}}
+use Rattle.poll_seats.specs.declared.{poller.{PollTask.PollTask, Poller.Poller}, seat.Seat.Seat, thread_poller.ThreadSide.ThreadSide}
+use Rattle.poll_seats.specs.{declared.thread_poller.Alone.Alone, SeatKeeping.AreSameSeats, Turns.{TurnsAlone, TurnsByRun}, Serving.IsServed}
 
 -- by what numbers a gate knows a poller, and the thread of an instance
 abbrev pub poller_name : ℕ → ℕ

@@ -1,16 +1,8 @@
 -- What a seat's polls make of its caller.
 use Rattle.std.specs.Prelude.{◌≡◌, ◌==◌, ◌||◌, ℕ, Bool, false, List, [], ◌∷◌, Option, Some, None, length, if◌then◌else◌}
-use Rattle.rx_ring.specs.declared.packet.Packet.{Packet}
-use Rattle.napi_model.specs.declared.event.Operation.{Operation}
-use Rattle.napi_calls.specs.declared.types.Caller.{Caller}
-use Rattle.napi_calls.specs.Dealt.{Delivers}
-use Rattle.napi_calls.specs.Made.{Made}
-use Rattle.poll_runs.specs.Polls.{is_arrival, is_repoll}
-use Rattle.poll_runs.specs.Thread.{IsThreadPolling}
-use Rattle.poll_runs.specs.declared.bench.Next.{Next}
-use Rattle.poll_runs.specs.declared.bench.Next.TheVariants.{Absent}
-use Rattle.poll_runs.specs.declared.bench.Once.{Once}
-use Rattle.poll_runs.specs.declared.bench.ThreadReport.{ThreadReport}
+use Rattle.{rx_ring.specs.declared.packet.Packet.Packet, napi_model.specs.declared.event.Operation.Operation}
+use Rattle.{napi_calls.specs.{declared.types.Caller.Caller, Dealt.Delivers, Made.Made}, poll_runs.specs.Polls.{is_arrival, is_repoll}}
+use Rattle.poll_runs.specs.{Thread.IsThreadPolling, declared.bench.{Next.{Next, TheVariants.Absent}, Once.Once, ThreadReport.ThreadReport}}
 use Rattle.poll_shared.specs.SharedPolling.{GivesEach, PollsOnceBy, ThreadPollsBy}
 
 -- The poll of a caller that is there, with this weight, of an instance that has a thread of its own or has none. Its caller

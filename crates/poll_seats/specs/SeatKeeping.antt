@@ -1,10 +1,6 @@
 -- A poller's seats, which stay at their instances.
-use Rattle.std.specs.Prelude.{◌≡◌, List, Some, IsSome}
-use Rattle.std.specs.List.{AllZip}
-use Rattle.napi_calls.specs.declared.kept.Kept.{Kept}
-use Rattle.napi_calls.specs.declared.types.Caller.{Caller}
-use Rattle.napi_calls.specs.Instance.{IsSeatOf}
-use Rattle.poll_seats.specs.declared.seat.Seat.{Seat}
+use Rattle.{std.specs.{Prelude.{◌≡◌, List, Some, IsSome}, List.AllZip}, napi_calls.specs.declared.{kept.Kept.Kept, types.Caller.Caller}}
+use Rattle.{napi_calls.specs.Instance.IsSeatOf, poll_seats.specs.declared.seat.Seat.Seat}
 
 -- the seat is at the same instance, with the same bell, and its caller is there again
 pub record IsSameSeat (a b : Seat) : Type 0 where

@@ -1,6 +1,5 @@
 -- Turns of what is polled until nothing comes any more.
-use Rattle.std.specs.Prelude.{Bool, false, List}
-use Rattle.poll_runs.specs.Polls.{Chain}
+use Rattle.{std.specs.Prelude.{Bool, false, List}, poll_runs.specs.Polls.Chain}
 
 -- turns one after the other, each of which found something or nothing; the last one found nothing
 pub record IsServed {S : Type 0} (turns : S → Bool → S → Type 0) (before after : S) : Type 0 where

@@ -1,15 +1,8 @@
 -- A turn of a poller, and one of the thread of an instance.
-use Rattle.std.specs.Prelude.{◌≡◌, ◌++◌, Bool, List, nat_lt}
-use Rattle.poll_list.specs.SharedList.{IsAllPopped, PopsCame, in_hand, pushed_by}
-use Rattle.poll_runs.specs.Polls.{At, Chain, Poll}
-use Rattle.poll_runs.specs.Run.{IsRun}
-use Rattle.poll_runs.specs.declared.bench.ThreadReport.{ThreadReport}
-use Rattle.poll_runs.specs.declared.run.RunReport.{RunReport}
-use Rattle.poll_seats.specs.declared.poller.Poller.{Poller}
-use Rattle.poll_seats.specs.declared.thread_poller.Alone.{Alone}
-use Rattle.poll_seats.specs.Crowds.{PollsSeat}
-use Rattle.poll_seats.specs.Polled.{PollsByThread, handed_on}
-use Rattle.poll_seats.specs.SeatKeeping.{IsSameSeat}
+use Rattle.{std.specs.Prelude.{◌≡◌, ◌++◌, Bool, List, nat_lt}, poll_list.specs.SharedList.{IsAllPopped, PopsCame, in_hand, pushed_by}}
+use Rattle.poll_runs.specs.{Polls.{At, Chain, Poll}, Run.IsRun, declared.{bench.ThreadReport.ThreadReport, run.RunReport.RunReport}}
+use Rattle.poll_seats.specs.{declared.{poller.Poller.Poller, thread_poller.Alone.Alone}, Crowds.PollsSeat, Polled.PollsByThread}
+use Rattle.poll_seats.specs.{Polled.handed_on, SeatKeeping.IsSameSeat}
 
 module _ {R : Type 0} where
   -- a run over what is on the list, by the budget, the weight and the window of the pace (`net_rx_action`)

@@ -1,8 +1,7 @@
 -- The operations of calls, one after the other.
 use Rattle.std.proofs.Common.{◌≢◌, Bool, true, false, List, [], ◌∷◌, ◌++◌, ◌∙◌, sym, refl}
 use Rattle.{napi_model.specs.declared.{event.{Operation.Operation, Done.Done}, state.Kind.Kind}, napi_word.specs.declared.table.Pass.Pass}
-use Rattle.napi_calls.{specs.Made.Made, proofs.Making.more}
-use Rattle.poll_runs.specs.declared.bench.Next.{Next, TheVariants.{Absent, Gone, Again, Repoll}}
+use Rattle.{napi_calls.{specs.Made.Made, proofs.Making.more}, poll_runs.specs.declared.bench.Next.{Next, TheVariants.{Gone, Again}}}
 use Rattle.poll_shared.specs.SharedPolling.{CompletesBy, EndsBy, HandsTo}
 use Rattle.napi_model.specs.declared.event.Done.TheVariants as done
 
@@ -27,10 +26,9 @@ hand_made false kind os e = λ none. let bad = sym e.1 ∙ none in cc
 hand_made true kind os e = λ none. let bad = sym e.2 ∙ none in cc
 
 pub end_made : (thread : Bool) (next : Next) (os : List Operation) → EndsBy thread next os → os ≢ []
-end_made thread Absent os e = absurd e
-end_made thread Repoll os e = absurd e
 end_made thread Gone os e = complete_made _ os e
 end_made thread (Again k) os e = λ none. filled_behind e.0 e.1 (hand_made thread k e.1 e.3) (sym e.4 ∙ none)
+end_made thread _ os e = absurd e
 
 -- a completion, and then the hand-over
 pub again_made : {p q r : Pass} (thread : Bool) (kind : Kind) (os ps : List Operation)

@@ -1,20 +1,16 @@
 -- Busy polling of a shared instance through its caller's seat, told by the operations of the caller.
-use Rattle.std.proofs.Common.{◌≡◌, ◌≢◌, ◌∙◌, ℕ, ◌+◌, ◌≤◌, Bool, true, false, List, [], ◌∷◌, ◌++◌, append_assoc, append-nil, MatchBool, ap}
-use Rattle.std.proofs.Common.{arith, flat_map, length, length-append, map, refl, sym, subst}
-use Rattle.std.specs.{Prelude.{filter, if◌then◌else◌, nat_lt, sum_by}, List.AllByRecursion}
-use Rattle.std.proofs.lemmas.List.{Elements.filter-append, Sums.{sum-map, sum_by-append, sum_by-cons}}
-use Rattle.rx_ring.specs.declared.packet.Packet.{Packet}
-use Rattle.rx_ring.specs.ReceiveRing.{bytes_of}
-use Rattle.napi_model.specs.declared.state.Kind.{Kind}
-use Rattle.napi_model.specs.declared.event.{Done.Done, Operation.{Operation, TheVariants.{Look, Hand, Complete, BusyTake, BusyStop}}}
-use Rattle.napi_word.specs.declared.table.Pass.{Pass}
-use Rattle.{napi_model.specs.declared.event.Call.Call, napi_calls.specs.Made.{Lost, Made, looks}}
-use Rattle.poll_runs.specs.{BusyPolling.{Given, busy_report, is_below, no_report}, Polling.is_absent, Polls.Chain}
-use Rattle.poll_shared.specs.Seat.{SeatBusyTakes, SeatCompletes, SeatGives, SeatHolds, SeatMade, SeatRequeues, SeatStops, packets_by}
-use Rattle.poll_shared.specs.SharedBusy.{BusyPollsBy, BusyTakesBy, LeavesBy, PollsBusilyBy, StopsBy, held_by, held_in, is_held}
-use Rattle.poll_shared.specs.{SharedPolling.{CompletesBy, EndsBy, HandsTo}, declared.seat.Seat.Seat}
-use Rattle.poll_runs.specs.declared.bench.{BusyReport.BusyReport, Next.{Next, TheVariants.{Absent, Gone, Again, Repoll}}}
-use Rattle.poll_shared.proofs.{Joined.{end_made, filled}, SeatPolling.{same_pass, seat_behind}}
+use Rattle.{napi_word.specs.declared.table.Pass.Pass, poll_shared.specs.Seat.{SeatBusyTakes, SeatCompletes, SeatGives, SeatHolds, SeatMade}}
+use Rattle.poll_shared.specs.{Seat.{SeatRequeues, SeatStops, packets_by}, SharedBusy.{BusyPollsBy, BusyTakesBy, LeavesBy, PollsBusilyBy}}
+use Rattle.poll_shared.specs.{SharedBusy.{StopsBy, held_by, held_in, is_held}, SharedPolling.{CompletesBy, EndsBy, HandsTo}}
+use Rattle.poll_shared.{specs.declared.seat.Seat.Seat, proofs.{SeatPolling.{same_pass, seat_behind}, Joined.{end_made, filled}}}
+use Rattle.poll_runs.specs.{Polls.Chain, declared.bench.{BusyReport.BusyReport, Next.{Next, TheVariants.{Absent, Gone, Again, Repoll}}}}
+use Rattle.poll_runs.specs.{Polling.is_absent, BusyPolling.{Given, busy_report, is_below, no_report}}
+use Rattle.napi_model.specs.declared.{state.Kind.Kind, event.Operation.{Operation, TheVariants.{Look, Hand, Complete, BusyTake, BusyStop}}}
+use Rattle.{napi_model.specs.declared.event.{Done.Done, Call.Call}, std.proofs.Common.{◌≡◌, ◌≢◌, ◌∙◌, ℕ, ◌+◌, ◌≤◌, Bool, true, false, List}}
+use Rattle.std.proofs.Common.{[], ◌∷◌, ◌++◌, append_assoc, append-nil, MatchBool, ap, arith, flat_map, length, length-append, map, refl}
+use Rattle.std.proofs.{Common.{sym, subst}, lemmas.List.{Sums.{sum-map, sum_by-append, sum_by-cons}, Elements.filter-append}}
+use Rattle.{std.specs.{List.AllByRecursion, Prelude.{filter, if◌then◌else◌, nat_lt, sum_by}}, napi_calls.specs.Made.{Lost, Made, looks}}
+use Rattle.rx_ring.specs.{declared.packet.Packet.Packet, ReceiveRing.bytes_of}
 use Rattle.napi_model.specs.declared.state.Kind.TheVariants as kind
 use Rattle.napi_model.specs.declared.event.Done.TheVariants as done
 use Rattle.poll_runs.specs.BusyPolling as busy
@@ -35,9 +31,8 @@ held-stops : (os : List Operation) → StopsBy os → held_in os ≡ 0
 held-stops os t = rw t.2 (held-looks t.0 (Look t.1 ∷ BusyStop ∷ []))
 
 held-completes : (reply : Done) (os : List Operation) → reply ≢ done.Held → CompletesBy reply os → held_in os ≡ 0
-held-completes done.Released os other t = rw t.2 (held-looks t.0 (Look t.1 ∷ Complete done.Released ∷ []))
-held-completes done.Again os other t = rw t.2 (held-looks t.0 (Look t.1 ∷ Complete done.Again ∷ []))
 held-completes done.Held os other t = absurd (other refl)
+held-completes rest os other t = rw t.2 (held-looks t.0 (Look t.1 ∷ Complete rest ∷ []))
 
 held-hands : (k : Kind) (os : List Operation) → HandsTo true k os → held_in os ≡ 0
 held-hands k os h = rw h.2 refl
@@ -52,8 +47,7 @@ held-ends (Again k) os e =
 held-leaves : (below : Bool) (next : Next) (os : List Operation) → LeavesBy below next os → held_in os ≡ 0
 held-leaves below Absent os l = absurd l
 held-leaves below Repoll os l = rw l.1 refl
-held-leaves below Gone os l = held-ends Gone os l.1
-held-leaves below (Again k) os l = held-ends (Again k) os l.1
+held-leaves below other os l = held-ends other os l.1
 
 -- the packets of each of these polls
 abbrev lists : {P : Type 0} → (P → List Packet) → List (Given P) → List (List Packet)

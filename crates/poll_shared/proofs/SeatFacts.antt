@@ -1,11 +1,10 @@
 -- A call of a caller's seat at a shared instance.
 use Rattle.std.proofs.Common.{◌≡◌, List, [], ◌++◌, length, drop, Some, ◌∙◌, ap, sym, append-nil, append_assoc}
 use Rattle.rx_ring.specs.{declared.{packet.Packet.Packet, ends.RxCtx.RxCtx}, Ends.received_list}
-use Rattle.napi_model.specs.declared.event.Operation.{Operation}
-use Rattle.napi_word.specs.{declared.table.Pass.Pass, View.{own_deliveries, packets_of}}
-use Rattle.napi_calls.specs.{Made.Made, Packets.{GivesBack, HoldsOn, IsFresh, own_delivered, polled}}
-use Rattle.napi_calls.{specs.Seats.number_of, proofs.Dealing.{delivers_back, polled_none}}
-use Rattle.poll_shared.specs.{declared.seat.{Hold.{Hold, TheVariants.Gone}, Seat.Seat}, Seat.{SeatMade, ctx_of, packets_by, pass_of}}
+use Rattle.{napi_model.specs.declared.event.Operation.Operation, napi_word.specs.{declared.table.Pass.Pass, View.own_deliveries}}
+use Rattle.{napi_word.specs.View.packets_of, napi_calls.specs.{Made.Made, Packets.{GivesBack, HoldsOn, IsFresh, own_delivered, polled}}}
+use Rattle.{napi_calls.{specs.Seats.number_of, proofs.Dealing.{delivers_back, polled_none}}, poll_shared.specs.declared.seat.Hold.Hold}
+use Rattle.poll_shared.specs.{declared.seat.{Hold.TheVariants.Gone, Seat.Seat}, Seat.{SeatMade, ctx_of, packets_by, pass_of}}
 
 -- ---- the packets of one who has the context: those delivered, and those polled since
 

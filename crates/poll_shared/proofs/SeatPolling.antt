@@ -2,13 +2,12 @@
 use Rattle.std.proofs.Common.{◌≡◌, ◌≢◌, ◌∙◌, ◌==◌, ◌-◌, ℕ, Bool, true, false, List, [], ◌∷◌, ◌++◌, Option, Some, None, MatchBool}
 use Rattle.{std.proofs.Common.{append-nil, append_assoc, ap, length, refl, sym, subst}, rx_ring.specs.declared.packet.Packet.Packet}
 use Rattle.napi_model.specs.declared.{state.Kind.Kind, event.Operation.{Operation, TheVariants.{Look, Hand, Take}}}
-use Rattle.{napi_word.specs.declared.table.Pass.Pass, napi_calls.specs.{Dealt.Delivers, Made.Made}}
-use Rattle.poll_runs.specs.declared.bench.{Next.{Next, TheVariants.{Absent, Gone, Again, Repoll}}, Once.Once}
-use Rattle.{napi_calls.specs.declared.types.Caller.Caller, poll_shared.specs.declared.seat.{Hold.{Hold, TheVariants.Rests}, Seat.Seat}}
-use Rattle.poll_runs.specs.{Polls.is_repoll, Polling.{goes_on, is_absent, next_of}}
-use Rattle.poll_shared.specs.Seat.{SeatCompletes, SeatGives, SeatLooks, SeatMade, SeatRequeues, SeatTakes, packets_by, pass_of}
-use Rattle.poll_shared.specs.SharedPolling.{EndsBy, GivesEach, LooksAndEndsBy, PollsBy, PollsOnceBy, ThreadPollsBy, let_go, retaken}
-use Rattle.poll_shared.proofs.Joined.{joined, end_made, filled_behind}
+use Rattle.{napi_word.specs.declared.table.Pass.Pass, napi_calls.specs.{Dealt.Delivers, Made.Made, declared.types.Caller.Caller}}
+use Rattle.poll_runs.specs.{declared.bench.{Next.{Next, TheVariants.{Absent, Gone, Again, Repoll}}, Once.Once}, Polls.is_repoll}
+use Rattle.{poll_runs.specs.Polling.{goes_on, is_absent, next_of}, poll_shared.specs.declared.seat.Hold.{Hold, TheVariants.Rests}}
+use Rattle.poll_shared.specs.{declared.seat.Seat.Seat, Seat.{SeatCompletes, SeatGives, SeatLooks, SeatMade, SeatRequeues, SeatTakes}}
+use Rattle.poll_shared.specs.{Seat.{packets_by, pass_of}, SharedPolling.{EndsBy, GivesEach, LooksAndEndsBy, PollsBy, PollsOnceBy}}
+use Rattle.poll_shared.{specs.SharedPolling.{ThreadPollsBy, let_go, retaken}, proofs.Joined.{joined, end_made, filled_behind}}
 use Rattle.napi_model.specs.declared.state.Kind.TheVariants as kind
 use Rattle.poll_runs.specs.Polling as polling
 
@@ -126,9 +125,7 @@ module _ {R : Type 0} where
     gone_made : (next : Next) (s t u : Seat R) (os : List Operation) (packets : List Packet) → os ≢ [] → SeatMade s os packets t
         → Go next t u → SeatMade s (os ++ let_go next) packets u
     gone_made Repoll s t u os packets some m g = seat_behind s t u os (Hand kind.List ∷ []) packets (λ none. cc none) m g
-    gone_made Absent s t u os packets some m g = rw (append-nil os) (rw g m)
-    gone_made Gone s t u os packets some m g = rw (append-nil os) (rw g m)
-    gone_made (Again k) s t u os packets some m g = rw (append-nil os) (rw g m)
+    gone_made _ s t u os packets some m g = rw (append-nil os) (rw g m)
 
     -- taken, polled and let go
     found_made : (kind : Kind) (weight : ℕ) (s : Seat R) (packets : P) (once : Once) (taken t u : Seat R) → SeatTakes s kind true taken

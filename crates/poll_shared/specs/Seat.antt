@@ -1,26 +1,12 @@
 -- What the calls of a caller's seat at a shared instance do.
-use Rattle.std.specs.Prelude.{◌≡◌, ℕ, Bool, List, [], ◌∷◌, ◌++◌, length, Option, Some, None}
-use Rattle.rx_ring.specs.declared.ends.RxCtx.{RxCtx}
-use Rattle.rx_ring.specs.declared.packet.Packet.{Packet}
-use Rattle.rx_ring.specs.Ends.{GivesNext}
-use Rattle.napi_model.specs.declared.state.Kind.{Kind}
+use Rattle.{std.specs.Prelude.{◌≡◌, ℕ, Bool, List, [], ◌∷◌, ◌++◌, length, Option, Some, None}, rx_ring.specs.declared.ends.RxCtx.RxCtx}
+use Rattle.{rx_ring.specs.{declared.packet.Packet.Packet, Ends.GivesNext}, napi_model.specs.declared.state.{Kind.Kind, Seen.Seen}}
+use Rattle.napi_model.specs.declared.event.{Operation.{Operation, TheVariants.{Look, Hand, Take, Complete}}, Done.TheVariants.Held}
+use Rattle.{napi_word.specs.{declared.table.Pass.Pass, View.packets_of}, napi_calls.specs.{declared.types.Napi.Napi, Instance.IsSeatOf}}
+use Rattle.{napi_calls.specs.{Made.Made, Packets.{own_delivered, polled}}, poll_runs.specs.Polling.next_of}
+use Rattle.poll_shared.specs.{declared.seat.{Hold.{Hold, TheVariants.{Rests, Polls, PollsBusily, Gone}}, Seat.Seat}, SharedBusy.BusyTakesBy}
+use Rattle.poll_shared.specs.{SharedBusy.StopsBy, SharedPolling.EndsBy}
 use Rattle.napi_model.specs.declared.state.Kind.TheVariants as kind
-use Rattle.napi_model.specs.declared.state.Seen.{Seen}
-use Rattle.napi_model.specs.declared.event.Operation.{Operation}
-use Rattle.napi_model.specs.declared.event.Done.TheVariants.{Held}
-use Rattle.napi_model.specs.declared.event.Operation.TheVariants.{Look, Hand, Take, Complete}
-use Rattle.napi_word.specs.declared.table.Pass.{Pass}
-use Rattle.napi_word.specs.View.{packets_of}
-use Rattle.napi_calls.specs.declared.types.Napi.{Napi}
-use Rattle.napi_calls.specs.Instance.{IsSeatOf}
-use Rattle.napi_calls.specs.Made.{Made}
-use Rattle.napi_calls.specs.Packets.{own_delivered, polled}
-use Rattle.poll_runs.specs.Polling.{next_of}
-use Rattle.poll_shared.specs.declared.seat.Hold.{Hold}
-use Rattle.poll_shared.specs.declared.seat.Hold.TheVariants.{Rests, Polls, PollsBusily, Gone}
-use Rattle.poll_shared.specs.declared.seat.Seat.{Seat}
-use Rattle.poll_shared.specs.SharedBusy.{BusyTakesBy, StopsBy}
-use Rattle.poll_shared.specs.SharedPolling.{EndsBy}
 
 abbrev pub pass_of : Hold → Option Pass
 pass_of (Rests c) = Some c.pass
@@ -29,10 +15,9 @@ pass_of (PollsBusily b) = Some b.pass
 pass_of Gone = None
 
 abbrev pub ctx_of : Hold → Option RxCtx
-ctx_of (Rests c) = None
 ctx_of (Polls w) = Some w.ctx
 ctx_of (PollsBusily b) = Some b.ctx
-ctx_of Gone = None
+ctx_of _ = None
 
 -- the packets that its caller polled so far: those that it delivered, and behind them those that it polled since it took the
 -- context
@@ -44,21 +29,15 @@ packets_by Gone = []
 
 abbrev pub IsRest : Napi → Hold → Type 0
 IsRest napi (Rests c) = IsSeatOf napi c.pass
-IsRest napi (Polls w) = ⊥
-IsRest napi (PollsBusily b) = ⊥
-IsRest napi Gone = ⊥
+IsRest napi _ = ⊥
 
 abbrev pub IsInHand : Napi → Hold → Type 0
-IsInHand napi (Rests c) = ⊥
 IsInHand napi (Polls w) = IsSeatOf napi w.pass
-IsInHand napi (PollsBusily b) = ⊥
-IsInHand napi Gone = ⊥
+IsInHand napi _ = ⊥
 
 abbrev pub IsInBusyHand : Napi → Hold → Type 0
-IsInBusyHand napi (Rests c) = ⊥
-IsInBusyHand napi (Polls w) = ⊥
 IsInBusyHand napi (PollsBusily b) = IsSeatOf napi b.pass
-IsInBusyHand napi Gone = ⊥
+IsInBusyHand napi _ = ⊥
 
 module _ {R : Type 0} where
   abbrev pub seat_rests : Seat R → Type 0

@@ -1,22 +1,12 @@
 -- Busy polling of a shared instance, told by the operations of the caller that polls it.
 use Rattle.std.specs.Prelude.{◌≡◌, ◌+◌, ◌≤◌, ℕ, nat_lt, Bool, true, false, List, [], ◌∷◌, ◌++◌, length, filter, flat_map, if◌then◌else◌}
-use Rattle.std.specs.Prelude.{MatchBool}
-use Rattle.std.specs.List.{AllByRecursion}
-use Rattle.rx_ring.specs.declared.packet.Packet.{Packet}
-use Rattle.rx_ring.specs.ReceiveRing.{bytes_of}
-use Rattle.napi_model.specs.Step.{MayBusyTake}
+use Rattle.{std.specs.{Prelude.MatchBool, List.AllByRecursion}, rx_ring.specs.{declared.packet.Packet.Packet, ReceiveRing.bytes_of}}
+use Rattle.napi_model.specs.{Step.MayBusyTake, declared.{state.Seen.Seen, event.Done.TheVariants.{Released, Again, Held}}}
+use Rattle.napi_model.specs.declared.event.Operation.{Operation, TheVariants.{Look, Hand, Complete, BusyTake, BusyStop}}
+use Rattle.{napi_calls.specs.Made.{Lost, looks}, poll_runs.specs.{BusyPolling.no_report, Polling.is_absent}}
+use Rattle.{poll_runs.specs.declared.bench.{BusyReport.BusyReport, Next.Next}, poll_shared.specs.SharedPolling.EndsBy}
 use Rattle.napi_model.specs.declared.state.Kind.TheVariants as kind
-use Rattle.napi_model.specs.declared.state.Seen.{Seen}
-use Rattle.napi_model.specs.declared.event.Done.TheVariants.{Released, Again, Held}
-use Rattle.napi_model.specs.declared.event.Operation.{Operation}
-use Rattle.napi_model.specs.declared.event.Operation.TheVariants.{Look, Hand, Complete, BusyTake, BusyStop}
 use Rattle.napi_model.specs.declared.event.Call.TheVariants as call
-use Rattle.napi_calls.specs.Made.{Lost, looks}
-use Rattle.poll_runs.specs.BusyPolling.{no_report}
-use Rattle.poll_runs.specs.Polling.{is_absent}
-use Rattle.poll_shared.specs.SharedPolling.{EndsBy}
-use Rattle.poll_runs.specs.declared.bench.BusyReport.{BusyReport}
-use Rattle.poll_runs.specs.declared.bench.Next.{Next}
 use Rattle.poll_runs.specs.declared.bench.Next.TheVariants as next
 
 -- it takes the instance, try after try until one decides, or is refused it (`napi_busy_loop`)
@@ -37,8 +27,7 @@ held_by weight packets = if nat_lt (length packets) weight then Complete Held �
 abbrev pub LeavesBy : Bool → Next → List Operation → Type 0
 LeavesBy below next.Absent os = ⊥
 LeavesBy below next.Repoll os = (below ≡ false) × (os ≡ Hand kind.List ∷ [])
-LeavesBy below next.Gone os = (below ≡ true) × EndsBy true next.Gone os
-LeavesBy below (next.Again k) os = (below ≡ true) × EndsBy true (next.Again k) os
+LeavesBy below other os = (below ≡ true) × EndsBy true other os
 
 -- the rounds gave these packets each, and the last poll those
 pub record BusyPollsBy (weight count : ℕ) (rounds : List (List Packet)) (last : List Packet) (next : Next)

@@ -1,21 +1,12 @@
 -- The polling of a shared instance, told by the operations of the caller that polls it.
 use Rattle.std.specs.Prelude.{◌≡◌, ◌==◌, ◌-◌, ℕ, Bool, true, false, List, [], ◌∷◌, ◌++◌, length, flat_map, if◌then◌else◌, MatchBool}
-use Rattle.rx_ring.specs.declared.packet.Packet.{Packet}
-use Rattle.napi_model.specs.declared.state.Flags.{Flags}
-use Rattle.napi_model.specs.declared.state.Kind.{Kind}
+use Rattle.{rx_ring.specs.declared.packet.Packet.Packet, napi_model.specs.declared.state.{Flags.Flags, Kind.Kind, Seen.Seen}}
+use Rattle.napi_model.specs.declared.event.{Done.Done, Operation.{Operation, TheVariants.{Look, Hand, Take, Complete}}}
+use Rattle.{napi_calls.specs.Made.{Lost, looks}, poll_runs.specs.{Polls.is_repoll, Polling.goes_on, declared.bench.Next.Next}}
+use Rattle.poll_runs.specs.declared.bench.{Next.TheVariants.{Absent, Gone, Again, Repoll}, Once.Once}
 use Rattle.napi_model.specs.declared.state.Kind.TheVariants as kind
-use Rattle.napi_model.specs.declared.state.Seen.{Seen}
-use Rattle.napi_model.specs.declared.event.Done.{Done}
 use Rattle.napi_model.specs.declared.event.Done.TheVariants as done
-use Rattle.napi_model.specs.declared.event.Operation.{Operation}
-use Rattle.napi_model.specs.declared.event.Operation.TheVariants.{Look, Hand, Take, Complete}
 use Rattle.napi_model.specs.declared.event.Call.TheVariants as call
-use Rattle.napi_calls.specs.Made.{Lost, looks}
-use Rattle.poll_runs.specs.Polls.{is_repoll}
-use Rattle.poll_runs.specs.Polling.{goes_on}
-use Rattle.poll_runs.specs.declared.bench.Next.{Next}
-use Rattle.poll_runs.specs.declared.bench.Next.TheVariants.{Absent, Gone, Again, Repoll}
-use Rattle.poll_runs.specs.declared.bench.Once.{Once}
 
 -- ---- one poll of an instance that is in the caller's hands, which gave its whole weight or less (`__napi_poll`)
 
@@ -56,16 +47,12 @@ LooksAndEndsBy thread full next os =
 -- disabled; any other is to be polled again, and is in its poller's hands still.
 abbrev pub PollsBy : Bool → Bool → Next → List Operation → Type 0
 PollsBy thread full Repoll os = (full ≡ true) × LooksAfter true false os
-PollsBy thread full Absent os = LooksAndEndsBy thread full Absent os
-PollsBy thread full Gone os = LooksAndEndsBy thread full Gone os
-PollsBy thread full (Again k) os = LooksAndEndsBy thread full (Again k) os
+PollsBy thread full other os = LooksAndEndsBy thread full other os
 
 -- one that is to be polled again and isn't by whom it was taken goes to the list
 abbrev pub let_go : Next → List Operation
 let_go Repoll = Hand kind.List ∷ []
-let_go (Again k) = []
-let_go Absent = []
-let_go Gone = []
+let_go _ = []
 
 -- ---- a poll from the list (`napi_poll`)
 
@@ -76,9 +63,7 @@ FoundBy thread full next os =
 -- the instance is taken from the list and polled once, if it is there
 abbrev pub PollsOnceBy : Bool → Bool → Next → List Operation → Type 0
 PollsOnceBy thread full Absent os = os ≡ Take kind.List false ∷ []
-PollsOnceBy thread full Gone os = FoundBy thread full Gone os
-PollsOnceBy thread full (Again k) os = FoundBy thread full (Again k) os
-PollsOnceBy thread full Repoll os = FoundBy thread full Repoll os
+PollsOnceBy thread full other os = FoundBy thread full other os
 
 -- ---- the polling by the instance's thread (`napi_threaded_poll`)
 

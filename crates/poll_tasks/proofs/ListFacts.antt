@@ -30,12 +30,6 @@ module _ {A B : Type 0} where
   zip_each R P (x ∷ xs) (y ∷ ys) f h = (f x y h.0, zip_each R P xs ys f h.1)
   zip_each R P xs ys f h = absurd h
 
-  pub zip_all : (R : A → B → Type 0) (P : A → Type 0) (xs : List A) (ys : List B) → All P xs → AllZip R xs ys
-      → AllZip (λ x y. P x × R x y) xs ys
-  zip_all R P [] [] a h = tt
-  zip_all R P (x ∷ xs) (y ∷ ys) a h = ((a 0 x (omega arith), h.0), zip_all R P xs ys (λ k d b. a (suc k) d (omega arith)) h.1)
-  zip_all R P xs ys a h = absurd h
-
   pub zip_same : (R S : A → B → Type 0) (xs : List A) (ys : List B) → ((x : A) (y : B) → R x y → S x y) → AllZip R xs ys → AllZip S xs ys
   zip_same R S [] [] f h = tt
   zip_same R S (x ∷ xs) (y ∷ ys) f h = (f x y h.0, zip_same R S xs ys f h.1)

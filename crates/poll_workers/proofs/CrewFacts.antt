@@ -1,12 +1,12 @@
 -- Courses that were dealt to pollers, and put together again.
+use Rattle.std.proofs.lemmas.Grind.{common_steps}
 use Rattle.std.proofs.Common.{◌≡◌, ◌∙◌, eq-eqb, ℕ, ◌+◌, ◌-◌, ◌%◌, ◌<◌, ◌≤◌, Bool, true, false, List, [], ◌∷◌, length, ap, refl, sym, subst}
-use Rattle.std.proofs.{Common.{arith, eqb, suc, All}, lemmas.Bool.{eqb-true, eqb-false, ne_eqb}}
-use Rattle.std.specs.{Prelude.{◌==◌, Result, Ok, Err, IfOk, filter, map, vec_items}, Global.Vec, List.AllByRecursion}
-use Rattle.{poll_tasks.{specs.declared.pace.Pace.Pace, proofs.ListFacts.each_index}, poll_workers.proofs.RunFacts.each_of}
-use Rattle.poll_interrupts.specs.declared.{acts.Act.Act, station.{Station.Station, Finished.Finished}}
-use Rattle.poll_interrupts.specs.Deals.{IsDealtFrom, is_dealt, merged, others, picked}
-use Rattle.poll_workers.specs.{declared.fault.Stop.Stop, Faults.joined}
-use Rattle.poll_workers.specs.Courses.{AreOfCrew, ArePolled, Course, IsCourse, IsCrew, TakesTurns}
+use Rattle.std.{proofs.{Common.{arith, eqb, suc, All}, lemmas.Bool.{eqb-true, eqb-false, ne_eqb}}, specs.Prelude.{◌==◌, Result, Ok, Err}}
+use Rattle.{std.specs.{Prelude.{IfOk, filter, map, vec_items}, Global.Vec, List.AllByRecursion}, poll_tasks.specs.declared.pace.Pace.Pace}
+use Rattle.{poll_tasks.proofs.ListFacts.each_index, poll_interrupts.specs.declared.{acts.Act.Act, station.Station.Station}}
+use Rattle.poll_interrupts.specs.{declared.station.Finished.Finished, Deals.{IsDealtFrom, is_dealt, merged, others, picked}}
+use Rattle.poll_workers.specs.{declared.fault.Stop.Stop, Faults.joined, Courses.{AreOfCrew, ArePolled, Course, IsCourse, IsCrew}}
+use Rattle.poll_workers.{specs.Courses.TakesTurns, proofs.RunFacts.each_of}
 
 -- ---- two lists put together
 
@@ -34,11 +34,7 @@ merged_each P (false ∷ bs) xs (y ∷ ys) h k = (k.0, merged_each P bs xs ys h 
 
 -- one more, in front of both
 filter_step : {A : Type 0} (p : A → Bool) (v : A) (ls rs : List A) → filter p ls ≡ filter p rs → filter p (v ∷ ls) ≡ filter p (v ∷ rs)
-filter_step p v ls rs e = by (p v) refl
-  where
-    by : (b : Bool) → p v ≡ b → filter p (v ∷ ls) ≡ filter p (v ∷ rs)
-    by true is = rw is (ap (λ l. v ∷ l) e)
-    by false is = rw is e
+filter_step p v ls rs e = grind (arith, common_steps)
 
 module _ {A B : Type 0} (f : A → B) (d : B → Bool) where
   -- those that were dealt are those of the first part
@@ -46,24 +42,7 @@ module _ {A B : Type 0} (f : A → B) (d : B → Bool) where
       → filter (λ x. d (f x)) (merged (map d ss) xs ys) ≡ xs
   own_part [] [] ys ex ey = refl
   own_part [] (x ∷ xs) ys ex ey = absurd cc
-  own_part (s ∷ ss) xs ys ex ey = by (own_part ss) (d s) refl xs ys ex ey
-    where
-      by : ((us vs : List A) → map f us ≡ picked (map d ss) ss → map f vs ≡ others (map d ss) ss
-          → filter (λ x. d (f x)) (merged (map d ss) us vs) ≡ us)
-          → (b : Bool) → d s ≡ b → (us vs : List A) → map f us ≡ picked (b ∷ map d ss) (s ∷ ss) → map f vs ≡ others (b ∷ map d ss) (s ∷ ss)
-          → filter (λ x. d (f x)) (merged (b ∷ map d ss) us vs) ≡ us
-      by more true is [] vs eu ev = absurd cc
-      by more true is (u ∷ us) vs eu ev =
-          let here : f u ≡ s = cc in
-          let rest : map f us ≡ picked (map d ss) ss = cc in
-          let yes : d (f u) ≡ true = ap d here ∙ is in
-          rw yes (ap (λ l. u ∷ l) (more us vs rest ev))
-      by more false is us [] eu ev = absurd cc
-      by more false is us (v ∷ vs) eu ev =
-          let here : f v ≡ s = cc in
-          let rest : map f vs ≡ others (map d ss) ss = cc in
-          let no : d (f v) ≡ false = ap d here ∙ is in
-          rw no (more us vs eu rest)
+  own_part (s ∷ ss) xs ys ex ey = grind (arith, common_steps, own_part ss)
 
   -- by what none of these meets, those of the second part alone are found
   other_part : (q : B → Bool) → ((s : B) → d s ≡ true → q s ≡ false) → (ss : List B) (xs ys : List A) → map f xs ≡ picked (map d ss) ss
@@ -71,22 +50,7 @@ module _ {A B : Type 0} (f : A → B) (d : B → Bool) where
       → filter (λ x. q (f x)) (merged (map d ss) xs ys) ≡ filter (λ x. q (f x)) ys
   other_part q apart [] xs [] ex ey = refl
   other_part q apart [] xs (y ∷ ys) ex ey = absurd cc
-  other_part q apart (s ∷ ss) xs ys ex ey = by (other_part q apart ss) (d s) refl xs ys ex ey
-    where
-      by : ((us vs : List A) → map f us ≡ picked (map d ss) ss → map f vs ≡ others (map d ss) ss
-          → filter (λ x. q (f x)) (merged (map d ss) us vs) ≡ filter (λ x. q (f x)) vs)
-          → (b : Bool) → d s ≡ b → (us vs : List A) → map f us ≡ picked (b ∷ map d ss) (s ∷ ss) → map f vs ≡ others (b ∷ map d ss) (s ∷ ss)
-          → filter (λ x. q (f x)) (merged (b ∷ map d ss) us vs) ≡ filter (λ x. q (f x)) vs
-      by more true is [] vs eu ev = absurd cc
-      by more true is (u ∷ us) vs eu ev =
-          let here : f u ≡ s = cc in
-          let rest : map f us ≡ picked (map d ss) ss = cc in
-          let no : q (f u) ≡ false = ap q here ∙ apart s is in
-          rw no (more us vs rest ev)
-      by more false is us [] eu ev = absurd cc
-      by more false is us (v ∷ vs) eu ev =
-          let rest : map f vs ≡ others (map d ss) ss = cc in
-          filter_step (λ x. q (f x)) v (merged (map d ss) us vs) vs (more us vs eu rest)
+  other_part q apart (s ∷ ss) xs ys ex ey = grind (arith, common_steps, filter_step, other_part q apart ss)
 
   -- where all were dealt, all are found
   all_own : (xs : List A) (ss : List B) → map f xs ≡ ss → All (λ s. d s ≡ true) ss → filter (λ x. d (f x)) xs ≡ xs
@@ -102,13 +66,7 @@ module _ {A B : Type 0} (f : A → B) (d : B → Bool) where
 dealt_each : {D : Type 0} (number pollers : ℕ) (ss : List (Station D)) → AllByRecursion (IsDealtFrom number pollers) ss
     → AllByRecursion (IsDealtFrom (number + 1) pollers) (others (map (is_dealt number pollers) ss) ss)
 dealt_each number pollers [] h = tt
-dealt_each {D} number pollers (s ∷ ss) h = by (is_dealt number pollers s) refl (dealt_each number pollers ss h.1)
-  where
-    by : (b : Bool) → is_dealt number pollers s ≡ b
-        → AllByRecursion (IsDealtFrom (number + 1) pollers) (others (map (is_dealt number pollers) ss) ss)
-        → AllByRecursion (IsDealtFrom (number + 1) pollers) (others (b ∷ map (is_dealt number pollers) ss) (s ∷ ss))
-    by true is more = more
-    by false is more = let ne = eqb-false ((s.number - 1) % pollers) number is in let low = h.0 in (omega (arith, low, ne), more)
+dealt_each {D} number pollers (s ∷ ss) h = grind (arith, common_steps, dealt_each number pollers ss h.1)
 
 pub dealt_behind : {D : Type 0} (number pollers : ℕ) (order : List Bool) (ss : List (Station D)) → order ≡ map (is_dealt number pollers) ss
     → All (IsDealtFrom number pollers) ss
@@ -120,25 +78,16 @@ dealt_behind number pollers order ss dealt h =
 
 -- ---- crews
 
--- what both parts came to, where no fault is told
-abbrev both_of : {A F : Type 0} → A → Result A F → A
-both_of d (Ok r) = r
-both_of d (Err f) = d
-
 pub joined_ok : {A B : Type 0} (mine : Result A Stop) (others : Result B Stop) (r : A × B) → joined mine others ≡ Ok r
     → (mine ≡ Ok r.0) × (others ≡ Ok r.1)
-joined_ok {A} {B} (Ok x) (Ok y) r e =
-    let pair : A × B = (x, y) in
-    let same : pair ≡ r = ap (λ (came : Result (A × B) Stop). both_of pair came) e in
-    (ap (λ (p : A × B). Ok p.0) same, ap (λ (p : A × B). Ok p.1) same)
+joined_ok {A} {B} (Ok x) (Ok y) r e = grind (arith, common_steps)
 joined_ok (Ok x) (Err f) r e = absurd cc
 joined_ok (Err f) (Ok y) r e = absurd cc
 joined_ok (Err f) (Err h) r e = absurd cc
 
 module _ {D : Type 0} (R : Type 0) (asked : ℕ → Type 0) (pace : Pace) (acts : D → ℕ) (answer : D → ℕ → Act) (after : D → ℕ → D) where
   crew_is : (number : ℕ) (courses : List (Course D)) → TakesTurns R asked pace number courses → IsCrew R asked pace number courses
-  crew_is number [] h = tt
-  crew_is number (c ∷ cs) h = h
+  crew_is number courses h = grind (arith, common_steps)
 
   -- no station is polled by nobody
   pub none_polled : (number pollers : ℕ) → ArePolled R asked pace acts answer after number pollers [] []
@@ -169,8 +118,7 @@ module _ {D : Type 0} (R : Type 0) (asked : ℕ → Type 0) (pace : Pace) (acts 
       → number + 1 ≡ pollers → All (IsDealtFrom number pollers) stations
       → IfOk answered (λ all. AreOfCrew R asked pace acts answer after number stations (vec_items all))
       → IfOk answered (λ all. ArePolled R asked pace acts answer after number pollers stations (vec_items all))
-  last_if_ok number pollers stations (Ok all) last dealt crew = last_polled number pollers stations (vec_items all) last dealt crew
-  last_if_ok number pollers stations (Err fault) last dealt crew = tt
+  last_if_ok number pollers stations answered last dealt crew = grind (arith, common_steps, last_polled)
 
   -- the crew of each poller, by whether it is the first of these
   crew_at : (number pollers : ℕ) (stations : List (Station D)) (courses more : List (Course D))

@@ -1,26 +1,21 @@
 -- What the parts of a crew come to for its stations.
-use Rattle.std.proofs.Common.{◌≡◌, ℕ, suc, ◌≤◌, Bool, true, false, Option, None, is_some, List, [], ◌∷◌, ◌++◌, length, sym, ap, ◌∙◌, refl}
-use Rattle.std.proofs.Common.{subst, IsSome, Some, All, arith, rules}
-use Rattle.std.specs.{Prelude.{IfOk, Ok, Err, Result, map, vec_items, MatchBool, MatchOption}, Global.Vec, List.{AllByRecursion, AllZip}}
-use Rattle.rx_ring.specs.{declared.{ends.RxIn.RxIn, packet.Packet.Packet}, Ends.{SameIn, capacity_of, put_list}}
-use Rattle.{rx_ring.specs.ReceiveRing.{bytes_of, capped}, napi_calls.specs.declared.{kept.Kept.Kept, types.{Caller.Caller, Napi.Napi}}}
-use Rattle.napi_calls.specs.{Instance.IsSeatOf, Seats.{number_of, own_list}}
-use Rattle.poll_interrupts.specs.declared.{acts.Act.Act, opening.{Loose.Loose, Placed.Placed}, station.{Station.Station, Finished.Finished}}
-use Rattle.poll_interrupts.specs.declared.job.Job.{Job}
-use Rattle.poll_interrupts.specs.{declared.{job.Worked.Worked, worker.Seats.Seats}, Acts.{after_acts, arrivals}}
-use Rattle.poll_interrupts.specs.Ends.{AreFinishesOf, HasAllOf, IsCallerAt, IsDoneAt, IsFinishOf, IsTurnedAt}
-use Rattle.poll_interrupts.specs.{Opens.{IsInputOf, IsKeptLoose, IsKeptSideOf, IsLoose}, Runs.{HasRun, IsEnded}}
-use Rattle.poll_interrupts.specs.{Runs.{Ledger, Whose, WorksBy, blank, controller_number, worker_number}, Seats.AreSeatsOf}
-use Rattle.poll_interrupts.specs.Works.{IsWorkOf, ledger_of, whose}
-use Rattle.poll_seats.specs.declared.{seat.Seat.Seat, thread_poller.{Own.Own, ThreadSide.ThreadSide}}
-use Rattle.poll_seats.specs.{SeatKeeping.{IsCallerOf, AreSameSeats, IsSameSeat}, Gives.{GivesCaller, IsPolledAlone}}
-use Rattle.poll_workers.specs.Finishes.{IsFinished, IsWorkedOf}
-use Rattle.poll_workers.specs.Spreads.{IsJobAt, IsKeptJobOf, IsKeptSeatFor, IsKeptThreadFor, IsSeatAt, IsThreadAt}
-use Rattle.poll_list.specs.{declared.shared.SharedList.SharedList, SharedList.IsNewList}
-use Rattle.poll_tasks.specs.{Asks.IsAsked, declared.{pace.{Pace.Pace, Setting.Setting}, tasks.Turned.Turned}}
+use Rattle.std.proofs.{lemmas.Grind.common_steps, Common.{◌≡◌, ℕ, suc, ◌≤◌, Bool, true, false, Option, None, is_some, List, [], ◌∷◌, sym}}
+use Rattle.std.{proofs.Common.{ap, ◌∙◌, refl, subst, IsSome, Some, All, arith, rules}, specs.Prelude.{IfOk, Ok, Err, Result, map}}
+use Rattle.std.specs.{Prelude.{vec_items, MatchBool, MatchOption}, List.{AllByRecursion, AllZip}, Global.Vec}
+use Rattle.poll_interrupts.specs.{Ends.{AreFinishesOf, HasAllOf, IsCallerAt, IsDoneAt, IsFinishOf, IsTurnedAt}, Runs.{HasRun, IsEnded}}
+use Rattle.poll_interrupts.specs.{Runs.{Ledger, Whose, WorksBy, blank, controller_number, worker_number}, declared.station.Station.Station}
+use Rattle.poll_interrupts.specs.declared.{station.Finished.Finished, worker.Seats.Seats, opening.{Loose.Loose, Placed.Placed}}
+use Rattle.poll_interrupts.specs.{declared.{job.{Worked.Worked, Job.Job}, acts.Act.Act}, Works.{IsWorkOf, ledger_of, whose}}
+use Rattle.poll_interrupts.specs.{Seats.AreSeatsOf, Opens.{IsInputOf, IsKeptLoose, IsKeptSideOf, IsLoose}}
+use Rattle.poll_tasks.{proofs.ListFacts.{each_index, zip_and, zip_both, zip_each, zip_flip, zip_same}, specs.Paces.IsLawful}
+use Rattle.{poll_tasks.specs.{Asks.IsAsked, declared.{tasks.Turned.Turned, pace.{Setting.Setting, Pace.Pace}}}, rx_ring.specs.Ends.SameIn}
+use Rattle.{rx_ring.specs.{Ends.{capacity_of, put_list}, declared.ends.RxIn.RxIn, ReceiveRing.capped}, poll_list.specs.SharedList.IsNewList}
+use Rattle.{poll_list.specs.declared.shared.SharedList.SharedList, poll_seats.specs.SeatKeeping.{IsCallerOf, AreSameSeats, IsSameSeat}}
+use Rattle.poll_seats.specs.{declared.{seat.Seat.Seat, thread_poller.{ThreadSide.ThreadSide, Own.Own}}, Gives.{GivesCaller, IsPolledAlone}}
+use Rattle.napi_calls.specs.{Instance.IsSeatOf, declared.{kept.Kept.Kept, types.{Caller.Caller, Napi.Napi}}, Seats.{number_of, own_list}}
 use Rattle.poll_workers.specs.Courses.{AreOfCrew, Course, HasPolled, HasTurned, IsCourse, IsFreshSeat, IsSpentSeat, TakesTurns}
-use Rattle.poll_workers.specs.Courses.{TurnsIfThread}
-use Rattle.poll_tasks.{specs.Paces.IsLawful, proofs.ListFacts.{each_index, zip_all, zip_and, zip_both, zip_each, zip_flip, zip_same}}
+use Rattle.poll_workers.specs.{Courses.TurnsIfThread, Finishes.{IsFinished, IsWorkedOf}, Spreads.{IsJobAt, IsKeptJobOf, IsKeptSeatFor}}
+use Rattle.poll_workers.specs.Spreads.{IsKeptThreadFor, IsSeatAt, IsThreadAt}
 
 same_ring : (a b c : RxIn) (napi : Napi) → b ≡ a → SameIn b c → IsInputOf a napi → IsInputOf c napi
 same_ring a b c napi e s h = let whole : IsInputOf b napi = subst (λ (r : RxIn). IsInputOf r napi) (sym e) h in
@@ -92,34 +87,7 @@ finished_of : {R D : Type 0} (acts : D → ℕ) (answer : D → ℕ → Act) (af
     → IsLoose station loose.value → IsWorkedOf acts answer after loose worked → worked.done.whole ≡ true
     → IsFinishOf worked poller thread end
     → IsFinished acts answer after station end
-finished_of {R} {D} acts answer after station loose worked poller thread end opened made whole ended =
-    let work = made.1 in
-    let is = made.5 in
-    let done = is.done in
-    let device : work.device ≡ station.device = made.2 ∙ opened.same_device in
-    let nothing : put_list work.rx ≡ [] = ap (λ (r : RxIn). put_list r) made.3 ∙ opened.nothing_put in
-    let none : length (put_list work.rx) ≡ 0 = ap (λ (l : List Packet). length l) nothing in
-    let places : capacity_of work.rx ≡ station.capacity = ap (λ (r : RxIn). capacity_of r) made.3 ∙ opened.places in
-    let same : arrivals answer after work.device (acts work.device) ≡ arrivals answer after station.device (acts station.device) =
-    ap (λ (d : D). arrivals answer after d (acts d)) device in
-    let long : length (arrivals answer after work.device (acts work.device))
-    ≡ length (arrivals answer after station.device (acts station.device)) = ap (λ (l : List Packet). length l) same in
-    let few = done.few in
-    record {
-      same_number = ended.same_number ∙ is.same_number ∙ opened.same_number;
-      made = ended.same_device ∙ done.made whole ∙ ap (λ (d : D). after_acts after d (acts d)) device;
-      sum = ended.sum (omega arith);
-      put = λ room.
-          let all : put_list worked.done.rx ≡ arrivals answer after station.device (acts station.device) =
-          done.put whole (omega arith) ∙ ap (λ (l : List Packet). l ++ arrivals answer after work.device (acts work.device)) nothing
-          ∙ same in
-          let count : length (put_list worked.done.rx) ≡ length (arrivals answer after station.device (acts station.device)) =
-          ap (λ (l : List Packet). length l) all in (
-            ended.put ∙ capped_small (length (put_list worked.done.rx)) (omega arith) ∙ count,
-            ended.bytes ∙ ap (λ (l : List Packet). capped (bytes_of l)) all,
-          );
-      run = (run_of acts answer after station loose worked poller thread end opened made whole ended).run;
-    }
+finished_of {R} {D} acts answer after station loose worked poller thread end opened made whole ended = search (rules, capped_small)
 
 -- ---- the stations of a crew, how they ended, and what polled them
 
@@ -196,8 +164,7 @@ module _ {R D : Type 0} (acts : D → ℕ) (answer : D → ℕ → Act) (after :
       → AllByRecursion (λ (w : Worked R D). w.done.whole ≡ true) (map (λ p. p.worked) posts)
       → AllByRecursion (λ (t : Turned (Kept R Caller)). t.polled ≡ true) (map (λ p. p.thread) posts)
       → AllByRecursion (λ (p : Post R D). IsFinishOf p.worked p.poller p.thread.back p.end) posts → Courses stations posts
-  courses_of [] [] works turns whole polled finish =
-      record { all = []; stations_are = refl; ends_are = refl; pollers_are = refl; each = tt; finished = tt }
+  courses_of [] [] works turns whole polled finish = grind (arith, common_steps, course_of, finished_of)
   courses_of [] (p ∷ ps) works turns whole polled finish = absurd works
   courses_of (s ∷ ss) [] works turns whole polled finish = absurd works
   courses_of (s ∷ ss) (p ∷ ps) works turns whole polled finish =
@@ -303,9 +270,7 @@ module _ {R D : Type 0} (acts : D → ℕ) (answer : D → ℕ → Act) (after :
       → IfOk ends (λ _. All (λ t. t.polled ≡ true) threads)
       → IfOk ends (λ all. AreFinishesOf worked pollers threads (vec_items all))
       → IfOk ends (λ all. AllZip (IsFinished acts answer after) stations (vec_items all))
-  answer_finished (Ok all) n new whole whole_run whole_turns finish =
-      (both (vec_items all) n new whole whole_run whole_turns finish).finished
-  answer_finished (Err fault) n new whole whole_run whole_turns finish = tt
+  answer_finished ends n new whole whole_run whole_turns finish = grind (arith, common_steps, both)
 
   pub answer_polled : {F : Type 0} (ends : Result (Vec (Finished D)) F) (n : ℕ) → IsNewList n list
       → IfOk ends (λ _. All (λ w. w.done.whole ≡ true) worked) → IfOk ends (λ _. polled ≡ true)
@@ -336,12 +301,7 @@ done_at : {R D G : Type 0} (acts : D → ℕ) (answer : D → ℕ → Act) (afte
     → IsKeptSideOf loose placed → IsKeptJobOf loose job → IsJobAt placed job
     → IsWorkOf acts answer after job.desk.napi.now (is_some job.desk.thread) job.desk.number job.work worked
     → IsDoneAt worked placed
-done_at acts answer after placed loose job worked side given at made = record {
-  seats = subst (λ (n : Napi). AreSeatsOf n worked.done.seats.value) at made.done.seats;
-  controller = made.done.same.1 ∙ ap (λ (s : Seats). number_of s.control.pass) given.same_seats ∙ side.controller;
-  ring = same_ring loose.value.rx job.work.rx worked.done.rx placed.value.napi given.same_rx made.done.ring side.ring;
-  home = side.home;
-}
+done_at acts answer after placed loose job worked side given at made = search (rules, same_ring)
 
 -- what the workers gave back is of the instances that stayed behind
 pub all_done_at : {R D G : Type 0} (acts : D → ℕ) (answer : D → ℕ → Act) (after : D → ℕ → D)
@@ -395,21 +355,13 @@ turned_by : {R D G : Type 0} (answers : G → ℕ → ℕ → Bool → Type 0) (
 turned_by {R} answers setting loose side given None is for same =
     let none : is_some loose.value.pause ≡ false = sym for.own ∙ ap (λ o. is_some o) is in
     rw none (ap (λ (k : Kept R Caller). k.value) same ∙ for.caller)
-turned_by {R} {D} {G} answers setting loose side given (Some o) is for turns =
-    let some : is_some loose.value.pause ≡ true = sym for.own ∙ ap (λ o. is_some o) is in
-    let asked : ℕ → Type 0 = IsAsked answers setting.gate.now in
-    let by_setting =
-    subst (λ (s : Setting R G). IsPolledAlone R (IsAsked answers s.gate.now) s.pace side.number side.caller.value given.back.value) for.has
-    turns in
-    let by_number = subst (λ (n : ℕ). IsPolledAlone R asked setting.pace n side.caller.value given.back.value) for.number by_setting in
-    rw some (subst (λ (c : Caller). IsPolledAlone R asked setting.pace loose.value.number c given.back.value) for.caller by_number)
+turned_by {R} {D} {G} answers setting loose side given (Some o) is for turns = grind (arith, common_steps)
 
 turned_of : {R D G : Type 0} (answers : G → ℕ → ℕ → Bool → Type 0) (setting : Setting R G) (loose : Kept R (Loose D))
     (side : ThreadSide R G) (given : Turned (Kept R Caller))
     → IsKeptThreadFor setting loose side → GivesCaller answers side given
     → HasTurned (IsAsked answers setting.gate.now) setting.pace loose given
-turned_of answers setting loose side given for gives polled =
-    turned_by answers setting loose side given side.own refl for (gives.turns polled)
+turned_of answers setting loose side given for gives polled = grind (arith, common_steps, turned_by)
 
 pub all_turned : {R D G : Type 0} (answers : G → ℕ → ℕ → Bool → Type 0) (setting : Setting R G) (loose : List (Kept R (Loose D)))
     (sides : List (ThreadSide R G)) (given : List (Turned (Kept R Caller)))

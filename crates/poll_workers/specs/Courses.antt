@@ -1,24 +1,11 @@
 -- Who polled what in a run, and by which numbers.
+use Rattle.{poll_tasks.specs.declared.{pace.Pace.Pace, tasks.Turned.Turned}, poll_workers.specs.Spreads.IsKeptSeatFor}
+use Rattle.poll_seats.specs.{declared.seat.Seat.Seat, SeatKeeping.IsCallerOf, Gives.{IsPolledAlone, IsPolledBy}}
+use Rattle.{poll_list.specs.{SharedList.IsNewList, declared.shared.SharedList.SharedList}, std.specs.List.{AllByRecursion, AllZip}}
 use Rattle.std.specs.Prelude.{◌≡◌, ℕ, ◌<◌, ◌≤◌, Bool, true, List, [], ◌∷◌, Some, filter, is_some, map, MatchBool}
-use Rattle.std.specs.List.{AllByRecursion, AllZip}
-use Rattle.napi_calls.specs.declared.kept.Kept.{Kept}
-use Rattle.napi_calls.specs.declared.types.Caller.{Caller}
-use Rattle.poll_list.specs.declared.shared.SharedList.{SharedList}
-use Rattle.poll_list.specs.SharedList.{IsNewList}
-use Rattle.poll_tasks.specs.declared.pace.Pace.{Pace}
-use Rattle.poll_tasks.specs.declared.tasks.Turned.{Turned}
-use Rattle.poll_interrupts.specs.declared.acts.Act.{Act}
-use Rattle.poll_interrupts.specs.declared.opening.Loose.{Loose}
-use Rattle.poll_interrupts.specs.declared.station.Finished.{Finished}
-use Rattle.poll_interrupts.specs.declared.station.Station.{Station}
-use Rattle.poll_interrupts.specs.Deals.{is_dealt}
-use Rattle.poll_interrupts.specs.Ends.{HasAllOf}
-use Rattle.poll_interrupts.specs.Runs.{HasRun, poller_number, thread_number, worker_number}
-use Rattle.poll_interrupts.specs.Seats.{IsUnused}
-use Rattle.poll_seats.specs.declared.seat.Seat.{Seat}
-use Rattle.poll_seats.specs.Gives.{IsPolledAlone, IsPolledBy}
-use Rattle.poll_seats.specs.SeatKeeping.{IsCallerOf}
-use Rattle.poll_workers.specs.Spreads.{IsKeptSeatFor}
+use Rattle.poll_interrupts.specs.{Seats.IsUnused, Ends.HasAllOf, Deals.is_dealt, declared.{opening.Loose.Loose, acts.Act.Act}}
+use Rattle.poll_interrupts.specs.{declared.station.{Finished.Finished, Station.Station}, Runs.{HasRun, poller_number, thread_number}}
+use Rattle.{poll_interrupts.specs.Runs.worker_number, napi_calls.specs.declared.{kept.Kept.Kept, types.Caller.Caller}}
 
 abbrev pub pace_of : ℕ → ℕ → ℕ → Pace
 pace_of budget weight window = record { budget = budget; weight = weight; window = window }

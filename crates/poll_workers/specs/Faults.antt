@@ -1,9 +1,6 @@
 -- Why a run gave nothing, by number, and which fault is told.
-use Rattle.std.specs.Prelude.{ℕ, Bool, Result, Ok, Err, if◌then◌else◌}
-use Rattle.poll_workers.specs.declared.fault.Stop.{Stop}
-use Rattle.poll_workers.specs.declared.fault.Stop.TheVariants.{Memory, Short}
-use Rattle.poll_workers.specs.declared.fault.WorkFault.{WorkFault}
-use Rattle.poll_workers.specs.declared.fault.WorkFault.TheVariants.{OutOfMemory, GateShut, SpawnFailed}
+use Rattle.poll_workers.specs.declared.fault.{WorkFault.{WorkFault, TheVariants.{OutOfMemory, GateShut, SpawnFailed}}, Stop.Stop}
+use Rattle.{poll_workers.specs.declared.fault.Stop.TheVariants.{Memory, Short}, std.specs.Prelude.{ℕ, Bool, Result, Ok, Err, if◌then◌else◌}}
 
 abbrev pub number_of : WorkFault → ℕ
 number_of OutOfMemory = 1

@@ -1,17 +1,8 @@
 -- What a run comes to.
-use Rattle.std.specs.Prelude.{◌≡◌, ℕ, ◌+◌, ◌≤◌, is_some, length}
-use Rattle.rx_ring.specs.ReceiveRing.{bytes_of, capped}
-use Rattle.napi_calls.specs.declared.kept.Kept.{Kept}
-use Rattle.napi_calls.specs.declared.types.Napi.{Napi}
-use Rattle.poll_interrupts.specs.declared.acts.Act.{Act}
-use Rattle.poll_interrupts.specs.declared.opening.Loose.{Loose}
-use Rattle.poll_interrupts.specs.declared.job.Worked.{Worked}
-use Rattle.poll_interrupts.specs.declared.worker.Work.{Work}
-use Rattle.poll_interrupts.specs.declared.station.Finished.{Finished}
-use Rattle.poll_interrupts.specs.declared.station.Station.{Station}
-use Rattle.poll_interrupts.specs.Acts.{after_acts, arrivals}
-use Rattle.poll_interrupts.specs.Runs.{HasRun}
-use Rattle.poll_interrupts.specs.Works.{IsWorkOf}
+use Rattle.{std.specs.Prelude.{◌≡◌, ℕ, ◌+◌, ◌≤◌, is_some, length}, rx_ring.specs.ReceiveRing.{bytes_of, capped}}
+use Rattle.{napi_calls.specs.declared.{kept.Kept.Kept, types.Napi.Napi}, poll_interrupts.specs.declared.{acts.Act.Act, opening.Loose.Loose}}
+use Rattle.poll_interrupts.specs.declared.{job.Worked.Worked, worker.Work.Work, station.{Finished.Finished, Station.Station}}
+use Rattle.poll_interrupts.specs.{Acts.{after_acts, arrivals}, Runs.HasRun, Works.IsWorkOf}
 
 module _ {D : Type 0} (acts : D → ℕ) (answer : D → ℕ → Act) (after : D → ℕ → D) where
   -- The station's device made its acts, each once and in order. What was put was polled or is left. Where the ring has a

@@ -1,6 +1,5 @@
 -- Stations each of which has a number of its own.
-use Rattle.std.specs.Prelude.{◌==◌, ◌&&◌, ℕ, not, Bool, true, List, [], ◌∷◌, map}
-use Rattle.std.specs.List.{list_any}
+use Rattle.std.specs.{Prelude.{◌==◌, ◌&&◌, ℕ, not, Bool, true, List, [], ◌∷◌, map}, List.list_any}
 use Rattle.poll_interrupts.specs.declared.station.Station.{Station}
 
 -- no number stands twice

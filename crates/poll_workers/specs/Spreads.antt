@@ -1,15 +1,8 @@
 -- What goes to the threads of stations.
-use Rattle.std.specs.Prelude.{◌≡◌, IsSome, Some, is_some, option_copied, option_map, ◌≤◌}
-use Rattle.napi_calls.specs.declared.kept.Kept.{Kept}
-use Rattle.napi_calls.specs.Instance.{IsSeatOf}
-use Rattle.poll_interrupts.specs.declared.opening.Placed.{Placed}
-use Rattle.poll_interrupts.specs.declared.opening.Loose.{Loose}
-use Rattle.poll_interrupts.specs.declared.job.Job.{Job}
-use Rattle.poll_seats.specs.declared.seat.Seat.{Seat}
-use Rattle.poll_seats.specs.declared.thread_poller.ThreadSide.{ThreadSide}
-use Rattle.poll_interrupts.specs.Seats.{AreSeatsOf}
-use Rattle.poll_tasks.specs.declared.pace.Setting.{Setting}
-use Rattle.poll_tasks.specs.Paces.{IsLawful}
+use Rattle.{std.specs.Prelude.{◌≡◌, IsSome, Some, is_some, option_copied, option_map, ◌≤◌}, napi_calls.specs.declared.kept.Kept.Kept}
+use Rattle.{napi_calls.specs.Instance.IsSeatOf, poll_interrupts.specs.declared.{opening.{Placed.Placed, Loose.Loose}, job.Job.Job}}
+use Rattle.{poll_interrupts.specs.Seats.AreSeatsOf, poll_seats.specs.declared.{seat.Seat.Seat, thread_poller.ThreadSide.ThreadSide}}
+use Rattle.poll_tasks.specs.{declared.pace.Setting.Setting, Paces.IsLawful}
 
 module _ {R D G : Type 0} where
   -- the job has the device, its number, its end of the ring and its seats, knows of its thread, and may be done

@@ -1,11 +1,8 @@
 -- The faults of a replay as numbers.
-use Rattle.std.specs.Prelude.{ℕ}
-use Rattle.replay_c.specs.Status.{BAD_TRACE, OUT_OF_MEMORY}
-use Rattle.replay_text.specs.declared.fault.ReplayFault.{ReplayFault}
-use Rattle.replay_text.specs.declared.fault.ReplayFault.TheVariants.{Trace, Pending, OutputFailed}
-use Rattle.device_rows.specs.declared.fault.TraceFault.{TraceFault}
-use Rattle.device_rows.specs.declared.fault.TraceFault.TheVariants.{BadHeader, BadFields, BadNumber, BadEvent, OutOfRange, UnknownDevice}
-use Rattle.device_rows.specs.declared.fault.TraceFault.TheVariants.{OpenTwice, WrongState, TooManyRows, ReadFailed, OutOfMemory}
+use Rattle.{std.specs.Prelude.ℕ, replay_text.specs.declared.fault.ReplayFault.{ReplayFault, TheVariants.{Trace, Pending, OutputFailed}}}
+use Rattle.device_rows.specs.declared.fault.TraceFault.{TraceFault, TheVariants.{BadHeader, BadFields, BadNumber, BadEvent, OutOfRange}}
+use Rattle.device_rows.specs.declared.fault.TraceFault.TheVariants.{UnknownDevice, OpenTwice, WrongState, TooManyRows, ReadFailed}
+use Rattle.{device_rows.specs.declared.fault.TraceFault.TheVariants.OutOfMemory, replay_c.specs.Status.{BAD_TRACE, OUT_OF_MEMORY}}
 
 -- a fault that no trace has is for want of memory
 abbrev pub trace_status : TraceFault → ℕ
@@ -20,7 +17,6 @@ fault_status _ = BAD_TRACE
 
 -- the row that a fault names, or 0
 abbrev pub trace_row : TraceFault → ℕ
-trace_row BadHeader = 0
 trace_row (BadFields row) = row
 trace_row (BadNumber row) = row
 trace_row (BadEvent row) = row
@@ -29,8 +25,7 @@ trace_row (UnknownDevice row) = row
 trace_row (OpenTwice row) = row
 trace_row (WrongState row) = row
 trace_row TooManyRows = 100001
-trace_row ReadFailed = 0
-trace_row OutOfMemory = 0
+trace_row _ = 0
 
 abbrev pub row_of : ReplayFault → ℕ
 row_of (Trace fault) = trace_row fault

@@ -1,13 +1,7 @@
 -- What a replay for C asks for, and what it answers.
-use Rattle.std.specs.Prelude.{◌≡◌, ◌≤◌, ◌⊎◌, ℕ, List, Ok, Err}
-use Rattle.replay_c.specs.Status.{BAD_WEIGHT, BAD_BUDGET}
-use Rattle.replay_text.specs.Fault.{number_of}
-use Rattle.replay_text.specs.declared.fault.ReplayFault.{ReplayFault}
-use Rattle.replay_words.specs.declared.settings.Settings.{Settings}
-use Rattle.replay_rows.specs.Answer.{replay_of}
-use Rattle.replay_c.specs.Faults.{row_of}
-use Rattle.replay_c.specs.declared.replay.FqReplayed.{FqReplayed}
-use Rattle.replay_c.specs.declared.replay.FqSettings.{FqSettings}
+use Rattle.{replay_words.specs.declared.settings.Settings.Settings, replay_rows.specs.Answer.replay_of, replay_text.specs.Fault.number_of}
+use Rattle.{replay_text.specs.declared.fault.ReplayFault.ReplayFault, std.specs.Prelude.{◌≡◌, ◌≤◌, ◌⊎◌, ℕ, List, Ok, Err}}
+use Rattle.replay_c.specs.{Faults.row_of, Status.{BAD_WEIGHT, BAD_BUDGET}, declared.replay.{FqSettings.FqSettings, FqReplayed.FqReplayed}}
 
 -- these settings are asked for; a replay on one thread makes no use of the number of pollers
 pub record Asks (asked : FqSettings) (s : Settings) : Type 0 where

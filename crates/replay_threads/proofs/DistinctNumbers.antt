@@ -1,28 +1,16 @@
 -- Stations in rising order of their numbers.
-use Rattle.std.proofs.{Common.{◌≡◌, ◌∙◌, ℕ, zero, suc, ◌+◌, ◌<◌, Bool, true, false, List, [], ◌∷◌, ap, refl, arith}, lemmas.Bool.ne_eqb}
-use Rattle.std.specs.{Prelude.{◌==◌, filter}, List.{AllZip, list_any, range_with_len}}
-use Rattle.poll_interrupts.specs.declared.station.Station.{Station}
-use Rattle.poll_workers.specs.Numbers.{are_distinct, have_distinct_numbers, numbers_of}
+use Rattle.std.{proofs.Common.{◌+◌, ◌<◌, Bool, true, false, List, [], ◌∷◌, ap, refl, arith}, specs.{Prelude.{◌==◌, filter}, List.AllZip}}
+use Rattle.{poll_interrupts.specs.declared.station.Station.Station, std.proofs.{lemmas.Grind.common_steps, Common.{◌≡◌, ◌∙◌, ℕ, zero, suc}}}
+use Rattle.{std.specs.List.{list_any, range_with_len}, poll_workers.specs.Numbers.{are_distinct, have_distinct_numbers, numbers_of}}
 
 -- none of the numbers from here on is a lower one
 none-below : (p : ℕ → Bool) (n a k : ℕ) → k < a → list_any (λ m. m == k) (filter p (range_with_len a n)) ≡ false
 none-below p zero a k below = refl
-none-below p (suc n) a k below =
-    by (p a) refl (none-below p n (a + 1) k (omega (arith, below))) (ne_eqb a k (λ same. omega (arith, below, same)))
-  where
-    by : (b : Bool) → p a ≡ b → list_any (λ m. m == k) (filter p (range_with_len (a + 1) n)) ≡ false → (a == k) ≡ false
-        → list_any (λ m. m == k) (filter p (range_with_len a (suc n))) ≡ false
-    by true h rest other = rw (h, other) rest
-    by false h rest other = rw h rest
+none-below p (suc n) a k below = grind (arith, common_steps, none-below p n (a + 1) k (omega (arith, below)))
 
 rising-distinct : (p : ℕ → Bool) (n a : ℕ) → are_distinct (filter p (range_with_len a n)) ≡ true
 rising-distinct p zero a = refl
-rising-distinct p (suc n) a = by (p a) refl (rising-distinct p n (a + 1)) (none-below p n (a + 1) a (omega arith))
-  where
-    by : (b : Bool) → p a ≡ b → are_distinct (filter p (range_with_len (a + 1) n)) ≡ true
-        → list_any (λ m. m == a) (filter p (range_with_len (a + 1) n)) ≡ false → are_distinct (filter p (range_with_len a (suc n))) ≡ true
-    by true h rest none = rw (h, none) rest
-    by false h rest none = rw h rest
+rising-distinct p (suc n) a = grind (arith, common_steps, none-below, rising-distinct p n (a + 1))
 
 module _ {D : Type 0} (Of : ℕ → Station D → Type 0) (numbered : (n : ℕ) (s : Station D) → Of n s → s.number ≡ n) where
   same-numbers : (ns : List ℕ) (ss : List (Station D)) → AllZip Of ns ss → numbers_of ss ≡ ns

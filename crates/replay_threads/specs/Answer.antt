@@ -1,24 +1,13 @@
 -- What a run of a text with threads answers: the threads report of its rows, or its first fault.
-use Rattle.std.specs.Prelude.{◌≡◌, ℕ, ◌+◌, List, Bool, Option, Some, None, Result, Ok, Err, length, map, nat_lt, option_map}
-use Rattle.std.specs.List.{find}
-use Rattle.device_rows.specs.Trace.{records_of, trace_of}
-use Rattle.device_rows.specs.declared.TraceFault.{TraceFault}
-use Rattle.device_rows.specs.declared.row.Row.{Row}
-use Rattle.replay_text.specs.Outside.{IsOutside as IsSerialOutside, IsWantOfMemory}
-use Rattle.replay_text.specs.declared.fault.ReplayFault.{ReplayFault}
-use Rattle.replay_text.specs.declared.fault.ReplayFault.TheVariants.{GateShut, RingTooSmall, SpawnFailed, Trace}
-use Rattle.poll_tasks.specs.Refusals.{IsRefused}
-use Rattle.poll_workers.specs.declared.fault.WorkFault.{WorkFault}
+use Rattle.std.specs.{Prelude.{◌≡◌, ℕ, ◌+◌, List, Bool, Option, Some, None, Result, Ok, Err, length, map, nat_lt, option_map}, List.find}
+use Rattle.{replay_words.specs.declared.settings.Settings.Settings, poll_interrupts.specs.{declared.station.Finished.Finished, Runs.HasRun}}
+use Rattle.device_rows.specs.{Trace.{records_of, trace_of}, declared.{TraceFault.TraceFault, row.Row.Row}}
+use Rattle.{poll_tasks.specs.Refusals.IsRefused, replay_threads.specs.{ThreadsReport.{arrived, opened, threads_report}, Stations.AreRunBy}}
+use Rattle.{replay_threads.specs.{Stations.polled_of, declared.polled.Polled.Polled}, poll_workers.specs.declared.fault.WorkFault.WorkFault}
+use Rattle.device_script.specs.{ScriptShown.{Script, after, answer}, Script.{has_thread, opening_of, script_of}}
+use Rattle.{rx_ring.specs.declared.packet.Totals.Totals, replay_text.specs.Outside.{IsWantOfMemory, IsOutside as IsSerialOutside}}
+use Rattle.replay_text.specs.declared.fault.ReplayFault.{ReplayFault, TheVariants.{GateShut, RingTooSmall, SpawnFailed, Trace}}
 use Rattle.poll_workers.specs.declared.fault.WorkFault.TheVariants as work
-use Rattle.rx_ring.specs.declared.packet.Totals.{Totals}
-use Rattle.poll_interrupts.specs.Runs.{HasRun}
-use Rattle.device_script.specs.Script.{has_thread, opening_of, script_of}
-use Rattle.device_script.specs.ScriptShown.{Script, after, answer}
-use Rattle.poll_interrupts.specs.declared.station.Finished.{Finished}
-use Rattle.replay_words.specs.declared.settings.Settings.{Settings}
-use Rattle.replay_threads.specs.Stations.{AreRunBy, polled_of}
-use Rattle.replay_threads.specs.ThreadsReport.{arrived, opened, threads_report}
-use Rattle.replay_threads.specs.declared.polled.Polled.{Polled}
 
 -- the places of a device's receive ring
 abbrev pub places_by : Option Row → ℕ

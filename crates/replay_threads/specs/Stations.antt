@@ -1,19 +1,10 @@
 -- The stations of the devices that rows open, and what a run made of them.
-use Rattle.std.specs.Prelude.{◌≡◌, ℕ, ◌+◌, ◌++◌, Bool, List, Option, Some, length, nat_lt, option_map, take}
-use Rattle.std.specs.List.{AllZip, find}
-use Rattle.device_rows.specs.declared.row.Row.{Row}
-use Rattle.poll_interrupts.specs.declared.station.Finished.{Finished}
-use Rattle.poll_interrupts.specs.declared.station.Station.{Station}
-use Rattle.poll_interrupts.specs.Runs.{HasRun}
-use Rattle.poll_workers.specs.Courses.{ArePolled, pace_of}
-use Rattle.replay_words.specs.declared.settings.Settings.{Settings}
-use Rattle.replay_text.specs.declared.fault.ReplayFault.{ReplayFault}
-use Rattle.replay_text.specs.declared.fault.ReplayFault.TheVariants.{RingTooSmall}
-use Rattle.replay_text.specs.Lines.{ended}
-use Rattle.device_script.specs.Script.{has_thread, opening_of, rx_of, script_of}
-use Rattle.device_script.specs.ScriptShown.{Script, acts, after, answer, side_of}
-use Rattle.replay_threads.specs.declared.polled.Polled.{Polled}
-use Rattle.replay_threads.specs.ThreadsReport.{arrived, arrived_line, bytes, opened, side_lines}
+use Rattle.{poll_interrupts.specs.{Runs.HasRun, declared.station.{Finished.Finished, Station.Station}}, replay_text.specs.Lines.ended}
+use Rattle.{replay_text.specs.declared.fault.ReplayFault.{ReplayFault, TheVariants.RingTooSmall}, device_rows.specs.declared.row.Row.Row}
+use Rattle.replay_threads.specs.{ThreadsReport.{arrived, arrived_line, bytes, opened, side_lines}, declared.polled.Polled.Polled}
+use Rattle.std.specs.{List.{AllZip, find}, Prelude.{◌≡◌, ℕ, ◌+◌, ◌++◌, Bool, List, Option, Some, length, nat_lt, option_map, take}}
+use Rattle.{replay_words.specs.declared.settings.Settings.Settings, poll_workers.specs.Courses.{ArePolled, pace_of}}
+use Rattle.device_script.specs.{ScriptShown.{Script, acts, after, answer, side_of}, Script.{has_thread, opening_of, rx_of, script_of}}
 
 -- the station of a device, before its acts
 pub record IsStationOf (rows : List Row) (device : ℕ) (station : Station Script) : Type 0 where

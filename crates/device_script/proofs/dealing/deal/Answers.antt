@@ -1,6 +1,5 @@
-use Rattle.std.proofs.Common.{◌≡◌, ◌∙◌, ◌-◌, [], ap, slice_index_or, sym, vec_items, length, arith}
-use Rattle.std.proofs.lemmas.{Grind.common_steps, List.{get_or-map, length-map, map-set}}
-use Rattle.device_script.{specs.Dealing.lists, proofs.DealFacts.dealt}
+use Rattle.std.proofs.{Common.{◌≡◌, ◌∙◌, ◌-◌, [], ap, slice_index_or, sym, vec_items, length, arith}, lemmas.Grind.common_steps}
+use Rattle.{std.proofs.lemmas.List.{get_or-map, length-map, map-set}, device_script.{specs.Dealing.lists, proofs.DealFacts.dealt}}
 use Rattle.device_script.proofs.dealing.deal.Goals as goal
 
 pub returns-clause-scripts : goal.returns-clause-scripts

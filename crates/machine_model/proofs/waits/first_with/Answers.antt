@@ -1,6 +1,5 @@
 use Rattle.std.proofs.{Common.{◌≡◌, ◌∙◌, ◌+◌, ◌-◌, ℕ, suc, ap, slice_index_or, drop, sym, refl, arith}, Math.Seq.drop-cons}
-use Rattle.std.proofs.lemmas.{Bool.{le-leb, lt-leb}, List.drop_all}
-use Rattle.machine_model.specs.Waits.{first_with}
+use Rattle.{std.proofs.lemmas.{Bool.{le-leb, lt-leb}, List.drop_all}, machine_model.specs.Waits.first_with}
 use Rattle.machine_model.proofs.waits.first_with.Goals as goal
 
 pub returns-then-rank-count-clause-bucket : goal.returns-then-rank-count-clause-bucket

@@ -1,7 +1,6 @@
 use Rattle.std.proofs.{Common.{◌≡◌, ◌∙◌, Err, ap, map, string_bytes, sym}, lemmas.Result.err_from_is_err_and}
-use Rattle.{std.specs.Option.{option_and_then}, replay_words.specs.declared.words.WordFault.TheVariants.Usage}
-use Rattle.machine_words.specs.Words.{asked_of, asked_with}
-use Rattle.replay_words.{specs.Given.value_of, proofs.ClapFacts.{asked-as, found_is, refused_is}}
+use Rattle.{std.specs.Option.option_and_then, replay_words.specs.{declared.words.WordFault.TheVariants.Usage, Given.value_of}}
+use Rattle.{replay_words.proofs.ClapFacts.{asked-as, found_is, refused_is}, machine_words.specs.Words.{asked_of, asked_with}}
 use Rattle.machine_words.proofs.words.parse_words.Goals as goal
 
 pub returns-in_err-matches-clause-usage : goal.returns-in_err-matches-clause-usage

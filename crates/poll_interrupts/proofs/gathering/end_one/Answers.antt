@@ -1,6 +1,5 @@
-use Rattle.{std.proofs.Common.{refl, ap, subst}, rx_ring.specs.{declared.packet.Totals.Totals, Ends.{put_list}}}
-use Rattle.napi_calls.specs.declared.types.Caller.{Caller}
-use Rattle.poll_interrupts.{specs.{declared.worker.Seats.Seats, Ends.IsEndedBy}, proofs.EndFacts.ended_of}
+use Rattle.{napi_calls.specs.declared.types.Caller.Caller, std.proofs.Common.{refl, ap, subst}, rx_ring.specs.declared.packet.Totals.Totals}
+use Rattle.{rx_ring.specs.Ends.put_list, poll_interrupts.{specs.{Ends.IsEndedBy, declared.worker.Seats.Seats}, proofs.EndFacts.ended_of}}
 use Rattle.poll_interrupts.proofs.gathering.end_one.Goals as goal
 
 pub returns : goal.returns

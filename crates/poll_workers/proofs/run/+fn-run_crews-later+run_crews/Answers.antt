@@ -1,9 +1,8 @@
-use Rattle.std.proofs.Common.{◌≡◌, ◌+◌, ◌<◌, [], vec_items, ◌∙◌, sym, refl, rules, arith}
-use Rattle.std.{proofs.lemmas.{Grind.common_steps, List.nil_from_length, Result.IfOk-at_ok}, specs.List.AllZip}
-use Rattle.poll_workers.specs.{Finishes.IsFinished, Courses.{AreOfCrew, ArePolled}}
-use Rattle.poll_workers.proofs.CrewFacts.{dealt_behind, joined_ok, last_if_ok, more_polled, none_polled, of_crew_polled}
-use Rattle.poll_tasks.specs.Asks.{IsAsked}
+use Rattle.std.proofs.{Common.{◌≡◌, ◌+◌, ◌<◌, [], vec_items, ◌∙◌, sym, refl, rules, arith}, lemmas.Grind.common_steps}
+use Rattle.{std.{proofs.lemmas.{List.nil_from_length, Result.IfOk-at_ok}, specs.List.AllZip}, poll_tasks.specs.Asks.IsAsked}
 use Rattle.poll_interrupts.{specs.Opens.IsStation, proofs.DealFacts.{all_others, all_picked, merge_zips, parts_length}}
+use Rattle.poll_workers.{specs.{Finishes.IsFinished, Courses.{AreOfCrew, ArePolled}}, proofs.CrewFacts.{dealt_behind, joined_ok}}
+use Rattle.poll_workers.proofs.CrewFacts.{last_if_ok, more_polled, none_polled, of_crew_polled}
 use Rattle.poll_workers.proofs.run.+fn-run_crews-later+run_crews.Goals as goal
 
 pub returns-then-is_empty-clause-polled : goal.returns-then-is_empty-clause-polled

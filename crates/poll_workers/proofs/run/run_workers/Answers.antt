@@ -1,8 +1,7 @@
-use Rattle.std.proofs.{Common.{◌≡◌, ◌∙◌, Bool, true, false, arith, refl, sym}, lemmas.Grind.common_steps}
-use Rattle.std.specs.{Borrow.Bor, Global.Vec, Prelude.{Result, Ok, Err, IfOk, IsErrOf, vec_items}}
-use Rattle.{poll_interrupts.specs.declared.station.Finished.Finished, poll_tasks.specs.Asks.IsAsked}
-use Rattle.poll_workers.specs.declared.fault.{Stop.{Stop, TheVariants.{Memory, Short}}, WorkFault.TheVariants.SpawnFailed}
-use Rattle.poll_workers.{specs.{Courses.{ArePolled, pace_of}, Faults.told}, proofs.NumberFacts.few_stations}
+use Rattle.std.{proofs.{lemmas.Grind.common_steps, Common.{◌≡◌, ◌∙◌, Bool, true, false, arith, refl, sym}}, specs.{Borrow.Bor, Global.Vec}}
+use Rattle.{std.specs.Prelude.{Result, Ok, Err, IfOk, IsErrOf, vec_items}, poll_interrupts.specs.declared.station.Finished.Finished}
+use Rattle.{poll_tasks.specs.Asks.IsAsked, poll_workers.{proofs.NumberFacts.few_stations, specs.Courses.{ArePolled, pace_of}}}
+use Rattle.poll_workers.specs.{Faults.told, declared.fault.{Stop.{Stop, TheVariants.{Memory, Short}}, WorkFault.TheVariants.SpawnFailed}}
 use Rattle.poll_workers.proofs.run.run_workers.Goals as goal
 
 pub run_crews-came-requires-clause-count : goal.run_crews-came-requires-clause-count

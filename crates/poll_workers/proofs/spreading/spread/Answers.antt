@@ -1,6 +1,5 @@
 use Rattle.std.proofs.{Common.{◌≡◌, ◌∷◌, ◌++◌, [], vec_items, rules, arith, refl}, lemmas.{Grind.common_steps, List.nil_from_length}}
-use Rattle.{std.specs.Vec.Iter.into_iter_items, poll_tasks.proofs.Zips.{zip_push, before_more}}
-use Rattle.poll_tasks.proofs.ListFacts.{none_left, zip_empty}
+use Rattle.{std.specs.Vec.Iter.into_iter_items, poll_tasks.proofs.{Zips.{zip_push, before_more}, ListFacts.{none_left, zip_empty}}}
 use Rattle.poll_workers.proofs.spreading.spread.Goals as goal
 
 pub loop-rest-init : goal.loop-rest-init
@@ -66,50 +65,18 @@ loop-rest-preserved g c =
       },
     )
 
-pub returns-clause-jobs : goal.returns-clause-jobs
-returns-clause-jobs g c =
+pub returns : goal.returns
+returns g c =
     let now = c.loop-rest.invariant.2 in
     let empty : into_iter_items c.loop-rest.rests ≡ [] =
     nil_from_length _ (grind (arith, common_steps, now.long, c.in_default.ensures.len)) in
     let whole = none_left _ _ _ now.whole empty in
-    rw (← whole) now.made
-
-pub returns-clause-job_places : goal.returns-clause-job_places
-returns-clause-job_places g c =
-    let now = c.loop-rest.invariant.2 in
-    let empty : into_iter_items c.loop-rest.rests ≡ [] =
-    nil_from_length _ (grind (arith, common_steps, now.long, c.in_default.ensures.len)) in
-    let whole = none_left _ _ _ now.all_places (zip_empty _ _ _ now.sides empty) in
-    rw (← whole) now.job_places
-
-pub returns-clause-seat_places : goal.returns-clause-seat_places
-returns-clause-seat_places g c =
-    let now = c.loop-rest.invariant.2 in
-    let empty : into_iter_items c.loop-rest.rests ≡ [] =
-    nil_from_length _ (grind (arith, common_steps, now.long, c.in_default.ensures.len)) in
-    let whole = none_left _ _ _ now.all_places (zip_empty _ _ _ now.sides empty) in
-    rw (← whole) now.seat_places
-
-pub returns-clause-seats : goal.returns-clause-seats
-returns-clause-seats g c =
-    let now = c.loop-rest.invariant.2 in
-    let empty : into_iter_items c.loop-rest.rests ≡ [] =
-    nil_from_length _ (grind (arith, common_steps, now.long, c.in_default.ensures.len)) in
-    let whole = none_left _ _ _ now.whole empty in
-    rw (← whole) now.seats
-
-pub returns-clause-thread_places : goal.returns-clause-thread_places
-returns-clause-thread_places g c =
-    let now = c.loop-rest.invariant.2 in
-    let empty : into_iter_items c.loop-rest.rests ≡ [] =
-    nil_from_length _ (grind (arith, common_steps, now.long, c.in_default.ensures.len)) in
-    let whole = none_left _ _ _ now.all_places (zip_empty _ _ _ now.sides empty) in
-    rw (← whole) now.thread_places
-
-pub returns-clause-threads : goal.returns-clause-threads
-returns-clause-threads g c =
-    let now = c.loop-rest.invariant.2 in
-    let empty : into_iter_items c.loop-rest.rests ≡ [] =
-    nil_from_length _ (grind (arith, common_steps, now.long, c.in_default.ensures.len)) in
-    let whole = none_left _ _ _ now.whole empty in
-    rw (← whole) now.threads
+    let places = none_left _ _ _ now.all_places (zip_empty _ _ _ now.sides empty) in
+    record {
+      jobs = rw (← whole) now.made;
+      job_places = rw (← places) now.job_places;
+      seat_places = rw (← places) now.seat_places;
+      seats = rw (← whole) now.seats;
+      thread_places = rw (← places) now.thread_places;
+      threads = rw (← whole) now.threads;
+    }

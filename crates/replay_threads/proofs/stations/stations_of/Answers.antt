@@ -1,8 +1,7 @@
-use Rattle.std.proofs.{Common.{◌≡◌, ◌∙◌, ◌-◌, [], subst, sym, arith, vec_items, ℕ}, lemmas.List.get_or-set_other}
-use Rattle.{std.specs.{Prelude.filter, List.{AllZip, range_with_len}}, device_script.specs.{Dealing.lists, Script.is_act_of}}
-use Rattle.replay_threads.specs.{Stations.IsStationOf, ThreadsReport.{is_opened, opened}}
-use Rattle.replay_threads.proofs.StationFacts.{opened-more, opening-among, script-at}
-use Rattle.device_script.proofs.{OpeningFacts.opened-within, Rows.filter-long}
+use Rattle.std.{proofs.{Common.{◌≡◌, ◌∙◌, ◌-◌, [], subst, sym, arith, vec_items, ℕ}, lemmas.List.get_or-set_other}, specs.Prelude.filter}
+use Rattle.{std.specs.List.{AllZip, range_with_len}, device_script.specs.{Dealing.lists, Script.is_act_of}}
+use Rattle.{device_script.proofs.{OpeningFacts.opened-within, Rows.filter-long}, replay_threads.specs.Stations.IsStationOf}
+use Rattle.replay_threads.{specs.ThreadsReport.{is_opened, opened}, proofs.StationFacts.{opened-more, opening-among, script-at}}
 use Rattle.replay_threads.proofs.stations.stations_of.Goals as goal
 
 pub add_station-requires-clause-places : goal.add_station-requires-clause-places

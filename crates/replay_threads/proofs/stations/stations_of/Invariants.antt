@@ -1,6 +1,5 @@
-use Rattle.std.proofs.Common.{◌≡◌, ◌-◌, ◌+◌, ◌<◌, ◌≤◌, ℕ, [], slice_index_or, vec_items, vec_len}
-use Rattle.{std.specs.{Prelude.filter, List.{All, AllZip, range_with_len}}, poll_interrupts.specs.Opens.IsStation}
-use Rattle.device_script.specs.Dealing.{lists}
+use Rattle.std.{proofs.Common.{◌≡◌, ◌-◌, ◌+◌, ◌<◌, ◌≤◌, ℕ, [], slice_index_or, vec_items, vec_len}, specs.{Prelude.filter, List.All}}
+use Rattle.{std.specs.List.{AllZip, range_with_len}, poll_interrupts.specs.Opens.IsStation, device_script.specs.Dealing.lists}
 use Rattle.{device_script.specs.Script.script_of, replay_threads.specs.{Stations.IsStationOf, ThreadsReport.is_opened}}
 use Rattle.replay_threads.proofs.stations.stations_of.Given as goal
 

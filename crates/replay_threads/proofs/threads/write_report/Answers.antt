@@ -1,5 +1,4 @@
-use Rattle.std.proofs.Common.{refl}
-use Rattle.replay_threads.{specs.ThreadsReport.opened, proofs.StationFacts.all-polled}
+use Rattle.{std.proofs.Common.refl, replay_threads.{specs.ThreadsReport.opened, proofs.StationFacts.all-polled}}
 use Rattle.replay_threads.proofs.threads.write_report.Goals as goal
 
 pub returns-clause-polled : goal.returns-clause-polled

@@ -1,20 +1,18 @@
 -- `into_parts` moves two fields of a held value that is there, and what they own goes with them.
+use Rattle.{std.specs.Prelude.{Option, Some}, std_alloc.proofs.BoxSteps.{Form.{D, word, box_typed}, Steps.{box_out, box_in}}}
+use Rattle.c_handles.{specs.{declared.body.Body.Body, contracts.held.Held.into_parts.Key.name as #self}, proofs.AsBox.{E, FromHeld as From}}
 use mathlib.Core.{Path.{◌≡◌, refl, sym, subst}, List.{List, [], ◌∷◌, ◌++◌}}
 use seplogic.Ra.Ura.{Ura}
 use mir.Val.{Val}
 use base.{Logic.{SProp, ent, id⊢}, Fml.{ftrue, fsep}}
 use prog.{Memory.Memory, Routine.Routine, Wp.{WpFn, Tables}}
-use types.Logic.{Logic}
-use types.Kit.{Item, ‵, raw, ◌⊛◌, ◌$◌, ◌∵◌, !, qed, rewrite, by, move, drop, use1, join, split, fsplit, fjoin, suffices, done}
-use types.{Part.{whole, sub, agg}, Run.{stop, fld, no_more, and_then, of_opd, returns, enter}}
-use types.ByLocal.{alloc_all, pass_all, free_all, look_at, get, get_in, sets}
+use types.{Logic.Logic, Kit.{Item, ‵, raw, ◌⊛◌, ◌$◌, ◌∵◌, !, qed, rewrite, by, move, drop, use1, join, split, fsplit, fjoin, suffices}}
+use types.{Kit.done, Part.{whole, sub, agg}, Run.{stop, fld, no_more, and_then, of_opd, returns, enter}, ByLocal.{alloc_all, pass_all}}
+use types.ByLocal.{free_all, look_at, get, get_in, sets}
 use contract.{Monad.{Fun, fact}, Running.{tables, tables_of}}
 use sound.WpLaws.{WpFn-mono}
-use Rattle.{std.specs.Prelude.{Option, Some}, std_alloc.proofs.BoxSteps.{Form.{D, word, box_typed}, Steps.{box_out, box_in}}}
-use Rattle.c_handles.{proofs.AsBox.{E, FromHeld as From}, specs.declared.body.Body.Body}
-use Rattle.c_handles.specs.contracts.held.Held.into_parts.Key.{name as #self}
-use denote.{Exit.yes, Signature.type_at, Steps.{heard, nothing}}
-use denote.Triple.{Spec.triple_of, Table.entered, Walked.{says, Stays, stay_dropped, walk_of, ends_at, Goes-dropped, walk_Meets}}
+use denote.{Exit.yes, Signature.type_at, Steps.{heard, nothing}, Triple.{Spec.triple_of, Table.entered, Walked.{says, Stays, stay_dropped}}}
+use denote.Triple.Walked.{walk_of, ends_at, Goes-dropped, walk_Meets}
 use Rattle.c_handles.specs.contracts.held.Held as Held
 use Rattle.c_handles.specs.contracts.held.Held.into_parts as F
 use Rattle.c_handles.proofs.held.Held.into_parts.Statement as stated

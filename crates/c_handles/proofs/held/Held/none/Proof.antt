@@ -1,21 +1,18 @@
 -- `none` makes a held value that owns nothing, at no pointer.
+use Rattle.{std.{proofs.{Common.lit<, alloc.Calls.{α, handle_tells}}, specs.Prelude.None}, std_alloc.proofs.ResultValues.and_tt}
+use Rattle.{std_alloc.proofs.BoxSteps.Form.handle, c_handles.{specs.contracts.held.Held.none.Key.name as #self, proofs.AsBox.E}}
 use mathlib.Core.{Path.{refl, sym, subst}, List.{List, [], ◌∷◌, ◌++◌}}
 use seplogic.Ra.Ura.{Ura}
 use mir.Val.{Val, vstruct, vcons, vnil, has_ty}
 use base.{Logic.{SProp, ent, emp, id⊢}, Fml.{ftrue, fsep}}
 use prog.{Memory.Memory, Routine.Routine, Wp.{WpFn, Tables}}
-use types.Logic.{Logic}
+use types.{Part.agg, Run.{lit, no_more, and_then, returns, enter}, ByLocal.{alloc_all, pass_all, free_all, look_at, get, sets}, Logic.Logic}
 use types.Kit.{Item, ‵, raw, ◌⊛◌, ◌$◌, ◌∵◌, !, qed, by, move, keep, drop, use1, join, split, fsplit, fjoin, fpack, feq_i, suffices, done}
-use types.{Part.agg, Run.{lit, no_more, and_then, returns, enter}}
-use types.ByLocal.{alloc_all, pass_all, free_all, look_at, get, sets}
 use contract.{Monad.Fun, Running.{tables, tables_of}}
 use sound.WpLaws.{WpFn-mono}
-use Rattle.std.{proofs.{Common.lit<, alloc.Calls.{α, handle_tells}}, specs.Prelude.None}
-use Rattle.std_alloc.proofs.{ResultValues.and_tt, BoxSteps.Form.handle}
-use Rattle.c_handles.{proofs.AsBox.E, specs.contracts.held.Held.none.Key.name as #self}
 use denote.{Exit.yes, RattleType.Valss, RawPtr.{RawPtr, null_ptr, ptr_val}, Signature.{Slot, plain, type_at}, Steps.nothing}
-use denote.{Struct.{Struct.within, Owning.{shape, to}}, Triple.{Spec.triple_of, Table.entered}}
-use denote.Triple.Walked.{says, Stays, stay_dropped, walk_of, ends_at, Goes-dropped, walk_Meets}
+use denote.{Struct.{Struct.within, Owning.{shape, to}}, Triple.{Spec.triple_of, Table.entered, Walked.{says, Stays, stay_dropped, walk_of}}}
+use denote.Triple.Walked.{ends_at, Goes-dropped, walk_Meets}
 use Rattle.std_heap.specs.contracts.Global as Heap
 use Rattle.c_handles.specs.contracts.held.Held as Held
 use Rattle.c_handles.specs.contracts.held.Held.none as F

@@ -1,4 +1,6 @@
 -- `into_box` hands what the parts own to `from_raw`.
+use Rattle.{std.proofs.alloc.Calls.{token, Goes-blank}, std_alloc.{specs.Box.Ownership.box_owns, proofs.BoxSteps.Form.{Bx, D, R, P, B}}}
+use Rattle.std_alloc.proofs.BoxSteps.{Form.{args, box_ty, word, box_typed}, Steps.{box_out, box_in}}
 use mathlib.Core.{Path.{◌≡◌, refl, sym, subst, ap}, List.{List, [], ◌∷◌, ◌++◌}}
 use lib.Dec.{T}
 use seplogic.Ra.Ura.{Ura}
@@ -6,18 +8,13 @@ use mir.{Syntax.{Fn, Body, place, copy, assign, rv_opd, seq, return}, MapTy.inst
 use base.{Logic.{SProp, ent, id⊢}, Fml.{ftrue, fsep, flft}}
 use contract.{BorrowLft.◌⊑◌, Monad.{Fun, fact}, Running.{tables, tables_of}}
 use prog.{Memory.Memory, Routine.Routine, Wp.{WpFn, Tables}}
-use types.Logic.{Logic}
-use types.Kit.{Item, at_ret, ‵, raw, ◌⊛◌, some, later, ◌$◌, ◌∵◌, !, qed, by, move, drop, use1, join, split, split3, pick, rewrite, fsplit}
-use types.{Kit.{fjoin, feq_i, suffices, await, done}, Part.{whole, sub}}
-use types.Run.{stop, fld, no_more, and_then, of_opd, returns, enter, first, blocks, exec}
-use types.ByLocal.{alloc_all, pass_all, free_all, look_at, get, get_in, sets, lands_last, env}
+use types.{Logic.Logic, Kit.{Item, at_ret, ‵, raw, ◌⊛◌, some, later, ◌$◌, ◌∵◌, !, qed, by, move, drop, use1, join, split, split3, pick}}
+use types.{Kit.{rewrite, fsplit, fjoin, feq_i, suffices, await, done}, Part.{whole, sub}, Run.{stop, fld, no_more, and_then, of_opd}}
+use types.{Run.{returns, enter, first, blocks, exec}, ByLocal.{alloc_all, pass_all, free_all, look_at, get, get_in, sets, lands_last, env}}
 use sound.WpLaws.{fm_of, WpFn-mono}
-use denote.{RattleType.RattleType, Exit.no, RawPtr.block_ptr, Signature.plain, Steps.{heard, nothing, only}}
-use denote.Triple.{Call.calls_at_last, Clauses.{Ended, Clauses}, Spec.triple_of, Statement.{Triple, Contract}, Table.entered}
-use denote.Triple.Walked.{says, Stays, stay_dropped, walk_of, ends_at, walk_Meets}
-use Rattle.std.proofs.alloc.Calls.{token, Goes-blank}
-use Rattle.std_alloc.specs.Box.Ownership.{box_owns}
-use Rattle.std_alloc.proofs.BoxSteps.{Form.{Bx, D, R, P, B, args, box_ty, word, box_typed}, Steps.{box_out, box_in}}
+use denote.{RattleType.RattleType, Exit.no, RawPtr.block_ptr, Signature.plain, Steps.{heard, nothing, only}, Triple.Call.calls_at_last}
+use denote.Triple.{Clauses.{Ended, Clauses}, Spec.triple_of, Statement.{Triple, Contract}, Table.entered, Walked.{says, Stays}}
+use denote.Triple.Walked.{stay_dropped, walk_of, ends_at, walk_Meets}
 use Rattle.c_handles.specs.contracts.parts.Parts.into_box.Key.{name as #self}
 use Rattle.c_handles.specs.contracts.parts.Parts as parts
 use Rattle.std_alloc.specs.contracts.boxed.Box.from_raw as Fr

@@ -1,23 +1,19 @@
 -- `of` takes the box apart, and the parts own what it owned.
+use Rattle.std_alloc.{specs.Box.Ownership.box_owns, proofs.BoxSteps.{Steps.{box_out, box_in}, Form.{Bx, D, τ, R, P, B, word, box_typed}}}
+use Rattle.{c_handles.specs.contracts.parts.Parts.of.Key.name as #self, std.proofs.alloc.Calls.{token, handle_tells, Goes-blank}}
 use mathlib.Core.{Path.{◌≡◌, refl, sym, subst, ap, ◌∙◌}, List.{List, [], ◌∷◌, ◌++◌}}
 use seplogic.Ra.Ura.{Ura}
-use mir.{Syntax.{Fn, Args, Dict, a_type, dcons, dnil}, MapTy.inst_fn, Raw.raw as bare, Val.{Val, vstruct, of_list}}
+use mir.{Syntax.{Fn, Args, Dict, a_type, dcons, dnil}, MapTy.inst_fn, Val.{Val, vstruct, of_list}, Raw.raw as bare}
 use base.{Logic.{SProp, ent, id⊢, never, fst∗}, Fml.{ftrue, fsep, flft}}
 use contract.{BorrowLft.◌⊑◌, Monad.{Fun, fact}, Running.{tables, tables_of}}
 use prog.{Memory.Memory, Routine.Routine, Wp.{WpFn, Tables}}
-use types.Logic.{Logic, sem}
-use types.Kit.{Item, ‵, raw, ◌⊛◌, some, later, ◌$◌, ◌∵◌, !, qed, by, move, drop, use1, join, split, split3, pick, rewrite, fsplit, fjoin}
-use types.{Kit.{fpick, feq_l, suffices, await, done}, Part.{whole, sub, agg}}
-use types.Run.{stop, fld, no_more, and_then, of_opd, returns, enter}
-use types.ByLocal.{alloc_all, pass_all, free_all, look_at, get, get_in, sets, lands_as}
+use types.{Logic.{Logic, sem}, Kit.{Item, ‵, raw, ◌⊛◌, some, later, ◌$◌, ◌∵◌, !, qed, by, move, drop, use1, join, split, split3, pick}}
+use types.{Kit.{rewrite, fsplit, fjoin, fpick, feq_l, suffices, await, done}, Part.{whole, sub, agg}, Run.{stop, fld, no_more, and_then}}
+use types.{Run.{of_opd, returns, enter}, ByLocal.{alloc_all, pass_all, free_all, look_at, get, get_in, sets, lands_as}}
 use sound.WpLaws.{fm_of, WpFn-mono}
 use denote.{RattleType.RattleType, Exit.no, Param.bounded, RawPtr.{Ptr, RawPtr, block_ptr, null_ptr, ptr_val, in_a_block}, Signature.plain}
-use denote.{Steps.{heard, nothing, only}, Struct.Tuple.Tuple, Triple.{Call.calls_at, Clauses.{Ended, Clauses}}}
-use denote.Triple.{Spec.triple_of, Statement.{Triple, Contract}, Table.entered}
-use denote.Triple.Walked.{says, Stays, stay_dropped, walk_of, ends_at, walk_Meets}
-use Rattle.std.proofs.alloc.Calls.{token, handle_tells, Goes-blank}
-use Rattle.std_alloc.{specs.Box.Ownership.box_owns, proofs.BoxSteps.{Form.{Bx, D, τ, R, P, B, word, box_typed}, Steps.{box_out, box_in}}}
-use Rattle.c_handles.specs.contracts.parts.Parts.of.Key.{name as #self}
+use denote.{Steps.{heard, nothing, only}, Struct.Tuple.Tuple, Triple.{Call.calls_at, Clauses.{Ended, Clauses}, Spec.triple_of}}
+use denote.Triple.{Statement.{Triple, Contract}, Table.entered, Walked.{says, Stays, stay_dropped, walk_of, ends_at, walk_Meets}}
 use Rattle.c_handles.specs.contracts.parts.Parts as parts
 use Rattle.std_alloc.specs.contracts.boxed.Box.into_raw_with_allocator as Ra
 use Rattle.std_alloc.proofs.boxed.Box.into_raw_with_allocator.Symbol as raw_sym

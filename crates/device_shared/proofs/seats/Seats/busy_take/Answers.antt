@@ -1,7 +1,5 @@
-use Rattle.std.proofs.Common.{[], refl}
-use Rattle.napi_model.specs.declared.state.Kind.TheVariants.{List}
-use Rattle.device_shared.proofs.ActingFacts.{first_turn, none_turn, quiet, taken}
-use Rattle.device_shared.proofs.seats.Seats.busy_take.Goals.{in-Ok-busy, in-Err-busy}
+use Rattle.{std.proofs.Common.{[], refl}, napi_model.specs.declared.state.Kind.TheVariants.List}
+use Rattle.device_shared.proofs.{ActingFacts.{first_turn, none_turn, quiet, taken}, seats.Seats.busy_take.Goals.{in-Ok-busy, in-Err-busy}}
 use Rattle.device_shared.proofs.seats.Seats.busy_take.Goals as goal
 
 pub returns-in-Err-clause-acts : goal.returns-in-Err-clause-acts

@@ -1,6 +1,4 @@
-use Rattle.std.proofs.Common.{refl}
-use Rattle.napi_calls.proofs.Dealing.{delivers_back}
-use Rattle.device_shared.proofs.ActingFacts.{control_turn, given}
+use Rattle.{std.proofs.Common.refl, napi_calls.proofs.Dealing.delivers_back, device_shared.proofs.ActingFacts.{control_turn, given}}
 use Rattle.device_shared.proofs.seats.Seats.enable.Goals as goal
 
 pub returns-clause-acts : goal.returns-clause-acts

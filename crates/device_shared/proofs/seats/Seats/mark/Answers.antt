@@ -1,6 +1,4 @@
-use Rattle.std.proofs.Common.{refl}
-use Rattle.device_shared.specs.Seats.{ctx_at}
-use Rattle.device_shared.proofs.ActingFacts.{control_turn, quiet}
+use Rattle.{std.proofs.Common.refl, device_shared.{specs.Seats.ctx_at, proofs.ActingFacts.{control_turn, quiet}}}
 use Rattle.device_shared.proofs.seats.Seats.mark.Goals as goal
 
 pub returns-clause-acts : goal.returns-clause-acts

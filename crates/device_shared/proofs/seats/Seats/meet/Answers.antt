@@ -1,6 +1,4 @@
-use Rattle.std.proofs.Common.{Some, ap, refl}
-use Rattle.napi_calls.specs.declared.types.Off.{Off}
-use Rattle.device_shared.proofs.Orders.{meet_straight}
+use Rattle.{std.proofs.Common.{Some, ap, refl}, napi_calls.specs.declared.types.Off.Off, device_shared.proofs.Orders.meet_straight}
 use Rattle.device_shared.proofs.seats.Seats.meet.Goals as goal
 
 pub returns-in-Off : goal.returns-in-Off

@@ -1,7 +1,6 @@
-use Rattle.std.proofs.Common.{[], refl}
-use Rattle.device_shared.proofs.ActingFacts.{first_turn, none_turn, quiet, second_turn, taken}
-use Rattle.device_shared.proofs.seats.Seats.take.Goals.{in-List+in-Ok-take, in-List+in-Err-take}
-use Rattle.device_shared.proofs.seats.Seats.take.Goals.{in-Thread+in-Ok-take-2, in-Thread+in-Err-take-2}
+use Rattle.{std.proofs.Common.{[], refl}, device_shared.proofs.ActingFacts.{first_turn, none_turn, quiet, second_turn, taken}}
+use Rattle.device_shared.proofs.seats.Seats.take.Goals.{in-List+in-Ok-take, in-List+in-Err-take, in-Thread+in-Ok-take-2}
+use Rattle.device_shared.proofs.seats.Seats.take.Goals.{in-Thread+in-Err-take-2}
 use Rattle.device_shared.proofs.seats.Seats.take.Goals as goal
 
 pub returns-in-Err-clause-acts : goal.returns-in-Err-clause-acts

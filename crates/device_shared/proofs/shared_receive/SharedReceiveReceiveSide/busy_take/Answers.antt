@@ -9,16 +9,9 @@ invariant_of-self g c =
     let r = took_busily _ _ _ _ (role_before k) (sound k) a.1 (legal k) in
     (kept_as k c.busy_take-seats.ensures.role r.2, c.self.invariant.1)
 
-pub returns-clause-reply : goal.returns-clause-reply
-returns-clause-reply g c =
+pub returns : goal.returns
+returns g c =
     let a = c.busy_take-seats.ensures.acts in
     let k = called c.take_out-seats.result c.take_out-seats.ensures.was c.self.invariant.0 a.2 c.keep.ensures in
     let r = took_busily _ _ _ _ (role_before k) (sound k) a.1 (legal k) in
-    rw (← c.self.view_is) r.0
-
-pub returns-clause-side : goal.returns-clause-side
-returns-clause-side g c =
-    let a = c.busy_take-seats.ensures.acts in
-    let k = called c.take_out-seats.result c.take_out-seats.ensures.was c.self.invariant.0 a.2 c.keep.ensures in
-    let r = took_busily _ _ _ _ (role_before k) (sound k) a.1 (legal k) in
-    rw (← c.self.view_is) (viewed c.self.inside.capacity (state k ∙ r.1) (packets k))
+    record { reply = rw (← c.self.view_is) r.0; side = rw (← c.self.view_is) (viewed c.self.inside.capacity (state k ∙ r.1) (packets k)) }

@@ -1,6 +1,5 @@
-use Rattle.std.proofs.Common.{◌∙◌}
-use Rattle.device_shared.proofs.Reading.{asked, asked_role}
-use Rattle.device_shared.proofs.WholeFacts.{called, kept_at, legal, packets, role_before, sound, state, viewed}
+use Rattle.{std.proofs.Common.◌∙◌, device_shared.proofs.{Reading.{asked, asked_role}, WholeFacts.{called, kept_at, legal, packets}}}
+use Rattle.device_shared.proofs.WholeFacts.{role_before, sound, state, viewed}
 use Rattle.device_shared.proofs.shared_receive.SharedReceiveReceiveSide.request.Goals as goal
 
 pub invariant_of-self : goal.invariant_of-self
@@ -10,23 +9,13 @@ invariant_of-self g c =
     let r = asked _ _ _ a.0 a.1 (legal k) in
     (kept_at k c.request-seats.ensures.role r.2 (asked_role _ _ _ (role_before k) (sound k) r.0), c.self.invariant.1)
 
-pub returns-clause-reply : goal.returns-clause-reply
-returns-clause-reply g c =
+pub returns : goal.returns
+returns g c =
     let a = c.request-seats.ensures.acts in
     let k = called c.take_out-seats.result c.take_out-seats.ensures.was c.self.invariant.0 a.2 c.keep.ensures in
     let r = asked _ _ _ a.0 a.1 (legal k) in
-    rw (← c.self.view_is) r.0
-
-pub returns-clause-kind : goal.returns-clause-kind
-returns-clause-kind g c =
-    let a = c.request-seats.ensures.acts in
-    let k = called c.take_out-seats.result c.take_out-seats.ensures.was c.self.invariant.0 a.2 c.keep.ensures in
-    let r = asked _ _ _ a.0 a.1 (legal k) in
-    rw (← c.self.view_is) r.1
-
-pub returns-clause-side : goal.returns-clause-side
-returns-clause-side g c =
-    let a = c.request-seats.ensures.acts in
-    let k = called c.take_out-seats.result c.take_out-seats.ensures.was c.self.invariant.0 a.2 c.keep.ensures in
-    let r = asked _ _ _ a.0 a.1 (legal k) in
-    rw (← c.self.view_is) (viewed c.self.inside.capacity (state k ∙ r.2) (packets k))
+    record {
+      reply = rw (← c.self.view_is) r.0;
+      kind = rw (← c.self.view_is) r.1;
+      side = rw (← c.self.view_is) (viewed c.self.inside.capacity (state k ∙ r.2) (packets k));
+    }

@@ -1,8 +1,6 @@
-use Rattle.std.proofs.Common.{◌∙◌, ℕ, ap}
-use Rattle.device_shared.proofs.Reading.{may_complete, requeued}
-use Rattle.device_shared.proofs.WholeFacts.{called, kept_as, packets, role_before, role_there, state, viewed}
-use Rattle.device_shared.specs.SharedReceive.{napi_at}
-use Rattle.napi_model.specs.{Step.{after, event}, declared.event.Operation.TheVariants.Hand}
+use Rattle.{std.proofs.Common.{◌∙◌, ℕ, ap}, napi_model.specs.{Step.{after, event}, declared.event.Operation.TheVariants.Hand}}
+use Rattle.device_shared.{specs.SharedReceive.napi_at, proofs.{Reading.{may_complete, requeued}, WholeFacts.{called, kept_as, packets}}}
+use Rattle.device_shared.proofs.WholeFacts.{role_before, role_there, state, viewed}
 use Rattle.napi_model.specs.declared.state.Kind.TheVariants as kind
 use Rattle.device_shared.proofs.shared_receive.SharedReceiveReceiveSide.requeue.Goals as goal
 

@@ -1,6 +1,5 @@
-use Rattle.std.proofs.Common.{◌∙◌}
-use Rattle.device_shared.proofs.Reading.{polls_busily, stopped}
-use Rattle.device_shared.proofs.WholeFacts.{called, kept_as, legal, packets, role_before, role_there, state, viewed}
+use Rattle.{std.proofs.Common.◌∙◌, device_shared.proofs.{Reading.{polls_busily, stopped}, WholeFacts.{called, kept_as, legal, packets}}}
+use Rattle.device_shared.proofs.WholeFacts.{role_before, role_there, state, viewed}
 use Rattle.device_shared.proofs.shared_receive.SharedReceiveReceiveSide.stop.Goals as goal
 
 pub stop-seats-requires-clause-polls : goal.stop-seats-requires-clause-polls

@@ -9,23 +9,13 @@ invariant_of-self g c =
     let r = took _ _ _ _ _ (role_before k) a.1 (legal k) in
     (kept_as k c.take-seats.ensures.role r.2, c.self.invariant.1)
 
-pub returns-clause-reply : goal.returns-clause-reply
-returns-clause-reply g c =
+pub returns : goal.returns
+returns g c =
     let a = c.take-seats.ensures.acts in
     let k = called c.take_out-seats.result c.take_out-seats.ensures.was c.self.invariant.0 a.2 c.keep.ensures in
     let r = took _ _ _ _ _ (role_before k) a.1 (legal k) in
-    rw (← c.self.view_is) r.0
-
-pub returns-clause-side : goal.returns-clause-side
-returns-clause-side g c =
-    let a = c.take-seats.ensures.acts in
-    let k = called c.take_out-seats.result c.take_out-seats.ensures.was c.self.invariant.0 a.2 c.keep.ensures in
-    let r = took _ _ _ _ _ (role_before k) a.1 (legal k) in
-    rw (← c.self.view_is) (viewed c.self.inside.capacity (state k ∙ r.1) (packets k))
-
-pub returns-clause-idle : goal.returns-clause-idle
-returns-clause-idle g c =
-    let a = c.take-seats.ensures.acts in
-    let k = called c.take_out-seats.result c.take_out-seats.ensures.was c.self.invariant.0 a.2 c.keep.ensures in
-    let r = took _ _ _ _ _ (role_before k) a.1 (legal k) in
-    rw (← c.self.view_is) r.3
+    record {
+      reply = rw (← c.self.view_is) r.0;
+      side = rw (← c.self.view_is) (viewed c.self.inside.capacity (state k ∙ r.1) (packets k));
+      idle = rw (← c.self.view_is) r.3;
+    }

@@ -1,5 +1,4 @@
-use Rattle.std.proofs.Common.{rules, sym}
-use Rattle.machine_model.proofs.MachineFacts.{arrive-exact}
+use Rattle.{std.proofs.Common.{rules, sym}, machine_model.proofs.MachineFacts.arrive-exact}
 use Rattle.machine_model.proofs.machine.Machine.arrive.Goals as goal
 
 pub returns-clause-arrives : goal.returns-clause-arrives

@@ -1,5 +1,4 @@
-use Rattle.machine_model.proofs.KeptFacts.{kept-ended, run-ended}
-use Rattle.std.proofs.Common.{refl}
+use Rattle.{std.proofs.Common.refl, machine_model.proofs.KeptFacts.{kept-ended, run-ended}}
 use Rattle.machine_model.proofs.processor.Processor.end_run.Goals as goal
 
 pub invariant_of-self : goal.invariant_of-self

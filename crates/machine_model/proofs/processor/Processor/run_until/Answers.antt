@@ -1,5 +1,4 @@
-use Rattle.std.proofs.{Common.{◌≡◌, ◌∙◌, suc, true, ap, refl, sym, arith}, lemmas.Bool.and_parts}
-use Rattle.std.specs.Prelude.{nat_le}
+use Rattle.std.{proofs.{Common.{◌≡◌, ◌∙◌, suc, true, ap, refl, sym, arith}, lemmas.Bool.and_parts}, specs.Prelude.nat_le}
 use Rattle.machine_model.{specs.Processor.{after, is_busy, is_due, step}, proofs.{LeftFacts.step-less, StepFacts.each-more}}
 use Rattle.machine_model.proofs.processor.Processor.run_until.Goals as goal
 

@@ -1,7 +1,6 @@
-use Rattle.std.proofs.{Common.{◌≡◌, ◌+◌, ◌≤◌, ◌++◌, is_some, length, ap, sym, ◌∙◌, rules, arith}, lemmas.Grind.common_steps}
-use Rattle.{rx_ring.specs.Ends.{capacity_of, put_list}, poll_interrupts.specs.Acts.{after_acts, brings}}
-use Rattle.poll_interrupts.proofs.{ActSteps.{acts-more, after_acts-more, arrivals-more, put_more}, LedgerSteps.all_same}
-use Rattle.poll_interrupts.proofs.Listings.{lists_more, lists_same}
+use Rattle.std.proofs.{lemmas.Grind.common_steps, Common.{◌≡◌, ◌+◌, ◌≤◌, ◌++◌, is_some, length, ap, sym, ◌∙◌, rules, arith}}
+use Rattle.poll_interrupts.proofs.{Listings.{lists_more, lists_same}, ActSteps.{acts-more, after_acts-more, arrivals-more, put_more}}
+use Rattle.{poll_interrupts.{proofs.LedgerSteps.all_same, specs.Acts.{after_acts, brings}}, rx_ring.specs.Ends.{capacity_of, put_list}}
 use Rattle.poll_interrupts.proofs.worker.Desk.make_acts.Goals as goal
 
 pub loop-k-preserved : goal.loop-k-preserved

@@ -1,6 +1,4 @@
-use Rattle.std.proofs.Common.{is_some, refl}
-use Rattle.poll_interrupts.specs.declared.worker.Seats.{Seats}
-use Rattle.poll_interrupts.proofs.LedgerSteps.{same_seats, works}
+use Rattle.{std.proofs.Common.{is_some, refl}, poll_interrupts.{specs.declared.worker.Seats.Seats, proofs.LedgerSteps.{same_seats, works}}}
 use Rattle.poll_interrupts.proofs.worker.Desk.work.Goals as goal
 
 pub returns : goal.returns

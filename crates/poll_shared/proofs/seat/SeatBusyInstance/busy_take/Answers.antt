@@ -1,6 +1,5 @@
-use Rattle.std.proofs.Common.{refl}
-use Rattle.poll_shared.{specs.declared.seat.Hold.TheVariants.{Rests, PollsBusily}, proofs.SeatFacts.{seat_made, taken_packets}}
-use Rattle.napi_calls.proofs.Dealing.{delivers_none}
+use Rattle.{std.proofs.Common.refl, napi_calls.proofs.Dealing.delivers_none, poll_shared.specs.declared.seat.Hold.TheVariants.Rests}
+use Rattle.poll_shared.{specs.declared.seat.Hold.TheVariants.PollsBusily, proofs.SeatFacts.{seat_made, taken_packets}}
 use Rattle.poll_shared.proofs.seat.SeatBusyInstance.busy_take.Goals as goal
 
 pub returns-in-Ok-clause-leads : goal.returns-in-Ok-clause-leads
