@@ -1,5 +1,5 @@
 -- No bytes have a failed output as their fault.
-use Rattle.std.proofs.Common.{◌≡◌, ◌∙◌, ℕ, Bool, true, false, List, [], ◌∷◌, ◌++◌, length}
+use Rattle.std.proofs.Common.{◌≡◌, ℕ, Bool, true, false, List, [], ◌∷◌, ◌++◌, length}
 use Rattle.std.specs.Prelude.{Option, Some, None, Result, Ok, Err, if◌then◌else◌, nat_le, nat_lt, ◌&&◌, ◌^◌, ◌*◌, ◌+◌}
 use Rattle.device_rows.specs.{Record.{is_numeral, numeral}, Row.is_within}
 use Rattle.machine_report.specs.Arrivals.{Three, arrival_of, arrivals_after, arrivals_of, is_title, last_moment, of_three, ranged, three_of}
@@ -61,6 +61,6 @@ never-output processors (header ∷ records) = by (is_title (three_of header))
 -- the reader, the memory and the bytes have none
 pub read-never : (s : Settings) (bytes : List ℕ) (fault : MachineFault) → fault ≡ OutputFailed
     → IsReadFailure fault ⊎ IsFaultOf s bytes fault → ⊥
-read-never s bytes fault same (inl (inl read)) = cc (same, read)
-read-never s bytes fault same (inl (inr memory)) = cc (same, memory)
+read-never s bytes fault same (inl (inl read)) = cc (same, read.0)
+read-never s bytes fault same (inl (inr memory)) = cc (same, memory.0)
 read-never s bytes fault same (inr is) = never-output s.processors (records_of bytes) (rw same at is)
