@@ -1,5 +1,5 @@
-use Rattle.{std.proofs.Common.{◌≡◌, ◌⊎◌, ◌<◌, inl, inr, ℕ, List, Ok, length, sym, ap, subst, arith, ◌∙◌}, replay_rows.specs.Answer.replay_of}
-use Rattle.replay_text.specs.Outside.{IsOutside}
+use Rattle.std.proofs.Common.{◌≡◌, ◌⊎◌, ◌<◌, inl, inr, ℕ, List, Ok, length, sym, ap, subst, arith, ◌∙◌}
+use Rattle.{replay_rows.specs.Answer.replay_of, replay_text.specs.Outside.IsOutside}
 use Rattle.replay_c.specs.Replay.{IsFault}
 use Rattle.replay_c.proofs.Outside.{else-memory, theirs}
 use Rattle.replay_c.proofs.replay.fq_replay.Goals as goal
