@@ -1,7 +1,12 @@
 -- The line, the number and the exit status of each fault. See docs/FORMATS.md, "Arrivals".
-use Rattle.std.specs.{Prelude.{◌≡◌, ◌≢◌, ◌⊎◌, ℕ, List, ◌++◌, Option, Some, codes, decimal}, Io.KnownBytes.Keeps}
-use Rattle.machine_report.specs.declared.fault.MachineFault.{MachineFault, TheVariants.{BadHeader, BadFields, BadNumber, OutOfRange, Falls}}
-use Rattle.machine_report.specs.declared.fault.MachineFault.TheVariants.{ReadFailed, OutOfMemory, OutputFailed}
+use Rattle.std.specs.Prelude.{◌≡◌, ◌≢◌, ◌⊎◌, ℕ, List, ◌++◌, Option, Some, codes, decimal}
+use Rattle.std.specs.Io.KnownBytes.{Keeps}
+use Rattle.device_rows.specs.Failures.{HasFailed, IsRefused}
+use Rattle.machine_report.specs.Endless.{IsEndless}
+use Rattle.machine_report.specs.declared.fault.MachineFault.{MachineFault}
+use Rattle.machine_report.specs.declared.fault.MachineFault.TheVariants.{BadHeader, BadFields, BadNumber, OutOfRange, Falls, ReadFailed}
+use Rattle.machine_report.specs.declared.fault.MachineFault.TheVariants.{OutOfMemory, OutputFailed}
+use Rattle.replay_text.specs.Stops.{HasStopped}
 
 abbrev pub number_of : MachineFault → ℕ
 number_of BadHeader = 1
@@ -28,13 +33,17 @@ status_of OutOfMemory = 4
 status_of OutputFailed = 4
 status_of _ = 2
 
--- the reader or the memory failed
+-- memory was refused
+abbrev pub IsWantOfMemory : MachineFault → Type 0
+IsWantOfMemory fault = (fault ≡ OutOfMemory) × IsRefused
+
+-- the reader or the memory failed, or there were more rows than are counted
 abbrev pub IsReadFailure : MachineFault → Type 0
-IsReadFailure fault = (fault ≡ ReadFailed) ⊎ (fault ≡ OutOfMemory)
+IsReadFailure fault = ((fault ≡ ReadFailed) × (HasFailed ⊎ IsEndless)) ⊎ IsWantOfMemory fault
 
 -- or the writer
 abbrev pub IsOutside : MachineFault → Type 0
-IsOutside fault = IsReadFailure fault ⊎ (fault ≡ OutputFailed)
+IsOutside fault = IsReadFailure fault ⊎ ((fault ≡ OutputFailed) × HasStopped)
 
 -- a fault is one of the bytes read, or none of theirs
 abbrev pub IsFaultBy : (MachineFault → Type 0) → (List ℕ → MachineFault → Type 0) → Option (List ℕ) → MachineFault → Type 0

@@ -45,9 +45,7 @@ impl<R: Read + Drop> Arrivals<R> {
             (R.remaining source)) }
     {
         let mut reader = reader_of(alloc, source);
-        let Ok(mut fields) = ByteRecord::with_capacity(alloc, RECORD_BYTES, 3) else {
-            return Err(MachineFault::OutOfMemory);
-        };
+        let mut fields = ByteRecord::with_capacity(alloc, RECORD_BYTES, 3)?;
         match next_record(&mut reader, &mut fields) {
             Next::Record => {}
             Next::End => return Err(MachineFault::BadHeader),

@@ -38,10 +38,9 @@ pub enum MachineFault {
 }
 
 impl From<AllocError> for MachineFault {
-    ghost use Rattle.std.specs.Prelude.{◌≡◌};
-    ghost use Rattle.machine_report.specs.declared.fault.MachineFault.TheVariants.{OutOfMemory};
+    ghost use Rattle.machine_report.specs.Fault.{IsWantOfMemory};
 
-    ghost from_gives = { λ _ fault. fault ≡ OutOfMemory };
+    ghost from_gives = { λ _ fault. IsWantOfMemory fault };
 
     fn from(_: AllocError) -> MachineFault {
         MachineFault::OutOfMemory

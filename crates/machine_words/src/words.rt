@@ -4,7 +4,8 @@ ghost use Rattle.std.specs.Prelude.{◌≡◌, ◌≤◌, Some, None, Err, IfOk,
 ghost use Rattle.machine_words.specs.Words.{asked_for, asked_of, asked_with};
 ghost use Rattle.replay_words.specs.Given.{number_within, or_usual};
 ghost use Rattle.replay_words.specs.Options.{value_in};
-ghost use Rattle.replay_words.specs.declared.words.WordFault.TheVariants.{Usage};
+ghost use Rattle.replay_words.specs.Refusals.{IsRefused};
+ghost use Rattle.replay_words.specs.declared.words.WordFault.TheVariants.{OutOfMemory, Usage};
 
 use crate::settings::{
     MOST_BUDGET, MOST_PLACES, MOST_PROCESSORS, MOST_TIME, MOST_WEIGHT, MOST_WINDOW, Settings,
@@ -85,6 +86,7 @@ pub fn parse_words(alloc: Global, words: &[String]) -> Result<Settings, WordFaul
     ensures asked { IfOk result
         (λ asked. asked_for (map string_bytes words.now) ≡ Some (asked_of asked)) }
     ensures usage { result ≡ Err Usage → asked_for (map string_bytes words.now) ≡ None }
+    ensures memory { result ≡ Err OutOfMemory → IsRefused }
 {
     let words = with_name(alloc, words)?;
     let matches = read_options(alloc, &OPTIONS, words.as_slice())?;

@@ -1,6 +1,7 @@
 -- The program: what it writes and how it ends, of the words after its name and the bytes of its input.
-use Rattle.std.specs.Prelude.{◌≡◌, ◌≢◌, ℕ, false, true, List, ◌++◌, Option, Some, None, codes}
+use Rattle.std.specs.Prelude.{◌≡◌, ◌≢◌, ◌⊎◌, ℕ, false, true, List, ◌++◌, Option, Some, None, codes}
 use Rattle.std.specs.Io.KnownBytes.{Appends, Keeps}
+use Rattle.device_rows.specs.Failures.{IsRefused}
 use Rattle.machine_report.specs.Answer.{IsReportOf, IsFaultOf}
 use Rattle.machine_report.specs.Fault.{IsFaultBy, IsOutside, line_of as machine_line, status_of as machine_status}
 use Rattle.machine_report.specs.declared.fault.MachineFault.TheVariants.{OutputFailed}
@@ -8,6 +9,7 @@ use Rattle.machine_words.specs.Words.{asked_for, asked_of}
 use Rattle.machine_words.specs.declared.settings.Settings.{Settings}
 use Rattle.napi_machine.specs.declared.program.ProgramFault.{ProgramFault}
 use Rattle.napi_machine.specs.declared.program.ProgramFault.TheVariants.{Words, Machine}
+use Rattle.replay_text.specs.Stops.{HasStopped}
 use Rattle.replay_text.specs.Written.{AppendsPart}
 use Rattle.replay_text.specs.declared.program.Ending.{Ending}
 use Rattle.replay_words.specs.Given.{Text}
@@ -37,11 +39,13 @@ IsFault words input (Words Usage) = asked_for words ≡ None
 IsFault words input (Words OutOfMemory) = Unit {0}
 IsFault words input (Machine fault) = (settings : Settings) × AskFor words settings × IsFaultBy IsOutside (IsFaultOf settings) input fault
 
--- the line of this fault is all that went to standard error where it was told, and else less of it did; the status is its status
+-- the line of this fault is all that went to standard error where it was told, and else, where the writer stopped or memory was
+-- refused, less of it did; the status is its status
 pub record EndsBy (fault : ProgramFault) (errors_old errors_new : Option (List ℕ)) (ending : Ending) : Type 0 where
   pub status : ending.status ≡ status_of fault
   pub line : ending.told ≡ true → Appends errors_old errors_new (line_of fault)
   pub untold : ending.told ≡ false → AppendsPart errors_old errors_new (line_of fault)
+  pub stopped : ending.told ≡ false → HasStopped ⊎ IsRefused
 
 -- on each fault but a failed output nothing was written
 abbrev pub KeepsOutput : Option (List ℕ) → Option (List ℕ) → ProgramFault → Type 0

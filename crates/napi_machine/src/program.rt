@@ -1,9 +1,11 @@
 //! The whole program, but for its real ends: from the words, the input and the two outputs to the exit status.
 
-ghost use Rattle.std.specs.Prelude.{◌≡◌, ◌≢◌, IfErr, OnOk, map, string_bytes, true, false};
+ghost use Rattle.std.specs.Prelude.{◌≡◌, ◌≢◌, ◌⊎◌, IfErr, OnOk, map, string_bytes, true, false};
 ghost use Rattle.std.specs.Io.KnownBytes.{Appends, Keeps};
+ghost use Rattle.device_rows.specs.Failures.{IsRefused};
 ghost use Rattle.napi_machine.specs.Program.{EndsBy, FailedBy, IsFault, IsReport, KeepsOutput, line_of};
 ghost use Rattle.napi_machine.specs.declared.program.ProgramFault.TheVariants.{Machine};
+ghost use Rattle.replay_text.specs.Stops.{HasStopped};
 ghost use Rattle.replay_text.specs.Written.{AppendsPart, Writes};
 
 use machine_report::{MachineFault, fault_line, run_machine, status};
@@ -32,6 +34,7 @@ fn tell<E: Write>(alloc: Global, fault: &MachineFault, errors: &mut E) -> bool
         → Appends (E.contents errors.old) (E.contents errors.new) (line_of (Machine fault.now)) }
     ensures untold { result ≡ false → AppendsPart (E.contents errors.old) (E.contents errors.new)
         (line_of (Machine fault.now)) }
+    ensures stopped { result ≡ false → HasStopped ⊎ IsRefused }
 {
     match fault_line(alloc, fault) {
         Ok(line) => write_text(errors, &line).is_ok(),

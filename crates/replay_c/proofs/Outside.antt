@@ -1,7 +1,9 @@
 -- A fault whose status is that of a bad trace is no fault from outside.
-use Rattle.{std.proofs.Common.{◌≡◌, ◌⊎◌, inl, inr, subst, arith}, device_rows.specs.declared.fault.TraceFault.TraceFault}
+use Rattle.{std.proofs.Common.{◌≡◌, ◌≢◌, ◌⊎◌, inl, inr, refl, subst, arith}, device_rows.specs.declared.fault.TraceFault.TraceFault}
 use Rattle.replay_text.specs.{Outside.IsOutside, declared.fault.ReplayFault.ReplayFault}
 use Rattle.replay_text.specs.declared.fault.ReplayFault.TheVariants.{Trace, Pending, RingTooSmall, GateShut, OutputFailed, SpawnFailed}
+use Rattle.device_rows.specs.declared.fault.TraceFault.TheVariants.{BadHeader, BadFields, BadNumber, BadEvent, OutOfRange, UnknownDevice}
+use Rattle.device_rows.specs.declared.fault.TraceFault.TheVariants.{OpenTwice, WrongState, TooManyRows, ReadFailed, OutOfMemory}
 use Rattle.replay_c.specs.Faults.{fault_status, trace_status}
 
 never : (fault : ReplayFault) → IsOutside fault → fault_status fault ≡ 120 → ⊥
@@ -20,3 +22,25 @@ never SpawnFailed outside bad = outside
 pub theirs : (fault : ReplayFault) (Is : Type 0) → IsOutside fault ⊎ Is → fault_status fault ≡ 120 → Is
 theirs fault Is (inl outside) bad = absurd (never fault outside bad)
 theirs fault Is (inr is) bad = is
+
+trace-memory : (fault : TraceFault) → trace_status fault ≢ 120 → trace_status fault ≡ 112
+trace-memory BadHeader other = absurd (other refl)
+trace-memory (BadFields row) other = absurd (other refl)
+trace-memory (BadNumber row) other = absurd (other refl)
+trace-memory (BadEvent row) other = absurd (other refl)
+trace-memory (OutOfRange row) other = absurd (other refl)
+trace-memory (UnknownDevice row) other = absurd (other refl)
+trace-memory (OpenTwice row) other = absurd (other refl)
+trace-memory (WrongState row) other = absurd (other refl)
+trace-memory TooManyRows other = absurd (other refl)
+trace-memory ReadFailed other = refl
+trace-memory OutOfMemory other = refl
+
+-- any other status is that of want of memory
+pub else-memory : (fault : ReplayFault) → fault_status fault ≢ 120 → fault_status fault ≡ 112
+else-memory (Trace fault) other = trace-memory fault other
+else-memory (Pending row) other = absurd (other refl)
+else-memory (RingTooSmall device needs) other = absurd (other refl)
+else-memory GateShut other = absurd (other refl)
+else-memory OutputFailed other = refl
+else-memory SpawnFailed other = absurd (other refl)

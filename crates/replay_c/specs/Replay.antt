@@ -1,7 +1,13 @@
 -- What a replay for C asks for, and what it answers.
-use Rattle.{replay_words.specs.declared.settings.Settings.Settings, replay_rows.specs.Answer.replay_of, replay_text.specs.Fault.number_of}
-use Rattle.{replay_text.specs.declared.fault.ReplayFault.ReplayFault, std.specs.Prelude.{◌≡◌, ◌≤◌, ◌⊎◌, ℕ, List, Ok, Err}}
-use Rattle.replay_c.specs.{Faults.row_of, Status.{BAD_WEIGHT, BAD_BUDGET}, declared.replay.{FqSettings.FqSettings, FqReplayed.FqReplayed}}
+use Rattle.std.specs.Prelude.{◌≡◌, ◌≤◌, ◌⊎◌, ℕ, List, Ok, Err}
+use Rattle.replay_c.specs.Status.{OUT_OF_MEMORY, BAD_WEIGHT, BAD_BUDGET}
+use Rattle.replay_text.specs.{Fault.number_of, Outside.IsOutside}
+use Rattle.replay_text.specs.declared.fault.ReplayFault.{ReplayFault}
+use Rattle.replay_words.specs.declared.settings.Settings.{Settings}
+use Rattle.replay_rows.specs.Answer.{replay_of}
+use Rattle.replay_c.specs.Faults.{fault_status, row_of}
+use Rattle.replay_c.specs.declared.replay.FqReplayed.{FqReplayed}
+use Rattle.replay_c.specs.declared.replay.FqSettings.{FqSettings}
 
 -- these settings are asked for; a replay on one thread makes no use of the number of pollers
 pub record Asks (asked : FqSettings) (s : Settings) : Type 0 where
@@ -26,6 +32,10 @@ IsReport asked bytes text = (s : Settings) × Asks asked s × (replay_of s bytes
 -- the fault is theirs
 abbrev pub IsFault : FqSettings → List ℕ → ReplayFault → Type 0
 IsFault asked bytes fault = (s : Settings) × Asks asked s × (replay_of s bytes ≡ Err fault)
+
+-- a fault that is told as want of memory came, from outside unless the bytes have it
+abbrev pub LacksMemory : FqSettings → List ℕ → Type 0
+LacksMemory asked bytes = (fault : ReplayFault) × (fault_status fault ≡ OUT_OF_MEMORY) × (IsOutside fault ⊎ IsFault asked bytes fault)
 
 -- a fault is told by its number and its row, and there is no report
 pub record Tells (fault : ReplayFault) (replayed : FqReplayed) : Type 0 where

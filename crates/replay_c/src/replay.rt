@@ -3,9 +3,9 @@
 ghost use Rattle.std.specs.Prelude.{◌≡◌, ◌≢◌, ◌<◌, ◌≤◌, ◌⊎◌, ◌↔◌, ℕ, List, Ok, Err, IfOk, IfErr, length, take};
 ghost use Rattle.replay_text.specs.Outside.{IsOutside};
 ghost use Rattle.replay_rows.specs.Answer.{replay_of};
-ghost use Rattle.replay_c.specs.Status.{OK, BAD_WEIGHT, NO_ROOM, BAD_BUDGET, BAD_TRACE};
+ghost use Rattle.replay_c.specs.Status.{OK, OUT_OF_MEMORY, BAD_WEIGHT, NO_ROOM, BAD_BUDGET, BAD_TRACE};
 ghost use Rattle.replay_c.specs.Faults.{fault_status};
-ghost use Rattle.replay_c.specs.Replay.{Asks, HasWeight, HasBudget, IsReport, IsFault, Lacks, Tells};
+ghost use Rattle.replay_c.specs.Replay.{Asks, HasWeight, HasBudget, IsReport, IsFault, Lacks, LacksMemory, Tells};
 
 use crate::fault::{fault_status, row_of};
 use crate::status;
@@ -117,6 +117,8 @@ pub extern "C" fn fq_replay(
         × (replayed.new.length ≡ length text) × (length report.old < length text) }
     ensures fault { result ≡ BAD_TRACE → (fault : ReplayFault)
         × IsFault settings.now trace.now fault × Tells fault replayed.new }
+    ensures memory { result ≢ OK → result ≢ NO_ROOM → result ≢ BAD_TRACE → result ≢ BAD_WEIGHT
+        → result ≢ BAD_BUDGET → (result ≡ OUT_OF_MEMORY) × LacksMemory settings.now trace.now }
 
     // Settings are refused exactly where they are out of their ranges, and then and by every fault nothing is written.
     ensures weight { (result ≡ BAD_WEIGHT) ↔ ¬ HasWeight settings.now }

@@ -1,4 +1,5 @@
-use Rattle.std.proofs.{Common.{[], ◌∙◌, ◌∷◌, ◌++◌, refl, sym}, lemmas.Result.err_from_is_err_and}
+use Rattle.std.proofs.{Common.{[], ◌∙◌, ◌∷◌, ◌++◌, arith, inl, inr, refl, sym}, lemmas.Result.err_from_is_err_and}
+use Rattle.machine_report.specs.Endless.{endless_at}
 use Rattle.machine_report.proofs.TakingFacts.{takes-push}
 use Rattle.machine_report.proofs.run.take_all.Goals as goal
 
@@ -26,3 +27,6 @@ pub returns-in-None-clause-taken : goal.returns-in-None-clause-taken
 returns-in-None-clause-taken g c = λ all h.
     let (earlier, has, taken) = c.rows.invariant.given all h in
     (earlier, rw c.in-None.is at (c.in_ok-next.ensures.arrival earlier all has), taken)
+
+pub returns-clause-fault : goal.returns-clause-fault
+returns-clause-fault g c = λ all h. inl (inl (refl, inr (endless_at c.rows.counter (omega arith))))

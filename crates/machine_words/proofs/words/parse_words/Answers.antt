@@ -1,6 +1,7 @@
 use Rattle.std.proofs.{Common.{◌≡◌, ◌∙◌, Err, ap, map, string_bytes, sym}, lemmas.Result.err_from_is_err_and}
-use Rattle.{std.specs.Option.option_and_then, replay_words.specs.{declared.words.WordFault.TheVariants.Usage, Given.value_of}}
-use Rattle.{replay_words.proofs.ClapFacts.{asked-as, found_is, refused_is}, machine_words.specs.Words.{asked_of, asked_with}}
+use Rattle.{std.specs.Option.{option_and_then}, replay_words.specs.declared.words.WordFault.TheVariants.Usage}
+use Rattle.machine_words.specs.Words.{asked_of, asked_with}
+use Rattle.replay_words.{specs.{Given.value_of, Refusals.refused_by}, proofs.ClapFacts.{asked-as, found_is, refused_is}}
 use Rattle.machine_words.proofs.words.parse_words.Goals as goal
 
 pub returns-in_err-matches-clause-usage : goal.returns-in_err-matches-clause-usage
@@ -25,3 +26,6 @@ returns-clause-usage c = λ e.
     (ap (map (λ s. s.now)) c.as_slice.ensures.value ∙ c.in_ok-words.ensures) in
     refused_is asked_of c.ok_or.result c.asked_by.result _ c.ok_or.ensures.ok_part
     (c.asked_by.ensures ∙ sym (asked-as asked_with _ _ given)) Usage e
+
+pub returns-in_err-words-clause-memory : goal.returns-in_err-words-clause-memory
+returns-in_err-words-clause-memory c = λ _. refused_by c.in_err-words.field-0.0

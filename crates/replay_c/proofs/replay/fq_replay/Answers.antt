@@ -1,5 +1,7 @@
-use Rattle.{std.proofs.Common.{◌≡◌, ◌<◌, ℕ, List, Ok, length, sym, ap, subst, arith, ◌∙◌}, replay_rows.specs.Answer.replay_of}
-use Rattle.replay_c.proofs.Outside.{theirs}
+use Rattle.std.proofs.Common.{◌≡◌, ◌⊎◌, ◌<◌, inl, inr, ℕ, List, Ok, length, sym, ap, subst, arith, ◌∙◌}
+use Rattle.{replay_rows.specs.Answer.replay_of, replay_text.specs.Outside.IsOutside}
+use Rattle.replay_c.specs.Replay.{IsFault}
+use Rattle.replay_c.proofs.Outside.{else-memory, theirs}
 use Rattle.replay_c.proofs.replay.fq_replay.Goals as goal
 
 pub returns-in-Ok-report_of-clause-written : goal.returns-in-Ok-report_of-clause-written
@@ -30,3 +32,16 @@ returns-in-Err-report_of-clause-fault c = λ bad. (
   ),
   c.tell.ensures.told bad,
 )
+
+pub returns-in-Ok-report_of-clause-memory : goal.returns-in-Ok-report_of-clause-memory
+returns-in-Ok-report_of-clause-memory c = λ ok room. absurd (room (c.put_report.ensures.no_room ok).0)
+
+pub returns-in-Err-report_of-clause-memory : goal.returns-in-Err-report_of-clause-memory
+returns-in-Err-report_of-clause-memory c = λ ok room bad weight budget.
+    let fault = c.in-Err-report_of.fault in
+    let status = else-memory fault (λ is. bad (c.tell.ensures.status ∙ is)) in
+    let why : IsOutside fault ⊎ IsFault c.args.settings.now c.args.trace.now fault = elim c.in-Err-report_of.ensures.fault [
+      | inl outside ↦ inl outside
+      | inr is ↦ inr (c.in-Ok.asked, c.in-Ok.ensures.asked.0, is)
+    ] in
+    (c.tell.ensures.status ∙ status, (fault, status, why))

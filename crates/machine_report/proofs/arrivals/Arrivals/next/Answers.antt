@@ -1,5 +1,7 @@
-use Rattle.{std.proofs.{Common.{◌≡◌, inr, refl, rules, sym}, lemmas.Result.err_from_is_err_and}, csv.specs.Records.fields_of}
+use Rattle.std.proofs.{Common.{◌≡◌, ◌≤◌, ◌-◌, ◌^◌, inl, inr, refl, rules, sym}, lemmas.Result.err_from_is_err_and}
+use Rattle.csv.specs.Records.{fields_of}
 use Rattle.{device_rows.specs.declared.trace.Next.Next, machine_report.proofs.ReadingFacts.{given-end, given-fault, given-next}}
+use Rattle.machine_report.specs.Endless.{endless_at}
 use Rattle.machine_report.proofs.arrivals.Arrivals.next.Goals as goal
 
 pub returns-in-End-clause-arrival : goal.returns-in-End-clause-arrival
@@ -24,3 +26,8 @@ returns-clause-arrival g c earlier all given =
     given-next g.R.Read.remaining c.args.self.now earlier all given _ (fields_of c.next_record.new.fields) c.in_ok-arrival.arrival
     (c.next_record.ensures.record found)
     refl c.in-Some.ensures.1 refl (sym c.in_ok-arrival.ensures.arrival)
+
+pub returns-in_default-clause-fault : goal.returns-in_default-clause-fault
+returns-in_default-clause-fault g c earlier all given =
+    let most : 2 ^ 64 - 1 ≤ c.args.self.now.rows = search rules in
+    inl (inl (refl, inr (endless_at c.args.self.now.rows most)))

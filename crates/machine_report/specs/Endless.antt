@@ -1,0 +1,9 @@
+-- That rows came to no end: who meets it knows it by how many were read.
+use Rattle.std.specs.Prelude.{◌≤◌, ◌-◌, ◌^◌, ℕ}
+
+pub IsEndless : Type 0
+IsEndless = Unit {0}
+
+pub endless_at : (rows : ℕ) → 2 ^ 64 - 1 ≤ rows → IsEndless
+unfolding IsEndless
+endless_at rows is = tt
