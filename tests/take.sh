@@ -1,6 +1,6 @@
 #!/usr/bin/env bash
-# scripts/take.sh: what it takes and what it refuses, and a program over `poll_engine`, proved and run in the repository that took
-# it. `rt` takes the libraries that a checkout on this machine has built, and proves the rest there from nothing, which takes some
+# scripts/take.sh: what it takes and what it refuses, and a program over `tx_ring`, proved and run in the repository that took it.
+# `rt` takes the libraries that a checkout on this machine has built, and proves the rest there from nothing, which takes some
 # minutes. The last line is `N passed, M failed`.
 set -uo pipefail
 unset CDPATH
@@ -101,41 +101,36 @@ check 'a line of that name with other words' leaves_as_it_was 65 take tx_ring "$
 # ---- a program over what was taken
 
 begin
-tells poll_engine
-cp "$top/HANDLES" "$to/HANDLES"
-with_program listed poll_engine << 'END'
-//! Three numbers on a poll list, the first of them polled, and how its poll ends.
+check 'takes tx_ring' tells tx_ring
+check 'with the limit below it' [ "$(cat "$scratch/taken")" = $'dql_core\ntx_ring' ]
+check 'which takes no handle' [ ! -s "$scratch/told" ]
+with_program sends 'tx_ring dql_core' << 'END'
+//! Packets of 600 bytes under a limit of 1000: which are sent before the queue stops, and what is available then.
 #![tactic(auto)]
 
-ghost use Rattle.std.specs.Prelude.{◌≡◌};
-ghost use Rattle.poll_engine.specs.Next.TheVariants.{Repoll};
+ghost use Rattle.std.specs.Prelude.{◌≡◌, ◌↔◌, None, true};
+ghost use Rattle.tx_ring.specs.Queue.{TransmitQueue, send_fault};
+ghost use Rattle.tx_ring.specs.Ring.{ShowsQueue};
 
 use anyhow::Result;
-use poll_engine::{Next, SoftList};
+use dql_core::Dql;
+use tx_ring::TxRing;
 
-// A poll that used its whole weight is to be made again, and no other.
-fn next_of(work: u32, weight: u32) -> Next
-    ensures { result ≡ Repoll → work ≡ weight }
+// A packet is sent exactly where nothing speaks against it.
+fn is_sent(ring: &mut TxRing, bytes: u32) -> bool
+    ensures { (t : TransmitQueue) → ShowsQueue ring.old t
+        → (result ≡ true) ↔ (send_fault t bytes ≡ None) }
 {
-    if work == weight {
-        Next::Repoll
-    } else {
-        Next::Gone
-    }
+    ring.send(bytes).is_ok()
 }
 
 fn main(rt: HostRuntime) -> Result<()> {
-    let mut list = SoftList::new();
-    for id in 1..4u32 {
-        let _ = list.push(id);
-    }
-    let first = list.pop_front();
-    let next = next_of(64, 64);
-    let left = list.ids().len();
-    println!(rt; "{first:?} {next:?}, {left} more")?;
+    let mut ring = TxRing::new(rt.alloc(), 8, Dql::new(1000, 2000, 1000, 0)?)?;
+    let sent = [600, 600, 600].map(|bytes| is_sent(&mut ring, bytes));
+    println!(rt; "{sent:?}, {} available", ring.state().avail)?;
     Ok(())
 }
 END
-check 'a program over poll_engine is proved there' prints_when_proved listed 'Some(1) Repoll, 2 more'
+check 'a program over tx_ring is proved there' prints_when_proved sends '[true, true, false], -200 available'
 
 sum_up

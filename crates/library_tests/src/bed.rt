@@ -1,6 +1,6 @@
 //! An instance of two callers, and the answers that the runs want; another answer ends the test.
 
-ghost use Rattle.std.specs.Prelude.{◌≡◌, ℕ, [], ◌∷◌, length, slice_get, Some, true, false};
+ghost use Rattle.std.specs.Prelude.{◌≡◌, ◌≤◌, ℕ, [], ◌∷◌, length, slice_get, Some, true, false};
 ghost use Rattle.rx_ring.specs.Ends.{IsOneRing, received_list};
 ghost use Rattle.napi_model.specs.declared.state.Seen.{Seen};
 ghost use Rattle.napi_model.specs.declared.state.Kind.TheVariants as kind;
@@ -17,7 +17,7 @@ ghost use Rattle.napi_calls.specs.Closed.{IsClosed};
 
 use napi_calls::{Caller, Control, Granted, Napi, Off, On, Polling, TryDone, TryPrep, TryTake};
 use napi_model::{Kind, encode};
-use rx_ring::{RxCtx, RxIn, ring};
+use rx_ring::{Batch, Packet, RxCtx, RxIn, ring};
 use std::alloc::Global;
 use std::process::Abort;
 
@@ -227,6 +227,23 @@ pub fn requeued(napi: &Napi, polling: Polling) -> Caller
     ensures { IsSeatOf napi.now result.pass }
 {
     polling.requeue(napi)
+}
+
+/// Polls by this weight, which has to give these packets.
+pub fn polled(
+    rt: &impl Abort,
+    napi: &Napi,
+    polling: &mut Polling,
+    weight: usize,
+    packets: &[Packet],
+)
+    requires seat { IsSeatOf napi.now polling.old.pass }
+    requires weight { (1 ≤ weight) × (weight ≤ 64) }
+    ensures { IsSeatOf napi.now polling.new.pass }
+{
+    let mut batch = Batch::new();
+    assert_eq!(rt; polling.poll(weight, &mut batch), packets.len());
+    assert_eq!(rt; batch.as_slice(), packets);
 }
 
 /// Closes the instance with both callers.

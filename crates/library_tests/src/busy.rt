@@ -18,9 +18,10 @@ use napi_calls::{
 use napi_model::Kind;
 use rx_ring::{Batch, Packet};
 use std::process::Abort;
+use std::sync::Wait;
 use std::test::Fail;
 
-fn busied(rt: &impl Abort, napi: &Napi, caller: Caller) -> Busy
+pub(crate) fn busied(rt: &impl Abort, napi: &Napi, caller: Caller) -> Busy
     requires { IsSeatOf napi.now caller.pass }
     ensures seat { IsSeatOf napi.now result.pass }
     ensures did { Did caller.pass (looks ∷ does BusyTake ∷ []) result.pass }
@@ -44,7 +45,7 @@ fn refused(rt: &impl Abort, napi: &Napi, caller: Caller) -> Caller
     caller
 }
 
-fn stopped(rt: &impl Abort, napi: &Napi, busy: Busy) -> Polling
+pub(crate) fn stopped(rt: &impl Abort, napi: &Napi, busy: Busy) -> Polling
     requires { IsSeatOf napi.now busy.pass }
     ensures seat { IsSeatOf napi.now result.pass }
     ensures did { Did busy.pass (looks ∷ does BusyStop ∷ []) result.pass }
@@ -249,6 +250,48 @@ fn busy_loses_to_a_schedule(rt: HostRuntime) -> Result<(), Fail> {
     Ok(())
 }
 
+const PACKET: Packet = Packet {
+    number: 1,
+    bytes: 60,
+};
+
+// Busy polls once, which has to give these packets.
+fn busy_polled(rt: &impl Abort, napi: &Napi, busy: &mut Busy, packets: &[Packet])
+    requires { IsSeatOf napi.now busy.old.pass }
+    ensures { IsSeatOf napi.now busy.new.pass }
+{
+    let mut batch = Batch::new();
+    assert_eq!(rt; busy.poll(64, &mut batch), packets.len());
+    assert_eq!(rt; batch.as_slice(), packets);
+}
+
+// By the waiting form, number 0 takes the instance to busy poll what was put; a poll that it completes is held.
+fn busy_twice(rt: &(impl Wait + Abort), napi: &Napi, first: Caller) -> Busy
+    requires { IsSeatOf napi.now first.pass }
+    ensures { IsSeatOf napi.now result.pass }
+{
+    let answer = first.busy(rt, napi);
+    let Ok(mut busy) = answer else {
+        panic!(rt; "refused")
+    };
+    busy_polled(rt, napi, &mut busy, &[PACKET]);
+    busy.complete_held(napi);
+    busy_polled(rt, napi, &mut busy, &[]);
+    busy
+}
+
+// By the waiting form, number 1 can't take it.
+fn not_taken(rt: &(impl Wait + Abort), napi: &Napi, second: Caller) -> Caller
+    requires { IsSeatOf napi.now second.pass }
+    ensures { IsSeatOf napi.now result.pass }
+{
+    let answer = second.busy(rt, napi);
+    let Err(second) = answer else {
+        panic!(rt; "taken twice")
+    };
+    second
+}
+
 // By the waiting forms, with packets: what is polled in between is what was put, and what is put after the ends of the ring
 // met isn't polled by the next poll.
 #[test]
@@ -261,24 +304,9 @@ fn busy_polls_give_what_was_put(rt: HostRuntime) -> Result<(), Fail> {
         control,
     } = make_bed(&rt, rt.alloc());
     let control = control.enable(&rt, &napi, false);
-    let packet = Packet {
-        number: 1,
-        bytes: 60,
-    };
-    assert_eq!(rt; input.put(packet), Ok(()));
-    let mut batch = Batch::new();
-    let answer = first.busy(&rt, &napi);
-    let Ok(mut busy) = answer else {
-        panic!(rt; "refused")
-    };
-    assert_eq!(rt; busy.poll(64, &mut batch), 1);
-    assert_eq!(rt; batch.as_slice(), [packet].as_slice());
-    busy.complete_held(&napi);
-    assert_eq!(rt; busy.poll(64, &mut batch), 0);
-    let answer = second.busy(&rt, &napi);
-    let Err(second) = answer else {
-        panic!(rt; "taken twice")
-    };
+    assert_eq!(rt; input.put(PACKET), Ok(()));
+    let busy = busy_twice(&rt, &napi, first);
+    let second = not_taken(&rt, &napi, second);
     let second = missed(&rt, &napi, second);
     let polling = busy.stop(&rt, &napi);
     let second = missed(&rt, &napi, second);

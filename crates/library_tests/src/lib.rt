@@ -7,6 +7,8 @@ mod bed;
 #[cfg(test)]
 mod busy;
 #[cfg(test)]
+mod calls;
+#[cfg(test)]
 mod contention;
 #[cfg(test)]
 mod dealing;

@@ -251,6 +251,25 @@ fn words_of_the_states(rt: HostRuntime) {
 }
 
 #[test]
+fn a_word_of_all_flags(rt: HostRuntime) {
+    let flags = Flags {
+        sched: true,
+        missed: true,
+        disable: true,
+        npsvc: true,
+        in_busy_poll: true,
+        threaded: true,
+        sched_threaded: true,
+    };
+    let seen = Seen {
+        flags,
+        handed: Some(Kind::List),
+    };
+    assert_eq!(rt; encode(seen), 0x1_0000_034f);
+    assert_eq!(rt; decode(encode(seen)), Some(seen));
+}
+
+#[test]
 fn malformed_words(rt: HostRuntime) {
     for bit in 0..64u32 {
         let is_named = matches!(bit, 0..4 | 6 | 8 | 9 | 32 | 33);

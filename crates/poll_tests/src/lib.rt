@@ -10,3 +10,5 @@ mod listing;
 mod places;
 #[cfg(test)]
 mod polling;
+#[cfg(test)]
+mod runs;

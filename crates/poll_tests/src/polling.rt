@@ -242,6 +242,8 @@ fn busy_polling_gives_the_next_packets_and_hands_over(rt: HostRuntime) -> Result
     assert_eq!(rt; word(&napi, &mut first), 4294967297);
     let (second, polled) = poll_instance(&rt, &napi, second, 2, true, &mut batch);
     assert_eq!(rt; polled, once(0, Next::Gone));
+    let (second, idle) = busy_instance(&rt, &napi, second, 2, 64, &mut batch);
+    assert_eq!(rt; (idle.polls, idle.held, idle.next), (3, 2, Next::Gone));
     let control = control.disable(&rt, &napi);
     let _ = closed(&rt, rt.alloc(), napi, first, second, control);
     Ok(())

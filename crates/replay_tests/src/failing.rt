@@ -129,28 +129,29 @@ fn failing_errors(rt: HostRuntime) {
     assert_eq!(rt; errors.taken.as_slice(), b"tra".as_slice());
 }
 
+const LINES: [(ReplayFault, &str, u8); 5] = [
+    (
+        ReplayFault::Trace(TraceFault::ReadFailed),
+        "trace fault 10 ReadFailed\n",
+        2,
+    ),
+    (
+        ReplayFault::Trace(TraceFault::OutOfMemory),
+        "memory fault 11 OutOfMemory\n",
+        4,
+    ),
+    (ReplayFault::GateShut, "worker fault 14 GateShut\n", 4),
+    (
+        ReplayFault::OutputFailed,
+        "output fault 15 OutputFailed\n",
+        4,
+    ),
+    (ReplayFault::SpawnFailed, "worker fault 16 SpawnFailed\n", 4),
+];
+
 #[test]
 fn fault_lines(rt: HostRuntime) -> Result<(), Fail> {
-    let faults = [
-        (
-            ReplayFault::Trace(TraceFault::ReadFailed),
-            "trace fault 10 ReadFailed\n",
-            2,
-        ),
-        (
-            ReplayFault::Trace(TraceFault::OutOfMemory),
-            "memory fault 11 OutOfMemory\n",
-            4,
-        ),
-        (ReplayFault::GateShut, "worker fault 14 GateShut\n", 4),
-        (
-            ReplayFault::OutputFailed,
-            "output fault 15 OutputFailed\n",
-            4,
-        ),
-        (ReplayFault::SpawnFailed, "worker fault 16 SpawnFailed\n", 4),
-    ];
-    for (fault, line, number) in faults {
+    for (fault, line, number) in LINES {
         assert_eq!(rt; fault_line(rt.alloc(), &fault)?.as_str(), line);
         assert_eq!(rt; status(&fault), number, "of {line:?}");
     }

@@ -5,6 +5,8 @@
 #[cfg(test)]
 mod attaching;
 #[cfg(test)]
+mod benches;
+#[cfg(test)]
 mod ends;
 #[cfg(test)]
 mod failing;

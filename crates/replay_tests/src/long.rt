@@ -52,25 +52,26 @@ fn long_blank(rt: HostRuntime) -> Result<(), Fail> {
     Ok(())
 }
 
+const FRONTS: [(&[u8], TraceFault); 4] = [
+    (
+        b"moment,device,event,value\n",
+        TraceFault::BadFields { row: 1 },
+    ),
+    (
+        b"moment,device,event,value\n0,1,open,4\n1,1,",
+        TraceFault::BadFields { row: 2 },
+    ),
+    (
+        b"moment,device,event,value\n0,1,open,4\n1,1,rx,",
+        TraceFault::BadNumber { row: 2 },
+    ),
+    (b"moment,device,event,value,", TraceFault::BadHeader),
+];
+
 // A field of any length has the fault of its row.
 #[test]
 fn long_fields(rt: HostRuntime) {
-    let fronts: [(&[u8], TraceFault); 4] = [
-        (
-            b"moment,device,event,value\n",
-            TraceFault::BadFields { row: 1 },
-        ),
-        (
-            b"moment,device,event,value\n0,1,open,4\n1,1,",
-            TraceFault::BadFields { row: 2 },
-        ),
-        (
-            b"moment,device,event,value\n0,1,open,4\n1,1,rx,",
-            TraceFault::BadNumber { row: 2 },
-        ),
-        (b"moment,device,event,value,", TraceFault::BadHeader),
-    ];
-    for (front, fault) in fronts {
+    for (front, fault) in FRONTS {
         for (mode, _) in MODES {
             let mut given = 0;
             let reader = LongReader {

@@ -1,4 +1,4 @@
-//! `machine`: the words, arrivals one by one, a machine by its calls, and a whole run.
+//! The words, arrivals one by one, a machine by its calls, and a run without arrivals.
 
 use machine::{
     Arrival, Arrivals, Machine, MachineFault, Settings, fault_line, parse_words, run_machine,
@@ -8,20 +8,6 @@ use std::test::Fail;
 
 // The last row's moment falls.
 const ARRIVALS: &str = "moment,device,bytes\n5,1,100\n5,2,60\n4,1,60\n";
-
-fn fault_name(fault: MachineFault) -> (&'static str, u64, u8) {
-    let (name, row) = match fault {
-        MachineFault::BadHeader => ("BadHeader", 0),
-        MachineFault::BadFields { row } => ("BadFields", row),
-        MachineFault::BadNumber { row } => ("BadNumber", row),
-        MachineFault::OutOfRange { row } => ("OutOfRange", row),
-        MachineFault::Falls { row } => ("Falls", row),
-        MachineFault::ReadFailed => ("ReadFailed", 0),
-        MachineFault::OutOfMemory => ("OutOfMemory", 0),
-        MachineFault::OutputFailed => ("OutputFailed", 0),
-    };
-    (name, row, fault.number())
-}
 
 #[test]
 fn a_machine_runs(rt: HostRuntime) -> Result<(), Fail> {
@@ -58,7 +44,10 @@ fn arrivals_are_read(rt: HostRuntime) -> Result<(), Fail> {
         })
     );
     let fault = arrivals.next().err().ok_or("taken")?;
-    assert_eq!(rt; fault_name(fault), ("Falls", 3, 8));
+    assert_eq!(rt;
+        (fault, fault.number()),
+        (MachineFault::Falls { row: 3 }, 8)
+    );
     assert_eq!(rt;
         fault_line(rt.alloc(), &fault)?.as_str(),
         "arrivals fault 8 Falls row 3\n"

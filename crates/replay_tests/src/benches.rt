@@ -1,16 +1,10 @@
-//! `device_model`: what is counted of a device.
+//! A bench of one thread: what is counted of a device, and each call of a row.
 
 use device_model::{DeviceCounts, DeviceState, ReplayBench, SerialBench, TxCounts};
+use napi_model::Kind;
+use poll_engine::{Bench, BusyReport, DirectBench, Next, ThreadReport};
 use std::test::Fail;
 use tx_ring::TxState;
-
-fn state_name(state: DeviceState) -> &'static str {
-    match state {
-        DeviceState::On => "on",
-        DeviceState::Off => "off",
-        DeviceState::Pending => "pending",
-    }
-}
 
 #[test]
 fn a_device_is_counted(rt: HostRuntime) -> Result<(), Fail> {
@@ -51,7 +45,35 @@ fn a_device_is_counted(rt: HostRuntime) -> Result<(), Fail> {
     };
     assert!(rt; bench.is_attached(1));
     assert_eq!(rt; bench.counts(1), counts);
-    let names = [DeviceState::On, DeviceState::Off, DeviceState::Pending].map(state_name);
-    assert_eq!(rt; names, ["on", "off", "pending"]);
+    Ok(())
+}
+
+#[test]
+fn rows_play_on_a_bench(rt: HostRuntime) -> Result<(), Fail> {
+    let mut bench = SerialBench::new(rt.alloc())?;
+    bench.attach(rt.alloc(), 1, 4, 0)?;
+    assert_eq!(rt; bench.arrive(1, 100), Some(Kind::List));
+    bench.send(1, 1500);
+    bench.done(1, 1, 6);
+    let once = bench.poll_once(1, 64);
+    assert_eq!(rt; (once.work, once.next), (1, Next::Gone));
+    bench.disable(1);
+    bench.settle();
+    assert!(rt; bench.enable(1));
+    bench.set_threaded(1, true);
+    let by_thread = ThreadReport {
+        polls: 0,
+        work: 0,
+        next: Next::Absent,
+    };
+    assert_eq!(rt; bench.poll_thread(1, 64, 1024), by_thread);
+    let busily = BusyReport {
+        polls: 3,
+        work: 0,
+        held: 2,
+        bytes: 0,
+        next: Next::Gone,
+    };
+    assert_eq!(rt; bench.busy_poll(1, 64, 2), busily);
     Ok(())
 }
