@@ -1,6 +1,6 @@
 -- The program: what it writes and how it ends, of the words after its name and the bytes of its input.
-use Rattle.std.specs.Prelude.{◌≡◌, ◌≢◌, ◌⊎◌, ℕ, false, true, List, ◌++◌, Option, Some, None, codes}
-use Rattle.std.specs.Io.KnownBytes.{Appends, Keeps}
+use Rattle.std.specs.Prelude.{◌≡◌, ◌⊎◌, ℕ, false, true, List, ◌++◌, Option, Some, None, codes}
+use Rattle.std.specs.Io.KnownBytes.{Appends}
 use Rattle.device_rows.specs.Failures.{IsRefused}
 use Rattle.machine_report.specs.Answer.{IsReportOf, IsFaultOf}
 use Rattle.machine_report.specs.Fault.{IsFaultBy, IsOutside, line_of as machine_line, status_of as machine_status}
@@ -10,9 +10,10 @@ use Rattle.machine_words.specs.declared.settings.Settings.{Settings}
 use Rattle.napi_machine.specs.declared.program.ProgramFault.{ProgramFault}
 use Rattle.napi_machine.specs.declared.program.ProgramFault.TheVariants.{Words, Machine}
 use Rattle.replay_text.specs.Stops.{HasStopped}
-use Rattle.replay_text.specs.Written.{AppendsPart}
+use Rattle.replay_text.specs.Written.{AppendsPart, LeavesBy}
 use Rattle.replay_text.specs.declared.program.Ending.{Ending}
 use Rattle.replay_words.specs.Given.{Text}
+use Rattle.replay_words.specs.Refusals.{IsRefused as IsRefusedWords}
 use Rattle.replay_words.specs.Words.{line_of as word_line, status_of as word_status}
 use Rattle.replay_words.specs.declared.words.WordFault.TheVariants.{Usage, OutOfMemory}
 
@@ -36,7 +37,7 @@ IsReport words bytes text = (settings : Settings) × AskFor words settings × Is
 -- the fault is that of the words or, by what they ask for, that of the bytes; else the reader, the memory or the writer failed
 abbrev pub IsFault : List Text → Option (List ℕ) → ProgramFault → Type 0
 IsFault words input (Words Usage) = asked_for words ≡ None
-IsFault words input (Words OutOfMemory) = Unit {0}
+IsFault words input (Words OutOfMemory) = IsRefusedWords
 IsFault words input (Machine fault) = (settings : Settings) × AskFor words settings × IsFaultBy IsOutside (IsFaultOf settings) input fault
 
 -- the line of this fault is all that went to standard error where it was told, and else, where the writer stopped or memory was
@@ -47,14 +48,13 @@ pub record EndsBy (fault : ProgramFault) (errors_old errors_new : Option (List �
   pub untold : ending.told ≡ false → AppendsPart errors_old errors_new (line_of fault)
   pub stopped : ending.told ≡ false → HasStopped ⊎ IsRefused
 
--- on each fault but a failed output nothing was written
-abbrev pub KeepsOutput : Option (List ℕ) → Option (List ℕ) → ProgramFault → Type 0
-KeepsOutput old new fault = fault ≢ Machine OutputFailed → Keeps old new
+-- where the output failed a part of the report of the bytes read was written, and on each other fault nothing
+abbrev pub LeavesOutput : (List ℕ → List ℕ → Type 0) → Option (List ℕ) → Option (List ℕ) → Option (List ℕ) → ProgramFault → Type 0
+LeavesOutput = LeavesBy (Machine OutputFailed)
 
--- the program failed by some fault that it can have; on each but a failed output nothing was written
-pub record FailedBy (can_be : ProgramFault → Type 0) (output_old output_new errors_old errors_new : Option (List ℕ))
-    (ending : Ending) : Type 0 where
+-- the program failed by some fault that it can have, and left its output by that
+pub record FailedBy (can_be leaves : ProgramFault → Type 0) (errors_old errors_new : Option (List ℕ)) (ending : Ending) : Type 0 where
   pub fault : ProgramFault
   pub why : can_be fault
-  pub untouched : KeepsOutput output_old output_new fault
+  pub output : leaves fault
   pub ends : EndsBy fault errors_old errors_new ending

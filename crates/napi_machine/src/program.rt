@@ -3,7 +3,7 @@
 ghost use Rattle.std.specs.Prelude.{◌≡◌, ◌≢◌, ◌⊎◌, IfErr, OnOk, map, string_bytes, true, false};
 ghost use Rattle.std.specs.Io.KnownBytes.{Appends, Keeps};
 ghost use Rattle.device_rows.specs.Failures.{IsRefused};
-ghost use Rattle.napi_machine.specs.Program.{EndsBy, FailedBy, IsFault, IsReport, KeepsOutput, line_of};
+ghost use Rattle.napi_machine.specs.Program.{EndsBy, FailedBy, IsFault, IsReport, LeavesOutput, line_of};
 ghost use Rattle.napi_machine.specs.declared.program.ProgramFault.TheVariants.{Machine};
 ghost use Rattle.replay_text.specs.Stops.{HasStopped};
 ghost use Rattle.replay_text.specs.Written.{AppendsPart, Writes};
@@ -67,8 +67,8 @@ fn run_asked<R: Read + Drop, W: Write>(
     ensures written { OnOk result (Writes (IsReport (map string_bytes words.now))
         (R.remaining input) (W.contents output.old) (W.contents output.new)) }
     ensures fault { IfErr result (IsFault (map string_bytes words.now) (R.remaining input)) }
-    ensures untouched { IfErr result
-        (KeepsOutput (W.contents output.old) (W.contents output.new)) }
+    ensures output { IfErr result (LeavesOutput (IsReport (map string_bytes words.now))
+        (R.remaining input) (W.contents output.old) (W.contents output.new)) }
 {
     match parse_words(alloc, words) {
         Ok(settings) => match run_machine(alloc, input, output, &settings) {
@@ -97,7 +97,8 @@ pub(crate) fn run_program<R: Read + Drop, W: Write, E: Write>(
     ensures quiet { result.status ≡ 0 → Keeps (E.contents errors.old) (E.contents errors.new) }
     ensures failed { result.status ≢ 0
         → FailedBy (IsFault (map string_bytes words.now) (R.remaining input))
-        (W.contents output.old) (W.contents output.new)
+        (LeavesOutput (IsReport (map string_bytes words.now)) (R.remaining input)
+        (W.contents output.old) (W.contents output.new))
         (E.contents errors.old) (E.contents errors.new) result }
 {
     match run_asked(alloc, words, input, output) {
