@@ -1,5 +1,6 @@
 -- How often a seat's calls were answered what: each answer is counted once, and a count stays at its greatest value.
-use Rattle.{std.specs.Prelude.{ℕ, ◌+◌, ◌==◌, if◌then◌else◌}, rx_ring.specs.ReceiveRing.capped, c_handles.specs.Status.{GRANTED, MISSED}}
+use Rattle.std.specs.Prelude.{ℕ, ◌+◌, ◌==◌, if◌then◌else◌}
+use Rattle.{rx_ring.specs.ReceiveRing.capped, c_handles.specs.Status.{GRANTED, MISSED}}
 use Rattle.c_handles.specs.{Status.{DISABLED, RELEASED, AGAIN, HELD, CHANGED}, declared.answers.FqAnswers.FqAnswers}
 
 abbrev pub no_answers : FqAnswers

@@ -1,8 +1,10 @@
 -- What the end of a poll goes by: the instance is released exactly if no request was missed until then, and is to be handed over again
 -- exactly if one was.
 use Rattle.{napi_word.specs.declared.table.Pass.Pass, c_handles.specs.{Handles.IsSeatWith, declared.{seat.Seat.Seat, body.Body.Body}}}
-use Rattle.{napi_model.specs.{History.state_after, declared.event.{Event.Event, Done.Done}, Step.{opening, event}}, std.specs.Prelude.◌≡◌}
-use Rattle.{std.specs.Prelude.{Bool, List, [], ◌∷◌, ◌++◌, Option, Some, None}, napi_calls.specs.Seats.{number_of, controller_of, shown}}
+use Rattle.std.specs.Prelude.{◌≡◌}
+use Rattle.napi_model.specs.{History.state_after, declared.event.{Event.Event, Done.Done}, Step.{opening, event}}
+use Rattle.std.specs.Prelude.{Bool, List, [], ◌∷◌, ◌++◌, Option, Some, None}
+use Rattle.napi_calls.specs.Seats.{number_of, controller_of, shown}
 use Rattle.napi_model.specs.declared.event.Operation.TheVariants as operation
 
 -- the last event shown is the seat's own completion with this reply, and just before it the flag of a missed request was this

@@ -1,5 +1,6 @@
 -- What may be freed, and what that is answered.
-use Rattle.{c_handles.specs.Status.IN_USE, std.specs.Prelude.{ℕ, Bool, true, false, not, is_some, if◌then◌else◌, Option, Some, None}}
+use Rattle.std.specs.Prelude.{ℕ, Bool, true, false, not, is_some, if◌then◌else◌, Option, Some, None}
+use Rattle.c_handles.specs.Status.{IN_USE}
 use Rattle.c_handles.specs.{Runs.run_of, declared.{body.Body.Body, hold.Hold.Hold, mode.Mode.Mode}, Status.{OK, NOT_ALLOWED, BAD_HANDLE}}
 use Rattle.c_handles.specs.declared.hold.Hold.TheVariants as hold
 use Rattle.c_handles.specs.declared.mode.Mode.TheVariants as mode

@@ -1,6 +1,7 @@
 -- What calls on handles are answered and leave, by what a handle leads to. One that leads to nothing, or to another kind than the
 -- call is for, is answered BAD_HANDLE, and stays as it is.
-use Rattle.{std.specs.Prelude.{◌≡◌, ◌⊎◌, ℕ, List, Option, Some, None}, napi_model.specs.{declared.state.Seen.Seen, Word.word_of}}
+use Rattle.std.specs.Prelude.{◌≡◌, ◌⊎◌, ℕ, List, Option, Some, None}
+use Rattle.napi_model.specs.{declared.state.Seen.Seen, Word.word_of}
 use Rattle.{rx_ring.specs.declared.packet.Packet.Packet, c_handles.specs.declared.seat.{Seat.Seat, Controller.Controller}}
 use Rattle.c_handles.specs.declared.{lister.Lister.Lister, body.Body.Body, handle.FqHandle.FqHandle, hold.{Hold.Hold, SeatCall.SeatCall}}
 use Rattle.c_handles.specs.{declared.mode.ControlCall.ControlCall, Answers.counting, Status.{OK, BAD_HANDLE}, SeatCalls.Refused}

@@ -1,5 +1,6 @@
 -- To whom an instance is handed, by C's number.
-use Rattle.{std.specs.Prelude.{ℕ, ◌==◌, if◌then◌else◌, Option, Some, None}, napi_model.specs.declared.state.Kind.Kind}
+use Rattle.std.specs.Prelude.{ℕ, ◌==◌, if◌then◌else◌, Option, Some, None}
+use Rattle.napi_model.specs.declared.state.Kind.{Kind}
 use Rattle.napi_model.specs.declared.state.Kind.TheVariants as kind
 
 -- to whom a number says that an instance is handed

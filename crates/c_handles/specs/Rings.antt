@@ -1,7 +1,8 @@
 -- What a handle leads to.
 use Rattle.rx_ring.specs.{declared.{ends.RxCtx.RxCtx, packet.{Packet.Packet, RxCounts.RxCounts}}, Ends.{GivesNext, SameIn, put_list}}
 use Rattle.{rx_ring.specs.Ends.{capacity_of, received_list}, c_handles.specs.declared.{body.{Ring.Ring, Body.Body}, input.Input.Input}}
-use Rattle.{c_handles.specs.Status.BAD_HANDLE, std.specs.Prelude.{◌≡◌, ℕ, ◌==◌, if◌then◌else◌, List, Option, Some, None, [], ◌++◌, length}}
+use Rattle.std.specs.Prelude.{◌≡◌, ℕ, ◌==◌, if◌then◌else◌, List, Option, Some, None, [], ◌++◌, length}
+use Rattle.c_handles.specs.Status.{BAD_HANDLE}
 use Rattle.c_handles.specs.{declared.handle.FqHandle.FqHandle, SeatCalls.{ctx_counts, hold_counts, mode_counts}, Status.{OK, FULL}}
 use Rattle.c_handles.specs.declared.body.Body.TheVariants as body
 

@@ -5,7 +5,8 @@ use Rattle.napi_calls.specs.{Packets.{TriesToStopHolding, TriesToTakeFresh}, Cal
 use Rattle.napi_calls.specs.{Calls.{TriesToStop, TriesToTake, EnablesAt}, declared.types.{Polling.Polling, Busy.Busy}, Made.{Made, WasLost}}
 use Rattle.{napi_model.specs.declared.{state.Seen.Seen, event.Operation.Operation}, rx_ring.specs.ReceiveRing.counts_of}
 use Rattle.rx_ring.specs.{declared.{packet.{Packet.Packet, RxCounts.RxCounts}, ends.RxCtx.RxCtx}, Ends.{GivesNext, polls_of, received_list}}
-use Rattle.{std.specs.Prelude.{◌≡◌, ℕ, Bool, List, [], ◌∷◌, Option, Some, None}, napi_word.specs.declared.table.Pass.Pass}
+use Rattle.std.specs.Prelude.{◌≡◌, ℕ, Bool, List, [], ◌∷◌, Option, Some, None}
+use Rattle.napi_word.specs.declared.table.Pass.{Pass}
 use Rattle.c_handles.specs.{declared.{hold.{SeatCall.SeatCall, Hold.Hold}, mode.{ControlCall.ControlCall, Mode.Mode}}, Status.{OK, HELD}}
 use Rattle.c_handles.specs.{Status.{CHANGED, NOT_ALLOWED}, Tries.{Is, scheduled, taken, completed, busy_taken, busy_stopped, disable_tried}}
 use Rattle.napi_model.specs.declared.state.Kind.TheVariants as kind

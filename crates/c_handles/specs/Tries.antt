@@ -1,5 +1,6 @@
 -- What a call of a seat answers C and what is held then, turned back into the answer of the call below.
-use Rattle.{std.specs.Prelude.{ℕ, ◌==◌, if◌then◌else◌, Option, Some, None, Result, Ok, Err}, napi_calls.specs.declared.types.Caller.Caller}
+use Rattle.std.specs.Prelude.{ℕ, ◌==◌, if◌then◌else◌, Option, Some, None, Result, Ok, Err}
+use Rattle.napi_calls.specs.declared.types.Caller.{Caller}
 use Rattle.napi_calls.specs.declared.{types.Polling.Polling, answers.{TryPrep.TryPrep, TryDone.TryDone, TryBusy.TryBusy, TryStop.TryStop}}
 use Rattle.{napi_calls.specs.declared.answers.TryTake.TryTake, c_handles.specs.Status.{GRANTED, MISSED, DISABLED, CHANGED, TAKEN}}
 use Rattle.c_handles.specs.{Status.{NOT_THERE, RELEASED, AGAIN, BUSY, OK}, declared.{hold.Hold.Hold, mode.Mode.Mode}}

@@ -1,6 +1,7 @@
 -- Busy polling of a device by the calls of its trait is the function that the rules say, and what it keeps.
 use Rattle.std.proofs.Common.{◌≡◌, ◌∙◌, ℕ, zero, suc, Bool, true, false, List, [], ◌∷◌, Option, Some, None, MatchBool, ap, length, refl}
-use Rattle.{std.{proofs.Common.{sym, subst, arith}, specs.Prelude.{◌||◌, if◌then◌else◌, not}}, napi_model.specs.Step.complete_reply}
+use Rattle.std.{proofs.Common.{sym, subst, arith}, specs.Prelude.{◌||◌, if◌then◌else◌, not}}
+use Rattle.napi_model.specs.Step.{complete_reply}
 use Rattle.napi_model.specs.{Step.is_handed, declared.{state.{Kind.Kind, State.State}, event.Operation.Operation}}
 use Rattle.poll_runs.specs.{BusyPolling.{Given, busy_report, is_below, no_report}, Polling.{is_absent, next_of}, Polls.{Chain, is_arrival}}
 use Rattle.poll_runs.specs.{Polls.is_repoll, declared.bench.{BusyReport.BusyReport, Next.{Next, TheVariants.{Absent, Gone, Again, Repoll}}}}

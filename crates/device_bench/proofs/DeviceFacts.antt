@@ -1,6 +1,7 @@
 -- What rows and polls keep of a device: that it is sound, whether a disable is pending, and whether it waits on the list.
 use Rattle.std.proofs.Common.{◌≡◌, ◌∙◌, ℕ, zero, suc, ◌+◌, ◌≤◌, Bool, true, false, Option, Some, None, List, [], ◌∷◌, length, refl, arith}
-use Rattle.{std.specs.Prelude.{◌||◌, is_some, not, if◌then◌else◌}, napi_model.specs.Step.is_handed}
+use Rattle.std.specs.Prelude.{◌||◌, is_some, not, if◌then◌else◌}
+use Rattle.napi_model.specs.Step.{is_handed}
 use Rattle.napi_model.specs.declared.{event.{Prep.TheVariants.{Granted, Missed, Disabled}, Done.Done}, state.{Kind.Kind, Place.Place}}
 use Rattle.poll_runs.specs.{Polling.{goes_on, next_of}, Polls.is_arrival, Thread.{is_for_thread, last_next}, declared.bench.Next.Next}
 use Rattle.poll_runs.{specs.declared.bench.{Next.TheVariants.{Again, Repoll}, Once.Once}, proofs.PollingFacts.{goes-room, goes-thread}}

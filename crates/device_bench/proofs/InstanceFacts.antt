@@ -1,6 +1,7 @@
 -- The polling of a device by the calls of its trait is the function of the device that the rules say.
 use Rattle.std.proofs.Common.{◌≡◌, ◌∙◌, ℕ, zero, suc, ◌-◌, ◌≤◌, Bool, true, false, List, [], ◌∷◌, Option, Some, None, MatchBool, ap, refl}
-use Rattle.{std.{proofs.Common.{sym, subst, arith}, specs.Prelude.{◌==◌, ◌&&◌, not, if◌then◌else◌}}, napi_model.specs.Step.complete_reply}
+use Rattle.std.{proofs.Common.{sym, subst, arith}, specs.Prelude.{◌==◌, ◌&&◌, not, if◌then◌else◌}}
+use Rattle.napi_model.specs.Step.{complete_reply}
 use Rattle.napi_model.specs.{Step.take_reply, declared.{event.{Done.Done, Operation.Operation}, state.Kind.Kind}}
 use Rattle.{napi_model.specs.declared.state.Place.TheVariants.{Polling, ToThread}, poll_runs.specs.Polling.{goes_on, is_absent, next_of}}
 use Rattle.poll_runs.specs.{Polls.is_repoll, declared.bench.{Next.{Next, TheVariants.{Absent, Gone, Again, Repoll}}, Once.Once}}

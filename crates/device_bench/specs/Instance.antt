@@ -1,5 +1,6 @@
 -- A device, in the sight of one that polls it: what each call of the trait does to it.
-use Rattle.{std.specs.Prelude.{◌≡◌, ℕ, Bool, true, false, if◌then◌else◌, Option}, napi_model.specs.Step.{Polls, take_reply}}
+use Rattle.std.specs.Prelude.{◌≡◌, ℕ, Bool, true, false, if◌then◌else◌, Option}
+use Rattle.napi_model.specs.Step.{Polls, take_reply}
 use Rattle.{napi_model.specs.declared.state.Kind.Kind, poll_runs.specs.Polling.next_of, device_bench.specs.BusyPolling.{begun, held}}
 use Rattle.device_bench.specs.{BusyPolling.stopped, Device.{completed, made, polled}, DeviceView.DeviceView, Receive.{bytes_of, given_of}}
 use Rattle.device_bench.specs.{Receive.{is_idle, poller_in, taker_of}, declared.device.TheConstants.POLLER}

@@ -1,5 +1,6 @@
 -- Who owns a device's instance.
-use Rattle.{std.specs.Prelude.{◌≡◌, ◌||◌, ◌&&◌, Bool, true, false, not}, napi_model.specs.declared.state.Place.{Place, TheVariants.Control}}
+use Rattle.std.specs.Prelude.{◌≡◌, ◌||◌, ◌&&◌, Bool, true, false, not}
+use Rattle.napi_model.specs.declared.state.Place.{Place, TheVariants.Control}
 use Rattle.napi_model.specs.declared.state.{Place.TheVariants.Polling, State.State}
 use Rattle.device_bench.specs.declared.device.TheConstants.{CONTROLLER}
 

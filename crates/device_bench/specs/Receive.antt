@@ -1,7 +1,8 @@
 -- A device's receive side in the sight of one thread: the state of its instance and what its ring holds, and what its calls make
 -- of these.
 use Rattle.std.specs.Prelude.{ℕ, Bool, true, false, not, ◌||◌, List, [], ◌∷◌, ◌++◌, length, take, sum, min, nat_lt, Option, Some, None}
-use Rattle.{std.specs.Prelude.if◌then◌else◌, napi_model.specs.{Step.{after, event, opening}, declared.event.Done.Done}}
+use Rattle.std.specs.Prelude.{if◌then◌else◌}
+use Rattle.napi_model.specs.{Step.{after, event, opening}, declared.event.Done.Done}
 use Rattle.napi_model.specs.declared.event.{Done.TheVariants.{Released, Again, Held}, Prep.{Prep, TheVariants.{Granted, Missed, Disabled}}}
 use Rattle.napi_model.specs.declared.state.{Kind.Kind, Place.{Place, TheVariants.{Control, Polling}}, State.State}
 use Rattle.device_bench.specs.declared.device.TheConstants.{CONTROLLER, INTERRUPT, POLLER, THREAD}

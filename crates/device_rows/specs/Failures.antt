@@ -1,5 +1,6 @@
 -- That a reader failed, or memory was refused: who meets it knows it by the error that came.
-use Rattle.{std.specs.{Prelude.◌≡◌, declared.{alloc.AllocError.AllocError, io.Error.Error}}, csv.specs.declared.error.ErrorKind.ErrorKind}
+use Rattle.std.specs.{Prelude.◌≡◌, declared.{alloc.AllocError.AllocError, io.Error.Error}}
+use Rattle.csv.specs.declared.error.ErrorKind.{ErrorKind}
 use Rattle.csv.specs.declared.error.ErrorKind.TheVariants.{Io, OutOfMemory}
 
 pub HasFailed : Type 0

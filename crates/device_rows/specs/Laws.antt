@@ -1,5 +1,6 @@
 -- Which records of a text decide its trace.
-use Rattle.{std.specs.Prelude.{◌≡◌, ◌≤◌, ℕ, List, ◌∷◌, ◌++◌, take, Err}, device_rows.specs.Trace.trace_of}
+use Rattle.std.specs.Prelude.{◌≡◌, ◌≤◌, ℕ, List, ◌∷◌, ◌++◌, take, Err}
+use Rattle.device_rows.specs.Trace.{trace_of}
 use Rattle.device_rows.specs.declared.fault.TraceFault.{TraceFault}
 
 -- what stands behind the header, as many rows as a trace may have and one more makes no difference

@@ -1,5 +1,6 @@
 -- The numbers that a row of each event may bear. See docs/FORMATS.md, "The trace".
-use Rattle.{std.specs.Prelude.{ℕ, ◌==◌, ◌&&◌, Bool, nat_le}, device_rows.specs.declared.event.Event.{Event, TheVariants.{Opened, Rx, Tx}}}
+use Rattle.std.specs.Prelude.{ℕ, ◌==◌, ◌&&◌, Bool, nat_le}
+use Rattle.device_rows.specs.declared.event.Event.{Event, TheVariants.{Opened, Rx, Tx}}
 use Rattle.device_rows.specs.declared.event.Event.TheVariants.{Finish, Softirq, Kthread, Disable, Enable, Threaded, Busy}
 
 abbrev pub is_within : ℕ → ℕ → ℕ → Bool

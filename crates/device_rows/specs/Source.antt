@@ -1,5 +1,6 @@
 -- Where a reader of records stands.
-use Rattle.{std.specs.Prelude.{◌≡◌, ◌⊎◌, ℕ, Bool, true, false, List, Option, Some, None}, csv.specs.{Machine.Read, Reading.Ready}}
+use Rattle.std.specs.Prelude.{◌≡◌, ◌⊎◌, ℕ, Bool, true, false, List, Option, Some, None}
+use Rattle.csv.specs.{Machine.Read, Reading.Ready}
 use Rattle.csv.specs.Reading.{default_config, is_flexible, reader_config, reader_state, reader_trim, source_of}
 use Rattle.{csv.specs.declared.reader.Reader.Reader, device_rows.specs.Failures.{HasFailed, IsRefused}}
 use Rattle.device_rows.specs.declared.fault.TraceFault.{TraceFault, TheVariants.{ReadFailed, OutOfMemory}}

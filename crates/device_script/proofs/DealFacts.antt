@@ -1,6 +1,7 @@
 -- How one more row is dealt to its device.
 use Rattle.std.proofs.{lemmas.Grind.common_steps, Common.{◌≡◌, ℕ, ◌-◌, ◌≤◌, Bool, true, false, List, [], ◌∷◌, ◌++◌, length, slice_index_or}}
-use Rattle.{std.{proofs.Common.{slice_set, arith}, specs.Prelude.◌==◌}, device_rows.specs.declared.row.Row.Row}
+use Rattle.std.{proofs.Common.{slice_set, arith}, specs.Prelude.◌==◌}
+use Rattle.device_rows.specs.declared.row.Row.{Row}
 use Rattle.device_script.{specs.{Script.{is_act_of, is_open, script_of}, Dealing.AreScripts}, proofs.Rows.filter-one}
 
 script-other : (device : ℕ) (rows : List Row) (row : Row) → is_act_of device row ≡ false

@@ -4,7 +4,8 @@ use Rattle.std.{proofs.lemmas.{Grind.common_steps, List.{take_more, Sums.sum_by-
 use Rattle.device_rows.{proofs.Accepted.get-at, specs.declared.{row.Row.Row, event.Event.{Event, TheVariants.Opened}}}
 use Rattle.{poll_interrupts.specs.{Acts.{after_acts, arrivals, brings}, declared.acts.Act.Act}, device_script.proofs.Rows.filter-long}
 use Rattle.{rx_ring.specs.{declared.packet.Packet.Packet, ReceiveRing.bytes_of}, device_transmit.specs.declared.transmit.Transmit.Transmit}
-use Rattle.{device_transmit.specs.Transmit.{ShowsTransmit, TransmitView}, std.proofs.Common.{◌≡◌, ◌∙◌, ℕ, zero, suc, ◌+◌, ◌<◌, ◌≤◌, List}}
+use Rattle.std.proofs.Common.{◌≡◌, ◌∙◌, ℕ, zero, suc, ◌+◌, ◌<◌, ◌≤◌, List}
+use Rattle.device_transmit.specs.Transmit.{ShowsTransmit, TransmitView}
 use Rattle.device_script.specs.{ScriptShown.{IsKept, Script, after, answer}, Script.{act_at, act_of, rx_of, transmit_after, transmit_by}}
 
 -- a row that an index out of the rows would give

@@ -1,5 +1,6 @@
 -- A device of a script, as contracts see it.
-use Rattle.{std.specs.Prelude.{◌≡◌, ◌≤◌, ℕ, ◌+◌, ◌==◌, List, if◌then◌else◌, length, take}, device_transmit.specs.Transmit.ShowsTransmit}
+use Rattle.std.specs.Prelude.{◌≡◌, ◌≤◌, ℕ, ◌+◌, ◌==◌, List, if◌then◌else◌, length, take}
+use Rattle.device_transmit.specs.Transmit.{ShowsTransmit}
 use Rattle.{device_transmit.specs.{Transmit.TransmitView, declared.transmit.Transmit.Transmit}, device_rows.specs.declared.row.Row.Row}
 use Rattle.{poll_interrupts.specs.declared.acts.Act.Act, device_script.specs.Script.{act_at, rx_of, side_after}}
 use Rattle.poll_interrupts.specs.declared.acts.Act.TheVariants as act

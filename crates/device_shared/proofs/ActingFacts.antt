@@ -1,7 +1,8 @@
 -- How a call of one seat is one of its number alone.
 use Rattle.std.proofs.{Common.{ℕ, Bool, true, false, List, [], Option, Some, None, refl, sym, ap, subst, arith}, lemmas.Grind.common_steps}
 use Rattle.napi_calls.{proofs.{Dealing.delivers_none, Making.nothing}, specs.{Made.Made, Packets.{Quiet, IsFresh, HoldsOn, polled}}}
-use Rattle.{napi_calls.specs.{Dealt.Delivers, Knows.{Has, Stands}, declared.types.{Caller.Caller, Napi.Napi}}, std.proofs.Common.{◌≡◌, ◌∙◌}}
+use Rattle.std.proofs.Common.{◌≡◌, ◌∙◌}
+use Rattle.napi_calls.specs.{Dealt.Delivers, Knows.{Has, Stands}, declared.types.{Caller.Caller, Napi.Napi}}
 use Rattle.{rx_ring.specs.declared.{packet.Packet.Packet, ends.RxCtx.RxCtx}, napi_word.specs.{Slot.has_slot, declared.table.Pass.Pass}}
 use Rattle.{device_bench.specs.Receive.taker_of, napi_model.specs.declared.{state.{Place.Place, Kind.Kind}, event.Operation.Operation}}
 use Rattle.device_shared.specs.declared.seats.{Seats.Seats, Turn.Turn, Posts.{Posts, TheVariants.{Rest, ListPolls, ThreadPolls}}}

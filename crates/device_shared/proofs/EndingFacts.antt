@@ -1,6 +1,7 @@
 -- How a side ends.
 use Rattle.std.proofs.{Common.{subst, arith}, lemmas.{List.{append-nil, take-append-drop}, Grind.common_steps}}
-use Rattle.{napi_model.specs.declared.state.Seen.Seen, std.proofs.Common.{◌≡◌, ◌∙◌, ℕ, List, [], ◌∷◌, length, take, Some, refl, sym, ap}}
+use Rattle.std.proofs.Common.{◌≡◌, ◌∙◌, ℕ, List, [], ◌∷◌, length, take, Some, refl, sym, ap}
+use Rattle.napi_model.specs.declared.state.Seen.{Seen}
 use Rattle.{device_shared.specs.declared.seats.{Posts.{Posts, TheVariants.Rest}, Seats.Seats}, rx_ring.specs.declared.packet.Totals.Totals}
 use Rattle.rx_ring.specs.{declared.{packet.Packet.Packet, ends.{RxCtx.RxCtx, RxIn.RxIn}}, Ends.{IsOneRing, SameCtx, SameIn, put_list}}
 use Rattle.{rx_ring.specs.{Ends.{received_list, ring_name, ring_of}, ReceiveRing.totals_of}, device_bench.specs.Receive.ReceiveView}

@@ -1,5 +1,6 @@
 -- A poll between two meetings of its ring's ends.
-use Rattle.{std.proofs.{Common.{arith, ◌≡◌, ◌∙◌, ℕ, List, sym, subst}, lemmas.Grind.common_steps}, rx_ring.specs.declared.ends.RxCtx.RxCtx}
+use Rattle.std.proofs.{Common.{arith, ◌≡◌, ◌∙◌, ℕ, List, sym, subst}, lemmas.Grind.common_steps}
+use Rattle.rx_ring.specs.declared.ends.RxCtx.{RxCtx}
 use Rattle.rx_ring.specs.{declared.{ends.RxIn.RxIn, packet.Packet.Packet}, Ends.{GivesNext, Meets, SameIn}}
 use Rattle.{napi_calls.specs.Seats.IsInputOf, napi_word.specs.declared.table.Pass.Pass, device_shared.specs.Receiving.ReceivesNext}
 

@@ -1,7 +1,8 @@
 -- What a call makes of a receive side, behind which all met.
 use Rattle.std.proofs.Common.{arith}
 use Rattle.std.proofs.lemmas.Grind.{common_steps}
-use Rattle.{std.proofs.Common.{◌≡◌, ◌∙◌, ◌≤◌, ℕ, List, Option, Some, sym, ap, subst, length, drop}, rx_ring.specs.declared.ends.RxIn.RxIn}
+use Rattle.std.proofs.Common.{◌≡◌, ◌∙◌, ◌≤◌, ℕ, List, Option, Some, sym, ap, subst, length, drop}
+use Rattle.rx_ring.specs.declared.ends.RxIn.{RxIn}
 use Rattle.{rx_ring.specs.{declared.packet.Packet.Packet, Ends.put_list}, napi_model.specs.declared.event.Operation.Operation}
 use Rattle.napi_model.specs.{declared.state.{Seen.Seen, State.State}, History.{LegalHistory, state_after}, Laws.IsSound}
 use Rattle.{napi_calls.specs.{Made.events, declared.types.Napi.Napi}, device_shared.specs.{declared.seats.Seats.Seats, Acting.Acts}}

@@ -1,5 +1,6 @@
 -- All that make calls on an instance meet.
-use Rattle.{std.specs.Prelude.{◌≡◌, ℕ, List, [], ◌∷◌}, napi_model.specs.{History.state_after, Step.{opening, seen_of}}}
+use Rattle.std.specs.Prelude.{◌≡◌, ℕ, List, [], ◌∷◌}
+use Rattle.napi_model.specs.{History.state_after, Step.{opening, seen_of}}
 use Rattle.{napi_model.specs.declared.state.Seen.Seen, napi_word.specs.{declared.table.Pass.Pass, Surveys.Surveys}}
 use Rattle.{napi_calls.specs.declared.types.Caller.Caller, device_shared.specs.declared.seats.{Posts.Posts, Seats.Seats}}
 use Rattle.device_shared.specs.Seats.{control_of, ctx_at, ctx_of, poller_of, poller_post, polls_at, role_of, thread_of, thread_post}

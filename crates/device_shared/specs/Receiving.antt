@@ -1,5 +1,6 @@
 -- A poll while both ends of the ring are in one hand.
-use Rattle.{std.specs.Prelude.{◌≡◌, ◌≤◌, ◌+◌, ℕ, List, ◌++◌, length, drop, take, Some}, rx_ring.specs.declared.ends.RxCtx.RxCtx}
+use Rattle.std.specs.Prelude.{◌≡◌, ◌≤◌, ◌+◌, ℕ, List, ◌++◌, length, drop, take, Some}
+use Rattle.rx_ring.specs.declared.ends.RxCtx.{RxCtx}
 use Rattle.rx_ring.specs.{declared.{ends.RxIn.RxIn, packet.Packet.Packet}, Ends.{SameIn, capacity_of, free_of, put_list, received_list}}
 use Rattle.device_shared.specs.{declared.seats.Seats.Seats, Seats.{control_of, ctx_of, poller_of, thread_of}}
 

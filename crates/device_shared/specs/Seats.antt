@@ -1,7 +1,8 @@
 -- All that make calls on one instance, in one hand: the interrupt is caller 0, the poller of the list 1, the device's thread 2, and
 -- the controller 3.
 use Rattle.napi_calls.specs.{Packets.delivered, Seats.{controller_of, shown, state_of}, declared.types.Napi.Napi, Instance.IsSeatOf}
-use Rattle.{napi_calls.specs.{Knows.received_held, Alone.AllShow}, std.specs.Prelude.{◌≡◌, ℕ, Bool, true, false, List, Option, Some, None}}
+use Rattle.std.specs.Prelude.{◌≡◌, ℕ, Bool, true, false, List, Option, Some, None}
+use Rattle.napi_calls.specs.{Knows.received_held, Alone.AllShow}
 use Rattle.{rx_ring.specs.declared.{packet.Packet.Packet, ends.RxCtx.RxCtx}, device_shared.specs.declared.seats.{Turn.Turn, Posts.Posts}}
 use Rattle.napi_model.specs.{declared.state.{State.State, Place.{Place, TheVariants.{Granted, Polling, Control}}}, Step.{Polls, opening}}
 use Rattle.{napi_model.specs.History.LegalHistory, napi_word.specs.{Passes.view_of, View.{first_in, received_in}, declared.table.Pass.Pass}}

@@ -1,5 +1,6 @@
 -- A receive side over an instance that threads could share, as one thread sees it who has all that make calls there.
-use Rattle.{std.specs.Prelude.{◌≡◌, ◌≤◌, ◌+◌, ℕ, List, [], length, drop, map, Option, Some, None}, rx_ring.specs.declared.ends.RxCtx.RxCtx}
+use Rattle.std.specs.Prelude.{◌≡◌, ◌≤◌, ◌+◌, ℕ, List, [], length, drop, map, Option, Some, None}
+use Rattle.rx_ring.specs.declared.ends.RxCtx.{RxCtx}
 use Rattle.rx_ring.specs.{declared.{ends.RxIn.RxIn, packet.Packet.Packet}, Ends.{IsOneRing, capacity_of, free_of, put_list}}
 use Rattle.{napi_model.specs.{declared.state.{Seen.Seen, State.State}, Step.{opening, seen_of}}, napi_calls.specs.declared.types.Napi.Napi}
 use Rattle.device_shared.specs.{declared.seats.Seats.Seats, Seats.{AreGathered, received_by, state_in}}

@@ -1,5 +1,6 @@
 -- The transmit sides of a bench, as it keeps them.
-use Rattle.{std.specs.Prelude.{◌≡◌, ℕ, Option, Some, None, length}, device_transmit.specs.{Transmits.Transmits, Transmit.ShowsTransmit}}
+use Rattle.std.specs.Prelude.{◌≡◌, ℕ, Option, Some, None, length}
+use Rattle.device_transmit.specs.{Transmits.Transmits, Transmit.ShowsTransmit}
 use Rattle.device_transmit.specs.{Transmit.TransmitView, declared.{sides.TransmitSides.TransmitSides, transmit.Transmit.Transmit}}
 use Rattle.device_rows.specs.Places.{at}
 

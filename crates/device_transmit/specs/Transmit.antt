@@ -1,5 +1,6 @@
 -- The transmit side of a device: its queue, and what became of its tx and done rows. It knows nothing of polls.
-use Rattle.{std.specs.Prelude.{◌≡◌, ℕ, Bool, true, false, Option, Some, None}, dql_core.specs.{Bounds.DQL_MAX_LIMIT, Limit.opening}}
+use Rattle.std.specs.Prelude.{◌≡◌, ℕ, Bool, true, false, Option, Some, None}
+use Rattle.dql_core.specs.{Bounds.DQL_MAX_LIMIT, Limit.opening}
 use Rattle.device_transmit.specs.{Counter.raised, declared.transmit.{Transmit.Transmit, TxCounts.TxCounts}}
 use Rattle.tx_ring.specs.{Queue.{TransmitQueue, after_done, after_send, done_fault, opening_queue, send_fault, state_of}, Ring.ShowsQueue}
 use Rattle.tx_ring.specs.declared.event.TxFault.{TxFault}

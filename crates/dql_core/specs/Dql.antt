@@ -1,5 +1,6 @@
 -- What a `Dql` shows of a limit in whole numbers.
-use Rattle.{std.specs.Prelude.{◌≡◌, ℕ, ◌+◌, ◌≤◌}, dql_core.specs.{Counter.{IsWrapped, distance_of}, Limit.opening, Bounds.most_in_flight}}
+use Rattle.std.specs.Prelude.{◌≡◌, ℕ, ◌+◌, ◌≤◌}
+use Rattle.dql_core.specs.{Counter.{IsWrapped, distance_of}, Limit.opening, Bounds.most_in_flight}
 use Rattle.dql_core.specs.declared.{queue.{Adjustment.Adjustment, Dql.Dql}, whole.Limit.Limit}
 
 -- d shows the limit s: it counts modulo 2 ^ 32 what s counts in whole numbers, and has its other numbers

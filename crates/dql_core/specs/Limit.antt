@@ -1,7 +1,8 @@
 -- The rules of dynamic queue limits in whole numbers that never wrap, after `lib/dynamic_queue_limits.c` of Linux 6.6.
 -- `Limit` is the struct of `src/whole.rt`, which names each number. A `-` stops at 0, as the kernel's `POSDIFF` does.
 use Rattle.std.specs.Prelude.{ℕ, ◌+◌, ◌-◌, ◌*◌, Bool, ◌&&◌, ◌||◌, not, nat_eq, nat_lt, nat_le, min, max, if◌then◌else◌, Option, Some, None}
-use Rattle.{std.specs.Prelude.{ℤ, pos, ◌-ℤ◌}, dql_core.specs.{Bounds.{DQL_MAX_OBJECT, most_in_flight}, declared.event.DqlFault.DqlFault}}
+use Rattle.std.specs.Prelude.{ℤ, pos, ◌-ℤ◌}
+use Rattle.dql_core.specs.{Bounds.{DQL_MAX_OBJECT, most_in_flight}, declared.event.DqlFault.DqlFault}
 use Rattle.dql_core.specs.declared.event.{DqlFault.TheVariants.{TooLarge, TooMuchInFlight, MoreThanQueued}, LimitEvent.LimitEvent}
 use Rattle.dql_core.specs.declared.{event.LimitEvent.TheVariants.{Queued, Completed, Reset}, whole.Limit.Limit}
 

@@ -2,7 +2,8 @@
 use Rattle.std.proofs.Common.{◌+◌, ◌-◌, ◌<◌, ◌≤◌, ◌^◌, Bool, true, false, Option, Some, None, List, [], ◌∷◌, ◌++◌, drop, length, refl}
 use Rattle.std.{proofs.{Common.arith, lemmas.Grind.common_steps}, specs.{List.position_or_len, Prelude.{◌==◌, ◌&&◌, ◌||◌, if◌then◌else◌}}}
 use Rattle.{poll_runs.specs.{Turn.asked_for, declared.bench.Next.TheVariants.{Gone, Repoll}}, device_rows.specs.Places.{at, changed}}
-use Rattle.{machine_model.proofs.WalkFacts.{Still, Walk, arrived, nexted, walk, walk-comes}, std.proofs.Common.{◌≡◌, ◌∙◌, ℕ, zero, suc}}
+use Rattle.std.proofs.Common.{◌≡◌, ◌∙◌, ℕ, zero, suc}
+use Rattle.machine_model.proofs.WalkFacts.{Still, Walk, arrived, nexted, walk, walk-comes}
 use Rattle.{std.specs.Prelude.{min, nat_le, not, position, slice_get}, machine_words.specs.declared.settings.Settings.Settings}
 use Rattle.machine_model.specs.{declared.processor.Work.{Work, TheVariants.{Interrupt, Nothing}}, Device.{DeviceView, after_packet}}
 use Rattle.machine_model.specs.{Device.{ended_interrupt, ended_poll, interrupted, polled}, Processor.{ProcessorView, comes, delivers}}

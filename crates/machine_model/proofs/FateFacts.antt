@@ -1,7 +1,8 @@
 -- What becomes of packets: each is delivered in its order.
 use Rattle.std.proofs.Common.{◌≡◌, ◌∙◌, ℕ, ◌<◌, Bool, true, false, Option, Some, None, List, [], ◌∷◌, ◌++◌, append_assoc, length, replicate}
 use Rattle.std.proofs.{Common.{refl, sym, ap, arith}, lemmas.{List.append-nil, Bool.eqb-true, Grind.common_steps}}
-use Rattle.{machine_words.specs.declared.settings.Settings.Settings, std.specs.Prelude.{◌==◌, ◌&&◌, if◌then◌else◌, nat_lt}}
+use Rattle.std.specs.Prelude.{◌==◌, ◌&&◌, if◌then◌else◌, nat_lt}
+use Rattle.machine_words.specs.declared.settings.Settings.{Settings}
 use Rattle.{machine_model.specs.Fates.{gives_by, polled_by, ring_in, taken_by}, device_rows.specs.Places.{added_at, at, changed}}
 use Rattle.machine_model.proofs.{EndFacts.ends, WalkFacts.{Walk, arrived, nexted, walk, walk-comes}, WorkFacts.{Goes, free-ended, goes-on}}
 use Rattle.machine_model.{proofs.PlacesFacts.{at-changed, map_at, packet-by}, specs.Processor.{ProcessorView, comes, delivers, ends_by}}

@@ -1,6 +1,7 @@
 -- A processor's steps up to a moment are determined, and so is an arrival.
 use Rattle.std.proofs.lemmas.Grind.{common_steps}
-use Rattle.{std.proofs.Common.{◌≡◌, ◌∙◌, ℕ, ◌<◌, slice_set, sym, arith, ap}, machine_model.specs.Laws.{ArrivesAsOne, RunsAsOne}}
+use Rattle.std.proofs.Common.{◌≡◌, ◌∙◌, ℕ, ◌<◌, slice_set, sym, arith, ap}
+use Rattle.machine_model.specs.Laws.{ArrivesAsOne, RunsAsOne}
 use Rattle.machine_model.specs.{Machine.{number_of, processor_of}, Processor.{ProcessorView, RunsTo, after, comes}}
 use Rattle.machine_model.proofs.MachineFacts.{same-some}
 

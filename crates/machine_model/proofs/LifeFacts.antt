@@ -1,7 +1,8 @@
 -- Each processor of a machine lived.
 use Rattle.std.proofs.Common.{rules, ◌≡◌, ◌∙◌, ℕ, zero, suc, ◌-◌, ◌/◌, ◌%◌, ◌<◌, ◌≤◌, ◌^◌, Bool, true, false, Some, List, [], ◌∷◌, length}
 use Rattle.std.proofs.{Common.{length-set, replicate, refl, sym, ap, arith}, lemmas.{Option.slice_get_within, Bool.{eq-eqb, eqb-false}}}
-use Rattle.{circular_buffer.proofs.Places.{slice_get-set_other, slice_get-set_same, slice_get-some}, std.specs.Prelude.{◌==◌, slice_get}}
+use Rattle.std.specs.Prelude.{◌==◌, slice_get}
+use Rattle.circular_buffer.proofs.Places.{slice_get-set_other, slice_get-set_same, slice_get-some}
 use Rattle.{std.proofs.lemmas.{Bool.eqb-true, Grind.common_steps}, machine_words.specs.declared.settings.Settings.Settings}
 use Rattle.machine_model.specs.{Processor.{ProcessorView, RunsTo, after, comes, is_due, opened_processor, step}, Laws.{EachLives, Event}}
 use Rattle.machine_model.specs.{Laws.{InTurn, Lived, Took, behind, end, own, packet, packets_in}, Machine.{Arrives, Finishes, Machine}}

@@ -1,6 +1,7 @@
 -- What a poll tells a run, over a list of one thread.
 use Rattle.std.{proofs.Common.{◌≡◌, ℕ, ◌+◌, true, false, Option, Some, None, List, [], ◌∷◌, ◌++◌, refl}, specs.Prelude.is_some}
-use Rattle.{std.specs.Prelude.if◌then◌else◌, poll_runs.specs.{Plain.{HasRoom, OwnPushes, all_held}, Polls.{is_arrival, is_repoll}}}
+use Rattle.std.specs.Prelude.{if◌then◌else◌}
+use Rattle.poll_runs.specs.{Plain.{HasRoom, OwnPushes, all_held}, Polls.{is_arrival, is_repoll}}
 use Rattle.poll_runs.specs.{Turn.HandsOn, Driven.SameSettings, declared.{bench.Once.Once, polling_run.PollingRun.PollingRun}}
 use Rattle.machine_model.specs.{Softirq.{SoftirqView, told}, Shown.shown}
 

@@ -1,7 +1,8 @@
 -- What is told of a device is told of its packets.
 use Rattle.std.proofs.{lemmas.{Grind.common_steps, Bool.eqb-true}, Common.{◌≡◌, ◌∙◌, ℕ, ◌+◌, ◌-◌, Bool, true, false, Option, Some, None}}
 use Rattle.std.{proofs.Common.{List, [], ◌∷◌, ◌++◌, length, length-append, map, refl, sym, ap, subst, arith}, specs.Prelude.{◌==◌, ◌&&◌}}
-use Rattle.{std.specs.Prelude.{if◌then◌else◌, nat_lt, not}, machine_words.specs.declared.settings.Settings.Settings}
+use Rattle.std.specs.Prelude.{if◌then◌else◌, nat_lt, not}
+use Rattle.machine_words.specs.declared.settings.Settings.{Settings}
 use Rattle.{device_rows.specs.Places.{at, changed}, machine_model.specs.Device.{DeviceView, after_packet, ended_interrupt, ended_poll}}
 use Rattle.machine_model.specs.{Device.{interrupted, polled}, Laws.{Event, behind, end, packet}, Devices.{Devices, batch_at}}
 use Rattle.machine_model.specs.{Softirq.asked_in, declared.processor.Work.{Work, TheVariants.Nothing}, Fates.{TellsOfDevice, Tells, came}}

@@ -1,7 +1,8 @@
 -- Clocks never fall.
 use Rattle.std.proofs.lemmas.Grind.{common_steps}
 use Rattle.std.proofs.{Common.{◌≡◌, ℕ, ◌+◌, ◌<◌, ◌≤◌, ◌^◌, Bool, true, List, [], ◌∷◌, refl, arith}, lemmas.Bool.{and_parts, leb-true}}
-use Rattle.{std.specs.Prelude.{◌&&◌, nat_le}, machine_words.specs.declared.settings.Settings.Settings}
+use Rattle.std.specs.Prelude.{◌&&◌, nat_le}
+use Rattle.machine_words.specs.declared.settings.Settings.{Settings}
 use Rattle.machine_model.specs.{Laws.{ClocksNeverFall, Event, InTurn, behind, end, packet}, Waits.held, Processor.{ProcessorView, comes}}
 use Rattle.machine_model.specs.Processor.{delivers, ends_by, ends_current, ends_interrupt, ends_poll, ends_run, interrupts, is_busy, polls}
 use Rattle.machine_model.{specs.{Processor.step, declared.processor.Work.Work}, proofs.WalkFacts.{Walk, implied, walk, walk-comes}}

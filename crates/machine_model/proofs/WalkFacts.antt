@@ -1,7 +1,8 @@
 -- What is taken up, case by case: a property that each case keeps.
 use Rattle.std.{specs.Prelude.{not, position}, proofs.Common.{rules, ◌≡◌, ◌<◌, ℕ, arith, Bool, true, false, Option, Some, None, List, []}}
 use Rattle.std.proofs.{Common.{◌∷◌, length, refl}, lemmas.{List.Quantifiers.position-Some, Grind.common_steps}}
-use Rattle.{machine_model.proofs.{StepFacts.{polls_or, takes_up_by}, KeptFacts.run-ended}, std.specs.Prelude.{◌==◌, ◌&&◌, if◌then◌else◌}}
+use Rattle.std.specs.Prelude.{◌==◌, ◌&&◌, if◌then◌else◌}
+use Rattle.machine_model.proofs.{StepFacts.{polls_or, takes_up_by}, KeptFacts.run-ended}
 use Rattle.{device_rows.{proofs.PlaceFacts.none-of, specs.Places.{at, changed}}, machine_words.specs.declared.settings.Settings.Settings}
 use Rattle.machine_model.specs.{Kept.is_poll, declared.processor.Work.{Work, TheVariants.Nothing}, Device.after_packet, Devices.raises_at}
 use Rattle.machine_model.specs.{Devices.with_device, Softirq.{SoftirqView, asked_in, begun, next_of}, Processor.{ProcessorView, begins}}

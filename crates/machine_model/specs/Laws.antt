@@ -1,6 +1,7 @@
 -- Laws of the machine.
 use Rattle.std.specs.Prelude.{◌≡◌, ◌≤◌, ◌<◌, ℕ, ◌+◌, ◌-◌, ◌/◌, ◌%◌, ◌^◌, ◌==◌, true, false, List, [], ◌∷◌, Some, IfSome, slice_get}
-use Rattle.{std.specs.Prelude.if◌then◌else◌, machine_words.specs.declared.settings.Settings.Settings, machine_model.specs.Machine.Arrives}
+use Rattle.std.specs.Prelude.{if◌then◌else◌}
+use Rattle.{machine_words.specs.declared.settings.Settings.Settings, machine_model.specs.Machine.Arrives}
 use Rattle.machine_model.specs.{Machine.{Finishes, Machine, opened_machine}, Processor.{ProcessorView, RunsTo, comes, is_due}}
 use Rattle.machine_model.specs.Processor.{opened_processor, step}
 

@@ -1,5 +1,6 @@
 -- How what the program holds is seen by the definition.
-use Rattle.{std.specs.{Prelude.{ℕ, ◌+◌, Bool, true, false, ◌++◌, length, Option}, Option.option_map_or}, napi_model.specs.Step.idle}
+use Rattle.std.specs.{Prelude.{ℕ, ◌+◌, Bool, true, false, ◌++◌, length, Option}, Option.option_map_or}
+use Rattle.napi_model.specs.Step.{idle}
 use Rattle.{napi_model.specs.{Step.no_flags, declared.state.{Place.TheVariants.Listed, State.State}}, poll_runs.specs.Turn.asked_for}
 use Rattle.{poll_runs.specs.declared.polling_run.PollingRun.PollingRun, machine_model.specs.Softirq.{RunView, SoftirqView}}
 

@@ -1,6 +1,7 @@
 -- Waits, as they are counted.
 use Rattle.std.specs.Prelude.{ℕ, ◌+◌, ◌-◌, ◌*◌, ◌/◌, ◌^◌, ◌==◌, nat_le, min, max, List, [], ◌∷◌, fold, replicate, slice_index_or, slice_set}
-use Rattle.{std.specs.{Prelude.if◌then◌else◌, Int.{leading_zeros, w64}}, machine_model.specs.declared.waits.WaitCounts.WaitCounts}
+use Rattle.std.specs.{Prelude.if◌then◌else◌, Int.{leading_zeros, w64}}
+use Rattle.machine_model.specs.declared.waits.WaitCounts.{WaitCounts}
 
 -- a sum, which stays at the greatest number of 64 binary digits
 abbrev pub held : ℕ → ℕ

@@ -1,6 +1,7 @@
 -- The machine takes one arrival more.
 use Rattle.std.proofs.Common.{rules}
-use Rattle.{std.proofs.Common.{List, [], ◌∷◌, ◌++◌, refl}, machine_model.specs.Machine.{Arrives, Machine}}
+use Rattle.std.proofs.Common.{List, [], ◌∷◌, ◌++◌, refl}
+use Rattle.machine_model.specs.Machine.{Arrives, Machine}
 use Rattle.machine_report.specs.{Answer.Takes, declared.arrival.Arrival.Arrival}
 
 pub takes-push : (earlier : List Arrival) (arrival : Arrival) (before middle after : Machine) → Takes earlier before middle

@@ -1,5 +1,6 @@
 -- What the machine answers to the bytes of arrivals: its report, or their first fault.
-use Rattle.{std.specs.Prelude.{◌≡◌, ℕ, List, [], ◌∷◌, Ok, Err}, device_rows.specs.Trace.records_of, machine_model.specs.Machine.Arrives}
+use Rattle.std.specs.Prelude.{◌≡◌, ℕ, List, [], ◌∷◌, Ok, Err}
+use Rattle.{device_rows.specs.Trace.records_of, machine_model.specs.Machine.Arrives}
 use Rattle.{machine_model.specs.Machine.{Finishes, Machine, opened_machine}, machine_words.specs.declared.settings.Settings.Settings}
 use Rattle.machine_report.specs.{Arrivals.arrivals_of, Report.text_of, declared.{arrival.Arrival.Arrival, fault.MachineFault.MachineFault}}
 

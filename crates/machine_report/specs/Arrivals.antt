@@ -1,6 +1,7 @@
 -- The arrivals of a text, or its first fault, as a function of its records. See docs/FORMATS.md, "Arrivals".
 use Rattle.std.specs.Prelude.{ℕ, ◌+◌, ◌*◌, ◌^◌, ◌<◌, ◌≤◌, ◌==◌, ◌&&◌, Bool, false, nat_le, nat_lt, List, [], ◌∷◌, ◌++◌, length, fold}
-use Rattle.{std.specs.{Prelude.{Option, Some, None, if◌then◌else◌, Result, Ok, Err, codes}, Str.bytes_eq}, csv.specs.Records.field_at}
+use Rattle.std.specs.{Prelude.{Option, Some, None, if◌then◌else◌, Result, Ok, Err, codes}, Str.bytes_eq}
+use Rattle.csv.specs.Records.{field_at}
 use Rattle.{device_rows.specs.{Record.{is_numeral, numeral}, Row.is_within}, machine_report.specs.declared.arrival.Arrival.Arrival}
 use Rattle.machine_report.specs.declared.fault.MachineFault.{MachineFault, TheVariants.{BadHeader, BadFields, BadNumber, OutOfRange, Falls}}
 

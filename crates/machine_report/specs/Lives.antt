@@ -1,5 +1,6 @@
 -- A law of reports: the machine that is told lived by its laws.
-use Rattle.{std.specs.Prelude.{◌≡◌, ℕ, ◌-◌, ◌^◌, false, List, [], ◌∷◌, Some, slice_get}, machine_model.specs.Laws.{Lived, own}}
+use Rattle.std.specs.Prelude.{◌≡◌, ℕ, ◌-◌, ◌^◌, false, List, [], ◌∷◌, Some, slice_get}
+use Rattle.machine_model.specs.Laws.{Lived, own}
 use Rattle.{machine_model.specs.Processor.{ProcessorView, is_due}, machine_words.specs.declared.settings.Settings.Settings}
 use Rattle.machine_report.specs.{Answer.IsReportOf, declared.arrival.Arrival.Arrival}
 

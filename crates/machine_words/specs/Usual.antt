@@ -1,5 +1,6 @@
 -- The machine where no word names another.
-use Rattle.{std.specs.Prelude.◌≡◌, machine_words.specs.declared.settings.Settings.Settings}
+use Rattle.std.specs.Prelude.{◌≡◌}
+use Rattle.machine_words.specs.declared.settings.Settings.{Settings}
 
 pub record IsUsual (s : Settings) : Type 0 where
   pub processors : s.processors ≡ 1

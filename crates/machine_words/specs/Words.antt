@@ -1,5 +1,6 @@
 -- What the words after the program's name ask for.
-use Rattle.{std.specs.Prelude.{ℕ, [], ◌∷◌, List, Option, Some, codes}, replay_words.specs.Given.{◌>>=◌, Text, given_by, number_within}}
+use Rattle.std.specs.Prelude.{ℕ, [], ◌∷◌, List, Option, Some, codes}
+use Rattle.replay_words.specs.Given.{◌>>=◌, Text, given_by, number_within}
 use Rattle.{replay_words.specs.Given.{or_usual, value_of}, machine_words.specs.declared.settings.Settings.Settings}
 
 pub record Asked : Type 0 where

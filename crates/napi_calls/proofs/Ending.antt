@@ -1,8 +1,10 @@
 -- The list of all seats at the end, and its one history.
 use Rattle.napi_model.specs.{Step.{opening, IsControl}, declared.event.Event.Event, History.{LegalHistory, state_after}, Laws.is_owner}
-use Rattle.{rx_ring.specs.{declared.ends.RxCtx.RxCtx, Ends.{RingName, ring_name, received_list}}, std.proofs.Common.{◌≡◌, ◌≢◌, ℕ, zero}}
+use Rattle.std.proofs.Common.{◌≡◌, ◌≢◌, ℕ, zero}
+use Rattle.rx_ring.specs.{declared.ends.RxCtx.RxCtx, Ends.{RingName, ring_name, received_list}}
 use Rattle.std.proofs.Common.{suc, ◌+◌, ◌<◌, List, [], ◌∷◌, ◌++◌, length, slice_get, Option, Some, false, unwrap_or, eq-eqb, refl, sym, ap}
-use Rattle.{std.proofs.Common.{◌∙◌, subst, length-append, arith}, napi_word.specs.{Passes.{controller_of_table, view_of}, Slot.givers}}
+use Rattle.std.proofs.Common.{◌∙◌, subst, length-append, arith}
+use Rattle.napi_word.specs.{Passes.{controller_of_table, view_of}, Slot.givers}
 use Rattle.napi_word.specs.{Ends.IsEnded, declared.{view.Holds.TheVariants.{Nothing, Out}, table.Pass.Pass}, View.deliverers}
 use Rattle.napi_word.{specs.View.{own_deliveries, received_in}, proofs.{Deliveries.received_is, Closing.get_mid}}
 use Rattle.napi_calls.{proofs.{Serving.served, Standing.is_control}, specs.Closed.{seats_of, IsHistoryOf, IsClosed}}

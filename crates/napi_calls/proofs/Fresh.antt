@@ -1,6 +1,7 @@
 -- New seats.
 use Rattle.std.proofs.Common.{Option, unwrap_or, append-nil, ◌≡◌, ℕ, zero, suc, ◌<◌, List, [], ◌∷◌, ◌++◌, slice_get, length, Some, Bool}
-use Rattle.{std.proofs.Common.{cond, false, ne_eqb, refl, sym, ap, ◌∙◌, subst, arith}, rx_ring.specs.declared.ends.RxCtx.RxCtx}
+use Rattle.std.proofs.Common.{cond, false, ne_eqb, refl, sym, ap, ◌∙◌, subst, arith}
+use Rattle.rx_ring.specs.declared.ends.RxCtx.{RxCtx}
 use Rattle.{rx_ring.specs.Ends.{ring_name, received_list}, napi_model.specs.{declared.state.Place.Place, Step.opening}}
 use Rattle.{napi_model.specs.History.{LegalHistory, own, state_after}, napi_word.specs.declared.table.{Pass.Pass, StateTable.StateTable}}
 use Rattle.napi_word.{specs.{View.View, Rule.strand, Passes.{view_of, ctx_of, IsNew, IsPassOf, ring_of_table}}, proofs.Closing.get_mid}

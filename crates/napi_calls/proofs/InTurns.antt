@@ -1,6 +1,7 @@
 -- The history of two callers in turn: each number's events, and how many there are in all.
 use Rattle.std.proofs.Common.{◌≡◌, ◌≢◌, ℕ, zero, suc, ◌+◌, ◌<◌, Bool, true, false, List, [], ◌∷◌, ◌++◌, length, eqb, eq-eqb, ne_eqb}
-use Rattle.{std.proofs.Common.{eqb-true, true≢false, refl, sym, ap, ◌∙◌, arith}, napi_model.specs.declared.event.Event.Event}
+use Rattle.std.proofs.Common.{eqb-true, true≢false, refl, sym, ap, ◌∙◌, arith}
+use Rattle.napi_model.specs.declared.event.Event.{Event}
 use Rattle.{napi_model.specs.{declared.event.Operation.Operation, History.own}, napi_word.specs.declared.table.Pass.Pass}
 use Rattle.napi_calls.proofs.Alone.{own_at, own_off}
 use Rattle.napi_calls.specs.{declared.types.Napi.Napi, Seats.{number_of, own_list}, Instance.IsNewSeat, Made.{Made, events}}

@@ -1,5 +1,6 @@
 -- What two pollers received of one ring, of which they are the callers 0 and 1.
-use Rattle.{std.specs.Prelude.{◌≡◌, ℕ, ◌<◌, List, [], ◌++◌}, rx_ring.specs.declared.packet.Packet.Packet}
+use Rattle.std.specs.Prelude.{◌≡◌, ℕ, ◌<◌, List, [], ◌++◌}
+use Rattle.rx_ring.specs.declared.packet.Packet.{Packet}
 use Rattle.napi_word.specs.{declared.{table.Pass.Pass, view.Delivery.Delivery}, View.{own_deliveries, packets_of}}
 use Rattle.napi_calls.specs.Packets.{own_delivered}
 

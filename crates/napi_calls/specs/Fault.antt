@@ -1,5 +1,6 @@
 -- The numbers of the faults.
-use Rattle.{std.specs.Prelude.{ℕ, Bool, true, false, ◌||◌, nat_lt}, napi_calls.specs.declared.fault.NewFault.NewFault}
+use Rattle.std.specs.Prelude.{ℕ, Bool, true, false, ◌||◌, nat_lt}
+use Rattle.napi_calls.specs.declared.fault.NewFault.{NewFault}
 use Rattle.napi_calls.specs.declared.fault.{NewFault.TheVariants.{OutOfMemory, BadCount}, CloseFault.{CloseFault, TheVariants.NotAll}}
 
 abbrev pub new_fault_number : NewFault → ℕ

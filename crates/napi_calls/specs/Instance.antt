@@ -1,5 +1,6 @@
 -- What a contract sees of an instance, and its new seats.
-use Rattle.{std.specs.Prelude.{◌≡◌, ℕ, Some, []}, rx_ring.specs.{declared.ends.RxCtx.RxCtx, Ends.RingName}}
+use Rattle.std.specs.Prelude.{◌≡◌, ℕ, Some, []}
+use Rattle.rx_ring.specs.{declared.ends.RxCtx.RxCtx, Ends.RingName}
 use Rattle.napi_word.specs.{declared.table.Pass.Pass, Passes.{IsPassOf, ring_of_table, first_of_table}}
 use Rattle.napi_calls.specs.{declared.types.Napi.Napi, Seats.{number_of, controller_of, shown, own_list, ring_of}, Packets.delivered}
 

@@ -1,5 +1,6 @@
 -- What the type of a value says of its seat.
-use Rattle.{std.specs.Prelude.{◌≡◌, ℕ, Bool, cond, List, Option, Some, None}, rx_ring.specs.declared.ends.RxCtx.RxCtx}
+use Rattle.std.specs.Prelude.{◌≡◌, ℕ, Bool, cond, List, Option, Some, None}
+use Rattle.rx_ring.specs.declared.ends.RxCtx.{RxCtx}
 use Rattle.rx_ring.specs.{declared.packet.Packet.Packet, Ends.{RingName, ring_name, received_list}}
 use Rattle.napi_model.specs.{declared.state.Place.Place, Laws.is_owner, Step.opening, History.{LegalHistory, own}}
 use Rattle.napi_word.specs.{View.{received_in, Continues}, Passes.view_of, declared.{table.Pass.Pass, view.Holds.Holds}}

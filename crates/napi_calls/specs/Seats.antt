@@ -1,5 +1,6 @@
 -- What a seat of an instance shows. The other definitions here speak of seats by these words alone.
-use Rattle.{std.specs.Prelude.{◌≡◌, ℕ, List, Option, Some}, rx_ring.specs.{declared.ends.{RxIn.RxIn, RxCtx.RxCtx}, Ends.RingName}}
+use Rattle.std.specs.Prelude.{◌≡◌, ℕ, List, Option, Some}
+use Rattle.rx_ring.specs.{declared.ends.{RxIn.RxIn, RxCtx.RxCtx}, Ends.RingName}
 use Rattle.{rx_ring.specs.Ends.{ring_name, IsOneRing}, napi_model.specs.{declared.{event.Event.Event, state.State.State}, Step.opening}}
 use Rattle.{napi_model.specs.History.{LegalHistory, state_after, own}, napi_word.specs.{declared.table.Pass.Pass, Passes.view_of}}
 use Rattle.napi_word.specs.Passes.{SameTable}

@@ -1,5 +1,6 @@
 -- What has to follow an accepted schedule.
-use Rattle.{std.specs.Prelude.{Bool, true, false, List, [], ◌∷◌}, napi_model.specs.History.starts_poll}
+use Rattle.std.specs.Prelude.{Bool, true, false, List, [], ◌∷◌}
+use Rattle.napi_model.specs.History.{starts_poll}
 use Rattle.napi_model.specs.declared.event.{Done.TheVariants.Released, Operation.{Operation, TheVariants.Complete}, Event.Event}
 
 abbrev pub Either : Bool → Type 0 → Type 0 → Type 0

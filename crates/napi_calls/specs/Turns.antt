@@ -1,6 +1,7 @@
 -- Two callers in turn, each of whose calls is decided in one try: all its events. Number 0 is granted the instance, hands it to
 -- the list, doesn't find it there, and asks again while number 1 polls it; number 1 hands it over again, and number 0 polls it.
-use Rattle.{std.specs.Prelude.{◌≡◌, true, false, List, [], ◌∷◌, length}, napi_model.specs.declared.state.Seen.Seen}
+use Rattle.std.specs.Prelude.{◌≡◌, true, false, List, [], ◌∷◌, length}
+use Rattle.napi_model.specs.declared.state.Seen.{Seen}
 use Rattle.napi_model.specs.declared.{state.Place.TheVariants.Control, event.{Event.Event, Operation.{Operation, TheVariants.Look}}}
 use Rattle.napi_model.specs.declared.event.Operation.TheVariants.{Schedule, Hand, Take, Complete, MarkDisable, TakeDisable, Unmark, Enable}
 use Rattle.{napi_model.specs.{Step.opening, History.{LegalHistory, state_after, own}}, napi_calls.specs.Made.events}

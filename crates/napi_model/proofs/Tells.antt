@@ -1,5 +1,6 @@
 -- The word tells the next word.
-use Rattle.{std.proofs.Common.{◌≡◌, ℕ, Option, true, refl, sym, ap}, napi_model.specs.Step.{IsLegalBy, after_by, seen_of, seen_after}}
+use Rattle.std.proofs.Common.{◌≡◌, ℕ, Option, true, refl, sym, ap}
+use Rattle.napi_model.specs.Step.{IsLegalBy, after_by, seen_of, seen_after}
 use Rattle.napi_model.specs.{Step.{handed_at, handed_after, flags_after, place_after}, declared.state.{State.State, Seen.Seen, Flags.Flags}}
 use Rattle.napi_model.specs.declared.{state.Kind.Kind, event.Operation.{Operation, TheVariants.{Schedule, Hand, Take, Complete, BusyTake}}}
 use Rattle.napi_model.specs.declared.event.{Operation.TheVariants.{TakeDisable, Enable}, Prep.Prep, Done.TheVariants.{Released, Again}}

@@ -1,5 +1,6 @@
 -- Histories: lists of events, from an opening state that is an argument throughout.
-use Rattle.{std.specs.Prelude.{◌≡◌, ℕ, Bool, true, false, nat_eq, List, [], ◌∷◌, filter}, napi_model.specs.declared.state.Place.Place}
+use Rattle.std.specs.Prelude.{◌≡◌, ℕ, Bool, true, false, nat_eq, List, [], ◌∷◌, filter}
+use Rattle.napi_model.specs.declared.state.Place.{Place}
 use Rattle.napi_model.specs.declared.{state.State.State, event.Operation.{Operation, TheVariants.{Schedule, Take, BusyStop, MarkDisable}}}
 use Rattle.napi_model.specs.{declared.event.{Operation.TheVariants.{TakeDisable, Unmark, Enable}, Event.Event}, Step.{after, IsLegal}}
 use Rattle.napi_model.specs.Step.{IsControl}

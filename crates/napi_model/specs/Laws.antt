@@ -1,5 +1,6 @@
 -- Laws of legal histories.
-use Rattle.{std.specs.Prelude.{◌≡◌, ℕ, Bool, true, false, nat_eq, List, [], ◌++◌}, napi_model.specs.declared.state.Place.Place}
+use Rattle.std.specs.Prelude.{◌≡◌, ℕ, Bool, true, false, nat_eq, List, [], ◌++◌}
+use Rattle.napi_model.specs.declared.state.Place.{Place}
 use Rattle.napi_model.specs.declared.state.{Place.TheVariants.{Nobody, Granted, Listed, ToThread, Polling, Control}, State.State}
 use Rattle.napi_model.specs.{declared.event.Event.Event, History.{LegalHistory, state_after, own}}
 

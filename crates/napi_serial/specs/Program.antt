@@ -1,5 +1,6 @@
 -- The serial tool: what it writes and how it ends, of the words after its name and the bytes of its input.
-use Rattle.{std.specs.Prelude.{◌≡◌, ℕ, List, Option, Some, None, Ok, Err}, replay_text.specs.{Outside.IsOutside, Program.IsFaultOf}}
+use Rattle.std.specs.Prelude.{◌≡◌, ℕ, List, Option, Some, None, Ok, Err}
+use Rattle.replay_text.specs.{Outside.IsOutside, Program.IsFaultOf}
 use Rattle.{replay_text.specs.{Program.IsTextBy, declared.program.ProgramFault.ProgramFault}, replay_words.specs.Words.{Text, asked_of}}
 use Rattle.replay_words.specs.{Words.serial_asked_for, declared.{mode.Mode.TheVariants.Serial, settings.Settings.Settings}}
 use Rattle.replay_rows.specs.Answer.{replay_of}

@@ -9,9 +9,11 @@ use Rattle.napi_word.proofs.{Keeps.again, Deliveries.{some_is, prefix_self, to_p
 use Rattle.{napi_word.proofs.Deliveries.{not_given, more_none, more_one}, rx_ring.specs.declared.{ends.RxCtx.RxCtx, packet.Packet.Packet}}
 use Rattle.{rx_ring.specs.Ends.{ring_name, received_list}, napi_model.specs.History.{IsLegalFor, state_after}}
 use Rattle.napi_model.specs.{declared.{state.{State.State as Napi, Place.Place, Seen.Seen}, event.Operation.Operation}, Step.event}
-use Rattle.{napi_model.{specs.{Step.{opening, seen_of, after_by}, Word.word_of}, proofs.Histories.state_after-snoc}, std.proofs.Common.◌≡◌}
+use Rattle.std.proofs.Common.{◌≡◌}
+use Rattle.napi_model.{specs.{Step.{opening, seen_of, after_by}, Word.word_of}, proofs.Histories.state_after-snoc}
 use Rattle.std.proofs.Common.{◌≢◌, ℕ, zero, set, length, [], ◌∷◌, ◌++◌, Option, Some, None, Bool, List, true, false, not, ◌&&◌, unwrap_or}
-use Rattle.{std.proofs.Common.{refl, sym, ap, ◌∙◌, subst, inr, true≢false, arith}, atomic_table.specs.Table.{Me, Act, keeps, takes, gives}}
+use Rattle.std.proofs.Common.{refl, sym, ap, ◌∙◌, subst, inr, true≢false, arith}
+use Rattle.atomic_table.specs.Table.{Me, Act, keeps, takes, gives}
 use Rattle.atomic_table.specs.Table.{rest, put_back, homes_after, carried_after, Valid, Allows}
 use mathlib.Core.{Option.{Option as Maybe, some-ne-none}, List.IsPrefix}
 use lib.ListN.{get_elem?}

@@ -1,6 +1,7 @@
 -- All strands of one seat catch up with the whole history by a look.
 use Rattle.std.proofs.Common.{◌≡◌, ◌≢◌, ℕ, zero, suc, List, [], ◌∷◌, ◌++◌, length, slice_get, Some, None, Bool, true, unwrap_or, is_some}
-use Rattle.{std.proofs.Common.{refl, sym, ap, ◌∙◌, subst, inr, arith, true≢false}, atomic_table.specs.Table.{Me, keeps, Allows}}
+use Rattle.std.proofs.Common.{refl, sym, ap, ◌∙◌, subst, inr, arith, true≢false}
+use Rattle.atomic_table.specs.Table.{Me, keeps, Allows}
 use Rattle.{atomic_table.proofs.Lists.at_longer, rx_ring.specs.{declared.{packet.Packet.Packet, ends.RxCtx.RxCtx}, Ends.received_list}}
 use Rattle.napi_model.specs.declared.{event.{Event.Event, Operation.TheVariants.Look}, state.{Seen.Seen, State.State as Napi, Place.Place}}
 use Rattle.napi_model.specs.{Step.{event, opening, seen_of}, History.{LegalHistory, state_after, own}, Laws.is_owner}

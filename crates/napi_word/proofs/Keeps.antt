@@ -8,7 +8,8 @@ use Rattle.napi_model.specs.{Laws.{IsSound, ThreadsIsHanded, IsControlled, is_ow
 use Rattle.napi_model.specs.{declared.{state.{State.State as Napi, Place.Place}, event.{Event.Event, Operation.Operation}}, Word.word_of}
 use Rattle.napi_model.proofs.Owners.{sound_after, opens_sound, ownership_kept, owner_kept, disable_kept, threads_after, opens_unthreaded}
 use Rattle.napi_model.proofs.{Owners.{controlled_after, opens_controlled}, Histories.{state_after-snoc, state_after-append, legal_snoc}}
-use Rattle.{napi_model.proofs.Histories.{legal_front, legal_back}, std.proofs.Common.{◌≡◌, ◌≢◌, ℕ, zero, suc, List, [], ◌∷◌, ◌++◌, get_or}}
+use Rattle.std.proofs.Common.{◌≡◌, ◌≢◌, ℕ, zero, suc, List, [], ◌∷◌, ◌++◌, get_or}
+use Rattle.napi_model.proofs.Histories.{legal_front, legal_back}
 use Rattle.std.proofs.Common.{set, Option, Some, None, Bool, true, false, is_some, unwrap_or, refl, sym, ap, ◌∙◌, subst, ⊎_elim, arith}
 use Rattle.{std.proofs.Common.true≢false, atomic_table.{proofs.Lists.{at_set, set_again}, specs.Table.State}}
 use lib.ListN.{get_elem?}

@@ -1,5 +1,6 @@
 -- What a pass that took in a note shows after its next step.
-use Rattle.{std.proofs.Common.{◌≡◌, List, [], ◌∷◌, length, true, refl, sym, subst, true≢false}, atomic_table.proofs.Lists.at_longer}
+use Rattle.std.proofs.Common.{◌≡◌, List, [], ◌∷◌, length, true, refl, sym, subst, true≢false}
+use Rattle.atomic_table.proofs.Lists.{at_longer}
 use Rattle.{atomic_table.{proofs.Lists.at_last, specs.Table.Me}, napi_model.specs.declared.event.{Event.Event, Operation.Operation}}
 use Rattle.{napi_model.specs.Step.event, napi_word.specs.{View.{View, is_pass, number_of, shown}, Rule.{note, note_of, joined}}}
 use Rattle.napi_word.{specs.{Events.Steps, Slot.{Content, Carried, stays, Delivers}}, proofs.Owns.begins_more}

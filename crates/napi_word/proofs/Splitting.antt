@@ -1,6 +1,7 @@
 -- Seats are split off and joined.
 use Rattle.std.proofs.Common.{◌≡◌, ◌≢◌, ◌⊎◌, ℕ, zero, suc, ◌+◌, ◌<◌, List, [], ◌∷◌, ◌++◌, length, set, Bool, true, cond, eqb, eq-eqb}
-use Rattle.{std.proofs.Common.{ne_eqb, refl, sym, ap, ◌∙◌, subst, inl, inr, ⊎_elim, arith}, atomic_table.specs.Table.{Splits, Joins}}
+use Rattle.std.proofs.Common.{ne_eqb, refl, sym, ap, ◌∙◌, subst, inl, inr, ⊎_elim, arith}
+use Rattle.atomic_table.specs.Table.{Splits, Joins}
 use Rattle.{atomic_table.proofs.Lists.{at_longer, at_set, at_snoc, set_again}, napi_model.specs.declared.event.Event.Event}
 use Rattle.napi_word.specs.{declared.view.{Key.Key, Strand.Strand, Delivery.Delivery}, View.{View, is_pass}}
 use Rattle.napi_word.specs.Rule.{Fits, Kept, Holding, left_of, right_of, note, note_of, joined, spent}

@@ -12,7 +12,8 @@ use Rattle.napi_word.specs.{declared.{view.Holds.Holds, table.{Pass.Pass, StateT
 use Rattle.napi_word.specs.{Slot.{owns_slot, Tied, Moves, stays, taken, given, Gives, Delivers}, Passes.{tie_of, IsWithin, HandsOver}}
 use Rattle.napi_word.specs.{Passes.{HasPoll, Polls, IsController, Controls, IsNoOwner, Disable}, Atoms.{MayMake, MayExchange}, Told.Did}
 use Rattle.napi_word.specs.{Told.{when, either_op, no_move, load_op, prep_of, done_of, is_marked, is_busy, busy_op}, View.{View, number_of}}
-use Rattle.{napi_word.specs.View.{controller_of, place_in}, std.proofs.Common.{◌≡◌, ◌⊎◌, ℕ, eqb, eq-eqb, None, Bool, true, false}}
+use Rattle.std.proofs.Common.{◌≡◌, ◌⊎◌, ℕ, eqb, eq-eqb, None, Bool, true, false}
+use Rattle.napi_word.specs.View.{controller_of, place_in}
 use Rattle.std.proofs.{Common.{refl, sym, ap, ◌∙◌, subst, inl, inr, ⊎_elim, true≢false, bit_and, bit_or}, lemmas.Bool.{eqb-true, or_cases}}
 use prog.Atomic.{either}
 use Rattle.napi_model.specs.Step as step

@@ -1,6 +1,7 @@
 -- When an atomic step may be made: at every state of the table that the seat's view allows, it is a legal step, and what it
 -- makes of the word is the word of the state after.
-use Rattle.{std.specs.Prelude.{ℕ, ◌==◌}, atomic_table.specs.{Table.Allows, declared.shared.Seat.Seat}}
+use Rattle.std.specs.Prelude.{ℕ, ◌==◌}
+use Rattle.atomic_table.specs.{Table.Allows, declared.shared.Seat.Seat}
 use Rattle.napi_model.specs.{declared.{state.Seen.Seen, event.Operation.Operation}, Step.seen_after, Word.word_of}
 use Rattle.napi_word.specs.{declared.table.StateTable.StateTable, View.View, Slot.{Content, Moves}, Rule.Holding, Told.{told, exchanged}}
 use prog.Atomic.{either}

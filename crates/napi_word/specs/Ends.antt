@@ -1,6 +1,7 @@
 -- A table that has ended: the one history, read off.
 use Rattle.std.specs.Prelude.{◌≡◌, ◌↔◌, ℕ, ◌<◌, ◌≤◌, ◌+◌, Bool, true, false, List, length, slice_get, Option, Some, None, ◌≢◌, [], ◌∷◌}
-use Rattle.{std.specs.Prelude.◌++◌, rx_ring.specs.{declared.ends.RxCtx.RxCtx, Ends.{RingName, ring_name, received_list, SameCtx}}}
+use Rattle.std.specs.Prelude.{◌++◌}
+use Rattle.rx_ring.specs.{declared.ends.RxCtx.RxCtx, Ends.{RingName, ring_name, received_list, SameCtx}}
 use Rattle.napi_model.specs.{declared.event.Event.Event, Step.opening, History.{LegalHistory, state_after, own}, Laws.is_owner}
 use Rattle.napi_word.specs.declared.{view.{Holds.{Holds, TheVariants.{Nothing, Within, Out}}, Delivery.Delivery}, gathering.Found.Found}
 use Rattle.napi_word.specs.{declared.{gathering.Gathering.Gathering, table.{Pass.Pass, StateTable.StateTable}}, View.{View, first_in}}

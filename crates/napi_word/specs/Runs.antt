@@ -1,5 +1,6 @@
 -- What the tests' runs show at their end.
-use Rattle.{std.specs.Prelude.{◌≡◌, List}, napi_model.specs.{declared.event.Event.Event, Step.opening, History.{LegalHistory, own}}}
+use Rattle.std.specs.Prelude.{◌≡◌, List}
+use Rattle.napi_model.specs.{declared.event.Event.Event, Step.opening, History.{LegalHistory, own}}
 
 -- one legal history of callers 0 and 1 and the controller 2 has these own lists
 pub record HasOwnLists (first second control : List Event) : Type 0 where

@@ -1,5 +1,6 @@
 -- A survey: all passes of a table meet at once, and one of them looks. Then each shows the whole history and all deliveries.
-use Rattle.{std.specs.Prelude.{◌≡◌, ℕ, ◌<◌, true, List, [], ◌∷◌, ◌++◌, slice_get, Some}, atomic_table.specs.Table.Me}
+use Rattle.std.specs.Prelude.{◌≡◌, ℕ, ◌<◌, true, List, [], ◌∷◌, ◌++◌, slice_get, Some}
+use Rattle.atomic_table.specs.Table.{Me}
 use Rattle.{rx_ring.specs.declared.ends.RxCtx.RxCtx, napi_model.specs.declared.{state.Seen.Seen, event.Event.Event}}
 use Rattle.napi_model.specs.{declared.event.Operation.TheVariants.Look, Step.{event, opening, seen_of}, Word.word_of, History.LegalHistory}
 use Rattle.{napi_model.specs.{History.{state_after, own}, Laws.is_owner}, napi_word.specs.declared.view.{Strand.Strand, Delivery.Delivery}}

@@ -1,5 +1,6 @@
 -- What each step's operation and its move of the slot are, told by the word that it finds.
-use Rattle.{std.specs.Prelude.{◌≡◌, ℕ, ◌==◌, Bool, true, false, ◌||◌, [], Option, Some, None}, atomic_table.specs.Table.Me}
+use Rattle.std.specs.Prelude.{◌≡◌, ℕ, ◌==◌, Bool, true, false, ◌||◌, [], Option, Some, None}
+use Rattle.atomic_table.specs.Table.{Me}
 use Rattle.napi_model.specs.declared.{state.{Kind.Kind, Seen.Seen}, event.{Prep.Prep, Done.{Done, TheVariants.{Released, Again}}}}
 use Rattle.napi_model.specs.{declared.event.Operation.{Operation, TheVariants.{Look, Schedule, TakeDisable}}, Word.word_of}
 use Rattle.napi_word.specs.{declared.view.Holds.Holds, View.View, Slot.{Content, Tied, Moves, stays, moved, Delivers}, Rule.begun_view}

@@ -1,8 +1,10 @@
 -- How a closed instance tells of what was done with it.
 use Rattle.{napi_word.specs.{View.{deliverers, packets_of}, Slot.givers}, poll_interrupts.specs.Ends.{AreFinishesOf, IsEndedBy, IsFinishOf}}
 use Rattle.napi_calls.specs.{declared.{types.{Caller.Caller, Napi.Napi}, kept.Kept.Kept}, Closed.{IsClosed, IsHistoryOf, seats_of}}
-use Rattle.{napi_calls.specs.{Instance.{callers_of, first_of_instance}, Seats.{number_of, own_list}}, std.proofs.Common.{◌≡◌, List, []}}
-use Rattle.{std.proofs.Common.{◌∷◌, ◌++◌, refl, ap, ◌∙◌, subst}, napi_model.specs.{History.own, Step.opening}}
+use Rattle.std.proofs.Common.{◌≡◌, List, []}
+use Rattle.napi_calls.specs.{Instance.{callers_of, first_of_instance}, Seats.{number_of, own_list}}
+use Rattle.std.proofs.Common.{◌∷◌, ◌++◌, refl, ap, ◌∙◌, subst}
+use Rattle.napi_model.specs.{History.own, Step.opening}
 use Rattle.{poll_tasks.specs.declared.tasks.Turned.Turned, rx_ring.specs.declared.{ends.{RxIn.RxIn, RxCtx.RxCtx}, packet.Packet.Packet}}
 use Rattle.rx_ring.specs.{declared.packet.Totals.Totals, Ends.{put_list, received_list, ring_of}, ReceiveRing.{IsInOrder, totals_of}}
 use Rattle.poll_interrupts.specs.{declared.{worker.Seats.Seats, station.Finished.Finished, job.Worked.Worked}, Runs.controller_number}

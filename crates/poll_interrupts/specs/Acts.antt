@@ -1,5 +1,6 @@
 -- What a device's acts come to.
-use Rattle.{std.specs.Prelude.{ℕ, zero, suc, List, [], ◌∷◌, ◌++◌}, rx_ring.specs.declared.packet.Packet.Packet}
+use Rattle.std.specs.Prelude.{ℕ, zero, suc, List, [], ◌∷◌, ◌++◌}
+use Rattle.rx_ring.specs.declared.packet.Packet.{Packet}
 use Rattle.poll_interrupts.specs.declared.acts.Act.{Act, TheVariants.Arrive}
 
 -- the device after its first n acts, each once and in order

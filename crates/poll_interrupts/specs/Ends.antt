@@ -1,5 +1,6 @@
 -- How a station ends.
-use Rattle.{std.specs.Prelude.{◌≡◌, ◌+◌, ◌<◌, ◌^◌, List, [], ◌∷◌, length}, rx_ring.specs.declared.packet.{Packet.Packet, Totals.Totals}}
+use Rattle.std.specs.Prelude.{◌≡◌, ◌+◌, ◌<◌, ◌^◌, List, [], ◌∷◌, length}
+use Rattle.rx_ring.specs.declared.packet.{Packet.Packet, Totals.Totals}
 use Rattle.{rx_ring.specs.{Ends.put_list, ReceiveRing.{bytes_of, capped}}, napi_model.specs.{declared.event.Event.Event, History.own}}
 use Rattle.napi_calls.specs.{Seats.{number_of, own_list}, declared.{kept.Kept.Kept, types.Caller.Caller}, Instance.IsSeatOf}
 use Rattle.{poll_tasks.specs.declared.tasks.Turned.Turned, poll_interrupts.specs.declared.{opening.Placed.Placed, job.Worked.Worked}}

@@ -1,7 +1,8 @@
 -- The instances of stations.
 use Rattle.poll_interrupts.specs.{Runs.{controller_number, poller_number, thread_number}, declared.station.Station.Station}
 use Rattle.poll_interrupts.specs.{declared.opening.{Placed.Placed, Loose.Loose}, Seats.{AreSeatsOf, AreUnused, IsUnused}}
-use Rattle.{std.specs.Prelude.{◌≡◌, ◌≤◌, [], is_some, vec_len, vec_capacity}, napi_calls.specs.declared.{types.Napi.Napi, kept.Kept.Kept}}
+use Rattle.std.specs.Prelude.{◌≡◌, ◌≤◌, [], is_some, vec_len, vec_capacity}
+use Rattle.napi_calls.specs.declared.{types.Napi.Napi, kept.Kept.Kept}
 use Rattle.napi_calls.specs.{Seats.number_of, Instance.{IsSeatOf, callers_of, first_of_instance, ring_of_instance}}
 use Rattle.rx_ring.specs.{Ends.{IsOneRing, capacity_of, put_list, received_list, ring_name}, declared.ends.{RxCtx.RxCtx, RxIn.RxIn}}
 

@@ -1,5 +1,6 @@
 -- Whose instance the seats are of that a thread has.
-use Rattle.{std.specs.Prelude.{◌≡◌, ℕ, []}, napi_calls.specs.{declared.types.{Caller.Caller, Napi.Napi}, Instance.IsSeatOf}}
+use Rattle.std.specs.Prelude.{◌≡◌, ℕ, []}
+use Rattle.napi_calls.specs.{declared.types.{Caller.Caller, Napi.Napi}, Instance.IsSeatOf}
 use Rattle.{napi_calls.specs.Seats.{number_of, own_list}, poll_interrupts.specs.declared.worker.Power.{Power, TheVariants.{On, Off}}}
 use Rattle.poll_interrupts.specs.{declared.worker.{Hold.Hold, Seats.Seats}, Runs.{controller_number, worker_number}}
 

@@ -1,5 +1,6 @@
 -- What a worker promises of its own station.
-use Rattle.{std.specs.Prelude.{◌≡◌, ℕ, ◌+◌, ◌≤◌, ◌++◌, Bool, true, false, length}, rx_ring.specs.{declared.ends.RxIn.RxIn, Ends.SameIn}}
+use Rattle.std.specs.Prelude.{◌≡◌, ℕ, ◌+◌, ◌≤◌, ◌++◌, Bool, true, false, length}
+use Rattle.rx_ring.specs.{declared.ends.RxIn.RxIn, Ends.SameIn}
 use Rattle.{rx_ring.specs.Ends.{capacity_of, put_list}, napi_calls.specs.{declared.types.Napi.Napi, Seats.{number_of, own_list}}}
 use Rattle.poll_interrupts.specs.{declared.{acts.Act.Act, worker.{Seats.Seats, Work.Work, Done.Done}, job.Worked.Worked}, Acts.after_acts}
 use Rattle.poll_interrupts.specs.{Acts.arrivals, Calls.Lists, Runs.{Ledger, Whose, WorksBy}, Seats.AreSeatsOf}

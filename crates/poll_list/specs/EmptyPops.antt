@@ -1,5 +1,6 @@
 -- How often the poller of a shared list found its queue empty.
-use Rattle.{std.specs.Prelude.{◌≡◌, ℕ, ◌+◌, ◌%◌, ◌^◌}, poll_list.specs.declared.pops.Pops.Pops}
+use Rattle.std.specs.Prelude.{◌≡◌, ℕ, ◌+◌, ◌%◌, ◌^◌}
+use Rattle.poll_list.specs.declared.pops.Pops.{Pops}
 
 -- how many pops found the queue empty, as a word counts them
 abbrev pub found_empty : Pops → ℕ

@@ -1,5 +1,6 @@
 -- What a contract sees of a shared poll list and of the ends that push to it.
-use Rattle.{crossbeam_queue.specs.Passes.view, std.specs.Prelude.{◌≡◌, ℕ, ◌+◌, ◌<◌, ◌≤◌, List, [], ◌++◌, map, length, slice_index_or, ◌⊎◌}}
+use Rattle.std.specs.Prelude.{◌≡◌, ℕ, ◌+◌, ◌<◌, ◌≤◌, List, [], ◌++◌, map, length, slice_index_or, ◌⊎◌}
+use Rattle.crossbeam_queue.specs.Passes.{view}
 use Rattle.{std.specs.List.All, poll_list.specs.declared.{list_in.ListIn.ListIn, shared.SharedList.SharedList, list_rule.Returned.Returned}}
 use Rattle.poll_list.specs.{PushOrder.{Push, returned_end, ids_of, pushes_by, IsReturned, WasEmpty, returned_pushes}, EmptyPops.CountsOne}
 

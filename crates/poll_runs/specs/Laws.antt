@@ -1,5 +1,6 @@
 -- Laws of runs over a list of one thread.
-use Rattle.{std.specs.Prelude.{◌≡◌, ℕ, ◌≤◌, List, [], ◌∷◌, ◌++◌, length, take, drop}, poll_runs.specs.Plain.{NothingBehind, OwnPushes}}
+use Rattle.std.specs.Prelude.{◌≡◌, ℕ, ◌≤◌, List, [], ◌∷◌, ◌++◌, length, take, drop}
+use Rattle.poll_runs.specs.Plain.{NothingBehind, OwnPushes}
 use Rattle.poll_runs.specs.{Plain.all_held, Polls.{At, Chain, Poll, arrivals, ids, repolled}, Run.IsRun, declared.bench.Once.Once}
 use Rattle.poll_runs.specs.declared.run.RunReport.{RunReport}
 

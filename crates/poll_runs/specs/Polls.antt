@@ -1,5 +1,6 @@
 -- Polls, and what lists of them come to.
-use Rattle.{std.specs.Prelude.{◌≡◌, ℕ, Bool, true, false, List, [], ◌∷◌, map, filter, sum_by}, poll_runs.specs.declared.bench.Next.Next}
+use Rattle.std.specs.Prelude.{◌≡◌, ℕ, Bool, true, false, List, [], ◌∷◌, map, filter, sum_by}
+use Rattle.poll_runs.specs.declared.bench.Next.{Next}
 use Rattle.poll_runs.specs.declared.bench.{Next.TheVariants.{Absent, Gone, Again, Repoll}, Once.Once}
 use Rattle.napi_model.specs.declared.state.Kind.TheVariants as kind
 

@@ -1,5 +1,6 @@
 -- What the calls of a driven run make of the run and of its list, one by one.
-use Rattle.{std.specs.Prelude.{◌≡◌, ℕ, nat_le, ◌||◌, Bool, List, [], ◌∷◌, Option, None, MatchOption}, poll_runs.specs.Turn.{Refills, Takes}}
+use Rattle.std.specs.Prelude.{◌≡◌, ℕ, nat_le, ◌||◌, Bool, List, [], ◌∷◌, Option, None, MatchOption}
+use Rattle.poll_runs.specs.Turn.{Refills, Takes}
 use Rattle.poll_runs.specs.declared.polling_run.PollingRun.{PollingRun}
 
 -- the work so far meets the budget, or the polls so far meet the window

@@ -1,6 +1,7 @@
 -- What polls, runs and turns keep of a poller's seats.
 use Rattle.std.proofs.Common.{◌≡◌, ◌∙◌, ℕ, zero, suc, ◌<◌, Bool, List, [], ◌∷◌, Option, Some, None, length, refl, sym, ap, subst, vec_items}
-use Rattle.{std.{proofs.Common.{set, get_or, arith}, specs.Prelude.{◌==◌, MatchOption, position}}, poll_runs.specs.Polls.{At, Chain, Poll}}
+use Rattle.std.{proofs.Common.{set, get_or, arith}, specs.Prelude.{◌==◌, MatchOption, position}}
+use Rattle.poll_runs.specs.Polls.{At, Chain, Poll}
 use Rattle.{poll_runs.specs.declared.bench.Once.Once, poll_seats.specs.declared.{seat.Seat.Seat, poller.{Crowd.Crowd, Poller.Poller}}}
 use Rattle.poll_seats.specs.{declared.thread_poller.Alone.Alone, SeatKeeping.{AreSameSeats, IsSameSeat}, Crowds.{IsNowhere, IsPolledAt}}
 use Rattle.poll_seats.specs.{Crowds.PollsSeat, Serving.IsServed, Turns.{TurnsAlone, TurnsByRun}}

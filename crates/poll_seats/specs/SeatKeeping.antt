@@ -1,5 +1,6 @@
 -- A poller's seats, which stay at their instances.
-use Rattle.{std.specs.{Prelude.{◌≡◌, List, Some, IsSome}, List.AllZip}, napi_calls.specs.declared.{kept.Kept.Kept, types.Caller.Caller}}
+use Rattle.std.specs.{Prelude.{◌≡◌, List, Some, IsSome}, List.AllZip}
+use Rattle.napi_calls.specs.declared.{kept.Kept.Kept, types.Caller.Caller}
 use Rattle.{napi_calls.specs.Instance.IsSeatOf, poll_seats.specs.declared.seat.Seat.Seat}
 
 -- the seat is at the same instance, with the same bell, and its caller is there again

@@ -1,5 +1,6 @@
 -- A turn of a poller, and one of the thread of an instance.
-use Rattle.{std.specs.Prelude.{◌≡◌, ◌++◌, Bool, List, nat_lt}, poll_list.specs.SharedList.{IsAllPopped, PopsCame, in_hand, pushed_by}}
+use Rattle.std.specs.Prelude.{◌≡◌, ◌++◌, Bool, List, nat_lt}
+use Rattle.poll_list.specs.SharedList.{IsAllPopped, PopsCame, in_hand, pushed_by}
 use Rattle.poll_runs.specs.{Polls.{At, Chain, Poll}, Run.IsRun, declared.{bench.ThreadReport.ThreadReport, run.RunReport.RunReport}}
 use Rattle.poll_seats.specs.{declared.{poller.Poller.Poller, thread_poller.Alone.Alone}, Crowds.PollsSeat, Polled.PollsByThread}
 use Rattle.poll_seats.specs.{Polled.handed_on, SeatKeeping.IsSameSeat}

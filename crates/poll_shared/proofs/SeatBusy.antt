@@ -6,10 +6,12 @@ use Rattle.poll_shared.{specs.declared.seat.Seat.Seat, proofs.{SeatPolling.{same
 use Rattle.poll_runs.specs.{Polls.Chain, declared.bench.{BusyReport.BusyReport, Next.{Next, TheVariants.{Absent, Gone, Again, Repoll}}}}
 use Rattle.poll_runs.specs.{Polling.is_absent, BusyPolling.{Given, busy_report, is_below, no_report}}
 use Rattle.napi_model.specs.declared.{state.Kind.Kind, event.Operation.{Operation, TheVariants.{Look, Hand, Complete, BusyTake, BusyStop}}}
-use Rattle.{napi_model.specs.declared.event.{Done.Done, Call.Call}, std.proofs.Common.{◌≡◌, ◌≢◌, ◌∙◌, ℕ, ◌+◌, ◌≤◌, Bool, true, false, List}}
+use Rattle.std.proofs.Common.{◌≡◌, ◌≢◌, ◌∙◌, ℕ, ◌+◌, ◌≤◌, Bool, true, false, List}
+use Rattle.napi_model.specs.declared.event.{Done.Done, Call.Call}
 use Rattle.std.proofs.Common.{[], ◌∷◌, ◌++◌, append_assoc, append-nil, MatchBool, ap, arith, flat_map, length, length-append, map, refl}
 use Rattle.std.proofs.{Common.{sym, subst}, lemmas.List.{Sums.{sum-map, sum_by-append, sum_by-cons}, Elements.filter-append}}
-use Rattle.{std.specs.{List.AllByRecursion, Prelude.{filter, if◌then◌else◌, nat_lt, sum_by}}, napi_calls.specs.Made.{Lost, Made, looks}}
+use Rattle.std.specs.{List.AllByRecursion, Prelude.{filter, if◌then◌else◌, nat_lt, sum_by}}
+use Rattle.napi_calls.specs.Made.{Lost, Made, looks}
 use Rattle.rx_ring.specs.{declared.packet.Packet.Packet, ReceiveRing.bytes_of}
 use Rattle.napi_model.specs.declared.state.Kind.TheVariants as kind
 use Rattle.napi_model.specs.declared.event.Done.TheVariants as done

@@ -1,5 +1,6 @@
 -- What the calls of a caller's seat at a shared instance do.
-use Rattle.{std.specs.Prelude.{◌≡◌, ℕ, Bool, List, [], ◌∷◌, ◌++◌, length, Option, Some, None}, rx_ring.specs.declared.ends.RxCtx.RxCtx}
+use Rattle.std.specs.Prelude.{◌≡◌, ℕ, Bool, List, [], ◌∷◌, ◌++◌, length, Option, Some, None}
+use Rattle.rx_ring.specs.declared.ends.RxCtx.{RxCtx}
 use Rattle.{rx_ring.specs.{declared.packet.Packet.Packet, Ends.GivesNext}, napi_model.specs.declared.state.{Kind.Kind, Seen.Seen}}
 use Rattle.napi_model.specs.declared.event.{Operation.{Operation, TheVariants.{Look, Hand, Take, Complete}}, Done.TheVariants.Held}
 use Rattle.{napi_word.specs.{declared.table.Pass.Pass, View.packets_of}, napi_calls.specs.{declared.types.Napi.Napi, Instance.IsSeatOf}}

@@ -1,5 +1,6 @@
 -- The numbers of a run.
-use Rattle.{std.specs.Prelude.◌≤◌, poll_tasks.specs.declared.pace.Pace.Pace}
+use Rattle.std.specs.Prelude.{◌≤◌}
+use Rattle.poll_tasks.specs.declared.pace.Pace.{Pace}
 
 -- the numbers of a run are in their ranges
 pub record IsLawful (pace : Pace) : Type 0 where

@@ -1,5 +1,6 @@
 -- A task that was begun.
-use Rattle.{std.specs.{Prelude.{◌≡◌, ℕ, ◌≤◌, vec_len, vec_capacity}, Global.Vec, List.All}, poll_tasks.specs.declared.tasks.Begun.Begun}
+use Rattle.std.specs.{Prelude.{◌≡◌, ℕ, ◌≤◌, vec_len, vec_capacity}, Global.Vec, List.All}
+use Rattle.poll_tasks.specs.declared.tasks.Begun.{Begun}
 use Rattle.poll_tasks.specs.declared.tasks.Begun.TheVariants.{Running, Ended}
 
 -- what was begun is the task, or what it gave

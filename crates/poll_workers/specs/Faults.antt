@@ -1,6 +1,7 @@
 -- Why a run gave nothing, by number, and which fault is told.
 use Rattle.poll_workers.specs.declared.fault.{WorkFault.{WorkFault, TheVariants.{OutOfMemory, GateShut, SpawnFailed}}, Stop.Stop}
-use Rattle.{poll_workers.specs.declared.fault.Stop.TheVariants.{Memory, Short}, std.specs.Prelude.{ℕ, Bool, Result, Ok, Err, if◌then◌else◌}}
+use Rattle.std.specs.Prelude.{ℕ, Bool, Result, Ok, Err, if◌then◌else◌}
+use Rattle.poll_workers.specs.declared.fault.Stop.TheVariants.{Memory, Short}
 
 abbrev pub number_of : WorkFault → ℕ
 number_of OutOfMemory = 1

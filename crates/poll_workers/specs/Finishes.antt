@@ -1,5 +1,6 @@
 -- What a run comes to.
-use Rattle.{std.specs.Prelude.{◌≡◌, ℕ, ◌+◌, ◌≤◌, is_some, length}, rx_ring.specs.ReceiveRing.{bytes_of, capped}}
+use Rattle.std.specs.Prelude.{◌≡◌, ℕ, ◌+◌, ◌≤◌, is_some, length}
+use Rattle.rx_ring.specs.ReceiveRing.{bytes_of, capped}
 use Rattle.{napi_calls.specs.declared.{kept.Kept.Kept, types.Napi.Napi}, poll_interrupts.specs.declared.{acts.Act.Act, opening.Loose.Loose}}
 use Rattle.poll_interrupts.specs.declared.{job.Worked.Worked, worker.Work.Work, station.{Finished.Finished, Station.Station}}
 use Rattle.poll_interrupts.specs.{Acts.{after_acts, arrivals}, Runs.HasRun, Works.IsWorkOf}

@@ -1,5 +1,6 @@
 -- What goes to the threads of stations.
-use Rattle.{std.specs.Prelude.{◌≡◌, IsSome, Some, is_some, option_copied, option_map, ◌≤◌}, napi_calls.specs.declared.kept.Kept.Kept}
+use Rattle.std.specs.Prelude.{◌≡◌, IsSome, Some, is_some, option_copied, option_map, ◌≤◌}
+use Rattle.napi_calls.specs.declared.kept.Kept.{Kept}
 use Rattle.{napi_calls.specs.Instance.IsSeatOf, poll_interrupts.specs.declared.{opening.{Placed.Placed, Loose.Loose}, job.Job.Job}}
 use Rattle.{poll_interrupts.specs.Seats.AreSeatsOf, poll_seats.specs.declared.{seat.Seat.Seat, thread_poller.ThreadSide.ThreadSide}}
 use Rattle.poll_tasks.specs.{declared.pace.Setting.Setting, Paces.IsLawful}

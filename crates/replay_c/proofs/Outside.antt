@@ -1,5 +1,6 @@
 -- A fault whose status is that of a bad trace is no fault from outside.
-use Rattle.{std.proofs.Common.{◌≡◌, ◌≢◌, ◌⊎◌, inl, inr, refl, subst, arith}, device_rows.specs.declared.fault.TraceFault.TraceFault}
+use Rattle.std.proofs.Common.{◌≡◌, ◌≢◌, ◌⊎◌, inl, inr, refl, subst, arith}
+use Rattle.device_rows.specs.declared.fault.TraceFault.{TraceFault}
 use Rattle.replay_text.specs.{Outside.IsOutside, declared.fault.ReplayFault.ReplayFault}
 use Rattle.replay_text.specs.declared.fault.ReplayFault.TheVariants.{Trace, Pending, RingTooSmall, GateShut, OutputFailed, SpawnFailed}
 use Rattle.device_rows.specs.declared.fault.TraceFault.TheVariants.{BadHeader, BadFields, BadNumber, BadEvent, OutOfRange, UnknownDevice}

@@ -1,7 +1,8 @@
 -- How one more row carries a replay on.
 use Rattle.std.proofs.Common.{◌≡◌, ◌∙◌, ℕ, zero, suc, ◌+◌, ◌<◌, Bool, true, false, Ok, Err, inl, inr, List, [], ◌∷◌, ◌++◌, length}
 use Rattle.std.proofs.{Common.{append_assoc, take, drop, get_or, ap, refl, sym, arith}, lemmas.List.{length-take, take_more}}
-use Rattle.{std.specs.Prelude.{◌⊎◌, IfErr, Result, if◌then◌else◌}, device_transmit.specs.Transmits.Transmits}
+use Rattle.std.specs.Prelude.{◌⊎◌, IfErr, Result, if◌then◌else◌}
+use Rattle.device_transmit.specs.Transmits.{Transmits}
 use Rattle.{device_rows.specs.declared.row.Row.Row, replay_rows.specs.Replay.{after_row, after_rows, is_early, start, after_all}}
 use Rattle.replay_rows.specs.{Report.{report_of, serial_report}, Transmits.{after_transmit, after_transmits, transmits_of}}
 use Rattle.{replay_rows.specs.ReplayState.ReplayState, replay_text.specs.declared.fault.ReplayFault.{ReplayFault, TheVariants.OutputFailed}}

@@ -1,5 +1,6 @@
 -- A replay whose first n rows were played, none of them refused, and what it tells.
-use Rattle.{std.specs.Prelude.{◌≡◌, ℕ, Bool, List, [], Option, None, Result, Ok, Err, take}, device_transmit.specs.Transmits.Transmits}
+use Rattle.std.specs.Prelude.{◌≡◌, ℕ, Bool, List, [], Option, None, Result, Ok, Err, take}
+use Rattle.device_transmit.specs.Transmits.{Transmits}
 use Rattle.{device_transmit.specs.Transmits.is_used, device_bench.specs.DeviceBench.{ShowsTransmits, devices_of}}
 use Rattle.{device_bench.specs.declared.counts.DeviceCounts.DeviceCounts, device_rows.specs.{Places.at, declared.row.Row.Row}}
 use Rattle.replay_rows.specs.{Played.state_in, Replay.after_all, Report.{counts_of, polled_by}, Transmits.transmits_of}

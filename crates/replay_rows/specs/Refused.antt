@@ -1,5 +1,6 @@
 -- Why the rows of a trace have no report.
-use Rattle.{std.specs.Prelude.{◌≡◌, ◌⊎◌, ℕ, true, List, Err}, device_rows.specs.declared.{event.Event.TheVariants.Enable, row.Row.Row}}
+use Rattle.std.specs.Prelude.{◌≡◌, ◌⊎◌, ℕ, true, List, Err}
+use Rattle.device_rows.specs.declared.{event.Event.TheVariants.Enable, row.Row.Row}
 use Rattle.{replay_rows.specs.{Replay.is_early, Report.serial_report, ReplayState.ReplayState}, replay_text.specs.Outside.IsWantOfMemory}
 use Rattle.replay_text.specs.declared.fault.ReplayFault.{ReplayFault, TheVariants.Pending}
 use Rattle.replay_words.specs.declared.settings.Settings.{Settings}

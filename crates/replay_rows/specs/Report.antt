@@ -1,6 +1,7 @@
 -- The report's text, word by word. See docs/FORMATS.md, "The report".
 use Rattle.std.specs.Prelude.{ℕ, zero, suc, ◌-◌, ◌==◌, Bool, length, slice_get, List, [], ◌∷◌, ◌++◌, Option, Some, None, Result, Ok, Err}
-use Rattle.{std.specs.Prelude.{codes, decimal, flat_map, if◌then◌else◌, sum_by}, device_transmit.specs.Transmits.{Transmits, is_used}}
+use Rattle.std.specs.Prelude.{codes, decimal, flat_map, if◌then◌else◌, sum_by}
+use Rattle.device_transmit.specs.Transmits.{Transmits, is_used}
 use Rattle.{device_transmit.specs.Transmits.tx_counts_of, device_bench.specs.Bench.{attached, counts_at}}
 use Rattle.device_bench.specs.declared.counts.{DeviceCounts.DeviceCounts, DeviceState.{DeviceState, TheVariants.{On, Off, Pending}}}
 use Rattle.{device_rows.specs.{Places.at, declared.row.Row.Row}, replay_rows.specs.{Replay.after_all, Transmits.transmits_of}}

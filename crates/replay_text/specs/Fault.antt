@@ -1,5 +1,6 @@
 -- The line, the number and the exit status of each fault. See docs/FORMATS.md, "Faults".
-use Rattle.{std.specs.Prelude.{ℕ, List, ◌++◌, codes, decimal}, device_rows.specs.Fault.number_of as trace_number}
+use Rattle.std.specs.Prelude.{ℕ, List, ◌++◌, codes, decimal}
+use Rattle.device_rows.specs.Fault.{number_of as trace_number}
 use Rattle.device_rows.specs.declared.fault.TraceFault.{TraceFault, TheVariants.{BadHeader, BadFields, BadNumber, BadEvent, OutOfRange}}
 use Rattle.device_rows.specs.declared.fault.TraceFault.TheVariants.{UnknownDevice, OpenTwice, WrongState, TooManyRows, ReadFailed}
 use Rattle.{device_rows.specs.declared.fault.TraceFault.TheVariants.OutOfMemory, replay_text.specs.declared.fault.ReplayFault.ReplayFault}

@@ -1,5 +1,6 @@
 -- Faults that no text has.
-use Rattle.{std.specs.Prelude.◌≡◌, device_rows.specs.{Failures.IsRefused, Source.IsReadFailure}}
+use Rattle.std.specs.Prelude.{◌≡◌}
+use Rattle.device_rows.specs.{Failures.IsRefused, Source.IsReadFailure}
 use Rattle.{device_rows.specs.declared.fault.TraceFault.TheVariants.OutOfMemory, replay_text.specs.Stops.HasStopped}
 use Rattle.replay_text.specs.declared.fault.ReplayFault.{ReplayFault, TheVariants.{Trace, Pending, RingTooSmall, GateShut, OutputFailed}}
 use Rattle.replay_text.specs.declared.fault.ReplayFault.TheVariants.{SpawnFailed}

@@ -1,6 +1,7 @@
 -- Stations in rising order of their numbers.
 use Rattle.std.{proofs.Common.{◌+◌, ◌<◌, Bool, true, false, List, [], ◌∷◌, ap, refl, arith}, specs.{Prelude.{◌==◌, filter}, List.AllZip}}
-use Rattle.{poll_interrupts.specs.declared.station.Station.Station, std.proofs.{lemmas.Grind.common_steps, Common.{◌≡◌, ◌∙◌, ℕ, zero, suc}}}
+use Rattle.std.proofs.{lemmas.Grind.common_steps, Common.{◌≡◌, ◌∙◌, ℕ, zero, suc}}
+use Rattle.poll_interrupts.specs.declared.station.Station.{Station}
 use Rattle.{std.specs.List.{list_any, range_with_len}, poll_workers.specs.Numbers.{are_distinct, have_distinct_numbers, numbers_of}}
 
 -- none of the numbers from here on is a lower one

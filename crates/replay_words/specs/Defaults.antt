@@ -1,5 +1,6 @@
 -- The settings where no word names another: one poller, and the kernel's budget and weight.
-use Rattle.{std.specs.Prelude.{ℕ, ◌≡◌}, replay_words.specs.declared.settings.Settings.Settings}
+use Rattle.std.specs.Prelude.{ℕ, ◌≡◌}
+use Rattle.replay_words.specs.declared.settings.Settings.{Settings}
 
 abbrev pub usual_pollers : ℕ
 usual_pollers = 1

@@ -1,5 +1,6 @@
 -- The name of a ring is all that tells it from others.
-use Rattle.{std.proofs.Common.{◌≡◌, ap}, rx_ring.specs.{Ends.{RingName, ring_name, SameCtx, NamesTellRings}, declared.ends.RxCtx.RxCtx}}
+use Rattle.std.proofs.Common.{◌≡◌, ap}
+use Rattle.rx_ring.specs.{Ends.{RingName, ring_name, SameCtx, NamesTellRings}, declared.ends.RxCtx.RxCtx}
 
 pub same_name : (a b : RxCtx) → ring_name b ≡ ring_name a → SameCtx a b
 same_name a b e = (

@@ -1,6 +1,7 @@
 -- A receive ring: packets are put in at one end, and polls give them out at the other, at most their weight each
 -- (`Documentation/networking/napi.rst`, the budget of a poll, and `__napi_poll` in `net/core/dev.c` of Linux 6.6).
-use Rattle.{std.specs.Prelude.{ℕ, ◌≡◌, ◌≤◌, ◌^◌, ◌-◌, List, ◌++◌, length, drop, map, sum, min}, rx_ring.specs.declared.packet.Packet.Packet}
+use Rattle.std.specs.Prelude.{ℕ, ◌≡◌, ◌≤◌, ◌^◌, ◌-◌, List, ◌++◌, length, drop, map, sum, min}
+use Rattle.rx_ring.specs.declared.packet.Packet.{Packet}
 use Rattle.rx_ring.specs.declared.packet.{RxCounts.RxCounts, Totals.Totals}
 use mathlib.Core.List.{IsPrefix}
 

@@ -1,7 +1,8 @@
 -- A transmit queue under a queue limit, after byte queue limits (`include/linux/netdevice.h`, Linux 6.6): packets are
 -- sent, complete in their order, and the limit over their bytes stops the queue and starts it.
 use Rattle.std.specs.Prelude.{ℕ, ◌+◌, ◌%◌, ◌^◌, Bool, false, ◌&&◌, List, [], ◌∷◌, ◌++◌, length, take, drop, sum, nat_eq, nat_lt, nat_le}
-use Rattle.{std.specs.Prelude.{int_lt, pos, Option, Some, None, if◌then◌else◌}, dql_core.specs.Bounds.{DQL_MAX_OBJECT, most_in_flight}}
+use Rattle.std.specs.Prelude.{int_lt, pos, Option, Some, None, if◌then◌else◌}
+use Rattle.dql_core.specs.Bounds.{DQL_MAX_OBJECT, most_in_flight}
 use Rattle.dql_core.specs.{Limit.{after_queued, after_completed, avail_of, in_flight_of}, declared.whole.Limit.Limit}
 use Rattle.tx_ring.specs.declared.event.{TxEvent.{TxEvent, TheVariants.{Send, Finish}}, TxFault.{TxFault, TheVariants.{Stopped, Full}}}
 use Rattle.tx_ring.specs.declared.event.{TxFault.TheVariants.{TooLarge, TooMuchInFlight, MoreThanSent}, TxState.TxState}

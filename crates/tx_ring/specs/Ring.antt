@@ -1,5 +1,6 @@
 -- What a `TxRing` shows of a transmit queue.
-use Rattle.{std.specs.Prelude.{◌≡◌, ◌≤◌, length, take, sum}, dql_core.specs.Dql.Shows, tx_ring.specs.Queue.{TransmitQueue, held_of}}
+use Rattle.std.specs.Prelude.{◌≡◌, ◌≤◌, length, take, sum}
+use Rattle.{dql_core.specs.Dql.Shows, tx_ring.specs.Queue.{TransmitQueue, held_of}}
 use Rattle.tx_ring.specs.declared.ring.TxRing.{TxRing}
 
 -- r shows the queue t: it holds its packets that aren't complete, and its limit shows the limit of t, which counts all of them

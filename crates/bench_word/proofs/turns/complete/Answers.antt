@@ -1,4 +1,5 @@
-use Rattle.{std.proofs.Common.{sym, subst, ◌∙◌, inl, inr}, napi_model.specs.declared.event.{Done.Done, Operation.TheVariants.Complete}}
+use Rattle.std.proofs.Common.{sym, subst, ◌∙◌, inl, inr}
+use Rattle.napi_model.specs.declared.event.{Done.Done, Operation.TheVariants.Complete}
 use Rattle.napi_word.{specs.{Events.Steps, Passes.view_of}, proofs.Knowing.{again_grants, look_polls, never_held}}
 use Rattle.bench_word.proofs.turns.complete.Goals as goal
 

@@ -1,4 +1,5 @@
-use Rattle.{std.proofs.Common.{Bool, false, sym, subst, ◌∙◌}, napi_model.specs.declared.event.Operation.TheVariants.Take}
+use Rattle.std.proofs.Common.{Bool, false, sym, subst, ◌∙◌}
+use Rattle.napi_model.specs.declared.event.Operation.TheVariants.{Take}
 use Rattle.napi_word.{specs.{Events.Steps, Passes.{view_of, HasPoll}}, proofs.Knowing.take_polls}
 use Rattle.napi_model.specs.declared.state.Kind.TheVariants as kind
 use Rattle.bench_word.proofs.turns.turn.Goals as goal

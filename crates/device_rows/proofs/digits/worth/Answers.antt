@@ -1,4 +1,5 @@
-use Rattle.{std.proofs.Common.{◌≡◌, rules, arith}, device_rows.specs.Digits.worth}
+use Rattle.std.proofs.Common.{◌≡◌, rules, arith}
+use Rattle.device_rows.specs.Digits.{worth}
 use Rattle.device_rows.proofs.digits.worth.Goals as goal
 
 pub returns-in_default : goal.returns-in_default

@@ -1,4 +1,5 @@
-use Rattle.{std.proofs.Common.{◌≡◌, ℕ, ◌<◌, ◌/◌, ◌%◌, length, slice_index_or}, device_rows.specs.Digits.worth}
+use Rattle.std.proofs.Common.{◌≡◌, ℕ, ◌<◌, ◌/◌, ◌%◌, length, slice_index_or}
+use Rattle.device_rows.specs.Digits.{worth}
 use Rattle.device_rows.proofs.digits.worths.Given as goal
 
 abbrev pub invariant-loop-at : goal.invariant-loop-at

@@ -1,4 +1,5 @@
-use Rattle.{std.proofs.Common.{◌≡◌, ◌<◌, ◌^◌, true, Some, rules}, device_rows.{specs.Record.event_of, proofs.ShortFacts.short-row}}
+use Rattle.std.proofs.Common.{◌≡◌, ◌<◌, ◌^◌, true, Some, rules}
+use Rattle.device_rows.{specs.Record.event_of, proofs.ShortFacts.short-row}
 use Rattle.device_rows.proofs.record.add_at.Goals as goal
 
 pub returns-clause-added : goal.returns-clause-added

@@ -1,4 +1,5 @@
-use Rattle.{std.proofs.Common.{◌<◌, rules, arith}, device_rows.proofs.NumeralFacts.fits}
+use Rattle.std.proofs.Common.{◌<◌, rules, arith}
+use Rattle.device_rows.proofs.NumeralFacts.{fits}
 use Rattle.device_rows.proofs.record.number_below_20.Goals as goal
 
 pub overflow_mul-number : goal.overflow_mul-number

@@ -1,4 +1,5 @@
-use Rattle.{std.proofs.Common.{◌≡◌, ℕ, ◌-◌, ◌≤◌, List, [], length, vec_capacity, vec_len}, csv.specs.Reading.{default_config, reader_state}}
+use Rattle.std.proofs.Common.{◌≡◌, ℕ, ◌-◌, ◌≤◌, List, [], length, vec_capacity, vec_len}
+use Rattle.csv.specs.Reading.{default_config, reader_state}
 use Rattle.{csv.specs.Reading.records_from, device_rows.specs.{Source.{IsOpen, StandsAt}, Switch.Tracks, Trace.{AcceptedAfter, rows_after}}}
 use Rattle.device_rows.proofs.trace.read_rows.Given as goal
 

@@ -1,4 +1,5 @@
-use Rattle.{std.proofs.Common.{◌≡◌, ◌-◌, [], replicate}, device_script.specs.Dealing.lists}
+use Rattle.std.proofs.Common.{◌≡◌, ◌-◌, [], replicate}
+use Rattle.device_script.specs.Dealing.{lists}
 use Rattle.device_script.proofs.dealing.no_scripts.Given as goal
 
 abbrev pub invariant-loop : goal.invariant-loop

@@ -1,4 +1,5 @@
-use Rattle.{std.proofs.Common.{◌≡◌, take}, device_script.specs.Script.openings_of}
+use Rattle.std.proofs.Common.{◌≡◌, take}
+use Rattle.device_script.specs.Script.{openings_of}
 use Rattle.device_script.proofs.dealing.openings_of.Given as goal
 
 abbrev pub invariant-loop-row : goal.invariant-loop-row

@@ -1,4 +1,5 @@
-use Rattle.{std.proofs.Common.{◌≡◌, take, vec_len}, device_script.specs.Dealing.{AreScripts, lists}}
+use Rattle.std.proofs.Common.{◌≡◌, take, vec_len}
+use Rattle.device_script.specs.Dealing.{AreScripts, lists}
 use Rattle.device_script.proofs.dealing.scripts_of.Given as goal
 
 abbrev pub invariant-loop-row : goal.invariant-loop-row

@@ -1,4 +1,5 @@
-use Rattle.{std.proofs.{Common.{◌∙◌, ap, slice_set, vec_items}, lemmas.List.map-set}, device_script.specs.Dealing.lists}
+use Rattle.std.proofs.{Common.{◌∙◌, ap, slice_set, vec_items}, lemmas.List.map-set}
+use Rattle.device_script.specs.Dealing.{lists}
 use Rattle.device_script.proofs.dealing.take_script.Goals as goal
 
 pub returns-clause-scripts : goal.returns-clause-scripts

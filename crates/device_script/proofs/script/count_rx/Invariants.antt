@@ -1,4 +1,5 @@
-use Rattle.{std.proofs.Common.{◌≡◌, ◌≤◌, length, take}, device_script.specs.Script.rx_of}
+use Rattle.std.proofs.Common.{◌≡◌, ◌≤◌, length, take}
+use Rattle.device_script.specs.Script.{rx_of}
 use Rattle.device_script.proofs.script.count_rx.Given as goal
 
 abbrev pub invariant-loop-row : goal.invariant-loop-row

@@ -1,4 +1,5 @@
-use Rattle.{std.{proofs.Common.{◌≡◌, None, take}, specs.List.find}, device_script.specs.Script.makes_threaded}
+use Rattle.std.{proofs.Common.{◌≡◌, None, take}, specs.List.find}
+use Rattle.device_script.specs.Script.{makes_threaded}
 use Rattle.device_script.proofs.script.has_thread.Given as goal
 
 abbrev pub invariant-loop-row : goal.invariant-loop-row

@@ -1,4 +1,5 @@
-use Rattle.{std.proofs.Common.{◌∙◌, sym, arith}, device_script.{specs.Script.opens, proofs.{Rows.{find-here, find-more}, ScriptFacts.none}}}
+use Rattle.std.proofs.Common.{◌∙◌, sym, arith}
+use Rattle.device_script.{specs.Script.opens, proofs.{Rows.{find-here, find-more}, ScriptFacts.none}}
 use Rattle.device_script.proofs.script.opening_of.Goals as goal
 
 pub returns-then-opens : goal.returns-then-opens

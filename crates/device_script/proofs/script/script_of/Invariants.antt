@@ -1,4 +1,5 @@
-use Rattle.{std.{proofs.Common.{◌≡◌, take}, specs.Prelude.filter}, device_script.specs.Script.is_act_of}
+use Rattle.std.{proofs.Common.{◌≡◌, take}, specs.Prelude.filter}
+use Rattle.device_script.specs.Script.{is_act_of}
 use Rattle.device_script.proofs.script.script_of.Given as goal
 
 abbrev pub invariant-loop-row : goal.invariant-loop-row

@@ -1,4 +1,5 @@
-use Rattle.{poll_shared.proofs.Joined.{hand_made, joined}, std.proofs.Common.{[], ◌∷◌, ◌++◌, ◌∙◌, flat_map, refl, true}}
+use Rattle.std.proofs.Common.{[], ◌∷◌, ◌++◌, ◌∙◌, flat_map, refl, true}
+use Rattle.poll_shared.proofs.Joined.{hand_made, joined}
 use Rattle.{napi_calls.specs.Made.looks, napi_model.specs.declared.event.{Operation.TheVariants.{Look, Schedule}, Prep.TheVariants.Granted}}
 use Rattle.device_shared.proofs.acting.ask.Goals as goal
 

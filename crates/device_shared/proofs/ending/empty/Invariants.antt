@@ -1,4 +1,5 @@
-use Rattle.{std.proofs.Common.{◌≡◌, ◌-◌, length}, rx_ring.specs.Ends.{IsOneRing, SameCtx, SameIn, put_list, received_list}}
+use Rattle.std.proofs.Common.{◌≡◌, ◌-◌, length}
+use Rattle.rx_ring.specs.Ends.{IsOneRing, SameCtx, SameIn, put_list, received_list}
 use Rattle.device_shared.proofs.ending.empty.Given as goal
 
 abbrev pub invariant-loop-batch : goal.invariant-loop-batch

@@ -1,4 +1,5 @@
-use Rattle.{std.proofs.Common.{◌∙◌}, device_shared.proofs.ReceivingFacts.{input_still, polls_between}}
+use Rattle.std.proofs.Common.{◌∙◌}
+use Rattle.device_shared.proofs.ReceivingFacts.{input_still, polls_between}
 use Rattle.device_shared.proofs.receiving.poll_busily.Goals as goal
 
 pub beside-requires-2 : goal.beside-requires-2

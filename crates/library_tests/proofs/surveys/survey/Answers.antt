@@ -1,4 +1,5 @@
-use Rattle.{std.proofs.Common.{[], ◌∷◌, ◌++◌, ◌∙◌, arith}, napi_model.specs.{declared.event.Operation.TheVariants.Look, Step.event}}
+use Rattle.std.proofs.Common.{[], ◌∷◌, ◌++◌, ◌∙◌, arith}
+use Rattle.napi_model.specs.{declared.event.Operation.TheVariants.Look, Step.event}
 use Rattle.napi_word.specs.View.{mine, number_of}
 use Rattle.library_tests.proofs.surveys.survey.Goals as goal
 

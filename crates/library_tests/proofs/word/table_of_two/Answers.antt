@@ -1,4 +1,5 @@
-use Rattle.{std.proofs.Common.{◌≡◌, List, [], ◌∷◌, ◌++◌, length, slice_get, sym, ap, ◌∙◌}, napi_word.specs.declared.table.Pass.Pass}
+use Rattle.std.proofs.Common.{◌≡◌, List, [], ◌∷◌, ◌++◌, length, slice_get, sym, ap, ◌∙◌}
+use Rattle.napi_word.specs.declared.table.Pass.{Pass}
 use Rattle.library_tests.proofs.Popped.{none_left}
 use Rattle.library_tests.proofs.word.table_of_two.Goals as goal
 

@@ -1,4 +1,5 @@
-use Rattle.{std.proofs.Common.{◌≡◌, drop}, machine_model.specs.Waits.first_with}
+use Rattle.std.proofs.Common.{◌≡◌, drop}
+use Rattle.machine_model.specs.Waits.{first_with}
 use Rattle.machine_model.proofs.waits.first_with.Given as goal
 
 abbrev pub invariant-loop-bucket : goal.invariant-loop-bucket

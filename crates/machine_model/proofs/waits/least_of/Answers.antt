@@ -1,4 +1,5 @@
-use Rattle.{std.proofs.Common.{◌∙◌, ◌-◌, ◌*◌, refl, arith}, machine_model.proofs.WaitFacts.least-fits}
+use Rattle.std.proofs.Common.{◌∙◌, ◌-◌, ◌*◌, refl, arith}
+use Rattle.machine_model.proofs.WaitFacts.{least-fits}
 use Rattle.machine_model.proofs.waits.least_of.Goals as goal
 
 pub returns : goal.returns

@@ -1,4 +1,5 @@
-use Rattle.{std.proofs.Common.{◌∙◌, ◌*◌, ◌≤◌, arith, length, string_bytes}, machine_model.specs.Machine.device_report}
+use Rattle.std.proofs.Common.{◌∙◌, ◌*◌, ◌≤◌, arith, length, string_bytes}
+use Rattle.machine_model.specs.Machine.{device_report}
 use Rattle.machine_report.proofs.ReportFacts.{no_device_sum, no_devices, one_device, one_device_sum}
 use Rattle.machine_report.proofs.report.add_devices.Goals as goal
 

@@ -1,4 +1,5 @@
-use Rattle.{std.proofs.Common.{◌≡◌, ◌∙◌, ◌*◌, ap, sym}, machine_model.specs.Machine.device_report}
+use Rattle.std.proofs.Common.{◌≡◌, ◌∙◌, ◌*◌, ap, sym}
+use Rattle.machine_model.specs.Machine.{device_report}
 use Rattle.machine_report.{specs.Report.{processor_in, sums_of_devices, sums_of_processors}, proofs.ReportFacts.three_parts}
 use Rattle.machine_report.proofs.report.report_of.Goals as goal
 

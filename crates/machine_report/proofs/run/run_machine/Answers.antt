@@ -1,4 +1,5 @@
-use Rattle.{std.proofs.Common.◌≡◌, machine_report.specs.declared.fault.MachineFault.TheVariants.OutputFailed}
+use Rattle.std.proofs.Common.{◌≡◌}
+use Rattle.machine_report.specs.declared.fault.MachineFault.TheVariants.{OutputFailed}
 use Rattle.machine_report.proofs.FaultFacts.{read-never}
 use Rattle.machine_report.proofs.run.run_machine.Goals as goal
 

@@ -1,4 +1,5 @@
-use Rattle.{std.{proofs.Common.{◌≡◌, List, [], length}, specs.Prelude.{Result}}, device_rows.specs.Source.IsOpen}
+use Rattle.std.{proofs.Common.{◌≡◌, List, [], length}, specs.Prelude.{Result}}
+use Rattle.device_rows.specs.Source.{IsOpen}
 use Rattle.machine_report.specs.{Answer.Takes, Reading.HasGiven, declared.{arrival.Arrival.Arrival, fault.MachineFault.MachineFault}}
 use Rattle.machine_report.proofs.run.take_all.Given as goal
 

@@ -1,4 +1,5 @@
-use Rattle.{std.proofs.Common.{◌≡◌, List, [], ◌∷◌, ◌++◌}, napi_word.specs.Ends.{IsGatheredOf, Gathered}}
+use Rattle.std.proofs.Common.{◌≡◌, List, [], ◌∷◌, ◌++◌}
+use Rattle.napi_word.specs.Ends.{IsGatheredOf, Gathered}
 use Rattle.napi_calls.specs.{declared.types.Caller.Caller, Closed.seats_of}
 use Rattle.napi_calls.proofs.instance.close.Given as goal
 

@@ -1,4 +1,5 @@
-use Rattle.{std.proofs.Common.{◌≡◌, take}, napi_model.specs.History.{state_after, LegalHistory}}
+use Rattle.std.proofs.Common.{◌≡◌, take}
+use Rattle.napi_model.specs.History.{state_after, LegalHistory}
 use Rattle.napi_model.proofs.history.first_illegal.Given as goal
 
 abbrev pub invariant-loop-i : goal.invariant-loop-i

@@ -1,4 +1,5 @@
-use Rattle.{std.proofs.Common.{◌≡◌, take}, napi_model.specs.History.state_after}
+use Rattle.std.proofs.Common.{◌≡◌, take}
+use Rattle.napi_model.specs.History.{state_after}
 use Rattle.napi_model.proofs.history.state_after.Given as goal
 
 abbrev pub invariant-loop-event : goal.invariant-loop-event

@@ -1,4 +1,5 @@
-use Rattle.{std.proofs.Common.{sym, ap, ◌∙◌}, napi_model.{specs.Word.{word_of, seen_in}, proofs.Words.seen_in-word}}
+use Rattle.std.proofs.Common.{sym, ap, ◌∙◌}
+use Rattle.napi_model.{specs.Word.{word_of, seen_in}, proofs.Words.seen_in-word}
 use Rattle.napi_model.proofs.word.decode_known.Goals as goal
 
 pub returns-clause-word : goal.returns-clause-word

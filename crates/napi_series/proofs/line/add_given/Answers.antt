@@ -1,4 +1,5 @@
-use Rattle.{std.proofs.Common.{◌≡◌, ◌+◌, append_assoc, append-nil, arith, suc, sym}, replay_rows.specs.Report.lines_below}
+use Rattle.std.proofs.Common.{◌≡◌, ◌+◌, append_assoc, append-nil, arith, suc, sym}
+use Rattle.replay_rows.specs.Report.{lines_below}
 use Rattle.napi_series.proofs.line.add_given.Goals as goal
 
 pub loop-device-init : goal.loop-device-init

@@ -1,4 +1,5 @@
-use Rattle.{std.proofs.Common.{◌≡◌, ◌+◌, append_assoc, append-nil, suc, arith}, napi_series.specs.Series.lines_to}
+use Rattle.std.proofs.Common.{◌≡◌, ◌+◌, append_assoc, append-nil, suc, arith}
+use Rattle.napi_series.specs.Series.{lines_to}
 use Rattle.napi_series.proofs.series.series_of.Goals as goal
 
 pub loop-index-init : goal.loop-index-init

@@ -1,4 +1,5 @@
-use Rattle.{std.proofs.Common.{◌≡◌, ◌++◌, string_bytes}, napi_series.specs.Series.{header, lines_to}, replay_rows.specs.After.IsAfter}
+use Rattle.std.proofs.Common.{◌≡◌, ◌++◌, string_bytes}
+use Rattle.{napi_series.specs.Series.{header, lines_to}, replay_rows.specs.After.IsAfter}
 use Rattle.napi_series.proofs.series.series_of.Given as goal
 
 abbrev pub invariant-loop-index : goal.invariant-loop-index

@@ -1,4 +1,5 @@
-use Rattle.{std.proofs.Common.{◌≡◌, List, ◌++◌}, napi_word.specs.{declared.table.Pass.Pass, Ends.{IsGatheredOf, Gathered}}}
+use Rattle.std.proofs.Common.{◌≡◌, List, ◌++◌}
+use Rattle.napi_word.specs.{declared.table.Pass.Pass, Ends.{IsGatheredOf, Gathered}}
 use Rattle.napi_word.proofs.ending.end.Given as goal
 
 abbrev pub invariant-loop-pass : goal.invariant-loop-pass

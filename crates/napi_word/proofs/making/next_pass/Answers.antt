@@ -1,4 +1,5 @@
-use Rattle.{std.proofs.Common.{[], ap, subst, ◌∙◌, sym}, atomic_table.specs.Table.Me, napi_word.specs.View.{View, is_pass, ring_of}}
+use Rattle.std.proofs.Common.{[], ap, subst, ◌∙◌, sym}
+use Rattle.{atomic_table.specs.Table.Me, napi_word.specs.View.{View, is_pass, ring_of}}
 use Rattle.napi_word.specs.{View.{received_in, Continues}, Slot.{Content, hold_of, owns_slot, ring_in, beside_in, ctx_in, carried_received}}
 use Rattle.napi_word.{specs.Rule.{left_of, right_of}, proofs.{Deliveries.{prefix_self, of_prefix}, Said.one_there, Start.maker_more}}
 use Rattle.napi_word.proofs.{Start.owns_nothing, Splitting.gives_number}

@@ -1,4 +1,5 @@
-use Rattle.{std.proofs.Common.{◌≡◌, ◌++◌, map}, crossbeam_queue.specs.Passes.{view, IsPassOf}}
+use Rattle.std.proofs.Common.{◌≡◌, ◌++◌, map}
+use Rattle.crossbeam_queue.specs.Passes.{view, IsPassOf}
 use Rattle.poll_list.specs.{PushOrder.poller, SharedList.as_returned}
 use Rattle.poll_list.proofs.list_ends.take_back.Given as goal
 

@@ -1,5 +1,6 @@
 use Rattle.{poll_list.specs.{declared.list_in.ListIn.ListIn, SharedList.{pushed_by, number_of}, PushOrder.poller}, std.specs.Arc.arc_value}
-use Rattle.{std.proofs.Common.{◌≡◌, ◌+◌, [], length, All, ℕ, ◌<◌, slice_index_or}, crossbeam_queue.specs.Passes.{view, IsPassOf}}
+use Rattle.std.proofs.Common.{◌≡◌, ◌+◌, [], length, All, ℕ, ◌<◌, slice_index_or}
+use Rattle.crossbeam_queue.specs.Passes.{view, IsPassOf}
 use Rattle.poll_list.proofs.list_ends.with_ends.Given as goal
 
 abbrev pub invariant-loop : goal.invariant-loop

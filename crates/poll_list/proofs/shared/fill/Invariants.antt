@@ -1,4 +1,5 @@
-use Rattle.{std.proofs.Common.{◌≡◌, ◌++◌, List, ℕ, length}, crossbeam_queue.specs.Passes.{view, IsPassOf}}
+use Rattle.std.proofs.Common.{◌≡◌, ◌++◌, List, ℕ, length}
+use Rattle.crossbeam_queue.specs.Passes.{view, IsPassOf}
 use Rattle.poll_list.specs.PushOrder.{PopsMore}
 use Rattle.poll_list.proofs.shared.fill.Given as goal
 

@@ -1,4 +1,5 @@
-use Rattle.{std.proofs.Common.{◌^◌, ◌*◌, ◌≤◌}, poll_runs.proofs.BusyFacts.Going}
+use Rattle.std.proofs.Common.{◌^◌, ◌*◌, ◌≤◌}
+use Rattle.poll_runs.proofs.BusyFacts.{Going}
 use Rattle.poll_runs.proofs.busy_polling.poll_busy_of.Given as goal
 
 abbrev pub invariant-loop : goal.invariant-loop

@@ -1,4 +1,5 @@
-use Rattle.{std.proofs.Common.{◌-◌, ◌*◌, ◌≤◌, MatchBool}, poll_runs.proofs.PollingFacts.Going}
+use Rattle.std.proofs.Common.{◌-◌, ◌*◌, ◌≤◌, MatchBool}
+use Rattle.poll_runs.proofs.PollingFacts.{Going}
 use Rattle.poll_runs.proofs.polling.poll_thread_of.Given as goal
 
 abbrev pub invariant-loop-held : goal.invariant-loop-held

@@ -1,4 +1,5 @@
-use Rattle.{std.proofs.Common.{◌-◌, ◌+◌, ◌<◌, ◌≤◌, List, length}, poll_runs.specs.{Driven.Going, Polls.{At, Chain, Poll}}}
+use Rattle.std.proofs.Common.{◌-◌, ◌+◌, ◌<◌, ◌≤◌, List, length}
+use Rattle.poll_runs.specs.{Driven.Going, Polls.{At, Chain, Poll}}
 use Rattle.poll_runs.proofs.run.run_softirq.Given as goal
 
 abbrev pub invariant-loop-own : goal.invariant-loop-own

@@ -1,4 +1,5 @@
-use Rattle.{std.proofs.Common.{[], ◌∷◌, ◌∙◌, refl}, napi_model.specs.declared.event.Operation.TheVariants.{Look, Hand}}
+use Rattle.std.proofs.Common.{[], ◌∷◌, ◌∙◌, refl}
+use Rattle.napi_model.specs.declared.event.Operation.TheVariants.{Look, Hand}
 use Rattle.napi_calls.proofs.Making.{more}
 use Rattle.poll_shared.proofs.seat.hand_over.Goals as goal
 

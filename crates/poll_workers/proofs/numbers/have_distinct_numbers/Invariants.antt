@@ -1,4 +1,5 @@
-use Rattle.{std.proofs.Common.{◌≡◌, ◌+◌, length}, poll_workers.specs.Numbers.have_distinct_numbers}
+use Rattle.std.proofs.Common.{◌≡◌, ◌+◌, length}
+use Rattle.poll_workers.specs.Numbers.{have_distinct_numbers}
 use Rattle.poll_workers.proofs.numbers.have_distinct_numbers.Given as goal
 
 abbrev pub invariant-loop : goal.invariant-loop

@@ -1,4 +1,5 @@
-use Rattle.{std.proofs.Common.{◌≡◌, ℕ, List, Ok, ◌++◌, refl, sym, subst, ap, ◌∙◌}, replay_rows.specs.Answer.replay_of}
+use Rattle.std.proofs.Common.{◌≡◌, ℕ, List, Ok, ◌++◌, refl, sym, subst, ap, ◌∙◌}
+use Rattle.replay_rows.specs.Answer.{replay_of}
 use Rattle.replay_c.proofs.replay.report_of.Goals as goal
 
 pub returns-in-Ok-clause-report : goal.returns-in-Ok-clause-report

@@ -1,4 +1,5 @@
-use Rattle.{std.proofs.Common.{◌≡◌, ◌++◌, take, string_bytes, flat_map}, replay_text.specs.Lines.ended, replay_rows.specs.Report.poll_line}
+use Rattle.std.proofs.Common.{◌≡◌, ◌++◌, take, string_bytes, flat_map}
+use Rattle.{replay_text.specs.Lines.ended, replay_rows.specs.Report.poll_line}
 use Rattle.replay_rows.proofs.report.add_lines.Given as goal
 
 abbrev pub invariant-loop-line : goal.invariant-loop-line

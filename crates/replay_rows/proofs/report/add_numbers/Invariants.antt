@@ -1,4 +1,5 @@
-use Rattle.{std.proofs.Common.{◌≡◌, ◌++◌, take, string_bytes}, replay_rows.specs.Report.spaced}
+use Rattle.std.proofs.Common.{◌≡◌, ◌++◌, take, string_bytes}
+use Rattle.replay_rows.specs.Report.{spaced}
 use Rattle.replay_rows.proofs.report.add_numbers.Given as goal
 
 abbrev pub invariant-loop-number : goal.invariant-loop-number

@@ -1,5 +1,5 @@
 -- What is gone from `rest` was appended.
-use Rattle.{std.proofs.Common.{◌≡◌, ℕ, List, ◌++◌}, std.specs.Io.KnownBytes.Appends}
+use Rattle.std.{proofs.Common.{◌≡◌, ℕ, List, ◌++◌}, specs.Io.KnownBytes.Appends}
 use Rattle.replay_text.proofs.lines.write_out.Given as goal
 
 abbrev pub invariant-loop : goal.invariant-loop

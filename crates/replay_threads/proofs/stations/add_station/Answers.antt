@@ -1,4 +1,5 @@
-use Rattle.{std.{proofs.Common.{◌≡◌, ◌∙◌, true, Some, ap, sym}, specs.Prelude.is_some}, device_script.specs.Script.opening_of}
+use Rattle.std.{proofs.Common.{◌≡◌, ◌∙◌, true, Some, ap, sym}, specs.Prelude.is_some}
+use Rattle.device_script.specs.Script.{opening_of}
 use Rattle.replay_threads.{specs.ThreadsReport.is_opened, proofs.StationFacts.station-here}
 use Rattle.replay_threads.proofs.stations.add_station.Goals as goal
 

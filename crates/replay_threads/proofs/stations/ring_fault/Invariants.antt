@@ -1,4 +1,5 @@
-use Rattle.{std.{proofs.Common.{◌≡◌, None, take}, specs.List.find}, replay_threads.specs.Stations.is_small}
+use Rattle.std.{proofs.Common.{◌≡◌, None, take}, specs.List.find}
+use Rattle.replay_threads.specs.Stations.{is_small}
 use Rattle.replay_threads.proofs.stations.ring_fault.Given as goal
 
 abbrev pub invariant-loop-station : goal.invariant-loop-station

@@ -1,4 +1,5 @@
-use Rattle.{std.proofs.Common.{◌≡◌, ◌∙◌, None, Some, inr, sym, vec_items}, replay_threads.specs.Stations.{small_fault, IsStationOf}}
+use Rattle.std.proofs.Common.{◌≡◌, ◌∙◌, None, Some, inr, sym, vec_items}
+use Rattle.replay_threads.specs.Stations.{small_fault, IsStationOf}
 use Rattle.replay_threads.{specs.ThreadsReport.{is_opened, opened}, proofs.{DistinctNumbers.rising-numbers, StationFacts.ends-if-ok}}
 use Rattle.replay_threads.proofs.StationFacts.{ring-of, rings-if-ok, run-if-ok, small-unwritten}
 use Rattle.replay_threads.proofs.stations.run_rows.Goals as goal

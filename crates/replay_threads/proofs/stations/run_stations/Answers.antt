@@ -1,4 +1,5 @@
-use Rattle.{std.proofs.Common.{◌∙◌, Err, ap}, replay_threads.proofs.StationFacts.{told-outside, told-unwritten}}
+use Rattle.std.proofs.Common.{◌∙◌, Err, ap}
+use Rattle.replay_threads.proofs.StationFacts.{told-outside, told-unwritten}
 use Rattle.replay_threads.proofs.stations.run_stations.Goals as goal
 
 pub returns-in-Err-clause-fault : goal.returns-in-Err-clause-fault

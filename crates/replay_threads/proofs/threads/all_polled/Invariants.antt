@@ -1,4 +1,5 @@
-use Rattle.{std.{proofs.Common.{◌≡◌, take}, specs.Prelude.map}, replay_threads.specs.Stations.polled_of}
+use Rattle.std.{proofs.Common.{◌≡◌, take}, specs.Prelude.map}
+use Rattle.replay_threads.specs.Stations.{polled_of}
 use Rattle.replay_threads.proofs.threads.all_polled.Given as goal
 
 abbrev pub invariant-loop-end : goal.invariant-loop-end

@@ -1,4 +1,5 @@
-use Rattle.{std.proofs.Common.{◌∙◌, ap}, clap.{specs.Words.found_of, proofs.WalkLemmas.first_value-rows}}
+use Rattle.std.proofs.Common.{◌∙◌, ap}
+use Rattle.clap.{specs.Words.found_of, proofs.WalkLemmas.first_value-rows}
 use Rattle.replay_words.specs.Given.{number_within, or_usual}
 use Rattle.replay_words.proofs.options.option_number.Goals as goal
 

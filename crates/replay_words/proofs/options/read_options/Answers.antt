@@ -1,4 +1,5 @@
-use Rattle.{std.{proofs.Common.{◌≡◌, ◌∙◌, ap, false, map, rules, sym, true≢false}, specs.List.list_any}, clap.specs.Words.app_of}
+use Rattle.std.{proofs.Common.{◌≡◌, ◌∙◌, ap, false, map, rules, sym, true≢false}, specs.List.list_any}
+use Rattle.clap.specs.Words.{app_of}
 use Rattle.clap.specs.{declared.error.kind.ErrorKind.TheVariants.OutOfMemory, contracts.error.kind.ErrorKind.the_type}
 use Rattle.replay_words.{specs.{Given.is_stray, Refusals.{refused_by, refused_by_clap}}, proofs.ClapFacts.{none-given, read_err}}
 use Rattle.replay_words.proofs.ClapFacts.{read_is_given, read_ok, stray_is_refused}

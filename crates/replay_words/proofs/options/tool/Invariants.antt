@@ -1,4 +1,5 @@
-use Rattle.{std.proofs.Common.{◌≡◌, take, map}, clap.specs.Simple.app_of, replay_words.specs.Options.tool}
+use Rattle.std.proofs.Common.{◌≡◌, take, map}
+use Rattle.{clap.specs.Simple.app_of, replay_words.specs.Options.tool}
 use Rattle.replay_words.proofs.options.tool.Given as goal
 
 abbrev pub invariant-loop-name : goal.invariant-loop-name

@@ -1,4 +1,5 @@
-use Rattle.{std.proofs.{Common.{◌≡◌, length, arith}, lemmas.Grind.common_steps}, rtrb.specs.Ring.known_items}
+use Rattle.std.proofs.{Common.{◌≡◌, length, arith}, lemmas.Grind.common_steps}
+use Rattle.rtrb.specs.Ring.{known_items}
 use Rattle.rx_ring.proofs.Prefix.{front_of_prefix}
 use Rattle.rx_ring.proofs.ends.take_known.Goals as goal
 

@@ -1,4 +1,5 @@
-use Rattle.{std.proofs.Common.{◌≡◌, ◌+◌, ◌*◌, ◌≤◌, drop}, rx_ring.specs.ReceiveRing.bytes_of}
+use Rattle.std.proofs.Common.{◌≡◌, ◌+◌, ◌*◌, ◌≤◌, drop}
+use Rattle.rx_ring.specs.ReceiveRing.{bytes_of}
 use Rattle.rx_ring.proofs.packet.batch_bytes.Given as goal
 
 abbrev pub invariant-loop-packet : goal.invariant-loop-packet

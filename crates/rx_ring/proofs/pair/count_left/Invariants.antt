@@ -1,4 +1,5 @@
-use Rattle.{std.proofs.Common.{◌≡◌, ◌+◌, ◌++◌, length}, rtrb.specs.Ring.{received, known_items}}
+use Rattle.std.proofs.Common.{◌≡◌, ◌+◌, ◌++◌, length}
+use Rattle.rtrb.specs.Ring.{received, known_items}
 use Rattle.rx_ring.specs.ReceiveRing.{capped, bytes_of}
 use Rattle.rx_ring.proofs.pair.count_left.Given as goal
 

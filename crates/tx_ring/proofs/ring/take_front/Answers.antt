@@ -1,4 +1,5 @@
-use Rattle.{std.proofs.{Common.{◌≡◌, ◌+◌, sum, drop, arith, ap, ◌∙◌}, lemmas.List.drop-drop}, tx_ring.proofs.Sums.sum_front}
+use Rattle.std.proofs.{Common.{◌≡◌, ◌+◌, sum, drop, arith, ap, ◌∙◌}, lemmas.List.drop-drop}
+use Rattle.tx_ring.proofs.Sums.{sum_front}
 use Rattle.tx_ring.proofs.ring.take_front.Goals as goal
 
 pub loop-preserved : goal.loop-preserved

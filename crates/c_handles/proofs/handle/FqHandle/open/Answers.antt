@@ -1,4 +1,5 @@
-use Rattle.{std.proofs.Common.◌∙◌, c_handles.proofs.There.there}
+use Rattle.std.proofs.Common.{◌∙◌}
+use Rattle.c_handles.proofs.There.{there}
 use Rattle.c_handles.proofs.handle.FqHandle.open.Goals as goal
 
 -- src/handle.rt:52:18

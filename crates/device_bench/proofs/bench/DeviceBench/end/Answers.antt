@@ -1,4 +1,5 @@
-use Rattle.{std.proofs.Common.{◌∙◌, ℕ, Some, ap, refl, slice_set}, device_bench.proofs.EndingFacts.{ended-absent, ended-present}}
+use Rattle.std.proofs.Common.{◌∙◌, ℕ, Some, ap, refl, slice_set}
+use Rattle.device_bench.proofs.EndingFacts.{ended-absent, ended-present}
 use Rattle.device_bench.proofs.bench.DeviceBench.end.Goals as goal
 
 pub loop-place-preserved-in-Some-place : goal.loop-place-preserved-in-Some-place

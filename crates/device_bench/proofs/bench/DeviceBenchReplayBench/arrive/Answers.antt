@@ -1,4 +1,5 @@
-use Rattle.{std.proofs.Common.{◌∙◌, Some, ap, sym, arith}, device_bench.specs.{DeviceView.DeviceView, Waiting.waits}}
+use Rattle.std.proofs.Common.{◌∙◌, Some, ap, sym, arith}
+use Rattle.device_bench.specs.{DeviceView.DeviceView, Waiting.waits}
 use Rattle.device_bench.proofs.{BenchFacts.{kept-changed, here-at, sound-at}, DeviceFacts.packet-keeps, Waiting.waiting-more}
 use Rattle.device_bench.proofs.bench.DeviceBenchReplayBench.arrive.Goals as goal
 

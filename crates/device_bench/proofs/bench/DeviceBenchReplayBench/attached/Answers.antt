@@ -1,4 +1,5 @@
-use Rattle.{std.proofs.Common.{◌∙◌, sym}, device_bench.proofs.SideFacts.sides-attached}
+use Rattle.std.proofs.Common.{◌∙◌, sym}
+use Rattle.device_bench.proofs.SideFacts.{sides-attached}
 use Rattle.device_bench.proofs.bench.DeviceBenchReplayBench.attached.Goals as goal
 
 pub returns-clause-transmits : goal.returns-clause-transmits

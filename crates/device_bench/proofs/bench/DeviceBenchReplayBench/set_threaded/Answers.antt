@@ -1,4 +1,5 @@
-use Rattle.{std.proofs.Common.{◌∙◌, Some, ap, arith}, device_bench.specs.{DeviceView.DeviceView, Waiting.waits}}
+use Rattle.std.proofs.Common.{◌∙◌, Some, ap, arith}
+use Rattle.device_bench.specs.{DeviceView.DeviceView, Waiting.waits}
 use Rattle.device_bench.proofs.{BenchFacts.{kept-changed, here-at, sound-at}, DeviceFacts.threaded-keeps, Waiting.waiting-same}
 use Rattle.device_bench.proofs.bench.DeviceBenchReplayBench.set_threaded.Goals as goal
 

@@ -1,4 +1,5 @@
-use Rattle.{std.proofs.Common.{◌∙◌, ap, refl, sym, arith}, device_bench.{specs.Waiting.waiting, proofs.BenchFacts.{beyond, settled-all}}}
+use Rattle.std.proofs.Common.{◌∙◌, ap, refl, sym, arith}
+use Rattle.device_bench.{specs.Waiting.waiting, proofs.BenchFacts.{beyond, settled-all}}
 use Rattle.device_bench.proofs.{BenchFacts.{settled-more, settled-none, settled-off, up-to}, SideFacts.sides-settled}
 use Rattle.device_bench.proofs.{Waiting.waiting-settled, bench.DeviceBenchReplayBench.settle.Goals.{then-settle_one, else-settle_one}}
 use Rattle.device_bench.proofs.bench.DeviceBenchReplayBench.settle.Goals as goal

@@ -1,4 +1,5 @@
-use Rattle.{std.proofs.Common.{◌≡◌, ◌<◌, ℕ, true, false}, device_bench.{specs.Kept.is_pending_at, proofs.BenchFacts.settled_to}}
+use Rattle.std.proofs.Common.{◌≡◌, ◌<◌, ℕ, true, false}
+use Rattle.device_bench.{specs.Kept.is_pending_at, proofs.BenchFacts.settled_to}
 use Rattle.device_rows.specs.Places.{at}
 use Rattle.device_bench.proofs.bench.DeviceBenchReplayBench.settle.Given as goal
 

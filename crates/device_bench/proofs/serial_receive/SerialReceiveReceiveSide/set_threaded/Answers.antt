@@ -1,4 +1,5 @@
-use Rattle.{std.proofs.Common.{◌∙◌, refl, subst, sym}, device_bench.specs.{Owner.IsOurs, declared.device.TheConstants.CONTROLLER}}
+use Rattle.std.proofs.Common.{◌∙◌, refl, subst, sym}
+use Rattle.device_bench.specs.{Owner.IsOurs, declared.device.TheConstants.CONTROLLER}
 use Rattle.device_bench.proofs.serial_receive.SerialReceiveReceiveSide.set_threaded.Goals as goal
 
 pub invariant_of-self : goal.invariant_of-self

@@ -1,4 +1,5 @@
-use Rattle.{std.{proofs.Common.{◌≡◌, ◌<◌, ◌≤◌, ◌-◌, ◌*◌, ◌^◌, true, take}, specs.Str.all_ascii_digits}, device_rows.specs.Record.numeral}
+use Rattle.std.{proofs.Common.{◌≡◌, ◌<◌, ◌≤◌, ◌-◌, ◌*◌, ◌^◌, true, take}, specs.Str.all_ascii_digits}
+use Rattle.device_rows.specs.Record.{numeral}
 use Rattle.device_rows.proofs.digits.DigitTable.sum.Given as goal
 
 abbrev pub invariant-loop-place : goal.invariant-loop-place

@@ -1,4 +1,5 @@
-use Rattle.{std.proofs.Common.{◌≡◌, ◌≢◌, ◌∙◌, sym, rules, length, ap}, device_rows.specs.Switch.set_by}
+use Rattle.std.proofs.Common.{◌≡◌, ◌≢◌, ◌∙◌, sym, rules, length, ap}
+use Rattle.device_rows.specs.Switch.{set_by}
 use Rattle.device_rows.{specs.declared.event.Event.TheVariants.Softirq, proofs.SwitchFacts.{device_range, tracks-same, tracks-set}}
 use Rattle.device_rows.proofs.switch.Switches.admit.Goals as goal
 

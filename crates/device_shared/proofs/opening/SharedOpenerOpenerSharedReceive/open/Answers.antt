@@ -1,4 +1,5 @@
-use Rattle.{std.proofs.Common.{◌≡◌, ◌∙◌, ◌≤◌, [], Some, ap, arith, length, drop, refl, rules}, rx_ring.specs.Ends.{free_of, put_list}}
+use Rattle.std.proofs.Common.{◌≡◌, ◌∙◌, ◌≤◌, [], Some, ap, arith, length, drop, refl, rules}
+use Rattle.rx_ring.specs.Ends.{free_of, put_list}
 use Rattle.{rx_ring.specs.{Ends.received_list, ReceiveRing.ReceiveRing}, device_shared.specs.declared.seats.Seats.Seats}
 use Rattle.device_shared.proofs.OpeningFacts.{are_new, met_show, new_seats, none_left, none_received, opened_view, opened_whole}
 use Rattle.device_shared.proofs.RingFacts.{one_still}

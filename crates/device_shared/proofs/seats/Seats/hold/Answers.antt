@@ -1,4 +1,5 @@
-use Rattle.{std.proofs.Common.{◌∙◌, ap, refl}, device_shared.specs.declared.seats.{Posts.Posts, Turn.TheVariants.On}}
+use Rattle.std.proofs.Common.{◌∙◌, ap, refl}
+use Rattle.device_shared.specs.declared.seats.{Posts.Posts, Turn.TheVariants.On}
 use Rattle.device_shared.proofs.ActingFacts.{first_turn, held}
 use Rattle.device_shared.proofs.seats.Seats.hold.Goals as goal
 

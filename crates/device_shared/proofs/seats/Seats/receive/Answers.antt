@@ -1,4 +1,5 @@
-use Rattle.{std.proofs.Common.{◌∙◌, ap, refl, sym, subst}, napi_calls.specs.Seats.IsInputOf}
+use Rattle.std.proofs.Common.{◌∙◌, ap, refl, sym, subst}
+use Rattle.napi_calls.specs.Seats.{IsInputOf}
 use Rattle.device_shared.specs.declared.seats.Posts.{Posts, TheVariants.{ListPolls, ThreadPolls, PollsBusily}}
 use Rattle.device_shared.specs.{declared.seats.Turn.{Turn, TheVariants.On}, Receiving.SeatsReceive, Seats.{poller_of, thread_of}}
 use Rattle.device_shared.proofs.seats.Seats.receive.Goals.{in-ListPolls, in-ThreadPolls, in-PollsBusily}

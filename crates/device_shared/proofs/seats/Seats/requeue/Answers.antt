@@ -1,4 +1,5 @@
-use Rattle.{std.proofs.Common.{◌∙◌, ap, refl}, napi_calls.proofs.Dealing.delivers_back, device_shared.specs.declared.seats.Posts.Posts}
+use Rattle.std.proofs.Common.{◌∙◌, ap, refl}
+use Rattle.{napi_calls.proofs.Dealing.delivers_back, device_shared.specs.declared.seats.Posts.Posts}
 use Rattle.device_shared.{specs.declared.seats.Turn.TheVariants.On, proofs.ActingFacts.{first_turn, given, second_turn}}
 use Rattle.device_shared.proofs.seats.Seats.requeue.Goals.{in-ListPolls, in-ThreadPolls}
 use Rattle.device_shared.proofs.seats.Seats.requeue.Goals as goal

@@ -1,4 +1,5 @@
-use Rattle.{std.proofs.Common.{[], ◌∙◌, ap, refl}, device_shared.specs.{Seats.ctx_at, declared.seats.Enabled.TheVariants.Marked}}
+use Rattle.std.proofs.Common.{[], ◌∙◌, ap, refl}
+use Rattle.device_shared.specs.{Seats.ctx_at, declared.seats.Enabled.TheVariants.Marked}
 use Rattle.device_shared.{specs.declared.seats.{Posts.Posts, Turn.TheVariants.On}, proofs.ActingFacts.{control_turn, idle, not_rest, tried}}
 use Rattle.device_shared.proofs.seats.Seats.try_take.Goals.{in-Rest, in_default-posts}
 use Rattle.device_shared.proofs.seats.Seats.try_take.Goals as goal

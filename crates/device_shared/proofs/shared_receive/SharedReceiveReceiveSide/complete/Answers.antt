@@ -1,4 +1,5 @@
-use Rattle.{std.proofs.Common.{◌∙◌, ℕ, ap}, device_bench.specs.Receive.done_by, napi_model.specs.Step.complete_reply}
+use Rattle.std.proofs.Common.{◌∙◌, ℕ, ap}
+use Rattle.{device_bench.specs.Receive.done_by, napi_model.specs.Step.complete_reply}
 use Rattle.device_shared.{specs.SharedReceive.napi_at, proofs.{Reading.{may_complete, completed}, WholeFacts.{called, kept_as, legal}}}
 use Rattle.device_shared.proofs.WholeFacts.{packets, role_before, role_there, state, viewed}
 use Rattle.device_shared.proofs.shared_receive.SharedReceiveReceiveSide.complete.Goals as goal

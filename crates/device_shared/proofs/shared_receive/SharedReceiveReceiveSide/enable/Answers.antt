@@ -1,4 +1,5 @@
-use Rattle.{std.proofs.Common.{◌∙◌, subst}, device_shared.{specs.{SharedReceive.napi_at, Seats.{IsRole, Role}}, proofs.Reading.enables}}
+use Rattle.std.proofs.Common.{◌∙◌, subst}
+use Rattle.device_shared.{specs.{SharedReceive.napi_at, Seats.{IsRole, Role}}, proofs.Reading.enables}
 use Rattle.device_shared.proofs.{Reading.off_of, WholeFacts.{called, kept_as, legal, packets, role_before, role_there, state, viewed}}
 use Rattle.device_shared.proofs.shared_receive.SharedReceiveReceiveSide.enable.Goals as goal
 

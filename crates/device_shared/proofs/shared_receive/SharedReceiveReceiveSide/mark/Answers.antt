@@ -1,4 +1,5 @@
-use Rattle.{std.proofs.Common.◌∙◌, device_shared.proofs.{Reading.{marks, unmarked_of}, WholeFacts.{called, kept_as, packets, role_before}}}
+use Rattle.std.proofs.Common.{◌∙◌}
+use Rattle.device_shared.proofs.{Reading.{marks, unmarked_of}, WholeFacts.{called, kept_as, packets, role_before}}
 use Rattle.device_shared.proofs.WholeFacts.{role_there, state, viewed}
 use Rattle.device_shared.proofs.shared_receive.SharedReceiveReceiveSide.mark.Goals as goal
 

@@ -1,4 +1,5 @@
-use Rattle.{std.proofs.Common.{◌∙◌, ap}, device_bench.specs.Receive.{ReceiveView, is_polling}, device_shared.specs.Seats.role_of}
+use Rattle.std.proofs.Common.{◌∙◌, ap}
+use Rattle.{device_bench.specs.Receive.{ReceiveView, is_polling}, device_shared.specs.Seats.role_of}
 use Rattle.device_shared.{specs.Seats.state_in, proofs.{Reading.polling_of, RingFacts.{bytes_given, input_of_two, received_side}}}
 use Rattle.device_shared.proofs.RingFacts.{received_whole, side_in, whole_in}
 use Rattle.device_shared.proofs.shared_receive.SharedReceiveReceiveSide.receive.Goals as goal

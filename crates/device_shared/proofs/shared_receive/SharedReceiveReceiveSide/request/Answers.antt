@@ -1,4 +1,5 @@
-use Rattle.{std.proofs.Common.◌∙◌, device_shared.proofs.{Reading.{asked, asked_role}, WholeFacts.{called, kept_at, legal, packets}}}
+use Rattle.std.proofs.Common.{◌∙◌}
+use Rattle.device_shared.proofs.{Reading.{asked, asked_role}, WholeFacts.{called, kept_at, legal, packets}}
 use Rattle.device_shared.proofs.WholeFacts.{role_before, sound, state, viewed}
 use Rattle.device_shared.proofs.shared_receive.SharedReceiveReceiveSide.request.Goals as goal
 

@@ -1,4 +1,5 @@
-use Rattle.{std.proofs.Common.{◌∙◌, ℕ, ap}, napi_model.specs.{Step.{after, event}, declared.event.Operation.TheVariants.Hand}}
+use Rattle.std.proofs.Common.{◌∙◌, ℕ, ap}
+use Rattle.napi_model.specs.{Step.{after, event}, declared.event.Operation.TheVariants.Hand}
 use Rattle.device_shared.{specs.SharedReceive.napi_at, proofs.{Reading.{may_complete, requeued}, WholeFacts.{called, kept_as, packets}}}
 use Rattle.device_shared.proofs.WholeFacts.{role_before, role_there, state, viewed}
 use Rattle.napi_model.specs.declared.state.Kind.TheVariants as kind

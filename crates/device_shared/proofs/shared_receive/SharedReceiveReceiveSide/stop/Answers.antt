@@ -1,4 +1,5 @@
-use Rattle.{std.proofs.Common.◌∙◌, device_shared.proofs.{Reading.{polls_busily, stopped}, WholeFacts.{called, kept_as, legal, packets}}}
+use Rattle.std.proofs.Common.{◌∙◌}
+use Rattle.device_shared.proofs.{Reading.{polls_busily, stopped}, WholeFacts.{called, kept_as, legal, packets}}
 use Rattle.device_shared.proofs.WholeFacts.{role_before, role_there, state, viewed}
 use Rattle.device_shared.proofs.shared_receive.SharedReceiveReceiveSide.stop.Goals as goal
 

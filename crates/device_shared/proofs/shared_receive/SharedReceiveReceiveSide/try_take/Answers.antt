@@ -1,4 +1,5 @@
-use Rattle.{std.proofs.Common.◌∙◌, device_shared.proofs.{Reading.{marked_of, tried}, WholeFacts.{called, kept_as, legal, packets}}}
+use Rattle.std.proofs.Common.{◌∙◌}
+use Rattle.device_shared.proofs.{Reading.{marked_of, tried}, WholeFacts.{called, kept_as, legal, packets}}
 use Rattle.device_shared.proofs.WholeFacts.{role_before, role_there, sound, state, viewed}
 use Rattle.device_shared.proofs.shared_receive.SharedReceiveReceiveSide.try_take.Goals as goal
 

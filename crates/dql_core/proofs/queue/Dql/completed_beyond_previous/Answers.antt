@@ -1,4 +1,5 @@
-use Rattle.{std.proofs.Common.{◌≡◌, ◌+◌, ◌-◌, arith}, dql_core.specs.Counter.{distance_of, IsWrapped}}
+use Rattle.std.proofs.Common.{◌≡◌, ◌+◌, ◌-◌, arith}
+use Rattle.dql_core.specs.Counter.{distance_of, IsWrapped}
 use Rattle.dql_core.proofs.queue.Dql.completed_beyond_previous.Goals as goal
 
 -- the two counters wrap the whole numbers `completed + count` and `completed + ahead`

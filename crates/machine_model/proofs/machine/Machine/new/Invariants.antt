@@ -1,4 +1,5 @@
-use Rattle.{std.proofs.Common.{◌≡◌, replicate}, machine_model.specs.Processor.opened_processor}
+use Rattle.std.proofs.Common.{◌≡◌, replicate}
+use Rattle.machine_model.specs.Processor.{opened_processor}
 use Rattle.machine_model.proofs.machine.Machine.new.Given as goal
 
 abbrev pub invariant-loop : goal.invariant-loop

@@ -1,4 +1,5 @@
-use Rattle.{std.proofs.Common.{◌≡◌, ◌∙◌, None, refl, sym}, machine_model.{specs.Softirq.begun, proofs.KeptFacts.{kept-begun, kept-next}}}
+use Rattle.std.proofs.Common.{◌≡◌, ◌∙◌, None, refl, sym}
+use Rattle.machine_model.{specs.Softirq.begun, proofs.KeptFacts.{kept-begun, kept-next}}
 use Rattle.machine_model.specs.declared.processor.Work.TheVariants.{Poll}
 use Rattle.machine_model.proofs.processor.Processor.begin.Goals as goal
 

@@ -1,4 +1,4 @@
-use Rattle.{std.proofs.Common.{◌≡◌, ◌∙◌, Some, ap, sym, true, arith}, std.specs.Prelude.is_some}
+use Rattle.std.{proofs.Common.{◌≡◌, ◌∙◌, Some, ap, sym, true, arith}, specs.Prelude.is_some}
 use Rattle.machine_model.specs.{Processor.{ProcessorView, delivers}, Softirq.{SoftirqView, asked_in}}
 use Rattle.machine_model.proofs.{KeptFacts.kept-told, ListedFacts.{asked-told, run-some}}
 use Rattle.machine_model.proofs.processor.Processor.end_poll.Goals as goal

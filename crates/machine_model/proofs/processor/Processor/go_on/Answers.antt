@@ -1,4 +1,5 @@
-use Rattle.{std.proofs.Common.{◌≡◌, ◌∙◌, None, refl, sym}, machine_model.{specs.Softirq.asked_in, proofs.KeptFacts.{kept-next}}}
+use Rattle.std.proofs.Common.{◌≡◌, ◌∙◌, None, refl, sym}
+use Rattle.machine_model.{specs.Softirq.asked_in, proofs.KeptFacts.{kept-next}}
 use Rattle.machine_model.specs.declared.processor.Work.TheVariants.{Nothing, Poll}
 use Rattle.machine_model.proofs.processor.Processor.go_on.Goals as goal
 

@@ -1,4 +1,5 @@
-use Rattle.{std.proofs.Common.{◌≡◌, ◌∙◌, None, refl, sym}, machine_model.specs.Softirq.asked_in}
+use Rattle.std.proofs.Common.{◌≡◌, ◌∙◌, None, refl, sym}
+use Rattle.machine_model.specs.Softirq.{asked_in}
 use Rattle.machine_model.{specs.declared.processor.Work.TheVariants.{Interrupt, Nothing}, proofs.KeptFacts.{kept-pushed, kept-unpushed}}
 use Rattle.machine_model.proofs.{PlacesFacts.handed-room, processor.Processor.interrupt.Goals.{then-interrupt, else-interrupt}}
 use Rattle.machine_model.proofs.processor.Processor.interrupt.Goals as goal

@@ -1,4 +1,5 @@
-use Rattle.{std.proofs.Common.{◌≡◌, ℕ, ◌<◌, true}, machine_model.{specs.Processor.{after, is_due}, proofs.LeftFacts.left}}
+use Rattle.std.proofs.Common.{◌≡◌, ℕ, ◌<◌, true}
+use Rattle.machine_model.{specs.Processor.{after, is_due}, proofs.LeftFacts.left}
 use Rattle.machine_model.proofs.processor.Processor.run_until.Given as goal
 
 abbrev pub invariant-loop-self : goal.invariant-loop-self

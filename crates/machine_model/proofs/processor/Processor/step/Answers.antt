@@ -1,4 +1,5 @@
-use Rattle.{std.proofs.Common.{◌≡◌, ◌∙◌, None, ap}, machine_model.specs.{Processor.ProcessorView, Softirq.asked_in}}
+use Rattle.std.proofs.Common.{◌≡◌, ◌∙◌, None, ap}
+use Rattle.machine_model.specs.{Processor.ProcessorView, Softirq.asked_in}
 use Rattle.machine_model.{specs.declared.processor.Work.TheVariants.Nothing, proofs.{EndFacts.asked-ends, KeptFacts.kept-work}}
 use Rattle.machine_model.proofs.processor.Processor.step.Goals as goal
 

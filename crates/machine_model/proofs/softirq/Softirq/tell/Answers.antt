@@ -1,4 +1,5 @@
-use Rattle.{std.proofs.Common.{◌≡◌, true, refl}, std.specs.Prelude.is_some, machine_model.proofs.SoftirqFacts.told-exact}
+use Rattle.std.{proofs.Common.{◌≡◌, true, refl}, specs.Prelude.is_some}
+use Rattle.machine_model.proofs.SoftirqFacts.{told-exact}
 use Rattle.machine_model.proofs.softirq.Softirq.tell.Goals as goal
 
 pub returns-in-Some : goal.returns-in-Some

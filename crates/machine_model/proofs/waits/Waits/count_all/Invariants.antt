@@ -1,4 +1,5 @@
-use Rattle.{std.proofs.Common.{◌≡◌, drop}, machine_model.specs.Waits.counted_all}
+use Rattle.std.proofs.Common.{◌≡◌, drop}
+use Rattle.machine_model.specs.Waits.{counted_all}
 use Rattle.machine_model.proofs.waits.Waits.count_all.Given as goal
 
 abbrev pub invariant-loop-came : goal.invariant-loop-came

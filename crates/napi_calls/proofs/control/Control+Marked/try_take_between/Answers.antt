@@ -1,4 +1,5 @@
-use Rattle.{std.proofs.Common.{refl, sym, ◌∙◌}, napi_calls.proofs.Standing.{control_looked, control_busy, control_taken, control_unmarked}}
+use Rattle.std.proofs.Common.{refl, sym, ◌∙◌}
+use Rattle.napi_calls.proofs.Standing.{control_looked, control_busy, control_taken, control_unmarked}
 use Rattle.napi_calls.proofs.{Standing.{controls_moved, is_control, outside, stays_has, has_none, fresh}, Packets.{owns, quiet_step}}
 use Rattle.napi_calls.proofs.{Packets.{quiet_more, held_step, taken, fresh_behind, fresh_held}, Making.{nothing, step, still, lost}}
 use Rattle.napi_word.specs.declared.view.Holds.TheVariants.{Out}

@@ -1,4 +1,5 @@
-use Rattle.{std.proofs.Common.{[], ◌∷◌, ◌∙◌}, napi_model.specs.declared.event.Operation.TheVariants.{Look, Enable}}
+use Rattle.std.proofs.Common.{[], ◌∷◌, ◌∙◌}
+use Rattle.napi_model.specs.declared.event.Operation.TheVariants.{Look, Enable}
 use Rattle.napi_calls.proofs.{Packets.{held_self, held_more, same_self, same_more, gives_behind}, Making.{nothing, more, more_lost}}
 use Rattle.napi_calls.proofs.control.Control+Off.enable.Goals as goal
 

@@ -1,4 +1,5 @@
-use Rattle.{std.proofs.Common.{refl, sym, ap, ◌∙◌}, napi_word.specs.{declared.view.Holds.TheVariants.{Within, Out}, View.number_of}}
+use Rattle.std.proofs.Common.{refl, sym, ap, ◌∙◌}
+use Rattle.napi_word.specs.{declared.view.Holds.TheVariants.{Within, Out}, View.number_of}
 use Rattle.napi_model.specs.declared.{state.Flags.Flags, event.Call.Call}
 use Rattle.napi_calls.proofs.Standing.{looked_flags, control_looked, control_enabled, controls_moved, is_control, outside, has_none}
 use Rattle.napi_calls.proofs.{Packets.{owns, held_step, held_still, gives_back, got_back}, Making.{nothing, step, still, lost}}

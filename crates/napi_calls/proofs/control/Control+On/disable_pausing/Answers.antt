@@ -1,4 +1,5 @@
-use Rattle.{std.proofs.Common.{[], ◌∷◌, ◌∙◌, true}, napi_model.specs.declared.event.Operation.TheVariants.{Look, TakeDisable, Unmark}}
+use Rattle.std.proofs.Common.{[], ◌∷◌, ◌∙◌, true}
+use Rattle.napi_model.specs.declared.event.Operation.TheVariants.{Look, TakeDisable, Unmark}
 use Rattle.napi_calls.proofs.{Packets.fresh_behind, Making.{more, more_waits, more_busy}}
 use Rattle.napi_calls.proofs.control.Control+On.disable_pausing.Goals as goal
 

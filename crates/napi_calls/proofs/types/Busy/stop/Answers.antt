@@ -1,4 +1,5 @@
-use Rattle.{std.proofs.Common.{refl, [], ◌∷◌, ◌∙◌}, napi_model.specs.declared.event.Operation.TheVariants.{Look, BusyStop}}
+use Rattle.std.proofs.Common.{refl, [], ◌∷◌, ◌∙◌}
+use Rattle.napi_model.specs.declared.event.Operation.TheVariants.{Look, BusyStop}
 use Rattle.napi_calls.proofs.{Packets.{held_self, held_more}, Making.{nothing, more, more_lost}}
 use Rattle.napi_calls.proofs.types.Busy.stop.Goals as goal
 

@@ -1,4 +1,5 @@
-use Rattle.{std.specs.Prelude.{◌≡◌, List, flat_map}, napi_model.specs.declared.event.Call.TheVariants.BusyStop}
+use Rattle.std.specs.Prelude.{◌≡◌, List, flat_map}
+use Rattle.napi_model.specs.declared.event.Call.TheVariants.{BusyStop}
 use Rattle.napi_calls.specs.{Made.{Made, Lost, looks}, Packets.HoldsOn}
 use Rattle.napi_calls.proofs.types.Busy.stop.Given as goal
 

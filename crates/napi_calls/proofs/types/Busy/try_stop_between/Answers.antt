@@ -1,4 +1,5 @@
-use Rattle.{std.proofs.Common.{◌∙◌, ap, refl}, napi_model.specs.declared.{state.Flags.Flags, event.Call.Call}}
+use Rattle.std.proofs.Common.{◌∙◌, ap, refl}
+use Rattle.napi_model.specs.declared.{state.Flags.Flags, event.Call.Call}
 use Rattle.napi_calls.proofs.Standing.{looked, looked_flags, kept, busy_looked, busy_made, is_polling, stays_has}
 use Rattle.napi_word.specs.declared.view.Holds.TheVariants.{Out}
 use Rattle.napi_calls.proofs.{Packets.{owns, held_step, held_more}, Making.{nothing, step, lost}}

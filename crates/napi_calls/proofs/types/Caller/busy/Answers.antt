@@ -1,4 +1,5 @@
-use Rattle.{std.proofs.Common.{refl, [], ◌∷◌, ◌∙◌}, napi_model.specs.declared.event.Operation.TheVariants.{Look, BusyTake}}
+use Rattle.std.proofs.Common.{refl, [], ◌∷◌, ◌∙◌}
+use Rattle.napi_model.specs.declared.event.Operation.TheVariants.{Look, BusyTake}
 use Rattle.napi_calls.proofs.{Packets.fresh_behind, Making.{nothing, more, more_lost}}
 use Rattle.napi_calls.proofs.types.Caller.busy.Goals as goal
 

@@ -1,4 +1,5 @@
-use Rattle.{std.proofs.Common.{refl, [], ◌∷◌, ◌∙◌}, napi_model.specs.declared.event.{Operation.TheVariants.{Look, Schedule}, Prep.Prep}}
+use Rattle.std.proofs.Common.{refl, [], ◌∷◌, ◌∙◌}
+use Rattle.napi_model.specs.declared.event.{Operation.TheVariants.{Look, Schedule}, Prep.Prep}
 use Rattle.napi_calls.proofs.Making.{nothing, more, more_lost}
 use Rattle.napi_calls.proofs.types.Caller.schedule.Goals as goal
 

@@ -1,4 +1,5 @@
-use Rattle.{std.proofs.Common.{refl, sym, ◌∙◌, true≢false}, napi_calls.proofs.Standing.{looked, made, self_polling, moved, busy_made}}
+use Rattle.std.proofs.Common.{refl, sym, ◌∙◌, true≢false}
+use Rattle.napi_calls.proofs.Standing.{looked, made, self_polling, moved, busy_made}
 use Rattle.napi_calls.proofs.{Standing.{busy_moved, outside}, Packets.{quiet_step, quiet_more, taken, fresh_behind}, Making.{nothing, step}}
 use Rattle.{napi_calls.proofs.Making.{still, lost}, napi_model.specs.declared.{state.Place.Place, event.Call.Call}}
 use Rattle.napi_calls.proofs.types.Caller.try_busy_between.Goals as goal

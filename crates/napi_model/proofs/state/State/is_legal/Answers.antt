@@ -1,4 +1,5 @@
-use Rattle.{std.proofs.Common.{sym, ap, ◌∙◌}, napi_model.proofs.SeenCases.{same_seen, seen_is, seen_same}}
+use Rattle.std.proofs.Common.{sym, ap, ◌∙◌}
+use Rattle.napi_model.proofs.SeenCases.{same_seen, seen_is, seen_same}
 use Rattle.napi_model.proofs.state.State.is_legal.Goals as goal
 
 pub returns-in-Look : goal.returns-in-Look

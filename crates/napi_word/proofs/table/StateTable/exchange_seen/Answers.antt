@@ -1,4 +1,5 @@
-use Rattle.{std.proofs.Common.{ap, ◌∙◌}, napi_model.specs.{declared.event.Operation.Operation, Step.seen_after, Word.word_of}}
+use Rattle.std.proofs.Common.{ap, ◌∙◌}
+use Rattle.napi_model.specs.{declared.event.Operation.Operation, Step.seen_after, Word.word_of}
 use Rattle.napi_word.proofs.Said.{one_there}
 use Rattle.napi_word.proofs.table.StateTable.exchange_seen.Goals as goal
 

@@ -1,4 +1,5 @@
-use Rattle.{std.proofs.Common.{◌++◌, ap, ◌∙◌}, napi_word.{specs.View.View, proofs.{Said.one_there, Splitting.joins, Closing.gathered_more}}}
+use Rattle.std.proofs.Common.{◌++◌, ap, ◌∙◌}
+use Rattle.napi_word.{specs.View.View, proofs.{Said.one_there, Splitting.joins, Closing.gathered_more}}
 use Rattle.napi_word.proofs.table.StateTable.join.Goals as goal
 
 pub join_seat-requires : goal.join_seat-requires

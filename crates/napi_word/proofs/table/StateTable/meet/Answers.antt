@@ -1,4 +1,5 @@
-use Rattle.{std.proofs.Common.{sym, ap, ◌∙◌, subst}, napi_model.specs.declared.event.Operation.TheVariants.Look}
+use Rattle.std.proofs.Common.{sym, ap, ◌∙◌, subst}
+use Rattle.napi_model.specs.declared.event.Operation.TheVariants.{Look}
 use Rattle.{atomic_table.specs.Table.Me, napi_word.specs.{Slot.{Content, stays, Delivers}, View.{View, shown}, Rule.joined, Events.Steps}}
 use Rattle.napi_word.proofs.{Said.one_there, Splitting.{notes, joins}, Meets.{steps_joined, delivers_joined, meets}}
 use mathlib.Core.List.{IsPrefix}

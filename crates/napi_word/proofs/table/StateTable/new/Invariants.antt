@@ -1,4 +1,5 @@
-use Rattle.{std.proofs.Common.{◌≡◌, ℕ, ◌-◌, ◌≤◌, vec_len, vec_capacity, Some, slice_get, length}, napi_word.specs.declared.table.Pass.Pass}
+use Rattle.std.proofs.Common.{◌≡◌, ℕ, ◌-◌, ◌≤◌, vec_len, vec_capacity, Some, slice_get, length}
+use Rattle.napi_word.specs.declared.table.Pass.{Pass}
 use Rattle.napi_word.specs.{declared.view.Holds.TheVariants.Within, Rule.maker_at, Passes.{view_of, IsPassOf, IsLaid, IsNew}}
 use Rattle.napi_word.proofs.table.StateTable.new.Given as goal
 

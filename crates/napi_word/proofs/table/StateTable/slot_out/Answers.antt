@@ -1,4 +1,5 @@
-use Rattle.{std.proofs.Common.{ℕ, List, ◌∷◌, Option, Some, sym, ap, ◌∙◌}, atomic_table.specs.Table.rest}
+use Rattle.std.proofs.Common.{ℕ, List, ◌∷◌, Option, Some, sym, ap, ◌∙◌}
+use Rattle.atomic_table.specs.Table.{rest}
 use Rattle.{rx_ring.specs.declared.ends.RxCtx.RxCtx, napi_word.proofs.Allowed.{hold_within, within}}
 use Rattle.napi_word.proofs.table.StateTable.slot_out.Goals as goal
 

@@ -1,4 +1,5 @@
-use Rattle.{std.proofs.Common.{ℕ, List, Some, ap, ◌∙◌, sym, refl}, atomic_table.specs.Table.Me, napi_model.specs.declared.event.Event.Event}
+use Rattle.std.proofs.Common.{ℕ, List, Some, ap, ◌∙◌, sym, refl}
+use Rattle.{atomic_table.specs.Table.Me, napi_model.specs.declared.event.Event.Event}
 use Rattle.napi_model.specs.{declared.event.Operation.TheVariants.Look, Step.{event, opening, seen_of}, History.state_after}
 use Rattle.napi_word.specs.{declared.table.Pass.Pass, View.{View, number_of}, Passes.view_of, Slot.Content, Surveys.IsSurveyed}
 use Rattle.napi_word.proofs.{Said.one_there, Allowed.hold_nothing, Splitting.{joins_front, parts_last_of}, CatchingUp.answers_step}

@@ -1,4 +1,5 @@
-use Rattle.{std.proofs.Common.{◌≡◌, true, false, refl, rules}, poll_interrupts.proofs.Listings.{lists_more, lists_none}}
+use Rattle.std.proofs.Common.{◌≡◌, true, false, refl, rules}
+use Rattle.poll_interrupts.proofs.Listings.{lists_more, lists_none}
 use Rattle.poll_interrupts.proofs.worker.Desk.hand_over.Goals as goal
 
 pub returns-then-not-look-clause-handed : goal.returns-then-not-look-clause-handed

@@ -1,4 +1,5 @@
-use Rattle.{std.proofs.Common.{◌≡◌, ◌+◌, ◌≤◌, ◌++◌, is_some, length}, rx_ring.specs.Ends.{SameIn, capacity_of, put_list}}
+use Rattle.std.proofs.Common.{◌≡◌, ◌+◌, ◌≤◌, ◌++◌, is_some, length}
+use Rattle.rx_ring.specs.Ends.{SameIn, capacity_of, put_list}
 use Rattle.poll_interrupts.specs.{Acts.{after_acts, arrivals}, Calls.{AllActs, Lists}, Seats.IsHoldOf}
 use Rattle.poll_interrupts.proofs.worker.Desk.make_acts.Given as goal
 

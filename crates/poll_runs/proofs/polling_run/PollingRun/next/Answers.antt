@@ -1,4 +1,5 @@
-use Rattle.{std.proofs.Common.{◌≡◌, ◌∙◌, [], rules}, poll_runs.proofs.RunFacts.{ahead-popped, going-filled, none-popped}}
+use Rattle.std.proofs.Common.{◌≡◌, ◌∙◌, [], rules}
+use Rattle.poll_runs.proofs.RunFacts.{ahead-popped, going-filled, none-popped}
 use Rattle.poll_runs.proofs.polling_run.PollingRun.next.Goals as goal
 
 pub returns-clause-going : goal.returns-clause-going

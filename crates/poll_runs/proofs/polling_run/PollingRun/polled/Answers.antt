@@ -1,4 +1,5 @@
-use Rattle.{std.proofs.Common.{◌≡◌, ◌+◌, ◌∷◌, ℕ, length, subst, arith}, poll_runs.proofs.RunFacts.{going-poll, same-some}}
+use Rattle.std.proofs.Common.{◌≡◌, ◌+◌, ◌∷◌, ℕ, length, subst, arith}
+use Rattle.poll_runs.proofs.RunFacts.{going-poll, same-some}
 use Rattle.poll_runs.proofs.polling_run.PollingRun.polled.Goals as goal
 
 pub hand_on-requires-clause-list : goal.hand_on-requires-clause-list

@@ -1,4 +1,5 @@
-use Rattle.{std.proofs.Common.{◌∙◌, Some, ap, refl, rules, subst, sym}, napi_calls.specs.{declared.types.Napi.Napi, Instance.IsSeatOf}}
+use Rattle.std.proofs.Common.{◌∙◌, Some, ap, refl, rules, subst, sym}
+use Rattle.napi_calls.specs.{declared.types.Napi.Napi, Instance.IsSeatOf}
 use Rattle.poll_seats.proofs.SeatFacts.{before_turns, served_alone}
 use Rattle.poll_seats.proofs.thread_poller.ThreadSide.poll.Goals as goal
 

@@ -1,4 +1,5 @@
-use Rattle.{std.proofs.Common.{refl, ap, subst, sym, ◌∙◌, append-nil, Bool}, poll_runs.specs.Polling.next_of}
+use Rattle.std.proofs.Common.{refl, ap, subst, sym, ◌∙◌, append-nil, Bool}
+use Rattle.poll_runs.specs.Polling.{next_of}
 use Rattle.poll_shared.specs.{declared.seat.{Hold.TheVariants.{Rests, Polls}, Seat.Seat}, Seat.packets_by, SharedPolling.EndsBy}
 use Rattle.poll_shared.proofs.SeatFacts.{seat_made}
 use Rattle.poll_shared.proofs.seat.SeatInstance.complete.Goals as goal

@@ -1,4 +1,5 @@
-use Rattle.{std.proofs.Common.{ap, ◌∙◌, Some}, poll_shared.specs.{declared.seat.Hold.TheVariants.Polls, Seat.{ctx_of, pass_of}}}
+use Rattle.std.proofs.Common.{ap, ◌∙◌, Some}
+use Rattle.poll_shared.specs.{declared.seat.Hold.TheVariants.Polls, Seat.{ctx_of, pass_of}}
 use Rattle.poll_shared.proofs.SeatFacts.{back_ctx, back_gave, back_is, back_thread, polled_packets}
 use Rattle.poll_shared.proofs.seat.SeatInstance.poll.Goals as goal
 

@@ -1,4 +1,5 @@
-use Rattle.{std.proofs.Common.{◌≡◌, ◌*◌, ◌≤◌, take}, replay_rows.specs.Report.totals_of}
+use Rattle.std.proofs.Common.{◌≡◌, ◌*◌, ◌≤◌, take}
+use Rattle.replay_rows.specs.Report.{totals_of}
 use Rattle.replay_rows.proofs.report.Totals.of.Given as goal
 
 abbrev pub invariant-loop-line : goal.invariant-loop-line

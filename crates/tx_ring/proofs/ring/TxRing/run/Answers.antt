@@ -1,4 +1,5 @@
-use Rattle.{std.{proofs.Common.{◌≡◌, arith}, specs.Int.from_bool}, dql_core.proofs.Accepted.{from_bool_most, makes_more}}
+use Rattle.std.{proofs.Common.{◌≡◌, arith}, specs.Int.from_bool}
+use Rattle.dql_core.proofs.Accepted.{from_bool_most, makes_more}
 use Rattle.tx_ring.specs.{Ring.ShowsQueue, Queue.{fault_of, after}}
 use Rattle.tx_ring.proofs.ring.TxRing.run.Goals as goal
 
