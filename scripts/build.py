@@ -2,7 +2,7 @@
 ./replay, and by build.sh for scripts.
 
 Libraries stand in a folder of their own, with their statements alone as `rt ci` leaves them: `rt lib` keeps the proofs too, and a check
-over those loads several times as much. So the kit's `rattle` is called here as `rt ci` calls it.
+over those loads several times as much. So the kit's `rattle` is called here as `rt ci` calls it, and an edited crate is proved anew.
 """
 import contextlib
 import ctypes
@@ -122,8 +122,10 @@ class Crate:
         try:
             stands = os.stat(f"{self.made}/format" if self.is_library else self.made).st_mtime_ns
             parts = [os.stat(f"{TOP}/crates.txt"), *(it for crate in self.all for it in crate.texts())]
-            # A library of another kit isn't taken.
-            return max(it.st_mtime_ns for it in parts) <= stands and not (self.is_library and os.stat(f"{kit()}/KIT-ID").st_ctime_ns > stands)
+            changed = [it.st_mtime_ns for it in parts]
+            if self.is_library:  # one that another kit has built isn't taken
+                changed.append(os.stat(f"{kit()}/KIT-ID").st_ctime_ns)
+            return max(changed) <= stands
         except OSError:
             return False
 
@@ -178,7 +180,7 @@ class Build:
         self.left.sort(key=chain, reverse=True)
 
     def run(self):
-        minutes = len(self.every) // 3 + 1
+        minutes = len(self.every) // 2 + 1
         say(f"proving and building {self.names} and what they stand on, {len(self.every)} crates: on 4 cores some {minutes} minutes")
         # No old one answers for new sources, nor does one over other libraries than those that stand.
         for crate in crates().values():
