@@ -1,13 +1,26 @@
 -- A new shared instance, as its handles lead to it.
-use Rattle.std.specs.Prelude.{◌≡◌, true, Option, Some, None}
-use Rattle.c_handles.specs.declared.body.Body.{Body}
-use Rattle.c_handles.specs.Freeing.{is_off}
-use Rattle.c_handles.specs.Handles.{IsSeatWith, LeadsToController}
-use Rattle.c_handles.specs.Seats.{IsResting}
+use Rattle.std.specs.{Prelude.{◌≡◌, true, List, Option, Some, None}, Arc.arc_value, List.All}
+use Rattle.c_handles.specs.{Freeing.is_off, Handles.{IsSeatWith, LeadsToController}, Seats.IsResting}
+use Rattle.c_handles.specs.declared.{body.Body.Body, handle.FqHandle.FqHandle}
+use Rattle.napi_calls.specs.declared.types.Napi.{Napi}
 
-abbrev pub LeadsToRestingSeat : Option Body → Type 0
-LeadsToRestingSeat None = ⊥
-LeadsToRestingSeat (Some x) = IsSeatWith (λ s. IsResting s.hold) x
+-- it leads to nothing
+abbrev pub IsFree : FqHandle → Type 0
+IsFree handle = handle.held.body ≡ None
 
-abbrev pub LeadsToOffController : Option Body → Type 0
-LeadsToOffController o = LeadsToController (λ c. is_off c.mode ≡ true) o
+abbrev pub AreFree : List FqHandle → Type 0
+AreFree handles = All IsFree handles
+
+abbrev pub LeadsToRestingBody : Napi → Option Body → Type 0
+LeadsToRestingBody n None = ⊥
+LeadsToRestingBody n (Some x) = IsSeatWith (λ s. ((arc_value s.napi).napi ≡ n) × IsResting s.hold) x
+
+-- it leads to a caller of this instance, who is in no call
+abbrev pub LeadsToRestingSeat : Napi → FqHandle → Type 0
+LeadsToRestingSeat n handle = LeadsToRestingBody n handle.held.body
+
+-- the one leads to the controller of an instance that is off, and each other one to a caller of it
+abbrev pub AreOfOne : FqHandle → List FqHandle → Type 0
+AreOfOne control seats = (n : Napi)
+    × LeadsToController (λ c. ((arc_value c.napi).napi ≡ n) × (is_off c.mode ≡ true)) control.held.body
+    × All (LeadsToRestingSeat n) seats

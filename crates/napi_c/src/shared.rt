@@ -1,13 +1,14 @@
 //! A shared instance is made over the poll context of a ring.
-ghost use Rattle.std.specs.Prelude.{◌≡◌, ◌≢◌, ◌≤◌, ℕ, true, Some, length, slice_get, IfOk, IfErr, IsSome};
+ghost use Rattle.std.specs.Prelude.{◌≡◌, ◌≢◌, ◌≤◌, ◌<◌, ◌⊎◌, ◌↔◌, ℕ, true, false, Some, length, slice_get, IfOk, IfErr, IsTrue};
+ghost use Rattle.std.specs.List.{All};
 ghost use Rattle.std.specs.Arc.{arc_value};
 ghost use Rattle.napi_calls.specs.declared.types.Caller.{Caller};
 ghost use Rattle.napi_calls.specs.Instance.{IsSeatOf};
 ghost use Rattle.c_handles.specs.declared.body.Body.TheVariants as variant;
 ghost use Rattle.c_handles.specs.declared.body.Ring.{Ring};
 ghost use Rattle.c_handles.specs.Rings.{LeadsTo};
-ghost use Rattle.napi_c.specs.Shared.{LeadsToRestingSeat, LeadsToOffController};
-ghost use Rattle.c_handles.specs.Status.{OK, IN_USE, OUT_OF_MEMORY};
+ghost use Rattle.napi_c.specs.Shared.{AreFree, AreOfOne, IsFree, LeadsToRestingSeat};
+ghost use Rattle.c_handles.specs.Status.{OK, IN_USE, BAD_COUNT, OUT_OF_MEMORY};
 
 use c_handles::{
     Body, Controller, FqAnswers, FqHandle, Hold, Input, Mode, Ring, Seat, Shared, status,
@@ -18,13 +19,10 @@ use std::alloc::Global;
 use std::mem;
 use std::sync::Arc;
 
-fn is_any_set(handles: &[FqHandle]) -> bool {
-    for handle in handles {
-        if handle.is_set() {
-            return true;
-        }
-    }
-    false
+fn are_free(handles: &[FqHandle]) -> bool
+    ensures { IsTrue result ↔ AreFree handles.now }
+{
+    handles.iter().all(|handle| !handle.is_set())
 }
 
 // A new instance with its callers and its controller.
@@ -72,10 +70,12 @@ fn reserve(alloc: Global, handle: &mut FqHandle) -> bool {
 }
 
 // Takes it for all, or for none.
-fn reserve_all(alloc: Global, control: &mut FqHandle, seats: &mut [FqHandle]) -> bool {
+fn reserve_all(alloc: Global, control: &mut FqHandle, seats: &mut [FqHandle]) -> bool
+    ensures { result ≡ false → IsFree control.new × AreFree seats.new }
+{
     let mut is_there = reserve(alloc, control);
-    for i in 0..seats.len() {
-        is_there = is_there && reserve(alloc, &mut seats[i]);
+    for seat in seats.iter_mut() {
+        is_there = is_there && reserve(alloc, seat);
     }
     if !is_there {
         clear(alloc, control, seats);
@@ -84,10 +84,13 @@ fn reserve_all(alloc: Global, control: &mut FqHandle, seats: &mut [FqHandle]) ->
 }
 
 // Lets them lead to nothing.
-fn clear(alloc: Global, control: &mut FqHandle, seats: &mut [FqHandle]) {
+fn clear(alloc: Global, control: &mut FqHandle, seats: &mut [FqHandle])
+    ensures control { IsFree control.new }
+    ensures seats { AreFree seats.new }
+{
     let _control = control.take(alloc);
-    for i in 0..seats.len() {
-        let _seat = seats[i].take(alloc);
+    for seat in seats.iter_mut() {
+        let _seat = seat.take(alloc);
     }
 }
 
@@ -110,7 +113,7 @@ fn give_seat(
     handle: &mut FqHandle,
 ) -> bool
     requires { IsSeatOf (arc_value shared.now).napi caller.pass }
-    ensures { result ≡ true → LeadsToRestingSeat handle.new.held.body }
+    ensures { result ≡ true → LeadsToRestingSeat (arc_value shared.now).napi handle.new }
 {
     let Ok(napi) = Arc::try_clone(shared) else {
         caller.abandon();
@@ -139,24 +142,22 @@ fn give_seats(
 ) -> bool
     requires { (k : ℕ) (c : Caller) → slice_get callers.items k ≡ Some c
         → IsSeatOf (arc_value shared.now).napi c.pass }
+    ensures { result ≡ true → All (LeadsToRestingSeat (arc_value shared.now).napi) handles.new }
 {
     let mut given = true;
-    for i in 0..handles.len() {
-        match callers.pop() {
-            Some(caller) => {
-                if !give_seat(alloc, shared, caller, &mut handles[i]) {
-                    given = false;
-                }
-            }
-            None => given = false,
-        }
+    for handle in handles.iter_mut() {
+        given = match callers.pop() {
+            Some(caller) => give_seat(alloc, shared, caller, handle) && given,
+            None => false,
+        };
     }
     abandon_all(callers);
     given
 }
 
 fn give(alloc: Global, opened: Opened, control: &mut FqHandle, seats: &mut [FqHandle]) -> u32
-    ensures control { result ≡ OK → LeadsToOffController control.new.held.body }
+    ensures made { result ≡ OK → AreOfOne control.new seats.new }
+    ensures memory { result ≡ OUT_OF_MEMORY → IsFree control.new × AreFree seats.new }
     ensures only { result ≢ OK → result ≡ OUT_OF_MEMORY }
 {
     let Opened { napi, callers, off } = opened;
@@ -175,7 +176,9 @@ fn give(alloc: Global, opened: Opened, control: &mut FqHandle, seats: &mut [FqHa
 // Makes an instance over the ring that is there, of which its input stays.
 fn share(alloc: Global, body: &mut Body, control: &mut FqHandle, seats: &mut [FqHandle]) -> u32
     requires { (2 ≤ length seats.old) × (length seats.old ≤ 8) }
-    ensures control { result ≡ OK → LeadsToOffController control.new.held.body }
+    ensures made { result ≡ OK → AreOfOne control.new seats.new }
+    ensures memory { result ≡ OUT_OF_MEMORY → IsFree control.new × AreFree seats.new }
+    ensures only { (r : Ring) → body.old ≡ variant.Ring r → result ≢ OK → result ≡ OUT_OF_MEMORY }
     ensures input { (r : Ring) → body.old ≡ variant.Ring r → result ≡ OK
         → body.new ≡ variant.In r.input }
     ensures kept { result ≢ OK → result ≢ OUT_OF_MEMORY → (control.new ≡ control.old)
@@ -213,15 +216,20 @@ pub extern "C" fn fq_shared_new(
     control: &mut FqHandle,
     seats: &mut [FqHandle],
 ) -> u32
-    ensures control { result ≡ OK → LeadsToOffController control.new.held.body }
+    ensures made { result ≡ OK → AreOfOne control.new seats.new }
     ensures input { (r : Ring) → LeadsTo input.old r → result ≡ OK
         → input.new.held.body ≡ Some (variant.In r.input) }
     ensures kept { result ≢ OK → result ≢ OUT_OF_MEMORY → (control.new ≡ control.old)
         × (seats.new ≡ seats.old) × (input.new.held.body ≡ input.old.held.body) }
-    ensures in_use { IsSome control.old.held.body → result ≡ IN_USE }
-    ensures count { result ≡ OK → (2 ≤ length seats.old) × (length seats.old ≤ 8) }
+    ensures memory { result ≡ OUT_OF_MEMORY → IsFree control.new × AreFree seats.new }
+    ensures in_use { ¬ (IsFree control.old × AreFree seats.old) → result ≡ IN_USE }
+    ensures count { IsFree control.old → AreFree seats.old
+        → (length seats.old < 2) ⊎ (8 < length seats.old) → result ≡ BAD_COUNT }
+    ensures only { (r : Ring) → LeadsTo input.old r → IsFree control.old → AreFree seats.old
+        → (2 ≤ length seats.old) × (length seats.old ≤ 8)
+        → (result ≡ OK) ⊎ (result ≡ OUT_OF_MEMORY) }
 {
-    if control.is_set() || is_any_set(seats) {
+    if control.is_set() || !are_free(seats) {
         return status::IN_USE;
     }
     if seats.len() < 2 || 8 < seats.len() {
@@ -243,13 +251,18 @@ pub extern "C" fn fq_shared_bare(
     control: &mut FqHandle,
     seats: &mut [FqHandle],
 ) -> u32
-    ensures control { result ≡ OK → LeadsToOffController control.new.held.body }
+    ensures made { result ≡ OK → AreOfOne control.new seats.new }
     ensures kept { result ≢ OK → result ≢ OUT_OF_MEMORY → (control.new ≡ control.old)
         × (seats.new ≡ seats.old) }
-    ensures in_use { IsSome control.old.held.body → result ≡ IN_USE }
-    ensures count { result ≡ OK → (2 ≤ length seats.old) × (length seats.old ≤ 8) }
+    ensures memory { result ≡ OUT_OF_MEMORY → IsFree control.new × AreFree seats.new }
+    ensures in_use { ¬ (IsFree control.old × AreFree seats.old) → result ≡ IN_USE }
+    ensures count { IsFree control.old → AreFree seats.old
+        → (length seats.old < 2) ⊎ (8 < length seats.old) → result ≡ BAD_COUNT }
+    ensures only { IsFree control.old → AreFree seats.old
+        → (2 ≤ length seats.old) × (length seats.old ≤ 8)
+        → (result ≡ OK) ⊎ (result ≡ OUT_OF_MEMORY) }
 {
-    if control.is_set() || is_any_set(seats) {
+    if control.is_set() || !are_free(seats) {
         return status::IN_USE;
     }
     if seats.len() < 2 || 8 < seats.len() {

@@ -1,11 +1,12 @@
 //! Transmit rings for C, under a byte queue limit each.
-ghost use Rattle.std.specs.Prelude.{◌≡◌, ◌≢◌, ◌<◌, ◌⊎◌, ◌↔◌, None, IsSome};
+ghost use Rattle.std.specs.Prelude.{◌≡◌, ◌≢◌, ◌<◌, ◌≤◌, ◌⊎◌, ◌↔◌, None, Some, IsNone, IsSome};
 ghost use Rattle.dql_core.specs.Bounds.{DQL_MAX_LIMIT};
 ghost use Rattle.dql_core.specs.Limit.{opening};
-ghost use Rattle.tx_ring.specs.Queue.{TransmitQueue, opening_queue, state_of, after_send, after_done, send_fault, done_fault};
+ghost use Rattle.dql_core.specs.declared.event.DqlFault.TheVariants.{BadBounds};
+ghost use Rattle.tx_ring.specs.Queue.{TransmitQueue, most_places, opening_queue, state_of, after_send, after_done, send_fault, done_fault};
 ghost use Rattle.tx_ring.specs.Ring.{ShowsQueue};
 ghost use Rattle.tx_ring.specs.declared.event.TxFault.{TxFault};
-ghost use Rattle.c_handles.specs.Status.{OK, IN_USE, BAD_HANDLE};
+ghost use Rattle.c_handles.specs.Status.{OK, IN_USE, BAD_CAPACITY, BAD_HANDLE, OUT_OF_MEMORY, dql_status};
 ghost use Rattle.c_handles.specs.Transmits.{IsTxWith, TxShows, tx_status};
 
 use c_handles::{Body, FqHandle, status};
@@ -41,7 +42,13 @@ pub extern "C" fn fq_tx_new(
     ensures made { result ≡ OK
         → TxShows handle.new (opening_queue capacity (opening min max hold now)) }
     ensures kept { result ≢ OK → handle.new ≡ handle.old }
-    ensures bounds { result ≡ OK → ¬ ((max < min) ⊎ (DQL_MAX_LIMIT < max)) }
+    ensures bounds { IsNone handle.old.held.body
+        → (max < min) ⊎ (DQL_MAX_LIMIT < max) → result ≡ dql_status (Some BadBounds) }
+    ensures capacity { IsNone handle.old.held.body → (min ≤ max) × (max ≤ DQL_MAX_LIMIT)
+        → (capacity ≡ 0) ⊎ (most_places < capacity) → result ≡ BAD_CAPACITY }
+    ensures only { IsNone handle.old.held.body → (min ≤ max) × (max ≤ DQL_MAX_LIMIT)
+        → (1 ≤ capacity) × (capacity ≤ most_places)
+        → (result ≡ OK) ⊎ (result ≡ OUT_OF_MEMORY) }
     ensures in_use { IsSome handle.old.held.body → result ≡ IN_USE }
 {
     if handle.is_set() {

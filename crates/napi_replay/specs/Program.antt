@@ -2,6 +2,7 @@
 use Rattle.std.specs.Prelude.{◌≡◌, ℕ, Bool, List, Option, Some, None, Ok, Err}
 use Rattle.replay_threads.specs.Answer.{RanBy, threads_of}
 use Rattle.replay_threads.specs.Answer.{IsOutside as IsOutsideThreads}
+use Rattle.replay_threads.specs.SharedRun.{RanShared}
 use Rattle.replay_threads.specs.declared.polled.Polled.{Polled}
 use Rattle.replay_text.specs.Outside.{IsOutside}
 use Rattle.replay_text.specs.Program.{IsFaultOf, IsTextBy}
@@ -43,9 +44,12 @@ IsReport words = IsTextBy (AskFor words) (λ asked. IsReportIn asked.0 asked.1)
 abbrev pub IsFault : List Text → Option (List ℕ) → ProgramFault → Type 0
 IsFault words = IsFaultOf (asked_for words ≡ None) (AskFor words) (λ asked. IsOutsideIn asked.0) (λ asked. IsFaultIn asked.0 asked.1)
 
--- in threads mode the rows of the bytes read were polled as these settings say, whatever a gate answered that is always open
+-- In shared mode the rows of the bytes read were played over instances that threads could share, and in threads mode polled as these
+-- settings say, whatever a gate answered that is always open.
 abbrev pub RanIn : Type 0 → Mode → Settings → Option (List ℕ) → Type 0
-RanIn R mode s input = mode ≡ Threads → (told : List Polled) × RanBy R (λ by. Bool × Unit {0}) s input told
+RanIn R Serial s input = Unit
+RanIn R Shared s input = RanShared s input
+RanIn R Threads s input = (told : List Polled) × RanBy R (λ by. Bool × Unit {0}) s input told
 
 -- in the mode and by the settings that the words ask for
 abbrev pub Ran : Type 0 → List Text → Option (List ℕ) → Type 0

@@ -88,7 +88,8 @@ pub fn run_program<H: Threads + Wait + Sync, R: Read + Drop, W: Write, E: Write>
     // else.
     ensures written { result.status ≡ 0 → Writes (IsReport (map string_bytes words.now))
         (R.remaining input) (W.contents output.old) (W.contents output.new) }
-    // In threads mode it was polled by the settings that the words ask for.
+    // In shared mode its rows were played over shared instances; in threads mode they were polled by the settings that the words
+    // ask for.
     ensures run { result.status ≡ 0
         → Ran (Bor H) (map string_bytes words.now) (R.remaining input) }
     ensures untold { result.status ≡ 0 → result.told ≡ false }

@@ -1,5 +1,5 @@
 -- What a worker promises of its own station.
-use Rattle.std.specs.Prelude.{◌≡◌, ℕ, ◌+◌, ◌≤◌, ◌++◌, Bool, true, false, length}
+use Rattle.std.specs.Prelude.{◌≡◌, ℕ, ◌+◌, ◌<◌, ◌≤◌, ◌++◌, Bool, true, false, length}
 use Rattle.rx_ring.specs.{declared.ends.RxIn.RxIn, Ends.SameIn}
 use Rattle.{rx_ring.specs.Ends.{capacity_of, put_list}, napi_calls.specs.{declared.types.Napi.Napi, Seats.{number_of, own_list}}}
 use Rattle.poll_interrupts.specs.{declared.{acts.Act.Act, worker.{Seats.Seats, Work.Work, Done.Done}, job.Worked.Worked}, Acts.after_acts}
@@ -24,7 +24,12 @@ whose seats rx thread =
 abbrev pub AreSameSeats : Seats → Seats → Type 0
 AreSameSeats a b = (number_of b.caller.pass ≡ number_of a.caller.pass) × (number_of b.control.pass ≡ number_of a.control.pass)
 
-module _ {R D : Type 0} (acts : D → ℕ) (answer : D → ℕ → Act) (after : D → ℕ → D) where
+-- the gate was asked before each of so many acts, by this number and the act's, and let it be made
+abbrev pub WasLet : (ℕ → ℕ → Bool → Type 0) → ℕ → ℕ → Type 0
+WasLet answers number acts = (k : ℕ) → k < acts → answers number k true
+
+-- `answers` is what a gate answers: to whom, before which act
+module _ {R D : Type 0} (acts : D → ℕ) (answer : D → ℕ → Act) (after : D → ℕ → D) (answers : ℕ → ℕ → Bool → Type 0) where
   -- what it did is the run of these acts, by the events that its seats had before and have afterwards
   abbrev pub HasWorked : Bool → Work R D → Done R D → Type 0
   HasWorked thread work done =
@@ -37,6 +42,7 @@ module _ {R D : Type 0} (acts : D → ℕ) (answer : D → ℕ → Act) (after :
     pub same : AreSameSeats work.seats.value done.seats.value
     -- it pushed the station's number for each hand-over to the list, once, and nothing else
     pub lists : Lists number work.seats.value.caller.pass done.seats.value.caller.pass work.list done.list
+    pub let_go : done.whole ≡ true → WasLet answers number (acts work.device)
     pub run : done.whole ≡ true → HasWorked thread work done
     pub made : done.whole ≡ true → done.device ≡ after_acts after work.device (acts work.device)
     pub ring : SameIn work.rx done.rx

@@ -33,7 +33,7 @@ impl<'t, 'p, 'n, R: Wait + Copy + Drop, D: Device + Drop, G: Gate> Task<Worked<R
 
     ghost can_run = { λ job. AreSeatsOf job.desk.napi.now job.work.seats.value };
 
-    ghost gives = { λ job worked. IsWorkOf D.acts D.answer D.after job.desk.napi.now (is_some job.desk.thread) job.desk.number job.work worked };
+    ghost gives = { λ job worked. IsWorkOf D.acts D.answer D.after (G.answers job.gate.now) job.desk.napi.now (is_some job.desk.thread) job.desk.number job.work worked };
 
     fn is_idle(&self) -> bool {
         false

@@ -6,7 +6,7 @@ ghost use Rattle.napi_calls.specs.Instance.{IsSeatOf};
 ghost use Rattle.poll_interrupts.specs.Acts.{after_acts, arrivals, brings};
 ghost use Rattle.poll_interrupts.specs.Calls.{Acts, AllActs, HandsOver, Interrupts, IsPutLast, IsSameHold, Leaves, Lists, TurnsOn};
 ghost use Rattle.poll_interrupts.specs.Seats.{AreSeatsOf, IsHoldOf, IsPowerOf};
-ghost use Rattle.poll_interrupts.specs.Works.{IsDoneBy};
+ghost use Rattle.poll_interrupts.specs.Works.{IsDoneBy, WasLet};
 
 use crate::acts::{Act, Device};
 use napi_calls::{Between, Caller, Control, Granted, Kept, Napi, Off, On, Sched};
@@ -218,7 +218,9 @@ impl<'s, 'p, 'n, R: Wait> Desk<'s, 'p, 'n, R> {
     }
 
     // Whether the worker may make its next act. Where the gate says no, the run is shut.
-    fn may_act<G: Gate>(&self, gate: &G, k: u32) -> bool {
+    fn may_act<G: Gate>(&self, gate: &G, k: u32) -> bool
+        ensures { result ≡ true → G.answers gate.now self.now.number k true }
+    {
         if !self.signals.go_on() {
             return false;
         }
@@ -247,6 +249,8 @@ impl<'s, 'p, 'n, R: Wait> Desk<'s, 'p, 'n, R> {
         ensures made { result.1 ≡ true
             → AllActs (is_some self.now.thread) D.answer D.after device.old
             (D.acts device.old) hold result.0 rx.old rx.new }
+        ensures let_go { result.1 ≡ true
+            → WasLet (G.answers gate.now) self.now.number (D.acts device.old) }
         ensures device { result.1 ≡ true
             → device.new ≡ after_acts D.after device.old (D.acts device.old) }
         ensures ring { SameIn rx.old rx.new }
@@ -272,7 +276,7 @@ impl<'s, 'p, 'n, R: Wait + Drop + Copy> Desk<'s, 'p, 'n, R> {
     /// Makes the device's acts over an instance that is enabled before, and disabled after.
     pub(crate) fn work<D: Device, G: Gate>(&self, gate: &G, work: Work<R, D>) -> Done<R, D>
         requires { AreSeatsOf self.now.napi.now work.seats.value }
-        ensures { IsDoneBy D.acts D.answer D.after self.now.napi.now
+        ensures { IsDoneBy D.acts D.answer D.after (G.answers gate.now) self.now.napi.now
             (is_some self.now.thread) self.now.number work result }
     {
         let Work {

@@ -32,12 +32,12 @@ record Runs {D : Type 0} (acts : D → ℕ) (answer : D → ℕ → Act) (after 
   pub by_poller : HasAllOf run.ended.history poller
   pub by_thread : HasAllOf run.ended.history thread
 
-run_of : {R D : Type 0} (acts : D → ℕ) (answer : D → ℕ → Act) (after : D → ℕ → D) (station : Station D) (loose : Kept R (Loose D))
-    (worked : Worked R D) (poller thread : Kept R Caller) (end : Finished D)
-    → IsLoose station loose.value → IsWorkedOf acts answer after loose worked → worked.done.whole ≡ true
+run_of : {R D : Type 0} (acts : D → ℕ) (answer : D → ℕ → Act) (after : D → ℕ → D) (answers : ℕ → ℕ → Bool → Type 0)
+    (station : Station D) (loose : Kept R (Loose D)) (worked : Worked R D) (poller thread : Kept R Caller) (end : Finished D)
+    → IsLoose station loose.value → IsWorkedOf acts answer after answers loose worked → worked.done.whole ≡ true
     → IsFinishOf worked poller thread end
     → Runs acts answer after station poller.value thread.value end
-run_of {R} {D} acts answer after station loose worked poller thread end opened made whole ended =
+run_of {R} {D} acts answer after answers station loose worked poller thread end opened made whole ended =
     let work = made.1 in
     let done = made.5.done in
     let new = opened.unused in
@@ -82,12 +82,12 @@ run_of {R} {D} acts answer after station loose worked poller thread end opened m
     }
 
 -- a station whose worker made all its acts, and which was ended, is finished
-finished_of : {R D : Type 0} (acts : D → ℕ) (answer : D → ℕ → Act) (after : D → ℕ → D) (station : Station D) (loose : Kept R (Loose D))
-    (worked : Worked R D) (poller thread : Kept R Caller) (end : Finished D)
-    → IsLoose station loose.value → IsWorkedOf acts answer after loose worked → worked.done.whole ≡ true
+finished_of : {R D : Type 0} (acts : D → ℕ) (answer : D → ℕ → Act) (after : D → ℕ → D) (answers : ℕ → ℕ → Bool → Type 0)
+    (station : Station D) (loose : Kept R (Loose D)) (worked : Worked R D) (poller thread : Kept R Caller) (end : Finished D)
+    → IsLoose station loose.value → IsWorkedOf acts answer after answers loose worked → worked.done.whole ≡ true
     → IsFinishOf worked poller thread end
-    → IsFinished acts answer after station end
-finished_of {R} {D} acts answer after station loose worked poller thread end opened made whole ended = search (rules, capped_small)
+    → IsFinished acts answer after answers station end
+finished_of {R} {D} acts answer after answers station loose worked poller thread end opened made whole ended = search (rules, capped_small)
 
 -- ---- the stations of a crew, how they ended, and what polled them
 
@@ -121,10 +121,11 @@ posts_of (w ∷ ws) (p ∷ ps) (t ∷ ts) (e ∷ es) h =
     }
 posts_of ws ps ts es h = absurd h
 
-module _ {R D : Type 0} (acts : D → ℕ) (answer : D → ℕ → Act) (after : D → ℕ → D) (asked : ℕ → Type 0) (pace : Pace) where
+module _ {R D : Type 0} (acts : D → ℕ) (answer : D → ℕ → Act) (after : D → ℕ → D) (answers : ℕ → ℕ → Bool → Type 0)
+    (asked : ℕ → Type 0) (pace : Pace) where
   -- the worker of this station gave this back, and so did its thread
   abbrev Works : Station D → Worked R D → Type 0
-  Works station worked = (loose : Kept R (Loose D)) × IsKeptLoose station loose × IsWorkedOf acts answer after loose worked
+  Works station worked = (loose : Kept R (Loose D)) × IsKeptLoose station loose × IsWorkedOf acts answer after answers loose worked
 
   abbrev Turns : Station D → Turned (Kept R Caller) → Type 0
   Turns station given = (loose : Kept R (Loose D)) × IsKeptLoose station loose × HasTurned asked pace loose given
@@ -135,7 +136,7 @@ module _ {R D : Type 0} (acts : D → ℕ) (answer : D → ℕ → Act) (after :
       → IsCourse R asked pace acts answer after
       (record { station = station; end = post.end; poller = post.poller.value; thread = post.thread.back.value })
   course_of station post works turns whole polled finish =
-      let run = run_of acts answer after station works.0 post.worked post.poller post.thread.back post.end works.1 works.2 whole finish in
+      let run = run_of acts answer after answers station works.0 post.worked post.poller post.thread.back post.end works.1 works.2 whole finish in
       let loose = turns.0.value in
       let number =
       subst (λ n. TurnsIfThread R asked pace (is_some loose.pause) n loose.thread post.thread.back.value) turns.1.same_number
@@ -157,7 +158,7 @@ module _ {R D : Type 0} (acts : D → ℕ) (answer : D → ℕ → Act) (after :
     pub ends_are : map (λ c. c.end) all ≡ map (λ p. p.end) posts
     pub pollers_are : map (λ c. c.poller) all ≡ map (λ (k : Kept R Caller). k.value) (map (λ p. p.poller) posts)
     pub each : AllByRecursion (IsCourse R asked pace acts answer after) all
-    pub finished : AllZip (IsFinished acts answer after) stations (map (λ p. p.end) posts)
+    pub finished : AllZip (IsFinished acts answer after answers) stations (map (λ p. p.end) posts)
 
   courses_of : (stations : List (Station D)) (posts : List (Post R D)) → AllZip Works stations (map (λ p. p.worked) posts)
       → AllZip Turns stations (map (λ p. p.thread) posts)
@@ -175,7 +176,7 @@ module _ {R D : Type 0} (acts : D → ℕ) (answer : D → ℕ → Act) (after :
         pollers_are = ap (λ l. p.poller.value ∷ l) more.pollers_are;
         each = (course_of s p works.0 turns.0 whole.0 polled.0 finish.0, more.each);
         finished = (
-          finished_of acts answer after s works.0.0 p.worked p.poller p.thread.back p.end works.0.1 works.0.2 whole.0 finish.0,
+          finished_of acts answer after answers s works.0.0 p.worked p.poller p.thread.back p.end works.0.1 works.0.2 whole.0 finish.0,
           more.finished,
         );
       }
@@ -209,26 +210,26 @@ fresh_of station seat (loose, opened, for) =
     }
 
 -- what the threads of a crew came to, where the answer is no fault
-module _ {R D : Type 0} (acts : D → ℕ) (answer : D → ℕ → Act) (after : D → ℕ → D) (asked : ℕ → Type 0) (pace : Pace) (number : ℕ)
-    (list : SharedList R)
+module _ {R D : Type 0} (acts : D → ℕ) (answer : D → ℕ → Act) (after : D → ℕ → D) (answers : ℕ → ℕ → Bool → Type 0)
+    (asked : ℕ → Type 0) (pace : Pace) (number : ℕ) (list : SharedList R)
     (stations : List (Station D)) (loose : List (Kept R (Loose D))) (worked : List (Worked R D)) (pollers : List (Kept R Caller))
     (threads : List (Turned (Kept R Caller)))
-    (polled : Bool) (opened : AllZip IsKeptLoose stations loose) (made : AllZip (IsWorkedOf acts answer after) loose worked)
+    (polled : Bool) (opened : AllZip IsKeptLoose stations loose) (made : AllZip (IsWorkedOf acts answer after answers) loose worked)
     (ran : polled ≡ true → HasPolled asked pace number list loose pollers) (turned : AllZip (HasTurned asked pace) loose threads) where
   crew_courses : (ends : List (Finished D)) → All (λ w. w.done.whole ≡ true) worked → All (λ t. t.polled ≡ true) threads
       → (posts : Posts worked pollers threads ends)
-      → Courses acts answer after asked pace stations posts.all
+      → Courses acts answer after answers asked pace stations posts.all
   crew_courses ends whole whole_turns posts =
-      courses_of acts answer after asked pace stations posts.all
-      (subst (λ l. AllZip (Works acts answer after asked pace) stations l) (sym posts.worked_are) (zip_both _ _ _ _ _ opened made))
-      (subst (λ l. AllZip (Turns acts answer after asked pace) stations l) (sym posts.threads_are) (zip_both _ _ _ _ _ opened turned))
+      courses_of acts answer after answers asked pace stations posts.all
+      (subst (λ l. AllZip (Works acts answer after answers asked pace) stations l) (sym posts.worked_are) (zip_both _ _ _ _ _ opened made))
+      (subst (λ l. AllZip (Turns acts answer after answers asked pace) stations l) (sym posts.threads_are) (zip_both _ _ _ _ _ opened turned))
       (subst (λ l. AllByRecursion (λ (w : Worked R D). w.done.whole ≡ true) l) (sym posts.worked_are) (each_of _ _ whole))
       (subst (λ l. AllByRecursion (λ (t : Turned (Kept R Caller)). t.polled ≡ true) l) (sym posts.threads_are) (each_of _ _ whole_turns))
       posts.each
 
   -- the stations are finished, and were polled
   record Both (ends : List (Finished D)) : Type 0 where
-    pub finished : AllZip (IsFinished acts answer after) stations ends
+    pub finished : AllZip (IsFinished acts answer after answers) stations ends
     pub of_crew : AreOfCrew R asked pace acts answer after number stations ends
 
   both : (ends : List (Finished D)) (n : ℕ) → IsNewList n list → All (λ w. w.done.whole ≡ true) worked → polled ≡ true
@@ -244,7 +245,7 @@ module _ {R D : Type 0} (acts : D → ℕ) (answer : D → ℕ → Act) (after :
       zip_values (λ k. k.value) IsSpentSeat pollers has.after (zip_same _ _ _ _ (λ k a h. h.1) (zip_flip _ _ _ has.to)) in
       let callers = courses.pollers_are ∙ ap (λ (l : List (Kept R Caller)). map (λ k. k.value) l) posts.pollers_are in
       record {
-        finished = subst (λ l. AllZip (IsFinished acts answer after) stations l) posts.ends_are courses.finished;
+        finished = subst (λ l. AllZip (IsFinished acts answer after answers) stations l) posts.ends_are courses.finished;
         of_crew = record {
           courses = courses.all;
           stations_are = courses.stations_are;
@@ -269,7 +270,7 @@ module _ {R D : Type 0} (acts : D → ℕ) (answer : D → ℕ → Act) (after :
       → IfOk ends (λ _. All (λ w. w.done.whole ≡ true) worked) → IfOk ends (λ _. polled ≡ true)
       → IfOk ends (λ _. All (λ t. t.polled ≡ true) threads)
       → IfOk ends (λ all. AreFinishesOf worked pollers threads (vec_items all))
-      → IfOk ends (λ all. AllZip (IsFinished acts answer after) stations (vec_items all))
+      → IfOk ends (λ all. AllZip (IsFinished acts answer after answers) stations (vec_items all))
   answer_finished ends n new whole whole_run whole_turns finish = grind (arith, common_steps, both)
 
   pub answer_polled : {F : Type 0} (ends : Result (Vec (Finished D)) F) (n : ℕ) → IsNewList n list
@@ -281,41 +282,44 @@ module _ {R D : Type 0} (acts : D → ℕ) (answer : D → ℕ → Act) (after :
   answer_polled (Err fault) n new whole whole_run whole_turns finish = tt
 
 -- what the workers of the jobs gave back is of the stations
-worked_of : {R D G : Type 0} (acts : D → ℕ) (answer : D → ℕ → Act) (after : D → ℕ → D) (loose : Kept R (Loose D)) (job : Job R D G)
-    (worked : Worked R D)
-    → IsKeptJobOf loose job → IsWorkOf acts answer after job.desk.napi.now (is_some job.desk.thread) job.desk.number job.work worked
-    → IsWorkedOf acts answer after loose worked
-worked_of {R} {D} acts answer after loose job worked given made =
-    (job.desk.napi.now, job.work, given.same_device, given.same_rx, given.same_seats, rw (← given.same_number, ← given.thread) made)
+worked_of : {R D G : Type 0} (acts : D → ℕ) (answer : D → ℕ → Act) (after : D → ℕ → D) (answers : G → ℕ → ℕ → Bool → Type 0)
+    (setting : Setting R G) (loose : Kept R (Loose D)) (job : Job R D G) (worked : Worked R D)
+    → IsKeptJobOf setting loose job
+    → IsWorkOf acts answer after (answers job.gate.now) job.desk.napi.now (is_some job.desk.thread) job.desk.number job.work worked
+    → IsWorkedOf acts answer after (answers setting.gate.now) loose worked
+worked_of {R} {D} acts answer after answers setting loose job worked given made =
+    (job.desk.napi.now, job.work, given.same_device, given.same_rx, given.same_seats, rw (← given.same_number, ← given.thread, ← given.gate) made)
 
-pub all_worked : {R D G : Type 0} (acts : D → ℕ) (answer : D → ℕ → Act) (after : D → ℕ → D)
-    (loose : List (Kept R (Loose D))) (jobs : List (Job R D G)) (worked : List (Worked R D))
-    → AllZip IsKeptJobOf loose jobs
-    → AllZip (λ (j : Job R D G) w. IsWorkOf acts answer after j.desk.napi.now (is_some j.desk.thread) j.desk.number j.work w) jobs worked
-    → AllZip (IsWorkedOf acts answer after) loose worked
-all_worked acts answer after loose jobs worked given made =
-    zip_same _ _ _ _ (λ k w h. worked_of acts answer after k h.0 w h.1 h.2) (zip_both _ _ _ _ _ given made)
+pub all_worked : {R D G : Type 0} (acts : D → ℕ) (answer : D → ℕ → Act) (after : D → ℕ → D) (answers : G → ℕ → ℕ → Bool → Type 0)
+    (setting : Setting R G) (loose : List (Kept R (Loose D))) (jobs : List (Job R D G)) (worked : List (Worked R D))
+    → AllZip (IsKeptJobOf setting) loose jobs
+    → AllZip (λ (j : Job R D G) w. IsWorkOf acts answer after (answers j.gate.now) j.desk.napi.now (is_some j.desk.thread) j.desk.number
+    j.work w) jobs worked
+    → AllZip (IsWorkedOf acts answer after (answers setting.gate.now)) loose worked
+all_worked acts answer after answers setting loose jobs worked given made =
+    zip_same _ _ _ _ (λ k w h. worked_of acts answer after answers setting k h.0 w h.1 h.2) (zip_both _ _ _ _ _ given made)
 
-done_at : {R D G : Type 0} (acts : D → ℕ) (answer : D → ℕ → Act) (after : D → ℕ → D) (placed : Kept R Placed) (loose : Kept R (Loose D))
-    (job : Job R D G) (worked : Worked R D)
-    → IsKeptSideOf loose placed → IsKeptJobOf loose job → IsJobAt placed job
-    → IsWorkOf acts answer after job.desk.napi.now (is_some job.desk.thread) job.desk.number job.work worked
+done_at : {R D G : Type 0} (acts : D → ℕ) (answer : D → ℕ → Act) (after : D → ℕ → D) (answers : G → ℕ → ℕ → Bool → Type 0)
+    (setting : Setting R G) (placed : Kept R Placed) (loose : Kept R (Loose D)) (job : Job R D G) (worked : Worked R D)
+    → IsKeptSideOf loose placed → IsKeptJobOf setting loose job → IsJobAt placed job
+    → IsWorkOf acts answer after (answers job.gate.now) job.desk.napi.now (is_some job.desk.thread) job.desk.number job.work worked
     → IsDoneAt worked placed
-done_at acts answer after placed loose job worked side given at made = search (rules, same_ring)
+done_at acts answer after answers setting placed loose job worked side given at made = search (rules, same_ring)
 
 -- what the workers gave back is of the instances that stayed behind
-pub all_done_at : {R D G : Type 0} (acts : D → ℕ) (answer : D → ℕ → Act) (after : D → ℕ → D)
-    (placed : List (Kept R Placed)) (loose : List (Kept R (Loose D))) (jobs : List (Job R D G)) (worked : List (Worked R D))
-    → AllZip IsKeptSideOf loose placed → AllZip IsKeptJobOf loose jobs → AllZip IsJobAt placed jobs
-    → AllZip (λ (j : Job R D G) w. IsWorkOf acts answer after j.desk.napi.now (is_some j.desk.thread) j.desk.number j.work w) jobs worked
+pub all_done_at : {R D G : Type 0} (acts : D → ℕ) (answer : D → ℕ → Act) (after : D → ℕ → D) (answers : G → ℕ → ℕ → Bool → Type 0)
+    (setting : Setting R G) (placed : List (Kept R Placed)) (loose : List (Kept R (Loose D))) (jobs : List (Job R D G)) (worked : List (Worked R D))
+    → AllZip IsKeptSideOf loose placed → AllZip (IsKeptJobOf setting) loose jobs → AllZip IsJobAt placed jobs
+    → AllZip (λ (j : Job R D G) w. IsWorkOf acts answer after (answers j.gate.now) j.desk.napi.now (is_some j.desk.thread) j.desk.number
+    j.work w) jobs worked
     → AllZip IsDoneAt worked placed
-all_done_at acts answer after placed loose jobs worked sides given at made =
+all_done_at acts answer after answers setting placed loose jobs worked sides given at made =
     let a = zip_both _ _ _ _ _ (zip_flip _ _ _ sides) given in
     let b = zip_both _ _ _ _ _ (zip_and _ _ _ _ a at) made in
     zip_flip _ _ _ (zip_same _ _ _ _ (λ p w h.
     let j = h.0 in
     let k = h.1.0.0 in
-    done_at acts answer after p k j w h.1.0.1 h.1.0.2 h.1.1 h.2) b)
+    done_at acts answer after answers setting p k j w h.1.0.1 h.1.0.2 h.1.1 h.2) b)
 
 seat_at : {R : Type 0} (placed : Kept R Placed) (seat after : Seat) (caller : Kept R Caller) → IsSeatAt placed seat → IsSameSeat seat after
     → IsCallerOf after caller → IsCallerAt caller placed
@@ -371,9 +375,10 @@ all_turned answers setting loose sides given for gives =
     zip_same _ _ _ _ (λ k g h. turned_of answers setting k h.0 g h.1 h.2) (zip_both _ _ _ _ _ for gives)
 
 -- all jobs may be done, and all sides may be run
-pub all_can_work : {R D G : Type 0} (loose : List (Kept R (Loose D))) (jobs : List (Job R D G)) → AllZip IsKeptJobOf loose jobs
+pub all_can_work : {R D G : Type 0} (setting : Setting R G) (loose : List (Kept R (Loose D))) (jobs : List (Job R D G))
+    → AllZip (IsKeptJobOf setting) loose jobs
     → All (λ (j : Job R D G). AreSeatsOf j.desk.napi.now j.work.seats.value) jobs
-all_can_work loose jobs given = each_index _ _ (zip_each _ _ _ _ (λ k j h. h.seats) given)
+all_can_work setting loose jobs given = each_index _ _ (zip_each _ _ _ _ (λ k j h. h.seats) given)
 
 pub all_can_poll : {R G : Type 0} (placed : List (Kept R Placed)) (sides : List (ThreadSide R G)) → AllZip IsThreadAt placed sides
     → All (λ (s : ThreadSide R G). IsSeatOf s.napi.now s.caller.value.pass × (s.number ≤ 16) × IsLawful s.setting.now.pace) sides

@@ -1,15 +1,16 @@
 -- What a run comes to.
-use Rattle.std.specs.Prelude.{◌≡◌, ℕ, ◌+◌, ◌≤◌, is_some, length}
+use Rattle.std.specs.Prelude.{◌≡◌, ℕ, ◌+◌, ◌≤◌, Bool, is_some, length}
 use Rattle.rx_ring.specs.ReceiveRing.{bytes_of, capped}
 use Rattle.{napi_calls.specs.declared.{kept.Kept.Kept, types.Napi.Napi}, poll_interrupts.specs.declared.{acts.Act.Act, opening.Loose.Loose}}
 use Rattle.poll_interrupts.specs.declared.{job.Worked.Worked, worker.Work.Work, station.{Finished.Finished, Station.Station}}
-use Rattle.poll_interrupts.specs.{Acts.{after_acts, arrivals}, Runs.HasRun, Works.IsWorkOf}
+use Rattle.poll_interrupts.specs.{Acts.{after_acts, arrivals}, Runs.HasRun, Works.{IsWorkOf, WasLet}}
 
-module _ {D : Type 0} (acts : D → ℕ) (answer : D → ℕ → Act) (after : D → ℕ → D) where
+module _ {D : Type 0} (acts : D → ℕ) (answer : D → ℕ → Act) (after : D → ℕ → D) (answers : ℕ → ℕ → Bool → Type 0) where
   -- The station's device made its acts, each once and in order. What was put was polled or is left. Where the ring has a
   -- place for each of its packets, all were put. Its acts were a run of its instance.
   pub record IsFinished (station : Station D) (end : Finished D) : Type 0 where
     pub same_number : end.number ≡ station.number
+    pub let_go : WasLet answers station.number (acts station.device)
     pub made : end.device ≡ after_acts after station.device (acts station.device)
     pub sum : end.totals.put ≡ end.totals.polled + end.totals.left
     pub put : length (arrivals answer after station.device (acts station.device)) ≤ station.capacity
@@ -21,4 +22,4 @@ module _ {D : Type 0} (acts : D → ℕ) (answer : D → ℕ → Act) (after : D
   abbrev pub IsWorkedOf : {R : Type 0} → Kept R (Loose D) → Worked R D → Type 0
   IsWorkedOf {R} loose worked = (napi : Napi) × (work : Work R D)
       × (work.device ≡ loose.value.device) × (work.rx ≡ loose.value.rx) × (work.seats.value ≡ loose.value.seats)
-      × IsWorkOf acts answer after napi (is_some loose.value.pause) loose.value.number work worked
+      × IsWorkOf acts answer after answers napi (is_some loose.value.pause) loose.value.number work worked

@@ -6,8 +6,9 @@ use Rattle.{poll_interrupts.specs.Seats.AreSeatsOf, poll_seats.specs.declared.{s
 use Rattle.poll_tasks.specs.{declared.pace.Setting.Setting, Paces.IsLawful}
 
 module _ {R D G : Type 0} where
-  -- the job has the device, its number, its end of the ring and its seats, knows of its thread, and may be done
-  pub record IsJobOf (loose : Loose D) (job : Job R D G) : Type 0 where
+  -- the job asks the run's gate, has the device, its number, its end of the ring and its seats, knows of its thread, and may be done
+  pub record IsJobOf (setting : Setting R G) (loose : Loose D) (job : Job R D G) : Type 0 where
+    pub gate : job.gate.now ≡ setting.gate.now
     pub same_number : job.desk.number ≡ loose.number
     pub same_device : job.work.device ≡ loose.device
     pub same_rx : job.work.rx ≡ loose.rx
@@ -15,8 +16,8 @@ module _ {R D G : Type 0} where
     pub thread : is_some job.desk.thread ≡ is_some loose.pause
     pub seats : AreSeatsOf job.desk.napi.now job.work.seats.value
 
-  abbrev pub IsKeptJobOf : Kept R (Loose D) → Job R D G → Type 0
-  IsKeptJobOf loose job = IsJobOf loose.value job
+  abbrev pub IsKeptJobOf : Setting R G → Kept R (Loose D) → Job R D G → Type 0
+  IsKeptJobOf setting loose job = IsJobOf setting loose.value job
 
   abbrev pub IsJobAt : Kept R Placed → Job R D G → Type 0
   IsJobAt placed job = job.desk.napi.now ≡ placed.value.napi

@@ -96,8 +96,8 @@ where
     requires sides { AllZip IsKeptSideOf (vec_items opened.loose) opened.placed.now }
     requires ins { vec_len opened.loose + vec_len opened.loose ≤ vec_len begins.ins }
     requires beside { F.pre beside }
-    ensures worked { IfOk result (λ e. AllZip (IsWorkedOf D.acts D.answer D.after)
-        (vec_items opened.entry.loose) (vec_items e.worked)) }
+    ensures worked { IfOk result (λ e. AllZip (IsWorkedOf D.acts D.answer D.after
+        (G.answers setting.now.gate.now)) (vec_items opened.entry.loose) (vec_items e.worked)) }
     ensures dones { IfOk result
         (λ e. AllZip IsDoneAt (vec_items e.worked) opened.entry.placed.now) }
     ensures pollers { IfOk result
@@ -211,7 +211,8 @@ where
     requires beside { F.pre beside }
     ensures finished { IfOk result
         (λ r. IfOk r.0
-        (λ all. AllZip (IsFinished D.acts D.answer D.after) (vec_items stations) (vec_items all))) }
+        (λ all. AllZip (IsFinished D.acts D.answer D.after (G.answers setting.now.gate.now))
+        (vec_items stations) (vec_items all))) }
     ensures polled { IfOk result
         (λ r. IfOk r.0
         (λ all. AreOfCrew R (IsAsked G.answers setting.now.gate.now) setting.now.pace

@@ -76,7 +76,8 @@ where
     requires count { vec_len stations ≤ 16 }
     requires dealt { All (IsDealtFrom number pollers) (vec_items stations) }
     ensures finished { IfOk result
-        (λ all. AllZip (IsFinished D.acts D.answer D.after) (vec_items stations) (vec_items all)) }
+        (λ all. AllZip (IsFinished D.acts D.answer D.after (G.answers setting.now.gate.now))
+        (vec_items stations) (vec_items all)) }
     ensures polled { IfOk result
         (λ all. ArePolled R (IsAsked G.answers setting.now.gate.now) setting.now.pace
         D.acts D.answer D.after number pollers (vec_items stations) (vec_items all)) }
@@ -104,8 +105,8 @@ where
             × All IsStation (vec_items others) × (vec_len others ≤ 16)
             × All (IsDealtFrom (number + 1) pollers) (vec_items others) }
         ensures finished { IfOk result
-            (λ all. AllZip (IsFinished D.acts D.answer D.after) (vec_items others)
-            (vec_items all)) }
+            (λ all. AllZip (IsFinished D.acts D.answer D.after
+            (G.answers setting.entry.now.gate.now)) (vec_items others) (vec_items all)) }
         ensures polled { IfOk result
             (λ all. ArePolled R (IsAsked G.answers setting.entry.now.gate.now)
             setting.entry.now.pace D.acts D.answer D.after (number + 1) pollers
@@ -186,9 +187,10 @@ where
     requires budget { (1 ≤ budget) × (budget ≤ 65535) }
     requires weight { (1 ≤ weight) × (weight ≤ 64) }
     requires window { (1 ≤ window) × (window ≤ 65535) }
-    // Each device made all its acts, each once and in order; what was put was polled or is left.
+    // Each device made all its acts, each once and in order, and each let by the gate; what was put was polled or is left.
     ensures finished { IfOk result
-        (λ all. AllZip (IsFinished D.acts D.answer D.after) (vec_items stations) (vec_items all)) }
+        (λ all. AllZip (IsFinished D.acts D.answer D.after (G.answers gate.now))
+        (vec_items stations) (vec_items all)) }
     // Each station was polled by its poller, in runs by these numbers, and by its thread exactly if it has one.
     ensures polled { IfOk result
         (λ all. ArePolled (Bor R) (IsAsked G.answers gate.now) (pace_of budget weight window)

@@ -75,7 +75,7 @@ fn split<'t, 'p, 'n, R: Wait + Drop + Copy, D: Drop, G>(
 )
     requires side { IsSideOf loose placed.now.value }
     requires pace { IsLawful setting.now.pace }
-    ensures job { IsJobOf loose result.0 × IsJobAt placed.now result.0 }
+    ensures job { IsJobOf setting.now loose result.0 × IsJobAt placed.now result.0 }
     ensures seat { IsSeatAt placed.now result.1 × IsSeatFor loose result.1 }
     ensures thread { IsThreadAt placed.now result.2 × IsThreadFor setting.now loose result.2 }
 {
@@ -132,7 +132,7 @@ pub(crate) fn spread<'t, 'p, 'n, R: Wait + Drop + Copy, D: Drop, G>(
     requires ins { vec_len loose + vec_len loose ≤ vec_len ins }
     requires room { HasRoom (vec_len loose) room.jobs × HasRoom (vec_len loose) room.seats
         × HasRoom (vec_len loose) room.sides }
-    ensures jobs { AllZip IsKeptJobOf (vec_items loose) (vec_items result.jobs) }
+    ensures jobs { AllZip (IsKeptJobOf setting.now) (vec_items loose) (vec_items result.jobs) }
     ensures job_places { AllZip IsJobAt placed.now (vec_items result.jobs) }
     ensures seat_places { AllZip IsSeatAt placed.now (vec_items result.seats) }
     ensures seats { AllZip IsKeptSeatFor (vec_items loose) (vec_items result.seats) }

@@ -3,6 +3,7 @@
 ghost use Rattle.std.specs.Prelude.{◌≡◌, ◌≢◌, ◌⊎◌, ◌+◌, ◌^◌, ◌<◌, ◌≤◌, ◌++◌, [], Ok, Err, Some, IfErr, IfOk, OnOk, flat_map, length, string_bytes};
 ghost use Rattle.device_rows.specs.Places.{empty};
 ghost use Rattle.device_rows.specs.Trace.{AcceptedAfter};
+ghost use Rattle.replay_rows.specs.Answer.{LeavesDevices};
 ghost use Rattle.replay_rows.specs.Report.{device_line, device_lines, held_part, list_line, napi_line, of_run, poll_line, serial_report, spaced, state_word, total_line, totals_of};
 ghost use Rattle.replay_text.specs.Lines.{ended, flag, tx_line};
 ghost use Rattle.replay_text.specs.Outside.{IsWantOfMemory};
@@ -311,6 +312,8 @@ impl<B: ReplayBench> Replay<B> {
             (λ text. serial_report settings.now version rows.now ≡ Ok (string_bytes text)) }
         ensures fault { IfErr result (λ fault. IsWantOfMemory fault
             ⊎ (serial_report settings.now version rows.now ≡ Err fault)) }
+        ensures played { IfOk result
+            (λ text. LeavesDevices settings.now rows.now (B.devices self.new.bench)) }
     {
         self.lines = room_for_lines(alloc, rows)?;
         self.play_rows(alloc, settings, rows)?;
@@ -338,6 +341,8 @@ pub(crate) fn report_on<B: ReplayBench>(
     ensures fault { IfErr result.1 (λ fault. IsWantOfMemory fault
         ⊎ (serial_report settings.now version rows.now ≡ Err fault)) }
     ensures unwritten { IfErr result.1 (λ fault. fault ≢ OutputFailed) }
+    ensures played { IfOk result.1
+        (λ text. LeavesDevices settings.now rows.now (B.devices result.0)) }
 {
     let mut replay = Replay::new(bench, Vec::new(alloc));
     let text = replay.report_rows(alloc, settings, version, rows);

@@ -4,7 +4,7 @@ ghost use Rattle.std.specs.Prelude.{◌≡◌, Ok, Err, IfErr, OnOk};
 ghost use Rattle.device_rows.specs.Places.{empty};
 ghost use Rattle.replay_text.specs.Outside.{IsOutside};
 ghost use Rattle.replay_text.specs.Written.{IsFaultBy, Leaves, Writes};
-ghost use Rattle.replay_rows.specs.Answer.{replay_of};
+ghost use Rattle.replay_rows.specs.Answer.{Plays, replay_of};
 
 use crate::report::report_on;
 use device_bench::ReplayBench;
@@ -39,6 +39,9 @@ pub fn replay_on<B: ReplayBench, R: Read + Drop, W: Write>(
     // Where the output failed less than the whole report was written, and on each other fault nothing.
     ensures output { IfErr result.1 (Leaves (λ bytes text. replay_of settings.now bytes ≡ Ok text)
         (R.remaining reader) (W.contents writer.old) (W.contents writer.new)) }
+
+    // The bench has the devices that the rows of the bytes read leave.
+    ensures played { OnOk result.1 (Plays settings.now (R.remaining reader) (B.devices result.0)) }
 {
     let trace = match read_trace(alloc, reader) {
         Ok(trace) => trace,

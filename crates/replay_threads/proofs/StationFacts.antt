@@ -102,38 +102,41 @@ run-of : {rows : List Row} {device : ℕ} (station : Station Script) (end : Fini
     (length end.device.rows) end.totals
 run-of station end of ended run = grind (arith, common_steps)
 
-end-of : (rows : List Row) (device : ℕ) (station : Station Script) (end : Finished Script) → AcceptedAfter [] rows → length rows ≤ 100000
-    → IsStationOf rows device station → is_small station ≡ false → IsFinished acts answer after station end → IsEndOf rows device end
-end-of rows device station end accepted few of enough finished =
+end-of : (answers : ℕ → ℕ → Bool → Type 0) (rows : List Row) (device : ℕ) (station : Station Script) (end : Finished Script)
+    → AcceptedAfter [] rows → length rows ≤ 100000
+    → IsStationOf rows device station → is_small station ≡ false → IsFinished acts answer after answers station end → IsEndOf rows device end
+end-of answers rows device station end accepted few of enough finished =
     grind (arith, common_steps, acts-made, arrivals-are, bytes-small, capped-small, run-of)
 
-pub ends-of : (rows : List Row) (devices : List ℕ) (stations : List (Station Script)) (ends : List (Finished Script))
+pub ends-of : (answers : ℕ → ℕ → Bool → Type 0) (rows : List Row) (devices : List ℕ) (stations : List (Station Script))
+    (ends : List (Finished Script))
     → AcceptedAfter [] rows → length rows ≤ 100000
-    → AllZip (IsStationOf rows) devices stations → find is_small stations ≡ None → AllZip (IsFinished acts answer after) stations ends
+    → AllZip (IsStationOf rows) devices stations → find is_small stations ≡ None → AllZip (IsFinished acts answer after answers) stations ends
     → AllZip (IsEndOf rows) devices ends
-ends-of rows [] [] [] accepted few of enough finished = tt
-ends-of rows [] [] (e ∷ es) accepted few of enough finished = absurd finished
-ends-of rows [] (s ∷ ss) ends accepted few of enough finished = absurd of
-ends-of rows (d ∷ ds) [] ends accepted few of enough finished = absurd of
-ends-of rows (d ∷ ds) (s ∷ ss) [] accepted few of enough finished = absurd finished
-ends-of rows (d ∷ ds) (s ∷ ss) (e ∷ es) accepted few of enough finished =
-    by (is_small s) refl (λ rest. ends-of rows ds ss es accepted few of.1 rest finished.1)
+ends-of answers rows [] [] [] accepted few of enough finished = tt
+ends-of answers rows [] [] (e ∷ es) accepted few of enough finished = absurd finished
+ends-of answers rows [] (s ∷ ss) ends accepted few of enough finished = absurd of
+ends-of answers rows (d ∷ ds) [] ends accepted few of enough finished = absurd of
+ends-of answers rows (d ∷ ds) (s ∷ ss) [] accepted few of enough finished = absurd finished
+ends-of answers rows (d ∷ ds) (s ∷ ss) (e ∷ es) accepted few of enough finished =
+    by (is_small s) refl (λ rest. ends-of answers rows ds ss es accepted few of.1 rest finished.1)
   where
     by : (b : Bool) → is_small s ≡ b → (find is_small ss ≡ None → AllZip (IsEndOf rows) ds es) → AllZip (IsEndOf rows) (d ∷ ds) (e ∷ es)
     by true small go = absurd (let none = rw small at enough in cc none)
-    by false large go = (end-of rows d s e accepted few of.0 large finished.0, go (rw large at enough))
+    by false large go = (end-of answers rows d s e accepted few of.0 large finished.0, go (rw large at enough))
 
 -- no ring is too small
 pub none-small : (stations : List (Station Script)) → small_fault stations ≡ None → find is_small stations ≡ None
 none-small stations h = grind (arith, common_steps)
 
 -- the same of what a run answered
-pub ends-if-ok : (rows : List Row) (stations : List (Station Script)) (answered : Result (Vec (Finished Script)) ReplayFault)
+pub ends-if-ok : (answers : ℕ → ℕ → Bool → Type 0) (rows : List Row) (stations : List (Station Script))
+    (answered : Result (Vec (Finished Script)) ReplayFault)
     → AcceptedAfter [] rows → length rows ≤ 100000
     → AllZip (IsStationOf rows) (opened rows) stations → small_fault stations ≡ None
-    → IfOk answered (λ all. AllZip (IsFinished acts answer after) stations (vec_items all))
+    → IfOk answered (λ all. AllZip (IsFinished acts answer after answers) stations (vec_items all))
     → IfOk answered (λ all. AllZip (IsEndOf rows) (opened rows) (vec_items all))
-ends-if-ok rows stations answered accepted few of none ends = grind (arith, common_steps, ends-of, none-small)
+ends-if-ok answers rows stations answered accepted few of none ends = grind (arith, common_steps, ends-of, none-small)
 
 pub run-if-ok : (R : Type 0) (asked : ℕ → Type 0) (settings : Settings) (rows : List Row) (stations : List (Station Script))
     (answered : Result (Vec (Finished Script)) ReplayFault)

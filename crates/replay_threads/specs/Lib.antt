@@ -1,3 +1,4 @@
 pub mod ThreadsReport
 pub mod Stations
 pub mod Answer
+pub mod SharedRun

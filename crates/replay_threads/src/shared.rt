@@ -4,6 +4,7 @@ ghost use Rattle.std.specs.Prelude.{◌≡◌, Ok, Err, IfErr, OnOk};
 ghost use Rattle.replay_text.specs.Outside.{IsOutside};
 ghost use Rattle.replay_text.specs.Written.{IsFaultBy, Leaves, Writes};
 ghost use Rattle.replay_rows.specs.Answer.{replay_of};
+ghost use Rattle.replay_threads.specs.SharedRun.{RanShared};
 
 use device_shared::SharedBench;
 use replay_rows::replay_on;
@@ -35,6 +36,8 @@ pub fn replay_shared<H: Wait + Copy + Drop, R: Read + Drop, W: Write>(
     // Where the output failed less than the whole report was written, and on each other fault nothing.
     ensures output { IfErr result (Leaves (λ bytes text. replay_of settings.now bytes ≡ Ok text)
         (R.remaining reader) (W.contents writer.old) (W.contents writer.new)) }
+    // The rows were played over shared instances, each of which was closed behind them.
+    ensures run { OnOk result (RanShared settings.now (R.remaining reader)) }
 {
     let bench = SharedBench::new(rt, alloc)?;
     let (bench, replayed) = replay_on(alloc, bench, reader, writer, settings);

@@ -149,7 +149,8 @@ where
     requires stations { All IsStation (vec_items stations) }
     requires numbers { IsTrue (have_distinct_numbers (vec_items stations)) }
     ensures ends { IfOk result
-        (λ all. AllZip (IsFinished acts answer after) (vec_items stations) (vec_items all)) }
+        (λ all. AllZip (IsFinished acts answer after (G.answers gate.now)) (vec_items stations)
+        (vec_items all)) }
     ensures polled { IfOk result
         (λ all. ArePolled (Bor P) (IsAsked G.answers gate.now)
         (pace_of settings.now.budget settings.now.weight settings.now.window) acts answer after

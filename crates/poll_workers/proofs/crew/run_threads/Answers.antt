@@ -6,7 +6,7 @@ use Rattle.poll_workers.proofs.crew.run_threads.Goals as goal
 pub drive-driven-requires-clause-workers : goal.drive-driven-requires-clause-workers
 drive-driven-requires-clause-workers g c κs within =
     let a = zip_long _ _ _ c.spread-jobs.ensures.jobs in record {
-      can = all_can_work _ _ c.spread-jobs.ensures.jobs;
+      can = all_can_work _ _ _ c.spread-jobs.ensures.jobs;
       begun_empty = search rules;
       begun_room = grind (arith, common_steps, a);
       given_empty = search rules;
@@ -37,11 +37,11 @@ unseat-requires-clause-room g c =
     grind (arith, common_steps, a, b, d, c.in-Ok.ensures.callers.1)
 
 pub returns-clause-worked : goal.returns-clause-worked
-returns-clause-worked g c = all_worked _ _ _ _ _ _ c.spread-jobs.ensures.jobs c.drive-driven.ensures.worked
+returns-clause-worked g c = all_worked _ _ _ _ _ _ _ _ c.spread-jobs.ensures.jobs c.drive-driven.ensures.worked
 
 pub returns-clause-dones : goal.returns-clause-dones
 returns-clause-dones g c =
-    all_done_at _ _ _ _ _ _ _ c.requires.sides c.spread-jobs.ensures.jobs c.spread-jobs.ensures.job_places c.drive-driven.ensures.worked
+    all_done_at _ _ _ _ _ _ _ _ _ c.requires.sides c.spread-jobs.ensures.jobs c.spread-jobs.ensures.job_places c.drive-driven.ensures.worked
 
 pub returns-clause-pollers : goal.returns-clause-pollers
 returns-clause-pollers g c =

@@ -106,7 +106,7 @@ returns-clause-finished g t c =
     let came = joined_ok _ _ _ (sym c.join_answers.ensures ∙ c.in_ok-finished-3.was) in
     let mine = rw both at c.run_crew-2.ensures.finished in
     let rest = (rw both at c.run_crew-2.ensures.beside).0 in
-    let whose = IsFinished g.D.Device.acts g.D.Device.answer g.D.Device.after in
+    let whose = IsFinished g.D.Device.acts g.D.Device.answer g.D.Device.after (g.G.Gate.answers c.args.setting.now.gate.now) in
     let made = IfOk-at_ok (λ v. AllZip whose (vec_items c.in_ok-dealt.dealt.mine) (vec_items v)) came.0 mine in
     let later = IfOk-at_ok (λ v. AllZip whose (vec_items c.in_ok-dealt.dealt.others) (vec_items v)) came.1 rest in
     rw c.merge-2.ensures (merge_zips _ _ _ _ _ d.long (rw (← d.mine_is) made) (rw (← d.rest_is) later))

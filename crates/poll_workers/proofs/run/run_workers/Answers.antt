@@ -1,6 +1,6 @@
-use Rattle.std.{proofs.{lemmas.Grind.common_steps, Common.{◌≡◌, ◌∙◌, Bool, true, false, arith, refl, sym}}, specs.{Borrow.Bor, Global.Vec}}
+use Rattle.std.{proofs.{lemmas.Grind.common_steps, Common.{◌≡◌, ◌∙◌, Bool, true, false, arith, refl, sym}}, specs.{Borrow.Bor, Global.Vec, List.AllZip}}
 use Rattle.{std.specs.Prelude.{Result, Ok, Err, IfOk, IsErrOf, vec_items}, poll_interrupts.specs.declared.station.Finished.Finished}
-use Rattle.{poll_tasks.specs.Asks.IsAsked, poll_workers.{proofs.NumberFacts.few_stations, specs.Courses.{ArePolled, pace_of}}}
+use Rattle.{poll_tasks.specs.Asks.IsAsked, poll_workers.{proofs.NumberFacts.few_stations, specs.{Courses.{ArePolled, pace_of}, Finishes.IsFinished}}}
 use Rattle.poll_workers.specs.{Faults.told, declared.fault.{Stop.{Stop, TheVariants.{Memory, Short}}, WorkFault.TheVariants.SpawnFailed}}
 use Rattle.poll_workers.proofs.run.run_workers.Goals as goal
 
@@ -37,3 +37,10 @@ returns-clause-polled g c =
     λ all. ArePolled (Bor g.row.R.Denot) (IsAsked g.G.Gate.answers c.args.gate.now) (pace_of c.args.budget c.args.weight c.args.window)
     g.D.Device.acts g.D.Device.answer g.D.Device.after 0 c.args.pollers (vec_items c.args.stations) (vec_items all) in
     rw c.tell.ensures (told_ok P _ _ _ (rw c.new-watch.ensures at c.run_crews-came.ensures.polled))
+
+pub returns-clause-finished : goal.returns-clause-finished
+returns-clause-finished g c =
+    let P : Vec (Finished g.row.D.Denot) → Type 0 =
+    λ all. AllZip (IsFinished g.D.Device.acts g.D.Device.answer g.D.Device.after (g.G.Gate.answers c.args.gate.now))
+    (vec_items c.args.stations) (vec_items all) in
+    rw c.tell.ensures (told_ok P _ _ _ (rw c.new-watch.ensures at c.run_crews-came.ensures.finished))

@@ -9,7 +9,7 @@ invariant-loop-rest g l = (did : List (Kept g.row.R.Denot (Loose g.row.D.Denot))
   whole : did ++ into_iter_items l.rests ≡ vec_items l.fn.loose;
   all_places : here ++ l.places ≡ l.fn.placed;
   sides : AllZip IsKeptSideOf (into_iter_items l.rests) l.places;
-  made : AllZip IsKeptJobOf did (vec_items l.jobs);
+  made : AllZip (IsKeptJobOf l.setting) did (vec_items l.jobs);
   job_places : AllZip IsJobAt here (vec_items l.jobs);
   seat_places : AllZip IsSeatAt here (vec_items l.seats);
   seats : AllZip IsKeptSeatFor did (vec_items l.seats);

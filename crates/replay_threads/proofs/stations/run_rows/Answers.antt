@@ -25,7 +25,7 @@ pub returns-in-None-clause-ends : goal.returns-in-None-clause-ends
 returns-in-None-clause-ends g c =
     let none : small_fault (vec_items c.in_ok-stations.stations) ≡ None =
     rw c.deref.ensures.value at (sym c.ring_fault.ensures ∙ c.in-None.is) in
-    ends-if-ok c.args.rows.now (vec_items c.in_ok-stations.stations) c.run_stations.result c.requires.accepted c.requires.count
+    ends-if-ok _ c.args.rows.now (vec_items c.in_ok-stations.stations) c.run_stations.result c.requires.accepted c.requires.count
     c.in_ok-stations.ensures.stations none c.run_stations.ensures.ends
 
 pub returns-in-None-clause-polled : goal.returns-in-None-clause-polled

@@ -1,4 +1,4 @@
-use Rattle.std.proofs.{lemmas.Grind.common_steps, Common.{◌≡◌, ◌+◌, ◌≤◌, ◌++◌, is_some, length, ap, sym, ◌∙◌, rules, arith}}
+use Rattle.std.proofs.{lemmas.Grind.common_steps, Common.{◌≡◌, ◌+◌, ◌≤◌, ◌++◌, is_some, length, ap, sym, ◌∙◌, rules, arith, below_more}}
 use Rattle.poll_interrupts.proofs.{Listings.{lists_more, lists_same}, ActSteps.{acts-more, after_acts-more, arrivals-more, put_more}}
 use Rattle.{poll_interrupts.{proofs.LedgerSteps.all_same, specs.Acts.{after_acts, brings}}, rx_ring.specs.Ends.{capacity_of, put_list}}
 use Rattle.poll_interrupts.proofs.worker.Desk.make_acts.Goals as goal
@@ -15,6 +15,7 @@ loop-k-preserved g c =
     → put_list c.make_act-hold.new.rx ≡ put_list c.loop-k.rx ++ brought = rw (← i.made, ← places) e.put in record {
       of = e.of;
       lists = lists_more i.lists e.lists;
+      let_go = below_more _ _ i.let_go (c.may_act.ensures (search rules));
       acted =
           acts-more (is_some c.args.self.now.thread) g.D.Device.answer after d c.loop-k.k c.args.hold c.loop-k.hold c.make_act-hold.result
           c.args.rx.now c.loop-k.rx c.make_act-hold.new.rx i.acted e.ring (rw (← i.made) e.made);
@@ -29,6 +30,7 @@ pub loop-k-init : goal.loop-k-init
 loop-k-init g c = record {
   of = c.requires;
   lists = lists_same _ _;
+  let_go = λ k below. absurd (omega (arith, below));
   acted = search rules;
   made = search rules;
   acts = search rules;

@@ -19,6 +19,7 @@ returns g c =
             on.ensures.power (all.made whole) refl c.turn_off-control.ensures.power),
       );
       lists = rw (← c.open-caller.ensures, c.new.ensures) all.lists;
+      let_go = all.let_go;
       made = all.device;
       ring = all.ring;
       few = all.few;
