@@ -1,23 +1,23 @@
 -- What may be freed, and what that is answered.
 use Rattle.std.specs.Prelude.{ℕ, Bool, true, false, not, is_some, if◌then◌else◌, Option, Some, None}
 use Rattle.c_handles.specs.Status.{IN_USE}
-use Rattle.c_handles.specs.{Runs.run_of, declared.{body.Body.Body, hold.Hold.Hold, mode.Mode.Mode}, Status.{OK, NOT_ALLOWED, BAD_HANDLE}}
+use Rattle.c_handles.specs.{Runs.run_of, declared.{body.Body.Body, hold.Hold.Hold, power.Power.Power}, Status.{OK, NOT_ALLOWED, BAD_HANDLE}}
 use Rattle.c_handles.specs.declared.hold.Hold.TheVariants as hold
-use Rattle.c_handles.specs.declared.mode.Mode.TheVariants as mode
+use Rattle.c_handles.specs.declared.power.Power.TheVariants as power
 use Rattle.c_handles.specs.declared.body.Body.TheVariants as body
 
 abbrev pub rests : Hold → Bool
 rests (hold.Rests c) = true
 rests _ = false
 
-abbrev pub is_off : Mode → Bool
-is_off (mode.Off c) = true
+abbrev pub is_off : Power → Bool
+is_off (power.Off c) = true
 is_off _ = false
 
 -- nobody waits for it: a seat that rests, a controller that is off, a list with no run under way, a ring
 abbrev pub is_freeable : Body → Bool
 is_freeable (body.Seat s) = rests s.hold
-is_freeable (body.Controller c) = is_off c.mode
+is_freeable (body.Controller c) = is_off c.power
 is_freeable (body.List l) = not (is_some (run_of l.value))
 is_freeable _ = true
 

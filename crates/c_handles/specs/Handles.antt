@@ -4,7 +4,7 @@ use Rattle.std.specs.Prelude.{◌≡◌, ◌⊎◌, ℕ, List, Option, Some, Non
 use Rattle.napi_model.specs.{declared.state.Seen.Seen, Word.word_of}
 use Rattle.{rx_ring.specs.declared.packet.Packet.Packet, c_handles.specs.declared.seat.{Seat.Seat, Controller.Controller}}
 use Rattle.c_handles.specs.declared.{lister.Lister.Lister, body.Body.Body, handle.FqHandle.FqHandle, hold.{Hold.Hold, SeatCall.SeatCall}}
-use Rattle.c_handles.specs.{declared.mode.ControlCall.ControlCall, Answers.counting, Status.{OK, BAD_HANDLE}, SeatCalls.Refused}
+use Rattle.c_handles.specs.{declared.power.ControlCall.ControlCall, Answers.counting, Status.{OK, BAD_HANDLE}, SeatCalls.Refused}
 use Rattle.c_handles.specs.SeatCalls.{SeatAnswers, SeatLooks, SeatPolls, ControlAnswers}
 use Rattle.c_handles.specs.declared.body.Body.TheVariants as body
 
@@ -69,7 +69,7 @@ OnController P (body.Controller c) n after = P c n after
 OnController P other n after = OtherKind other n after
 
 abbrev pub ControlMakesIn : ControlCall → Body → ℕ → Body → Type 0
-ControlMakesIn call = OnController (λ c n after. IsControllerWith (λ d. ControlAnswers call c.mode n d.mode) after)
+ControlMakesIn call = OnController (λ c n after. IsControllerWith (λ d. ControlAnswers call c.power n d.power) after)
 
 abbrev pub ControlMakes : ControlCall → FqHandle → ℕ → FqHandle → Type 0
 ControlMakes call old n new = OnHandle (ControlMakesIn call) old.held.body n new.held.body

@@ -3,7 +3,7 @@ use Rattle.rx_ring.specs.{declared.{ends.RxCtx.RxCtx, packet.{Packet.Packet, RxC
 use Rattle.{rx_ring.specs.Ends.{capacity_of, received_list}, c_handles.specs.declared.{body.{Ring.Ring, Body.Body}, input.Input.Input}}
 use Rattle.std.specs.Prelude.{◌≡◌, ℕ, ◌==◌, if◌then◌else◌, List, Option, Some, None, [], ◌++◌, length}
 use Rattle.c_handles.specs.Status.{BAD_HANDLE}
-use Rattle.c_handles.specs.{declared.handle.FqHandle.FqHandle, SeatCalls.{ctx_counts, hold_counts, mode_counts}, Status.{OK, FULL}}
+use Rattle.c_handles.specs.{declared.handle.FqHandle.FqHandle, SeatCalls.{ctx_counts, hold_counts, power_counts}, Status.{OK, FULL}}
 use Rattle.c_handles.specs.declared.body.Body.TheVariants as body
 
 -- the handle leads to the ring
@@ -85,7 +85,7 @@ abbrev pub counts_in : Body → Option RxCounts
 counts_in (body.Ring ring) = Some (ctx_counts ring.ctx)
 counts_in (body.Ctx ctx) = Some (ctx_counts ctx)
 counts_in (body.Seat seat) = hold_counts seat.hold
-counts_in (body.Controller controller) = mode_counts controller.mode
+counts_in (body.Controller controller) = power_counts controller.power
 counts_in _ = None
 
 abbrev pub CountsAre : RxCounts → Option Body → Type 0

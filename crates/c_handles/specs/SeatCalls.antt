@@ -7,7 +7,7 @@ use Rattle.{napi_model.specs.declared.{state.Seen.Seen, event.Operation.Operatio
 use Rattle.rx_ring.specs.{declared.{packet.{Packet.Packet, RxCounts.RxCounts}, ends.RxCtx.RxCtx}, Ends.{GivesNext, polls_of, received_list}}
 use Rattle.std.specs.Prelude.{◌≡◌, ℕ, Bool, List, [], ◌∷◌, Option, Some, None}
 use Rattle.napi_word.specs.declared.table.Pass.{Pass}
-use Rattle.c_handles.specs.{declared.{hold.{SeatCall.SeatCall, Hold.Hold}, mode.{ControlCall.ControlCall, Mode.Mode}}, Status.{OK, HELD}}
+use Rattle.c_handles.specs.{declared.{hold.{SeatCall.SeatCall, Hold.Hold}, power.{ControlCall.ControlCall, Power.Power}}, Status.{OK, HELD}}
 use Rattle.c_handles.specs.{Status.{CHANGED, NOT_ALLOWED}, Tries.{Is, scheduled, taken, completed, busy_taken, busy_stopped, disable_tried}}
 use Rattle.napi_model.specs.declared.state.Kind.TheVariants as kind
 use Rattle.napi_model.specs.declared.event.Done.TheVariants as done
@@ -15,8 +15,8 @@ use Rattle.napi_model.specs.declared.event.Call.TheVariants as call
 use Rattle.napi_model.specs.declared.event.Operation.TheVariants as operation
 use Rattle.c_handles.specs.declared.hold.Hold.TheVariants as hold
 use Rattle.c_handles.specs.declared.hold.SeatCall.TheVariants as seat_call
-use Rattle.c_handles.specs.declared.mode.Mode.TheVariants as mode
-use Rattle.c_handles.specs.declared.mode.ControlCall.TheVariants as control_call
+use Rattle.c_handles.specs.declared.power.Power.TheVariants as power
+use Rattle.c_handles.specs.declared.power.ControlCall.TheVariants as control_call
 
 -- ---- what is held then
 
@@ -107,36 +107,36 @@ hold_counts (hold.Polls w) = Some (ctx_counts w.ctx)
 hold_counts (hold.Busy b) = Some (ctx_counts b.ctx)
 hold_counts _ = None
 
-abbrev pub mode_counts : Mode → Option RxCounts
-mode_counts (mode.Off c) = Some (ctx_counts c.state.ctx)
-mode_counts _ = None
+abbrev pub power_counts : Power → Option RxCounts
+power_counts (power.Off c) = Some (ctx_counts c.state.ctx)
+power_counts _ = None
 
 -- ---- the controller
 
-abbrev pub MarkedWith : (Pass → Type 0) → Mode → Type 0
-MarkedWith P (mode.Marked c) = P c.pass
+abbrev pub MarkedWith : (Pass → Type 0) → Power → Type 0
+MarkedWith P (power.Marked c) = P c.pass
 MarkedWith P _ = ⊥
 
 -- `napi_enable`, in one try: what was polled is delivered, or the controller has it still
-abbrev pub EnablesIn : Pass → RxCtx → Bool → ℕ → Mode → Type 0
-EnablesIn p ctx threaded n (mode.On c) = (n ≡ OK) × EnablesAt threaded p c.pass × GivesBack p ctx c.pass
-EnablesIn p ctx threaded n (mode.Off c) =
+abbrev pub EnablesIn : Pass → RxCtx → Bool → ℕ → Power → Type 0
+EnablesIn p ctx threaded n (power.On c) = (n ≡ OK) × EnablesAt threaded p c.pass × GivesBack p ctx c.pass
+EnablesIn p ctx threaded n (power.Off c) =
     (n ≡ CHANGED) × WasLost (call.Enable threaded) p c.pass × HoldsOn p c.pass × IsSame ctx c.state.ctx
 EnablesIn p ctx threaded n _ = ⊥
 
-abbrev pub IfOff : (Pass → RxCtx → ℕ → Mode → Type 0) → Mode → ℕ → Mode → Type 0
-IfOff P (mode.Off c) n after = P c.pass c.state.ctx n after
+abbrev pub IfOff : (Pass → RxCtx → ℕ → Power → Type 0) → Power → ℕ → Power → Type 0
+IfOff P (power.Off c) n after = P c.pass c.state.ctx n after
 IfOff P other n after = Refused other n after
 
-abbrev pub IfOn : (Pass → ℕ → Mode → Type 0) → Mode → ℕ → Mode → Type 0
-IfOn P (mode.On c) n after = P c.pass n after
+abbrev pub IfOn : (Pass → ℕ → Power → Type 0) → Power → ℕ → Power → Type 0
+IfOn P (power.On c) n after = P c.pass n after
 IfOn P other n after = Refused other n after
 
-abbrev pub IfMarked : (Pass → ℕ → Mode → Type 0) → Mode → ℕ → Mode → Type 0
-IfMarked P (mode.Marked c) n after = P c.pass n after
+abbrev pub IfMarked : (Pass → ℕ → Power → Type 0) → Power → ℕ → Power → Type 0
+IfMarked P (power.Marked c) n after = P c.pass n after
 IfMarked P other n after = Refused other n after
 
-abbrev pub ControlAnswers : ControlCall → Mode → ℕ → Mode → Type 0
+abbrev pub ControlAnswers : ControlCall → Power → ℕ → Power → Type 0
 ControlAnswers (control_call.Enable threaded) = IfOff (λ p ctx n after. EnablesIn p ctx threaded n after)
 ControlAnswers control_call.Mark = IfOn (λ p n after. (n ≡ OK) × MarkedWith (Does (operation.MarkDisable ∷ []) p) after)
 ControlAnswers control_call.TryTake = IfMarked (λ p n after. Tries TriesToTake TriesToTakeFresh p (disable_tried after n))

@@ -1,8 +1,8 @@
 -- The callers and the controller of a shared instance, as handles of C's lead to them.
 use Rattle.{std.proofs.Props.props, napi_calls.specs.{declared.types.Napi.Napi, Instance.IsSeatOf}, c_handles.specs.declared.hold.Hold.Hold}
-use Rattle.c_handles.specs.declared.mode.Mode.{Mode}
+use Rattle.c_handles.specs.declared.power.Power.{Power}
 use Rattle.c_handles.specs.declared.hold.Hold.TheVariants as hold
-use Rattle.c_handles.specs.declared.mode.Mode.TheVariants as mode
+use Rattle.c_handles.specs.declared.power.Power.TheVariants as power
 
 -- the caller is one of the instance's, or in a call
 abbrev pub SitsAt : Napi → Hold → Type 0
@@ -37,14 +37,14 @@ IsBusy (hold.Busy b) = Unit
 IsBusy _ = ⊥
 
 -- the controller is the instance's, or in a call
-abbrev pub ControlsAt : Napi → Mode → Type 0
-ControlsAt n (mode.Off c) = IsSeatOf n c.pass
-ControlsAt n (mode.On c) = IsSeatOf n c.pass
-ControlsAt n (mode.Marked c) = IsSeatOf n c.pass
-ControlsAt n mode.Gone = Unit {0}
+abbrev pub ControlsAt : Napi → Power → Type 0
+ControlsAt n (power.Off c) = IsSeatOf n c.pass
+ControlsAt n (power.On c) = IsSeatOf n c.pass
+ControlsAt n (power.Marked c) = IsSeatOf n c.pass
+ControlsAt n power.Gone = Unit {0}
 
-pub controls_prop : (n : Napi) (m : Mode) → IsProp (ControlsAt n m)
-controls_prop n (mode.Off c) = Prim.hlevel props
-controls_prop n (mode.On c) = Prim.hlevel props
-controls_prop n (mode.Marked c) = Prim.hlevel props
-controls_prop n mode.Gone = Prim.hlevel props
+pub controls_prop : (n : Napi) (m : Power) → IsProp (ControlsAt n m)
+controls_prop n (power.Off c) = Prim.hlevel props
+controls_prop n (power.On c) = Prim.hlevel props
+controls_prop n (power.Marked c) = Prim.hlevel props
+controls_prop n power.Gone = Prim.hlevel props

@@ -3,14 +3,14 @@ use Rattle.std.specs.Prelude.{ℕ, ◌==◌, if◌then◌else◌, Option, Some, 
 use Rattle.napi_calls.specs.declared.types.Caller.{Caller}
 use Rattle.napi_calls.specs.declared.{types.Polling.Polling, answers.{TryPrep.TryPrep, TryDone.TryDone, TryBusy.TryBusy, TryStop.TryStop}}
 use Rattle.{napi_calls.specs.declared.answers.TryTake.TryTake, c_handles.specs.Status.{GRANTED, MISSED, DISABLED, CHANGED, TAKEN}}
-use Rattle.c_handles.specs.{Status.{NOT_THERE, RELEASED, AGAIN, BUSY, OK}, declared.{hold.Hold.Hold, mode.Mode.Mode}}
+use Rattle.c_handles.specs.{Status.{NOT_THERE, RELEASED, AGAIN, BUSY, OK}, declared.{hold.Hold.Hold, power.Power.Power}}
 use Rattle.napi_calls.specs.declared.answers.TryPrep.TheVariants as try_prep
 use Rattle.napi_calls.specs.declared.answers.TryDone.TheVariants as try_done
 use Rattle.napi_calls.specs.declared.answers.TryBusy.TheVariants as try_busy
 use Rattle.napi_calls.specs.declared.answers.TryStop.TheVariants as try_stop
 use Rattle.napi_calls.specs.declared.answers.TryTake.TheVariants as try_take
 use Rattle.c_handles.specs.declared.hold.Hold.TheVariants as hold
-use Rattle.c_handles.specs.declared.mode.Mode.TheVariants as mode
+use Rattle.c_handles.specs.declared.power.Power.TheVariants as power
 
 -- there is such an answer, and this holds of it
 abbrev pub Is : {A : Type 0} → (A → Type 0) → Option A → Type 0
@@ -44,7 +44,7 @@ busy_stopped (hold.Polls w) n = if n == OK then Some (try_stop.Stopped w) else N
 busy_stopped (hold.Busy b) n = if n == CHANGED then Some (try_stop.Changed b) else None
 busy_stopped _ n = None
 
-abbrev pub disable_tried : Mode → ℕ → Option TryTake
-disable_tried (mode.Off c) n = if n == TAKEN then Some (try_take.Taken c) else None
-disable_tried (mode.Marked c) n = if n == BUSY then Some (try_take.Busy c) else (if n == CHANGED then Some (try_take.Changed c) else None)
+abbrev pub disable_tried : Power → ℕ → Option TryTake
+disable_tried (power.Off c) n = if n == TAKEN then Some (try_take.Taken c) else None
+disable_tried (power.Marked c) n = if n == BUSY then Some (try_take.Busy c) else (if n == CHANGED then Some (try_take.Changed c) else None)
 disable_tried _ n = None

@@ -3,12 +3,12 @@ ghost use Rattle.std.specs.Prelude.{◌≡◌, ◌≤◌, length};
 ghost use Rattle.std.specs.Arc.{arc_value};
 ghost use Rattle.c_handles.specs.Answers.{counting};
 ghost use Rattle.c_handles.specs.Status.{OK};
-ghost use Rattle.c_handles.specs.SeatCalls.{SeatAnswers, SeatLooks, ControlAnswers, SeatPolls, hold_counts, mode_counts};
+ghost use Rattle.c_handles.specs.SeatCalls.{SeatAnswers, SeatLooks, ControlAnswers, SeatPolls, hold_counts, power_counts};
 ghost use Rattle.c_handles.specs.Seats.{SitsAt, ControlsAt, sits_prop, controls_prop};
 
 use crate::answers::FqAnswers;
 use crate::hold::{Hold, SeatCall};
-use crate::mode::{ControlCall, Mode};
+use crate::power::{ControlCall, Power};
 use crate::status;
 use napi_calls::Napi;
 use napi_model::Seen;
@@ -108,25 +108,25 @@ pub struct Controller {
     /// Its instance.
     pub napi: Arc<Shared, Global>,
     /// What it has done last.
-    pub mode: Mode,
+    pub power: Power,
     /// It is of that instance.
-    pub ghost seat: { ControlsAt (arc_value napi).napi mode } by { controls_prop (arc_value napi).napi mode },
+    pub ghost seat: { ControlsAt (arc_value napi).napi power } by { controls_prop (arc_value napi).napi power },
 }
 
 impl Controller {
     /// Makes a call, and answers its number.
     pub fn step(&mut self, call: ControlCall) -> u32
-        ensures { ControlAnswers call self.old.mode result self.new.mode }
+        ensures { ControlAnswers call self.old.power result self.new.power }
     {
-        let (mode, status) = mem::replace(&mut self.mode, Mode::Gone).step(&self.napi.napi, call);
-        self.mode = mode;
+        let (power, status) = mem::replace(&mut self.power, Power::Gone).step(&self.napi.napi, call);
+        self.power = power;
         status
     }
 
     /// What is counted of the ring's polls, where the instance is disabled.
     pub fn counts(&self) -> Option<RxCounts>
-        ensures { result ≡ mode_counts self.now.mode }
+        ensures { result ≡ power_counts self.now.power }
     {
-        self.mode.counts()
+        self.power.counts()
     }
 }

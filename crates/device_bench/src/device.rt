@@ -168,7 +168,7 @@ impl<S: ReceiveSide> Device<S> {
 impl<S: ReceiveSide> Device<S> {
     // Gives the next packets, at most the weight, and answers how many.
     #[tactic(auto, unfolding(crate::specs::Device::polled))]
-    fn receive(&mut self, weight: u32, load: &mut Load) -> u32
+    fn receive(&mut self, weight: u32, load: &mut PolledBytes) -> u32
         requires weight { IsWithin 1 64 weight }
         requires polled { is_polling self.old.side.napi.place ≡ true }
         ensures device { self.new ≡ polled weight self.old }
@@ -190,7 +190,7 @@ impl<S: ReceiveSide> Device<S> {
         ensures once { result ≡ (polled_once weight self.old).0 }
         ensures bound { result.work ≤ weight }
     {
-        poll_once_of(self, weight, &mut Load::NONE)
+        poll_once_of(self, weight, &mut PolledBytes::NONE)
     }
 
     /// The thread takes the instance, if it was handed to it, and polls it at most so many times.
@@ -201,7 +201,7 @@ impl<S: ReceiveSide> Device<S> {
         ensures report { IsThreadPolling weight most
             (polled_by_thread most weight self.old).0 result }
     {
-        poll_thread_of(self, weight, most, &mut Load::NONE)
+        poll_thread_of(self, weight, most, &mut PolledBytes::NONE)
     }
 
     /// The poller takes an instance that is idle, polls it for so many rounds, stops and polls once more.
@@ -211,7 +211,7 @@ impl<S: ReceiveSide> Device<S> {
         ensures device { self.new ≡ (polled_busily rounds weight self.old).1 }
         ensures report { result ≡ (polled_busily rounds weight self.old).0 }
     {
-        poll_busy_of(self, rounds, weight, &mut Load::NONE)
+        poll_busy_of(self, rounds, weight, &mut PolledBytes::NONE)
     }
 }
 
@@ -232,7 +232,7 @@ impl<S: SpentSide> Device<S> {
 impl<S: ReceiveSide> Instance for Device<S> {
     ghost use Rattle.device_bench.specs.Instance.{Completes, Gives, IsPolled, Looks, Requeues, Takes};
 
-    type Packets = Load;
+    type Packets = PolledBytes;
 
     ghost rests = { λ d. Unit };
 
@@ -253,7 +253,7 @@ impl<S: ReceiveSide> Instance for Device<S> {
     }
 
     #[tactic(auto, unfolding(crate::specs::Device::polled))]
-    fn poll(&mut self, weight: u32, load: &mut Load) -> u32 {
+    fn poll(&mut self, weight: u32, load: &mut PolledBytes) -> u32 {
         self.receive(weight, load)
     }
 
@@ -291,7 +291,7 @@ impl<S: ReceiveSide> BusyInstance for Device<S> {
     }
 
     #[tactic(auto, unfolding(crate::specs::Device::polled))]
-    fn busy_poll(&mut self, weight: u32, load: &mut Load) -> u32 {
+    fn busy_poll(&mut self, weight: u32, load: &mut PolledBytes) -> u32 {
         self.receive(weight, load)
     }
 
@@ -304,7 +304,7 @@ impl<S: ReceiveSide> BusyInstance for Device<S> {
         self.side.stop();
     }
 
-    fn bytes_of(load: &Load) -> u64 {
+    fn bytes_of(load: &PolledBytes) -> u64 {
         load.bytes
     }
 }
@@ -322,11 +322,11 @@ fn count_completion(told: &mut DeviceCounts, again: bool)
 
 /// The bytes of the packets that a poll gave: at most 64, each of 32 bits of bytes.
 #[derive(Drop)]
-pub(crate) struct Load {
+pub(crate) struct PolledBytes {
     bytes: u64,
 }
 
-impl Model for Load {
+impl Model for PolledBytes {
     ghost use Rattle.std.specs.Prelude.{ℕ, ◌<◌, ◌^◌};
 
     ghost Value = { ℕ };
@@ -336,6 +336,6 @@ impl Model for Load {
     ghost invariant = { λ load. load.bytes < 2 ^ 38 };
 }
 
-impl Load {
-    const NONE: Load = Load { bytes: 0 };
+impl PolledBytes {
+    const NONE: PolledBytes = PolledBytes { bytes: 0 };
 }

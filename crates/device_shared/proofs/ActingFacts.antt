@@ -5,8 +5,9 @@ use Rattle.std.proofs.Common.{◌≡◌, ◌∙◌}
 use Rattle.napi_calls.specs.{Dealt.Delivers, Knows.{Has, Stands}, declared.types.{Caller.Caller, Napi.Napi}}
 use Rattle.{rx_ring.specs.declared.{packet.Packet.Packet, ends.RxCtx.RxCtx}, napi_word.specs.{Slot.has_slot, declared.table.Pass.Pass}}
 use Rattle.{device_bench.specs.Receive.taker_of, napi_model.specs.declared.{state.{Place.Place, Kind.Kind}, event.Operation.Operation}}
-use Rattle.device_shared.specs.declared.seats.{Seats.Seats, Turn.Turn, Posts.{Posts, TheVariants.{Rest, ListPolls, ThreadPolls}}}
-use Rattle.device_shared.specs.{declared.seats.Posts.TheVariants.PollsBusily, Seats.{IsSeatAt, AreSeats, poller_post, thread_post, ctx_at}}
+use Rattle.device_shared.specs.declared.seats.{Seats.Seats, Turn.Turn, Pollers.{Pollers, TheVariants.{Rest, ListPolls, ThreadPolls}}}
+use Rattle.device_shared.specs.declared.seats.Pollers.TheVariants.{PollsBusily}
+use Rattle.device_shared.specs.Seats.{IsSeatAt, AreSeats, poller_pass, thread_pass, ctx_at}
 use Rattle.device_shared.specs.{Seats.{polls_at, poller_of, thread_of, control_of, ctx_of}, Acting.{CtxMoves, Acts, TurnTakes, nobody}}
 use Rattle.napi_model.specs.declared.state.Kind.TheVariants as kind
 use Rattle.device_shared.specs.declared.seats.Turn.TheVariants as turn
@@ -42,20 +43,20 @@ pub given : {os : List Operation} (p q : Pass) (x : RxCtx) → Made p os q → D
 given p q x m d has = record { made = m; gave = d; moves = (refl, has.received) }
 
 -- nobody calls
-pub poller_rests : (posts : Posts) → Moved [] [] (poller_post posts) (poller_post posts) (ctx_at posts) (ctx_at posts)
+pub poller_rests : (pollers : Pollers) → Moved [] [] (poller_pass pollers) (poller_pass pollers) (ctx_at pollers) (ctx_at pollers)
 poller_rests (Rest p t) = idle None p.stands
 poller_rests (ListPolls w t) = idle (Some w.ctx) w.stands
 poller_rests (ThreadPolls p w) = idle (Some w.ctx) p.stands
 poller_rests (PollsBusily b t) = idle (Some b.ctx) b.stands
 
-pub thread_rests : (posts : Posts) → Moved [] [] (thread_post posts) (thread_post posts) (ctx_at posts) (ctx_at posts)
+pub thread_rests : (pollers : Pollers) → Moved [] [] (thread_pass pollers) (thread_pass pollers) (ctx_at pollers) (ctx_at pollers)
 thread_rests (Rest p t) = idle None t.stands
 thread_rests (ListPolls w t) = idle (Some w.ctx) t.stands
 thread_rests (ThreadPolls p w) = idle (Some w.ctx) w.stands
 thread_rests (PollsBusily b t) = idle (Some b.ctx) t.stands
 
-pub not_rest : (posts : Posts) → ((p t : Caller) → posts ≡ Rest p t → ⊥) → nobody (polls_at posts) ≡ false
-not_rest posts none = grind (arith, common_steps)
+pub not_rest : (pollers : Pollers) → ((p t : Caller) → pollers ≡ Rest p t → ⊥) → nobody (polls_at pollers) ≡ false
+not_rest pollers none = grind (arith, common_steps)
 
 -- ---- one of the four
 
@@ -99,10 +100,10 @@ none_turn kind.List i (turn.Off p t c) s =
     first_turn i (turn.Off p t c) (turn.Off p t c) (turn.Off p t c) refl s (idle (Some c.state.ctx) p.stands) refl refl
 none_turn kind.Thread i (turn.Off p t c) s =
     second_turn i (turn.Off p t c) (turn.Off p t c) (turn.Off p t c) refl s (idle (Some c.state.ctx) t.stands) refl refl
-none_turn kind.List i (turn.On posts e) s =
-    first_turn i (turn.On posts e) (turn.On posts e) (turn.On posts e) refl s (poller_rests posts) refl refl
-none_turn kind.Thread i (turn.On posts e) s =
-    second_turn i (turn.On posts e) (turn.On posts e) (turn.On posts e) refl s (thread_rests posts) refl refl
+none_turn kind.List i (turn.On pollers e) s =
+    first_turn i (turn.On pollers e) (turn.On pollers e) (turn.On pollers e) refl s (poller_rests pollers) refl refl
+none_turn kind.Thread i (turn.On pollers e) s =
+    second_turn i (turn.On pollers e) (turn.On pollers e) (turn.On pollers e) refl s (thread_rests pollers) refl refl
 
 -- a try of the controller, where nobody has the context
 pub tried : {os : List Operation} (p : Pass) (t : Turn) (taken : Bool) → Made p os (control_of t) → TurnTakes p t taken

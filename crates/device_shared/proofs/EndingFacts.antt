@@ -2,7 +2,8 @@
 use Rattle.std.proofs.{Common.{subst, arith}, lemmas.{List.{append-nil, take-append-drop}, Grind.common_steps}}
 use Rattle.std.proofs.Common.{◌≡◌, ◌∙◌, ℕ, List, [], ◌∷◌, length, take, Some, refl, sym, ap}
 use Rattle.napi_model.specs.declared.state.Seen.{Seen}
-use Rattle.{device_shared.specs.declared.seats.{Posts.{Posts, TheVariants.Rest}, Seats.Seats}, rx_ring.specs.declared.packet.Totals.Totals}
+use Rattle.device_shared.specs.declared.seats.{Pollers.{Pollers, TheVariants.Rest}, Seats.Seats}
+use Rattle.rx_ring.specs.declared.packet.Totals.{Totals}
 use Rattle.rx_ring.specs.{declared.{packet.Packet.Packet, ends.{RxCtx.RxCtx, RxIn.RxIn}}, Ends.{IsOneRing, SameCtx, SameIn, put_list}}
 use Rattle.{rx_ring.specs.{Ends.{received_list, ring_name, ring_of}, ReceiveRing.totals_of}, device_bench.specs.Receive.ReceiveView}
 use Rattle.napi_calls.{proofs.{Steps.prefix_trans, Dealing.named_ring}, specs.{Seats.shown, declared.types.{Napi.Napi, Caller.Caller}}}
@@ -24,8 +25,9 @@ pub ring_still : (input input' : RxIn) (x x' : RxCtx) → SameIn input input' �
 ring_still input input' x x' a b one = grind (arith, common_steps)
 
 -- who polls it has it still
-pub held_still : (posts : Posts) (e : Enabled) → ((p t : Caller) → posts ≡ Rest p t → ⊥) → TakesHold (polls_at posts) e (turn.On posts e)
-held_still posts e none = grind (arith, common_steps)
+pub held_still : (pollers : Pollers) (e : Enabled) → ((p t : Caller) → pollers ≡ Rest p t → ⊥)
+    → TakesHold (polls_at pollers) e (turn.On pollers e)
+held_still pollers e none = grind (arith, common_steps)
 
 -- ---- a side ended
 

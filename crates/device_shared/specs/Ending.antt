@@ -5,9 +5,9 @@ use Rattle.{rx_ring.specs.{Ends.{put_list, received_list, ring_of}, ReceiveRing.
 use Rattle.napi_model.specs.{declared.event.Operation.{Operation, TheVariants.{MarkDisable, Take}}, History.state_after, Step.opening}
 use Rattle.{napi_word.specs.declared.table.Pass.Pass, napi_calls.specs.{Closed.IsClosed, Made.Made, Seats.shown}}
 use Rattle.{napi_calls.specs.declared.types.{Caller.Caller, Napi.Napi}, device_bench.specs.Receive.ReceiveView}
-use Rattle.device_shared.specs.declared.seats.{Enabled.Enabled, Posts.{Posts, TheVariants.{Rest, ListPolls, ThreadPolls, PollsBusily}}}
-use Rattle.device_shared.specs.{declared.seats.Turn.Turn, Acting.TriesBy, Seats.{control_of, is_marked, poller_post, polls_at, role_of}}
-use Rattle.device_shared.specs.{Seats.thread_post, SharedReceive.bytes_each}
+use Rattle.device_shared.specs.declared.seats.{Enabled.Enabled, Pollers.{Pollers, TheVariants.{Rest, ListPolls, ThreadPolls, PollsBusily}}}
+use Rattle.device_shared.specs.{declared.seats.Turn.Turn, Acting.TriesBy, Seats.{control_of, is_marked, poller_pass, polls_at, role_of}}
+use Rattle.device_shared.specs.{Seats.thread_pass, SharedReceive.bytes_each}
 use mathlib.Core.List.{IsPrefix}
 use Rattle.napi_model.specs.declared.state.Kind.TheVariants as kind
 use Rattle.napi_calls.specs.Seats as seats
@@ -16,18 +16,18 @@ use Rattle.device_shared.specs.declared.seats.Enabled.TheVariants as enabled
 -- ---- steps towards an instance that the controller has
 
 -- the poller of the list looks for it, and then the thread
-abbrev pub LookFor : Posts → Posts → Type 0
-LookFor posts (ListPolls w t) = Made (poller_post posts) (Take kind.List true ∷ []) w.pass
-LookFor posts (ThreadPolls p w) =
-    Made (poller_post posts) (Take kind.List false ∷ []) p.pass × Made (thread_post posts) (Take kind.Thread true ∷ []) w.pass
-LookFor posts (Rest p t) =
-    Made (poller_post posts) (Take kind.List false ∷ []) p.pass × Made (thread_post posts) (Take kind.Thread false ∷ []) t.pass
-LookFor posts (PollsBusily b t) = ⊥
+abbrev pub LookFor : Pollers → Pollers → Type 0
+LookFor pollers (ListPolls w t) = Made (poller_pass pollers) (Take kind.List true ∷ []) w.pass
+LookFor pollers (ThreadPolls p w) =
+    Made (poller_pass pollers) (Take kind.List false ∷ []) p.pass × Made (thread_pass pollers) (Take kind.Thread true ∷ []) w.pass
+LookFor pollers (Rest p t) =
+    Made (poller_pass pollers) (Take kind.List false ∷ []) p.pass × Made (thread_pass pollers) (Take kind.Thread false ∷ []) t.pass
+LookFor pollers (PollsBusily b t) = ⊥
 
 -- who polls it stops busy polling, or lets go of it; where nobody does it is looked for
-abbrev pub LetsGo : Option (ℕ × Bool) → Posts → Posts → Type 0
-LetsGo None posts after = LookFor posts after
-LetsGo (Some who) posts after = polls_at after ≡ (if who.1 then Some (who.0, false) else None)
+abbrev pub LetsGo : Option (ℕ × Bool) → Pollers → Pollers → Type 0
+LetsGo None pollers after = LookFor pollers after
+LetsGo (Some who) pollers after = polls_at after ≡ (if who.1 then Some (who.0, false) else None)
 
 -- where nobody has it the controller marks it, and marked it tries to take it
 abbrev pub TakesHold : Option (ℕ × Bool) → Enabled → Turn → Type 0
@@ -37,8 +37,8 @@ TakesHold None (enabled.Marked c) after =
     (os : List Operation) × (taken : Bool) × TriesBy true taken os × Made c.pass os (control_of after)
     × (role_of after ≡ (if taken then None else Some (true, None)))
 
-abbrev pub Leaves : Posts → Enabled → Turn → Type 0
-Leaves posts e after = (left : Posts) × LetsGo (polls_at posts) posts left × TakesHold (polls_at left) e after
+abbrev pub Leaves : Pollers → Enabled → Turn → Type 0
+Leaves pollers e after = (left : Pollers) × LetsGo (polls_at pollers) pollers left × TakesHold (polls_at left) e after
 
 -- ---- the end
 

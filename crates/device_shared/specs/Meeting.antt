@@ -2,12 +2,12 @@
 use Rattle.std.specs.Prelude.{◌≡◌, ℕ, List, [], ◌∷◌}
 use Rattle.napi_model.specs.{History.state_after, Step.{opening, seen_of}}
 use Rattle.{napi_model.specs.declared.state.Seen.Seen, napi_word.specs.{declared.table.Pass.Pass, Surveys.Surveys}}
-use Rattle.{napi_calls.specs.declared.types.Caller.Caller, device_shared.specs.declared.seats.{Posts.Posts, Seats.Seats}}
-use Rattle.device_shared.specs.Seats.{control_of, ctx_at, ctx_of, poller_of, poller_post, polls_at, role_of, thread_of, thread_post}
+use Rattle.{napi_calls.specs.declared.types.Caller.Caller, device_shared.specs.declared.seats.{Pollers.Pollers, Seats.Seats}}
+use Rattle.device_shared.specs.Seats.{control_of, ctx_at, ctx_of, poller_of, poller_pass, polls_at, role_of, thread_of, thread_pass}
 
 -- the seats in the order of their numbers
-abbrev pub posted : Caller → Posts → Pass → List Pass
-posted interrupt posts control = interrupt.pass ∷ poller_post posts ∷ thread_post posts ∷ control ∷ []
+abbrev pub posted : Caller → Pollers → Pass → List Pass
+posted interrupt pollers control = interrupt.pass ∷ poller_pass pollers ∷ thread_pass pollers ∷ control ∷ []
 
 abbrev pub passes_of : Seats → List Pass
 passes_of s = s.interrupt.pass ∷ poller_of s.turn ∷ thread_of s.turn ∷ control_of s.turn ∷ []
@@ -19,7 +19,7 @@ pub record Meet (before after : List Pass) (seen : Seen) : Type 0 where
   pub told : seen ≡ seen_of (state_after (opening 3) surveys.found)
 
 -- all stay what they are
-pub record StayPosts (before after : Posts) : Type 0 where
+pub record StayPollers (before after : Pollers) : Type 0 where
   pub ctx : ctx_at after ≡ ctx_at before
   pub polls : polls_at after ≡ polls_at before
 

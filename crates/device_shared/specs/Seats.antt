@@ -3,10 +3,12 @@
 use Rattle.napi_calls.specs.{Packets.delivered, Seats.{controller_of, shown, state_of}, declared.types.Napi.Napi, Instance.IsSeatOf}
 use Rattle.std.specs.Prelude.{◌≡◌, ℕ, Bool, true, false, List, Option, Some, None}
 use Rattle.napi_calls.specs.{Knows.received_held, Alone.AllShow}
-use Rattle.{rx_ring.specs.declared.{packet.Packet.Packet, ends.RxCtx.RxCtx}, device_shared.specs.declared.seats.{Turn.Turn, Posts.Posts}}
+use Rattle.rx_ring.specs.declared.{packet.Packet.Packet, ends.RxCtx.RxCtx}
+use Rattle.device_shared.specs.declared.seats.{Turn.Turn, Pollers.Pollers}
 use Rattle.napi_model.specs.{declared.state.{State.State, Place.{Place, TheVariants.{Granted, Polling, Control}}}, Step.{Polls, opening}}
 use Rattle.{napi_model.specs.History.LegalHistory, napi_word.specs.{Passes.view_of, View.{first_in, received_in}, declared.table.Pass.Pass}}
-use Rattle.device_shared.specs.declared.seats.{Posts.TheVariants.{Rest, ListPolls, ThreadPolls, PollsBusily}, Seats.Seats, Enabled.Enabled}
+use Rattle.device_shared.specs.declared.seats.{Pollers.TheVariants.{Rest, ListPolls, ThreadPolls, PollsBusily}, Seats.Seats}
+use Rattle.device_shared.specs.declared.seats.Enabled.{Enabled}
 use Rattle.device_shared.specs.declared.seats.Enabled.TheVariants as enabled
 use Rattle.device_shared.specs.declared.seats.Turn.TheVariants as turn
 
@@ -16,34 +18,34 @@ abbrev pub enabled_pass : Enabled → Pass
 enabled_pass (enabled.On c) = c.pass
 enabled_pass (enabled.Marked c) = c.pass
 
-abbrev pub poller_post : Posts → Pass
-poller_post (Rest p t) = p.pass
-poller_post (ListPolls w t) = w.pass
-poller_post (ThreadPolls p w) = p.pass
-poller_post (PollsBusily b t) = b.pass
+abbrev pub poller_pass : Pollers → Pass
+poller_pass (Rest p t) = p.pass
+poller_pass (ListPolls w t) = w.pass
+poller_pass (ThreadPolls p w) = p.pass
+poller_pass (PollsBusily b t) = b.pass
 
-abbrev pub thread_post : Posts → Pass
-thread_post (Rest p t) = t.pass
-thread_post (ListPolls w t) = t.pass
-thread_post (ThreadPolls p w) = w.pass
-thread_post (PollsBusily b t) = t.pass
+abbrev pub thread_pass : Pollers → Pass
+thread_pass (Rest p t) = t.pass
+thread_pass (ListPolls w t) = t.pass
+thread_pass (ThreadPolls p w) = w.pass
+thread_pass (PollsBusily b t) = t.pass
 
 abbrev pub poller_of : Turn → Pass
 poller_of (turn.Off p t c) = p.pass
-poller_of (turn.On posts e) = poller_post posts
+poller_of (turn.On pollers e) = poller_pass pollers
 
 abbrev pub thread_of : Turn → Pass
 thread_of (turn.Off p t c) = t.pass
-thread_of (turn.On posts e) = thread_post posts
+thread_of (turn.On pollers e) = thread_pass pollers
 
 abbrev pub control_of : Turn → Pass
 control_of (turn.Off p t c) = c.pass
-control_of (turn.On posts e) = enabled_pass e
+control_of (turn.On pollers e) = enabled_pass e
 
 -- ---- whose turn it is
 
 -- the poll context, where one of them has it
-abbrev pub ctx_at : Posts → Option RxCtx
+abbrev pub ctx_at : Pollers → Option RxCtx
 ctx_at (Rest p t) = None
 ctx_at (ListPolls w t) = Some w.ctx
 ctx_at (ThreadPolls p w) = Some w.ctx
@@ -51,10 +53,10 @@ ctx_at (PollsBusily b t) = Some b.ctx
 
 abbrev pub ctx_of : Turn → Option RxCtx
 ctx_of (turn.Off p t c) = Some c.state.ctx
-ctx_of (turn.On posts e) = ctx_at posts
+ctx_of (turn.On pollers e) = ctx_at pollers
 
 -- who polls, and whether busily
-abbrev pub polls_at : Posts → Option (ℕ × Bool)
+abbrev pub polls_at : Pollers → Option (ℕ × Bool)
 polls_at (Rest p t) = None
 polls_at (ListPolls w t) = Some (1, false)
 polls_at (ThreadPolls p w) = Some (2, false)
@@ -70,7 +72,7 @@ Role = Option (Bool × Option (ℕ × Bool))
 
 abbrev pub role_of : Turn → Role
 role_of (turn.Off p t c) = None
-role_of (turn.On posts e) = Some (is_marked e, polls_at posts)
+role_of (turn.On pollers e) = Some (is_marked e, polls_at pollers)
 
 abbrev pub is_off : Role → Bool
 is_off None = true
@@ -104,9 +106,9 @@ pub record AreFour (n : Napi) (p0 p1 p2 p3 : Pass) : Type 0 where
   pub two : IsSeatAt n p2
   pub three : IsSeatAt n p3
 
-pub record ArePosts (n : Napi) (posts : Posts) : Type 0 where
-  pub one : IsSeatAt n (poller_post posts)
-  pub two : IsSeatAt n (thread_post posts)
+pub record ArePollers (n : Napi) (pollers : Pollers) : Type 0 where
+  pub one : IsSeatAt n (poller_pass pollers)
+  pub two : IsSeatAt n (thread_pass pollers)
 
 pub record AreTurned (n : Napi) (t : Turn) : Type 0 where
   pub one : IsSeatAt n (poller_of t)

@@ -13,11 +13,11 @@ ghost use Rattle.poll_shared.specs.SharedPolling.{EndsBy};
 ghost use Rattle.device_bench.specs.Receive.{taker_of};
 ghost use Rattle.poll_shared.specs.SharedBusy.{StopsBy};
 ghost use Rattle.device_shared.specs.Acting.{Acts, AsksBy, EnablesBy, IsMarked, IsUnmarked, MayComplete, PolledBy, TakesBusilyBy, TakesBy, TriesBy, TurnTakes, at_rest, left_by, marked, polled_by, poller_by};
-ghost use Rattle.device_shared.specs.declared.seats.Posts.TheVariants.{Rest};
+ghost use Rattle.device_shared.specs.declared.seats.Pollers.TheVariants.{Rest};
 ghost use Rattle.device_shared.specs.declared.seats.Turn.TheVariants.{On};
 ghost use Rattle.device_shared.specs.Seats.{AreSeats, control_of, enabled_pass, is_marked, poller_of, role_of, thread_of};
 
-use crate::seats::{Enabled, Posts, Seats, Turn};
+use crate::seats::{Enabled, Pollers, Seats, Turn};
 use napi_calls::{Caller, Control, Marked, Napi, Sched, TryTake};
 use napi_model::{Kind, Prep};
 use poll_shared::{complete, hand_over};
@@ -64,9 +64,9 @@ impl Turn {
             (λ turn. (turn ≡ self) × (at_rest (role_of self) ≡ false)) }
     {
         match self {
-            Turn::On(posts, enabled) => match posts {
-                Posts::Rest(poller, thread) => Ok((poller, thread, enabled)),
-                posts => Err(Turn::On(posts, enabled)),
+            Turn::On(pollers, enabled) => match pollers {
+                Pollers::Rest(poller, thread) => Ok((poller, thread, enabled)),
+                pollers => Err(Turn::On(pollers, enabled)),
             },
             turn => Err(turn),
         }
@@ -90,8 +90,8 @@ pub(crate) fn try_at_rest(
     match control.try_take(napi) {
         TryTake::Taken(control) => (Turn::Off(poller, thread, control), true),
         TryTake::Busy(control) | TryTake::Changed(control) => {
-            let posts = Posts::Rest(poller, thread);
-            (Turn::On(posts, Enabled::Marked(control)), false)
+            let pollers = Pollers::Rest(poller, thread);
+            (Turn::On(pollers, Enabled::Marked(control)), false)
         }
     }
 }
@@ -138,17 +138,17 @@ impl Seats {
             Ok(rested) => rested,
             Err(turn) => return (Seats { interrupt, turn }, false),
         };
-        let (posts, taken) = match kind {
+        let (pollers, taken) = match kind {
             Kind::List => match poller.take(napi, kind) {
-                Ok(polling) => (Posts::ListPolls(polling, thread), true),
-                Err(poller) => (Posts::Rest(poller, thread), false),
+                Ok(polling) => (Pollers::ListPolls(polling, thread), true),
+                Err(poller) => (Pollers::Rest(poller, thread), false),
             },
             Kind::Thread => match thread.take(napi, kind) {
-                Ok(polling) => (Posts::ThreadPolls(poller, polling), true),
-                Err(thread) => (Posts::Rest(poller, thread), false),
+                Ok(polling) => (Pollers::ThreadPolls(poller, polling), true),
+                Err(thread) => (Pollers::Rest(poller, thread), false),
             },
         };
-        let turn = Turn::On(posts, enabled);
+        let turn = Turn::On(pollers, enabled);
         (Seats { interrupt, turn }, taken)
     }
 
@@ -161,15 +161,15 @@ impl Seats {
         ensures role { role_of result.turn ≡ left_by (role_of self.turn) }
     {
         let Seats { interrupt, turn } = self;
-        let Turn::On(posts, enabled) = turn else {
+        let Turn::On(pollers, enabled) = turn else {
             unreachable!()
         };
-        let (poller, thread) = match posts {
-            Posts::ListPolls(polling, thread) => (polling.requeue(napi), thread),
-            Posts::ThreadPolls(poller, polling) => (poller, polling.requeue(napi)),
+        let (poller, thread) = match pollers {
+            Pollers::ListPolls(polling, thread) => (polling.requeue(napi), thread),
+            Pollers::ThreadPolls(poller, polling) => (poller, polling.requeue(napi)),
             _ => unreachable!(),
         };
-        let turn = Turn::On(Posts::Rest(poller, thread), enabled);
+        let turn = Turn::On(Pollers::Rest(poller, thread), enabled);
         Seats { interrupt, turn }
     }
 
@@ -182,21 +182,21 @@ impl Seats {
         ensures role { role_of result.0.turn ≡ left_by (role_of self.turn) }
     {
         let Seats { interrupt, turn } = self;
-        let Turn::On(posts, enabled) = turn else {
+        let Turn::On(pollers, enabled) = turn else {
             unreachable!()
         };
-        let (poller, thread, again) = match posts {
-            Posts::ListPolls(polling, thread) => {
+        let (poller, thread, again) = match pollers {
+            Pollers::ListPolls(polling, thread) => {
                 let (poller, again) = complete(rt, napi, polling, true);
                 (poller, thread, again)
             }
-            Posts::ThreadPolls(poller, polling) => {
+            Pollers::ThreadPolls(poller, polling) => {
                 let (thread, again) = complete(rt, napi, polling, true);
                 (poller, thread, again)
             }
             _ => unreachable!(),
         };
-        let turn = Turn::On(Posts::Rest(poller, thread), enabled);
+        let turn = Turn::On(Pollers::Rest(poller, thread), enabled);
         (Seats { interrupt, turn }, again)
     }
 
@@ -214,11 +214,11 @@ impl Seats {
             Ok(rested) => rested,
             Err(turn) => return (Seats { interrupt, turn }, false),
         };
-        let (posts, taken) = match poller.busy(rt, napi) {
-            Ok(busy) => (Posts::PollsBusily(busy, thread), true),
-            Err(poller) => (Posts::Rest(poller, thread), false),
+        let (pollers, taken) = match poller.busy(rt, napi) {
+            Ok(busy) => (Pollers::PollsBusily(busy, thread), true),
+            Err(poller) => (Pollers::Rest(poller, thread), false),
         };
-        let turn = Turn::On(posts, enabled);
+        let turn = Turn::On(pollers, enabled);
         (Seats { interrupt, turn }, taken)
     }
 
@@ -230,14 +230,14 @@ impl Seats {
         ensures role { role_of result.turn ≡ role_of self.turn }
     {
         let Seats { interrupt, turn } = self;
-        let Turn::On(posts, enabled) = turn else {
+        let Turn::On(pollers, enabled) = turn else {
             unreachable!()
         };
-        let Posts::PollsBusily(mut busy, thread) = posts else {
+        let Pollers::PollsBusily(mut busy, thread) = pollers else {
             unreachable!()
         };
         busy.complete_held(napi);
-        let turn = Turn::On(Posts::PollsBusily(busy, thread), enabled);
+        let turn = Turn::On(Pollers::PollsBusily(busy, thread), enabled);
         Seats { interrupt, turn }
     }
 
@@ -249,13 +249,13 @@ impl Seats {
         ensures role { role_of result.turn ≡ polled_by 1 false (role_of self.turn) }
     {
         let Seats { interrupt, turn } = self;
-        let Turn::On(posts, enabled) = turn else {
+        let Turn::On(pollers, enabled) = turn else {
             unreachable!()
         };
-        let Posts::PollsBusily(busy, thread) = posts else {
+        let Pollers::PollsBusily(busy, thread) = pollers else {
             unreachable!()
         };
-        let turn = Turn::On(Posts::ListPolls(busy.stop(rt, napi), thread), enabled);
+        let turn = Turn::On(Pollers::ListPolls(busy.stop(rt, napi), thread), enabled);
         Seats { interrupt, turn }
     }
 
@@ -268,7 +268,7 @@ impl Seats {
     {
         let Seats { interrupt, turn } = self;
         let turn = match turn {
-            Turn::On(posts, enabled) => Turn::On(posts, enabled.mark(napi)),
+            Turn::On(pollers, enabled) => Turn::On(pollers, enabled.mark(napi)),
             _ => unreachable!(),
         };
         Seats { interrupt, turn }
@@ -283,17 +283,17 @@ impl Seats {
         ensures role { role_of result.0.turn ≡ (if result.1 then None else role_of self.turn) }
     {
         let Seats { interrupt, turn } = self;
-        let (posts, enabled) = match turn {
-            Turn::On(posts, enabled) => (posts, enabled),
+        let (pollers, enabled) = match turn {
+            Turn::On(pollers, enabled) => (pollers, enabled),
             _ => unreachable!(),
         };
         let control = match enabled {
             Enabled::Marked(control) => control,
             _ => unreachable!(),
         };
-        let (turn, taken) = match posts {
-            Posts::Rest(poller, thread) => try_at_rest(napi, poller, thread, control),
-            posts => (Turn::On(posts, Enabled::Marked(control)), false),
+        let (turn, taken) = match pollers {
+            Pollers::Rest(poller, thread) => try_at_rest(napi, poller, thread, control),
+            pollers => (Turn::On(pollers, Enabled::Marked(control)), false),
         };
         (Seats { interrupt, turn }, taken)
     }
@@ -310,7 +310,7 @@ impl Seats {
         let turn = match turn {
             Turn::Off(poller, thread, control) => {
                 let control = control.enable(rt, napi, threaded);
-                Turn::On(Posts::Rest(poller, thread), Enabled::On(control))
+                Turn::On(Pollers::Rest(poller, thread), Enabled::On(control))
             }
             _ => unreachable!(),
         };

@@ -5,11 +5,11 @@ ghost use Rattle.napi_calls.specs.Closed.{IsClosed};
 ghost use Rattle.napi_calls.specs.Instance.{IsSeatOf, callers_of};
 ghost use Rattle.rx_ring.specs.Ends.{IsOneRing, SameCtx, SameIn, put_list, received_list};
 ghost use Rattle.device_shared.specs.Ending.{IsLater, Leaves, LetsGo};
-ghost use Rattle.device_shared.specs.Seats.{ArePosts, AreTurned, IsSeatAt, control_of, enabled_pass, polls_at};
+ghost use Rattle.device_shared.specs.Seats.{ArePollers, AreTurned, IsSeatAt, control_of, enabled_pass, polls_at};
 ghost use Rattle.device_shared.specs.SharedReceive.{HasRoom};
 
 use crate::acting::try_at_rest;
-use crate::seats::{Enabled, Posts, Turn};
+use crate::seats::{Enabled, Pollers, Turn};
 use napi_calls::{Caller, Control, Napi, Off};
 use napi_model::Kind;
 use poll_shared::complete;
@@ -72,58 +72,58 @@ pub(crate) fn disable<R: Wait>(rt: &R, napi: &Napi, turn: Turn) -> (Caller, Call
     for _ in rt.forever() {
         match turn {
             Turn::Off(poller, thread, control) => return (poller, thread, control),
-            Turn::On(posts, enabled) => turn = Turn::leave(posts, enabled, rt, napi),
+            Turn::On(pollers, enabled) => turn = Turn::leave(pollers, enabled, rt, napi),
         }
     }
     unreachable!()
 }
 
-impl Posts {
+impl Pollers {
     // One step towards an instance that nobody polls.
-    fn release<R: Wait>(self, rt: &R, napi: &Napi) -> Posts
-        requires { ArePosts napi.now self }
-        ensures posts { ArePosts napi.now result }
+    fn release<R: Wait>(self, rt: &R, napi: &Napi) -> Pollers
+        requires { ArePollers napi.now self }
+        ensures pollers { ArePollers napi.now result }
         ensures step { LetsGo (polls_at self) self result }
     {
         match self {
-            Posts::Rest(poller, thread) => match poller.take(napi, Kind::List) {
-                Ok(polling) => Posts::ListPolls(polling, thread),
+            Pollers::Rest(poller, thread) => match poller.take(napi, Kind::List) {
+                Ok(polling) => Pollers::ListPolls(polling, thread),
                 Err(poller) => match thread.take(napi, Kind::Thread) {
-                    Ok(polling) => Posts::ThreadPolls(poller, polling),
-                    Err(thread) => Posts::Rest(poller, thread),
+                    Ok(polling) => Pollers::ThreadPolls(poller, polling),
+                    Err(thread) => Pollers::Rest(poller, thread),
                 },
             },
-            Posts::ListPolls(polling, thread) => {
+            Pollers::ListPolls(polling, thread) => {
                 let (poller, _) = complete(rt, napi, polling, true);
-                Posts::Rest(poller, thread)
+                Pollers::Rest(poller, thread)
             }
-            Posts::ThreadPolls(poller, polling) => {
+            Pollers::ThreadPolls(poller, polling) => {
                 let (thread, _) = complete(rt, napi, polling, true);
-                Posts::Rest(poller, thread)
+                Pollers::Rest(poller, thread)
             }
-            Posts::PollsBusily(busy, thread) => Posts::ListPolls(busy.stop(rt, napi), thread),
+            Pollers::PollsBusily(busy, thread) => Pollers::ListPolls(busy.stop(rt, napi), thread),
         }
     }
 }
 
 impl Turn {
     /// One step towards an instance that the controller has.
-    pub(crate) fn leave<R: Wait>(posts: Posts, enabled: Enabled, rt: &R, napi: &Napi) -> Turn
-        requires posts { ArePosts napi.now posts }
+    pub(crate) fn leave<R: Wait>(pollers: Pollers, enabled: Enabled, rt: &R, napi: &Napi) -> Turn
+        requires pollers { ArePollers napi.now pollers }
         requires control { IsSeatAt napi.now (enabled_pass enabled) }
         ensures turned { AreTurned napi.now result }
         ensures later { IsLater (enabled_pass enabled) (control_of result) }
-        ensures step { Leaves posts enabled result }
+        ensures step { Leaves pollers enabled result }
     {
-        match posts.release(rt, napi) {
-            Posts::Rest(poller, thread) => match enabled {
+        match pollers.release(rt, napi) {
+            Pollers::Rest(poller, thread) => match enabled {
                 Enabled::On(control) => {
                     let enabled = Enabled::Marked(control.mark(napi));
-                    Turn::On(Posts::Rest(poller, thread), enabled)
+                    Turn::On(Pollers::Rest(poller, thread), enabled)
                 }
                 Enabled::Marked(control) => try_at_rest(napi, poller, thread, control).0,
             },
-            posts => Turn::On(posts, enabled),
+            pollers => Turn::On(pollers, enabled),
         }
     }
 }

@@ -1,30 +1,30 @@
 //! All that make calls on an instance meet, and so know its whole history.
 
 ghost use Rattle.std.specs.Prelude.{◌≡◌, None};
-ghost use Rattle.device_shared.specs.Meeting.{Meet, Meets, StayPosts, posted};
-ghost use Rattle.device_shared.specs.Seats.{AreFour, AreSeats, poller_post, thread_post};
+ghost use Rattle.device_shared.specs.Meeting.{Meet, Meets, StayPollers, posted};
+ghost use Rattle.device_shared.specs.Seats.{AreFour, AreSeats, poller_pass, thread_pass};
 
-use crate::seats::{Enabled, Posts, Seats, Turn};
+use crate::seats::{Enabled, Pollers, Seats, Turn};
 use napi_calls::{Caller, Control, Mode, Napi, survey, survey_busy, survey_polling};
 use napi_model::Seen;
 
 // The controller of an instance that it hasn't, and the others.
 #[inline(always)]
-fn meet_posts<S: Mode>(
+fn meet_pollers<S: Mode>(
     napi: &Napi,
     interrupt: Caller,
-    posts: Posts,
+    pollers: Pollers,
     mut control: Control<S>,
-) -> (Caller, Posts, Control<S>, Seen)
+) -> (Caller, Pollers, Control<S>, Seen)
     requires seats { AreFour
-        napi.now interrupt.pass (poller_post posts) (thread_post posts) control.pass }
+        napi.now interrupt.pass (poller_pass pollers) (thread_pass pollers) control.pass }
     requires nothing { S.ctx control.state ≡ None }
-    ensures meet { Meet (posted interrupt posts control.pass)
+    ensures meet { Meet (posted interrupt pollers control.pass)
         (posted result.0 result.1 result.2.pass) result.3 }
-    ensures posts { StayPosts posts result.1 }
+    ensures pollers { StayPollers pollers result.1 }
 {
-    match posts {
-        Posts::Rest(poller, thread) => {
+    match pollers {
+        Pollers::Rest(poller, thread) => {
             let (interrupt, poller, thread, seen) = survey(
                 napi,
                 interrupt,
@@ -32,30 +32,30 @@ fn meet_posts<S: Mode>(
                 thread,
                 &mut control,
             );
-            (interrupt, Posts::Rest(poller, thread), control, seen)
+            (interrupt, Pollers::Rest(poller, thread), control, seen)
         }
-        Posts::ListPolls(polling, thread) => {
+        Pollers::ListPolls(polling, thread) => {
             let (interrupt, thread, control, polling, seen) = survey_polling(
                 napi, interrupt, thread, control, polling,
             );
-            (interrupt, Posts::ListPolls(polling, thread), control, seen)
+            (interrupt, Pollers::ListPolls(polling, thread), control, seen)
         }
-        Posts::ThreadPolls(poller, polling) => {
+        Pollers::ThreadPolls(poller, polling) => {
             let (interrupt, poller, control, polling, seen) = survey_polling(
                 napi, interrupt, poller, control, polling,
             );
             (
                 interrupt,
-                Posts::ThreadPolls(poller, polling),
+                Pollers::ThreadPolls(poller, polling),
                 control,
                 seen,
             )
         }
-        Posts::PollsBusily(busy, thread) => {
+        Pollers::PollsBusily(busy, thread) => {
             let (interrupt, thread, control, busy, seen) = survey_busy(
                 napi, interrupt, thread, control, busy,
             );
-            (interrupt, Posts::PollsBusily(busy, thread), control, seen)
+            (interrupt, Pollers::PollsBusily(busy, thread), control, seen)
         }
     }
 }
@@ -81,19 +81,19 @@ impl Seats {
                 let turn = Turn::Off(poller, thread, control);
                 (Seats { interrupt, turn }, seen)
             }
-            Turn::On(posts, enabled) => match enabled {
+            Turn::On(pollers, enabled) => match enabled {
                 Enabled::On(control) => {
-                    let (interrupt, posts, control, seen) = meet_posts(
-                        napi, interrupt, posts, control,
+                    let (interrupt, pollers, control, seen) = meet_pollers(
+                        napi, interrupt, pollers, control,
                     );
-                    let turn = Turn::On(posts, Enabled::On(control));
+                    let turn = Turn::On(pollers, Enabled::On(control));
                     (Seats { interrupt, turn }, seen)
                 }
                 Enabled::Marked(control) => {
-                    let (interrupt, posts, control, seen) = meet_posts(
-                        napi, interrupt, posts, control,
+                    let (interrupt, pollers, control, seen) = meet_pollers(
+                        napi, interrupt, pollers, control,
                     );
-                    let turn = Turn::On(posts, Enabled::Marked(control));
+                    let turn = Turn::On(pollers, Enabled::Marked(control));
                     (Seats { interrupt, turn }, seen)
                 }
             },

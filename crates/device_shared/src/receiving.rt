@@ -6,7 +6,7 @@ ghost use Rattle.device_shared.specs.Acting.{PolledBy};
 ghost use Rattle.device_shared.specs.Receiving.{ReceivesNext, SeatsReceive};
 ghost use Rattle.device_shared.specs.Seats.{poller_of, role_of, thread_of};
 
-use crate::seats::{Posts, Seats, Turn};
+use crate::seats::{Pollers, Seats, Turn};
 use napi_calls::{Busy, Polling};
 use rx_ring::{Batch, MAX_WEIGHT, RxIn};
 
@@ -47,25 +47,25 @@ impl Seats {
         ensures role { role_of result.turn ≡ role_of self.turn }
     {
         let Seats { interrupt, turn } = self;
-        let Turn::On(posts, enabled) = turn else {
+        let Turn::On(pollers, enabled) = turn else {
             unreachable!()
         };
-        let posts = match posts {
-            Posts::ListPolls(mut polling, thread) => {
+        let pollers = match pollers {
+            Pollers::ListPolls(mut polling, thread) => {
                 poll(&mut polling, input, weight, batch);
-                Posts::ListPolls(polling, thread)
+                Pollers::ListPolls(polling, thread)
             }
-            Posts::ThreadPolls(poller, mut polling) => {
+            Pollers::ThreadPolls(poller, mut polling) => {
                 poll(&mut polling, input, weight, batch);
-                Posts::ThreadPolls(poller, polling)
+                Pollers::ThreadPolls(poller, polling)
             }
-            Posts::PollsBusily(mut busy, thread) => {
+            Pollers::PollsBusily(mut busy, thread) => {
                 poll_busily(&mut busy, input, weight, batch);
-                Posts::PollsBusily(busy, thread)
+                Pollers::PollsBusily(busy, thread)
             }
             _ => unreachable!(),
         };
-        let turn = Turn::On(posts, enabled);
+        let turn = Turn::On(pollers, enabled);
         Seats { interrupt, turn }
     }
 }

@@ -9,7 +9,7 @@ pub(crate) enum Enabled {
 }
 
 /// The poller of the list and the device's thread, of whom one at most polls the instance.
-pub(crate) enum Posts {
+pub(crate) enum Pollers {
     Rest(Caller, Caller),
     ListPolls(Polling, Caller),
     ThreadPolls(Caller, Polling),
@@ -19,7 +19,7 @@ pub(crate) enum Posts {
 /// Whose turn it is: the controller's, or that of the others.
 pub(crate) enum Turn {
     Off(Caller, Caller, Control<Off>),
-    On(Posts, Enabled),
+    On(Pollers, Enabled),
 }
 
 /// The interrupt, which is caller 0, the poller of the list, 1, the device's thread, 2, and the controller, 3.

@@ -22,5 +22,5 @@ LeadsToRestingSeat n handle = LeadsToRestingBody n handle.held.body
 -- the one leads to the controller of an instance that is off, and each other one to a caller of it
 abbrev pub AreOfOne : FqHandle → List FqHandle → Type 0
 AreOfOne control seats = (n : Napi)
-    × LeadsToController (λ c. ((arc_value c.napi).napi ≡ n) × (is_off c.mode ≡ true)) control.held.body
+    × LeadsToController (λ c. ((arc_value c.napi).napi ≡ n) × (is_off c.power ≡ true)) control.held.body
     × All (LeadsToRestingSeat n) seats

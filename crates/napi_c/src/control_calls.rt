@@ -1,5 +1,5 @@
 //! The calls of the controller of a shared instance.
-ghost use Rattle.c_handles.specs.declared.mode.ControlCall.TheVariants as control_call;
+ghost use Rattle.c_handles.specs.declared.power.ControlCall.TheVariants as control_call;
 ghost use Rattle.c_handles.specs.Handles.{ControlMakes, ControlMakesIn};
 
 use c_handles::{Body, ControlCall, FqHandle, status};

@@ -3,7 +3,7 @@ ghost use Rattle.std.specs.Prelude.{◌≡◌, ◌≢◌, None};
 ghost use Rattle.c_handles.specs.Freeing.{is_freeable, free_status, abandon_status, move_status};
 ghost use Rattle.c_handles.specs.Status.{OK};
 
-use c_handles::{Body, FqHandle, Hold, Mode, status};
+use c_handles::{Body, FqHandle, Hold, Power, status};
 use std::alloc::Global;
 
 // Whether nothing is lost with it but what it holds: nobody waits for it.
@@ -12,7 +12,7 @@ fn is_freeable(body: &Body) -> bool
 {
     match body {
         Body::Seat(seat) => matches!(seat.hold, Hold::Rests(_)),
-        Body::Controller(control) => matches!(control.mode, Mode::Off(_)),
+        Body::Controller(control) => matches!(control.power, Power::Off(_)),
         Body::List(list) => !list.is_running(),
         _ => true,
     }

@@ -11,7 +11,7 @@ ghost use Rattle.napi_c.specs.Shared.{AreFree, AreOfOne, IsFree, LeadsToRestingS
 ghost use Rattle.c_handles.specs.Status.{OK, IN_USE, BAD_COUNT, OUT_OF_MEMORY};
 
 use c_handles::{
-    Body, Controller, FqAnswers, FqHandle, Hold, Input, Mode, Ring, Seat, Shared, status,
+    Body, Controller, FqAnswers, FqHandle, Hold, Input, Power, Ring, Seat, Shared, status,
 };
 use napi_calls::{Caller, Control, Napi, NewBack, Off, close};
 use rx_ring::{names_tell_rings, ring};
@@ -164,7 +164,7 @@ fn give(alloc: Global, opened: Opened, control: &mut FqHandle, seats: &mut [FqHa
     let given = give_seats(alloc, &napi, callers, seats);
     let controller = Controller {
         napi,
-        mode: Mode::Off(off),
+        power: Power::Off(off),
     };
     if fill(alloc, control, Body::Controller(controller)) && given {
         return status::OK;

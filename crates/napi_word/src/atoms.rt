@@ -7,7 +7,7 @@ ghost use Rattle.napi_word.specs.Slot.{stays};
 ghost use Rattle.napi_word.specs.Told.{Did};
 ghost use Rattle.napi_word.specs.Atoms.{MayMake, MayExchange};
 
-use crate::plays::{Exchanged, Step, Told};
+use crate::step_kinds::{Exchanged, Step, Told};
 use crate::table::StateTable;
 use crate::view::View;
 use atomic_table::Seat;

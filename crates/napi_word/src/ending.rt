@@ -6,7 +6,7 @@ ghost use Rattle.napi_word.specs.Passes.{view_of, IsPassOf, controller_of_table}
 ghost use Rattle.napi_word.specs.Ends.{Finds, picked, IsGatheredOf, Gathered, IsEnded};
 
 use crate::gathering::{Found, Gathering};
-use crate::plays::{LaysDown, TakesIn};
+use crate::step_kinds::{LaysDown, TakesIn};
 use crate::table::{Pass, StateTable};
 use crate::view::{Holds, View};
 use atomic_table::Seat;

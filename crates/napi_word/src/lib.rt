@@ -16,7 +16,7 @@ mod gathering;
 mod making;
 mod meeting;
 mod owner;
-mod plays;
+mod step_kinds;
 mod rule;
 mod slot;
 mod steps;

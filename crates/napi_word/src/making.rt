@@ -5,7 +5,7 @@ ghost use Rattle.rx_ring.specs.Ends.{ring_name};
 ghost use Rattle.napi_word.specs.Rule.{strand, maker_at, first_view};
 ghost use Rattle.napi_word.specs.Passes.{view_of, ctx_of, IsPassOf, SameTable, IsLaid, IsNew, controller_of_table, ring_of_table, first_of_table};
 
-use crate::plays::{Begins, GivesNumber};
+use crate::step_kinds::{Begins, GivesNumber};
 use crate::table::{Pass, StateTable};
 use crate::view::{Holds, Key, View};
 use atomic_table::{Refused, Seat, Table};

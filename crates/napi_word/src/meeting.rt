@@ -6,7 +6,7 @@ ghost use Rattle.napi_word.specs.View.{shown};
 ghost use Rattle.napi_word.specs.Slot.{stays};
 ghost use Rattle.napi_word.specs.Passes.{view_of, IsPassOf, Makes};
 
-use crate::plays::{Notes, TakesIn};
+use crate::step_kinds::{Notes, TakesIn};
 use crate::table::{Pass, StateTable};
 use napi_model::Seen;
 

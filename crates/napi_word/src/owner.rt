@@ -6,7 +6,7 @@ ghost use Rattle.napi_word.specs.Events.{by_complete};
 ghost use Rattle.napi_word.specs.Told.{when, is_marked, done_of};
 ghost use Rattle.napi_word.specs.Passes.{IsPassOf, Makes, IsWithin, HandsOver, Polls};
 
-use crate::plays::{Completes, HandsToList, HandsToThread, TakesFromList, TakesFromThread};
+use crate::step_kinds::{Completes, HandsToList, HandsToThread, TakesFromList, TakesFromThread};
 use crate::table::{Pass, StateTable};
 use crate::view::Holds;
 use napi_model::bits::{QUEUED, SCHED_THREADED, TO_THREAD};

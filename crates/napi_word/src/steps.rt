@@ -7,7 +7,7 @@ ghost use Rattle.napi_word.specs.Events.{by_load, by_schedule};
 ghost use Rattle.napi_word.specs.Told.{prep_of};
 ghost use Rattle.napi_word.specs.Passes.{IsPassOf, Makes};
 
-use crate::plays::{ClearsThreaded, Looks, Schedules, SetsThreaded, Tries};
+use crate::step_kinds::{ClearsThreaded, Looks, Schedules, SetsThreaded, Tries};
 use crate::table::{Pass, StateTable};
 use napi_model::bits::THREADED;
 use napi_model::{Operation, Prep, Seen};

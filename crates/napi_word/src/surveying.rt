@@ -8,7 +8,7 @@ ghost use Rattle.napi_word.specs.Slot.{stays};
 ghost use Rattle.napi_word.specs.Passes.{view_of, IsPassOf, Makes};
 ghost use Rattle.napi_word.specs.Surveys.{Surveys};
 
-use crate::plays::{PartsLast, Surveying, TakesFront};
+use crate::step_kinds::{PartsLast, Surveying, TakesFront};
 use crate::table::{Pass, StateTable};
 use crate::view::Holds;
 use napi_model::{Seen, decode_known};

@@ -7,10 +7,10 @@ use Rattle.std.proofs.Common.{◌∷◌, ◌++◌, refl, ap, ◌∙◌, subst}
 use Rattle.napi_model.specs.{History.own, Step.opening}
 use Rattle.{poll_tasks.specs.declared.tasks.Turned.Turned, rx_ring.specs.declared.{ends.{RxIn.RxIn, RxCtx.RxCtx}, packet.Packet.Packet}}
 use Rattle.rx_ring.specs.{declared.packet.Totals.Totals, Ends.{put_list, received_list, ring_of}, ReceiveRing.{IsInOrder, totals_of}}
-use Rattle.poll_interrupts.specs.{declared.{worker.Seats.Seats, station.Finished.Finished, job.Worked.Worked}, Runs.controller_number}
+use Rattle.poll_interrupts.specs.{declared.{worker.OwnSeats.OwnSeats, station.Finished.Finished, job.Worked.Worked}, Runs.controller_number}
 use mathlib.Core.List.{IsPrefix}
 
-pub ended_of : (napi : Napi) (seats : Seats) (poller thread : Caller) (rx : RxIn) (ctx : RxCtx) (totals : Totals)
+pub ended_of : (napi : Napi) (seats : OwnSeats) (poller thread : Caller) (rx : RxIn) (ctx : RxCtx) (totals : Totals)
     → callers_of napi ≡ controller_number → received_list (first_of_instance napi) ≡ [] → number_of seats.control.pass ≡ controller_number
     → IsClosed napi (seats.caller ∷ poller ∷ thread ∷ []) seats.control.pass ctx → totals ≡ totals_of (ring_of rx ctx)
     → IsInOrder (ring_of rx ctx)

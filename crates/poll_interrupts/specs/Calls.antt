@@ -4,7 +4,7 @@ use Rattle.rx_ring.specs.{declared.{ends.RxIn.RxIn, packet.Packet.Packet}, Ends.
 use Rattle.{napi_model.specs.declared.{state.Seen.Seen, event.{Event.Event, Operation.Operation}}, napi_word.specs.declared.table.Pass.Pass}
 use Rattle.napi_calls.specs.{declared.answers.Sched.Sched, Calls.{Disables, Enables, Schedules}, Made.Made, Seats.{number_of, own_list}}
 use Rattle.{poll_list.specs.{declared.list_in.ListIn.ListIn, SharedList.pushed_by}, poll_interrupts.specs.declared.acts.Act.Act}
-use Rattle.poll_interrupts.specs.declared.{acts.Act.TheVariants.{Arrive, Disable, Enable, SetThreaded, Nothing}, worker.Hold.Hold}
+use Rattle.poll_interrupts.specs.declared.{acts.Act.TheVariants.{Arrive, Disable, Enable, SetThreaded, Nothing}, worker.Access.Access}
 use Rattle.poll_interrupts.specs.{declared.worker.Power.{Power, TheVariants.{On, Off}}, Acts.after_acts}
 use Rattle.napi_model.specs.declared.state.Kind.TheVariants as kind
 use Rattle.napi_model.specs.declared.event.Operation.TheVariants as operation
@@ -61,8 +61,8 @@ is_on (On control) = true
 is_on (Off control) = false
 
 -- the same seats, by their numbers
-abbrev pub IsSameHold : Hold → Hold → Type 0
-IsSameHold a b = (number_of b.caller.pass ≡ number_of a.caller.pass) × (number_of (pass_of b.power) ≡ number_of (pass_of a.power))
+abbrev pub IsSameAccess : Access → Access → Type 0
+IsSameAccess a b = (number_of b.caller.pass ≡ number_of a.caller.pass) × (number_of (pass_of b.power) ≡ number_of (pass_of a.power))
 
 -- enabled with this threaded setting, unless it is on
 abbrev pub TurnsOn : Bool → Power → Power → Type 0
@@ -78,7 +78,7 @@ abbrev pub TurnsOff : Power → Power → Type 0
 TurnsOff before after = (is_on after ≡ false) × Leaves before (pass_of after)
 
 -- one act: what it makes of the seats and of the threaded setting
-abbrev pub Acts : Bool → Act → Hold → Hold → RxIn → RxIn → Type 0
+abbrev pub Acts : Bool → Act → Access → Access → RxIn → RxIn → Type 0
 Acts thread (Arrive packet) a b before after =
     Arrives thread packet a.caller.pass b.caller.pass before after × (b.power ≡ a.power) × (b.threaded ≡ a.threaded)
 Acts thread Disable a b before after =
@@ -91,8 +91,8 @@ Acts thread (SetThreaded set) a b before after =
 Acts thread Nothing a b before after = (b ≡ a) × (put_list after ≡ put_list before)
 
 -- the first n acts, each once and in order
-abbrev pub AllActs : {D : Type 0} → Bool → (D → ℕ → Act) → (D → ℕ → D) → D → ℕ → Hold → Hold → RxIn → RxIn → Type 0
+abbrev pub AllActs : {D : Type 0} → Bool → (D → ℕ → Act) → (D → ℕ → D) → D → ℕ → Access → Access → RxIn → RxIn → Type 0
 AllActs thread answer after d zero a b first last = (b ≡ a) × (last ≡ first)
 AllActs thread answer after d (suc n) a b first last =
-    (m : Hold) × (rx : RxIn) × AllActs thread answer after d n a m first rx × SameIn rx last
+    (m : Access) × (rx : RxIn) × AllActs thread answer after d n a m first rx × SameIn rx last
     × Acts thread (answer (after_acts after d n) n) m b rx last

@@ -4,7 +4,7 @@ use Rattle.rx_ring.specs.declared.packet.{Packet.Packet, Totals.Totals}
 use Rattle.{rx_ring.specs.{Ends.put_list, ReceiveRing.{bytes_of, capped}}, napi_model.specs.{declared.event.Event.Event, History.own}}
 use Rattle.napi_calls.specs.{Seats.{number_of, own_list}, declared.{kept.Kept.Kept, types.Caller.Caller}, Instance.IsSeatOf}
 use Rattle.{poll_tasks.specs.declared.tasks.Turned.Turned, poll_interrupts.specs.declared.{opening.Placed.Placed, job.Worked.Worked}}
-use Rattle.poll_interrupts.specs.{declared.{station.Finished.Finished, worker.Seats.Seats}, Opens.{IsHome, IsInputOf}, Runs.IsEnded}
+use Rattle.poll_interrupts.specs.{declared.{station.Finished.Finished, worker.OwnSeats.OwnSeats}, Opens.{IsHome, IsInputOf}, Runs.IsEnded}
 use Rattle.poll_interrupts.specs.{Runs.controller_number, Seats.AreSeatsOf}
 
 -- the caller's events in the history are all that it made
@@ -12,7 +12,7 @@ abbrev pub HasAllOf : List Event → Caller → Type 0
 HasAllOf history caller = own (number_of caller.pass) history ≡ own_list caller.pass
 
 -- the instance was closed, and its one history has all that its worker, its poller and its thread made
-pub record IsEndedBy (seats : Seats) (poller thread : Caller) (put : List Packet) (totals : Totals) : Type 0 where
+pub record IsEndedBy (seats : OwnSeats) (poller thread : Caller) (put : List Packet) (totals : Totals) : Type 0 where
   pub ended : IsEnded (number_of seats.caller.pass) (own_list seats.caller.pass) (own_list seats.control.pass) put totals
   pub by_poller : HasAllOf ended.history poller
   pub by_thread : HasAllOf ended.history thread

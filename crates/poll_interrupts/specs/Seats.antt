@@ -2,16 +2,16 @@
 use Rattle.std.specs.Prelude.{◌≡◌, ℕ, []}
 use Rattle.napi_calls.specs.{declared.types.{Caller.Caller, Napi.Napi}, Instance.IsSeatOf}
 use Rattle.{napi_calls.specs.Seats.{number_of, own_list}, poll_interrupts.specs.declared.worker.Power.{Power, TheVariants.{On, Off}}}
-use Rattle.poll_interrupts.specs.{declared.worker.{Hold.Hold, Seats.Seats}, Runs.{controller_number, worker_number}}
+use Rattle.poll_interrupts.specs.{declared.worker.{Access.Access, OwnSeats.OwnSeats}, Runs.{controller_number, worker_number}}
 
 abbrev pub IsPowerOf : Napi → Power → Type 0
 IsPowerOf napi (On control) = IsSeatOf napi control.pass
 IsPowerOf napi (Off control) = IsSeatOf napi control.pass
 
-abbrev pub IsHoldOf : Napi → Hold → Type 0
-IsHoldOf napi hold = IsSeatOf napi hold.caller.pass × IsPowerOf napi hold.power
+abbrev pub IsAccessOf : Napi → Access → Type 0
+IsAccessOf napi access = IsSeatOf napi access.caller.pass × IsPowerOf napi access.power
 
-abbrev pub AreSeatsOf : Napi → Seats → Type 0
+abbrev pub AreSeatsOf : Napi → OwnSeats → Type 0
 AreSeatsOf napi seats = IsSeatOf napi seats.caller.pass × IsSeatOf napi seats.control.pass
 
 -- a caller as it was made: it has this number, and did nothing
@@ -21,7 +21,7 @@ pub record IsUnused (number : ℕ) (caller : Caller) : Type 0 where
 
 -- a worker's seats as they were made: nothing was done by them, and the controller's number is that of an instance with three
 -- callers
-pub record AreUnused (seats : Seats) : Type 0 where
+pub record AreUnused (seats : OwnSeats) : Type 0 where
   pub caller : IsUnused worker_number seats.caller
   pub control : own_list seats.control.pass ≡ []
   pub number : number_of seats.control.pass ≡ controller_number

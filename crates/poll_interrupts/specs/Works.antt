@@ -2,11 +2,12 @@
 use Rattle.std.specs.Prelude.{◌≡◌, ℕ, ◌+◌, ◌<◌, ◌≤◌, ◌++◌, Bool, true, false, length}
 use Rattle.rx_ring.specs.{declared.ends.RxIn.RxIn, Ends.SameIn}
 use Rattle.{rx_ring.specs.Ends.{capacity_of, put_list}, napi_calls.specs.{declared.types.Napi.Napi, Seats.{number_of, own_list}}}
-use Rattle.poll_interrupts.specs.{declared.{acts.Act.Act, worker.{Seats.Seats, Work.Work, Done.Done}, job.Worked.Worked}, Acts.after_acts}
+use Rattle.poll_interrupts.specs.declared.{acts.Act.Act, worker.{OwnSeats.OwnSeats, Work.Work, Done.Done}, job.Worked.Worked}
+use Rattle.poll_interrupts.specs.Acts.{after_acts}
 use Rattle.poll_interrupts.specs.{Acts.arrivals, Calls.Lists, Runs.{Ledger, Whose, WorksBy}, Seats.AreSeatsOf}
 
 -- the ledger of a worker whose instance is off, by its seats, the ring's input and the threaded setting
-abbrev pub ledger_of : Seats → RxIn → Bool → Ledger
+abbrev pub ledger_of : OwnSeats → RxIn → Bool → Ledger
 ledger_of seats rx threaded = record {
   calls = own_list seats.caller.pass;
   controls = own_list seats.control.pass;
@@ -16,12 +17,12 @@ ledger_of seats rx threaded = record {
 }
 
 -- whose ledger that is
-abbrev pub whose : Seats → RxIn → Bool → Whose
+abbrev pub whose : OwnSeats → RxIn → Bool → Whose
 whose seats rx thread =
     record { caller = number_of seats.caller.pass; controller = number_of seats.control.pass; places = capacity_of rx; thread = thread }
 
 -- the same numbers
-abbrev pub AreSameSeats : Seats → Seats → Type 0
+abbrev pub AreSameSeats : OwnSeats → OwnSeats → Type 0
 AreSameSeats a b = (number_of b.caller.pass ≡ number_of a.caller.pass) × (number_of b.control.pass ≡ number_of a.control.pass)
 
 -- the gate was asked before each of so many acts, by this number and the act's, and let it be made

@@ -1,7 +1,7 @@
 //! A worker's thread.
 
 use crate::acts::Device;
-use crate::worker::{Desk, Done, Work};
+use crate::worker::{InterruptHandler, Done, Work};
 use poll_tasks::{Gate, Task};
 use std::sync::Wait;
 
@@ -11,7 +11,7 @@ pub struct Job<'t, 'p, 'n, R: Wait + Drop, D, G> {
     /// What is asked before each act.
     pub gate: &'t G,
     /// Where the worker's interrupts go.
-    pub desk: Desk<'t, 'p, 'n, R>,
+    pub handler: InterruptHandler<'t, 'p, 'n, R>,
     /// What the worker begins with.
     pub work: Work<R, D>,
 }
@@ -31,22 +31,22 @@ impl<'t, 'p, 'n, R: Wait + Copy + Drop, D: Device + Drop, G: Gate> Task<Worked<R
     ghost use Rattle.poll_interrupts.specs.Seats.{AreSeatsOf};
     ghost use Rattle.poll_interrupts.specs.Works.{IsWorkOf};
 
-    ghost can_run = { λ job. AreSeatsOf job.desk.napi.now job.work.seats.value };
+    ghost can_run = { λ job. AreSeatsOf job.handler.napi.now job.work.seats.value };
 
-    ghost gives = { λ job worked. IsWorkOf D.acts D.answer D.after (G.answers job.gate.now) job.desk.napi.now (is_some job.desk.thread) job.desk.number job.work worked };
+    ghost gives = { λ job worked. IsWorkOf D.acts D.answer D.after (G.answers job.gate.now) job.handler.napi.now (is_some job.handler.thread) job.handler.number job.work worked };
 
     fn is_idle(&self) -> bool {
         false
     }
 
     fn run(self) -> Worked<R, D> {
-        let Job { gate, desk, work } = self;
-        let done = desk.work(gate, work);
-        if let Some(bell) = desk.thread {
+        let Job { gate, handler, work } = self;
+        let done = handler.work(gate, work);
+        if let Some(bell) = handler.thread {
             bell.tell();
         }
         Worked {
-            number: desk.number,
+            number: handler.number,
             done,
         }
     }

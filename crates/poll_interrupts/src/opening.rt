@@ -9,7 +9,7 @@ ghost use Rattle.poll_interrupts.specs.Opens.{IsHome, IsKeptLoose, IsKeptSideOf,
 ghost use Rattle.poll_interrupts.specs.Seats.{AreSeatsOf};
 
 use crate::station::Station;
-use crate::worker::Seats;
+use crate::worker::OwnSeats;
 use napi_calls::{Caller, Kept, Napi, NewBack};
 use poll_tasks::{Bell, Pause};
 use rx_ring::{RxCtx, RxIn, ring};
@@ -36,7 +36,7 @@ pub struct Loose<D> {
     /// The input of its receive ring.
     pub rx: RxIn,
     /// The worker's seats at the instance.
-    pub seats: Seats,
+    pub seats: OwnSeats,
     /// The caller of the poller of its list.
     pub poller: Caller,
     /// The caller of its own thread.
@@ -47,7 +47,7 @@ pub struct Loose<D> {
 
 impl Placed {
     /// Closes the instance, with its three callers (`netif_napi_del`).
-    pub(crate) fn close(self, seats: Seats, poller: Caller, thread: Caller) -> RxCtx
+    pub(crate) fn close(self, seats: OwnSeats, poller: Caller, thread: Caller) -> RxCtx
         requires home { IsHome self }
         requires seats { AreSeatsOf self.napi seats }
         requires callers { IsSeatOf self.napi poller.pass × IsSeatOf self.napi thread.pass }
@@ -59,7 +59,7 @@ impl Placed {
             bell: _,
             room,
         } = self;
-        let Seats { caller, control } = seats;
+        let OwnSeats { caller, control } = seats;
         let mut callers = room;
         callers.push_reserved(caller);
         callers.push_reserved(poller);
@@ -129,7 +129,7 @@ fn open<D: Drop>(alloc: Global, station: Station<D>) -> Result<(Placed, Loose<D>
         number,
         device,
         rx,
-        seats: Seats { caller, control },
+        seats: OwnSeats { caller, control },
         poller,
         thread,
         pause,

@@ -4,8 +4,8 @@ ghost use Rattle.std.specs.Prelude.{◌≡◌, ℕ, ◌+◌, ◌≤◌, ◌<◌,
 ghost use Rattle.rx_ring.specs.Ends.{SameIn, capacity_of, put_list};
 ghost use Rattle.napi_calls.specs.Instance.{IsSeatOf};
 ghost use Rattle.poll_interrupts.specs.Acts.{after_acts, arrivals, brings};
-ghost use Rattle.poll_interrupts.specs.Calls.{Acts, AllActs, HandsOver, Interrupts, IsPutLast, IsSameHold, Leaves, Lists, TurnsOn};
-ghost use Rattle.poll_interrupts.specs.Seats.{AreSeatsOf, IsHoldOf, IsPowerOf};
+ghost use Rattle.poll_interrupts.specs.Calls.{Acts, AllActs, HandsOver, Interrupts, IsPutLast, IsSameAccess, Leaves, Lists, TurnsOn};
+ghost use Rattle.poll_interrupts.specs.Seats.{AreSeatsOf, IsAccessOf, IsPowerOf};
 ghost use Rattle.poll_interrupts.specs.Works.{IsDoneBy, WasLet};
 
 use crate::acts::{Act, Device};
@@ -34,7 +34,7 @@ pub(crate) enum Power {
 }
 
 /// What a worker holds of its instance. It must be spent.
-pub(crate) struct Hold {
+pub(crate) struct Access {
     pub(crate) caller: Caller,
     pub(crate) power: Power,
     /// The device's threaded setting, which an enable writes again (`dev_set_threaded`).
@@ -42,7 +42,7 @@ pub(crate) struct Hold {
 }
 
 /// The worker's seats at its instance, which is off. They must be spent.
-pub struct Seats {
+pub struct OwnSeats {
     /// The caller that asks for polls.
     pub caller: Caller,
     /// The controller of the instance.
@@ -59,7 +59,7 @@ pub struct Work<R: Wait + Drop, D> {
     /// The input of its receive ring.
     pub rx: RxIn,
     /// The worker's seats at the instance.
-    pub seats: Kept<R, Seats>,
+    pub seats: Kept<R, OwnSeats>,
 }
 
 /// What a worker ends with.
@@ -72,14 +72,14 @@ pub struct Done<R: Wait + Drop, D> {
     /// The input of its receive ring.
     pub rx: RxIn,
     /// The worker's seats at the instance, which is off again.
-    pub seats: Kept<R, Seats>,
+    pub seats: Kept<R, OwnSeats>,
     /// Whether all acts were made.
     pub whole: bool,
 }
 
 /// Where a worker's interrupts go.
 #[derive(Drop)]
-pub struct Desk<'s, 'p, 'n, R> {
+pub struct InterruptHandler<'s, 'p, 'n, R> {
     /// What waits.
     pub rt: R,
     /// The device's number.
@@ -94,7 +94,7 @@ pub struct Desk<'s, 'p, 'n, R> {
     pub signals: &'s Signals,
 }
 
-impl<'s, 'p, 'n, R: Wait> Desk<'s, 'p, 'n, R> {
+impl<'s, 'p, 'n, R: Wait> InterruptHandler<'s, 'p, 'n, R> {
     // Hands the instance to the list, and wakes who polls it.
     fn hand_to_list(&self, list: &mut ListIn<R>, granted: Granted) -> Caller
         requires { IsSeatOf self.now.napi.now granted.pass }
@@ -173,15 +173,15 @@ impl<'s, 'p, 'n, R: Wait> Desk<'s, 'p, 'n, R> {
         list: &mut ListIn<R>,
         device: &mut D,
         k: u32,
-        hold: Hold,
+        access: Access,
         rx: &mut RxIn,
-    ) -> Hold
+    ) -> Access
         requires below { k < D.acts device.old }
-        requires of { IsHoldOf self.now.napi.now hold }
-        ensures of { IsHoldOf self.now.napi.now result }
+        requires of { IsAccessOf self.now.napi.now access }
+        ensures of { IsAccessOf self.now.napi.now result }
         ensures made { Acts (is_some self.now.thread)
-            (D.answer device.old k) hold result rx.old rx.new }
-        ensures lists { Lists self.now.number hold.caller.pass result.caller.pass
+            (D.answer device.old k) access result rx.old rx.new }
+        ensures lists { Lists self.now.number access.caller.pass result.caller.pass
             list.old list.new }
         ensures device { device.new ≡ D.after device.old k }
         ensures acts { D.acts device.new ≡ D.acts device.old }
@@ -191,29 +191,29 @@ impl<'s, 'p, 'n, R: Wait> Desk<'s, 'p, 'n, R> {
             ≤ capacity_of rx.old
             → put_list rx.new ≡ put_list rx.old ++ brings (D.answer device.old k) }
     {
-        let mut hold = hold;
+        let mut access = access;
         match device.act(k) {
             Act::Arrive(packet) => match rx.put(packet) {
                 Ok(()) => {
-                    hold.caller = self.interrupt(list, hold.caller, rx, packet);
-                    hold
+                    access.caller = self.interrupt(list, access.caller, rx, packet);
+                    access
                 }
-                Err(_dropped) => hold,
+                Err(_dropped) => access,
             },
             Act::Disable => {
-                hold.power = Power::Off(self.turn_off(hold.power));
-                hold
+                access.power = Power::Off(self.turn_off(access.power));
+                access
             }
             Act::Enable => {
-                hold.power = self.turn_on(hold.power, hold.threaded);
-                hold
+                access.power = self.turn_on(access.power, access.threaded);
+                access
             }
             Act::SetThreaded(threaded) => {
-                hold.caller.set_threaded(self.napi, threaded);
-                hold.threaded = threaded;
-                hold
+                access.caller.set_threaded(self.napi, threaded);
+                access.threaded = threaded;
+                access
             }
-            Act::Nothing => hold,
+            Act::Nothing => access,
         }
     }
 
@@ -237,18 +237,18 @@ impl<'s, 'p, 'n, R: Wait> Desk<'s, 'p, 'n, R> {
         &self,
         list: &mut ListIn<R>,
         device: &mut D,
-        hold: Hold,
+        access: Access,
         rx: &mut RxIn,
         gate: &G,
-    ) -> (Hold, bool)
-        requires { IsHoldOf self.now.napi.now hold }
-        ensures of { IsHoldOf self.now.napi.now result.0 }
-        ensures same { IsSameHold hold result.0 }
-        ensures lists { Lists self.now.number hold.caller.pass result.0.caller.pass
+    ) -> (Access, bool)
+        requires { IsAccessOf self.now.napi.now access }
+        ensures of { IsAccessOf self.now.napi.now result.0 }
+        ensures same { IsSameAccess access result.0 }
+        ensures lists { Lists self.now.number access.caller.pass result.0.caller.pass
             list.old list.new }
         ensures made { result.1 ≡ true
             → AllActs (is_some self.now.thread) D.answer D.after device.old
-            (D.acts device.old) hold result.0 rx.old rx.new }
+            (D.acts device.old) access result.0 rx.old rx.new }
         ensures let_go { result.1 ≡ true
             → WasLet (G.answers gate.now) self.now.number (D.acts device.old) }
         ensures device { result.1 ≡ true
@@ -261,18 +261,18 @@ impl<'s, 'p, 'n, R: Wait> Desk<'s, 'p, 'n, R> {
             → put_list rx.new ≡ put_list rx.old
             ++ arrivals D.answer D.after device.old (D.acts device.old) }
     {
-        let mut hold = hold;
+        let mut access = access;
         for k in 0..device.acts() {
             if !self.may_act(gate, k) {
-                return (hold, false);
+                return (access, false);
             }
-            hold = self.make_act(list, device, k, hold, rx);
+            access = self.make_act(list, device, k, access, rx);
         }
-        (hold, true)
+        (access, true)
     }
 }
 
-impl<'s, 'p, 'n, R: Wait + Drop + Copy> Desk<'s, 'p, 'n, R> {
+impl<'s, 'p, 'n, R: Wait + Drop + Copy> InterruptHandler<'s, 'p, 'n, R> {
     /// Makes the device's acts over an instance that is enabled before, and disabled after.
     pub(crate) fn work<D: Device, G: Gate>(&self, gate: &G, work: Work<R, D>) -> Done<R, D>
         requires { AreSeatsOf self.now.napi.now work.seats.value }
@@ -285,24 +285,24 @@ impl<'s, 'p, 'n, R: Wait + Drop + Copy> Desk<'s, 'p, 'n, R> {
             mut rx,
             seats,
         } = work;
-        let Seats { caller, control } = seats.open();
-        let hold = Hold {
+        let OwnSeats { caller, control } = seats.open();
+        let access = Access {
             caller,
             power: self.turn_on(Power::Off(control), false),
             threaded: false,
         };
-        let (hold, whole) = self.make_acts(&mut list, &mut device, hold, &mut rx, gate);
-        let Hold {
+        let (access, whole) = self.make_acts(&mut list, &mut device, access, &mut rx, gate);
+        let Access {
             caller,
             power,
             threaded: _threaded,
-        } = hold;
+        } = access;
         let control = self.turn_off(power);
         Done {
             list,
             device,
             rx,
-            seats: Kept::new(self.rt, Seats { caller, control }),
+            seats: Kept::new(self.rt, OwnSeats { caller, control }),
             whole,
         }
     }

@@ -2,9 +2,11 @@
 use Rattle.std.proofs.Common.{◌≡◌, ◌∙◌, ℕ, zero, suc, ◌<◌, Bool, List, [], ◌∷◌, Option, Some, None, length, refl, sym, ap, subst, vec_items}
 use Rattle.std.{proofs.Common.{set, get_or, arith}, specs.Prelude.{◌==◌, MatchOption, position}}
 use Rattle.poll_runs.specs.Polls.{At, Chain, Poll}
-use Rattle.{poll_runs.specs.declared.bench.Once.Once, poll_seats.specs.declared.{seat.Seat.Seat, poller.{Crowd.Crowd, Poller.Poller}}}
-use Rattle.poll_seats.specs.{declared.thread_poller.Alone.Alone, SeatKeeping.{AreSameSeats, IsSameSeat}, Crowds.{IsNowhere, IsPolledAt}}
-use Rattle.poll_seats.specs.{Crowds.PollsSeat, Serving.IsServed, Turns.{TurnsAlone, TurnsByRun}}
+use Rattle.poll_runs.specs.declared.bench.Once.{Once}
+use Rattle.poll_seats.specs.declared.{seat.Seat.Seat, poller.{SeatBench.SeatBench, Poller.Poller}}
+use Rattle.poll_seats.specs.{declared.thread_poller.Alone.Alone, SeatKeeping.{AreSameSeats, IsSameSeat}}
+use Rattle.poll_seats.specs.SeatBenches.{IsNowhere, IsPolledAt}
+use Rattle.poll_seats.specs.{SeatBenches.PollsSeat, Serving.IsServed, Turns.{TurnsAlone, TurnsByRun}}
 
 -- a seat that nobody touched
 pub seat_stays : (x : Seat) → IsSameSeat x x
@@ -34,7 +36,7 @@ seats_set (a ∷ l) zero x y b e s = (subst (λ z. IsSameSeat z y) (sym e) s, se
 seats_set (a ∷ l) (suc k) x y b e s = (seat_stays a, seats_set l k x y (omega arith) e s)
 
 -- a poll, at the place where the instance has its seat, or nowhere
-poll_keeps_at : {R : Type 0} (place : Option ℕ) (weight : ℕ) (once : Once) (before after : Crowd R)
+poll_keeps_at : {R : Type 0} (place : Option ℕ) (weight : ℕ) (once : Once) (before after : SeatBench R)
     → MatchOption place (IsNowhere before once after) (IsPolledAt before weight once after)
     → AreSameSeats (vec_items before.seats) (vec_items after.seats)
 poll_keeps_at None weight once before after p =
@@ -44,14 +46,14 @@ poll_keeps_at (Some place) weight once before after p =
     (seats_set (vec_items before.seats) place p.was p.now p.within p.there p.same)
 
 -- the poll of an instance at which there is a seat, and of one at which there is none
-pub polls_there : {R : Type 0} (seen : List Seat) (before : Crowd R) (id weight : ℕ) (once : Once) (after : Crowd R) (place : ℕ)
+pub polls_there : {R : Type 0} (seen : List Seat) (before : SeatBench R) (id weight : ℕ) (once : Once) (after : SeatBench R) (place : ℕ)
     → seen ≡ vec_items before.seats → Some place ≡ position (λ seat. seat.number == id) seen → IsPolledAt before weight once after place
     → PollsSeat before id weight once after
 polls_there seen before id weight once after place s e p =
     subst (λ at. MatchOption at (IsNowhere before once after) (IsPolledAt before weight once after))
     (e ∙ ap (λ l. position (λ (seat : Seat). seat.number == id) l) s) p
 
-pub polls_nowhere : {R : Type 0} (seen : List Seat) (before : Crowd R) (id weight : ℕ) (once : Once) (after : Crowd R)
+pub polls_nowhere : {R : Type 0} (seen : List Seat) (before : SeatBench R) (id weight : ℕ) (once : Once) (after : SeatBench R)
     → seen ≡ vec_items before.seats → None ≡ position (λ seat. seat.number == id) seen → IsNowhere before once after
     → PollsSeat before id weight once after
 polls_nowhere seen before id weight once after s e p =
@@ -59,32 +61,33 @@ polls_nowhere seen before id weight once after s e p =
     (e ∙ ap (λ l. position (λ (seat : Seat). seat.number == id) l) s) p
 
 -- a run keeps the seats
-pub run_keeps : {R : Type 0} (weight : ℕ) (polls : List Poll) (before after : Crowd R) → Chain (At PollsSeat weight) before polls after
+pub run_keeps : {R : Type 0} (weight : ℕ) (polls : List Poll) (before after : SeatBench R) → Chain (At PollsSeat weight) before polls after
     → AreSameSeats (vec_items before.seats) (vec_items after.seats)
 run_keeps {R} weight [] before after c =
-    subst (λ (x : Crowd R). AreSameSeats (vec_items before.seats) (vec_items x.seats)) (sym c) (seats_stay (vec_items before.seats))
+    subst (λ (x : SeatBench R). AreSameSeats (vec_items before.seats) (vec_items x.seats)) (sym c) (seats_stay (vec_items before.seats))
 run_keeps {R} weight (p ∷ polls) before after c =
     let one = poll_keeps_at (position (λ (seat : Seat). seat.number == p.id) (vec_items before.seats)) weight p.once before c.0 c.1 in
     seats_join (vec_items before.seats) (vec_items c.0.seats) (vec_items after.seats) one (run_keeps weight polls c.0 after c.2)
 
 -- a poller's turn keeps them
 turn_keeps : {R : Type 0} (found : Bool) (before after : Poller R) → TurnsByRun before found after
-    → AreSameSeats (vec_items before.crowd.seats) (vec_items after.crowd.seats)
-turn_keeps found before after t = run_keeps before.pace.weight t.run.polls before.crowd after.crowd t.run.seats
+    → AreSameSeats (vec_items before.seat_bench.seats) (vec_items after.seat_bench.seats)
+turn_keeps found before after t = run_keeps before.pace.weight t.run.polls before.seat_bench after.seat_bench t.run.seats
 
 turns_keep : {R : Type 0} (found : List Bool) (before after : Poller R) → Chain TurnsByRun before found after
-    → AreSameSeats (vec_items before.crowd.seats) (vec_items after.crowd.seats)
+    → AreSameSeats (vec_items before.seat_bench.seats) (vec_items after.seat_bench.seats)
 turns_keep {R} [] before after c =
-    subst (λ (x : Poller R). AreSameSeats (vec_items before.crowd.seats) (vec_items x.crowd.seats)) (sym c)
-    (seats_stay (vec_items before.crowd.seats))
+    subst (λ (x : Poller R). AreSameSeats (vec_items before.seat_bench.seats) (vec_items x.seat_bench.seats)) (sym c)
+    (seats_stay (vec_items before.seat_bench.seats))
 turns_keep {R} (one ∷ more) before after c =
-    seats_join (vec_items before.crowd.seats) (vec_items c.0.crowd.seats) (vec_items after.crowd.seats) (turn_keeps one before c.0 c.1)
+    seats_join (vec_items before.seat_bench.seats) (vec_items c.0.seat_bench.seats) (vec_items after.seat_bench.seats)
+    (turn_keeps one before c.0 c.1)
     (turns_keep more c.0 after c.2)
 
 pub served_keeps : {R : Type 0} (before after : Poller R) → IsServed TurnsByRun before after
-    → AreSameSeats (vec_items before.crowd.seats) (vec_items after.crowd.seats)
+    → AreSameSeats (vec_items before.seat_bench.seats) (vec_items after.seat_bench.seats)
 served_keeps before after s =
-    seats_join (vec_items before.crowd.seats) (vec_items s.last.crowd.seats) (vec_items after.crowd.seats)
+    seats_join (vec_items before.seat_bench.seats) (vec_items s.last.seat_bench.seats) (vec_items after.seat_bench.seats)
     (turns_keep s.found before s.last s.earlier) (turn_keeps _ s.last after s.empty)
 
 -- so do the turns of an instance's thread

@@ -21,9 +21,9 @@ module _ {R : Type 0} where
     pub started : asked (poller_name number)
     pub paced : first.pace ≡ pace
     pub over : first.list ≡ list
-    pub from : vec_items first.crowd.seats ≡ before
+    pub from : vec_items first.seat_bench.seats ≡ before
     pub turns : IsServed TurnsByRun first last
-    pub to : vec_items last.crowd.seats ≡ after
+    pub to : vec_items last.seat_bench.seats ≡ after
 
 module _ (R : Type 0) where
   -- The thread of the instance with this number started, which its gate knows of, and took its turns, one after the other,

@@ -2,14 +2,14 @@
 use Rattle.std.specs.Prelude.{◌≡◌, ◌++◌, Bool, List, nat_lt}
 use Rattle.poll_list.specs.SharedList.{IsAllPopped, PopsCame, in_hand, pushed_by}
 use Rattle.poll_runs.specs.{Polls.{At, Chain, Poll}, Run.IsRun, declared.{bench.ThreadReport.ThreadReport, run.RunReport.RunReport}}
-use Rattle.poll_seats.specs.{declared.{poller.Poller.Poller, thread_poller.Alone.Alone}, Crowds.PollsSeat, Polled.PollsByThread}
+use Rattle.poll_seats.specs.{declared.{poller.Poller.Poller, thread_poller.Alone.Alone}, SeatBenches.PollsSeat, Polled.PollsByThread}
 use Rattle.poll_seats.specs.{Polled.handed_on, SeatKeeping.IsSameSeat}
 
 module _ {R : Type 0} where
   -- a run over what is on the list, by the budget, the weight and the window of the pace (`net_rx_action`)
   pub record RunsOnce (before : Poller R) (report : RunReport) (after : Poller R) : Type 0 where
     pub polls : List Poll
-    pub seats : Chain (At PollsSeat before.pace.weight) before.crowd polls after.crowd
+    pub seats : Chain (At PollsSeat before.pace.weight) before.seat_bench polls after.seat_bench
     pub run : IsRun in_hand PopsCame IsAllPopped before.pace.budget before.pace.window before.list polls after.list report
     pub pace : after.pace ≡ before.pace
 

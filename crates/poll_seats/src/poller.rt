@@ -16,7 +16,7 @@ use std::sync::Wait;
 const FIRST_POLLER: u32 = 100;
 
 /// A poller's seats, as what is polled by the instances' numbers. It must be spent.
-pub(crate) struct Crowd<'n, R> {
+pub(crate) struct SeatBench<'n, R> {
     rt: R,
     pub(crate) seats: Vec<Seat<'n>>,
     batch: Batch,
@@ -29,8 +29,8 @@ fn find(seats: &[Seat], number: u32) -> Option<usize>
     seats.iter().position(|seat| seat.number == number)
 }
 
-impl<'n, R: Wait> Bench for Crowd<'n, R> {
-    ghost use Rattle.poll_seats.specs.Crowds.{PollsSeat};
+impl<'n, R: Wait> Bench for SeatBench<'n, R> {
+    ghost use Rattle.poll_seats.specs.SeatBenches.{PollsSeat};
 
     ghost polls = { PollsSeat };
 
@@ -48,7 +48,7 @@ impl<'n, R: Wait> Bench for Crowd<'n, R> {
 // A poller at its list. It must be spent.
 struct Poller<'n, R> {
     list: SharedList<R>,
-    crowd: Crowd<'n, R>,
+    seat_bench: SeatBench<'n, R>,
     pace: Pace,
     ghost lawful: { IsLawful pace },
 }
@@ -65,25 +65,25 @@ impl<'n, R: Wait> Poller<'n, R> {
             weight,
             window,
         } = self.pace;
-        run_softirq(&mut self.list, &mut self.crowd, budget, weight, window)
+        run_softirq(&mut self.list, &mut self.seat_bench, budget, weight, window)
     }
 }
 
 impl<'n, R: Drop> Poller<'n, R> {
     // Gives the seats back.
     fn leave(self) -> Vec<Seat<'n>>
-        ensures { vec_items result ≡ vec_items self.entry.crowd.seats }
+        ensures { vec_items result ≡ vec_items self.entry.seat_bench.seats }
     {
         let Poller {
             list: _,
-            crowd,
+            seat_bench,
             pace: _,
         } = self;
-        let Crowd {
+        let SeatBench {
             rt: _,
             seats,
             batch: _,
-        } = crowd;
+        } = seat_bench;
         seats
     }
 }
@@ -136,14 +136,14 @@ impl<'t, 'p, 'n, R: Wait + Drop + Copy, G: Gate> PollTask<'t, 'p, 'n, R, G> {
         if !setting.gate.pass(FIRST_POLLER + number, 0) {
             setting.signals.stop();
         }
-        let crowd = Crowd {
+        let seat_bench = SeatBench {
             rt,
             seats: seats.open(),
             batch: Batch::new(),
         };
         let mut poller = Poller {
             list,
-            crowd,
+            seat_bench,
             pace: setting.pace,
         };
         serve(&rt, &post.bell, &pause, &mut poller);

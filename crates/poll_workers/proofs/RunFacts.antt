@@ -4,7 +4,7 @@ use Rattle.std.{proofs.Common.{ap, ◌∙◌, refl, subst, IsSome, Some, All, ar
 use Rattle.std.specs.{Prelude.{vec_items, MatchBool, MatchOption}, List.{AllByRecursion, AllZip}, Global.Vec}
 use Rattle.poll_interrupts.specs.{Ends.{AreFinishesOf, HasAllOf, IsCallerAt, IsDoneAt, IsFinishOf, IsTurnedAt}, Runs.{HasRun, IsEnded}}
 use Rattle.poll_interrupts.specs.{Runs.{Ledger, Whose, WorksBy, blank, controller_number, worker_number}, declared.station.Station.Station}
-use Rattle.poll_interrupts.specs.declared.{station.Finished.Finished, worker.Seats.Seats, opening.{Loose.Loose, Placed.Placed}}
+use Rattle.poll_interrupts.specs.declared.{station.Finished.Finished, worker.OwnSeats.OwnSeats, opening.{Loose.Loose, Placed.Placed}}
 use Rattle.poll_interrupts.specs.{declared.{job.{Worked.Worked, Job.Job}, acts.Act.Act}, Works.{IsWorkOf, ledger_of, whose}}
 use Rattle.poll_interrupts.specs.{Seats.AreSeatsOf, Opens.{IsInputOf, IsKeptLoose, IsKeptSideOf, IsLoose}}
 use Rattle.poll_tasks.{proofs.ListFacts.{each_index, zip_and, zip_both, zip_each, zip_flip, zip_same}, specs.Paces.IsLawful}
@@ -47,16 +47,16 @@ run_of {R} {D} acts answer after answers station loose worked poller thread end 
     let left = ledger_of seats worked.done.rx (done.run whole).0 in
     let w : Whose = record { caller = worker_number; controller = controller_number; places = station.capacity; thread = station.thread } in
     let number : number_of work.seats.value.caller.pass ≡ worker_number =
-    ap (λ (s : Seats). number_of s.caller.pass) was ∙ new.caller.number_is in
+    ap (λ (s : OwnSeats). number_of s.caller.pass) was ∙ new.caller.number_is in
     let same_whose : whose work.seats.value work.rx (is_some loose.value.pause) ≡ w = λ i. record {
       caller = number i;
-      controller = (ap (λ (s : Seats). number_of s.control.pass) was ∙ new.number) i;
+      controller = (ap (λ (s : OwnSeats). number_of s.control.pass) was ∙ new.number) i;
       places = (ap (λ (r : RxIn). capacity_of r) made.3 ∙ opened.places) i;
       thread = opened.thread i;
     } in
     let nothing : ledger_of work.seats.value work.rx false ≡ blank = λ i. record {
-      calls = (ap (λ (s : Seats). own_list s.caller.pass) was ∙ new.caller.nothing_done) i;
-      controls = (ap (λ (s : Seats). own_list s.control.pass) was ∙ new.control) i;
+      calls = (ap (λ (s : OwnSeats). own_list s.caller.pass) was ∙ new.caller.nothing_done) i;
+      controls = (ap (λ (s : OwnSeats). own_list s.control.pass) was ∙ new.control) i;
       put = (ap (λ (r : RxIn). put_list r) made.3 ∙ opened.nothing_put) i;
       on = false;
       threaded = false;
@@ -92,26 +92,27 @@ finished_of {R} {D} acts answer after answers station loose worked poller thread
 -- ---- the stations of a crew, how they ended, and what polled them
 
 -- what the threads of a station gave back, and its end
-record Post (R D : Type 0) : Type 0 where
+record Outcome (R D : Type 0) : Type 0 where
   pub worked : Worked R D
   pub poller : Kept R Caller
   pub thread : Turned (Kept R Caller)
   pub end : Finished D
 
-record Posts {R D : Type 0} (ws : List (Worked R D)) (ps : List (Kept R Caller)) (ts : List (Turned (Kept R Caller)))
+record Outcomes {R D : Type 0} (ws : List (Worked R D)) (ps : List (Kept R Caller)) (ts : List (Turned (Kept R Caller)))
     (es : List (Finished D)) : Type 0 where
-  pub all : List (Post R D)
+  pub all : List (Outcome R D)
   pub worked_are : map (λ p. p.worked) all ≡ ws
   pub pollers_are : map (λ p. p.poller) all ≡ ps
   pub threads_are : map (λ p. p.thread) all ≡ ts
   pub ends_are : map (λ p. p.end) all ≡ es
   pub each : AllByRecursion (λ p. IsFinishOf p.worked p.poller p.thread.back p.end) all
 
-posts_of : {R D : Type 0} (ws : List (Worked R D)) (ps : List (Kept R Caller)) (ts : List (Turned (Kept R Caller))) (es : List (Finished D))
-    → AreFinishesOf ws ps ts es → Posts ws ps ts es
-posts_of [] [] [] [] h = record { all = []; worked_are = refl; pollers_are = refl; threads_are = refl; ends_are = refl; each = tt }
-posts_of (w ∷ ws) (p ∷ ps) (t ∷ ts) (e ∷ es) h =
-    let more = posts_of ws ps ts es h.1 in record {
+outcomes_of : {R D : Type 0} (ws : List (Worked R D)) (ps : List (Kept R Caller)) (ts : List (Turned (Kept R Caller)))
+    (es : List (Finished D))
+    → AreFinishesOf ws ps ts es → Outcomes ws ps ts es
+outcomes_of [] [] [] [] h = record { all = []; worked_are = refl; pollers_are = refl; threads_are = refl; ends_are = refl; each = tt }
+outcomes_of (w ∷ ws) (p ∷ ps) (t ∷ ts) (e ∷ es) h =
+    let more = outcomes_of ws ps ts es h.1 in record {
       all = record { worked = w; poller = p; thread = t; end = e } ∷ more.all;
       worked_are = ap (λ l. w ∷ l) more.worked_are;
       pollers_are = ap (λ l. p ∷ l) more.pollers_are;
@@ -119,7 +120,7 @@ posts_of (w ∷ ws) (p ∷ ps) (t ∷ ts) (e ∷ es) h =
       ends_are = ap (λ l. e ∷ l) more.ends_are;
       each = (h.0, more.each);
     }
-posts_of ws ps ts es h = absurd h
+outcomes_of ws ps ts es h = absurd h
 
 module _ {R D : Type 0} (acts : D → ℕ) (answer : D → ℕ → Act) (after : D → ℕ → D) (answers : ℕ → ℕ → Bool → Type 0)
     (asked : ℕ → Type 0) (pace : Pace) where
@@ -130,16 +131,17 @@ module _ {R D : Type 0} (acts : D → ℕ) (answer : D → ℕ → Act) (after :
   abbrev Turns : Station D → Turned (Kept R Caller) → Type 0
   Turns station given = (loose : Kept R (Loose D)) × IsKeptLoose station loose × HasTurned asked pace loose given
 
-  course_of : (station : Station D) (post : Post R D) → Works station post.worked → Turns station post.thread
-      → post.worked.done.whole ≡ true → post.thread.polled ≡ true
-      → IsFinishOf post.worked post.poller post.thread.back post.end
+  course_of : (station : Station D) (outcome : Outcome R D) → Works station outcome.worked → Turns station outcome.thread
+      → outcome.worked.done.whole ≡ true → outcome.thread.polled ≡ true
+      → IsFinishOf outcome.worked outcome.poller outcome.thread.back outcome.end
       → IsCourse R asked pace acts answer after
-      (record { station = station; end = post.end; poller = post.poller.value; thread = post.thread.back.value })
-  course_of station post works turns whole polled finish =
-      let run = run_of acts answer after answers station works.0 post.worked post.poller post.thread.back post.end works.1 works.2 whole finish in
+      (record { station = station; end = outcome.end; poller = outcome.poller.value; thread = outcome.thread.back.value })
+  course_of station outcome works turns whole polled finish =
+      let run = run_of acts answer after answers station works.0 outcome.worked outcome.poller outcome.thread.back
+      outcome.end works.1 works.2 whole finish in
       let loose = turns.0.value in
       let number =
-      subst (λ n. TurnsIfThread R asked pace (is_some loose.pause) n loose.thread post.thread.back.value) turns.1.same_number
+      subst (λ n. TurnsIfThread R asked pace (is_some loose.pause) n loose.thread outcome.thread.back.value) turns.1.same_number
       (turns.2 polled) in
       record {
         run = run.run;
@@ -148,23 +150,23 @@ module _ {R D : Type 0} (acts : D → ℕ) (answer : D → ℕ → Act) (after :
         by_thread = run.by_thread;
         thread = loose.thread;
         unused = turns.1.own;
-        turns = subst (λ b. TurnsIfThread R asked pace b station.number loose.thread post.thread.back.value) turns.1.thread number;
+        turns = subst (λ b. TurnsIfThread R asked pace b station.number loose.thread outcome.thread.back.value) turns.1.thread number;
       }
 
   -- the courses of these stations, and how they ended
-  record Courses (stations : List (Station D)) (posts : List (Post R D)) : Type 0 where
+  record Courses (stations : List (Station D)) (outcomes : List (Outcome R D)) : Type 0 where
     pub all : List (Course D)
     pub stations_are : map (λ c. c.station) all ≡ stations
-    pub ends_are : map (λ c. c.end) all ≡ map (λ p. p.end) posts
-    pub pollers_are : map (λ c. c.poller) all ≡ map (λ (k : Kept R Caller). k.value) (map (λ p. p.poller) posts)
+    pub ends_are : map (λ c. c.end) all ≡ map (λ p. p.end) outcomes
+    pub pollers_are : map (λ c. c.poller) all ≡ map (λ (k : Kept R Caller). k.value) (map (λ p. p.poller) outcomes)
     pub each : AllByRecursion (IsCourse R asked pace acts answer after) all
-    pub finished : AllZip (IsFinished acts answer after answers) stations (map (λ p. p.end) posts)
+    pub finished : AllZip (IsFinished acts answer after answers) stations (map (λ p. p.end) outcomes)
 
-  courses_of : (stations : List (Station D)) (posts : List (Post R D)) → AllZip Works stations (map (λ p. p.worked) posts)
-      → AllZip Turns stations (map (λ p. p.thread) posts)
-      → AllByRecursion (λ (w : Worked R D). w.done.whole ≡ true) (map (λ p. p.worked) posts)
-      → AllByRecursion (λ (t : Turned (Kept R Caller)). t.polled ≡ true) (map (λ p. p.thread) posts)
-      → AllByRecursion (λ (p : Post R D). IsFinishOf p.worked p.poller p.thread.back p.end) posts → Courses stations posts
+  courses_of : (stations : List (Station D)) (outcomes : List (Outcome R D)) → AllZip Works stations (map (λ p. p.worked) outcomes)
+      → AllZip Turns stations (map (λ p. p.thread) outcomes)
+      → AllByRecursion (λ (w : Worked R D). w.done.whole ≡ true) (map (λ p. p.worked) outcomes)
+      → AllByRecursion (λ (t : Turned (Kept R Caller)). t.polled ≡ true) (map (λ p. p.thread) outcomes)
+      → AllByRecursion (λ (p : Outcome R D). IsFinishOf p.worked p.poller p.thread.back p.end) outcomes → Courses stations outcomes
   courses_of [] [] works turns whole polled finish = grind (arith, common_steps, course_of, finished_of)
   courses_of [] (p ∷ ps) works turns whole polled finish = absurd works
   courses_of (s ∷ ss) [] works turns whole polled finish = absurd works
@@ -217,15 +219,17 @@ module _ {R D : Type 0} (acts : D → ℕ) (answer : D → ℕ → Act) (after :
     (polled : Bool) (opened : AllZip IsKeptLoose stations loose) (made : AllZip (IsWorkedOf acts answer after answers) loose worked)
     (ran : polled ≡ true → HasPolled asked pace number list loose pollers) (turned : AllZip (HasTurned asked pace) loose threads) where
   crew_courses : (ends : List (Finished D)) → All (λ w. w.done.whole ≡ true) worked → All (λ t. t.polled ≡ true) threads
-      → (posts : Posts worked pollers threads ends)
-      → Courses acts answer after answers asked pace stations posts.all
-  crew_courses ends whole whole_turns posts =
-      courses_of acts answer after answers asked pace stations posts.all
-      (subst (λ l. AllZip (Works acts answer after answers asked pace) stations l) (sym posts.worked_are) (zip_both _ _ _ _ _ opened made))
-      (subst (λ l. AllZip (Turns acts answer after answers asked pace) stations l) (sym posts.threads_are) (zip_both _ _ _ _ _ opened turned))
-      (subst (λ l. AllByRecursion (λ (w : Worked R D). w.done.whole ≡ true) l) (sym posts.worked_are) (each_of _ _ whole))
-      (subst (λ l. AllByRecursion (λ (t : Turned (Kept R Caller)). t.polled ≡ true) l) (sym posts.threads_are) (each_of _ _ whole_turns))
-      posts.each
+      → (outcomes : Outcomes worked pollers threads ends)
+      → Courses acts answer after answers asked pace stations outcomes.all
+  crew_courses ends whole whole_turns outcomes =
+      courses_of acts answer after answers asked pace stations outcomes.all
+      (subst (λ l. AllZip (Works acts answer after answers asked pace) stations l) (sym outcomes.worked_are)
+      (zip_both _ _ _ _ _ opened made))
+      (subst (λ l. AllZip (Turns acts answer after answers asked pace) stations l) (sym outcomes.threads_are)
+      (zip_both _ _ _ _ _ opened turned))
+      (subst (λ l. AllByRecursion (λ (w : Worked R D). w.done.whole ≡ true) l) (sym outcomes.worked_are) (each_of _ _ whole))
+      (subst (λ l. AllByRecursion (λ (t : Turned (Kept R Caller)). t.polled ≡ true) l) (sym outcomes.threads_are) (each_of _ _ whole_turns))
+      outcomes.each
 
   -- the stations are finished, and were polled
   record Both (ends : List (Finished D)) : Type 0 where
@@ -236,20 +240,20 @@ module _ {R D : Type 0} (acts : D → ℕ) (answer : D → ℕ → Act) (after :
       → All (λ t. t.polled ≡ true) threads
       → AreFinishesOf worked pollers threads ends → Both ends
   both ends n new whole whole_run whole_turns finish =
-      let posts = posts_of worked pollers threads ends finish in
-      let courses = crew_courses ends whole whole_turns posts in
+      let outcomes = outcomes_of worked pollers threads ends finish in
+      let courses = crew_courses ends whole whole_turns outcomes in
       let has = ran whole_run in
       let fresh : AllZip IsFreshSeat stations has.before =
       zip_same _ _ _ _ (λ s b h. fresh_of s b h) (zip_both _ _ _ _ _ opened has.from) in
       let spent : AllZip IsSpentSeat (map (λ k. k.value) pollers) has.after =
       zip_values (λ k. k.value) IsSpentSeat pollers has.after (zip_same _ _ _ _ (λ k a h. h.1) (zip_flip _ _ _ has.to)) in
-      let callers = courses.pollers_are ∙ ap (λ (l : List (Kept R Caller)). map (λ k. k.value) l) posts.pollers_are in
+      let callers = courses.pollers_are ∙ ap (λ (l : List (Kept R Caller)). map (λ k. k.value) l) outcomes.pollers_are in
       record {
-        finished = subst (λ l. AllZip (IsFinished acts answer after answers) stations l) posts.ends_are courses.finished;
+        finished = subst (λ l. AllZip (IsFinished acts answer after answers) stations l) outcomes.ends_are courses.finished;
         of_crew = record {
           courses = courses.all;
           stations_are = courses.stations_are;
-          ends_are = courses.ends_are ∙ posts.ends_are;
+          ends_are = courses.ends_are ∙ outcomes.ends_are;
           each = courses.each;
           turns = record {
             list = list;
@@ -285,16 +289,17 @@ module _ {R D : Type 0} (acts : D → ℕ) (answer : D → ℕ → Act) (after :
 worked_of : {R D G : Type 0} (acts : D → ℕ) (answer : D → ℕ → Act) (after : D → ℕ → D) (answers : G → ℕ → ℕ → Bool → Type 0)
     (setting : Setting R G) (loose : Kept R (Loose D)) (job : Job R D G) (worked : Worked R D)
     → IsKeptJobOf setting loose job
-    → IsWorkOf acts answer after (answers job.gate.now) job.desk.napi.now (is_some job.desk.thread) job.desk.number job.work worked
+    → IsWorkOf acts answer after (answers job.gate.now) job.handler.napi.now (is_some job.handler.thread) job.handler.number job.work worked
     → IsWorkedOf acts answer after (answers setting.gate.now) loose worked
 worked_of {R} {D} acts answer after answers setting loose job worked given made =
-    (job.desk.napi.now, job.work, given.same_device, given.same_rx, given.same_seats, rw (← given.same_number, ← given.thread, ← given.gate) made)
+    (job.handler.napi.now, job.work, given.same_device, given.same_rx, given.same_seats,
+    rw (← given.same_number, ← given.thread, ← given.gate) made)
 
 pub all_worked : {R D G : Type 0} (acts : D → ℕ) (answer : D → ℕ → Act) (after : D → ℕ → D) (answers : G → ℕ → ℕ → Bool → Type 0)
     (setting : Setting R G) (loose : List (Kept R (Loose D))) (jobs : List (Job R D G)) (worked : List (Worked R D))
     → AllZip (IsKeptJobOf setting) loose jobs
-    → AllZip (λ (j : Job R D G) w. IsWorkOf acts answer after (answers j.gate.now) j.desk.napi.now (is_some j.desk.thread) j.desk.number
-    j.work w) jobs worked
+    → AllZip (λ (j : Job R D G) w. IsWorkOf acts answer after (answers j.gate.now) j.handler.napi.now (is_some j.handler.thread)
+    j.handler.number j.work w) jobs worked
     → AllZip (IsWorkedOf acts answer after (answers setting.gate.now)) loose worked
 all_worked acts answer after answers setting loose jobs worked given made =
     zip_same _ _ _ _ (λ k w h. worked_of acts answer after answers setting k h.0 w h.1 h.2) (zip_both _ _ _ _ _ given made)
@@ -302,16 +307,17 @@ all_worked acts answer after answers setting loose jobs worked given made =
 done_at : {R D G : Type 0} (acts : D → ℕ) (answer : D → ℕ → Act) (after : D → ℕ → D) (answers : G → ℕ → ℕ → Bool → Type 0)
     (setting : Setting R G) (placed : Kept R Placed) (loose : Kept R (Loose D)) (job : Job R D G) (worked : Worked R D)
     → IsKeptSideOf loose placed → IsKeptJobOf setting loose job → IsJobAt placed job
-    → IsWorkOf acts answer after (answers job.gate.now) job.desk.napi.now (is_some job.desk.thread) job.desk.number job.work worked
+    → IsWorkOf acts answer after (answers job.gate.now) job.handler.napi.now (is_some job.handler.thread) job.handler.number job.work worked
     → IsDoneAt worked placed
 done_at acts answer after answers setting placed loose job worked side given at made = search (rules, same_ring)
 
 -- what the workers gave back is of the instances that stayed behind
 pub all_done_at : {R D G : Type 0} (acts : D → ℕ) (answer : D → ℕ → Act) (after : D → ℕ → D) (answers : G → ℕ → ℕ → Bool → Type 0)
-    (setting : Setting R G) (placed : List (Kept R Placed)) (loose : List (Kept R (Loose D))) (jobs : List (Job R D G)) (worked : List (Worked R D))
+    (setting : Setting R G) (placed : List (Kept R Placed)) (loose : List (Kept R (Loose D))) (jobs : List (Job R D G))
+    (worked : List (Worked R D))
     → AllZip IsKeptSideOf loose placed → AllZip (IsKeptJobOf setting) loose jobs → AllZip IsJobAt placed jobs
-    → AllZip (λ (j : Job R D G) w. IsWorkOf acts answer after (answers j.gate.now) j.desk.napi.now (is_some j.desk.thread) j.desk.number
-    j.work w) jobs worked
+    → AllZip (λ (j : Job R D G) w. IsWorkOf acts answer after (answers j.gate.now) j.handler.napi.now (is_some j.handler.thread)
+    j.handler.number j.work w) jobs worked
     → AllZip IsDoneAt worked placed
 all_done_at acts answer after answers setting placed loose jobs worked sides given at made =
     let a = zip_both _ _ _ _ _ (zip_flip _ _ _ sides) given in
@@ -377,7 +383,7 @@ all_turned answers setting loose sides given for gives =
 -- all jobs may be done, and all sides may be run
 pub all_can_work : {R D G : Type 0} (setting : Setting R G) (loose : List (Kept R (Loose D))) (jobs : List (Job R D G))
     → AllZip (IsKeptJobOf setting) loose jobs
-    → All (λ (j : Job R D G). AreSeatsOf j.desk.napi.now j.work.seats.value) jobs
+    → All (λ (j : Job R D G). AreSeatsOf j.handler.napi.now j.work.seats.value) jobs
 all_can_work setting loose jobs given = each_index _ _ (zip_each _ _ _ _ (λ k j h. h.seats) given)
 
 pub all_can_poll : {R G : Type 0} (placed : List (Kept R Placed)) (sides : List (ThreadSide R G)) → AllZip IsThreadAt placed sides

@@ -9,18 +9,18 @@ module _ {R D G : Type 0} where
   -- the job asks the run's gate, has the device, its number, its end of the ring and its seats, knows of its thread, and may be done
   pub record IsJobOf (setting : Setting R G) (loose : Loose D) (job : Job R D G) : Type 0 where
     pub gate : job.gate.now ≡ setting.gate.now
-    pub same_number : job.desk.number ≡ loose.number
+    pub same_number : job.handler.number ≡ loose.number
     pub same_device : job.work.device ≡ loose.device
     pub same_rx : job.work.rx ≡ loose.rx
     pub same_seats : job.work.seats.value ≡ loose.seats
-    pub thread : is_some job.desk.thread ≡ is_some loose.pause
-    pub seats : AreSeatsOf job.desk.napi.now job.work.seats.value
+    pub thread : is_some job.handler.thread ≡ is_some loose.pause
+    pub seats : AreSeatsOf job.handler.napi.now job.work.seats.value
 
   abbrev pub IsKeptJobOf : Setting R G → Kept R (Loose D) → Job R D G → Type 0
   IsKeptJobOf setting loose job = IsJobOf setting loose.value job
 
   abbrev pub IsJobAt : Kept R Placed → Job R D G → Type 0
-  IsJobAt placed job = job.desk.napi.now ≡ placed.value.napi
+  IsJobAt placed job = job.handler.napi.now ≡ placed.value.napi
 
   -- the side has the number and the thread's caller, what a thread needs exactly if there is one, and what all threads have
   pub record IsThreadFor (setting : Setting R G) (loose : Loose D) (side : ThreadSide R G) : Type 0 where

@@ -8,7 +8,7 @@ ghost use Rattle.poll_workers.specs.Spreads.{IsJobAt, IsJobOf, IsKeptJobOf, IsKe
 ghost use Rattle.poll_tasks.specs.Tasks.{HasRoom};
 
 use napi_calls::Kept;
-use poll_interrupts::{Desk, Job, Loose, Placed, Work};
+use poll_interrupts::{InterruptHandler, Job, Loose, Placed, Work};
 use poll_list::ListIn;
 use poll_seats::{Own, Seat, ThreadSide};
 use poll_tasks::{Bell, Pause, Post, Setting};
@@ -22,17 +22,17 @@ pub(crate) struct Parts<'n, J, S> {
 }
 
 // Where the interrupts of an instance's worker go.
-fn desk_at<'t, 'p, 'n, R: Copy, G>(
+fn handler_at<'t, 'p, 'n, R: Copy, G>(
     setting: &Setting<'t, R, G>,
     post: &'p Post,
     placed: &'n Placed,
     number: u32,
-) -> Desk<'t, 'p, 'n, R>
+) -> InterruptHandler<'t, 'p, 'n, R>
     ensures number { result.number ≡ number }
     ensures napi { result.napi.now ≡ placed.now.napi }
     ensures thread { is_some result.thread ≡ is_some placed.now.bell }
 {
-    Desk {
+    InterruptHandler {
         rt: setting.rt,
         number,
         napi: &placed.napi,
@@ -92,7 +92,7 @@ fn split<'t, 'p, 'n, R: Wait + Drop + Copy, D: Drop, G>(
     let bell = placed.value.bell.as_ref();
     let job = Job {
         gate: setting.gate,
-        desk: desk_at(setting, post, &placed.value, number),
+        handler: handler_at(setting, post, &placed.value, number),
         work: Work {
             list,
             device,

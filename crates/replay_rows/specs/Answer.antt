@@ -1,5 +1,6 @@
 -- What a replay of a text answers: the serial report of its rows, or its first fault.
-use Rattle.{std.specs.Prelude.{◌≡◌, ℕ, List, Option, Some, Result, Ok, Err}, device_rows.specs.Trace.{records_of, trace_of, version_in}}
+use Rattle.std.specs.Prelude.{◌≡◌, ℕ, List, Option, Some, Result, Ok, Err}
+use Rattle.device_rows.specs.Trace.{records_of, trace_of, version_in}
 use Rattle.{device_rows.specs.declared.{fault.TraceFault.TraceFault, row.Row.Row}, replay_rows.specs.Report.serial_report}
 use Rattle.{device_bench.specs.Bench.Devices, replay_rows.specs.{Replay.after_all, ReplayState.ReplayState}}
 use Rattle.replay_text.specs.declared.fault.ReplayFault.{ReplayFault, TheVariants.Trace}

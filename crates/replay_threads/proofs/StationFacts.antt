@@ -104,14 +104,16 @@ run-of station end of ended run = grind (arith, common_steps)
 
 end-of : (answers : ℕ → ℕ → Bool → Type 0) (rows : List Row) (device : ℕ) (station : Station Script) (end : Finished Script)
     → AcceptedAfter [] rows → length rows ≤ 100000
-    → IsStationOf rows device station → is_small station ≡ false → IsFinished acts answer after answers station end → IsEndOf rows device end
+    → IsStationOf rows device station → is_small station ≡ false
+    → IsFinished acts answer after answers station end → IsEndOf rows device end
 end-of answers rows device station end accepted few of enough finished =
     grind (arith, common_steps, acts-made, arrivals-are, bytes-small, capped-small, run-of)
 
 pub ends-of : (answers : ℕ → ℕ → Bool → Type 0) (rows : List Row) (devices : List ℕ) (stations : List (Station Script))
     (ends : List (Finished Script))
     → AcceptedAfter [] rows → length rows ≤ 100000
-    → AllZip (IsStationOf rows) devices stations → find is_small stations ≡ None → AllZip (IsFinished acts answer after answers) stations ends
+    → AllZip (IsStationOf rows) devices stations → find is_small stations ≡ None
+    → AllZip (IsFinished acts answer after answers) stations ends
     → AllZip (IsEndOf rows) devices ends
 ends-of answers rows [] [] [] accepted few of enough finished = tt
 ends-of answers rows [] [] (e ∷ es) accepted few of enough finished = absurd finished

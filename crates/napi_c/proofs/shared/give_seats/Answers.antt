@@ -1,7 +1,8 @@
 use Rattle.std.proofs.lemmas.{Grind.common_steps, List.get_or_append_left}
 use Rattle.std.proofs.lemmas.Option.{get_or_from_slice_get, slice_get-get_or, slice_get_within}
 use Rattle.std.specs.List.{slice_get}
-use Rattle.std.proofs.Common.{◌≡◌, ◌≢◌, ◌<◌, ◌++◌, ◌∙◌, ap, ℕ, List, Some, length, arith, rules, get_or-set_other, get_or-set_same, below_more}
+use Rattle.std.proofs.Common.{◌≡◌, ◌≢◌, ◌<◌, ◌++◌, ◌∙◌, ap, ℕ, List, Some, length, arith, rules, get_or-set_other, get_or-set_same}
+use Rattle.std.proofs.Common.{below_more}
 use Rattle.napi_c.proofs.shared.give_seats.Goals.{in-Some+then-give_seat, in-Some+else-give_seat, in-None}
 use Rattle.napi_c.proofs.shared.give_seats.Goals as goal
 

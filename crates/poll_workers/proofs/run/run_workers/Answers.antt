@@ -1,6 +1,8 @@
-use Rattle.std.{proofs.{lemmas.Grind.common_steps, Common.{◌≡◌, ◌∙◌, Bool, true, false, arith, refl, sym}}, specs.{Borrow.Bor, Global.Vec, List.AllZip}}
+use Rattle.std.proofs.{lemmas.Grind.common_steps, Common.{◌≡◌, ◌∙◌, Bool, true, false, arith, refl, sym}}
+use Rattle.std.specs.{Borrow.Bor, Global.Vec, List.AllZip}
 use Rattle.{std.specs.Prelude.{Result, Ok, Err, IfOk, IsErrOf, vec_items}, poll_interrupts.specs.declared.station.Finished.Finished}
-use Rattle.{poll_tasks.specs.Asks.IsAsked, poll_workers.{proofs.NumberFacts.few_stations, specs.{Courses.{ArePolled, pace_of}, Finishes.IsFinished}}}
+use Rattle.poll_tasks.specs.Asks.{IsAsked}
+use Rattle.poll_workers.{proofs.NumberFacts.few_stations, specs.{Courses.{ArePolled, pace_of}, Finishes.IsFinished}}
 use Rattle.poll_workers.specs.{Faults.told, declared.fault.{Stop.{Stop, TheVariants.{Memory, Short}}, WorkFault.TheVariants.SpawnFailed}}
 use Rattle.poll_workers.proofs.run.run_workers.Goals as goal
 

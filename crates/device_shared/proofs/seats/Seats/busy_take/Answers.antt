@@ -15,10 +15,10 @@ returns-clause-acts g c =
       | in-Ok-busy w ↦
           let e = w.in-Ok-busy.ensures in
           let m = e.events in
-          rw (w.posts-is, was)
+          rw (w.pollers-is, was)
           (_, (m.0, m.1, m.2, refl), first_turn _ _ _ _ refl seats (taken _ _ _ m.3 e.packets w.in-Ok-busy.busy.has) refl refl)
       | in-Err-busy w ↦
           let e = w.in-Err-busy.ensures in
           let m = e.events in
-          rw (w.posts-is, was) (_, (m.0, m.1, m.2, refl), first_turn _ _ _ _ refl seats (quiet _ _ _ m.3 e.packets) refl refl)
+          rw (w.pollers-is, was) (_, (m.0, m.1, m.2, refl), first_turn _ _ _ _ refl seats (quiet _ _ _ m.3 e.packets) refl refl)
     ]

@@ -1,18 +1,18 @@
 use Rattle.std.proofs.Common.{◌∙◌, ap, refl}
-use Rattle.device_shared.specs.declared.seats.{Posts.Posts, Turn.TheVariants.On}
+use Rattle.device_shared.specs.declared.seats.{Pollers.Pollers, Turn.TheVariants.On}
 use Rattle.device_shared.proofs.{ActingFacts.{first_turn, given, second_turn}, seats.Seats.complete.Goals.{in-ListPolls, in-ThreadPolls}}
 use Rattle.device_shared.proofs.seats.Seats.complete.Goals as goal
 
 pub returns-clause-acts : goal.returns-clause-acts
-returns-clause-acts g c = elim c.match-posts.branch [
+returns-clause-acts g c = elim c.match-pollers.branch [
   | in-ListPolls w ↦
-      let was = c.in-On.is ∙ ap (λ (x : Posts). On x c.in-On.enabled) w.in-ListPolls.is in
+      let was = c.in-On.is ∙ ap (λ (x : Pollers). On x c.in-On.enabled) w.in-ListPolls.is in
       let e = w.complete-poller.ensures in
       let p = w.in-ListPolls.polling in
       rw (w.poller-is, was)
       (e.made.0, e.made.2, first_turn _ _ _ _ refl (rw was at c.requires.seats) (given _ _ p.ctx e.made.1 e.packets p.has) refl refl)
   | in-ThreadPolls w ↦
-      let was = c.in-On.is ∙ ap (λ (x : Posts). On x c.in-On.enabled) w.in-ThreadPolls.is in
+      let was = c.in-On.is ∙ ap (λ (x : Pollers). On x c.in-On.enabled) w.in-ThreadPolls.is in
       let e = w.complete-thread.ensures in
       let p = w.in-ThreadPolls.polling in
       rw (w.poller-is, was)

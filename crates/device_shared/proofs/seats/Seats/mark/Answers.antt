@@ -5,4 +5,4 @@ pub returns-clause-acts : goal.returns-clause-acts
 returns-clause-acts c =
     let e = c.mark.ensures in
     control_turn c.args.self.interrupt c.args.self.turn _ _ c.in-On.is c.requires.seats
-    (quiet _ _ (ctx_at c.in-On.posts) e.made e.packets) refl refl
+    (quiet _ _ (ctx_at c.in-On.pollers) e.made e.packets) refl refl

@@ -1,6 +1,6 @@
 use Rattle.std.proofs.Common.{◌∙◌, ap, refl, sym, subst}
 use Rattle.napi_calls.specs.Seats.{IsInputOf}
-use Rattle.device_shared.specs.declared.seats.Posts.{Posts, TheVariants.{ListPolls, ThreadPolls, PollsBusily}}
+use Rattle.device_shared.specs.declared.seats.Pollers.{Pollers, TheVariants.{ListPolls, ThreadPolls, PollsBusily}}
 use Rattle.device_shared.specs.{declared.seats.Turn.{Turn, TheVariants.On}, Receiving.SeatsReceive, Seats.{poller_of, thread_of}}
 use Rattle.device_shared.proofs.seats.Seats.receive.Goals.{in-ListPolls, in-ThreadPolls, in-PollsBusily}
 use Rattle.device_shared.proofs.seats.Seats.receive.Goals as goal
@@ -8,24 +8,24 @@ use Rattle.device_shared.proofs.seats.Seats.receive.Goals as goal
 pub poll-requires-clause-input : goal.poll-requires-clause-input
 poll-requires-clause-input c =
     subst (λ (t : Turn). IsInputOf c.args.input.now (poller_of t))
-    (c.in-On.is ∙ ap (λ (x : Posts). On x c.in-On.enabled) c.in-ListPolls.is) c.requires.one
+    (c.in-On.is ∙ ap (λ (x : Pollers). On x c.in-On.enabled) c.in-ListPolls.is) c.requires.one
 
 pub poll-requires-in-ThreadPolls-clause-input : goal.poll-requires-in-ThreadPolls-clause-input
 poll-requires-in-ThreadPolls-clause-input c =
     subst (λ (t : Turn). IsInputOf c.args.input.now (thread_of t))
-    (c.in-On.is ∙ ap (λ (x : Posts). On x c.in-On.enabled) c.in-ThreadPolls.is) c.requires.two
+    (c.in-On.is ∙ ap (λ (x : Pollers). On x c.in-On.enabled) c.in-ThreadPolls.is) c.requires.two
 
 pub poll_busily-requires-clause-input : goal.poll_busily-requires-clause-input
 poll_busily-requires-clause-input c =
     subst (λ (t : Turn). IsInputOf c.args.input.now (poller_of t))
-    (c.in-On.is ∙ ap (λ (x : Posts). On x c.in-On.enabled) c.in-PollsBusily.is) c.requires.one
+    (c.in-On.is ∙ ap (λ (x : Pollers). On x c.in-On.enabled) c.in-PollsBusily.is) c.requires.one
 
 pub returns-clause-next : goal.returns-clause-next
-returns-clause-next c = elim c.match-posts.branch [
+returns-clause-next c = elim c.match-pollers.branch [
   | in-ListPolls w ↦
-      let was = c.in-On.is ∙ ap (λ (x : Posts). On x c.in-On.enabled) w.in-ListPolls.is in
+      let was = c.in-On.is ∙ ap (λ (x : Pollers). On x c.in-On.enabled) w.in-ListPolls.is in
       let q = w.poll in
-      rw (w.input-is, w.batch-is, w.posts-is)
+      rw (w.input-is, w.batch-is, w.pollers-is)
       (subst (λ (t : Turn). SeatsReceive c.args.weight c.args.input.now (record { interrupt = c.args.self.interrupt; turn = t }) q.new.input
       (record { interrupt = c.args.self.interrupt; turn = On (ListPolls q.new.polling w.in-ListPolls.thread) c.in-On.enabled })
       q.new.batch.items) (sym was)
@@ -41,9 +41,9 @@ returns-clause-next c = elim c.match-posts.branch [
         next = q.ensures.next;
       }))
   | in-ThreadPolls w ↦
-      let was = c.in-On.is ∙ ap (λ (x : Posts). On x c.in-On.enabled) w.in-ThreadPolls.is in
+      let was = c.in-On.is ∙ ap (λ (x : Pollers). On x c.in-On.enabled) w.in-ThreadPolls.is in
       let q = w.poll-in-ThreadPolls in
-      rw (w.input-is, w.batch-is, w.posts-is)
+      rw (w.input-is, w.batch-is, w.pollers-is)
       (subst (λ (t : Turn). SeatsReceive c.args.weight c.args.input.now (record { interrupt = c.args.self.interrupt; turn = t }) q.new.input
       (record { interrupt = c.args.self.interrupt; turn = On (ThreadPolls w.in-ThreadPolls.poller q.new.polling) c.in-On.enabled })
       q.new.batch.items) (sym was)
@@ -59,9 +59,9 @@ returns-clause-next c = elim c.match-posts.branch [
         next = q.ensures.next;
       }))
   | in-PollsBusily w ↦
-      let was = c.in-On.is ∙ ap (λ (x : Posts). On x c.in-On.enabled) w.in-PollsBusily.is in
+      let was = c.in-On.is ∙ ap (λ (x : Pollers). On x c.in-On.enabled) w.in-PollsBusily.is in
       let q = w.poll_busily in
-      rw (w.input-is, w.batch-is, w.posts-is)
+      rw (w.input-is, w.batch-is, w.pollers-is)
       (subst (λ (t : Turn). SeatsReceive c.args.weight c.args.input.now (record { interrupt = c.args.self.interrupt; turn = t }) q.new.input
       (record { interrupt = c.args.self.interrupt; turn = On (PollsBusily q.new.busy w.in-PollsBusily.thread) c.in-On.enabled })
       q.new.batch.items) (sym was)

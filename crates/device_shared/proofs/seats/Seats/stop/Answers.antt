@@ -1,5 +1,5 @@
 use Rattle.std.proofs.Common.{◌∙◌, ap, refl}
-use Rattle.device_shared.specs.declared.seats.{Posts.Posts, Turn.TheVariants.On}
+use Rattle.device_shared.specs.declared.seats.{Pollers.Pollers, Turn.TheVariants.On}
 use Rattle.device_shared.proofs.ActingFacts.{first_turn, held}
 use Rattle.device_shared.proofs.seats.Seats.stop.Goals as goal
 
@@ -7,7 +7,7 @@ pub returns-clause-acts : goal.returns-clause-acts
 returns-clause-acts g c =
     let e = c.stop.ensures in
     let m = e.events in
-    let was = c.in-On.is ∙ ap (λ (x : Posts). On x c.in-On.enabled) c.in-PollsBusily.is in (
+    let was = c.in-On.is ∙ ap (λ (x : Pollers). On x c.in-On.enabled) c.in-PollsBusily.is in (
       _,
       (m.0, m.1, refl),
       first_turn c.args.self.interrupt c.args.self.turn _ _ was c.requires.seats

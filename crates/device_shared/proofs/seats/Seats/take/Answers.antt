@@ -15,19 +15,19 @@ returns-clause-acts c =
     elim c.match-kind.branch [
       | in-List+in-Ok-take w ↦
           let e = w.in-Ok-take.ensures in
-          rw (w.posts-is, was, w.in-List.is)
+          rw (w.pollers-is, was, w.in-List.is)
           (_, refl, first_turn _ _ _ _ refl seats (taken _ _ _ (rw w.in-List.is at e.event) e.packets w.in-Ok-take.polling.has) refl refl)
       | in-List+in-Err-take w ↦
           let e = w.in-Err-take.ensures in
-          rw (w.posts-is, was, w.in-List.is)
+          rw (w.pollers-is, was, w.in-List.is)
           (_, refl, first_turn _ _ _ _ refl seats (quiet _ _ _ (rw w.in-List.is at e.event) e.packets) refl refl)
       | in-Thread+in-Ok-take-2 w ↦
           let e = w.in-Ok-take-2.ensures in
           let has = w.in-Ok-take-2.polling.has in
-          rw (w.posts-is, was, w.in-Thread.is)
+          rw (w.pollers-is, was, w.in-Thread.is)
           (_, refl, second_turn _ _ _ _ refl seats (taken _ _ _ (rw w.in-Thread.is at e.event) e.packets has) refl refl)
       | in-Thread+in-Err-take-2 w ↦
           let e = w.in-Err-take-2.ensures in
-          rw (w.posts-is, was, w.in-Thread.is)
+          rw (w.pollers-is, was, w.in-Thread.is)
           (_, refl, second_turn _ _ _ _ refl seats (quiet _ _ _ (rw w.in-Thread.is at e.event) e.packets) refl refl)
     ]

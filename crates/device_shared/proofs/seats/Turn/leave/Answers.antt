@@ -1,5 +1,5 @@
 use Rattle.{std.proofs.Common.refl, device_shared.proofs.EndingFacts.{held_still, later_same}}
-use Rattle.device_shared.specs.declared.seats.Posts.TheVariants.{Rest}
+use Rattle.device_shared.specs.declared.seats.Pollers.TheVariants.{Rest}
 use Rattle.device_shared.proofs.seats.Turn.leave.Goals as goal
 
 pub returns-in-On-clause-step : goal.returns-in-On-clause-step
@@ -16,7 +16,7 @@ returns-in-Marked-clause-step g c =
 
 pub returns-in_default : goal.returns-in_default
 returns-in_default g c = record {
-  turned = record { one = c.release.ensures.posts.one; two = c.release.ensures.posts.two; three = c.requires.control };
+  turned = record { one = c.release.ensures.pollers.one; two = c.release.ensures.pollers.two; three = c.requires.control };
   later = later_same _;
   step = (c.release.result, c.release.ensures.step, held_still c.release.result c.args.enabled c.in_default.not-Rest);
 }

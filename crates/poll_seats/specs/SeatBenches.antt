@@ -1,11 +1,11 @@
 -- What a poll makes of a poller's seats.
 use Rattle.std.specs.Prelude.{◌≡◌, ◌==◌, ◌<◌, ℕ, length, get_or, set, position, is_some, vec_items, MatchOption}
 use Rattle.{poll_runs.specs.declared.bench.{Next.TheVariants.Absent, Once.Once}, poll_seats.specs.declared.seat.Seat.Seat}
-use Rattle.poll_seats.specs.{declared.poller.Crowd.Crowd, Polled.Polls, SeatKeeping.IsSameSeat}
+use Rattle.poll_seats.specs.{declared.poller.SeatBench.SeatBench, Polled.Polls, SeatKeeping.IsSameSeat}
 
 module _ {R : Type 0} where
   -- the seat at this place was polled once, with this weight and this answer, and no other one
-  pub record IsPolledAt (before : Crowd R) (weight : ℕ) (once : Once) (after : Crowd R) (place : ℕ) : Type 0 where
+  pub record IsPolledAt (before : SeatBench R) (weight : ℕ) (once : Once) (after : SeatBench R) (place : ℕ) : Type 0 where
     pub was : Seat
     pub now : Seat
     pub within : place < length (vec_items before.seats)
@@ -15,13 +15,13 @@ module _ {R : Type 0} where
     pub others : vec_items after.seats ≡ set (vec_items before.seats) place now
 
   -- the poller has no seat at the instance, which is absent
-  pub record IsNowhere (before : Crowd R) (once : Once) (after : Crowd R) : Type 0 where
+  pub record IsNowhere (before : SeatBench R) (once : Once) (after : SeatBench R) : Type 0 where
     pub work : once.work ≡ 0
     pub next : once.next ≡ Absent
     pub seats : vec_items after.seats ≡ vec_items before.seats
 
   -- one poll of the instance with this number, with this weight and this answer
-  abbrev pub PollsSeat : Crowd R → ℕ → ℕ → Once → Crowd R → Type 0
+  abbrev pub PollsSeat : SeatBench R → ℕ → ℕ → Once → SeatBench R → Type 0
   PollsSeat before id weight once after =
       MatchOption (position (λ (seat : Seat). seat.number == id) (vec_items before.seats))
       (IsNowhere before once after)

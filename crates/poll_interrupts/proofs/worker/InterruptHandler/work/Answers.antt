@@ -1,13 +1,14 @@
-use Rattle.{std.proofs.Common.{is_some, refl}, poll_interrupts.{specs.declared.worker.Seats.Seats, proofs.LedgerSteps.{same_seats, works}}}
-use Rattle.poll_interrupts.proofs.worker.Desk.work.Goals as goal
+use Rattle.std.proofs.Common.{is_some, refl}
+use Rattle.poll_interrupts.{specs.declared.worker.OwnSeats.OwnSeats, proofs.LedgerSteps.{same_seats, works}}
+use Rattle.poll_interrupts.proofs.worker.InterruptHandler.work.Goals as goal
 
 pub returns : goal.returns
 returns g c =
     let on = c.turn_on in
-    let acted = c.make_acts-hold in
+    let acted = c.make_acts-access in
     let d = c.args.work.device in
     let all = acted.ensures in
-    let ends : Seats = record { caller = acted.result.0.caller; control = c.turn_off-control.result } in record {
+    let ends : OwnSeats = record { caller = acted.result.0.caller; control = c.turn_off-control.result } in record {
       seats = rw c.new.ensures (all.of.0, c.turn_off-control.ensures.of);
       same = rw (← c.open-caller.ensures, c.new.ensures)
           (same_seats c.open-caller.result ends on.result acted.result.0 on.ensures.power all.same refl c.turn_off-control.ensures.power);

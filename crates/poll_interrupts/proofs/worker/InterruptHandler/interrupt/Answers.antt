@@ -1,6 +1,6 @@
 use Rattle.{std.proofs.Common.{refl}, poll_interrupts.proofs.Listings.{lists_more, lists_none, tries_none}}
 use Rattle.napi_calls.specs.declared.answers.Sched.TheVariants as sched
-use Rattle.poll_interrupts.proofs.worker.Desk.interrupt.Goals as goal
+use Rattle.poll_interrupts.proofs.worker.InterruptHandler.interrupt.Goals as goal
 
 pub returns-in-Granted-clause-interrupts : goal.returns-in-Granted-clause-interrupts
 returns-in-Granted-clause-interrupts g c = (sched.Granted c.in-Granted.granted, c.in-Granted.ensures.events, c.hand_over.ensures.handed)

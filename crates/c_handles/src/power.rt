@@ -1,8 +1,8 @@
 //! What the controller of a shared instance has done last: its type, told at run time.
 ghost use Rattle.std.specs.Prelude.{◌≡◌};
-ghost use Rattle.c_handles.specs.SeatCalls.{ControlAnswers, mode_counts};
+ghost use Rattle.c_handles.specs.SeatCalls.{ControlAnswers, power_counts};
 ghost use Rattle.c_handles.specs.Seats.{ControlsAt};
-ghost use Rattle.c_handles.specs.declared.mode.ControlCall.TheVariants as control_call;
+ghost use Rattle.c_handles.specs.declared.power.ControlCall.TheVariants as control_call;
 
 use crate::status;
 use napi_calls::{Control, Marked, Napi, Off, On, TryTake};
@@ -20,7 +20,7 @@ pub enum ControlCall {
 }
 
 /// What the controller has done last.
-pub enum Mode {
+pub enum Power {
     /// Disabled.
     Off(Control<Off>),
     /// Enabled.
@@ -31,20 +31,20 @@ pub enum Mode {
     Gone,
 }
 
-impl Drop for Mode {
+impl Drop for Power {
     fn drop(self) {
         match self {
-            Mode::Off(control) => control.abandon(),
-            Mode::On(control) => control.abandon(),
-            Mode::Marked(control) => control.abandon(),
-            Mode::Gone => {}
+            Power::Off(control) => control.abandon(),
+            Power::On(control) => control.abandon(),
+            Power::Marked(control) => control.abandon(),
+            Power::Gone => {}
         }
     }
 }
 
-impl Mode {
-    /// Makes a call, where the instance's mode has it, and answers its number.
-    pub(crate) fn step(self, napi: &Napi, call: ControlCall) -> (Mode, u32)
+impl Power {
+    /// Makes a call, where the instance's power has it, and answers its number.
+    pub(crate) fn step(self, napi: &Napi, call: ControlCall) -> (Power, u32)
         requires { ControlsAt napi.now self }
         ensures sits { ControlsAt napi.now result.0 }
         ensures answers { ControlAnswers call self result.1 result.0 }
@@ -56,52 +56,52 @@ impl Mode {
         }
     }
 
-    fn enable(self, napi: &Napi, threaded: bool) -> (Mode, u32)
+    fn enable(self, napi: &Napi, threaded: bool) -> (Power, u32)
         requires { ControlsAt napi.now self }
         ensures sits { ControlsAt napi.now result.0 }
         ensures answers { ControlAnswers (control_call.Enable threaded) self result.1 result.0 }
     {
         match self {
-            Mode::Off(control) => match control.try_enable(napi, threaded) {
-                Ok(control) => (Mode::On(control), status::OK),
-                Err(control) => (Mode::Off(control), status::CHANGED),
+            Power::Off(control) => match control.try_enable(napi, threaded) {
+                Ok(control) => (Power::On(control), status::OK),
+                Err(control) => (Power::Off(control), status::CHANGED),
             },
-            mode => (mode, status::NOT_ALLOWED),
+            power => (power, status::NOT_ALLOWED),
         }
     }
 
-    fn mark(self, napi: &Napi) -> (Mode, u32)
+    fn mark(self, napi: &Napi) -> (Power, u32)
         requires { ControlsAt napi.now self }
         ensures sits { ControlsAt napi.now result.0 }
         ensures answers { ControlAnswers control_call.Mark self result.1 result.0 }
     {
         match self {
-            Mode::On(control) => (Mode::Marked(control.mark(napi)), status::OK),
-            mode => (mode, status::NOT_ALLOWED),
+            Power::On(control) => (Power::Marked(control.mark(napi)), status::OK),
+            power => (power, status::NOT_ALLOWED),
         }
     }
 
-    fn try_take(self, napi: &Napi) -> (Mode, u32)
+    fn try_take(self, napi: &Napi) -> (Power, u32)
         requires { ControlsAt napi.now self }
         ensures sits { ControlsAt napi.now result.0 }
         ensures answers { ControlAnswers control_call.TryTake self result.1 result.0 }
     {
         match self {
-            Mode::Marked(control) => match control.try_take(napi) {
-                TryTake::Taken(control) => (Mode::Off(control), status::TAKEN),
-                TryTake::Busy(control) => (Mode::Marked(control), status::BUSY),
-                TryTake::Changed(control) => (Mode::Marked(control), status::CHANGED),
+            Power::Marked(control) => match control.try_take(napi) {
+                TryTake::Taken(control) => (Power::Off(control), status::TAKEN),
+                TryTake::Busy(control) => (Power::Marked(control), status::BUSY),
+                TryTake::Changed(control) => (Power::Marked(control), status::CHANGED),
             },
-            mode => (mode, status::NOT_ALLOWED),
+            power => (power, status::NOT_ALLOWED),
         }
     }
 
     /// What is counted of the ring's polls, where the instance is disabled.
     pub(crate) fn counts(&self) -> Option<RxCounts>
-        ensures { result ≡ mode_counts self.now }
+        ensures { result ≡ power_counts self.now }
     {
         match self {
-            Mode::Off(control) => Some(control.counts()),
+            Power::Off(control) => Some(control.counts()),
             _ => None,
         }
     }

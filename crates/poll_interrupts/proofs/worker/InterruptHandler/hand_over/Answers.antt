@@ -1,6 +1,6 @@
 use Rattle.std.proofs.Common.{◌≡◌, true, false, refl, rules}
 use Rattle.poll_interrupts.proofs.Listings.{lists_more, lists_none}
-use Rattle.poll_interrupts.proofs.worker.Desk.hand_over.Goals as goal
+use Rattle.poll_interrupts.proofs.worker.InterruptHandler.hand_over.Goals as goal
 
 pub returns-then-not-look-clause-handed : goal.returns-then-not-look-clause-handed
 returns-then-not-look-clause-handed g c =

@@ -1,17 +1,17 @@
 use Rattle.std.proofs.Common.{◌≡◌, ◌+◌, ◌≤◌, ◌++◌, is_some, length}
 use Rattle.rx_ring.specs.Ends.{SameIn, capacity_of, put_list}
-use Rattle.poll_interrupts.specs.{Acts.{after_acts, arrivals}, Calls.{AllActs, Lists}, Seats.IsHoldOf, Works.WasLet}
-use Rattle.poll_interrupts.proofs.worker.Desk.make_acts.Given as goal
+use Rattle.poll_interrupts.specs.{Acts.{after_acts, arrivals}, Calls.{AllActs, Lists}, Seats.IsAccessOf, Works.WasLet}
+use Rattle.poll_interrupts.proofs.worker.InterruptHandler.make_acts.Given as goal
 
 abbrev pub invariant-loop-k : goal.invariant-loop-k
 invariant-loop-k g l =
     let d = l.initial.device in
     let after = g.D.Device.after in
     let brought = arrivals g.D.Device.answer after d l.k in record {
-      of : IsHoldOf l.self.napi.now l.hold;
-      lists : Lists l.self.number l.fn.hold.caller.pass l.hold.caller.pass l.initial.list l.list;
+      of : IsAccessOf l.self.napi.now l.access;
+      lists : Lists l.self.number l.fn.access.caller.pass l.access.caller.pass l.initial.list l.list;
       let_go : WasLet (g.G.Gate.answers l.gate) l.self.number l.k;
-      acted : AllActs (is_some l.self.thread) g.D.Device.answer after d l.k l.fn.hold l.hold l.initial.rx l.rx;
+      acted : AllActs (is_some l.self.thread) g.D.Device.answer after d l.k l.fn.access l.access l.initial.rx l.rx;
       made : l.device ≡ after_acts after d l.k;
       acts : g.D.Device.acts l.device ≡ g.D.Device.acts d;
       ring : SameIn l.initial.rx l.rx;

@@ -1,24 +1,25 @@
 use Rattle.std.proofs.{lemmas.Grind.common_steps, Common.{◌≡◌, ◌+◌, ◌≤◌, ◌++◌, is_some, length, ap, sym, ◌∙◌, rules, arith, below_more}}
 use Rattle.poll_interrupts.proofs.{Listings.{lists_more, lists_same}, ActSteps.{acts-more, after_acts-more, arrivals-more, put_more}}
 use Rattle.{poll_interrupts.{proofs.LedgerSteps.all_same, specs.Acts.{after_acts, brings}}, rx_ring.specs.Ends.{capacity_of, put_list}}
-use Rattle.poll_interrupts.proofs.worker.Desk.make_acts.Goals as goal
+use Rattle.poll_interrupts.proofs.worker.InterruptHandler.make_acts.Goals as goal
 
 pub loop-k-preserved : goal.loop-k-preserved
 loop-k-preserved g c =
     let i = c.loop-k.invariant in
-    let e = c.make_act-hold.ensures in
+    let e = c.make_act-access.ensures in
     let after = g.D.Device.after in
     let d = c.args.device.now in
     let brought = brings (g.D.Device.answer (after_acts after d c.loop-k.k) c.loop-k.k) in
     let places : capacity_of c.loop-k.rx ≡ capacity_of c.args.rx.now = search rules in
     let then : length (put_list c.loop-k.rx) + length brought ≤ capacity_of c.args.rx.now
-    → put_list c.make_act-hold.new.rx ≡ put_list c.loop-k.rx ++ brought = rw (← i.made, ← places) e.put in record {
+    → put_list c.make_act-access.new.rx ≡ put_list c.loop-k.rx ++ brought = rw (← i.made, ← places) e.put in record {
       of = e.of;
       lists = lists_more i.lists e.lists;
       let_go = below_more _ _ i.let_go (c.may_act.ensures (search rules));
       acted =
-          acts-more (is_some c.args.self.now.thread) g.D.Device.answer after d c.loop-k.k c.args.hold c.loop-k.hold c.make_act-hold.result
-          c.args.rx.now c.loop-k.rx c.make_act-hold.new.rx i.acted e.ring (rw (← i.made) e.made);
+          acts-more (is_some c.args.self.now.thread) g.D.Device.answer after d c.loop-k.k c.args.access c.loop-k.access
+          c.make_act-access.result
+          c.args.rx.now c.loop-k.rx c.make_act-access.new.rx i.acted e.ring (rw (← i.made) e.made);
       made = e.device ∙ ap (λ x. after x c.loop-k.k) i.made ∙ sym (after_acts-more after d c.loop-k.k);
       acts = e.acts ∙ i.acts;
       ring = search rules;
@@ -41,10 +42,10 @@ loop-k-init g c = record {
 
 pub returns-then-not-may_act-clause-same : goal.returns-then-not-may_act-clause-same
 returns-then-not-may_act-clause-same g c =
-    all_same (is_some c.args.self.now.thread) g.D.Device.answer g.D.Device.after c.args.device.now c.loop-k.k c.args.hold c.loop-k.hold
+    all_same (is_some c.args.self.now.thread) g.D.Device.answer g.D.Device.after c.args.device.now c.loop-k.k c.args.access c.loop-k.access
     c.args.rx.now c.loop-k.rx c.loop-k.invariant.acted
 
 pub returns-clause-same : goal.returns-clause-same
 returns-clause-same g c =
-    all_same (is_some c.args.self.now.thread) g.D.Device.answer g.D.Device.after c.args.device.now c.loop-k.k c.args.hold c.loop-k.hold
+    all_same (is_some c.args.self.now.thread) g.D.Device.answer g.D.Device.after c.args.device.now c.loop-k.k c.args.access c.loop-k.access
     c.args.rx.now c.loop-k.rx c.loop-k.invariant.acted

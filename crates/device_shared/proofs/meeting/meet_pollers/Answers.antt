@@ -1,5 +1,5 @@
 use Rattle.device_shared.proofs.Orders.{meet_straight, meet_second_last, meet_third_last}
-use Rattle.device_shared.proofs.meeting.meet_posts.Goals as goal
+use Rattle.device_shared.proofs.meeting.meet_pollers.Goals as goal
 
 pub returns-in-Rest-clause-meet : goal.returns-in-Rest-clause-meet
 returns-in-Rest-clause-meet g c =
