@@ -1,7 +1,7 @@
 -- Courses that were dealt to pollers, and put together again.
 use Rattle.std.proofs.lemmas.Grind.{common_steps}
 use Rattle.std.proofs.Common.{◌≡◌, ◌∙◌, eq-eqb, ℕ, ◌+◌, ◌-◌, ◌%◌, ◌<◌, ◌≤◌, Bool, true, false, List, [], ◌∷◌, length, ap, refl, sym, subst}
-use Rattle.std.{proofs.{Common.{arith, eqb, suc, All}, lemmas.Bool.{eqb-true, eqb-false, ne_eqb}}, specs.Prelude.{◌==◌, Result, Ok, Err}}
+use Rattle.std.{proofs.{Common.{arith, eqb, suc, All}, lemmas.Bool.{eqb-true, eqb-false, ne_eqb}}, specs.Prelude.{Result, Ok, Err}}
 use Rattle.{std.specs.{Prelude.{IfOk, filter, map, vec_items}, Global.Vec, List.AllByRecursion}, poll_tasks.specs.declared.pace.Pace.Pace}
 use Rattle.{poll_tasks.proofs.ListFacts.each_index, poll_interrupts.specs.declared.{acts.Act.Act, station.Station.Station}}
 use Rattle.poll_interrupts.specs.{declared.station.Finished.Finished, Deals.{IsDealtFrom, is_dealt, merged, others, picked}}

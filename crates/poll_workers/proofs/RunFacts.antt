@@ -1,7 +1,7 @@
 -- What the parts of a crew come to for its stations.
 use Rattle.std.proofs.{lemmas.Grind.common_steps, Common.{◌≡◌, ℕ, suc, ◌≤◌, Bool, true, false, Option, None, is_some, List, [], ◌∷◌, sym}}
 use Rattle.std.{proofs.Common.{ap, ◌∙◌, refl, subst, IsSome, Some, All, arith, rules}, specs.Prelude.{IfOk, Ok, Err, Result, map}}
-use Rattle.std.specs.{Prelude.{vec_items, MatchBool, MatchOption}, List.{AllByRecursion, AllZip}, Global.Vec}
+use Rattle.std.specs.{Prelude.{vec_items, MatchOption}, List.{AllByRecursion, AllZip}, Global.Vec}
 use Rattle.poll_interrupts.specs.{Ends.{AreFinishesOf, HasAllOf, IsCallerAt, IsDoneAt, IsFinishOf, IsTurnedAt}, Runs.{HasRun, IsEnded}}
 use Rattle.poll_interrupts.specs.{Runs.{Ledger, Whose, WorksBy, blank, controller_number, worker_number}, declared.station.Station.Station}
 use Rattle.poll_interrupts.specs.declared.{station.Finished.Finished, worker.OwnSeats.OwnSeats, opening.{Loose.Loose, Placed.Placed}}
@@ -13,7 +13,7 @@ use Rattle.{rx_ring.specs.{Ends.{capacity_of, put_list}, declared.ends.RxIn.RxIn
 use Rattle.{poll_list.specs.declared.shared.SharedList.SharedList, poll_seats.specs.SeatKeeping.{IsCallerOf, AreSameSeats, IsSameSeat}}
 use Rattle.poll_seats.specs.{declared.{seat.Seat.Seat, thread_poller.{ThreadSide.ThreadSide, Own.Own}}, Gives.{GivesCaller, IsPolledAlone}}
 use Rattle.napi_calls.specs.{Instance.IsSeatOf, declared.{kept.Kept.Kept, types.{Caller.Caller, Napi.Napi}}, Seats.{number_of, own_list}}
-use Rattle.poll_workers.specs.Courses.{AreOfCrew, Course, HasPolled, HasTurned, IsCourse, IsFreshSeat, IsSpentSeat, TakesTurns}
+use Rattle.poll_workers.specs.Courses.{AreOfCrew, Course, HasPolled, HasTurned, IsCourse, IsFreshSeat, IsSpentSeat}
 use Rattle.poll_workers.specs.{Courses.TurnsIfThread, Finishes.{IsFinished, IsWorkedOf}, Spreads.{IsJobAt, IsKeptJobOf, IsKeptSeatFor}}
 use Rattle.poll_workers.specs.Spreads.{IsKeptThreadFor, IsSeatAt, IsThreadAt}
 

@@ -1,13 +1,13 @@
 -- From the rows of a trace to its stations, and from what a run made of these to the report.
 use Rattle.std.proofs.{lemmas.{Grind.common_steps, List.{Elements.All-filter, Sums.sum_by-le}}, Common.{◌≡◌, ◌∙◌, ℕ, ◌+◌, ◌-◌, ◌<◌, ◌≤◌}}
-use Rattle.std.proofs.Common.{Bool, true, false, Some, None, List, [], ◌∷◌, ◌++◌, length, slice_index_or, take, append-nil, get_or, refl}
+use Rattle.std.proofs.Common.{Bool, true, false, Some, None, List, [], ◌∷◌, ◌++◌, length, slice_index_or, take, get_or, refl}
 use Rattle.std.{proofs.{Common.{arith, flat_map}, Math.Nat.min-eq_left}, specs.{List.{All, AllZip, find, range_with_len}, Prelude.◌==◌}}
-use Rattle.std.specs.{Prelude.{◌&&◌, Result, IfOk, OnOk, vec_items, filter, map, option_map}, Global.Vec}
+use Rattle.std.specs.{Prelude.{Result, IfOk, OnOk, vec_items, filter, map, option_map}, Global.Vec}
 use Rattle.poll_interrupts.specs.{Runs.HasRun, declared.station.{Station.Station, Finished.Finished}}
 use Rattle.device_rows.{proofs.Accepted.accepted-at, specs.{Row.value_fits, Trace.AcceptedAfter, declared.{row.Row.Row, event.Event.Event}}}
 use Rattle.{poll_tasks.{proofs.Zips.zip_push, specs.Refusals.IsRefused}, rx_ring.specs.ReceiveRing.capped}
 use Rattle.device_script.proofs.{Rows.{filter-long, find-among, find-here, find-more, range-more}, ScriptFacts.{acts-made, arrivals-are}}
-use Rattle.device_script.specs.Script.{has_thread, is_act_of, is_open, is_rx, opening_of, openings_of, opens, rx_of, script_of}
+use Rattle.device_script.specs.Script.{has_thread, is_act_of, is_open, is_rx, opening_of, openings_of, rx_of, script_of}
 use Rattle.{device_script.specs.ScriptShown.{Script, acts, after, answer}, poll_workers.specs.declared.fault.WorkFault.WorkFault}
 use Rattle.{poll_workers.specs.{Finishes.IsFinished, Courses.{ArePolled, pace_of}}, replay_words.specs.declared.settings.Settings.Settings}
 use Rattle.replay_text.specs.declared.fault.ReplayFault.{ReplayFault, TheVariants.{OutputFailed, RingTooSmall}}

@@ -2,7 +2,7 @@
 use Rattle.{poll_interrupts.specs.{Runs.HasRun, declared.station.{Finished.Finished, Station.Station}}, replay_text.specs.Lines.ended}
 use Rattle.{replay_text.specs.declared.fault.ReplayFault.{ReplayFault, TheVariants.RingTooSmall}, device_rows.specs.declared.row.Row.Row}
 use Rattle.replay_threads.specs.{ThreadsReport.{arrived, arrived_line, bytes, opened, side_lines}, declared.polled.Polled.Polled}
-use Rattle.std.specs.{List.{AllZip, find}, Prelude.{◌≡◌, ℕ, ◌+◌, ◌++◌, Bool, List, Option, Some, length, nat_lt, option_map, take}}
+use Rattle.std.specs.{List.{AllZip, find}, Prelude.{◌≡◌, ℕ, ◌+◌, ◌++◌, Bool, List, Option, Some, length, nat_lt, option_map}}
 use Rattle.{replay_words.specs.declared.settings.Settings.Settings, poll_workers.specs.Courses.{ArePolled, pace_of}}
 use Rattle.device_script.specs.{ScriptShown.{Script, acts, after, answer, side_of}, Script.{has_thread, opening_of, rx_of, script_of}}
 
