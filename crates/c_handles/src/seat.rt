@@ -118,7 +118,10 @@ impl Controller {
     pub fn step(&mut self, call: ControlCall) -> u32
         ensures { ControlAnswers call self.old.power result self.new.power }
     {
-        let (power, status) = mem::replace(&mut self.power, Power::Gone).step(&self.napi.napi, call);
+        let (power, status) = mem::replace(&mut self.power, Power::Gone).step(
+            &self.napi.napi,
+            call,
+        );
         self.power = power;
         status
     }

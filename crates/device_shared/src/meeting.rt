@@ -38,7 +38,12 @@ fn meet_pollers<S: Mode>(
             let (interrupt, thread, control, polling, seen) = survey_polling(
                 napi, interrupt, thread, control, polling,
             );
-            (interrupt, Pollers::ListPolls(polling, thread), control, seen)
+            (
+                interrupt,
+                Pollers::ListPolls(polling, thread),
+                control,
+                seen,
+            )
         }
         Pollers::ThreadPolls(poller, polling) => {
             let (interrupt, poller, control, polling, seen) = survey_polling(

@@ -1,7 +1,7 @@
 //! A worker's thread.
 
 use crate::acts::Device;
-use crate::worker::{InterruptHandler, Done, Work};
+use crate::worker::{Done, InterruptHandler, Work};
 use poll_tasks::{Gate, Task};
 use std::sync::Wait;
 
@@ -40,7 +40,11 @@ impl<'t, 'p, 'n, R: Wait + Copy + Drop, D: Device + Drop, G: Gate> Task<Worked<R
     }
 
     fn run(self) -> Worked<R, D> {
-        let Job { gate, handler, work } = self;
+        let Job {
+            gate,
+            handler,
+            work,
+        } = self;
         let done = handler.work(gate, work);
         if let Some(bell) = handler.thread {
             bell.tell();

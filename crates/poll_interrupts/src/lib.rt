@@ -17,4 +17,4 @@ pub use gathering::{are_whole, gather, have_turned};
 pub use job::{Job, Worked};
 pub use opening::{Loose, Placed, open_all, shut_all};
 pub use station::{Finished, Station};
-pub use worker::{InterruptHandler, Done, OwnSeats, Work};
+pub use worker::{Done, InterruptHandler, OwnSeats, Work};

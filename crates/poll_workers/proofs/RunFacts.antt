@@ -291,9 +291,14 @@ worked_of : {R D G : Type 0} (acts : D → ℕ) (answer : D → ℕ → Act) (af
     → IsKeptJobOf setting loose job
     → IsWorkOf acts answer after (answers job.gate.now) job.handler.napi.now (is_some job.handler.thread) job.handler.number job.work worked
     → IsWorkedOf acts answer after (answers setting.gate.now) loose worked
-worked_of {R} {D} acts answer after answers setting loose job worked given made =
-    (job.handler.napi.now, job.work, given.same_device, given.same_rx, given.same_seats,
-    rw (← given.same_number, ← given.thread, ← given.gate) made)
+worked_of {R} {D} acts answer after answers setting loose job worked given made = (
+  job.handler.napi.now,
+  job.work,
+  given.same_device,
+  given.same_rx,
+  given.same_seats,
+  rw (← given.same_number, ← given.thread, ← given.gate) made,
+)
 
 pub all_worked : {R D G : Type 0} (acts : D → ℕ) (answer : D → ℕ → Act) (after : D → ℕ → D) (answers : G → ℕ → ℕ → Bool → Type 0)
     (setting : Setting R G) (loose : List (Kept R (Loose D))) (jobs : List (Job R D G)) (worked : List (Worked R D))
