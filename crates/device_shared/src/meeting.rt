@@ -38,23 +38,15 @@ fn meet_pollers<S: Mode>(
             let (interrupt, thread, control, polling, seen) = survey_polling(
                 napi, interrupt, thread, control, polling,
             );
-            (
-                interrupt,
-                Pollers::ListPolls(polling, thread),
-                control,
-                seen,
-            )
+            let pollers = Pollers::ListPolls(polling, thread);
+            (interrupt, pollers, control, seen)
         }
         Pollers::ThreadPolls(poller, polling) => {
             let (interrupt, poller, control, polling, seen) = survey_polling(
                 napi, interrupt, poller, control, polling,
             );
-            (
-                interrupt,
-                Pollers::ThreadPolls(poller, polling),
-                control,
-                seen,
-            )
+            let pollers = Pollers::ThreadPolls(poller, polling);
+            (interrupt, pollers, control, seen)
         }
         Pollers::PollsBusily(busy, thread) => {
             let (interrupt, thread, control, busy, seen) = survey_busy(
