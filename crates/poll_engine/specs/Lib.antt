@@ -23,6 +23,7 @@ pub use Rattle.poll_list.specs.declared.list_in.ListIn
 pub use Rattle.poll_list.specs.declared.shared.SharedList
 pub use Rattle.poll_shared.specs.SharedBusy
 pub use Rattle.poll_shared.specs.SharedPolling
+pub use Rattle.poll_tasks.specs.Asks
 pub use Rattle.poll_tasks.specs.Refusals
 pub use Rattle.poll_interrupts.specs.Acts
 pub use Rattle.poll_interrupts.specs.Opens
@@ -31,6 +32,7 @@ pub use Rattle.poll_interrupts.specs.declared.act_list.ActList
 pub use Rattle.poll_interrupts.specs.declared.acts.Act
 pub use Rattle.poll_interrupts.specs.declared.station.Finished
 pub use Rattle.poll_interrupts.specs.declared.station.Station
+pub use Rattle.poll_workers.specs.Courses
 pub use Rattle.poll_workers.specs.Faults as WorkFaults
 pub use Rattle.poll_workers.specs.Finishes
 pub use Rattle.poll_workers.specs.Numbers

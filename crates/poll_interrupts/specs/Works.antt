@@ -1,6 +1,6 @@
 -- What a worker promises of its own station.
-use Rattle.std.specs.Prelude.{◌≡◌, ℕ, ◌+◌, ◌<◌, ◌≤◌, ◌++◌, Bool, true, false, length}
-use Rattle.rx_ring.specs.{declared.ends.RxIn.RxIn, Ends.SameIn}
+use Rattle.std.specs.Prelude.{◌≡◌, ℕ, ◌+◌, ◌≤◌, ◌++◌, Bool, true, false, length}
+use Rattle.{poll_tasks.specs.Asks.WasLet, rx_ring.specs.{declared.ends.RxIn.RxIn, Ends.SameIn}}
 use Rattle.{rx_ring.specs.Ends.{capacity_of, put_list}, napi_calls.specs.{declared.types.Napi.Napi, Seats.{number_of, own_list}}}
 use Rattle.poll_interrupts.specs.declared.{acts.Act.Act, worker.{OwnSeats.OwnSeats, Work.Work, Done.Done}, job.Worked.Worked}
 use Rattle.poll_interrupts.specs.Acts.{after_acts}
@@ -24,10 +24,6 @@ whose seats rx thread =
 -- the same numbers
 abbrev pub AreSameSeats : OwnSeats → OwnSeats → Type 0
 AreSameSeats a b = (number_of b.caller.pass ≡ number_of a.caller.pass) × (number_of b.control.pass ≡ number_of a.control.pass)
-
--- the gate was asked before each of so many acts, by this number and the act's, and let it be made
-abbrev pub WasLet : (ℕ → ℕ → Bool → Type 0) → ℕ → ℕ → Type 0
-WasLet answers number acts = (k : ℕ) → k < acts → answers number k true
 
 -- `answers` is what a gate answers: to whom, before which act
 module _ {R D : Type 0} (acts : D → ℕ) (answer : D → ℕ → Act) (after : D → ℕ → D) (answers : ℕ → ℕ → Bool → Type 0) where

@@ -6,7 +6,8 @@ ghost use Rattle.napi_calls.specs.Instance.{IsSeatOf};
 ghost use Rattle.poll_interrupts.specs.Acts.{after_acts, arrivals, brings};
 ghost use Rattle.poll_interrupts.specs.Calls.{Acts, AllActs, HandsOver, Interrupts, IsPutLast, IsSameAccess, Leaves, Lists, TurnsOn};
 ghost use Rattle.poll_interrupts.specs.Seats.{AreSeatsOf, IsAccessOf, IsPowerOf};
-ghost use Rattle.poll_interrupts.specs.Works.{IsDoneBy, WasLet};
+ghost use Rattle.poll_interrupts.specs.Works.{IsDoneBy};
+ghost use Rattle.poll_tasks.specs.Asks.{WasLet};
 
 use crate::acts::{Act, Device};
 use napi_calls::{Between, Caller, Control, Granted, Kept, Napi, Off, On, Sched};

@@ -1,9 +1,9 @@
 -- What a run comes to.
 use Rattle.std.specs.Prelude.{◌≡◌, ℕ, ◌+◌, ◌≤◌, Bool, is_some, length}
-use Rattle.rx_ring.specs.ReceiveRing.{bytes_of, capped}
+use Rattle.{poll_tasks.specs.Asks.WasLet, rx_ring.specs.ReceiveRing.{bytes_of, capped}}
 use Rattle.{napi_calls.specs.declared.{kept.Kept.Kept, types.Napi.Napi}, poll_interrupts.specs.declared.{acts.Act.Act, opening.Loose.Loose}}
 use Rattle.poll_interrupts.specs.declared.{job.Worked.Worked, worker.Work.Work, station.{Finished.Finished, Station.Station}}
-use Rattle.poll_interrupts.specs.{Acts.{after_acts, arrivals}, Runs.HasRun, Works.{IsWorkOf, WasLet}}
+use Rattle.poll_interrupts.specs.{Acts.{after_acts, arrivals}, Runs.HasRun, Works.IsWorkOf}
 
 module _ {D : Type 0} (acts : D → ℕ) (answer : D → ℕ → Act) (after : D → ℕ → D) (answers : ℕ → ℕ → Bool → Type 0) where
   -- The station's device made its acts, each once and in order. What was put was polled or is left. Where the ring has a

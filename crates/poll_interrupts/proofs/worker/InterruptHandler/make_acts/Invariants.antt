@@ -1,6 +1,6 @@
 use Rattle.std.proofs.Common.{◌≡◌, ◌+◌, ◌≤◌, ◌++◌, is_some, length}
-use Rattle.rx_ring.specs.Ends.{SameIn, capacity_of, put_list}
-use Rattle.poll_interrupts.specs.{Acts.{after_acts, arrivals}, Calls.{AllActs, Lists}, Seats.IsAccessOf, Works.WasLet}
+use Rattle.{poll_tasks.specs.Asks.WasLet, rx_ring.specs.Ends.{SameIn, capacity_of, put_list}}
+use Rattle.poll_interrupts.specs.{Acts.{after_acts, arrivals}, Calls.{AllActs, Lists}, Seats.IsAccessOf}
 use Rattle.poll_interrupts.proofs.worker.InterruptHandler.make_acts.Given as goal
 
 abbrev pub invariant-loop-k : goal.invariant-loop-k
