@@ -202,8 +202,10 @@ class Build:
         """Begins what is ready, as far as there are lanes, and returns whether there was such."""
         ready = [it for it in self.left if {*self.left, *self.at_work}.isdisjoint(it.needs)][: self.lanes - len(self.at_work)]
         for crate in ready:
-            jobs = max(self.processors // (len(self.at_work) + len(ready)), 2) if self.lanes > 1 else 1
-            self.at_work[crate] = crate.begin(jobs, self.left.index(crate))
+            behind = self.left.index(crate)
+            # Each further process loads the libraries anew, so only the longest chain has some.
+            jobs = 1 if behind or self.lanes == 1 else max(self.processors - len(self.at_work), 2)
+            self.at_work[crate] = crate.begin(jobs, behind)
         self.left = [it for it in self.left if it not in ready]
         return bool(ready)
 
