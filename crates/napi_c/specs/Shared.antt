@@ -2,7 +2,8 @@
 use Rattle.std.specs.{Prelude.{◌≡◌, true, List, Option, Some, None}, Arc.arc_value, List.All}
 use Rattle.c_handles.specs.{Freeing.is_off, Handles.{IsSeatWith, LeadsToController}, Seats.IsResting}
 use Rattle.c_handles.specs.declared.{body.Body.Body, handle.FqHandle.FqHandle}
-use Rattle.napi_calls.specs.declared.types.Napi.{Napi}
+use Rattle.napi_calls.specs.{Instance.first_of_instance, declared.types.Napi.Napi}
+use Rattle.rx_ring.specs.declared.ends.RxCtx.{RxCtx}
 
 -- it leads to nothing
 abbrev pub IsFree : FqHandle → Type 0
@@ -24,3 +25,7 @@ abbrev pub AreOfOne : FqHandle → List FqHandle → Type 0
 AreOfOne control seats = (n : Napi)
     × LeadsToController (λ c. ((arc_value c.napi).napi ≡ n) × (is_off c.power ≡ true)) control.held.body
     × All (LeadsToRestingSeat n) seats
+
+-- the instance is over this poll context
+abbrev pub IsOver : RxCtx → FqHandle → Type 0
+IsOver ctx control = LeadsToController (λ c. first_of_instance (arc_value c.napi).napi ≡ ctx) control.held.body

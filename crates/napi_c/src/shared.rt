@@ -3,11 +3,11 @@ ghost use Rattle.std.specs.Prelude.{◌≡◌, ◌≢◌, ◌≤◌, ◌<◌, �
 ghost use Rattle.std.specs.List.{All};
 ghost use Rattle.std.specs.Arc.{arc_value};
 ghost use Rattle.napi_calls.specs.declared.types.Caller.{Caller};
-ghost use Rattle.napi_calls.specs.Instance.{IsSeatOf};
+ghost use Rattle.napi_calls.specs.Instance.{IsSeatOf, first_of_instance};
 ghost use Rattle.c_handles.specs.declared.body.Body.TheVariants as variant;
 ghost use Rattle.c_handles.specs.declared.body.Ring.{Ring};
 ghost use Rattle.c_handles.specs.Rings.{LeadsTo};
-ghost use Rattle.napi_c.specs.Shared.{AreFree, AreOfOne, IsFree, LeadsToRestingSeat};
+ghost use Rattle.napi_c.specs.Shared.{AreFree, AreOfOne, IsFree, IsOver, LeadsToRestingSeat};
 ghost use Rattle.c_handles.specs.Status.{OK, IN_USE, BAD_COUNT, OUT_OF_MEMORY};
 
 use c_handles::{
@@ -38,6 +38,8 @@ struct Opened {
 fn open(alloc: Global, ring: Ring, callers: u32) -> Result<(Input, Opened), Ring>
     requires { (2 ≤ callers) × (callers ≤ 8) }
     ensures input { IfOk result (λ r. r.0 ≡ ring.input) }
+    ensures over { IfOk result
+        (λ r. first_of_instance (arc_value r.1.napi).napi ≡ ring.ctx) }
     ensures back { IfErr result (λ r. r.input ≡ ring.input) }
 {
     let Ring { input, ctx } = ring;
@@ -157,6 +159,8 @@ fn give_seats(
 
 fn give(alloc: Global, opened: Opened, control: &mut FqHandle, seats: &mut [FqHandle]) -> u32
     ensures made { result ≡ OK → AreOfOne control.new seats.new }
+    ensures over { result ≡ OK
+        → IsOver (first_of_instance (arc_value opened.napi).napi) control.new }
     ensures memory { result ≡ OUT_OF_MEMORY → IsFree control.new × AreFree seats.new }
     ensures only { result ≢ OK → result ≡ OUT_OF_MEMORY }
 {
@@ -181,6 +185,8 @@ fn share(alloc: Global, body: &mut Body, control: &mut FqHandle, seats: &mut [Fq
     ensures only { (r : Ring) → body.old ≡ variant.Ring r → result ≢ OK → result ≡ OUT_OF_MEMORY }
     ensures input { (r : Ring) → body.old ≡ variant.Ring r → result ≡ OK
         → body.new ≡ variant.In r.input }
+    ensures over { (r : Ring) → body.old ≡ variant.Ring r → result ≡ OK
+        → IsOver r.ctx control.new }
     ensures kept { result ≢ OK → result ≢ OUT_OF_MEMORY → (control.new ≡ control.old)
         × (seats.new ≡ seats.old) × (body.new ≡ body.old) }
 {
@@ -219,6 +225,7 @@ pub extern "C" fn fq_shared_new(
     ensures made { result ≡ OK → AreOfOne control.new seats.new }
     ensures input { (r : Ring) → LeadsTo input.old r → result ≡ OK
         → input.new.held.body ≡ Some (variant.In r.input) }
+    ensures over { (r : Ring) → LeadsTo input.old r → result ≡ OK → IsOver r.ctx control.new }
     ensures kept { result ≢ OK → result ≢ OUT_OF_MEMORY → (control.new ≡ control.old)
         × (seats.new ≡ seats.old) × (input.new.held.body ≡ input.old.held.body) }
     ensures memory { result ≡ OUT_OF_MEMORY → IsFree control.new × AreFree seats.new }
