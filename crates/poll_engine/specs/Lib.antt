@@ -1,4 +1,4 @@
-pub use Rattle.poll_runs.specs.BusyPolling
+pub use Rattle.poll_runs.specs.Plan
 pub use Rattle.poll_runs.specs.Function
 pub use Rattle.poll_runs.specs.Laws
 pub use Rattle.poll_runs.specs.Plain
@@ -21,8 +21,7 @@ pub use Rattle.poll_list.specs.declared.list_ends.ListBack
 pub use Rattle.poll_list.specs.declared.list_fault.ListFault
 pub use Rattle.poll_list.specs.declared.list_in.ListIn
 pub use Rattle.poll_list.specs.declared.shared.SharedList
-pub use Rattle.poll_shared.specs.SharedBusy
-pub use Rattle.poll_shared.specs.SharedPolling
+pub use Rattle.poll_shared.specs.Tries
 pub use Rattle.poll_tasks.specs.Asks
 pub use Rattle.poll_tasks.specs.Refusals
 pub use Rattle.poll_interrupts.specs.Acts

@@ -6,6 +6,6 @@ pub mod Turn
 pub mod Driven
 pub mod Steps
 pub mod Polling
-pub mod BusyPolling
+pub mod Plan
 pub mod Laws
 pub mod Function

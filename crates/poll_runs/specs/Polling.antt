@@ -1,90 +1,219 @@
--- The polling of one instance, put together of what its calls do.
-use Rattle.std.specs.Prelude.{◌≡◌, ◌==◌, ◌-◌, ◌&&◌, ℕ, nat_lt, Bool, true, false, List, [], ◌∷◌, Option, Some, None, MatchBool}
-use Rattle.{napi_model.specs.declared.state.Kind.Kind, poll_runs.specs.{Polls.is_repoll, Thread.is_for_thread, declared.bench.Next.Next}}
-use Rattle.poll_runs.specs.declared.bench.{Next.TheVariants.{Absent, Gone, Again, Repoll}, Once.Once}
+-- The rule of polling one instance: `napi_poll`, `napi_threaded_poll` and `napi_busy_loop` of net/core/dev.c.
+use Rattle.std.specs.Prelude.{ℕ, zero, suc, ◌==◌, ◌+◌, nat_lt, Bool, true, false, List, [], ◌∷◌, ◌++◌, length, if◌then◌else◌, Option, Some, None}
+use Rattle.poll_runs.specs.{Plan.{Plan, ends, asks, acts, polls, ◌>>=◌}, declared.bench.BusyReport.BusyReport}
+use Rattle.poll_runs.specs.declared.bench.{Next.{Next, TheVariants.{Absent, Gone, Again, Repoll}}, Once.Once}
+use Rattle.napi_model.specs.declared.{state.{Flags.Flags, Kind.Kind}, event.Done.{TheVariants.{Released, Held}}}
+use Rattle.napi_model.specs.declared.event.Operation.{Operation, TheVariants.{Look, Hand, Take, Complete, BusyTake, BusyStop}}
+use Rattle.napi_model.specs.Step.{no_flags}
 use Rattle.napi_model.specs.declared.state.Kind.TheVariants as kind
+use Rattle.napi_model.specs.declared.event.Call.TheVariants as call
+use Rattle.napi_model.specs.declared.event.Done.TheVariants as done
 
-abbrev pub is_absent : Next → Bool
-is_absent Absent = true
-is_absent Gone = false
-is_absent (Again k) = false
-is_absent Repoll = false
+-- ---- what an operation answers
+
+abbrev pub flags_in : Operation → Flags
+flags_in (Look x) = x.flags
+flags_in _ = no_flags
+
+abbrev pub is_taken : Operation → Bool
+is_taken (Take k taken) = taken
+is_taken BusyTake = true
+is_taken _ = false
+
+abbrev pub is_again : Operation → Bool
+is_again (Complete done.Again) = true
+is_again _ = false
+
+-- to the instance's own thread where THREADED is set, else to the list
+abbrev pub kind_for : Flags → Kind
+kind_for flags = if flags.threaded then kind.Thread else kind.List
 
 -- to whom it was handed after it was granted again, or nobody has it
 abbrev pub next_of : Option Kind → Next
 next_of None = Gone
 next_of (Some k) = Again k
 
--- a thread polls once more what is left to it, unless this was the last poll that it may make
-abbrev pub goes_on : Next → ℕ → Bool
-goes_on next most = is_for_thread next && nat_lt 1 most
+-- what one poll did, and its packets
+pub record Given (P : Type 0) : Type 0 where
+  pub once : Once
+  pub packets : List P
 
-module _ {I P : Type 0} (takes : I → Kind → Bool → I → Type 0) (gives : I → ℕ → P → ℕ → I → Type 0)
-    (looks : I → Bool → I → Type 0) (requeues : I → I → Type 0) (completes : I → Option Kind → I → Type 0) where
-  -- only after a poll that gave its whole weight its poller looks whether the instance is being disabled
-  abbrev pub LooksAfter : Bool → Bool → I → I → Type 0
-  LooksAfter false disabling before after = after ≡ before
-  LooksAfter true disabling before after = looks before disabling after
+module _ {P : Type 0} where
+  -- ---- single calls
 
-  -- How a poll ends, which gave its whole weight or less. With work below the weight the driver completes. With work equal to
-  -- it the core completes an instance that is being disabled; any other is to be polled again, and is in its poller's
-  -- hands still.
-  abbrev pub Ends : Bool → I → Next → I → Type 0
-  Ends full before Absent after = ⊥
-  Ends full before Repoll after = (full ≡ true) × looks before false after
-  Ends full before Gone after = (looked : I) × LooksAfter full true before looked × completes looked None after
-  Ends full before (Again k) after = (looked : I) × LooksAfter full true before looked × completes looked (Some k) after
+  -- the flags that the word tells
+  abbrev pub looks : Plan P Flags
+  looks = asks call.Look (λ o. ends (flags_in o))
+
+  -- takes it from the list, or as the thread to which it was handed
+  abbrev pub takes : Kind → Plan P Bool
+  takes k = asks (call.Take k) (λ o. ends (is_taken o))
+
+  -- whether it is being disabled
+  abbrev pub disabling : Plan P Bool
+  disabling = asks call.Look (λ o. ends (flags_in o).disable)
+
+  -- takes it to busy poll it, if it is idle
+  abbrev pub busy_takes : Plan P Bool
+  busy_takes = asks call.BusyTake (λ o. ends (is_taken o))
+
+  -- an operation that has one answer
+  abbrev pub makes : Operation → Plan P (Unit {0})
+  makes o = acts o (ends tt)
+
+  -- the ring's next packets, at most so many
+  abbrev pub gives : ℕ → Plan P (List P)
+  gives weight = polls weight (λ packets. ends packets)
+
+  -- ---- how a poll ends
+
+  -- Granted again, who polled it hands it over (`____napi_schedule`): to the thread of an instance that has one, where THREADED
+  -- is set, else to the list.
+  abbrev pub handed : Bool → Plan P Kind
+  handed false = do
+    _ ← makes (Hand kind.List)
+    ends kind.List
+  handed true = do
+    flags ← looks
+    _ ← makes (Hand (kind_for flags))
+    ends (kind_for flags)
+
+  abbrev pub completed_by : Bool → Bool → Plan P Next
+  completed_by thread false = ends Gone
+  completed_by thread true = do
+    k ← handed thread
+    ends (Again k)
+
+  -- a completion (`napi_complete_done`)
+  abbrev pub completed : Bool → Plan P Next
+  completed thread = asks call.Complete (λ o. completed_by thread (is_again o))
+
+  -- With work below the weight the driver completes. With work equal to it the core completes an instance that is being
+  -- disabled; any other is to be polled again, and is in its poller's hands still.
+  abbrev pub ended : Bool → Bool → Plan P Next
+  ended thread false = completed thread
+  ended thread true = do
+    off ← disabling
+    if off then completed thread else ends Repoll
 
   -- one poll of an instance that is in its poller's hands (`__napi_poll`)
-  abbrev pub PollsHeld : ℕ → I → P → Once → I → Type 0
-  PollsHeld weight before packets once after =
-      (given : I) × gives before weight packets once.work given × Ends (once.work == weight) given once.next after
+  abbrev pub polled : Bool → ℕ → Plan P (Given P)
+  polled thread weight = do
+    packets ← gives weight
+    next ← ended thread (length packets == weight)
+    ends (record { once = record { work = length packets; next = next }; packets = packets })
 
-  -- one that is to be polled again and isn't by whom it was taken goes to the list
-  abbrev pub LetsGo : Next → I → I → Type 0
-  LetsGo Repoll before after = requeues before after
-  LetsGo Absent before after = after ≡ before
-  LetsGo Gone before after = after ≡ before
-  LetsGo (Again k) before after = after ≡ before
+  -- ---- from the list (`napi_poll`)
 
-  -- it was on the list: taken and polled once
-  pub record Found (weight : ℕ) (before : I) (packets : P) (once : Once) (after : I) : Type 0 where
-    pub taken : I
-    pub polled : I
-    pub was_there : takes before kind.List true taken
-    pub polls : PollsHeld weight taken packets once polled
-    pub lets_go : LetsGo once.next polled after
+  -- one that is to be polled again goes to the list
+  abbrev pub let_go : Next → Plan P (Unit {0})
+  let_go Repoll = makes (Hand kind.List)
+  let_go next = ends tt
 
-  -- a poll from the list (`napi_poll`); one that isn't there gives no packets
-  abbrev pub PollsOnce : ℕ → I → P → Once → P → I → Type 0
-  PollsOnce weight before packets once packets' after =
-      MatchBool (is_absent once.next)
-      ((once.work ≡ 0) × takes before kind.List false after × (packets' ≡ packets))
-      (Found weight before packets' once after)
+  abbrev pub found : Bool → ℕ → Bool → Plan P (Given P)
+  found thread weight false = ends (record { once = record { work = 0; next = Absent }; packets = [] })
+  found thread weight true = do
+    given ← polled thread weight
+    _ ← let_go given.once.next
+    ends given
 
-  -- the thread takes the instance, unless it has it still
-  abbrev pub TakesUnless : Bool → I → I → Type 0
-  TakesUnless true before after = after ≡ before
-  TakesUnless false before after = takes before kind.Thread true after
+  -- it is taken from the list and polled once, if it is there
+  abbrev pub polled_once : Bool → ℕ → Plan P (Given P)
+  polled_once thread weight = do
+    taken ← takes kind.List
+    found thread weight taken
 
-  -- The polls of a thread (`napi_threaded_poll`), at most so many, which has the instance in its hands or takes it first. It
-  -- polls what is left to it, and ends where a take finds nothing.
-  abbrev pub PollsByThread : ℕ → ℕ → Bool → I → P → List Once → P → I → Type 0
-  PollsByThread weight most held before packets [] packets' after =
-      (held ≡ false) × takes before kind.Thread false after × (packets' ≡ packets)
-  PollsByThread weight most held before packets (once ∷ more) packets' after =
-      (taken : I) × (given : P) × (polled : I)
-      × TakesUnless held before taken
-      × PollsHeld weight taken given once polled
-      × MatchBool (goes_on once.next most)
-      (PollsByThread weight (most - 1) (is_repoll once.next) polled given more packets' after)
-      ((more ≡ []) × (packets' ≡ given) × LetsGo once.next polled after)
+  -- ---- by its thread (`napi_threaded_poll`)
 
-  -- whether the thread has the instance once a poll of its is over, which was the last one that it may make, or wasn't
-  abbrev pub Follows : Bool → Next → I → Bool → I → Type 0
-  Follows true next before held after = (held ≡ false) × LetsGo next before after
-  Follows false Repoll before held after = (held ≡ true) × (after ≡ before)
-  Follows false (Again kind.Thread) before held after = takes before kind.Thread held after
-  Follows false (Again kind.List) before held after = (held ≡ false) × (after ≡ before)
-  Follows false Absent before held after = (held ≡ false) × (after ≡ before)
-  Follows false Gone before held after = (held ≡ false) × (after ≡ before)
+  -- What follows a poll, which was the last one that the thread may make, or wasn't: whether the thread has the instance still. One
+  -- that was handed to the thread again it takes again, and one that it may not poll again goes to the list.
+  abbrev pub followed : Bool → Next → Plan P Bool
+  followed true next = do
+    _ ← let_go next
+    ends false
+  followed false Repoll = ends true
+  followed false (Again kind.Thread) = takes kind.Thread
+  followed false next = ends false
+
+-- the polls of a thread, and the packets of the last one
+pub record ThreadPolls (P : Type 0) : Type 0 where
+  pub polls : List Once
+  pub packets : List P
+
+module _ {P : Type 0} (thread : Bool) (weight : ℕ) where
+  -- the thread has the instance or hasn't, made these polls, and may make so many more
+  unfoldable pub polls_on : ℕ → Bool → ThreadPolls P → Plan P (ThreadPolls P)
+  polls_on left false before = ends before
+  polls_on zero true before = ends before
+  polls_on (suc left) true before = do
+    given ← polled thread weight
+    held ← followed (left == 0) given.once.next
+    polls_on left held (record { polls = before.polls ++ given.once ∷ []; packets = given.packets })
+
+  -- the thread takes what was handed to it, and polls it at most so many times
+  abbrev pub polled_by_thread : ℕ → Plan P (ThreadPolls P)
+  polled_by_thread most = do
+    held ← takes kind.Thread
+    polls_on most held (record { polls = []; packets = [] })
+
+-- ---- busily (`napi_busy_loop` and `busy_poll_stop`)
+
+-- nothing was polled
+abbrev pub no_report : BusyReport
+no_report = record { polls = 0; work = 0; held = 0; bytes = 0; next = Absent }
+
+-- one poll more
+abbrev pub and_poll : {P : Type 0} → (List P → ℕ) → BusyReport → List P → BusyReport
+and_poll bytes r packets = record r { polls = r.polls + 1; work = r.work + length packets; bytes = r.bytes + bytes packets }
+
+-- what busy polling told, and the packets of its last poll
+pub record BusyPolls (P : Type 0) : Type 0 where
+  pub report : BusyReport
+  pub packets : List P
+
+module _ {P : Type 0} where
+  -- a round completes where its work is below the weight, which under IN_BUSY_POLL holds the instance
+  abbrev pub round_ends : Bool → BusyReport → Plan P BusyReport
+  round_ends false r = ends r
+  round_ends true r = do
+    _ ← makes (Complete Held)
+    ends (record r { held = r.held + 1 })
+
+  -- the poll behind the stop completes where its work is below the weight, and else hands the instance to the list, whether or
+  -- not it is being disabled (`__busy_poll_stop`)
+  abbrev pub left_by : Bool → Bool → Plan P Next
+  left_by thread true = completed thread
+  left_by thread false = do
+    _ ← makes (Hand kind.List)
+    ends Repoll
+
+module _ {P : Type 0} (bytes : List P → ℕ) (thread : Bool) (weight : ℕ) where
+  abbrev pub round : BusyReport → Plan P BusyReport
+  round r = do
+    packets ← gives weight
+    round_ends (nat_lt (length packets) weight) (and_poll bytes r packets)
+
+  -- the stop, and one poll more
+  abbrev pub stopped : BusyReport → Plan P (BusyPolls P)
+  stopped r = do
+    _ ← makes BusyStop
+    packets ← gives weight
+    next ← left_by thread (nat_lt (length packets) weight)
+    ends (record { report = record (and_poll bytes r packets) { next = next }; packets = packets })
+
+  -- so many rounds are still to be made
+  unfoldable pub rounds_on : ℕ → BusyReport → Plan P (BusyPolls P)
+  rounds_on zero r = stopped r
+  rounds_on (suc left) r = do
+    r' ← round r
+    rounds_on left r'
+
+  abbrev pub busily_from : ℕ → Bool → Plan P (BusyPolls P)
+  busily_from count false = ends (record { report = no_report; packets = [] })
+  busily_from count true = rounds_on count no_report
+
+  -- an instance that is idle is taken, and polled for so many rounds and once more
+  abbrev pub polled_busily : ℕ → Plan P (BusyPolls P)
+  polled_busily count = do
+    taken ← busy_takes
+    busily_from count taken

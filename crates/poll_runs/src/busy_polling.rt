@@ -1,7 +1,8 @@
 //! Busy polling, written once.
 
-ghost use Rattle.std.specs.Prelude.{◌≡◌, ◌≤◌, ◌<◌, ◌+◌, ◌^◌, nat_lt};
-ghost use Rattle.poll_runs.specs.BusyPolling.{Leaves, PollsBusily, Round};
+ghost use Rattle.std.specs.Prelude.{◌≡◌, ◌≤◌, ◌<◌, ◌+◌, ◌^◌, [], List, MatchBool, nat_lt};
+ghost use Rattle.poll_runs.specs.Plan.{Does};
+ghost use Rattle.poll_runs.specs.Polling.{left_by, polled_busily, round};
 
 use crate::bench::{BusyReport, Next};
 use crate::instance::BusyInstance;
@@ -28,26 +29,40 @@ impl BusyReport {
 }
 
 // One round: a poll, which completes where its work is below the weight, and is held.
-fn round<I: BusyInstance>(instance: &mut I, weight: u32, packets: &mut I::Packets) -> u32
+fn round<I: BusyInstance>(
+    instance: &mut I,
+    weight: u32,
+    packets: &mut I::Packets,
+    report: &mut BusyReport,
+)
     requires busy { I.in_busy instance.old }
     requires weight { (1 ≤ weight) × (weight ≤ 64) }
-    ensures round { Round I.busy_takes I.gives I.holds I.stops I.requeues I.completes weight
-        instance.old (record { packets = packets.new; work = result }) instance.new }
+    requires polls { report.old.polls + 1 < 2 ^ 32 }
+    requires work { report.old.work + 64 < 2 ^ 32 }
+    requires bytes { report.old.bytes + 2 ^ 38 < 2 ^ 64 }
+    requires held { report.old.held + 1 < 2 ^ 32 }
+    ensures does { Does I.tries I.did
+        (round I.bytes_in (I.thread instance.old) weight report.old) instance.old report.new
+        instance.new }
     ensures busy { I.in_busy instance.new }
-    ensures bound { result ≤ weight }
+    ensures polls { report.new.polls ≡ report.old.polls + 1 }
+    ensures work { report.new.work ≤ report.old.work + 64 }
+    ensures bytes { report.new.bytes ≤ report.old.bytes + 2 ^ 38 }
+    ensures held { report.new.held ≤ report.old.held + 1 }
 {
     let work = instance.busy_poll(weight, packets);
+    *report = report.with(work, I::bytes_of(packets));
     if work < weight {
         instance.hold();
+        report.held += 1;
     }
-    work
 }
 
 // Ends the poll behind the stop, with work below the weight or equal to it.
 fn leave<I: BusyInstance>(instance: &mut I, below: bool) -> Next
     requires { I.in_hand instance.old }
-    ensures leaves { Leaves I.busy_takes I.gives I.holds I.stops I.requeues I.completes below
-        instance.old result instance.new }
+    ensures does { Does I.tries I.did (left_by (I.thread instance.old) below) instance.old
+        result instance.new }
     ensures rests { I.rests instance.new }
 {
     if !below {
@@ -72,10 +87,14 @@ pub fn poll_busy_of<I: BusyInstance>(
     packets: &mut I::Packets,
 ) -> BusyReport
     requires rests { I.rests instance.old }
+    requires empty { I.has packets.old [] }
     requires rounds { (1 ≤ rounds) × (rounds ≤ 65535) }
     requires weight { (1 ≤ weight) × (weight ≤ 64) }
-    ensures polls { PollsBusily I.busy_takes I.gives I.holds I.stops I.requeues I.completes
-        I.bytes_in weight rounds instance.old packets.old result packets.new instance.new }
+    ensures does { (given : List I.Packet)
+        × Does I.tries I.did
+        (polled_busily I.bytes_in (I.thread instance.old) weight rounds) instance.old
+        (record { report = result; packets = given }) instance.new
+        × I.has packets.new given }
     ensures rests { I.rests instance.new }
 {
     let mut report = BusyReport::NONE;
@@ -83,9 +102,7 @@ pub fn poll_busy_of<I: BusyInstance>(
         return report;
     }
     for _ in 0..rounds {
-        let work = round(instance, weight, packets);
-        report = report.with(work, I::bytes_of(packets));
-        report.held += u32::from(work < weight);
+        round(instance, weight, packets, &mut report);
     }
     instance.stop();
     let work = instance.poll(weight, packets);

@@ -1,37 +1,50 @@
 //! The polling of one instance, written once: from the list, and by its thread.
 
-ghost use Rattle.std.specs.Prelude.{◌≡◌, ◌==◌, ◌≤◌, false, List, MatchBool};
-ghost use Rattle.poll_runs.specs.Polling.{Ends, Follows, PollsByThread, PollsHeld, PollsOnce};
+ghost use Rattle.std.specs.Prelude.{◌≡◌, ◌≢◌, ◌==◌, ◌≤◌, false, true, [], List, MatchBool};
+ghost use Rattle.poll_runs.specs.Plan.{Does};
+ghost use Rattle.poll_runs.specs.Polling.{ended, followed, let_go, next_of, polled, polled_by_thread, polled_once};
 ghost use Rattle.poll_runs.specs.Polls.{is_repoll};
-ghost use Rattle.poll_runs.specs.Thread.{IsThreadPolling};
+ghost use Rattle.poll_runs.specs.Thread.{IsThreadPolling, is_for_thread};
+ghost use Rattle.poll_runs.specs.declared.bench.Next.TheVariants.{Absent, Repoll};
 ghost use Rattle.poll_runs.specs.declared.bench.Once.{Once};
 
 use crate::bench::{Next, Once, ThreadReport};
 use crate::instance::Instance;
 use napi_model::Kind;
 
+// How a poll ended that completed its instance.
+fn next_of(again: Option<Kind>) -> Next
+    ensures { result ≡ next_of again }
+{
+    match again {
+        None => Next::Gone,
+        Some(kind) => Next::Again(kind),
+    }
+}
+
 // Ends a poll that gave its whole weight, or less.
 fn end<I: Instance>(instance: &mut I, full: bool) -> Next
     requires { I.in_hand instance.old }
-    ensures ends { Ends I.takes I.gives I.looks I.requeues I.completes full instance.old result
+    ensures does { Does I.tries I.did (ended (I.thread instance.old) full) instance.old result
         instance.new }
+    ensures there { result ≢ Absent }
     ensures hands { MatchBool (is_repoll result) (I.in_hand instance.new) (I.rests instance.new) }
 {
     if full && !instance.is_disabling() {
         return Next::Repoll;
     }
-    match instance.complete() {
-        None => Next::Gone,
-        Some(kind) => Next::Again(kind),
-    }
+    next_of(instance.complete())
 }
 
 // One poll of an instance that is in its poller's hands (`__napi_poll`).
 fn poll_held<I: Instance>(instance: &mut I, weight: u32, packets: &mut I::Packets) -> Once
     requires hand { I.in_hand instance.old }
     requires weight { (1 ≤ weight) × (weight ≤ 64) }
-    ensures polls { PollsHeld I.takes I.gives I.looks I.requeues I.completes weight instance.old
-        packets.new result instance.new }
+    ensures does { (given : List I.Packet)
+        × Does I.tries I.did (polled (I.thread instance.old) weight) instance.old
+        (record { once = result; packets = given }) instance.new
+        × I.has packets.new given }
+    ensures there { result.next ≢ Absent }
     ensures hands { MatchBool (is_repoll result.next) (I.in_hand instance.new)
         (I.rests instance.new) }
     ensures bound { result.work ≤ weight }
@@ -41,14 +54,28 @@ fn poll_held<I: Instance>(instance: &mut I, weight: u32, packets: &mut I::Packet
     Once { work, next }
 }
 
+// One that is to be polled again, and isn't by whom it was taken, goes to the list.
+fn let_go<I: Instance>(instance: &mut I, next: Next)
+    requires { MatchBool (is_repoll next) (I.in_hand instance.old) (I.rests instance.old) }
+    ensures does { Does I.tries I.did (let_go next) instance.old tt instance.new }
+    ensures rests { I.rests instance.new }
+{
+    if next == Next::Repoll {
+        instance.requeue();
+    }
+}
+
 /// Takes an instance from the list and polls it once, with this weight, in 1..=64 (`napi_poll`). One that isn't there is
 /// [`Next::Absent`]. One that is to be polled again is handed to the list: after [`Next::Repoll`] and [`Next::Again`] of the
 /// list its number is still to be pushed.
 pub fn poll_once_of<I: Instance>(instance: &mut I, weight: u32, packets: &mut I::Packets) -> Once
     requires rests { I.rests instance.old }
+    requires empty { I.has packets.old [] }
     requires weight { (1 ≤ weight) × (weight ≤ 64) }
-    ensures polls { PollsOnce I.takes I.gives I.looks I.requeues I.completes weight instance.old
-        packets.old result packets.new instance.new }
+    ensures does { (given : List I.Packet)
+        × Does I.tries I.did (polled_once (I.thread instance.old) weight) instance.old
+        (record { once = result; packets = given }) instance.new
+        × I.has packets.new given }
     ensures rests { I.rests instance.new }
     ensures bound { result.work ≤ weight }
 {
@@ -59,9 +86,7 @@ pub fn poll_once_of<I: Instance>(instance: &mut I, weight: u32, packets: &mut I:
         };
     }
     let once = poll_held(instance, weight, packets);
-    if once.next == Next::Repoll {
-        instance.requeue();
-    }
+    let_go(instance, once.next);
     once
 }
 
@@ -69,18 +94,18 @@ pub fn poll_once_of<I: Instance>(instance: &mut I, weight: u32, packets: &mut I:
 // poll that it may make. One that it may not poll again goes to the list.
 fn follow<I: Instance>(instance: &mut I, next: Next, is_last: bool) -> bool
     requires { MatchBool (is_repoll next) (I.in_hand instance.old) (I.rests instance.old) }
-    ensures follows { Follows I.takes I.gives I.looks I.requeues I.completes is_last next
-        instance.old result instance.new }
+    ensures does { Does I.tries I.did (followed is_last next) instance.old result instance.new }
+    ensures kept { result ≡ true → (is_for_thread next ≡ true) × (is_last ≡ false) }
+    ensures gone { result ≡ false → is_last ≡ false → next ≢ Repoll }
     ensures hands { MatchBool result (I.in_hand instance.new) (I.rests instance.new) }
 {
+    if is_last {
+        let_go(instance, next);
+        return false;
+    }
     match next {
-        Next::Repoll => {
-            if is_last {
-                instance.requeue();
-            }
-            !is_last
-        }
-        Next::Again(Kind::Thread) => !is_last && instance.take(Kind::Thread),
+        Next::Repoll => true,
+        Next::Again(Kind::Thread) => instance.take(Kind::Thread),
         _ => false,
     }
 }
@@ -96,11 +121,14 @@ pub fn poll_thread_of<I: Instance>(
     packets: &mut I::Packets,
 ) -> ThreadReport
     requires rests { I.rests instance.old }
+    requires empty { I.has packets.old [] }
     requires weight { (1 ≤ weight) × (weight ≤ 64) }
     requires most { (1 ≤ most) × (most ≤ 131072) }
-    ensures polls { (polls : List Once)
-        × PollsByThread I.takes I.gives I.looks I.requeues I.completes weight most false
-        instance.old packets.old polls packets.new instance.new
+    ensures does { (polls : List Once) × (given : List I.Packet)
+        × Does I.tries I.did (polled_by_thread (I.thread instance.old) weight most)
+        instance.old
+        (record { polls = polls; packets = given }) instance.new
+        × I.has packets.new given
         × IsThreadPolling weight most polls result }
     ensures rests { I.rests instance.new }
 {

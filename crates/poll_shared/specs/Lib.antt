@@ -1,3 +1,2 @@
-pub mod SharedPolling
-pub mod SharedBusy
+pub mod Tries
 pub mod Seat

@@ -6,13 +6,13 @@ ghost use Rattle.napi_calls.specs.Dealt.{Delivers};
 ghost use Rattle.napi_calls.specs.Instance.{IsSeatOf};
 ghost use Rattle.napi_calls.specs.Made.{Made};
 ghost use Rattle.napi_calls.specs.Packets.{Quiet, polled};
-ghost use Rattle.poll_runs.specs.Polling.{next_of};
-ghost use Rattle.poll_shared.specs.SharedPolling.{EndsBy, HandsTo, kind_for};
+ghost use Rattle.poll_runs.specs.Polling.{completed, handed, kind_for, next_of};
+ghost use Rattle.poll_shared.specs.Tries.{Makes};
 
 use napi_calls::{Busy, Caller, Completed, Granted, Napi, Polling};
 use napi_model::{Flags, Kind};
 use poll_runs::{BusyInstance, Instance};
-use rx_ring::{Batch, batch_bytes};
+use rx_ring::{Batch, Packet, batch_bytes};
 use std::mem;
 use std::sync::Wait;
 
@@ -48,7 +48,7 @@ fn kind_for(flags: Flags) -> Kind
 pub fn hand_over(napi: &Napi, mut granted: Granted, thread: bool) -> (Caller, Kind)
     requires { IsSeatOf napi.now granted.pass }
     ensures made { (os : List Operation) × Made granted.pass os result.0.pass
-        × HandsTo thread result.1 os }
+        × Makes (handed thread) os result.1 }
     ensures packets { Quiet granted.pass result.0.pass }
 {
     if !thread {
@@ -69,7 +69,7 @@ pub fn complete<R: Wait>(
 ) -> (Caller, Option<Kind>)
     requires { IsSeatOf napi.now polling.pass }
     ensures made { (os : List Operation) × Made polling.pass os result.0.pass
-        × EndsBy thread (next_of result.1) os }
+        × Makes (completed thread) os (next_of result.1) }
     ensures packets { Delivers polling.pass (polled polling.pass polling.ctx) result.0.pass }
 {
     match polling.complete(rt, napi) {
@@ -152,7 +152,10 @@ impl<'a, R: Wait> Seat<'a, R> {
 }
 
 impl<'a, R: Wait> Instance for Seat<'a, R> {
-    ghost use Rattle.poll_shared.specs.Seat.{SeatCompletes, SeatGives, SeatLooks, SeatRequeues, SeatTakes, seat_in_hand, seat_rests};
+    ghost use Rattle.poll_shared.specs.Seat.{SeatDid, seat_in_hand, seat_rests};
+    ghost use Rattle.poll_shared.specs.Tries.{Tries};
+
+    type Packet = Packet;
 
     type Packets = Batch;
 
@@ -160,15 +163,13 @@ impl<'a, R: Wait> Instance for Seat<'a, R> {
 
     ghost in_hand = { seat_in_hand };
 
-    ghost takes = { SeatTakes };
+    ghost thread = { λ s. s.thread };
 
-    ghost gives = { λ s weight packets work t. SeatGives s weight packets.items work t };
+    ghost tries = { Tries };
 
-    ghost looks = { SeatLooks };
+    ghost did = { SeatDid };
 
-    ghost requeues = { SeatRequeues };
-
-    ghost completes = { SeatCompletes };
+    ghost has = { λ batch packets. batch.items ≡ packets };
 
     fn take(&mut self, kind: Kind) -> bool {
         match self.caller().take(self.napi, kind) {
@@ -208,21 +209,21 @@ impl<'a, R: Wait> Instance for Seat<'a, R> {
         self.put(Hold::Rests(caller));
         again
     }
+
+    ghost nothing = { seat_nothing };
+
+    ghost joins = { seat_joins };
+
+    ghost same = { λ before after deeds did. did.thread };
 }
 
 impl<'a, R: Wait> BusyInstance for Seat<'a, R> {
     ghost use Rattle.rx_ring.specs.ReceiveRing.{bytes_of};
-    ghost use Rattle.poll_shared.specs.Seat.{SeatBusyTakes, SeatHolds, SeatStops, seat_in_busy};
+    ghost use Rattle.poll_shared.specs.Seat.{seat_in_busy};
 
     ghost in_busy = { seat_in_busy };
 
-    ghost busy_takes = { SeatBusyTakes };
-
-    ghost holds = { SeatHolds };
-
-    ghost stops = { SeatStops };
-
-    ghost bytes_in = { λ batch. bytes_of batch.items };
+    ghost bytes_in = { bytes_of };
 
     fn busy_take(&mut self) -> bool {
         match self.caller().busy(self.rt, self.napi) {

@@ -1,17 +1,18 @@
 //! The polling of one instance that threads share.
 
-ghost use Rattle.std.specs.Prelude.{◌≡◌, ◌==◌, ◌≤◌, [], false, List, length};
-ghost use Rattle.napi_model.specs.declared.event.Operation.{Operation};
+ghost use Rattle.std.specs.Prelude.{◌≡◌, ◌≤◌, true, [], List, length};
+ghost use Rattle.poll_runs.specs.Plan.{Deed, Follows, given, operations};
+ghost use Rattle.poll_runs.specs.Polling.{polled_busily, polled_by_thread, polled_once};
 ghost use Rattle.poll_runs.specs.Thread.{IsThreadPolling};
 ghost use Rattle.poll_runs.specs.declared.bench.Once.{Once};
 ghost use Rattle.poll_runs.specs.declared.bench.Next.TheVariants.{Absent};
+ghost use Rattle.rx_ring.specs.ReceiveRing.{bytes_of};
 ghost use Rattle.rx_ring.specs.declared.packet.Packet.{Packet};
 ghost use Rattle.napi_calls.specs.Dealt.{Delivers};
 ghost use Rattle.napi_calls.specs.Instance.{IsSeatOf};
 ghost use Rattle.napi_calls.specs.Made.{Made};
 ghost use Rattle.napi_calls.specs.Seats.{SameSeat};
-ghost use Rattle.poll_shared.specs.SharedBusy.{PollsBusilyBy};
-ghost use Rattle.poll_shared.specs.SharedPolling.{GivesEach, PollsOnceBy, ThreadPollsBy};
+ghost use Rattle.poll_shared.specs.Tries.{Tries};
 
 use crate::seat::{Hold, Seat};
 use napi_calls::{Caller, Napi};
@@ -36,8 +37,10 @@ pub fn poll_instance<R: Wait>(
     requires seat { IsSeatOf napi.now caller.pass }
     requires weight { (1 ≤ weight) × (weight ≤ 64) }
     ensures seat { SameSeat caller.pass result.0.pass }
-    ensures made { (os : List Operation) × Made caller.pass os result.0.pass
-        × PollsOnceBy thread (result.1.work == weight) result.1.next os }
+    ensures made { (deeds : List (Deed Packet))
+        × Made caller.pass (operations deeds) result.0.pass
+        × Follows Tries (polled_once thread weight) deeds
+            (record { once = result.1; packets = batch.new.items }) }
     ensures packets { Delivers caller.pass batch.new.items result.0.pass }
     ensures absent { result.1.next ≡ Absent → batch.new.items ≡ [] }
     ensures work { result.1.work ≡ length batch.new.items }
@@ -72,11 +75,11 @@ pub fn poll_instance_by_thread<R: Wait>(
     requires weight { (1 ≤ weight) × (weight ≤ 64) }
     requires most { (1 ≤ most) × (most ≤ 131072) }
     ensures seat { SameSeat caller.pass result.0.pass }
-    ensures polls { (polls : List Once) × (os : List Operation) × (packets : List Packet)
-        × Made caller.pass os result.0.pass
-        × ThreadPollsBy weight most false polls os
-        × Delivers caller.pass packets result.0.pass
-        × GivesEach [] polls packets batch.new.items
+    ensures polls { (polls : List Once) × (deeds : List (Deed Packet))
+        × Made caller.pass (operations deeds) result.0.pass
+        × Follows Tries (polled_by_thread true weight most) deeds
+            (record { polls = polls; packets = batch.new.items })
+        × Delivers caller.pass (given deeds) result.0.pass
         × IsThreadPolling weight most polls result.1 }
 {
     batch.clear();
@@ -109,10 +112,11 @@ pub fn busy_instance<R: Wait>(
     requires rounds { (1 ≤ rounds) × (rounds ≤ 65535) }
     requires weight { (1 ≤ weight) × (weight ≤ 64) }
     ensures seat { SameSeat caller.pass result.0.pass }
-    ensures polls { (os : List Operation) × (packets : List Packet)
-        × Made caller.pass os result.0.pass
-        × Delivers caller.pass packets result.0.pass
-        × PollsBusilyBy weight rounds result.1 packets batch.new.items os }
+    ensures polls { (deeds : List (Deed Packet))
+        × Made caller.pass (operations deeds) result.0.pass
+        × Follows Tries (polled_busily bytes_of true weight rounds) deeds
+            (record { report = result.1; packets = batch.new.items })
+        × Delivers caller.pass (given deeds) result.0.pass }
 {
     batch.clear();
     let mut seat = Seat {

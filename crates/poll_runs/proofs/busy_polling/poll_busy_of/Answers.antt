@@ -1,34 +1,58 @@
-use Rattle.std.{proofs.Common.{◌≡◌, rules, arith}, specs.Prelude.{if◌then◌else◌, nat_lt}}
-use Rattle.poll_runs.{specs.BusyPolling.Given, proofs.BusyFacts.{at_most_one, going-ends, going-more}}
+use Rattle.std.proofs.Common.{arith, ◌≡◌, ◌-◌, ◌+◌, ◌∙◌, suc, nat_lt}
+use Rattle.poll_runs.specs.Polling.{left_by, round}
+use Rattle.poll_runs.proofs.{PlanFacts.does-thread, BusyFacts.{begins, goes-on, stops}}
 use Rattle.poll_runs.proofs.busy_polling.poll_busy_of.Goals as goal
+
+pub loop-init : goal.loop-init
+loop-init g c =
+    let i = g.I.Instance in
+    let m = g.met.I.Instance in
+    let took = rw c.if-not-busy_take.false at c.busy_take.ensures.does in
+    let all : c.args.rounds - 0 ≡ c.args.rounds = omega arith in record {
+      leads =
+          rw all
+          (begins i.tries i.did m.nothing m.joins g.I.BusyInstance.bytes_in (i.thread c.args.instance.now) c.args.weight c.args.rounds
+          c.args.instance.now c.busy_take.new.self took);
+      thread = m.same _ _ _ took.1;
+      busy = rw c.if-not-busy_take.false at c.busy_take.ensures.hands;
+      bounds = (omega arith, omega arith, omega arith, omega arith);
+    }
 
 pub loop-preserved : goal.loop-preserved
 loop-preserved g c =
     let i = g.I.Instance in
-    let b = g.I.BusyInstance in
-    let poll : Given _ = record { packets = c.round-work.new.packets; work = c.round-work.result } in
-    let held : c.from.result ≡ (if nat_lt c.round-work.result c.args.weight then 1 else 0) = search rules in
-    let bounds = c.loop.invariant.bounds in
-    record {
-      going = rw (c.with-report.ensures, c.bytes_of.ensures.sum, held)
-          (going-more b.busy_takes i.gives b.holds b.stops i.requeues i.completes b.bytes_in c.args.weight _ _ _ _ poll _
-          c.loop.invariant.going c.round-work.ensures.round);
-      busy = c.round-work.ensures.busy;
-      bounds = rw c.with-report.ensures (
-        omega (arith, bounds.0),
-        omega (arith, bounds.1, rw (← held) at (at_most_one (nat_lt c.round-work.result c.args.weight))),
-        omega (arith, bounds.2, c.round-work.ensures.bound, c.requires.weight.1),
-        omega (arith, bounds.3, c.bytes_of.ensures.bound),
+    let m = g.met.I.Instance in
+    let was = c.loop.invariant in
+    let e = c.round.ensures in
+    let bytes = g.I.BusyInstance.bytes_in in
+    let less : c.args.rounds - c.loop.counter ≡ suc (c.args.rounds - (c.loop.counter + 1)) = omega (arith, c.loop-test.true) in record {
+      leads =
+          goes-on i.tries i.did m.nothing m.joins bytes (i.thread c.args.instance.now) c.args.weight c.args.rounds
+          c.args.instance.now c.loop.instance c.round.new.instance (c.args.rounds - (c.loop.counter + 1)) c.loop.report c.round.new.report
+          (rw less at was.leads)
+          (does-thread i.tries i.did (λ b. round bytes b c.args.weight c.loop.report) _ _ _ _ _ was.thread e.does);
+      thread = m.same _ _ _ e.does.1 ∙ was.thread;
+      busy = e.busy;
+      bounds = (
+        omega (arith, e.polls, was.bounds.0),
+        omega (arith, e.held, was.bounds.1),
+        omega (arith, e.work, was.bounds.2),
+        omega (arith, e.bytes, was.bounds.3),
       );
     }
 
-pub returns-clause-polls : goal.returns-clause-polls
-returns-clause-polls g c =
+pub returns-clause-does : goal.returns-clause-does
+returns-clause-does g c =
     let i = g.I.Instance in
-    let b = g.I.BusyInstance in
-    let last : Given _ = record { packets = c.poll-work.new.packets; work = c.poll-work.result } in
-    let all : c.loop.counter ≡ c.args.rounds = omega (arith, c.loop-test.false) in
-    rw (← all, c.with-report-2.ensures, c.bytes_of-2.ensures.sum)
-    (going-ends b.busy_takes i.gives b.holds b.stops i.requeues i.completes b.bytes_in c.args.weight c.args.instance.now c.args.packets.now
-    _ _ _ _ _ last _ _ _
-    c.loop.invariant.going (c.if-not-busy_take.ensures.leads) c.stop.ensures.leads c.poll-work.ensures.leads c.leave-report.ensures.leaves)
+    let m = g.met.I.Instance in
+    let was = c.loop.invariant in
+    let p = c.poll-work.ensures.does in
+    let none : c.args.rounds - c.loop.counter ≡ 0 = omega (arith, c.loop-test.false) in
+    let thread = m.same _ _ _ p.1.1 ∙ m.same _ _ _ c.stop.ensures.does.1 ∙ was.thread in
+    let end = does-thread i.tries i.did (λ b. left_by b (nat_lt c.poll-work.result c.args.weight)) _ _ _ _ _ thread c.leave-report.ensures.does in (
+      p.0,
+      rw (c.with-report.ensures, c.bytes_of.ensures.sum p.0 p.2, p.3)
+          (stops i.tries i.did m.nothing m.joins g.I.BusyInstance.bytes_in (i.thread c.args.instance.now) c.args.weight c.args.rounds
+          c.args.instance.now _ _ _ _ c.loop.report p.0 _ (rw none at was.leads) c.stop.ensures.does p.1 (rw p.3 at end)),
+      p.2,
+    )

@@ -1,11 +1,13 @@
-use Rattle.std.proofs.Common.{◌-◌, ◌*◌, ◌≤◌, MatchBool}
+use Rattle.std.proofs.Common.{◌≡◌, ◌-◌, ◌*◌, ◌≤◌, ◌<◌, true, List, MatchBool}
 use Rattle.poll_runs.proofs.PollingFacts.{Going}
 use Rattle.poll_runs.proofs.polling.poll_thread_of.Given as goal
 
 abbrev pub invariant-loop-held : goal.invariant-loop-held
 invariant-loop-held g l = let i = g.I.Instance in record {
-  going : Going i.takes i.gives i.looks i.requeues i.completes l.weight l.most l.fn.instance l.fn.packets l.held l.instance l.packets
-      l.report;
+  going : (given : List _) × i.has l.packets given
+      × Going i.tries i.did (i.thread l.fn.instance) l.weight l.most l.fn.instance l.held l.instance given l.report;
+  thread : i.thread l.instance ≡ i.thread l.fn.instance;
+  room : l.held ≡ true → l.report.polls < l.most;
   bound : l.report.work ≤ 64 * l.report.polls;
   hands : MatchBool l.held (i.in_hand l.instance) (i.rests l.instance);
 }

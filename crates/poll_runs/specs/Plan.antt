@@ -1,0 +1,62 @@
+-- What a poller does at an instance and its ring, by what it is answered.
+use Rattle.std.specs.Prelude.{◌≡◌, ℕ, ◌≤◌, List, [], ◌∷◌, ◌++◌, length, map}
+use Rattle.napi_model.specs.{declared.event.{Call.Call, Operation.{Operation, TheVariants.Look}}, Step.{MayBusyTake, call_of}}
+use Rattle.napi_model.specs.declared.event.Call.TheVariants as call
+
+-- calls and polls, one after the other, until the answer is there
+pub data Plan (P A : Type 0) : Type 0 where
+  ends : A → Plan P A
+  -- a call, and what is done by the operation that it comes to
+  asks : Call → (Operation → Plan P A) → Plan P A
+  -- an operation that has one answer
+  acts : Operation → Plan P A → Plan P A
+  -- a poll of this weight, and what is done by its packets
+  polls : ℕ → (List P → Plan P A) → Plan P A
+
+infixl 10 ◌>>=◌
+abbrev pub ◌>>=◌ : {P A B : Type 0} → Plan P A → (A → Plan P B) → Plan P B
+ends a >>= next = next a
+asks c go >>= next = asks c (λ o. go o >>= next)
+acts o plan >>= next = acts o (plan >>= next)
+polls weight go >>= next = polls weight (λ packets. go packets >>= next)
+
+-- what was done: an operation, or a poll of this weight that gave these packets
+pub data Deed (P : Type 0) : Type 0 where
+  made : Operation → Deed P
+  gave : ℕ → List P → Deed P
+
+-- the operations among these
+abbrev pub operations : {P : Type 0} → List (Deed P) → List Operation
+operations [] = []
+operations (made o ∷ deeds) = o ∷ operations deeds
+operations (gave weight packets ∷ deeds) = operations deeds
+
+-- the packets that these gave, joined
+abbrev pub given : {P : Type 0} → List (Deed P) → List P
+given [] = []
+given (made o ∷ deeds) = given deeds
+given (gave weight packets ∷ deeds) = packets ++ given deeds
+
+-- what a call may come to; to take an instance for busy polling is refused where a look shows that it isn't idle
+abbrev pub Answers : Call → Operation → Type 0
+Answers call.BusyTake (Look x) = ¬ MayBusyTake x.flags
+Answers c o = call_of o ≡ c
+
+-- `tries c o os`: by the operations os, of which o decides, the call c comes to o
+module _ {P : Type 0} (tries : Call → Operation → List Operation → Type 0) where
+  -- by these deeds the plan comes to this answer
+  abbrev pub Follows : {A : Type 0} → Plan P A → List (Deed P) → A → Type 0
+  Follows (ends a) deeds answer = (deeds ≡ []) × (answer ≡ a)
+  Follows (asks c go) deeds answer =
+      (o : Operation) × (os : List Operation) × (rest : List (Deed P))
+      × tries c o os × Follows (go o) rest answer × (deeds ≡ map made os ++ rest)
+  Follows (acts o plan) deeds answer =
+      (os : List Operation) × (rest : List (Deed P))
+      × tries (call_of o) o os × Follows plan rest answer × (deeds ≡ map made os ++ rest)
+  Follows (polls weight go) deeds answer =
+      (packets : List P) × (rest : List (Deed P))
+      × (length packets ≤ weight) × Follows (go packets) rest answer × (deeds ≡ gave weight packets ∷ rest)
+
+  -- who did this followed the plan
+  abbrev pub Does : {I A : Type 0} → (I → List (Deed P) → I → Type 0) → Plan P A → I → A → I → Type 0
+  Does did plan before answer after = (deeds : List (Deed P)) × did before deeds after × Follows plan deeds answer
