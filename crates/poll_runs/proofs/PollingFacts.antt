@@ -7,7 +7,7 @@ use Rattle.poll_runs.specs.{Thread.{Continues, IsThreadPolling, is_for_thread, l
 use Rattle.poll_runs.{specs.declared.bench.{Once.Once, ThreadReport.ThreadReport}, proofs.PlanFacts.{Leads, leads-from, leads-on, leads-to}}
 use Rattle.napi_model.specs.declared.state.Kind.TheVariants as kind
 
-last-snoc : (polls : List Once) (once : Once) → last_next (polls ++ once ∷ []) ≡ once.next
+pub last-snoc : (polls : List Once) (once : Once) → last_next (polls ++ once ∷ []) ≡ once.next
 last-snoc (first ∷ second ∷ more) once = last-snoc (second ∷ more) once
 last-snoc polls once = refl
 
