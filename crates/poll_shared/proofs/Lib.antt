@@ -1,4 +1,2 @@
-pub mod Joined
+pub mod TriesFacts
 pub mod SeatFacts
-pub mod SeatPolling
-pub mod SeatBusy

@@ -1,10 +1,14 @@
 -- A call of a caller's seat at a shared instance.
-use Rattle.std.proofs.Common.{◌≡◌, List, [], ◌++◌, length, drop, Some, ◌∙◌, ap, sym, append-nil, append_assoc}
+use Rattle.std.proofs.Common.{◌≡◌, ◌≢◌, ◌∙◌, ◌≤◌, ℕ, List, [], ◌∷◌, ◌++◌, length, drop, map, Some, refl, sym, append-nil, append_assoc}
 use Rattle.rx_ring.specs.{declared.{packet.Packet.Packet, ends.RxCtx.RxCtx}, Ends.received_list}
-use Rattle.{napi_model.specs.declared.event.Operation.Operation, napi_word.specs.{declared.table.Pass.Pass, View.own_deliveries}}
-use Rattle.{napi_word.specs.View.packets_of, napi_calls.specs.{Made.Made, Packets.{GivesBack, HoldsOn, IsFresh, own_delivered, polled}}}
-use Rattle.{napi_calls.{specs.Seats.number_of, proofs.Dealing.{delivers_back, polled_none}}, poll_shared.specs.declared.seat.Hold.Hold}
-use Rattle.poll_shared.specs.{declared.seat.{Hold.TheVariants.Gone, Seat.Seat}, Seat.{SeatMade, ctx_of, packets_by, pass_of}}
+use Rattle.napi_model.specs.declared.event.Operation.{Operation}
+use Rattle.napi_word.specs.{declared.table.Pass.Pass, View.{own_deliveries, packets_of}}
+use Rattle.napi_calls.specs.{Made.Made, Packets.{GivesBack, HoldsOn, IsFresh, own_delivered, polled}, Seats.number_of, Dealt.Delivers}
+use Rattle.napi_calls.{specs.declared.types.Caller.Caller, proofs.Dealing.{delivers_back, polled_none}}
+use Rattle.poll_runs.specs.{Plan.{Deed, Does, Plan, gave, given, made, operations}, Polling.gives}
+use Rattle.poll_shared.specs.declared.seat.{Hold.{Hold, TheVariants.{Gone, Rests}}, Seat.Seat}
+use Rattle.poll_shared.specs.{Seat.{MadeBy, SeatDid, packets_by, pass_of}, Tries.{Makes, Tries}}
+use Rattle.poll_shared.proofs.TriesFacts.{IsMade, begun, given-none, operations-made}
 
 -- ---- the packets of one who has the context: those delivered, and those polled since
 
@@ -27,39 +31,51 @@ held_packets p q x y h num same =
 pub back_packets : (p q : Pass) (x : RxCtx) → GivesBack p x q → number_of q ≡ number_of p → packets_of (own_delivered q) ≡ Polled p x ++ []
 back_packets p q x g num = delivers_back p q x g num ∙ sym (append-nil (Polled p x))
 
+made-by : (os : List Operation) (p q : Pass) → os ≢ [] → Made p os q → MadeBy os (Some p) (Some q)
+made-by [] p q some m = absurd (some refl)
+made-by (o ∷ os) p q some m = m
+
+made-of : (os : List Operation) (p q : Pass) → os ≢ [] → MadeBy os (Some p) (Some q) → Made p os q
+made-of [] p q some m = absurd (some refl)
+made-of (o ∷ os) p q some m = m
+
 module _ {R : Type 0} where
   -- the seat after its caller went into a call and came out of it
   abbrev pub Back : Seat R → Hold → Seat R → Hold → Seat R → Type 0
   Back s before gone after t = (s.hold ≡ before) × (gone ≡ record s { hold = Gone }) × (t ≡ record gone { hold = after })
 
-  pub back_is : (s : Seat R) (before : Hold) (gone : Seat R) (after : Hold) (t : Seat R) → Back s before gone after t
-      → pass_of t.hold ≡ pass_of after
-  back_is s before gone after t b = ap (λ (u : Seat R). pass_of u.hold) b.2
+  pub seat_did : (s : Seat R) (before : Hold) (gone : Seat R) (after : Hold) (t : Seat R) (deeds : List (Deed Packet))
+      → Back s before gone after t → MadeBy (operations deeds) (pass_of before) (pass_of after)
+      → packets_by after ≡ packets_by before ++ given deeds → SeatDid s deeds t
+  seat_did s before gone after t deeds b m g =
+      rw (b.2, b.1) (record { thread = refl; made = rw b.0 m; gave = rw b.0 g })
 
-  pub back_thread : (s : Seat R) (before : Hold) (gone : Seat R) (after : Hold) (t : Seat R) → Back s before gone after t
-      → t.thread ≡ s.thread
-  back_thread s before gone after t b = ap (λ (u : Seat R). u.thread) b.2 ∙ ap (λ (u : Seat R). u.thread) b.1
+  -- a call that polls nothing
+  pub seat_does : {A : Type 0} (plan : Plan Packet A) (s : Seat R) (before : Hold) (gone : Seat R) (after : Hold) (t : Seat R) (p q : Pass)
+      (os : List Operation) (a : A) → Back s before gone after t → pass_of before ≡ Some p → pass_of after ≡ Some q → IsMade plan
+      → Made p os q → Makes plan os a → packets_by after ≡ packets_by before ++ [] → Does Tries SeatDid plan s a t
+  seat_does plan s before gone after t p q os a b was is first m f none =
+      let some : os ≢ [] = rw operations-made at (begun plan (map made os) a first f) in (
+        map made os,
+        seat_did s before gone after t (map made os) b (rw (operations-made, was, is) (made-by os p q some m)) (rw given-none none),
+        f,
+      )
 
-  pub back_ctx : (s : Seat R) (before : Hold) (gone : Seat R) (after : Hold) (t : Seat R) → Back s before gone after t
-      → ctx_of t.hold ≡ ctx_of after
-  back_ctx s before gone after t b = ap (λ (u : Seat R). ctx_of u.hold) b.2
+  -- a poll, which makes no operation
+  pub seat_gives : (s : Seat R) (before : Hold) (gone : Seat R) (after : Hold) (t : Seat R) (weight : ℕ) (packets : List Packet)
+      → Back s before gone after t → pass_of after ≡ pass_of before → length packets ≤ weight
+      → packets_by after ≡ packets_by before ++ packets → Does Tries SeatDid (gives weight) s packets t
+  seat_gives s before gone after t weight packets b same fits more = (
+    gave weight packets ∷ [],
+    seat_did s before gone after t (gave weight packets ∷ []) b same (rw append-nil more),
+    (packets, [], fits, (refl, refl), refl),
+  )
 
-  pub back_gave : (s : Seat R) (before : Hold) (gone : Seat R) (after : Hold) (t : Seat R) (packets : List Packet)
-      → Back s before gone after t
-      → packets_by after ≡ packets_by before ++ packets → packets_by t.hold ≡ packets_by s.hold ++ packets
-  back_gave s before gone after t packets b more =
-      ap (λ (u : Seat R). packets_by u.hold) b.2 ∙ more ∙ ap (λ (h : Hold). packets_by h ++ packets) (sym b.0)
-
-  -- of a call that polls nothing
-  pub seat_made : (s : Seat R) (before : Hold) (gone : Seat R) (after : Hold) (t : Seat R) (p q : Pass) (os : List Operation)
-      → Back s before gone after t
-      → pass_of before ≡ Some p → pass_of after ≡ Some q → Made p os q → packets_by after ≡ packets_by before ++ [] → SeatMade s os [] t
-  seat_made s before gone after t p q os b was is m none = record {
-    from = p;
-    to = q;
-    was = ap pass_of b.0 ∙ was;
-    is = back_is s before gone after t b ∙ is;
-    thread = back_thread s before gone after t b;
-    made = m;
-    gave = back_gave s before gone after t [] b none;
-  }
+  -- what was done from caller to caller: the operations made, and the packets that are delivered
+  pub rises : {A : Type 0} (plan : Plan Packet A) (s t : Seat R) (b c : Caller) (a : A) → IsMade plan
+      → (d : Does Tries SeatDid plan s a t) → s.hold ≡ Rests b → t.hold ≡ Rests c
+      → Made b.pass (operations d.0) c.pass × Delivers b.pass (given d.0) c.pass
+  rises plan s t b c a first d was is = (
+    made-of (operations d.0) b.pass c.pass (begun plan d.0 a first d.2) (rw (was, is) at d.1.made),
+    rw (was, is) at d.1.gave,
+  )

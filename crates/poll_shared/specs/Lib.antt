@@ -1,2 +1,3 @@
 pub mod Tries
 pub mod Seat
+pub mod SeatLaws

@@ -1,6 +1,6 @@
 -- What the calls of a caller's seat at a shared instance do.
-use Rattle.std.specs.Prelude.{◌≡◌, Bool, List, [], ◌∷◌, ◌++◌, Option, Some, None}
-use Rattle.rx_ring.specs.declared.{ends.RxCtx.RxCtx, packet.Packet.Packet}
+use Rattle.std.specs.Prelude.{◌≡◌, List, [], ◌∷◌, ◌++◌, Option, Some, None}
+use Rattle.rx_ring.specs.declared.{packet.Packet.Packet}
 use Rattle.{napi_model.specs.declared.event.Operation.Operation, napi_word.specs.{declared.table.Pass.Pass, View.packets_of}}
 use Rattle.napi_calls.specs.{declared.types.Napi.Napi, Instance.IsSeatOf, Made.Made, Packets.{own_delivered, polled}}
 use Rattle.{poll_runs.specs.Plan.{Deed, given, operations}, poll_shared.specs.declared.seat.{Hold.Hold, Seat.Seat}}
@@ -11,11 +11,6 @@ pass_of (Rests c) = Some c.pass
 pass_of (Polls w) = Some w.pass
 pass_of (PollsBusily b) = Some b.pass
 pass_of Gone = None
-
-abbrev pub ctx_of : Hold → Option RxCtx
-ctx_of (Polls w) = Some w.ctx
-ctx_of (PollsBusily b) = Some b.ctx
-ctx_of _ = None
 
 -- the packets that its caller polled so far: those that it delivered, and behind them those that it polled since it took the
 -- context

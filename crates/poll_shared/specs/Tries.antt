@@ -1,8 +1,8 @@
 -- How a call comes to its answer at an instance that threads share: try after try, until one decides.
 use Rattle.std.specs.Prelude.{◌≡◌, List, [], ◌∷◌, ◌++◌, flat_map, map}
-use Rattle.napi_model.specs.{Step.MayBusyTake, declared.{state.Seen.Seen, event.{Call.Call, Done.TheVariants.{Released, Again, Held}}}}
+use Rattle.napi_model.specs.{Step.MayBusyTake, declared.{state.Seen.Seen, event.{Call.Call, Done.TheVariants.{Released, Again}}}}
 use Rattle.napi_model.specs.declared.event.Operation.{Operation, TheVariants.{Look, Complete, BusyTake, BusyStop}}
-use Rattle.{napi_calls.specs.Made.{Lost, looks}, poll_runs.specs.Plan.{Answers, Deed, Follows, Plan, made}}
+use Rattle.{napi_calls.specs.Made.{Lost, looks}, poll_runs.specs.Plan.{Answers, Follows, Plan, made}}
 use Rattle.rx_ring.specs.declared.packet.Packet.{Packet}
 use Rattle.napi_model.specs.declared.event.Call.TheVariants as call
 

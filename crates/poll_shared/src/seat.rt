@@ -153,6 +153,7 @@ impl<'a, R: Wait> Seat<'a, R> {
 
 impl<'a, R: Wait> Instance for Seat<'a, R> {
     ghost use Rattle.poll_shared.specs.Seat.{SeatDid, seat_in_hand, seat_rests};
+    ghost use Rattle.poll_shared.specs.SeatLaws.{seat_joins, seat_nothing};
     ghost use Rattle.poll_shared.specs.Tries.{Tries};
 
     type Packet = Packet;

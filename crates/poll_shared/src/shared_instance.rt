@@ -40,7 +40,7 @@ pub fn poll_instance<R: Wait>(
     ensures made { (deeds : List (Deed Packet))
         × Made caller.pass (operations deeds) result.0.pass
         × Follows Tries (polled_once thread weight) deeds
-            (record { once = result.1; packets = batch.new.items }) }
+        (record { once = result.1; packets = batch.new.items }) }
     ensures packets { Delivers caller.pass batch.new.items result.0.pass }
     ensures absent { result.1.next ≡ Absent → batch.new.items ≡ [] }
     ensures work { result.1.work ≡ length batch.new.items }
@@ -78,7 +78,7 @@ pub fn poll_instance_by_thread<R: Wait>(
     ensures polls { (polls : List Once) × (deeds : List (Deed Packet))
         × Made caller.pass (operations deeds) result.0.pass
         × Follows Tries (polled_by_thread true weight most) deeds
-            (record { polls = polls; packets = batch.new.items })
+        (record { polls = polls; packets = batch.new.items })
         × Delivers caller.pass (given deeds) result.0.pass
         × IsThreadPolling weight most polls result.1 }
 {
@@ -115,7 +115,7 @@ pub fn busy_instance<R: Wait>(
     ensures polls { (deeds : List (Deed Packet))
         × Made caller.pass (operations deeds) result.0.pass
         × Follows Tries (polled_busily bytes_of true weight rounds) deeds
-            (record { report = result.1; packets = batch.new.items })
+        (record { report = result.1; packets = batch.new.items })
         × Delivers caller.pass (given deeds) result.0.pass }
 {
     batch.clear();

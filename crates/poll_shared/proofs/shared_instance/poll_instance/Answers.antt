@@ -1,23 +1,28 @@
-use Rattle.{std.proofs.Common.{refl, ap}, poll_shared.{specs.Seat.pass_of, proofs.SeatPolling.{delivers, once_made, rises}}}
+use Rattle.{std.proofs.Common.{refl}, poll_runs.specs.Polling.polled_once}
+use Rattle.poll_shared.proofs.{SeatFacts.rises, TriesFacts.once-tells}
 use Rattle.poll_shared.proofs.shared_instance.poll_instance.Goals as goal
 
 pub returns-clause-made : goal.returns-clause-made
 returns-clause-made g c =
-    let m = once_made (λ b. b.items) _ _ _ _ _ _ c.poll_once_of-once.ensures.polls c.clear.ensures in
-    (m.0, rises _ _ _ _ m.0 _ refl (ap pass_of c.rise.ensures) m.1, m.2)
+    let p = c.poll_once_of-once.ensures.does in
+    let r = rises (polled_once c.args.thread c.args.weight) _ _ c.args.caller c.rise.result _ tt p.1 refl c.rise.ensures in
+    (p.1.0, r.0, rw p.2 p.1.2)
 
 pub returns-clause-seat : goal.returns-clause-seat
 returns-clause-seat g c =
-    let m = once_made (λ b. b.items) _ _ _ _ _ _ c.poll_once_of-once.ensures.polls c.clear.ensures in
-    (rises _ _ _ _ m.0 _ refl (ap pass_of c.rise.ensures) m.1).seat
+    let p = c.poll_once_of-once.ensures.does in
+    (rises (polled_once c.args.thread c.args.weight) _ _ c.args.caller c.rise.result _ tt p.1 refl c.rise.ensures).0.seat
 
 pub returns-clause-packets : goal.returns-clause-packets
 returns-clause-packets g c =
-    let m = once_made (λ b. b.items) _ _ _ _ _ _ c.poll_once_of-once.ensures.polls c.clear.ensures in
-    delivers _ _ c.args.caller c.rise.result m.0 _ refl c.rise.ensures m.1
+    let p = c.poll_once_of-once.ensures.does in
+    let r = rises (polled_once c.args.thread c.args.weight) _ _ c.args.caller c.rise.result _ tt p.1 refl c.rise.ensures in
+    rw (p.2, ← (once-tells c.args.thread c.args.weight p.1.0 _ p.1.2).0) r.1
 
 pub returns-clause-work : goal.returns-clause-work
-returns-clause-work g c = (once_made (λ b. b.items) _ _ _ _ _ _ c.poll_once_of-once.ensures.polls c.clear.ensures).3
+returns-clause-work g c =
+    let p = c.poll_once_of-once.ensures.does in rw p.2 (once-tells c.args.thread c.args.weight p.1.0 _ p.1.2).1
 
 pub returns-clause-absent : goal.returns-clause-absent
-returns-clause-absent g c = (once_made (λ b. b.items) _ _ _ _ _ _ c.poll_once_of-once.ensures.polls c.clear.ensures).4
+returns-clause-absent g c =
+    let p = c.poll_once_of-once.ensures.does in rw p.2 (once-tells c.args.thread c.args.weight p.1.0 _ p.1.2).2

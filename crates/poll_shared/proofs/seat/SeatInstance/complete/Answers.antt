@@ -1,15 +1,15 @@
-use Rattle.std.proofs.Common.{refl, ap, subst, sym, ◌∙◌, append-nil, Bool}
-use Rattle.poll_runs.specs.Polling.{next_of}
-use Rattle.poll_shared.specs.{declared.seat.{Hold.TheVariants.{Rests, Polls}, Seat.Seat}, Seat.packets_by, SharedPolling.EndsBy}
-use Rattle.poll_shared.proofs.SeatFacts.{seat_made}
+use Rattle.std.proofs.Common.{Bool, ap, append-nil, refl, subst, sym, ◌∙◌}
+use Rattle.poll_runs.specs.Polling.{completed, next_of}
+use Rattle.poll_shared.specs.{declared.seat.{Hold.TheVariants.{Rests, Polls}, Seat.Seat}, Seat.packets_by, Tries.Makes}
+use Rattle.poll_shared.proofs.SeatFacts.{seat_does}
 use Rattle.poll_shared.proofs.seat.SeatInstance.complete.Goals as goal
 
-pub returns-clause-leads : goal.returns-clause-leads
-returns-clause-leads g c =
+pub returns-clause-does : goal.returns-clause-does
+returns-clause-does g c =
     let e = c.polling-polling.ensures in
-    let m = c.complete-caller.ensures.made in (
-      m.0,
-      seat_made _ (Polls c.polling-polling.result) _ (Rests c.complete-caller.result.0) _ _ _ _ (e.was, e.gone, c.put.ensures) refl refl m.1
-          (c.complete-caller.ensures.packets ∙ sym (append-nil (packets_by (Polls c.polling-polling.result)))),
-      subst (λ (b : Bool). EndsBy b (next_of c.complete-caller.result.1) m.0) (ap (λ (s : Seat _). s.thread) e.gone) m.2,
-    )
+    let m = c.complete-caller.ensures.made in
+    let next = next_of c.complete-caller.result.1 in
+    let same = ap (λ (s : Seat _). s.thread) e.gone in
+    seat_does (completed c.args.self.now.thread) _ (Polls c.polling-polling.result) _ (Rests c.complete-caller.result.0) _ _ _ m.0 next
+    (e.was, e.gone, c.put.ensures) refl refl tt m.1 (subst (λ (b : Bool). Makes (completed b) m.0 next) same m.2)
+    (c.complete-caller.ensures.packets ∙ sym (append-nil (packets_by (Polls c.polling-polling.result))))
