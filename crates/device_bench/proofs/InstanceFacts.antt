@@ -9,7 +9,8 @@ use Rattle.napi_model.specs.Step.{Polls, after, call_of, complete_reply, event, 
 use Rattle.poll_runs.specs.Plan.{Answers, Deed, Does, Follows, Plan, gave, made, ◌>>=◌, ends, asks, acts, polls}
 use Rattle.poll_runs.specs.Polling.{busy_takes, completed, flags_in, gives, is_taken, makes, next_of}
 use Rattle.device_bench.specs.Device.{acted, carried_out, polled, told_after, with_napi}
-use Rattle.device_bench.specs.{DeviceView.DeviceView, Instance.{AtOnce, Did, IsAnswer, IsPolled}, Receive.{answered, busy_taken, bytes_of, done_by, given_of}}
+use Rattle.device_bench.specs.{DeviceView.DeviceView, Instance.{AtOnce, Did, IsAnswer, IsPolled}}
+use Rattle.device_bench.specs.Receive.{answered, busy_taken, bytes_of, done_by, given_of}
 use Rattle.device_bench.specs.Receive.{handed_again, is_idle, kind_for, poller_in, taker_of}
 use Rattle.napi_model.specs.declared.event.Call.TheVariants as call
 

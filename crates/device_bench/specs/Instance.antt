@@ -2,7 +2,8 @@
 use Rattle.std.specs.Prelude.{◌≡◌, ℕ, true, false, List, [], ◌∷◌, take}
 use Rattle.napi_model.specs.{Step.{Polls, answer_of, call_of}, declared.{event.{Call.Call, Operation.Operation}, state.State.State}}
 use Rattle.{napi_model.specs.declared.event.Operation.TheVariants.BusyTake, poll_runs.specs.Plan.{Answers, Deed, gave, made}}
-use Rattle.device_bench.specs.{Device.{acted, polled}, DeviceView.DeviceView, Receive.{is_idle, poller_in}, declared.device.TheConstants.POLLER}
+use Rattle.device_bench.specs.{Device.{acted, polled}, DeviceView.DeviceView, Receive.{is_idle, poller_in}}
+use Rattle.device_bench.specs.declared.device.TheConstants.{POLLER}
 
 abbrev pub IsPolled : DeviceView → Type 0
 IsPolled d = Polls (poller_in d.side.napi.place) false d.side.napi

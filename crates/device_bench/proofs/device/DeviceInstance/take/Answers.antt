@@ -8,7 +8,10 @@ pub returns-clause-does : goal.returns-clause-does
 returns-clause-does g c =
     let e = c.take.ensures in
     rw (← c.self.view_is)
-    (does-call (call.Take c.args.kind) (Take c.args.kind c.take.result) is_taken _ _ refl (ap (Take c.args.kind) e.reply) (rw e.side refl))
+    (does-call (call.Take c.args.kind) (Take c.args.kind c.take.result) is_taken _ _ refl (ap (Take c.args.kind) e.reply)
+    (rw e.side refl))
 
 pub returns-clause-hands : goal.returns-clause-hands
-returns-clause-hands g c = let e = c.take.ensures in rw e.side (took-hands c.take.result c.args.kind (g.S.ReceiveSide.side c.self.inside.side).napi e.idle)
+returns-clause-hands g c =
+    let e = c.take.ensures in
+    rw e.side (took-hands c.take.result c.args.kind (g.S.ReceiveSide.side c.self.inside.side).napi e.idle)
