@@ -1,18 +1,21 @@
 -- What rows and polls keep of a device: that it is sound, whether a disable is pending, and whether it waits on the list.
-use Rattle.std.proofs.Common.{◌≡◌, ◌∙◌, ℕ, zero, suc, ◌+◌, ◌≤◌, Bool, true, false, Option, Some, None, List, [], ◌∷◌, length, refl, arith}
-use Rattle.std.specs.Prelude.{◌||◌, is_some, not, if◌then◌else◌}
-use Rattle.napi_model.specs.Step.{is_handed}
-use Rattle.napi_model.specs.declared.{event.{Prep.TheVariants.{Granted, Missed, Disabled}, Done.Done}, state.{Kind.Kind, Place.Place}}
-use Rattle.poll_runs.specs.{Polling.{goes_on, next_of}, Polls.is_arrival, Thread.{is_for_thread, last_next}, declared.bench.Next.Next}
-use Rattle.poll_runs.{specs.declared.bench.{Next.TheVariants.{Again, Repoll}, Once.Once}, proofs.PollingFacts.{goes-room, goes-thread}}
-use Rattle.device_bench.specs.{Waiting.{count, is_left_to_list, is_listed, leaves, waits}, Device.{after_disable, after_enable}}
-use Rattle.device_bench.specs.Device.{after_packet, after_poll, after_reply, after_request, after_take, after_threaded, asks_again}
-use Rattle.device_bench.specs.Device.{completed, completed_told, disabled_from, enabled_from, ended, ended_by, is_pending, let_go, made}
-use Rattle.device_bench.specs.Device.{polled, polled_by_thread, polled_once, retaken, settled, state_of, followed, taken, thread_polls}
-use Rattle.device_bench.specs.{Device.with_napi, DeviceView.DeviceView, Kept.{is_held, is_sound}, declared.counts.DeviceState.DeviceState}
-use Rattle.device_bench.specs.{declared.device.TheConstants.{INTERRUPT, POLLER, THREAD}, Receive.{done_by, given_of, handed_again}}
-use Rattle.{device_bench.specs.Receive.{has_place, is_control, put_if, tried_by}, device_transmit.specs.Counter.raised}
+use Rattle.std.proofs.Common.{◌≡◌, ◌∙◌, ℕ, zero, suc, ◌+◌, ◌≤◌, Bool, true, false, Option, Some, None, [], ◌∷◌, ◌++◌, MatchBool}
+use Rattle.std.proofs.Common.{ap, arith, length, refl, sum, sym, take}
+use Rattle.std.specs.Prelude.{◌==◌, ◌||◌, nat_lt, not, if◌then◌else◌}
+use Rattle.napi_model.specs.Step.{is_handed, seen_of}
+use Rattle.napi_model.specs.declared.event.{Prep.TheVariants.{Granted, Missed, Disabled}, Done.Done}
+use Rattle.napi_model.specs.declared.state.{Kind.Kind, Place.Place, State.State}
+use Rattle.poll_runs.specs.{Plan.{ends, ◌>>=◌}, Polls.{is_arrival, is_repoll}, Thread.{is_for_thread, last_next}}
+use Rattle.poll_runs.specs.declared.bench.{BusyReport.BusyReport, Next.{Next, TheVariants.{Again, Repoll}}}
+use Rattle.{poll_runs.proofs.PollingFacts.last-snoc, device_bench.proofs.InstanceFacts.carried-then}
+use Rattle.device_bench.specs.{Waiting.{count, is_left_to_list, is_listed, leaves, waits}, Device.{acted, after_disable, after_enable}}
+use Rattle.device_bench.specs.Device.{after_packet, after_reply, after_request, after_threaded, carried_out, disabled_from, enabled_from}
+use Rattle.device_bench.specs.Device.{is_pending, made, polled, polled_busily, polled_by_thread, polled_once, settled, state_of, with_napi}
+use Rattle.device_bench.specs.{DeviceView.DeviceView, Kept.{is_held, is_sound}, declared.counts.DeviceState.DeviceState}
+use Rattle.device_bench.specs.{declared.device.TheConstants.INTERRUPT, Receive.{has_place, is_control, put_if, tried_by}}
+use Rattle.device_transmit.specs.Counter.{raised}
 use Rattle.napi_model.specs.declared.event.Operation.TheVariants as operation
+use Rattle.poll_runs.specs.Polling as rule
 
 -- an instance that isn't scheduled is on no list
 pub unheld : (p : Place) (sched : Bool) → (not (is_held p) || sched) ≡ true → sched ≡ false → is_handed Kind.List p ≡ false
@@ -99,12 +102,6 @@ sound-of : (p : Place) (sched : Bool) → sched ≡ true → (not (is_held p) ||
 sound-of Place.Nobody sched e = refl
 sound-of p sched e = e
 
-handed-on : (threaded : Bool) (poller : ℕ) (d g : DeviceView) → g.side.napi.flags.sched ≡ true → is_pending g ≡ is_pending d
-    → Leaves d (made poller (operation.Hand (if threaded then Kind.Thread else Kind.List)) g)
-    (Again (if threaded then Kind.Thread else Kind.List))
-handed-on true poller d g sched pending = record { sound = sched; pending = pending; listed = refl; sched = λ e. sched }
-handed-on false poller d g sched pending = record { sound = sched; pending = pending; listed = refl; sched = λ e. sched }
-
 kept-in-hand : (d : DeviceView) → IsInHand d → Leaves d d Repoll
 kept-in-hand d hand =
     record {
@@ -114,14 +111,21 @@ kept-in-hand d hand =
       sched = λ e. hand.sched;
     }
 
-pub completed-leaves : (poller : ℕ) (d : DeviceView) → IsInHand d → Leaves d (completed poller d).1 (completed poller d).0
-unfolding completed
-completed-leaves poller d hand = by d.side.napi.flags.in_busy_poll d.side.napi.flags.missed
+-- granted again, it is handed over
+handed-on : (threaded : Bool) (d : DeviceView) → d.side.napi.flags.sched ≡ true
+    → let k = if threaded then Kind.Thread else Kind.List in
+    Leaves d (acted (operation.Hand k) (acted (operation.Complete Done.Again) d)) (Again k)
+handed-on true d sched = record { sound = sched; pending = refl; listed = refl; sched = λ e. sched }
+handed-on false d sched = record { sound = sched; pending = refl; listed = refl; sched = λ e. sched }
+
+completed-leaves : (d : DeviceView) → IsInHand d → let done = carried_out (rule.completed true) d in Leaves d done.1 done.0
+unfolding carried_out
+completed-leaves d hand = by d.side.napi.flags.in_busy_poll d.side.napi.flags.missed
   where
     After : Done → Type 0
-    After done =
-        let again = handed_again done d.side.napi in
-        Leaves d (record (with_napi (done_by poller done d.side.napi) d) { told = completed_told (is_some again) d.told }) (next_of again)
+    After r =
+        let o = operation.Complete r in
+        let done = carried_out (rule.completed_by true (rule.is_again o)) (acted o d) in Leaves d done.1 done.0
 
     by : (busy missed : Bool) → After (if busy then Done.Held else (if missed then Done.Again else Done.Released))
     by true missed =
@@ -131,140 +135,231 @@ completed-leaves poller d hand = by d.side.napi.flags.in_busy_poll d.side.napi.f
           listed = rw hand.off refl;
           sched = λ e. cc e;
         }
-    by false true =
-        handed-on d.side.napi.flags.threaded poller d (record (made poller (operation.Complete Done.Again) d) {
-          told = record d.told { again = raised d.told.again 1 };
-        }) hand.sched refl
+    by false true = handed-on d.side.napi.flags.threaded d hand.sched
     by false false = record { sound = refl; pending = refl; listed = refl; sched = λ e. cc e }
 
-ended-leaves : (poller work weight : ℕ) (d : DeviceView) → IsInHand d
-    → Leaves d (ended poller work weight d).1 (ended poller work weight d).0
-unfolding ended
-ended-leaves poller work weight d hand = by (asks_again work weight d)
+completed-next : (d : DeviceView) → is_repoll (carried_out (rule.completed true) d).0 ≡ false
+unfolding carried_out
+completed-next d = by d.side.napi.flags.in_busy_poll d.side.napi.flags.missed
   where
-    by : (again : Bool) → Leaves d (ended_by again poller d).1 (ended_by again poller d).0
-    by true = kept-in-hand d hand
-    by false = completed-leaves poller d hand
+    by : (busy missed : Bool) → let o = operation.Complete (if busy then Done.Held else (if missed then Done.Again else Done.Released)) in
+        is_repoll (carried_out (rule.completed_by true (rule.is_again o)) (acted o d)).0 ≡ false
+    by true missed = refl
+    by false true = refl
+    by false false = refl
 
-poll-leaves : (poller weight : ℕ) (d : DeviceView) → IsInHand d → let poll = after_poll poller weight d in Leaves d poll.1 poll.0.next
-unfolding polled
-poll-leaves poller weight d hand =
-    let left = ended-leaves poller (given_of weight d.side) weight (polled weight d) (record { sched = hand.sched; off = hand.off }) in
-    record { sound = left.sound; pending = left.pending; listed = left.listed; sched = left.sched }
+ended-leaves : (full : Bool) (d : DeviceView) → IsInHand d → let done = carried_out (rule.ended true full) d in Leaves d done.1 done.0
+unfolding carried_out
+ended-leaves false d hand = completed-leaves d hand
+ended-leaves true d hand = by d.side.napi.flags.disable
+  where
+    by : (off : Bool)
+        → let done = carried_out (if off then rule.completed true else ends Repoll) d in Leaves d done.1 done.0
+    by true = completed-leaves d hand
+    by false = kept-in-hand d hand
 
--- what is left where the poller lets the instance go
-abbrev Lets : DeviceView → DeviceView → Next → Type 0
-Lets d e next = Stays d e (waits (Some e) + leaves next ≡ 1)
+poll-leaves : (weight : ℕ) (d : DeviceView) → IsInHand d → let done = carried_out (rule.polled true weight) d in
+    Leaves d done.1 done.0.once.next
+unfolding carried_out polled
+poll-leaves weight d hand =
+    let packets = take weight d.side.packets in
+    let full = length packets == weight in
+    let left = ended-leaves full (polled weight d) (record { sched = hand.sched; off = hand.off }) in
+    rw (carried-then {B = rule.Given ℕ} (rule.ended true full)
+    (λ next. ends (record { once = record { work = length packets; next = next }; packets = packets })) (polled weight d))
+    (record { sound = left.sound; pending = left.pending; listed = left.listed; sched = left.sched })
 
-lets-go : (poller : ℕ) (d e : DeviceView) (next : Next) → Leaves d e next → Lets d (let_go poller next e) next
-lets-go poller d e Repoll left = record { sound = left.sched refl; pending = left.pending; listed = refl }
-lets-go poller d e (Again Kind.List) left = record { sound = left.sound; pending = left.pending; listed = rw left.listed refl }
-lets-go poller d e next left = record { sound = left.sound; pending = left.pending; listed = rw left.listed refl }
+-- what is left where the poller lets the instance go, where its last poll ended so
+abbrev pub LeavesPolled : DeviceView → DeviceView → Next → Type 0
+LeavesPolled d e next = Stays d e (waits (Some e) ≡ count (is_left_to_list next))
+
+lets : (d e : DeviceView) (next : Next) → Leaves d e next → LeavesPolled d (carried_out (rule.let_go next) e).1 next
+unfolding carried_out
+lets d e Repoll left = record { sound = left.sched refl; pending = left.pending; listed = refl }
+lets d e (Again Kind.List) left = record { sound = left.sound; pending = left.pending; listed = left.listed }
+lets d e next left = record { sound = left.sound; pending = left.pending; listed = left.listed }
 
 -- what a poll from the list keeps
 abbrev pub KeepsPolled : DeviceView → DeviceView → Next → Type 0
 KeepsPolled d e next = Stays d e (waits (Some d) ≤ waits (Some e) + leaves next)
 
+one-of : (left : Bool) → count left + (if left then 0 else 1) ≡ 1
+one-of true = refl
+one-of false = refl
+
 pub once-keeps : (weight : ℕ) (d : DeviceView) → is_sound d ≡ true → KeepsPolled d (polled_once weight d).1 (polled_once weight d).0.next
-unfolding polled_once
+unfolding polled_once carried_out
 once-keeps weight d sound = by (is_handed Kind.List d.side.napi.place) refl
   where
-    by : (b : Bool) → is_handed Kind.List d.side.napi.place ≡ b → KeepsPolled d (after_take b weight d).1 (after_take b weight d).0.next
+    By : Bool → Type 0
+    By b =
+        let done = carried_out (rule.found true weight b) (acted (operation.Take Kind.List b) d) in
+        KeepsPolled d done.1 done.0.once.next
+
+    by : (b : Bool) → is_handed Kind.List d.side.napi.place ≡ b → By b
     by false e = record { sound = sound; pending = refl; listed = omega arith }
     by true e =
-        let poll = after_poll POLLER weight (taken POLLER Kind.List d) in
-        let left =
-        poll-leaves POLLER weight (taken POLLER Kind.List d)
-        (record { sched = scheduled Kind.List d.side.napi.place d.side.napi.flags.sched sound e; off = refl }) in
-        let gone = lets-go POLLER (taken POLLER Kind.List d) poll.1 poll.0.next left in
-        record { sound = gone.sound; pending = gone.pending; listed = rw e (omega (arith, gone.listed)) }
+        let t = acted (operation.Take Kind.List true) d in
+        let hand : IsInHand t =
+        record { sched = scheduled Kind.List d.side.napi.place d.side.napi.flags.sched sound e; off = refl } in
+        let poll = carried_out (rule.polled true weight) t in
+        let next = poll.0.once.next in
+        let gone = lets t poll.1 next (poll-leaves weight t hand) in
+        rw (
+          carried-then (rule.polled true weight) (λ (g : rule.Given ℕ). rule.let_go g.once.next >>= λ _. ends g) t,
+          carried-then (rule.let_go next) (λ _. ends poll.0) poll.1,
+        )
+        (record {
+          sound = gone.sound;
+          pending = gone.pending;
+          listed = rw e (omega (arith, gone.listed, one-of (is_left_to_list next)));
+        })
 
 -- ---- the thread's polling
-
--- what polls leave of an instance in their poller's hands, where the last one ended so
-abbrev pub LeavesPolled : DeviceView → DeviceView → Next → Type 0
-LeavesPolled d e next = Stays d e (waits (Some e) ≡ count (is_left_to_list next))
-
-lets : (d e : DeviceView) (next : Next) → Leaves d e next → LeavesPolled d (let_go THREAD next e) next
-lets d e Repoll left = record { sound = left.sched refl; pending = left.pending; listed = refl }
-lets d e (Again Kind.List) left = record { sound = left.sound; pending = left.pending; listed = left.listed }
-lets d e next left = record { sound = left.sound; pending = left.pending; listed = left.listed }
 
 zero-off : (b : Bool) → if◌then◌else◌ {A = ℕ} b 1 0 ≡ 0 → b ≡ false
 zero-off true e = absurd (omega (arith, e))
 zero-off false e = refl
 
-retakes : (d e : DeviceView) (next : Next) → Leaves d e next → is_for_thread next ≡ true
-    → IsInHand (retaken next e) × (is_pending (retaken next e) ≡ is_pending d)
-retakes d e Repoll left goes =
-    (record { sched = left.sched refl; off = zero-off (is_handed Kind.List e.side.napi.place) left.listed }, left.pending)
-retakes d e (Again k) left goes = (record { sched = left.sched goes; off = refl }, left.pending)
-retakes d e next left goes = cc goes
+-- the thread has the instance in its hands, or let it go where its last poll ended so
+pub record StandsAt (d e : DeviceView) (held : Bool) (next : Next) : Type 0 where
+  pub pending : is_pending e ≡ is_pending d
+  pub here : MatchBool held (IsInHand e) ((is_sound e ≡ true) × (waits (Some e) ≡ count (is_left_to_list next)))
 
-last-of : (once : Once) (more : List Once) → 1 ≤ length more → last_next (once ∷ more) ≡ last_next more
-last-of once [] some = absurd (omega arith)
-last-of once (second ∷ more) some = refl
-
-some-polls : (most weight : ℕ) (d : DeviceView) → 1 ≤ most → 1 ≤ length (thread_polls most weight d).0
-unfolding thread_polls
-some-polls zero weight d room = absurd (omega arith)
-some-polls (suc most) weight d room = by (goes_on (after_poll THREAD weight d).0.next (suc most))
+follows-at : (last : Bool) (d e : DeviceView) (next : Next) → Leaves d e next → let done = carried_out (rule.followed last next) e in
+    StandsAt d done.1 done.0 next × (done.0 ≡ true → last ≡ false)
+unfolding carried_out
+follows-at true d e next left = let gone = lets d e next left in
+    rw (carried-then (rule.let_go next) (λ _. ends false) e)
+    (record { pending = gone.pending; here = (gone.sound, gone.listed) }, λ h. cc h)
+follows-at false d e Repoll left =
+    let hand : IsInHand e = record { sched = left.sched refl; off = zero-off (is_handed Kind.List e.side.napi.place) left.listed } in
+    (record { pending = left.pending; here = hand }, λ h. refl)
+follows-at false d e (Again Kind.Thread) left = (by (is_handed Kind.Thread e.side.napi.place), λ h. refl)
   where
-    poll : Once
-    poll = (after_poll THREAD weight d).0
+    by : (b : Bool) → StandsAt d (acted (operation.Take Kind.Thread b) e) b (Again Kind.Thread)
+    by true = record { pending = left.pending; here = record { sched = left.sched refl; off = refl } }
+    by false = record { pending = left.pending; here = (left.sound, left.listed) }
+follows-at false d e next left = (record { pending = left.pending; here = (left.sound, left.listed) }, λ h. cc h)
 
-    after : DeviceView
-    after = followed poll.next (suc most) (after_poll THREAD weight d).1
-
-    by : (b : Bool)
-        → 1 ≤ length
-        (if◌then◌else◌ {A = List Once × DeviceView} b (poll ∷ (thread_polls most weight after).0, (thread_polls most weight after).1)
-        (poll ∷ [], after)).0
-    by true = omega arith
-    by false = omega arith
-
-thread-leaves : (most weight : ℕ) (d : DeviceView) → IsInHand d → let after = thread_polls most weight d in
-    LeavesPolled d after.1 (last_next after.0)
-unfolding thread_polls
-thread-leaves zero weight d hand =
-    record { sound = sound-of d.side.napi.place d.side.napi.flags.sched hand.sched; pending = refl; listed = rw hand.off refl }
-thread-leaves (suc most) weight d hand = by (goes_on poll.0.next (suc most)) refl (thread-leaves most weight (retaken poll.0.next poll.1))
+polls-at : (left weight : ℕ) (held : Bool) (before : rule.ThreadPolls ℕ) (d e : DeviceView) → (held ≡ true → 1 ≤ left)
+    → StandsAt d e held (last_next before.polls)
+    → let done = carried_out (rule.polls_on true weight left held before) e in StandsAt d done.1 false (last_next done.0.polls)
+unfolding rule.polls_on carried_out
+polls-at left weight false before d e room at = at
+polls-at zero weight true before d e room at = absurd (omega (arith, room refl))
+polls-at (suc left) weight true before d e room at =
+    let poll = carried_out (rule.polled true weight) e in
+    let once = poll.0.once in
+    let all : rule.ThreadPolls ℕ = record { polls = before.polls ++ once ∷ []; packets = poll.0.packets } in
+    let follow = carried_out (rule.followed (left == 0) once.next) poll.1 in
+    let stands = follows-at (left == 0) e poll.1 once.next (poll-leaves weight e at.here) in
+    let here : StandsAt d follow.1 follow.0 (last_next all.polls) =
+    rw (last-snoc before.polls once) (record { pending = stands.0.pending ∙ at.pending; here = stands.0.here }) in
+    rw (
+      carried-then (rule.polled true weight) (λ (g : rule.Given ℕ). rule.followed (left == 0) g.once.next >>=
+          λ held. rule.polls_on true weight left held (record { polls = before.polls ++ g.once ∷ []; packets = g.packets })) e,
+      carried-then (rule.followed (left == 0) once.next) (λ held. rule.polls_on true weight left held all) poll.1,
+    )
+    (polls-at left weight follow.0 all d follow.1 (λ h. some left (stands.1 h)) here)
   where
-    poll : Once × DeviceView
-    poll = after_poll THREAD weight d
+    some : (n : ℕ) → (n == 0) ≡ false → 1 ≤ n
+    some zero e = cc e
+    some (suc n) e = omega arith
 
-    left : Leaves d poll.1 poll.0.next
-    left = poll-leaves THREAD weight d hand
-
-    more : List Once × DeviceView
-    more = thread_polls most weight (retaken poll.0.next poll.1)
-
-    by : (b : Bool) → goes_on poll.0.next (suc most) ≡ b
-        → (IsInHand (retaken poll.0.next poll.1) → LeavesPolled (retaken poll.0.next poll.1) more.1 (last_next more.0))
-        → LeavesPolled d (thread_polls (suc most) weight d).1 (last_next (thread_polls (suc most) weight d).0)
-    by true h next =
-        let hands = retakes d poll.1 poll.0.next left (goes-thread poll.0.next (suc most) h) in
-        let after = next hands.0 in
-        let room : 1 ≤ most = omega (arith, goes-room poll.0.next (suc most) h) in
-        rw (h, last-of poll.0 more.0 (some-polls most weight (retaken poll.0.next poll.1) room))
-        (record { sound = after.sound; pending = after.pending ∙ hands.1; listed = after.listed })
-    by false h next = let after = lets d poll.1 poll.0.next left in
-        rw h (record { sound = after.sound; pending = after.pending; listed = after.listed })
-
-pub thread-keeps : (most weight : ℕ) (d : DeviceView) → is_sound d ≡ true
+pub thread-keeps : (most weight : ℕ) (d : DeviceView) → 1 ≤ most → is_sound d ≡ true
     → let after = polled_by_thread most weight d in Keeps d after.1 (count (is_left_to_list (last_next after.0)))
-unfolding polled_by_thread
-thread-keeps most weight d sound = by (is_handed Kind.Thread d.side.napi.place) refl
+unfolding polled_by_thread carried_out rule.polls_on
+thread-keeps most weight d room sound = by (is_handed Kind.Thread d.side.napi.place) refl
   where
+    none : rule.ThreadPolls ℕ
+    none = record { polls = []; packets = [] }
+
     by : (b : Bool) → is_handed Kind.Thread d.side.napi.place ≡ b
-        → let after = if◌then◌else◌ {A = List Once × DeviceView} b (thread_polls most weight (taken THREAD Kind.Thread d)) ([], d) in
-        Keeps d after.1 (count (is_left_to_list (last_next after.0)))
+        → let done = carried_out (rule.polls_on true weight most b none) (acted (operation.Take Kind.Thread b) d) in
+        Keeps d done.1 (count (is_left_to_list (last_next done.0.polls)))
     by true e =
-        let left =
-        thread-leaves most weight (taken THREAD Kind.Thread d)
-        (record { sched = scheduled Kind.Thread d.side.napi.place d.side.napi.flags.sched sound e; off = refl }) in
-        record { sound = left.sound; pending = left.pending; listed = rw (not-listed d.side.napi.place e) (omega (arith, left.listed)) }
+        let t = acted (operation.Take Kind.Thread true) d in
+        let hand : IsInHand t =
+        record { sched = scheduled Kind.Thread d.side.napi.place d.side.napi.flags.sched sound e; off = refl } in
+        let at = polls-at most weight true none d t (λ h. room)
+        (record { pending = refl; here = hand }) in
+        record {
+          sound = at.here.0;
+          pending = at.pending;
+          listed = rw (not-listed d.side.napi.place e) (omega (arith, at.here.1));
+        }
     by false e = record { sound = sound; pending = refl; listed = omega arith }
+
+-- ---- busy polling
+
+module _ (weight : ℕ) where
+  left-leaves : (below : Bool) (d : DeviceView) → IsInHand d → let done = carried_out (rule.left_by true below) d in
+      LeavesPolled d done.1 done.0
+  unfolding carried_out
+  left-leaves false d hand = record { sound = hand.sched; pending = refl; listed = refl }
+  left-leaves true d hand = let left = completed-leaves d hand in record {
+    sound = left.sound;
+    pending = left.pending;
+    listed = left.listed ∙ ap count (or-false (is_arrival (carried_out (rule.completed true) d).0) _ (completed-next d));
+  }
+    where
+      or-false : (a b : Bool) → b ≡ false → a ≡ (a || b)
+      or-false true b e = refl
+      or-false false b e = sym e
+
+  -- polls and held completions leave the instance as it was
+  round-napi : (r : BusyReport) (d : DeviceView) → (carried_out (rule.round sum true weight r) d).1.side.napi ≡ d.side.napi
+  unfolding carried_out polled
+  round-napi r d = by (nat_lt (length (take weight d.side.packets)) weight) (rule.and_poll sum r (take weight d.side.packets))
+    where
+      by : (below : Bool) (q : BusyReport) → (carried_out (rule.round_ends below q) (polled weight d)).1.side.napi ≡ d.side.napi
+      by true q = refl
+      by false q = refl
+
+  rounds-leave : (left : ℕ) (r : BusyReport) (d : DeviceView) → IsInHand d
+      → let done = carried_out (rule.rounds_on sum true weight left r) d in LeavesPolled d done.1 done.0.report.next
+  unfolding rule.rounds_on carried_out polled
+  rounds-leave zero r d hand =
+      let stop = polled weight (acted operation.BusyStop d) in
+      let packets = take weight d.side.packets in
+      let below = nat_lt (length packets) weight in
+      let left = left-leaves below stop (record { sched = hand.sched; off = hand.off }) in
+      rw (carried-then {B = rule.BusyPolls ℕ} (rule.left_by true below)
+      (λ next. ends (record { report = record (rule.and_poll sum r packets) { next = next }; packets = packets })) stop)
+      (record { sound = left.sound; pending = left.pending; listed = left.listed })
+  rounds-leave (suc left) r d hand =
+      let round = carried_out (rule.round sum true weight r) d in
+      let same = round-napi r d in
+      let sched : round.1.side.napi.flags.sched ≡ true = ap (λ (s : State). s.flags.sched) same ∙ hand.sched in
+      let off : is_handed Kind.List round.1.side.napi.place ≡ false = ap (λ (s : State). is_handed Kind.List s.place) same ∙ hand.off in
+      let more = rounds-leave left round.0 round.1 (record { sched = sched; off = off }) in
+      rw (carried-then (rule.round sum true weight r) (rule.rounds_on sum true weight left) d)
+      (record {
+        sound = more.sound;
+        pending = more.pending ∙ ap (λ (s : State). s.flags.disable) same;
+        listed = more.listed;
+      })
+
+  pub busy-keeps : (rounds : ℕ) (d : DeviceView) → is_sound d ≡ true → let after = polled_busily rounds weight d in
+      Keeps d after.1 (count (is_left_to_list after.0.next))
+  unfolding polled_busily carried_out
+  busy-keeps rounds d sound = by d.side.napi.flags.disable d.side.napi.flags.sched d.side.napi.flags.in_busy_poll refl
+    where
+      by : (disable sched busy : Bool) → d.side.napi.flags.sched ≡ sched
+          → let o = if not (disable || (sched || busy)) then operation.BusyTake else operation.Look (seen_of d.side.napi) in
+          let done = carried_out (rule.busily_from sum true weight rounds (rule.is_taken o)) (acted o d) in
+          Keeps d done.1 (count (is_left_to_list done.0.report.next))
+      by true sched busy e = record { sound = sound; pending = refl; listed = omega arith }
+      by false true busy e = record { sound = sound; pending = refl; listed = omega arith }
+      by false false true e = record { sound = sound; pending = refl; listed = omega arith }
+      by false false false e =
+          let left = rounds-leave rounds rule.no_report (acted operation.BusyTake d) (record { sched = refl; off = refl }) in
+          record {
+            sound = left.sound;
+            pending = left.pending;
+            listed = rw (unheld d.side.napi.place d.side.napi.flags.sched sound e) (omega (arith, left.listed));
+          }
 
 -- ---- disabling and enabling
 

@@ -1,7 +1,6 @@
 pub mod BenchFacts
-pub mod BusyFacts
 pub mod DeviceFacts
 pub mod EndingFacts
-pub mod InstanceFacts
 pub mod SideFacts
 pub mod Waiting
+pub mod InstanceFacts

@@ -1,8 +1,8 @@
 -- What the devices of a bench are, and what its calls and polls do to what it shows.
 use Rattle.std.specs.Prelude.{◌≡◌, ℕ, ◌+◌, ◌≤◌, List, [], Option, Some, None, is_some, filter, length, map}
-use Rattle.{napi_model.specs.declared.state.Kind.Kind, poll_runs.specs.{BusyPolling.no_report, Thread.last_next}}
+use Rattle.{napi_model.specs.declared.state.Kind.Kind, poll_runs.specs.{Polling.no_report, Thread.last_next}}
 use Rattle.poll_runs.specs.declared.bench.{BusyReport.BusyReport, Next.TheVariants.Absent, Once.Once}
-use Rattle.device_bench.specs.{BusyPolling.polled_busily, Counts.counts_of, Device.{after_packet, polled_by_thread, polled_once, settled}}
+use Rattle.device_bench.specs.{Counts.counts_of, Device.{after_packet, polled_busily, polled_by_thread, polled_once, settled}}
 use Rattle.device_bench.specs.{DeviceView.DeviceView, Waiting.{count, is_left_to_list, leaves}, declared.counts.DeviceCounts.DeviceCounts}
 use Rattle.{device_rows.specs.Places.{Places, at, changed}, device_transmit.specs.{declared.transmit.TxCounts.TxCounts, Transmits.Keeps}}
 use Rattle.device_transmit.specs.Transmits.{Transmits}

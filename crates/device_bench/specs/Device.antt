@@ -1,16 +1,16 @@
 -- What rows and polls do to a device.
-use Rattle.std.specs.Prelude.{ℕ, zero, suc, ◌==◌, ◌&&◌, not, Bool, true, false, List, [], ◌∷◌, drop, Option, None, is_some, if◌then◌else◌}
-use Rattle.napi_model.specs.Step.{after, complete_reply, event, schedule_reply, take_disable_reply, take_reply}
-use Rattle.napi_model.specs.declared.{event.{Operation.Operation, Prep.{Prep, TheVariants.{Granted, Missed, Disabled}}}, state.Kind.Kind}
-use Rattle.{napi_model.specs.declared.state.State.State, poll_runs.specs.{Polling.{goes_on, next_of}, declared.bench.Next.Next}}
-use Rattle.{poll_runs.specs.declared.bench.Once.Once, device_transmit.specs.Counter.raised, device_bench.specs.DeviceView.DeviceView}
-use Rattle.device_bench.specs.Receive.{bytes_of, done_by, given_of, handed_again, handed_on, has_place, is_control, opened_side, put_if}
+use Rattle.std.specs.Prelude.{ℕ, Bool, true, false, List, drop, sum, take, Option, None, if◌then◌else◌}
+use Rattle.napi_model.specs.{Step.{after, event, schedule_reply, take_disable_reply}, declared.state.{Kind.Kind, State.State}}
+use Rattle.napi_model.specs.declared.event.{Done.TheVariants.{Released, Again, Held}, Operation.Operation}
+use Rattle.napi_model.specs.declared.event.Prep.{Prep, TheVariants.{Granted, Missed, Disabled}}
+use Rattle.{poll_runs.specs.{Plan.{Plan, ends, asks, acts, polls}, declared.bench.{BusyReport.BusyReport, Once.Once}}}
+use Rattle.{device_transmit.specs.Counter.raised, device_bench.specs.DeviceView.DeviceView}
+use Rattle.device_bench.specs.Receive.{answered, bytes_of, caller_of, given_of, handed_on, has_place, is_control, opened_side, put_if}
 use Rattle.device_bench.specs.{Receive.{requested, tried_by}, declared.counts.{DeviceCounts.DeviceCounts, DeviceState.DeviceState}}
-use Rattle.device_bench.specs.declared.{counts.TheConstants.DeviceCounts.OPENED, device.TheConstants.{CONTROLLER, POLLER, THREAD}}
+use Rattle.device_bench.specs.declared.{counts.TheConstants.DeviceCounts.OPENED, device.TheConstants.CONTROLLER}
 use Rattle.napi_model.specs.declared.event.Operation.TheVariants as operation
-use Rattle.napi_model.specs.declared.state.Kind.TheVariants as kind
-use Rattle.poll_runs.specs.declared.bench.Next.TheVariants as next
 use Rattle.device_bench.specs.declared.counts.DeviceState.TheVariants as state
+use Rattle.poll_runs.specs.Polling as rule
 
 -- its instance comes into this state
 abbrev pub with_napi : State → DeviceView → DeviceView
@@ -46,8 +46,6 @@ after_packet bytes d =
     if has_place d.side then after_request (record counted { side = put_if true bytes d.side })
     else (None, record counted { told = record counted.told { dropped = raised d.told.dropped 1 } })
 
--- ---- a poll of an instance that is in its poller's hands
-
 -- a poll takes the ring's next packets, and is counted
 unfoldable pub polled : ℕ → DeviceView → DeviceView
 polled weight d = record d {
@@ -59,83 +57,37 @@ polled weight d = record d {
   };
 }
 
--- a completion is counted, by whether a poll was asked for meanwhile
-abbrev pub completed_told : Bool → DeviceCounts → DeviceCounts
-completed_told true t = record t { again = raised t.again 1 }
-completed_told false t = record t { released = raised t.released 1 }
+-- ---- polling, by the rule that `poll_runs` states
 
--- a completion by this poller, who doesn't busy poll
-unfoldable pub completed : ℕ → DeviceView → Next × DeviceView
-completed poller d =
-    let done = complete_reply d.side.napi in
-    let again = handed_again done d.side.napi in
-    (next_of again, record (with_napi (done_by poller done d.side.napi) d) { told = completed_told (is_some again) d.told })
+-- a completion is counted
+abbrev pub told_after : Operation → DeviceCounts → DeviceCounts
+told_after (operation.Complete Again) t = record t { again = raised t.again 1 }
+told_after (operation.Complete Released) t = record t { released = raised t.released 1 }
+told_after (operation.Complete Held) t = record t { held = raised t.held 1 }
+told_after o t = t
 
--- With work below the weight the driver completes. With work equal to it the core completes an instance that is being
--- disabled; any other is to be polled again, and is in its poller's hands still.
-abbrev pub asks_again : ℕ → ℕ → DeviceView → Bool
-asks_again work weight d = work == weight && not d.side.napi.flags.disable
+-- an operation of who may make it, counted
+abbrev pub acted : Operation → DeviceView → DeviceView
+acted o d = record (made (caller_of o d.side.napi.place) o d) { told = told_after o d.told }
 
-abbrev pub ended_by : Bool → ℕ → DeviceView → Next × DeviceView
-ended_by true poller d = (next.Repoll, d)
-ended_by false poller d = completed poller d
+-- a plan carried out alone, where each call is answered at once: its answer, and the device afterwards
+unfoldable pub carried_out : {A : Type 0} → Plan ℕ A → DeviceView → A × DeviceView
+carried_out (ends a) d = (a, d)
+carried_out (asks c go) d = carried_out (go (answered c d.side.napi)) (acted (answered c d.side.napi) d)
+carried_out (acts o plan) d = carried_out plan (acted o d)
+carried_out (polls weight go) d = carried_out (go (take weight d.side.packets)) (polled weight d)
 
-unfoldable pub ended : ℕ → ℕ → ℕ → DeviceView → Next × DeviceView
-ended poller work weight d = ended_by (asks_again work weight d) poller d
-
--- one poll (`__napi_poll`): what it did, and the device afterwards
-abbrev pub after_poll : ℕ → ℕ → DeviceView → Once × DeviceView
-after_poll poller weight d =
-    let end = ended poller (given_of weight d.side) weight (polled weight d) in
-    (record { work = given_of weight d.side; next = end.0 }, end.1)
-
-abbrev pub taken : ℕ → Kind → DeviceView → DeviceView
-taken poller kind d = made poller (operation.Take kind true) d
-
--- an instance that is to be polled again and isn't by whom it was taken goes to the list
-abbrev pub let_go : ℕ → Next → DeviceView → DeviceView
-let_go poller next.Repoll d = made poller (operation.Hand kind.List) d
-let_go poller (next.Again k) d = d
-let_go poller next.Absent d = d
-let_go poller next.Gone d = d
-
--- ---- a poll from the list
-
-abbrev pub after_take : Bool → ℕ → DeviceView → Once × DeviceView
-after_take false weight d = (record { work = 0; next = next.Absent }, d)
-after_take true weight d =
-    let poll = after_poll POLLER weight (taken POLLER kind.List d) in
-    (poll.0, let_go POLLER poll.0.next poll.1)
-
--- the instance is taken from the list and polled once, if it is there
+-- a poll from the list (`napi_poll`)
 unfoldable pub polled_once : ℕ → DeviceView → Once × DeviceView
-polled_once weight d = after_take (take_reply kind.List d.side.napi) weight d
+polled_once weight d = let done = carried_out (rule.polled_once true weight) d in (done.0.once, done.1)
 
--- ---- the thread's polling (`napi_threaded_poll`)
-
--- one that is to be polled again the thread has still, and one that was handed to it again it takes again
-abbrev pub retaken : Next → DeviceView → DeviceView
-retaken (next.Again k) d = taken THREAD kind.Thread d
-retaken next.Repoll d = d
-retaken next.Absent d = d
-retaken next.Gone d = d
-
-abbrev pub followed : Next → ℕ → DeviceView → DeviceView
-followed next most d = if goes_on next most then retaken next d else let_go THREAD next d
-
--- the polls of an instance that is in the thread's hands, at most so many, and the device afterwards
-unfoldable pub thread_polls : ℕ → ℕ → DeviceView → List Once × DeviceView
-thread_polls zero weight d = ([], d)
-thread_polls (suc most) weight d =
-    let poll = after_poll THREAD weight d in
-    let after = followed poll.0.next (suc most) poll.1 in
-    if goes_on poll.0.next (suc most) then (let more = thread_polls most weight after in (poll.0 ∷ more.0, more.1))
-    else (poll.0 ∷ [], after)
-
--- the thread takes the instance, if it was handed to it, and polls it
+-- the polling by its thread (`napi_threaded_poll`)
 unfoldable pub polled_by_thread : ℕ → ℕ → DeviceView → List Once × DeviceView
-polled_by_thread most weight d =
-    if take_reply kind.Thread d.side.napi then thread_polls most weight (taken THREAD kind.Thread d) else ([], d)
+polled_by_thread most weight d = let done = carried_out (rule.polled_by_thread true weight most) d in (done.0.polls, done.1)
+
+-- busy polling (`napi_busy_loop`)
+unfoldable pub polled_busily : ℕ → ℕ → DeviceView → BusyReport × DeviceView
+polled_busily rounds weight d = let done = carried_out (rule.polled_busily sum true weight rounds) d in (done.0.report, done.1)
 
 -- ---- disabling and enabling (`napi_disable`, `napi_enable`, `dev_set_threaded`)
 

@@ -1,43 +1,28 @@
--- A device, in the sight of one that polls it: what each call of the trait does to it.
-use Rattle.std.specs.Prelude.{◌≡◌, ℕ, Bool, true, false, if◌then◌else◌, Option}
-use Rattle.napi_model.specs.Step.{Polls, take_reply}
-use Rattle.{napi_model.specs.declared.state.Kind.Kind, poll_runs.specs.Polling.next_of, device_bench.specs.BusyPolling.{begun, held}}
-use Rattle.device_bench.specs.{BusyPolling.stopped, Device.{completed, made, polled}, DeviceView.DeviceView, Receive.{bytes_of, given_of}}
-use Rattle.device_bench.specs.{Receive.{is_idle, poller_in, taker_of}, declared.device.TheConstants.POLLER}
-use Rattle.napi_model.specs.declared.event.Operation.TheVariants as operation
-use Rattle.napi_model.specs.declared.state.Kind.TheVariants as kind
-
-abbrev pub poller_of : DeviceView → ℕ
-poller_of d = poller_in d.side.napi.place
+-- A device, in the sight of one that polls it.
+use Rattle.std.specs.Prelude.{◌≡◌, ℕ, true, false, List, [], ◌∷◌, take}
+use Rattle.napi_model.specs.{Step.{Polls, answer_of, call_of}, declared.{event.{Call.Call, Operation.Operation}, state.State.State}}
+use Rattle.{napi_model.specs.declared.event.Operation.TheVariants.BusyTake, poll_runs.specs.Plan.{Answers, Deed, gave, made}}
+use Rattle.device_bench.specs.{Device.{acted, polled}, DeviceView.DeviceView, Receive.{is_idle, poller_in}}
+use Rattle.device_bench.specs.declared.device.TheConstants.{POLLER}
 
 abbrev pub IsPolled : DeviceView → Type 0
-IsPolled d = Polls (poller_of d) false d.side.napi
+IsPolled d = Polls (poller_in d.side.napi.place) false d.side.napi
 
 -- the poller busy polls it
 abbrev pub IsPolledBusily : DeviceView → Type 0
 IsPolledBusily d = Polls POLLER true d.side.napi
 
-abbrev pub Takes : DeviceView → Kind → Bool → DeviceView → Type 0
-Takes d k taken e = (taken ≡ take_reply k d.side.napi) × (e ≡ made (taker_of k) (operation.Take k taken) d)
+-- a call comes to its answer at once
+abbrev pub AtOnce : Call → Operation → List Operation → Type 0
+AtOnce c o os = Answers c o × (os ≡ o ∷ [])
 
--- a poll gives so many packets, of so many bytes
-abbrev pub Gives : DeviceView → ℕ → ℕ → ℕ → DeviceView → Type 0
-Gives d weight bytes work e = (work ≡ given_of weight d.side) × (e ≡ polled weight d) × (bytes ≡ bytes_of weight d.side)
+-- in this state a call comes to this operation
+abbrev pub IsAnswer : Operation → State → Type 0
+IsAnswer BusyTake s = is_idle s ≡ true
+IsAnswer o s = o ≡ answer_of (call_of o) s
 
-abbrev pub Looks : DeviceView → Bool → DeviceView → Type 0
-Looks d disabling e = (disabling ≡ d.side.napi.flags.disable) × (e ≡ d)
-
-abbrev pub Requeues : DeviceView → DeviceView → Type 0
-Requeues d e = e ≡ made (poller_of d) (operation.Hand kind.List) d
-
-abbrev pub Completes : DeviceView → Option Kind → DeviceView → Type 0
-Completes d again e = (next_of again ≡ (completed (poller_of d) d).0) × (e ≡ (completed (poller_of d) d).1)
-
-abbrev pub BusyTakes : DeviceView → Bool → DeviceView → Type 0
-BusyTakes d taken e = (taken ≡ is_idle d.side.napi) × (e ≡ (if taken then begun d else d))
-
-abbrev pub Holds : DeviceView → DeviceView → Type 0
-Holds d e = e ≡ held d
-
-abbrev pub Stops : DeviceView → DeviceView → Type 0
-Stops d e = e ≡ stopped d
+-- these operations and polls, one after the other, lead from the one device to the other
+abbrev pub Did : DeviceView → List (Deed ℕ) → DeviceView → Type 0
+Did d [] e = e ≡ d
+Did d (made o ∷ deeds) e = IsAnswer o d.side.napi × Did (acted o d) deeds e
+Did d (gave weight packets ∷ deeds) e = (packets ≡ take weight d.side.packets) × Did (polled weight d) deeds e

@@ -1,11 +1,11 @@
 pub mod Bench
-pub mod BusyPolling
 pub mod Counts
 pub mod Device
 pub mod DeviceBench
 pub mod DeviceView
 pub mod Ending
 pub mod Instance
+pub mod InstanceLaws
 pub mod Kept
 pub mod Owner
 pub mod Receive

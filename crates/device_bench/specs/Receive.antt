@@ -2,12 +2,14 @@
 -- of these.
 use Rattle.std.specs.Prelude.{ℕ, Bool, true, false, not, ◌||◌, List, [], ◌∷◌, ◌++◌, length, take, sum, min, nat_lt, Option, Some, None}
 use Rattle.std.specs.Prelude.{if◌then◌else◌}
-use Rattle.napi_model.specs.{Step.{after, event, opening}, declared.event.Done.Done}
+use Rattle.napi_model.specs.{Step.{after, answer_of, event, opening, seen_of}, declared.event.{Call.Call, Done.Done, Operation.Operation}}
 use Rattle.napi_model.specs.declared.event.{Done.TheVariants.{Released, Again, Held}, Prep.{Prep, TheVariants.{Granted, Missed, Disabled}}}
-use Rattle.napi_model.specs.declared.state.{Kind.Kind, Place.{Place, TheVariants.{Control, Polling}}, State.State}
+use Rattle.napi_model.specs.declared.state.{Kind.Kind, Place.{Place, TheVariants.{Control, Granted as Owned, Polling}}, State.State}
 use Rattle.device_bench.specs.declared.device.TheConstants.{CONTROLLER, INTERRUPT, POLLER, THREAD}
 use Rattle.napi_model.specs.declared.event.Operation.TheVariants as operation
 use Rattle.napi_model.specs.declared.state.Kind.TheVariants as kind
+use Rattle.napi_model.specs.declared.event.Call.TheVariants as call
+use Rattle.poll_runs.specs.Polling as rule
 
 pub record ReceiveView : Type 0 where
   -- the state of its instance
@@ -45,7 +47,7 @@ bytes_of weight r = sum (take (given_of weight r) r.packets)
 
 -- who owns an instance hands it over to its thread where THREADED is set, else to the poll list (`____napi_schedule`)
 abbrev pub kind_for : State → Kind
-kind_for s = if s.flags.threaded then kind.Thread else kind.List
+kind_for s = rule.kind_for s.flags
 
 abbrev pub handed : ℕ → State → State
 handed caller s = after s (event caller (operation.Hand (kind_for s)))
@@ -65,6 +67,18 @@ handed_on Disabled s = None
 abbrev pub taker_of : Kind → ℕ
 taker_of kind.List = POLLER
 taker_of kind.Thread = THREAD
+
+-- who owns an instance
+abbrev pub owner_in : Place → ℕ
+owner_in (Owned c) = c
+owner_in (Polling c) = c
+owner_in _ = 0
+
+-- who makes an operation of polling
+abbrev pub caller_of : Operation → Place → ℕ
+caller_of (operation.Take kind taken) place = taker_of kind
+caller_of operation.BusyTake place = POLLER
+caller_of o place = owner_in place
 
 -- who polls an instance that somebody polls
 abbrev pub poller_in : Place → ℕ
@@ -98,6 +112,11 @@ tried_by false s = after s (event CONTROLLER (operation.TakeDisable false))
 -- nobody has the instance, and it isn't being disabled
 abbrev pub is_idle : State → Bool
 is_idle s = not (s.flags.disable || (s.flags.sched || s.flags.in_busy_poll))
+
+-- what a call of polling comes to: where the instance isn't idle a look shows that to who would busy poll it
+abbrev pub answered : Call → State → Operation
+answered call.BusyTake s = if is_idle s then operation.BusyTake else operation.Look (seen_of s)
+answered c s = answer_of c s
 
 -- an instance that is idle is taken to busy poll it (`napi_busy_loop`)
 abbrev pub busy_taken : Bool → State → State

@@ -1,8 +1,8 @@
 //! One device: its receive side, and what was counted.
 
-ghost use Rattle.std.specs.Prelude.{◌≡◌, ◌≤◌, ◌<◌, ◌^◌, true};
-ghost use Rattle.device_bench.specs.BusyPolling.{polled_busily};
-ghost use Rattle.device_bench.specs.Device.{after_disable, after_enable, after_packet, after_request, after_threaded, completed_told, is_pending, opened, polled, polled_by_thread, polled_once, settled, state_of};
+ghost use Rattle.std.specs.Prelude.{◌≡◌, ◌≤◌, ◌<◌, ◌^◌, true, if◌then◌else◌};
+ghost use Rattle.napi_model.specs.declared.event.{Done.TheVariants.{Again, Released}, Operation.TheVariants.{Complete}};
+ghost use Rattle.device_bench.specs.Device.{after_disable, after_enable, after_packet, after_request, after_threaded, is_pending, opened, polled, polled_busily, polled_by_thread, polled_once, settled, state_of, told_after};
 ghost use Rattle.device_bench.specs.Counts.{counts_of};
 ghost use Rattle.device_bench.specs.Receive.{bytes_of, given_of, is_polling, opened_side};
 ghost use Rattle.device_rows.specs.Range.{IsWithin};
@@ -230,7 +230,11 @@ impl<S: SpentSide> Device<S> {
 }
 
 impl<S: ReceiveSide> Instance for Device<S> {
-    ghost use Rattle.device_bench.specs.Instance.{Completes, Gives, IsPolled, Looks, Requeues, Takes};
+    ghost use Rattle.std.specs.Prelude.{◌≡◌, refl, sum, true};
+    ghost use Rattle.device_bench.specs.Instance.{AtOnce, Did, IsPolled};
+    ghost use Rattle.device_bench.specs.InstanceLaws.{did_joins};
+
+    type Packet = u32;
 
     type Packets = PolledBytes;
 
@@ -238,15 +242,13 @@ impl<S: ReceiveSide> Instance for Device<S> {
 
     ghost in_hand = { IsPolled };
 
-    ghost takes = { Takes };
+    ghost thread = { λ d. true };
 
-    ghost gives = { λ d weight load work e. Gives d weight load work e };
+    ghost tries = { AtOnce };
 
-    ghost looks = { Looks };
+    ghost did = { Did };
 
-    ghost requeues = { Requeues };
-
-    ghost completes = { Completes };
+    ghost has = { λ load packets. load ≡ sum packets };
 
     fn take(&mut self, kind: Kind) -> bool {
         self.side.take(kind)
@@ -265,26 +267,26 @@ impl<S: ReceiveSide> Instance for Device<S> {
         self.side.requeue();
     }
 
-    #[tactic(auto, unfolding(crate::specs::Device::completed))]
     fn complete(&mut self) -> Option<Kind> {
         let again = self.side.complete();
         count_completion(&mut self.told, again.is_some());
         again
     }
+
+    ghost nothing = { λ d. refl };
+
+    ghost joins = { did_joins };
+
+    ghost same = { λ before after deeds did. refl };
 }
 
 impl<S: ReceiveSide> BusyInstance for Device<S> {
-    ghost use Rattle.device_bench.specs.Instance.{BusyTakes, Holds, IsPolledBusily, Stops};
+    ghost use Rattle.std.specs.Prelude.{sum};
+    ghost use Rattle.device_bench.specs.Instance.{IsPolledBusily};
 
     ghost in_busy = { IsPolledBusily };
 
-    ghost busy_takes = { BusyTakes };
-
-    ghost holds = { Holds };
-
-    ghost stops = { Stops };
-
-    ghost bytes_in = { λ load. load };
+    ghost bytes_in = { sum };
 
     fn busy_take(&mut self) -> bool {
         self.side.busy_take()
@@ -309,9 +311,9 @@ impl<S: ReceiveSide> BusyInstance for Device<S> {
     }
 }
 
-// Counts a completion.
+// Counts a completion that isn't held.
 fn count_completion(told: &mut DeviceCounts, again: bool)
-    ensures { told.new ≡ completed_told again told.old }
+    ensures { told.new ≡ told_after (Complete (if again then Again else Released)) told.old }
 {
     if again {
         told.again = told.again.saturating_add(1);

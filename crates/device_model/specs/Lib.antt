@@ -16,7 +16,6 @@ pub use Rattle.device_transmit.specs.Transmit
 pub use Rattle.device_transmit.specs.Transmits
 pub use Rattle.device_transmit.specs.declared.transmit.TxCounts
 pub use Rattle.device_bench.specs.Bench
-pub use Rattle.device_bench.specs.BusyPolling
 pub use Rattle.device_bench.specs.Counts
 pub use Rattle.device_bench.specs.Device
 pub use Rattle.device_bench.specs.DeviceBench

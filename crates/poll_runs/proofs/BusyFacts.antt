@@ -12,7 +12,8 @@ module _ {I P : Type 0} (tries : Call → Operation → List Operation → Type 
   abbrev whole : Plan P (BusyPolls P)
   whole = polled_busily bytes thread weight count
 
-  pub begins : (now : I) → Does tries did busy_takes start true now → Leads tries did whole start (rounds_on bytes thread weight count no_report) now
+  pub begins : (now : I) → Does tries did busy_takes start true now
+      → Leads tries did whole start (rounds_on bytes thread weight count no_report) now
   begins now d =
       leads-on tries did nothing joins whole start busy_takes (busily_from bytes thread weight count) start now true
       (leads-from tries did whole start) d
@@ -23,7 +24,8 @@ module _ {I P : Type 0} (tries : Call → Operation → List Operation → Type 
       → Leads tries did whole start (rounds_on bytes thread weight left report') after
   unfolding rounds_on
   goes-on now after left report report' l d =
-      leads-on tries did nothing joins whole start (round bytes thread weight report) (rounds_on bytes thread weight left) now after report' l d
+      leads-on tries did nothing joins whole start (round bytes thread weight report) (rounds_on bytes thread weight left) now after
+      report' l d
 
   -- all rounds are made: the stop, and the last poll
   pub stops : (now at given after : I) (report : BusyReport) (last : List P) (next : Next)
@@ -39,5 +41,5 @@ module _ {I P : Type 0} (tries : Call → Operation → List Operation → Type 
       let poll = leads-on tries did nothing joins whole start (gives weight) behind at given last stop p in
       let left =
       leads-on tries did nothing joins whole start (left_by thread (nat_lt (length last) weight)) (end last) given after next poll e in
-      leads-to tries did nothing joins whole start after (record { report = record (and_poll bytes report last) { next = next }; packets = last })
-      left
+      leads-to tries did nothing joins whole start after
+      (record { report = record (and_poll bytes report last) { next = next }; packets = last }) left

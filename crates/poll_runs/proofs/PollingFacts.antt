@@ -2,12 +2,14 @@
 use Rattle.std.proofs.Common.{◌≡◌, ◌≢◌, ◌∙◌, ℕ, zero, suc, ◌+◌, ◌<◌, ◌≤◌, Bool, true, false, List, [], ◌∷◌, ◌++◌, length}
 use Rattle.std.proofs.{Common.{length-append, ap, refl, sym, arith}, lemmas.{Bool.{eq-eqb, ne_eqb}, List.Sums.sum_by-append}}
 use Rattle.{std.specs.{Prelude.{◌==◌, sum_by}, List.AllByRecursion}, napi_model.specs.declared.event.{Call.Call, Operation.Operation}}
-use Rattle.poll_runs.specs.{Plan.{Deed, Does, Plan, ◌>>=◌}, Polling.{Given, ThreadPolls, followed, polled, polled_by_thread, polls_on, takes}}
-use Rattle.poll_runs.specs.{Thread.{Continues, IsThreadPolling, is_for_thread, last_next}, declared.bench.Next.{TheVariants.{Absent, Repoll}}}
+use Rattle.poll_runs.specs.Plan.{Deed, Does, Plan, ◌>>=◌}
+use Rattle.poll_runs.specs.Polling.{Given, ThreadPolls, followed, polled, polled_by_thread, polls_on, takes}
+use Rattle.poll_runs.specs.Thread.{Continues, IsThreadPolling, is_for_thread, last_next}
+use Rattle.poll_runs.specs.declared.bench.Next.TheVariants.{Absent, Repoll}
 use Rattle.poll_runs.{specs.declared.bench.{Once.Once, ThreadReport.ThreadReport}, proofs.PlanFacts.{Leads, leads-from, leads-on, leads-to}}
 use Rattle.napi_model.specs.declared.state.Kind.TheVariants as kind
 
-last-snoc : (polls : List Once) (once : Once) → last_next (polls ++ once ∷ []) ≡ once.next
+pub last-snoc : (polls : List Once) (once : Once) → last_next (polls ++ once ∷ []) ≡ once.next
 last-snoc (first ∷ second ∷ more) once = last-snoc (second ∷ more) once
 last-snoc polls once = refl
 
@@ -77,11 +79,14 @@ polls-more weight most left held polls report once p is kept gone = record {
 -- whether a poll is the last one, by how many are left behind it
 is-last : (n most left : ℕ) → suc left + n ≡ most → ((n + 1) == most) ≡ (left == 0)
 is-last n most zero e = eq-eqb (n + 1) most (omega (arith, e))
-is-last n most (suc left) e = ne_eqb (n + 1) most (λ (same : n + 1 ≡ most). absurd (omega (arith, e, same))) ∙ sym (ne_eqb (suc left) 0 (λ (z : suc left ≡ 0). cc z))
+is-last n most (suc left) e =
+    ne_eqb (n + 1) most (λ (same : n + 1 ≡ most). absurd (omega (arith, e, same)))
+    ∙ sym (ne_eqb (suc left) 0 (λ (z : suc left ≡ 0). cc z))
 
 module _ {I P : Type 0} (tries : Call → Operation → List Operation → Type 0) (did : I → List (Deed P) → I → Type 0) where
   -- where a thread's polling stands: the polls made, of which the last one gave these packets, and that what is left makes the whole
-  pub record Going (thread : Bool) (weight most : ℕ) (start : I) (held : Bool) (now : I) (given : List P) (report : ThreadReport) : Type 0 where
+  pub record Going (thread : Bool) (weight most : ℕ) (start : I) (held : Bool) (now : I) (given : List P) (report : ThreadReport)
+      : Type 0 where
     pub polls : List Once
     pub left : ℕ
     pub made : Polls weight most held polls left report
@@ -131,7 +136,9 @@ module _ {I P : Type 0} (tries : Call → Operation → List Operation → Type 
           record {
             polls = g.polls ++ once ∷ [];
             left = left;
-            made = polls-more weight most left held g.polls report once made is kept (λ h more. gone h (last ∙ ne_eqb left 0 (λ z. absurd (omega (arith, more, z)))));
+            made =
+                polls-more weight most left held g.polls report once made is kept
+                (λ h more. gone h (last ∙ ne_eqb left 0 (λ z. absurd (omega (arith, more, z)))));
             leads =
                 leads-on tries did nothing joins (polled_by_thread thread weight most) start (followed (left == 0) once.next)
                 (on (record { once = once; packets = given' })) polled' after held behind (rw last at f);

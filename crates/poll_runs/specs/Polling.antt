@@ -1,8 +1,9 @@
 -- The rule of polling one instance: `napi_poll`, `napi_threaded_poll` and `napi_busy_loop` of net/core/dev.c.
-use Rattle.std.specs.Prelude.{ℕ, zero, suc, ◌==◌, ◌+◌, nat_lt, Bool, true, false, List, [], ◌∷◌, ◌++◌, length, if◌then◌else◌, Option, Some, None}
+use Rattle.std.specs.Prelude.{ℕ, zero, suc, ◌==◌, ◌+◌, nat_lt, Bool, true, false, List, [], ◌∷◌, ◌++◌, length, Option, Some, None}
+use Rattle.std.specs.Prelude.{if◌then◌else◌}
 use Rattle.poll_runs.specs.{Plan.{Plan, ends, asks, acts, polls, ◌>>=◌}, declared.bench.BusyReport.BusyReport}
 use Rattle.poll_runs.specs.declared.bench.{Next.{Next, TheVariants.{Absent, Gone, Again, Repoll}}, Once.Once}
-use Rattle.napi_model.specs.declared.{state.{Flags.Flags, Kind.Kind}, event.Done.{TheVariants.{Released, Held}}}
+use Rattle.napi_model.specs.declared.{state.{Flags.Flags, Kind.Kind}, event.Done.TheVariants.Held}
 use Rattle.napi_model.specs.declared.event.Operation.{Operation, TheVariants.{Look, Hand, Take, Complete, BusyTake, BusyStop}}
 use Rattle.napi_model.specs.Step.{no_flags}
 use Rattle.napi_model.specs.declared.state.Kind.TheVariants as kind

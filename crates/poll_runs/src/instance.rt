@@ -71,7 +71,8 @@ pub trait Instance {
     /// (`____napi_schedule`), and the answer is to whom; `None`: it was released.
     fn complete(&mut self) -> Option<Kind>
         requires { in_hand self.old }
-        ensures does { Does tries did (completed (thread self.old)) self.old (next_of result) self.new }
+        ensures does { Does tries did (completed (thread self.old))
+            self.old (next_of result) self.new }
         ensures rests { rests self.new };
 
     /// To do nothing changes nothing.

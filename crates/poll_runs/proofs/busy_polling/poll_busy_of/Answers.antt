@@ -49,7 +49,8 @@ returns-clause-does g c =
     let p = c.poll-work.ensures.does in
     let none : c.args.rounds - c.loop.counter ≡ 0 = omega (arith, c.loop-test.false) in
     let thread = m.same _ _ _ p.1.1 ∙ m.same _ _ _ c.stop.ensures.does.1 ∙ was.thread in
-    let end = does-thread i.tries i.did (λ b. left_by b (nat_lt c.poll-work.result c.args.weight)) _ _ _ _ _ thread c.leave-report.ensures.does in (
+    let end =
+    does-thread i.tries i.did (λ b. left_by b (nat_lt c.poll-work.result c.args.weight)) _ _ _ _ _ thread c.leave-report.ensures.does in (
       p.0,
       rw (c.with-report.ensures, c.bytes_of.ensures.sum p.0 p.2, p.3)
           (stops i.tries i.did m.nothing m.joins g.I.BusyInstance.bytes_in (i.thread c.args.instance.now) c.args.weight c.args.rounds

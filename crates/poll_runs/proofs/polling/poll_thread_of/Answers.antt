@@ -27,8 +27,8 @@ loop-held-preserved g c =
       going = (
         p.0,
         p.2,
-        going-poll i.tries i.did m.nothing m.joins (i.thread c.args.instance.now) c.args.weight c.args.most c.args.instance.now _ _ _ _ p.0 _
-            c.poll_held-once.result _ (rw c.loop-held-test.true at was.going.2) (was.room c.loop-held-test.true)
+        going-poll i.tries i.did m.nothing m.joins (i.thread c.args.instance.now) c.args.weight c.args.most c.args.instance.now _ _ _ _
+            p.0 _ c.poll_held-once.result _ (rw c.loop-held-test.true at was.going.2) (was.room c.loop-held-test.true)
             (does-thread i.tries i.did (λ b. polled b c.args.weight) _ _ _ _ _ was.thread p.1) f.does
             (c.poll_held-once.ensures.bound, c.poll_held-once.ensures.there) (λ h. (f.kept h).0) f.gone,
       );

@@ -7,13 +7,14 @@ use Rattle.device_bench.proofs.bench.DeviceBenchDirectBench.poll_thread.Goals as
 pub invariant_of-self : goal.invariant_of-self
 invariant_of-self g c =
     let here = here-at c.args.id c.args.self.now.kept (omega arith) c.index_mut.ensures.value c.in-Some.is in
-    let keeps = thread-keeps c.args.most c.args.weight c.in-Some.device (sound-at c.args.id c.args.self.now.kept here) in
+    let keeps = thread-keeps c.args.most c.args.weight c.in-Some.device c.requires.most.0 (sound-at c.args.id c.args.self.now.kept here) in
     record { kept = kept-changed c.args.id c.args.self.now.kept here c.poll_thread.ensures.device keeps.sound keeps.pending }
 
 pub returns-in-Some : goal.returns-in-Some
 returns-in-Some g c =
     let here = here-at c.args.id c.args.self.now.kept (omega arith) c.index_mut.ensures.value c.in-Some.is in
-    let keeps = thread-keeps c.args.most c.args.weight c.in-Some.device (sound-at c.args.id c.args.self.now.kept here) in (
+    let keeps =
+    thread-keeps c.args.most c.args.weight c.in-Some.device c.requires.most.0 (sound-at c.args.id c.args.self.now.kept here) in (
       (polled_by_thread c.args.most c.args.weight c.in-Some.device).0,
       record {
         exact = (rw here refl, rw (here, c.poll_thread.ensures.device) refl);

@@ -1,8 +1,15 @@
-use Rattle.device_bench.proofs.BusyFacts.{busily_is}
+use Rattle.{std.proofs.Common.{ap, sum, true}, poll_runs.specs.Polling.{BusyPolls, polled_busily}}
+use Rattle.device_bench.proofs.InstanceFacts.{does-carried}
 use Rattle.device_bench.proofs.device.Device.busy_poll.Goals as goal
+use Rattle.device_bench.specs.Device as device
 
 pub returns-clause-device : goal.returns-clause-device
-returns-clause-device g c = (busily_is _ _ _ _ _ _ _ c.poll_busy_of.ensures.polls).1
+unfolding device.polled_busily
+returns-clause-device g c =
+    (does-carried (polled_busily sum true c.args.weight c.args.rounds) _ _ _ c.poll_busy_of.ensures.does.1).1
 
 pub returns-clause-report : goal.returns-clause-report
-returns-clause-report g c = (busily_is _ _ _ _ _ _ _ c.poll_busy_of.ensures.polls).0
+unfolding device.polled_busily
+returns-clause-report g c =
+    ap (λ (x : BusyPolls _). x.report)
+    (does-carried (polled_busily sum true c.args.weight c.args.rounds) _ _ _ c.poll_busy_of.ensures.does.1).0

@@ -1,8 +1,13 @@
-use Rattle.device_bench.proofs.InstanceFacts.{once_is}
+use Rattle.{std.proofs.Common.{ap, true}, poll_runs.specs.Polling.{Given, polled_once}}
+use Rattle.device_bench.proofs.InstanceFacts.{does-carried}
 use Rattle.device_bench.proofs.device.Device.poll_once.Goals as goal
+use Rattle.device_bench.specs.Device as device
 
 pub returns-clause-device : goal.returns-clause-device
-returns-clause-device g c = (once_is _ _ _ _ _ _ c.poll_once_of.ensures.polls).1
+unfolding device.polled_once
+returns-clause-device g c = (does-carried (polled_once true c.args.weight) _ _ _ c.poll_once_of.ensures.does.1).1
 
 pub returns-clause-once : goal.returns-clause-once
-returns-clause-once g c = (once_is _ _ _ _ _ _ c.poll_once_of.ensures.polls).0
+unfolding device.polled_once
+returns-clause-once g c =
+    ap (λ (x : Given _). x.once) (does-carried (polled_once true c.args.weight) _ _ _ c.poll_once_of.ensures.does.1).0
