@@ -1,4 +1,5 @@
 pub mod Orders
+pub mod Parts
 pub mod ActingFacts
 pub mod EndingFacts
 pub mod Gathering

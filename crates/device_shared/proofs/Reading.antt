@@ -1,34 +1,21 @@
 -- What the operations of one who acts alone make of the state and of the roles.
-use Rattle.std.proofs.Common.{arith, ◌≡◌, ◌≢◌, ◌∙◌, ℕ, Bool, true, false, List, [], ◌∷◌, ◌++◌, Option, Some, None, refl, sym, ap, subst}
+use Rattle.std.proofs.Common.{arith, ◌≡◌, ◌≢◌, ◌∙◌, ℕ, Bool, true, false, List, [], ◌∷◌, Option, Some, None, refl, sym, ap, subst}
 use Rattle.std.{proofs.{Common.{flat_map, append_assoc, true≢false}, lemmas.Grind.common_steps}, specs.Prelude.{◌||◌, not, if◌then◌else◌}}
-use Rattle.napi_model.specs.declared.{state.{Kind.Kind, Seen.Seen, State.State, Place.Place}, event.{Call.Call, Done.Done, Prep.Prep}}
+use Rattle.napi_model.specs.declared.{state.{Kind.Kind, State.State, Place.Place}, event.{Done.Done, Prep.Prep}}
 use Rattle.napi_model.specs.declared.event.Operation.{Operation, TheVariants.{Look, Schedule, Hand, Take, Complete, BusyTake, BusyStop}}
-use Rattle.napi_model.specs.{declared.event.Operation.TheVariants.{MarkDisable, Enable, SetThreaded}, Step.{MayBusyTake, Polls, after}}
-use Rattle.napi_model.specs.Step.{complete_reply, event, is_handed, place_of, schedule_reply, seen_of, take_disable_reply, take_reply}
-use Rattle.{napi_model.specs.{History.{LegalHistory, state_after}, Laws.IsSound}, napi_calls.specs.Made.{Lost, events, looks}}
-use Rattle.{napi_calls.proofs.Alone.none_lost, poll_runs.specs.Polling.next_of, poll_shared.specs.SharedPolling.EndsBy}
-use Rattle.{poll_shared.specs.SharedBusy.StopsBy, device_bench.specs.Receive.{busy_taken, done_by, handed_again, handed_on, is_control}}
+use Rattle.napi_model.specs.{declared.event.Operation.TheVariants.{MarkDisable, Enable, SetThreaded}, Step.{Polls, after}}
+use Rattle.napi_model.specs.Step.{complete_reply, event, is_handed, schedule_reply, seen_of, take_disable_reply, take_reply}
+use Rattle.{napi_model.specs.{History.{LegalHistory, state_after}, Laws.IsSound}, napi_calls.specs.Made.{events, looks}}
+use Rattle.{poll_runs.specs.Polling.next_of, poll_shared.specs.Tries.{Makes, Tries}}
+use Rattle.device_bench.specs.Receive.{busy_taken, done_by, handed_again, handed_on, is_control}
 use Rattle.{device_bench.specs.Receive.{is_polling, kind_for, poller_in, requested, taker_of, tried_by}, device_shared.specs.Seats.IsRole}
 use Rattle.device_shared.specs.{Seats.{Role, rests}, Acting.{AsksBy, EnablesBy, IsMarked, IsUnmarked, MayComplete, PolledBy, TakesBusilyBy}}
 use Rattle.device_shared.specs.Acting.{TakesBy, TriesBy, at_rest, left_by, marked, nobody, poller_by, polled_by}
-use Rattle.poll_shared.specs.SharedPolling as shared
-
--- ---- the operations are those behind the tries, none of which was lost
-
--- a list that is known leads where it leads, and is as legal
-leads : (c : ℕ) (s : State) (os rest : List Operation) → os ≡ rest → state_after s (events c os) ≡ state_after s (events c rest)
-leads c s os rest is = ap (λ (o : List Operation). state_after s (events c o)) is
-
-legal_as : (c : ℕ) (s : State) (os rest : List Operation) → os ≡ rest → LegalHistory 3 s (events c os) → LegalHistory 3 s (events c rest)
-legal_as c s os rest is l = subst (λ (o : List Operation). LegalHistory 3 s (events c o)) is l
-
--- alone, a caller loses no try
-decided : {call : Call} (c : ℕ) (s : State) (ts : List (Lost call)) (os rest : List Operation)
-    → os ≡ flat_map looks ts ++ rest → LegalHistory 3 s (events c os) → (os ≡ rest) × LegalHistory 3 s (events c rest)
-decided {call} c s ts os rest is l =
-    let none = none_lost 3 c call s ts rest (legal_as c s os (flat_map looks ts ++ rest) is l) in
-    let same : os ≡ rest = is ∙ ap (λ (t : List (Lost call)). flat_map looks t ++ rest) none in
-    (same, legal_as c s os rest same l)
+use Rattle.device_shared.proofs.Parts.{alone, comes_to, decided, decides, handed_there, leads, legal_as, refused, unhanded}
+use Rattle.poll_runs.specs.Polling.{busy_takes, completed_by, is_again, is_taken}
+use Rattle.device_bench.specs.Receive.{is_idle}
+use Rattle.poll_runs.specs.Polling as rule
+use Rattle.napi_model.specs.declared.event.Call.TheVariants as call
 
 -- ---- places
 
@@ -41,13 +28,6 @@ at_rest_unpolled p e = grind (arith, common_steps)
 -- not at rest, it isn't on the list, nor with the thread
 away : (k : Kind) (p : Place) → rests p ≡ false → is_handed k p ≡ false
 away k p e = grind (arith, common_steps)
-
--- it isn't where a take looks for it
-unhanded : (k : Kind) (p : Place) → p ≢ place_of k → is_handed k p ≡ false
-unhanded k p e = grind (arith, common_steps)
-
-handed_there : (k : Kind) → is_handed k (place_of k) ≡ true
-handed_there k = grind (arith, common_steps)
 
 -- handed over, an instance is at rest
 hand_rests : (k : Kind) (c : ℕ) (s : State) (m : Bool) → s.flags.disable ≡ m → s.flags.in_busy_poll ≡ false
@@ -97,20 +77,12 @@ pub asked : (s : State) (prep : Prep) (k : Option Kind) (os : List Operation) �
 unfolding LegalHistory state_after
 asked s Prep.Granted None os a l = absurd a
 asked s Prep.Granted (Some k) os a l =
-    let h = a.3 in
-    let begun = flat_map looks a.0 in
-    let all = a.4 ∙ ap (λ (o : List Operation). (begun ++ Look a.1 ∷ Schedule Prep.Granted ∷ []) ++ o) h.2
-    ∙ append_assoc begun (Look a.1 ∷ Schedule Prep.Granted ∷ []) (Look h.0 ∷ Hand k ∷ []) in
-    let d = decided 0 s a.0 os (Look a.1 ∷ Schedule Prep.Granted ∷ Look h.0 ∷ Hand k ∷ []) all l in
+    let all = a.4 ∙ append_assoc (flat_map looks a.0) (Look a.1 ∷ Schedule Prep.Granted ∷ []) a.2 in
+    let d = decided 0 s a.0 os (Look a.1 ∷ Schedule Prep.Granted ∷ a.2) all l in
     let off : s.flags.disable ≡ false = d.1.1.0.0.0 in
     let free : s.flags.sched ≡ false = d.1.1.0.0.1 in
-    let seen : h.0 ≡ seen_of (after s (event 0 (Schedule Prep.Granted))) = d.1.1.1.0.0 in
-    let to : k ≡ kind_for s = h.1 ∙ ap (λ (x : Seen). shared.kind_for x.flags) seen in (
-      rw (off, free) refl,
-      ap Some to,
-      leads 0 s os _ d.0
-          ∙ ap (λ (q : Kind). after (after s (event 0 (Schedule Prep.Granted))) (event 0 (Hand q))) to,
-    )
+    let h = comes_to 0 (rule.handed true) (after s (event 0 (Schedule Prep.Granted))) a.2 k a.3 d.1.1.1 in
+    (rw (off, free) refl, ap Some h.0, leads 0 s os _ d.0 ∙ h.1)
 asked s Prep.Missed k os a l =
     let d = decided 0 s a.1 os (Look a.2 ∷ Schedule Prep.Missed ∷ []) a.3 l in
     let on : s.flags.disable ≡ false = d.1.1.0.0.0 in
@@ -143,49 +115,44 @@ pub requeued : (r : Role) (s : State) (c : ℕ) → IsRole r s → MayComplete r
 unfolding state_after
 requeued r s c role may = grind (arith, common_steps)
 
+-- a completion that isn't under busy polling
+next_same : (a b : Option Kind) → next_of a ≡ next_of b → a ≡ b
+next_same None None e = refl
+next_same (Some j) (Some k) e = cc
+next_same None (Some k) e = absurd (cc)
+next_same (Some j) None e = absurd (cc)
+
+not_held : (s : State) → s.flags.in_busy_poll ≡ false → complete_reply s ≢ Done.Held
+not_held s e = grind (arith, common_steps)
+
+completes : (reply : Done) (c : ℕ) (m : Bool) (s t : State) (again : Option Kind) → reply ≢ Done.Held → s.flags.disable ≡ m
+    → s.flags.in_busy_poll ≡ false
+    → (let done = alone c (completed_by true (is_again (Complete reply))) (after s (event c (Complete reply))) in
+    (next_of again ≡ done.0) × (t ≡ done.1))
+    → (again ≡ handed_again reply s) × (t ≡ done_by c reply s) × IsRole (Some (m, None)) t
+completes Done.Held c m s t again free d b h = absurd (free refl)
+completes Done.Released c m s t again free d b h = (next_same again None h.0, h.1, rw h.1 (d, (refl, b)))
+completes Done.Again c m s t again free d b h = let owned = after s (event c (Complete Done.Again)) in
+    (next_same again (Some (kind_for s)) h.0, h.1, rw h.1 (hand_rests (kind_for s) c owned m d b))
+
 pub completed : (r : Role) (s : State) (c : ℕ) (again : Option Kind) (os : List Operation) → IsRole r s → MayComplete r
-    → EndsBy true (next_of again) os
-    → LegalHistory 3 s (events c os)
+    → Makes (rule.completed true) os (next_of again) → LegalHistory 3 s (events c os)
     → (again ≡ handed_again (complete_reply s) s) × (state_after s (events c os) ≡ done_by c (complete_reply s) s)
     × IsRole (left_by r) (state_after s (events c os))
-unfolding LegalHistory state_after
-completed r s c None os role may e l =
-    let d = decided c s e.0 os (Look e.1 ∷ Complete Done.Released ∷ []) e.2 l in
-    let unmissed : s.flags.missed ≡ false = d.1.1.0.0.1 in
-    let idle : s.flags.in_busy_poll ≡ false = d.1.1.0.0.2 in
-    let reply : complete_reply s ≡ Done.Released = rw (idle, unmissed) refl in
-    let led = leads c s os _ d.0 in
-    let was = subst (λ (q : Role). IsRole q s) may.1.1 role in (
-      ap (λ (x : Done). handed_again x s) (sym reply),
-      led ∙ ap (λ (x : Done). done_by c x s) (sym reply),
-      subst (IsRole (left_by r)) (sym led)
-          (subst (λ (q : Role). IsRole (left_by q) (after s (event c (Complete Done.Released)))) (sym may.1.1) (was.0, (refl, was.1.1))),
-    )
-completed r s c (Some k) os role may e l =
-    let t = e.2 in
-    let h = e.3 in
-    let begun = flat_map looks t.0 in
-    let all = e.4 ∙ (λ i. t.2 i ++ h.2 i) ∙ append_assoc begun (Look t.1 ∷ Complete Done.Again ∷ []) (Look h.0 ∷ Hand k ∷ []) in
-    let d = decided c s t.0 os (Look t.1 ∷ Complete Done.Again ∷ Look h.0 ∷ Hand k ∷ []) all l in
-    let missed : s.flags.missed ≡ true = d.1.1.0.0.1 in
-    let idle : s.flags.in_busy_poll ≡ false = d.1.1.0.0.2 in
-    let seen : h.0 ≡ seen_of (after s (event c (Complete Done.Again))) = d.1.1.1.0.0 in
-    let to : k ≡ kind_for s = h.1 ∙ ap (λ (x : Seen). shared.kind_for x.flags) seen in
-    let reply : complete_reply s ≡ Done.Again = rw (idle, missed) refl in
-    let owned = after s (event c (Complete Done.Again)) in
-    let led = leads c s os _ d.0 in
-    let was = subst (λ (q : Role). IsRole q s) may.1.1 role in (
-      ap Some to ∙ ap (λ (x : Done). handed_again x s) (sym reply),
-      led ∙ ap (λ (q : Kind). after owned (event c (Hand q))) to ∙ ap (λ (x : Done). done_by c x s) (sym reply),
-      subst (IsRole (left_by r)) (sym led)
-          (subst (λ (q : Role). IsRole (left_by q) (after owned (event c (Hand k)))) (sym may.1.1)
-          (hand_rests k c owned may.1.0 was.0 was.1.1)),
-    )
+completed r s c again os role may m l =
+    let was = subst (λ (q : Role). IsRole q s) may.1.1 role in
+    let done = completes (complete_reply s) c may.1.0 s (state_after s (events c os)) again (not_held s was.1.1) was.0 was.1.1
+    (comes_to c (rule.completed true) s os (next_of again) m l) in
+    (done.0, done.1, subst (λ (q : Role). IsRole (left_by q) (state_after s (events c os))) (sym may.1.1) done.2)
 
 -- ---- busy polls
 
-busy_refused : (d s b : Bool) → ¬ ((d ≡ false) × (s ≡ false) × (b ≡ false)) → false ≡ not (d || (s || b))
-busy_refused d s b may = grind (arith, common_steps)
+-- an instance at which nobody is, idle or not
+tries_busily : (idle taken : Bool) (m : Bool) (s t : State) → IsRole (Some (m, None)) s
+    → (let o = if idle then BusyTake else Look (seen_of s) in (taken ≡ is_taken o) × (t ≡ after s (event 1 o)))
+    → (taken ≡ idle) × (t ≡ busy_taken taken s) × IsRole (if taken then Some (m, Some (1, true)) else Some (m, None)) t
+tries_busily true taken m s t role h = rw (h.0, h.1) (refl, refl, (role.0, (refl, refl)))
+tries_busily false taken m s t role h = rw (h.0, h.1) (refl, refl, role)
 
 pub took_busily : (r : Role) (s : State) (taken : Bool) (os : List Operation) → IsRole r s → IsSound s → TakesBusilyBy (at_rest r) taken os
     → LegalHistory 3 s (events 1 os)
@@ -193,23 +160,13 @@ pub took_busily : (r : Role) (s : State) (taken : Bool) (os : List Operation) �
     × IsRole (if taken then polled_by 1 true r else r) (state_after s (events 1 os))
 unfolding LegalHistory state_after
 took_busily None s true os role sound t l = absurd (true≢false t.0)
-took_busily None s false os role sound t l = grind (arith, common_steps, busy_refused, decided, leads)
-took_busily (Some (m, None)) s true os role sound t l = let d = decided 1 s t.0 os (Look t.1 ∷ BusyTake ∷ []) t.3 l in
-    let may : MayBusyTake s.flags = d.1.1.0.0 in
-    let off = may.0 in
-    let free = may.1 in
-    let idle = may.2 in
-    let led = leads 1 s os _ d.0 in
-    (rw (off, free, idle) refl, led, subst (IsRole (Some (m, Some (1, true)))) (sym led) (role.0, (refl, refl)))
-took_busily (Some (m, None)) s false os role sound t l = let d = decided 1 s t.0 os (Look t.1 ∷ []) t.3 l in
-    let seen : t.1 ≡ seen_of s = d.1.0.0 in
-    let led = leads 1 s os _ d.0 in
-    let refused = subst (λ (x : Seen). ¬ MayBusyTake x.flags) seen t.2 in
-    (busy_refused s.flags.disable s.flags.sched s.flags.in_busy_poll refused, led, subst (IsRole (Some (m, None))) (sym led) role)
+took_busily None s false os role sound t l = grind (arith, common_steps, leads)
+took_busily (Some (m, None)) s taken os role sound t l =
+    tries_busily (is_idle s) taken m s (state_after s (events 1 os)) role (comes_to 1 busy_takes s os taken t l)
 took_busily (Some (m, Some who)) s true os role sound t l = absurd (true≢false t.0)
 took_busily (Some (m, Some who)) s false os role sound t l = let led = leads 1 s os [] t.1 in (
-  busy_refused s.flags.disable s.flags.sched s.flags.in_busy_poll
-      (λ f. let free = sound f.1 in let was = role.1.0 in absurd (cc)),
+  sym (refused s.flags.disable s.flags.sched s.flags.in_busy_poll
+      (λ f. let free = sound f.1 in let was = role.1.0 in absurd (cc))),
   led,
   subst (IsRole (Some (m, Some who))) (sym led) role,
 )
@@ -218,12 +175,12 @@ pub held : (s : State) → state_after s (events 1 (Complete Done.Held ∷ [])) 
 unfolding state_after
 held s = refl
 
-pub stopped : (r : Role) (s : State) (os : List Operation) → IsRole r s → PolledBy 1 true r → StopsBy os → LegalHistory 3 s (events 1 os)
+pub stopped : (r : Role) (s : State) (os : List Operation) → IsRole r s → PolledBy 1 true r → Tries call.BusyStop BusyStop os
+    → LegalHistory 3 s (events 1 os)
     → (state_after s (events 1 os) ≡ after s (event 1 BusyStop)) × IsRole (polled_by 1 false r) (state_after s (events 1 os))
 unfolding LegalHistory state_after
 stopped r s os role by t l =
-    let d = decided 1 s t.0 os (Look t.1 ∷ BusyStop ∷ []) t.2 l in
-    let led = leads 1 s os _ d.0 in
+    let led = (decides 1 s call.BusyStop BusyStop os t l).1 in
     let was = subst (λ (q : Role). IsRole q s) by.1 role in (
       led,
       subst (IsRole (polled_by 1 false r)) (sym led)

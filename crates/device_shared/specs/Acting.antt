@@ -4,8 +4,8 @@ use Rattle.std.specs.Prelude.{◌≡◌, ℕ, zero, suc, ◌≤◌, ◌⊎◌, B
 use Rattle.napi_model.specs.declared.event.Operation.{Operation, TheVariants.{Look, Schedule, Take, TakeDisable, Unmark, Enable}}
 use Rattle.napi_model.specs.declared.{event.Prep.{Prep, TheVariants.{Granted, Missed, Disabled}}, state.{Seen.Seen, Kind.Kind}}
 use Rattle.napi_calls.specs.{Alone.MakesAlone, declared.types.Napi.Napi, Packets.{Quiet, polled, received_before}, Made.{Lost, looks}}
-use Rattle.{napi_word.specs.{declared.table.Pass.Pass, View.Continues, Passes.OwnsSlot}, poll_shared.specs.SharedBusy.BusyTakesBy}
-use Rattle.{poll_shared.specs.SharedPolling.HandsTo, rx_ring.specs.{declared.{packet.Packet.Packet, ends.RxCtx.RxCtx}, Ends.received_list}}
+use Rattle.{napi_word.specs.{declared.table.Pass.Pass, View.Continues, Passes.OwnsSlot}, poll_runs.specs.Polling.{busy_takes, handed}}
+use Rattle.{poll_shared.specs.Tries.Makes, rx_ring.specs.{declared.{packet.Packet.Packet, ends.RxCtx.RxCtx}, Ends.received_list}}
 use Rattle.napi_model.specs.declared.event.Call.TheVariants as call
 
 abbrev pub seat_at : ℕ → Seats → Pass
@@ -37,8 +37,8 @@ pub record Acts (c : ℕ) (os : List Operation) (n : Napi) (before after : Seats
 abbrev pub AsksBy : Prep → Option Kind → List Operation → Type 0
 AsksBy Granted None os = ⊥
 AsksBy Granted (Some k) os =
-    (ts : List (Lost call.Schedule)) × (x : Seen) × (handed : List Operation) × HandsTo true k handed
-    × (os ≡ (flat_map looks ts ++ Look x ∷ Schedule Granted ∷ []) ++ handed)
+    (ts : List (Lost call.Schedule)) × (x : Seen) × (rest : List Operation) × Makes (handed true) rest k
+    × (os ≡ (flat_map looks ts ++ Look x ∷ Schedule Granted ∷ []) ++ rest)
 AsksBy Missed kind os =
     (kind ≡ None) × (ts : List (Lost call.Schedule)) × (x : Seen) × (os ≡ flat_map looks ts ++ Look x ∷ Schedule Missed ∷ [])
 AsksBy Disabled kind os = (kind ≡ None) × (ts : List (Lost call.Schedule)) × (os ≡ flat_map looks ts ++ Schedule Disabled ∷ [])
@@ -58,7 +58,7 @@ TakesBy true k taken os = os ≡ Take k taken ∷ []
 TakesBy false k taken os = (taken ≡ false) × (os ≡ [])
 
 abbrev pub TakesBusilyBy : Bool → Bool → List Operation → Type 0
-TakesBusilyBy true taken os = BusyTakesBy taken os
+TakesBusilyBy true taken os = Makes busy_takes os taken
 TakesBusilyBy false taken os = (taken ≡ false) × (os ≡ [])
 
 -- the controller tries to take an instance that it marked; a try that was lost is two looks

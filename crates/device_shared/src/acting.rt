@@ -3,15 +3,15 @@
 ghost use Rattle.std.specs.Prelude.{◌≡◌, [], ◌∷◌, List, MatchResult, None, Some, if◌then◌else◌, true, false};
 ghost use Rattle.napi_model.specs.declared.event.Done.TheVariants.{Held};
 ghost use Rattle.napi_model.specs.declared.event.Operation.{Operation};
+ghost use Rattle.napi_model.specs.declared.event.Call.TheVariants as call;
 ghost use Rattle.napi_model.specs.declared.event.Operation.TheVariants as operation;
 ghost use Rattle.napi_model.specs.declared.state.Kind.TheVariants as kind;
 ghost use Rattle.napi_calls.specs.Instance.{IsSeatOf};
 ghost use Rattle.napi_calls.specs.Made.{Made};
 ghost use Rattle.napi_calls.specs.Packets.{Quiet};
-ghost use Rattle.poll_runs.specs.Polling.{next_of};
-ghost use Rattle.poll_shared.specs.SharedPolling.{EndsBy};
+ghost use Rattle.poll_runs.specs.Polling.{completed, next_of};
+ghost use Rattle.poll_shared.specs.Tries.{Makes, Tries};
 ghost use Rattle.device_bench.specs.Receive.{taker_of};
-ghost use Rattle.poll_shared.specs.SharedBusy.{StopsBy};
 ghost use Rattle.device_shared.specs.Acting.{Acts, AsksBy, EnablesBy, IsMarked, IsUnmarked, MayComplete, PolledBy, TakesBusilyBy, TakesBy, TriesBy, TurnTakes, at_rest, left_by, marked, polled_by, poller_by};
 ghost use Rattle.device_shared.specs.declared.seats.Pollers.TheVariants.{Rest};
 ghost use Rattle.device_shared.specs.declared.seats.Turn.TheVariants.{On};
@@ -177,7 +177,7 @@ impl Seats {
     pub(crate) fn complete<R: Wait>(self, rt: &R, napi: &Napi) -> (Seats, Option<Kind>)
         requires seats { AreSeats napi.now self }
         requires polls { MayComplete (role_of self.turn) }
-        ensures acts { (os : List Operation) × EndsBy true (next_of result.1) os
+        ensures acts { (os : List Operation) × Makes (completed true) os (next_of result.1)
             × Acts (poller_by (role_of self.turn)) os napi.now self result.0 }
         ensures role { role_of result.0.turn ≡ left_by (role_of self.turn) }
     {
@@ -245,7 +245,8 @@ impl Seats {
     pub(crate) fn stop<R: Wait>(self, rt: &R, napi: &Napi) -> Seats
         requires seats { AreSeats napi.now self }
         requires polls { PolledBy 1 true (role_of self.turn) }
-        ensures acts { (os : List Operation) × StopsBy os × Acts 1 os napi.now self result }
+        ensures acts { (os : List Operation) × Tries call.BusyStop operation.BusyStop os
+            × Acts 1 os napi.now self result }
         ensures role { role_of result.turn ≡ polled_by 1 false (role_of self.turn) }
     {
         let Seats { interrupt, turn } = self;

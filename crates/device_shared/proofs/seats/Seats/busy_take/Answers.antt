@@ -1,6 +1,9 @@
 use Rattle.{std.proofs.Common.{[], refl}, napi_model.specs.declared.state.Kind.TheVariants.List}
 use Rattle.device_shared.proofs.{ActingFacts.{first_turn, none_turn, quiet, taken}, seats.Seats.busy_take.Goals.{in-Ok-busy, in-Err-busy}}
+use Rattle.{napi_model.specs.declared.event.Operation.TheVariants.{BusyTake, Look}, poll_runs.specs.Polling.is_taken}
+use Rattle.poll_shared.proofs.TriesFacts.{asked}
 use Rattle.device_shared.proofs.seats.Seats.busy_take.Goals as goal
+use Rattle.napi_model.specs.declared.event.Call.TheVariants as call
 
 pub returns-in-Err-clause-acts : goal.returns-in-Err-clause-acts
 returns-in-Err-clause-acts g c =
@@ -15,10 +18,17 @@ returns-clause-acts g c =
       | in-Ok-busy w ↦
           let e = w.in-Ok-busy.ensures in
           let m = e.events in
-          rw (w.pollers-is, was)
-          (_, (m.0, m.1, m.2, refl), first_turn _ _ _ _ refl seats (taken _ _ _ m.3 e.packets w.in-Ok-busy.busy.has) refl refl)
+          rw (w.pollers-is, was) (
+            _,
+            asked call.BusyTake is_taken BusyTake _ (refl, (m.0, m.1, m.2, refl)),
+            first_turn _ _ _ _ refl seats (taken _ _ _ m.3 e.packets w.in-Ok-busy.busy.has) refl refl,
+          )
       | in-Err-busy w ↦
           let e = w.in-Err-busy.ensures in
           let m = e.events in
-          rw (w.pollers-is, was) (_, (m.0, m.1, m.2, refl), first_turn _ _ _ _ refl seats (quiet _ _ _ m.3 e.packets) refl refl)
+          rw (w.pollers-is, was) (
+            _,
+            asked call.BusyTake is_taken (Look m.1) _ (m.2, (m.0, refl)),
+            first_turn _ _ _ _ refl seats (quiet _ _ _ m.3 e.packets) refl refl,
+          )
     ]
