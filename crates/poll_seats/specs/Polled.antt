@@ -1,9 +1,9 @@
 -- What a seat's polls make of its caller.
-use Rattle.std.specs.Prelude.{◌≡◌, ◌==◌, ◌||◌, ℕ, Bool, false, List, [], ◌∷◌, Option, Some, None, length, if◌then◌else◌}
-use Rattle.{rx_ring.specs.declared.packet.Packet.Packet, napi_model.specs.declared.event.Operation.Operation}
-use Rattle.{napi_calls.specs.{declared.types.Caller.Caller, Dealt.Delivers, Made.Made}, poll_runs.specs.Polls.{is_arrival, is_repoll}}
+use Rattle.std.specs.Prelude.{◌≡◌, ◌||◌, ℕ, Bool, true, List, [], ◌∷◌, Option, Some, None, length, if◌then◌else◌}
+use Rattle.{rx_ring.specs.declared.packet.Packet.Packet, napi_calls.specs.{declared.types.Caller.Caller, Dealt.Delivers, Made.Made}}
+use Rattle.poll_runs.specs.{Plan.{Deed, Follows, given, operations}, Polling.{polled_by_thread, polled_once}, Polls.{is_arrival, is_repoll}}
 use Rattle.poll_runs.specs.{Thread.IsThreadPolling, declared.bench.{Next.{Next, TheVariants.Absent}, Once.Once, ThreadReport.ThreadReport}}
-use Rattle.poll_shared.specs.SharedPolling.{GivesEach, PollsOnceBy, ThreadPollsBy}
+use Rattle.poll_shared.specs.Tries.{Tries}
 
 -- The poll of a caller that is there, with this weight, of an instance that has a thread of its own or has none. Its caller
 -- delivers just the packets of the batch.
@@ -11,7 +11,8 @@ abbrev pub Polls : Bool → ℕ → Option Caller → Once → List Packet → O
 Polls thread weight None once packets after = (once.work ≡ 0) × (once.next ≡ Absent)
 Polls thread weight (Some before) once packets None = ⊥
 Polls thread weight (Some before) once packets (Some after) =
-    (os : List Operation) × Made before.pass os after.pass × PollsOnceBy thread (once.work == weight) once.next os
+    (deeds : List (Deed Packet)) × Made before.pass (operations deeds) after.pass
+    × Follows Tries (polled_once thread weight) deeds (record { once = once; packets = packets })
     × Delivers before.pass packets after.pass × (once.work ≡ length packets) × (once.next ≡ Absent → packets ≡ [])
 
 -- The polling by the instance's thread, at most so many times. Its caller delivers just what the polls gave; the batch has the
@@ -20,9 +21,9 @@ abbrev pub PollsByThread : ℕ → ℕ → Option Caller → ThreadReport → Li
 PollsByThread weight most None report packets after = (report.polls ≡ 0) × (report.next ≡ Absent)
 PollsByThread weight most (Some before) report packets None = ⊥
 PollsByThread weight most (Some before) report packets (Some after) =
-    (polls : List Once) × (os : List Operation) × (all : List Packet) × Made before.pass os after.pass
-    × ThreadPollsBy weight most false polls os × Delivers before.pass all after.pass × GivesEach [] polls all packets
-    × IsThreadPolling weight most polls report
+    (polls : List Once) × (deeds : List (Deed Packet)) × Made before.pass (operations deeds) after.pass
+    × Follows Tries (polled_by_thread true weight most) deeds (record { polls = polls; packets = packets })
+    × Delivers before.pass (given deeds) after.pass × IsThreadPolling weight most polls report
 
 -- the instance goes to the list: it was handed there, or is to be polled again
 abbrev pub handed_on : Next → ℕ → List ℕ
