@@ -1,7 +1,7 @@
 -- Plans that are carried out one after the other.
-use Rattle.std.proofs.Common.{◌≡◌, ◌∙◌, Bool, List, [], ◌++◌, map, ap, refl, subst, append_assoc}
+use Rattle.std.proofs.Common.{◌≡◌, ◌≢◌, ◌∙◌, Bool, List, [], ◌++◌, map, ap, refl, subst, append_assoc}
 use Rattle.{napi_model.specs.declared.event.{Call.Call, Operation.Operation}, poll_runs.specs.Plan.{Deed, Does, Follows, Plan, made, ◌>>=◌}}
-use Rattle.poll_runs.specs.Plan.{ends, asks, acts, polls}
+use Rattle.poll_runs.specs.{Plan.{ends, asks, acts, polls}, Polling.HasLast, declared.bench.Next.{Next, TheVariants.Absent}}
 
 pub follows-then : {P A B : Type 0} (tries : Call → Operation → List Operation → Type 0) (plan : Plan P A) (next : A → Plan P B)
     (first second : List (Deed P)) (a : A) (b : B)
@@ -42,6 +42,12 @@ module _ {I P : Type 0} (tries : Call → Operation → List Operation → Type 
 
   pub does-ends : {A : Type 0} (s : I) (a : A) → Does tries did (ends a) s a s
   does-ends s a = ([], nothing s, (refl, refl))
+
+-- something was polled
+pub last-has : {B P : Type 0} (has : B → List P → Type 0) (next : Next) (before : B) (given : List P) (after : B) → next ≢ Absent
+    → has after given → HasLast has next before given after
+last-has has Absent before given after there h = absurd (there refl)
+last-has has next before given after there h = h
 
 -- a plan goes by whether the instance has a thread, which is so
 pub does-thread : {I P A : Type 0} (tries : Call → Operation → List Operation → Type 0) (did : I → List (Deed P) → I → Type 0)

@@ -1,6 +1,6 @@
 -- The rule of polling one instance: `napi_poll`, `napi_threaded_poll` and `napi_busy_loop` of net/core/dev.c.
 use Rattle.std.specs.Prelude.{ℕ, zero, suc, ◌==◌, ◌+◌, nat_lt, Bool, true, false, List, [], ◌∷◌, ◌++◌, length, Option, Some, None}
-use Rattle.std.specs.Prelude.{if◌then◌else◌}
+use Rattle.std.specs.Prelude.{◌≡◌, if◌then◌else◌}
 use Rattle.poll_runs.specs.{Plan.{Plan, ends, asks, acts, polls, ◌>>=◌}, declared.bench.BusyReport.BusyReport}
 use Rattle.poll_runs.specs.declared.bench.{Next.{Next, TheVariants.{Absent, Gone, Again, Repoll}}, Once.Once}
 use Rattle.napi_model.specs.declared.{state.{Flags.Flags, Kind.Kind}, event.Done.TheVariants.Held}
@@ -33,6 +33,11 @@ kind_for flags = if flags.threaded then kind.Thread else kind.List
 abbrev pub next_of : Option Kind → Next
 next_of None = Gone
 next_of (Some k) = Again k
+
+-- the packets are those that the last poll gave; where none was made they stay
+abbrev pub HasLast : {B P : Type 0} → (B → List P → Type 0) → Next → B → List P → B → Type 0
+HasLast has Absent before given after = (given ≡ []) × (after ≡ before)
+HasLast has next before given after = has after given
 
 -- what one poll did, and its packets
 pub record Given (P : Type 0) : Type 0 where

@@ -1,8 +1,9 @@
 //! Busy polling, written once.
 
-ghost use Rattle.std.specs.Prelude.{◌≡◌, ◌≤◌, ◌<◌, ◌+◌, ◌^◌, [], List, MatchBool, nat_lt};
+ghost use Rattle.std.specs.Prelude.{◌≡◌, ◌≢◌, ◌≤◌, ◌<◌, ◌+◌, ◌^◌, List, MatchBool, nat_lt};
 ghost use Rattle.poll_runs.specs.Plan.{Does};
-ghost use Rattle.poll_runs.specs.Polling.{left_by, polled_busily, round};
+ghost use Rattle.poll_runs.specs.Polling.{HasLast, left_by, polled_busily, round};
+ghost use Rattle.poll_runs.specs.declared.bench.Next.TheVariants.{Absent};
 
 use crate::bench::{BusyReport, Next};
 use crate::instance::BusyInstance;
@@ -63,6 +64,7 @@ fn leave<I: BusyInstance>(instance: &mut I, below: bool) -> Next
     requires { I.in_hand instance.old }
     ensures does { Does I.tries I.did (left_by (I.thread instance.old) below) instance.old
         result instance.new }
+    ensures there { result ≢ Absent }
     ensures rests { I.rests instance.new }
 {
     if !below {
@@ -87,14 +89,13 @@ pub fn poll_busy_of<I: BusyInstance>(
     packets: &mut I::Packets,
 ) -> BusyReport
     requires rests { I.rests instance.old }
-    requires empty { I.has packets.old [] }
     requires rounds { (1 ≤ rounds) × (rounds ≤ 65535) }
     requires weight { (1 ≤ weight) × (weight ≤ 64) }
     ensures does { (given : List I.Packet)
         × Does I.tries I.did
         (polled_busily I.bytes_in (I.thread instance.old) weight rounds) instance.old
         (record { report = result; packets = given }) instance.new
-        × I.has packets.new given }
+        × HasLast I.has result.next packets.old given packets.new }
     ensures rests { I.rests instance.new }
 {
     let mut report = BusyReport::NONE;

@@ -1,8 +1,8 @@
 //! The polling of one instance, written once: from the list, and by its thread.
 
-ghost use Rattle.std.specs.Prelude.{◌≡◌, ◌≢◌, ◌==◌, ◌≤◌, false, true, [], List, MatchBool};
+ghost use Rattle.std.specs.Prelude.{◌≡◌, ◌≢◌, ◌==◌, ◌≤◌, false, true, List, MatchBool};
 ghost use Rattle.poll_runs.specs.Plan.{Does};
-ghost use Rattle.poll_runs.specs.Polling.{ended, followed, let_go, next_of, polled, polled_by_thread, polled_once};
+ghost use Rattle.poll_runs.specs.Polling.{HasLast, ended, followed, let_go, next_of, polled, polled_by_thread, polled_once};
 ghost use Rattle.poll_runs.specs.Polls.{is_repoll};
 ghost use Rattle.poll_runs.specs.Thread.{IsThreadPolling, is_for_thread};
 ghost use Rattle.poll_runs.specs.declared.bench.Next.TheVariants.{Absent, Repoll};
@@ -70,12 +70,11 @@ fn let_go<I: Instance>(instance: &mut I, next: Next)
 /// list its number is still to be pushed.
 pub fn poll_once_of<I: Instance>(instance: &mut I, weight: u32, packets: &mut I::Packets) -> Once
     requires rests { I.rests instance.old }
-    requires empty { I.has packets.old [] }
     requires weight { (1 ≤ weight) × (weight ≤ 64) }
     ensures does { (given : List I.Packet)
         × Does I.tries I.did (polled_once (I.thread instance.old) weight) instance.old
         (record { once = result; packets = given }) instance.new
-        × I.has packets.new given }
+        × HasLast I.has result.next packets.old given packets.new }
     ensures rests { I.rests instance.new }
     ensures bound { result.work ≤ weight }
 {
@@ -121,14 +120,13 @@ pub fn poll_thread_of<I: Instance>(
     packets: &mut I::Packets,
 ) -> ThreadReport
     requires rests { I.rests instance.old }
-    requires empty { I.has packets.old [] }
     requires weight { (1 ≤ weight) × (weight ≤ 64) }
     requires most { (1 ≤ most) × (most ≤ 131072) }
     ensures does { (polls : List Once) × (given : List I.Packet)
         × Does I.tries I.did (polled_by_thread (I.thread instance.old) weight most)
         instance.old
         (record { polls = polls; packets = given }) instance.new
-        × I.has packets.new given
+        × HasLast I.has result.next packets.old given packets.new
         × IsThreadPolling weight most polls result }
     ensures rests { I.rests instance.new }
 {

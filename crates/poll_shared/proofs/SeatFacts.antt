@@ -1,11 +1,12 @@
 -- A call of a caller's seat at a shared instance.
-use Rattle.std.proofs.Common.{◌≡◌, ◌≢◌, ◌∙◌, ◌≤◌, ℕ, List, [], ◌∷◌, ◌++◌, length, drop, map, Some, refl, sym, append-nil, append_assoc}
+use Rattle.std.proofs.Common.{◌≡◌, ◌≢◌, ◌∙◌, ◌≤◌, ℕ, List, [], ◌∷◌, ◌++◌, length, drop, map, Some, ap, refl, sym, append-nil, append_assoc}
 use Rattle.rx_ring.specs.{declared.{packet.Packet.Packet, ends.RxCtx.RxCtx}, Ends.received_list}
 use Rattle.napi_model.specs.declared.event.Operation.{Operation}
 use Rattle.napi_word.specs.{declared.table.Pass.Pass, View.{own_deliveries, packets_of}}
 use Rattle.napi_calls.specs.{Made.Made, Packets.{GivesBack, HoldsOn, IsFresh, own_delivered, polled}, Seats.number_of, Dealt.Delivers}
 use Rattle.napi_calls.{specs.declared.types.Caller.Caller, proofs.Dealing.{delivers_back, polled_none}}
-use Rattle.poll_runs.specs.{Plan.{Deed, Does, Plan, gave, given, made, operations}, Polling.gives}
+use Rattle.poll_runs.specs.{Plan.{Deed, Does, Plan, gave, given, made, operations}, Polling.{HasLast, gives}}
+use Rattle.poll_runs.specs.declared.bench.Next.{Next, TheVariants.Absent}
 use Rattle.poll_shared.specs.declared.seat.{Hold.{Hold, TheVariants.{Gone, Rests}}, Seat.Seat}
 use Rattle.poll_shared.specs.{Seat.{MadeBy, SeatDid, packets_by, pass_of}, Tries.{Makes, Tries}}
 use Rattle.poll_shared.proofs.TriesFacts.{IsMade, begun, given-none, operations-made}
@@ -30,6 +31,12 @@ held_packets p q x y h num same =
 
 pub back_packets : (p q : Pass) (x : RxCtx) → GivesBack p x q → number_of q ≡ number_of p → packets_of (own_delivered q) ≡ Polled p x ++ []
 back_packets p q x g num = delivers_back p q x g num ∙ sym (append-nil (Polled p x))
+
+-- an emptied batch has just what was given
+pub batch-has : {B : Type 0} (items : B → List Packet) (next : Next) (before : B) (packets : List Packet) (after : B)
+    → items before ≡ [] → HasLast (λ b ps. items b ≡ ps) next before packets after → items after ≡ packets
+batch-has items Absent before packets after none h = ap items h.1 ∙ none ∙ sym h.0
+batch-has items next before packets after none h = h
 
 made-by : (os : List Operation) (p q : Pass) → os ≢ [] → Made p os q → MadeBy os (Some p) (Some q)
 made-by [] p q some m = absurd (some refl)

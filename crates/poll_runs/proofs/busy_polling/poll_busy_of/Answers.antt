@@ -1,6 +1,6 @@
 use Rattle.std.proofs.Common.{arith, ◌≡◌, ◌-◌, ◌+◌, ◌∙◌, suc, nat_lt}
 use Rattle.poll_runs.specs.Polling.{left_by, round}
-use Rattle.poll_runs.proofs.{PlanFacts.does-thread, BusyFacts.{begins, goes-on, stops}}
+use Rattle.poll_runs.proofs.{PlanFacts.{does-thread, last-has}, BusyFacts.{begins, goes-on, stops}}
 use Rattle.poll_runs.proofs.busy_polling.poll_busy_of.Goals as goal
 
 pub loop-init : goal.loop-init
@@ -55,5 +55,5 @@ returns-clause-does g c =
       rw (c.with-report.ensures, c.bytes_of.ensures.sum p.0 p.2, p.3)
           (stops i.tries i.did m.nothing m.joins g.I.BusyInstance.bytes_in (i.thread c.args.instance.now) c.args.weight c.args.rounds
           c.args.instance.now _ _ _ _ c.loop.report p.0 _ (rw none at was.leads) c.stop.ensures.does p.1 (rw p.3 at end)),
-      p.2,
+      last-has i.has _ _ p.0 _ c.leave-report.ensures.there p.2,
     )

@@ -1,5 +1,5 @@
 use Rattle.poll_runs.specs.{Plan.{ends, ◌>>=◌}, Polling.{Given, found, let_go, polled, takes}}
-use Rattle.poll_runs.proofs.PlanFacts.{does-ends, does-then, does-thread}
+use Rattle.poll_runs.proofs.PlanFacts.{does-ends, does-then, does-thread, last-has}
 use Rattle.poll_runs.proofs.polling.poll_once_of.Goals as goal
 use Rattle.napi_model.specs.declared.state.Kind.TheVariants as kind
 
@@ -18,5 +18,5 @@ returns-clause-does g c =
           (does-thread i.tries i.did (λ b. polled b c.args.weight) _ _ _ _ _ (m.same _ _ _ took.1) p.1)
           (does-then i.tries i.did m.nothing m.joins (let_go given.once.next) (λ _. ends given) _ _ _ _ given c.let_go.ensures.does
           (does-ends i.tries i.did m.nothing m.joins c.let_go.new.instance given))),
-      p.2,
+      last-has i.has _ _ p.0 _ c.poll_held-once.ensures.there p.2,
     )

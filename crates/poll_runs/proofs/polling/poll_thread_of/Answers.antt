@@ -1,13 +1,13 @@
-use Rattle.std.proofs.{Common.{arith, [], ◌∙◌, ◌+◌}, lemmas.Bool.eqb-false}
+use Rattle.std.proofs.{Common.{arith, [], ◌∙◌, ◌+◌, refl}, lemmas.Bool.eqb-false}
 use Rattle.poll_runs.specs.Polling.{polled}
-use Rattle.poll_runs.proofs.{PlanFacts.does-thread, PollingFacts.{going-ends, going-poll, going-start}}
+use Rattle.poll_runs.proofs.{PlanFacts.{does-thread, last-has}, PollingFacts.{going-ends, going-poll, going-start}}
 use Rattle.poll_runs.proofs.polling.poll_thread_of.Goals as goal
 
 pub loop-held-init : goal.loop-held-init
 loop-held-init g c = let i = g.I.Instance in let m = g.met.I.Instance in record {
   going = (
     [],
-    c.requires.empty,
+    (refl, refl),
     going-start i.tries i.did m.nothing m.joins (i.thread c.args.instance.now) c.args.weight c.args.most c.args.instance.now _ _
         c.requires.most.0 c.take-held.ensures.does,
   );
@@ -26,7 +26,7 @@ loop-held-preserved g c =
     let f = c.follow-held.ensures in record {
       going = (
         p.0,
-        p.2,
+        last-has i.has _ _ p.0 _ c.poll_held-once.ensures.there p.2,
         going-poll i.tries i.did m.nothing m.joins (i.thread c.args.instance.now) c.args.weight c.args.most c.args.instance.now _ _ _ _
             p.0 _ c.poll_held-once.result _ (rw c.loop-held-test.true at was.going.2) (was.room c.loop-held-test.true)
             (does-thread i.tries i.did (λ b. polled b c.args.weight) _ _ _ _ _ was.thread p.1) f.does

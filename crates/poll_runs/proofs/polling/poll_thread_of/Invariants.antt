@@ -1,10 +1,10 @@
 use Rattle.std.proofs.Common.{◌≡◌, ◌-◌, ◌*◌, ◌≤◌, ◌<◌, true, List, MatchBool}
-use Rattle.poll_runs.proofs.PollingFacts.{Going}
+use Rattle.poll_runs.{specs.Polling.HasLast, proofs.PollingFacts.Going}
 use Rattle.poll_runs.proofs.polling.poll_thread_of.Given as goal
 
 abbrev pub invariant-loop-held : goal.invariant-loop-held
 invariant-loop-held g l = let i = g.I.Instance in record {
-  going : (given : List _) × i.has l.packets given
+  going : (given : List _) × HasLast i.has l.report.next l.fn.packets given l.packets
       × Going i.tries i.did (i.thread l.fn.instance) l.weight l.most l.fn.instance l.held l.instance given l.report;
   thread : i.thread l.instance ≡ i.thread l.fn.instance;
   room : l.held ≡ true → l.report.polls < l.most;
