@@ -1,22 +1,54 @@
 """The launcher, which ./replay begins: its words, the trace, the runs, and what is said of them."""
+import csv
 import errno
-import fcntl
 import os
 import re
-import resource
-import shutil
-import stat
+import shlex
 import subprocess
-import sys
 import threading
 
-sys.path.insert(0, os.path.dirname(os.path.realpath(__file__)))
-from build import TOP, Stop, build, child, crates, end_by, need_rt, read, say, write  # noqa: E402
-from words import RANGES, judge  # noqa: E402
+from build import TOP, Stop, build, child, crates, end_by, kit, read, say, write
+from words import RANGES, judge, quoted
 
-MOST_EXPLAINED = 8 << 20  # no trace is longer unless it is padded
-MOST_KEPT = 64 << 20
-UNREADABLE = {errno.ENOENT: "there is no such file", errno.ENXIO: "this is a socket, not a trace"}
+MOST_KEPT = 8 << 20  # no trace is longer unless it is padded
+UNREADABLE = {errno.ENOENT: "{}: there is no such file", errno.ENXIO: "{}: this is a socket, not a trace",
+              errno.EISDIR: "{}: this is a folder, not a trace", errno.EAGAIN: "{}: a read of it failed",
+              errno.EBADF: "no trace: standard input is closed"}
+HEADER = "moment,device,event,value"
+# What begins a file that isn't text at all.
+PACKED = {
+    rb"\x1f\x8b": "packed by gzip: gunzip -c",
+    rb"\x28\xb5\x2f\xfd": "packed by zstd: zstd -dc",
+    rb"\xfd7zX": "packed by xz: xz -dc",
+    rb"BZh": "packed by bzip2: bunzip2 -c",
+    rb"\xff\xfe|m\x00": "in UTF-16: iconv -f UTF-16LE -t UTF-8",
+    rb"\xfe\xff|\x00m": "in UTF-16: iconv -f UTF-16BE -t UTF-8",
+}
+# By the fault's number and the line behind it: the first that fits.
+CAUSES = {
+    "1 .*[;\t]": "the fields have {others} between them, and need commas",
+    "1 ": f"the first line has to be {HEADER}, in lower case and without spaces, or {HEADER},2 for version 2",
+    "2 [ \t]+$": "a line of spaces is a row; an empty line is none",
+    "2 .*[;\t]": "a row has four fields with commas between them, not {others}",
+    "2 ": "a row has four fields, and this one has {fields}",
+    "3 ": "moment, device and value are one to twenty digits, without sign, space or fraction",
+    "4 .*,busy,": f"a busy row needs the header of version 2: {HEADER},2",
+    "4 ": "the event is none of open rx tx done softirq kthread disable enable threaded, and busy in version 2, "
+          "in lower case and without spaces",
+    "5 .*,softirq,": "softirq has device 0 and value 0",
+    "5 .*,open,": "open has a device of 1..=16 and a value of 1..=65536, its places",
+    "5 .*,(rx|tx),": "rx and tx have a device of 1..=16 and a value of 1..=65535 bytes",
+    "5 .*,done,": "done has a device of 1..=16 and a value of 0..=65536 packets",
+    "5 .*,busy,": "busy has a device of 1..=16 and a value of 1..=65535 rounds",
+    "5 .*,threaded,": "threaded has a device of 1..=16 and a value of 0 or 1",
+    "5 .*,(kthread|disable|enable),": "it has a device of 1..=16 and the value 0",
+    "5 ": "its moment, device or value is out of range",
+    "6 ": "the device has to be opened by an open row before this one",
+    "7 ": "the device was opened by a row before this one",
+    "8 ": "a disable stands behind an open or an enable of its device, and an enable behind a disable",
+    "9 ": "a trace has at most 100000 rows: replay the first ones alone",
+    "12 ": "the disable is pending still: a softirq or kthread row has to finish the polling before the enable",
+}
 
 
 def shown(name):
@@ -27,82 +59,12 @@ def shown(name):
 
 def version():
     def told(*command):
-        return shutil.which(command[0]) and subprocess.run(command, capture_output=True, text=True, check=False).stdout.strip()
+        return subprocess.run(["/usr/bin/env", *command], capture_output=True, text=True, check=False).stdout.strip()
 
     serial, every = ("proved and built" if crates()[name].is_built() else "not built here yet" for name in ("napi_serial", "napi_replay"))
     return (f"replay of Fintaqush: the NAPI polling of Linux 6.6, traces of version 1 and 2\n"
             f"sources: {told('git', '-C', TOP, 'describe', '--always', '--dirty') or 'no git history here'}\n"
             f"program of serial mode: {serial}\nprogram of every mode: {every}\nkit: {told('rt', 'version') or 'no rt on PATH'}\n")
-
-
-class Trace:
-    """A trace, open. It goes to the program through here, since not every one can be read twice."""
-
-    def __init__(self, files):
-        self.name = None if files in ([], ["-"]) else shown(files[0])
-        self.which, self.kept, self.failed = self.name or "standard input", bytearray(), False
-        if len(files) > 1:
-            raise Stop(66, f"two traces are named, {self.name} and {shown(files[1])}: replay one at a time")
-        if not files and os.isatty(0):
-            raise Stop(66, "no trace: name a file, or give one on standard input")
-        try:
-            # `/proc/kmsg` is a file too, and waits for more.
-            self.end = os.open(files[0], os.O_RDONLY | (os.O_NONBLOCK if os.path.isfile(files[0]) else 0)) if self.name else 0
-        except OSError as error:
-            why = UNREADABLE.get(error.errno, f"it can't be read: {error.strerror.lower()}")
-            raise Stop(66, f"{self.which}: {why}") from None
-        if fcntl.fcntl(self.end, fcntl.F_GETFL) & os.O_ACCMODE == os.O_WRONLY:
-            raise Stop(66, "no trace: standard input is closed")
-        if stat.S_ISDIR(os.fstat(self.end).st_mode):
-            raise Stop(66, f"{self.which}: this is a folder, not a trace")
-
-    def keep(self):
-        """Reads it whole, where two runs are to read it, and returns whether it isn't too long for that."""
-        try:
-            while len(self.kept) <= MOST_KEPT:
-                text = os.read(self.end, 1 << 16)
-                if not text:
-                    self.end = os.open(os.devnull, os.O_RDONLY)
-                    return True
-                self.kept += text
-        except OSError:
-            raise Stop(66, f"{self.which}: a read of it failed") from None
-        return False
-
-    def pass_on(self, to, process):
-        """Half a trace is none: where a read fails the program ends before it could take it for one."""
-        try:
-            text = bytes(self.kept)
-            while (not text or write(text, to)) and (text := os.read(self.end, 1 << 16)):
-                self.kept += text if len(self.kept) <= MOST_EXPLAINED else b""
-        except OSError:
-            self.failed = True
-            process.kill()
-        os.close(to)
-
-    def run(self, command, memory=0, is_kept=True, **where):
-        """Runs a program over it, in so many MiB: its status, its output where that is kept, and what it said."""
-        begin = child()
-
-        def bound():
-            begin()
-            soft, hard = resource.getrlimit(resource.RLIMIT_AS)
-            if memory and (soft == resource.RLIM_INFINITY or soft > memory << 20):
-                resource.setrlimit(resource.RLIMIT_AS, (memory << 20, hard))
-
-        source, to = os.pipe()
-        try:
-            process = subprocess.Popen(command, stdin=source, stdout=subprocess.PIPE if is_kept else None, stderr=subprocess.PIPE,
-                                       preexec_fn=bound, restore_signals=False, **where)
-        except (OSError, subprocess.SubprocessError) as error:
-            raise Stop(70, f"{command[0]} couldn't be started: {error}") from None
-        os.close(source)
-        threading.Thread(target=self.pass_on, args=(to, process), daemon=True).start()
-        output, said = process.communicate()
-        if self.failed:
-            raise Stop(66, f"{self.which}: a read of it failed")
-        status = process.returncode
-        return status if status >= 0 else 128 - status, output, said.decode(errors="replace")
 
 
 class Call:
@@ -117,95 +79,152 @@ class Call:
                 self.files.append(word)
             else:
                 self.words += [word, *([value] if word in RANGES and (value := next(rest, None)) is not None else [])]
-        self.program = "napi_replay" if re.search("--mode[= ](shared|threads)( |$)", " ".join(self.words)) else "napi_serial"
+        is_every = re.search("--mode[= ](shared|threads)( |$)", " ".join(self.words))
+        self.crate = crates()["napi_replay" if is_every else "napi_serial"]
         self.memory = os.environ.get("REPLAY_MEMORY", "2048")
+        self.name = None if self.files in ([], ["-"]) else shown(self.files[0])
+        self.which, self.kept, self.failed = self.name or "standard input", bytearray(), None
 
     def answer(self):
         if not re.fullmatch("[1-9][0-9]{0,6}|unlimited", self.memory):
             raise Stop(64, f"REPLAY_MEMORY={shown(self.memory)}: it is a number of MiB, or unlimited")
+        usage = read(f"{TOP}/docs/usage.txt")
         if self.own & {"-h", "--help", "--version"}:
-            if not write((version() if "--version" in self.own else read(f"{TOP}/docs/usage.txt")).encode()):
+            if not write((version() if "--version" in self.own else usage).encode()):
                 raise Stop(4, "the text couldn't be written")
             return 0
         if "--build" in self.own:
             if self.own != {"--build"} or self.words or self.files:
                 raise Stop(64, "--build replays nothing, and stands alone (see ./replay --help)")
             return build(["napi_serial", "napi_replay"])
-        try:
-            self.trace = Trace(self.files)
-        except Stop:
-            self.refuse_words()  # a mistyped option takes its value for a trace
-            if not self.files and os.isatty(0):
-                write(read(f"{TOP}/docs/usage.txt").encode(), 2)
-            raise
-        if "--unproved" in self.own:
+        wrong, is_unproved = self.open(), "--unproved" in self.own
+        is_ready, first = is_unproved or self.crate.is_built(), None
+        if (wrong or not is_ready) and (why := judge(self.words)):  # a mistyped option takes its value for a trace
+            raise Stop(64, f"{why} (see ./replay --help)")
+        if wrong:
+            write(usage.encode() if not self.files and os.isatty(0) else b"", 2)
+            raise Stop(66, wrong)
+        if is_unproved:
             say("an unproved run: the program is made anew each time and nothing is checked (up to a minute)")
             return self.unproved("this was an UNPROVED run")[0]
-        if not crates()[self.program].is_built():
-            self.refuse_words()
-            if os.isatty(1) and shutil.which("rt") and self.trace.keep():
-                return self.answer_first()
-            build([self.program])
-        return self.finish(*self.proved("--json" in self.own))
-
-    def refuse_words(self):
-        if why := judge(self.words):
-            raise Stop(64, f"{why} (see ./replay --help)")
-
-    def proved(self, is_kept):
+        # On a terminal an answer comes at once, and the proof of it behind.
+        if not is_ready and os.isatty(1) and kit() and all(len(self.kept) <= MOST_KEPT for _ in self.parts()):
+            say("the program is to be proved and built first: meanwhile the answer of an UNPROVED run, in up to a minute")
+            first = self.unproved("this was an UNPROVED run; now it is proved. Ctrl-C leaves what is proved by then, "
+                                  "and the next call goes on from there")
+        build([self.crate.name])
         memory = 0 if self.memory == "unlimited" else int(self.memory)
-        return self.trace.run([f"{TOP}/crates/{self.program}/out/{self.program}", *self.words], memory, is_kept)
+        last = self.run([self.crate.made, *self.words], memory, first or "--json" in self.own)
+        if first and first[:2] == last[:2] and last[2] in first[2]:
+            say("the proved program gives the same bytes")
+            return last[0]
+        if first:
+            say("the proved program gives OTHER bytes, and these count:")
+        return self.finish(*last)
+
+    def open(self):
+        """Opens the trace, or returns why it can't. It goes to the program through here, since not every one can be read twice."""
+        if len(self.files) > 1:
+            return f"two traces are named, {self.name} and {shown(self.files[1])}: replay one at a time"
+        if not self.files and os.isatty(0):
+            return "no trace: name a file, or give one on standard input"
+        try:
+            # `/proc/kmsg` is a file too, and waits for more.
+            end = os.open(self.files[0], os.O_RDONLY | (os.O_NONBLOCK if os.path.isfile(self.files[0]) else 0)) if self.name else 0
+            os.read(end, 0)  # a folder can be opened too
+        except OSError as error:
+            return UNREADABLE.get(error.errno, "{}: it can't be read: " + error.strerror.lower()).format(self.which)
+        self.rest = iter(lambda: os.read(end, 1 << 16), b"")
+        return ""
+
+    def parts(self):
+        """All of the trace: what is kept of it, and what comes then, which is kept as long as that isn't too much."""
+        yield bytes(self.kept)
+        try:
+            for text in self.rest:
+                self.kept += text if len(self.kept) <= MOST_KEPT else b""
+                yield text
+        except OSError:
+            raise Stop(66, f"{self.which}: a read of it failed") from None
+
+    def pass_on(self, to, process):
+        """Half a trace is none: where a read fails the program ends before it could take it for one."""
+        try:
+            all(write(text, to.fileno()) for text in self.parts())
+        except Stop as stop:
+            self.failed = stop
+            process.kill()
+        to.close()
+
+    def run(self, command, memory=0, is_kept=True, **where):
+        """Runs a program over the trace, in so many MiB: its status, its output where that is kept, and what it said."""
+        process = subprocess.Popen(command, stdin=subprocess.PIPE, stdout=subprocess.PIPE if is_kept else None, stderr=subprocess.PIPE,
+                                   preexec_fn=lambda: child(memory=memory), restore_signals=False, **where)
+        to, process.stdin = process.stdin, None
+        threading.Thread(target=self.pass_on, args=(to, process), daemon=True).start()
+        output, said = process.communicate()
+        if self.failed:
+            raise self.failed
+        status = process.returncode
+        return status if status >= 0 else 128 - status, output, said.decode(errors="replace")
 
     def unproved(self, line):
         """`rt try` runs the sources without their proofs, and leaves no program. Its own lines on that are left out."""
-        need_rt()
-        command = ["rt", "try", "--steps", "4000000000", "--seconds", "600", "--", *self.words]
-        status, output, said = self.trace.run(command, cwd=f"{TOP}/crates/{self.program}")
+        command = [f"{kit()}/bin/rt", "try", "--steps", "4000000000", "--seconds", "600", "--", *self.words]
+        status, output, said = self.run(command, cwd=self.crate.folder)
         status = status if re.search("^run=ended ", said, re.M) else 70
         said = re.sub("^(checked: |races: |run=).*\n", "", said, flags=re.M)
         self.finish(status, output, said)
         say(line)
         return status, output, said
 
-    def answer_first(self):
-        """On a terminal, where the program is to be built: an answer at once, and the proof of it behind."""
-        say("the program is to be proved and built first: meanwhile the answer of an UNPROVED run, in up to a minute")
-        first = self.unproved("this was an UNPROVED run; now it is proved. Ctrl-C leaves what is proved by then, "
-                              "and the next call goes on from there")
-        build([self.program])
-        second = self.proved(True)
-        if first[:2] == second[:2] and second[2] in first[2]:
-            say("the proved program gives the same bytes")
-            return second[0]
-        say("the proved program gives OTHER bytes, and these count:")
-        return self.finish(*second)
-
     def finish(self, status, output, said):
-        """Prints the output, if it was kept, and what was said; then one line for people behind it."""
+        """Prints the output, if it was kept, and what was said; then one line for people behind it, where there is more to say."""
         if output and "--json" in self.own and status == 0:
-            if subprocess.run([f"{TOP}/tools/report2json"], input=output, check=False).returncode != 0:
+            if subprocess.run([f"{TOP}/tools/report2json"], input=output, preexec_fn=child, check=False).returncode != 0:
                 raise Stop(4, "the report couldn't be written as JSON")
         elif output and not write(output):
             raise Stop(4, "the report couldn't be written")
         write(said.encode(), 2)
-        if line := self.why(status, said):
-            say(line)
+        fault = re.search(r"^trace fault (\d+) \w+ row (\d+)$", said, re.M)
+        if status == 64:
+            say(f"{judge(self.words) or 'the program knows no such words'} (see ./replay --help)")
+        elif said == "memory fault 11 OutOfMemory\n" and self.memory != "unlimited":
+            say(f"{self.which}: it takes more memory than the program may have, {self.memory} MiB (REPLAY_MEMORY sets that)")
+        elif status not in (0, 141) and not said:  # (141: who read the report has enough)
+            say(f"{self.crate.name} ended with status {status}, and no line of it is there")
+        elif fault and len(self.kept) <= MOST_KEPT and (why := self.explain(int(fault[1]), int(fault[2]))):
+            say(f"{self.which}{why}")
         return status
 
-    def why(self, status, said):
-        """The line for people; none where there is nothing more to say."""
-        number, row = ([("", "")] + re.findall(r"^trace fault (\d+) \w+(?: row (\d+))?$", said, re.M))[-1]
-        if status == 64:
-            return f"{judge(self.words) or 'the program knows no such words'} (see ./replay --help)"
-        if said == "memory fault 11 OutOfMemory\n" and self.memory != "unlimited":
-            return f"{self.trace.which}: it takes more memory than the program may have, {self.memory} MiB (REPLAY_MEMORY sets that)"
-        if status not in (0, 141) and not said:  # (141: who read the report has enough)
-            return f"{self.program} ended with status {status}, and no line of it is there"
-        if not row or len(self.trace.kept) > MOST_EXPLAINED:
-            return ""
-        from explain import explain
-        return explain(bytes(self.trace.kept), int(number), int(row), self.trace.name)
+    def explain(self, fault, row):
+        """The line, its text and the likely cause. A row counts records: nothing is told where its line isn't known for sure."""
+        data = bytes(self.kept)
+        for first, packed in PACKED.items():
+            if fault == 1 and re.match(first, data):
+                return f": the file is {packed}{' ' + shlex.quote(self.name) if self.name else ''} | ./replay"
+        text = data.decode("latin-1").removeprefix("\xef\xbb\xbf")
+        by_cr = "\n" not in text and re.search("\r[^\r]", text)
+        lines = [f"{it.rstrip(chr(13))}\n" for it in re.split("\r" if by_cr else "\n", text)]
+        csv.field_size_limit(1 << 30)
+        reader, empty, at = csv.reader(lines), 0, 0
+        try:
+            for record, fields in enumerate(reader):
+                if fields and record - empty == row:
+                    break
+                empty, at = empty + (not fields), reader.line_num
+            else:
+                return f": there is no line with text in it: the first one has to be {HEADER}" if row == 0 else ""
+        except csv.Error:
+            return ""  # a CR inside a line ends a record too, and what is a line of such a file is anybody's guess
+        line = lines[at].rstrip("\n")
+        why = next((why for pattern, why in CAUSES.items() if re.match(pattern, f"{fault} {line}")), "see the faults in docs/FORMATS.md")
+        if reader.line_num == len(lines) and re.search(r'(^|,)"[^"]*\Z', "".join(lines[at:])):
+            why = "a quote that it opens isn't closed, so all that follows is one field"
+        why += "; the empty lines above it are no rows" * bool(empty) + "; its lines end by CR alone, and are counted so" * bool(by_cr)
+        why = why.format(fields=len(fields), others="semicolons" if ";" in line else "tabs")
+        return f" line {at + 1}, {quoted(line, 60)}: {why}"
 
 
 if __name__ == "__main__":
-    end_by(lambda: Call(sys.argv[1:]).answer())
+    end_by(lambda given: Call(given).answer())
