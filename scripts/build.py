@@ -186,17 +186,17 @@ def prove(asked):
             else:
                 crate.end(status, since)
             del AT_WORK[crate]
-        for behind, crate in enumerate(left):
-            if len(AT_WORK) < lanes and {*left, *AT_WORK}.isdisjoint(crate.all[:-1]):
-                # Each further process loads the libraries anew, so only the longest chain has some.
-                jobs = 1 if behind or lanes == 1 else max(processors - len(AT_WORK), 2)
-                AT_WORK[crate] = crate.begin(jobs, behind)
-        is_begun, left = not AT_WORK.keys().isdisjoint(left), [it for it in left if it not in AT_WORK]
+        ready = [it for it in left if {*left, *AT_WORK}.isdisjoint(it.all[:-1])][: max(lanes - len(AT_WORK), 0)]
+        for behind, crate in enumerate(ready):
+            # Each further process loads the libraries anew, so only the longest chain has some, of the processors that no other needs.
+            jobs = 1 if behind or lanes == 1 else max(processors - len(AT_WORK) - len(ready) + 1, 2)
+            AT_WORK[crate] = crate.begin(jobs, behind // 2)
+        left = [it for it in left if it not in AT_WORK]
         minutes, seconds = divmod((time.time_ns() - since) // 10**9, 60)
         line = f"crate {len(every) - len(left)} of {len(every)} ({' '.join(it.name for it in AT_WORK)}), {minutes}:{seconds:02}"
         if os.isatty(2):
             write(f"{CLEAR}replay: {line}"[:82].encode() if AT_WORK else CLEAR.encode(), 2)
-        elif is_begun:
+        elif ready:
             say(line)
         time.sleep(0.1)
     say(f"{names}: proved and built, in {(time.time_ns() - since) // 10**9} s")
