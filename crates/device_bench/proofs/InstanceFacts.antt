@@ -3,7 +3,7 @@ use Rattle.std.proofs.Common.{◌≡◌, ◌∙◌, ℕ, Bool, true, false, List
 use Rattle.std.{proofs.Common.{refl, subst, sum, sym, take}, specs.Prelude.{◌||◌, if◌then◌else◌, is_some, min, nat_le, not}}
 use Rattle.std.proofs.lemmas.{Bool.{leb-false, leb-true}, List.{length-take, take_all}}
 use Rattle.napi_model.specs.declared.state.{Flags.Flags, Kind.Kind, State.State}
-use Rattle.napi_model.specs.declared.event.{Call.Call, Done.{Done, TheVariants.{Released, Again}}, Operation.Operation}
+use Rattle.napi_model.specs.declared.event.{Call.Call, Done.{Done, TheVariants.{Released, Again, Held}}, Operation.Operation}
 use Rattle.napi_model.specs.declared.event.Operation.TheVariants.{Look, Take, Hand, Complete, BusyTake}
 use Rattle.napi_model.specs.Step.{Polls, after, call_of, complete_reply, event, seen_of}
 use Rattle.poll_runs.specs.Plan.{Answers, Deed, Does, Follows, Plan, gave, made, ◌>>=◌, ends, asks, acts, polls}
@@ -30,6 +30,7 @@ is_answered call.BusyTake (Look x) s a i =
     (subst (λ (f : Flags). ¬ ((f.disable ≡ false) × (f.sched ≡ false) × (f.in_busy_poll ≡ false))) same a)) i
 is_answered call.BusyTake o s a i = cc a
 is_answered c BusyTake s a i = cc a
+is_answered call.Complete (Complete Held) s a i = absurd a
 is_answered c o s a i = i ∙ ap (λ (x : Call). answered x s) a
 
 -- ---- plans
@@ -40,12 +41,12 @@ pub carried : {A : Type 0} (plan : Plan ℕ A) (deeds : List (Deed ℕ)) (a : A)
 unfolding carried_out
 carried (ends x) deeds a d e f g = (f.1, subst (λ (l : List (Deed ℕ)). Did d l e) f.0 g)
 carried (asks c go) deeds a d e f g =
-    let here = f.5 ∙ ap (λ (os : List Operation). map made os ++ f.2) f.3.1 in
+    let here = f.6 ∙ ap (λ (os : List Operation). map made os ++ f.2) f.4 in
     let did = subst (λ (l : List (Deed ℕ)). Did d l e) here g in
     subst (λ (o : Operation). (a ≡ (carried_out (go o) (acted o d)).0) × (e ≡ (carried_out (go o) (acted o d)).1))
-    (is_answered c f.0 d.side.napi f.3.0 did.0) (carried (go f.0) f.2 a (acted f.0 d) e f.4 did.1)
+    (is_answered c f.0 d.side.napi f.3 did.0) (carried (go f.0) f.2 a (acted f.0 d) e f.5 did.1)
 carried (acts o plan) deeds a d e f g =
-    let here = f.4 ∙ ap (λ (os : List Operation). map made os ++ f.1) f.2.1 in
+    let here = f.4 ∙ ap (λ (os : List Operation). map made os ++ f.1) f.2 in
     let did = subst (λ (l : List (Deed ℕ)). Did d l e) here g in
     carried plan f.1 a (acted o d) e f.3 did.1
 carried (polls weight go) deeds a d e f g =
@@ -71,11 +72,10 @@ carried-then (polls weight go) next d = carried-then (go (take weight d.side.pac
 
 pub does-call : {A : Type 0} (c : Call) (o : Operation) (go : Operation → A) (d e : DeviceView) → Answers c o → IsAnswer o d.side.napi
     → e ≡ acted o d → Does AtOnce Did (asks c (λ x. ends (go x))) d (go o) e
-does-call c o go d e a i is = (made o ∷ [], (i, is), (o, o ∷ [], [], (a, refl), (refl, refl), refl))
+does-call c o go d e a i is = (made o ∷ [], (i, is), (o, o ∷ [], [], a, refl, (refl, refl), refl))
 
-pub does-act : (o : Operation) (d e : DeviceView) → Answers (call_of o) o → IsAnswer o d.side.napi → e ≡ acted o d
-    → Does AtOnce Did (makes o) d tt e
-does-act o d e a i is = (made o ∷ [], (i, is), (o ∷ [], [], (a, refl), (refl, refl), refl))
+pub does-act : (o : Operation) (d e : DeviceView) → IsAnswer o d.side.napi → e ≡ acted o d → Does AtOnce Did (makes o) d tt e
+does-act o d e i is = (made o ∷ [], (i, is), (o ∷ [], [], refl, (refl, refl), refl))
 
 pub took-hands : (taken : Bool) (k : Kind) (s : State) → (taken ≡ true → s.flags.in_busy_poll ≡ false)
     → let t = after s (event (taker_of k) (Take k taken)) in MatchBool taken (Polls (poller_in t.place) false t) (Unit {0})
@@ -140,8 +140,9 @@ does-complete d e again hand to is = by d.side.napi.flags.missed refl
             Complete Again,
             Complete Again ∷ [],
             made (Look x) ∷ made (Hand k) ∷ [],
-            (refl, refl),
-            (Look x, Look x ∷ [], made (Hand k) ∷ [], (refl, refl), (Hand k ∷ [], [], (refl, refl), (refl, refl), refl), refl),
+            refl,
+            refl,
+            (Look x, Look x ∷ [], made (Hand k) ∷ [], refl, refl, (Hand k ∷ [], [], refl, (refl, refl), refl), refl),
             refl,
           ),
         )
@@ -151,5 +152,5 @@ does-complete d e again hand to is = by d.side.napi.flags.missed refl
         rw none (
           made (Complete Released) ∷ [],
           (ap (λ (r : Done). Complete r) (sym reply), rw (reply, none) at is),
-          (Complete Released, Complete Released ∷ [], [], (refl, refl), (refl, refl), refl),
+          (Complete Released, Complete Released ∷ [], [], refl, refl, (refl, refl), refl),
         )

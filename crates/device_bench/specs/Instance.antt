@@ -1,7 +1,7 @@
 -- A device, in the sight of one that polls it.
 use Rattle.std.specs.Prelude.{◌≡◌, ℕ, true, false, List, [], ◌∷◌, take}
 use Rattle.napi_model.specs.{Step.{Polls, answer_of, call_of}, declared.{event.{Call.Call, Operation.Operation}, state.State.State}}
-use Rattle.{napi_model.specs.declared.event.Operation.TheVariants.BusyTake, poll_runs.specs.Plan.{Answers, Deed, gave, made}}
+use Rattle.{napi_model.specs.declared.event.Operation.TheVariants.BusyTake, poll_runs.specs.Plan.{Deed, gave, made}}
 use Rattle.device_bench.specs.{Device.{acted, polled}, DeviceView.DeviceView, Receive.{is_idle, poller_in}}
 use Rattle.device_bench.specs.declared.device.TheConstants.{POLLER}
 
@@ -14,7 +14,7 @@ IsPolledBusily d = Polls POLLER true d.side.napi
 
 -- a call comes to its answer at once
 abbrev pub AtOnce : Call → Operation → List Operation → Type 0
-AtOnce c o os = Answers c o × (os ≡ o ∷ [])
+AtOnce c o os = os ≡ o ∷ []
 
 -- in this state a call comes to this operation
 abbrev pub IsAnswer : Operation → State → Type 0

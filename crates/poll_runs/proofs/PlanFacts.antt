@@ -8,8 +8,8 @@ pub follows-then : {P A B : Type 0} (tries : Call → Operation → List Operati
     → Follows tries plan first a → Follows tries (next a) second b → Follows tries (plan >>= next) (first ++ second) b
 follows-then tries (ends x) next first second a b f g = rw (f.0, ← f.1) g
 follows-then tries (asks c go) next first second a b f g =
-    let joined = ap (λ (l : List (Deed _)). l ++ second) f.5 ∙ append_assoc (map made f.1) f.2 second in
-    (f.0, f.1, f.2 ++ second, f.3, follows-then tries (go f.0) next f.2 second a b f.4 g, joined)
+    let joined = ap (λ (l : List (Deed _)). l ++ second) f.6 ∙ append_assoc (map made f.1) f.2 second in
+    (f.0, f.1, f.2 ++ second, f.3, f.4, follows-then tries (go f.0) next f.2 second a b f.5 g, joined)
 follows-then tries (acts o plan) next first second a b f g =
     let joined = ap (λ (l : List (Deed _)). l ++ second) f.4 ∙ append_assoc (map made f.0) f.1 second in
     (f.0, f.1 ++ second, f.2, follows-then tries plan next f.1 second a b f.3 g, joined)

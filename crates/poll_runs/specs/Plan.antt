@@ -1,6 +1,7 @@
 -- What a poller does at an instance and its ring, by what it is answered.
 use Rattle.std.specs.Prelude.{◌≡◌, ℕ, ◌≤◌, List, [], ◌∷◌, ◌++◌, length, map}
-use Rattle.napi_model.specs.{declared.event.{Call.Call, Operation.{Operation, TheVariants.Look}}, Step.{MayBusyTake, call_of}}
+use Rattle.napi_model.specs.{declared.event.{Call.Call, Operation.{Operation, TheVariants.{Look, Complete}}}, Step.{MayBusyTake, call_of}}
+use Rattle.napi_model.specs.declared.event.Done.TheVariants.{Held}
 use Rattle.napi_model.specs.declared.event.Call.TheVariants as call
 
 -- calls and polls, one after the other, until the answer is there
@@ -37,9 +38,11 @@ given [] = []
 given (made o ∷ deeds) = given deeds
 given (gave weight packets ∷ deeds) = packets ++ given deeds
 
--- what a call may come to; to take an instance for busy polling is refused where a look shows that it isn't idle
+-- What a call may come to. To take an instance for busy polling is refused where a look shows that it isn't idle; a completion that
+-- is held is no answer, for who busy polls knows that it is.
 abbrev pub Answers : Call → Operation → Type 0
 Answers call.BusyTake (Look x) = ¬ MayBusyTake x.flags
+Answers call.Complete (Complete Held) = ⊥
 Answers c o = call_of o ≡ c
 
 -- `tries c o os`: by the operations os, of which o decides, the call c comes to o
@@ -49,7 +52,7 @@ module _ {P : Type 0} (tries : Call → Operation → List Operation → Type 0)
   Follows (ends a) deeds answer = (deeds ≡ []) × (answer ≡ a)
   Follows (asks c go) deeds answer =
       (o : Operation) × (os : List Operation) × (rest : List (Deed P))
-      × tries c o os × Follows (go o) rest answer × (deeds ≡ map made os ++ rest)
+      × Answers c o × tries c o os × Follows (go o) rest answer × (deeds ≡ map made os ++ rest)
   Follows (acts o plan) deeds answer =
       (os : List Operation) × (rest : List (Deed P))
       × tries (call_of o) o os × Follows plan rest answer × (deeds ≡ map made os ++ rest)

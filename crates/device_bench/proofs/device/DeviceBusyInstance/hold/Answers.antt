@@ -7,4 +7,4 @@ pub returns-clause-does : goal.returns-clause-does
 returns-clause-does g c =
     let hand = rw (← c.self.view_is) at c.requires in
     rw (← c.self.view_is)
-    (does-act (Complete Held) _ _ refl (rw hand.1 refl) (rw (c.hold.ensures, c.saturating_add-self-inside.ensures) refl))
+    (does-act (Complete Held) _ _ (rw hand.1 refl) (rw (c.hold.ensures, c.saturating_add-self-inside.ensures) refl))

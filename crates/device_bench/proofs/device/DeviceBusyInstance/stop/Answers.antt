@@ -4,4 +4,4 @@ use Rattle.device_bench.proofs.InstanceFacts.{does-act}
 use Rattle.device_bench.proofs.device.DeviceBusyInstance.stop.Goals as goal
 
 pub returns-clause-does : goal.returns-clause-does
-returns-clause-does g c = rw (← c.self.view_is) (does-act BusyStop _ _ refl refl (rw c.stop.ensures.side refl))
+returns-clause-does g c = rw (← c.self.view_is) (does-act BusyStop _ _ refl (rw c.stop.ensures.side refl))
