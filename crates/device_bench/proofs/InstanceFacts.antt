@@ -5,7 +5,7 @@ use Rattle.std.proofs.lemmas.{Bool.{leb-false, leb-true}, List.{length-take, tak
 use Rattle.napi_model.specs.declared.state.{Flags.Flags, Kind.Kind, State.State}
 use Rattle.napi_model.specs.declared.event.{Call.Call, Done.{Done, TheVariants.{Released, Again, Held}}, Operation.Operation}
 use Rattle.napi_model.specs.declared.event.Operation.TheVariants.{Look, Take, Hand, Complete, BusyTake}
-use Rattle.napi_model.specs.Step.{Polls, after, call_of, complete_reply, event, seen_of}
+use Rattle.napi_model.specs.Step.{Polls, after, complete_reply, event, seen_of}
 use Rattle.poll_runs.specs.Plan.{Answers, Deed, Does, Follows, Plan, gave, made, ◌>>=◌, ends, asks, acts, polls}
 use Rattle.poll_runs.specs.Polling.{busy_takes, completed, flags_in, gives, is_taken, makes, next_of}
 use Rattle.device_bench.specs.Device.{acted, carried_out, polled, told_after, with_napi}

@@ -35,16 +35,16 @@ pub decides : (c : ℕ) (s : State) (call : Call) (o : Operation) (os : List Ope
     → IsLegalBy c o s × (state_after s (events c os) ≡ after s (event c o))
 unfolding LegalHistory state_after
 decides c s call (Complete done.Released) os t l =
-    let d = decided c s t.1.0 os (Look t.1.1 ∷ Complete done.Released ∷ []) t.1.2 l in (d.1.1.0.0, leads c s os _ d.0)
+    let d = decided c s t.0 os (Look t.1 ∷ Complete done.Released ∷ []) t.2 l in (d.1.1.0.0, leads c s os _ d.0)
 decides c s call (Complete done.Again) os t l =
-    let d = decided c s t.1.0 os (Look t.1.1 ∷ Complete done.Again ∷ []) t.1.2 l in (d.1.1.0.0, leads c s os _ d.0)
+    let d = decided c s t.0 os (Look t.1 ∷ Complete done.Again ∷ []) t.2 l in (d.1.1.0.0, leads c s os _ d.0)
 decides c s call BusyStop os t l =
-    let d = decided c s t.1.0 os (Look t.1.1 ∷ BusyStop ∷ []) t.1.2 l in (d.1.1.0.0, leads c s os _ d.0)
+    let d = decided c s t.0 os (Look t.1 ∷ BusyStop ∷ []) t.2 l in (d.1.1.0.0, leads c s os _ d.0)
 decides c s call BusyTake os t l =
-    let d = decided c s t.1.0 os (Look t.1.1 ∷ BusyTake ∷ []) t.1.3 l in (d.1.1.0.0, leads c s os _ d.0)
+    let d = decided c s t.0 os (Look t.1 ∷ BusyTake ∷ []) t.3 l in (d.1.1.0.0, leads c s os _ d.0)
 decides c s call.BusyTake (Look x) os t l =
-    let d = decided c s t.1.0 os (Look x ∷ []) t.1.1 l in (d.1.0.0, leads c s os _ d.0)
-decides c s call o os t l = ((legal_as c s os (o ∷ []) t.1 l).0.0, leads c s os (o ∷ []) t.1)
+    let d = decided c s t.0 os (Look x ∷ []) t.1 l in (d.1.0.0, leads c s os _ d.0)
+decides c s call o os t l = ((legal_as c s os (o ∷ []) t l).0.0, leads c s os (o ∷ []) t)
 
 -- ---- the answer is the one of the state
 
@@ -68,6 +68,7 @@ answer_is c s call.BusyTake (Look x) a l =
     rw busy (ap (λ (x : Seen). Look x) l)
 answer_is c s call.BusyTake o a l = cc a
 answer_is c s call BusyTake a l = cc a
+answer_is c s call.Complete (Complete done.Held) a l = absurd a
 answer_is c s call o a l = legal_answer c o s l ∙ ap (λ (x : Call). answered x s) a
 
 -- ---- plans
@@ -119,12 +120,12 @@ pub comes_to : {A : Type 0} (c : ℕ) (plan : Plan Packet A) (s : State) (os : L
 unfolding state_after
 comes_to c (ends x) s os a m l = (m.1, leads c s os [] (sym (operations-made os) ∙ ap operations m.0))
 comes_to c (asks call go) s os a m l =
-    let d = call_decided c s call m.0 os m.1 m.2 m.3 m.5 l in
-    let behind = subst (λ (deeds : List (Deed Packet)). Follows Tries (go m.0) deeds a) (sym d.2) m.4 in
+    let d = call_decided c s call m.0 os m.1 m.2 m.4 m.6 l in
+    let behind = subst (λ (deeds : List (Deed Packet)). Follows Tries (go m.0) deeds a) (sym d.2) m.5 in
     let rest = comes_to c (go m.0) (after s (event c m.0)) d.1 a behind d.3 in
     subst (λ (o : Operation). (a ≡ (alone c (go o) (after s (event c o))).0)
     × (state_after s (events c os) ≡ (alone c (go o) (after s (event c o))).1))
-    (answer_is c s call m.0 m.3.0 d.0) (rest.0, d.4 ∙ rest.1)
+    (answer_is c s call m.0 m.3 d.0) (rest.0, d.4 ∙ rest.1)
 comes_to c (acts o plan) s os a m l =
     let d = call_decided c s (call_of o) o os m.0 m.1 m.2 m.4 l in
     let behind = subst (λ (deeds : List (Deed Packet)). Follows Tries plan deeds a) (sym d.2) m.3 in

@@ -5,11 +5,11 @@ use Rattle.{rx_ring.specs.declared.packet.Packet.Packet, napi_word.specs.declare
 use Rattle.napi_calls.{specs.Made.Made, proofs.Making.more}
 use Rattle.napi_model.specs.{Step.call_of, declared.{state.{Kind.Kind, Seen.Seen}, event.Call.Call}}
 use Rattle.napi_model.specs.declared.event.Operation.{Operation, TheVariants.{Look, Hand, Complete, BusyTake, BusyStop}}
-use Rattle.poll_runs.specs.Plan.{Deed, Follows, Plan, ends, asks, acts, polls, given, made, operations, ◌>>=◌}
+use Rattle.poll_runs.specs.Plan.{Answers, Deed, Follows, Plan, ends, asks, acts, polls, given, made, operations, ◌>>=◌}
 use Rattle.poll_runs.specs.declared.bench.Next.{Next, TheVariants.{Absent, Gone, Again, Repoll}}
 use Rattle.poll_runs.specs.Polling.{Given, completed, completed_by, ended, flags_in, found, handed, is_again, is_taken, kind_for}
 use Rattle.poll_runs.{specs.Polling.{let_go, makes, polled_once}, proofs.PlanFacts.follows-then}
-use Rattle.poll_shared.specs.Tries.{Makes, TriedBy, Tries, TriesFor}
+use Rattle.poll_shared.specs.Tries.{Makes, Tries, TriesFor}
 use Rattle.napi_model.specs.declared.event.Done.TheVariants as done
 use Rattle.napi_model.specs.declared.event.Call.TheVariants as call
 
@@ -19,7 +19,7 @@ filled : (os : List Operation) (o : Operation) (ps : List Operation) → os ++ o
 filled [] o ps = λ e. cc
 filled (b ∷ bs) o ps = λ e. cc
 
-tried-some : (c : Call) (o : Operation) (os : List Operation) → TriedBy c o os → os ≢ []
+tried-some : (c : Call) (o : Operation) (os : List Operation) → Tries c o os → os ≢ []
 tried-some c (Complete done.Released) os t = λ none. filled _ _ _ (sym t.2 ∙ none)
 tried-some c (Complete done.Again) os t = λ none. filled _ _ _ (sym t.2 ∙ none)
 tried-some c BusyStop os t = λ none. filled _ _ _ (sym t.2 ∙ none)
@@ -39,8 +39,8 @@ made-some (o ∷ os) rest deeds some e = rw e (λ none. cc)
 pub begun : {A : Type 0} (plan : Plan Packet A) (deeds : List (Deed Packet)) (a : A) → IsMade plan → Follows Tries plan deeds a
     → operations deeds ≢ []
 begun (ends a) deeds b is f = absurd is
-begun (asks c go) deeds a is f = made-some f.1 f.2 deeds (tried-some c f.0 f.1 f.3.1) f.5
-begun (acts o plan) deeds a is f = made-some f.0 f.1 deeds (tried-some _ o f.0 f.2.1) f.4
+begun (asks c go) deeds a is f = made-some f.1 f.2 deeds (tried-some c f.0 f.1 f.4) f.6
+begun (acts o plan) deeds a is f = made-some f.0 f.1 deeds (tried-some _ o f.0 f.2) f.4
 begun (polls weight go) deeds a is f = absurd is
 
 pub operations-made : (os : List Operation) → operations {P = Packet} (map made os) ≡ os
@@ -58,9 +58,9 @@ given-none (o ∷ os) = given-none os
 -- ---- single calls
 
 -- a call, and nothing behind it
-pub asked : {A : Type 0} (c : Call) (read : Operation → A) (o : Operation) (os : List Operation) → Tries c o os
+pub asked : {A : Type 0} (c : Call) (read : Operation → A) (o : Operation) (os : List Operation) → Answers c o → Tries c o os
     → Makes (asks c (λ o. ends (read o))) os (read o)
-asked c read o os t = (o, os, [], t, (refl, refl), sym (append-nil (map made os)))
+asked c read o os a t = (o, os, [], a, t, (refl, refl), sym (append-nil (map made os)))
 
 pub acted : (o : Operation) (os : List Operation) → Tries (call_of o) o os → Makes (makes o) os tt
 acted o os t = (os, [], t, (refl, refl), sym (append-nil (map made os)))
@@ -68,7 +68,7 @@ acted o os t = (os, [], t, (refl, refl), sym (append-nil (map made os)))
 pub handed-by : (x : Seen) (k : Kind) → k ≡ kind_for x.flags → Makes (handed true) (Look x ∷ Hand k ∷ []) k
 handed-by x k e =
     let o = Hand (kind_for x.flags) in
-    rw e (Look x, Look x ∷ [], made o ∷ [], (refl, refl), (o ∷ [], [], (refl, refl), (refl, refl), refl), refl)
+    rw e (Look x, Look x ∷ [], made o ∷ [], refl, refl, (o ∷ [], [], refl, (refl, refl), refl), refl)
 
 pub handed-some : (thread : Bool) (os : List Operation) (k : Kind) → Makes (handed thread) os k → os ≢ []
 handed-some false os k m = rw operations-made at (begun (handed false) (map made os) k tt m)
@@ -76,7 +76,7 @@ handed-some true os k m = rw operations-made at (begun (handed true) (map made o
 
 pub completed-released : (thread : Bool) (os : List Operation) → TriesFor call.Complete (Complete done.Released ∷ []) os
     → Makes (completed thread) os Gone
-completed-released thread os t = (Complete done.Released, os, [], (refl, t), (refl, refl), sym (append-nil (map made os)))
+completed-released thread os t = (Complete done.Released, os, [], refl, t, (refl, refl), sym (append-nil (map made os)))
 
 -- granted again, it is handed over
 pub completed-again : (thread : Bool) (os ps : List Operation) (k : Kind) → TriesFor call.Complete (Complete done.Again ∷ []) os
@@ -85,7 +85,8 @@ completed-again thread os ps k t m = (
   Complete done.Again,
   os,
   map made ps,
-  (refl, t),
+  refl,
+  t,
   rw append-nil at (follows-then Tries (handed thread) (λ k. ends (Again k)) (map made ps) [] k (Again k) m (refl, refl)),
   map-append made os ps,
 )
@@ -115,7 +116,7 @@ kept : {A : Type 0} (is : A → Type 0) (plan : Plan Packet A) (deeds : List (De
     → Follows Tries plan deeds a → (given deeds ≡ []) × is a
 kept is (ends a) deeds b k f = (ap given f.0, rw f.1 k)
 kept is (asks c go) deeds a k f =
-    let rest = kept is (go f.0) f.2 a (k f.0) f.4 in (ap given f.5 ∙ given-made f.1 f.2 ∙ rest.0, rest.1)
+    let rest = kept is (go f.0) f.2 a (k f.0) f.5 in (ap given f.6 ∙ given-made f.1 f.2 ∙ rest.0, rest.1)
 kept is (acts o plan) deeds a k f =
     let rest = kept is plan f.1 a k f.3 in (ap given f.4 ∙ given-made f.0 f.1 ∙ rest.0, rest.1)
 kept is (polls weight go) deeds a k f = absurd k
@@ -152,7 +153,7 @@ let-go-keeps packets next g t = t
 pub once-tells : (thread : Bool) (weight : ℕ) (deeds : List (Deed Packet)) (g : Given Packet)
     → Follows Tries (polled_once thread weight) deeds g
     → (given deeds ≡ g.packets) × (g.once.work ≡ length g.packets) × (g.once.next ≡ Absent → g.packets ≡ [])
-once-tells thread weight deeds g f = rw (f.5, given-made) (by (is_taken f.0) f.2 f.4)
+once-tells thread weight deeds g f = rw (f.6, given-made) (by (is_taken f.0) f.2 f.5)
   where
     by : (taken : Bool) (rest : List (Deed Packet)) → Follows Tries (found thread weight taken) rest g
         → (given rest ≡ g.packets) × (g.once.work ≡ length g.packets) × (g.once.next ≡ Absent → g.packets ≡ [])

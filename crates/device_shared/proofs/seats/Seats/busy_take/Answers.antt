@@ -20,7 +20,7 @@ returns-clause-acts g c =
           let m = e.events in
           rw (w.pollers-is, was) (
             _,
-            asked call.BusyTake is_taken BusyTake _ (refl, (m.0, m.1, m.2, refl)),
+            asked call.BusyTake is_taken BusyTake _ refl (m.0, m.1, m.2, refl),
             first_turn _ _ _ _ refl seats (taken _ _ _ m.3 e.packets w.in-Ok-busy.busy.has) refl refl,
           )
       | in-Err-busy w ↦
@@ -28,7 +28,7 @@ returns-clause-acts g c =
           let m = e.events in
           rw (w.pollers-is, was) (
             _,
-            asked call.BusyTake is_taken (Look m.1) _ (m.2, (m.0, refl)),
+            asked call.BusyTake is_taken (Look m.1) _ m.2 (m.0, refl),
             first_turn _ _ _ _ refl seats (quiet _ _ _ m.3 e.packets) refl refl,
           )
     ]

@@ -9,7 +9,7 @@ returns-clause-acts g c =
     let m = e.events in
     let was = c.in-On.is ∙ ap (λ (x : Pollers). On x c.in-On.enabled) c.in-PollsBusily.is in (
       _,
-      (refl, (m.0, m.1, refl)),
+      (m.0, m.1, refl),
       first_turn c.args.self.interrupt c.args.self.turn _ _ was c.requires.seats
           (held _ _ _ _ m.2 e.packets e.ctx) refl refl,
     )

@@ -11,7 +11,7 @@ returns-in-Ok-clause-does g c =
     let e = c.in-Ok.ensures.events in
     seat_does busy_takes _ (Rests c.caller.result) _ (PollsBusily c.in-Ok.busy) _ _ _ _ _
     (c.caller.ensures.was, c.caller.ensures.gone, c.put.ensures) refl refl tt e.3
-    (asked call.BusyTake is_taken BusyTake _ (refl, (e.0, e.1, e.2, refl)))
+    (asked call.BusyTake is_taken BusyTake _ refl (e.0, e.1, e.2, refl))
     (taken_packets c.caller.result.pass c.in-Ok.busy.pass c.in-Ok.busy.ctx c.in-Ok.ensures.packets)
 
 pub returns-in-Err-clause-does : goal.returns-in-Err-clause-does
@@ -19,5 +19,5 @@ returns-in-Err-clause-does g c =
     let e = c.in-Err.ensures.events in
     seat_does busy_takes _ (Rests c.caller.result) _ (Rests c.in-Err.caller) _ _ _ _ _
     (c.caller.ensures.was, c.caller.ensures.gone, c.put-in-Err.ensures) refl refl tt e.3
-    (asked call.BusyTake is_taken (Look e.1) _ (e.2, (e.0, refl)))
+    (asked call.BusyTake is_taken (Look e.1) _ e.2 (e.0, refl))
     (delivers_none c.caller.result.pass c.in-Err.caller.pass c.in-Err.ensures.packets)

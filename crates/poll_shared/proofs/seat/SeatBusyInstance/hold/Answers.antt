@@ -9,5 +9,5 @@ returns-clause-does g c =
     let e = c.busy-busy.ensures in
     let o = Complete Held in
     seat_does (makes o) _ (PollsBusily c.busy-busy.result) _ (PollsBusily c.complete_held.new.self) _ _ _ (o ∷ []) tt
-    (e.was, e.gone, c.put.ensures) refl refl tt c.complete_held.ensures.event (acted o (o ∷ []) (refl, refl))
+    (e.was, e.gone, c.put.ensures) refl refl tt c.complete_held.ensures.event (acted o (o ∷ []) refl)
     (held_packets _ _ _ _ c.complete_held.ensures.packets c.complete_held.ensures.event.seat.number c.complete_held.ensures.ctx)

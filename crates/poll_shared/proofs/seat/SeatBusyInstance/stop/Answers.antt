@@ -9,5 +9,5 @@ returns-clause-does g c =
     let e = c.busy.ensures in
     let s = c.stop-polling.ensures.events in
     seat_does (makes BusyStop) _ (PollsBusily c.busy.result) _ (Polls c.stop-polling.result) _ _ _ _ tt (e.was, e.gone, c.put.ensures)
-    refl refl tt s.2 (acted BusyStop _ (refl, (s.0, s.1, refl)))
+    refl refl tt s.2 (acted BusyStop _ (s.0, s.1, refl))
     (held_packets _ _ _ _ c.stop-polling.ensures.packets s.2.seat.number c.stop-polling.ensures.ctx)

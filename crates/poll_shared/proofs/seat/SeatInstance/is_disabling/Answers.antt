@@ -11,6 +11,6 @@ returns-clause-does g c =
     let o = Look c.look-seen.result in
     seat_does disabling _ (Polls c.polling-polling.result) _ (Polls c.look-seen.new.self) _ _ _ (o ∷ []) _
     (e.was, e.gone, c.put.ensures) refl refl tt c.look-seen.ensures.event
-    (asked call.Look (λ o. (flags_in o).disable) o (o ∷ []) (refl, refl))
+    (asked call.Look (λ o. (flags_in o).disable) o (o ∷ []) refl refl)
     (held_packets c.polling-polling.result.pass c.look-seen.new.self.pass c.polling-polling.result.ctx c.look-seen.new.self.ctx
     c.look-seen.ensures.packets c.look-seen.ensures.event.seat.number c.look-seen.ensures.ctx)

@@ -9,5 +9,5 @@ returns-clause-does g c =
     let e = c.polling.ensures in
     let o = Hand kind.List in
     seat_does (makes o) _ (Polls c.polling.result) _ (Rests c.requeue-caller.result) _ _ _ (o ∷ []) tt (e.was, e.gone, c.put.ensures)
-    refl refl tt c.requeue-caller.ensures.event (acted o (o ∷ []) (refl, refl))
+    refl refl tt c.requeue-caller.ensures.event (acted o (o ∷ []) refl)
     (back_packets _ _ _ c.requeue-caller.ensures.packets c.requeue-caller.ensures.event.seat.number)
