@@ -1,6 +1,6 @@
 -- A call of a caller's seat at a shared instance.
-use Rattle.std.proofs.Common.{◌≡◌, ◌≢◌, ◌∙◌, ◌≤◌, ℕ, List, [], ◌∷◌, ◌++◌, length, drop, map, Some, ap, refl, sym, append-nil, append_assoc}
-use Rattle.rx_ring.specs.{declared.{packet.Packet.Packet, ends.RxCtx.RxCtx}, Ends.received_list}
+use Rattle.std.proofs.Common.{◌≡◌, ◌≢◌, ◌∙◌, ◌≤◌, ℕ, List, [], ◌∷◌, ◌++◌, length, drop, map, Option, Some, ap, refl, sym, append-nil, append_assoc}
+use Rattle.rx_ring.specs.{declared.{packet.Packet.Packet, ends.RxCtx.RxCtx}, Ends.{GivesNext, received_list}}
 use Rattle.napi_model.specs.declared.event.Operation.{Operation}
 use Rattle.napi_word.specs.{declared.table.Pass.Pass, View.{own_deliveries, packets_of}}
 use Rattle.napi_calls.specs.{Made.Made, Packets.{GivesBack, HoldsOn, IsFresh, own_delivered, polled}, Seats.number_of, Dealt.Delivers}
@@ -8,7 +8,7 @@ use Rattle.napi_calls.{specs.declared.types.Caller.Caller, proofs.Dealing.{deliv
 use Rattle.poll_runs.specs.{Plan.{Deed, Does, Plan, gave, given, made, operations}, Polling.{HasLast, gives}}
 use Rattle.poll_runs.specs.declared.bench.Next.{Next, TheVariants.Absent}
 use Rattle.poll_shared.specs.declared.seat.{Hold.{Hold, TheVariants.{Gone, Rests}}, Seat.Seat}
-use Rattle.poll_shared.specs.{Seat.{MadeBy, SeatDid, packets_by, pass_of}, Tries.{Makes, Tries}}
+use Rattle.poll_shared.specs.{Seat.{GivesEach, MadeBy, SeatDid, ctx_of, packets_by, pass_of}, Tries.{Makes, Tries}}
 use Rattle.poll_shared.proofs.TriesFacts.{IsMade, begun, given-none, operations-made}
 
 -- ---- the packets of one who has the context: those delivered, and those polled since
@@ -46,6 +46,15 @@ made-of : (os : List Operation) (p q : Pass) → os ≢ [] → MadeBy os (Some p
 made-of [] p q some m = absurd (some refl)
 made-of (o ∷ os) p q some m = m
 
+-- operations are no polls
+gives-any : (o : Operation) (os : List Operation) (x y : Option RxCtx) → GivesEach x (made o ∷ map made os) y
+gives-any o [] x y = (y, refl)
+gives-any o (u ∷ os) x y = (x, gives-any u os x y)
+
+gives-none : (os : List Operation) (x y : Option RxCtx) → os ≢ [] → GivesEach x (map made os) y
+gives-none [] x y some = absurd (some refl)
+gives-none (o ∷ os) x y some = gives-any o os x y
+
 module _ {R : Type 0} where
   -- the seat after its caller went into a call and came out of it
   abbrev pub Back : Seat R → Hold → Seat R → Hold → Seat R → Type 0
@@ -53,9 +62,9 @@ module _ {R : Type 0} where
 
   pub seat_did : (s : Seat R) (before : Hold) (gone : Seat R) (after : Hold) (t : Seat R) (deeds : List (Deed Packet))
       → Back s before gone after t → MadeBy (operations deeds) (pass_of before) (pass_of after)
-      → packets_by after ≡ packets_by before ++ given deeds → SeatDid s deeds t
-  seat_did s before gone after t deeds b m g =
-      rw (b.2, b.1) (record { thread = refl; made = rw b.0 m; gave = rw b.0 g })
+      → packets_by after ≡ packets_by before ++ given deeds → GivesEach (ctx_of before) deeds (ctx_of after) → SeatDid s deeds t
+  seat_did s before gone after t deeds b m g e =
+      rw (b.2, b.1) (record { thread = refl; made = rw b.0 m; gave = rw b.0 g; each = rw b.0 e })
 
   -- a call that polls nothing
   pub seat_does : {A : Type 0} (plan : Plan Packet A) (s : Seat R) (before : Hold) (gone : Seat R) (after : Hold) (t : Seat R) (p q : Pass)
@@ -64,18 +73,20 @@ module _ {R : Type 0} where
   seat_does plan s before gone after t p q os a b was is first m f none =
       let some : os ≢ [] = rw operations-made at (begun plan (map made os) a first f) in (
         map made os,
-        seat_did s before gone after t (map made os) b (rw (operations-made, was, is) (made-by os p q some m)) (rw given-none none),
+        seat_did s before gone after t (map made os) b (rw (operations-made, was, is) (made-by os p q some m)) (rw given-none none)
+            (gives-none os (ctx_of before) (ctx_of after) some),
         f,
       )
 
   -- a poll, which makes no operation
-  pub seat_gives : (s : Seat R) (before : Hold) (gone : Seat R) (after : Hold) (t : Seat R) (weight : ℕ) (packets : List Packet)
-      → Back s before gone after t → pass_of after ≡ pass_of before → length packets ≤ weight
-      → packets_by after ≡ packets_by before ++ packets → Does Tries SeatDid (gives weight) s packets t
-  seat_gives s before gone after t weight packets b same fits more = (
+  pub seat_gives : (s : Seat R) (before : Hold) (gone : Seat R) (after : Hold) (t : Seat R) (x y : RxCtx) (weight : ℕ)
+      (packets : List Packet) → Back s before gone after t → pass_of after ≡ pass_of before → ctx_of before ≡ Some x
+      → ctx_of after ≡ Some y → GivesNext weight x y packets → packets_by after ≡ packets_by before ++ packets
+      → Does Tries SeatDid (gives weight) s packets t
+  seat_gives s before gone after t x y weight packets b same was is next more = (
     gave weight packets ∷ [],
-    seat_did s before gone after t (gave weight packets ∷ []) b same (rw append-nil more),
-    (packets, [], fits, (refl, refl), refl),
+    seat_did s before gone after t (gave weight packets ∷ []) b same (rw append-nil more) (rw (was, is) (y, next, refl)),
+    (packets, [], next.poll.0, (refl, refl), refl),
   )
 
   -- what was done from caller to caller: the operations made, and the packets that are delivered

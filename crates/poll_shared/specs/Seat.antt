@@ -1,9 +1,9 @@
 -- What the calls of a caller's seat at a shared instance do.
 use Rattle.std.specs.Prelude.{◌≡◌, List, [], ◌∷◌, ◌++◌, Option, Some, None}
-use Rattle.rx_ring.specs.declared.{packet.Packet.Packet}
+use Rattle.rx_ring.specs.{Ends.GivesNext, declared.{ends.RxCtx.RxCtx, packet.Packet.Packet}}
 use Rattle.{napi_model.specs.declared.event.Operation.Operation, napi_word.specs.{declared.table.Pass.Pass, View.packets_of}}
 use Rattle.napi_calls.specs.{declared.types.Napi.Napi, Instance.IsSeatOf, Made.Made, Packets.{own_delivered, polled}}
-use Rattle.{poll_runs.specs.Plan.{Deed, given, operations}, poll_shared.specs.declared.seat.{Hold.Hold, Seat.Seat}}
+use Rattle.{poll_runs.specs.Plan.{Deed, gave, given, made, operations}, poll_shared.specs.declared.seat.{Hold.Hold, Seat.Seat}}
 use Rattle.poll_shared.specs.declared.seat.Hold.TheVariants.{Rests, Polls, PollsBusily, Gone}
 
 abbrev pub pass_of : Hold → Option Pass
@@ -11,6 +11,11 @@ pass_of (Rests c) = Some c.pass
 pass_of (Polls w) = Some w.pass
 pass_of (PollsBusily b) = Some b.pass
 pass_of Gone = None
+
+abbrev pub ctx_of : Hold → Option RxCtx
+ctx_of (Polls w) = Some w.ctx
+ctx_of (PollsBusily b) = Some b.ctx
+ctx_of _ = None
 
 -- the packets that its caller polled so far: those that it delivered, and behind them those that it polled since it took the
 -- context
@@ -25,6 +30,15 @@ abbrev pub MadeBy : List Operation → Option Pass → Option Pass → Type 0
 MadeBy [] p q = q ≡ p
 MadeBy (o ∷ os) (Some p) (Some q) = Made p (o ∷ os) q
 MadeBy (o ∷ os) _ _ = ⊥
+
+-- each poll gave the context's next packets, and no fewer than were known and its weight allows; what an operation does to the
+-- context is said by its call
+abbrev pub GivesEach : Option RxCtx → List (Deed Packet) → Option RxCtx → Type 0
+GivesEach x [] y = y ≡ x
+GivesEach x (made o ∷ deeds) y = (next : Option RxCtx) × GivesEach next deeds y
+GivesEach (Some x) (gave weight packets ∷ deeds) y =
+    (next : RxCtx) × GivesNext weight x next packets × GivesEach (Some next) deeds y
+GivesEach None (gave weight packets ∷ deeds) y = ⊥
 
 abbrev pub IsRest : Napi → Hold → Type 0
 IsRest napi (Rests c) = IsSeatOf napi c.pass
@@ -53,3 +67,4 @@ module _ {R : Type 0} where
     pub thread : t.thread ≡ s.thread
     pub made : MadeBy (operations deeds) (pass_of s.hold) (pass_of t.hold)
     pub gave : packets_by t.hold ≡ packets_by s.hold ++ given deeds
+    pub each : GivesEach (ctx_of s.hold) deeds (ctx_of t.hold)

@@ -1,9 +1,9 @@
 -- What a seat does joins, deed after deed.
 use Rattle.std.proofs.Common.{◌≡◌, ◌∙◌, List, [], ◌∷◌, ◌++◌, Option, Some, None, append-nil, append_assoc, ap, refl, subst, sym}
-use Rattle.{rx_ring.specs.declared.packet.Packet.Packet, napi_model.specs.declared.event.Operation.Operation}
+use Rattle.{rx_ring.specs.declared.{ends.RxCtx.RxCtx, packet.Packet.Packet}, napi_model.specs.declared.event.Operation.Operation}
 use Rattle.{napi_word.specs.declared.table.Pass.Pass, napi_calls.proofs.Making.more}
 use Rattle.poll_runs.specs.Plan.{Deed, gave, given, made, operations}
-use Rattle.poll_shared.specs.{Seat.{MadeBy, SeatDid, packets_by, pass_of}, declared.seat.Seat.Seat}
+use Rattle.poll_shared.specs.{Seat.{GivesEach, MadeBy, SeatDid, ctx_of, packets_by, pass_of}, declared.seat.Seat.Seat}
 
 MadeBy-append : (first second : List Operation) (p q r : Option Pass) → MadeBy first p q → MadeBy second q r → MadeBy (first ++ second) p r
 MadeBy-append [] second p q r m n = subst (λ (x : Option Pass). MadeBy second x r) m n
@@ -13,6 +13,14 @@ MadeBy-append (o ∷ os) (u ∷ us) (Some p) (Some q) (Some r) m n = more u us m
 MadeBy-append (o ∷ os) (u ∷ us) (Some p) (Some q) None m n = absurd n
 MadeBy-append (o ∷ os) (u ∷ us) (Some p) None r m n = absurd m
 MadeBy-append (o ∷ os) (u ∷ us) None q r m n = absurd m
+
+GivesEach-append : (first second : List (Deed Packet)) (x y z : Option RxCtx) → GivesEach x first y → GivesEach y second z
+    → GivesEach x (first ++ second) z
+GivesEach-append [] second x y z m n = subst (λ (u : Option RxCtx). GivesEach u second z) m n
+GivesEach-append (made o ∷ first) second x y z m n = (m.0, GivesEach-append first second m.0 y z m.1 n)
+GivesEach-append (gave weight packets ∷ first) second (Some x) y z m n =
+    (m.0, m.1, GivesEach-append first second (Some m.0) y z m.2 n)
+GivesEach-append (gave weight packets ∷ first) second None y z m n = absurd m
 
 operations-append : (first second : List (Deed Packet)) → operations (first ++ second) ≡ operations first ++ operations second
 operations-append [] second = refl
@@ -27,7 +35,7 @@ given-append (gave weight packets ∷ first) second =
 
 module _ {R : Type 0} where
   pub seat_nothing : (it : Seat R) → SeatDid it [] it
-  seat_nothing it = record { thread = refl; made = refl; gave = sym (append-nil (packets_by it.hold)) }
+  seat_nothing it = record { thread = refl; made = refl; gave = sym (append-nil (packets_by it.hold)); each = refl }
 
   pub seat_joins : (a b c : Seat R) (first second : List (Deed Packet)) → SeatDid a first b → SeatDid b second c
       → SeatDid a (first ++ second) c
@@ -39,4 +47,5 @@ module _ {R : Type 0} where
     gave = n.gave ∙ ap (λ (l : List Packet). l ++ given second) m.gave
         ∙ append_assoc (packets_by a.hold) (given first) (given second)
         ∙ ap (λ (l : List Packet). packets_by a.hold ++ l) (sym (given-append first second));
+    each = GivesEach-append first second (ctx_of a.hold) (ctx_of b.hold) (ctx_of c.hold) m.each n.each;
   }
