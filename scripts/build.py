@@ -1,6 +1,5 @@
 """What ./replay and build.sh prove and build by. Libraries stand in a folder of their own, with their statements alone as `rt ci` leaves
-them: `rt lib` keeps the proofs too, and a check over those loads several times as much. So the kit's `rattle` is called here as `rt ci`
-calls it, and an edited crate is proved anew.
+them: a check over their proofs, which `rt lib` keeps, loads several times as much. So `rattle` is called here as `rt ci` calls it.
 """
 import contextlib
 import ctypes
@@ -22,7 +21,6 @@ BUILT = f"{TOP}/.git/built" if os.path.isdir(f"{TOP}/.git") else f"{CACHE}/finta
 AT_WORK = {}  # the crates that are being built, and the process of each
 CLEAR = "\r\033[K"  # the line of a terminal that one writes over
 LIBC = ctypes.CDLL(None)
-PARENT = os.getpid()
 
 
 class Stop(Exception):
@@ -47,13 +45,12 @@ def say(line):
     write(f"{CLEAR if AT_WORK and os.isatty(2) else ''}replay: {line}\n".encode(errors="surrogateescape"), 2)
 
 
-def interrupt(number, _):
-    say("interrupted" + "; each crate that was proved is kept" * bool(AT_WORK))
-    os._exit(130 if number == signal.SIGINT else 143)
-
-
 def end_by(call):
     """Ends this process as the call ends, by its status or by a line and a status; or by a signal's. What it began ends with it."""
+    def interrupt(number, _):
+        say("interrupted" + "; each crate that was proved is kept" * bool(AT_WORK))
+        os._exit(130 if number == signal.SIGINT else 143)
+
     for it in (signal.SIGINT, signal.SIGTERM, signal.SIGHUP):
         if signal.getsignal(it) != signal.SIG_IGN:
             signal.signal(it, interrupt)
@@ -68,8 +65,6 @@ def end_by(call):
 def child(behind=0, memory=0):
     """What a process of this one does as it begins: it ends with this one, however that ends, and stands so far behind others."""
     LIBC.prctl(1, signal.SIGTERM)  # PR_SET_PDEATHSIG
-    if os.getppid() != PARENT:
-        os._exit(1)
     os.nice(3 * behind)
     signal.signal(signal.SIGPIPE, signal.SIG_DFL)
     soft, hard = resource.getrlimit(resource.RLIMIT_AS)
@@ -161,8 +156,7 @@ def to_build(asked):
         if not crate.is_built() or any(it in every for it in crate.all):
             every.append(crate)
     for crate in reversed(every):
-        # In bytes, which are what the build takes at least.
-        chain[crate] = sum(it.st_size for it in crate.texts()) + max((chain[it] for it in chain if crate in it.all), default=0)
+        chain[crate] = sum(it.st_size for it in crate.texts()) + max((chain[it] for it in chain if crate in it.all), default=0)  # bytes
     return sorted(every, key=chain.get, reverse=True)
 
 
@@ -171,35 +165,32 @@ def prove(asked):
     names, since, left = " and ".join(it.name for it in asked), time.time_ns(), to_build(asked)
     every = {*left}
     processors = len(os.sched_getaffinity(0))
-    memory = int(re.search(r"MemAvailable: *(\d+)", read("/proc/meminfo"))[1])
-    lanes = min(max(memory // 2_500_000, 1), processors)  # a check may take so many kB
+    lanes = min(max(int(re.search(r"MemAvailable: *(\d+)", read("/proc/meminfo"))[1]) // 2_500_000, 1), processors)  # kB of a check
     say(f"proving and building {names} and what they stand on, {len(every)} crates: on 4 cores some {len(every) // 2 + 1} minutes")
     # No old one answers for new sources, nor does one over other libraries than those that stand.
     old = [it.made for it in crates().values() if not every.isdisjoint(it.all) and (it.is_library or it in every)]
     subprocess.run(["rm", "-rf", *old], check=False)
     while left or AT_WORK:
         for crate in [it for it, process in AT_WORK.items() if process.poll() is not None]:
-            status = AT_WORK[crate].returncode
-            if status == -signal.SIGKILL and lanes > 1:  # most likely for memory
-                lanes = 1  # and it is begun again, alone
-                left.insert(0, crate)
+            status = AT_WORK.pop(crate).returncode
+            if status == -signal.SIGKILL and lanes > 1:  # most likely for memory: it is begun again, alone
+                lanes, left = 1, [crate, *left]
             else:
                 crate.end(status, since)
-            del AT_WORK[crate]
         ready = [it for it in left if {*left, *AT_WORK}.isdisjoint(it.all[:-1])][: max(lanes - len(AT_WORK), 0)]
         for behind, crate in enumerate(ready):
-            # Each further process loads the libraries anew, so only the longest chain has some, of the processors that no other needs.
-            jobs = 1 if behind or lanes == 1 else max(processors - len(AT_WORK) - len(ready) + 1, 2)
-            AT_WORK[crate] = crate.begin(jobs, behind // 2)
+            # Each further process loads the libraries anew, so only the longest chains have some, of the processors that no other needs.
+            jobs = 1 if behind > 1 or lanes == 1 else max(processors - len(AT_WORK) - len(ready) + 1, 2)
+            AT_WORK[crate] = crate.begin(jobs, max(behind - 2, 0))
         left = [it for it in left if it not in AT_WORK]
-        minutes, seconds = divmod((time.time_ns() - since) // 10**9, 60)
-        line = f"crate {len(every) - len(left)} of {len(every)} ({' '.join(it.name for it in AT_WORK)}), {minutes}:{seconds:02}"
+        seconds = (time.time_ns() - since) // 10**9
+        line = f"crate {len(every) - len(left)} of {len(every)} ({' '.join(it.name for it in AT_WORK)}), {seconds} s"
         if os.isatty(2):
             write(f"{CLEAR}replay: {line}"[:82].encode() if AT_WORK else CLEAR.encode(), 2)
         elif ready:
             say(line)
         time.sleep(0.1)
-    say(f"{names}: proved and built, in {(time.time_ns() - since) // 10**9} s")
+    say(f"{names}: proved and built, in {seconds} s")
 
 
 def build(names):

@@ -11,12 +11,10 @@ from build import TOP, Stop, build, child, crates, end_by, kit, read, say, write
 from words import RANGES, judge, quoted
 
 MOST_KEPT = 8 << 20  # no trace is longer unless it is padded
-UNREADABLE = {errno.ENOENT: "{}: there is no such file", errno.ENXIO: "{}: this is a socket, not a trace",
-              errno.EISDIR: "{}: this is a folder, not a trace", errno.EAGAIN: "{}: a read of it failed",
-              errno.EBADF: "no trace: standard input is closed"}
+UNREADABLE = {errno.ENOENT: "there is no such file", errno.ENXIO: "this is a socket, not a trace", errno.EBADF: "this is closed",
+              errno.EISDIR: "this is a folder, not a trace", errno.EAGAIN: "a read of it failed"}
 HEADER = "moment,device,event,value"
-# What begins a file that isn't text at all.
-PACKED = {
+PACKED = {  # by what the file begins with
     rb"\x1f\x8b": "packed by gzip: gunzip -c",
     rb"\x28\xb5\x2f\xfd": "packed by zstd: zstd -dc",
     rb"\xfd7zX": "packed by xz: xz -dc",
@@ -24,8 +22,7 @@ PACKED = {
     rb"\xff\xfe|m\x00": "in UTF-16: iconv -f UTF-16LE -t UTF-8",
     rb"\xfe\xff|\x00m": "in UTF-16: iconv -f UTF-16BE -t UTF-8",
 }
-# By the fault's number and the line behind it: the first that fits.
-CAUSES = {
+CAUSES = {  # by the fault's number and the line behind it: the first that fits
     "1 .*[;\t]": "the fields have {others} between them, and need commas",
     "1 ": f"the first line has to be {HEADER}, in lower case and without spaces, or {HEADER},2 for version 2",
     "2 [ \t]+$": "a line of spaces is a row; an empty line is none",
@@ -53,18 +50,16 @@ CAUSES = {
 
 def shown(name):
     """As it is where it can be printed, else as a word of bash, so that no terminal acts on it."""
-    text = re.sub(rb"[^ -~]|['\\]", lambda it: b"\\%03o" % ord(it[0]), os.fsencode(name)).decode()
-    return name if name.isprintable() else f"$'{text}'"
+    return name if name.isprintable() else "$'%s'" % re.sub(rb"[^ -~]|['\\]", lambda it: b"\\%03o" % ord(it[0]), os.fsencode(name)).decode()
 
 
 def version():
-    def told(*command):
-        return subprocess.run(["/usr/bin/env", *command], capture_output=True, text=True, check=False).stdout.strip()
-
+    sources, of_kit = (subprocess.run(["/usr/bin/env", *it], capture_output=True, text=True, check=False).stdout.strip()
+                       for it in (("git", "-C", TOP, "describe", "--always", "--dirty"), ("rt", "version")))
     serial, every = ("proved and built" if crates()[name].is_built() else "not built here yet" for name in ("napi_serial", "napi_replay"))
     return (f"replay of Fintaqush: the NAPI polling of Linux 6.6, traces of version 1 and 2\n"
-            f"sources: {told('git', '-C', TOP, 'describe', '--always', '--dirty') or 'no git history here'}\n"
-            f"program of serial mode: {serial}\nprogram of every mode: {every}\nkit: {told('rt', 'version') or 'no rt on PATH'}\n")
+            f"sources: {sources or 'no git history here'}\n"
+            f"program of serial mode: {serial}\nprogram of every mode: {every}\nkit: {of_kit or 'no rt on PATH'}\n")
 
 
 class Call:
@@ -133,7 +128,7 @@ class Call:
             end = os.open(self.files[0], os.O_RDONLY | (os.O_NONBLOCK if os.path.isfile(self.files[0]) else 0)) if self.name else 0
             os.read(end, 0)  # a folder can be opened too
         except OSError as error:
-            return UNREADABLE.get(error.errno, "{}: it can't be read: " + error.strerror.lower()).format(self.which)
+            return f"{self.which}: " + UNREADABLE.get(error.errno, f"it can't be read: {error.strerror.lower()}")
         self.rest = iter(lambda: os.read(end, 1 << 16), b"")
         return ""
 
@@ -165,8 +160,7 @@ class Call:
         output, said = process.communicate()
         if self.failed:
             raise self.failed
-        status = process.returncode
-        return status if status >= 0 else 128 - status, output, said.decode(errors="replace")
+        return 128 - status if (status := process.returncode) < 0 else status, output, said.decode(errors="replace")
 
     def unproved(self, line):
         """`rt try` runs the sources without their proofs, and leaves no program. Its own lines on that are left out."""
@@ -180,11 +174,9 @@ class Call:
 
     def finish(self, status, output, said):
         """Prints the output, if it was kept, and what was said; then one line for people behind it, where there is more to say."""
-        if output and "--json" in self.own and status == 0:
-            if subprocess.run([f"{TOP}/tools/report2json"], input=output, preexec_fn=child, check=False).returncode != 0:
-                raise Stop(4, "the report couldn't be written as JSON")
-        elif output and not write(output):
-            raise Stop(4, "the report couldn't be written")
+        is_json, to_json = "--json" in self.own and status == 0, [f"{TOP}/tools/report2json"]
+        if output and (subprocess.run(to_json, input=output, preexec_fn=child).returncode if is_json else not write(output)):
+            raise Stop(4, f"the report couldn't be written{' as JSON' * is_json}")
         write(said.encode(), 2)
         fault = re.search(r"^trace fault (\d+) \w+ row (\d+)$", said, re.M)
         if status == 64:
@@ -200,9 +192,8 @@ class Call:
     def explain(self, fault, row):
         """The line, its text and the likely cause. A row counts records: nothing is told where its line isn't known for sure."""
         data = bytes(self.kept)
-        for first, packed in PACKED.items():
-            if fault == 1 and re.match(first, data):
-                return f": the file is {packed}{' ' + shlex.quote(self.name) if self.name else ''} | ./replay"
+        if packed := next((packed for first, packed in PACKED.items() if fault == 1 and re.match(first, data)), ""):
+            return f": the file is {packed}{' ' + shlex.quote(self.name) if self.name else ''} | ./replay"
         text = data.decode("latin-1").removeprefix("\xef\xbb\xbf")
         by_cr = "\n" not in text and re.search("\r[^\r]", text)
         lines = [f"{it.rstrip(chr(13))}\n" for it in re.split("\r" if by_cr else "\n", text)]
@@ -226,5 +217,4 @@ class Call:
         return f" line {at + 1}, {quoted(line, 60)}: {why}"
 
 
-if __name__ == "__main__":
-    end_by(lambda given: Call(given).answer())
+end_by(lambda given: Call(given).answer())

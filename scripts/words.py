@@ -1,7 +1,5 @@
-"""words.py WORD ..: what is wrong with the first bad one of these words for the replay program, its range and the nearest option;
-nothing where the program takes them all."""
+"""The words of the replay program: their ranges, and what is wrong with some."""
 import re
-import sys
 
 MOST = {"--pollers": 8, "--budget": 65535, "--weight": 64, "--window": 65535}
 MODES = ("serial", "shared", "threads")
@@ -23,6 +21,7 @@ def nearest(word, options):
 
 
 def judge(words):
+    """What is wrong with the first bad one of these, its range and the nearest option; nothing where the program takes them all."""
     rest, seen = iter(words), set()
     for word in rest:
         option, is_given, value = word.partition("=") if word.startswith("--") else (word, "", "")
@@ -40,7 +39,3 @@ def judge(words):
             near = option == "--mode" and nearest(value, MODES)
             return f"{option} {quoted(value)}: its value is {RANGES[option]}{f'; is {near} meant?' if near else ''}"
     return ""
-
-
-if __name__ == "__main__":
-    print(judge(sys.argv[1:]))

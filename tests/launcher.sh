@@ -26,6 +26,7 @@ tries() {
     done 3<&0 < /dev/null
 }
 replay() { timeout --foreground 300 "$launcher" "$@"; }
+judged() { PYTHONPATH=$top/scripts python3 -Bc 'import sys, words; print(words.judge(sys.argv[1:]))' "$@"; }
 built() { replay trace.csv "$@" > made 2>&1; }
 on_terminal() { python3 -c 'import os, pty, sys; sys.exit(os.waitstatus_to_exitcode(pty.spawn(sys.argv[1:])))' "$@" < /dev/null; }
 as_nobody() { if [ "$(id -u)" = 0 ]; then setpriv --reuid=65534 --regid=65534 --clear-groups "$@"; else "$@"; fi; }
@@ -93,11 +94,10 @@ printf '%s\n0,1,Rx,9\n' "$header" | tee bad.csv > $'bad\e[31m\u202e.csv'
 (umask 077 && cp trace.csv secret.csv && chmod 000 secret.csv)
 python3 -c 'import socket; socket.socket(socket.AF_UNIX).bind("socket")'
 # The tools that the launcher takes, and no `rt`.
-mkdir few deep
+mkdir few deep && cp "$(command -v sleep)" slow
 for tool in env sh dirname readlink cat; do ln -s "$(command -v "$tool")" "few/$tool"; done
 ln -s "$(as_nobody sh -c 'command -v python3')" few/python3
 ln -s "$small/replay" deep/link && ln -s link deep/link-of-a-link
-cp "$(command -v sleep)" slow
 cat > reset.py << 'END'
 import os, socket, subprocess, sys
 listens = socket.create_server(("127.0.0.1", 0))
@@ -112,7 +112,7 @@ events='the event is none of open rx tx done softirq kthread disable enable thre
 'in lower case and without spaces'
 number='moment, device and value are one to twenty digits, without sign, space or fraction'
 empty='the empty lines above it are no rows' fields='a row has four fields, and this one has' h="$header\\n"
-words=$top/scripts/words.py all='--mode --pollers --budget --weight --window --unproved --json --build --version --help'
+all='--mode --pollers --budget --weight --window --unproved --json --build --version --help'
 two=$top/examples/two-packets.csv
 
 # The real program, on files of these bytes: its fault, and the launcher's line.
@@ -177,7 +177,7 @@ small_checkout
 tries << END
 a first call by a symlink, from another folder, builds and replays; it says what it takes and where it is % \
 cd deep; PROVES='sleep 0.6' CDPATH=.. ./link-of-a-link ../trace.csv --budget 7; cd .. % 0 replay: proving and building napi_serial and \
-what they stand on, 4 crates: on 4 cores some 3 minutes|*|replay: crate 4 of 4 (napi_serial), 0:0*|\
+what they stand on, 4 crates: on 4 cores some 3 minutes|*|replay: crate 4 of 4 (napi_serial), * s|\
 replay: napi_serial: proved and built, in *|napi_serial --budget 7|$header
 libraries that need nothing begin side by side, one that needs another behind it, and the program last % head -n 2 rt.log | sort; \
 grep -e 'end low' -e 'begin high' rt.log; tail -n 1 rt.log % 0 begin low|begin side|end low|begin high|end napi_serial
@@ -236,12 +236,12 @@ standard input by - % replay --window 3 - < trace.csv % 0 napi_serial --window 3
 words that the program is to refuse reach it % replay '' -x -- --pollers < trace.csv % 0 napi_serial  -x -- --pollers|$header
 what it refuses is named % DOES='echo usage fault 64 >&2; exit 64' replay -x < trace.csv % 64 usage fault 64|replay: '-x' is no option: \
 they are $all (see ./replay --help)
-a bad value % python3 $words --weight 65 % 0 --weight '65': its value is a whole number, 1..=64
-a bad mode % python3 $words --mode sreial % 0 --mode 'sreial': its value is serial, shared or threads; is serial meant?
-a shortened word % python3 $words --budget 1 --bud % 0 '--bud' is no option: is --budget meant, a whole number, 1..=65535?
-a word without its value % python3 $words --pollers % 0 --pollers has no value: a whole number, 1..=8
-a word given twice % python3 $words --budget 1 --budget 2 % 0 --budget is given twice
-words that are well % python3 $words --budget=00300 --mode shared --window 65535 % 0 
+a bad value % judged --weight 65 % 0 --weight '65': its value is a whole number, 1..=64
+a bad mode % judged --mode sreial % 0 --mode 'sreial': its value is serial, shared or threads; is serial meant?
+a shortened word % judged --budget 1 --bud % 0 '--bud' is no option: is --budget meant, a whole number, 1..=65535?
+a word without its value % judged --pollers % 0 --pollers has no value: a whole number, 1..=8
+a word given twice % judged --budget 1 --budget 2 % 0 --budget is given twice
+words that are well % judged --budget=00300 --mode shared --window 65535 % 0 
 two files are refused % replay trace.csv bad.csv % 66 replay: two traces are named, trace.csv and bad.csv: replay one at a time
 a file that is not there % replay none.csv % 66 replay: none.csv: there is no such file
 a folder % replay deep % 66 replay: deep: this is a folder, not a trace
@@ -260,7 +260,7 @@ where two traces are named % replay - \$'bad\e[31m.csv' % 66 replay: two traces 
 in a word % replay none.csv --bad\$'\e[31m' % 64 replay: '--bad?[[]31m' is no option: *
 in its value % replay none.csv --pollers=\$'\e[31m' % 64 replay: --pollers '?[[]31m': its value is*
 
-a closed standard input is no trace % $launcher <&- % 66 replay: no trace: standard input is closed
+a closed standard input is no trace % $launcher <&- % 66 replay: standard input: this is closed
 and none is needed for a file % $launcher trace.csv <&- % 0 $answer
 nor a standard error % DOES=\$fails $launcher trace.csv 2>&- % 2 
 nor any of the three % DOES=\$fails $launcher trace.csv <&- >&- 2>&- % 2 
@@ -272,7 +272,7 @@ on a terminal without input: a usage text % on_terminal $launcher --budget 3 % 6
 where no terminal is, only proved bytes % change; replay trace.csv 2> made; ! grep -i unproved made % 0 $answer
 on a terminal an unproved answer comes first, once, and the proof of it then; the build writes one line over and over \
 % change; PROVES='sleep 0.6' on_terminal $launcher trace.csv --weight 4 % 0 $first|napi_serial --weight 4|$header|rt: a hint|$unproved|*\
-crate 1 of 3 (low), 0:0*crate 3 of 3*proved and built, in * s|replay: the proved program gives the same bytes
+crate 1 of 3 (low), 0 s*crate 3 of 3*proved and built, in * s|replay: the proved program gives the same bytes
 the next call replays % on_terminal $launcher trace.csv % 0 $answer
 so it does for a trace through a pipe % change; on_terminal bash -c '$launcher <(cat trace.csv)' % 0 *|$answer|*gives the same bytes
 one too long to be kept is replayed once % change; DOES='wc -c; exit' on_terminal bash -c 'head -c 70000000 /dev/zero | $launcher' % \

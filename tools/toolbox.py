@@ -392,9 +392,9 @@ def played(made, words, text):
 
 def why_refused(words):
     """What is wrong with words that the replay refused, as the launcher tells it, without its own options."""
-    import subprocess
-    done = subprocess.run([sys.executable, f"{TOP}/scripts/words.py", *words], stdin=subprocess.DEVNULL, capture_output=True, text=True, check=False)
-    return done.stdout.strip().split(": they are --")[0]
+    sys.path.append(f"{TOP}/scripts")
+    from words import judge
+    return judge(words).split(": they are --")[0]
 
 
 def run_program(made, words, text):
