@@ -62,10 +62,9 @@ def end_by(call):
     os._exit(status)
 
 
-def child(behind=0, memory=0):
-    """What a process of this one does as it begins: it ends with this one, however that ends, and stands so far behind others."""
+def child(memory=0):
+    """What a process of this one does as it begins: it ends with this one, however that ends, and has so many MiB."""
     LIBC.prctl(1, signal.SIGTERM)  # PR_SET_PDEATHSIG
-    os.nice(3 * behind)
     signal.signal(signal.SIGPIPE, signal.SIG_DFL)
     soft, hard = resource.getrlimit(resource.RLIMIT_AS)
     if memory and (soft == resource.RLIM_INFINITY or soft > memory << 20):
@@ -118,8 +117,8 @@ class Crate:
         except OSError:
             return False
 
-    def begin(self, jobs, behind):
-        """Begins to prove and to build it, by so many processes and so far behind others."""
+    def begin(self, jobs):
+        """Begins to prove and to build it, by so many processes."""
         root = "src/main.rt" if self.is_program else "src/lib.rt"
         command = [f"{kit()}/bin/rattle", "build", "--crate-name", self.name, root, "--jobs", str(jobs), "-o", f"{self.made}.new"]
         command += ["--antt-project", f"{kit()}/rattle/logic/antt-project.json", "--logic-built", f"{kit()}/logic_built"]
@@ -129,8 +128,9 @@ class Crate:
         command += ["--statements"] if self.is_library else ["--toolchain", f"{kit()}/toolchain", "--backend", "llvm"]
         command += ["--crate-type", "staticlib"] if self.is_archive else []
         with open(self.log, "wb") as log:
-            return subprocess.Popen(command, stdin=subprocess.DEVNULL, stdout=log, stderr=log, cwd=self.folder,
-                                    preexec_fn=lambda: child(behind))
+            process = subprocess.Popen(command, stdin=subprocess.DEVNULL, stdout=log, stderr=log, cwd=self.folder, preexec_fn=child)
+        process.jobs = jobs
+        return process
 
     def end(self, status, since):
         """Puts what was built in its place, as old as the build: what was changed meanwhile is newer."""
@@ -178,10 +178,10 @@ def prove(asked):
             else:
                 crate.end(status, since)
         ready = [it for it in left if {*left, *AT_WORK}.isdisjoint(it.all[:-1])][: max(lanes - len(AT_WORK), 0)]
-        for behind, crate in enumerate(ready):
-            # Each further process loads the libraries anew, so only the longest chains have some, of the processors that no other needs.
-            jobs = 1 if behind > 1 or lanes == 1 else max(processors - len(AT_WORK) - len(ready) + 1, 2)
-            AT_WORK[crate] = crate.begin(jobs, max(behind - 2, 0))
+        for at, crate in enumerate(ready, 1):
+            # Each further process loads the libraries anew, so there are some only on processors that no other crate needs.
+            idle = processors - sum(it.jobs for it in AT_WORK.values()) - len(ready[at:])
+            AT_WORK[crate] = crate.begin(1 if lanes == 1 else max(idle, 1))
         left = [it for it in left if it not in AT_WORK]
         seconds = (time.time_ns() - since) // 10**9
         line = f"crate {len(every) - len(left)} of {len(every)} ({' '.join(it.name for it in AT_WORK)}), {seconds} s"
