@@ -1,5 +1,6 @@
 -- A call of a caller's seat at a shared instance.
-use Rattle.std.proofs.Common.{◌≡◌, ◌≢◌, ◌∙◌, ◌≤◌, ℕ, List, [], ◌∷◌, ◌++◌, length, drop, map, Option, Some, ap, refl, sym, append-nil, append_assoc}
+use Rattle.std.proofs.Common.{◌≡◌, ◌≢◌, ◌∙◌, ℕ, List, [], ◌∷◌, ◌++◌, Option, Some, length, drop, map}
+use Rattle.std.proofs.Common.{ap, refl, sym, append-nil, append_assoc}
 use Rattle.rx_ring.specs.{declared.{packet.Packet.Packet, ends.RxCtx.RxCtx}, Ends.{GivesNext, received_list}}
 use Rattle.napi_model.specs.declared.event.Operation.{Operation}
 use Rattle.napi_word.specs.{declared.table.Pass.Pass, View.{own_deliveries, packets_of}}

@@ -8,8 +8,8 @@ returns-clause-does g c =
     let w = c.busy-busy.result in
     let p = c.poll-work.ensures in (
       _,
-      seat_gives _ (PollsBusily w) _ (PollsBusily c.poll-work.new.self) _ w.ctx c.poll-work.new.self.ctx c.args.weight c.poll-work.new.batch.items
-          (e.was, e.gone, c.put.ensures) (ap Some p.pass) refl refl p.next
+      seat_gives _ (PollsBusily w) _ (PollsBusily c.poll-work.new.self) _ w.ctx c.poll-work.new.self.ctx c.args.weight
+          c.poll-work.new.batch.items (e.was, e.gone, c.put.ensures) (ap Some p.pass) refl refl p.next
           (polled_packets w.pass c.poll-work.new.self.pass w.ctx c.poll-work.new.self.ctx c.poll-work.new.batch.items p.pass p.polled),
       refl,
       p.work,
