@@ -21,6 +21,7 @@ BUILT = f"{TOP}/.git/built" if os.path.isdir(f"{TOP}/.git") else f"{CACHE}/finta
 AT_WORK = {}  # the crates that are being built, and the process of each
 CLEAR = "\r\033[K"  # the line of a terminal that one writes over
 LIBC = ctypes.CDLL(None)
+PARENT = os.getpid()
 
 
 class Stop(Exception):
@@ -50,7 +51,6 @@ def end_by(call):
     def interrupt(number, _):
         say("interrupted" + "; each crate that was proved is kept" * bool(AT_WORK))
         os._exit(130 if number == signal.SIGINT else 143)
-
     for it in (signal.SIGINT, signal.SIGTERM, signal.SIGHUP):
         if signal.getsignal(it) != signal.SIG_IGN:
             signal.signal(it, interrupt)
@@ -65,6 +65,8 @@ def end_by(call):
 def child(memory=0):
     """What a process of this one does as it begins: it ends with this one, however that ends, and has so many MiB."""
     LIBC.prctl(1, signal.SIGTERM)  # PR_SET_PDEATHSIG
+    if os.getppid() != PARENT:
+        os._exit(1)
     signal.signal(signal.SIGPIPE, signal.SIG_DFL)
     soft, hard = resource.getrlimit(resource.RLIMIT_AS)
     if memory and (soft == resource.RLIM_INFINITY or soft > memory << 20):
@@ -88,7 +90,7 @@ def crates():
 
 class Crate:
     def __init__(self, name, kind, uses):
-        self.name, self.uses = name, uses
+        self.name, self.uses, self.jobs = name, uses, 1
         self.folder, self.log = f"{TOP}/crates/{name}", f"{BUILT}/{name}.log"
         self.is_program, self.is_archive = os.path.exists(f"{self.folder}/src/main.rt"), "staticlib" in kind
         self.is_library = not self.is_program and not self.is_archive
@@ -127,10 +129,9 @@ class Crate:
             command += ["--extern", f"{name}={BUILT if name in crates() else f'{kit()}/rlibs'}/{name}.rlib"]
         command += ["--statements"] if self.is_library else ["--toolchain", f"{kit()}/toolchain", "--backend", "llvm"]
         command += ["--crate-type", "staticlib"] if self.is_archive else []
+        self.jobs = jobs
         with open(self.log, "wb") as log:
-            process = subprocess.Popen(command, stdin=subprocess.DEVNULL, stdout=log, stderr=log, cwd=self.folder, preexec_fn=child)
-        process.jobs = jobs
-        return process
+            return subprocess.Popen(command, stdin=subprocess.DEVNULL, stdout=log, stderr=log, cwd=self.folder, preexec_fn=child)
 
     def end(self, status, since):
         """Puts what was built in its place, as old as the build: what was changed meanwhile is newer."""
@@ -163,8 +164,7 @@ def to_build(asked):
 def prove(asked):
     """Proves and builds these crates, and what they stand on as far as that isn't done."""
     names, since, left = " and ".join(it.name for it in asked), time.time_ns(), to_build(asked)
-    every = {*left}
-    processors = len(os.sched_getaffinity(0))
+    every, processors = {*left}, len(os.sched_getaffinity(0))
     lanes = min(max(int(re.search(r"MemAvailable: *(\d+)", read("/proc/meminfo"))[1]) // 2_500_000, 1), processors)  # kB of a check
     say(f"proving and building {names} and what they stand on, {len(every)} crates: on 4 cores some {len(every) // 2 + 1} minutes")
     # No old one answers for new sources, nor does one over other libraries than those that stand.
@@ -180,7 +180,7 @@ def prove(asked):
         ready = [it for it in left if {*left, *AT_WORK}.isdisjoint(it.all[:-1])][: max(lanes - len(AT_WORK), 0)]
         for at, crate in enumerate(ready, 1):
             # Each further process loads the libraries anew, so there are some only on processors that no other crate needs.
-            idle = processors - sum(it.jobs for it in AT_WORK.values()) - len(ready[at:])
+            idle = processors - sum(it.jobs for it in AT_WORK) - len(ready[at:])
             AT_WORK[crate] = crate.begin(1 if lanes == 1 else max(idle, 1))
         left = [it for it in left if it not in AT_WORK]
         seconds = (time.time_ns() - since) // 10**9

@@ -175,7 +175,7 @@ class Call:
     def finish(self, status, output, said):
         """Prints the output, if it was kept, and what was said; then one line for people behind it, where there is more to say."""
         is_json, to_json = "--json" in self.own and status == 0, [f"{TOP}/tools/report2json"]
-        if output and (subprocess.run(to_json, input=output, preexec_fn=child).returncode if is_json else not write(output)):
+        if output and (subprocess.run(to_json, input=output, preexec_fn=child, check=False).returncode if is_json else not write(output)):
             raise Stop(4, f"the report couldn't be written{' as JSON' * is_json}")
         write(said.encode(), 2)
         fault = re.search(r"^trace fault (\d+) \w+ row (\d+)$", said, re.M)
