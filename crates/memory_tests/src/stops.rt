@@ -1,4 +1,4 @@
-//! Memory that is refused to one poller's devices stops the acts of the others.
+//! Where memory is refused to a run no device acts, and where a thread is, the others stop.
 
 ghost use Rattle.std.specs.Prelude.{IfOk, vec_items};
 ghost use Rattle.std.specs.List.{All};
@@ -83,35 +83,42 @@ fn try_stations<'a>(
     Ok(stations)
 }
 
-// How many acts device 1 made in a run of two devices with a poller each, and whether memory, or a thread, was refused.
-fn count<R: Threads + Wait + Sync>(rt: &R, alloc: Global) -> Result<(u32, bool)> {
+// How many acts device 1 made in a run of two devices with a poller each, and what refused the run, if anything did.
+fn count<R: Threads + Wait + Sync>(rt: &R, alloc: Global) -> Result<(u32, Option<WorkFault>)> {
     let made = [AtomicU32::new(0), AtomicU32::new(0)];
     let gate = HoldsFirst {
         came: AtomicU32::new(0),
     };
     let Ok(stations) = try_stations(alloc, &made) else {
-        return Ok((0, true));
+        return Ok((0, Some(WorkFault::OutOfMemory)));
     };
     ensure!(have_distinct_numbers(&stations), "one number twice");
-    let refused = match run_workers(rt, alloc, stations, 2, 300, 64, 1024, &gate) {
-        Ok(_) => false,
-        Err(WorkFault::OutOfMemory | WorkFault::SpawnFailed) => true,
+    let fault = match run_workers(rt, alloc, stations, 2, 300, 64, 1024, &gate) {
+        Ok(_) => None,
         Err(WorkFault::GateShut) => return Err(WorkFault::GateShut.into()),
+        Err(fault) => Some(fault),
     };
-    Ok((made[0].load(Ordering::SeqCst), refused))
+    Ok((made[0].load(Ordering::SeqCst), fault))
 }
 
 pub(crate) fn acts_are_stopped<R: Threads + Wait + Sync>(rt: &R, alloc: Global) -> Result<bool> {
-    let (made, refused) = count(rt, alloc)?;
-    if !refused {
-        ensure!(made == ACTS, "{made} acts were made");
-        return Ok(false);
+    let (made, fault) = count(rt, alloc)?;
+    match fault {
+        None => {
+            ensure!(made == ACTS, "{made} acts were made");
+            return Ok(false);
+        }
+        Some(WorkFault::OutOfMemory) => {
+            ensure!(made == 0, "{made} acts were made without memory for the run");
+        }
+        Some(_) => {
+            ensure!(
+                made <= 1,
+                "{made} acts were made though another device's thread was refused"
+            );
+        }
     }
-    ensure!(
-        made <= 1,
-        "{made} acts were made though another poller's devices were refused"
-    );
-    let (again, refused) = count(rt, alloc)?;
-    ensure!(!refused && again == ACTS, "refused twice");
+    let (again, fault) = count(rt, alloc)?;
+    ensure!(fault.is_none() && again == ACTS, "refused twice");
     Ok(true)
 }

@@ -36,6 +36,7 @@ module _ {D : Type 0} where
 
   -- what goes to the threads and what stays behind are of one instance, and of one ring
   pub record IsSideOf (loose : Loose D) (placed : Placed) : Type 0 where
+    pub number : placed.number ≡ loose.number
     pub name : loose.number ≤ 16
     pub seats : AreSeatsOf placed.napi loose.seats
     pub controller : number_of loose.seats.control.pass ≡ controller_number

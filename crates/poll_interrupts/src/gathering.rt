@@ -1,9 +1,12 @@
-//! What the threads of a crew gave back comes to an end.
+//! What the threads of a run gave back comes to an end.
 
-ghost use Rattle.std.specs.Prelude.{◌≡◌, ◌≤◌, true, vec_items, vec_len, vec_capacity};
+ghost use Rattle.std.specs.Prelude.{◌≡◌, ◌≤◌, ◌<◌, true, length, slice_index_or, vec_items, vec_len, vec_capacity};
 ghost use Rattle.std.specs.List.{All, AllZip};
-ghost use Rattle.poll_interrupts.specs.Ends.{AreFinishesOf, IsCallerAt, IsDoneAt, IsFinishOf, IsTurnedAt};
+ghost use Rattle.poll_tasks.specs.Tasks.{EachAt};
+ghost use Rattle.poll_tasks.specs.declared.tasks.Turned.{Turned};
+ghost use Rattle.poll_interrupts.specs.Ends.{AreCallersAt, AreFinishesOf, IsCallerAt, IsDoneAt, IsFinishOf, IsTurnedAt, TakesNext};
 
+use crate::dealing::poller_of;
 use crate::job::Worked;
 use crate::opening::Placed;
 use crate::station::Finished;
@@ -43,37 +46,51 @@ fn end_one<R: Wait + Drop, D: Drop>(
     }
 }
 
-/// Ends all stations of a crew, in order. There is room for them.
+// The next one of the callers that a poller gave back.
+fn next_of<R: Wait + Drop>(
+    polled: &mut Vec<Turned<Vec<Kept<R, Caller>>>>,
+    poller: usize,
+) -> Kept<R, Caller>
+    requires within { poller < vec_len polled.old }
+    requires some { (turned : Turned _) → slice_index_or (vec_items polled.old) poller turned ≡ turned
+        → 1 ≤ vec_len turned.back }
+    ensures { TakesNext (vec_items polled.old) poller result (vec_items polled.new) }
+{
+    polled[poller].back.remove(0)
+}
+
+/// Ends all stations, in order. There is room for them.
 pub fn gather<R: Wait + Drop, D: Drop>(
     worked: Vec<Worked<R, D>>,
-    pollers: Vec<Kept<R, Caller>>,
+    polled: Vec<Turned<Vec<Kept<R, Caller>>>>,
     threads: Vec<Turned<Kept<R, Caller>>>,
     placed: Vec<Kept<R, Placed>>,
     room: Vec<Finished<D>>,
 ) -> Vec<Finished<D>>
+    requires some { 1 ≤ vec_len polled }
     requires dones { AllZip IsDoneAt (vec_items worked) (vec_items placed) }
-    requires pollers { AllZip IsCallerAt (vec_items pollers) (vec_items placed) }
+    requires callers { EachAt (AreCallersAt (length (vec_items polled)) (vec_items placed))
+        (vec_items polled) }
     requires threads { AllZip IsTurnedAt (vec_items threads) (vec_items placed) }
     requires empty { vec_len room ≡ 0 }
     requires room { vec_len worked ≤ vec_capacity room }
-    ensures { AreFinishesOf (vec_items worked) (vec_items pollers) (vec_items threads)
+    ensures { AreFinishesOf (vec_items worked) (vec_items polled) (vec_items threads)
         (vec_items result) }
 {
+    let pollers = polled.len();
+    let mut polled = polled;
     let mut finished = room;
     let mut dones = worked.into_iter();
-    let mut seats = pollers.into_iter();
     let mut sides = threads.into_iter();
     let mut all = placed.into_iter();
     while let Some(done) = dones.next() {
         let Some(placed) = all.next() else {
             unreachable!()
         };
-        let Some(poller) = seats.next() else {
-            unreachable!()
-        };
         let Some(thread) = sides.next() else {
             unreachable!()
         };
+        let poller = next_of(&mut polled, poller_of(done.number, pollers));
         finished.push_reserved(end_one(done, poller, thread.back, placed));
     }
     finished

@@ -12,7 +12,7 @@ mod worker;
 
 pub use act_list::ActList;
 pub use acts::{Act, Device};
-pub use dealing::{Dealt, deal, merge};
+pub use dealing::poller_of;
 pub use gathering::{are_whole, gather, have_turned};
 pub use job::{Job, Worked};
 pub use opening::{Loose, Placed, open_all, shut_all};

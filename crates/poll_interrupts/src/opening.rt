@@ -19,6 +19,8 @@ use std::sync::Wait;
 /// What stays where it is of an instance while its threads run: the instance, the bell of its own thread, where it has one,
 /// and room for its three callers. It must be spent.
 pub struct Placed {
+    /// The device's number.
+    pub number: u32,
     /// The instance.
     pub napi: Napi,
     /// The bell of its own thread, where it has one.
@@ -55,6 +57,7 @@ impl Placed {
             result }
     {
         let Placed {
+            number: _,
             napi,
             bell: _,
             room,
@@ -121,6 +124,7 @@ fn open<D: Drop>(alloc: Global, station: Station<D>) -> Result<(Placed, Loose<D>
     let poller = next(&napi, &mut callers);
     let caller = next(&napi, &mut callers);
     let placed = Placed {
+        number,
         napi,
         bell,
         room: callers,

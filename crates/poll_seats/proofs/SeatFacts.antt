@@ -1,6 +1,6 @@
 -- What polls, runs and turns keep of a poller's seats.
 use Rattle.std.proofs.Common.{◌≡◌, ◌∙◌, ℕ, zero, suc, ◌<◌, Bool, List, [], ◌∷◌, Option, Some, None, length, refl, sym, ap, subst, vec_items}
-use Rattle.std.{proofs.Common.{set, get_or, arith}, specs.Prelude.{◌==◌, MatchOption, position}}
+use Rattle.std.{proofs.Common.{set, get_or, arith}, specs.{Prelude.{◌==◌, IsSome, MatchOption, position}, List.AllByRecursion}}
 use Rattle.poll_runs.specs.Polls.{At, Chain, Poll}
 use Rattle.poll_runs.specs.declared.bench.Once.{Once}
 use Rattle.poll_seats.specs.declared.{seat.Seat.Seat, poller.{SeatBench.SeatBench, Poller.Poller}}
@@ -28,6 +28,12 @@ seats_join [] (y ∷ b) c p q = absurd p
 seats_join (x ∷ a) [] c p q = absurd p
 seats_join (x ∷ a) (y ∷ b) [] p q = absurd q
 seats_join (x ∷ a) (y ∷ b) (z ∷ c) p q = (seat_joins x y z p.0 q.0, seats_join a b c p.1 q.1)
+
+-- callers that are there are there again
+pub still_there : (a b : List Seat) → AreSameSeats a b → AllByRecursion (λ s. IsSome s.caller) a → AllByRecursion (λ s. IsSome s.caller) b
+still_there [] [] p there = tt
+still_there (x ∷ a) (y ∷ b) p there = (p.0.caller there.0, still_there a b p.1 there.1)
+still_there a b p there = absurd p
 
 -- one seat was polled
 pub seats_set : (l : List Seat) (k : ℕ) (x y : Seat) → k < length l → get_or l k x ≡ x → IsSameSeat x y → AreSameSeats l (set l k y)

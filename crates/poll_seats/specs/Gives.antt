@@ -1,9 +1,10 @@
 -- What a poller's thread, and the thread of an instance, give back.
 use Rattle.{poll_list.specs.declared.shared.SharedList.SharedList, napi_calls.specs.declared.{kept.Kept.Kept, types.Caller.Caller}}
-use Rattle.{napi_calls.specs.Instance.IsSeatOf, poll_tasks.specs.{Asks.IsAsked, declared.{pace.Pace.Pace, tasks.Turned.Turned}}}
-use Rattle.std.specs.{Global.Vec, Prelude.{◌≡◌, ℕ, ◌+◌, Bool, true, List, Some, IsSome, MatchOption, vec_items}}
+use Rattle.{napi_calls.specs.Instance.IsSeatOf, poll_tasks.specs.{Asks.IsAsked, Paces.IsLawful, declared.{pace.Pace.Pace, tasks.Turned.Turned}}}
+use Rattle.std.specs.{Global.Vec, List.{AllByRecursion, AllZip}}
+use Rattle.std.specs.Prelude.{◌≡◌, ◌≢◌, ℕ, ◌+◌, ◌<◌, ◌≤◌, Bool, true, List, [], Some, IsSome, MatchOption, vec_items, vec_len, vec_capacity}
 use Rattle.poll_seats.specs.declared.{poller.{PollTask.PollTask, Poller.Poller}, seat.Seat.Seat, thread_poller.ThreadSide.ThreadSide}
-use Rattle.poll_seats.specs.{declared.thread_poller.Alone.Alone, SeatKeeping.AreSameSeats, Turns.{TurnsAlone, TurnsByRun}, Serving.IsServed}
+use Rattle.poll_seats.specs.{declared.thread_poller.Alone.Alone, SeatKeeping.{AreSameSeats, IsCallerOf}, Turns.{TurnsAlone, TurnsByRun}, Serving.IsServed}
 
 -- by what numbers a gate knows a poller, and the thread of an instance
 abbrev pub poller_name : ℕ → ℕ
@@ -39,13 +40,23 @@ module _ (R : Type 0) where
     pub turns : IsServed TurnsAlone first last
     pub to : last.seat.caller ≡ Some after
 
+-- its number and its pace are lawful, all its callers are there, and so is room for them
+pub record CanPoll {R G : Type 0} (task : PollTask R G) : Type 0 where
+  pub number : task.number < 8
+  pub pace : IsLawful task.setting.now.pace
+  pub there : AllByRecursion (λ seat. IsSome seat.caller) (vec_items task.seats.value)
+  pub empty : vec_len task.room ≡ 0
+  pub room : vec_len task.seats.value ≤ vec_capacity task.room
+
 module _ {R G : Type 0} (answers : G → ℕ → ℕ → Bool → Type 0) where
-  -- The seats stay at their instances. They are what the poller's turns made of those handed in, unless a thread was refused.
-  pub record GivesSeats (task : PollTask R G) (given : Turned (Kept R (Vec Seat))) : Type 0 where
-    pub same : AreSameSeats (vec_items task.seats.value) (vec_items given.back.value)
-    pub turns : given.polled ≡ true
-        → IsPolledBy (IsAsked answers task.setting.now.gate.now) task.setting.now.pace task.number task.list (vec_items task.seats.value)
-        (vec_items given.back.value)
+  -- The seats stay at their instances. They are what the poller's turns made of those handed in, where there are some, unless a
+  -- thread was refused; and these are their callers.
+  pub record GivesCallers (task : PollTask R G) (given : Turned (Vec (Kept R Caller))) : Type 0 where
+    pub seats : List Seat
+    pub same : AreSameSeats (vec_items task.seats.value) seats
+    pub turns : given.polled ≡ true → vec_items task.seats.value ≢ []
+        → IsPolledBy (IsAsked answers task.setting.now.gate.now) task.setting.now.pace task.number task.list (vec_items task.seats.value) seats
+    pub callers : AllZip IsCallerOf seats (vec_items given.back)
 
   -- The caller is of the side's instance. It is the one handed in, where the instance has no thread, or what that one's turns
   -- made of it, unless a thread was refused.

@@ -10,4 +10,3 @@ mod unseating;
 pub use poller::PollTask;
 pub use seat::Seat;
 pub use thread_poller::{Own, ThreadSide};
-pub use unseating::unseat;

@@ -1,14 +1,15 @@
 //! A poller: its seats are a bench, over which it runs while there is something on its list.
 
-ghost use Rattle.std.specs.Prelude.{◌≡◌, ◌==◌, ◌<◌, position, vec_items};
+ghost use Rattle.std.specs.Prelude.{◌≡◌, ◌==◌, true, position, vec_items, vec_len};
 ghost use Rattle.poll_tasks.specs.Paces.{IsLawful};
 
 use crate::seat::Seat;
 use crate::serving::{Serves, serve};
-use napi_calls::Kept;
+use crate::unseating::unseat;
+use napi_calls::{Caller, Kept};
 use poll_list::SharedList;
 use poll_runs::{Bench, Next, Once, RunReport, run_softirq};
-use poll_tasks::{Gate, Pace, Pause, Post, Setting, Task, Turned};
+use poll_tasks::{Bell, Gate, Pace, Pause, Setting, Task, Turned};
 use rx_ring::Batch;
 use std::sync::Wait;
 
@@ -98,13 +99,13 @@ impl<'n, R: Wait> Serves for Poller<'n, R> {
     }
 }
 
-/// A poller's thread.
+/// A poller's thread. A poller without seats needs none, and takes no turns.
 #[derive(Drop)]
 pub struct PollTask<'t, 'p, 'n, R: Wait + Drop, G> {
     /// What all threads of the run have.
     pub setting: &'t Setting<'t, R, G>,
-    /// The poller's bell, and whether its threads were started.
-    pub post: &'p Post,
+    /// The poller's bell.
+    pub bell: &'p Bell,
     /// The poller's number, from 0.
     pub number: u32,
     /// The list of instances that the poller polls.
@@ -113,24 +114,38 @@ pub struct PollTask<'t, 'p, 'n, R: Wait + Drop, G> {
     pub pause: Pause,
     /// The poller's seats at its instances.
     pub seats: Kept<R, Vec<Seat<'n>>>,
+    /// Room for the callers of these seats.
+    pub room: Vec<Kept<R, Caller>>,
 }
 
 impl<'t, 'p, 'n, R: Wait + Drop + Copy, G: Gate> PollTask<'t, 'p, 'n, R, G> {
-    ghost use Rattle.poll_seats.specs.Gives.{GivesSeats};
+    ghost use Rattle.poll_seats.specs.Gives.{CanPoll, GivesCallers};
+
+    // Gives the callers back as they are.
+    fn stay(self, polled: bool) -> Turned<Vec<Kept<R, Caller>>>
+        requires can { CanPoll self }
+        requires none { polled ≡ true → vec_len self.seats.value ≡ 0 }
+        ensures { GivesCallers G.answers self.entry result }
+    {
+        Turned {
+            back: unseat(self.setting.rt, self.seats.open(), self.room),
+            polled,
+        }
+    }
 
     // Polls until told.
-    fn poll(self) -> Turned<Kept<R, Vec<Seat<'n>>>>
-        requires number { self.number < 8 }
-        requires pace { IsLawful self.setting.now.pace }
-        ensures { GivesSeats G.answers self.entry result }
+    fn poll(self) -> Turned<Vec<Kept<R, Caller>>>
+        requires { CanPoll self }
+        ensures { GivesCallers G.answers self.entry result }
     {
         let PollTask {
             setting,
-            post,
+            bell,
             number,
             list,
             pause,
             seats,
+            room,
         } = self;
         let rt = setting.rt;
         if !setting.gate.pass(FIRST_POLLER + number, 0) {
@@ -146,34 +161,30 @@ impl<'t, 'p, 'n, R: Wait + Drop + Copy, G: Gate> PollTask<'t, 'p, 'n, R, G> {
             seat_bench,
             pace: setting.pace,
         };
-        serve(&rt, &post.bell, &pause, &mut poller);
+        serve(&rt, bell, &pause, &mut poller);
         Turned {
-            back: Kept::new(rt, poller.leave()),
+            back: unseat(rt, poller.leave(), room),
             polled: true,
         }
     }
 }
 
-impl<'t, 'p, 'n, R: Wait + Drop + Copy, G: Gate> Task<Turned<Kept<R, Vec<Seat<'n>>>>>
+impl<'t, 'p, 'n, R: Wait + Drop + Copy, G: Gate> Task<Turned<Vec<Kept<R, Caller>>>>
     for PollTask<'t, 'p, 'n, R, G> {
-    ghost use Rattle.std.specs.Prelude.{◌<◌};
-    ghost use Rattle.poll_tasks.specs.Paces.{IsLawful};
-    ghost use Rattle.poll_seats.specs.Gives.{GivesSeats};
+    ghost use Rattle.poll_seats.specs.Gives.{CanPoll, GivesCallers};
 
-    ghost can_run = { λ task. (task.number < 8) × IsLawful task.setting.now.pace };
+    ghost can_run = { CanPoll };
 
-    ghost gives = { GivesSeats G.answers };
+    ghost gives = { GivesCallers G.answers };
 
     fn is_idle(&self) -> bool {
-        false
+        self.seats.value.is_empty()
     }
 
-    fn run(self) -> Turned<Kept<R, Vec<Seat<'n>>>> {
-        if self.post.refused.is_told() {
-            return Turned {
-                back: self.seats,
-                polled: false,
-            };
+    fn run(self) -> Turned<Vec<Kept<R, Caller>>> {
+        let is_idle = self.seats.value.is_empty();
+        if is_idle || self.setting.signals.unpolled.is_told() {
+            return self.stay(is_idle);
         }
         self.poll()
     }

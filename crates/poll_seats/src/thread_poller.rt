@@ -12,7 +12,7 @@ use napi_calls::{Caller, Kept, Napi};
 use napi_model::Kind;
 use poll_list::ListIn;
 use poll_runs::Next;
-use poll_tasks::{Bell, Gate, Pace, Pause, Post, Setting, Task, Turned};
+use poll_tasks::{Bell, Gate, Pace, Pause, Setting, Task, Turned};
 use rx_ring::Batch;
 use std::sync::Wait;
 
@@ -93,8 +93,8 @@ pub struct Own<'n, R> {
 pub struct ThreadSide<'t, 'p, 'n, R: Wait + Drop, G> {
     /// What all threads of the run have.
     pub setting: &'t Setting<'t, R, G>,
-    /// The bell of the poller of its list, and whether that one's threads were started.
-    pub poller: &'p Post,
+    /// The bell of the poller of its list.
+    pub poller: &'p Bell,
     /// The instance.
     pub napi: &'n Napi,
     /// The device's number.
@@ -142,7 +142,7 @@ impl<'t, 'p, 'n, R: Wait + Drop + Copy, G: Gate> ThreadSide<'t, 'p, 'n, R, G> {
                 caller: Some(caller.open()),
             },
             list,
-            poller: &poller.bell,
+            poller,
             pace: setting.pace,
             batch: Batch::new(),
         };
@@ -170,7 +170,7 @@ impl<'t, 'p, 'n, R: Wait + Drop + Copy, G: Gate> Task<Turned<Kept<R, Caller>>>
     }
 
     fn run(self) -> Turned<Kept<R, Caller>> {
-        if self.poller.refused.is_told() {
+        if self.setting.signals.unpolled.is_told() {
             return Turned {
                 back: self.caller,
                 polled: false,

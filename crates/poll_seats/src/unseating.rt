@@ -9,7 +9,7 @@ use napi_calls::{Caller, Kept};
 use std::sync::Wait;
 
 /// Takes the callers out of a poller's seats, in order. There is room for them.
-pub fn unseat<'n, R: Wait + Drop + Copy>(
+pub(crate) fn unseat<'n, R: Wait + Drop + Copy>(
     rt: R,
     seats: Vec<Seat<'n>>,
     room: Vec<Kept<R, Caller>>,

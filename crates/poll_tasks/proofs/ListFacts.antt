@@ -1,6 +1,8 @@
 -- Lists side by side.
-use Rattle.std.proofs.Common.{◌≡◌, zero, suc, List, [], ◌∷◌, ◌++◌, length, sym, refl, ap, ◌∙◌, append-nil, arith, All}
-use Rattle.std.specs.List.{AllByRecursion, AllZip}
+use Rattle.std.proofs.Common.{◌≡◌, ◌≢◌, ◌<◌, ◌≤◌, ℕ, zero, suc, Bool, true, false, cond, List, [], ◌∷◌, ◌++◌, length, sym, refl, ap, ◌∙◌, subst}
+use Rattle.std.{proofs.Common.{append-nil, arith, All, eqb, get_or, get_or-set_other, get_or-set_same, set}, specs.Prelude.filter}
+use Rattle.std.{proofs.lemmas.Bool.{eqb-true, eqb-false}, specs.List.{AllByRecursion, AllZip}}
+use Rattle.poll_tasks.specs.Tasks.{EachAt}
 
 pub none_left : {A : Type 0} (all xs rest : List A) → xs ++ rest ≡ all → rest ≡ [] → xs ≡ all
 none_left all xs rest e n = sym (append-nil xs) ∙ ap (λ l. xs ++ l) (sym n) ∙ e
@@ -47,3 +49,75 @@ zip_both R S [] (y ∷ ys) zs h k = absurd h
 zip_both R S (x ∷ xs) [] zs h k = absurd h
 zip_both R S (x ∷ xs) (y ∷ ys) (z ∷ zs) h k = ((y, h.0, k.0), zip_both R S xs ys zs h.1 k.1)
 zip_both R S xs ys zs h k = absurd k
+
+-- ---- of what passes a test
+
+zip_cond : {A B : Type 0} (Q : A → B → Type 0) (b : Bool) (x : A) (y : B) (xs : List A) (ys : List B) → Q x y → AllZip Q xs ys
+    → AllZip Q (cond b (x ∷ xs) xs) (cond b (y ∷ ys) ys)
+zip_cond Q true x y xs ys h more = (h, more)
+zip_cond Q false x y xs ys h more = more
+
+pub zip_filtered : {A B : Type 0} (Q : A → B → Type 0) (p : A → Bool) (q : B → Bool) (xs : List A) (ys : List B)
+    → ((x : A) (y : B) → Q x y → p x ≡ q y) → AllZip Q xs ys → AllZip Q (filter p xs) (filter q ys)
+zip_filtered Q p q [] [] f h = tt
+zip_filtered Q p q (x ∷ xs) (y ∷ ys) f h =
+    subst (λ b. AllZip Q (cond (p x) (x ∷ filter p xs) (filter p xs)) (cond b (y ∷ filter q ys) (filter q ys))) (f x y h.0)
+    (zip_cond Q (p x) x y (filter p xs) (filter q ys) h.0 (zip_filtered Q p q xs ys f h.1))
+zip_filtered Q p q xs ys f h = absurd h
+
+cond_more : {A : Type 0} (b : Bool) (y : A) (l r m : List A) → l ≡ r ++ m → cond b (y ∷ l) l ≡ cond b (y ∷ r) r ++ m
+cond_more true y l r m e = ap (λ z. y ∷ z) e
+cond_more false y l r m e = e
+
+pub filter_more : {A : Type 0} (p : A → Bool) (xs : List A) (x : A) → filter p (xs ++ x ∷ []) ≡ filter p xs ++ cond (p x) (x ∷ []) []
+filter_more p [] x = refl
+filter_more p (y ∷ xs) x = cond_more (p y) y (filter p (xs ++ x ∷ [])) (filter p xs) (cond (p x) (x ∷ []) []) (filter_more p xs x)
+
+fewer_if : {A : Type 0} (b : Bool) (x : A) (l : List A) (n : ℕ) → length l ≤ n → length (cond b (x ∷ l) l) ≤ suc n
+fewer_if true x l n h = omega (arith, h)
+fewer_if false x l n h = omega (arith, h)
+
+pub filter_fewer : {A : Type 0} (p : A → Bool) (xs : List A) → length (filter p xs) ≤ length xs
+filter_fewer p [] = omega arith
+filter_fewer p (x ∷ xs) = fewer_if (p x) x (filter p xs) (length xs) (filter_fewer p xs)
+
+-- ---- of each item by its place
+
+-- one item was changed
+each_set_at : {A : Type 0} (P Q : ℕ → A → Type 0) (xs : List A) (i : ℕ) (y : A) → i < length xs → Q i y
+    → ((k : ℕ) (x : A) → k ≢ i → P k x → Q k x)
+    → (k : ℕ) (d : A) (b : Bool) → eqb k i ≡ b → k < length xs → P k (get_or xs k d) → Q k (get_or (set xs i y) k d)
+each_set_at P Q xs i y within new others k d true e low p =
+    let same = eqb-true k i e in
+    subst (λ n. Q n (get_or (set xs i y) n d)) (sym same) (subst (λ z. Q i z) (sym (get_or-set_same xs i y d within)) new)
+each_set_at P Q xs i y within new others k d false e low p =
+    let ne = eqb-false k i e in
+    subst (λ z. Q k z) (sym (get_or-set_other xs i k y d ne)) (others k _ ne p)
+
+pub each_set : {A : Type 0} (P Q : ℕ → A → Type 0) (xs : List A) (i : ℕ) (y : A) → i < length xs → EachAt P xs → Q i y
+    → ((k : ℕ) (x : A) → k ≢ i → P k x → Q k x) → length (set xs i y) ≡ length xs → EachAt Q (set xs i y)
+each_set P Q xs i y within were new others long k d low =
+    let below : k < length xs = omega (arith, low, long) in
+    each_set_at P Q xs i y within new others k d (eqb k i) refl below (were k d below)
+
+-- and of what goes with it
+pub each_zip : {A B : Type 0} (P : ℕ → A → Type 0) (R : A → B → Type 0) (xs : List A) (ys : List B) → AllZip R xs ys → EachAt P xs
+    → EachAt (λ k y. (x : A) × P k x × R x y) ys
+each_zip P R [] [] zip each k d low = absurd (omega (arith, low))
+each_zip P R (x ∷ xs) (y ∷ ys) zip each zero d low = (x, each 0 x (omega arith), zip.0)
+each_zip P R (x ∷ xs) (y ∷ ys) zip each (suc k) d low =
+    each_zip (λ n a. P (suc n) a) R xs ys zip.1 (λ n a b. each (suc n) a (omega (arith, b))) k d (omega (arith, low))
+each_zip P R xs ys zip each k d low = absurd zip
+
+pub at_place : {A : Type 0} (P : ℕ → A → Type 0) (xs : List A) → EachAt P xs → (k : ℕ) → k < length xs → (x : A) × P k x
+at_place P [] each k low = absurd (omega (arith, low))
+at_place P (x ∷ xs) each zero low = (x, each 0 x (omega arith))
+at_place P (x ∷ xs) each (suc k) low =
+    at_place (λ n a. P (suc n) a) xs (λ n a b. each (suc n) a (omega (arith, b))) k (omega (arith, low))
+
+pub each_more : {A : Type 0} (P : ℕ → A → Type 0) (xs : List A) (x : A) → EachAt P xs → P (length xs) x → EachAt P (xs ++ x ∷ [])
+each_more P [] x each here zero d low = here
+each_more P [] x each here (suc k) d low = absurd (omega (arith, low))
+each_more P (y ∷ xs) x each here zero d low = each 0 d (omega arith)
+each_more P (y ∷ xs) x each here (suc k) d low =
+    each_more (λ n a. P (suc n) a) xs x (λ n a b. each (suc n) a (omega (arith, b))) here k d (omega (arith, low))

@@ -1,5 +1,5 @@
 -- A task that was begun.
-use Rattle.std.specs.{Prelude.{◌≡◌, ℕ, ◌≤◌, vec_len, vec_capacity}, Global.Vec, List.All}
+use Rattle.std.specs.{Prelude.{◌≡◌, ℕ, ◌<◌, ◌≤◌, List, length, slice_index_or, vec_len, vec_capacity}, Global.Vec, List.All}
 use Rattle.poll_tasks.specs.declared.tasks.Begun.{Begun}
 use Rattle.poll_tasks.specs.declared.tasks.Begun.TheVariants.{Running, Ended}
 
@@ -19,3 +19,7 @@ pub record IsReady {J O : Type 0} (can_run : J → Type 0) (tasks : Vec J) (begu
   pub begun_room : vec_len tasks ≤ vec_capacity begun
   pub given_empty : vec_len given ≡ 0
   pub given_room : vec_len tasks ≤ vec_capacity given
+
+-- of each item so much is known, by its place
+abbrev pub EachAt : {A : Type 0} → (ℕ → A → Type 0) → List A → Type 0
+EachAt {A} P xs = (k : ℕ) (d : A) → k < length xs → P k (slice_index_or xs k d)

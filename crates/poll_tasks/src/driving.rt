@@ -1,11 +1,11 @@
-//! The threads of a crew.
+//! The threads of a run.
 
 ghost use Rattle.std.specs.Prelude.{IfOk};
 ghost use Rattle.std.specs.List.{AllZip};
 ghost use Rattle.poll_tasks.specs.Tasks.{HasRoom, IsReady};
 
-use crate::signals::{Post, Signals};
-use crate::tasks::{Begun, Task, begin, begin_all, end, end_all};
+use crate::signals::{Bell, Signals};
+use crate::tasks::{Begun, Task, begin_all, end_all};
 use std::alloc::{AllocError, Global};
 use std::sync::Wait;
 use std::thread;
@@ -30,48 +30,47 @@ pub fn task_room<J: Task<O>, O: Drop>(alloc: Global, count: usize) -> Result<Roo
     })
 }
 
-/// The tasks of a crew.
-pub struct Crew<P, W, S> {
-    /// The poller.
-    pub poller: P,
-    /// The workers whose instances it polls.
+/// The tasks of a run.
+pub struct Tasks<P, W, S> {
+    /// The pollers.
+    pub pollers: Vec<P>,
+    /// The workers, one of each instance.
     pub workers: Vec<W>,
-    /// The threads of these instances.
+    /// The instances' own threads.
     pub threads: Vec<S>,
 }
 
-/// Room for the tasks of a crew, and for what they give.
+/// Room for the tasks of a run, and for what they give.
 #[derive(Drop)]
-pub struct Rooms<W: Task<B>, B, S: Task<C>, C> {
+pub struct Rooms<P: Task<A>, A, W: Task<B>, B, S: Task<C>, C> {
+    /// Room for its pollers.
+    pub pollers: Room<P, A>,
     /// Room for its workers.
     pub workers: Room<W, B>,
     /// Room for its instances' threads.
     pub threads: Room<S, C>,
 }
 
-/// What the threads of a crew gave back, and what was done beside them.
+/// What the threads of a run gave back, each in order.
 #[derive(Drop)]
-pub struct Driven<A, B, C, E> {
-    /// What the poller gave.
-    pub polled: A,
-    /// What the workers gave, in order.
+pub struct Driven<A, B, C> {
+    /// What the pollers gave.
+    pub polled: Vec<A>,
+    /// What the workers gave.
     pub worked: Vec<B>,
-    /// What the threads of instances gave, in order.
+    /// What the threads of instances gave.
     pub threads: Vec<C>,
-    /// What was answered beside them.
-    pub beside: E,
 }
 
-/// Runs the threads of a crew. Whoever polls is started before the workers: where one can't be started no worker makes an act,
-/// so that nobody waits for it. The poller is told when all workers have ended. Meanwhile `beside` is called.
-pub fn drive<R, P, A, W, B, S, C, F, E>(
+/// Runs the threads of a run. Whoever polls is started before the workers: where one can't be started no worker makes an act,
+/// so that nobody waits for it. The pollers, whose bells these are, are told when all workers have ended.
+pub fn drive<R, P, A, W, B, S, C>(
     rt: &R,
-    crew: Crew<P, W, S>,
-    rooms: Rooms<W, B, S, C>,
-    post: &Post,
+    tasks: Tasks<P, W, S>,
+    rooms: Rooms<P, A, W, B, S, C>,
+    bells: &[Bell],
     signals: &Signals,
-    beside: F,
-) -> Driven<A, B, C, E>
+) -> Driven<A, B, C>
 where
     R: Threads + Wait + Sync,
     P: Task<A> + Drop + Send,
@@ -80,59 +79,50 @@ where
     B: Drop + Send,
     S: Task<C> + Drop + Send,
     C: Drop + Send,
-    F: FnOnce() -> E + Drop,
-    E: Drop,
-    requires poller { P.can_run crew.poller }
-    requires workers { IsReady W.can_run crew.workers rooms.workers.begun rooms.workers.given }
-    requires threads { IsReady S.can_run crew.threads rooms.threads.begun rooms.threads.given }
-    requires beside { F.pre beside }
-    ensures polled { P.gives crew.poller result.polled }
-    ensures worked { AllZip W.gives crew.workers.items result.worked.items }
-    ensures threads { AllZip S.gives crew.threads.items result.threads.items }
-    ensures beside { F.post beside result.beside }
+    requires pollers { IsReady P.can_run tasks.pollers rooms.pollers.begun rooms.pollers.given }
+    requires workers { IsReady W.can_run tasks.workers rooms.workers.begun rooms.workers.given }
+    requires threads { IsReady S.can_run tasks.threads rooms.threads.begun rooms.threads.given }
+    ensures polled { AllZip P.gives tasks.pollers.items result.polled.items }
+    ensures worked { AllZip W.gives tasks.workers.items result.worked.items }
+    ensures threads { AllZip S.gives tasks.threads.items result.threads.items }
 {
-    let Crew {
-        poller,
+    let Tasks {
+        pollers,
         workers,
         threads,
-    } = crew;
-    let Room {
-        begun: work_begun,
-        given: work_given,
-    } = rooms.workers;
-    let Room {
-        begun: side_begun,
-        given: side_given,
-    } = rooms.threads;
+    } = tasks;
+    let Rooms {
+        pollers: poll_room,
+        workers: work_room,
+        threads: side_room,
+    } = rooms;
     thread::scope(
         thread::scope_env(),
         rt,
-        |scope| -> Driven<A, B, C, E>
-            requires poller { P.can_run poller }
-            requires workers { IsReady W.can_run workers work_begun work_given }
-            requires threads { IsReady S.can_run threads side_begun side_given }
-            requires beside { F.pre beside }
-            ensures polled { P.gives poller result.polled }
+        |scope| -> Driven<A, B, C>
+            requires pollers { IsReady P.can_run pollers poll_room.begun poll_room.given }
+            requires workers { IsReady W.can_run workers work_room.begun work_room.given }
+            requires threads { IsReady S.can_run threads side_room.begun side_room.given }
+            ensures polled { AllZip P.gives pollers.items result.polled.items }
             ensures worked { AllZip W.gives workers.items result.worked.items }
             ensures threads { AllZip S.gives threads.items result.threads.items }
-            ensures beside { F.post beside result.beside }
         {
-            let siding = begin_all(scope, threads, &post.refused, side_begun);
-            let polling = begin(scope, poller, &post.refused);
-            if post.refused.is_told() {
+            let siding = begin_all(scope, threads, &signals.unpolled, side_room.begun);
+            let polling = begin_all(scope, pollers, &signals.unpolled, poll_room.begun);
+            if signals.unpolled.is_told() {
                 signals.refused.tell();
             }
-            let working = begin_all(scope, workers, &signals.refused, work_begun);
-            let beside = beside();
-            let worked = end_all(rt, working, work_given);
-            post.bell.tell();
-            let polled = end(rt, polling);
-            let threads = end_all(rt, siding, side_given);
+            let working = begin_all(scope, workers, &signals.refused, work_room.begun);
+            let worked = end_all(rt, working, work_room.given);
+            for bell in bells {
+                bell.tell();
+            }
+            let polled = end_all(rt, polling, poll_room.given);
+            let threads = end_all(rt, siding, side_room.given);
             Driven {
                 polled,
                 worked,
                 threads,
-                beside,
             }
         },
     )

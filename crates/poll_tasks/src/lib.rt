@@ -7,8 +7,8 @@ mod pace;
 mod signals;
 mod tasks;
 
-pub use driving::{Crew, Driven, Room, Rooms, drive, task_room};
+pub use driving::{Driven, Room, Rooms, Tasks, drive, task_room};
 pub use gate::{Gate, OpenGate, Watch};
 pub use pace::{Pace, Setting};
-pub use signals::{Bell, Pause, Post, Refusal, Signals};
+pub use signals::{Bell, Pause, Refusal, Signals};
 pub use tasks::{Begun, Gives, Task, Turned, begin, begin_all, end, end_all};

@@ -52,6 +52,8 @@ impl Refusal {
 /// Why no further acts are made.
 #[derive(Drop)]
 pub struct Signals {
+    /// The thread of one who polls could not be started: this is told before any worker begins.
+    pub unpolled: Refusal,
     /// A thread could not be started.
     pub refused: Refusal,
     // Memory was refused, or the gate answered false.
@@ -62,6 +64,7 @@ impl Signals {
     /// Signals of a run that goes on.
     pub fn new() -> Signals {
         Signals {
+            unpolled: Refusal::new(),
             refused: Refusal::new(),
             stopped: AtomicBool::new(false),
         }
@@ -113,25 +116,6 @@ impl Bell {
     /// Whether the poller was told that nothing is handed over any more.
     pub fn is_told(&self) -> bool {
         self.told.load(Ordering::SeqCst)
-    }
-}
-
-/// The bell of a poller whose instances' threads are started with it, before any of its workers.
-#[derive(Drop)]
-pub struct Post {
-    /// The poller's bell.
-    pub bell: Bell,
-    /// One of these threads could not be started, so that no worker of the poller's begins.
-    pub refused: Refusal,
-}
-
-impl Post {
-    /// The post of a poller with this bell, none of whose threads was refused.
-    pub fn new(bell: Bell) -> Post {
-        Post {
-            bell,
-            refused: Refusal::new(),
-        }
     }
 }
 

@@ -1,3 +1,3 @@
 pub mod RunFacts
 pub mod NumberFacts
-pub mod CrewFacts
+pub mod PollerFacts

@@ -1,20 +1,23 @@
--- What the parts of a crew come to for its stations.
-use Rattle.std.proofs.{lemmas.Grind.common_steps, Common.{◌≡◌, ℕ, suc, ◌≤◌, Bool, true, false, Option, None, is_some, List, [], ◌∷◌, sym}}
-use Rattle.std.{proofs.Common.{ap, ◌∙◌, refl, subst, IsSome, Some, All, arith, rules}, specs.Prelude.{IfOk, Ok, Err, Result, map}}
+-- What the parts of a run come to for its stations.
+use Rattle.std.proofs.{lemmas.Grind.common_steps, Common.{◌≡◌, ◌≢◌, ℕ, suc, ◌≤◌, ◌<◌, Bool, true, false, Option, None, is_some, List, [], ◌∷◌, sym}}
+use Rattle.std.{proofs.Common.{ap, ◌∙◌, refl, subst, IsSome, Some, All, arith, rules, get_or, length}, specs.Prelude.{IfSome, filter, map}}
 use Rattle.std.specs.{Prelude.{vec_items, MatchOption}, List.{AllByRecursion, AllZip}, Global.Vec}
-use Rattle.poll_interrupts.specs.{Ends.{AreFinishesOf, HasAllOf, IsCallerAt, IsDoneAt, IsFinishOf, IsTurnedAt}, Runs.{HasRun, IsEnded}}
+use Rattle.poll_interrupts.specs.Ends.{AreCallersAt, AreFinishesOf, HasAllOf, IsCallerAt, IsDoneAt, IsFinishOf, IsTurnedAt, Outcome}
+use Rattle.poll_interrupts.specs.{Runs.{HasRun, IsEnded}, Deals.{is_dealt, is_own}}
 use Rattle.poll_interrupts.specs.{Runs.{Ledger, Whose, WorksBy, blank, controller_number, worker_number}, declared.station.Station.Station}
 use Rattle.poll_interrupts.specs.declared.{station.Finished.Finished, worker.OwnSeats.OwnSeats, opening.{Loose.Loose, Placed.Placed}}
 use Rattle.poll_interrupts.specs.{declared.{job.{Worked.Worked, Job.Job}, acts.Act.Act}, Works.{IsWorkOf, ledger_of, whose}}
 use Rattle.poll_interrupts.specs.{Seats.AreSeatsOf, Opens.{IsInputOf, IsKeptLoose, IsKeptSideOf, IsLoose}}
-use Rattle.poll_tasks.{proofs.ListFacts.{each_index, zip_and, zip_both, zip_each, zip_flip, zip_same}, specs.Paces.IsLawful}
+use Rattle.poll_tasks.proofs.ListFacts.{at_place, each_index, each_zip, filter_fewer, zip_and, zip_both, zip_each, zip_empty, zip_filtered, zip_flip, zip_same}
+use Rattle.poll_tasks.specs.{Paces.IsLawful, Tasks.EachAt}
 use Rattle.{poll_tasks.specs.{Asks.IsAsked, declared.{tasks.Turned.Turned, pace.{Setting.Setting, Pace.Pace}}}, rx_ring.specs.Ends.SameIn}
-use Rattle.{rx_ring.specs.{Ends.{capacity_of, put_list}, declared.ends.RxIn.RxIn, ReceiveRing.capped}, poll_list.specs.SharedList.IsNewList}
-use Rattle.{poll_list.specs.declared.shared.SharedList.SharedList, poll_seats.specs.SeatKeeping.{IsCallerOf, AreSameSeats, IsSameSeat}}
-use Rattle.poll_seats.specs.{declared.{seat.Seat.Seat, thread_poller.{ThreadSide.ThreadSide, Own.Own}}, Gives.{GivesCaller, IsPolledAlone}}
+use Rattle.{rx_ring.specs.{Ends.{capacity_of, put_list}, declared.ends.RxIn.RxIn, ReceiveRing.capped}}
+use Rattle.{poll_seats.specs.SeatKeeping.{IsCallerOf, AreSameSeats, IsSameSeat}}
+use Rattle.poll_seats.specs.declared.{seat.Seat.Seat, poller.PollTask.PollTask, thread_poller.{ThreadSide.ThreadSide, Own.Own}}
+use Rattle.poll_seats.specs.Gives.{CanPoll, GivesCaller, GivesCallers, IsPolledAlone, IsPolledBy}
 use Rattle.napi_calls.specs.{Instance.IsSeatOf, declared.{kept.Kept.Kept, types.{Caller.Caller, Napi.Napi}}, Seats.{number_of, own_list}}
-use Rattle.poll_workers.specs.Courses.{AreOfCrew, Course, HasPolled, HasTurned, IsCourse, IsFreshSeat, IsSpentSeat}
-use Rattle.poll_workers.specs.{Courses.TurnsIfThread, Finishes.{IsFinished, IsWorkedOf}, Spreads.{IsJobAt, IsKeptJobOf, IsKeptSeatFor}}
+use Rattle.poll_workers.specs.Courses.{ArePolled, Course, HasPolled, HasTurned, IsCourse, IsCrew, IsFreshSeat, TakesTurns, TurnsIfThread}
+use Rattle.poll_workers.specs.{Finishes.{IsFinished, IsWorkedOf}, Spreads.{ArePollers, IsJobAt, IsKeptJobOf, IsKeptSeatFor, IsPoller}}
 use Rattle.poll_workers.specs.Spreads.{IsKeptThreadFor, IsSeatAt, IsThreadAt}
 
 same_ring : (a b c : RxIn) (napi : Napi) → b ≡ a → SameIn b c → IsInputOf a napi → IsInputOf c napi
@@ -89,38 +92,7 @@ finished_of : {R D : Type 0} (acts : D → ℕ) (answer : D → ℕ → Act) (af
     → IsFinished acts answer after answers station end
 finished_of {R} {D} acts answer after answers station loose worked poller thread end opened made whole ended = search (rules, capped_small)
 
--- ---- the stations of a crew, how they ended, and what polled them
-
--- what the threads of a station gave back, and its end
-record Outcome (R D : Type 0) : Type 0 where
-  pub worked : Worked R D
-  pub poller : Kept R Caller
-  pub thread : Turned (Kept R Caller)
-  pub end : Finished D
-
-record Outcomes {R D : Type 0} (ws : List (Worked R D)) (ps : List (Kept R Caller)) (ts : List (Turned (Kept R Caller)))
-    (es : List (Finished D)) : Type 0 where
-  pub all : List (Outcome R D)
-  pub worked_are : map (λ p. p.worked) all ≡ ws
-  pub pollers_are : map (λ p. p.poller) all ≡ ps
-  pub threads_are : map (λ p. p.thread) all ≡ ts
-  pub ends_are : map (λ p. p.end) all ≡ es
-  pub each : AllByRecursion (λ p. IsFinishOf p.worked p.poller p.thread.back p.end) all
-
-outcomes_of : {R D : Type 0} (ws : List (Worked R D)) (ps : List (Kept R Caller)) (ts : List (Turned (Kept R Caller)))
-    (es : List (Finished D))
-    → AreFinishesOf ws ps ts es → Outcomes ws ps ts es
-outcomes_of [] [] [] [] h = record { all = []; worked_are = refl; pollers_are = refl; threads_are = refl; ends_are = refl; each = tt }
-outcomes_of (w ∷ ws) (p ∷ ps) (t ∷ ts) (e ∷ es) h =
-    let more = outcomes_of ws ps ts es h.1 in record {
-      all = record { worked = w; poller = p; thread = t; end = e } ∷ more.all;
-      worked_are = ap (λ l. w ∷ l) more.worked_are;
-      pollers_are = ap (λ l. p ∷ l) more.pollers_are;
-      threads_are = ap (λ l. t ∷ l) more.threads_are;
-      ends_are = ap (λ l. e ∷ l) more.ends_are;
-      each = (h.0, more.each);
-    }
-outcomes_of ws ps ts es h = absurd h
+-- ---- the stations of a run, how they ended, and what polled them
 
 module _ {R D : Type 0} (acts : D → ℕ) (answer : D → ℕ → Act) (after : D → ℕ → D) (answers : ℕ → ℕ → Bool → Type 0)
     (asked : ℕ → Type 0) (pace : Pace) where
@@ -158,7 +130,7 @@ module _ {R D : Type 0} (acts : D → ℕ) (answer : D → ℕ → Act) (after :
     pub all : List (Course D)
     pub stations_are : map (λ c. c.station) all ≡ stations
     pub ends_are : map (λ c. c.end) all ≡ map (λ p. p.end) outcomes
-    pub pollers_are : map (λ c. c.poller) all ≡ map (λ (k : Kept R Caller). k.value) (map (λ p. p.poller) outcomes)
+    pub beside : AllZip (λ c p. (c.poller ≡ p.poller.value) × (p.end.number ≡ c.station.number)) all outcomes
     pub each : AllByRecursion (IsCourse R asked pace acts answer after) all
     pub finished : AllZip (IsFinished acts answer after answers) stations (map (λ p. p.end) outcomes)
 
@@ -171,16 +143,14 @@ module _ {R D : Type 0} (acts : D → ℕ) (answer : D → ℕ → Act) (after :
   courses_of [] (p ∷ ps) works turns whole polled finish = absurd works
   courses_of (s ∷ ss) [] works turns whole polled finish = absurd works
   courses_of (s ∷ ss) (p ∷ ps) works turns whole polled finish =
-      let more = courses_of ss ps works.1 turns.1 whole.1 polled.1 finish.1 in record {
+      let more = courses_of ss ps works.1 turns.1 whole.1 polled.1 finish.1 in
+      let done = finished_of acts answer after answers s works.0.0 p.worked p.poller p.thread.back p.end works.0.1 works.0.2 whole.0 finish.0 in record {
         all = record { station = s; end = p.end; poller = p.poller.value; thread = p.thread.back.value } ∷ more.all;
         stations_are = ap (λ l. s ∷ l) more.stations_are;
         ends_are = ap (λ l. p.end ∷ l) more.ends_are;
-        pollers_are = ap (λ l. p.poller.value ∷ l) more.pollers_are;
+        beside = ((refl, done.same_number), more.beside);
         each = (course_of s p works.0 turns.0 whole.0 polled.0 finish.0, more.each);
-        finished = (
-          finished_of acts answer after answers s works.0.0 p.worked p.poller p.thread.back p.end works.0.1 works.0.2 whole.0 finish.0,
-          more.finished,
-        );
+        finished = (done, more.finished);
       }
 
 -- of what was mapped
@@ -189,12 +159,6 @@ zip_mapped : {A B C : Type 0} (f : A → B) (Q : B → C → Type 0) (xs : List 
 zip_mapped f Q [] [] h = tt
 zip_mapped f Q (x ∷ xs) (y ∷ ys) h = (h.0, zip_mapped f Q xs ys h.1)
 zip_mapped f Q xs ys h = absurd h
-
-zip_values : {A B C : Type 0} (f : A → B) (Q : B → C → Type 0) (xs : List A) (ys : List C) → AllZip (λ x y. Q (f x) y) xs ys
-    → AllZip Q (map f xs) ys
-zip_values f Q [] [] h = tt
-zip_values f Q (x ∷ xs) (y ∷ ys) h = (h.0, zip_values f Q xs ys h.1)
-zip_values f Q xs ys h = absurd h
 
 pub each_of : {A : Type 0} (P : A → Type 0) (xs : List A) → All P xs → AllByRecursion P xs
 each_of P [] h = tt
@@ -211,79 +175,124 @@ fresh_of station seat (loose, opened, for) =
       unused = opened.poller;
     }
 
--- what the threads of a crew came to, where the answer is no fault
+-- a poller without stations isn't there
+crew_is : {D : Type 0} (R : Type 0) (asked : ℕ → Type 0) (pace : Pace) (number : ℕ) (courses : List (Course D))
+    → (courses ≢ [] → TakesTurns R asked pace number courses) → IsCrew R asked pace number courses
+crew_is R asked pace number [] turns = tt
+crew_is R asked pace number (c ∷ cs) turns = turns (λ e. absurd (let n = ap (λ l. length l) e in omega (arith, n)))
+
+-- what the threads of a run came to, where all went well
 module _ {R D : Type 0} (acts : D → ℕ) (answer : D → ℕ → Act) (after : D → ℕ → D) (answers : ℕ → ℕ → Bool → Type 0)
-    (asked : ℕ → Type 0) (pace : Pace) (number : ℕ) (list : SharedList R)
-    (stations : List (Station D)) (loose : List (Kept R (Loose D))) (worked : List (Worked R D)) (pollers : List (Kept R Caller))
-    (threads : List (Turned (Kept R Caller)))
-    (polled : Bool) (opened : AllZip IsKeptLoose stations loose) (made : AllZip (IsWorkedOf acts answer after answers) loose worked)
-    (ran : polled ≡ true → HasPolled asked pace number list loose pollers) (turned : AllZip (HasTurned asked pace) loose threads) where
-  crew_courses : (ends : List (Finished D)) → All (λ w. w.done.whole ≡ true) worked → All (λ t. t.polled ≡ true) threads
-      → (outcomes : Outcomes worked pollers threads ends)
-      → Courses acts answer after answers asked pace stations outcomes.all
-  crew_courses ends whole whole_turns outcomes =
-      courses_of acts answer after answers asked pace stations outcomes.all
-      (subst (λ l. AllZip (Works acts answer after answers asked pace) stations l) (sym outcomes.worked_are)
+    (asked : ℕ → Type 0) (pace : Pace) (stations : List (Station D)) (loose : List (Kept R (Loose D))) (worked : List (Worked R D))
+    (polled : List (Turned (Vec (Kept R Caller)))) (threads : List (Turned (Kept R Caller)))
+    (opened : AllZip IsKeptLoose stations loose) (made : AllZip (IsWorkedOf acts answer after answers) loose worked)
+    (ran : EachAt (HasPolled asked pace (length polled) loose) polled) (turned : AllZip (HasTurned asked pace) loose threads)
+    (whole : All (λ w. w.done.whole ≡ true) worked) (whole_polls : All (λ t. t.polled ≡ true) polled)
+    (whole_turns : All (λ t. t.polled ≡ true) threads) where
+  run_courses : (ends : List (Finished D)) (finish : AreFinishesOf worked polled threads ends)
+      → Courses acts answer after answers asked pace stations finish.all
+  run_courses ends finish =
+      courses_of acts answer after answers asked pace stations finish.all
+      (subst (λ l. AllZip (Works acts answer after answers asked pace) stations l) (sym finish.worked_are)
       (zip_both _ _ _ _ _ opened made))
-      (subst (λ l. AllZip (Turns acts answer after answers asked pace) stations l) (sym outcomes.threads_are)
+      (subst (λ l. AllZip (Turns acts answer after answers asked pace) stations l) (sym finish.threads_are)
       (zip_both _ _ _ _ _ opened turned))
-      (subst (λ l. AllByRecursion (λ (w : Worked R D). w.done.whole ≡ true) l) (sym outcomes.worked_are) (each_of _ _ whole))
-      (subst (λ l. AllByRecursion (λ (t : Turned (Kept R Caller)). t.polled ≡ true) l) (sym outcomes.threads_are) (each_of _ _ whole_turns))
-      outcomes.each
+      (subst (λ l. AllByRecursion (λ (w : Worked R D). w.done.whole ≡ true) l) (sym finish.worked_are) (each_of _ _ whole))
+      (subst (λ l. AllByRecursion (λ (t : Turned (Kept R Caller)). t.polled ≡ true) l) (sym finish.threads_are) (each_of _ _ whole_turns))
+      finish.each
 
-  -- the stations are finished, and were polled
-  record Both (ends : List (Finished D)) : Type 0 where
-    pub finished : AllZip (IsFinished acts answer after answers) stations ends
-    pub of_crew : AreOfCrew R asked pace acts answer after number stations ends
+  pub all_finished : (ends : List (Finished D)) → AreFinishesOf worked polled threads ends
+      → AllZip (IsFinished acts answer after answers) stations ends
+  all_finished ends finish =
+      subst (λ l. AllZip (IsFinished acts answer after answers) stations l) finish.ends_are (run_courses ends finish).finished
 
-  both : (ends : List (Finished D)) (n : ℕ) → IsNewList n list → All (λ w. w.done.whole ≡ true) worked → polled ≡ true
-      → All (λ t. t.polled ≡ true) threads
-      → AreFinishesOf worked pollers threads ends → Both ends
-  both ends n new whole whole_run whole_turns finish =
-      let outcomes = outcomes_of worked pollers threads ends finish in
-      let courses = crew_courses ends whole whole_turns outcomes in
-      let has = ran whole_run in
-      let fresh : AllZip IsFreshSeat stations has.before =
-      zip_same _ _ _ _ (λ s b h. fresh_of s b h) (zip_both _ _ _ _ _ opened has.from) in
-      let spent : AllZip IsSpentSeat (map (λ k. k.value) pollers) has.after =
-      zip_values (λ k. k.value) IsSpentSeat pollers has.after (zip_same _ _ _ _ (λ k a h. h.1) (zip_flip _ _ _ has.to)) in
-      let callers = courses.pollers_are ∙ ap (λ (l : List (Kept R Caller)). map (λ k. k.value) l) outcomes.pollers_are in
-      record {
-        finished = subst (λ l. AllZip (IsFinished acts answer after answers) stations l) outcomes.ends_are courses.finished;
-        of_crew = record {
-          courses = courses.all;
-          stations_are = courses.stations_are;
-          ends_are = courses.ends_are ∙ outcomes.ends_are;
-          each = courses.each;
-          turns = record {
-            list = list;
-            ends = n;
-            new = new;
-            before = has.before;
-            after = has.after;
-            from = zip_mapped (λ c. c.station) IsFreshSeat courses.all has.before
-                (subst (λ l. AllZip IsFreshSeat l has.before) (sym courses.stations_are) fresh);
-            turns = has.turns;
-            to = zip_mapped (λ c. c.poller) IsSpentSeat courses.all has.after
-                (subst (λ l. AllZip IsSpentSeat l has.after) (sym callers) spent);
-          };
-        };
-      }
+  -- the poller's own courses are those that it polled
+  crew_of : (ends : List (Finished D)) (finish : AreFinishesOf worked polled threads ends) (number : ℕ) (t : Turned (Vec (Kept R Caller)))
+      → HasPolled asked pace (length polled) loose number t
+      → map (λ o. o.poller) (filter (λ o. is_own number (length polled) o.end.number) finish.all) ≡ vec_items t.back → t.polled ≡ true
+      → IsCrew R asked pace number (filter (λ c. is_dealt number (length polled) c.station) (run_courses ends finish).all)
+  crew_of ends finish number t has back did = crew_is R asked pace number own (λ some. record {
+    list = has.list;
+    ends = has.ends;
+    new = has.new;
+    before = has.before;
+    after = has.after;
+    from = fresh;
+    turns = has.turns did (λ none. some (zip_empty _ _ _ (zip_flip _ _ _ fresh) none));
+    to = zip_same _ _ _ _ (λ c a h. h.2.1 ∙ ap (λ k. Some k) (sym h.1.0)) (zip_both _ _ _ _ _ beside spent);
+  })
+    where
+      all : List (Course D)
+      all = (run_courses ends finish).all
 
-  pub answer_finished : {F : Type 0} (ends : Result (Vec (Finished D)) F) (n : ℕ) → IsNewList n list
-      → IfOk ends (λ _. All (λ w. w.done.whole ≡ true) worked) → IfOk ends (λ _. polled ≡ true)
-      → IfOk ends (λ _. All (λ t. t.polled ≡ true) threads)
-      → IfOk ends (λ all. AreFinishesOf worked pollers threads (vec_items all))
-      → IfOk ends (λ all. AllZip (IsFinished acts answer after answers) stations (vec_items all))
-  answer_finished ends n new whole whole_run whole_turns finish = grind (arith, common_steps, both)
+      own : List (Course D)
+      own = filter (λ c. is_dealt number (length polled) c.station) all
 
-  pub answer_polled : {F : Type 0} (ends : Result (Vec (Finished D)) F) (n : ℕ) → IsNewList n list
-      → IfOk ends (λ _. All (λ w. w.done.whole ≡ true) worked) → IfOk ends (λ _. polled ≡ true)
-      → IfOk ends (λ _. All (λ t. t.polled ≡ true) threads)
-      → IfOk ends (λ all. AreFinishesOf worked pollers threads (vec_items all))
-      → IfOk ends (λ all. AreOfCrew R asked pace acts answer after number stations (vec_items all))
-  answer_polled (Ok all) n new whole whole_run whole_turns finish = (both (vec_items all) n new whole whole_run whole_turns finish).of_crew
-  answer_polled (Err fault) n new whole whole_run whole_turns finish = tt
+      beside : AllZip (λ (c : Course D) (o : Outcome R D). (c.poller ≡ o.poller.value) × (o.end.number ≡ c.station.number)) own
+          (filter (λ o. is_own number (length polled) o.end.number) finish.all)
+      beside = zip_filtered _ _ _ _ _ (λ c o h. ap (λ n. is_own number (length polled) n) (sym h.1)) (run_courses ends finish).beside
+
+      opens : AllZip (λ (c : Course D) l. IsKeptLoose c.station l) all loose
+      opens = zip_mapped (λ c. c.station) IsKeptLoose all loose
+          (subst (λ l. AllZip IsKeptLoose l loose) (sym (run_courses ends finish).stations_are) opened)
+
+      fresh : AllZip (λ (c : Course D) seat. IsFreshSeat c.station seat) own has.before
+      fresh = zip_same _ _ _ _ (λ c b h. fresh_of c.station b h) (zip_both _ _ _ _ _
+          (zip_filtered _ _ _ _ _ (λ c l h. ap (λ n. is_own number (length polled) n) (sym h.same_number)) opens) has.from)
+
+      spent : AllZip (λ (o : Outcome R D) seat. IsCallerOf seat o.poller)
+          (filter (λ o. is_own number (length polled) o.end.number) finish.all) has.after
+      spent = zip_mapped (λ o. o.poller) (λ kept seat. IsCallerOf seat kept) _ has.after
+          (subst (λ l. AllZip (λ kept seat. IsCallerOf seat kept) l has.after) (sym back) (zip_flip _ _ _ has.to))
+
+  pub all_polled : (ends : List (Finished D)) → AreFinishesOf worked polled threads ends
+      → ArePolled R asked pace acts answer after (length polled) stations ends
+  all_polled ends finish = record {
+    courses = (run_courses ends finish).all;
+    stations_are = (run_courses ends finish).stations_are;
+    ends_are = (run_courses ends finish).ends_are ∙ finish.ends_are;
+    each = (run_courses ends finish).each;
+    crews = λ number below.
+        let Polled : ℕ → Turned (Vec (Kept R Caller)) → Type 0 = λ k t. HasPolled asked pace (length polled) loose k t
+        × (map (λ o. o.poller) (filter (λ o. is_own k (length polled) o.end.number) finish.all) ≡ vec_items t.back)
+        × (t.polled ≡ true) in
+        let t = at_place Polled polled (λ k d low. (ran k d low, finish.callers k d low, whole_polls k d low)) number below in
+        crew_of ends finish number t.0 t.1.0 t.1.1 t.1.2;
+  }
+
+module _ {R D : Type 0} (acts : D → ℕ) (answer : D → ℕ → Act) (after : D → ℕ → D) (answers : ℕ → ℕ → Bool → Type 0)
+    (asked : ℕ → Type 0) (pace : Pace) (stations : List (Station D)) (loose : List (Kept R (Loose D))) (worked : List (Worked R D))
+    (polled : List (Turned (Vec (Kept R Caller)))) (threads : List (Turned (Kept R Caller))) (pollers : ℕ)
+    (same : length polled ≡ pollers) (opened : AllZip IsKeptLoose stations loose)
+    (made : AllZip (IsWorkedOf acts answer after answers) loose worked)
+    (ran : EachAt (HasPolled asked pace pollers loose) polled) (turned : AllZip (HasTurned asked pace) loose threads) where
+  as_ran : EachAt (HasPolled asked pace (length polled) loose) polled
+  as_ran = subst (λ n. EachAt (HasPolled asked pace n loose) polled) (sym same) ran
+
+  pub answer_finished : (ends : Option (Vec (Finished D))) → IfSome ends (λ _. All (λ w. w.done.whole ≡ true) worked)
+      → IfSome ends (λ _. All (λ t. t.polled ≡ true) polled) → IfSome ends (λ _. All (λ t. t.polled ≡ true) threads)
+      → IfSome ends (λ all. AreFinishesOf worked polled threads (vec_items all))
+      → IfSome ends (λ all. AllZip (IsFinished acts answer after answers) stations (vec_items all))
+  answer_finished None whole polls turns finish = tt
+  answer_finished (Some all) whole polls turns finish =
+      all_finished acts answer after answers asked pace stations loose worked polled threads opened made as_ran turned whole polls turns
+      (vec_items all) finish
+
+  pub answer_polled : (ends : Option (Vec (Finished D))) → IfSome ends (λ _. All (λ w. w.done.whole ≡ true) worked)
+      → IfSome ends (λ _. All (λ t. t.polled ≡ true) polled) → IfSome ends (λ _. All (λ t. t.polled ≡ true) threads)
+      → IfSome ends (λ all. AreFinishesOf worked polled threads (vec_items all))
+      → IfSome ends (λ all. ArePolled R asked pace acts answer after pollers stations (vec_items all))
+  answer_polled None whole polls turns finish = tt
+  answer_polled (Some all) whole polls turns finish =
+      subst (λ n. ArePolled R asked pace acts answer after n stations (vec_items all)) same
+      (all_polled acts answer after answers asked pace stations loose worked polled threads opened made as_ran turned whole polls turns
+      (vec_items all) finish)
+
+-- no station is polled by nobody
+pub none_polled : {D : Type 0} (R : Type 0) (asked : ℕ → Type 0) (pace : Pace) (acts : D → ℕ) (answer : D → ℕ → Act) (after : D → ℕ → D)
+    (pollers : ℕ) → ArePolled R asked pace acts answer after pollers [] []
+none_polled R asked pace acts answer after pollers =
+    record { courses = []; stations_are = refl; ends_are = refl; each = tt; crews = λ number below. tt }
 
 -- what the workers of the jobs gave back is of the stations
 worked_of : {R D G : Type 0} (acts : D → ℕ) (answer : D → ℕ → Act) (after : D → ℕ → D) (answers : G → ℕ → ℕ → Bool → Type 0)
@@ -338,18 +347,81 @@ seat_at placed seat after caller at same of = subst (λ (n : Napi). IsSeatOf n c
 
 -- the callers of the poller's seats are of the instances that stayed behind
 pub all_pollers_at : {R : Type 0} (placed : List (Kept R Placed)) (seats afters : List Seat) (callers : List (Kept R Caller))
-    → AllZip IsSeatAt placed seats → AreSameSeats seats afters → AllZip IsCallerOf afters callers → AllZip IsCallerAt callers placed
+    → AllZip IsSeatAt placed seats → AreSameSeats seats afters → AllZip IsCallerOf afters callers
+    → AllZip (λ place kept. IsCallerAt kept place) placed callers
 all_pollers_at placed seats afters callers at same of =
     let a = zip_both _ _ _ _ _ at same in
     let b = zip_both _ _ _ _ _ a of in
-    zip_flip _ _ _ (zip_same _ _ _ _ (λ p k h. seat_at p h.1.0 h.0 k h.1.1 h.1.2 h.2) b)
+    zip_same _ _ _ _ (λ p k h. seat_at p h.1.0 h.0 k h.1.1 h.1.2 h.2) b
 
--- they are there again
-pub all_there : {R : Type 0} (placed : List (Kept R Placed)) (seats afters : List Seat) → AllZip IsSeatAt placed seats
-    → AreSameSeats seats afters → AllByRecursion (λ s. IsSome s.caller) afters
-all_there placed seats afters at same =
-    let a = zip_both _ _ _ _ _ at same in
-    zip_each _ _ _ _ (λ p s h. h.2.caller h.1.caller) a
+-- what the pollers gave back
+module _ {R D G : Type 0} (answers : G → ℕ → ℕ → Bool → Type 0) (setting : Setting R G) (count n : ℕ) (placed : List (Kept R Placed))
+    (loose : List (Kept R (Loose D))) (seats : List Seat) (pollers : List (PollTask R G)) (polled : List (Turned (Vec (Kept R Caller))))
+    (at : AllZip IsSeatAt placed seats) (for : AllZip IsKeptSeatFor loose seats)
+    (have : ArePollers setting count n seats pollers) (gives : AllZip (GivesCallers answers) pollers polled) where
+  record GaveOwn (k : ℕ) (turned : Turned (Vec (Kept R Caller))) : Type 0 where
+    pub callers : AreCallersAt n placed k turned
+    pub has : HasPolled (IsAsked answers setting.gate.now) setting.pace n loose k turned
+
+  gave_own : (k : ℕ) (turned : Turned (Vec (Kept R Caller))) (task : PollTask R G)
+      → IsPoller setting count (filter (λ (s : Seat). is_own k n s.number) seats) k task → GivesCallers answers task turned
+      → GaveOwn k turned
+  gave_own k turned task p g =
+      let by : ℕ → Bool = λ m. is_own k n m in
+      let own : List Seat = filter (λ (s : Seat). by s.number) seats in
+      let same : AreSameSeats own g.seats = subst (λ l. AreSameSeats l g.seats) p.seats_are g.same in
+      let places : AllZip IsSeatAt (filter (λ (p : Kept R Placed). by p.value.number) placed) own =
+      zip_filtered IsSeatAt _ _ placed seats (λ p s h. ap by (sym h.number)) at in
+      record {
+        callers = all_pollers_at _ own g.seats (vec_items turned.back) places same g.callers;
+        has = record {
+          before = own;
+          after = g.seats;
+          list = task.list;
+          ends = p.ends;
+          new = p.new;
+          from = zip_filtered IsKeptSeatFor _ _ loose seats (λ l s h. ap by (sym h.number)) for;
+          turns = λ did some.
+              subst (λ l. IsPolledBy (IsAsked answers setting.gate.now) setting.pace k task.list l g.seats) p.seats_are
+              (subst (λ n. IsPolledBy (IsAsked answers setting.gate.now) setting.pace n task.list (vec_items task.seats.value) g.seats)
+              p.same_number
+              (subst (λ (s : Setting R G). IsPolledBy (IsAsked answers s.gate.now) s.pace task.number task.list
+              (vec_items task.seats.value) g.seats) p.has (g.turns did (λ none. some (sym p.seats_are ∙ none)))));
+          to = g.callers;
+        };
+      }
+
+  all_gave : (k : ℕ) (d : Turned (Vec (Kept R Caller))) → k < length polled → GaveOwn k (get_or polled k d)
+  all_gave k d low =
+      let h = each_zip (λ k task. IsPoller setting count (filter (λ (s : Seat). is_own k n s.number) seats) k task)
+      (GivesCallers answers) pollers polled gives have k d low in
+      gave_own k (get_or polled k d) h.0 h.1 h.2
+
+  -- each poller gave back the callers of its own instances
+  pub all_callers_at : EachAt (AreCallersAt n placed) polled
+  all_callers_at k d low = (all_gave k d low).callers
+
+  -- and polled them
+  pub all_have_polled : EachAt (HasPolled (IsAsked answers setting.gate.now) setting.pace n loose) polled
+  all_have_polled k d low = (all_gave k d low).has
+
+-- all pollers may poll
+pub all_can_run : {R G : Type 0} (setting : Setting R G) (count n : ℕ) (placed : List (Kept R Placed)) (seats : List Seat)
+    (pollers : List (PollTask R G)) → AllZip IsSeatAt placed seats → ArePollers setting count n seats pollers → length pollers ≤ 8
+    → length seats ≤ count → IsLawful setting.pace → All CanPoll pollers
+all_can_run {R} {G} setting count n placed seats pollers at have few room lawful k d low =
+    let p = have k d low in
+    let there : AllByRecursion (λ (s : Seat). IsSome s.caller) (filter (λ (s : Seat). is_own k n s.number) seats) =
+    zip_each _ _ _ _ (λ x s h. h.caller) (zip_filtered IsSeatAt _ _ placed seats (λ p s h. ap (λ m. is_own k n m) (sym h.number)) at) in
+    let fewer = filter_fewer (λ (s : Seat). is_own k n s.number) seats in
+    let long = ap (λ l. length l) p.seats_are in
+    record {
+      number = (let m = p.same_number in omega (arith, m, low, few));
+      pace = subst (λ (s : Setting R G). IsLawful s.pace) (sym p.has) lawful;
+      there = subst (λ l. AllByRecursion (λ (s : Seat). IsSome s.caller) l) (sym p.seats_are) there;
+      empty = p.room.0;
+      room = grind (arith, common_steps, fewer, long, room, p.room.1);
+    }
 
 -- so are those of the instances' threads
 pub all_threads_at : {R G : Type 0} (answers : G → ℕ → ℕ → Bool → Type 0) (placed : List (Kept R Placed)) (sides : List (ThreadSide R G))

@@ -2,8 +2,8 @@
 use Rattle.{poll_tasks.specs.declared.{pace.Pace.Pace, tasks.Turned.Turned}, poll_workers.specs.Spreads.IsKeptSeatFor}
 use Rattle.poll_seats.specs.{declared.seat.Seat.Seat, SeatKeeping.IsCallerOf, Gives.{IsPolledAlone, IsPolledBy}}
 use Rattle.{poll_list.specs.{SharedList.IsNewList, declared.shared.SharedList.SharedList}, std.specs.List.{AllByRecursion, AllZip}}
-use Rattle.std.specs.Prelude.{◌≡◌, ℕ, ◌<◌, ◌≤◌, Bool, true, List, [], ◌∷◌, Some, filter, is_some, map, MatchBool}
-use Rattle.poll_interrupts.specs.{Seats.IsUnused, Ends.HasAllOf, Deals.is_dealt, declared.{opening.Loose.Loose, acts.Act.Act}}
+use Rattle.std.specs.{Prelude.{◌≡◌, ◌≢◌, ℕ, ◌<◌, Bool, true, List, [], ◌∷◌, Some, filter, is_some, map, MatchBool, vec_items}, Global.Vec}
+use Rattle.poll_interrupts.specs.{Seats.IsUnused, Ends.HasAllOf, Deals.{is_dealt, is_own}, declared.{opening.Loose.Loose, acts.Act.Act}}
 use Rattle.poll_interrupts.specs.{declared.station.{Finished.Finished, Station.Station}, Runs.{HasRun, poller_number, thread_number}}
 use Rattle.{poll_interrupts.specs.Runs.worker_number, napi_calls.specs.declared.{kept.Kept.Kept, types.Caller.Caller}}
 
@@ -66,34 +66,28 @@ module _ (R : Type 0) (asked : ℕ → Type 0) (pace : Pace) where
       pub unused : IsUnused thread_number thread
       pub turns : TurnsIfThread course.station.thread course.station.number thread course.thread
 
-    -- Each station has its course. Each poller from the first one on polled its own stations, those whose numbers, from 0,
-    -- leave its number when divided by the count of pollers.
-    pub record ArePolled (first pollers : ℕ) (stations : List (Station D)) (ends : List (Finished D)) : Type 0 where
+    -- Each station has its course. Each poller polled its own stations, those whose numbers, from 0, leave its number when
+    -- divided by the count of pollers.
+    pub record ArePolled (pollers : ℕ) (stations : List (Station D)) (ends : List (Finished D)) : Type 0 where
       pub courses : List (Course D)
       pub stations_are : map (λ course. course.station) courses ≡ stations
       pub ends_are : map (λ course. course.end) courses ≡ ends
       pub each : AllByRecursion IsCourse courses
-      pub crews : (number : ℕ) → first ≤ number → number < pollers
-          → IsCrew number (filter (λ course. is_dealt number pollers course.station) courses)
+      pub crews : (number : ℕ) → number < pollers → IsCrew number (filter (λ course. is_dealt number pollers course.station) courses)
 
-    -- all stations of one poller
-    pub record AreOfCrew (number : ℕ) (stations : List (Station D)) (ends : List (Finished D)) : Type 0 where
-      pub courses : List (Course D)
-      pub stations_are : map (λ course. course.station) courses ≡ stations
-      pub ends_are : map (λ course. course.end) courses ≡ ends
-      pub each : AllByRecursion IsCourse courses
-      pub turns : TakesTurns number courses
-
--- ---- what the threads of a crew gave back
+-- ---- what the threads of a run gave back
 
 module _ {R D : Type 0} (asked : ℕ → Type 0) (pace : Pace) where
-  -- the poller took its turns over this list, from its seats at these instances to those with these callers
-  pub record HasPolled (number : ℕ) (list : SharedList R) (loose : List (Kept R (Loose D))) (callers : List (Kept R Caller)) : Type 0 where
+  -- the poller took its turns, where it has seats, from those at its own instances to those with the callers that it gave back
+  pub record HasPolled (pollers : ℕ) (loose : List (Kept R (Loose D))) (number : ℕ) (turned : Turned (Vec (Kept R Caller))) : Type 0 where
     pub before : List Seat
     pub after : List Seat
-    pub from : AllZip IsKeptSeatFor loose before
-    pub turns : IsPolledBy asked pace number list before after
-    pub to : AllZip IsCallerOf after callers
+    pub list : SharedList R
+    pub ends : ℕ
+    pub new : IsNewList ends list
+    pub from : AllZip IsKeptSeatFor (filter (λ l. is_own number pollers l.value.number) loose) before
+    pub turns : turned.polled ≡ true → before ≢ [] → IsPolledBy asked pace number list before after
+    pub to : AllZip IsCallerOf after (vec_items turned.back)
 
   -- an instance's thread took its turns, unless it or another one was refused
   abbrev pub HasTurned : Kept R (Loose D) → Turned (Kept R Caller) → Type 0

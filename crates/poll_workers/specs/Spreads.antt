@@ -1,5 +1,8 @@
 -- What goes to the threads of stations.
-use Rattle.std.specs.Prelude.{◌≡◌, IsSome, Some, is_some, option_copied, option_map, ◌≤◌}
+use Rattle.std.specs.Prelude.{◌≡◌, ℕ, ◌++◌, ◌≤◌, List, [], ◌∷◌, IsSome, Some, filter, is_some, option_copied, option_map, slice_index_or, slice_set}
+use Rattle.std.specs.{Prelude.{vec_items, vec_capacity}, Global.Vec}
+use Rattle.{poll_list.specs.SharedList.IsNewList, poll_interrupts.specs.Deals.is_own, poll_seats.specs.declared.poller.PollTask.PollTask}
+use Rattle.{poll_tasks.specs.Tasks.{EachAt, HasRoom}, poll_workers.specs.declared.pollers.Begin.Begin}
 use Rattle.napi_calls.specs.declared.kept.Kept.{Kept}
 use Rattle.{napi_calls.specs.Instance.IsSeatOf, poll_interrupts.specs.declared.{opening.{Placed.Placed, Loose.Loose}, job.Job.Job}}
 use Rattle.{poll_interrupts.specs.Seats.AreSeatsOf, poll_seats.specs.declared.{seat.Seat.Seat, thread_poller.ThreadSide.ThreadSide}}
@@ -44,6 +47,7 @@ IsKeptSeatFor loose seat = IsSeatFor loose.value seat
 module _ {R : Type 0} where
   -- it is at the instance, and knows the bell of its thread, where it has one
   pub record IsSeatAt (placed : Kept R Placed) (seat : Seat) : Type 0 where
+    pub number : seat.number ≡ placed.value.number
     pub napi : seat.napi.now ≡ placed.value.napi
     pub bell : option_copied seat.thread ≡ placed.value.bell
     pub caller : IsSome seat.caller
@@ -55,3 +59,39 @@ module _ {R : Type 0} where
     pub seat : IsSeatOf side.napi.now side.caller.value.pass
     pub name : side.number ≤ 16
     pub lawful : IsLawful side.setting.now.pace
+
+-- a poller begins with a new list, and with room for the callers of so many seats
+pub record IsBegin {R : Type 0} (count : ℕ) (begin : Begin R) : Type 0 where
+  pub ends : ℕ
+  pub new : IsNewList ends begin.list
+  pub room : HasRoom count begin.room
+
+module _ {R : Type 0} where
+  -- each of so many pollers has those seats that are its own, and room for so many
+  abbrev pub HaveOwn : ℕ → ℕ → List Seat → List (Kept R (Vec Seat)) → Type 0
+  HaveOwn count pollers seats =
+      EachAt (λ k own. (vec_items own.value ≡ filter (λ (s : Seat). is_own k pollers s.number) seats) × (count ≤ vec_capacity own.value))
+
+  -- a poller has one seat more
+  pub record TakesSeat (before : List (Kept R (Vec Seat))) (poller : ℕ) (seat : Seat) (after : List (Kept R (Vec Seat))) : Type 0 where
+    pub was : Kept R (Vec Seat)
+    pub now : Kept R (Vec Seat)
+    pub there : slice_index_or before poller was ≡ was
+    pub more : vec_items now.value ≡ vec_items was.value ++ seat ∷ []
+    pub capacity : vec_capacity now.value ≡ vec_capacity was.value
+    pub rest : after ≡ slice_set before poller now
+
+module _ {R G : Type 0} where
+  -- the poller with this number has what all threads have, a new list, these seats, and room for the callers of so many
+  pub record IsPoller (setting : Setting R G) (count : ℕ) (seats : List Seat) (number : ℕ) (task : PollTask R G) : Type 0 where
+    pub has : task.setting.now ≡ setting
+    pub same_number : task.number ≡ number
+    pub ends : ℕ
+    pub new : IsNewList ends task.list
+    pub seats_are : vec_items task.seats.value ≡ seats
+    pub room : HasRoom count task.room
+
+  -- so for all of so many pollers, each with those seats that are its own
+  abbrev pub ArePollers : Setting R G → ℕ → ℕ → List Seat → List (PollTask R G) → Type 0
+  ArePollers setting count pollers seats =
+      EachAt (λ k task. IsPoller setting count (filter (λ (s : Seat). is_own k pollers s.number) seats) k task)

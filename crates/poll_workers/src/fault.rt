@@ -19,15 +19,6 @@ pub enum WorkFault {
     SpawnFailed,
 }
 
-/// Why crews gave nothing, before it is asked what cut them short.
-#[derive(Clone, Copy, Debug, PartialEq, Eq)]
-pub(crate) enum Stop {
-    /// Memory was refused.
-    Memory,
-    /// Not all acts were made, or not all threads polled.
-    Short,
-}
-
 impl WorkFault {
     /// Its number: 1 `OutOfMemory`, 2 `GateShut`, 3 `SpawnFailed`.
     pub fn number(&self) -> u32

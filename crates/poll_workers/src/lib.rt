@@ -1,9 +1,9 @@
 //! Behind the door `poll_engine`: interrupt workers, pollers and thread pollers, each in a thread of its own, over shared instances.
 #![tactic(auto)]
 
-mod crew;
 mod fault;
 mod numbers;
+mod pollers;
 mod run;
 mod spreading;
 

@@ -1,156 +1,231 @@
 //! A run of all stations.
 
-ghost use Rattle.std.specs.Prelude.{◌≡◌, ◌≤◌, ◌<◌, ◌+◌, IfErr, IfOk, IsErrOf, IsTrue, Ok, map, vec_items, vec_len, vec_capacity};
-ghost use Rattle.std.specs.List.{All, AllZip};
+ghost use Rattle.std.specs.Prelude.{◌≡◌, ◌≤◌, ◌+◌, ℕ, [], IfErr, IfOk, IfSome, IsErrOf, IsTrue, true, length, vec_items, vec_len, vec_capacity};
+ghost use Rattle.std.specs.List.{All, AllByRecursion, AllZip};
 ghost use Rattle.std.specs.Borrow.{Bor};
-ghost use Rattle.std.specs.Thread.{IsSend, IsSync};
-ghost use Rattle.poll_interrupts.specs.Deals.{IsDealt, IsDealtFrom, is_dealt};
 ghost use Rattle.poll_tasks.specs.Asks.{IsAsked};
-ghost use Rattle.poll_workers.specs.Courses.{ArePolled, pace_of};
-ghost use Rattle.poll_workers.specs.Finishes.{IsFinished};
-ghost use Rattle.poll_workers.specs.declared.fault.Stop.TheVariants.{Memory};
+ghost use Rattle.poll_tasks.specs.Tasks.{EachAt, HasRoom};
+ghost use Rattle.poll_workers.specs.Courses.{ArePolled, HasPolled, HasTurned, pace_of};
+ghost use Rattle.poll_workers.specs.Finishes.{IsFinished, IsWorkedOf};
 ghost use Rattle.poll_workers.specs.declared.fault.WorkFault.TheVariants.{GateShut, SpawnFailed};
-ghost use Rattle.poll_workers.specs.Faults.{graver, joined, told};
+ghost use Rattle.poll_workers.specs.Faults.{told};
 ghost use Rattle.poll_workers.specs.Numbers.{have_distinct_numbers};
-ghost use Rattle.poll_interrupts.specs.Opens.{IsStation};
+ghost use Rattle.poll_workers.specs.Spreads.{HaveOwn, IsBegin};
+ghost use Rattle.poll_interrupts.specs.Ends.{AreCallersAt, AreFinishesOf, IsDoneAt, IsTurnedAt};
+ghost use Rattle.poll_interrupts.specs.Opens.{IsKeptSideOf, IsStation};
 ghost use Rattle.poll_tasks.specs.Paces.{IsLawful};
 ghost use Rattle.poll_tasks.specs.Refusals.{IsRefused};
 
-use crate::crew::run_crew;
-use crate::fault::{Stop, WorkFault};
-use poll_interrupts::{Dealt, Device, Finished, Station, deal, merge};
-use poll_tasks::{Gate, Pace, Setting, Signals, Watch};
+use crate::fault::WorkFault;
+use crate::pollers::{Begins, begins_of, pollers_of, seats_of};
+use crate::spreading::{Parts, spread};
+use napi_calls::{Caller, Kept};
+use poll_interrupts::{
+    Device, Finished, Loose, Placed, Station, Worked, are_whole, gather, have_turned, open_all,
+    shut_all,
+};
+use poll_tasks::{
+    Bell, Driven, Gate, Pace, Rooms, Setting, Signals, Task, Tasks, Turned, Watch, drive, task_room,
+};
 use std::alloc::{AllocError, Global};
 use std::sync::Wait;
 use std::thread::Threads;
 
-// What was begun. Where memory was refused for it no further act is made.
-fn begun<R, G, T>(setting: &Setting<R, G>, begun: Result<T, AllocError>) -> Result<T, Stop>
-    ensures made { IfOk result (λ x. begun ≡ Ok x) }
-    ensures fault { IfErr result (λ stop. stop ≡ Memory) }
-{
-    match begun {
-        Ok(begun) => Ok(begun),
-        Err(_) => {
-            setting.signals.stop();
-            Err(Stop::Memory)
-        }
-    }
-}
+// What all threads gave back.
+type Ended<R, D> = Driven<Turned<Vec<Kept<R, Caller>>>, Worked<R, D>, Turned<Kept<R, Caller>>>;
 
-// Deals the stations, and makes room for what they give.
-fn deal_all<D: Drop>(
+// Room for what goes to the threads of so many pollers and stations, and for what they give. The seats are made last, since they
+// must be spent: where memory is refused there are none.
+fn rooms_of<'n, R, P, A, W, B, S, C>(
+    rt: R,
     alloc: Global,
-    stations: Vec<Station<D>>,
-    number: u32,
-    pollers: u32,
-) -> Result<(Dealt<D>, Vec<Finished<D>>), AllocError>
-    requires { 1 ≤ pollers }
-    ensures dealt { IfOk result
-        (λ r. IsDealt (vec_items stations) (vec_items r.0.order) (vec_items r.0.mine)
-        (vec_items r.0.others)) }
-    ensures order { IfOk result
-        (λ r. vec_items r.0.order ≡ map (is_dealt number pollers) (vec_items stations)) }
-    ensures room { IfOk result (λ r. (vec_len r.1 ≡ 0) × (vec_len r.0.order ≤ vec_capacity r.1)) }
+    pollers: usize,
+    count: usize,
+) -> Result<(Rooms<P, A, W, B, S, C>, Vec<P>, Parts<'n, R, W, S>), AllocError>
+where
+    R: Wait + Drop + Copy,
+    P: Task<A> + Drop,
+    A: Drop,
+    W: Task<B> + Drop,
+    B: Drop,
+    S: Task<C> + Drop,
+    C: Drop,
+    ensures pollers { IfOk result
+        (λ r. HasRoom pollers r.0.pollers.begun × HasRoom pollers r.0.pollers.given
+        × HasRoom pollers r.1) }
+    ensures workers { IfOk result
+        (λ r. HasRoom count r.0.workers.begun × HasRoom count r.0.workers.given
+        × HasRoom count r.2.workers) }
+    ensures threads { IfOk result
+        (λ r. HasRoom count r.0.threads.begun × HasRoom count r.0.threads.given
+        × HasRoom count r.2.threads) }
+    ensures seats { IfOk result (λ r. (n : ℕ) → HaveOwn count n [] (vec_items r.2.seats)) }
+    ensures len { IfOk result (λ r. length (vec_items r.2.seats) ≡ pollers) }
 {
-    let room = Vec::with_capacity(alloc, stations.len())?;
-    Ok((deal(alloc, stations, number, pollers)?, room))
+    let rooms = Rooms {
+        pollers: task_room(alloc, pollers)?,
+        workers: task_room(alloc, count)?,
+        threads: task_room(alloc, count)?,
+    };
+    let tasks = Vec::with_capacity(alloc, pollers)?;
+    let workers = Vec::with_capacity(alloc, count)?;
+    let threads = Vec::with_capacity(alloc, count)?;
+    let seats = seats_of(rt, alloc, pollers, count)?;
+    let parts = Parts {
+        seats,
+        workers,
+        threads,
+    };
+    Ok((rooms, tasks, parts))
 }
 
-// The crews of the pollers from this one on: the first one's runs while those of the others do. Where memory is refused no
-// further act is made.
-fn run_crews<'t, R, D, G>(
+// Ends the stations. There is room for them. Where not all acts were made, or a thread didn't poll, the run was cut short.
+fn end_run<R: Wait + Drop, D: Drop>(
+    ended: Ended<R, D>,
+    placed: Vec<Kept<R, Placed>>,
+    room: Vec<Finished<D>>,
+) -> Option<Vec<Finished<D>>>
+    requires some { 1 ≤ vec_len ended.polled }
+    requires dones { AllZip IsDoneAt (vec_items ended.worked) (vec_items placed) }
+    requires callers { EachAt (AreCallersAt (length (vec_items ended.polled)) (vec_items placed))
+        (vec_items ended.polled) }
+    requires threads { AllZip IsTurnedAt (vec_items ended.threads) (vec_items placed) }
+    requires empty { vec_len room ≡ 0 }
+    requires room { vec_len ended.worked ≤ vec_capacity room }
+    ensures finished { IfSome result
+        (λ all. AreFinishesOf (vec_items ended.worked) (vec_items ended.polled)
+        (vec_items ended.threads) (vec_items all)) }
+    ensures whole { IfSome result
+        (λ all. All (λ w. w.done.whole ≡ true) (vec_items ended.worked)) }
+    ensures polled { IfSome result (λ all. All (λ t. t.polled ≡ true) (vec_items ended.polled)) }
+    ensures turned { IfSome result (λ all. All (λ t. t.polled ≡ true) (vec_items ended.threads)) }
+{
+    let Driven {
+        polled,
+        worked,
+        threads,
+    } = ended;
+    let whole = are_whole(worked.as_slice());
+    let have_polled = have_turned(polled.as_slice());
+    let turned = have_turned(threads.as_slice());
+    let finished = gather(worked, polled, threads, placed, room);
+    if !whole || !have_polled || !turned {
+        return None;
+    }
+    Some(finished)
+}
+
+// Runs all threads, in one scope. With no memory for what they need none is started, and what was to go to them is handed back.
+fn run_threads<'t, 'p, 'n, R, D, G>(
     setting: &'t Setting<'t, R, G>,
     alloc: Global,
-    number: u32,
-    pollers: u32,
-    stations: Vec<Station<D>>,
-) -> Result<Vec<Finished<D>>, Stop>
+    bells: &'p [Bell],
+    begins: Begins<R>,
+    placed: &'n [Kept<R, Placed>],
+    loose: Vec<Kept<R, Loose<D>>>,
+) -> Result<Ended<R, D>, Vec<Kept<R, Loose<D>>>>
 where
     R: Threads + Wait + Copy + Drop + Send + Sync,
     D: Device + Drop + Send,
     G: Gate + Sync,
-    requires pollers { (number < pollers) × (pollers ≤ 8) }
+    requires pollers { (1 ≤ length bells.now) × (length bells.now ≤ 8) }
+    requires begins { AllByRecursion (IsBegin (vec_len loose)) (vec_items begins.pollers)
+        × (length (vec_items begins.pollers) ≡ length bells.now) }
+    requires ends { All (λ e. vec_len loose + vec_len loose ≤ vec_len e) (vec_items begins.ends)
+        × (length (vec_items begins.ends) ≡ length bells.now) }
+    requires pace { IsLawful setting.now.pace }
+    requires sides { AllZip IsKeptSideOf (vec_items loose) placed.now }
+    requires count { vec_len loose ≤ 16 }
+    ensures pollers { IfOk result (λ e. length (vec_items e.polled) ≡ length bells.now) }
+    ensures worked { IfOk result (λ e. AllZip (IsWorkedOf D.acts D.answer D.after
+        (G.answers setting.now.gate.now)) (vec_items loose) (vec_items e.worked)) }
+    ensures dones { IfOk result (λ e. AllZip IsDoneAt (vec_items e.worked) placed.now) }
+    ensures callers { IfOk result
+        (λ e. EachAt (AreCallersAt (length bells.now) placed.now) (vec_items e.polled)) }
+    ensures polled { IfOk result
+        (λ e. EachAt (HasPolled (IsAsked G.answers setting.now.gate.now) setting.now.pace
+        (length bells.now) (vec_items loose)) (vec_items e.polled)) }
+    ensures threads { IfOk result (λ e. AllZip IsTurnedAt (vec_items e.threads) placed.now) }
+    ensures turned { IfOk result
+        (λ e. AllZip (HasTurned (IsAsked G.answers setting.now.gate.now) setting.now.pace)
+        (vec_items loose) (vec_items e.threads)) }
+    ensures len { IfOk result (λ e. vec_len e.worked ≡ vec_len loose) }
+    ensures back { IfErr result (λ b. vec_items b ≡ vec_items loose) }
+{
+    let Ok((rooms, room, parts)) = rooms_of(setting.rt, alloc, bells.len(), loose.len()) else {
+        return Err(loose);
+    };
+    let Begins { pollers, ends } = begins;
+    let parts = spread(setting, bells, placed, loose, ends, parts);
+    let Parts {
+        seats,
+        workers,
+        threads,
+    } = parts;
+    let tasks = Tasks {
+        pollers: pollers_of(setting, bells, pollers, seats, room),
+        workers,
+        threads,
+    };
+    Ok(drive(&setting.rt, tasks, rooms, bells, setting.signals))
+}
+
+// Opens all stations, and runs them. Where memory is refused nothing was begun; nothing is answered where the run was cut short,
+// whatever stopped it.
+fn run_all<'t, R, D, G>(
+    setting: &'t Setting<'t, R, G>,
+    alloc: Global,
+    pollers: usize,
+    stations: Vec<Station<D>>,
+) -> Result<Option<Vec<Finished<D>>>, AllocError>
+where
+    R: Threads + Wait + Copy + Drop + Send + Sync,
+    D: Device + Drop + Send,
+    G: Gate + Sync,
+    requires pollers { (1 ≤ pollers) × (pollers ≤ 8) }
     requires pace { IsLawful setting.now.pace }
     requires stations { All IsStation (vec_items stations) }
     requires count { vec_len stations ≤ 16 }
-    requires dealt { All (IsDealtFrom number pollers) (vec_items stations) }
     ensures finished { IfOk result
+        (λ came. IfSome came
         (λ all. AllZip (IsFinished D.acts D.answer D.after (G.answers setting.now.gate.now))
-        (vec_items stations) (vec_items all)) }
+        (vec_items stations) (vec_items all))) }
     ensures polled { IfOk result
+        (λ came. IfSome came
         (λ all. ArePolled R (IsAsked G.answers setting.now.gate.now) setting.now.pace
-        D.acts D.answer D.after number pollers (vec_items stations) (vec_items all)) }
+        D.acts D.answer D.after pollers (vec_items stations) (vec_items all))) }
 {
-    if stations.is_empty() {
-        return Ok(Vec::new(alloc));
+    let count = stations.len();
+    if count == 0 {
+        return Ok(Some(Vec::new(alloc)));
     }
-    if number + 1 == pollers {
-        let (finished, ()) = begun(setting, run_crew(setting, alloc, number, stations, || ()))?;
-        return finished;
-    }
-    let (dealt, room) = begun(setting, deal_all(alloc, stations, number, pollers))?;
-    let Dealt {
-        mine,
-        others,
-        order,
-    } = dealt;
-    if mine.is_empty() {
-        let others = run_crews(setting, alloc, number + 1, pollers, others)?;
-        return Ok(merge(order, Vec::new(alloc), others, room));
-    }
-    let later = || -> Result<Vec<Finished<D>>, Stop>
-        requires { IsSend R.row × IsSync R.row × IsSend D.row × IsSync G.row
-            × (number + 1 < pollers) × (pollers ≤ 8) × IsLawful setting.now.pace
-            × All IsStation (vec_items others) × (vec_len others ≤ 16)
-            × All (IsDealtFrom (number + 1) pollers) (vec_items others) }
-        ensures finished { IfOk result
-            (λ all. AllZip (IsFinished D.acts D.answer D.after
-            (G.answers setting.entry.now.gate.now)) (vec_items others) (vec_items all)) }
-        ensures polled { IfOk result
-            (λ all. ArePolled R (IsAsked G.answers setting.entry.now.gate.now)
-            setting.entry.now.pace D.acts D.answer D.after (number + 1) pollers
-            (vec_items others) (vec_items all)) }
-    { run_crews(setting, alloc, number + 1, pollers, others) };
-    let (finished, others) = begun(setting, run_crew(setting, alloc, number, mine, later))?;
-    let (finished, others) = join_answers(finished, others)?;
-    Ok(merge(order, finished, others, room))
-}
-
-// Of two the one that counts: want of memory, else that the run was cut short.
-fn graver(stop: Stop, other: Stop) -> Stop
-    ensures { result ≡ graver stop other }
-{
-    match stop {
-        Stop::Memory => stop,
-        Stop::Short => other,
-    }
-}
-
-// What two parts of a run came to together.
-fn join_answers<A: Drop, B: Drop>(
-    mine: Result<A, Stop>,
-    others: Result<B, Stop>,
-) -> Result<(A, B), Stop>
-    ensures { result ≡ joined mine others }
-{
-    match (mine, others) {
-        (Ok(mine), Ok(others)) => Ok((mine, others)),
-        (Err(stop), Ok(_)) | (Ok(_), Err(stop)) => Err(stop),
-        (Err(stop), Err(other)) => Err(graver(stop, other)),
+    let (bells, begins) = begins_of(setting.rt, alloc, pollers, count)?;
+    let finished = Vec::with_capacity(alloc, count)?;
+    let (placed, loose) = open_all(setting.rt, alloc, stations)?;
+    let here = placed.as_slice();
+    match run_threads(setting, alloc, bells.as_slice(), begins, here, loose) {
+        Ok(ended) => Ok(end_run(ended, placed, finished)),
+        Err(loose) => {
+            shut_all(placed, loose);
+            Err(AllocError)
+        }
     }
 }
 
 // What is told of a run.
-fn tell<T: Drop>(came: Result<T, Stop>, refused: bool, shut: bool) -> Result<T, WorkFault>
+fn tell<T: Drop>(
+    came: Result<Option<T>, AllocError>,
+    refused: bool,
+    shut: bool,
+) -> Result<T, WorkFault>
     ensures { result ≡ told came refused shut }
 {
     match came {
-        Err(Stop::Memory) => Err(WorkFault::OutOfMemory),
+        Err(AllocError) => Err(WorkFault::OutOfMemory),
         _ if refused => Err(WorkFault::SpawnFailed),
         _ if shut => Err(WorkFault::GateShut),
-        Err(Stop::Short) => Err(WorkFault::OutOfMemory),
-        Ok(all) => Ok(all),
+        Ok(None) => Err(WorkFault::OutOfMemory),
+        Ok(Some(all)) => Ok(all),
     }
 }
 
@@ -194,7 +269,7 @@ where
     // Each station was polled by its poller, in runs by these numbers, and by its thread exactly if it has one.
     ensures polled { IfOk result
         (λ all. ArePolled (Bor R) (IsAsked G.answers gate.now) (pace_of budget weight window)
-        D.acts D.answer D.after 0 pollers (vec_items stations) (vec_items all)) }
+        D.acts D.answer D.after pollers (vec_items stations) (vec_items all)) }
     // So never with a gate that is always open.
     ensures gate { IsErrOf result GateShut → G.may_shut }
     // Only where a thread could not be started, so for no gate that was shut.
@@ -212,6 +287,6 @@ where
             window,
         },
     };
-    let came = run_crews(&setting, alloc, 0, pollers, stations);
+    let came = run_all(&setting, alloc, pollers as usize, stations);
     tell(came, signals.refused.is_told(), watch.is_shut())
 }

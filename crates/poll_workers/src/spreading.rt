@@ -1,30 +1,40 @@
-//! What goes to the threads of a crew.
+//! What goes to the threads of a run.
 
-ghost use Rattle.std.specs.Prelude.{◌≡◌, ◌+◌, ◌≤◌, is_some, length, option_copied, option_map, vec_items, vec_len};
-ghost use Rattle.std.specs.List.{AllZip};
+ghost use Rattle.std.specs.Prelude.{◌≡◌, ◌+◌, ◌≤◌, [], List, is_some, length, option_copied, option_map, vec_items, vec_len};
+ghost use Rattle.std.specs.List.{All, AllZip};
+ghost use Rattle.poll_seats.specs.declared.seat.Seat.{Seat};
 ghost use Rattle.poll_interrupts.specs.Opens.{IsKeptSideOf, IsSideOf};
 ghost use Rattle.poll_tasks.specs.Paces.{IsLawful};
-ghost use Rattle.poll_workers.specs.Spreads.{IsJobAt, IsJobOf, IsKeptJobOf, IsKeptSeatFor, IsKeptThreadFor, IsSeatAt, IsSeatFor, IsThreadAt, IsThreadFor};
+ghost use Rattle.poll_workers.specs.Spreads.{HaveOwn, IsJobAt, IsJobOf, IsKeptJobOf, IsKeptSeatFor, IsKeptThreadFor, IsSeatAt, IsSeatFor, IsThreadAt, IsThreadFor};
 ghost use Rattle.poll_tasks.specs.Tasks.{HasRoom};
 
+use crate::pollers::{seat_at, two_ends};
 use napi_calls::Kept;
-use poll_interrupts::{InterruptHandler, Job, Loose, Placed, Work};
+use poll_interrupts::{InterruptHandler, Job, Loose, Placed, Work, poller_of};
 use poll_list::ListIn;
 use poll_seats::{Own, Seat, ThreadSide};
-use poll_tasks::{Bell, Pause, Post, Setting};
+use poll_tasks::{Bell, Pause, Setting};
 use std::sync::Wait;
 
-/// What goes to the threads of a crew, in the order of its stations. It must be spent.
-pub(crate) struct Parts<'n, J, S> {
-    pub(crate) jobs: Vec<J>,
-    pub(crate) seats: Vec<Seat<'n>>,
-    pub(crate) sides: Vec<S>,
+/// What goes to the threads of a run, the seats for its pollers. It must be spent.
+pub(crate) struct Parts<'n, R: Wait + Drop, W, S> {
+    pub(crate) seats: Vec<Kept<R, Vec<Seat<'n>>>>,
+    pub(crate) workers: Vec<W>,
+    pub(crate) threads: Vec<S>,
 }
+
+/// Those of a run.
+pub(crate) type RunParts<'t, 'p, 'n, R, D, G> = Parts<
+    'n,
+    R,
+    Job<'t, 'p, 'n, R, D, G>,
+    ThreadSide<'t, 'p, 'n, R, G>,
+>;
 
 // Where the interrupts of an instance's worker go.
 fn handler_at<'t, 'p, 'n, R: Copy, G>(
     setting: &Setting<'t, R, G>,
-    post: &'p Post,
+    bell: &'p Bell,
     placed: &'n Placed,
     number: u32,
 ) -> InterruptHandler<'t, 'p, 'n, R>
@@ -37,7 +47,7 @@ fn handler_at<'t, 'p, 'n, R: Copy, G>(
         number,
         napi: &placed.napi,
         thread: placed.bell.as_ref(),
-        poller: &post.bell,
+        poller: bell,
         signals: setting.signals,
     }
 }
@@ -63,11 +73,10 @@ fn own_of<'n, R: Wait + Drop>(
 // The parts of one instance.
 fn split<'t, 'p, 'n, R: Wait + Drop + Copy, D: Drop, G>(
     setting: &'t Setting<'t, R, G>,
-    post: &'p Post,
+    bell: &'p Bell,
     placed: &'n Kept<R, Placed>,
     loose: Loose<D>,
-    list: ListIn<R>,
-    own_list: ListIn<R>,
+    ends: (ListIn<R>, ListIn<R>),
 ) -> (
     Job<'t, 'p, 'n, R, D, G>,
     Seat<'n>,
@@ -88,11 +97,12 @@ fn split<'t, 'p, 'n, R: Wait + Drop + Copy, D: Drop, G>(
         thread,
         pause,
     } = loose;
+    let (list, own_list) = ends;
     let napi = &placed.value.napi;
-    let bell = placed.value.bell.as_ref();
+    let own_bell = placed.value.bell.as_ref();
     let job = Job {
         gate: setting.gate,
-        handler: handler_at(setting, post, &placed.value, number),
+        handler: handler_at(setting, bell, &placed.value, number),
         work: Work {
             list,
             device,
@@ -103,66 +113,71 @@ fn split<'t, 'p, 'n, R: Wait + Drop + Copy, D: Drop, G>(
     let seat = Seat {
         number,
         napi,
-        thread: bell,
+        thread: own_bell,
         caller: Some(poller),
     };
     let side = ThreadSide {
         setting,
-        poller: post,
+        poller: bell,
         napi,
         number,
-        own: own_of(bell, pause, own_list),
+        own: own_of(own_bell, pause, own_list),
         caller: Kept::new(setting.rt, thread),
     };
     (job, seat, side)
 }
 
-/// Gives each worker its job, the poller its seats, and each instance's thread its side. There is room for them, and there
-/// are two ends of the list for each instance.
+/// Gives each worker its job, each poller its seats, and each instance's thread its side. There is room for them, and there
+/// are two ends of its poller's list for each instance.
 pub(crate) fn spread<'t, 'p, 'n, R: Wait + Drop + Copy, D: Drop, G>(
     setting: &'t Setting<'t, R, G>,
-    post: &'p Post,
+    bells: &'p [Bell],
     placed: &'n [Kept<R, Placed>],
     loose: Vec<Kept<R, Loose<D>>>,
-    ins: Vec<ListIn<R>>,
-    room: Parts<'n, Job<'t, 'p, 'n, R, D, G>, ThreadSide<'t, 'p, 'n, R, G>>,
-) -> Parts<'n, Job<'t, 'p, 'n, R, D, G>, ThreadSide<'t, 'p, 'n, R, G>>
+    ends: Vec<Vec<ListIn<R>>>,
+    room: RunParts<'t, 'p, 'n, R, D, G>,
+) -> RunParts<'t, 'p, 'n, R, D, G>
     requires sides { AllZip IsKeptSideOf (vec_items loose) placed.now }
     requires pace { IsLawful setting.now.pace }
-    requires ins { vec_len loose + vec_len loose ≤ vec_len ins }
-    requires room { HasRoom (vec_len loose) room.jobs × HasRoom (vec_len loose) room.seats
-        × HasRoom (vec_len loose) room.sides }
-    ensures jobs { AllZip (IsKeptJobOf setting.now) (vec_items loose) (vec_items result.jobs) }
-    ensures job_places { AllZip IsJobAt placed.now (vec_items result.jobs) }
-    ensures seat_places { AllZip IsSeatAt placed.now (vec_items result.seats) }
-    ensures seats { AllZip IsKeptSeatFor (vec_items loose) (vec_items result.seats) }
-    ensures thread_places { AllZip IsThreadAt placed.now (vec_items result.sides) }
+    requires some { 1 ≤ length bells.now }
+    requires seats { HaveOwn (vec_len loose) (length bells.now) [] (vec_items room.seats) }
+    requires len { (length (vec_items room.seats) ≡ length bells.now)
+        × (length (vec_items ends) ≡ length bells.now) }
+    requires ends { All (λ e. vec_len loose + vec_len loose ≤ vec_len e) (vec_items ends) }
+    requires room { HasRoom (vec_len loose) room.workers × HasRoom (vec_len loose) room.threads }
+    ensures jobs { AllZip (IsKeptJobOf setting.now) (vec_items loose) (vec_items result.workers) }
+    ensures job_places { AllZip IsJobAt placed.now (vec_items result.workers) }
+    ensures thread_places { AllZip IsThreadAt placed.now (vec_items result.threads) }
     ensures threads { AllZip (IsKeptThreadFor setting.now) (vec_items loose)
-        (vec_items result.sides) }
+        (vec_items result.threads) }
+    ensures seats { (sat : List Seat) × AllZip IsSeatAt placed.now sat
+        × AllZip IsKeptSeatFor (vec_items loose) sat
+        × HaveOwn (vec_len loose) (length bells.now) sat (vec_items result.seats) }
+    ensures len { length (vec_items result.seats) ≡ length bells.now }
 {
     let Parts {
-        mut jobs,
         mut seats,
-        mut sides,
+        mut workers,
+        mut threads,
     } = room;
-    let mut lists = ins;
+    let mut lists = ends;
     let mut places = placed;
     let mut rests = loose.into_iter();
     while let Some(rest) = rests.next() {
         let Some((place, more)) = places.split_first() else {
             unreachable!()
         };
-        let Some(list) = lists.pop() else {
-            unreachable!()
-        };
-        let Some(own_list) = lists.pop() else {
-            unreachable!()
-        };
         places = more;
-        let (job, seat, side) = split(setting, post, place, rest.open(), list, own_list);
-        jobs.push_reserved(job);
-        seats.push_reserved(seat);
-        sides.push_reserved(side);
+        let poller = poller_of(place.value.number, bells.len());
+        let both = two_ends(&mut lists, poller);
+        let (job, seat, side) = split(setting, &bells[poller], place, rest.open(), both);
+        seat_at(&mut seats, poller, seat);
+        workers.push_reserved(job);
+        threads.push_reserved(side);
     }
-    Parts { jobs, seats, sides }
+    Parts {
+        seats,
+        workers,
+        threads,
+    }
 }

@@ -144,7 +144,7 @@ pub run-if-ok : (R : Type 0) (asked : ℕ → Type 0) (settings : Settings) (row
     (answered : Result (Vec (Finished Script)) ReplayFault)
     → AllZip (IsStationOf rows) (opened rows) stations
     → IfOk answered
-    (λ all. ArePolled R asked (pace_of settings.budget settings.weight settings.window) acts answer after 0 settings.pollers stations
+    (λ all. ArePolled R asked (pace_of settings.budget settings.weight settings.window) acts answer after settings.pollers stations
     (vec_items all))
     → IfOk answered (λ all. AreRunBy R asked settings rows (vec_items all))
 run-if-ok R asked settings rows stations answered of polled = grind (arith, common_steps)

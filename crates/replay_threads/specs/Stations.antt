@@ -32,7 +32,7 @@ pub record AreRunBy (R : Type 0) (asked : ℕ → Type 0) (settings : Settings) 
   pub stations : List (Station Script)
   pub are : AllZip (IsStationOf rows) (opened rows) stations
   pub polled : ArePolled R asked
-      (pace_of settings.budget settings.weight settings.window) acts answer after 0 settings.pollers stations ends
+      (pace_of settings.budget settings.weight settings.window) acts answer after settings.pollers stations ends
 
 -- its lines of the report
 abbrev pub end_lines : Finished Script → List ℕ

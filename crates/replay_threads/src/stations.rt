@@ -154,7 +154,7 @@ where
     ensures polled { IfOk result
         (λ all. ArePolled (Bor P) (IsAsked G.answers gate.now)
         (pace_of settings.now.budget settings.now.weight settings.now.window) acts answer after
-        0 settings.now.pollers (vec_items stations) (vec_items all)) }
+        settings.now.pollers (vec_items stations) (vec_items all)) }
     ensures fault { IfErr result (λ fault. IsOutside G.may_shut fault) }
     ensures unwritten { IfErr result (λ fault. fault ≢ OutputFailed) }
 {

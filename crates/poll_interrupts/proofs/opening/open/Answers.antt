@@ -5,6 +5,7 @@ use Rattle.poll_interrupts.proofs.opening.open.Goals as goal
 pub returns-clause-side : goal.returns-clause-side
 returns-clause-side g c =
     let new = c.in-Ok-new.ensures in record {
+      number = refl;
       name = c.requires.number.1;
       seats = (c.next-caller.ensures.caller.instance, new.control.instance);
       controller = new.control.number_is;

@@ -7,10 +7,7 @@ scoped-requires g c =
     let b = c.type_bounds in
     record {
       at = λ s. (
-        r.poller,
-        (
-          r.workers,
-          (r.threads, (r.beside, (search rules, search rules, search rules, search rules, search rules, search rules, search rules))),
-        ),
+        r.pollers,
+        (r.workers, (r.threads, (search rules, search rules, search rules, search rules, search rules, search rules, search rules))),
       );
     }

@@ -1,12 +1,13 @@
-use Rattle.std.proofs.{Common.{◌≡◌, ◌∷◌, ◌++◌, [], vec_items, rules, arith, refl}, lemmas.{Grind.common_steps, List.nil_from_length}}
-use Rattle.{std.specs.Vec.Iter.into_iter_items, poll_tasks.proofs.{Zips.{zip_push, before_more}, ListFacts.{none_left, zip_empty}}}
+use Rattle.std.proofs.{Common.{◌≡◌, ◌<◌, ◌+◌, ◌∷◌, ◌++◌, ◌∙◌, [], ap, length, length-append, sym, true, vec_items, subst, rules, arith, refl}, lemmas.{Grind.common_steps, List.nil_from_length}}
+use Rattle.{std.{specs.Vec.Iter.{into_iter_items, into_iter_len}, proofs.lemmas.List.length-set}, poll_tasks.proofs.{Zips.{zip_push, before_more}, ListFacts.{none_left, zip_empty}}}
+use Rattle.{poll_interrupts.specs.Deals.is_own, poll_workers.proofs.PollerFacts.{count_of, ends_of, has_room, one_more, same_count, within_of}}
 use Rattle.poll_workers.proofs.spreading.spread.Goals as goal
 
 pub loop-rest-init : goal.loop-rest-init
 loop-rest-init g c =
-    let no_jobs : vec_items c.args.room.jobs ≡ [] = nil_from_length _ (grind (arith, common_steps)) in
-    let no_seats : vec_items c.args.room.seats ≡ [] = nil_from_length _ (grind (arith, common_steps)) in
-    let no_sides : vec_items c.args.room.sides ≡ [] = nil_from_length _ (grind (arith, common_steps)) in (
+    let no_jobs : vec_items c.args.room.workers ≡ [] = nil_from_length _ (grind (arith, common_steps)) in
+    let no_sides : vec_items c.args.room.threads ≡ [] = nil_from_length _ (grind (arith, common_steps)) in (
+      [],
       [],
       [],
       record {
@@ -15,25 +16,41 @@ loop-rest-init g c =
         sides = rw c.into_iter-rests.ensures.rest c.requires.sides;
         made = rw no_jobs tt;
         job_places = rw no_jobs tt;
-        seat_places = rw no_seats tt;
-        seats = rw no_seats tt;
+        seat_places = tt;
+        sitting = tt;
         thread_places = rw no_sides tt;
         threads = rw no_sides tt;
+        own = c.requires.seats;
+        poller_count = c.requires.len.0;
+        list_count = c.requires.len.1;
+        ends = rw c.into_iter-rests.ensures.len c.requires.ends;
         count = grind (arith, common_steps);
-        as_count = grind (arith, common_steps);
+        seat_count = grind (arith, common_steps);
         side_count = grind (arith, common_steps);
-        ends = grind (arith, common_steps);
         room = c.requires.room.0.1;
-        as_room = c.requires.room.1.1;
-        side_room = c.requires.room.2.1;
+        side_room = c.requires.room.1.1;
         long = grind (arith, common_steps);
       },
     )
 
+pub two_ends-both-requires-clause-some : goal.two_ends-both-requires-clause-some
+two_ends-both-requires-clause-some g c k d low =
+    let left = c.loop-rest.invariant.3.ends k d low in
+    grind (arith, common_steps, left, c.in-Some.ensures.len)
+
+pub seat_at-requires-clause-room : goal.seat_at-requires-clause-room
+seat_at-requires-clause-room g c task there =
+    let now = c.loop-rest.invariant.3 in
+    let within : c.poller_of-poller.result < length (vec_items c.loop-rest.seats) =
+    grind (arith, common_steps, now.poller_count, c.poller_of-poller.ensures.within) in
+    let long = has_room _ _ _ _ _ now.own within task there (grind (arith, common_steps, now.seat_count, now.count, c.in-Some.ensures.len)) in
+    grind (arith, common_steps, long)
+
 pub loop-rest-preserved : goal.loop-rest-preserved
 loop-rest-preserved g c =
+    let fewer : into_iter_len c.next.new.self + 1 ≡ into_iter_len c.loop-rest.rests = grind (arith, common_steps, c.in-Some.ensures.len) in
     let i = c.loop-rest.invariant in
-    let now = i.2 in
+    let now = i.3 in
     let cut : c.loop-rest.places.now ≡ c.in-Some-split_first.place.now ∷ c.in-Some-split_first.more.now = search rules in
     let more = before_more _ _ _ _ _ now.whole c.in-Some.ensures.items in
     let further = before_more _ _ _ _ _ now.all_places cut in
@@ -43,23 +60,31 @@ loop-rest-preserved g c =
     let thread = rw c.open.ensures at c.split-job.ensures.thread.1 in (
       i.0 ++ c.in-Some.rest ∷ [],
       i.1 ++ c.in-Some-split_first.place.now ∷ [],
+      i.2 ++ c.split-job.result.1 ∷ [],
       record {
         whole = more.2;
         all_places = further.2;
         sides = side.1;
         made = rw c.push_reserved.ensures.items (zip_push _ _ _ _ _ now.made made);
         job_places = rw c.push_reserved.ensures.items (zip_push _ _ _ _ _ now.job_places c.split-job.ensures.job.1);
-        seat_places = rw c.push_reserved-in-Some.ensures.items (zip_push _ _ _ _ _ now.seat_places c.split-job.ensures.seat.0);
-        seats = rw c.push_reserved-in-Some.ensures.items (zip_push _ _ _ _ _ now.seats seat);
-        thread_places = rw c.push_reserved-in-Some-2.ensures.items (zip_push _ _ _ _ _ now.thread_places c.split-job.ensures.thread.0);
-        threads = rw c.push_reserved-in-Some-2.ensures.items (zip_push _ _ _ _ _ now.threads thread);
-        count = grind (arith, common_steps, now.count, c.in-Some.ensures.len, c.push_reserved.ensures.len);
-        as_count = grind (arith, common_steps, now.as_count, c.push_reserved.ensures.len, c.push_reserved-in-Some.ensures.len);
-        side_count = grind (arith, common_steps, now.side_count, c.push_reserved.ensures.len, c.push_reserved-in-Some-2.ensures.len);
-        ends = grind (arith, common_steps, now.ends, c.in-Some.ensures.len, c.in-Some-pop.ensures.len, c.in-Some-pop-2.ensures.len);
+        seat_places = zip_push _ _ _ _ _ now.seat_places c.split-job.ensures.seat.0;
+        sitting = zip_push _ _ _ _ _ now.sitting seat;
+        thread_places = rw c.push_reserved-in-Some.ensures.items (zip_push _ _ _ _ _ now.thread_places c.split-job.ensures.thread.0);
+        threads = rw c.push_reserved-in-Some.ensures.items (zip_push _ _ _ _ _ now.threads thread);
+        own =
+            (let own = subst (λ n. is_own c.poller_of-poller.result (length c.args.bells.now) n ≡ true)
+            (sym c.split-job.ensures.seat.0.number) c.poller_of-poller.ensures.own in
+            one_more _ _ _ _ _ now.own (within_of _ _ _ _ now.poller_count c.poller_of-poller.ensures.within refl) _ _ own
+            c.seat_at.ensures);
+        poller_count = ap (λ l. length l) c.seat_at.ensures.rest ∙ length-set (vec_items c.loop-rest.seats) c.poller_of-poller.result _
+            ∙ now.poller_count;
+        list_count = c.two_ends-both.ensures.len ∙ now.list_count;
+        ends = c.two_ends-both.ensures.left _ (λ k d low. ends_of _ _ _ fewer (now.ends k d low));
+        count = count_of _ _ _ _ _ now.count fewer c.push_reserved.ensures.len;
+        seat_count = same_count _ _ _ _ now.seat_count (length-append i.2 (c.split-job.result.1 ∷ [])) c.push_reserved.ensures.len;
+        side_count = same_count _ _ _ _ now.side_count c.push_reserved-in-Some.ensures.len c.push_reserved.ensures.len;
         room = grind (arith, now.room, c.push_reserved.ensures.capacity);
-        as_room = grind (arith, now.as_room, c.push_reserved-in-Some.ensures.capacity);
-        side_room = grind (arith, now.side_room, c.push_reserved-in-Some-2.ensures.capacity);
+        side_room = grind (arith, now.side_room, c.push_reserved-in-Some.ensures.capacity);
         long = (let a = now.long in let b = c.in-Some.ensures.items in let d = c.in-Some.ensures.len in
             grind (arith, common_steps, a, b, d));
       },
@@ -67,7 +92,7 @@ loop-rest-preserved g c =
 
 pub returns : goal.returns
 returns g c =
-    let now = c.loop-rest.invariant.2 in
+    let now = c.loop-rest.invariant.3 in
     let empty : into_iter_items c.loop-rest.rests ≡ [] =
     nil_from_length _ (grind (arith, common_steps, now.long, c.in_default.ensures.len)) in
     let whole = none_left _ _ _ now.whole empty in
@@ -75,8 +100,8 @@ returns g c =
     record {
       jobs = rw (← whole) now.made;
       job_places = rw (← places) now.job_places;
-      seat_places = rw (← places) now.seat_places;
-      seats = rw (← whole) now.seats;
       thread_places = rw (← places) now.thread_places;
       threads = rw (← whole) now.threads;
+      seats = (c.loop-rest.invariant.2, rw (← places) now.seat_places, rw (← whole) now.sitting, now.own);
+      len = now.poller_count;
     }

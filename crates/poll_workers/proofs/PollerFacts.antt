@@ -1,0 +1,63 @@
+-- Pollers that get their seats.
+use Rattle.std.proofs.Common.{◌≡◌, ◌≢◌, ◌∙◌, ℕ, ◌+◌, ◌<◌, ◌≤◌, Bool, true, List, [], ◌∷◌, ◌++◌, length, ap, sym, subst, get_or, arith, append-nil}
+use Rattle.std.{proofs.{Common.{cond, vec_items}, lemmas.List.length-set}, specs.{Global.Vec, Prelude.{filter, vec_capacity}}}
+use Rattle.{poll_tasks.proofs.ListFacts.{each_set, filter_fewer, filter_more}, poll_interrupts.{specs.Deals.is_own, proofs.EndFacts.not_other}}
+use Rattle.{napi_calls.specs.declared.kept.Kept.Kept, poll_seats.specs.declared.seat.Seat.Seat, poll_workers.specs.Spreads.{HaveOwn, TakesSeat}}
+
+module _ {R : Type 0} (count pollers : ℕ) (sat : List Seat) (seats : List (Kept R (Vec Seat))) (k : ℕ)
+    (have : HaveOwn count pollers sat seats) (within : k < length seats) where
+  abbrev by : ℕ → Seat → Bool
+  by n s = is_own n pollers s.number
+
+  abbrev Own : List Seat → ℕ → Kept R (Vec Seat) → Type 0
+  Own l n own = (vec_items own.value ≡ filter (by n) l) × (count ≤ vec_capacity own.value)
+
+  -- there is room for one more
+  pub has_room : (own : Kept R (Vec Seat)) → get_or seats k own ≡ own → length sat < count
+      → length (vec_items own.value) < vec_capacity own.value
+  has_room own there few =
+      let p = subst (λ t. Own sat k t) there (have k own within) in
+      let long = ap (λ l. length l) p.0 in
+      let fewer = filter_fewer (by k) sat in
+      omega (arith, long, fewer, few, p.1)
+
+  -- one more was given to its poller
+  pub one_more : (seat : Seat) (after : List (Kept R (Vec Seat))) → is_own k pollers seat.number ≡ true → TakesSeat seats k seat after
+      → HaveOwn count pollers (sat ++ seat ∷ []) after
+  one_more seat after own t =
+      subst (λ l. HaveOwn count pollers (sat ++ seat ∷ []) l) (sym t.rest)
+      (each_set (Own sat) (Own (sat ++ seat ∷ [])) seats k t.now within have new other (length-set seats k t.now))
+    where
+      p : Own sat k t.was
+      p = subst (λ z. Own sat k z) t.there (have k t.was within)
+
+      new : Own (sat ++ seat ∷ []) k t.now
+      new = (
+        t.more ∙ ap (λ l. l ++ seat ∷ []) p.0
+            ∙ sym (filter_more (by k) sat seat ∙ ap (λ b. filter (by k) sat ++ cond b (seat ∷ []) []) own),
+        (let c = t.capacity in omega (arith, c, p.1)),
+      )
+
+      other : (n : ℕ) (x : Kept R (Vec Seat)) → n ≢ k → Own sat n x → Own (sat ++ seat ∷ []) n x
+      other n x ne q = (
+        q.0 ∙ sym (filter_more (by n) sat seat
+            ∙ ap (λ b. filter (by n) sat ++ cond b (seat ∷ []) []) (not_other pollers seat.number k n own ne) ∙ append-nil (filter (by n) sat)),
+        q.1,
+      )
+
+-- ---- what is counted while one more is given out
+
+pub within_of : (k n l m : ℕ) → l ≡ m → k < n → n ≡ m → k < l
+within_of k n l m e h f = omega (arith, e, h, f)
+
+pub ends_of : (left old ends : ℕ) → left + 1 ≡ old → old + old ≤ ends → left + left + 2 ≤ ends
+ends_of left old ends e h = omega (arith, e, h)
+
+pub count_of : (did did' left old n : ℕ) → did + old ≡ n → left + 1 ≡ old → did' ≡ did + 1 → did' + left ≡ n
+count_of did did' left old n h e f = omega (arith, h, e, f)
+
+pub same_count : (a a' b b' : ℕ) → a ≡ b → a' ≡ a + 1 → b' ≡ b + 1 → a' ≡ b'
+same_count a a' b b' h e f = omega (arith, h, e, f)
+
+pub same_next : (a a' n : ℕ) → a ≡ n → a' ≡ a + 1 → a' ≡ n + 1
+same_next a a' n h e = omega (arith, h, e)

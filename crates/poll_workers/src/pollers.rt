@@ -1,0 +1,184 @@
+//! The pollers of a run, each with its bell, its list and its seats.
+
+ghost use Rattle.std.specs.Prelude.{◌≡◌, ◌≤◌, ◌<◌, ◌+◌, ℕ, [], List, IfOk, length, slice_index_or, vec_items, vec_len, vec_capacity};
+ghost use Rattle.std.specs.List.{All, AllByRecursion};
+ghost use Rattle.napi_calls.specs.declared.kept.Kept.{Kept};
+ghost use Rattle.poll_seats.specs.declared.seat.Seat.{Seat};
+ghost use Rattle.poll_tasks.specs.Tasks.{HasRoom};
+ghost use Rattle.poll_workers.specs.Spreads.{HaveOwn, IsBegin, ArePollers, TakesSeat};
+
+use napi_calls::{Caller, Kept};
+use poll_list::{ListIn, SharedList, shared_list};
+use poll_seats::{PollTask, Seat};
+use poll_tasks::{Bell, Pause, Setting};
+use std::alloc::{AllocError, Global};
+use std::sync::Wait;
+
+/// What a poller begins with beside its bell and its seats: its list, what it sleeps on, and room for its seats' callers.
+#[derive(Drop)]
+pub(crate) struct Begin<R: Wait + Drop> {
+    list: SharedList<R>,
+    pause: Pause,
+    room: Vec<Kept<R, Caller>>,
+}
+
+/// What all pollers begin with, and the ends of their lists.
+#[derive(Drop)]
+pub(crate) struct Begins<R: Wait + Drop> {
+    pub(crate) pollers: Vec<Begin<R>>,
+    pub(crate) ends: Vec<Vec<ListIn<R>>>,
+}
+
+// What a poller of so many stations at most begins with, and two ends of its list for each.
+fn begin_of<R: Wait + Drop + Copy>(
+    rt: R,
+    alloc: Global,
+    count: usize,
+    pause: Pause,
+) -> Result<(Begin<R>, Vec<ListIn<R>>), AllocError>
+    requires { count ≤ 16 }
+    ensures begin { IfOk result (λ r. IsBegin count r.0) }
+    ensures ends { IfOk result (λ r. count + count ≤ vec_len r.1) }
+{
+    let Ok((list, ends)) = shared_list(rt, alloc, 2 * count as u32) else {
+        return Err(AllocError);
+    };
+    let room = Vec::with_capacity(alloc, count)?;
+    Ok((Begin { list, pause, room }, ends))
+}
+
+/// The bells of so many pollers, and what these begin with, each with room for so many stations.
+pub(crate) fn begins_of<R: Wait + Drop + Copy>(
+    rt: R,
+    alloc: Global,
+    pollers: usize,
+    count: usize,
+) -> Result<(Vec<Bell>, Begins<R>), AllocError>
+    requires { count ≤ 16 }
+    ensures len { IfOk result
+        (λ r. (length (vec_items r.0) ≡ pollers) × (length (vec_items r.1.pollers) ≡ pollers)
+        × (length (vec_items r.1.ends) ≡ pollers)) }
+    ensures begins { IfOk result
+        (λ r. AllByRecursion (IsBegin count) (vec_items r.1.pollers)) }
+    ensures ends { IfOk result (λ r. All (λ e. count + count ≤ vec_len e) (vec_items r.1.ends)) }
+{
+    let mut bells = Vec::with_capacity(alloc, pollers)?;
+    let mut begins = Vec::with_capacity(alloc, pollers)?;
+    let mut ends = Vec::with_capacity(alloc, pollers)?;
+    for _ in 0..pollers {
+        let (bell, parker) = Bell::new(alloc)?;
+        let (begin, own_ends) = begin_of(rt, alloc, count, Pause::new(parker))?;
+        bells.push_reserved(bell);
+        begins.push_reserved(begin);
+        ends.push_reserved(own_ends);
+    }
+    let begins = Begins {
+        pollers: begins,
+        ends,
+    };
+    Ok((bells, begins))
+}
+
+// Drops vectors without a seat.
+fn drop_all<'n, R: Wait + Drop>(seats: Vec<Kept<R, Vec<Seat<'n>>>>)
+    requires { All (λ own. vec_len own.value ≡ 0) (vec_items seats) }
+{
+    for own in seats {
+        own.open().destroy_empty();
+    }
+}
+
+/// Room for the seats of so many pollers, for so many of each. It must be spent.
+pub(crate) fn seats_of<'n, R: Wait + Drop + Copy>(
+    rt: R,
+    alloc: Global,
+    pollers: usize,
+    count: usize,
+) -> Result<Vec<Kept<R, Vec<Seat<'n>>>>, AllocError>
+    ensures seats { IfOk result (λ r. (n : ℕ) → HaveOwn count n [] (vec_items r)) }
+    ensures len { IfOk result (λ r. length (vec_items r) ≡ pollers) }
+{
+    let mut seats = Vec::with_capacity(alloc, pollers)?;
+    for _ in 0..pollers {
+        match Vec::with_capacity(alloc, count) {
+            Ok(own) => seats.push_reserved(Kept::new(rt, own)),
+            Err(error) => {
+                drop_all(seats);
+                return Err(error);
+            }
+        }
+    }
+    Ok(seats)
+}
+
+/// Gives a poller one seat more. It has room for it.
+pub(crate) fn seat_at<'n, R: Wait + Drop>(
+    seats: &mut Vec<Kept<R, Vec<Seat<'n>>>>,
+    poller: usize,
+    seat: Seat<'n>,
+)
+    requires within { poller < length (vec_items seats.old) }
+    requires room { (own : Kept _ _) → slice_index_or (vec_items seats.old) poller own ≡ own
+        → vec_len own.value < vec_capacity own.value }
+    ensures { TakesSeat (vec_items seats.old) poller seat.entry (vec_items seats.new) }
+{
+    seats[poller].value.push_reserved(seat);
+}
+
+/// Two ends of a poller's list. Each poller has two.
+pub(crate) fn two_ends<R: Wait + Drop>(
+    ends: &mut Vec<Vec<ListIn<R>>>,
+    poller: usize,
+) -> (ListIn<R>, ListIn<R>)
+    requires within { poller < length (vec_items ends.old) }
+    requires some { All (λ e. 2 ≤ vec_len e) (vec_items ends.old) }
+    ensures left { (n : ℕ) → All (λ e. n + 2 ≤ vec_len e) (vec_items ends.old)
+        → All (λ e. n ≤ vec_len e) (vec_items ends.new) }
+    ensures len { length (vec_items ends.new) ≡ length (vec_items ends.old) }
+{
+    let own = &mut ends[poller];
+    let Some(one) = own.pop() else { unreachable!() };
+    let Some(other) = own.pop() else {
+        unreachable!()
+    };
+    (one, other)
+}
+
+/// The pollers with these bells, what they begin with, and their seats. There is room for them.
+pub(crate) fn pollers_of<'t, 'p, 'n, R: Wait + Drop, G>(
+    setting: &'t Setting<'t, R, G>,
+    bells: &'p [Bell],
+    begins: Vec<Begin<R>>,
+    seats: Vec<Kept<R, Vec<Seat<'n>>>>,
+    room: Vec<PollTask<'t, 'p, 'n, R, G>>,
+) -> Vec<PollTask<'t, 'p, 'n, R, G>>
+    requires bells { length (vec_items begins) ≡ length bells.now }
+    requires seats { length (vec_items seats) ≡ length bells.now }
+    requires few { length bells.now ≤ 8 }
+    requires room { HasRoom (length bells.now) room }
+    ensures pollers { (count n : ℕ) (sat : List Seat)
+        → AllByRecursion (IsBegin count) (vec_items begins) → HaveOwn count n sat (vec_items seats.entry)
+        → ArePollers setting.now count n sat (vec_items result) }
+    ensures len { length (vec_items result) ≡ length bells.now }
+{
+    let mut pollers = room;
+    let mut begins = begins.into_iter();
+    let mut seats = seats.into_iter();
+    while let Some(begin) = begins.next() {
+        let Some(own) = seats.next() else {
+            unreachable!()
+        };
+        let Begin { list, pause, room } = begin;
+        let number = pollers.len();
+        pollers.push_reserved(PollTask {
+            setting,
+            bell: &bells[number],
+            number: number as u32,
+            list,
+            pause,
+            seats: own,
+            room,
+        });
+    }
+    pollers
+}
