@@ -109,7 +109,10 @@ pub(crate) fn acts_are_stopped<R: Threads + Wait + Sync>(rt: &R, alloc: Global) 
             return Ok(false);
         }
         Some(WorkFault::OutOfMemory) => {
-            ensure!(made == 0, "{made} acts were made without memory for the run");
+            ensure!(
+                made == 0,
+                "{made} acts were made without memory for the run"
+            );
         }
         Some(_) => {
             ensure!(
