@@ -31,7 +31,7 @@ mtype = { AWAY, LISTED, TO_THREAD };    /* the mark of an instance: none, QUEUED
 
 mtype word[2] = EMPTY;
 bool asleep[2], told[2];
-bool post_refused, refused, stopped;
+bool unpolled, refused, stopped;
 bool sched[WORKERS], missed[WORKERS], disabling[WORKERS], npsvc[WORKERS], threaded[WORKERS];
 mtype mark[WORKERS] = AWAY;
 byte ring[WORKERS];
@@ -120,7 +120,7 @@ inline complete(number) {
 }
 proctype Poller() {
     byte at, number, in_hand = NOBODY; bool was_parked, is_last, again, has_packet, snoozed;
-    if :: post_refused -> goto ended :: else fi;                                /* poll_seats/poller run */
+    if :: unpolled -> goto ended :: else fi;                                    /* poll_seats/poller run */
     if :: true :: stopped = true fi;                                            /* poll_seats/poller poll */
     do
     :: atomic { is_last = told[POLLER]; number = NOBODY; again = false; has_packet = false };    /* poll_seats/serving serve */
@@ -156,7 +156,7 @@ ended:
 }
 proctype Thread() {
     byte at, polls; bool was_parked, is_last, again, found, has, repoll, has_packet, snoozed;
-    if :: post_refused -> goto ended :: else fi;                                /* poll_seats/thread_poller run */
+    if :: unpolled -> goto ended :: else fi;                                    /* poll_seats/thread_poller run */
     if :: true :: stopped = true fi;                                            /* poll_seats/thread_poller poll */
     do
     :: atomic { is_last = told[THREAD]; found = false; repoll = false; has = false; again = false; has_packet = false; polls = 0 };  /* poll_seats/serving serve */
@@ -206,11 +206,11 @@ init {
     d_step { number = 0; do :: number < WORKERS -> sched[number] = true; npsvc[number] = true; number++ :: else -> break od };  /* poll_interrupts/opening open_all */
     if
     :: WITH_THREAD -> run Thread()                                              /* poll_tasks/tasks begin */
-    :: WITH_THREAD -> post_refused = true; thread_ended = true                  /* poll_tasks/tasks begin */
+    :: WITH_THREAD -> unpolled = true; thread_ended = true                      /* poll_tasks/tasks begin */
     :: else -> thread_ended = true                                              /* poll_seats/thread_poller is_idle */
     fi;                                                                         /* poll_tasks/tasks begin */
-    if :: run Poller() :: post_refused = true; poller_ended = true fi;          /* poll_tasks/tasks begin */
-    if :: post_refused && FAULT != 5 -> refused = true :: else fi;              /* poll_tasks/driving drive */
+    if :: run Poller() :: unpolled = true; poller_ended = true fi;              /* poll_tasks/tasks begin */
+    if :: unpolled && FAULT != 5 -> refused = true :: else fi;                  /* poll_tasks/driving drive */
     number = 0;
     do
     :: number < WORKERS ->                                                      /* poll_tasks/tasks begin_all */
@@ -221,7 +221,7 @@ init {
     number = 0;
     do :: number < WORKERS -> worker_ended[number]; number++ :: else -> break od;       /* poll_tasks/tasks end_all */
     tell(POLLER);                                                               /* poll_tasks/driving drive */
-    poller_ended;                                                               /* poll_tasks/tasks end */
+    poller_ended;                                                               /* poll_tasks/tasks end_all */
     thread_ended;                                                               /* poll_tasks/tasks end_all */
     number = 0;
     do :: number < WORKERS -> assert(mark[number] == AWAY && sched[number] && npsvc[number]); number++ :: else -> break od;
