@@ -1,5 +1,6 @@
 -- Which poller polls what, of several.
-use Rattle.{std.specs.Prelude.{ℕ, ◌-◌, ◌%◌, ◌==◌, Bool}, poll_interrupts.specs.declared.station.Station.Station}
+use Rattle.std.specs.Prelude.{ℕ, ◌-◌, ◌%◌, ◌==◌, Bool}
+use Rattle.poll_interrupts.specs.declared.station.Station.{Station}
 
 -- a poller has the station with this number: numbered from 0, it leaves the poller's number when divided by the count of pollers
 abbrev pub is_own : ℕ → ℕ → ℕ → Bool
