@@ -1,8 +1,11 @@
 -- How a closed instance tells of what was done with it.
-use Rattle.{napi_word.specs.{View.{deliverers, packets_of}, Slot.givers}, poll_interrupts.specs.Ends.{AreCallersAt, IsCallerAt, IsEndedBy, Outcome, TakesNext}}
+use Rattle.napi_word.specs.{View.{deliverers, packets_of}, Slot.givers}
+use Rattle.poll_interrupts.specs.Ends.{AreCallersAt, IsCallerAt, IsEndedBy, Outcome, TakesNext}
 use Rattle.napi_calls.specs.{declared.{types.{Caller.Caller, Napi.Napi}, kept.Kept.Kept}, Closed.{IsClosed, IsHistoryOf, seats_of}}
-use Rattle.std.proofs.Common.{◌≡◌, ◌≢◌, ℕ, suc, ◌-◌, ◌%◌, ◌<◌, ◌≤◌, Bool, true, false, cond, List, [], length, map, vec_items, sym, append-nil, append_assoc, arith}
-use Rattle.std.{proofs.{Common.get_or, lemmas.{Grind.common_steps, Bool.{eqb-true, ne_eqb}, List.{get_or_default, length-set, map-append}}}, specs.{Global.Vec, List.{AllByRecursion, AllZip, remove}}}
+use Rattle.std.proofs.Common.{◌≡◌, ◌≢◌, ℕ, suc, ◌-◌, ◌%◌, ◌<◌, ◌≤◌, Bool, true, false, cond, List, []}
+use Rattle.std.proofs.Common.{length, map, vec_items, sym, append-nil, append_assoc, arith}
+use Rattle.std.proofs.{Common.get_or, lemmas.{Grind.common_steps, Bool.{eqb-true, ne_eqb}, List.{get_or_default, length-set, map-append}}}
+use Rattle.std.specs.{Global.Vec, List.{AllByRecursion, AllZip, remove}}
 use Rattle.{std.specs.Prelude.filter, poll_tasks.{specs.Tasks.EachAt, proofs.{ListFacts.{each_set, filter_more, zip_nil}, Zips.zip_long}}}
 use Rattle.poll_interrupts.specs.{Deals.is_own, declared.opening.Placed.Placed}
 use Rattle.napi_calls.specs.{Instance.{callers_of, first_of_instance}, Seats.{number_of, own_list}}
@@ -80,7 +83,9 @@ pub all_given : {R D : Type 0} (pollers : ℕ) (before after : List (Turned (Vec
     → EachAt (λ k turned. map (λ o. o.poller) (filter (λ o. is_own k pollers o.end.number) did) ≡ vec_items turned.back) before
 all_given {R} pollers before after did long each k d low =
     let h = each k d (omega (arith, low, long)) in
-    sym (append-nil _) ∙ ap (λ l. map (λ o. o.poller) (filter (λ o. is_own k pollers o.end.number) did) ++ l) (sym (zip_nil {A = Kept R Placed} (λ p kept. IsCallerAt kept p) (vec_items (get_or after k d).back) h.rest))
+    sym (append-nil _)
+    ∙ ap (λ l. map (λ o. o.poller) (filter (λ o. is_own k pollers o.end.number) did) ++ l)
+    (sym (zip_nil {A = Kept R Placed} (λ p kept. IsCallerAt kept p) (vec_items (get_or after k d).back) h.rest))
     ∙ h.gone d
 
 module _ {R D : Type 0} (pollers : ℕ) (before : List (Turned (Vec (Kept R Caller)))) (did : List (Outcome R D)) (place : Kept R Placed)
@@ -100,9 +105,11 @@ module _ {R D : Type 0} (pollers : ℕ) (before : List (Turned (Vec (Kept R Call
       → is_own k pollers place.value.number ≡ true → k < length polled → EachAt (HasGiven pollers before did (place ∷ left)) polled
       → get_or polled k was ≡ was → suc (length (own_left k)) ≡ length (vec_items was.back)
   some_left polled k was own within each there =
-      zip_long Goes (place ∷ own_left k) (vec_items was.back) (own_first k was own (subst (λ t. HasGiven pollers before did (place ∷ left) k t) there (each k was within)))
+      zip_long Goes (place ∷ own_left k) (vec_items was.back)
+      (own_first k was own (subst (λ t. HasGiven pollers before did (place ∷ left) k t) there (each k was within)))
 
-  pub next_at : (polled : List (Turned (Vec (Kept R Caller)))) (k : ℕ) (caller : Kept R Caller) (after : List (Turned (Vec (Kept R Caller))))
+  pub next_at : (polled : List (Turned (Vec (Kept R Caller)))) (k : ℕ) (caller : Kept R Caller)
+      (after : List (Turned (Vec (Kept R Caller))))
       → is_own k pollers place.value.number ≡ true → k < length polled → EachAt (HasGiven pollers before did (place ∷ left)) polled
       → TakesNext polled k caller after → IsCallerAt caller place
   next_at polled k caller after own within each t =

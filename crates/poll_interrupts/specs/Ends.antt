@@ -41,7 +41,8 @@ module _ {R : Type 0} where
   -- the callers that a poller gave back are of its own instances, in order
   abbrev pub AreCallersAt : ℕ → List (Kept R Placed) → ℕ → Turned (Vec (Kept R Caller)) → Type 0
   AreCallersAt pollers placed poller turned =
-      AllZip (λ place kept. IsCallerAt kept place) (filter (λ place. is_own poller pollers place.value.number) placed) (vec_items turned.back)
+      AllZip (λ place kept. IsCallerAt kept place) (filter (λ place. is_own poller pollers place.value.number) placed)
+      (vec_items turned.back)
 
   abbrev pub IsTurnedAt : Turned (Kept R Caller) → Kept R Placed → Type 0
   IsTurnedAt turned placed = IsCallerAt turned.back placed

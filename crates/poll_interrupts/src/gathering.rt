@@ -52,7 +52,8 @@ fn next_of<R: Wait + Drop>(
     poller: usize,
 ) -> Kept<R, Caller>
     requires within { poller < vec_len polled.old }
-    requires some { (turned : Turned _) → slice_index_or (vec_items polled.old) poller turned ≡ turned
+    requires some { (turned : Turned _)
+        → slice_index_or (vec_items polled.old) poller turned ≡ turned
         → 1 ≤ vec_len turned.back }
     ensures { TakesNext (vec_items polled.old) poller result (vec_items polled.new) }
 {

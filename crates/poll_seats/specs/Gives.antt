@@ -1,10 +1,12 @@
 -- What a poller's thread, and the thread of an instance, give back.
 use Rattle.{poll_list.specs.declared.shared.SharedList.SharedList, napi_calls.specs.declared.{kept.Kept.Kept, types.Caller.Caller}}
-use Rattle.{napi_calls.specs.Instance.IsSeatOf, poll_tasks.specs.{Asks.IsAsked, Paces.IsLawful, declared.{pace.Pace.Pace, tasks.Turned.Turned}}}
+use Rattle.napi_calls.specs.Instance.{IsSeatOf}
+use Rattle.poll_tasks.specs.{Asks.IsAsked, Paces.IsLawful, declared.{pace.Pace.Pace, tasks.Turned.Turned}}
 use Rattle.std.specs.{Global.Vec, List.{AllByRecursion, AllZip}}
 use Rattle.std.specs.Prelude.{◌≡◌, ◌≢◌, ℕ, ◌+◌, ◌<◌, ◌≤◌, Bool, true, List, [], Some, IsSome, MatchOption, vec_items, vec_len, vec_capacity}
 use Rattle.poll_seats.specs.declared.{poller.{PollTask.PollTask, Poller.Poller}, seat.Seat.Seat, thread_poller.ThreadSide.ThreadSide}
-use Rattle.poll_seats.specs.{declared.thread_poller.Alone.Alone, SeatKeeping.{AreSameSeats, IsCallerOf}, Turns.{TurnsAlone, TurnsByRun}, Serving.IsServed}
+use Rattle.poll_seats.specs.{declared.thread_poller.Alone.Alone, SeatKeeping.{AreSameSeats, IsCallerOf}}
+use Rattle.poll_seats.specs.{Turns.{TurnsAlone, TurnsByRun}, Serving.IsServed}
 
 -- by what numbers a gate knows a poller, and the thread of an instance
 abbrev pub poller_name : ℕ → ℕ
@@ -55,7 +57,8 @@ module _ {R G : Type 0} (answers : G → ℕ → ℕ → Bool → Type 0) where
     pub seats : List Seat
     pub same : AreSameSeats (vec_items task.seats.value) seats
     pub turns : given.polled ≡ true → vec_items task.seats.value ≢ []
-        → IsPolledBy (IsAsked answers task.setting.now.gate.now) task.setting.now.pace task.number task.list (vec_items task.seats.value) seats
+        → IsPolledBy (IsAsked answers task.setting.now.gate.now) task.setting.now.pace task.number task.list
+        (vec_items task.seats.value) seats
     pub callers : AllZip IsCallerOf seats (vec_items given.back)
 
   -- The caller is of the side's instance. It is the one handed in, where the instance has no thread, or what that one's turns

@@ -1,5 +1,6 @@
 -- Lists side by side.
-use Rattle.std.proofs.Common.{◌≡◌, ◌≢◌, ◌<◌, ◌≤◌, ℕ, zero, suc, Bool, true, false, cond, List, [], ◌∷◌, ◌++◌, length, sym, refl, ap, ◌∙◌, subst}
+use Rattle.std.proofs.Common.{◌≡◌, ◌≢◌, ◌<◌, ◌≤◌, ℕ, zero, suc, Bool, true, false, cond}
+use Rattle.std.proofs.Common.{List, [], ◌∷◌, ◌++◌, length, sym, refl, ap, ◌∙◌, subst}
 use Rattle.std.{proofs.Common.{append-nil, arith, All, eqb, get_or, get_or-set_other, get_or-set_same, set}, specs.Prelude.filter}
 use Rattle.std.{proofs.lemmas.Bool.{eqb-true, eqb-false}, specs.List.{AllByRecursion, AllZip}}
 use Rattle.poll_tasks.specs.Tasks.{EachAt}

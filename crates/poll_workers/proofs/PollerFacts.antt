@@ -1,8 +1,11 @@
 -- Pollers that get their seats.
-use Rattle.std.proofs.Common.{◌≡◌, ◌≢◌, ◌∙◌, ℕ, ◌+◌, ◌<◌, ◌≤◌, Bool, true, List, [], ◌∷◌, ◌++◌, length, ap, sym, subst, get_or, arith, append-nil}
+use Rattle.std.proofs.Common.{◌≡◌, ◌≢◌, ◌∙◌, ℕ, ◌+◌, ◌<◌, ◌≤◌, Bool, true, List, [], ◌∷◌, ◌++◌}
+use Rattle.std.proofs.Common.{length, ap, sym, subst, get_or, arith, append-nil}
 use Rattle.std.{proofs.{Common.{cond, vec_items}, lemmas.List.length-set}, specs.{Global.Vec, Prelude.{filter, vec_capacity}}}
-use Rattle.{poll_tasks.proofs.ListFacts.{each_set, filter_fewer, filter_more}, poll_interrupts.{specs.Deals.is_own, proofs.EndFacts.not_other}}
-use Rattle.{napi_calls.specs.declared.kept.Kept.Kept, poll_seats.specs.declared.seat.Seat.Seat, poll_workers.specs.Spreads.{HaveOwn, TakesSeat}}
+use Rattle.poll_tasks.proofs.ListFacts.{each_set, filter_fewer, filter_more}
+use Rattle.poll_interrupts.{specs.Deals.is_own, proofs.EndFacts.not_other}
+use Rattle.{napi_calls.specs.declared.kept.Kept.Kept, poll_seats.specs.declared.seat.Seat.Seat}
+use Rattle.poll_workers.specs.Spreads.{HaveOwn, TakesSeat}
 
 module _ {R : Type 0} (count pollers : ℕ) (sat : List Seat) (seats : List (Kept R (Vec Seat))) (k : ℕ)
     (have : HaveOwn count pollers sat seats) (within : k < length seats) where
@@ -41,7 +44,8 @@ module _ {R : Type 0} (count pollers : ℕ) (sat : List Seat) (seats : List (Kep
       other : (n : ℕ) (x : Kept R (Vec Seat)) → n ≢ k → Own sat n x → Own (sat ++ seat ∷ []) n x
       other n x ne q = (
         q.0 ∙ sym (filter_more (by n) sat seat
-            ∙ ap (λ b. filter (by n) sat ++ cond b (seat ∷ []) []) (not_other pollers seat.number k n own ne) ∙ append-nil (filter (by n) sat)),
+            ∙ ap (λ b. filter (by n) sat ++ cond b (seat ∷ []) []) (not_other pollers seat.number k n own ne)
+            ∙ append-nil (filter (by n) sat)),
         q.1,
       )
 

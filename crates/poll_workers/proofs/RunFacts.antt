@@ -1,5 +1,6 @@
 -- What the parts of a run come to for its stations.
-use Rattle.std.proofs.{lemmas.Grind.common_steps, Common.{◌≡◌, ◌≢◌, ℕ, suc, ◌≤◌, ◌<◌, Bool, true, false, Option, None, is_some, List, [], ◌∷◌, sym}}
+use Rattle.std.proofs.lemmas.Grind.{common_steps}
+use Rattle.std.proofs.Common.{◌≡◌, ◌≢◌, ℕ, suc, ◌≤◌, ◌<◌, Bool, true, false, Option, None, is_some, List, [], ◌∷◌, sym}
 use Rattle.std.{proofs.Common.{ap, ◌∙◌, refl, subst, IsSome, Some, All, arith, rules, get_or, length}, specs.Prelude.{IfSome, filter, map}}
 use Rattle.std.specs.{Prelude.{vec_items, MatchOption}, List.{AllByRecursion, AllZip}, Global.Vec}
 use Rattle.poll_interrupts.specs.Ends.{AreCallersAt, AreFinishesOf, HasAllOf, IsCallerAt, IsDoneAt, IsFinishOf, IsTurnedAt, Outcome}
@@ -8,7 +9,8 @@ use Rattle.poll_interrupts.specs.{Runs.{Ledger, Whose, WorksBy, blank, controlle
 use Rattle.poll_interrupts.specs.declared.{station.Finished.Finished, worker.OwnSeats.OwnSeats, opening.{Loose.Loose, Placed.Placed}}
 use Rattle.poll_interrupts.specs.{declared.{job.{Worked.Worked, Job.Job}, acts.Act.Act}, Works.{IsWorkOf, ledger_of, whose}}
 use Rattle.poll_interrupts.specs.{Seats.AreSeatsOf, Opens.{IsInputOf, IsKeptLoose, IsKeptSideOf, IsLoose}}
-use Rattle.poll_tasks.proofs.ListFacts.{at_place, each_index, each_zip, filter_fewer, zip_and, zip_both, zip_each, zip_empty, zip_filtered, zip_flip, zip_same}
+use Rattle.poll_tasks.proofs.ListFacts.{at_place, each_index, each_zip, filter_fewer, zip_and}
+use Rattle.poll_tasks.proofs.ListFacts.{zip_both, zip_each, zip_empty, zip_filtered, zip_flip, zip_same}
 use Rattle.poll_tasks.specs.{Paces.IsLawful, Tasks.EachAt}
 use Rattle.{poll_tasks.specs.{Asks.IsAsked, declared.{tasks.Turned.Turned, pace.{Setting.Setting, Pace.Pace}}}, rx_ring.specs.Ends.SameIn}
 use Rattle.{rx_ring.specs.{Ends.{capacity_of, put_list}, declared.ends.RxIn.RxIn, ReceiveRing.capped}}
@@ -144,7 +146,9 @@ module _ {R D : Type 0} (acts : D → ℕ) (answer : D → ℕ → Act) (after :
   courses_of (s ∷ ss) [] works turns whole polled finish = absurd works
   courses_of (s ∷ ss) (p ∷ ps) works turns whole polled finish =
       let more = courses_of ss ps works.1 turns.1 whole.1 polled.1 finish.1 in
-      let done = finished_of acts answer after answers s works.0.0 p.worked p.poller p.thread.back p.end works.0.1 works.0.2 whole.0 finish.0 in record {
+      let done =
+      finished_of acts answer after answers s works.0.0 p.worked p.poller p.thread.back p.end works.0.1 works.0.2 whole.0 finish.0 in
+      record {
         all = record { station = s; end = p.end; poller = p.poller.value; thread = p.thread.back.value } ∷ more.all;
         stations_are = ap (λ l. s ∷ l) more.stations_are;
         ends_are = ap (λ l. p.end ∷ l) more.ends_are;

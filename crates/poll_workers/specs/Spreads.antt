@@ -1,5 +1,6 @@
 -- What goes to the threads of stations.
-use Rattle.std.specs.Prelude.{◌≡◌, ℕ, ◌++◌, ◌≤◌, List, [], ◌∷◌, IsSome, Some, filter, is_some, option_copied, option_map, slice_index_or, slice_set}
+use Rattle.std.specs.Prelude.{◌≡◌, ℕ, ◌++◌, ◌≤◌, List, [], ◌∷◌, IsSome, Some, filter, is_some}
+use Rattle.std.specs.Prelude.{option_copied, option_map, slice_index_or, slice_set}
 use Rattle.std.specs.{Prelude.{vec_items, vec_capacity}, Global.Vec}
 use Rattle.{poll_list.specs.SharedList.IsNewList, poll_interrupts.specs.Deals.is_own, poll_seats.specs.declared.poller.PollTask.PollTask}
 use Rattle.{poll_tasks.specs.Tasks.{EachAt, HasRoom}, poll_workers.specs.declared.pollers.Begin.Begin}

@@ -157,7 +157,8 @@ pub(crate) fn pollers_of<'t, 'p, 'n, R: Wait + Drop, G>(
     requires few { length bells.now ≤ 8 }
     requires room { HasRoom (length bells.now) room }
     ensures pollers { (count n : ℕ) (sat : List Seat)
-        → AllByRecursion (IsBegin count) (vec_items begins) → HaveOwn count n sat (vec_items seats.entry)
+        → AllByRecursion (IsBegin count) (vec_items begins)
+        → HaveOwn count n sat (vec_items seats.entry)
         → ArePollers setting.now count n sat (vec_items result) }
     ensures len { length (vec_items result) ≡ length bells.now }
 {

@@ -39,7 +39,8 @@ next_of-poller-requires-clause-some g c turned there =
     let side = rw (c.in-Some.ensures.items, c.in-Some-next.ensures.items) at now.beside in
     let own = own_of _ _ _ _ _ now.as_many side.0.number c.poller_of.ensures.own in
     let each = given_at _ _ _ _ _ _ c.in-Some-next.ensures.items now.callers in
-    let long = some_left _ _ _ _ _ _ _ turned own (grind (arith, common_steps, c.poller_of.ensures.within, now.as_many, now.pollers)) each there in
+    let long = some_left _ _ _ _ _ _ _ turned own
+    (grind (arith, common_steps, c.poller_of.ensures.within, now.as_many, now.pollers)) each there in
     grind (arith, common_steps, long)
 
 pub loop-done-preserved : goal.loop-done-preserved

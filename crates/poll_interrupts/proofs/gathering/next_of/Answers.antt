@@ -11,6 +11,7 @@ returns g c =
       was = was;
       now = record { back = c.remove.new.self; polled = was.polled };
       there = sym c.index_mut.ensures.value;
-      first = first_of (vec_items was.back) (vec_items c.remove.new.self) c.remove.result long c.remove.ensures.value c.remove.ensures.items;
+      first = first_of (vec_items was.back) (vec_items c.remove.new.self) c.remove.result long c.remove.ensures.value
+          c.remove.ensures.items;
       rest = refl;
     }

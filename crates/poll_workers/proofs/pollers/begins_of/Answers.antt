@@ -6,13 +6,19 @@ use Rattle.poll_workers.proofs.pollers.begins_of.Goals as goal
 pub loop-preserved : goal.loop-preserved
 loop-preserved g c =
     let now = c.loop.invariant in
+    let bells = length-append (vec_items c.loop.bells) (c.in_ok-bell.bell ∷ []) in
+    let begins = length-append (vec_items c.loop.begins) (c.in_ok-begin.begin ∷ []) in
+    let ends = length-append (vec_items c.loop.ends) (c.in_ok-begin.own_ends ∷ []) in
     record {
-      bells = same_next _ _ _ now.bells (ap (λ l. length l) c.push_reserved.ensures.items ∙ length-append (vec_items c.loop.bells) (c.in_ok-bell.bell ∷ []));
-      begins = same_next _ _ _ now.begins (ap (λ l. length l) c.push_reserved-in-loop.ensures.items ∙ length-append (vec_items c.loop.begins) (c.in_ok-begin.begin ∷ []));
-      ends = same_next _ _ _ now.ends (ap (λ l. length l) c.push_reserved-in-loop-2.ensures.items ∙ length-append (vec_items c.loop.ends) (c.in_ok-begin.own_ends ∷ []));
+      bells = same_next _ _ _ now.bells (ap (λ l. length l) c.push_reserved.ensures.items ∙ bells);
+      begins = same_next _ _ _ now.begins (ap (λ l. length l) c.push_reserved-in-loop.ensures.items ∙ begins);
+      ends = same_next _ _ _ now.ends (ap (λ l. length l) c.push_reserved-in-loop-2.ensures.items ∙ ends);
       bell_room = c.push_reserved.ensures.capacity ∙ now.bell_room;
       begin_room = c.push_reserved-in-loop.ensures.capacity ∙ now.begin_room;
       end_room = c.push_reserved-in-loop-2.ensures.capacity ∙ now.end_room;
-      each = rw c.push_reserved-in-loop.ensures.items (each_push (IsBegin c.args.count) (vec_items c.loop.begins) c.in_ok-begin.begin now.each c.in_ok-begin.ensures.begin);
-      own = rw c.push_reserved-in-loop-2.ensures.items (each_more (λ k e. c.args.count + c.args.count ≤ vec_len e) (vec_items c.loop.ends) c.in_ok-begin.own_ends now.own c.in_ok-begin.ensures.ends);
+      each = rw c.push_reserved-in-loop.ensures.items
+          (each_push (IsBegin c.args.count) (vec_items c.loop.begins) c.in_ok-begin.begin now.each c.in_ok-begin.ensures.begin);
+      own = rw c.push_reserved-in-loop-2.ensures.items
+          (each_more (λ k e. c.args.count + c.args.count ≤ vec_len e) (vec_items c.loop.ends) c.in_ok-begin.own_ends now.own
+          c.in_ok-begin.ensures.ends);
     }

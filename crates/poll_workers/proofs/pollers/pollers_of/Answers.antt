@@ -1,4 +1,5 @@
-use Rattle.std.proofs.{Common.{◌≡◌, ◌+◌, ◌∷◌, ◌++◌, ◌∙◌, [], ap, subst, sym, refl, length, length-append, vec_items, arith}, lemmas.Grind.common_steps}
+use Rattle.std.proofs.Common.{◌≡◌, ◌+◌, ◌∷◌, ◌++◌, ◌∙◌, [], ap, subst, sym, refl, length, length-append, vec_items, arith}
+use Rattle.std.proofs.lemmas.Grind.{common_steps}
 use Rattle.{std.specs.{Vec.Iter.{into_iter_len}, Prelude.filter}, poll_tasks.proofs.{Zips.before_more, ListFacts.each_more}}
 use Rattle.{poll_interrupts.specs.Deals.is_own, poll_seats.specs.declared.{seat.Seat.Seat}, poll_workers.specs.Spreads.IsPoller}
 use Rattle.poll_workers.proofs.PollerFacts.{count_of}
@@ -22,7 +23,8 @@ loop-begin-init g c =
 
 pub loop-begin-preserved : goal.loop-begin-preserved
 loop-begin-preserved g c =
-    let fewer : into_iter_len c.next.new.self + 1 ≡ into_iter_len c.loop-begin.begins = grind (arith, common_steps, c.in-Some.ensures.len) in
+    let fewer : into_iter_len c.next.new.self + 1 ≡ into_iter_len c.loop-begin.begins =
+    grind (arith, common_steps, c.in-Some.ensures.len) in
     let less : into_iter_len c.next-in-Some.new.self + 1 ≡ into_iter_len c.loop-begin.seats =
     grind (arith, common_steps, c.in-Some-next.ensures.len) in
     let here : c.len-number.result ≡ length (vec_items c.loop-begin.pollers) = grind (arith, common_steps) in

@@ -1,5 +1,6 @@
 use Rattle.std.proofs.Common.{◌≡◌, ◌+◌, ◌≤◌, ◌++◌, ℕ, length, vec_capacity, vec_items, List}
-use Rattle.{std.specs.{Vec.Iter.{into_iter_items, into_iter_len}, List.AllByRecursion, Global.Vec}, napi_calls.specs.declared.kept.Kept.Kept}
+use Rattle.std.specs.{Vec.Iter.{into_iter_items, into_iter_len}, List.AllByRecursion, Global.Vec}
+use Rattle.napi_calls.specs.declared.kept.Kept.{Kept}
 use Rattle.{poll_seats.specs.declared.seat.Seat.Seat, poll_workers.specs.Spreads.{ArePollers, HaveOwn, IsBegin}}
 use Rattle.poll_workers.proofs.pollers.pollers_of.Given as goal
 

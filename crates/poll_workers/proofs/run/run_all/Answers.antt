@@ -1,5 +1,7 @@
-use Rattle.std.proofs.{Common.{◌≡◌, ◌≤◌, ◌+◌, ◌∙◌, [], All, ap, length, subst, sym, vec_items, vec_len, rules, arith}, lemmas.{Grind.common_steps, List.nil_from_length}}
-use Rattle.{poll_tasks.specs.Tasks.EachAt, poll_interrupts.specs.Ends.AreCallersAt, poll_workers.proofs.RunFacts.{answer_finished, answer_polled, none_polled}}
+use Rattle.std.proofs.Common.{◌≡◌, ◌≤◌, ◌+◌, ◌∙◌, [], All, ap, length, subst, sym, vec_items, vec_len, rules, arith}
+use Rattle.std.proofs.lemmas.{Grind.common_steps, List.nil_from_length}
+use Rattle.{poll_tasks.specs.Tasks.EachAt, poll_interrupts.specs.Ends.AreCallersAt}
+use Rattle.poll_workers.proofs.RunFacts.{answer_finished, answer_polled, none_polled}
 use Rattle.{poll_tasks.specs.Asks.IsAsked, poll_workers.specs.Courses.HasPolled}
 use Rattle.poll_workers.proofs.run.run_all.Goals as goal
 

@@ -1,4 +1,5 @@
-use Rattle.{std.proofs.{Common.{◌≤◌, ◌∙◌, [], length, subst, sym, vec_items, vec_len, rules, arith}, lemmas.Grind.common_steps}, poll_tasks.proofs.Zips.zip_long}
+use Rattle.std.proofs.{Common.{◌≤◌, ◌∙◌, [], length, subst, sym, vec_items, vec_len, rules, arith}, lemmas.Grind.common_steps}
+use Rattle.poll_tasks.proofs.Zips.{zip_long}
 use Rattle.poll_workers.proofs.RunFacts.{all_callers_at, all_can_poll, all_can_run, all_can_work, all_done_at, all_have_polled}
 use Rattle.poll_workers.proofs.RunFacts.{all_threads_at, all_turned, all_worked}
 use Rattle.poll_workers.specs.Spreads.{HaveOwn}

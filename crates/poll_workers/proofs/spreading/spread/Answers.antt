@@ -1,6 +1,9 @@
-use Rattle.std.proofs.{Common.{◌≡◌, ◌<◌, ◌+◌, ◌∷◌, ◌++◌, ◌∙◌, [], ap, length, length-append, sym, true, vec_items, subst, rules, arith, refl}, lemmas.{Grind.common_steps, List.nil_from_length}}
-use Rattle.{std.{specs.Vec.Iter.{into_iter_items, into_iter_len}, proofs.lemmas.List.length-set}, poll_tasks.proofs.{Zips.{zip_push, before_more}, ListFacts.{none_left, zip_empty}}}
-use Rattle.{poll_interrupts.specs.Deals.is_own, poll_workers.proofs.PollerFacts.{count_of, ends_of, has_room, one_more, same_count, within_of}}
+use Rattle.std.proofs.Common.{◌≡◌, ◌<◌, ◌+◌, ◌∷◌, ◌++◌, ◌∙◌, [], ap, length, length-append, sym, true, vec_items, subst, rules, arith, refl}
+use Rattle.std.proofs.lemmas.{Grind.common_steps, List.nil_from_length}
+use Rattle.std.{specs.Vec.Iter.{into_iter_items, into_iter_len}, proofs.lemmas.List.length-set}
+use Rattle.poll_tasks.proofs.{Zips.{zip_push, before_more}, ListFacts.{none_left, zip_empty}}
+use Rattle.poll_interrupts.specs.Deals.{is_own}
+use Rattle.poll_workers.proofs.PollerFacts.{count_of, ends_of, has_room, one_more, same_count, within_of}
 use Rattle.poll_workers.proofs.spreading.spread.Goals as goal
 
 pub loop-rest-init : goal.loop-rest-init
@@ -43,7 +46,8 @@ seat_at-requires-clause-room g c task there =
     let now = c.loop-rest.invariant.3 in
     let within : c.poller_of-poller.result < length (vec_items c.loop-rest.seats) =
     grind (arith, common_steps, now.poller_count, c.poller_of-poller.ensures.within) in
-    let long = has_room _ _ _ _ _ now.own within task there (grind (arith, common_steps, now.seat_count, now.count, c.in-Some.ensures.len)) in
+    let long = has_room _ _ _ _ _ now.own within task there
+    (grind (arith, common_steps, now.seat_count, now.count, c.in-Some.ensures.len)) in
     grind (arith, common_steps, long)
 
 pub loop-rest-preserved : goal.loop-rest-preserved
