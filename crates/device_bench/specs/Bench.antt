@@ -4,7 +4,7 @@ use Rattle.{napi_model.specs.declared.state.Kind.Kind, poll_runs.specs.{Polling.
 use Rattle.poll_runs.specs.declared.bench.{BusyReport.BusyReport, Next.TheVariants.Absent, Once.Once}
 use Rattle.device_bench.specs.{Counts.counts_of, Device.{after_packet, polled_busily, polled_by_thread, polled_once, settled}}
 use Rattle.device_bench.specs.{DeviceView.DeviceView, Waiting.{count, is_left_to_list, leaves}, declared.counts.DeviceCounts.DeviceCounts}
-use Rattle.{device_rows.specs.Places.{Places, at, changed}, device_transmit.specs.{declared.transmit.TxCounts.TxCounts, Transmits.Keeps}}
+use Rattle.{device_places.specs.Places.{Places, at, changed}, device_transmit.specs.{declared.transmit.TxCounts.TxCounts, Transmits.Keeps}}
 use Rattle.device_transmit.specs.Transmits.{Transmits}
 
 abbrev pub Devices : Type 0

@@ -1,5 +1,5 @@
 -- The end of a bench whose receive sides must be spent.
-use Rattle.{std.specs.Prelude.{ℕ, Option, Some, None}, device_rows.specs.Places.{Places, at}, device_bench.specs.Bench.Devices}
+use Rattle.{std.specs.Prelude.{ℕ, Option, Some, None}, device_places.specs.Places.{Places, at}, device_bench.specs.Bench.Devices}
 use Rattle.device_bench.specs.{DeviceView.DeviceView, Receive.ReceiveView}
 
 -- a device was ended; where there is none, nothing was counted

@@ -1,7 +1,7 @@
 -- What is true of the devices of a bench at all times.
 use Rattle.std.specs.Prelude.{◌≡◌, ◌≤◌, ℕ, Bool, true, false, not, ◌||◌, Option, Some, None, length}
 use Rattle.{napi_model.specs.declared.state.Place.{Place, TheVariants.Nobody}, device_bench.specs.Device.is_pending}
-use Rattle.{device_bench.specs.{DeviceView.DeviceView, Waiting.waiting}, device_rows.specs.Places.{Places, at}}
+use Rattle.{device_bench.specs.{DeviceView.DeviceView, Waiting.waiting}, device_places.specs.Places.{Places, at}}
 
 -- an instance that somebody has, or that was handed over, is scheduled
 abbrev pub is_held : Place → Bool

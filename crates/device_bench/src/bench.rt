@@ -1,7 +1,7 @@
 //! The devices of a replay, by their numbers.
 
 ghost use Rattle.std.specs.Prelude.{◌≡◌, None, Some, IfOk, false, is_some};
-ghost use Rattle.device_rows.specs.Places.{empty};
+ghost use Rattle.device_places.specs.Places.{empty};
 ghost use Rattle.device_bench.specs.Kept.{IsKept};
 
 use crate::counts::DeviceCounts;
@@ -9,7 +9,7 @@ use crate::device::Device;
 use crate::receive_side::{Opener, ReceiveSide, SpentSide};
 use crate::replay_bench::ReplayBench;
 use crate::serial_receive::{SerialOpener, SerialReceive};
-use device_rows::PLACES;
+use device_places::PLACES;
 use device_transmit::{Transmit, TransmitSides};
 use napi_model::Kind;
 use poll_runs::{Bench, BusyReport, DirectBench, Next, Once, ThreadReport};
@@ -54,7 +54,7 @@ fn no_devices<T>(alloc: Global) -> Result<Vec<Option<T>>, AllocError>
 
 impl DeviceBench<SerialReceive, SerialOpener> {
     ghost use Rattle.std.specs.Prelude.{IfOk};
-    ghost use Rattle.device_rows.specs.Places.{empty};
+    ghost use Rattle.device_places.specs.Places.{empty};
     ghost use Rattle.device_bench.specs.DeviceBench.{ShowsTransmits, devices_of};
 
     /// A bench without devices. Its places are made here, so that no call but `attach` takes memory.
@@ -71,8 +71,8 @@ impl<S: ReceiveSide, O: Opener<S>> DeviceBench<S, O> {
     ghost use Rattle.device_bench.specs.Bench.{attached};
     ghost use Rattle.device_bench.specs.Device.{opened, settled};
     ghost use Rattle.device_bench.specs.Kept.{is_pending_at};
-    ghost use Rattle.device_rows.specs.Places.{added, at, changed, empty};
-    ghost use Rattle.device_rows.specs.Range.{IsWithin};
+    ghost use Rattle.device_places.specs.Places.{added, at, changed, empty};
+    ghost use Rattle.device_places.specs.Range.{IsWithin};
     ghost use Rattle.device_bench.specs.DeviceBench.{ShowsTransmits, devices_of, waiting_of};
 
     /// A bench without devices, whose receive sides this opener opens. Its places are made here, so that no call but `attach`
@@ -134,7 +134,7 @@ impl<S: ReceiveSide, O: Opener<S>> DeviceBench<S, O> {
 
 impl<S: SpentSide, O: Opener<S> + Drop> DeviceBench<S, O> {
     ghost use Rattle.std.specs.Prelude.{IfOk};
-    ghost use Rattle.device_rows.specs.Places.{empty};
+    ghost use Rattle.device_places.specs.Places.{empty};
     ghost use Rattle.device_bench.specs.DeviceBench.{ShowsTransmits, devices_of};
     ghost use Rattle.device_bench.specs.Ending.{AllEnded};
 

@@ -5,7 +5,7 @@ ghost use Rattle.napi_model.specs.declared.event.{Done.TheVariants.{Again, Relea
 ghost use Rattle.device_bench.specs.Device.{after_disable, after_enable, after_packet, after_request, after_threaded, is_pending, opened, polled, polled_busily, polled_by_thread, polled_once, settled, state_of, told_after};
 ghost use Rattle.device_bench.specs.Counts.{counts_of};
 ghost use Rattle.device_bench.specs.Receive.{bytes_of, given_of, is_polling, opened_side};
-ghost use Rattle.device_rows.specs.Range.{IsWithin};
+ghost use Rattle.device_places.specs.Range.{IsWithin};
 ghost use Rattle.poll_runs.specs.Thread.{IsThreadPolling};
 
 use crate::counts::{DeviceCounts, DeviceState};

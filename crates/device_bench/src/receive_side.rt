@@ -6,7 +6,7 @@ ghost use Rattle.napi_model.specs.declared.event.Operation.TheVariants as operat
 ghost use Rattle.napi_model.specs.declared.state.Kind.TheVariants as kind;
 ghost use Rattle.device_bench.specs.declared.device.TheConstants.{CONTROLLER, POLLER};
 ghost use Rattle.device_bench.specs.Receive.{ReceiveView, busy_taken, bytes_of, done_by, given_of, handed_again, handed_on, has_place, is_control, is_idle, is_polling, opened_side, poller_in, put_if, requested, taker_of, tried_by};
-ghost use Rattle.device_rows.specs.Range.{IsWithin};
+ghost use Rattle.device_places.specs.Range.{IsWithin};
 
 use napi_model::{Kind, Prep, Seen};
 use std::alloc::{AllocError, Global};

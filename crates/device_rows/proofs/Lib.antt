@@ -3,7 +3,6 @@ pub mod DecidingFacts
 pub mod DigitFacts
 pub mod JoinFacts
 pub mod NumeralFacts
-pub mod PlaceFacts
 pub mod RecordsFacts
 pub mod RowsFacts
 pub mod ShortFacts

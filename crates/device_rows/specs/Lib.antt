@@ -3,8 +3,6 @@ pub mod Digits
 pub mod Failures
 pub mod Fault
 pub mod Laws
-pub mod Places
-pub mod Range
 pub mod Record
 pub mod Row
 pub mod Source

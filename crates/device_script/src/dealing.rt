@@ -5,7 +5,8 @@ ghost use Rattle.device_rows.specs.declared.row.Row.{Row};
 ghost use Rattle.device_script.specs.Dealing.{AreScripts, lists};
 ghost use Rattle.device_script.specs.Script.{is_act_of, is_open, openings_of, opens};
 
-use device_rows::{Event, PLACES, Row};
+use device_places::PLACES;
+use device_rows::{Event, Row};
 use std::alloc::{AllocError, Global};
 use std::mem;
 

@@ -2,7 +2,7 @@
 use Rattle.std.specs.Prelude.{◌≡◌, ℕ, Option, Some, None, length}
 use Rattle.device_transmit.specs.{Transmits.Transmits, Transmit.ShowsTransmit}
 use Rattle.device_transmit.specs.{Transmit.TransmitView, declared.{sides.TransmitSides.TransmitSides, transmit.Transmit.Transmit}}
-use Rattle.device_rows.specs.Places.{at}
+use Rattle.device_places.specs.Places.{at}
 
 -- what is kept of a transmit side shows this
 abbrev pub ShowsAt : Option Transmit → Option TransmitView → Type 0

@@ -1,5 +1,5 @@
 -- The transmit sides of devices, by their numbers, and what calls do to them.
-use Rattle.{std.specs.Prelude.{Bool, false, Option, Some, None}, device_rows.specs.Places.Places}
+use Rattle.{std.specs.Prelude.{Bool, false, Option, Some, None}, device_places.specs.Places.Places}
 use Rattle.device_transmit.specs.{Transmit.{TransmitView, tx_counts}, declared.transmit.{TxCounts.TxCounts, TheConstants.TxCounts.NONE}}
 
 abbrev pub Transmits : Type 0

@@ -3,7 +3,7 @@
 ghost use Rattle.std.specs.Prelude.{◌≡◌, length};
 
 use crate::transmit::{Transmit, TxCounts};
-use device_rows::PLACES;
+use device_places::PLACES;
 use std::alloc::{AllocError, Global};
 
 /// At most sixteen transmit sides, each in the place of its device's number. A call on a number that has none changes
@@ -17,8 +17,8 @@ pub struct TransmitSides {
 impl TransmitSides {
     ghost use Rattle.std.specs.Prelude.{IfOk};
     ghost use Rattle.device_transmit.specs.Transmits.{Changes, Transmits, is_used, tx_counts_of};
-    ghost use Rattle.device_rows.specs.Places.{added, at, changed, empty};
-    ghost use Rattle.device_rows.specs.Range.{IsWithin};
+    ghost use Rattle.device_places.specs.Places.{added, at, changed, empty};
+    ghost use Rattle.device_places.specs.Range.{IsWithin};
     ghost use Rattle.device_transmit.specs.Sides.{ShowsSides};
     ghost use Rattle.device_transmit.specs.Transmit.{ShowsTransmit, TransmitView, after_finish, after_tx};
 

@@ -1,7 +1,7 @@
 -- Where nothing is under way, nothing is left to do.
 use Rattle.std.proofs.Common.{◌+◌, ◌-◌, ◌<◌, ◌≤◌, ◌^◌, Bool, true, false, Option, Some, None, List, [], ◌∷◌, ◌++◌, drop, length, refl}
 use Rattle.std.{proofs.{Common.arith, lemmas.Grind.common_steps}, specs.{List.position_or_len, Prelude.{◌==◌, ◌&&◌, ◌||◌, if◌then◌else◌}}}
-use Rattle.{poll_runs.specs.{Turn.asked_for, declared.bench.Next.TheVariants.{Gone, Repoll}}, device_rows.specs.Places.{at, changed}}
+use Rattle.{poll_runs.specs.{Turn.asked_for, declared.bench.Next.TheVariants.{Gone, Repoll}}, device_places.specs.Places.{at, changed}}
 use Rattle.std.proofs.Common.{◌≡◌, ◌∙◌, ℕ, zero, suc}
 use Rattle.machine_model.proofs.WalkFacts.{Still, Walk, arrived, nexted, walk, walk-comes}
 use Rattle.{std.specs.Prelude.{min, nat_le, not, position, slice_get}, machine_words.specs.declared.settings.Settings.Settings}

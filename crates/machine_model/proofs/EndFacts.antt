@@ -1,6 +1,6 @@
 -- Behind what ends, nothing is asked.
 use Rattle.std.proofs.{Common.{arith, ◌≡◌, ℕ, Bool, false, Option, Some, None}, lemmas.Grind.common_steps}
-use Rattle.{device_rows.specs.Places.at, machine_model.specs.{Kept.is_poll, Processor.{ProcessorView, delivers, ends_by, ends_current}}}
+use Rattle.{device_places.specs.Places.at, machine_model.specs.{Kept.is_poll, Processor.{ProcessorView, delivers, ends_by, ends_current}}}
 use Rattle.std.specs.Prelude.{if◌then◌else◌, ◌-◌, List, [], ◌∷◌}
 use Rattle.machine_model.proofs.{ListedFacts.asked-told, StepFacts.ends_polls}
 use Rattle.machine_model.specs.{Processor.{ends_interrupt, ends_poll, is_polling}, Softirq.asked_in, Devices.batch_at}

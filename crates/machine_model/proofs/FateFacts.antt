@@ -3,7 +3,7 @@ use Rattle.std.proofs.Common.{◌≡◌, ◌∙◌, ℕ, ◌<◌, Bool, true, fa
 use Rattle.std.proofs.{Common.{refl, sym, ap, arith}, lemmas.{List.append-nil, Bool.eqb-true, Grind.common_steps}}
 use Rattle.std.specs.Prelude.{◌==◌, ◌&&◌, if◌then◌else◌, nat_lt}
 use Rattle.machine_words.specs.declared.settings.Settings.{Settings}
-use Rattle.{machine_model.specs.Fates.{gives_by, polled_by, ring_in, taken_by}, device_rows.specs.Places.{added_at, at, changed}}
+use Rattle.{machine_model.specs.Fates.{gives_by, polled_by, ring_in, taken_by}, device_places.specs.Places.{added_at, at, changed}}
 use Rattle.machine_model.proofs.{EndFacts.ends, WalkFacts.{Walk, arrived, nexted, walk, walk-comes}, WorkFacts.{Goes, free-ended, goes-on}}
 use Rattle.machine_model.{proofs.PlacesFacts.{at-changed, map_at, packet-by}, specs.Processor.{ProcessorView, comes, delivers, ends_by}}
 use Rattle.machine_model.specs.Processor.{ends_current, ends_interrupt, ends_poll, ends_run, interrupts, is_busy, is_polling, polls, step}

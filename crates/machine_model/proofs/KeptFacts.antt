@@ -2,7 +2,7 @@
 use Rattle.std.proofs.Common.{rules, ◌≡◌, ◌∙◌, ℕ, ◌≤◌, Bool, true, false, Option, Some, None, List, length, refl, sym, arith}
 use Rattle.std.{proofs.lemmas.Grind.common_steps, specs.Prelude.if◌then◌else◌}
 use Rattle.machine_words.specs.declared.settings.Settings.{Settings}
-use Rattle.{poll_runs.specs.declared.bench.Next.TheVariants.{Gone, Repoll}, device_rows.specs.Places.{at, changed}}
+use Rattle.{poll_runs.specs.declared.bench.Next.TheVariants.{Gone, Repoll}, device_places.specs.Places.{at, changed}}
 use Rattle.machine_model.specs.{Device.{DeviceView, after_packet, ended_poll, interrupted}, Devices.{Devices, batch_at, is_handed_at}}
 use Rattle.machine_model.specs.{Kept.{Kept, is_poll, masks}, Softirq.{SoftirqView, asked_in, begun, ended, next_of, pushed, told}}
 use Rattle.machine_model.{specs.declared.processor.Work.{Work, TheVariants.Poll}, proofs.ListedFacts.{asked-told, listed-begun}}

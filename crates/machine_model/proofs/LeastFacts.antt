@@ -3,7 +3,7 @@ use Rattle.std.proofs.{lemmas.{Grind.common_steps, List.take-append-drop, Bool.{
 use Rattle.std.proofs.Common.{◌<◌, ◌≤◌, ◌^◌, Bool, true, false, Option, Some, None, List, [], ◌∷◌, ◌++◌, length, length-append, map, take}
 use Rattle.std.{proofs.Common.{drop, refl, sym, ap, subst, arith}, specs.{List.AllByRecursion, Prelude.{◌==◌, if◌then◌else◌, min, not}}}
 use Rattle.{machine_words.specs.declared.settings.Settings.Settings, circular_buffer.specs.Buffer.Buffer}
-use Rattle.{device_rows.specs.Places.{at, changed}, machine_model.proofs.WorkFacts.{Goes, Rests, RunsIn, free-ended, goes-on, work-ended}}
+use Rattle.{device_places.specs.Places.{at, changed}, machine_model.proofs.WorkFacts.{Goes, Rests, RunsIn, free-ended, goes-on, work-ended}}
 use Rattle.machine_model.proofs.{WorkFacts.work-walk, TimeFacts.{clock-ended, clocks-never-fall, due-parts, timed}, SocketFacts.ended-by}
 use Rattle.machine_model.proofs.FateFacts.{at-apart, at-here, at-kept, capacities, capacity_in, comes-ring, made_at, poll-ring, at-arrived}
 use Rattle.machine_model.proofs.{FateFacts.{at-either, polled-ring}, WalkFacts.{Free, Walk, arrived, implied, nexted, walk, walk-comes}}

@@ -1,7 +1,7 @@
 -- Sums over a processor's devices as one of them changes, and how many are masked.
 use Rattle.std.proofs.Common.{◌+◌, ◌<◌, ◌≤◌, Bool, true, false, Option, Some, None, [], ◌∷◌, ◌++◌, length, replicate, arith, ◌≡◌, ℕ}
 use Rattle.std.{proofs.lemmas.{List.Sums.sum_by-cons, Grind.common_steps}, specs.Prelude.{◌||◌, not, sum_by, if◌then◌else◌, nat_lt}}
-use Rattle.{device_rows.{proofs.PlaceFacts.below-some, specs.Places.{at, changed}}, machine_model.specs.Devices.{Devices, is_handed_at}}
+use Rattle.{device_places.{proofs.PlaceFacts.below-some, specs.Places.{at, changed}}, machine_model.specs.Devices.{Devices, is_handed_at}}
 use Rattle.machine_model.specs.{Device.{DeviceView, ended_poll, interrupted, after_packet}, Waits.held, Kept.{masks, mask_at}, Shown.listed}
 
 unfoldable pub map_at : (DeviceView → DeviceView) → Option DeviceView → Option DeviceView

@@ -1,7 +1,7 @@
 -- What becomes of packets behind their delivery: each is used in its order, or refused.
 use Rattle.std.proofs.{lemmas.{Grind.common_steps, List.append-nil}, Common.{◌≡◌, ◌∙◌, ℕ, ◌+◌, ◌-◌, Bool, false, Option, List, [], ◌∷◌}}
 use Rattle.std.proofs.Common.{◌++◌, append_assoc, length, length-append, length-drop, map, drop, refl, sym, ap, arith}
-use Rattle.{device_rows.specs.Places.at, machine_words.specs.declared.settings.Settings.Settings}
+use Rattle.{device_places.specs.Places.at, machine_words.specs.declared.settings.Settings.Settings}
 use Rattle.machine_model.specs.{declared.processor.Work.{Work, TheVariants.Nothing}, Fates.{TellsOfUse, UsesInOrder, counting, gives_by}}
 use Rattle.machine_model.specs.{Fates.{kept, kept_from, refused, refused_from, use_waits, used, using}, Waits.{WaitsView, counted, held}}
 use Rattle.machine_model.specs.{Waits.no_waits, Processor.{ProcessorView, delivers, ends_by, ends_current, ends_interrupt, ends_poll}}

@@ -3,7 +3,7 @@ use Rattle.std.proofs.{lemmas.{Grind.common_steps, Bool.eqb-true}, Common.{◌�
 use Rattle.std.{proofs.Common.{List, [], ◌∷◌, ◌++◌, length, length-append, map, refl, sym, ap, subst, arith}, specs.Prelude.{◌==◌, ◌&&◌}}
 use Rattle.std.specs.Prelude.{if◌then◌else◌, nat_lt, not}
 use Rattle.machine_words.specs.declared.settings.Settings.{Settings}
-use Rattle.{device_rows.specs.Places.{at, changed}, machine_model.specs.Device.{DeviceView, after_packet, ended_interrupt, ended_poll}}
+use Rattle.{device_places.specs.Places.{at, changed}, machine_model.specs.Device.{DeviceView, after_packet, ended_interrupt, ended_poll}}
 use Rattle.machine_model.specs.{Device.{interrupted, polled}, Laws.{Event, behind, end, packet}, Devices.{Devices, batch_at}}
 use Rattle.machine_model.specs.{Softirq.asked_in, declared.processor.Work.{Work, TheVariants.Nothing}, Fates.{TellsOfDevice, Tells, came}}
 use Rattle.machine_model.specs.Fates.{counting, counts_in, finds_room, given, given_from, gives_by, polled_by, ring_in, taken_by, waits}

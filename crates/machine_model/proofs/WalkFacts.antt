@@ -3,7 +3,7 @@ use Rattle.std.{specs.Prelude.{not, position}, proofs.Common.{rules, ◌≡◌, 
 use Rattle.std.proofs.{Common.{◌∷◌, length, refl}, lemmas.{List.Quantifiers.position-Some, Grind.common_steps}}
 use Rattle.std.specs.Prelude.{◌==◌, ◌&&◌, if◌then◌else◌}
 use Rattle.machine_model.proofs.{StepFacts.{polls_or, takes_up_by}, KeptFacts.run-ended}
-use Rattle.{device_rows.{proofs.PlaceFacts.none-of, specs.Places.{at, changed}}, machine_words.specs.declared.settings.Settings.Settings}
+use Rattle.{device_places.{proofs.PlaceFacts.none-of, specs.Places.{at, changed}}, machine_words.specs.declared.settings.Settings.Settings}
 use Rattle.machine_model.specs.{Kept.is_poll, declared.processor.Work.{Work, TheVariants.Nothing}, Device.after_packet, Devices.raises_at}
 use Rattle.machine_model.specs.{Devices.with_device, Softirq.{SoftirqView, asked_in, begun, next_of}, Processor.{ProcessorView, begins}}
 use Rattle.machine_model.specs.Processor.{comes, ends_run, goes_on, interrupts, is_busy, is_polling, polls, rests, takes_up, uses}

@@ -1,6 +1,6 @@
 -- The devices of a processor, by their numbers there.
 use Rattle.std.specs.Prelude.{ℕ, ◌+◌, ◌-◌, ◌&&◌, not, min, Bool, false, List, [], ◌++◌, length, replicate, take, Option, None}
-use Rattle.{std.specs.Option.option_map_or, device_rows.specs.Places.{Places, added}, machine_model.specs.Device.{DeviceView, opened}}
+use Rattle.{std.specs.Option.option_map_or, device_places.specs.Places.{Places, added}, machine_model.specs.Device.{DeviceView, opened}}
 
 abbrev pub Devices : Type 0
 Devices = Places DeviceView

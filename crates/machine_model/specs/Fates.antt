@@ -1,7 +1,7 @@
 -- What becomes of packets over a processor's life. Lists are in the order in which things happened.
 use Rattle.std.specs.Prelude.{◌≡◌, ℕ, ◌+◌, ◌-◌, ◌<◌, ◌≤◌, ◌^◌, ◌==◌, ◌&&◌, nat_lt, not, min, Bool, true, false, List, [], ◌∷◌, ◌++◌, length}
 use Rattle.std.specs.{Prelude.{take, drop, map, Option, Some, None, if◌then◌else◌}, List.AllByRecursion}
-use Rattle.{circular_buffer.specs.Buffer.Buffer, device_rows.specs.Places.at, machine_words.specs.declared.settings.Settings.Settings}
+use Rattle.{circular_buffer.specs.Buffer.Buffer, device_places.specs.Places.at, machine_words.specs.declared.settings.Settings.Settings}
 use Rattle.machine_model.specs.{Device.DeviceView, Devices.batch_at, Laws.{Event, InTurn, behind, end, packet}, Processor.ProcessorView}
 use Rattle.machine_model.specs.{Processor.{is_due, is_polling}, Softirq.asked_in, Waits.{WaitsView, counted, held, no_waits}}
 use Rattle.machine_model.specs.declared.{device.{DeviceCounts.DeviceCounts, TheConstants.DeviceCounts.NONE}, processor.Work.Work}

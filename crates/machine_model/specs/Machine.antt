@@ -1,6 +1,6 @@
 -- The machine: its processors, what arrivals make of them, and what the report tells.
 use Rattle.std.specs.Prelude.{◌≡◌, ℕ, ◌-◌, ◌/◌, ◌%◌}
-use Rattle.{device_rows.specs.Places.at, machine_words.specs.declared.settings.Settings.Settings}
+use Rattle.{device_places.specs.Places.at, machine_words.specs.declared.settings.Settings.Settings}
 use Rattle.std.specs.{Prelude.{◌^◌, List, length, replicate, slice_get, slice_set, Option, Some}, Option.{option_and_then, option_map}}
 use Rattle.machine_model.specs.{declared.{processor.ProcessorReport.ProcessorReport, device.DeviceReport.DeviceReport}, Waits.told_of}
 use Rattle.machine_model.specs.{Processor.{ProcessorView, RunsTo, comes, opened_processor}, Device.DeviceView}

@@ -1,7 +1,7 @@
 -- A processor: what it takes up, and what ends.
 use Rattle.std.specs.Prelude.{◌≡◌, ℕ, zero, suc, ◌+◌, ◌-◌, ◌*◌, ◌<◌, ◌==◌, ◌||◌, ◌&&◌, not, min, nat_le, nat_lt, Bool, true, false, List}
 use Rattle.std.specs.{Prelude.{[], ◌∷◌, ◌++◌, length, take, position, None, is_some, if◌then◌else◌}, Option.option_map_or}
-use Rattle.{circular_buffer.specs.Buffer.{Buffer, buffer}, device_rows.specs.Places.{at, changed}}
+use Rattle.{circular_buffer.specs.Buffer.{Buffer, buffer}, device_places.specs.Places.{at, changed}}
 use Rattle.{machine_words.specs.declared.settings.Settings.Settings, poll_runs.specs.declared.bench.Next.TheVariants.{Gone, Repoll}}
 use Rattle.machine_model.specs.{Device.{after_packet, delivered, ended_interrupt, ended_poll, interrupted, polled, taken}, Devices.Devices}
 use Rattle.machine_model.specs.{Devices.{batch_at, is_handed_at, raises_at, with_device}, Softirq.{SoftirqView, asked_in, begun, ended}}

@@ -3,7 +3,7 @@
 ghost use Rattle.std.specs.Prelude.{◌≡◌, ◌≤◌, ◌<◌, ◌+◌, ◌-◌, ◌++◌, [], IfOk, IfSome, OnOk, length, position, replicate, is_some, true, None, Some};
 ghost use Rattle.std.specs.Option.{option_map};
 ghost use Rattle.machine_model.specs.Machine.{report_of};
-ghost use Rattle.device_rows.specs.Places.{at, changed};
+ghost use Rattle.device_places.specs.Places.{at, changed};
 ghost use Rattle.machine_model.specs.Device.{after_packet, delivered, ended_interrupt, ended_poll, interrupted, polled, taken};
 ghost use Rattle.machine_model.specs.Devices.{batch_at, is_handed_at, raises_at, with_device};
 ghost use Rattle.machine_model.specs.Kept.{masks};

@@ -6,7 +6,7 @@ ghost use Rattle.machine_model.specs.Processor.{RunsTo, begins, comes, delivers,
 ghost use Rattle.machine_model.specs.declared.processor.Work.TheVariants.{Nothing, Poll};
 ghost use Rattle.machine_model.specs.Kept.{IsKept, is_poll};
 ghost use Rattle.std.specs.Option.{option_map};
-ghost use Rattle.device_rows.specs.Places.{at};
+ghost use Rattle.device_places.specs.Places.{at};
 ghost use Rattle.machine_model.specs.Machine.{ArrivesAt, processor_report, report_of};
 ghost use Rattle.machine_model.specs.Softirq.{asked_in};
 

@@ -8,7 +8,8 @@ ghost use Rattle.replay_words.specs.declared.settings.Settings.{Settings};
 ghost use Rattle.napi_series.specs.Series.{device_fields, gave, gave_in, list_fields, queue_fields, row_fields, run_fields, told_fields, word_field};
 
 use device_bench::DeviceCounts;
-use device_rows::{PLACES, Row};
+use device_places::PLACES;
+use device_rows::Row;
 use replay_rows::{Line, SerialReplay, add_numbers, state_word};
 use std::alloc::AllocError;
 

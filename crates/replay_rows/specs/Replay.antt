@@ -2,7 +2,7 @@
 use Rattle.std.specs.Prelude.{ℕ, ◌+◌, ◌==◌, Bool, false, if◌then◌else◌, List, [], ◌∷◌, ◌++◌, length, Result, Ok, Err, sum_by}
 use Rattle.device_bench.specs.Bench.{all_settled, arrived, busily_polled_at, busy_report_of, handed_by, thread_polls_of}
 use Rattle.device_bench.specs.{Device.{after_disable, after_enable, after_threaded, opened, polled_by_thread}, Kept.is_pending_at}
-use Rattle.{device_bench.specs.Waiting.{is_left_to_list, is_listed}, device_rows.specs.Places.{added, at, changed, empty}}
+use Rattle.{device_bench.specs.Waiting.{is_left_to_list, is_listed}, device_places.specs.Places.{added, at, changed, empty}}
 use Rattle.device_rows.specs.declared.event.Event.{Event, TheVariants.{Opened, Rx, Tx, Finish, Softirq, Kthread, Disable, Enable, Threaded}}
 use Rattle.{device_rows.specs.declared.{event.Event.TheVariants.Busy, row.Row.Row}, poll_runs.specs.{Function.run_report, Thread.last_next}}
 use Rattle.{poll_runs.specs.declared.bench.{Once.Once, ThreadReport.ThreadReport}, replay_rows.specs.{Run.run_of, ReplayState.ReplayState}}

@@ -38,8 +38,8 @@ pub(crate) fn room_for_lines(alloc: Global, rows: &[Row]) -> Result<Vec<Line>, A
 impl<B: ReplayBench> Replay<B> {
     ghost use Rattle.std.specs.Prelude.{◌≡◌, ℕ, ◌+◌, ◌++◌, [], ◌∷◌, true, false, Ok, OnOk, IfErr};
     ghost use Rattle.device_transmit.specs.Transmits.{Changes, Keeps};
-    ghost use Rattle.device_rows.specs.Places.{empty};
-    ghost use Rattle.device_rows.specs.Range.{IsWithin};
+    ghost use Rattle.device_places.specs.Places.{empty};
+    ghost use Rattle.device_places.specs.Range.{IsWithin};
     ghost use Rattle.device_rows.specs.Row.{device_fits, value_fits};
     ghost use Rattle.device_rows.specs.Trace.{AcceptedAfter};
     ghost use Rattle.device_bench.specs.Waiting.{count, is_left_to_list};

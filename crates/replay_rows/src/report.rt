@@ -1,7 +1,7 @@
 //! The report: the rows are played, and what they did becomes its text, in every mode that plays rows.
 
 ghost use Rattle.std.specs.Prelude.{◌≡◌, ◌≢◌, ◌⊎◌, ◌+◌, ◌^◌, ◌<◌, ◌≤◌, ◌++◌, [], Ok, Err, Some, IfErr, IfOk, OnOk, flat_map, length, string_bytes};
-ghost use Rattle.device_rows.specs.Places.{empty};
+ghost use Rattle.device_places.specs.Places.{empty};
 ghost use Rattle.device_rows.specs.Trace.{AcceptedAfter};
 ghost use Rattle.replay_rows.specs.Answer.{LeavesDevices};
 ghost use Rattle.replay_rows.specs.Report.{device_line, device_lines, held_part, list_line, napi_line, of_run, poll_line, serial_report, spaced, state_word, total_line, totals_of};
@@ -12,7 +12,8 @@ ghost use Rattle.replay_text.specs.declared.fault.ReplayFault.TheVariants.{Outpu
 use crate::line::Line;
 use crate::replay::{Replay, room_for_lines};
 use device_bench::{DeviceCounts, DeviceState, ReplayBench};
-use device_rows::{PLACES, Row};
+use device_places::PLACES;
+use device_rows::Row;
 use poll_runs::PollList;
 use replay_text::{ReplayFault, add_transmit};
 use replay_words::Settings;

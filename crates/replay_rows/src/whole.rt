@@ -1,7 +1,7 @@
 //! A whole replay on a bench: from the bytes of a trace to the bytes of a report.
 
 ghost use Rattle.std.specs.Prelude.{◌≡◌, Ok, Err, IfErr, OnOk};
-ghost use Rattle.device_rows.specs.Places.{empty};
+ghost use Rattle.device_places.specs.Places.{empty};
 ghost use Rattle.replay_text.specs.Outside.{IsOutside};
 ghost use Rattle.replay_text.specs.Written.{IsFaultBy, Leaves, Writes};
 ghost use Rattle.replay_rows.specs.Answer.{Plays, replay_of};

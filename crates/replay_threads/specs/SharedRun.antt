@@ -1,5 +1,5 @@
 -- What a replay in shared mode did beside its report.
-use Rattle.{std.specs.Prelude.{ℕ, List, Option}, device_rows.specs.Places.Places, rx_ring.specs.declared.packet.Totals.Totals}
+use Rattle.{std.specs.Prelude.{ℕ, List, Option}, device_places.specs.Places.Places, rx_ring.specs.declared.packet.Totals.Totals}
 use Rattle.device_bench.specs.{Bench.Devices, Ending.AllEnded}
 use Rattle.{device_shared.specs.Ending.IsEnded, replay_rows.specs.Answer.Plays, replay_words.specs.declared.settings.Settings.Settings}
 

@@ -3,7 +3,7 @@
 ghost use Rattle.std.specs.Prelude.{◌≡◌, ◌≢◌, ◌≤◌, ◌⊎◌, ◌+◌, ◌++◌, ◌∷◌, ℕ, [], List, None, Some, filter, IfErr, IfOk, IsSome, IsTrue, OnOk, length, vec_items};
 ghost use Rattle.std.specs.List.{All, AllZip};
 ghost use Rattle.std.specs.Borrow.{Bor};
-ghost use Rattle.device_rows.specs.Range.{IsWithin};
+ghost use Rattle.device_places.specs.Range.{IsWithin};
 ghost use Rattle.device_rows.specs.Trace.{AcceptedAfter};
 ghost use Rattle.device_rows.specs.declared.row.Row.{Row};
 ghost use Rattle.poll_tasks.specs.Asks.{IsAsked};
@@ -18,7 +18,8 @@ ghost use Rattle.replay_threads.specs.Stations.{AreRunBy, IsEndOf, IsStationOf, 
 ghost use Rattle.replay_text.specs.declared.fault.ReplayFault.TheVariants.{OutputFailed};
 ghost use Rattle.replay_threads.specs.ThreadsReport.{is_opened, opened};
 
-use device_rows::{PLACES, Row};
+use device_places::PLACES;
+use device_rows::Row;
 use device_script::{ScriptDevice, opening_of, openings_of, scripts_of, take_script};
 use poll_workers::{Finished, Gate, Station, WorkFault, run_workers};
 use replay_text::ReplayFault;

@@ -1,7 +1,7 @@
 -- What stands in a place.
 use Rattle.std.proofs.Common.{◌≡◌, ℕ, zero, suc, ◌<◌, Bool, true, false, Option, Some, None, [], ◌∷◌, length, get_or, slice_set, refl}
 use Rattle.std.{proofs.{Common.arith, lemmas.{Bool.{eqb-true, eqb-false}, Grind.get_or-set_at}}, specs.Prelude.{◌==◌, is_some}}
-use Rattle.{std.proofs.lemmas.List.get_or-set_other, device_rows.specs.Places.{Places, at}}
+use Rattle.{std.proofs.lemmas.List.get_or-set_other, device_places.specs.Places.{Places, at}}
 
 pub below-some : {A : Type 0} → (xs : Places A) (i : ℕ) (a : A) → at i xs ≡ Some a → i < length xs
 below-some [] i a e = cc e
