@@ -1,6 +1,5 @@
 """What ./replay and build.sh prove and build by. Libraries stand in a folder of their own, with their statements alone as `rt ci` leaves
-them: a check over their proofs, which `rt lib` keeps, loads several times as much. So `rattle` is called here as `rt ci` calls it.
-"""
+them: a check over their proofs, which `rt lib` keeps, loads several times as much. So `rattle` is called as `rt ci` calls it."""
 import contextlib
 import ctypes
 import fcntl
@@ -90,12 +89,11 @@ def crates():
 
 class Crate:
     def __init__(self, name, kind, uses):
-        self.name, self.uses, self.jobs = name, uses, 1
+        self.name, self.uses, self.jobs, self.size = name, uses, 1, 0
         self.folder, self.log = f"{TOP}/crates/{name}", f"{BUILT}/{name}.log"
         self.is_program, self.is_archive = os.path.exists(f"{self.folder}/src/main.rt"), "staticlib" in kind
         self.is_library = not self.is_program and not self.is_archive
-        out = f"{self.folder}/out/"
-        self.made = f"{BUILT}/{name}.rlib" if self.is_library else out + (name if self.is_program else f"lib{name}.a")
+        self.made = f"{BUILT}/{name}.rlib" if self.is_library else f"{self.folder}/out/{name if self.is_program else f'lib{name}.a'}"
 
     @functools.cached_property
     def all(self):
@@ -119,14 +117,17 @@ class Crate:
         except OSError:
             return False
 
+    def words(self, verb, jobs):
+        """The prover's command that checks or builds it by so many processes, over the libraries that stand."""
+        root, at = "src/main.rt" if self.is_program else "src/lib.rt", kit()
+        words = [f"{at}/bin/rattle", verb, "--crate-name", self.name, root, "--jobs", str(jobs), "-L", f"dependency={BUILT}"]
+        words += ["--antt-project", f"{at}/rattle/logic/antt-project.json", "--logic-built", f"{at}/logic_built"]
+        uses = (f"{name}={BUILT if name in crates() else f'{at}/rlibs'}/{name}.rlib" for name in ("std", *self.uses))
+        return [*words, "-L", f"dependency={at}/rlibs", *(word for it in uses for word in ("--extern", it))]
+
     def begin(self, jobs):
         """Begins to prove and to build it, by so many processes."""
-        root = "src/main.rt" if self.is_program else "src/lib.rt"
-        command = [f"{kit()}/bin/rattle", "build", "--crate-name", self.name, root, "--jobs", str(jobs), "-o", f"{self.made}.new"]
-        command += ["--antt-project", f"{kit()}/rattle/logic/antt-project.json", "--logic-built", f"{kit()}/logic_built"]
-        command += ["-L", f"dependency={kit()}/rlibs", "-L", f"dependency={BUILT}"]
-        for name in ("std", *self.uses):
-            command += ["--extern", f"{name}={BUILT if name in crates() else f'{kit()}/rlibs'}/{name}.rlib"]
+        command = [*self.words("build", jobs), "-o", f"{self.made}.new"]
         command += ["--statements"] if self.is_library else ["--toolchain", f"{kit()}/toolchain", "--backend", "llvm"]
         command += ["--crate-type", "staticlib"] if self.is_archive else []
         self.jobs = jobs
@@ -143,8 +144,7 @@ class Crate:
             with open(self.log, "ab") as log:
                 status = subprocess.run(command, stdout=log, stderr=log, preexec_fn=child, check=False).returncode
         if status != 0:
-            said = read(self.log)
-            why = "\n".join((re.findall(".*error.*", said) or said.splitlines()[-5:])[:5])
+            why = "\n".join((re.findall(".*error.*", said := read(self.log)) or said.splitlines()[-5:])[:5])
             raise Stop(70, f"{self.name} couldn't be built, status {status}; {self.log} has all that was said:\n{why}")
         os.utime(f"{new}/format" if self.is_library else new, ns=(since, since))
         os.rename(new, self.made)
@@ -157,7 +157,8 @@ def to_build(asked):
         if not crate.is_built() or any(it in every for it in crate.all):
             every.append(crate)
     for crate in reversed(every):
-        chain[crate] = sum(it.st_size for it in crate.texts()) + max((chain[it] for it in chain if crate in it.all), default=0)  # bytes
+        crate.size = sum(it.st_size for it in crate.texts())
+        chain[crate] = crate.size + max((chain[it] for it in chain if crate in it.all), default=0)
     return sorted(every, key=chain.get, reverse=True)
 
 
@@ -179,9 +180,9 @@ def prove(asked):
                 crate.end(status, since)
         ready = [it for it in left if {*left, *AT_WORK}.isdisjoint(it.all[:-1])][: max(lanes - len(AT_WORK), 0)]
         for at, crate in enumerate(ready, 1):
-            # Each further process loads the libraries anew, so there are some only on processors that no other crate needs.
+            # Each further process loads the libraries anew, so only a large crate has some, on processors that no other one needs.
             idle = processors - sum(it.jobs for it in AT_WORK) - len(ready[at:])
-            AT_WORK[crate] = crate.begin(1 if lanes == 1 else max(idle, 1))
+            AT_WORK[crate] = crate.begin(1 if lanes == 1 else max(min(idle, 1 + crate.size // 80_000), 1))
         left = [it for it in left if it not in AT_WORK]
         seconds = (time.time_ns() - since) // 10**9
         line = f"crate {len(every) - len(left)} of {len(every)} ({' '.join(it.name for it in AT_WORK)}), {seconds} s"
@@ -197,8 +198,7 @@ def build(names):
     """Sees to it that they stand. One build at a time in a checkout: a second one waits, and mostly finds all built then."""
     if unknown := [it for it in names if it not in crates()]:
         raise Stop(64, f"there is no crate {unknown[0]!r} in crates.txt")
-    asked = [it for it in map(crates().get, names) if not it.is_built()]
-    if not asked:
+    if not (asked := [it for it in map(crates().get, names) if not it.is_built()]):
         return 0
     kit()  # is there
     try:

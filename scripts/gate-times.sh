@@ -3,7 +3,7 @@
 # of each crate after how many seconds its proof, its tests and its edits stood, and what processor time each took. Every
 # line of the gate goes through with the second at which it came. Lines and table also go to out/gate-times.log, or to the
 # file LOG. Processor time is read from /proc each half second, so what ended between two looks lacks its last moment; the
-# sum at the end lacks nothing. When the edits of a crate stood `rt ci` doesn't say: it is when its last one was seen.
+# sum at the end lacks nothing. When the edits of a crate stood nobody says: it is when its last one was seen.
 # Exit status: the command's; 64 there is no such command; 73 the log can't be written; 130 or 143 interrupted.
 set -uo pipefail
 unset CDPATH
@@ -56,8 +56,8 @@ stamp() {
         told "${BASH_REMATCH[1]}"
         seen["${BASH_REMATCH[1]} $part"]=$now
         [ "${BASH_REMATCH[3]}" = proved ] || word["${BASH_REMATCH[1]} $part"]=failed
-    elif [[ $1 =~ ^rt:\ ([a-z0-9_]+):\ trying\ its\ must-fail\ edits\ \(([0-9]+)\) ]]; then
-        count[${BASH_REMATCH[1]}]=${BASH_REMATCH[2]}
+    elif [[ $1 =~ ^(rt:\ )?must-fail\ ([a-z0-9_]+)/ ]]; then
+        count[${BASH_REMATCH[2]}]=$((${count[${BASH_REMATCH[2]}]:-0} + 1))
     elif [[ $1 =~ ^[0-9]+\ passed,\ [0-9]+\ failed$ ]]; then
         sums+=("$(seconds "$now") $1")
     fi
@@ -76,7 +76,7 @@ work_of() {
     done
     [ -n "$name" ] || return
     case $(readlink "/proc/$1/cwd") in
-        */rt-edit-*) echo "$name edits" ;;
+        */rt-edit-* | */must-fail-*) echo "$name edits" ;;
         *) if [ -n "$is_test" ]; then echo "$name tests"; else echo "$name proof"; fi ;;
     esac
 }

@@ -1,7 +1,8 @@
 -- Each device has a transmit side: what keeps that.
 use Rattle.std.proofs.Common.{◌≡◌, ◌∙◌, ℕ, zero, suc, ◌<◌, Option, Some, None, [], ◌∷◌, length, slice_set, ap, refl, sym, arith}
-use Rattle.{std.specs.Prelude.is_some, device_transmit.specs.{Transmits.Transmits, Transmit.TransmitView}, device_places.specs.Places.Places}
-use Rattle.{device_places.specs.Places.{at, changed, changed_from}, device_bench.specs.Bench.{Devices, HaveSides, all_settled, attached}}
+use Rattle.{std.specs.Prelude.is_some, device_transmit.specs.{Transmits.Transmits, Transmit.TransmitView}}
+use Rattle.device_places.specs.Places.{Places, at, changed, changed_from}
+use Rattle.device_bench.specs.Bench.{Devices, HaveSides, all_settled, attached}
 
 module _ {A : Type 0} where
   -- a place is set, and stays taken or empty

@@ -1,9 +1,10 @@
 -- How much is left to be done on a processor: each piece of work leaves less.
 use Rattle.std.proofs.Common.{Bool, true, false, Option, Some, None, List, [], ◌++◌, length, take, refl, arith}
 use Rattle.std.{proofs.lemmas.{List.Quantifiers.position-Some, Grind.common_steps}, specs.Prelude.{◌==◌, if◌then◌else◌, is_some, min, not}}
+use Rattle.std.specs.Prelude.{position, sum_by}
 use Rattle.std.proofs.Common.{rules, ◌≡◌, ℕ, ◌+◌, ◌-◌, ◌*◌, ◌<◌, ◌≤◌}
 use Rattle.machine_model.proofs.StepFacts.{ends_polls, polls_or, takes_up_by}
-use Rattle.{std.specs.Prelude.{position, sum_by}, poll_runs.specs.Turn.asked_for, device_places.{specs.Places.at, proofs.PlaceFacts.none-of}}
+use Rattle.{poll_runs.specs.Turn.asked_for, device_places.{specs.Places.at, proofs.PlaceFacts.none-of}}
 use Rattle.machine_model.specs.{declared.processor.Work.{Work, TheVariants.{Nothing, Poll}}, Device.{DeviceView, delivered}}
 use Rattle.machine_model.specs.{Device.{ended_interrupt, ended_poll, interrupted, polled, taken}, Kept.IsKept, Softirq.RunView}
 use Rattle.machine_model.specs.{Softirq.{SoftirqView, asked_in, next_of, pushed}, Shown.{held_in, listed}, Processor.ProcessorView}

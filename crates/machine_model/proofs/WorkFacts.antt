@@ -1,7 +1,8 @@
 -- A run's work is below budget and weight together, whatever happens.
 use Rattle.std.proofs.{lemmas.Grind.common_steps, Common.{◌≡◌, ℕ, ◌+◌, ◌<◌, ◌≤◌, Bool, true, false, Option, Some, None, List, [], ◌∷◌}}
 use Rattle.std.{proofs.Common.{length, refl, arith}, specs.Prelude.{◌==◌, IfSome, if◌then◌else◌, is_some, not, option_map}}
-use Rattle.{poll_runs.specs.declared.bench.Once.Once, machine_words.specs.declared.settings.Settings.Settings, device_places.specs.Places.at}
+use Rattle.{poll_runs.specs.declared.bench.Once.Once, machine_words.specs.declared.settings.Settings.Settings}
+use Rattle.device_places.specs.Places.{at}
 use Rattle.machine_model.specs.{Device.DeviceView, Devices.batch_at, Kept.is_poll, Laws.{Event, WorksWithin, behind, end, packet}}
 use Rattle.machine_model.specs.{Softirq.{RunView, SoftirqView, asked_in, ended, next_of, pushed, told, told_run}, Processor.ProcessorView}
 use Rattle.machine_model.specs.Processor.{comes, delivers, ends_by, ends_current, ends_interrupt, ends_poll, ends_run, interrupts}

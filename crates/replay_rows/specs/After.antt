@@ -1,8 +1,8 @@
 -- A replay whose first n rows were played, none of them refused, and what it tells.
 use Rattle.std.specs.Prelude.{◌≡◌, ℕ, Bool, List, [], Option, None, Result, Ok, Err, take}
-use Rattle.device_transmit.specs.Transmits.{Transmits}
-use Rattle.{device_transmit.specs.Transmits.is_used, device_bench.specs.DeviceBench.{ShowsTransmits, devices_of}}
-use Rattle.{device_bench.specs.declared.counts.DeviceCounts.DeviceCounts, device_places.specs.Places.at, device_rows.specs.declared.row.Row.Row}
+use Rattle.device_transmit.specs.Transmits.{Transmits, is_used}
+use Rattle.{device_places.specs.Places.at, device_bench.specs.DeviceBench.{ShowsTransmits, devices_of}}
+use Rattle.{device_bench.specs.declared.counts.DeviceCounts.DeviceCounts, device_rows.specs.declared.row.Row.Row}
 use Rattle.replay_rows.specs.{Played.state_in, Replay.after_all, Report.{counts_of, polled_by}, Transmits.transmits_of}
 use Rattle.replay_rows.specs.{ReplayState.ReplayState, declared.{line.Line.Line, serial_replay.SerialReplay.SerialReplay}}
 use Rattle.{replay_text.specs.declared.fault.ReplayFault.ReplayFault, replay_words.specs.declared.settings.Settings.Settings}

@@ -1,8 +1,8 @@
 -- The transmit sides of all devices: the fold of the open, tx and done rows. No poll touches them.
 use Rattle.std.specs.Prelude.{List, [], ◌∷◌}
 use Rattle.device_transmit.specs.{Transmits.Transmits, Transmit.{after_finish, after_tx}}
-use Rattle.{device_transmit.specs.Transmit.opened_transmit, device_places.specs.Places.{added, changed, empty}, device_rows.specs.declared.event.Event.Event}
-use Rattle.device_rows.specs.declared.{event.Event.TheVariants.{Opened, Tx, Finish}, row.Row.Row}
+use Rattle.{device_transmit.specs.Transmit.opened_transmit, device_places.specs.Places.{added, changed, empty}}
+use Rattle.device_rows.specs.declared.{event.Event.{Event, TheVariants.{Opened, Tx, Finish}}, row.Row.Row}
 
 -- the effect of a row, by its event
 abbrev pub transmits_by : Event → Row → Transmits → Transmits
