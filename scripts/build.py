@@ -182,7 +182,7 @@ def prove(asked):
         for at, crate in enumerate(ready, 1):
             # Each further process loads the libraries anew, so only a large crate has some, on processors that no other one needs.
             idle = processors - sum(it.jobs for it in AT_WORK) - len(ready[at:])
-            AT_WORK[crate] = crate.begin(1 if lanes == 1 else max(min(idle, 1 + crate.size // 80_000), 1))
+            AT_WORK[crate] = crate.begin(1 if lanes == 1 else max(min(idle, crate.size // 40_000), 1))
         left = [it for it in left if it not in AT_WORK]
         seconds = (time.time_ns() - since) // 10**9
         line = f"crate {len(every) - len(left)} of {len(every)} ({' '.join(it.name for it in AT_WORK)}), {seconds} s"
