@@ -1,5 +1,5 @@
 """scripts/gate.py ROOM [CRATE ..]: passes these crates with those below them, or all: by `rt ci` on a copy in the folder ROOM, which
-hasn't their must-fail edits, and then the edits, over the libraries that it has left; those and programs are kept for scripts/build.py.
+hasn't their must-fail edits, and, if all is well, the edits, over the libraries that it has left; what it built scripts/build.py keeps.
 
 A function is proved from the contracts of others, never from their bodies. So edits of the bodies of several functions are checked at
 once, and each is refused by what the prover says of its own function; `rt must-fail` checks them one by one, which takes a gate half as
@@ -146,12 +146,12 @@ def try_edits(crate):
 
 
 def try_all(asked):
-    """Tries the edits of these crates, with a line for each, and returns how many are refused, and how many not."""
+    """Tries the edits of these crates, up to four at a time, with a line for each; returns how many are refused, and how many not."""
     asked = [it for it in asked if os.path.isdir(f"{it.folder}/must-fail")]
     asked.sort(key=lambda it: -sum(text.st_size for text in it.texts()))
     build(list(dict.fromkeys(below.name for it in asked for below in it.all[:-1])))
     tried = []
-    with concurrent.futures.ThreadPoolExecutor(len(os.sched_getaffinity(0))) as pool:
+    with concurrent.futures.ThreadPoolExecutor(min(len(os.sched_getaffinity(0)), 4)) as pool:
         for of_crate in pool.map(try_edits, asked):
             for name, well, text in of_crate:
                 print(f"must-fail {name}: {text[:200]}", flush=True)
@@ -188,7 +188,7 @@ def prove_all(room, names):
 def gate(words):
     room, *names = words
     passed, failed = prove_all(room, names)
-    refused, let_through = try_all([crates()[name] for name in names or crates()])
+    refused, let_through = (0, 0) if failed else try_all([crates()[name] for name in names or crates()])
     print(f"{passed + refused} passed, {failed + let_through} failed", flush=True)
     return 1 if failed or let_through else 0
 
