@@ -167,7 +167,7 @@ def prove(asked):
     names, since, left = " and ".join(it.name for it in asked), time.time_ns(), to_build(asked)
     every, processors = {*left}, len(os.sched_getaffinity(0))
     lanes = min(max(int(re.search(r"MemAvailable: *(\d+)", read("/proc/meminfo"))[1]) // 2_500_000, 1), processors)  # kB of a check
-    say(f"proving and building {names} and what they stand on, {len(every)} crates: on 4 cores some {len(every) // 2 + 1} minutes")
+    say(f"proving and building {names} and what they stand on, {len(every)} crates: on 4 cores some {len(every) // 3 + 1} minutes")
     # No old one answers for new sources, nor does one over other libraries than those that stand.
     old = [it.made for it in crates().values() if not every.isdisjoint(it.all) and (it.is_library or it in every)]
     subprocess.run(["rm", "-rf", *old], check=False)

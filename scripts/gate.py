@@ -4,7 +4,8 @@ hasn't their must-fail edits, and, if all is well, the edits, over the libraries
 A function is proved from the contracts of others, never from their bodies. So edits of the bodies of several functions are checked at
 once, and each is refused by what the prover says of its own function; `rt must-fail` checks them one by one, which takes a gate half as
 long again. An edit of which nothing is said so, or which stands in no function's body, is tried alone. That the same words prove what
-is as it was is seen at other functions, or, where none was checked, at one of these without its edit.
+is as it was is seen at other functions, or, where none was checked, at one of these without its edit. The last line is
+`N passed, M failed`, the status 1 if any did.
 """
 import concurrent.futures
 import os
@@ -19,31 +20,45 @@ GONE = "has no field|is not in scope|has no `|was not admitted"  # of what an ed
 HEAD = re.compile(r"^( *)(?:pub(?:\([a-z]+\))? )?(?:const |unsafe |extern \"C\" )*fn (\w+)", re.M)
 
 
+def block_of(text):
+    """The name that the prover has for the `impl` that this text ends in: its type, its trait, and what these are for, if no parameter."""
+    generics, head = re.findall(r"^(?:impl|(?:pub )?trait)(<.*?>)? (?=\w)(.*) \{$", text, re.M)[-1]
+    known = [*re.findall(r"(?:<|, )([A-Z]\w*)", generics.replace("'", "")), "for"]
+    trait, _, of = head.rpartition(" for ")
+    words = [[it for it in re.findall(r"(?<!')\b[A-Z]\w*", part) if it not in known] for part in (of, trait)]
+    return "+".join(words[0]) + "".join(words[1])
+
+
 class Function:
-    """One that has this text in its body: its file, its first and last line, and its name."""
+    """The one above this place of a file: its lines, where its body begins, and its name, by the type or the file that it is of."""
 
     def __init__(self, path, text, at):
         head = [it for it in HEAD.finditer(text) if it.start() < at][-1]
         first = re.search(r"(?:^ *#\[.*\n)*\Z", text[: head.start()], re.M).start()  # with its attributes
-        end = text.index(f"\n{head[1]}}}\n", head.start())
-        self.path, self.first, self.last = path, text.count("\n", 0, first) + 1, text.count("\n", 0, end) + 2
-        blocks = re.findall(r"^impl(?:<.*?>)? (?=\w)(.*) \{$", text[: head.start()], re.M) if head[1] else []
-        words = re.sub(r"<.*?>(?=$| for )|\w+::", "", blocks[-1]).split(" for ") if blocks else []
-        modules = [it for it in path[4:-3].split("/") if it not in ("lib", "main")]
-        self.names = [*modules, *(["".join(reversed(words))] if words else []), head[2]]
-
-    def asked(self):
-        """Its name for the prover: that of a method without its module, since its type's may be another."""
-        return "::".join(self.names[-2:])
+        self.body = re.compile(rf"(?:^{head[1]}| )\{{$", re.M).search(text, head.start()).end()
+        self.end = text.index(f"\n{head[1]}}}\n", head.start())
+        self.path, self.first, self.last = path, text.count("\n", 0, first) + 1, text.count("\n", 0, self.end) + 2
+        of = block_of(text[: head.start()]) if head[1] else path.rpartition("/")[2].removesuffix(".rt")
+        self.name = head[2] if of in ("lib", "main") else f"{of}::{head[2]}"
 
     def refusal(self, said):
         """The first line that tells that it isn't proved: one of its own, or one of its proof, which names nothing that is gone."""
+        own = f"/{self.name.replace('::', '/')}/"
         for line in re.findall(r"^(?:note: )?(?:\./)?(?:src|proofs)/\S+?:\d+:\d+: .*", said, re.M):
             file, number = re.match(r"(?:note: )?(?:\./)?(\S+?):(\d+)", line).groups()
-            is_own = self.first <= int(number) <= self.last if file == self.path else file.startswith(f"proofs/{'/'.join(self.names)}/")
+            is_own = self.first <= int(number) <= self.last if file == self.path else file.startswith("proofs/") and own in file
             if is_own and ("is not proved" in line or ": error: " in line and not re.search(GONE, line)):
                 return line
         return None
+
+
+def function_of(path, text, part):
+    """The function that has this part of the file, and nothing else has, in its body, if one has."""
+    at = text.find(part)
+    if text.count(part) != 1 or not HEAD.search(text, 0, at):
+        return None
+    function = Function(path, text, at)
+    return function if function.body <= at and at + len(part) <= function.end else None
 
 
 class Edit:
@@ -69,14 +84,8 @@ class Edit:
 
     def function(self, texts):
         """The function whose body it changes, if it does no more than that."""
-        path, old, _ = self.pairs[0]
-        text = texts.get(path, "")
-        at = text.find(old)
-        clause = re.match(r" *(?:requires|ensures|ghost)", text[text.rfind("\n", 0, at) + 1 :])
-        if len(self.pairs) > 1 or text.count(old) != 1 or clause or not HEAD.search(text, 0, at):
-            return None
-        function = Function(path, text, at)
-        return function if text.count("\n", 0, at + len(old)) < function.last else None
+        functions = [function_of(path, texts.get(path, ""), old) for path, old, _ in self.pairs]
+        return functions[0] if None not in functions and len({(it.path, it.first) for it in functions}) == 1 else None
 
     def alone(self, texts):
         """Whether the crate is refused with this edit, and what to say, as `rt must-fail` does it."""
@@ -96,7 +105,7 @@ class Round:
 
     def takes(self, edit, function):
         changed = edit.apply(self.texts)
-        if changed is None or any(it.names == function.names and it.path == function.path for _, it in self.edits):
+        if changed is None or any((it.path, it.first) == (function.path, function.first) for _, it in self.edits):
             return False
         self.texts, self.edits = changed, [*self.edits, (edit, function)]
         return True
@@ -131,7 +140,7 @@ def try_edits(crate):
             rounds.append(Round(texts))
             rounds[-1].takes(edit, function)
     for it in rounds:
-        said, proved = check(crate, it.texts, [function.asked() for _, function in it.edits])
+        said, proved = check(crate, it.texts, [function.name for _, function in it.edits])
         is_seen |= bool(re.search(r"^fn \S+: proved$", said, re.M))
         for edit, function in it.edits:
             if proved is False and (line := function.refusal(said)):
@@ -139,7 +148,7 @@ def try_edits(crate):
             else:
                 alone.append(edit)
     if rounds and not is_seen:
-        said, proved = check(crate, texts, [rounds[0].edits[0][1].asked()])
+        said, proved = check(crate, texts, [rounds[0].edits[0][1].name])
         told.append(("a function as it is", proved is True, "proved" if proved else f"NOT PROVED by the same words: {said}"))
     told += [(it.name, *it.alone(texts)) for it in alone]
     return [(f"{crate.name}/{name}", well, text) for name, well, text in told]

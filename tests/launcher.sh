@@ -177,7 +177,7 @@ small_checkout
 tries << END
 a first call by a symlink, from another folder, builds and replays; it says what it takes and where it is % \
 cd deep; PROVES='sleep 0.6' CDPATH=.. ./link-of-a-link ../trace.csv --budget 7; cd .. % 0 replay: proving and building napi_serial and \
-what they stand on, 4 crates: on 4 cores some 3 minutes|*|replay: crate 4 of 4 (napi_serial), * s|\
+what they stand on, 4 crates: on 4 cores some 2 minutes|*|replay: crate 4 of 4 (napi_serial), * s|\
 replay: napi_serial: proved and built, in *|napi_serial --budget 7|$header
 libraries that need nothing begin side by side, one that needs another behind it, and the program last % head -n 2 rt.log | sort; \
 grep -e 'end low' -e 'begin high' rt.log; tail -n 1 rt.log % 0 begin low|begin side|end low|begin high|end napi_serial
