@@ -3,7 +3,7 @@ hasn't their must-fail edits, and, if all is well, the edits, over the libraries
 
 A function is proved from the contracts of others, never from their bodies. So edits of the bodies of several functions are checked at
 once, and each is refused by what the prover says of its own function; `rt must-fail` checks them one by one, which takes a gate half as
-long again. An edit of which nothing is said so, or which stands in no function's body, is tried alone. That the same words prove what
+long again. An edit of which nothing is said so, or which changes more than a body, is tried alone. That the same words prove what
 is as it was is seen at other functions, or, where none was checked, at one of these without its edit. The last line is
 `N passed, M failed`, the status 1 if any did.
 """
@@ -30,12 +30,12 @@ def block_of(text):
 
 
 class Function:
-    """The one above this place of a file: its lines, where its body begins, and its name, by the type or the file that it is of."""
+    """The one that a text stands in: its lines, whether the text is in its body, and its name, by the type or the file that it is of."""
 
     def __init__(self, path, text, at):
         head = [it for it in HEAD.finditer(text) if it.start() < at][-1]
         first = re.search(r"(?:^ *#\[.*\n)*\Z", text[: head.start()], re.M).start()  # with its attributes
-        self.body = re.compile(rf"(?:^{head[1]}| )\{{$", re.M).search(text, head.start()).end()
+        self.in_body = at >= re.compile(rf"(?:^{head[1]}| )\{{$", re.M).search(text, head.start()).end()
         self.end = text.index(f"\n{head[1]}}}\n", head.start())
         self.path, self.first, self.last = path, text.count("\n", 0, first) + 1, text.count("\n", 0, self.end) + 2
         of = block_of(text[: head.start()]) if head[1] else path.rpartition("/")[2].removesuffix(".rt")
@@ -53,12 +53,12 @@ class Function:
 
 
 def function_of(path, text, part):
-    """The function that has this part of the file, and nothing else has, in its body, if one has."""
+    """The function that has this part of the file, and nothing else has, if one has."""
     at = text.find(part)
     if text.count(part) != 1 or not HEAD.search(text, 0, at):
         return None
     function = Function(path, text, at)
-    return function if function.body <= at and at + len(part) <= function.end else None
+    return function if at + len(part) <= function.end else None
 
 
 class Edit:
@@ -83,18 +83,21 @@ class Edit:
         return texts
 
     def function(self, texts):
-        """The function whose body it changes, if it does no more than that."""
+        """The function that it changes, if it does no more than that."""
         functions = [function_of(path, texts.get(path, ""), old) for path, old, _ in self.pairs]
-        return functions[0] if None not in functions and len({(it.path, it.first) for it in functions}) == 1 else None
+        if None in functions or len({(it.path, it.first) for it in functions}) > 1:
+            return None
+        return min(functions, key=lambda it: it.in_body)
 
     def alone(self, texts):
-        """Whether the crate is refused with this edit, and what to say, as `rt must-fail` does it."""
-        changed = self.apply(texts)
-        said, proved = check(self.crate, changed, []) if changed else ("its old text doesn't stand once in its file", None)
+        """Whether its function, or, if there is none, the crate is refused with this edit alone, and what to say."""
+        changed, function = self.apply(texts), self.function(texts)
+        names = [function.name] if function else []
+        said, proved = check(self.crate, changed, names) if changed else ("its old text doesn't stand once in its file", None)
         lines = re.findall(r"^(?:note: .*|\S+:\d+:\d+: error.*)", said, re.M) or said.splitlines() or [""]
         if proved is None or any(re.match(r"(\./)?(src|specs)/", it) for it in lines):
             return False, f"BAD EDIT, which no contract was tried by: {lines[0]}"
-        return not proved, "NOT REFUSED: the crate is still proved" if proved else f"refused: {lines[0]}"
+        return not proved, f"NOT REFUSED: {'its function' if names else 'the crate'} is still proved" if proved else f"refused: {lines[0]}"
 
 
 class Round:
@@ -134,7 +137,8 @@ def try_edits(crate):
     folder = f"{crate.folder}/must-fail"
     rounds, alone, told, is_seen = [], [], [], False
     for edit in (Edit(crate, f"{folder}/{it}") for it in sorted(os.listdir(folder)) if it.endswith(".edit")):
-        if (function := edit.function(texts)) is None:
+        function = edit.function(texts)
+        if not function or not function.in_body:
             alone.append(edit)
         elif not any(it.takes(edit, function) for it in rounds):
             rounds.append(Round(texts))
