@@ -76,9 +76,9 @@ esac
 END
     cat > bin/rattle << END
 #!/bin/sh
-name=\$3 new=\${8}
+name=\$3
 echo "begin \$name" >> "$scratch/rt.log"
-for word; do case \$word in *=*/built/*.rlib) [ -e "\${word#*=}/format" ] || exit 1 ;; esac; done
+for word; do case \$word in *.new) new=\$word ;; *=*/built/*.rlib) [ -e "\${word#*=}/format" ] || exit 1 ;; esac; done
 eval "\${PROVES:-sleep 0.05}"
 echo "end \$name" >> "$scratch/rt.log"
 case \$new in *.rlib.new) mkdir "\$new"; new=\$new/format ;; esac
