@@ -1,6 +1,6 @@
 #!/usr/bin/env bash
-# scripts/gate.py on a crate of two functions and four must-fail edits: one that is refused beside the others, one that its contract lets
-# through, one of the same function as the first, and one that doesn't compile. The last line is `N passed, M failed`.
+# scripts/gate.py on a crate of two functions and four must-fail edits: one that is refused beside one that its contract lets through,
+# one of the same function, and one that doesn't compile; and on a crate of one of each. The last line is `N passed, M failed`.
 set -uo pipefail
 unset CDPATH
 top=$(dirname "$(dirname "$(readlink -f "$0")")")
@@ -9,10 +9,10 @@ trap 'rm -rf "$scratch"' EXIT
 . "$top/scripts/checks.sh"
 export XDG_CACHE_HOME=$scratch/cache
 
-mkdir -p "$scratch"/low/{scripts,crates/low/{src,must-fail}} "$scratch/room"
+mkdir -p "$scratch"/low/{scripts,crates/{low,one}/{src,must-fail}} "$scratch/room"
 cp "$top"/scripts/{build,gate}.py "$scratch/low/scripts"
 cp "$top/HANDLES" "$scratch/low"
-echo low: > "$scratch/low/crates.txt"
+printf '%s:\n' low one > "$scratch/low/crates.txt"
 cat > "$scratch/low/crates/low/src/lib.rt" << 'END'
 //! Numbers.
 #![tactic(auto)]
@@ -33,20 +33,22 @@ pub fn half(number: u32) -> u32
     number / 2
 }
 END
-edit() { printf 'file: src/lib.rt\nold: %s\nnew: %s\n' "$2" "$3" > "$scratch/low/crates/low/must-fail/$1.edit"; }
-edit the-greater-one 'if a < b { a }' 'if a < b { b }'
-edit a-third 'number / 2' 'number / 3'
-edit the-second-one 'a < b' 'a > b'
-edit no-name '{ b }' '{ c }'
+head -n 11 "$scratch/low/crates/low/src/lib.rt" > "$scratch/low/crates/one/src/lib.rt"
+edit() { printf 'file: src/lib.rt\nold: %s\nnew: %s\n' "$2" "$3" > "$scratch/low/crates/$1.edit"; }
+edit low/must-fail/the-greater-one 'if a < b { a }' 'if a < b { b }'
+edit low/must-fail/a-third 'number / 2' 'number / 3'
+edit low/must-fail/the-second-one 'a < b' 'a > b'
+edit low/must-fail/unknown-name '{ b }' '{ c }'
+edit one/must-fail/the-second-one 'a < b' 'a > b'
 status=0
-python3 -EsSB "$scratch/low/scripts/gate.py" "$scratch/room" low > "$scratch/out" 2>&1 || status=$?
+python3 -EsSB "$scratch/low/scripts/gate.py" "$scratch/room" low one > "$scratch/out" 2>&1 || status=$?
 check 'the crate is proved' grep -qx 'rt: low proved' "$scratch/out"
 check 'without its edits' [ ! -e "$scratch/room/crates/low/must-fail" ]
 check 'a wrong body is refused' grep -q '^must-fail low/the-greater-one: refused: note: src/lib.rt:7:' "$scratch/out"
 check 'and a second one of its function' grep -q '^must-fail low/the-second-one: refused: note: src/lib.rt:7:' "$scratch/out"
 check 'what the contract lets through is told' grep -q '^must-fail low/a-third: NOT REFUSED: ' "$scratch/out"
-check 'and what does not compile' grep -q '^must-fail low/no-name: BAD EDIT.*error' "$scratch/out"
-check 'the same words prove what is as it was' grep -qx 'must-fail low/a function as it is: proved' "$scratch/out"
-check 'they are counted' [ "$(tail -n 1 "$scratch/out") $status" = '4 passed, 2 failed 1' ]
+check 'and what does not compile' grep -q '^must-fail low/unknown-name: BAD EDIT.*error' "$scratch/out"
+check 'the same words prove what is as it was' grep -qx 'must-fail one/a function as it is: proved' "$scratch/out"
+check 'they are counted' [ "$(tail -n 1 "$scratch/out") $status" = '6 passed, 2 failed 1' ]
 check 'the library is kept' [ -e "$(echo "$scratch"/cache/fintaqush/*/low.rlib/format)" ]
 sum_up
