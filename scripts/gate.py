@@ -135,8 +135,10 @@ def try_edits(crate):
     files = [f"{at}/{name}" for part in ("src", "specs", "proofs") for at, _, names in os.walk(f"{crate.folder}/{part}") for name in names]
     texts = {os.path.relpath(it, crate.folder): read(it) for it in files}
     folder = f"{crate.folder}/must-fail"
-    rounds, alone, told, is_seen = [], [], [], False
-    for edit in (Edit(crate, f"{folder}/{it}") for it in sorted(os.listdir(folder)) if it.endswith(".edit")):
+    rounds, alone, is_seen = [], [], False
+    names = sorted(os.listdir(folder))
+    told = [(it, False, "BAD EDIT: its name doesn't end in .edit") for it in names if not it.endswith((".edit", ".md"))]
+    for edit in (Edit(crate, f"{folder}/{it}") for it in names if it.endswith(".edit")):
         function = edit.function(texts)
         if not function or not function.in_body:
             alone.append(edit)
@@ -175,13 +177,18 @@ def try_all(asked):
 def prove_all(room, names):
     """Runs `rt ci` on a copy of these crates with those below them, or of all that it reads, and keeps what it has built."""
     asked = [*dict.fromkeys(below for name in names or crates() for below in crates()[name].all)]
-    for crate in asked:
-        shutil.copytree(crate.folder, f"{room}/crates/{crate.name}", ignore=shutil.ignore_patterns("out", "must-fail"))
-    for name in ("HANDLES",) if names else {*os.listdir(TOP)} - {".git", "crates", "crates.txt", "out"}:
-        (shutil.copytree if os.path.isdir(f"{TOP}/{name}") else shutil.copy)(f"{TOP}/{name}", f"{room}/{name}")
-    with open(f"{room}/crates.txt", "w", encoding="utf-8") as file:
-        lines = read(f"{TOP}/crates.txt").splitlines(True)
-        file.writelines(it for it in lines if re.match(r"\w*", it)[0] in {crate.name for crate in asked})
+    listed = {crate.name for crate in asked}
+
+    def left_out(folder, files):
+        """No more than that of all: `rt ci` is to see links, and what no crate reads."""
+        others = {*files} - (listed if folder == f"{TOP}/crates" else {"crates", "crates.txt", "HANDLES"})
+        is_other = names and folder in (TOP, f"{TOP}/crates")
+        return {"out", "must-fail", *([".git"] if folder == TOP else []), *(others if is_other else [])}
+
+    shutil.copytree(TOP, room, ignore=left_out, symlinks=True, dirs_exist_ok=True)
+    if names:
+        with open(f"{room}/crates.txt", "w", encoding="utf-8") as file:
+            file.writelines(it for it in read(f"{TOP}/crates.txt").splitlines(True) if re.match(r"\w*", it)[0] in listed)
     last, how = "", {"stdout": subprocess.PIPE, "stderr": subprocess.STDOUT, "text": True, "errors": "replace"}
     with subprocess.Popen(["rt", "ci"], cwd=room, preexec_fn=child, **how) as ran:
         for last in ran.stdout:

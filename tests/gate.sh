@@ -1,6 +1,7 @@
 #!/usr/bin/env bash
 # scripts/gate.py on a crate of two functions and four must-fail edits: one that is refused beside one that its contract lets through,
-# one of the same function, and one that doesn't compile; and on a crate of one of each. The last line is `N passed, M failed`.
+# one of the same function, and one that doesn't compile; on a crate of one of each and a misnamed one; and on what stops `rt ci`: a crate
+# that isn't listed, and a link. The last line is `N passed, M failed`.
 set -uo pipefail
 unset CDPATH
 top=$(dirname "$(dirname "$(readlink -f "$0")")")
@@ -40,6 +41,8 @@ edit low/must-fail/a-third 'number / 2' 'number / 3'
 edit low/must-fail/the-second-one 'a < b' 'a > b'
 edit low/must-fail/unknown-name '{ b }' '{ c }'
 edit one/must-fail/the-second-one 'a < b' 'a > b'
+edit one/must-fail/the-second-one.edit 'a < b' 'a > b'
+mv "$scratch/low/crates/one/must-fail/the-second-one.edit.edit" "$scratch/low/crates/one/must-fail/misnamed"
 status=0
 python3 -EsSB "$scratch/low/scripts/gate.py" "$scratch/room" low one > "$scratch/out" 2>&1 || status=$?
 check 'the crate is proved' grep -qx 'rt: low proved' "$scratch/out"
@@ -49,6 +52,18 @@ check 'and a second one of its function' grep -q '^must-fail low/the-second-one:
 check 'what the contract lets through is told' grep -q '^must-fail low/a-third: NOT REFUSED: ' "$scratch/out"
 check 'and what does not compile' grep -q '^must-fail low/unknown-name: BAD EDIT.*error' "$scratch/out"
 check 'the same words prove what is as it was' grep -qx 'must-fail one/a function as it is: proved' "$scratch/out"
-check 'they are counted' [ "$(tail -n 1 "$scratch/out") $status" = '6 passed, 2 failed 1' ]
+check 'and a misnamed one' grep -q '^must-fail one/misnamed: BAD EDIT' "$scratch/out"
+check 'they are counted' [ "$(tail -n 1 "$scratch/out") $status" = '6 passed, 3 failed 1' ]
 check 'the library is kept' [ -e "$(echo "$scratch"/cache/fintaqush/*/low.rlib/format)" ]
+# of all, what `rt ci` stops at stands in the copy
+stops() {
+    rm -rf "$scratch/room" && mkdir "$scratch/room"
+    python3 -EsSB "$scratch/low/scripts/gate.py" "$scratch/room" > "$scratch/out" 2>&1
+    [ "$(tail -n 1 "$scratch/out")" = '0 passed, 1 failed' ] && grep -q "$1" "$scratch/out"
+}
+cp -r "$scratch/low/crates/one" "$scratch/low/crates/unlisted"
+check 'a crate that is not listed' stops unlisted
+rm -rf "$scratch/low/crates/unlisted"
+ln -s ../../../HANDLES "$scratch/low/crates/one/src/link"
+check 'a link' stops link
 sum_up
