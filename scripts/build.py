@@ -61,8 +61,9 @@ def end_by(call):
     os._exit(status)
 
 
-def child(memory=0):
-    """What a process of this one does as it begins: it ends with this one, however that ends, and has so many MiB."""
+def child(memory=0, after=0):
+    """What a process of this one does as it begins: it ends with this one, however that ends, has so many MiB, and goes after others."""
+    os.nice(after)
     LIBC.prctl(1, signal.SIGTERM)  # PR_SET_PDEATHSIG
     if os.getppid() != PARENT:
         os._exit(1)
@@ -89,7 +90,7 @@ def crates():
 
 class Crate:
     def __init__(self, name, kind, uses):
-        self.name, self.uses, self.jobs, self.size = name, uses, 1, 0
+        self.name, self.uses, self.size = name, uses, 0
         self.folder, self.log = f"{TOP}/crates/{name}", f"{BUILT}/{name}.log"
         self.is_program, self.is_archive = os.path.exists(f"{self.folder}/src/main.rt"), "staticlib" in kind
         self.is_library = not self.is_program and not self.is_archive
@@ -125,14 +126,14 @@ class Crate:
         uses = (f"{name}={BUILT if name in crates() else f'{at}/rlibs'}/{name}.rlib" for name in ("std", *self.uses))
         return [*words, "-L", f"dependency={at}/rlibs", *(word for it in uses for word in ("--extern", it))]
 
-    def begin(self, jobs):
-        """Begins to prove and to build it, by so many processes."""
+    def begin(self, jobs, after):
+        """Begins to prove and to build it, by so many processes, after so many others."""
         command = [*self.words("build", jobs), "-o", f"{self.made}.new"]
         command += ["--statements"] if self.is_library else ["--toolchain", f"{kit()}/toolchain", "--backend", "llvm"]
         command += ["--crate-type", "staticlib"] if self.is_archive else []
-        self.jobs = jobs
+        start = functools.partial(child, after=5 * after)
         with open(self.log, "wb") as log:
-            return subprocess.Popen(command, stdin=subprocess.DEVNULL, stdout=log, stderr=log, cwd=self.folder, preexec_fn=child)
+            return subprocess.Popen(command, stdin=subprocess.DEVNULL, stdout=log, stderr=log, cwd=self.folder, preexec_fn=start)
 
     def end(self, status, since):
         """Puts what was built in its place, as old as the build: what was changed meanwhile is newer."""
@@ -165,11 +166,11 @@ def to_build(asked):
 def prove(asked):
     """Proves and builds these crates, and what they stand on as far as that isn't done."""
     names, since, left = " and ".join(it.name for it in asked), time.time_ns(), to_build(asked)
-    every, processors = {*left}, len(os.sched_getaffinity(0))
+    every, processors = [*left], len(os.sched_getaffinity(0))
     lanes = min(max(int(re.search(r"MemAvailable: *(\d+)", read("/proc/meminfo"))[1]) // 2_500_000, 1), processors)  # kB of a check
     say(f"proving and building {names} and what they stand on, {len(every)} crates: on 4 cores some {len(every) // 3 + 1} minutes")
     # No old one answers for new sources, nor does one over other libraries than those that stand.
-    old = [it.made for it in crates().values() if not every.isdisjoint(it.all) and (it.is_library or it in every)]
+    old = [it.made for it in crates().values() if not {*every}.isdisjoint(it.all) and (it.is_library or it in every)]
     subprocess.run(["rm", "-rf", *old], check=False)
     while left or AT_WORK:
         for crate in [it for it, process in AT_WORK.items() if process.poll() is not None]:
@@ -179,10 +180,10 @@ def prove(asked):
             else:
                 crate.end(status, since)
         ready = [it for it in left if {*left, *AT_WORK}.isdisjoint(it.all[:-1])][: max(lanes - len(AT_WORK), 0)]
-        for at, crate in enumerate(ready, 1):
-            # Each further process loads the libraries anew, so only a large crate has some, on processors that no other one needs.
-            idle = processors - sum(it.jobs for it in AT_WORK) - len(ready[at:])
-            AT_WORK[crate] = crate.begin(1 if lanes == 1 else max(min(idle, crate.size // 40_000), 1))
+        for crate in ready:
+            # The longest chain has the processors, and the next one what that leaves. Each further process loads the libraries anew.
+            after = [it for it in every if it in left or it in AT_WORK].index(crate)
+            AT_WORK[crate] = crate.begin(1 if lanes == 1 else min(1 + crate.size // 40_000, processors), after)
         left = [it for it in left if it not in AT_WORK]
         seconds = (time.time_ns() - since) // 10**9
         line = f"crate {len(every) - len(left)} of {len(every)} ({' '.join(it.name for it in AT_WORK)}), {seconds} s"
