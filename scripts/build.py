@@ -61,9 +61,8 @@ def end_by(call):
     os._exit(status)
 
 
-def child(memory=0, after=0):
-    """What a process of this one does as it begins: it ends with this one, however that ends, has so many MiB, and goes after others."""
-    os.nice(after)
+def child(memory=0):
+    """What a process of this one does as it begins: it ends with this one, however that ends, and has so many MiB."""
     LIBC.prctl(1, signal.SIGTERM)  # PR_SET_PDEATHSIG
     if os.getppid() != PARENT:
         os._exit(1)
@@ -90,7 +89,7 @@ def crates():
 
 class Crate:
     def __init__(self, name, kind, uses):
-        self.name, self.uses, self.size = name, uses, 0
+        self.name, self.uses = name, uses
         self.folder, self.log = f"{TOP}/crates/{name}", f"{BUILT}/{name}.log"
         self.is_program, self.is_archive = os.path.exists(f"{self.folder}/src/main.rt"), "staticlib" in kind
         self.is_library = not self.is_program and not self.is_archive
@@ -126,14 +125,13 @@ class Crate:
         uses = (f"{name}={BUILT if name in crates() else f'{at}/rlibs'}/{name}.rlib" for name in ("std", *self.uses))
         return [*words, "-L", f"dependency={at}/rlibs", *(word for it in uses for word in ("--extern", it))]
 
-    def begin(self, jobs, after):
-        """Begins to prove and to build it, by so many processes, after so many others."""
+    def begin(self, jobs):
+        """Begins to prove and to build it, by so many processes."""
         command = [*self.words("build", jobs), "-o", f"{self.made}.new"]
         command += ["--statements"] if self.is_library else ["--toolchain", f"{kit()}/toolchain", "--backend", "llvm"]
         command += ["--crate-type", "staticlib"] if self.is_archive else []
-        start = functools.partial(child, after=5 * after)
         with open(self.log, "wb") as log:
-            return subprocess.Popen(command, stdin=subprocess.DEVNULL, stdout=log, stderr=log, cwd=self.folder, preexec_fn=start)
+            return subprocess.Popen(command, stdin=subprocess.DEVNULL, stdout=log, stderr=log, cwd=self.folder, preexec_fn=child)
 
     def end(self, status, since):
         """Puts what was built in its place, as old as the build: what was changed meanwhile is newer."""
@@ -158,8 +156,7 @@ def to_build(asked):
         if not crate.is_built() or any(it in every for it in crate.all):
             every.append(crate)
     for crate in reversed(every):
-        crate.size = sum(it.st_size for it in crate.texts())
-        chain[crate] = crate.size + max((chain[it] for it in chain if crate in it.all), default=0)
+        chain[crate] = sum(it.st_size for it in crate.texts()) + max((chain[it] for it in chain if crate in it.all), default=0)
     return sorted(every, key=chain.get, reverse=True)
 
 
@@ -180,10 +177,8 @@ def prove(asked):
             else:
                 crate.end(status, since)
         ready = [it for it in left if {*left, *AT_WORK}.isdisjoint(it.all[:-1])][: max(lanes - len(AT_WORK), 0)]
-        for crate in ready:
-            # The longest chain has the processors, and the next one what that leaves. Each further process loads the libraries anew.
-            after = [it for it in every if it in left or it in AT_WORK].index(crate)
-            AT_WORK[crate] = crate.begin(1 if lanes == 1 else min(1 + crate.size // 40_000, processors), after)
+        for crate in ready:  # each by as many processes as there are processors: what one leaves idle at its ends, the others take
+            AT_WORK[crate] = crate.begin(1 if lanes == 1 else processors)
         left = [it for it in left if it not in AT_WORK]
         seconds = (time.time_ns() - since) // 10**9
         line = f"crate {len(every) - len(left)} of {len(every)} ({' '.join(it.name for it in AT_WORK)}), {seconds} s"
