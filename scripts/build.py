@@ -163,11 +163,11 @@ def to_build(asked):
 def prove(asked):
     """Proves and builds these crates, and what they stand on as far as that isn't done."""
     names, since, left = " and ".join(it.name for it in asked), time.time_ns(), to_build(asked)
-    every, processors = [*left], len(os.sched_getaffinity(0))
+    every, processors = {*left}, len(os.sched_getaffinity(0))
     lanes = min(max(int(re.search(r"MemAvailable: *(\d+)", read("/proc/meminfo"))[1]) // 2_500_000, 1), processors)  # kB of a check
     say(f"proving and building {names} and what they stand on, {len(every)} crates: on 4 cores some {len(every) // 3 + 1} minutes")
     # No old one answers for new sources, nor does one over other libraries than those that stand.
-    old = [it.made for it in crates().values() if not {*every}.isdisjoint(it.all) and (it.is_library or it in every)]
+    old = [it.made for it in crates().values() if not every.isdisjoint(it.all) and (it.is_library or it in every)]
     subprocess.run(["rm", "-rf", *old], check=False)
     while left or AT_WORK:
         for crate in [it for it, process in AT_WORK.items() if process.poll() is not None]:
