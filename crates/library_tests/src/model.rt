@@ -197,57 +197,58 @@ fn word_after(rt: &impl Abort, calls: &[(u32, Call)]) -> u64 {
     word
 }
 
+const ENABLE: (u32, Call) = (2, Call::Enable(false));
+
+const ENABLE_THREADED: (u32, Call) = (2, Call::Enable(true));
+
+const SCHEDULE: (u32, Call) = (0, Call::Schedule);
+
+const LIST: (u32, Call) = (0, Call::Hand(Kind::List));
+
+const THREAD: (u32, Call) = (0, Call::Hand(Kind::Thread));
+
+const TAKEN: (u32, Call) = (1, Call::Take(Kind::Thread));
+
+const BUSY: (u32, Call) = (0, Call::BusyTake);
+
+const MARK: (u32, Call) = (2, Call::MarkDisable);
+
+const TAKE: (u32, Call) = (2, Call::TakeDisable);
+
+// What was called on a new instance, and the word then.
+const STATES: [(&str, &[(u32, Call)], u64); 13] = [
+    ("new, disabled", &[], 9),
+    ("idle", &[ENABLE], 0),
+    ("idle, threaded", &[ENABLE_THREADED], 256),
+    ("granted", &[ENABLE, SCHEDULE], 1),
+    ("granted and missed", &[ENABLE, SCHEDULE, SCHEDULE], 3),
+    ("on the list", &[ENABLE, SCHEDULE, LIST], 4294967297),
+    (
+        "on the list and missed",
+        &[ENABLE, SCHEDULE, LIST, SCHEDULE],
+        4294967299,
+    ),
+    (
+        "handed to the thread",
+        &[ENABLE_THREADED, SCHEDULE, THREAD],
+        8589935361,
+    ),
+    (
+        "taken by the thread",
+        &[ENABLE_THREADED, SCHEDULE, THREAD, TAKEN],
+        769,
+    ),
+    ("marked", &[ENABLE, MARK], 4),
+    ("busy polled", &[ENABLE, BUSY], 65),
+    ("taken by the controller", &[ENABLE, MARK, TAKE], 13),
+    ("disabled and missed", &[SCHEDULE], 11),
+];
+
 #[test]
 fn words_of_the_states(rt: HostRuntime) {
-    let enable = (2, Call::Enable(false));
-    let enable_threaded = (2, Call::Enable(true));
-    let schedule = (0, Call::Schedule);
-    let list = (0, Call::Hand(Kind::List));
-    let thread = (0, Call::Hand(Kind::Thread));
-    let mark = (2, Call::MarkDisable);
-    let take = (2, Call::TakeDisable);
-    assert_eq!(rt; word_after(&rt, &[]), 9, "new, disabled");
-    assert_eq!(rt; word_after(&rt, &[enable]), 0, "idle");
-    assert_eq!(rt; word_after(&rt, &[enable_threaded]), 256, "idle, threaded");
-    assert_eq!(rt; word_after(&rt, &[enable, schedule]), 1, "granted");
-    assert_eq!(rt;
-        word_after(&rt, &[enable, schedule, schedule]),
-        3,
-        "granted and missed"
-    );
-    assert_eq!(rt;
-        word_after(&rt, &[enable, schedule, list]),
-        4294967297,
-        "on the list"
-    );
-    assert_eq!(rt;
-        word_after(&rt, &[enable, schedule, list, schedule]),
-        4294967299,
-        "on the list and missed"
-    );
-    assert_eq!(rt;
-        word_after(&rt, &[enable_threaded, schedule, thread]),
-        8589935361,
-        "handed to the thread"
-    );
-    let taken = (1, Call::Take(Kind::Thread));
-    assert_eq!(rt;
-        word_after(&rt, &[enable_threaded, schedule, thread, taken]),
-        769,
-        "taken by the thread"
-    );
-    assert_eq!(rt; word_after(&rt, &[enable, mark]), 4, "marked");
-    assert_eq!(rt;
-        word_after(&rt, &[enable, (0, Call::BusyTake)]),
-        65,
-        "busy polled"
-    );
-    assert_eq!(rt;
-        word_after(&rt, &[enable, mark, take]),
-        13,
-        "taken by the controller"
-    );
-    assert_eq!(rt; word_after(&rt, &[schedule]), 11, "disabled and missed");
+    for &(state, calls, word) in &STATES {
+        assert_eq!(rt; word_after(&rt, calls), word, "{state}");
+    }
 }
 
 #[test]
