@@ -177,8 +177,8 @@ def prove(asked):
             else:
                 crate.end(status, since)
         ready = [it for it in left if {*left, *AT_WORK}.isdisjoint(it.all[:-1])][: max(lanes - len(AT_WORK), 0)]
-        for crate in ready:  # each by as many processes as there are processors: what one leaves idle at its ends, the others take
-            AT_WORK[crate] = crate.begin(1 if lanes == 1 else processors)
+        for crate in ready:  # each by as many processes as memory was counted for: what one leaves idle at its ends, the others take
+            AT_WORK[crate] = crate.begin(1 if lanes == 1 else min(processors, 4))
         left = [it for it in left if it not in AT_WORK]
         seconds = (time.time_ns() - since) // 10**9
         line = f"crate {len(every) - len(left)} of {len(every)} ({' '.join(it.name for it in AT_WORK)}), {seconds} s"
