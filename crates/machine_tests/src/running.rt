@@ -1,6 +1,7 @@
 //! Whole runs, and each fault of arrivals.
 
 use crate::ends::{FailingReader, FailingWriter};
+use expect::expect_eq;
 use machine::{MachineFault, Settings, fault_line, parse_words, run_machine, status};
 use std::alloc::Global;
 use std::test::Fail;
@@ -39,7 +40,7 @@ fn reads_fail_in_turn(rt: HostRuntime) -> Result<(), Fail> {
             assert!(rt; report.is_empty());
         } else {
             assert_eq!(rt; answer, Ok(()), "after {before} reads");
-            assert_eq!(rt; report.as_slice(), REPORT.as_bytes());
+            expect_eq(&rt, report.as_slice(), REPORT.as_bytes());
         }
     }
     Ok(())
@@ -60,7 +61,7 @@ fn writes_fail_in_turn(rt: HostRuntime) -> Result<(), Fail> {
             );
         } else {
             assert_eq!(rt; answer, Ok(()), "after {before} writes");
-            assert_eq!(rt; writer.taken.as_slice(), REPORT.as_bytes());
+            expect_eq(&rt, writer.taken.as_slice(), REPORT.as_bytes());
         }
     }
     Ok(())
@@ -105,8 +106,8 @@ fn faults_are_told(rt: HostRuntime) -> Result<(), Fail> {
             &Settings::default(),
         );
         let fault = answer.err().ok_or("taken")?;
-        assert_eq!(rt; fault_line(rt.alloc(), &fault)?.as_str(), line);
-        assert_eq!(rt; status(&fault), 2);
+        expect_eq(&rt, fault_line(rt.alloc(), &fault)?.as_str(), line);
+        expect_eq(&rt, status(&fault), 2);
         assert!(rt; report.is_empty());
     }
     Ok(())
@@ -132,8 +133,8 @@ fn other_faults_are_told(rt: HostRuntime) -> Result<(), Fail> {
         ),
     ];
     for (fault, line, ends) in cases {
-        assert_eq!(rt; fault_line(rt.alloc(), &fault)?.as_str(), line);
-        assert_eq!(rt; status(&fault), ends);
+        expect_eq(&rt, fault_line(rt.alloc(), &fault)?.as_str(), line);
+        expect_eq(&rt, status(&fault), ends);
     }
     Ok(())
 }

@@ -2,6 +2,7 @@
 
 use crate::sides::told_of;
 use device_model::{ReplayBench, SerialBench, SharedBench};
+use expect::expect_eq;
 use std::alloc::{AllocError, Global};
 use std::test::Fail;
 
@@ -19,8 +20,8 @@ fn attached_again(rt: HostRuntime) -> Result<(), Fail> {
     }
     assert!(rt; bench.is_attached(2));
     let _ = bench.attach(rt.alloc(), 1, 4, 0);
-    assert_eq!(rt; told_of(&bench, 1), before);
-    assert_eq!(rt; bench.attached(), 2);
+    expect_eq(&rt, told_of(&bench, 1), before);
+    expect_eq(&rt, bench.attached(), 2);
     Ok(())
 }
 
@@ -36,11 +37,11 @@ fn attach_each<B: ReplayBench>(alloc: Global, bench: &mut B) -> Result<(), Alloc
 fn benches_of_sixteen_devices(rt: HostRuntime) -> Result<(), Fail> {
     let mut serial = SerialBench::new(rt.alloc())?;
     attach_each(rt.alloc(), &mut serial)?;
-    assert_eq!(rt; serial.attached(), 16);
+    expect_eq(&rt, serial.attached(), 16);
     let mut shared = SharedBench::new(&rt, rt.alloc())?;
-    assert_eq!(rt; attach_each(rt.alloc(), &mut shared), Ok(()));
-    assert_eq!(rt; shared.attached(), 16);
+    expect_eq(&rt, attach_each(rt.alloc(), &mut shared), Ok(()));
+    expect_eq(&rt, shared.attached(), 16);
     let ends = shared.end();
-    assert_eq!(rt; ends.iter().flatten().count(), 16);
+    expect_eq(&rt, ends.iter().flatten().count(), 16);
     Ok(())
 }

@@ -4,6 +4,7 @@ use crate::ends::{
     FailingReader, FailingWriter, ONE_PACKET, ONE_PACKET_REPORT, ONE_PACKET_THREADS,
 };
 use device_model::TraceFault;
+use expect::expect_eq;
 use poll_engine::OpenGate;
 use replay::{
     Mode, ReplayFault, Settings, fault_line, replay_serial, replay_shared, replay_threads, status,
@@ -64,7 +65,7 @@ fn failing_reads(rt: HostRuntime) {
                 assert!(rt; report.is_empty());
             } else {
                 assert_eq!(rt; answer, Ok(()), "after {before} reads");
-                assert_eq!(rt; report.as_slice(), wanted.as_bytes());
+                expect_eq(&rt, report.as_slice(), wanted.as_bytes());
             }
         }
     }
@@ -92,7 +93,7 @@ fn failing_writes(rt: HostRuntime) {
                 );
             } else {
                 assert_eq!(rt; answer, Ok(()), "after {before} writes");
-                assert_eq!(rt; writer.taken.as_slice(), wanted.as_bytes());
+                expect_eq(&rt, writer.taken.as_slice(), wanted.as_bytes());
             }
         }
     }
@@ -112,9 +113,10 @@ fn faulty_traces(rt: HostRuntime) {
             &mut writer,
             &Settings::default(),
         );
-        assert_eq!(rt;
+        expect_eq(
+            &rt,
             answer,
-            Err(ReplayFault::Trace(TraceFault::WrongState { row: 2 }))
+            Err(ReplayFault::Trace(TraceFault::WrongState { row: 2 })),
         );
     }
 }
@@ -125,8 +127,8 @@ fn failing_errors(rt: HostRuntime) {
     let fault = ProgramFault::Replay(ReplayFault::Trace(TraceFault::BadHeader));
     let mut errors = FailingWriter::new(rt.alloc(), 3);
     let ending = end_by(rt.alloc(), &fault, &mut errors);
-    assert_eq!(rt; (ending.status, ending.told), (2, false));
-    assert_eq!(rt; errors.taken.as_slice(), b"tra".as_slice());
+    expect_eq(&rt, (ending.status, ending.told), (2, false));
+    expect_eq(&rt, errors.taken.as_slice(), b"tra".as_slice());
 }
 
 const LINES: [(ReplayFault, &str, u8); 5] = [
@@ -152,7 +154,7 @@ const LINES: [(ReplayFault, &str, u8); 5] = [
 #[test]
 fn fault_lines(rt: HostRuntime) -> Result<(), Fail> {
     for (fault, line, number) in LINES {
-        assert_eq!(rt; fault_line(rt.alloc(), &fault)?.as_str(), line);
+        expect_eq(&rt, fault_line(rt.alloc(), &fault)?.as_str(), line);
         assert_eq!(rt; status(&fault), number, "of {line:?}");
     }
     Ok(())

@@ -2,7 +2,9 @@
 
 use crate::ends::HEADER;
 use crate::sides::told_of;
+use crate::worked::joined;
 use device_model::{ReplayBench, SharedBench, TraceFault};
+use expect::expect_eq;
 use napi_model::Kind;
 use poll_engine::{Bench, DirectBench, Next};
 use replay::{ReplayFault, Settings, replay_serial, replay_shared};
@@ -103,31 +105,13 @@ const TRACES: [Rows; 9] = [
 ];
 
 // The text of the first of these rows.
-fn text_of(alloc: Global, rows: &[(u32, &str)], count: usize) -> Result<String, AllocError> {
+fn front_of(alloc: Global, rows: &str, count: usize) -> Result<String, AllocError> {
     let mut text = String::from_str(alloc, HEADER)?;
-    let mut left = count;
-    for (times, block) in rows {
-        for _ in 0..*times {
-            for row in block.lines() {
-                if left == 0 {
-                    return Ok(text);
-                }
-                left -= 1;
-                text.push_str(row)?;
-                text.push_str("\n")?;
-            }
-        }
+    for row in rows.lines().take(count) {
+        text.push_str(row)?;
+        text.push_str("\n")?;
     }
     Ok(text)
-}
-
-fn count_of(rows: &[(u32, &str)]) -> usize {
-    let mut count: usize = 0;
-    for (times, block) in rows {
-        let rows = (*times as usize).saturating_mul(block.lines().count());
-        count = count.saturating_add(rows);
-    }
-    count
 }
 
 // Both modes give the same bytes or the same fault behind each row of each trace.
@@ -136,8 +120,9 @@ fn shared_as_serial_behind_each_row(rt: HostRuntime) -> Result<(), Fail> {
     for trace in &TRACES {
         let (budget, weight, window) = trace.polling;
         let settings = Settings::new(1, budget, weight, window).ok_or("in range")?;
-        for count in 0..count_of(trace.rows).saturating_add(1) {
-            let text = text_of(rt.alloc(), trace.rows, count)?;
+        let rows = joined(rt.alloc(), trace.rows)?;
+        for count in 0..=rows.as_str().lines().count() {
+            let text = front_of(rt.alloc(), rows.as_str(), count)?;
             let mut serial = Vec::new(rt.alloc());
             let mut shared = Vec::new(rt.alloc());
             let wanted = replay_serial(rt.alloc(), text.as_bytes(), &mut serial, &settings);
@@ -154,47 +139,40 @@ fn shared_as_serial_behind_each_row(rt: HostRuntime) -> Result<(), Fail> {
     Ok(())
 }
 
-// What is told of a device's packets: how many arrived, how many were polled, their bytes, and how many are left.
-fn packets_of<B: ReplayBench>(bench: &B, device: u32) -> Option<(u64, u64, u64, u64)> {
-    match told_of(bench, device) {
-        Some(told) => Some((told.arrived, told.polled, told.bytes, told.left)),
-        None => None,
-    }
-}
-
 // What arrived is polled or left. Then the bench ends, whose instances are handed over, repolled, to be disabled or disabled.
 #[test]
 fn packets_at_the_end(rt: HostRuntime) -> Result<(), Fail> {
     let mut bench = SharedBench::new(&rt, rt.alloc())?;
     for device in [2, 3, 5, 7, 16] {
-        assert_eq!(rt; bench.attach(rt.alloc(), device, 4, 0), Ok(()));
+        expect_eq(&rt, bench.attach(rt.alloc(), device, 4, 0), Ok(()));
     }
-    assert_eq!(rt; bench.attached(), 5);
+    expect_eq(&rt, bench.attached(), 5);
     // Repolled, and so handed to the list again.
-    assert_eq!(rt; bench.arrive(2, 100), Some(Kind::List));
-    assert_eq!(rt; bench.arrive(2, 60), None);
+    expect_eq(&rt, bench.arrive(2, 100), Some(Kind::List));
+    expect_eq(&rt, bench.arrive(2, 60), None);
     let once = bench.poll_once(2, 1);
-    assert_eq!(rt; (once.work, once.next), (1, Next::Repoll));
+    expect_eq(&rt, (once.work, once.next), (1, Next::Repoll));
     // Handed to its thread.
     bench.set_threaded(3, true);
-    assert_eq!(rt; bench.arrive(3, 7), Some(Kind::Thread));
+    expect_eq(&rt, bench.arrive(3, 7), Some(Kind::Thread));
     // Handed to the list, with a disable that is pending.
-    assert_eq!(rt; bench.arrive(5, 8), Some(Kind::List));
+    expect_eq(&rt, bench.arrive(5, 8), Some(Kind::List));
     bench.disable(5);
     // Off.
     bench.disable(16);
     bench.disable(7);
     bench.settle();
-    assert_eq!(rt; bench.arrive(16, 9), None);
+    expect_eq(&rt, bench.arrive(16, 9), None);
     // Enabled with packets, busy polled, and not polled to the end.
     for bytes in [10, 20, 30] {
-        assert_eq!(rt; bench.arrive(7, bytes), None);
+        expect_eq(&rt, bench.arrive(7, bytes), None);
     }
     assert!(rt; bench.enable(7));
     let report = bench.busy_poll(7, 1, 1);
-    assert_eq!(rt;
+    expect_eq(
+        &rt,
         (report.polls, report.work, report.next),
-        (2, 2, Next::Repoll)
+        (2, 2, Next::Repoll),
     );
     for number in 0..18 {
         let wanted = match number {
@@ -203,7 +181,11 @@ fn packets_at_the_end(rt: HostRuntime) -> Result<(), Fail> {
             7 => Some((3, 2, 30, 1)),
             _ => None,
         };
-        assert_eq!(rt; packets_of(&bench, number), wanted, "of device {number}");
+        let packets = match told_of(&bench, number) {
+            Some(told) => Some((told.arrived, told.polled, told.bytes, told.left)),
+            None => None,
+        };
+        assert_eq!(rt; packets, wanted, "of device {number}");
     }
     // Its end polls what is left.
     let ends = bench.end();
@@ -229,18 +211,18 @@ fn packets_at_the_end(rt: HostRuntime) -> Result<(), Fail> {
 #[test]
 fn another_device_stays(rt: HostRuntime) -> Result<(), Fail> {
     let mut bench = SharedBench::new(&rt, rt.alloc())?;
-    assert_eq!(rt; bench.attach(rt.alloc(), 1, 4, 0), Ok(()));
+    expect_eq(&rt, bench.attach(rt.alloc(), 1, 4, 0), Ok(()));
     bench.arrive(1, 100);
     bench.send(1, 1500);
     assert!(rt; bench.uses_transmit(1));
     let before = told_of(&bench, 1);
     // A device that is there stays as it is.
-    assert_eq!(rt; bench.attach(rt.alloc(), 1, 8, 5), Ok(()));
-    assert_eq!(rt; bench.attach(rt.alloc(), 3, 65536, 5), Ok(()));
-    assert_eq!(rt; told_of(&bench, 1), before);
-    assert_eq!(rt; bench.attached(), 2);
+    expect_eq(&rt, bench.attach(rt.alloc(), 1, 8, 5), Ok(()));
+    expect_eq(&rt, bench.attach(rt.alloc(), 3, 65536, 5), Ok(()));
+    expect_eq(&rt, told_of(&bench, 1), before);
+    expect_eq(&rt, bench.attached(), 2);
     let ends = bench.end();
-    assert_eq!(rt; ends[2], None);
+    expect_eq(&rt, ends[2], None);
     Ok(())
 }
 
@@ -255,6 +237,6 @@ fn fault_in_mid_trace(rt: HostRuntime) {
     if answer == Err(ReplayFault::Trace(TraceFault::OutOfMemory)) {
         answer = replay_shared(&rt, rt.alloc(), text.as_bytes(), &mut report, &settings);
     }
-    assert_eq!(rt; answer, Err(ReplayFault::Pending { row: 4 }));
+    expect_eq(&rt, answer, Err(ReplayFault::Pending { row: 4 }));
     assert!(rt; report.is_empty());
 }

@@ -1,5 +1,6 @@
 //! Tests of the words after the program's name.
 
+use expect::expect_eq;
 use replay::{Mode, Settings, WordFault, parse_words, word_line, word_status};
 use std::alloc::Global;
 use std::test::Fail;
@@ -33,7 +34,7 @@ fn serial(
 
 #[test]
 fn usual_ones(rt: HostRuntime) {
-    assert_eq!(rt; parse(rt.alloc(), &[]), serial(1, 300, 64, 1024));
+    expect_eq(&rt, parse(rt.alloc(), &[]), serial(1, 300, 64, 1024));
 }
 
 #[test]
@@ -45,7 +46,7 @@ fn each_mode(rt: HostRuntime) -> Result<(), WordFault> {
         ("threads", Mode::Threads),
     ];
     for (word, mode) in modes {
-        assert_eq!(rt; parse(rt.alloc(), &["--mode", word]), Ok((mode, usual)));
+        expect_eq(&rt, parse(rt.alloc(), &["--mode", word]), Ok((mode, usual)));
     }
     Ok(())
 }
@@ -63,7 +64,7 @@ fn all_options_in_any_order(rt: HostRuntime) {
         "00002",
         "--pollers=8",
     ];
-    assert_eq!(rt; parse(alloc, &words), serial(8, 2, 1, 65535));
+    expect_eq(&rt, parse(alloc, &words), serial(8, 2, 1, 65535));
 }
 
 #[test]
@@ -82,7 +83,7 @@ fn refused_words(rt: HostRuntime) {
         &["--help"],
     ];
     for list in &words {
-        assert_eq!(rt; parse(rt.alloc(), *list), Err(WordFault::Usage));
+        expect_eq(&rt, parse(rt.alloc(), *list), Err(WordFault::Usage));
     }
 }
 
@@ -96,17 +97,18 @@ fn refused_memory(rt: HostRuntime) {
 
 #[test]
 fn lines_and_statuses(rt: HostRuntime) {
-    assert_eq!(rt; word_line(&WordFault::Usage), "usage fault 64\n");
-    assert_eq!(rt;
+    expect_eq(&rt, word_line(&WordFault::Usage), "usage fault 64\n");
+    expect_eq(
+        &rt,
         word_line(&WordFault::OutOfMemory),
-        "memory fault 11 OutOfMemory\n"
+        "memory fault 11 OutOfMemory\n",
     );
-    assert_eq!(rt; word_status(&WordFault::Usage), 64);
-    assert_eq!(rt; word_status(&WordFault::OutOfMemory), 4);
+    expect_eq(&rt, word_status(&WordFault::Usage), 64);
+    expect_eq(&rt, word_status(&WordFault::OutOfMemory), 4);
 }
 
 #[test]
 fn faults_have_numbers(rt: HostRuntime) {
-    assert_eq!(rt; WordFault::Usage.number(), 1);
-    assert_eq!(rt; WordFault::OutOfMemory.number(), 2);
+    expect_eq(&rt, WordFault::Usage.number(), 1);
+    expect_eq(&rt, WordFault::OutOfMemory.number(), 2);
 }

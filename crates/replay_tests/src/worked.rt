@@ -5,7 +5,10 @@ use crate::ends::HEADER;
 use crate::failing::{MODES, replay_in};
 use replay::{Mode, ReplayFault, Settings, fault_line, status};
 use std::alloc::{AllocError, Global};
+use std::process::Abort;
+use std::sync::Wait;
 use std::test::Fail;
+use std::thread::Threads;
 
 // A trace, each text as many times as told, played by a budget of so many packets and a window of so many polls. With threads
 // the report tells arrivals and transmit state alone.
@@ -477,45 +480,38 @@ fn answers(
     Ok(report.is_empty() && line.as_str() == wanted && status(&fault) == number)
 }
 
-#[test]
-fn one_thread(rt: HostRuntime) -> Result<(), Fail> {
-    for case in &CASES {
-        let text = joined(rt.alloc(), case.trace)?;
-        let settings = Settings::new(1, case.budget, 64, case.window).ok_or("in range")?;
-        for mode in [Mode::Serial, Mode::Shared] {
-            let mut report = Vec::new(rt.alloc());
-            let answer = replay_in(
-                &rt,
-                rt.alloc(),
-                mode,
-                text.as_bytes(),
-                &mut report,
-                &settings,
-            );
-            let told = answers(rt.alloc(), answer, report.as_slice(), case.report)?;
-            assert!(rt; told, "{}: {answer:?} {report:?}", case.name);
-        }
-    }
+// Plays the trace in this mode by so many pollers.
+fn play<P: Abort + Threads + Wait + Sync>(
+    rt: &P,
+    alloc: Global,
+    case: &Case,
+    mode: Mode,
+    pollers: u32,
+    wanted: &str,
+) -> Result<(), Fail> {
+    let text = joined(alloc, case.trace)?;
+    let settings = Settings::new(pollers, case.budget, 64, case.window).ok_or("in range")?;
+    let mut report = Vec::new(alloc);
+    let answer = replay_in(rt, alloc, mode, text.as_bytes(), &mut report, &settings);
+    let told = answers(alloc, answer, report.as_slice(), wanted)?;
+    assert!(rt; told, "{}: {answer:?} {report:?}", case.name);
     Ok(())
 }
 
 #[test]
-fn several_threads(rt: HostRuntime) -> Result<(), Fail> {
+fn each_case(rt: HostRuntime) -> Result<(), Fail> {
     for case in &CASES {
-        let text = joined(rt.alloc(), case.trace)?;
+        play(&rt, rt.alloc(), case, Mode::Serial, 1, case.report)?;
+        play(&rt, rt.alloc(), case, Mode::Shared, 1, case.report)?;
         for pollers in [1, 2, 8] {
-            let settings = Settings::new(pollers, case.budget, 64, case.window).ok_or("in range")?;
-            let mut report = Vec::new(rt.alloc());
-            let answer = replay_in(
+            play(
                 &rt,
                 rt.alloc(),
+                case,
                 Mode::Threads,
-                text.as_bytes(),
-                &mut report,
-                &settings,
-            );
-            let told = answers(rt.alloc(), answer, report.as_slice(), case.with_threads)?;
-            assert!(rt; told, "{}: {answer:?} {report:?}", case.name);
+                pollers,
+                case.with_threads,
+            )?;
         }
     }
     Ok(())
