@@ -52,7 +52,7 @@ fn scripted(rt: HostRuntime) -> Result<(), Fail> {
     let opening = opening_of(trace.rows(), 2);
     assert!(rt; opening.is_some());
     let mut device = ScriptDevice::new(rt.alloc(), &trace, 2)?;
-    expect_eq(&rt, device.acts(), 4);
+    assert_eq!(rt; device.acts(), 4);
     assert!(rt; matches!(device.act(0), Act::Arrive(packet) if packet.bytes == 100));
     assert!(rt; !device.uses_transmit());
     expect_eq(&rt, device.tx_counts().sent, 0);
