@@ -15,7 +15,6 @@ ghost use Rattle.napi_calls.specs.Made.{Made};
 ghost use Rattle.napi_calls.specs.Calls.{EnablesAt};
 ghost use Rattle.napi_calls.specs.Closed.{IsClosed};
 
-use expect::expect_eq;
 use napi_calls::{Caller, Control, Granted, Napi, Off, On, Polling, TryDone, TryPrep, TryTake};
 use napi_model::{Kind, encode};
 use rx_ring::{Batch, Packet, RxCtx, RxIn, ring};
@@ -243,8 +242,8 @@ pub fn polled(
     ensures { IsSeatOf napi.now polling.new.pass }
 {
     let mut batch = Batch::new();
-    expect_eq(rt, polling.poll(weight, &mut batch), packets.len());
-    expect_eq(rt, batch.as_slice(), packets);
+    assert_eq!(rt; polling.poll(weight, &mut batch), packets.len());
+    assert_eq!(rt; batch.as_slice(), packets);
 }
 
 /// Closes the instance with both callers.

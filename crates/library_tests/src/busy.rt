@@ -12,7 +12,6 @@ use crate::bed::{
     Bed, again, closed, enabled, handed, looked, make_bed, missed, not_there, released, taken,
 };
 use crate::contention::{Schedules, SetsThreaded};
-use expect::expect_eq;
 use napi_calls::{
     Busy, Caller, Control, Napi, Off, On, Polling, TryBusy, TryPrep, TryStop, TryTake,
 };
@@ -73,19 +72,19 @@ fn miss_while_busy(rt: &impl Abort, napi: &Napi, first: Caller, second: Caller) 
     let mut second = second;
     let mut batch = Batch::new();
     let mut busy = busied(rt, napi, first);
-    expect_eq(rt, busy.number(), 0);
+    assert_eq!(rt; busy.number(), 0);
     looked(rt, napi, &mut second, 65);
     let mut second = missed(rt, napi, second);
     looked(rt, napi, &mut second, 67);
     let second = not_there(rt, napi, second, Kind::List);
     let mut second = refused(rt, napi, second);
-    expect_eq(rt, busy.poll(64, &mut batch), 0);
+    assert_eq!(rt; busy.poll(64, &mut batch), 0);
     busy.complete_held(napi);
     looked(rt, napi, &mut second, 67);
-    expect_eq(rt, busy.counts().polls, 1);
+    assert_eq!(rt; busy.counts().polls, 1);
     let mut polling = stopped(rt, napi, busy);
     looked(rt, napi, &mut second, 1);
-    expect_eq(rt, polling.poll(64, &mut batch), 0);
+    assert_eq!(rt; polling.poll(64, &mut batch), 0);
     let first = released(rt, napi, polling);
     looked(rt, napi, &mut second, 0);
     (first, second)
@@ -162,7 +161,7 @@ fn busy_polling_holds_what_is_missed(rt: HostRuntime) -> Result<(), Fail> {
     let (first, second) = miss_while_busy(&rt, &napi, first, second);
     let (first, second, control) = set_within_a_stop(&rt, &napi, first, second, control);
     let ctx = closed(&rt, rt.alloc(), napi, first, second, control);
-    expect_eq(&rt, ctx.counts().polls, 2);
+    assert_eq!(rt; ctx.counts().polls, 2);
     Ok(())
 }
 
@@ -262,8 +261,8 @@ fn busy_polled(rt: &impl Abort, napi: &Napi, busy: &mut Busy, packets: &[Packet]
     ensures { IsSeatOf napi.now busy.new.pass }
 {
     let mut batch = Batch::new();
-    expect_eq(rt, busy.poll(64, &mut batch), packets.len());
-    expect_eq(rt, batch.as_slice(), packets);
+    assert_eq!(rt; busy.poll(64, &mut batch), packets.len());
+    assert_eq!(rt; batch.as_slice(), packets);
 }
 
 // By the waiting form, number 0 takes the instance to busy poll what was put; a poll that it completes is held.
@@ -305,7 +304,7 @@ fn busy_polls_give_what_was_put(rt: HostRuntime) -> Result<(), Fail> {
         control,
     } = make_bed(&rt, rt.alloc());
     let control = control.enable(&rt, &napi, false);
-    expect_eq(&rt, input.put(PACKET), Ok(()));
+    assert_eq!(rt; input.put(PACKET), Ok(()));
     let busy = busy_twice(&rt, &napi, first);
     let second = not_taken(&rt, &napi, second);
     let second = missed(&rt, &napi, second);
@@ -317,6 +316,6 @@ fn busy_polls_give_what_was_put(rt: HostRuntime) -> Result<(), Fail> {
     let first = released(&rt, &napi, polling);
     let control = control.disable(&rt, &napi);
     let ctx = closed(&rt, rt.alloc(), napi, first, second, control);
-    expect_eq(&rt, ctx.counts().packets, 1);
+    assert_eq!(rt; ctx.counts().packets, 1);
     Ok(())
 }

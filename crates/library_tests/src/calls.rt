@@ -5,7 +5,6 @@ ghost use Rattle.napi_calls.specs.Seats.{IsInputOf};
 
 use crate::bed::{closed, disabled, enabled, granted, handed, released, taken};
 use crate::busy::{busied, stopped};
-use expect::expect_eq;
 use napi_calls::{Busy, Caller, Control, Napi, Off, next_caller};
 use napi_model::{Kind, encode};
 use rx_ring::{RxIn, ring};
@@ -31,11 +30,11 @@ fn owners_tell(rt: &impl Abort, napi: &Napi, first: Caller, second: Caller) -> (
     ensures { IsSeatOf napi.now result.0.pass × IsSeatOf napi.now result.1.pass }
 {
     let mut owner = granted(rt, napi, first);
-    expect_eq(rt, (owner.number(), encode(owner.look(napi))), (0, 1));
+    assert_eq!(rt; (owner.number(), encode(owner.look(napi))), (0, 1));
     let first = handed(napi, owner, Kind::List);
     let mut polling = taken(rt, napi, second, Kind::List);
-    expect_eq(rt, (polling.number(), encode(polling.look(napi))), (1, 1));
-    expect_eq(rt, polling.counts().polls, 0);
+    assert_eq!(rt; (polling.number(), encode(polling.look(napi))), (1, 1));
+    assert_eq!(rt; polling.counts().polls, 0);
     (first, released(rt, napi, polling))
 }
 
@@ -45,7 +44,7 @@ fn busy_tells(rt: &impl Abort, napi: &Napi, caller: Caller) -> Caller
     ensures { IsSeatOf napi.now result.pass }
 {
     let mut busy = busied(rt, napi, caller);
-    expect_eq(rt, (busy.number(), encode(busy.look(napi))), (0, 65));
+    assert_eq!(rt; (busy.number(), encode(busy.look(napi))), (0, 65));
     released(rt, napi, stopped(rt, napi, busy))
 }
 
@@ -59,7 +58,7 @@ fn each_tells_its_number_and_the_word(rt: HostRuntime) -> Result<(), Fail> {
     let second = next_caller(&napi, &mut callers);
     let first = next_caller(&napi, &mut callers);
     callers.destroy_empty();
-    expect_eq(&rt, (first.number(), second.number()), (0, 1));
+    assert_eq!(rt; (first.number(), second.number()), (0, 1));
     let control = enabled(&rt, &napi, control, false);
     let (first, second) = owners_tell(&rt, &napi, first, second);
     let first = busy_tells(&rt, &napi, first);

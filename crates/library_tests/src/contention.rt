@@ -15,7 +15,6 @@ use crate::bed::{
     Bed, again, closed, disabled, enabled, granted, handed, looked, make_bed, missed, released,
     taken,
 };
-use expect::expect_eq;
 use napi_calls::{Between, Caller, Control, Napi, Off, On, TryDone, TryPrep, TryTake};
 use napi_model::Kind;
 use std::process::Abort;
@@ -139,7 +138,7 @@ fn schedule_loses_to_a_schedule(rt: HostRuntime) -> Result<(), Fail> {
     let second = released(&rt, &napi, poller);
     let control = disabled(&rt, &napi, control);
     let ctx = closed(&rt, rt.alloc(), napi, first, second, control);
-    expect_eq(&rt, ctx.counts().polls, 0);
+    assert_eq!(rt; ctx.counts().polls, 0);
     Ok(())
 }
 
@@ -198,7 +197,7 @@ fn complete_loses_to_a_schedule(rt: HostRuntime) -> Result<(), Fail> {
     let second = released(&rt, &napi, poller);
     let control = disabled(&rt, &napi, control);
     let ctx = closed(&rt, rt.alloc(), napi, first, second, control);
-    expect_eq(&rt, ctx.counts().polls, 0);
+    assert_eq!(rt; ctx.counts().polls, 0);
     Ok(())
 }
 

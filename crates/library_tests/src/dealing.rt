@@ -10,7 +10,6 @@ ghost use Rattle.napi_calls.specs.Packets.{Quiet};
 ghost use Rattle.napi_calls.specs.Dealt.{Delivers, IsDealt};
 
 use crate::bed::{Bed, closed, make_bed};
-use expect::expect_eq;
 use napi_calls::{Caller, Completed, Kept, Napi, Sched};
 use napi_model::Kind;
 use rx_ring::{Batch, Packet, RxIn, Totals, finish};
@@ -144,7 +143,7 @@ fn fill(rt: &impl Abort, input: &mut RxIn)
 {
     for number in 0u64..4 {
         let packet = Packet { number, bytes: 60 };
-        expect_eq(rt, input.put(packet), Ok(()));
+        assert_eq!(rt; input.put(packet), Ok(()));
     }
 }
 
@@ -177,7 +176,7 @@ fn filled(rt: &impl Abort, alloc: Global) -> Bed
 fn two_pollers_are_dealt_each_packet_once(rt: HostRuntime) -> Result<(), Fail> {
     let bed = filled(&rt, rt.alloc());
     let (one, two, totals) = deal(rt, rt.alloc(), bed);
-    expect_eq(&rt, (one.len(), two.len()), (2, 2));
-    expect_eq(&rt, (totals.put, totals.polled, totals.left), (4, 4, 0));
+    assert_eq!(rt; (one.len(), two.len()), (2, 2));
+    assert_eq!(rt; (totals.put, totals.polled, totals.left), (4, 4, 0));
     Ok(())
 }

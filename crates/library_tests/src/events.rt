@@ -11,7 +11,6 @@ use crate::bed::{
     Bed, again, closed, disabled, enabled, granted, handed, make_bed, missed, not_there, released,
     taken,
 };
-use expect::expect_eq;
 use napi_calls::{Caller, Control, Napi, Off, meet};
 use napi_model::Kind;
 use rx_ring::{Batch, RxCtx};
@@ -67,6 +66,6 @@ fn run_in_turns(rt: &impl Abort, alloc: Global) -> RxCtx
 #[test]
 fn two_callers_make_21_events(rt: HostRuntime) -> Result<(), Fail> {
     let ctx = run_in_turns(&rt, rt.alloc());
-    expect_eq(&rt, ctx.counts().polls, 1);
+    assert_eq!(rt; ctx.counts().polls, 1);
     Ok(())
 }

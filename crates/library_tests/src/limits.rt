@@ -1,7 +1,6 @@
 //! Worked runs, digit by digit.
 
 use dql_core::{Dql, DqlFault, LimitEvent};
-use expect::expect_eq;
 use std::process::Abort;
 use std::test::Fail;
 
@@ -12,16 +11,16 @@ fn wide_limit() -> Result<Dql, DqlFault> {
 fn grown_limit(rt: &impl Abort) -> Result<Dql, DqlFault> {
     let mut limit = wide_limit()?;
     limit.queued(1500)?;
-    expect_eq(rt, limit.avail(), -1500);
+    assert_eq!(rt; limit.avail(), -1500);
     limit.completed(1500, 6)?;
-    expect_eq(rt, (limit.limit(), limit.avail()), (1500, 1500));
+    assert_eq!(rt; (limit.limit(), limit.avail()), (1500, 1500));
     limit.queued(1500)?;
     limit.queued(1500)?;
-    expect_eq(rt, limit.avail(), -1500);
+    assert_eq!(rt; limit.avail(), -1500);
     limit.completed(1500, 6)?;
-    expect_eq(rt, (limit.limit(), limit.avail()), (1500, 0));
+    assert_eq!(rt; (limit.limit(), limit.avail()), (1500, 0));
     limit.completed(1500, 7)?;
-    expect_eq(rt, (limit.limit(), limit.avail()), (3000, 3000));
+    assert_eq!(rt; (limit.limit(), limit.avail()), (3000, 3000));
     Ok(limit)
 }
 
@@ -29,10 +28,9 @@ fn grown_limit(rt: &impl Abort) -> Result<Dql, DqlFault> {
 fn limit_grows(rt: HostRuntime) -> Result<(), Fail> {
     let mut limit = grown_limit(&rt)?;
     limit.reset(50);
-    expect_eq(
-        &rt,
+    assert_eq!(rt;
         (limit.limit(), limit.avail(), limit.in_flight()),
-        (0, 0, 0),
+        (0, 0, 0)
     );
     Ok(())
 }
@@ -44,11 +42,11 @@ fn slack_shrinks_the_limit(rt: HostRuntime) -> Result<(), Fail> {
         for _ in 0..3 {
             limit.queued(1000)?;
         }
-        expect_eq(&rt, limit.avail(), 0);
+        assert_eq!(rt; limit.avail(), 0);
         limit.completed(1000, 8)?;
-        expect_eq(&rt, (limit.limit(), limit.avail()), (3000, 1000));
+        assert_eq!(rt; (limit.limit(), limit.avail()), (3000, 1000));
         limit.queued(1000)?;
-        expect_eq(&rt, limit.avail(), 0);
+        assert_eq!(rt; limit.avail(), 0);
         limit.completed(1000, moment)?;
         assert_eq!(rt;
             (limit.limit(), limit.avail()),
@@ -67,48 +65,36 @@ fn totals_past_32_bits(rt: HostRuntime) -> Result<(), Fail> {
     ];
     let pairs = pair.repeat(rt.alloc(), 17)?;
     let mut limit = wide_limit()?;
-    expect_eq(&rt, limit.run(&pairs), 0);
-    expect_eq(
-        &rt,
-        (limit.limit(), limit.avail()),
-        (268_435_455, 268_435_455),
-    );
-    expect_eq(
-        &rt,
+    assert_eq!(rt; limit.run(&pairs), 0);
+    assert_eq!(rt; (limit.limit(), limit.avail()), (268_435_455, 268_435_455));
+    assert_eq!(rt;
         (limit.total_queued(), limit.total_completed()),
-        (268_435_439, 268_435_439),
+        (268_435_439, 268_435_439)
     );
-    expect_eq(&rt, limit.queued(268_435_456), Err(DqlFault::TooLarge));
+    assert_eq!(rt; limit.queued(268_435_456), Err(DqlFault::TooLarge));
     Ok(())
 }
 
 #[test]
 fn refusals(rt: HostRuntime) -> Result<(), Fail> {
-    expect_eq(
-        &rt,
-        Dql::new(5, 4, 1000, 0).err(),
-        Some(DqlFault::BadBounds),
-    );
+    assert_eq!(rt; Dql::new(5, 4, 1000, 0).err(), Some(DqlFault::BadBounds));
     let mut limit = wide_limit()?;
     for _ in 0..4 {
         limit.queued(268_435_455)?;
     }
     limit.queued(3)?;
-    expect_eq(
-        &rt,
+    assert_eq!(rt;
         (limit.in_flight(), limit.avail()),
-        (1_073_741_823, -1_073_741_823),
+        (1_073_741_823, -1_073_741_823)
     );
-    expect_eq(&rt, limit.queued(1), Err(DqlFault::TooMuchInFlight));
-    expect_eq(
-        &rt,
+    assert_eq!(rt; limit.queued(1), Err(DqlFault::TooMuchInFlight));
+    assert_eq!(rt;
         limit.completed(1_073_741_824, 0),
-        Err(DqlFault::MoreThanQueued),
+        Err(DqlFault::MoreThanQueued)
     );
-    expect_eq(
-        &rt,
+    assert_eq!(rt;
         (limit.in_flight(), limit.avail()),
-        (1_073_741_823, -1_073_741_823),
+        (1_073_741_823, -1_073_741_823)
     );
     Ok(())
 }
@@ -133,8 +119,8 @@ fn faults_have_numbers_and_texts(rt: HostRuntime) -> Result<(), Fail> {
             "more bytes are completed than were queued",
         ),
     ] {
-        expect_eq(&rt, fault.number(), number);
-        expect_eq(&rt, format!(in rt.alloc(); "{fault}")?.as_str(), text);
+        assert_eq!(rt; fault.number(), number);
+        assert_eq!(rt; format!(in rt.alloc(); "{fault}")?.as_str(), text);
     }
     Ok(())
 }

@@ -4,7 +4,6 @@ ghost use Rattle.std.specs.Prelude.{◌≡◌};
 ghost use Rattle.napi_model.specs.Serial.{controller_of};
 ghost use Rattle.library_tests.specs.declared.model.TheConstants.{CONTROLLER};
 
-use expect::expect_eq;
 use napi_model::{
     Call, Done, Event, Flags, Kind, Operation, Place, Prep, Seen, SerialNapi, State, decode,
     decode_known, encode, first_illegal, own, state_after,
@@ -161,7 +160,7 @@ fn two_callers_and_a_controller(rt: HostRuntime) -> Result<(), Fail> {
     ];
     let mut instance = Instance::new();
     let mut history = Vec::new(rt.alloc());
-    expect_eq(&rt, instance.word(), 9);
+    assert_eq!(rt; instance.word(), 9);
     for (i, &(caller, operation, word)) in events.iter().enumerate() {
         assert_eq!(rt;
             instance.perform(caller, call_of(operation)),
@@ -173,8 +172,8 @@ fn two_callers_and_a_controller(rt: HostRuntime) -> Result<(), Fail> {
         history.push(Event { caller, operation })?;
     }
     let opening = State::opening(CONTROLLER);
-    expect_eq(&rt, first_illegal(CONTROLLER, opening, &history), None);
-    expect_eq(&rt, state_after(opening, &history), opening);
+    assert_eq!(rt; first_illegal(CONTROLLER, opening, &history), None);
+    assert_eq!(rt; state_after(opening, &history), opening);
     for (caller, count) in [(0, 10), (1, 5), (2, 6), (3, 0)] {
         assert_eq!(rt;
             own(rt.alloc(), caller, &history)?.len(),
@@ -193,8 +192,8 @@ fn word_after(rt: &impl Abort, calls: &[(u32, Call)]) -> u64 {
     }
     let word = instance.word();
     let seen = instance.napi.look();
-    expect_eq(rt, decode(word), Some(seen));
-    expect_eq(rt, decode_known(encode(seen)), seen);
+    assert_eq!(rt; decode(word), Some(seen));
+    assert_eq!(rt; decode_known(encode(seen)), seen);
     word
 }
 
@@ -267,8 +266,8 @@ fn a_word_of_all_flags(rt: HostRuntime) {
         flags,
         handed: Some(Kind::List),
     };
-    expect_eq(&rt, encode(seen), 0x1_0000_034f);
-    expect_eq(&rt, decode(encode(seen)), Some(seen));
+    assert_eq!(rt; encode(seen), 0x1_0000_034f);
+    assert_eq!(rt; decode(encode(seen)), Some(seen));
 }
 
 #[test]
@@ -290,7 +289,7 @@ fn own_events_of_a_long_history(rt: HostRuntime) -> Result<(), Fail> {
     });
     let history = both.repeat(rt.alloc(), 5000)?;
     let events = own(rt.alloc(), 1, &history)?;
-    expect_eq(&rt, events.len(), 5000);
-    expect_eq(&rt, events.as_slice().first(), Some(&both[1]));
+    assert_eq!(rt; events.len(), 5000);
+    assert_eq!(rt; events.as_slice().first(), Some(&both[1]));
     Ok(())
 }

@@ -4,7 +4,6 @@ ghost use Rattle.std.specs.Prelude.{◌≡◌, ◌≤◌, ◌<◌, length, min, 
 ghost use Rattle.rx_ring.specs.ReceiveRing.{NAPI_POLL_WEIGHT, held_of};
 ghost use Rattle.rx_ring.specs.Ends.{IsOneRing, SameIn, SameCtx, capacity_of, ring_of};
 
-use expect::expect_eq;
 use rx_ring::{Batch, Packet, RingFault, RxCounts, RxCtx, RxIn, Totals, beside, finish, ring};
 use std::sync::Wait;
 use std::test::Fail;
@@ -42,35 +41,30 @@ fn receive_ring_of_two(rt: HostRuntime) -> Result<(), Fail> {
     let (mut input, mut ctx) = ring(rt.alloc(), 2)?;
     let mut batch = Batch::new();
     beside(&mut input, &mut ctx);
-    expect_eq(&rt, input.put(packet(1, 10)), Ok(()));
+    assert_eq!(rt; input.put(packet(1, 10)), Ok(()));
     beside(&mut input, &mut ctx);
-    expect_eq(&rt, input.put(packet(2, 20)), Ok(()));
+    assert_eq!(rt; input.put(packet(2, 20)), Ok(()));
     beside(&mut input, &mut ctx);
-    expect_eq(&rt, input.put(packet(3, 30)), Err(packet(3, 30)));
-    expect_eq(&rt, poll_beside(&mut input, &mut ctx, 64, &mut batch), 2);
-    expect_eq(
-        &rt,
-        batch.as_slice(),
-        [packet(1, 10), packet(2, 20)].as_slice(),
-    );
+    assert_eq!(rt; input.put(packet(3, 30)), Err(packet(3, 30)));
+    assert_eq!(rt; poll_beside(&mut input, &mut ctx, 64, &mut batch), 2);
+    assert_eq!(rt; batch.as_slice(), [packet(1, 10), packet(2, 20)].as_slice());
     let counts = RxCounts {
         polls: 1,
         packets: 2,
         bytes: 30,
     };
-    expect_eq(&rt, ctx.counts(), counts);
-    expect_eq(&rt, put_beside(&mut input, &mut ctx, packet(4, 40)), Ok(()));
+    assert_eq!(rt; ctx.counts(), counts);
+    assert_eq!(rt; put_beside(&mut input, &mut ctx, packet(4, 40)), Ok(()));
     let totals = Totals {
         put: 3,
         polled: 2,
         left: 1,
         bytes: 70,
     };
-    expect_eq(&rt, finish(input, ctx), totals);
-    expect_eq(
-        &rt,
+    assert_eq!(rt; finish(input, ctx), totals);
+    assert_eq!(rt;
         ring(rt.alloc(), 65_537).err(),
-        Some(RingFault::BadCapacity),
+        Some(RingFault::BadCapacity)
     );
     Ok(())
 }
@@ -84,10 +78,10 @@ fn memory_is_there_or_refused(rt: HostRuntime) -> Result<(), Fail> {
                 for k in 0..capacity {
                     assert!(rt; input.put(packet(k as u64, 1)).is_ok());
                 }
-                expect_eq(&rt, input.put(packet(0, 1)), Err(packet(0, 1)));
-                expect_eq(&rt, ctx.counts().polls, 0);
+                assert_eq!(rt; input.put(packet(0, 1)), Err(packet(0, 1)));
+                assert_eq!(rt; ctx.counts().polls, 0);
             }
-            Err(fault) => expect_eq(&rt, fault, RingFault::OutOfMemory),
+            Err(fault) => assert_eq!(rt; fault, RingFault::OutOfMemory),
         }
     }
     Ok(())
@@ -99,8 +93,8 @@ fn faults_have_numbers_and_texts(rt: HostRuntime) -> Result<(), Fail> {
         (RingFault::OutOfMemory, 1, "out of memory"),
         (RingFault::BadCapacity, 2, "the capacity is out of range"),
     ] {
-        expect_eq(&rt, fault.number(), number);
-        expect_eq(&rt, format!(in rt.alloc(); "{fault}")?.as_str(), text);
+        assert_eq!(rt; fault.number(), number);
+        assert_eq!(rt; format!(in rt.alloc(); "{fault}")?.as_str(), text);
     }
     Ok(())
 }
@@ -110,13 +104,13 @@ fn faults_have_numbers_and_texts(rt: HostRuntime) -> Result<(), Fail> {
 fn put_after_beside_waits_for_the_next_poll(rt: HostRuntime) -> Result<(), Fail> {
     let (mut input, mut ctx) = ring(rt.alloc(), 4)?;
     let mut batch = Batch::new();
-    expect_eq(&rt, input.put(packet(1, 10)), Ok(()));
+    assert_eq!(rt; input.put(packet(1, 10)), Ok(()));
     beside(&mut input, &mut ctx);
-    expect_eq(&rt, input.put(packet(2, 20)), Ok(()));
-    expect_eq(&rt, ctx.poll(64, &mut batch), 1);
-    expect_eq(&rt, ctx.poll(64, &mut batch), 1);
-    expect_eq(&rt, batch.as_slice(), [packet(2, 20)].as_slice());
-    expect_eq(&rt, ctx.poll(64, &mut batch), 0);
+    assert_eq!(rt; input.put(packet(2, 20)), Ok(()));
+    assert_eq!(rt; ctx.poll(64, &mut batch), 1);
+    assert_eq!(rt; ctx.poll(64, &mut batch), 1);
+    assert_eq!(rt; batch.as_slice(), [packet(2, 20)].as_slice());
+    assert_eq!(rt; ctx.poll(64, &mut batch), 0);
     assert!(rt; batch.is_empty());
     Ok(())
 }
@@ -128,10 +122,10 @@ fn a_poll_finds_what_was_put_after_a_million_packets(rt: HostRuntime) -> Result<
     let (mut input, mut ctx) = ring(rt.alloc(), 64)?;
     let mut batch = Batch::new();
     for number in 0..1_024_000 {
-        expect_eq(&rt, input.put(packet(number, u32::MAX)), Ok(()));
-        expect_eq(&rt, ctx.poll(64, &mut batch), 1);
+        assert_eq!(rt; input.put(packet(number, u32::MAX)), Ok(()));
+        assert_eq!(rt; ctx.poll(64, &mut batch), 1);
     }
-    expect_eq(&rt, ctx.counts().packets, 1_024_000);
+    assert_eq!(rt; ctx.counts().packets, 1_024_000);
     Ok(())
 }
 
@@ -141,17 +135,13 @@ fn context_given_away_overlooks_nothing(rt: HostRuntime) -> Result<(), Fail> {
     let (mut input, mut ctx) = ring(rt.alloc(), 4)?;
     let mut batch = Batch::new();
     beside(&mut input, &mut ctx);
-    expect_eq(&rt, input.put(packet(1, 10)), Ok(()));
+    assert_eq!(rt; input.put(packet(1, 10)), Ok(()));
     ctx.apart();
     let mut slot = Some(ctx);
-    expect_eq(&rt, input.put(packet(2, 20)), Ok(()));
+    assert_eq!(rt; input.put(packet(2, 20)), Ok(()));
     let mut ctx = slot.take().ok_or("the slot is empty")?;
-    expect_eq(&rt, ctx.poll(64, &mut batch), 2);
-    expect_eq(
-        &rt,
-        batch.as_slice(),
-        [packet(1, 10), packet(2, 20)].as_slice(),
-    );
+    assert_eq!(rt; ctx.poll(64, &mut batch), 2);
+    assert_eq!(rt; batch.as_slice(), [packet(1, 10), packet(2, 20)].as_slice());
     Ok(())
 }
 
@@ -208,13 +198,13 @@ fn two_threads_lose_nothing(rt: HostRuntime) -> Result<(), Fail> {
             ensures { SameCtx ctx result.0 }
         { poll_all(&rt, ctx) },
     );
-    expect_eq(&rt, in_turn, COUNT);
+    assert_eq!(rt; in_turn, COUNT);
     let totals = Totals {
         put: COUNT,
         polled: COUNT,
         left: 0,
         bytes: 300_000,
     };
-    expect_eq(&rt, finish(input, ctx), totals);
+    assert_eq!(rt; finish(input, ctx), totals);
     Ok(())
 }

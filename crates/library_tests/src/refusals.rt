@@ -3,7 +3,6 @@
 use crate::bed::{
     Bed, closed, disabled, enabled, granted, handed, make_bed, released, seat_two, taken,
 };
-use expect::expect_eq;
 use napi_calls::{CloseBack, CloseFault, Napi, NewBack, NewFault};
 use napi_model::Kind;
 use rx_ring::{Batch, Packet, RingFault, ring};
@@ -20,15 +19,15 @@ const PACKET: Packet = Packet {
 fn callers_out_of_range(rt: HostRuntime) -> Result<(), Fail> {
     for callers in [0, 1, 9, u32::MAX] {
         let (mut input, ctx) = ring(rt.alloc(), 4)?;
-        expect_eq(&rt, input.put(PACKET), Ok(()));
+        assert_eq!(rt; input.put(PACKET), Ok(()));
         let made = Napi::new(rt.alloc(), ctx, callers);
         let Err(NewBack { fault, mut ctx }) = made else {
             panic!(rt; "{callers} callers are taken")
         };
         assert_eq!(rt; fault, NewFault::BadCount, "{callers} callers");
         let mut batch = Batch::new();
-        expect_eq(&rt, ctx.poll(64, &mut batch), 1);
-        expect_eq(&rt, batch.as_slice(), [PACKET].as_slice());
+        assert_eq!(rt; ctx.poll(64, &mut batch), 1);
+        assert_eq!(rt; batch.as_slice(), [PACKET].as_slice());
     }
     Ok(())
 }
@@ -47,8 +46,8 @@ fn poll_packet(rt: &impl Abort, alloc: Global, bed: Bed) {
     let first = handed(&napi, owner, Kind::List);
     let mut poller = taken(rt, &napi, first, Kind::List);
     let mut batch = Batch::new();
-    expect_eq(rt, poller.poll(64, &mut batch), 1);
-    expect_eq(rt, batch.as_slice(), [PACKET].as_slice());
+    assert_eq!(rt; poller.poll(64, &mut batch), 1);
+    assert_eq!(rt; batch.as_slice(), [PACKET].as_slice());
     let first = released(rt, &napi, poller);
     let control = disabled(rt, &napi, control);
     let made = Vec::with_capacity(alloc, 2);
@@ -65,7 +64,7 @@ fn poll_packet(rt: &impl Abort, alloc: Global, bed: Bed) {
     let Ok(ctx) = answer else {
         panic!(rt; "callers are missing")
     };
-    expect_eq(rt, ctx.counts().packets, 1);
+    assert_eq!(rt; ctx.counts().packets, 1);
 }
 
 // With each allocation refused in turn (`rt try --test --fail-alloc N`) the answer is the fault with the same context, over
@@ -75,18 +74,18 @@ fn memory_is_there_or_refused(rt: HostRuntime) -> Result<(), Fail> {
     let (mut input, ctx) = match ring(rt.alloc(), 4) {
         Ok(ends) => ends,
         Err(fault) => {
-            expect_eq(&rt, fault, RingFault::OutOfMemory);
+            assert_eq!(rt; fault, RingFault::OutOfMemory);
             return Ok(());
         }
     };
-    expect_eq(&rt, input.put(PACKET), Ok(()));
+    assert_eq!(rt; input.put(PACKET), Ok(()));
     match Napi::new(rt.alloc(), ctx, 2) {
         Ok((napi, callers, control)) => {
             let bed = seat_two(&rt, input, napi, callers, control);
             poll_packet(&rt, rt.alloc(), bed);
         }
         Err(NewBack { fault, ctx }) => {
-            expect_eq(&rt, fault, NewFault::OutOfMemory);
+            assert_eq!(rt; fault, NewFault::OutOfMemory);
             let made = Napi::new(rt.alloc(), ctx, 2);
             let Ok((napi, callers, control)) = made else {
                 panic!(rt; "refused twice")
@@ -124,14 +123,14 @@ fn close_wants_all_callers(rt: HostRuntime) -> Result<(), Fail> {
     else {
         panic!(rt; "closed with one caller of two")
     };
-    expect_eq(&rt, fault, CloseFault::NotAll);
+    assert_eq!(rt; fault, CloseFault::NotAll);
     let popped = callers.pop();
     let Some(first) = popped else {
         panic!(rt; "no caller comes back")
     };
     callers.destroy_empty();
     let ctx = closed(&rt, rt.alloc(), napi, first, second, control);
-    expect_eq(&rt, ctx.counts().polls, 0);
+    assert_eq!(rt; ctx.counts().polls, 0);
     Ok(())
 }
 
@@ -145,15 +144,14 @@ fn faults_have_numbers_and_texts(rt: HostRuntime) -> Result<(), Fail> {
             "the count of callers is out of range",
         ),
     ] {
-        expect_eq(&rt, fault.number(), number);
-        expect_eq(&rt, format!(in rt.alloc(); "{fault}")?.as_str(), text);
+        assert_eq!(rt; fault.number(), number);
+        assert_eq!(rt; format!(in rt.alloc(); "{fault}")?.as_str(), text);
     }
     let fault = CloseFault::NotAll;
-    expect_eq(&rt, fault.number(), 1);
-    expect_eq(
-        &rt,
+    assert_eq!(rt; fault.number(), 1);
+    assert_eq!(rt;
         format!(in rt.alloc(); "{fault}")?.as_str(),
-        "callers are missing",
+        "callers are missing"
     );
     Ok(())
 }

@@ -7,7 +7,6 @@ ghost use Rattle.napi_model.specs.declared.state.Kind.TheVariants as kind;
 ghost use Rattle.library_tests.specs.Controller.{IsMarked, IsOff, IsOn, IsTaken};
 
 use crate::word::{Opened, end_of_three, table_of_two};
-use expect::expect_eq;
 use napi_model::{Done, Kind, Prep, Seen, encode};
 use napi_word::{Ended, Pass, StateTable};
 use rx_ring::{Batch, Packet, ring};
@@ -25,7 +24,7 @@ fn saw(rt: &impl Abort, table: &StateTable, pass: &mut Pass, word: u64) -> Seen
     ensures { SameTable pass.old pass.new }
 {
     let seen = table.look(pass);
-    expect_eq(rt, encode(seen), word);
+    assert_eq!(rt; encode(seen), word);
     seen
 }
 
@@ -92,7 +91,7 @@ fn releases(rt: &impl Abort, table: &StateTable, pass: &mut Pass, seen: Seen)
     ensures table { SameTable pass.old pass.new }
 {
     let done = table.complete_swap(pass, seen);
-    expect_eq(rt, done, Ok(Done::Released));
+    assert_eq!(rt; done, Ok(Done::Released));
 }
 
 // Busy polls: takes the idle instance, completes a poll, which is held, and stops.
@@ -181,8 +180,8 @@ fn is_polled(rt: &impl Abort, table: &StateTable, pass: &mut Pass, watch: &mut P
     takes(rt, table, pass);
     let seen = saw(rt, table, watch, 1);
     let mut batch = Batch::new();
-    expect_eq(rt, polls(table, pass, &mut batch), 1);
-    expect_eq(rt, batch.as_slice(), [PACKET].as_slice());
+    assert_eq!(rt; polls(table, pass, &mut batch), 1);
+    assert_eq!(rt; batch.as_slice(), [PACKET].as_slice());
     releases(rt, table, pass, seen);
     saw(rt, table, watch, 0);
 }
@@ -223,7 +222,7 @@ fn is_disabled(rt: &impl Abort, table: &StateTable, control: &mut Pass, watch: &
 #[test]
 fn each_step(rt: HostRuntime) -> Result<(), Fail> {
     let (mut input, ctx) = ring(rt.alloc(), 4)?;
-    expect_eq(&rt, input.put(PACKET), Ok(()));
+    assert_eq!(rt; input.put(PACKET), Ok(()));
     let Some(opened) = table_of_two(rt.alloc(), ctx) else {
         panic!(rt; "no memory")
     };
@@ -246,7 +245,7 @@ fn each_step(rt: HostRuntime) -> Result<(), Fail> {
     saw(&rt, &table, &mut watch, 256);
     table.threaded(&mut first, false);
     let (found, then) = table.meet(&mut first, &mut watch);
-    expect_eq(&rt, (encode(found), encode(then)), (0, 0));
+    assert_eq!(rt; (encode(found), encode(then)), (0, 0));
     is_disabled(&rt, &table, &mut control, &mut watch);
     let opened = Opened {
         table,
@@ -258,6 +257,6 @@ fn each_step(rt: HostRuntime) -> Result<(), Fail> {
     let Some(Ended { ctx: Some(ctx) }) = end_of_three(opened) else {
         panic!(rt; "no memory, or no context")
     };
-    expect_eq(&rt, ctx.counts().packets, 1);
+    assert_eq!(rt; ctx.counts().packets, 1);
     Ok(())
 }

@@ -5,7 +5,6 @@ ghost use Rattle.napi_model.specs.Step.{event};
 ghost use Rattle.napi_word.specs.View.{mine};
 ghost use Rattle.napi_word.specs.Passes.{view_of, IsNew};
 
-use expect::expect_eq;
 use napi_model::{Seen, encode};
 use napi_word::{Pass, StateTable};
 use rx_ring::{RxCtx, ring};
@@ -86,6 +85,6 @@ fn a_survey_is_a_look(rt: HostRuntime) -> Result<(), Fail> {
     let Some(surveyed) = survey(rt.alloc(), ctx) else {
         panic!(rt; "no memory")
     };
-    expect_eq(&rt, encode(surveyed.seen), 9);
+    assert_eq!(rt; encode(surveyed.seen), 9);
     Ok(())
 }

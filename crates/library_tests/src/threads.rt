@@ -6,7 +6,6 @@ ghost use Rattle.napi_calls.specs.Instance.{IsNewSeat, IsSeatOf, callers_of};
 ghost use Rattle.library_tests.specs.CallCounts.{Calls, HasCalled, HoldCalls, is_schedule, is_take};
 
 use crate::bed::enabled;
-use expect::expect_eq;
 use napi_calls::{Caller, Completed, Control, Kept, Napi, Off, On, Polling, Sched};
 use napi_model::Kind;
 use rx_ring::{Batch, Packet, RxCtx, RxIn, ring};
@@ -313,7 +312,7 @@ fn two_interrupts_and_a_poller(rt: HostRuntime) -> Result<(), Fail> {
     } = polled;
     let control = control.disable(&rt, &napi);
     let counts = control.counts();
-    expect_eq(&rt, counts.packets, in_turn);
+    assert_eq!(rt; counts.packets, in_turn);
     let callers = (first, second, poller);
     let mut ctx = closed(&rt, rt.alloc(), napi, callers, takes, control);
     let mut batch = Batch::new();
@@ -322,7 +321,7 @@ fn two_interrupts_and_a_poller(rt: HostRuntime) -> Result<(), Fail> {
         ctx.poll(64, &mut batch);
         next = counted(&batch, next);
     }
-    expect_eq(&rt, next, SCHEDULES);
-    expect_eq(&rt, ctx.counts().packets, SCHEDULES);
+    assert_eq!(rt; next, SCHEDULES);
+    assert_eq!(rt; ctx.counts().packets, SCHEDULES);
     Ok(())
 }

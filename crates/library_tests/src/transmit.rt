@@ -1,7 +1,6 @@
 //! Worked runs, digit by digit.
 
 use dql_core::Dql;
-use expect::expect_eq;
 use std::alloc::Global;
 use std::test::Fail;
 use tx_ring::{TxEvent, TxFault, TxRing, TxState};
@@ -32,20 +31,19 @@ const GROWN: [TxEvent; 6] = [
 #[test]
 fn ring_over_the_limit(rt: HostRuntime) -> Result<(), Fail> {
     let mut ring = new_ring(rt.alloc(), 8, 0)?;
-    expect_eq(&rt, ring.run(&GROWN), 0);
-    expect_eq(
-        &rt,
+    assert_eq!(rt; ring.run(&GROWN), 0);
+    assert_eq!(rt;
         ring.run(&[TxEvent::Send(1000), TxEvent::Send(100), TxEvent::Send(1900)]),
-        0,
+        0
     );
-    expect_eq(&rt, ring.state(), shown(7500, 4500, 3000, 0, false));
+    assert_eq!(rt; ring.state(), shown(7500, 4500, 3000, 0, false));
     ring.done(1, 8)?;
-    expect_eq(&rt, ring.state(), shown(7500, 5500, 3000, 1000, false));
+    assert_eq!(rt; ring.state(), shown(7500, 5500, 3000, 1000, false));
     ring.done(1, 1100)?;
-    expect_eq(&rt, ring.state(), shown(7500, 5600, 200, -1700, false));
+    assert_eq!(rt; ring.state(), shown(7500, 5600, 200, -1700, false));
     ring.send(1)?;
-    expect_eq(&rt, ring.state(), shown(7501, 5600, 200, -1701, true));
-    expect_eq(&rt, ring.send(1), Err(TxFault::Stopped));
+    assert_eq!(rt; ring.state(), shown(7501, 5600, 200, -1701, true));
+    assert_eq!(rt; ring.send(1), Err(TxFault::Stopped));
     Ok(())
 }
 
@@ -53,37 +51,35 @@ fn ring_over_the_limit(rt: HostRuntime) -> Result<(), Fail> {
 fn transmit_refusals(rt: HostRuntime) -> Result<(), Fail> {
     let mut ring = new_ring(rt.alloc(), 1, 1000)?;
     ring.send(10)?;
-    expect_eq(&rt, ring.state().avail, 990);
-    expect_eq(&rt, ring.send(10), Err(TxFault::Full));
-    expect_eq(&rt, ring.done(2, 5), Err(TxFault::MoreThanSent));
+    assert_eq!(rt; ring.state().avail, 990);
+    assert_eq!(rt; ring.send(10), Err(TxFault::Full));
+    assert_eq!(rt; ring.done(2, 5), Err(TxFault::MoreThanSent));
     ring.done(0, 5)?;
-    expect_eq(&rt, (ring.state().limit, ring.state().avail), (1000, 990));
+    assert_eq!(rt; (ring.state().limit, ring.state().avail), (1000, 990));
 
     let mut ring = new_ring(rt.alloc(), 1, 1000)?;
-    expect_eq(
-        &rt,
+    assert_eq!(rt;
         ring.run(&[TxEvent::Send(10), TxEvent::Send(10), TxEvent::Finish(2, 5)]),
-        2,
+        2
     );
 
     let mut ring = new_ring(rt.alloc(), 2, 1000)?;
     ring.send(10)?;
-    expect_eq(&rt, ring.send(268_435_456), Err(TxFault::TooLarge));
+    assert_eq!(rt; ring.send(268_435_456), Err(TxFault::TooLarge));
 
     let mut ring = new_ring(rt.alloc(), 8, 1_073_741_823)?;
     for _ in 0..4 {
         ring.send(268_435_455)?;
     }
     ring.send(3)?;
-    expect_eq(&rt, (ring.state().avail, ring.state().stopped), (0, false));
-    expect_eq(&rt, ring.send(1), Err(TxFault::TooMuchInFlight));
+    assert_eq!(rt; (ring.state().avail, ring.state().stopped), (0, false));
+    assert_eq!(rt; ring.send(1), Err(TxFault::TooMuchInFlight));
 
     for capacity in [0, 65_537] {
         let limit = Dql::new(1000, 1_879_048_192, 1000, 0)?;
-        expect_eq(
-            &rt,
+        assert_eq!(rt;
             TxRing::new(rt.alloc(), capacity, limit).err(),
-            Some(TxFault::BadCapacity),
+            Some(TxFault::BadCapacity)
         );
     }
     Ok(())
@@ -96,8 +92,8 @@ fn memory_is_there_or_refused(rt: HostRuntime) -> Result<(), Fail> {
     limit.queued(10)?;
     limit.reset(7);
     match TxRing::new(rt.alloc(), 65_536, limit) {
-        Ok(ring) => expect_eq(&rt, ring.state(), shown(0, 0, 1000, 1000, false)),
-        Err(fault) => expect_eq(&rt, fault, TxFault::OutOfMemory),
+        Ok(ring) => assert_eq!(rt; ring.state(), shown(0, 0, 1000, 1000, false)),
+        Err(fault) => assert_eq!(rt; fault, TxFault::OutOfMemory),
     }
     Ok(())
 }
@@ -108,11 +104,11 @@ fn packets_of_no_bytes(rt: HostRuntime) -> Result<(), Fail> {
     ring.send(0)?;
     ring.send(10)?;
     let stopped = shown(10, 0, 0, -10, true);
-    expect_eq(&rt, ring.state(), stopped);
+    assert_eq!(rt; ring.state(), stopped);
     ring.done(1, 5)?;
-    expect_eq(&rt, ring.state(), stopped);
+    assert_eq!(rt; ring.state(), stopped);
     ring.done(1, 6)?;
-    expect_eq(&rt, ring.state(), shown(10, 10, 10, 10, false));
+    assert_eq!(rt; ring.state(), shown(10, 10, 10, 10, false));
     Ok(())
 }
 
@@ -135,8 +131,8 @@ fn faults_have_numbers_and_texts(rt: HostRuntime) -> Result<(), Fail> {
         (TxFault::BadCapacity, 6, "the capacity is out of range"),
         (TxFault::OutOfMemory, 7, "out of memory"),
     ] {
-        expect_eq(&rt, fault.number(), number);
-        expect_eq(&rt, format!(in rt.alloc(); "{fault}")?.as_str(), text);
+        assert_eq!(rt; fault.number(), number);
+        assert_eq!(rt; format!(in rt.alloc(); "{fault}")?.as_str(), text);
     }
     Ok(())
 }

@@ -12,7 +12,6 @@ use crate::bed::{
     Bed, again, closed, disabled, enabled, granted, handed, looked, make_bed, missed, not_there,
     released, requeued, taken,
 };
-use expect::expect_eq;
 use napi_calls::{Caller, Control, Napi, Off, meet};
 use napi_model::Kind;
 use rx_ring::{Batch, Packet};
@@ -47,7 +46,7 @@ fn take_turns(
     looked(rt, napi, &mut first, 0);
     meet(napi, &mut first, &mut second);
     let owner = granted(rt, napi, first);
-    expect_eq(rt, owner.number(), 0);
+    assert_eq!(rt; owner.number(), 0);
     let mut first = handed(napi, owner, Kind::List);
     looked(rt, napi, &mut first, 4294967297);
     let poller = taken(rt, napi, second, Kind::List);
@@ -60,8 +59,8 @@ fn take_turns(
     let mut second = handed(napi, owner, Kind::List);
     looked(rt, napi, &mut second, 4294967297);
     let mut poller = taken(rt, napi, first, Kind::List);
-    expect_eq(rt, poller.number(), 0);
-    expect_eq(rt, poller.poll(64, &mut Batch::new()), 0);
+    assert_eq!(rt; poller.number(), 0);
+    assert_eq!(rt; poller.poll(64, &mut Batch::new()), 0);
     let mut first = released(rt, napi, poller);
     looked(rt, napi, &mut first, 0);
     let control = disabled(rt, napi, control);
@@ -78,11 +77,11 @@ fn two_callers(rt: HostRuntime) -> Result<(), Fail> {
         second,
         control,
     } = make_bed(&rt, rt.alloc());
-    expect_eq(&rt, (first.number(), second.number()), (0, 1));
+    assert_eq!(rt; (first.number(), second.number()), (0, 1));
     let (first, second, control) = take_turns(&rt, &napi, first, second, control);
-    expect_eq(&rt, control.counts().polls, 1);
+    assert_eq!(rt; control.counts().polls, 1);
     let ctx = closed(&rt, rt.alloc(), napi, first, second, control);
-    expect_eq(&rt, ctx.counts().polls, 1);
+    assert_eq!(rt; ctx.counts().polls, 1);
     Ok(())
 }
 
@@ -98,7 +97,7 @@ fn no_packet_is_thrown_away(rt: HostRuntime) -> Result<(), Fail> {
     } = make_bed(&rt, rt.alloc());
     for number in 0u64..4 {
         let packet = Packet { number, bytes: 60 };
-        expect_eq(&rt, input.put(packet), Ok(()));
+        assert_eq!(rt; input.put(packet), Ok(()));
     }
     let control = enabled(&rt, &napi, control, false);
     let owner = granted(&rt, &napi, first);
@@ -106,28 +105,23 @@ fn no_packet_is_thrown_away(rt: HostRuntime) -> Result<(), Fail> {
     let mut batch = Batch::new();
     for number in 0u64..3 {
         let mut poller = taken(&rt, &napi, caller, Kind::List);
-        expect_eq(&rt, poller.poll(1, &mut batch), 1);
-        expect_eq(
-            &rt,
-            batch.as_slice(),
-            [Packet { number, bytes: 60 }].as_slice(),
-        );
+        assert_eq!(rt; poller.poll(1, &mut batch), 1);
+        assert_eq!(rt; batch.as_slice(), [Packet { number, bytes: 60 }].as_slice());
         caller = requeued(&napi, poller);
     }
     let poller = taken(&rt, &napi, caller, Kind::List);
     let first = released(&rt, &napi, poller);
     let control = disabled(&rt, &napi, control);
-    expect_eq(&rt, control.counts().packets, 3);
+    assert_eq!(rt; control.counts().packets, 3);
     let mut ctx = closed(&rt, rt.alloc(), napi, first, second, control);
-    expect_eq(&rt, ctx.poll(64, &mut batch), 1);
-    expect_eq(
-        &rt,
+    assert_eq!(rt; ctx.poll(64, &mut batch), 1);
+    assert_eq!(rt;
         batch.as_slice(),
         [Packet {
             number: 3,
-            bytes: 60,
+            bytes: 60
         }]
-        .as_slice(),
+        .as_slice()
     );
     Ok(())
 }
@@ -152,15 +146,15 @@ fn what_is_put_behind_a_meeting_is_polled(rt: HostRuntime) -> Result<(), Fail> {
         number: 7,
         bytes: 60,
     };
-    expect_eq(&rt, input.put(packet), Ok(()));
+    assert_eq!(rt; input.put(packet), Ok(()));
     let mut poller = taken(&rt, &napi, second, Kind::List);
     let mut batch = Batch::new();
-    expect_eq(&rt, poller.poll(64, &mut batch), 1);
-    expect_eq(&rt, batch.as_slice(), [packet].as_slice());
+    assert_eq!(rt; poller.poll(64, &mut batch), 1);
+    assert_eq!(rt; batch.as_slice(), [packet].as_slice());
     let second = released(&rt, &napi, poller);
     let control = disabled(&rt, &napi, control);
     let ctx = closed(&rt, rt.alloc(), napi, first, second, control);
-    expect_eq(&rt, ctx.counts().packets, 1);
+    assert_eq!(rt; ctx.counts().packets, 1);
     Ok(())
 }
 
@@ -216,6 +210,6 @@ fn what_the_thread_has_isnt_on_the_list(rt: HostRuntime) -> Result<(), Fail> {
     let (first, second) = hand_to_the_thread(&rt, &napi, first, second);
     let control = disabled(&rt, &napi, control);
     let ctx = closed(&rt, rt.alloc(), napi, first, second, control);
-    expect_eq(&rt, ctx.counts().polls, 0);
+    assert_eq!(rt; ctx.counts().polls, 0);
     Ok(())
 }

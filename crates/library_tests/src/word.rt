@@ -11,7 +11,6 @@ ghost use Rattle.napi_word.specs.Passes.{view_of, IsPassOf, SameTable, IsNew, co
 ghost use Rattle.napi_word.specs.Ends.{IsEnded};
 ghost use Rattle.napi_word.specs.Runs.{HasOwnLists};
 
-use expect::expect_eq;
 use napi_model::{Prep, Seen, decode, encode};
 use napi_word::{Ended, Pass, StateTable, TableBack};
 use rx_ring::{Batch, Packet, RxCtx, ring};
@@ -168,13 +167,13 @@ fn memory_is_there_or_refused(rt: HostRuntime) -> Result<(), Fail> {
         number: 1,
         bytes: 60,
     };
-    expect_eq(&rt, input.put(packet), Ok(()));
+    assert_eq!(rt; input.put(packet), Ok(()));
     match StateTable::new(rt.alloc(), ctx, 9) {
-        Ok((_table, passes)) => expect_eq(&rt, passes.len(), 9),
+        Ok((_table, passes)) => assert_eq!(rt; passes.len(), 9),
         Err(TableBack { mut ctx }) => {
             let mut batch = Batch::new();
-            expect_eq(&rt, ctx.poll(64, &mut batch), 1);
-            expect_eq(&rt, batch.as_slice(), [packet].as_slice());
+            assert_eq!(rt; ctx.poll(64, &mut batch), 1);
+            assert_eq!(rt; batch.as_slice(), [packet].as_slice());
         }
     }
     Ok(())
@@ -188,7 +187,7 @@ fn there_is_memory_for_every_number_of_passes(rt: HostRuntime) -> Result<(), Fai
         let Ok((_table, passes)) = made else {
             panic!(rt; "no memory for {seats} passes")
         };
-        expect_eq(&rt, passes.len(), seats as usize);
+        assert_eq!(rt; passes.len(), seats as usize);
     }
     Ok(())
 }
@@ -199,9 +198,9 @@ fn a_lost_exchange_is_a_look(rt: HostRuntime) -> Result<(), Fail> {
     let Some(lost) = lost_exchange(rt.alloc(), ctx) else {
         panic!(rt; "no memory, or another word")
     };
-    expect_eq(&rt, encode(lost.idle), 0);
-    expect_eq(&rt, encode(lost.found), 1);
-    expect_eq(&rt, encode(lost.last), 3);
+    assert_eq!(rt; encode(lost.idle), 0);
+    assert_eq!(rt; encode(lost.found), 1);
+    assert_eq!(rt; encode(lost.last), 3);
     assert!(rt; lost.ended.ctx.is_some());
     Ok(())
 }
@@ -279,9 +278,9 @@ fn one_of_all_schedules_is_granted(rt: HostRuntime) -> Result<(), Fail> {
             ensures { IsPassOf table result.pass }
         { schedule_often(&table, second, 1000) },
     );
-    expect_eq(&rt, first.granted.checked_add(second.granted), Some(1));
-    expect_eq(&rt, (first.steps, second.steps), (2000, 2000));
-    expect_eq(&rt, encode(table.look(&mut control)), 3);
+    assert_eq!(rt; first.granted.checked_add(second.granted), Some(1));
+    assert_eq!(rt; (first.steps, second.steps), (2000, 2000));
+    assert_eq!(rt; encode(table.look(&mut control)), 3);
     let opened = Opened {
         table,
         first: first.pass,

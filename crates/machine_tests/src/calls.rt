@@ -1,6 +1,5 @@
 //! The words, arrivals one by one, a machine by its calls, and a run without arrivals.
 
-use expect::expect_eq;
 use machine::{
     Arrival, Arrivals, Machine, MachineFault, Settings, fault_line, parse_words, run_machine,
     status, word_line,
@@ -16,14 +15,13 @@ fn a_machine_runs(rt: HostRuntime) -> Result<(), Fail> {
     machine.arrive(rt.alloc(), 5, 1)?;
     machine.finish();
     let device = machine.device(1).ok_or("no packet")?;
-    expect_eq(&rt, (device.counts.arrived, device.counts.polled), (1, 1));
-    expect_eq(&rt, (device.waits.count, device.waits.most), (1, 6000));
+    assert_eq!(rt; (device.counts.arrived, device.counts.polled), (1, 1));
+    assert_eq!(rt; (device.waits.count, device.waits.most), (1, 6000));
     assert!(rt; machine.device(2).is_none());
     let processor = machine.processor(0);
-    expect_eq(
-        &rt,
+    assert_eq!(rt;
         (processor.counts.runs, processor.waits.most, processor.end),
-        (1, 8000, 8005),
+        (1, 8000, 8005)
     );
     Ok(())
 }
@@ -46,17 +44,15 @@ fn arrivals_are_read(rt: HostRuntime) -> Result<(), Fail> {
         })
     );
     let fault = arrivals.next().err().ok_or("taken")?;
-    expect_eq(
-        &rt,
+    assert_eq!(rt;
         (fault, fault.number()),
-        (MachineFault::Falls { row: 3 }, 8),
+        (MachineFault::Falls { row: 3 }, 8)
     );
-    expect_eq(
-        &rt,
+    assert_eq!(rt;
         fault_line(rt.alloc(), &fault)?.as_str(),
-        "arrivals fault 8 Falls row 3\n",
+        "arrivals fault 8 Falls row 3\n"
     );
-    expect_eq(&rt, status(&fault), 2);
+    assert_eq!(rt; status(&fault), 2);
     Ok(())
 }
 
@@ -64,10 +60,10 @@ fn arrivals_are_read(rt: HostRuntime) -> Result<(), Fail> {
 fn a_whole_run_is_written(rt: HostRuntime) -> Result<(), Fail> {
     let socket = String::from_str(rt.alloc(), "--socket=1")?;
     let settings = parse_words(rt.alloc(), &[socket])?;
-    expect_eq(&rt, settings.socket, 1);
+    assert_eq!(rt; settings.socket, 1);
     let help = String::from_str(rt.alloc(), "--help")?;
     let fault = parse_words(rt.alloc(), &[help]).err().ok_or("taken")?;
-    expect_eq(&rt, word_line(&fault), "usage fault 64\n");
+    assert_eq!(rt; word_line(&fault), "usage fault 64\n");
     let mut report = Vec::new(rt.alloc());
     run_machine(
         rt.alloc(),

@@ -1,7 +1,6 @@
 //! Whole runs, and each fault of arrivals.
 
 use crate::ends::{FailingReader, FailingWriter};
-use expect::expect_eq;
 use machine::{MachineFault, Settings, fault_line, parse_words, run_machine, status};
 use std::alloc::Global;
 use std::test::Fail;
@@ -40,7 +39,7 @@ fn reads_fail_in_turn(rt: HostRuntime) -> Result<(), Fail> {
             assert!(rt; report.is_empty());
         } else {
             assert_eq!(rt; answer, Ok(()), "after {before} reads");
-            expect_eq(&rt, report.as_slice(), REPORT.as_bytes());
+            assert_eq!(rt; report.as_slice(), REPORT.as_bytes());
         }
     }
     Ok(())
@@ -61,7 +60,7 @@ fn writes_fail_in_turn(rt: HostRuntime) -> Result<(), Fail> {
             );
         } else {
             assert_eq!(rt; answer, Ok(()), "after {before} writes");
-            expect_eq(&rt, writer.taken.as_slice(), REPORT.as_bytes());
+            assert_eq!(rt; writer.taken.as_slice(), REPORT.as_bytes());
         }
     }
     Ok(())
@@ -106,8 +105,8 @@ fn faults_are_told(rt: HostRuntime) -> Result<(), Fail> {
             &Settings::default(),
         );
         let fault = answer.err().ok_or("taken")?;
-        expect_eq(&rt, fault_line(rt.alloc(), &fault)?.as_str(), line);
-        expect_eq(&rt, status(&fault), 2);
+        assert_eq!(rt; fault_line(rt.alloc(), &fault)?.as_str(), line);
+        assert_eq!(rt; status(&fault), 2);
         assert!(rt; report.is_empty());
     }
     Ok(())
@@ -133,8 +132,8 @@ fn other_faults_are_told(rt: HostRuntime) -> Result<(), Fail> {
         ),
     ];
     for (fault, line, ends) in cases {
-        expect_eq(&rt, fault_line(rt.alloc(), &fault)?.as_str(), line);
-        expect_eq(&rt, status(&fault), ends);
+        assert_eq!(rt; fault_line(rt.alloc(), &fault)?.as_str(), line);
+        assert_eq!(rt; status(&fault), ends);
     }
     Ok(())
 }

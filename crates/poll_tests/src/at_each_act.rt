@@ -1,7 +1,6 @@
 //! Gates that are asked at each act, and a gate that must not be asked.
 
 use crate::threads::{settings_of, text_of};
-use expect::expect_eq;
 use poll_engine::Gate;
 use replay::{ReplayFault, Settings, replay_threads};
 use std::alloc::Global;
@@ -70,14 +69,13 @@ fn devices_meet_at_each_of_50_acts(rt: HostRuntime) -> Result<(), Fail> {
             &settings,
             &gate,
         )?;
-        expect_eq(&rt, polled.len(), 2);
-        expect_eq(
-            &rt,
+        assert_eq!(rt; polled.len(), 2);
+        assert_eq!(rt;
             report.as_slice(),
-            b"device 1 arrived 50 bytes 5000\ndevice 2 arrived 50 bytes 5000\ntotal devices 2\n".as_slice(),
+            b"device 1 arrived 50 bytes 5000\ndevice 2 arrived 50 bytes 5000\ntotal devices 2\n".as_slice()
         );
         for came in &gate.came {
-            expect_eq(&rt, came.load(Ordering::SeqCst), (1u64 << ACTS) - 1);
+            assert_eq!(rt; came.load(Ordering::SeqCst), (1u64 << ACTS) - 1);
         }
     }
     Ok(())

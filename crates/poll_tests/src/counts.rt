@@ -5,7 +5,6 @@ ghost use Rattle.std.specs.List.{All};
 ghost use Rattle.poll_engine.specs.Opens.{IsStation};
 ghost use Rattle.poll_engine.specs.Numbers.{have_distinct_numbers};
 
-use expect::expect_eq;
 use napi_calls::Napi;
 use poll_engine::{
     ActList, OpenGate, PollList, SoftList, Station, have_distinct_numbers, run_workers, shared_list,
@@ -30,7 +29,7 @@ fn instances_of_each_count(rt: HostRuntime) -> Result<(), Fail> {
         let Ok((napi, seats, control)) = made else {
             panic!(rt; "{callers} callers are refused")
         };
-        expect_eq(&rt, seats.len(), callers as usize);
+        assert_eq!(rt; seats.len(), callers as usize);
         let closed = napi_calls::close(napi, seats, control);
         let Ok(_ctx) = closed else {
             panic!(rt; "one of {callers} callers is missing")
@@ -44,13 +43,13 @@ fn instances_of_each_count(rt: HostRuntime) -> Result<(), Fail> {
 fn lists_of_each_count(rt: HostRuntime) -> Result<(), Fail> {
     for pushers in 1..65u32 {
         let (mut list, mut ins) = shared_list(&rt, rt.alloc(), pushers)?;
-        expect_eq(&rt, ins.len(), pushers as usize);
+        assert_eq!(rt; ins.len(), pushers as usize);
         for k in 0..ins.len() {
             ins[k].push(5);
         }
         let mut soft = SoftList::new();
         list.splice(&mut soft);
-        expect_eq(&rt, soft.ids().len(), pushers as usize);
+        assert_eq!(rt; soft.ids().len(), pushers as usize);
     }
     Ok(())
 }
@@ -65,7 +64,7 @@ fn rings_of_odd_capacities(rt: HostRuntime) -> Result<(), Fail> {
         for _ in 0..capacity {
             assert!(rt; input.put(PACKET).is_ok());
         }
-        expect_eq(&rt, input.put(PACKET), Err(PACKET));
+        assert_eq!(rt; input.put(PACKET), Err(PACKET));
     }
     Ok(())
 }
@@ -108,13 +107,9 @@ fn run_idle<R: Threads + Wait + Sync>(
 #[test]
 fn runs_of_each_count(rt: HostRuntime) -> Result<(), Fail> {
     for count in 1..17u32 {
-        expect_eq(&rt, run_idle(&rt, rt.alloc(), count, 1)?, count as usize);
+        assert_eq!(rt; run_idle(&rt, rt.alloc(), count, 1)?, count as usize);
         let pollers = 1 + count % 8;
-        expect_eq(
-            &rt,
-            run_idle(&rt, rt.alloc(), count, pollers)?,
-            count as usize,
-        );
+        assert_eq!(rt; run_idle(&rt, rt.alloc(), count, pollers)?, count as usize);
     }
     Ok(())
 }

@@ -5,7 +5,6 @@ ghost use Rattle.std.specs.List.{All};
 ghost use Rattle.poll_engine.specs.Opens.{IsStation};
 ghost use Rattle.poll_engine.specs.Numbers.{have_distinct_numbers, numbers_of};
 
-use expect::expect_eq;
 use poll_engine::{
     Act, ActList, Device, Finished, Gate, OpenGate, Station, WorkFault, have_distinct_numbers,
     run_workers,
@@ -227,9 +226,9 @@ fn run_twice_500<R: Threads + Wait + Sync>(
 fn add_totals(rt: &impl Abort, done: &[Finished<ActList>], packets: u64) {
     for finished in done {
         let totals = finished.totals;
-        expect_eq(rt, totals.put, packets);
-        expect_eq(rt, totals.polled.saturating_add(totals.left), packets);
-        expect_eq(rt, totals.bytes, packets.saturating_mul(100));
+        assert_eq!(rt; totals.put, packets);
+        assert_eq!(rt; totals.polled.saturating_add(totals.left), packets);
+        assert_eq!(rt; totals.bytes, packets.saturating_mul(100));
     }
 }
 
@@ -237,7 +236,7 @@ fn add_totals(rt: &impl Abort, done: &[Finished<ActList>], packets: u64) {
 fn nothing_is_run_without_stations(rt: HostRuntime) -> Result<(), Fail> {
     let none: Vec<Station<ActList>> = Vec::new(rt.alloc());
     let done = run(&rt, rt.alloc(), none, 8, &OpenGate)?;
-    expect_eq(&rt, done.len(), 0);
+    assert_eq!(rt; done.len(), 0);
     Ok(())
 }
 
@@ -259,10 +258,10 @@ fn what_was_put_is_polled(rt: HostRuntime) -> Result<(), Fail> {
     for thread in [false, true] {
         let stations = two(rt.alloc(), 63, thread)?;
         let done = run(&rt, rt.alloc(), stations, 1, &OpenGate)?;
-        expect_eq(&rt, done.len(), 2);
+        assert_eq!(rt; done.len(), 2);
         for finished in done {
             let totals = finished.totals;
-            expect_eq(&rt, (totals.put, totals.polled, totals.left), (63, 63, 0));
+            assert_eq!(rt; (totals.put, totals.polled, totals.left), (63, 63, 0));
         }
     }
     Ok(())
@@ -315,8 +314,8 @@ fn faults_are_told(rt: HostRuntime) -> Result<(), Fail> {
         (WorkFault::GateShut, 2, "work fault 2 GateShut"),
         (WorkFault::SpawnFailed, 3, "work fault 3 SpawnFailed"),
     ] {
-        expect_eq(&rt, fault.number(), number);
-        expect_eq(&rt, format!(in rt.alloc(); "{fault}")?.as_str(), text);
+        assert_eq!(rt; fault.number(), number);
+        assert_eq!(rt; format!(in rt.alloc(); "{fault}")?.as_str(), text);
     }
     Ok(())
 }
@@ -332,10 +331,10 @@ fn a_disable_waits_for_a_poller_at_the_gate(rt: HostRuntime) -> Result<(), Fail>
         let stations = with(Vec::new(rt.alloc()), 1, 4, thread, acts)?;
         let gate = HoldsPoller::new(poller, 1, 2);
         let done = run(&rt, rt.alloc(), stations, 1, &gate)?;
-        expect_eq(&rt, done.len(), 1);
+        assert_eq!(rt; done.len(), 1);
         for finished in done {
             let totals = finished.totals;
-            expect_eq(&rt, (totals.put, totals.polled, totals.left), (1, 1, 0));
+            assert_eq!(rt; (totals.put, totals.polled, totals.left), (1, 1, 0));
         }
     }
     Ok(())

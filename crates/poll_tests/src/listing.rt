@@ -3,7 +3,6 @@
 ghost use Rattle.std.specs.Prelude.{◌≡◌, [], ◌∷◌, IfOk};
 ghost use Rattle.poll_engine.specs.SharedLists.{IsInOf, IsNewList, in_hand, pushed_by};
 
-use expect::expect_eq;
 use poll_engine::{ListFault, ListIn, PollList, SharedList, SoftList, end_list, shared_list};
 use std::alloc::Global;
 use std::sync::Wait;
@@ -56,7 +55,7 @@ fn a_poller_never_waits_for_itself(rt: HostRuntime) -> Result<(), Fail> {
     }
     list.push(64);
     assert!(rt; spliced(&mut list).ids().iter().copied().eq(0..64u32));
-    expect_eq(&rt, spliced(&mut list).ids(), [64].as_slice());
+    assert_eq!(rt; spliced(&mut list).ids(), [64].as_slice());
     assert!(rt; spliced(&mut list).is_empty());
     Ok(())
 }
@@ -69,9 +68,9 @@ fn memory_is_there_or_refused(rt: HostRuntime) -> Result<(), Fail> {
             for k in 0..ins.len() {
                 ins[k].push(5);
             }
-            expect_eq(&rt, spliced(&mut list).ids(), [5, 5, 5].as_slice());
+            assert_eq!(rt; spliced(&mut list).ids(), [5, 5, 5].as_slice());
         }
-        Err(fault) => expect_eq(&rt, fault, ListFault::OutOfMemory),
+        Err(fault) => assert_eq!(rt; fault, ListFault::OutOfMemory),
     }
     Ok(())
 }
@@ -87,8 +86,8 @@ fn faults_have_numbers_and_texts(rt: HostRuntime) -> Result<(), Fail> {
         (ListFault::OutOfMemory, 2, "out of memory"),
         (ListFault::NotAll, 3, "ends of the list are missing"),
     ] {
-        expect_eq(&rt, fault.number(), number);
-        expect_eq(&rt, format!(in rt.alloc(); "{fault}")?.as_str(), text);
+        assert_eq!(rt; fault.number(), number);
+        assert_eq!(rt; format!(in rt.alloc(); "{fault}")?.as_str(), text);
     }
     Ok(())
 }
@@ -96,14 +95,14 @@ fn faults_have_numbers_and_texts(rt: HostRuntime) -> Result<(), Fail> {
 #[test]
 fn put_back_keeps_what_came_between(rt: HostRuntime) -> Result<(), Fail> {
     let none = shared_list(&rt, rt.alloc(), 0).err();
-    expect_eq(&rt, none, Some(ListFault::BadSize));
+    assert_eq!(rt; none, Some(ListFault::BadSize));
     let (mut list, mut first, _second) = two_ended(&rt, rt.alloc())?;
     first.push(3);
     first.push(5);
-    expect_eq(&rt, spliced(&mut list).ids(), [3, 5].as_slice());
+    assert_eq!(rt; spliced(&mut list).ids(), [3, 5].as_slice());
     first.push(9);
     list.put_back(&only(7), &only(3));
-    expect_eq(&rt, spliced(&mut list).ids(), [7, 9, 3].as_slice());
+    assert_eq!(rt; spliced(&mut list).ids(), [7, 9, 3].as_slice());
     assert!(rt; spliced(&mut list).is_empty());
     Ok(())
 }
@@ -115,16 +114,16 @@ fn ends_with_what_is_left(rt: HostRuntime) -> Result<(), Fail> {
     second.push(4);
     first.push(5);
     let mut soft = SoftList::new();
-    expect_eq(&rt, list.splice(&mut soft), 3);
-    expect_eq(&rt, soft.ids(), [3, 4, 5].as_slice());
+    assert_eq!(rt; list.splice(&mut soft), 3);
+    assert_eq!(rt; soft.ids(), [3, 4, 5].as_slice());
     second.push(6);
     let Err(mut back) = end_list(list, vec![in rt.alloc(); first]?) else {
         panic!(rt; "ended with one of two ends");
     };
-    expect_eq(&rt, back.fault, ListFault::NotAll);
+    assert_eq!(rt; back.fault, ListFault::NotAll);
     back.ins.push(second).ok().ok_or("no memory")?;
     let left = end_list(back.list, back.ins).ok().ok_or("not all")?;
-    expect_eq(&rt, left.ids(), [6].as_slice());
+    assert_eq!(rt; left.ids(), [6].as_slice());
     Ok(())
 }
 
@@ -152,10 +151,10 @@ fn two_threads_push_each_number_once(rt: HostRuntime) -> Result<(), Fail> {
         let soft = spliced(&mut list);
         for id in soft.ids() {
             if *id < 100_000 {
-                expect_eq(&rt, *id, low);
+                assert_eq!(rt; *id, low);
                 low = low.saturating_add(1);
             } else {
-                expect_eq(&rt, *id, high);
+                assert_eq!(rt; *id, high);
                 high = high.saturating_add(1);
             }
         }
@@ -201,6 +200,6 @@ fn a_poller_in_its_own_thread(rt: HostRuntime) -> Result<(), Fail> {
     for id in 0..1_000u32 {
         first.push(id);
     }
-    expect_eq(&rt, poller.join(&rt), 1_000);
+    assert_eq!(rt; poller.join(&rt), 1_000);
     Ok(())
 }

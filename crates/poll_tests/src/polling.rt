@@ -6,7 +6,6 @@ ghost use Rattle.rx_ring.specs.Ends.{IsOneRing, ring_name};
 ghost use Rattle.napi_calls.specs.declared.types.Caller.{Caller};
 ghost use Rattle.napi_calls.specs.Instance.{IsSeatOf, ring_of_instance};
 
-use expect::expect_eq;
 use napi_calls::{Caller, Control, Napi, Off, Sched, TryTake};
 use napi_model::{Kind, encode};
 use poll_engine::{
@@ -65,7 +64,7 @@ fn make_bed(rt: &impl Abort, alloc: Global, bytes: &[u32]) -> Bed
             number: number as u64,
             bytes: *bytes,
         };
-        expect_eq(rt, input.put(packet), Ok(()));
+        assert_eq!(rt; input.put(packet), Ok(()));
     }
     let made = Napi::new(alloc, ctx, 2);
     let Ok((napi, mut callers, control)) = made else {
@@ -145,20 +144,20 @@ fn an_instance_on_the_list_that_is_being_disabled(rt: HostRuntime) -> Result<(),
     let control = control.enable(&rt, &napi, false);
     let mut first = handed(&rt, &napi, first, Kind::List);
     let control = control.mark(&napi);
-    expect_eq(&rt, word(&napi, &mut first), 4294967301);
+    assert_eq!(rt; word(&napi, &mut first), 4294967301);
     let mut batch = Batch::new();
     let (mut second, polled) = poll_instance(&rt, &napi, second, 2, true, &mut batch);
-    expect_eq(&rt, polled, once(2, Next::Gone));
-    expect_eq(&rt, batch.as_slice(), [packet(0), packet(1)].as_slice());
-    expect_eq(&rt, word(&napi, &mut second), 4);
+    assert_eq!(rt; polled, once(2, Next::Gone));
+    assert_eq!(rt; batch.as_slice(), [packet(0), packet(1)].as_slice());
+    assert_eq!(rt; word(&napi, &mut second), 4);
     let answer = control.try_take(&napi);
     let TryTake::Taken(control) = answer else {
         panic!(rt; "not disabled")
     };
-    expect_eq(&rt, word(&napi, &mut second), 9);
+    assert_eq!(rt; word(&napi, &mut second), 9);
     let ctx = closed(&rt, rt.alloc(), napi, first, second, control);
     let totals = finish(input, ctx);
-    expect_eq(&rt, (totals.put, totals.polled, totals.left), (3, 2, 1));
+    assert_eq!(rt; (totals.put, totals.polled, totals.left), (3, 2, 1));
     Ok(())
 }
 
@@ -176,16 +175,15 @@ fn play_by_thread<R: Abort + Wait>(rt: &R, alloc: Global, most: u32, want: Threa
     let control = control.enable(rt, &napi, true);
     let mut batch = Batch::new();
     let (second, report) = poll_instance_by_thread(rt, &napi, second, 2, most, &mut batch);
-    expect_eq(
-        rt,
+    assert_eq!(rt;
         (report.polls, report.work, report.next),
-        (0, 0, Next::Absent),
+        (0, 0, Next::Absent)
     );
     let first = handed(rt, &napi, first, Kind::Thread);
     let (second, report) = poll_instance_by_thread(rt, &napi, second, 2, most, &mut batch);
-    expect_eq(rt, report, want);
+    assert_eq!(rt; report, want);
     let (second, polled) = poll_instance(rt, &napi, second, 2, true, &mut batch);
-    expect_eq(rt, polled, left);
+    assert_eq!(rt; polled, left);
     let control = control.disable(rt, &napi);
     let _ = closed(rt, alloc, napi, first, second, control);
 }
@@ -218,8 +216,8 @@ fn busy_polling_gives_the_next_packets_and_hands_over(rt: HostRuntime) -> Result
     } = make_bed(&rt, rt.alloc(), &[1, 2, 4, 8, 16, 32]);
     let mut batch = Batch::new();
     let (first, refused) = busy_instance(&rt, &napi, first, 2, 2, &mut batch);
-    expect_eq(&rt, refused, BusyReport::NONE);
-    expect_eq(&rt, batch.len(), 0);
+    assert_eq!(rt; refused, BusyReport::NONE);
+    assert_eq!(rt; batch.len(), 0);
     let control = control.enable(&rt, &napi, false);
     let (mut first, report) = busy_instance(&rt, &napi, first, 2, 2, &mut batch);
     let want = BusyReport {
@@ -229,7 +227,7 @@ fn busy_polling_gives_the_next_packets_and_hands_over(rt: HostRuntime) -> Result
         bytes: 63,
         next: Next::Repoll,
     };
-    expect_eq(&rt, report, want);
+    assert_eq!(rt; report, want);
     let last = [
         Packet {
             number: 4,
@@ -240,12 +238,12 @@ fn busy_polling_gives_the_next_packets_and_hands_over(rt: HostRuntime) -> Result
             bytes: 32,
         },
     ];
-    expect_eq(&rt, batch.as_slice(), last.as_slice());
-    expect_eq(&rt, word(&napi, &mut first), 4294967297);
+    assert_eq!(rt; batch.as_slice(), last.as_slice());
+    assert_eq!(rt; word(&napi, &mut first), 4294967297);
     let (second, polled) = poll_instance(&rt, &napi, second, 2, true, &mut batch);
-    expect_eq(&rt, polled, once(0, Next::Gone));
+    assert_eq!(rt; polled, once(0, Next::Gone));
     let (second, idle) = busy_instance(&rt, &napi, second, 2, 64, &mut batch);
-    expect_eq(&rt, (idle.polls, idle.held, idle.next), (3, 2, Next::Gone));
+    assert_eq!(rt; (idle.polls, idle.held, idle.next), (3, 2, Next::Gone));
     let control = control.disable(&rt, &napi);
     let _ = closed(&rt, rt.alloc(), napi, first, second, control);
     Ok(())

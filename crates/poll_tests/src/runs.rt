@@ -1,6 +1,5 @@
 //! Runs over a bench, by each kind of list; and the acts of a list of them.
 
-use expect::expect_eq;
 use poll_engine::{
     Act, ActList, Bench, Device, Next, Once, PlainList, PollList, RunReport, SoftList, run_softirq,
     shared_list,
@@ -37,10 +36,10 @@ impl Bench for Cards {
 #[test]
 fn a_list_gives_its_first(rt: HostRuntime) {
     let mut list = SoftList::new();
-    expect_eq(&rt, list.push(3), Ok(()));
-    expect_eq(&rt, list.push(5), Ok(()));
-    expect_eq(&rt, list.ids(), [3, 5].as_slice());
-    expect_eq(&rt, list.pop_front(), Some(3));
+    assert_eq!(rt; list.push(3), Ok(()));
+    assert_eq!(rt; list.push(5), Ok(()));
+    assert_eq!(rt; list.ids(), [3, 5].as_slice());
+    assert_eq!(rt; list.pop_front(), Some(3));
 }
 
 #[test]
@@ -54,16 +53,16 @@ fn a_run_over_a_list_of_one_thread(rt: HostRuntime) {
         work: 64,
         squeezed: false,
     };
-    expect_eq(&rt, report, wanted);
+    assert_eq!(rt; report, wanted);
     let mut taken = SoftList::new();
-    expect_eq(&rt, list.splice(&mut taken), 1);
-    expect_eq(&rt, taken.ids(), [3].as_slice());
+    assert_eq!(rt; list.splice(&mut taken), 1);
+    assert_eq!(rt; taken.ids(), [3].as_slice());
     list.put_back(&taken, &SoftList::new());
     let once = Once {
         work: 1,
         next: Next::Gone,
     };
-    expect_eq(&rt, bench.poll_once(3, 64), once);
+    assert_eq!(rt; bench.poll_once(3, 64), once);
 }
 
 #[test]
@@ -74,15 +73,11 @@ fn a_run_over_a_list_that_threads_share(rt: HostRuntime) -> Result<(), Fail> {
     }
     list.push(6);
     let mut taken = SoftList::new();
-    expect_eq(&rt, list.splice(&mut taken), 2);
-    expect_eq(&rt, taken.ids(), [5, 6].as_slice());
+    assert_eq!(rt; list.splice(&mut taken), 2);
+    assert_eq!(rt; taken.ids(), [5, 6].as_slice());
     list.put_back(&taken, &SoftList::new());
     let mut bench = Cards { packets: 1 };
-    expect_eq(
-        &rt,
-        run_softirq(&mut list, &mut bench, 300, 64, 1024).polls,
-        2,
-    );
+    assert_eq!(rt; run_softirq(&mut list, &mut bench, 300, 64, 1024).polls, 2);
     Ok(())
 }
 
@@ -101,9 +96,9 @@ fn a_device_tells_its_acts(rt: HostRuntime) -> Result<(), Fail> {
         Act::Nothing,
     ];
     let mut device = ActList::new(Vec::from_array(rt.alloc(), acts)?);
-    expect_eq(&rt, device.acts(), 5);
+    assert_eq!(rt; device.acts(), 5);
     if 0 < device.acts() {
-        expect_eq(&rt, device.act(0), ARRIVAL);
+        assert_eq!(rt; device.act(0), ARRIVAL);
     }
     Ok(())
 }

@@ -7,7 +7,6 @@ ghost use Rattle.poll_engine.specs.Numbers.{numbers_of};
 
 use crate::gates::{ShutAt, run};
 use crate::pacing::{LONG, comes};
-use expect::expect_eq;
 use poll_engine::{Act, Device, Gate, OpenGate, Station, WorkFault};
 use std::alloc::{AllocError, Global};
 use std::sync::atomic::{AtomicU32, Ordering};
@@ -85,7 +84,7 @@ fn no_act_is_made_behind_a_shut_gate(rt: HostRuntime) -> Result<(), Fail> {
         let gate = ShutAt { worker: 1, act };
         let done = run(&rt, rt.alloc(), stations, 2, &gate);
         assert!(rt; matches!(done, Err(WorkFault::GateShut)));
-        expect_eq(&rt, made[0].load(Ordering::SeqCst), act);
+        assert_eq!(rt; made[0].load(Ordering::SeqCst), act);
         assert!(rt; made[1].load(Ordering::SeqCst) <= ACTS);
     }
     Ok(())
@@ -120,7 +119,7 @@ fn a_shut_gate_stops_the_others(rt: HostRuntime) -> Result<(), Fail> {
     };
     let done = run(&rt, rt.alloc(), stations, 2, &gate);
     assert!(rt; matches!(done, Err(WorkFault::GateShut)));
-    expect_eq(&rt, made[0].load(Ordering::SeqCst), 0);
+    assert_eq!(rt; made[0].load(Ordering::SeqCst), 0);
     assert!(rt; made[1].load(Ordering::SeqCst) <= 1);
     Ok(())
 }
@@ -162,7 +161,7 @@ fn a_gate_shut_for_a_poller_stops_the_workers(rt: HostRuntime) -> Result<(), Fai
         };
         let done = run(&rt, rt.alloc(), stations, 2, &gate);
         assert!(rt; matches!(done, Err(WorkFault::GateShut)));
-        expect_eq(&rt, made[0].load(Ordering::SeqCst), HALF + 1);
+        assert_eq!(rt; made[0].load(Ordering::SeqCst), HALF + 1);
     }
     Ok(())
 }
@@ -173,9 +172,9 @@ fn each_act_is_made_once(rt: HostRuntime) -> Result<(), Fail> {
     let made = [AtomicU32::new(0), AtomicU32::new(0)];
     let stations = two(rt.alloc(), &made[0], &made[1])?;
     let done = run(&rt, rt.alloc(), stations, 2, &OpenGate)?;
-    expect_eq(&rt, done.len(), 2);
+    assert_eq!(rt; done.len(), 2);
     for made in &made {
-        expect_eq(&rt, made.load(Ordering::SeqCst), ACTS);
+        assert_eq!(rt; made.load(Ordering::SeqCst), ACTS);
     }
     Ok(())
 }

@@ -1,6 +1,5 @@
 //! Replays with threads: what is polled, and what a gate that is shut gives.
 
-use expect::expect_eq;
 use poll_engine::{Gate, OpenGate};
 use replay::{Polled, ReplayFault, Settings, replay_threads};
 use std::alloc::{AllocError, Global};
@@ -129,7 +128,7 @@ fn packets_are_polled(rt: HostRuntime) -> Result<(), Fail> {
     for pollers in [1, 2, 8] {
         let settings = settings_of(pollers, 300, 64, 1024)?;
         let (report, polled) = run_case(&rt, rt.alloc(), &SIXTY_THREE, &settings)?;
-        expect_eq(&rt, report.as_slice(), SIXTY_THREE.report.as_bytes());
+        assert_eq!(rt; report.as_slice(), SIXTY_THREE.report.as_bytes());
         assert!(rt;
             polled
                 .iter()
@@ -164,7 +163,7 @@ fn a_shut_gate_ends_the_run(rt: HostRuntime) -> Result<(), Fail> {
         &settings,
         &ShutGate,
     );
-    expect_eq(&rt, answer.err(), Some(ReplayFault::GateShut));
+    assert_eq!(rt; answer.err(), Some(ReplayFault::GateShut));
     assert!(rt; report.is_empty());
     Ok(())
 }

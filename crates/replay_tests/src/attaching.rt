@@ -2,7 +2,6 @@
 
 use crate::sides::told_of;
 use device_model::{ReplayBench, SerialBench, SharedBench};
-use expect::expect_eq;
 use std::alloc::{AllocError, Global};
 use std::test::Fail;
 
@@ -20,8 +19,8 @@ fn attached_again(rt: HostRuntime) -> Result<(), Fail> {
     }
     assert!(rt; bench.is_attached(2));
     let _ = bench.attach(rt.alloc(), 1, 4, 0);
-    expect_eq(&rt, told_of(&bench, 1), before);
-    expect_eq(&rt, bench.attached(), 2);
+    assert_eq!(rt; told_of(&bench, 1), before);
+    assert_eq!(rt; bench.attached(), 2);
     Ok(())
 }
 
@@ -37,11 +36,11 @@ fn attach_each<B: ReplayBench>(alloc: Global, bench: &mut B) -> Result<(), Alloc
 fn benches_of_sixteen_devices(rt: HostRuntime) -> Result<(), Fail> {
     let mut serial = SerialBench::new(rt.alloc())?;
     attach_each(rt.alloc(), &mut serial)?;
-    expect_eq(&rt, serial.attached(), 16);
+    assert_eq!(rt; serial.attached(), 16);
     let mut shared = SharedBench::new(&rt, rt.alloc())?;
-    expect_eq(&rt, attach_each(rt.alloc(), &mut shared), Ok(()));
-    expect_eq(&rt, shared.attached(), 16);
+    assert_eq!(rt; attach_each(rt.alloc(), &mut shared), Ok(()));
+    assert_eq!(rt; shared.attached(), 16);
     let ends = shared.end();
-    expect_eq(&rt, ends.iter().flatten().count(), 16);
+    assert_eq!(rt; ends.iter().flatten().count(), 16);
     Ok(())
 }

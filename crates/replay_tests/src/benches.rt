@@ -1,7 +1,6 @@
 //! A bench of one thread: what is counted of a device, and each call of a row.
 
 use device_model::{DeviceCounts, DeviceState, ReplayBench, SerialBench, TxCounts};
-use expect::expect_eq;
 use napi_model::Kind;
 use poll_engine::{Bench, BusyReport, DirectBench, Next, ThreadReport};
 use std::test::Fail;
@@ -45,7 +44,7 @@ fn a_device_is_counted(rt: HostRuntime) -> Result<(), Fail> {
         tx,
     };
     assert!(rt; bench.is_attached(1));
-    expect_eq(&rt, bench.counts(1), counts);
+    assert_eq!(rt; bench.counts(1), counts);
     Ok(())
 }
 
@@ -53,11 +52,11 @@ fn a_device_is_counted(rt: HostRuntime) -> Result<(), Fail> {
 fn rows_play_on_a_bench(rt: HostRuntime) -> Result<(), Fail> {
     let mut bench = SerialBench::new(rt.alloc())?;
     bench.attach(rt.alloc(), 1, 4, 0)?;
-    expect_eq(&rt, bench.arrive(1, 100), Some(Kind::List));
+    assert_eq!(rt; bench.arrive(1, 100), Some(Kind::List));
     bench.send(1, 1500);
     bench.done(1, 1, 6);
     let once = bench.poll_once(1, 64);
-    expect_eq(&rt, (once.work, once.next), (1, Next::Gone));
+    assert_eq!(rt; (once.work, once.next), (1, Next::Gone));
     bench.disable(1);
     bench.settle();
     assert!(rt; bench.enable(1));
@@ -67,7 +66,7 @@ fn rows_play_on_a_bench(rt: HostRuntime) -> Result<(), Fail> {
         work: 0,
         next: Next::Absent,
     };
-    expect_eq(&rt, bench.poll_thread(1, 64, 1024), by_thread);
+    assert_eq!(rt; bench.poll_thread(1, 64, 1024), by_thread);
     let busily = BusyReport {
         polls: 3,
         work: 0,
@@ -75,6 +74,6 @@ fn rows_play_on_a_bench(rt: HostRuntime) -> Result<(), Fail> {
         bytes: 0,
         next: Next::Gone,
     };
-    expect_eq(&rt, bench.busy_poll(1, 64, 2), busily);
+    assert_eq!(rt; bench.busy_poll(1, 64, 2), busily);
     Ok(())
 }

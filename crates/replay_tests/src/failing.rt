@@ -4,7 +4,6 @@ use crate::ends::{
     FailingReader, FailingWriter, ONE_PACKET, ONE_PACKET_REPORT, ONE_PACKET_THREADS,
 };
 use device_model::TraceFault;
-use expect::expect_eq;
 use poll_engine::OpenGate;
 use replay::{
     Mode, ReplayFault, Settings, fault_line, replay_serial, replay_shared, replay_threads, status,
@@ -65,7 +64,7 @@ fn failing_reads(rt: HostRuntime) {
                 assert!(rt; report.is_empty());
             } else {
                 assert_eq!(rt; answer, Ok(()), "after {before} reads");
-                expect_eq(&rt, report.as_slice(), wanted.as_bytes());
+                assert_eq!(rt; report.as_slice(), wanted.as_bytes());
             }
         }
     }
@@ -93,7 +92,7 @@ fn failing_writes(rt: HostRuntime) {
                 );
             } else {
                 assert_eq!(rt; answer, Ok(()), "after {before} writes");
-                expect_eq(&rt, writer.taken.as_slice(), wanted.as_bytes());
+                assert_eq!(rt; writer.taken.as_slice(), wanted.as_bytes());
             }
         }
     }
@@ -113,10 +112,9 @@ fn faulty_traces(rt: HostRuntime) {
             &mut writer,
             &Settings::default(),
         );
-        expect_eq(
-            &rt,
+        assert_eq!(rt;
             answer,
-            Err(ReplayFault::Trace(TraceFault::WrongState { row: 2 })),
+            Err(ReplayFault::Trace(TraceFault::WrongState { row: 2 }))
         );
     }
 }
@@ -127,8 +125,8 @@ fn failing_errors(rt: HostRuntime) {
     let fault = ProgramFault::Replay(ReplayFault::Trace(TraceFault::BadHeader));
     let mut errors = FailingWriter::new(rt.alloc(), 3);
     let ending = end_by(rt.alloc(), &fault, &mut errors);
-    expect_eq(&rt, (ending.status, ending.told), (2, false));
-    expect_eq(&rt, errors.taken.as_slice(), b"tra".as_slice());
+    assert_eq!(rt; (ending.status, ending.told), (2, false));
+    assert_eq!(rt; errors.taken.as_slice(), b"tra".as_slice());
 }
 
 const LINES: [(ReplayFault, &str, u8); 5] = [
@@ -154,7 +152,7 @@ const LINES: [(ReplayFault, &str, u8); 5] = [
 #[test]
 fn fault_lines(rt: HostRuntime) -> Result<(), Fail> {
     for (fault, line, number) in LINES {
-        expect_eq(&rt, fault_line(rt.alloc(), &fault)?.as_str(), line);
+        assert_eq!(rt; fault_line(rt.alloc(), &fault)?.as_str(), line);
         assert_eq!(rt; status(&fault), number, "of {line:?}");
     }
     Ok(())

@@ -3,7 +3,6 @@
 use crate::ends::LongReader;
 use crate::failing::{MODES, replay_in};
 use device_model::{TraceFault, read_trace};
-use expect::expect_eq;
 use replay::{ReplayFault, Settings};
 use std::test::Fail;
 
@@ -21,7 +20,7 @@ fn endless_input(rt: HostRuntime) {
         given: &mut given,
     };
     let answer = read_trace(rt.alloc(), reader);
-    expect_eq(&rt, answer.err(), Some(TraceFault::TooManyRows));
+    assert_eq!(rt; answer.err(), Some(TraceFault::TooManyRows));
     let most = 26 + 11 * 100_001;
     assert!(rt; most <= given && given <= most + 16_384, "{given} bytes");
 }
@@ -46,9 +45,9 @@ fn long_blank(rt: HostRuntime) -> Result<(), Fail> {
             &mut text,
             &Settings::default(),
         );
-        expect_eq(&rt, answer, Ok(()));
-        expect_eq(&rt, text.as_slice(), report.as_bytes());
-        expect_eq(&rt, given, LONG);
+        assert_eq!(rt; answer, Ok(()));
+        assert_eq!(rt; text.as_slice(), report.as_bytes());
+        assert_eq!(rt; given, LONG);
     }
     Ok(())
 }
@@ -90,7 +89,7 @@ fn long_fields(rt: HostRuntime) {
                 &mut text,
                 &Settings::default(),
             );
-            expect_eq(&rt, answer, Err(ReplayFault::Trace(fault)));
+            assert_eq!(rt; answer, Err(ReplayFault::Trace(fault)));
             assert!(rt; text.is_empty());
         }
     }

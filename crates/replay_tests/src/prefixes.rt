@@ -4,7 +4,6 @@ use crate::ends::HEADER;
 use crate::failing::{MODES, replay_in};
 use crate::worked::{ONE, joined};
 use device_model::TraceFault;
-use expect::expect_eq;
 use replay::{Mode, ReplayFault, Settings};
 use std::alloc::{AllocError, Global};
 use std::process::Abort;
@@ -220,7 +219,7 @@ fn byte_255(rt: HostRuntime) {
             &Settings::default(),
         );
         let fault = TraceFault::BadEvent { row: 2 };
-        expect_eq(&rt, answer, Err(ReplayFault::Trace(fault)));
+        assert_eq!(rt; answer, Err(ReplayFault::Trace(fault)));
         assert!(rt; report.is_empty());
     }
 }

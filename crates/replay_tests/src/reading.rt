@@ -2,7 +2,6 @@
 
 use crate::ends::HEADER;
 use device_model::{Event, Row, Trace, TraceFault, read_trace};
-use expect::expect_eq;
 use std::alloc::Global;
 use std::test::Fail;
 
@@ -50,7 +49,7 @@ fn every_event(rt: HostRuntime) -> Result<(), Fail> {
 9,1,threaded,0
 ";
     let trace = read_rows(rt.alloc(), text)?;
-    expect_eq(&rt, trace.rows(), every_row().as_slice());
+    assert_eq!(rt; trace.rows(), every_row().as_slice());
     Ok(())
 }
 
@@ -110,10 +109,10 @@ fn quotes_and_bytes(rt: HostRuntime) {
     }
     let bytes = b"moment,device,event,value\n0,1,\xff,4\n";
     let answer = read_trace(rt.alloc(), bytes.as_slice());
-    expect_eq(&rt, answer.err(), Some(TraceFault::BadEvent { row: 1 }));
+    assert_eq!(rt; answer.err(), Some(TraceFault::BadEvent { row: 1 }));
     let bytes = b"moment,device,event,value\n0,1,open,\xff\n";
     let answer = read_trace(rt.alloc(), bytes.as_slice());
-    expect_eq(&rt, answer.err(), Some(TraceFault::BadNumber { row: 1 }));
+    assert_eq!(rt; answer.err(), Some(TraceFault::BadNumber { row: 1 }));
 }
 
 const NO_HEADERS: [&str; 10] = [
@@ -157,9 +156,9 @@ fn busy_rows() -> [Row; 3] {
 fn busy_rows_of_version_2(rt: HostRuntime) -> Result<(), Fail> {
     let text = "moment,device,event,value,2\n0,1,open,4\n1,1,busy,2\n1,1,busy,65535\n";
     let trace = read_trace(rt.alloc(), text.as_bytes())?;
-    expect_eq(&rt, trace.rows(), busy_rows().as_slice());
-    expect_eq(&rt, trace.version(), 2);
-    expect_eq(&rt, read_rows(rt.alloc(), "")?.version(), 1);
+    assert_eq!(rt; trace.rows(), busy_rows().as_slice());
+    assert_eq!(rt; trace.version(), 2);
+    assert_eq!(rt; read_rows(rt.alloc(), "")?.version(), 1);
     Ok(())
 }
 
@@ -188,7 +187,7 @@ fn memory_is_there_or_refused(rt: HostRuntime) {
         rt.alloc(),
         b"moment,device,event,value\n0,1,open,4\n1,1,rx,100\n".as_slice(),
     ) {
-        Ok(trace) => expect_eq(&rt, trace.rows().len(), 2),
-        Err(fault) => expect_eq(&rt, fault, TraceFault::OutOfMemory),
+        Ok(trace) => assert_eq!(rt; trace.rows().len(), 2),
+        Err(fault) => assert_eq!(rt; fault, TraceFault::OutOfMemory),
     }
 }

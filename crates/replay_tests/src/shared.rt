@@ -4,7 +4,6 @@ use crate::ends::HEADER;
 use crate::sides::told_of;
 use crate::worked::joined;
 use device_model::{ReplayBench, SharedBench, TraceFault};
-use expect::expect_eq;
 use napi_model::Kind;
 use poll_engine::{Bench, DirectBench, Next};
 use replay::{ReplayFault, Settings, replay_serial, replay_shared};
@@ -144,35 +143,34 @@ fn shared_as_serial_behind_each_row(rt: HostRuntime) -> Result<(), Fail> {
 fn packets_at_the_end(rt: HostRuntime) -> Result<(), Fail> {
     let mut bench = SharedBench::new(&rt, rt.alloc())?;
     for device in [2, 3, 5, 7, 16] {
-        expect_eq(&rt, bench.attach(rt.alloc(), device, 4, 0), Ok(()));
+        assert_eq!(rt; bench.attach(rt.alloc(), device, 4, 0), Ok(()));
     }
-    expect_eq(&rt, bench.attached(), 5);
+    assert_eq!(rt; bench.attached(), 5);
     // Repolled, and so handed to the list again.
-    expect_eq(&rt, bench.arrive(2, 100), Some(Kind::List));
-    expect_eq(&rt, bench.arrive(2, 60), None);
+    assert_eq!(rt; bench.arrive(2, 100), Some(Kind::List));
+    assert_eq!(rt; bench.arrive(2, 60), None);
     let once = bench.poll_once(2, 1);
-    expect_eq(&rt, (once.work, once.next), (1, Next::Repoll));
+    assert_eq!(rt; (once.work, once.next), (1, Next::Repoll));
     // Handed to its thread.
     bench.set_threaded(3, true);
-    expect_eq(&rt, bench.arrive(3, 7), Some(Kind::Thread));
+    assert_eq!(rt; bench.arrive(3, 7), Some(Kind::Thread));
     // Handed to the list, with a disable that is pending.
-    expect_eq(&rt, bench.arrive(5, 8), Some(Kind::List));
+    assert_eq!(rt; bench.arrive(5, 8), Some(Kind::List));
     bench.disable(5);
     // Off.
     bench.disable(16);
     bench.disable(7);
     bench.settle();
-    expect_eq(&rt, bench.arrive(16, 9), None);
+    assert_eq!(rt; bench.arrive(16, 9), None);
     // Enabled with packets, busy polled, and not polled to the end.
     for bytes in [10, 20, 30] {
-        expect_eq(&rt, bench.arrive(7, bytes), None);
+        assert_eq!(rt; bench.arrive(7, bytes), None);
     }
     assert!(rt; bench.enable(7));
     let report = bench.busy_poll(7, 1, 1);
-    expect_eq(
-        &rt,
+    assert_eq!(rt;
         (report.polls, report.work, report.next),
-        (2, 2, Next::Repoll),
+        (2, 2, Next::Repoll)
     );
     for number in 0..18 {
         let wanted = match number {
@@ -211,18 +209,18 @@ fn packets_at_the_end(rt: HostRuntime) -> Result<(), Fail> {
 #[test]
 fn another_device_stays(rt: HostRuntime) -> Result<(), Fail> {
     let mut bench = SharedBench::new(&rt, rt.alloc())?;
-    expect_eq(&rt, bench.attach(rt.alloc(), 1, 4, 0), Ok(()));
+    assert_eq!(rt; bench.attach(rt.alloc(), 1, 4, 0), Ok(()));
     bench.arrive(1, 100);
     bench.send(1, 1500);
     assert!(rt; bench.uses_transmit(1));
     let before = told_of(&bench, 1);
     // A device that is there stays as it is.
-    expect_eq(&rt, bench.attach(rt.alloc(), 1, 8, 5), Ok(()));
-    expect_eq(&rt, bench.attach(rt.alloc(), 3, 65536, 5), Ok(()));
-    expect_eq(&rt, told_of(&bench, 1), before);
-    expect_eq(&rt, bench.attached(), 2);
+    assert_eq!(rt; bench.attach(rt.alloc(), 1, 8, 5), Ok(()));
+    assert_eq!(rt; bench.attach(rt.alloc(), 3, 65536, 5), Ok(()));
+    assert_eq!(rt; told_of(&bench, 1), before);
+    assert_eq!(rt; bench.attached(), 2);
     let ends = bench.end();
-    expect_eq(&rt, ends[2], None);
+    assert_eq!(rt; ends[2], None);
     Ok(())
 }
 
@@ -237,6 +235,6 @@ fn fault_in_mid_trace(rt: HostRuntime) {
     if answer == Err(ReplayFault::Trace(TraceFault::OutOfMemory)) {
         answer = replay_shared(&rt, rt.alloc(), text.as_bytes(), &mut report, &settings);
     }
-    expect_eq(&rt, answer, Err(ReplayFault::Pending { row: 4 }));
+    assert_eq!(rt; answer, Err(ReplayFault::Pending { row: 4 }));
     assert!(rt; report.is_empty());
 }

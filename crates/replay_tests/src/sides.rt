@@ -1,7 +1,6 @@
 //! What is told of a device, and of its transmit side.
 
 use device_model::{DeviceCounts, ReplayBench, ScriptDevice, SerialBench, opening_of, read_trace};
-use expect::expect_eq;
 use poll_engine::{Act, Device};
 use std::test::Fail;
 
@@ -24,10 +23,9 @@ fn used_without_a_packet(rt: HostRuntime) -> Result<(), Fail> {
     assert!(rt; bench.uses_transmit(1));
     assert!(rt; bench.is_attached(1));
     let counts = bench.counts(1).tx;
-    expect_eq(
-        &rt,
+    assert_eq!(rt;
         (counts.sent, counts.held, counts.done, counts.denied),
-        (0, 0, 0, 0),
+        (0, 0, 0, 0)
     );
     for device in [0, 2, 16, 17] {
         assert!(rt; !bench.uses_transmit(device), "of device {device}");
@@ -55,19 +53,18 @@ fn scripted(rt: HostRuntime) -> Result<(), Fail> {
     assert_eq!(rt; device.acts(), 4);
     assert!(rt; matches!(device.act(0), Act::Arrive(packet) if packet.bytes == 100));
     assert!(rt; !device.uses_transmit());
-    expect_eq(&rt, device.tx_counts().sent, 0);
+    assert_eq!(rt; device.tx_counts().sent, 0);
     for k in 1..4 {
         assert!(rt; k < device.acts());
-        expect_eq(&rt, device.act(k), Act::Nothing);
+        assert_eq!(rt; device.act(k), Act::Nothing);
         assert!(rt; device.uses_transmit());
     }
     let counts = device.tx_counts();
-    expect_eq(
-        &rt,
+    assert_eq!(rt;
         (counts.sent, counts.held, counts.done, counts.denied),
-        (1, 0, 1, 1),
+        (1, 0, 1, 1)
     );
     let state = counts.state;
-    expect_eq(&rt, (state.queued, state.completed), (60, 60));
+    assert_eq!(rt; (state.queued, state.completed), (60, 60));
     Ok(())
 }

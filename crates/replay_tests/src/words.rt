@@ -1,6 +1,5 @@
 //! Tests of the words after the program's name.
 
-use expect::expect_eq;
 use replay::{Mode, Settings, WordFault, parse_words, word_line, word_status};
 use std::alloc::Global;
 use std::test::Fail;
@@ -34,7 +33,7 @@ fn serial(
 
 #[test]
 fn usual_ones(rt: HostRuntime) {
-    expect_eq(&rt, parse(rt.alloc(), &[]), serial(1, 300, 64, 1024));
+    assert_eq!(rt; parse(rt.alloc(), &[]), serial(1, 300, 64, 1024));
 }
 
 #[test]
@@ -46,7 +45,7 @@ fn each_mode(rt: HostRuntime) -> Result<(), WordFault> {
         ("threads", Mode::Threads),
     ];
     for (word, mode) in modes {
-        expect_eq(&rt, parse(rt.alloc(), &["--mode", word]), Ok((mode, usual)));
+        assert_eq!(rt; parse(rt.alloc(), &["--mode", word]), Ok((mode, usual)));
     }
     Ok(())
 }
@@ -64,7 +63,7 @@ fn all_options_in_any_order(rt: HostRuntime) {
         "00002",
         "--pollers=8",
     ];
-    expect_eq(&rt, parse(alloc, &words), serial(8, 2, 1, 65535));
+    assert_eq!(rt; parse(alloc, &words), serial(8, 2, 1, 65535));
 }
 
 #[test]
@@ -83,7 +82,7 @@ fn refused_words(rt: HostRuntime) {
         &["--help"],
     ];
     for list in &words {
-        expect_eq(&rt, parse(rt.alloc(), *list), Err(WordFault::Usage));
+        assert_eq!(rt; parse(rt.alloc(), *list), Err(WordFault::Usage));
     }
 }
 
@@ -97,18 +96,17 @@ fn refused_memory(rt: HostRuntime) {
 
 #[test]
 fn lines_and_statuses(rt: HostRuntime) {
-    expect_eq(&rt, word_line(&WordFault::Usage), "usage fault 64\n");
-    expect_eq(
-        &rt,
+    assert_eq!(rt; word_line(&WordFault::Usage), "usage fault 64\n");
+    assert_eq!(rt;
         word_line(&WordFault::OutOfMemory),
-        "memory fault 11 OutOfMemory\n",
+        "memory fault 11 OutOfMemory\n"
     );
-    expect_eq(&rt, word_status(&WordFault::Usage), 64);
-    expect_eq(&rt, word_status(&WordFault::OutOfMemory), 4);
+    assert_eq!(rt; word_status(&WordFault::Usage), 64);
+    assert_eq!(rt; word_status(&WordFault::OutOfMemory), 4);
 }
 
 #[test]
 fn faults_have_numbers(rt: HostRuntime) {
-    expect_eq(&rt, WordFault::Usage.number(), 1);
-    expect_eq(&rt, WordFault::OutOfMemory.number(), 2);
+    assert_eq!(rt; WordFault::Usage.number(), 1);
+    assert_eq!(rt; WordFault::OutOfMemory.number(), 2);
 }
