@@ -1,5 +1,5 @@
-//! Tests that cross crates: what no contract says of whole replays, of readers and writers that fail, and of benches. Nothing but
-//! tests stands here, so that the crates below are proved once.
+//! Tests that cross crates: what no contract says of whole replays, of the machine, of readers and writers that fail, and of
+//! benches. Nothing but tests stands here, so that the crates below are proved once.
 #![tactic(auto)]
 
 #[cfg(test)]
@@ -12,6 +12,10 @@ mod ends;
 mod failing;
 #[cfg(test)]
 mod long;
+#[cfg(test)]
+mod machine_calls;
+#[cfg(test)]
+mod machine_runs;
 #[cfg(test)]
 mod prefixes;
 #[cfg(test)]
