@@ -1,7 +1,7 @@
 #!/bin/sh
 # Times calls of the C library from C: pairs on a queue limit beside the plain C++ fold of bench/limits.cc, which is inlined, and
 # which has to count the same; turns of a shared instance by one thread (schedule, hand, take, complete) beside the same turns by
-# the typed calls (crates/bench); and packets, put one by one and in bursts of 64, and polled 64 at a time. Three rounds of
+# the typed calls (crates/bench_word); and packets, put one by one and in bursts of 64, and polled 64 at a time. Three rounds of
 # all in turn; the best time of each is shown, and how C's compares with what stands beside it. Then nine rounds of looks by two
 # threads at once, by seats whose handles lie side by side or 128 bytes apart: the best and the middle time of each.
 #
@@ -21,7 +21,7 @@ work=$(mktemp -d)
 trap 'rm -rf "$work"' EXIT
 
 "$bench/../scripts/c_library.sh" "$work"
-"$bench/../scripts/build.sh" bench
+"$bench/../scripts/build.sh" bench_word
 gcc -std=c11 -O2 -pthread -I "$bench/../include" "$bench/c_library.c" "$work/libfintaqush.a" -o "$work/c_library"
 g++ -O2 -o "$work/fold" "$bench/limits.cc"
 
@@ -34,7 +34,7 @@ for round in 1 2 3; do
         "$work/c_library" "$what" "$count" > "$work/$what.line" 2> "$work/spent"
         cut -d ' ' -f 1 "$work/spent" >> "$work/$what.times"
     done
-    "$bench/../crates/bench/out/bench" word "$turns" > "$work/typed.line" 2> "$work/spent"
+    "$bench/../crates/bench_word/out/bench_word" "$turns" > "$work/typed.line" 2> "$work/spent"
     awk '$1 == "typed" { print $2 }' "$work/spent" >> "$work/typed.times"
     if ! cmp -s "$work/limits.line" "$work/fold.line"; then
         echo 'the library counts otherwise than the fold:' >&2

@@ -1,7 +1,7 @@
 #!/usr/bin/env bash
 # Times pairs of `queued` and `completed` beside Linux's own text of them: `lib/dynamic_queue_limits.c` with its header, taken
 # by scripts/linux_source.sh out of Debian's package linux-source-6.12, or out of the folder LINUX of sources, and compiled
-# by cc -O2 with kernel_limits.c, which stands in for the kernel's headers. Nothing of it is kept. crates/bench makes the
+# by cc -O2 with kernel_limits.c, which stands in for the kernel's headers. Nothing of it is kept. crates/bench_limits makes the
 # same calls; both print the same counts, which are compared. Three rounds in turn; the best time of each is shown. Where
 # neither the package nor a folder is at hand it says so, with status 0: then nothing was compared.
 #
@@ -21,7 +21,8 @@ files=(lib/dynamic_queue_limits.c include/linux/dynamic_queue_limits.h)
 
 "$bench/../scripts/linux_source.sh" 6.12 "$work" "${files[@]}" || { [ $? = 69 ] && exit 0 || exit 64; }
 
-"$bench/../scripts/build.sh" bench
+"$bench/../scripts/build.sh" bench_limits
+cp "$bench/../crates/bench_limits/out/bench_limits" "$work/dql_core"
 # The headers that the two files name are kernel_limits.h, each under its name.
 sed -n 's/^#include <\(.*\)>.*/\1/p' "$work/${files[0]}" "$work/${files[1]}" | sort -u | while read -r header; do
     [ "$header" != linux/dynamic_queue_limits.h ] || continue
@@ -31,17 +32,9 @@ done
 cc -O2 -w -I "$work/stand_in" -I "$work/include" -include "$bench/kernel_limits.h" -o "$work/linux" \
     "$bench/kernel_limits.c" "$work/${files[0]}"
 
-# run PROGRAM: the pairs by this one.
-run() {
-    case $1 in
-        dql_core) "$bench/../crates/bench/out/bench" limits "$pairs" ;;
-        *) "$work/$1" "$pairs" ;;
-    esac
-}
-
 for _ in 1 2 3; do
     for program in dql_core linux; do
-        run "$program" > "$work/$program.line" 2> "$work/spent"
+        "$work/$program" "$pairs" > "$work/$program.line" 2> "$work/spent"
         cut -d ' ' -f 1 "$work/spent" >> "$work/$program.times"
         if ! cmp -s "$work/$program.line" "$work/dql_core.line"; then
             echo 'Linux counts otherwise than dql_core:' >&2

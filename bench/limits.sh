@@ -1,5 +1,5 @@
 #!/bin/sh
-# Times pairs of `queued` and `completed`: crates/bench beside a plain C++ fold of the same rules, built by g++ -O2
+# Times pairs of `queued` and `completed`: crates/bench_limits beside a plain C++ fold of the same rules, built by g++ -O2
 # and, where there is one, by clang++ -O3. Each makes the same calls and prints the same counts, which are compared.
 # Three rounds of all programs in turn; the best time of each is shown.
 #
@@ -16,7 +16,8 @@ is_tool g++
 work=$(mktemp -d)
 trap 'rm -rf "$work"' EXIT
 
-"$bench/../scripts/build.sh" bench
+"$bench/../scripts/build.sh" bench_limits
+cp "$bench/../crates/bench_limits/out/bench_limits" "$work/dql_core"
 programs=dql_core
 g++ -O2 -o "$work/gcc" "$bench/limits.cc"
 programs="$programs gcc"
@@ -25,17 +26,9 @@ if command -v clang++ > /dev/null; then
     programs="$programs clang"
 fi
 
-# run PROGRAM: the pairs by this one.
-run() {
-    case $1 in
-        dql_core) "$bench/../crates/bench/out/bench" limits "$pairs" ;;
-        *) "$work/$1" "$pairs" ;;
-    esac
-}
-
 for round in 1 2 3; do
     for program in $programs; do
-        run "$program" > "$work/$program.line" 2> "$work/spent"
+        "$work/$program" "$pairs" > "$work/$program.line" 2> "$work/spent"
         cut -d ' ' -f 1 "$work/spent" >> "$work/$program.times"
         if ! cmp -s "$work/$program.line" "$work/dql_core.line"; then
             echo "$program counts otherwise than dql_core:" >&2

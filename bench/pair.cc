@@ -1,5 +1,5 @@
 // Packets from one thread to another through a bounded queue behind a mutex and two condition variables, written by hand for
-// comparison with crates/bench: the same packets, and the same counts on standard output; the time on standard error.
+// comparison with crates/bench_pair: the same packets, and the same counts on standard output; the time on standard error.
 //
 // usage: pair PACKETS
 #include <array>

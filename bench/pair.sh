@@ -1,6 +1,6 @@
 #!/bin/sh
 # Times packets on their way from one thread to another: through a shared instance, where a request for a poll comes behind each
-# packet, and through a ring of `rtrb` alone, at which the second thread looks all the time (crates/bench); and through a
+# packet, and through a ring of `rtrb` alone, at which the second thread looks all the time (crates/bench_pair); and through a
 # queue behind a mutex in C++ (bench/pair.cc, g++ -O2), where the second thread waits for a condition. All keep to two
 # processors, and have to count the same; nine rounds of all in turn, the best time of each is shown.
 #
@@ -19,11 +19,11 @@ is_tool taskset
 work=$(mktemp -d)
 trap 'rm -rf "$work"' EXIT
 
-"$top/scripts/build.sh" bench
+"$top/scripts/build.sh" bench_pair
 g++ -std=c++17 -O2 -pthread -o "$work/by_hand" "$top/bench/pair.cc"
 
 for round in 1 2 3 4 5 6 7 8 9; do
-    pinned 2 "$top/crates/bench/out/bench" pair "$packets" > "$work/counts" 2>> "$work/times"
+    pinned 2 "$top/crates/bench_pair/out/bench_pair" "$packets" > "$work/counts" 2>> "$work/times"
     pinned 2 "$work/by_hand" "$packets" >> "$work/counts" 2>> "$work/times"
     if [ "$(cut -d ' ' -f 2- "$work/counts" | uniq | wc -l)" != 1 ]; then
         echo 'the packets are counted otherwise:' >&2

@@ -1,6 +1,6 @@
 #!/usr/bin/env bash
 # Runs packets through sixteen devices with 1, 2, 4 and 8 pollers, each a thread of its own beside the devices' workers: the
-# program of crates/bench, three runs each, or RUNS. None may be lost or doubled; the best time of each is shown. Then
+# program of crates/bench_workers, three runs each, or RUNS. None may be lost or doubled; the best time of each is shown. Then
 # the processor time of a run in which everybody waits for a worker that is held at its gate for a second: at most 50 ms.
 #
 # usage: bench/workers.sh [PACKETS [RUNS]]     (1000000 where none are given, at most 1048576)
@@ -20,11 +20,12 @@ is_count RUNS "$runs"
 work=$(mktemp -d)
 trap 'rm -rf "$work"' EXIT
 
-"$top/scripts/build.sh" bench
+"$top/scripts/build.sh" bench_workers
+program=$top/crates/bench_workers/out/bench_workers
 
 # run WORD ..: one run, whose packets all have to be there once.
 run() {
-    "$top/crates/bench/out/bench" workers "$@" > "$work/counts" 2>> "$work/times"
+    "$program" "$@" > "$work/counts" 2>> "$work/times"
     if [ "$(cat "$work/counts")" != "packets $3 lost 0 doubled 0" ]; then
         cat "$work/counts" >&2
         exit 1

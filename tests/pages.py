@@ -20,7 +20,7 @@ README_WORDS, DOOR_WORDS, ALL_WORDS = 700, 1000, 25000
 # What is made, or stands in somebody else's folder.
 MADE = re.compile(r"(^|/)out(/|$)|include/linux/|crates/first|NAME|FOLDER|FILE|PROGRAM|TRACE|DOOR|\.\.\./|^\.\.?/\.\./|[*<>{}$]|^/")
 # Crates that use the library's doors, beside those named for tests.
-USERS = ("bench", "example_", "uses_")
+USERS = ("bench_", "example_", "uses_")
 # Words in code that are others': the kernel's, a file format's, an instruction's, and what stands for a file.
 OUTSIDE = {"time_after", "softnet_stat", "virtio_net", "sysexits", "btr", "mb", "MACHINES"}
 

@@ -1,5 +1,0 @@
-use Rattle.{std.specs.Prelude.false, napi_word.specs.Passes.Polls, bench.specs.Ready.IsReady}
-use Rattle.bench.proofs.word.turns.complete.Given as goal
-
-abbrev pub invariant-loop : goal.invariant-loop
-invariant-loop l = IsReady l.table l.pass × Polls false l.pass

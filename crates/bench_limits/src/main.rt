@@ -1,0 +1,28 @@
+//! Times pairs of `queued` and `completed` on a `Dql`: what is counted goes to standard output, the time to standard
+//! error. The word is the number of pairs. `bench/limits.sh` compares it with a plain fold of the same rules.
+#![tactic(auto)]
+
+mod pattern;
+
+use anyhow::{Context, Result};
+use pattern::{Tally, run_pairs};
+use std::env;
+use std::time::Instant;
+
+fn main(rt: HostRuntime) -> Result<()> {
+    let word = env::args(&rt)?
+        .nth(1)
+        .context("a number of pairs is wanted")?;
+    let pairs: u64 = word.as_str().parse().context("the number of pairs")?;
+    let start = Instant::now(&rt)?;
+    let Tally {
+        limits,
+        over,
+        queued,
+        limit,
+    } = run_pairs(pairs)?;
+    let spent = start.elapsed(&rt)?.as_nanos();
+    println!(rt; "pairs {pairs} limits {limits} over {over} queued {queued} limit {limit}")?;
+    eprintln!(rt; "{spent} ns")?;
+    Ok(())
+}

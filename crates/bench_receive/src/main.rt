@@ -1,0 +1,33 @@
+//! Times polls of a receive ring, for the weights 1, 16 and 64, beside a plain loop over the `pop` of `rtrb`: what is
+//! counted goes to standard output, the times to standard error. The word is the number of rounds: each fills a ring of
+//! 4096 packets and empties it, and only the emptying is timed. `bench/receive.sh` shows the time for each packet.
+#![tactic(auto)]
+
+mod rounds;
+
+use anyhow::{Context, Result};
+use rounds::{Spent, time_polls, time_pops};
+use std::env;
+
+fn main(rt: HostRuntime) -> Result<()> {
+    let word = env::args(&rt)?
+        .nth(1)
+        .context("a number of rounds is wanted")?;
+    let rounds: u32 = word.as_str().parse().context("the number of rounds")?;
+    for (name, spent) in [
+        ("pop", time_pops(&rt, rt.alloc(), rounds)?),
+        ("weight-1", time_polls(&rt, rt.alloc(), rounds, 1)?),
+        ("weight-16", time_polls(&rt, rt.alloc(), rounds, 16)?),
+        ("weight-64", time_polls(&rt, rt.alloc(), rounds, 64)?),
+    ] {
+        let Spent {
+            nanos,
+            packets,
+            bytes,
+            sum,
+        } = spent;
+        println!(rt; "{name} packets {packets} bytes {bytes} sum {sum}")?;
+        eprintln!(rt; "{name} {nanos} ns")?;
+    }
+    Ok(())
+}

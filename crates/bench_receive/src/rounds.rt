@@ -1,0 +1,91 @@
+//! The rounds: a ring is filled, and then emptied in the time that is taken.
+
+ghost use Rattle.std.specs.Prelude.{◌≤◌};
+
+use anyhow::Result;
+use rtrb::RingBuffer;
+use rx_ring::{Batch, Packet, ring};
+use std::alloc::Global;
+use std::time::{Clock, Instant};
+
+// How many packets a round has, which is the capacity of its ring.
+const PACKETS: u32 = 4096;
+
+/// What the rounds took and gave. The sums wrap.
+#[derive(Clone, Copy)]
+pub struct Spent {
+    /// The time in nanoseconds.
+    pub nanos: u128,
+    /// How many packets came out.
+    pub packets: u64,
+    /// The bytes of these packets.
+    pub bytes: u64,
+    /// The sum of their numbers.
+    pub sum: u64,
+}
+
+impl Spent {
+    fn new() -> Spent {
+        Spent {
+            nanos: 0,
+            packets: 0,
+            bytes: 0,
+            sum: 0,
+        }
+    }
+
+    fn add(&mut self, packet: &Packet) {
+        self.packets = self.packets.wrapping_add(1);
+        self.bytes = self.bytes.wrapping_add(u64::from(packet.bytes));
+        self.sum = self.sum.wrapping_add(packet.number);
+    }
+}
+
+fn packet(round: u32, k: u32) -> Packet {
+    Packet {
+        number: u64::from(round ^ k),
+        bytes: 60 + k % 1440,
+    }
+}
+
+/// Empties a receive ring by polls of one weight, so many times.
+pub fn time_polls(rt: &impl Clock, alloc: Global, rounds: u32, weight: u32) -> Result<Spent>
+    requires { (1 ≤ weight) × (weight ≤ 64) }
+{
+    let (mut input, mut ctx) = ring(alloc, PACKETS as usize)?;
+    let mut batch = Batch::new();
+    let mut spent = Spent::new();
+    for round in 0..rounds {
+        for k in 0..PACKETS {
+            let _ = input.put(packet(round, k));
+        }
+        let start = Instant::now(rt)?;
+        for _ in 0..PACKETS / weight {
+            ctx.poll(weight as usize, &mut batch);
+            for packet in batch.as_slice() {
+                spent.add(packet);
+            }
+        }
+        spent.nanos = spent.nanos.wrapping_add(start.elapsed(rt)?.as_nanos());
+    }
+    Ok(spent)
+}
+
+/// Empties a ring of `rtrb` by its own `pop`, so many times.
+pub fn time_pops(rt: &impl Clock, alloc: Global, rounds: u32) -> Result<Spent> {
+    let (mut producer, mut consumer) = RingBuffer::new(alloc, PACKETS as usize)?;
+    let mut spent = Spent::new();
+    for round in 0..rounds {
+        for k in 0..PACKETS {
+            let _ = producer.push(packet(round, k));
+        }
+        let start = Instant::now(rt)?;
+        for _ in 0..PACKETS {
+            if let Ok(packet) = consumer.pop() {
+                spent.add(&packet);
+            }
+        }
+        spent.nanos = spent.nanos.wrapping_add(start.elapsed(rt)?.as_nanos());
+    }
+    Ok(spent)
+}

@@ -1,0 +1,88 @@
+//! The rounds: interrupts fill the rings, and then runs of the softirq empty them in the time that is taken.
+
+use crate::cards::{Cards, DEVICES};
+use anyhow::Result;
+use poll_engine::{PlainList, PollList, run_softirq};
+use rx_ring::Packet;
+use std::alloc::Global;
+use std::time::{Clock, Instant};
+
+// The kernel's usual numbers (`net.core.netdev_budget`, `NAPI_POLL_WEIGHT`), and polls in place of its 2 ms.
+const BUDGET: u32 = 300;
+
+const WEIGHT: u32 = 64;
+
+const WINDOW: u32 = 1024;
+
+// More runs than a round has: each but the last spends its budget.
+const MOST_RUNS: u32 = 64;
+
+/// What the runs took and did. The counts wrap.
+#[derive(Clone, Copy)]
+pub struct Spent {
+    /// The time in nanoseconds.
+    pub nanos: u128,
+    /// The runs.
+    pub runs: u64,
+    /// Their polls.
+    pub polls: u64,
+    /// The packets that these gave.
+    pub work: u64,
+    /// The runs that were squeezed.
+    pub squeezed: u64,
+}
+
+impl Spent {
+    fn new() -> Spent {
+        Spent {
+            nanos: 0,
+            runs: 0,
+            polls: 0,
+            work: 0,
+            squeezed: 0,
+        }
+    }
+}
+
+// So many packets come to each device, one device after the other.
+fn fill(cards: &mut Cards, list: &mut PlainList, packets: u32) {
+    for id in 0..DEVICES {
+        for number in 0..packets {
+            let packet = Packet {
+                number: u64::from(number),
+                bytes: 60,
+            };
+            if cards.receive(id, packet) && list.ids().len() < 64 {
+                list.push(id);
+            }
+        }
+    }
+}
+
+// Runs until nothing is left on the list.
+fn empty(cards: &mut Cards, list: &mut PlainList, spent: &mut Spent) {
+    for _ in 0..MOST_RUNS {
+        if list.ids().is_empty() {
+            return;
+        }
+        let run = run_softirq(list, cards, BUDGET, WEIGHT, WINDOW);
+        spent.runs = spent.runs.wrapping_add(1);
+        spent.polls = spent.polls.wrapping_add(u64::from(run.polls));
+        spent.work = spent.work.wrapping_add(u64::from(run.work));
+        spent.squeezed = spent.squeezed.wrapping_add(u64::from(run.squeezed));
+    }
+}
+
+/// Fills and empties the rings so many times.
+pub fn time_runs(rt: &impl Clock, alloc: Global, rounds: u32, packets: u32) -> Result<Spent> {
+    let mut cards = Cards::new(alloc)?;
+    let mut list = PlainList::new();
+    let mut spent = Spent::new();
+    for _ in 0..rounds {
+        fill(&mut cards, &mut list, packets);
+        let start = Instant::now(rt)?;
+        empty(&mut cards, &mut list, &mut spent);
+        spent.nanos = spent.nanos.wrapping_add(start.elapsed(rt)?.as_nanos());
+    }
+    Ok(spent)
+}

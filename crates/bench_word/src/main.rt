@@ -1,0 +1,57 @@
+//! Times turns of an instance by its state word: schedule, hand to the list, take, the context out of its slot and back,
+//! complete. Once by one thread, once while a second thread schedules all the time, and once by one thread with the typed
+//! calls that stand on these steps; and turns of busy polling by the typed calls. What is the same each time goes to standard output, times and the rest to standard error.
+//! The word is the number of turns. `bench/word.sh` compares it with the same turns by hand.
+#![tactic(auto)]
+
+mod opened;
+mod turns;
+mod typed;
+
+use anyhow::{Context, Result};
+use opened::Opened;
+use rx_ring::ring;
+use std::env;
+use std::time::Instant;
+use turns::{Tally, make_turns, make_turns_beside};
+use typed::{Round, make_typed_turns};
+
+fn main(rt: HostRuntime) -> Result<()> {
+    let word = env::args(&rt)?
+        .nth(1)
+        .context("a number of turns is wanted")?;
+    let turns: u64 = word.as_str().parse().context("the number of turns")?;
+    let (_input, ctx) = ring(rt.alloc(), 4)?;
+    let mut opened = Opened::enabled(rt.alloc(), ctx).context("no memory")?;
+
+    let start = Instant::now(&rt)?;
+    let Tally { polls, again, lost } = make_turns(&opened.table, &mut opened.poller, turns);
+    let spent = start.elapsed(&rt)?.as_nanos();
+    println!(rt; "one thread: turns {turns} polls {polls} again {again} lost {lost}")?;
+    eprintln!(rt; "one {spent} ns")?;
+
+    let start = Instant::now(&rt)?;
+    let Tally { polls, again, lost } = make_turns_beside(
+        &rt,
+        &opened.table,
+        &mut opened.poller,
+        &mut opened.scheduler,
+        turns,
+    );
+    let spent = start.elapsed(&rt)?.as_nanos();
+    println!(rt; "two threads: turns {turns}")?;
+    eprintln!(rt; "two {spent} ns polls {polls} again {again} lost {lost}")?;
+
+    for (name, short, round) in [
+        ("typed calls", "typed", Round::Listed),
+        ("busy polling", "busy", Round::Busy),
+    ] {
+        let (_input, ctx) = ring(rt.alloc(), 4)?;
+        let start = Instant::now(&rt)?;
+        let Tally { polls, again, lost } = make_typed_turns(&rt, rt.alloc(), ctx, round, turns)?;
+        let spent = start.elapsed(&rt)?.as_nanos();
+        println!(rt; "{name}: turns {turns} polls {polls} again {again} lost {lost}")?;
+        eprintln!(rt; "{short} {spent} ns")?;
+    }
+    Ok(())
+}

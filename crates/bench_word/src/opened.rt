@@ -1,0 +1,62 @@
+//! A table that was enabled, with two passes that hold nothing.
+ghost use Rattle.std.specs.Prelude.{IfSome};
+ghost use Rattle.bench_word.specs.Ready.{IsReady};
+ghost use Rattle.napi_word.specs.Passes.{IsNew};
+
+use napi_model::decode;
+use napi_word::{Pass, StateTable};
+use rx_ring::RxCtx;
+use std::alloc::Global;
+
+/// An instance, and the passes of two callers and its controller.
+#[derive(Drop)]
+pub struct Opened {
+    /// The instance's state word, and the slot of its poll context.
+    pub table: StateTable,
+    /// Who makes the turns.
+    pub poller: Pass,
+    /// Who schedules all the time.
+    pub scheduler: Pass,
+    control: Pass,
+}
+
+impl Opened {
+    fn new(alloc: Global, ctx: RxCtx) -> Option<Opened>
+        ensures poller { IfSome result (λ o. IsNew o.table 2 ctx 0 o.poller) }
+        ensures scheduler { IfSome result (λ o. IsNew o.table 2 ctx 1 o.scheduler) }
+        ensures control { IfSome result (λ o. IsNew o.table 2 ctx 2 o.control) }
+    {
+        let Ok((table, mut passes)) = StateTable::new(alloc, ctx, 3) else {
+            return None;
+        };
+        let last = passes.pop();
+        let Some(control) = last else { unreachable!() };
+        let last = passes.pop();
+        let Some(scheduler) = last else {
+            unreachable!()
+        };
+        let last = passes.pop();
+        let Some(poller) = last else { unreachable!() };
+        Some(Opened {
+            table,
+            poller,
+            scheduler,
+            control,
+        })
+    }
+
+    /// Makes a table of three passes, and enables it by the last of them. `None`: there was no memory.
+    pub fn enabled(alloc: Global, ctx: RxCtx) -> Option<Opened>
+        ensures poller { IfSome result (λ o. IsReady o.table o.poller) }
+        ensures scheduler { IfSome result (λ o. IsReady o.table o.scheduler) }
+    {
+        let mut opened = Opened::new(alloc, ctx)?;
+        // A new instance has SCHED and NPSVC.
+        let disabled = decode(9)?;
+        opened
+            .table
+            .enable_swap(&mut opened.control, disabled, false)
+            .ok()?;
+        Some(opened)
+    }
+}

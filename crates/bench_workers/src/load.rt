@@ -1,0 +1,122 @@
+//! What a run is given.
+
+ghost use Rattle.std.specs.Prelude.{◌≡◌, ◌≤◌, ◌<◌, ◌+◌, ◌*◌, IfOk, IsTrue, vec_items};
+ghost use Rattle.std.specs.List.{All};
+ghost use Rattle.poll_engine.specs.Numbers.{have_distinct_numbers};
+ghost use Rattle.poll_engine.specs.Opens.{IsStation};
+
+use anyhow::{Context, Result, ensure};
+use poll_engine::{Act, ActList, Station};
+use rx_ring::Packet;
+use std::alloc::{AllocError, Global};
+use std::env::Args;
+use std::time::Duration;
+
+// After so many packets a device is disabled and enabled, and changes who polls it.
+const PERIOD: u64 = 1000;
+
+// The places of the largest ring.
+const MOST_SHARE: u64 = 65_536;
+
+/// The words of a run.
+#[derive(Drop)]
+pub struct Load {
+    devices: u32,
+    /// Pollers, 1 to 8.
+    pub pollers: u32,
+    /// Packets of all devices.
+    pub packets: u64,
+    /// How long the first device is held at its gate.
+    pub hold: Duration,
+    ghost some: { (1 ≤ devices) × (devices ≤ 16) },
+    ghost polled: { (1 ≤ pollers) × (pollers ≤ 8) },
+    ghost room: { packets ≤ devices * 65536 },
+}
+
+/// A device's part of the packets.
+#[derive(Clone, Copy)]
+pub struct Share {
+    /// How many packets.
+    pub packets: u64,
+    /// Their bytes.
+    pub bytes: u64,
+}
+
+// The next word, a number.
+fn number(words: &mut Args<Global>, name: &'static str) -> Result<u64> {
+    let word = words.next().context(name)?;
+    word.as_str().parse().context(name)
+}
+
+// The acts of a device. From time to time it is disabled, polled by its thread or from the list from then on, and enabled.
+fn acts(alloc: Global, packets: u64) -> Result<Vec<Act>, AllocError>
+    requires { packets ≤ 65536 }
+{
+    let mut acts = Vec::new(alloc);
+    for number in 0..packets {
+        if number % PERIOD == 0 {
+            acts.push(Act::Disable)?;
+            acts.push(Act::SetThreaded(number / PERIOD % 2 == 0))?;
+            acts.push(Act::Enable)?;
+        }
+        let bytes = number as u32 + 1;
+        acts.push(Act::Arrive(Packet { number, bytes }))?;
+    }
+    Ok(acts)
+}
+
+impl Load {
+    /// What the words ask for.
+    pub fn of_words(mut words: Args<Global>) -> Result<Load> {
+        let _program = words.next();
+        let devices = number(&mut words, "how many devices")?;
+        let pollers = number(&mut words, "how many pollers")?;
+        let packets = number(&mut words, "how many packets")?;
+        let hold = match words.next() {
+            Some(word) => word.as_str().parse().context("for how many milliseconds")?,
+            None => 0,
+        };
+        ensure!(1 <= devices && devices <= 16, "1 to 16 devices");
+        ensure!(1 <= pollers && pollers <= 8, "1 to 8 pollers");
+        ensure!(
+            packets <= devices * MOST_SHARE,
+            "at most 65536 packets a device"
+        );
+        Ok(Load {
+            devices: devices as u32,
+            pollers: pollers as u32,
+            packets,
+            hold: Duration::from_millis(hold),
+        })
+    }
+
+    /// The packets of the device of this number. They have 1, 2, 3 .. bytes.
+    pub fn share(&self, number: u32) -> Share
+        ensures { result.packets ≤ 65536 }
+    {
+        let devices = u64::from(self.devices);
+        let more = u64::from(number) <= self.packets % devices;
+        let packets = (self.packets / devices + u64::from(more)).min(MOST_SHARE);
+        Share {
+            packets,
+            bytes: packets * (packets + 1) / 2,
+        }
+    }
+
+    /// The devices, each with a ring that holds all its packets; every second one has a thread of its own.
+    pub fn stations(&self, alloc: Global) -> Result<Vec<Station<ActList>>, AllocError>
+        ensures { IfOk result (λ v. All IsStation (vec_items v)) }
+    {
+        let mut stations = Vec::new(alloc);
+        for number in 1..=self.devices {
+            let packets = self.share(number).packets;
+            stations.push(Station {
+                number,
+                capacity: packets.max(1) as usize,
+                thread: number % 2 == 0,
+                device: ActList::new(acts(alloc, packets)?),
+            })?;
+        }
+        Ok(stations)
+    }
+}
