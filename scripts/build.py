@@ -64,7 +64,8 @@ def end_by(call):
 def child(memory=0):
     """What a process of this one does as it begins: it ends with this one, however that ends, and has so many MiB."""
     LIBC.prctl(1, signal.SIGTERM)  # PR_SET_PDEATHSIG
-    os.sched_setscheduler(0, os.SCHED_BATCH, os.sched_param(0))  # else the prover's processes wake, and stop, each other all the time
+    with contextlib.suppress(OSError):  # else the prover's processes wake, and stop, each other all the time
+        os.sched_setscheduler(0, os.SCHED_BATCH, os.sched_param(0))
     if os.getppid() != PARENT:
         os._exit(1)
     signal.signal(signal.SIGPIPE, signal.SIG_DFL)
@@ -180,7 +181,8 @@ def prove(asked):
         ready = [it for it in left if {*left, *AT_WORK}.isdisjoint(it.all[:-1])][: max(lanes - len(AT_WORK), 0)]
         # Each by several processes, as memory was counted for: what one leaves idle at its ends, the others take.
         jobs = 1 if lanes == 1 else min(processors, 2 if len(AT_WORK) + len(ready) > 2 else 4)
-        AT_WORK.update({crate: crate.begin(jobs) for crate in ready})
+        for crate in ready:
+            AT_WORK[crate] = crate.begin(jobs)
         left = [it for it in left if it not in AT_WORK]
         seconds = (time.time_ns() - since) // 10**9
         line = f"crate {len(every) - len(left)} of {len(every)} ({' '.join(it.name for it in AT_WORK)}), {seconds} s"

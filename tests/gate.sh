@@ -46,7 +46,7 @@ mv "$scratch/low/crates/one/must-fail/the-second-one.edit.edit" "$scratch/low/cr
 status=0
 gate() { python3 -EsSB "$scratch/low/scripts/gate.py" "$@" > "$scratch/out" 2>&1; }
 gate proofs "$scratch/room" low one || status=$?
-check 'the crate is proved' grep -qx 'rt: low proved' "$scratch/out"
+check 'the crate is proved' grep -qE '^rt: low (proved$|is kept: )' "$scratch/out" # by an earlier run, with a kit that keeps it
 check 'and the other, and they are counted' [ "$(tail -n 1 "$scratch/out") $status" = '2 passed, 0 failed 0' ]
 check 'without its edits' [ ! -e "$scratch/room/crates/low/must-fail" ]
 check 'the library is kept' [ -e "$(echo "$scratch"/cache/fintaqush/*/low.rlib/format)" ]
