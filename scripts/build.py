@@ -127,13 +127,13 @@ class Crate:
         uses = (f"{name}={BUILT if name in crates() else f'{at}/rlibs'}/{name}.rlib" for name in ("std", *self.uses))
         return [*words, "-L", f"dependency={at}/rlibs", *(word for it in uses for word in ("--extern", it))]
 
-    def begin(self, jobs):
-        """Begins to prove and to build it, by so many processes."""
-        command = [*self.words("build", jobs), "-o", f"{self.made}.new"]
+    def begin(self, jobs, place):
+        """Begins to prove and to build it, by so many processes, which yield to those of a crate before it."""
+        command = [*self.words("build", jobs), "-o", f"{self.made}.new", *["--crate-type", "staticlib"] * self.is_archive]
         command += ["--statements"] if self.is_library else ["--toolchain", f"{kit()}/toolchain", "--backend", "llvm"]
-        command += ["--crate-type", "staticlib"] if self.is_archive else []
         with open(self.log, "wb") as log:
-            return subprocess.Popen(command, stdin=subprocess.DEVNULL, stdout=log, stderr=log, cwd=self.folder, preexec_fn=child)
+            how = {"stdin": subprocess.DEVNULL, "stdout": log, "stderr": log, "cwd": self.folder}
+            return subprocess.Popen(command, preexec_fn=lambda: (os.nice(place), child()), **how)
 
     def end(self, status, since):
         """Puts what was built in its place, as old as the build: what was changed meanwhile is newer."""
@@ -180,9 +180,9 @@ def prove(asked):
                 crate.end(status, since)
         ready = [it for it in left if {*left, *AT_WORK}.isdisjoint(it.all[:-1])][: max(lanes - len(AT_WORK), 0)]
         # Each by several processes, as memory was counted for: what one leaves idle at its ends, the others take.
-        jobs = 1 if lanes == 1 else min(processors, 2 if len(AT_WORK) + len(ready) > 2 else 4)
+        jobs = 1 if lanes == 1 else min(processors, 4, max(2, 6 - len(AT_WORK) - len(ready)))
         for crate in ready:
-            AT_WORK[crate] = crate.begin(jobs)
+            AT_WORK[crate] = crate.begin(jobs, left.index(crate))
         left = [it for it in left if it not in AT_WORK]
         seconds = (time.time_ns() - since) // 10**9
         line = f"crate {len(every) - len(left)} of {len(every)} ({' '.join(it.name for it in AT_WORK)}), {seconds} s"
