@@ -165,11 +165,11 @@ def to_build(asked):
 def prove(asked):
     """Proves and builds these crates, and what they stand on as far as that isn't done."""
     names, since, left = " and ".join(it.name for it in asked), time.time_ns(), to_build(asked)
-    every, processors = {*left}, len(os.sched_getaffinity(0))
+    every, processors = left, len(os.sched_getaffinity(0))
     lanes = min(max(int(re.search(r"MemAvailable: *(\d+)", read("/proc/meminfo"))[1]) // 2_500_000, 1), processors)  # kB of a check
     say(f"proving and building {names} and what they stand on, {len(every)} crates: on 4 cores some {len(every) // 3 + 1} minutes")
     # No old one answers for new sources, nor does one over other libraries than those that stand.
-    old = [it.made for it in crates().values() if not every.isdisjoint(it.all) and (it.is_library or it in every)]
+    old = [it.made for it in crates().values() if not {*every}.isdisjoint(it.all) and (it.is_library or it in every)]
     subprocess.run(["rm", "-rf", *old], check=False)
     while left or AT_WORK:
         for crate in [it for it, process in AT_WORK.items() if process.poll() is not None]:
@@ -182,7 +182,7 @@ def prove(asked):
         # Each by several processes, as memory was counted for: what one leaves idle at its ends, the others take.
         jobs = 1 if lanes == 1 else min(processors, 4, max(2, 6 - len(AT_WORK) - len(ready)))
         for crate in ready:
-            AT_WORK[crate] = crate.begin(jobs, left.index(crate))
+            AT_WORK[crate] = crate.begin(jobs, every.index(crate))
         left = [it for it in left if it not in AT_WORK]
         seconds = (time.time_ns() - since) // 10**9
         line = f"crate {len(every) - len(left)} of {len(every)} ({' '.join(it.name for it in AT_WORK)}), {seconds} s"
