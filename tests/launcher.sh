@@ -37,7 +37,7 @@ change() { touch "$small/crates/${1:-low}/src/lib.rt"; }
 # signalled SIGNAL [HOW]: to the launcher alone, while a build or a program is at work; and what goes on behind that.
 signalled() {
     env --default-signal=INT "$launcher" ${2:-} trace.csv > made &
-    comes pgrep -f "^$scratch/slow|^/bin/sh $scratch/bin/rattle build --crate-name ${at:-low}" && sleep 0.1 # the launcher notes it
+    comes pgrep -f "^$scratch/slow|^/bin/sh $scratch/bin/rattle build --crate-name ${at:-low}" && sleep 0.3 # the launcher notes it
     kill -"$1" $!
     status=0
     wait $! || status=$?
