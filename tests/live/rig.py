@@ -1,0 +1,248 @@
+"""The rig of tests/live.sh: veth pairs between two network namespaces, a sender and a receiver that run at SCHED_FIFO on processors of
+their own, and a recording of what the kernel did. It restores every setting that it changes.
+"""
+
+import contextlib
+import os
+import re
+import shutil
+import subprocess
+import time
+from dataclasses import dataclass, field
+from pathlib import Path
+
+HERE = Path(__file__).resolve().parent
+TRACING = Path("/sys/kernel/tracing")
+PORT = 9000
+SENDS, RECEIVES = 2, 3  # the processors: of the sender, and of the receiver with what polls for it
+USE_NS = 2000  # what the receiver works on each packet
+SYSCTLS = ("net.core.netdev_budget", "net.core.netdev_max_backlog")
+EVENTS = ("net/net_dev_xmit", "napi/napi_poll", "irq/softirq_entry", "irq/softirq_exit", "irq_vectors/call_function_single_entry",
+          "irq_vectors/call_function_single_exit", "sched/sched_switch", "timer/hrtimer_expire_entry")
+NEEDS = {"ip": "iproute2", "ethtool": "ethtool", "chrt": "util-linux", "taskset": "util-linux", "cc": "gcc"}
+
+
+class Failed(Exception):
+    """Why a recording couldn't be made."""
+
+
+@dataclass(frozen=True)
+class Traffic:
+    """What the sender sends."""
+
+    kind: str
+    period: int  # us
+    burst: int
+    count: int  # of bursts
+    gso: int = 1
+    filter: int = 0  # multiplications that the kernel makes for each packet
+
+
+@dataclass(frozen=True)
+class Setting:
+    """What is set for one recording. By `poller` packets are polled by `backlog`, the receiving processor's backlog (RPS); by `softirq`, the
+    veth device's NAPI instance on the sender's processor; by `thread`, the instance's thread on the receiving processor."""
+
+    name: str
+    poller: str
+    traffic: Traffic
+    devices: int = 1
+    sysctls: dict = field(default_factory=dict)
+    defer_hard_irqs: int = 0
+    gro_flush_timeout: int = 0
+
+    @property
+    def polls_on(self):
+        return SENDS if self.poller == "softirq" else RECEIVES
+
+
+@dataclass
+class Recorded:
+    """What a recording gave: the trace, when each packet was read, and what the processor that polled counted."""
+
+    trace: str
+    reads: list  # (the packet's number, when it was read), in this order
+    sent: int
+    dropped: int
+    squeezed: int
+
+
+def missing():
+    """What this machine lacks, each in a few words; the rig needs nothing if this is empty."""
+    lacks = [f"{name} (Debian: {package})" for name, package in NEEDS.items() if not shutil.which(name)]
+    if os.geteuid() != 0:
+        return ["root", *lacks]
+    if (os.cpu_count() or 1) < 4:
+        lacks.append("4 processors")
+    if not (TRACING / "events").is_dir():
+        lacks.append("tracefs at /sys/kernel/tracing")
+    else:
+        lacks += [f"the event {event}" for event in EVENTS if not (TRACING / "events" / event).is_dir()]
+    return lacks
+
+
+def run(*command, **others):
+    """The output of a command, which must succeed."""
+    done = subprocess.run(list(map(str, command)), capture_output=True, text=True, check=False, **others)
+    if done.returncode:
+        raise Failed(f"{' '.join(map(str, command))[:80]} ended with status {done.returncode}: {done.stderr.strip()[:200]}")
+    return done.stdout
+
+
+def build(folder):
+    """Compiles the sender and the receiver."""
+    for name in ("sender", "receiver"):
+        run("cc", "-O2", "-o", folder / name, HERE / f"{name}.c", "-lm")
+
+
+def softnet(processor):
+    """What a processor counted so far: packets dropped at its backlog, and squeezed runs."""
+    for line in Path("/proc/net/softnet_stat").read_text(encoding="ascii").splitlines():
+        fields = [int(each, 16) for each in line.split()]
+        if len(fields) > 12 and fields[12] == processor:
+            return fields[1], fields[2]
+    raise Failed(f"/proc/net/softnet_stat has no line of processor {processor}")
+
+
+def to_front(process):
+    """Puts a task to SCHED_FIFO, so that other work on the machine doesn't disturb it."""
+    run("chrt", "-f", "-p", 1, process)
+
+
+def tasks(pattern):
+    """The processes with such a name, as `ps` shows it."""
+    found = (line.split(None, 1) for line in run("ps", "-eo", "pid,comm").splitlines()[1:])
+    return [int(process) for process, name in found if re.fullmatch(pattern, name.strip())]
+
+
+class Rig:
+    """The devices and settings of one recording."""
+
+    def __init__(self, folder, setting):
+        self.folder, self.setting, self.undo = folder, setting, contextlib.ExitStack()
+        self.out, self.into = f"fqs{os.getpid()}", f"fqr{os.getpid()}"
+        self.instance = TRACING / "instances" / f"fq{os.getpid()}"
+
+    def __enter__(self):
+        try:
+            self.make_devices()
+            self.set_all()
+            self.make_instance()
+        except BaseException:
+            self.undo.close()
+            raise
+        return self
+
+    def __exit__(self, *_):
+        self.undo.close()
+
+    def ip(self, space, *words):
+        return run("ip", "-n", space, *words)
+
+    def within(self, space, *command):
+        return run("ip", "netns", "exec", space, *command)
+
+    def make_devices(self):
+        for space in (self.out, self.into):
+            run("ip", "netns", "add", space)
+            self.undo.callback(run, "ip", "netns", "del", space)
+            self.within(space, "sysctl", "-qw", "net.ipv6.conf.all.disable_ipv6=1", "net.ipv4.conf.all.rp_filter=0",
+                        "net.ipv4.conf.default.rp_filter=0")
+        several = self.setting.devices > 1
+        if several:
+            self.ip(self.out, "link", "add", "br0", "type", "bridge")
+        for number in range(1, self.setting.devices + 1):
+            self.make_pair(number, several)
+        end = "br0" if several else "va1"
+        self.ip(self.out, "addr", "add", "10.99.0.1/24", "broadcast", "10.99.0.255", "dev", end)
+        self.ip(self.out, "link", "set", end, "up")
+        if several:
+            time.sleep(1.5)  # until the bridge forwards
+        else:
+            addresses = [re.search(r"link/ether (\S+)", self.ip(space, "-o", "link", "show", name))[1] for space, name in
+                         ((self.out, "va1"), (self.into, "vb1"))]
+            self.ip(self.into, "neigh", "replace", "10.99.0.1", "lladdr", addresses[0], "dev", "vb1")
+            self.ip(self.out, "neigh", "replace", "10.99.0.2", "lladdr", addresses[1], "dev", "va1")
+
+    def make_pair(self, number, several):
+        run("ip", "link", "add", f"va{number}", "netns", self.out, "type", "veth", "peer", "name", f"vb{number}", "netns", self.into)
+        self.within(self.out, "ethtool", "-K", f"va{number}", "tso", "off", "tx-udp-segmentation", "off", "gro", "off")
+        # Without GRO a veth device has no NAPI instance, and its packets go to a processor's backlog.
+        self.within(self.into, "ethtool", "-K", f"vb{number}", "tso", "off", "gro", "off" if self.setting.poller == "backlog" else "on")
+        if several:
+            self.ip(self.out, "link", "set", f"va{number}", "master", "br0")
+        self.ip(self.into, "addr", "add", f"10.99.0.{number + 1}/24", "broadcast", "10.99.0.255", "dev", f"vb{number}")
+        self.ip(self.out, "link", "set", f"va{number}", "up")
+        self.ip(self.into, "link", "set", f"vb{number}", "up")
+
+    def set_all(self):
+        setting = self.setting
+        for name in SYSCTLS:
+            self.undo.callback(run, "sysctl", "-qw", f"{name}={run('sysctl', '-n', name).strip()}")
+        for name, value in setting.sysctls.items():
+            run("sysctl", "-qw", f"{name}={value}")
+        files = {"napi_defer_hard_irqs": setting.defer_hard_irqs, "gro_flush_timeout": setting.gro_flush_timeout}
+        if setting.poller == "thread":
+            files["threaded"] = 1
+        if setting.poller == "backlog":
+            files["queues/rx-0/rps_cpus"] = f"{1 << RECEIVES:x}"
+        for number in range(1, setting.devices + 1):
+            # In a mount namespace of its own, where /sys shows the devices of this network namespace.
+            self.within(self.into, "sh", "-c", ";".join(f"echo {value} > /sys/class/net/vb{number}/{name}" for name, value in files.items()))
+        if setting.poller == "thread":
+            for process in tasks(r"napi/vb1-\d+"):
+                run("taskset", "-pc", RECEIVES, process)
+                to_front(process)
+        for process in tasks(rf"ksoftirqd/{setting.polls_on}"):
+            to_front(process)
+            self.undo.callback(run, "chrt", "-o", "-p", 0, process)
+
+    def make_instance(self):
+        self.instance.mkdir()
+        self.undo.callback(self.instance.rmdir)
+        self.put("tracing_on", 0)
+        self.undo.callback(self.put, "tracing_on", 0)
+        self.put("trace_clock", "mono")
+        self.put("buffer_size_kb", 32768)
+        for event in ("irq/softirq_entry", "irq/softirq_exit"):
+            self.put(f"events/{event}/filter", "vec == 3")
+        self.put("tracing_cpumask", f"{1 << SENDS | 1 << RECEIVES:x}")
+        for event in EVENTS:
+            self.put(f"events/{event}/enable", 1)
+
+    def put(self, name, value):
+        (self.instance / name).write_text(f"{value}\n", encoding="ascii")
+
+    def record(self):
+        """Sends the traffic, and returns what was recorded."""
+        traffic, read = self.setting.traffic, self.folder / "read"
+        receiver = None
+        if self.setting.devices == 1:
+            receiver = subprocess.Popen(["ip", "netns", "exec", self.into, "chrt", "-f", "1", "taskset", "-c", str(RECEIVES),
+                                         self.folder / "receiver", str(PORT), str(USE_NS), str(traffic.filter), read], stdout=subprocess.PIPE)
+            self.undo.callback(receiver.wait)
+            self.undo.callback(receiver.kill)
+            if receiver.stdout.readline() != b"ready\n":
+                raise Failed("the receiver didn't start")
+        before = softnet(self.setting.polls_on)
+        self.put("tracing_on", 1)
+        address = "10.99.0.255" if self.setting.devices > 1 else "10.99.0.2"
+        said = self.within(self.out, "chrt", "-f", 1, "taskset", "-c", SENDS, self.folder / "sender", address, PORT, traffic.period, traffic.burst,
+                           traffic.count, traffic.gso, 1, traffic.kind)
+        time.sleep(0.05)
+        self.put("tracing_on", 0)
+        after = softnet(self.setting.polls_on)
+        if receiver and receiver.wait():
+            raise Failed("the receiver failed")
+        sent, failed = map(int, re.match(r"sent (\d+) failed (\d+)", said).groups())
+        if failed and self.setting.poller != "thread":  # whose ring may be full
+            raise Failed(f"{failed} packets weren't sent")
+        reads = [tuple(map(int, line.split(","))) for line in read.read_text(encoding="ascii").splitlines()] if receiver else []
+        return Recorded((self.instance / "trace").read_text(encoding="utf-8", errors="replace"), reads, sent, after[0] - before[0],
+                        after[1] - before[1])
+
+
+def record(folder, setting):
+    """One recording by this setting."""
+    with Rig(folder, setting) as rig:
+        return rig.record()
