@@ -33,14 +33,18 @@ class WhatIf(InFolder):
         """The values of a row, by the plain model."""
         lines = [line.split() for line in machine_model.machine(list(words), text).splitlines()]
         of = {kind: [dict(zip(line[skip::2], map(int, line[skip + 1 :: 2]))) for line in lines if line[0] == kind]
-              for kind, skip in (("device", 0), ("processor", 0), ("time", 0), ("total", 1))}
+              for kind, skip in (("device", 0), ("processor", 0), ("time", 0), ("application", 0), ("total", 1))}
         told = {name: of["total"][0][name] for name in ("arrived", "dropped", "refused", "used")}
         for end, kind in (("delivered", "device"), ("used", "processor")):
             told.update({f"{end}_{name}": max(line[wait] for line in of[kind]) for name, wait in (("p50", "wait50"), ("p99", "wait99"), ("p999", "wait999"))})
         told.update({f"{name}%": f"{100 * sum(line[name] for line in of['time']) / sum(line['end'] for line in of['time']):.2f}"
                      for name in ("interrupt", "poll", "use", "idle")})
-        told.update({name: sum(line[name] for line in of["processor"]) for name in ("interrupts", "runs", "polls", "squeezed", "late")})
-        return {name: str(value) for name, value in told.items()}
+        if of["application"]:
+            told["use%"] = f"{100 * sum(line['use'] for line in of['application']) / sum(line['end'] for line in of['application']):.2f}"
+        told.update({name: sum(line[name] for line in of["processor"]) for name in ("interrupts", "timers", "runs", "polls", "squeezed", "late")})
+        queues = [(line["device"] - 1) % len(of["processor"]) for line in of["device"]]
+        return {**{name: str(value) for name, value in told.items()}, "wakes": str(sum(line["wakes"] for line in of["application"])),
+                "queues_of_a_processor": str(max(map(queues.count, queues)))}
 
     def test_each_combination(self):
         rows = self.rows("--budget", "0,2,300", "--weight", "1,64", "--processors=2", "--ring=4")
@@ -57,6 +61,59 @@ class WhatIf(InFolder):
         self.assertEqual([row[name] for name in ("arrived", "used", "delivered_p50", "used_p999", "interrupt%", "poll%", "use%", "idle%", "runs")],
                          ["1", "1", "18", "20", "50.00", "40.00", "10.00", "0.00", "1"])
 
+    def test_each_option(self):
+        """Every option of the machine is a dimension; the rows are those of the plain model."""
+        for words in (["--gro-flush-timeout", "30000", "--defer-hard-irqs", "3"], ["--threaded", "1", "--wake", "2000"], ["--backlog", "1", "--ring", "2"],
+                      ["--rx-nsecs", "9000", "--rx-frames", "3"], ["--apart", "1", "--app-wake", "2500"], ["--time-limit", "5000"], ["--socket", "3"],
+                      ["--window", "1"]):
+            row, = self.rows(*words)
+            self.assertEqual(row, self.modelled(self.arrivals.read_text(), *words), words)
+
+    def test_queues(self):
+        """With queues the fourth column is read, and without them left out; arrivals without it have none."""
+        self.assertIn("there is no column flow", run("what-if", self.arrivals, "--queues", "1,2").stderr)
+        rows = self.arrivals.read_text().split()[1:]
+        with_flows = "moment,device,bytes,flow\n" + "".join(f"{row},{place % 5}\n" for place, row in enumerate(rows))
+        plain = self.arrivals.read_text()
+        self.arrivals.write_text(with_flows)
+        one, two = self.rows("--queues", "1,2")
+        self.assertEqual((one.pop("queues"), two.pop("queues"), one["queues_of_a_processor"], two["queues_of_a_processor"]), ("1", "2", "3", "6"))
+        self.assertEqual((one, two), (self.modelled(plain), self.modelled(with_flows, "--queues", "2")))
+
+    def test_the_band_of_costs(self):
+        """A packet at 0 and two at 9900 ns, an interrupt of 4000, a poll of 1000 and packets of 1000: they wait 6000, 6000 and 7000 ns. With deferral
+        and a timer of 5000, which fires at 11000, the interrupt ends at 15000, and they wait 6000, 7100 and 8100. With costs 20 % lower
+        4800, 4800 and 5600; with the timer, which fires at 9800, 4800, 4700 and 5500, which is less. A timer of 10000 stays worse."""
+        self.arrivals.write_text(HEADER + "0,1,60\n9900,1,60\n9900,1,60\n")
+        words = ["--use", "0", "--defer-hard-irqs", "1", "--gro-flush-timeout"]
+        self.assertEqual(self.said(*words, "0,10000"), "")
+        self.assertEqual(self.said(*words, "0,5000"), "what-if: with costs 20 % lower the order by the 99th percentile of that wait changes: "
+                         "gro-flush-timeout 0 and gro-flush-timeout 5000\n")
+        for others in (["--band", "0"], ["--band", "5"], ["--part", "1/1"]):
+            self.assertEqual(self.said(*words, "0,5000", *others), "")
+        out = self.folder / "rows"
+        self.said(*words, "0,5000", "--out", out)
+        self.assertEqual(len(out.read_text().splitlines()), 3)
+        self.assertIn("costs 20 % lower", self.said(*words, "0,5000", "--out", out, "--resume", "--band", "20"))
+        self.assertEqual(len(out.read_text().splitlines()), 7)
+
+    def said(self, *words):
+        done = run("what-if", self.arrivals, "--without-parallel", *words)
+        self.assertEqual(done.returncode, 0, done.stderr)
+        return done.stderr
+
+    def test_a_budget_with_one_queue(self):
+        """It changes runs and squeezes, and the tool says so; with three queues it doesn't say that."""
+        self.assertEqual(self.said("--budget", "16,300", "--band", "0"), "")
+        self.arrivals.write_text(HEADER + "".join(f"{1000 * place},1,60\n" for place in range(400)))
+        told = self.said("--budget", "16,300", "--band", "0")
+        self.assertEqual(told, "what-if: with one queue on each processor net.core.netdev_budget changes no latency and no drops, only how many runs there "
+                         "are and how many are squeezed\n")
+        small, usual = self.rows("--budget", "16,300", "--band", "0")
+        for name in ("runs", "squeezed", "budget"):
+            self.assertNotEqual(small.pop(name), usual.pop(name))
+        self.assertEqual(small, usual)
+
     def test_a_load_moves_the_moments(self):
         """At half the load a moment is twice what it was, at 1.5 two thirds, rounded down; no other file is left behind."""
         before = set(os.listdir("/tmp"))
@@ -69,10 +126,10 @@ class WhatIf(InFolder):
         self.arrivals.write_text(HEADER + '0,1,60\n"7",1,60\n')
         done = run("what-if", self.arrivals, "--load", "2", "--without-parallel")
         self.assertEqual(done.returncode, 1)
-        self.assertIn("row 2: moments are scaled where they are plain numbers", done.stderr)
+        self.assertIn("row 2: only moments that are plain numbers are scaled", done.stderr)
 
     def test_json(self):
-        done = run("what-if", self.arrivals, "--without-parallel", "--json", "--budget", "1,2", "--load", "0.5")
+        done = run("what-if", self.arrivals, "--without-parallel", "--json", "--budget", "1,2", "--load", "0.5", "--band", "0")
         told = list(map(json.loads, done.stdout.splitlines()))
         self.assertEqual([(row["budget"], row["load"], row["weight"], row["fault"], row["arrivals"]) for row in told],
                          [(1, 0.5, 64, None, str(self.arrivals)), (2, 0.5, 64, None, str(self.arrivals))])
@@ -117,7 +174,7 @@ class WhatIf(InFolder):
             self.rows("--budget", "1,300", "--load", "0.5,1,2", "--plot", self.folder / name)
             self.assertTrue((self.folder / name).read_bytes().startswith(begins))
         text = (self.folder / "x.svg").read_text()
-        for told in ("arrivals.csv: load 0.5, 1, 2; budget 1, 300.<", "Costs are given, in ns: interrupt 4000, poll 1000, packet 1000, use 2000.",
+        for told in ("arrivals.csv: load 0.5, 1, 2; budget 1, 300.<", "Costs are given, in ns: interrupt 4000, poll 1000, packet 1000, use 2000, wake 0, app-wake 0.",
                      "99th percentile of waits", "dropped and refused, %", "share of the processor, %", "budget 1<", "budget 300<", "load (times the arrivals)"):
             self.assertIn(told, text.replace("&apos;", "'"))
 
@@ -128,7 +185,7 @@ class WhatIf(InFolder):
             self.assertIn(why, done.stderr)
 
     def test_what_is_refused(self):
-        for words in (["--budget", "65536"], ["--load", "0"], ["--load", "1e3"], ["--weight", "0"], ["--budget", "1,,2"], ["--plot", "x.pdf"], ["--resume"]):
+        for words in (["--budget", "65536"], ["--load", "0"], ["--load", "1e3"], ["--weight", "0"], ["--slice", "1"], ["--longest", "1"], ["--threaded", "2"], ["--band", "91"], ["--band", "20", "--part", "1/2"], ["--budget", "1,,2"], ["--plot", "x.pdf"], ["--resume"]):
             self.assertEqual(run("what-if", self.arrivals, *words).returncode, 2, words)
         self.assertEqual(run("what-if").returncode, 2)
         self.assertIn("there is no such file", run("what-if", self.folder / "none").stderr)
