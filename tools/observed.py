@@ -24,7 +24,8 @@ class Observed:
         self.sent, self.has_come = array("Q"), bytearray()  # each packet's time, and 1 unless it was dropped at a full ring
         self.sent_on, self.senders = array("H"), []  # and the processor and the device that sent it
         self.ended, self.begun, self.work, self.on, self.is_thread = array("Q"), array("Q"), array("L"), array("H"), bytearray()  # of each poll
-        self.entries, self.timers, self.times = defaultdict(lambda: array("Q")), Counter(), Counter()
+        self.entries, self.timers = defaultdict(lambda: array("Q")), Counter()  # by processor: when its softirqs began; its NAPI timers
+        self.run_of = set()  # the softirqs that polled it, each by its processor and its place among the entries there
         self.span = None
         self.mark, self.running = {}, {}
         self.tasks = defaultdict(Counter)
@@ -65,6 +66,8 @@ class Observed:
             self.work.append(int(work))
             self.on.append(event.cpu)
             self.is_thread.append(by_thread)
+            if not by_thread and self.mark.get(event.cpu):
+                self.run_of.add((event.cpu, len(self.entries[event.cpu])))
         if by_thread or self.mark.get(event.cpu):
             self.mark[key] = event.time
 
@@ -96,18 +99,10 @@ class Observed:
         """The packets that found a full ring."""
         return len(self.has_come) - sum(self.has_come)
 
+    @property
     def runs(self):
-        """The softirqs in which the instance was polled."""
-        return len({(processor, began) for processor, began in self.run_of_polls() if began})
-
-    def run_of_polls(self):
-        """Of each poll that isn't a thread's: its processor, and when its softirq began."""
-        import bisect
-        for ended, on, by_thread in zip(self.ended, self.on, self.is_thread):
-            entries = self.entries[on]
-            place = bisect.bisect(entries, ended)
-            if not by_thread:
-                yield on, entries[place - 1] if place else 0
+        """How many softirqs polled it."""
+        return len(self.run_of)
 
     def waits(self):
         """From each packet's arrival to the end of the poll that delivered it; None if the sums of both don't agree."""

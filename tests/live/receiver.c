@@ -52,7 +52,7 @@ int main(int count, char **words) {
     if (bind(in, (const struct sockaddr *)&at, sizeof at)) return 1;
     puts("ready");
     fflush(stdout);
-    for (uint64_t bytes[25]; have < MOST && recv(in, bytes, sizeof bytes, 0) >= 16; have++) {
+    for (uint64_t bytes[25]; have < MOST && recv(in, bytes, sizeof bytes, 0) >= 8; have++) {
         packets[have].read = now();
         packets[have].number = bytes[0];
         if (have == 0) give_up_after(in, 300000);

@@ -34,6 +34,7 @@ class Traffic:
     period: int  # us
     burst: int
     count: int  # of bursts
+    pace: int = 0  # ns from one packet of a burst to the next
     gso: int = 1
     filter: int = 0  # multiplications that the kernel makes for each packet
 
@@ -228,7 +229,7 @@ class Rig:
         self.put("tracing_on", 1)
         address = "10.99.0.255" if self.setting.devices > 1 else "10.99.0.2"
         said = self.within(self.out, "chrt", "-f", 1, "taskset", "-c", SENDS, self.folder / "sender", address, PORT, traffic.period, traffic.burst,
-                           traffic.count, traffic.gso, 1, traffic.kind)
+                           traffic.count, traffic.pace, traffic.gso, traffic.kind)
         time.sleep(0.05)
         self.put("tracing_on", 0)
         after = softnet(self.setting.polls_on)

@@ -1,7 +1,7 @@
-/* sender ADDRESS PORT PERIOD_US BURST COUNT GSO SEED KIND: sends COUNT bursts of UDP packets, of which each holds its number and the time
- * at which it was sent (CLOCK_MONOTONIC, in ns).
+/* sender ADDRESS PORT PERIOD_US BURST COUNT PACE_NS GSO KIND: sends COUNT bursts of UDP packets, of which each holds its number.
  * KIND: `fixed`, a burst of BURST packets each PERIOD_US; `poisson`, the same at Poisson times of that mean distance; `mixed`, bursts
- * of 1 to 2 * BURST packets each PERIOD_US. With GSO above 1 a call sends up to GSO packets (UDP_SEGMENT).
+ * of 1 to 2 * BURST packets each PERIOD_US. Within a burst a call is made each PACE_NS, or as soon as the one before has returned if that is
+ * later, so the times don't depend on what becomes of the packets. With GSO above 1 a call sends up to GSO packets (UDP_SEGMENT).
  * The last line is `sent N failed N latest NS`, with how late the latest burst began. */
 #define _GNU_SOURCE
 #include <arpa/inet.h>
@@ -33,14 +33,14 @@ static void wait_until(uint64_t when) {
 
 int main(int count, char **words) {
     if (count != 9) return 2;
-    const int out = socket(AF_INET, SOCK_DGRAM, 0), segment = SIZE, room = 8 << 20, yes = 1, gso = atoi(words[6]);
+    const int out = socket(AF_INET, SOCK_DGRAM, 0), segment = SIZE, room = 8 << 20, yes = 1, gso = atoi(words[7]);
     const struct sockaddr_in to = {AF_INET, htons((uint16_t)atoi(words[2])), {inet_addr(words[1])}, {0}};
-    const uint64_t period = (uint64_t)atoll(words[3]) * 1000;
+    const uint64_t period = (uint64_t)atoll(words[3]) * 1000, pace = (uint64_t)atoll(words[6]);
     const int burst = atoi(words[4]), bursts = atoi(words[5]);
     const char kind = words[8][0];
     static char bytes[SIZE * MOST_SEGMENTS];
     if (gso < 1 || gso > MOST_SEGMENTS) return 2;
-    srand48(atoi(words[7]));
+    srand48(1);
     setsockopt(out, SOL_SOCKET, SO_BROADCAST, &yes, sizeof yes);
     setsockopt(out, SOL_SOCKET, SO_SNDBUFFORCE, &room, sizeof room);
     if (gso > 1 && setsockopt(out, IPPROTO_UDP, UDP_SEGMENT_OPTION, &segment, sizeof segment)) return 1;
@@ -51,13 +51,11 @@ int main(int count, char **words) {
         wait_until(when);
         const uint64_t late = now() - when;
         latest = late > latest ? late : latest;
-        for (int left = kind == 'm' ? 1 + (int)(drand48() * 2 * burst) : burst; left > 0;) {
+        uint64_t next = when;
+        for (int left = kind == 'm' ? 1 + (int)(drand48() * 2 * burst) : burst; left > 0; next += pace) {
             const int some = left < gso ? left : gso;
-            const uint64_t sent = now();
-            for (int k = 0; k < some; k++, number++) {
-                memcpy(bytes + k * SIZE, &number, 8);
-                memcpy(bytes + k * SIZE + 8, &sent, 8);
-            }
+            for (int k = 0; k < some; k++, number++) memcpy(bytes + k * SIZE, &number, 8);
+            while (now() < next) {}
             if (send(out, bytes, (size_t)(some * SIZE), 0) < 0) failed++;
             left -= some;
         }

@@ -1,0 +1,77 @@
+"""What a recording measured compared with what napi_machine predicts, for advise and tests/live.sh."""
+
+from toolbox import Refusal, ran, shown
+
+from arrivals import arrivals_text
+from machine_report import option_words, values_of
+
+# Of each measured value: its name in the machine's report, its unit, and by what it is divided for that unit.
+MEASURED = {"dropped": ("packets", 1), "polls": ("polls", 1), "runs": ("runs", 1), "delivered_p50": ("us", 1000), "delivered_p99": ("us", 1000),
+            "used_p50": ("us", 1000), "used_p99": ("us", 1000)}
+GRADES = ((15, "good"), (40, "fair"))  # the largest error, in %, that a grade allows
+FEW = 100  # drops and timers of fewer than one in so many packets aren't compared by their ratio
+
+
+def percentile(values, per_mille):
+    """The least of these values that so many of 1000 of them don't exceed; 0 if there is none."""
+    ordered = sorted(values)
+    return ordered[max(0, -(-len(ordered) * per_mille // 1000) - 1)] if ordered else 0
+
+
+def arrivals_at(observed, numbers=None, visible=False):
+    """The arrivals of a recording, with drops: each packet at the device that its sender has among `numbers`. If `visible`, a packet that was
+    sent on the processor that polls arrives when the next softirq begins there, because that softirq waits for the sender."""
+    numbers = numbers or {sender: 1 for sender in observed.peers}
+    times = shown_times(observed) if visible else observed.sent
+    rows = sorted((time, place, numbers[sender]) for place, (time, sender) in enumerate(zip(times, observed.senders)))
+    return "".join(arrivals_text((time, device, 60) for time, _, device in rows))
+
+
+def shown_times(observed):
+    """When each packet is seen by the processor that polls."""
+    import bisect
+    entries = observed.entries[observed.processor]
+    for time, processor in zip(observed.sent, observed.sent_on):
+        place = bisect.bisect_left(entries, time)
+        yield entries[place] if processor == observed.processor and place < len(entries) else time
+
+
+def measured_of(observed, ends=None):
+    """The values of a recording; of the application's waits too, if the end of each packet's use is known, by its number among the sent ones."""
+    values = {"sent": len(observed.sent), "dropped": observed.dropped, "polls": len(observed.ended), "runs": observed.runs,
+              "timers": observed.timers[observed.processor]}
+    waits = observed.waits()
+    if waits:
+        values.update(delivered_p50=percentile(waits, 500), delivered_p99=percentile(waits, 990))
+    if ends:
+        waits = [end - observed.sent[number] for number, end in ends]
+        values.update(used_p50=percentile(waits, 500), used_p99=percentile(waits, 990))
+    return values
+
+
+def predicted(made, arrivals, settings):
+    """The values of the machine for these arrivals."""
+    status, out, said = ran([made, *option_words(settings)], arrivals if isinstance(arrivals, bytes) else arrivals.encode())
+    if status != 0:
+        told = (said.decode("utf-8", "replace").splitlines() or [f"status {status}"])[-1]
+        raise Refusal(f"{shown(made)} failed: {shown(told)[:200]}")
+    return values_of(out.decode("ascii", "replace"))
+
+
+def error_of(name, measured, value, packets):
+    """How far a prediction is from what was measured, in %; of few drops by the packets, as a ratio of two small numbers says nothing."""
+    least = packets / FEW if name in ("dropped", "timers", "squeezed") else 1
+    return 100 * (value - measured) / max(measured, least)
+
+
+def compared(measured, values):
+    """Name, measured value, predicted value and error in % of each value that was measured."""
+    return [(name, measured[name], values[name], error_of(name, measured[name], values[name], measured["sent"]))
+            for name in MEASURED if name in measured and name in values]
+
+
+def grade_of(rows):
+    """Good, fair or poor, by the largest error. Of waits the medians count: a 99th percentile of some tens of us is made of interrupts and of the
+    hypervisor's work, which the machine doesn't have."""
+    worst = max((abs(error) for name, _, _, error in rows if not name.endswith("p99")), default=100)
+    return next((grade for most, grade in GRADES if worst <= most), "poor")
