@@ -1,5 +1,5 @@
-/* The receiving machine of napi_machine by a plain program, to time beside it: the same words, arrivals (without quotes) and report.
- * tests/machine.sh holds it against tests/machine_model.py. */
+/* The receiving machine of napi_machine as a plain program, to compare its speed with: the same options, arrivals (without quotes) and
+ * report. tests/machine.sh compares its reports with those of tests/machine_model.py. */
 #include <algorithm>
 #include <array>
 #include <cstdint>
@@ -18,39 +18,52 @@ static const unsigned DEVICES = 64; // of a processor
 }
 
 static uint64_t held(uint64_t a, uint64_t b) { return a > MOST - b ? MOST : a + b; }
+static uint64_t held_product(uint64_t a, uint64_t b) { return b && a > MOST / b ? MOST : a * b; }
 
-// ---- words
+// ---- options
 
-enum Word { PROCESSORS, RING, SOCKET, BUDGET, WEIGHT, WINDOW, INTERRUPT, POLL, PACKET, USE, SLICE, LONGEST, WORDS };
+enum Option {
+    PROCESSORS, QUEUES, RING, SOCKET, BACKLOG, BUDGET, WEIGHT, WINDOW, TIME_LIMIT, RX_NSECS, RX_FRAMES, DEFER_HARD_IRQS, GRO_FLUSH_TIMEOUT, THREADED,
+    APART, APP_WAKE, INTERRUPT, POLL, PACKET, USE, WAKE, OPTIONS
+};
 struct Range {
     const char *name;
     uint64_t low, high;
 };
-static const Range ranges[WORDS] = {{"processors", 1, 64}, {"ring", 1, 65536}, {"socket", 1, 65536}, {"budget", 0, 65535}, {"weight", 1, 64},
-    {"window", 1, 65535}, {"interrupt", 0, 1000000000}, {"poll", 0, 1000000000}, {"packet", 0, 1000000000}, {"use", 0, 1000000000},
-    {"slice", 0, 1000000000}, {"longest", 1, 1000000000}};
-static uint64_t settings[WORDS] = {1, 256, 512, 300, 64, 1024, 4000, 1000, 1000, 2000, 100000, 2000000};
+static const uint64_t LONGEST = 1000000000;
+static const Range ranges[OPTIONS] = {{"processors", 1, 64}, {"queues", 1, 64}, {"ring", 1, 65536}, {"socket", 1, 65536}, {"backlog", 0, 1},
+    {"budget", 0, 65535}, {"weight", 1, 64}, {"window", 1, 65535}, {"time-limit", 1, LONGEST}, {"rx-nsecs", 0, LONGEST}, {"rx-frames", 0, 65535},
+    {"defer-hard-irqs", 0, 65535}, {"gro-flush-timeout", 0, LONGEST}, {"threaded", 0, 1}, {"apart", 0, 1}, {"app-wake", 0, LONGEST},
+    {"interrupt", 0, LONGEST}, {"poll", 0, LONGEST}, {"packet", 0, LONGEST}, {"use", 0, LONGEST}, {"wake", 0, LONGEST}};
+static uint64_t settings[OPTIONS] = {1, 1, 256, 512, 0, 300, 64, 1024, 8000000, 0, 0, 0, 0, 0, 0, 0, 4000, 1000, 1000, 2000, 0};
 
-static uint64_t number(const char *text, size_t length, size_t most, bool &is_one) {
-    uint64_t value = 0;
+/* The number that these digits write, at most 2^64 - 1; with a divisor its remainder, of any number. */
+static uint64_t number(const char *text, size_t length, size_t most, bool &is_one, uint64_t divisor = 0) {
+    uint64_t value = 0; // of the first 19 digits
     is_one &= length > 0 && length <= most;
     for (size_t i = 0; i < length && is_one; i++) {
-        is_one = text[i] >= '0' && text[i] <= '9';
-        value = value > (MOST - 9) / 10 ? MOST : value * 10 + static_cast<unsigned char>(text[i] - '0');
+        const unsigned digit = static_cast<unsigned char>(text[i]) - unsigned{'0'};
+        is_one = digit < 10;
+        if (i == 19) {
+            const unsigned __int128 whole = static_cast<unsigned __int128>(value) * 10 + digit;
+            if (divisor) return static_cast<uint64_t>(whole % divisor);
+            return whole > MOST ? MOST : static_cast<uint64_t>(whole);
+        }
+        value = value * 10 + digit;
     }
-    return value;
+    return divisor ? value % divisor : value;
 }
 
-static void read_words(int count, char **words) {
-    bool given[WORDS] = {};
+static void read_options(int count, char **arguments) {
+    bool given[OPTIONS] = {};
     for (int i = 1; i < count; i++) {
-        const char *sign = std::strchr(words[i], '=');
-        const size_t length = sign ? static_cast<size_t>(sign - words[i]) : std::strlen(words[i]);
-        const Range *found = std::find_if(ranges, ranges + WORDS, [&](const Range &range) {
-            return length == std::strlen(range.name) + 2 && !std::strncmp(words[i], "--", 2) && !std::strncmp(words[i] + 2, range.name, length - 2);
+        const char *sign = std::strchr(arguments[i], '=');
+        const size_t length = sign ? static_cast<size_t>(sign - arguments[i]) : std::strlen(arguments[i]);
+        const Range *found = std::find_if(ranges, ranges + OPTIONS, [&](const Range &range) {
+            return length == std::strlen(range.name) + 2 && !std::strncmp(arguments[i], "--", 2) && !std::strncmp(arguments[i] + 2, range.name, length - 2);
         });
-        const char *text = sign ? sign + 1 : i + 1 < count ? words[++i] : "";
-        bool is_one = found != ranges + WORDS && !given[found - ranges];
+        const char *text = sign ? sign + 1 : i + 1 < count ? arguments[++i] : "";
+        bool is_one = found != ranges + OPTIONS && !given[found - ranges];
         const uint64_t value = number(text, std::strlen(text), 10, is_one);
         if (!is_one || value < found->low || value > found->high) stop(64, "usage fault 64\n");
         given[found - ranges] = true;
@@ -65,6 +78,7 @@ template <typename Number> class Queue {
   public:
     explicit Queue(size_t most) : slots(most) {}
     size_t size() const { return count; }
+    Number first() const { return slots[from]; }
     void put(Number value) { slots[at(count++)] = value; }
     Number take() {
         const Number value = slots[from];
@@ -84,19 +98,19 @@ class Waits {
     uint64_t count = 0;
     void add(uint64_t wait) {
         count++;
-        sum = held(sum, wait);
+        sum += wait;
         most = std::max(most, wait);
         const size_t place = place_of(wait);
         if (place >= buckets.size()) buckets.resize(place + 1);
         buckets[place]++;
     }
     void print() const {
-        std::printf(" mean %lu wait50 %lu wait90 %lu wait99 %lu wait999 %lu most %lu\n", count ? sum / count : 0, least(500), least(900), least(990),
-            least(999), most);
+        const uint64_t mean = count ? static_cast<uint64_t>(sum / count) : 0;
+        std::printf(" mean %lu wait50 %lu wait90 %lu wait99 %lu wait999 %lu most %lu\n", mean, least(500), least(900), least(990), least(999), most);
     }
 
   private:
-    /* The first ten binary digits of a wait, and how many are behind them. */
+    /* A bucket for each value of the first ten binary digits, and of how many follow them. */
     static size_t place_of(uint64_t wait) {
         if (wait < 1024) return wait;
         const unsigned rest = 54 - static_cast<unsigned>(__builtin_clzll(wait));
@@ -113,151 +127,344 @@ class Waits {
         }
         return 0;
     }
-    uint64_t sum = 0, most = 0;
+    unsigned __int128 sum = 0;
+    uint64_t most = 0;
     std::vector<uint64_t> buckets;
 };
 
+/* A queue of a card with its NAPI instance. */
 struct Device {
     Queue<uint64_t> ring{settings[RING]};
+    Queue<uint64_t> taken{settings[BACKLOG] ? settings[RING] : 0}; // what process_backlog moved out of the ring
     bool is_masked = false;
+    uint64_t frames = 0, deferrals = 0;
     uint64_t arrived = 0, dropped = 0, interrupts = 0, polls = 0;
     Waits waits;
+};
+
+/* The timers of a processor's devices. A device has at most one: while it is masked its NAPI timer, else its card's. */
+class Timers {
+  public:
+    bool expire_by(uint64_t moment) const { return is_set && least <= moment; }
+    bool has(unsigned at) const { return is_set >> at & 1; }
+    uint64_t soonest() const { return least; }
+    void set(unsigned at, uint64_t time) {
+        if (!is_set || time < least || (time == least && at < first)) {
+            least = time;
+            first = at;
+        }
+        is_set |= 1ull << at;
+        times[at] = time;
+    }
+    void unset(unsigned at) {
+        if (!has(at)) return;
+        is_set &= ~(1ull << at);
+        if (at == first) search();
+    }
+    unsigned take() {
+        const unsigned at = first;
+        unset(at);
+        return at;
+    }
+
+  private:
+    void search() {
+        least = MOST;
+        first = DEVICES;
+        for (uint64_t rest = is_set; rest; rest &= rest - 1) {
+            const unsigned at = static_cast<unsigned>(__builtin_ctzll(rest));
+            if (first < DEVICES && times[at] >= least) continue;
+            least = times[at];
+            first = at;
+        }
+    }
+    std::array<uint64_t, DEVICES> times;
+    uint64_t is_set = 0, least = MOST;
+    unsigned first = DEVICES;
+};
+
+/* The application on a processor of its own. */
+struct Application {
+    bool is_awake = false, has_packet = false;
+    uint64_t end = 0, hand = 0, wakes = 0;
 };
 
 class Processor {
   public:
     std::array<std::unique_ptr<Device>, DEVICES> devices;
-    uint64_t clock = 0, interrupts = 0, runs = 0, polls = 0, work = 0, squeezed = 0, late = 0, refused = 0, interrupting = 0, polling = 0, using_ = 0;
+    uint64_t clock = 0, interrupts = 0, expired = 0, runs = 0, polls = 0, work = 0, squeezed = 0, late = 0, refused = 0;
+    uint64_t interrupting = 0, polling = 0, using_ = 0;
     Waits waits;
+    Application application;
 
     void arrive(uint64_t moment, unsigned at) {
-        while (under_way != NOTHING && ends <= moment) end_work();
+        advance(moment);
         if (under_way == NOTHING) clock = moment;
         if (!devices[at]) devices[at] = std::make_unique<Device>();
         Device &device = *devices[at];
         device.arrived++;
-        if (device.ring.size() == settings[RING]) device.dropped++;
-        else {
-            device.ring.put(moment);
-            if (!device.is_masked) raised |= 1ull << at;
+        if (device.ring.size() == settings[RING]) {
+            device.dropped++;
+            return;
         }
-        if (under_way == NOTHING) take_up();
+        device.ring.put(moment);
+        if (!device.is_masked) notify(device, at, moment);
+        disturb(moment);
     }
     void finish() {
-        while (under_way != NOTHING) end_work();
+        advance(MOST);
+        go_on(MOST);
     }
 
   private:
-    enum { NOTHING, AN_INTERRUPT, A_POLL, A_USE } under_way = NOTHING;
-    uint64_t ends = 0, raised = 0, slice = 0;
+    enum Kind { NOTHING, AN_INTERRUPT, A_POLL, A_PACKET, A_USE } under_way = NOTHING;
+    static const unsigned THE_APPLICATION = DEVICES; // among the tasks, after the numbers of devices
+    uint64_t began = 0, ends = 0; // the work under way
+    uint64_t packet = 0; // when the packet arrived that is polled or used
     unsigned busy = 0; // the device whose interrupt or poll is under way
-    uint64_t used = 0; // when the packet came that is used
-    std::array<uint64_t, 64> polled;
-    size_t given = 0;
+    uint64_t polled = 0; // packets of this poll
+    uint64_t raised = 0, fired = 0; // sets of devices
+    Timers timers;
+    bool has_rest = false; // of an interrupted use
+    uint64_t rest_packet = 0, rest_length = 0;
     Queue<uint64_t> socket{settings[SOCKET]};
-    Queue<unsigned> list{DEVICES}, taken{DEVICES}, again{DEVICES};
-    bool is_running = false;
-    uint64_t began = 0, run_polls = 0, run_work = 0;
+    Queue<unsigned> list{DEVICES}, own{DEVICES}, again{DEVICES}, tasks{DEVICES + 1};
+    bool is_running = false, is_runnable = false; // a run is under way; the application is among the tasks
+    uint64_t run_began = 0, run_polls = 0, run_work = 0;
 
-    void start(decltype(under_way) what, uint64_t cost, uint64_t &sum) {
-        under_way = what;
-        sum = held(sum, cost);
-        ends = held(clock, cost);
+    // ---- time
+
+    void advance(uint64_t moment) {
+        for (;;) {
+            if (under_way != NOTHING && ends <= moment && ends <= timers.soonest()) end_work();
+            else if (timers.expire_by(moment)) expire();
+            else return;
+        }
     }
 
+    void expire() {
+        const uint64_t time = timers.soonest();
+        const unsigned at = timers.take();
+        (devices[at]->is_masked ? fired : raised) |= 1ull << at;
+        disturb(time);
+    }
+
+    void disturb(uint64_t time) {
+        if (under_way == NOTHING) {
+            clock = time;
+            if (!(raised | fired)) return;
+            interrupting = held(interrupting, settings[WAKE]);
+            clock = held(time, settings[WAKE]);
+            take_up();
+        } else if (under_way == A_USE && (raised | fired)) {
+            has_rest = true;
+            rest_packet = packet;
+            rest_length = ends - time;
+            using_ = held(using_, time - began);
+            clock = time;
+            take_up();
+        }
+    }
+
+    void notify(Device &device, unsigned at, uint64_t time) {
+        device.frames++;
+        if (settings[RX_NSECS] == 0 || (settings[RX_FRAMES] != 0 && device.frames >= settings[RX_FRAMES])) {
+            raised |= 1ull << at;
+            timers.unset(at);
+        } else if (!(raised >> at & 1) && !timers.has(at)) {
+            timers.set(at, held(time, settings[RX_NSECS]));
+        }
+    }
+
+    void start(Kind kind, uint64_t length) {
+        under_way = kind;
+        began = clock;
+        ends = held(clock, length);
+    }
+
+    void end_work() {
+        const Kind kind = under_way;
+        uint64_t &sum = kind == AN_INTERRUPT ? interrupting : kind == A_USE ? using_ : polling;
+        sum = held(sum, ends - began);
+        clock = ends;
+        under_way = NOTHING;
+        if (kind == A_USE) waits.add(clock - packet);
+        else if (kind == A_POLL) next_packet();
+        else if (kind == A_PACKET) end_packet();
+        else if (settings[BUDGET] == 0) end_lone_interrupt();
+        if (under_way == NOTHING) take_up();
+    }
+
+    // ---- work: the first of these that there is
+
     void take_up() {
-        if (raised) return interrupt();
-        if (is_running && goes_on()) return poll();
-        if (slice && socket.size()) return use();
-        slice = 0;
-        if (list.size()) return begin();
-        if (socket.size()) return use();
+        under_way = NOTHING;
+        if (raised | fired) return interrupt();
+        if (is_running && goes_on()) return poll(own.take());
+        if (list.size()) return begin_run();
+        if (has_rest) return go_on_with_rest();
+        if (settings[THREADED]) return first_task();
+        if (!settings[APART] && socket.size()) use();
     }
 
     void interrupt() {
-        busy = static_cast<unsigned>(__builtin_ctzll(raised));
-        raised &= raised - 1;
-        interrupts++;
-        devices[busy]->interrupts++;
-        if (settings[BUDGET] == 0) return start(AN_INTERRUPT, settings[INTERRUPT] + settings[PACKET], interrupting);
-        devices[busy]->is_masked = true;
-        list.put(busy);
-        start(AN_INTERRUPT, settings[INTERRUPT], interrupting);
+        busy = static_cast<unsigned>(__builtin_ctzll(raised | fired));
+        const uint64_t bit = 1ull << busy;
+        Device &device = *devices[busy];
+        if (fired & bit) {
+            fired ^= bit;
+            expired++;
+        } else {
+            raised ^= bit;
+            device.frames = 0;
+            timers.unset(busy);
+            device.interrupts++;
+            interrupts++;
+            if (settings[BUDGET] == 0) return start(AN_INTERRUPT, settings[INTERRUPT] + settings[PACKET]);
+            device.is_masked = true;
+        }
+        (settings[THREADED] ? tasks : list).put(busy);
+        start(AN_INTERRUPT, settings[INTERRUPT]);
     }
 
-    void begin() {
+    void end_lone_interrupt() {
+        Device &device = *devices[busy];
+        deliver(device, device.ring.take());
+        raised = (raised & ~(1ull << busy)) | static_cast<uint64_t>(device.ring.size() > 0) << busy;
+    }
+
+    void begin_run() {
         is_running = true;
-        began = clock;
+        run_began = clock;
         run_polls = run_work = 0;
-        std::swap(taken, list);
-        poll();
+        std::swap(own, list);
+        poll(own.take());
     }
 
     /* Whether the run makes another poll; if not, it is ended. */
     bool goes_on() {
-        const bool is_spent = run_work >= settings[BUDGET] || run_polls >= settings[WINDOW], is_over = clock - began >= settings[LONGEST];
+        const bool is_spent = run_work >= settings[BUDGET] || run_polls >= settings[WINDOW], is_over = clock - run_began >= settings[TIME_LIMIT];
         if (!is_spent && !is_over) {
-            if (taken.size()) return true;
+            if (own.size()) return true;
             if (!again.size() && list.size()) {
-                std::swap(taken, list);
+                std::swap(own, list);
                 return true;
             }
         }
         is_running = false;
-        while (list.size()) taken.put(list.take());
-        while (again.size()) taken.put(again.take());
-        std::swap(taken, list);
+        while (list.size()) own.put(list.take());
+        while (again.size()) own.put(again.take());
+        std::swap(own, list);
         runs++;
         polls += run_polls;
         work += run_work;
         squeezed += is_spent || is_over;
         late += is_over && !is_spent;
-        slice = settings[SLICE];
         return false;
     }
 
-    void poll() {
-        busy = taken.take();
-        Device &device = *devices[busy];
-        device.polls++;
-        given = std::min<size_t>(settings[WEIGHT], device.ring.size());
-        for (size_t i = 0; i < given; i++) polled[i] = device.ring.take();
-        start(A_POLL, settings[POLL] + settings[PACKET] * given, polling);
+    void go_on_with_rest() {
+        has_rest = false;
+        packet = rest_packet;
+        start(A_USE, rest_length);
+    }
+
+    void first_task() {
+        if (is_runnable && tasks.first() == THE_APPLICATION && !socket.size()) {
+            tasks.take();
+            is_runnable = false;
+        }
+        if (!tasks.size()) return;
+        if (tasks.first() == THE_APPLICATION) use();
+        else poll(tasks.first());
     }
 
     void use() {
-        used = socket.take();
-        slice -= std::min(slice, settings[USE]);
-        start(A_USE, settings[USE], using_);
+        packet = socket.take();
+        start(A_USE, settings[USE]);
     }
 
-    void deliver(Device &device, uint64_t came) {
-        device.waits.add(clock - came);
-        if (socket.size() == settings[SOCKET]) refused++;
-        else socket.put(came);
+    // ---- a poll
+
+    void poll(unsigned at) {
+        busy = at;
+        polled = 0;
+        devices[at]->polls++;
+        start(A_POLL, settings[POLL]);
     }
 
-    void end_work() {
-        const auto what = under_way;
-        clock = ends;
-        under_way = NOTHING;
-        if (what == A_USE) waits.add(clock - used);
-        if (what == A_POLL) end_poll(*devices[busy]);
-        if (what == AN_INTERRUPT && settings[BUDGET] == 0) {
-            Device &device = *devices[busy];
-            deliver(device, device.ring.take());
-            raised = (raised & ~(1ull << busy)) | static_cast<uint64_t>(device.ring.size() > 0) << busy;
-        }
-        take_up();
+    void end_packet() {
+        polled++;
+        deliver(*devices[busy], packet);
+        next_packet();
+    }
+
+    void next_packet() {
+        Device &device = *devices[busy];
+        if (polled == settings[WEIGHT]) return end_poll(device);
+        if (settings[BACKLOG] && !device.taken.size()) std::swap(device.taken, device.ring);
+        Queue<uint64_t> &from = settings[BACKLOG] ? device.taken : device.ring;
+        if (!from.size()) return end_poll(device);
+        packet = from.take();
+        start(A_PACKET, settings[PACKET]);
     }
 
     void end_poll(Device &device) {
-        for (size_t i = 0; i < given; i++) deliver(device, polled[i]);
-        run_polls++;
-        run_work += given;
-        if (given == settings[WEIGHT]) return again.put(busy);
+        const bool is_full = polled == settings[WEIGHT];
+        if (settings[THREADED]) {
+            polls++;
+            work += polled;
+            if (!is_full) tasks.take();
+        } else {
+            run_polls++;
+            run_work += polled;
+            if (is_full) again.put(busy);
+        }
+        if (!is_full) complete(device);
+    }
+
+    void complete(Device &device) {
+        if (polled) device.deferrals = settings[DEFER_HARD_IRQS];
+        if (device.deferrals) {
+            device.deferrals--;
+            if (settings[GRO_FLUSH_TIMEOUT]) return timers.set(busy, held(clock, settings[GRO_FLUSH_TIMEOUT]));
+        }
         device.is_masked = false;
-        raised |= static_cast<uint64_t>(device.ring.size() > 0) << busy;
+    }
+
+    void deliver(Device &device, uint64_t arrived) {
+        if (settings[APART]) go_on(clock);
+        device.waits.add(clock - arrived);
+        if (socket.size() == settings[SOCKET]) {
+            refused++;
+            return;
+        }
+        socket.put(arrived);
+        if (settings[APART]) {
+            if (!application.is_awake) wake_application();
+        } else if (settings[THREADED] && !is_runnable) {
+            tasks.put(THE_APPLICATION);
+            is_runnable = true;
+        }
+    }
+
+    // ---- the application on a processor of its own
+
+    void wake_application() {
+        application.is_awake = true;
+        application.has_packet = false;
+        application.wakes++;
+        application.end = held(clock, settings[APP_WAKE]);
+    }
+
+    void go_on(uint64_t moment) {
+        while (application.is_awake && application.end <= moment) {
+            if (application.has_packet) waits.add(application.end - application.hand);
+            application.has_packet = application.is_awake = socket.size() > 0;
+            if (!application.is_awake) return;
+            application.hand = socket.take();
+            application.end = held(application.end, settings[USE]);
+        }
     }
 };
 
@@ -293,35 +500,44 @@ class Lines {
     }
 };
 
-static void read_row(const char *line, size_t length, unsigned long long row, uint64_t fields[3]) {
+static void read_row(const char *line, size_t length, unsigned long long row, uint64_t fields[4]) {
+    const size_t wanted = settings[QUEUES] > 1 ? 4 : 3;
     size_t count = 0, from = 0;
     bool are_numbers = true;
     for (size_t i = 0; i <= length; i++)
         if (i == length || line[i] == ',') {
-            if (count < 3) fields[count] = number(line + from, i - from, 20, are_numbers);
+            if (count < wanted) fields[count] = number(line + from, i - from, 20, are_numbers, count == 3 ? settings[QUEUES] : 0);
             count++;
             from = i + 1;
         }
-    if (count != 3) stop(2, "arrivals fault 2 %s row %llu\n", "BadFields", row);
+    if (count != wanted) stop(2, "arrivals fault 2 %s row %llu\n", "BadFields", row);
     if (!are_numbers) stop(2, "arrivals fault 3 %s row %llu\n", "BadNumber", row);
-    if (fields[0] >= LATEST || fields[1] < 1 || fields[1] > DEVICES * settings[PROCESSORS] || fields[2] < 1 || fields[2] > 65535)
+    const uint64_t highest = DEVICES * settings[PROCESSORS];
+    if (fields[0] >= LATEST || fields[1] < 1 || fields[1] > highest || fields[2] < 1 || fields[2] > 65535 ||
+        (fields[1] - 1) * settings[QUEUES] + fields[3] >= highest)
         stop(2, "arrivals fault 5 %s row %llu\n", "OutOfRange", row);
 }
 
 static void read_arrivals(std::vector<Processor> &processors) {
     Lines lines;
-    const char *line = nullptr, *header = "moment,device,bytes";
+    const char *line = nullptr, *header = settings[QUEUES] > 1 ? "moment,device,bytes,flow" : "moment,device,bytes";
     size_t length = 0;
     if (!lines.next(line, length) || length != std::strlen(header) || std::memcmp(line, header, length))
         stop(2, "arrivals fault 1 %s row %llu\n", "BadHeader", 0);
-    uint64_t before = 0, fields[3] = {};
+    uint64_t before = 0, fields[4] = {};
     for (unsigned long long row = 1; lines.next(line, length); row++) {
         read_row(line, length, row, fields);
         if (fields[0] < before) stop(2, "arrivals fault 8 %s row %llu\n", "Falls", row);
         before = fields[0];
-        const uint64_t device = fields[1] - 1;
-        processors[device % processors.size()].arrive(before, static_cast<unsigned>(device / processors.size()));
+        const uint64_t queue = (fields[1] - 1) * settings[QUEUES] + fields[3];
+        processors[queue % processors.size()].arrive(before, static_cast<unsigned>(queue / processors.size()));
     }
+}
+
+static void print_application(size_t of, const Processor &each) {
+    const uint64_t used = held_product(each.waits.count, settings[USE]), woken = held_product(each.application.wakes, settings[APP_WAKE]);
+    const uint64_t end = each.application.end;
+    std::printf("application %lu end %lu wakes %lu use %lu idle %lu\n", of, end, each.application.wakes, used, end - std::min(end, held(used, woken)));
 }
 
 static void report(const std::vector<Processor> &processors) {
@@ -340,20 +556,21 @@ static void report(const std::vector<Processor> &processors) {
         }
     for (size_t of = 0; of < processors.size(); of++) {
         const Processor &each = processors[of];
-        std::printf("processor %lu interrupts %lu runs %lu polls %lu work %lu squeezed %lu late %lu refused %lu used %lu", of, each.interrupts, each.runs,
-            each.polls, each.work, each.squeezed, each.late, each.refused, each.waits.count);
+        std::printf("processor %lu interrupts %lu timers %lu runs %lu polls %lu work %lu squeezed %lu late %lu refused %lu used %lu", of, each.interrupts, each.expired,
+            each.runs, each.polls, each.work, each.squeezed, each.late, each.refused, each.waits.count);
         each.waits.print();
         const uint64_t busy = held(each.interrupting, held(each.polling, each.using_));
         std::printf("time %lu end %lu interrupt %lu poll %lu use %lu idle %lu\n", of, each.clock, each.interrupting, each.polling, each.using_,
             each.clock - std::min(each.clock, busy));
+        if (settings[APART]) print_application(of, each);
         refused += each.refused;
         used += each.waits.count;
     }
     std::printf("total devices %lu arrived %lu dropped %lu polled %lu refused %lu used %lu\n", devices, arrived, dropped, polled, refused, used);
 }
 
-int main(int count, char **words) {
-    read_words(count, words);
+int main(int count, char **arguments) {
+    read_options(count, arguments);
     std::vector<Processor> processors(settings[PROCESSORS]);
     read_arrivals(processors);
     for (Processor &processor : processors) processor.finish();

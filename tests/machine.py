@@ -1,101 +1,163 @@
-"""Checks of a program of the receiving machine (napi_machine, or bench/machine.cc), for tests/machine.sh: what it prints is that of the
-plain model, or of queueing theory.
+"""Checks of a program of the receiving machine (napi_machine, or bench/machine.cc), for tests/machine.sh: what it prints is what the
+plain model prints, or what queueing theory or a recording of Linux says. PROGRAM is a command, e.g. `python3 -B tests/machine_model.py`.
 
-    python3 -B tests/machine.py random|faults|texts|words|ends|queue|livelock|recorded PROGRAM [SEED COUNT]
+    python3 -B tests/machine.py examples|random|faults|texts|options|ends|queue|livelock|recorded PROGRAM [SEED COUNT]
     python3 -B tests/machine.py simulated REPORT FILE
 """
 import itertools
 import os
 import pathlib
 import random
+import shlex
 import subprocess
 import sys
 import tempfile
 from collections import Counter
 
 import machine_model
-from machine_model import HEADER, WORDS, Fault
+from machine_model import OPTIONS, Fault
+
+TOP = pathlib.Path(__file__).resolve().parent.parent
+HEADER = "moment,device,bytes"
 
 
-def ran(program, words, text):
-    done = subprocess.run([program, *words], input=text if isinstance(text, bytes) else text.encode(), capture_output=True, check=False, timeout=600)
+def ran(program, arguments, text):
+    done = subprocess.run([*shlex.split(program), *arguments], input=text if isinstance(text, bytes) else text.encode(), capture_output=True,
+                          check=False, timeout=600)
     return done.stdout.decode("latin-1"), done.stderr.decode("latin-1"), done.returncode
 
 
-def modelled(words, text):
+def modelled(arguments, text):
     try:
-        return machine_model.machine(words, text), "", 0
+        return machine_model.machine(arguments, text), "", 0
     except Fault as fault:
         return "", fault.line + "\n", fault.status
 
 
 def values(line):
     """The numbers of a line of the report, by their names."""
-    words = line.split()
-    return dict(zip(words[::2], map(int, words[1::2])))
+    fields = line.split()
+    return dict(zip(fields[::2], map(int, fields[1::2])))
 
 
-def text_of(rows):
-    return "".join(f"{line}\n" for line in [HEADER, *(",".join(map(str, row)) for row in rows)])
+def text_of(rows, header=HEADER):
+    return "".join(f"{line}\n" for line in [header, *(",".join(map(str, row)) for row in rows)])
 
 
-def same(program, words, text):
-    """Both of them the same, else both are shown."""
-    mine, theirs = modelled(words, text), ran(program, words, text)
+def same(program, arguments, text):
+    """Returns what both print; if they differ, prints both and exits."""
+    mine, theirs = modelled(arguments, text), ran(program, arguments, text)
     if mine != theirs:
-        raise SystemExit("{} {}\n{}the model:\n{}{} status {}\nthe program:\n{}{} status {}".format(program, " ".join(words), text[:3000], *mine, *theirs))
+        raise SystemExit("{} {}\n{}the model:\n{}{} status {}\nthe program:\n{}{} status {}".format(
+            program, " ".join(arguments), text[:3000], *mine, *theirs))
     return mine[0]
 
 
-# ---- random arrivals with random words
+# ---- reports that were worked out by hand
 
-def random_words(chance):
-    """Most options are left out; costs that are the same, or 0, or fall on the moments' grid, make ties."""
+def examples(program):
+    wrong, count = [], 0
+    for example in (TOP / "tests/machine_examples.txt").read_text(encoding="ascii").split("\n\n"):
+        of = {"report": []}
+        for line in example.splitlines():
+            name, sign, rest = line.partition(": ")
+            if line.startswith("#"):
+                continue
+            if sign:
+                of.setdefault(name, []).append(rest)
+            else:
+                of["report"].append(line)
+        if "options" not in of:
+            continue
+        out, _, _ = ran(program, of["options"][0].split(), text_of(row.split(",") for row in of["arrivals"][0].split()))
+        is_right = all(part in out for part in of["contains"]) if "contains" in of else out.splitlines() == of["report"]
+        wrong += [] if is_right else [f"{of['options'][0]}\n{out}"]
+        count += 1
+    return wrong if count == 5 else [f"there are {count} examples", *wrong]
+
+
+# ---- random arrivals with random options
+
+def random_options(chance):
+    """Costs that are the same, or 0, or fall on the grid of the arrivals, make ties."""
     costs = (0, 1, 500, 1000, 1000, 2000, 4000, chance.randrange(20000), chance.randrange(10**6))
-    choices = {"processors": (1, 2, 3, chance.randint(1, 64)), "ring": (1, 2, 4, 16, 256), "socket": (1, 2, 8, 512), "budget": (0, 0, 1, 2, 3, 16, 64, 300),
-               "weight": (1, 2, 3, 8, 64), "window": (1, 2, 3, 1024), "slice": (0, 1, 2000, 10000, 100000), "longest": (1, 1000, 5000, 20000, 2000000)}
-    words = []
-    for name in chance.sample(list(WORDS), len(WORDS)):
-        if chance.random() < 0.6:
-            value = chance.choice(choices.get(name, costs))
-            value = str(value).zfill(chance.choice((1, 1, 1, 10)))
-            words += [f"--{name}={value}"] if chance.random() < 0.5 else [f"--{name}", value]
-    return words
+    choices = {"processors": (1, 2, 3, chance.randint(1, 64)), "queues": (1, 1, 2, 3, 8, 64), "ring": (1, 2, 4, 16, 256), "socket": (1, 2, 8, 512),
+               "backlog": (0, 1), "budget": (0, 1, 2, 3, 16, 64, 300), "weight": (1, 2, 3, 8, 64), "window": (1, 2, 3, 1024),
+               "time-limit": (1, 1000, 5000, 20000, 8000000), "rx-nsecs": (0, 1, 500, 3000, 20000, 100000), "rx-frames": (0, 1, 2, 5),
+               "defer-hard-irqs": (0, 1, 2, 2, 9), "gro-flush-timeout": (0, 500, 1000, 20000, 20000), "threaded": (0, 1), "apart": (0, 1)}
+    share, arguments = chance.choice((0.15, 0.4, 0.8)), []
+    for name in chance.sample(list(OPTIONS), len(OPTIONS)):
+        if chance.random() < share:
+            value = str(chance.choice(choices.get(name, costs))).zfill(chance.choice((1, 1, 1, 10)))
+            arguments += [f"--{name}={value}"] if chance.random() < 0.5 else [f"--{name}", value]
+    return arguments
 
 
-def random_rows(chance, processors):
-    """Bursts and pauses, of some devices, on a grid or not."""
-    grid, most = chance.choice((1, 500, 1000)), chance.choice((1, 2, 5, 64 * processors))
-    devices = [chance.randint(1, 64 * processors) for _ in range(chance.randint(1, most))]
+def random_rows(chance, settings):
+    """Bursts and pauses, of some devices, on a grid or not; seldom of a queue that is out of range."""
+    highest = 64 * settings["processors"]
+    last = highest if chance.random() < 0.1 else max(1, highest // settings["queues"])
+    grid, most = chance.choice((1, 500, 1000)), chance.choice((1, 2, 5, 64 * settings["processors"]))
+    devices = [chance.randint(1, last) for _ in range(chance.randint(1, most))]
+    flows = [chance.choice((0, chance.randrange(70), chance.randrange(2**64, 10**20))) for _ in range(chance.choice((1, 3, 64)))]
     pause = chance.choice((0, 500, 3000, 20000, 200000))
     moment = chance.choice((0, 0, chance.randrange(10**6), 2**61))
     for _ in range(chance.choice((0, 1, 5, 50, 300, 1500))):
         if chance.random() < 0.6:
             moment += chance.randint(0, pause) // grid * grid
-        yield moment, chance.choice(devices), chance.choice((1, 60, 1514, 65535))
+        yield (moment, chance.choice(devices), chance.choice((1, 60, 1514, 65535)), chance.choice(flows))[:4 if settings["queues"] > 1 else 3]
+
+
+def counted(calls, name):
+    """The rule of the model of this name, which counts when it holds."""
+    rule = getattr(machine_model, name)
+
+    def call(*arguments):
+        held = rule(*arguments)
+        calls[name] += held is not False
+        return held
+    setattr(machine_model, name, call)
 
 
 def random_arrivals(program, seed="1", count="300"):
     """The model's bytes on so many arrivals, which together reach each case of the rules."""
-    chance, reached = random.Random(int(seed)), Counter()
+    chance, reached, calls = random.Random(int(seed)), Counter(), Counter()
+    for name in ("go_on_with_rest", "wake_application", "end_lone_interrupt"):
+        counted(calls, name)
     for _ in range(int(count)):
-        words = random_words(chance)
-        settings = machine_model.settings_of(words)
-        rows = list(random_rows(chance, settings["processors"]))
-        told = same(program, words, text_of(rows))
-        total = values(told.splitlines()[-1].removeprefix("total "))
-        of = Counter()
-        for line in told.splitlines():
-            if line.startswith("processor"):
-                of.update(values(line))
-        reached.update({
-            "dropped": total["dropped"] > 0, "refused": total["refused"] > 0, "squeezed": of["squeezed"] > of["late"], "late": of["late"] > 0,
-            "interrupts alone": settings["budget"] == 0 and of["interrupts"] > 0, "several runs": of["runs"] > 10, "no packet": not rows,
-            "several processors": settings["processors"] > 1 and of["runs"] > 1, "no cost": 0 in (settings["poll"], settings["packet"], settings["use"]),
-            "several devices": total["devices"] > settings["processors"], "full weight": of["work"] > 2 * settings["weight"],
-            "several packets of a moment": len({row[0] for row in rows}) < len(rows)})
+        arguments = random_options(chance)
+        settings = machine_model.settings_of(arguments)
+        rows = list(random_rows(chance, settings))
+        calls.clear()
+        printed = same(program, arguments, text_of(rows, machine_model.header(settings)))
+        if not printed:
+            reached["out of range"] += 1
+            continue
+        total = values(printed.splitlines()[-1].removeprefix("total "))
+        if (total["arrived"], total["polled"]) != (total["dropped"] + total["polled"], total["refused"] + total["used"]):
+            return [f"packets are lost by {' '.join(arguments)}\n{printed}"]
+        reached.update(cases_of(settings, rows, printed, calls))
     print(f"{count} random arrivals: {', '.join(f'{name} {number}' for name, number in sorted(reached.items()))}")
-    return [name for name, number in reached.items() if number < int(count) // 60]
+    return [f"{name} is reached {number} times" for name, number in reached.items() if number < int(count) // 100]
+
+
+def cases_of(settings, rows, printed, calls):
+    """Which cases of the rules these arrivals reach."""
+    total, of = values(printed.splitlines()[-1].removeprefix("total ")), Counter()
+    for line in printed.splitlines():
+        if line.startswith("processor"):
+            of.update(values(line))
+    runs_on = of["polls"] > 1
+    return {
+        "dropped": total["dropped"] > 0, "refused": total["refused"] > 0, "squeezed": of["squeezed"] > of["late"], "late": of["late"] > 0,
+        "interrupts without polling": calls["end_lone_interrupt"] > 0, "several runs": of["runs"] > 10, "no packet": not rows,
+        "several processors": settings["processors"] > 1 and of["runs"] > 1, "no cost": 0 in (settings["poll"], settings["packet"], settings["use"]),
+        "several devices": total["devices"] > settings["processors"], "full weight": of["work"] > 2 * settings["weight"],
+        "several packets of a moment": len({row[0] for row in rows}) < len(rows), "an interrupted use": calls["go_on_with_rest"] > 0,
+        "NAPI timers": of["timers"] > 0, "threads": settings["threaded"] and runs_on, "threads with timers": settings["threaded"] and of["timers"] > 0,
+        "queues": settings["queues"] > 1 and total["devices"] > 1, "backlog": settings["backlog"] and runs_on, "wake": settings["wake"] > 0 and runs_on,
+        "coalescing": settings["rx-nsecs"] > 0 and runs_on, "coalescing by frames": settings["rx-nsecs"] > 0 and settings["rx-frames"] > 1 and runs_on,
+        "apart": calls["wake_application"] > 1, "apart, refused": calls["wake_application"] > 1 and total["refused"] > 0}
 
 
 # ---- what is refused
@@ -106,6 +168,7 @@ def faults(program):
     good = "0,1,60\n"
     for rows, number, name, row in (
             (None, 1, "BadHeader", 0), ("moment,device,event,value\n", 1, "BadHeader", 0), ("moment,device,bytes,2\n", 1, "BadHeader", 0),
+            ("moment,device,bytes,flow\n", 1, "BadHeader", 0),
             (" moment,device,bytes\n", 1, "BadHeader", 0), ("0,1\n", 2, "BadFields", 2), ("0,1,60,\n", 2, "BadFields", 2), ("x,1,60,60\n", 2, "BadFields", 2),
             ("x,1,60\n", 3, "BadNumber", 2), (",1,60\n", 3, "BadNumber", 2), ("0,+1,60\n", 3, "BadNumber", 2), ("0,1,6e1\n", 3, "BadNumber", 2),
             ("0,1, 60\n", 3, "BadNumber", 2), (f"{'0' * 21},1,60\n", 3, "BadNumber", 2), ("x,0,0\n", 3, "BadNumber", 2), ("0,0,60\n", 5, "OutOfRange", 2),
@@ -113,11 +176,28 @@ def faults(program):
             (f"{2**62},1,60\n", 5, "OutOfRange", 2), (f"{'9' * 20},1,60\n", 5, "OutOfRange", 2), (f"7,1,60\n{2**64 + 7},1,60\n", 5, "OutOfRange", 3),
             ("7,1,60\n6,1,60\n", 8, "Falls", 3), ("7,1,60\n6,0,60\n", 5, "OutOfRange", 3), ("7,1,60\n6,128,60\n0,x,60\n", 8, "Falls", 3)):
         text = "" if rows is None else rows if number == 1 else f"{HEADER}\n{good}{rows}"
-        wanted = "", f"arrivals fault {number} {name} row {row}\n", 2
-        for words in (["--processors", "2"], ["--processors=2", "--budget=0"]):
-            if modelled(words, text) != wanted or (told := ran(program, words, text)) != wanted:
-                wrong.append(f"{text!r} gives {told}, and not {wanted}")
+        for arguments in (["--processors", "2"], ["--processors=2", "--budget=0"]):
+            wrong += not_faulty(program, arguments, text, f"arrivals fault {number} {name} row {row}\n")
+    return wrong + faults_of_flows(program)
+
+
+def faults_of_flows(program):
+    """With --queues above 1 a fourth column, and queues that are within the processor's 64."""
+    wrong, four = [], "moment,device,bytes,flow"
+    for rows, number, name, row in (
+            (f"{HEADER}\n0,1,60\n", 1, "BadHeader", 0), (f"{four}\n0,1,60\n", 2, "BadFields", 1), (f"{four}\n0,1,60,\n", 3, "BadNumber", 1),
+            (f"{four}\n0,1,60,{'1' * 21}\n", 3, "BadNumber", 1), (f"{four}\n0,1,60,1,\n", 2, "BadFields", 1), (f"{four}\n0,1,60,x\n", 3, "BadNumber", 1),
+            (f"{four}\n0,1,60,0\n0,22,60,1\n", 5, "OutOfRange", 2), (f"{four}\n5,22,60,0\n4,22,60,1\n", 5, "OutOfRange", 2),
+            (f"{four}\n5,22,60,0\n4,22,60,0\n", 8, "Falls", 2)):
+        wrong += not_faulty(program, ["--queues", "3"], rows, f"arrivals fault {number} {name} row {row}\n")
+    same(program, ["--queues", "3"], f"{four}\n0,22,60,0\n0,1,60,{'9' * 20}\n0,1,60,{2**64 + 1}\n0,1,60,{'2'.zfill(20)}\n")
+    same(program, ["--queues", "64", "--processors", "2"], f"{four}\n0,2,60,63\n0,1,60,64\n")
     return wrong
+
+
+def not_faulty(program, arguments, text, line):
+    wanted = "", line, 2
+    return [f"{text!r} gives {printed}, and not {wanted}" for printed in (modelled(arguments, text), ran(program, arguments, text)) if printed != wanted]
 
 
 def texts(program):
@@ -127,28 +207,30 @@ def texts(program):
     quoted = "".join(",".join(f'"{field}"' for field in line.split(",")) + "\n" for line in plain.splitlines())
     wanted = same(program, ["--processors", "2"], plain)
     same(program, ["--processors", "2"], f"{HEADER}\n")
-    return [f"{text!r} gives {told}" for text in (plain.rstrip(), plain.replace("\n", "\r\n"), plain.replace("\n", "\r"), plain.replace("\n", "\n\n"),
-                                                  "\ufeff" + plain, zeros, quoted)
-            if (told := ran(program, ["--processors", "2"], text)) != (wanted, "", 0)]
+    return [f"{text!r} gives {printed}" for text in (plain.rstrip(), plain.replace("\n", "\r\n"), plain.replace("\n", "\r"),
+                                                    plain.replace("\n", "\n\n"), "\ufeff" + plain, zeros, quoted)
+            if (printed := ran(program, ["--processors", "2"], text)) != (wanted, "", 0)]
 
 
-def words(program):
-    """Words that are refused, before anything is read, and the ends of each range, which aren't."""
+def options(program):
+    """Options that are refused, before anything is read, and the ends of each range, which aren't."""
     wrong = []
-    refused = [["-h"], ["--help"], ["--"], ["-"], ["x"], [""], ["--budget"], ["--budget="], ["--budget=x"], ["--budget", "+1"], ["--budget", " 1"], ["--budg", "1"],
-               ["-budget", "1"], ["--budget", "1", "--budget", "1"], ["--budget=1", "--budget", "2"], ["--mode", "serial"], ["--budget", "1", "2"], ["--version"],
-               ["--budget", "--weight"], ["--budget", "1.0"], [b"--budget\xff=1"], ["--budget", b"\xff"]]
+    refused = [["-h"], ["--"], ["-"], ["x"], [""], ["--budget"], ["--budget="], ["--budget=x"], ["--budget", "+1"], ["--budget", " 1"], ["--budg", "1"],
+               ["-budget", "1"], ["--budget", "1", "--budget", "1"], ["--budget=1", "--budget", "2"], ["--mode", "serial"], ["--budget", "1", "2"],
+               ["--budget", "--weight"], ["--budget", "1.0"], [b"--budget\xff=1"], ["--budget", b"\xff"], ["--slice", "1"], ["--longest", "1"],
+               ["--threaded"], ["--rx_nsecs", "1"]]
     taken = []
-    for name, (low, high, _) in WORDS.items():
+    for name, (low, high, _) in OPTIONS.items():
         refused += [[f"--{name}", str(high + 1)], [f"--{name}={'1'.zfill(11)}"], [f"--{name}", "99999999999999999999"]]
         refused += [[f"--{name}", str(low - 1)]] if low else [[f"--{name}=-1"]]
         taken += [[f"--{name}", str(low)], [f"--{name}={str(high).zfill(10)}"]]
     for each in refused:
-        if (told := ran(program, each, "what\n")) != ("", "usage fault 64\n", 64):
-            wrong.append(f"{each}: {told}")
-    rows = text_of([(0, 1, 60), (0, 2, 60), (10**6, 1, 60)])
+        if (printed := ran(program, each, "what\n")) != ("", "usage fault 64\n", 64):
+            wrong.append(f"{each}: {printed}")
     for each in taken:
-        same(program, each, rows)
+        settings = machine_model.settings_of(each)
+        rows = [(0, 1, 60, 0), (0, 1, 60, 1), (10**6, 1, 60, 2)] if settings["queues"] > 1 else [(0, 1, 60), (0, 2, 60), (10**6, 1, 60)]
+        same(program, each, text_of(rows, machine_model.header(settings)))
     return wrong
 
 
@@ -156,13 +238,13 @@ def ends(program):
     """A reader and a writer that fail."""
     wrong, folder = [], os.open("/", os.O_RDONLY)
     try:
-        done = subprocess.run([program], stdin=folder, capture_output=True, text=True, check=False)
+        done = subprocess.run(shlex.split(program), stdin=folder, capture_output=True, text=True, check=False)
     finally:
         os.close(folder)
     if (done.stdout, done.stderr, done.returncode) != ("", "arrivals fault 10 ReadFailed\n", 2):
         wrong.append(f"a reader that fails: {done}")
     with open("/dev/full", "wb") as full:
-        done = subprocess.run([program], input=text_of([(0, 1, 60)]), stdout=full, stderr=subprocess.PIPE, text=True, check=False)
+        done = subprocess.run(shlex.split(program), input=text_of([(0, 1, 60)]), stdout=full, stderr=subprocess.PIPE, text=True, check=False)
     if (done.stderr, done.returncode) != ("output fault 15 OutputFailed\n", 4):
         wrong.append(f"a writer that fails: {done}")
     return wrong
@@ -192,26 +274,34 @@ def queue(program):
 
 
 def livelock(program):
-    """Interrupts alone take all of an overloaded processor, and nothing is used while packets come; with a budget the application goes
-    on, the better the smaller it is."""
-    wrong, used = [], {}
-    for load in (100_000, 400_000):
-        rows = text_of((number * 10**9 // load, 1 + number % 4, 1000) for number in range(load // 5))
-        for budget in (0, 16, 64, 300):
-            out, _, status = ran(program, ["--budget", str(budget)], rows)
-            lines = out.splitlines() if status == 0 else wrong.append(f"status {status}") or ["", "", ""]
-            used[load, budget] = values(lines[-1].removeprefix("total ")).get("used", 0)
-    print("used, by load and budget:", used)
-    if used[100_000, 0] < 15_000:
-        wrong.append("at 100000 packets a second interrupts alone suffice")
-    if not used[400_000, 16] > used[400_000, 64] > used[400_000, 300] > 10 * used[400_000, 0]:
-        wrong.append("at 400000 packets a second a smaller budget leaves more to the application, and interrupts alone hardly any")
+    """At a load whose interrupts take all of the processor nothing is used while packets arrive, and no budget changes that, since softirqs
+    run before tasks. Coalescing does: four devices, each with an interrupt of 4 us and a poll of 1 us a period, leave the application what
+    these and 1 us for each packet don't take, and a packet's use takes 2 us."""
+    wrong, used, load, packets = [], {}, 400_000, 80_000
+    rows = text_of((number * 10**9 // load, 1 + number % 4, 1000) for number in range(packets))
+    slow = text_of((number * 10**9 // 100_000, 1 + number % 4, 1000) for number in range(packets))
+
+    def used_by(text, **given):
+        out, _, status = ran(program, [f"--{name.replace('_', '-')}={value}" for name, value in given.items()], text)
+        return values(out.splitlines()[-1].removeprefix("total "))["used"] if status == 0 else wrong.append(f"{given}: status {status}") or 0
+
+    if used_by(slow, budget=0) < packets:
+        wrong.append("at 100000 packets a second interrupts without polling suffice")
+    for budget in (0, 16, 64, 300):
+        used[budget] = used_by(rows, budget=budget)
+    print("used at 400000 packets a second, by budget:", used)
+    if any(count > packets // 100 for count in used.values()):
+        wrong.append("hardly any is used, by no budget")
+    for period in (200_000, 400_000, 800_000):
+        count, theory = used_by(rows, rx_nsecs=period), packets * (period - 4 * 5000 - period * 2 // 5) / (period * 2 // 5 * 2)
+        print(f"used with an interrupt each {period // 1000} us: {count}, by theory {theory:.0f}")
+        if abs(count - theory) > theory / 20:
+            wrong.append("this is over 5 % apart")
     return wrong
 
 
 # ---- what Linux did
 
-TOP = pathlib.Path(__file__).resolve().parent.parent
 # Recordings as ftrace's text, whose arrivals are known to a microsecond and whose costs are fitted; and traces, known to a millisecond, which
 # take the costs of the second of them. Each with its budget. No card interrupted, and nobody used what was received.
 RECORDED = (("tests/tools/soft-tcp", 300), ("tests/tools/soft-gso-23", 23), ("examples/linux-veth-bursts", 300), ("examples/linux-veth-small-budget", 64))
@@ -268,9 +358,10 @@ def simulated(report, waited):
                                                                                                    if other or not line.startswith("total ")]
 
 
-CHECKS = {"random": random_arrivals, "faults": faults, "texts": texts, "words": words, "ends": ends, "queue": queue, "livelock": livelock, "recorded": recorded, "simulated": simulated}
+CHECKS = {"examples": examples, "random": random_arrivals, "faults": faults, "texts": texts, "options": options, "ends": ends, "queue": queue,
+          "livelock": livelock, "recorded": recorded, "simulated": simulated}
 
 if __name__ == "__main__":
     found = CHECKS[sys.argv[1]](*sys.argv[2:])
-    print(*found, sep="\n")
-    sys.exit(bool(found))
+    if found:
+        sys.exit("\n".join(found))

@@ -1,8 +1,8 @@
 #!/usr/bin/env bash
-# tests/machine.sh: the receiving machine. bench/machine.cc, and napi_machine where it stands, give the bytes of the plain model
-# (machine_model.py) on random arrivals with random words; napi_machine's faults and words, the mean of M/D/1, livelock, and its runs and
-# squeezes beside those of a running Linux, with the difference. MACHINE=FILE names another build of napi_machine. The last line is
-# `N passed, M failed`.
+# tests/machine.sh: the receiving machine. The plain model (machine_model.py), bench/machine.cc, and napi_machine if its crate is there
+# print the reports that were worked out by hand (machine_examples.txt), and both programs the model's bytes on random arrivals with
+# random options. Then napi_machine's faults and options, the mean of M/D/1, livelock, and its runs and squeezes compared with those of a
+# running Linux. MACHINE=FILE names another build of napi_machine. The last line is `N passed, M failed`.
 set -uo pipefail
 unset CDPATH
 top=$(dirname "$(dirname "$(readlink -f "$0")")")
@@ -12,38 +12,32 @@ trap 'rm -rf "$scratch"' EXIT
 
 of_model() { timeout 900 python3 -B "$top/tests/machine.py" "$@"; }
 
-cat > "$scratch/example" << 'END'
-device 1 arrived 3 dropped 0 polled 3 interrupts 2 polls 2 mean 12000 wait50 10992 wait90 14000 wait99 14000 wait999 14000 most 14000
-device 2 arrived 1 dropped 0 polled 1 interrupts 1 polls 1 mean 20500 wait50 20480 wait90 20480 wait99 20480 wait999 20480 most 20500
-processor 0 interrupts 3 runs 2 polls 3 work 4 squeezed 2 late 0 refused 0 used 4 mean 19625 wait50 17984 wait90 24480 wait99 24480 wait999 24480 most 24500
-time 0 end 27000 interrupt 12000 poll 7000 use 8000 idle 0
-total devices 2 arrived 4 dropped 0 polled 4 refused 0 used 4
-END
-example() { printf '%s\n' moment,device,bytes 0,1,100 0,1,100 500,2,60 9000,1,60 | "$@" --budget 2 | diff - "$scratch/example"; }
-
-check 'the model tells the example, counted by hand' example python3 -B "$top/tests/machine_model.py"
+check 'the model prints the reports worked out by hand' of_model examples "python3 -B '$top/tests/machine_model.py'"
 if command -v g++ > /dev/null; then
     check 'the program of the bench is compiled' g++ -std=c++17 -O2 -Wall -Wextra -Werror "$top/bench/machine.cc" -o "$scratch/machine"
-    check 'it gives the bytes of the model' of_model random "$scratch/machine" 1 300
+    check 'it prints the reports worked out by hand' of_model examples "$scratch/machine"
+    check 'it prints the bytes of the model' of_model random "$scratch/machine" 1 1000
+    check 'its faults' of_model faults "$scratch/machine"
+    check 'its options' of_model options "$scratch/machine"
 else
     echo 'machine: passed over: the program of the bench: there is no g++'
 fi
 
 program=${MACHINE:-$top/crates/napi_machine/out/napi_machine}
 if [ -z "${MACHINE:-}" ] && [ ! -d "$top/crates/napi_machine" ]; then
-    echo 'machine: passed over: napi_machine: its crate does not stand yet'
+    echo 'machine: passed over: napi_machine: its crate is not there'
     sum_up
     exit
 fi
 [ -n "${MACHINE:-}" ] || check 'napi_machine is built' "$top/scripts/build.sh" napi_machine
-check 'it tells the example' example "$program"
-check 'it gives the bytes of the model' of_model random "$program" 2 300
+check 'it prints the reports worked out by hand' of_model examples "$program"
+check 'it prints the bytes of the model' of_model random "$program" 2 1000
 check 'its faults' of_model faults "$program"
 check 'its texts' of_model texts "$program"
-check 'its words' of_model words "$program"
+check 'its options' of_model options "$program"
 check 'its ends' of_model ends "$program"
 check 'the mean of M/D/1' of_model queue "$program"
-check 'livelock by interrupts alone' of_model livelock "$program"
+check 'livelock by interrupts, and what coalescing leaves to the application' of_model livelock "$program"
 of_model recorded "$program" > "$scratch/recorded" 2>&1
 status=$?
 cat "$scratch/recorded"
