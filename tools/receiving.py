@@ -16,7 +16,7 @@ SWITCH = re.compile(r"prev_comm=(.*) prev_pid=(\d{1,9}) .*==> next_comm=(.*) nex
 KERNEL_TASKS = re.compile(r"swapper|ksoftirqd/|napi/|migration/|rcu_|cpuhp/|idle_inject/")  # which do the polling, or nothing
 
 
-class Observed:
+class Receiving:
     """What is seen of the instance `device`, with packets of `peers`. Times are in ns."""
 
     def __init__(self, device, peers):
