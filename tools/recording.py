@@ -1,8 +1,11 @@
-"""The text of ftrace, of `trace-cmd report` or of `perf script`, read line by line."""
+"""Recordings: the text of ftrace, of `trace-cmd report` or of `perf script`, and tools/record's files, read line by line."""
 
-from toolbox import Refusal, check_input, lines_in
+from toolbox import Refusal, check_input, is_number, lines_in, shown
 
+import contextlib
 import gzip
+import io
+import itertools
 import re
 import zlib
 from dataclasses import dataclass
@@ -10,12 +13,17 @@ from dataclasses import dataclass
 from arrivals import seconds
 
 MOST_LINE = 4096  # characters
+HEAD = "fintaqush-recording 1"
+OTHERS = {b"PERFILE2": "this is the file of `perf record`: take the text of `perf script --ns`", b"\x17\x08Dtraci": "this is the file of `trace-cmd "
+          "record`: take the text of `trace-cmd report -t`", b"\xd4\xc3\xb2\xa1": "this is a capture, which tools/from-pcap reads", b"\xa1\xb2\xc3\xd4":
+          "this is a capture, which tools/from-pcap reads", b"M<\xb2\xa1": "this is a capture, which tools/from-pcap reads", b"\n\r\r\n":
+          "this is a capture, which tools/from-pcap reads", b"\x7fELF": "this is a program"}
 NET_RX = 3  # the number of the softirq that polls (NET_RX_SOFTIRQ)
 
 # As ftrace and trace-cmd write it, `TASK-PID [CPU] FLAGS TIME: NAME:`, and as perf does, `TASK PID[/TID] [CPU] TIME: [COUNT] SYSTEM:NAME:`.
 LINE = re.compile(r"\s*(?P<task>\S.*?)(?:-|\s+(?:\d{1,9}/)?)(?P<pid>\d{1,9})\s+(?:\([\s\d-]+\)\s+)?\[(?P<cpu>\d{1,6})\]\s+"
-                  r"(?:(?P<flags>\S+)\s+)?(?P<seconds>\d{1,10})\.(?P<fraction>\d{6,9}):\s+(?:\d+\s+)?(?:\w+:)?(?P<name>\w+):"
-                  r"(?!\w)\s*(?P<said>.*)")
+                  r"(?:(?P<flags>\S+)\s+)?(?P<seconds>\d{1,10})\.(?P<fraction>\d{6,9}):\s+(?:\d+\s+)?"
+                  r"(?:(?:\w+:)?(?P<name>\w+):(?!\w)|sys_(?P<call>\w+)(?P<is_exit> ->|(?=\()))\s*(?P<said>.*)")
 SENT = re.compile(r"dev=(\S+) .*\blen=(\d{1,10}) rc=(\w+)")
 POLLED = re.compile(r"napi poll on napi struct \S+ for (?:network )?device (\S+) work (\d{1,9}) budget (\d{1,9})")
 SOFTIRQ = re.compile(r"vec=(\d{1,9})")
@@ -44,28 +52,91 @@ class Event:
         return found.groups()
 
 
-def events_of(lines, lost):
-    """The events of these lines. Where the kernel says that it lost some, a list has a note."""
-    for number, line in enumerate(lines, 1):
+def name_of(found):
+    """The event's name. ftrace writes a system call as `sys_read(..` where it begins, and as `sys_read -> ..` where it ends."""
+    return found["name"] or ("sys_exit_" if found["is_exit"] else "sys_enter_") + found["call"]
+
+
+def events_of(lines, lost, first=1):
+    """The events of these lines, the first of which has that number. If the kernel lost some, a list has a note."""
+    for number, line in enumerate(lines, first):
         found = LINE.match(line)
         if loss := LOST.search(line):
             lost.append(f"line {number} of the recording: the kernel lost {loss[1] or loss[2] or loss[3]} events")
         elif found:
-            yield Event(number, found["task"], int(found["cpu"]), found["flags"] or "", seconds(found["seconds"], found["fraction"]), found["name"],
+            yield Event(number, found["task"], int(found["cpu"]), found["flags"] or "", seconds(found["seconds"], found["fraction"]), name_of(found),
                         found["said"].rstrip())
         elif not NO_EVENT.match(line):
             raise Refusal(f"line {number}: no line of ftrace, `trace-cmd report` or `perf script`: {line.strip()[:60]!r}")
 
 
-def events_in(recording, lost):
-    """The events of a file, also as .gz, or of standard input for `-`."""
+@contextlib.contextmanager
+def opened(recording):
+    """The lines of a file, also as .gz, or of standard input for `-`; what is no text of events at all is a refusal."""
     check_input(recording)
     try:
-        reader = gzip.open if recording.endswith(".gz") else open
-        with reader(0 if recording == "-" else recording, "rt", encoding="utf-8", errors="replace") as file:
-            yield from events_of(lines_in(file, MOST_LINE, "ftrace"), lost)
+        with open(0 if recording == "-" else recording, "rb", closefd=recording != "-") as plain:
+            is_packed = recording.endswith(".gz") or plain.peek(2)[:2] == b"\x1f\x8b"
+            file = gzip.GzipFile(fileobj=plain) if is_packed else plain
+            begin = file.peek(8)[:8]
+            if not begin:
+                raise Refusal("it is empty")
+            for magic, what in OTHERS.items():
+                if begin.startswith(magic):
+                    raise Refusal(what)
+            yield lines_in(io.TextIOWrapper(file, encoding="utf-8", errors="replace"), MOST_LINE, "ftrace")
     except (EOFError, zlib.error, gzip.BadGzipFile) as error:
         raise Refusal(f"it isn't whole: {error}") from None
+
+
+def head_in(lines):
+    """The head of tools/record's file, from the lines behind its first one on."""
+    head = {}
+    for line in lines:
+        key, _, value = line.rstrip("\n").partition(" ")
+        if key == "trace" and not value:
+            return head
+        head[key] = value
+    raise Refusal("it is cut: its head has no end")
+
+
+def parts_of(lines):
+    """The head of these lines, none of other tools' text, and the lines of the trace."""
+    first = next(lines)
+    if first.rstrip("\n") == HEAD:
+        head = head_in(lines)
+        return head, lines
+    if first.startswith(HEAD.split()[0]):
+        raise Refusal(f"{first.strip()[:60]!r}: another version of tools/record wrote it; this one reads version 1")
+    return {}, itertools.chain([first], lines)
+
+
+def head_of(recording):
+    """The head of tools/record's file, by its keys; of other tools' text it has none."""
+    with opened(recording) as lines:
+        return parts_of(lines)[0]
+
+
+def events_in(recording, lost, head=None):
+    """The events of a file, also as .gz, or of standard input for `-`. The head is put into a dictionary, if one is given."""
+    with opened(recording) as lines:
+        found, lines = parts_of(lines)
+        if head is not None:
+            head.update(found)
+        if is_number(found.get("lost", "0")) and int(found.get("lost", "0")):
+            lost.append(f"the kernel lost {found['lost']} events")
+        count = 0
+        for event in events_of(lines, lost, len(found) + 3 if found else 1):
+            count += 1
+            yield event
+        if found and found.get("lines") != str(count):
+            raise Refusal(f"it is cut: {count} of {shown(found.get('lines', 'an unknown number of'))} events are there")
+
+
+def check_lost(lost):
+    """Refuses a recording of which the kernel lost events."""
+    if lost:
+        raise Refusal(f"{lost[0]}, so what it tells isn't known: record for a shorter time, or with a larger buffer (tools/record --buffer)")
 
 
 def is_by_thread(event):

@@ -1,0 +1,195 @@
+"""What a running machine has set for its network devices, and what it counts, as `key value` lines of a recording's head."""
+
+from toolbox import Refusal, ran, shown
+
+import contextlib
+import glob
+import json
+import os
+import re
+import shutil
+import time
+
+COUNTED = {"processed": 0, "dropped": 1, "squeezed": 2, "rps": 9, "flow_limit": 10}  # columns of /proc/net/softnet_stat
+PROCESSOR = 12  # and that of the processor's number, which kernels before 5.10 don't have
+SECRET = {"netdev_rss_key"}
+# What the shell reads of a device, whose name is its argument and never a part of it.
+DEVICE = 'cd "/sys/class/net/$1" 2> /dev/null || exit 3; grep -s "" mtu tx_queue_len threaded napi_defer_hard_irqs gro_flush_timeout ifindex iflink ' \
+         'operstate queues/*/rps_cpus queues/*/rps_flow_cnt queues/*/xps_cpus statistics/rx_dropped statistics/rx_packets statistics/rx_missed_errors; exit 0'
+ETHTOOL = {"ring": "-g", "coalesce": "-c", "channels": "-l", "feature": "-k"}
+FEATURES = {"generic-receive-offload", "large-receive-offload", "rx-gro-hw", "rx-gro-list", "rx-udp-gro-forwarding", "tcp-segmentation-offload",
+            "generic-segmentation-offload", "tx-udp-segmentation", "receive-hashing", "ntuple-filters"}
+PACKAGES = {"ip": "iproute2", "ethtool": "ethtool"}
+
+
+def text_in(path):
+    """What is in a file of the kernel, in one line; nothing if it can't be read."""
+    with contextlib.suppress(OSError, ValueError), open(path, encoding="utf-8", errors="replace") as file:
+        return " ".join(file.read().split())
+    return ""
+
+
+def within(netns):
+    """The command in front of another one, which runs it in that network namespace."""
+    return ["ip", "netns", "exec", netns] if netns else []
+
+
+def output_of(command):
+    """What a command prints, or nothing if it fails or isn't installed."""
+    if not shutil.which(command[0]):
+        return ""
+    status, out, _ = ran(command)
+    return out.decode("utf-8", "replace") if status == 0 else ""
+
+
+def check_device(name):
+    if not re.fullmatch(r"[^\s/:-][^\s/:]{0,14}", name):
+        raise Refusal(f"--device {shown(name)}: no name of a device")
+
+
+def check_namespace(netns):
+    if not netns:
+        return
+    if not shutil.which("ip"):
+        raise Refusal("--netns needs ip, which isn't installed (Debian: apt install iproute2)")
+    if "/" in netns or netns.startswith("-") or not os.path.exists(f"/run/netns/{netns}"):
+        raise Refusal(f"--netns {shown(netns)}: there is no such network namespace; `ip netns` lists them")
+
+
+def of_device(name, netns):
+    """What sysfs has of a device."""
+    status, out, _ = ran([*within(netns), "sh", "-c", DEVICE, "sh", name])
+    if status != 0:
+        raise Refusal(f"--device {shown(name)}: there is no such device" + (f" in {shown(netns)}" if netns else "; one in a network namespace needs --netns"))
+    lines = [line.partition(":") for line in out.decode("utf-8", "replace").splitlines()]
+    return {path.replace("queues/", "").replace("/", "."): value for path, _, value in lines}
+
+
+def by_ethtool(name, netns):
+    """What ethtool tells of a device: the rings, how interrupts are coalesced, the channels, what is offloaded."""
+    for part, option in ETHTOOL.items():
+        front = ""
+        for line in output_of([*within(netns), "ethtool", option, name]).splitlines():
+            if re.match("(Pre-set maximums|Current hardware settings)", line):
+                front = "most." if line.startswith("Pre-set") else ""
+            found = re.findall(r"([A-Za-z][\w -]*?):\s*([^\s:\[]+)", line)
+            for key, value in found:
+                if value != "n/a" and (part != "feature" or key in FEATURES):
+                    yield f"ethtool.{part}.{front}{'-'.join(key.lower().split())}", value
+
+
+def interrupts_of(name):
+    """The processors of a device's interrupts, by their numbers."""
+    real = os.path.realpath(f"/sys/class/net/{name}/device")
+    names = {line.split(":")[0].strip(): line.split()[-1] for line in lines_in_proc("interrupts") if ":" in line}
+    for folder in (real, os.path.dirname(real)):
+        for irq in sorted(glob.glob(f"{folder}/msi_irqs/*"), key=lambda path: int(os.path.basename(path))):
+            number = os.path.basename(irq)
+            yield f"irq.{number}.name", names.get(number, "")
+            for end in ("smp_affinity_list", "effective_affinity_list"):
+                yield f"irq.{number}.{end}", text_in(f"/proc/irq/{number}/{end}")
+
+
+def lines_in_proc(name):
+    try:
+        with open(f"/proc/{name}", encoding="utf-8", errors="replace") as file:
+            return file.read().splitlines()
+    except OSError:
+        return []
+
+
+def tasks_named(matches):
+    """Each process whose name matches, by its number."""
+    for path in glob.glob("/proc/[0-9]*/comm"):
+        with contextlib.suppress(OSError), open(path, encoding="utf-8", errors="replace") as file:
+            name = file.read().rstrip("\n")
+            if matches(name):
+                yield int(path.split("/")[2]), name
+
+
+def of_task(pid):
+    """Where a task may run, and by which policy."""
+    for line in lines_in_proc(f"{pid}/status"):
+        if line.startswith("Cpus_allowed_list:"):
+            yield "processors", line.split()[1]
+    with contextlib.suppress(OSError):
+        policy = {os.SCHED_OTHER: "other", os.SCHED_FIFO: "fifo", os.SCHED_RR: "rr", os.SCHED_BATCH: "batch", os.SCHED_IDLE: "idle"}
+        yield "policy", policy.get(os.sched_getscheduler(pid) & 0xff, "unknown")
+        yield "priority", str(os.sched_getparam(pid).sched_priority)
+
+
+def threads_of(name):
+    """The NAPI threads of a device."""
+    for pid, thread in sorted(tasks_named(lambda each: each.startswith(f"napi/{name}-"))):
+        for key, value in of_task(pid):
+            yield f"thread.{thread.rpartition('-')[2]}.{key}", value
+
+
+def pairs_in(netns):
+    """The ends of veth pairs that are in a network namespace, as `ip` describes them."""
+    with contextlib.suppress(ValueError):
+        return json.loads(output_of(["ip", *(["-n", netns] if netns else []), "-j", "link", "show", "type", "veth"]) or "[]")
+    return []
+
+
+def peer_of(name, netns):
+    """The other end of a veth pair, if exactly one device is found: each end has the number of the other one."""
+    own = next((link for link in pairs_in(netns) if link["ifname"] == name), {})
+    if "link" in own or "link_index" not in own:
+        return own.get("link", "")
+    others = ["", *(line.split()[0] for line in output_of(["ip", "netns"]).splitlines() if line.strip())]
+    found = [link["ifname"] for other in others if other != (netns or "") for link in pairs_in(other)
+             if (link["ifindex"], link.get("link_index")) == (own["link_index"], own["ifindex"])]
+    return found[0] if len(found) == 1 else ""
+
+
+def of_kernel():
+    """The kernel, the processors, and all of net.core that is no secret."""
+    system = os.uname()
+    yield "kernel", system.release
+    yield "machine", system.machine
+    yield "online", text_in("/sys/devices/system/cpu/online")
+    yield "clocksource", text_in("/sys/devices/system/clocksource/clocksource0/current_clocksource")
+    for name in sorted(os.listdir("/proc/sys/net/core")):
+        if name not in SECRET and (value := text_in(f"/proc/sys/net/core/{name}")):
+            yield f"sysctl.net.core.{name}", value
+
+
+def settings_of_device(name, netns):
+    """All that is set for a device."""
+    of = of_device(name, netns)
+    counts = ("statistics.", "ifindex", "iflink")
+    for key, value in of.items():
+        if not key.startswith(counts) and value:
+            yield f"device.{name}.{key}", value
+    more = [by_ethtool(name, netns), threads_of(name)]
+    for key, value in (pair for each in (more if netns else [*more, interrupts_of(name)]) for pair in each):
+        if value:
+            yield f"device.{name}.{key}", value
+
+
+def counters(devices, netns):
+    """What the kernel counts: of each processor its softnet_stat, of UDP its errors, of the devices their drops."""
+    counted = {}
+    for place, line in enumerate(lines_in_proc("net/softnet_stat")):
+        columns = line.split()
+        processor = int(columns[PROCESSOR], 16) if len(columns) > PROCESSOR else place
+        for name, column in COUNTED.items():
+            if column < len(columns):
+                counted[f"softnet.{processor}.{name}"] = int(columns[column], 16)
+    told = [line.split() for line in output_of([*within(netns), "cat", "/proc/net/snmp"]).splitlines() if line.startswith("Udp: ")]
+    counted |= {f"udp.{name}": int(value) for name, value in zip(*told[:2]) if value.isdigit()} if len(told) >= 2 else {}
+    for device in devices:
+        counted |= {f"device.{device}.{key}": int(value) for key, value in of_device(device, netns).items() if key.startswith("statistics.")}
+    return counted
+
+
+def lacking(netns):
+    """What isn't installed, and how it is."""
+    return [f"{name} isn't installed (Debian: apt install {PACKAGES[name]}), so {what}" for name, what in (
+        ("ethtool", "rings, coalescing and offloads aren't recorded"), ("ip", "the other end of a veth pair isn't found: name it by --sender"))
+        if not shutil.which(name) and not (name == "ip" and netns)]
+
+
+def now():
+    return time.strftime("%Y-%m-%dT%H:%M:%SZ", time.gmtime())

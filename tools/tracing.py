@@ -1,0 +1,213 @@
+"""An ftrace instance of its own: which events it records, and what is in its buffers. It changes no other recording."""
+
+from toolbox import Refusal, shown, unlink
+
+import contextlib
+import errno
+import os
+import re
+import time
+
+PLACES = ("/sys/kernel/tracing", "/sys/kernel/debug/tracing")
+NAME = "fintaqush-{}"
+NEW_MOUNTS, RECURSIVE, PRIVATE = 0x20000, 0x4000, 0x40000  # CLONE_NEWNS, MS_REC, MS_PRIVATE
+NET_RX = 3
+POLLS = ("napi/napi_poll", "irq/softirq_entry", "irq/softirq_exit")  # nothing is known without them
+FILTERS = {"irq/softirq_entry": f"vec == {NET_RX}", "irq/softirq_exit": f"vec == {NET_RX}", "timer/hrtimer_start": "function.function == napi_watchdog",
+           "timer/hrtimer_expire_entry": "function.function == napi_watchdog"}
+READS = ("recvfrom", "recvmsg", "recvmmsg", "read", "readv")
+MARK = "fintaqush mark"
+MARKS = 8  # at the beginning, and at the end
+MEGABYTE = 1 << 20
+
+
+def mount_tracefs():
+    """Mounts tracefs for this process and its children only, if it isn't mounted. Returns its folder."""
+    for place in PLACES:
+        if os.path.isdir(f"{place}/instances"):
+            return place
+    if not os.path.isdir(PLACES[0]):
+        raise Refusal("this kernel has no tracing: it needs one with CONFIG_FTRACE and CONFIG_ENABLE_DEFAULT_TRACERS, as Debian's and Fedora's are")
+    import ctypes
+    libc = ctypes.CDLL(None, use_errno=True)
+    for call in ((libc.unshare, NEW_MOUNTS), (libc.mount, None, b"/", None, RECURSIVE | PRIVATE, None),
+                 (libc.mount, b"nodev", PLACES[0].encode(), b"tracefs", 0, None)):
+        if call[0](*call[1:]) != 0:
+            raise Refusal(f"tracefs can't be mounted: {os.strerror(ctypes.get_errno())}; a container needs CAP_SYS_ADMIN for it, and a kernel "
+                          "that is locked down has no tracing")
+    return PLACES[0]
+
+
+def is_alive(pid):
+    return os.path.exists(f"/proc/{pid}")
+
+
+class Instance:
+    """The instance. What it set is gone when it closes, also after a failure or a signal."""
+
+    def __init__(self, folder):
+        self.folder = folder
+        self.path = f"{folder}/instances/{NAME.format(os.getpid())}"
+        self.marks = {}  # of each number when it was written, by CLOCK_MONOTONIC, before and after
+
+    def __enter__(self):
+        self.remove_abandoned()
+        try:
+            os.mkdir(self.path)
+        except OSError as error:
+            raise Refusal(f"no ftrace instance can be made: {error.strerror}") from None
+        return self
+
+    def __exit__(self, *_):
+        self.remove(self.path)
+
+    def remove_abandoned(self):
+        """Removes what a process that was killed has left."""
+        for name in os.listdir(f"{self.folder}/instances"):
+            found = re.fullmatch(NAME.format(r"(\d+)"), name)
+            if found and not is_alive(found[1]):
+                self.remove(f"{self.folder}/instances/{name}")
+
+    @staticmethod
+    def remove(path):
+        with contextlib.suppress(OSError):
+            with open(f"{path}/tracing_on", "w", encoding="ascii") as file:
+                file.write("0")
+        for _ in range(50):  # the kernel may still hold it
+            try:
+                return os.rmdir(path)
+            except FileNotFoundError:
+                return None
+            except OSError as error:
+                if error.errno != errno.EBUSY:
+                    break
+                time.sleep(0.02)
+        raise Refusal(f"{path}: this ftrace instance couldn't be removed; rmdir removes it")
+
+    def read(self, name):
+        with open(f"{self.path}/{name}", encoding="utf-8", errors="replace") as file:
+            return file.read()
+
+    def write(self, name, text):
+        with open(f"{self.path}/{name}", "w", encoding="utf-8") as file:
+            file.write(text)
+
+    def has(self, name):
+        return os.path.exists(f"{self.path}/{name}")
+
+    def set_clock(self):
+        """Chooses the processor's counter, which keeps nanoseconds, if it runs evenly; else CLOCK_MONOTONIC, whose text has microseconds."""
+        with open("/proc/cpuinfo", encoding="utf-8", errors="replace") as file:
+            flags = file.read()
+        with contextlib.suppress(OSError), open("/sys/devices/system/clocksource/clocksource0/current_clocksource", encoding="ascii") as file:
+            if "constant_tsc" in flags and "nonstop_tsc" in flags and file.read().strip() in ("tsc", "kvm-clock"):
+                self.write("trace_clock", "x86-tsc")
+                return "tsc"
+        self.write("trace_clock", "mono")
+        return "mono"
+
+    def set_buffers(self, megabytes, processors):
+        """Sets the buffer of each processor, and which processors are recorded."""
+        self.write("tracing_on", "0")
+        try:
+            self.write("buffer_size_kb", str(megabytes * 1024))
+        except OSError as error:
+            raise Refusal(f"no buffers of {megabytes} MB for each processor: {error.strerror}; take less by --buffer") from None
+        if processors:
+            mask = sum(1 << each for each in set(processors))
+            groups = [f"{mask >> low & 0xffffffff:08x}" for low in range(0, max(processors) + 1, 32)]
+            try:
+                self.write("tracing_cpumask", ",".join(reversed(groups)))
+            except OSError:
+                raise Refusal("--processors has one that this machine doesn't have") from None
+
+    def wanted(self, program):
+        """The events to record, of each its filter if there is one: those of all recordings, then a program's reads."""
+        vectors = f"{self.path}/events/irq_vectors"
+        names = os.listdir(vectors) if os.path.isdir(vectors) else []
+        interrupts = [f"irq_vectors/{name}" for name in sorted(names) if name.endswith(("_entry", "_exit"))] or ["ipi/ipi_entry", "ipi/ipi_exit"]
+        events = [*POLLS, "net/net_dev_xmit", "irq/irq_handler_entry", "irq/irq_handler_exit", *interrupts, "sched/sched_switch",
+                  "timer/hrtimer_start", "timer/hrtimer_expire_entry"]
+        chosen = {name: FILTERS.get(name) for name in events}
+        if program:
+            for call in READS:
+                chosen[f"syscalls/sys_enter_{call}"], chosen[f"syscalls/sys_exit_{call}"] = program, f"({program}) && ret > 0"
+        return chosen
+
+    def enable(self, program):
+        """Enables the events. Returns those that are recorded, and those that the kernel doesn't have."""
+        recorded, missing = [], []
+        for name, only in self.wanted(program).items():
+            if not self.has(f"events/{name}"):
+                missing.append(name)
+                continue
+            with contextlib.suppress(OSError):  # recorded whole by a kernel that knows no such filter
+                if only:
+                    self.write(f"events/{name}/filter", only)
+            self.write(f"events/{name}/enable", "1")
+            recorded.append(name)
+        if lacking := [name for name in POLLS if name in missing]:
+            raise Refusal(f"this kernel has no event {', '.join(lacking)}, without which no poll is known")
+        return recorded, missing
+
+    def mark(self):
+        """Writes marks, by which the counter's time is that of CLOCK_MONOTONIC."""
+        for number in range(len(self.marks), len(self.marks) + MARKS):
+            before = time.monotonic_ns()
+            self.write("trace_marker", f"{MARK} {number}")
+            self.marks[number] = before, time.monotonic_ns()
+
+    def begin(self):
+        self.write("tracing_on", "1")
+        self.mark()
+
+    def end(self):
+        self.mark()
+        self.write("tracing_on", "0")
+
+    def statistics(self):
+        """Of each processor its entries, its bytes, and the events that it lost."""
+        for name in sorted(os.listdir(f"{self.path}/per_cpu")):
+            values = {key: int(value) for key, _, value in (line.partition(": ") for line in self.read(f"per_cpu/{name}/stats").splitlines())
+                      if value.isdigit()}
+            lost = sum(values.get(each, 0) for each in ("overrun", "commit overrun", "dropped events"))
+            yield values.get("entries", 0), values.get("bytes", 0), lost
+
+
+class Stamps:
+    """Turns the counter's stamps of the trace's lines into seconds of CLOCK_MONOTONIC with nine digits."""
+
+    LINE = re.compile(rb"(.{16}-\d+\s+\[\d+\] \S+ +)(\d+)(: .*)", re.S)
+
+    def __init__(self, clock, marks):
+        self.clock, self.marks = clock, marks
+        self.seen = {}  # of each mark its stamp
+
+    def look(self, line):
+        """Takes a mark's stamp, if the line is one."""
+        if MARK.encode() in line and (found := re.search(rb" (\d+): tracing_mark_write: " + MARK.encode() + rb" (\d+)\s*$", line)):
+            self.seen[int(found[2])] = int(found[1])
+            return True
+        return MARK.encode() in line
+
+    def settle(self):
+        """Chooses of the marks at each end the one that took the shortest time."""
+        if self.clock != "tsc":
+            return
+        ends = []
+        for numbers in (range(MARKS), range(len(self.marks) - MARKS, len(self.marks))):
+            known = [number for number in numbers if number in self.seen]
+            if not known:
+                raise Refusal("the marks of its clock are lost: record for a shorter time, or by a larger --buffer")
+            best = min(known, key=lambda number: self.marks[number][1] - self.marks[number][0])
+            ends.append((self.seen[best], sum(self.marks[best]) // 2))
+        (self.stamp, self.time), (stamp, moment) = ends
+        self.ticks, self.took = stamp - self.stamp, moment - self.time
+
+    def changed(self, line):
+        """The line with its time in seconds, and no bracket in a task's name, after which a line's parts are known."""
+        found = self.LINE.match(line)
+        if not found or self.clock != "tsc":
+            return line
+        at = self.time + (int(found[2]) - self.stamp) * self.took // self.ticks
+        return b"%b%d.%09d%b" % (found[1][:16].replace(b"[", b"_") + found[1][16:], at // 10**9, at % 10**9, found[3])
