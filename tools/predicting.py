@@ -2,6 +2,8 @@
 
 from toolbox import Refusal, ran, shown
 
+import bisect
+
 from arrivals import arrivals_text
 from machine_report import option_words, values_of
 
@@ -9,43 +11,40 @@ from machine_report import option_words, values_of
 MEASURED = {"dropped": ("packets", 1), "polls": ("polls", 1), "runs": ("runs", 1), "delivered_p50": ("us", 1000), "delivered_p99": ("us", 1000),
             "used_p50": ("us", 1000), "used_p99": ("us", 1000)}
 GRADES = ((15, "good"), (40, "fair"))  # the largest error, in %, that a grade allows
+SIZE = 60  # bytes of an arrival, which the machine doesn't use
 FEW = 100  # drops and timers of fewer than one in so many packets aren't compared by their ratio
 
 
 def percentile(values, per_mille):
-    """The least of these values that so many of 1000 of them don't exceed; 0 if there is none."""
-    ordered = sorted(values)
-    return ordered[max(0, -(-len(ordered) * per_mille // 1000) - 1)] if ordered else 0
+    """The least of these values, in rising order, that so many of 1000 of them don't exceed; 0 if there is none."""
+    return values[max(0, -(-len(values) * per_mille // 1000) - 1)] if values else 0
 
 
-def arrivals_at(observed, numbers=None, visible=False):
-    """The arrivals of a recording, with drops: each packet at the device that its sender has among `numbers`. If `visible`, a packet that was
-    sent on the processor that polls arrives when the next softirq begins there, because that softirq waits for the sender."""
-    numbers = numbers or {sender: 1 for sender in observed.peers}
-    times = shown_times(observed) if visible else observed.sent
-    rows = sorted((time, place, numbers[sender]) for place, (time, sender) in enumerate(zip(times, observed.senders)))
-    return "".join(arrivals_text((time, device, 60) for time, _, device in rows))
+def arrivals_at(seen, numbers=None, visible=False):
+    """The arrivals of a recording, with those that were dropped: each packet at the device that its sender has among `numbers`. If `visible`, a
+    packet that was sent on the processor that polls arrives when the next softirq begins there, because that softirq waits for the sender."""
+    numbers = numbers or {sender: 1 for sender in seen.senders}
+    times = visible_times(seen) if visible else seen.sent
+    rows = sorted((time, place, numbers[sender]) for place, (time, sender) in enumerate(zip(times, seen.sent_by)))
+    return "".join(arrivals_text((time, device, SIZE) for time, _, device in rows))
 
 
-def shown_times(observed):
-    """When each packet is seen by the processor that polls."""
-    import bisect
-    entries = observed.entries[observed.processor]
-    for time, processor in zip(observed.sent, observed.sent_on):
+def visible_times(seen):
+    """When the processor that polls can see each packet."""
+    entries = seen.entries[seen.processor]
+    for time, processor in zip(seen.sent, seen.sent_on):
         place = bisect.bisect_left(entries, time)
-        yield entries[place] if processor == observed.processor and place < len(entries) else time
+        yield entries[place] if processor == seen.processor and place < len(entries) else time
 
 
-def measured_of(observed, ends=None):
-    """The values of a recording; of the application's waits too, if the end of each packet's use is known, by its number among the sent ones."""
-    values = {"sent": len(observed.sent), "dropped": observed.dropped, "polls": len(observed.ended), "runs": observed.runs,
-              "timers": observed.timers[observed.processor]}
-    waits = observed.waits()
-    if waits:
-        values.update(delivered_p50=percentile(waits, 500), delivered_p99=percentile(waits, 990))
-    if ends:
-        waits = [end - observed.sent[number] for number, end in ends]
-        values.update(used_p50=percentile(waits, 500), used_p99=percentile(waits, 990))
+def measured_of(seen, used=None):
+    """The values of a recording. Of each packet that was used `used` has when it was sent and when its use ended, if that is known otherwise than
+    by the program's recorded reads."""
+    values = {"sent": len(seen.sent), "dropped": seen.dropped, "polls": len(seen.ended), "runs": seen.runs, "timers": seen.timers[seen.processor]}
+    for name, pairs in (("delivered", seen.delivered()), ("used", used or seen.used())):
+        waits = sorted(end - time for time, end in pairs)
+        if waits:
+            values.update({f"{name}_p50": percentile(waits, 500), f"{name}_p99": percentile(waits, 990)})
     return values
 
 

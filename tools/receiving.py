@@ -1,5 +1,5 @@
-"""What a recording shows of one NAPI instance: the packets that were sent to it, its polls and runs, the reads of a program, and what
-other tasks its processor ran meanwhile.
+"""What a recording shows of the NAPI instances of some devices: the packets that were sent to them, their polls and runs, the reads of a program,
+and what other tasks their processor ran.
 """
 
 from toolbox import Refusal, shown
@@ -12,23 +12,23 @@ from recording import NET_RX, POLLED, SENT, SOFTIRQ, is_by_thread
 
 BACKLOG = "(no_device)"  # as napi_poll names the instance of a processor's backlog
 TIMER = re.compile(r"hrtimer=\S+ function=(\w+)")
-SWITCH = re.compile(r"prev_comm=(.*) prev_pid=(\d{1,9}) .*==> next_comm=(.*) next_pid=(\d{1,9}) ")
-KERNEL_TASKS = re.compile(r"swapper|ksoftirqd/|napi/|migration/|rcu_|cpuhp/|idle_inject/")  # which do the polling, or nothing
+SWITCH = re.compile(r"prev_comm=(.*) prev_pid=(\d{1,9}) prev_prio=(\d{1,3}) .*==> next_comm=(.*) next_pid=\d{1,9} ")
+KERNEL_TASKS = re.compile(r"swapper|ksoftirqd/|napi/|migration/|rcu|cpuhp/|idle_inject/")  # tasks that poll, or that take no time to speak of
+REAL_TIME = 100  # below it a priority is that of a real-time task, which no other task disturbs
 
 
 class Receiving:
-    """What is seen of the instance `device`, with packets of `peers`. Times are in ns."""
+    """What is seen of the instances that poll `polled`, with packets of the devices `senders`. Times are in ns."""
 
-    def __init__(self, device, peers):
-        self.device, self.peers = device, peers
-        self.sent, self.has_come = array("Q"), bytearray()  # each packet's time, and 1 unless it was dropped at a full ring
-        self.sent_on, self.senders = array("H"), []  # and the processor and the device that sent it
+    def __init__(self, polled, senders):
+        self.polled, self.senders, self.span = polled, senders, None
+        self.sent, self.has_come = array("Q"), bytearray()  # when each packet was sent, and 1 unless it was dropped at a full ring
+        self.sent_on, self.sent_by, self.sending = array("H"), [], set()  # the processor, the device and the tasks that sent it
         self.ended, self.begun, self.work, self.on, self.is_thread = array("Q"), array("Q"), array("L"), array("H"), bytearray()  # of each poll
+        self.run_of = set()  # the softirqs that polled, each by its processor and its place among the entries there
         self.entries, self.timers = defaultdict(lambda: array("Q")), Counter()  # by processor: when its softirqs began; its NAPI timers
-        self.run_of = set()  # the softirqs that polled it, each by its processor and its place among the entries there
-        self.span = None
-        self.mark, self.running = {}, {}
-        self.tasks = defaultdict(Counter)
+        self.reads, self.reading = [], {}  # of each read when it ended and when the next one of that task began
+        self.mark, self.running, self.tasks = {}, {}, defaultdict(Counter)
 
     def add(self, event):
         """Takes the next event of the recording."""
@@ -37,30 +37,34 @@ class Receiving:
             self.add_packet(event)
         elif event.name == "napi_poll":
             self.add_poll(event)
-        elif event.name in ("softirq_entry", "softirq_exit"):
-            if int(event.parts(SOFTIRQ)[0]) == NET_RX:
-                self.mark[event.cpu] = event.time if event.name == "softirq_entry" else 0
-                if event.name == "softirq_entry":
-                    self.entries[event.cpu].append(event.time)
+        elif event.name in ("softirq_entry", "softirq_exit") and int(event.parts(SOFTIRQ)[0]) == NET_RX:
+            self.mark[event.cpu] = event.time if event.name == "softirq_entry" else 0
+            if self.mark[event.cpu]:
+                self.entries[event.cpu].append(event.time)
         elif event.name == "hrtimer_expire_entry":
             found = TIMER.match(event.said)
             self.timers[event.cpu] += bool(found) and found[1] == "napi_watchdog"
         elif event.name == "sched_switch":
             self.add_switch(event)
+        elif event.name.startswith("sys_exit_"):
+            self.reading[event.task] = event.time
+        elif event.name.startswith("sys_enter_") and event.task in self.reading:
+            self.reads.append((self.reading.pop(event.task), event.time))
 
     def add_packet(self, event):
         sender, _, code = event.parts(SENT)
-        if sender in self.peers:
+        if sender in self.senders:
             self.sent.append(event.time)
             self.has_come.append(code in ("0", "0x0"))
             self.sent_on.append(event.cpu)
-            self.senders.append(sender)
+            self.sent_by.append(sender)
+            self.sending.add(event.task)
 
     def add_poll(self, event):
         device, work, _ = event.parts(POLLED)
         by_thread = is_by_thread(event)
         key = event.task if by_thread else event.cpu
-        if device in self.device:
+        if device in self.polled:
             self.ended.append(event.time)
             self.begun.append(self.mark.get(key, 0))
             self.work.append(int(work))
@@ -75,9 +79,8 @@ class Receiving:
         found = SWITCH.match(event.said)
         if not found:
             raise Refusal(f"line {event.line}: sched_switch says {shown(event.said[:60])!r}, which isn't read here")
-        last, last_id, following, _ = found.groups()
-        began = self.running.get(event.cpu, self.span[0])
-        self.tasks[event.cpu][last, int(last_id)] += event.time - began
+        last, process, priority, following = found.groups()
+        self.tasks[event.cpu][last, int(process), int(priority)] += event.time - self.running.get(event.cpu, self.span[0])
         self.running[event.cpu] = event.time
         if following.startswith("napi/"):
             self.mark[following] = event.time
@@ -85,41 +88,70 @@ class Receiving:
     # ---- what follows
 
     @property
+    def processors(self):
+        """The processors that polled, the one with most polls first."""
+        return [processor for processor, _ in Counter(self.on).most_common()]
+
+    @property
     def processor(self):
         """The processor that made most of the polls."""
-        return Counter(self.on).most_common(1)[0][0] if self.on else None
+        return self.processors[0] if self.on else None
 
     @property
     def is_by_thread(self):
-        """Whether a NAPI thread made most of the polls."""
+        """Whether NAPI threads made most of the polls."""
         return sum(self.is_thread) * 2 > len(self.is_thread)
 
     @property
     def dropped(self):
-        """The packets that found a full ring."""
+        """How many packets found a full ring."""
         return len(self.has_come) - sum(self.has_come)
 
     @property
     def runs(self):
-        """How many softirqs polled it."""
+        """How many softirqs polled."""
         return len(self.run_of)
 
-    def waits(self):
-        """From each packet's arrival to the end of the poll that delivered it; None if the sums of both don't agree."""
-        came = [time for time, has in zip(self.sent, self.has_come) if has]
-        if sum(self.work) != len(came):
-            return None
-        waits, place = [], 0
+    def came(self):
+        """When each packet was sent that wasn't dropped."""
+        return [time for time, has in zip(self.sent, self.has_come) if has]
+
+    def delivered(self):
+        """Of each packet that was delivered when it was sent and when its poll ended, in the order in which one instance delivers them; nothing if
+        the polls of several were recorded, or if packets and polls don't agree."""
+        came = self.came()
+        if len(set(self.sent_by)) != 1 or sum(self.work) > len(came) or not self.ended:
+            return []
+        pairs, place = [], 0
         for ended, work in zip(self.ended, self.work):
-            waits += [ended - time for time in came[place : place + work]]
+            pairs += [(time, ended) for time in came[place : place + work]]
             place += work
-        return waits
+        return pairs if all(time <= ended for time, ended in pairs) else []
+
+    def used(self):
+        """Of each packet that the program used when it was sent and when the next read began; nothing if reads and packets don't agree."""
+        pairs = self.delivered()
+        if not pairs or not self.reads:
+            return []
+        first = self.begun[0] or pairs[0][0]
+        reads = [read for read in self.reads if read[0] >= first]
+        # A poll's end isn't a packet's: it may be read as soon as it is sent.
+        is_whole = abs(len(reads) - len(pairs)) <= max(2, len(pairs) // 200) and all(read[0] > time for read, (time, _) in zip(reads, pairs))
+        return [(time, read[1]) for read, (time, _) in zip(reads, pairs)] if is_whole else []
 
     def other_tasks(self, known):
-        """The shares of the polling processor's time that tasks had which neither poll nor are in `known` (process numbers or names)."""
+        """The shares of the polling processor's time that tasks had which neither poll, nor send, nor are in `known`, process numbers: those
+        that can disturb. Beside tasks of real time only other ones of real time can."""
         if not self.span or self.span[1] == self.span[0]:
             return {}
-        whole = self.span[1] - self.span[0]
-        tasks = self.tasks.get(self.processor, {})
-        return {name: time / whole for (name, process), time in tasks.items()
-                if process and process not in known and name not in known and not KERNEL_TASKS.match(name)}
+        own, others = [], Counter()
+        for (name, process, priority), time in self.tasks.get(self.processor, {}).items():
+            if process in known or re.match("ksoftirqd/|napi/", name):
+                own.append(priority)
+            elif process and name not in self.sending and not KERNEL_TASKS.match(name):
+                others[name, priority] += time
+        most = REAL_TIME if own and max(own) < REAL_TIME else REAL_TIME * 2
+        shares = Counter()
+        for (name, priority), time in others.items():
+            shares[name] += time / (self.span[1] - self.span[0]) if priority < most else 0
+        return {name: part for name, part in shares.most_common() if part}

@@ -1,5 +1,5 @@
 """The rig of tests/live.sh: veth pairs between two network namespaces, a sender and a receiver that run at SCHED_FIFO on processors of
-their own, and a recording of what the kernel did. It restores every setting that it changes.
+their own, and a recording by tools/record. It restores every setting that it changes.
 """
 
 import contextlib
@@ -12,13 +12,11 @@ from dataclasses import dataclass, field
 from pathlib import Path
 
 HERE = Path(__file__).resolve().parent
-TRACING = Path("/sys/kernel/tracing")
+RECORD = HERE.parent.parent / "tools" / "record"
 PORT = 9000
 SENDS, RECEIVES = 2, 3  # the processors: of the sender, and of the receiver with what polls for it
 USE_NS = 2000  # what the receiver works on each packet
 SYSCTLS = ("net.core.netdev_budget", "net.core.netdev_max_backlog")
-EVENTS = ("net/net_dev_xmit", "napi/napi_poll", "irq/softirq_entry", "irq/softirq_exit", "irq_vectors/call_function_single_entry",
-          "irq_vectors/call_function_single_exit", "sched/sched_switch", "timer/hrtimer_expire_entry")
 NEEDS = {"ip": "iproute2", "ethtool": "ethtool", "chrt": "util-linux", "taskset": "util-linux", "cc": "gcc"}
 
 
@@ -59,13 +57,12 @@ class Setting:
 
 @dataclass
 class Recorded:
-    """What a recording gave: the trace, when each packet was read, and what the processor that polled counted."""
+    """What a recording gave: the file of tools/record, when each packet was read, and how far the sender was from its times."""
 
-    trace: str
-    reads: list  # (the packet's number, when it was read), in this order
+    path: Path
+    reads: list  # (the packet's number, when it was read, in ns), in this order
     sent: int
-    dropped: int
-    squeezed: int
+    late: int  # ns, of the latest burst
 
 
 def missing():
@@ -75,10 +72,8 @@ def missing():
         return ["root", *lacks]
     if (os.cpu_count() or 1) < 4:
         lacks.append("4 processors")
-    if not (TRACING / "events").is_dir():
-        lacks.append("tracefs at /sys/kernel/tracing")
-    else:
-        lacks += [f"the event {event}" for event in EVENTS if not (TRACING / "events" / event).is_dir()]
+    if not Path("/sys/kernel/tracing").is_dir():
+        lacks.append("a kernel with tracing")
     return lacks
 
 
@@ -94,15 +89,6 @@ def build(folder):
     """Compiles the sender and the receiver."""
     for name in ("sender", "receiver"):
         run("cc", "-O2", "-o", folder / name, HERE / f"{name}.c", "-lm")
-
-
-def softnet(processor):
-    """What a processor counted so far: packets dropped at its backlog, and squeezed runs."""
-    for line in Path("/proc/net/softnet_stat").read_text(encoding="ascii").splitlines():
-        fields = [int(each, 16) for each in line.split()]
-        if len(fields) > 12 and fields[12] == processor:
-            return fields[1], fields[2]
-    raise Failed(f"/proc/net/softnet_stat has no line of processor {processor}")
 
 
 def to_front(process):
@@ -122,13 +108,11 @@ class Rig:
     def __init__(self, folder, setting):
         self.folder, self.setting, self.undo = folder, setting, contextlib.ExitStack()
         self.out, self.into = f"fqs{os.getpid()}", f"fqr{os.getpid()}"
-        self.instance = TRACING / "instances" / f"fq{os.getpid()}"
 
     def __enter__(self):
         try:
             self.make_devices()
             self.set_all()
-            self.make_instance()
         except BaseException:
             self.undo.close()
             raise
@@ -198,52 +182,50 @@ class Rig:
             to_front(process)
             self.undo.callback(run, "chrt", "-o", "-p", 0, process)
 
-    def make_instance(self):
-        self.instance.mkdir()
-        self.undo.callback(self.instance.rmdir)
-        self.put("tracing_on", 0)
-        self.undo.callback(self.put, "tracing_on", 0)
-        self.put("trace_clock", "mono")
-        self.put("buffer_size_kb", 32768)
-        for event in ("irq/softirq_entry", "irq/softirq_exit"):
-            self.put(f"events/{event}/filter", "vec == 3")
-        self.put("tracing_cpumask", f"{1 << SENDS | 1 << RECEIVES:x}")
-        for event in EVENTS:
-            self.put(f"events/{event}/enable", 1)
+    def receiver(self, read):
+        """The receiver at work, which writes to that file when it ends."""
+        process = subprocess.Popen(["ip", "netns", "exec", self.into, "chrt", "-f", "1", "taskset", "-c", str(RECEIVES), self.folder / "receiver",
+                                    str(PORT), str(USE_NS), str(self.setting.traffic.filter), read], stdout=subprocess.PIPE)
+        self.undo.callback(process.wait)
+        self.undo.callback(process.kill)
+        if process.stdout.readline() != b"ready\n":
+            raise Failed("the receiver didn't start")
+        return process
 
-    def put(self, name, value):
-        (self.instance / name).write_text(f"{value}\n", encoding="ascii")
+    def recorder(self, path):
+        """tools/record at work, as somebody calls it."""
+        names = range(1, self.setting.devices + 1)
+        process = subprocess.Popen([RECORD, "1", "--netns", self.into, "--processors", f"{SENDS},{RECEIVES}", "--program", "receiver", "--out", path,
+                                    *(word for name in names for word in ("--device", f"vb{name}", "--sender", f"va{name}"))],
+                                   stdout=subprocess.DEVNULL, stderr=subprocess.PIPE, text=True)
+        self.undo.callback(process.wait)
+        self.undo.callback(process.kill)
+        said = ""
+        while not said.startswith("record: recording"):
+            said = process.stderr.readline()
+            if not said:
+                raise Failed("tools/record ended before it recorded")
+        return process
 
-    def record(self):
-        """Sends the traffic, and returns what was recorded."""
+    def record(self, path):
+        """Sends the traffic, and returns what was recorded in that file."""
         traffic, read = self.setting.traffic, self.folder / "read"
-        receiver = None
-        if self.setting.devices == 1:
-            receiver = subprocess.Popen(["ip", "netns", "exec", self.into, "chrt", "-f", "1", "taskset", "-c", str(RECEIVES),
-                                         self.folder / "receiver", str(PORT), str(USE_NS), str(traffic.filter), read], stdout=subprocess.PIPE)
-            self.undo.callback(receiver.wait)
-            self.undo.callback(receiver.kill)
-            if receiver.stdout.readline() != b"ready\n":
-                raise Failed("the receiver didn't start")
-        before = softnet(self.setting.polls_on)
-        self.put("tracing_on", 1)
+        receiver = self.receiver(read) if self.setting.devices == 1 else None
+        recorder = self.recorder(path)
         address = "10.99.0.255" if self.setting.devices > 1 else "10.99.0.2"
         said = self.within(self.out, "chrt", "-f", 1, "taskset", "-c", SENDS, self.folder / "sender", address, PORT, traffic.period, traffic.burst,
                            traffic.count, traffic.pace, traffic.gso, traffic.kind)
-        time.sleep(0.05)
-        self.put("tracing_on", 0)
-        after = softnet(self.setting.polls_on)
         if receiver and receiver.wait():
             raise Failed("the receiver failed")
-        sent, failed = map(int, re.match(r"sent (\d+) failed (\d+)", said).groups())
-        if failed and self.setting.poller != "thread":  # whose ring may be full
-            raise Failed(f"{failed} packets weren't sent")
+        said_by_record = recorder.stderr.read()
+        if recorder.wait():
+            raise Failed(f"tools/record failed: {said_by_record.strip()[:200]}")
+        sent, _, late = map(int, re.match(r"sent (\d+) failed (\d+) latest (\d+)", said).groups())
         reads = [tuple(map(int, line.split(","))) for line in read.read_text(encoding="ascii").splitlines()] if receiver else []
-        return Recorded((self.instance / "trace").read_text(encoding="utf-8", errors="replace"), reads, sent, after[0] - before[0],
-                        after[1] - before[1])
+        return Recorded(path, reads, sent, late)
 
 
-def record(folder, setting):
+def record(folder, setting, path):
     """One recording by this setting."""
     with Rig(folder, setting) as rig:
-        return rig.record()
+        return rig.record(path)
