@@ -8,7 +8,7 @@ from arrivals import arrivals_text
 from machine_report import option_words, values_of
 
 # Of each measured value: its name in the machine's report, its unit, and by what it is divided for that unit.
-MEASURED = {"dropped": ("packets", 1), "polls": ("polls", 1), "runs": ("runs", 1), "delivered_p50": ("us", 1000), "delivered_p99": ("us", 1000),
+MEASURED = {"dropped": ("packets", 1), "polls": ("polls", 1), "runs": ("runs", 1), "squeezed": ("runs", 1), "delivered_p50": ("us", 1000), "delivered_p99": ("us", 1000),
             "used_p50": ("us", 1000), "used_p99": ("us", 1000)}
 GRADES = ((15, "good"), (40, "fair"))  # the largest error, in %, that a grade allows
 SIZE = 60  # bytes of an arrival, which the machine doesn't use
@@ -37,10 +37,12 @@ def visible_times(seen):
         yield entries[place] if processor == seen.processor and place < len(entries) else time
 
 
-def measured_of(seen, used=None):
-    """The values of a recording. Of each packet that was used `used` has when it was sent and when its use ended, if that is known otherwise than
-    by the program's recorded reads."""
-    values = {"sent": len(seen.sent), "dropped": seen.dropped, "polls": len(seen.ended), "runs": seen.runs, "timers": seen.timers[seen.processor]}
+def measured_of(seen, head, used=None):
+    """The values of a recording with that head. Of each packet that was used `used` has when it was sent and when its use ended, if that is known
+    otherwise than by the program's recorded reads."""
+    before, after = map(int, head.get(f"softnet.{seen.processor}.squeezed", "0 0").split())
+    values = {"sent": len(seen.sent), "dropped": seen.dropped, "polls": len(seen.ended), "runs": seen.runs, "squeezed": after - before,
+              "timers": seen.timers[seen.processor]}
     for name, pairs in (("delivered", seen.delivered()), ("used", used or seen.used())):
         waits = sorted(end - time for time, end in pairs)
         if waits:

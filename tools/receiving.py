@@ -14,7 +14,13 @@ BACKLOG = "(no_device)"  # as napi_poll names the instance of a processor's back
 TIMER = re.compile(r"hrtimer=\S+ function=(\w+)")
 SWITCH = re.compile(r"prev_comm=(.*) prev_pid=(\d{1,9}) prev_prio=(\d{1,3}) .*==> next_comm=(.*) next_pid=\d{1,9} ")
 KERNEL_TASKS = re.compile(r"swapper|ksoftirqd/|napi/|migration/|rcu|cpuhp/|idle_inject/")  # tasks that poll, or that take no time to speak of
+EARLY = 100_000  # ns: a packet's event follows its arrival, and may be that late
 REAL_TIME = 100  # below it a priority is that of a real-time task, which no other task disturbs
+
+
+def agree(pairs):
+    """Whether of each pair the first time may be that of an arrival, and the second one that of what became of the packet."""
+    return sum(time > later for time, later in pairs) * 50 <= len(pairs) and all(time <= later + EARLY for time, later in pairs)
 
 
 class Receiving:
@@ -126,7 +132,7 @@ class Receiving:
         for ended, work in zip(self.ended, self.work):
             pairs += [(time, ended) for time in came[place : place + work]]
             place += work
-        return pairs if all(time <= ended for time, ended in pairs) else []
+        return [(min(pair), pair[1]) for pair in pairs] if agree(pairs) else []
 
     def used(self):
         """Of each packet that the program used when it was sent and when the next read began; nothing if reads and packets don't agree."""
@@ -136,8 +142,8 @@ class Receiving:
         first = self.begun[0] or pairs[0][0]
         reads = [read for read in self.reads if read[0] >= first]
         # A poll's end isn't a packet's: it may be read as soon as it is sent.
-        is_whole = abs(len(reads) - len(pairs)) <= max(2, len(pairs) // 200) and all(read[0] > time for read, (time, _) in zip(reads, pairs))
-        return [(time, read[1]) for read, (time, _) in zip(reads, pairs)] if is_whole else []
+        is_whole = abs(len(reads) - len(pairs)) <= max(2, len(pairs) // 200) and agree([(time, read[0]) for read, (time, _) in zip(reads, pairs)])
+        return [(time, max(time, read[1])) for read, (time, _) in zip(reads, pairs)] if is_whole else []
 
     def other_tasks(self, known):
         """The shares of the polling processor's time that tasks had which neither poll, nor send, nor are in `known`, process numbers: those

@@ -81,7 +81,7 @@ def run(*command, **others):
     """The output of a command, which must succeed."""
     done = subprocess.run(list(map(str, command)), capture_output=True, text=True, check=False, **others)
     if done.returncode:
-        raise Failed(f"{' '.join(map(str, command))[:80]} ended with status {done.returncode}: {done.stderr.strip()[:200]}")
+        raise Failed(f"{' '.join(map(str, command))[:80]} ended with status {done.returncode}: {done.stderr.strip()}")
     return done.stdout
 
 
@@ -195,16 +195,16 @@ class Rig:
     def recorder(self, path):
         """tools/record at work, as somebody calls it."""
         names = range(1, self.setting.devices + 1)
-        process = subprocess.Popen([RECORD, "1", "--netns", self.into, "--processors", f"{SENDS},{RECEIVES}", "--program", "receiver", "--out", path,
+        process = subprocess.Popen([RECORD, "1", "--netns", self.into, "--program", "receiver", "--out", path,
                                     *(word for name in names for word in ("--device", f"vb{name}", "--sender", f"va{name}"))],
                                    stdout=subprocess.DEVNULL, stderr=subprocess.PIPE, text=True)
         self.undo.callback(process.wait)
         self.undo.callback(process.kill)
-        said = ""
-        while not said.startswith("record: recording"):
-            said = process.stderr.readline()
-            if not said:
-                raise Failed("tools/record ended before it recorded")
+        said = [""]
+        while not said[-1].startswith("record: recording"):
+            said.append(process.stderr.readline())
+            if not said[-1]:
+                raise Failed(f"tools/record doesn't record: {said[-2].strip()[:200]}")
         return process
 
     def record(self, path):

@@ -1,0 +1,303 @@
+"""Compares what napi_machine predicts with what this machine's Linux does, or with what one did: the test of tests/live.sh.
+
+    live.py kept PROGRAM          the recording that the repository has
+    live.py here PROGRAM [FOLDER] records here; with FOLDER, keeps what was recorded there, in place of the repository's
+    live.py table PROGRAM         the table of docs/TIMING.md; live.py picture PROGRAM FILE draws it
+
+Costs and arrivals come from one setting's recording, and other settings are predicted by them. Each line compares the median of three
+recordings. The last line is `N passed, M failed`, with `, K skipped` if something was skipped.
+"""
+
+import gzip
+import json
+import statistics
+import subprocess
+import sys
+import tempfile
+from dataclasses import dataclass
+from pathlib import Path
+
+HERE = Path(__file__).resolve().parent
+TOP = HERE.parent.parent
+sys.path[:0] = [str(TOP / "tools"), str(HERE)]
+
+import toolbox  # noqa: E402
+import predicting  # noqa: E402
+import rig  # noqa: E402
+from receiving import BACKLOG, Receiving  # noqa: E402
+from recording import check_lost, events_in  # noqa: E402
+from rig import Setting, Traffic  # noqa: E402
+
+TIMES = 3  # that each setting is recorded
+TRIES = 3  # until a recording is one in which the sender kept to its times
+MOST_LATE = 300_000  # ns
+NO_LIMIT = 65536  # packets of a socket's buffer, which holds all
+
+OVERLOAD = Traffic("fixed", 15000, 1500, 8, pace=10400, gso=8, filter=3900)
+STEADY = Traffic("poisson", 60, 1, 6000)
+BROADCAST = Traffic("mixed", 3000, 24, 150, gso=64)
+
+
+@dataclass(frozen=True)
+class Case:
+    """A setting that is predicted, and how far each value may be off, in %."""
+
+    setting: Setting
+    limits: dict
+
+
+@dataclass(frozen=True)
+class Group:
+    """The setting that is recorded for costs and arrivals, and those that are predicted from it."""
+
+    base: Setting
+    cases: tuple
+
+
+def backlog_of(packets):
+    return {"net.core.netdev_max_backlog": packets}
+
+
+GROUPS = (
+    Group(Setting("backlog of 3000", "backlog", OVERLOAD, sysctls=backlog_of(3000)), (
+        Case(Setting("backlog of 100", "backlog", OVERLOAD, sysctls=backlog_of(100)), {"dropped": 5, "used_p50": 15}),
+        Case(Setting("threaded, ring of 256", "thread", OVERLOAD), {"dropped": 10, "used_p50": 15}))),
+    Group(Setting("no deferral", "backlog", STEADY, sysctls=backlog_of(3000)), (
+        Case(Setting("threaded, deferral 2 x 100 us", "thread", STEADY, defer_hard_irqs=2, gro_flush_timeout=100000), {"polls": 10, "used_p50": 15}),)),
+    Group(Setting("8 instances, budget 300", "softirq", BROADCAST, devices=8), (
+        Case(Setting("8 instances, budget 16", "softirq", BROADCAST, devices=8, sysctls={"net.core.netdev_budget": 16}), {"runs": 1, "squeezed": 1}),)),
+)
+
+
+def options_of(setting):
+    """The machine's options for a setting."""
+    options = {"ring": 256, "budget": setting.sysctls.get("net.core.netdev_budget", 300), "socket": NO_LIMIT}
+    if setting.poller == "backlog":
+        options.update(ring=setting.sysctls["net.core.netdev_max_backlog"] + 1, backlog=1)
+    elif setting.poller == "thread":
+        options.update({"threaded": 1, "defer-hard-irqs": setting.defer_hard_irqs, "gro-flush-timeout": setting.gro_flush_timeout})
+    return options
+
+
+# ---- recordings made here
+
+def seen_in(setting, recorded):
+    """What a recording shows, with its head."""
+    names, head, lost = range(1, setting.devices + 1), {}, []
+    seen = Receiving({BACKLOG} if setting.poller == "backlog" else {f"vb{number}" for number in names}, {f"va{number}" for number in names})
+    for event in events_in(str(recorded.path), lost, head):
+        seen.add(event)
+    check_lost(lost)
+    return seen, head
+
+
+def values_of(setting, recorded):
+    """The measured values of a recording."""
+    seen, head = seen_in(setting, recorded)
+    ends = [(seen.sent[number], read + rig.USE_NS) for number, read in recorded.reads]
+    return predicting.measured_of(seen, head, ends)
+
+
+def costs_of(path):
+    """The costs of a recording, by tools/costs."""
+    done = subprocess.run([sys.executable, "-BES", TOP / "tools" / "costs", path, "--json"], capture_output=True, text=True, check=False)
+    if done.returncode:
+        raise rig.Failed(done.stderr.strip() or "tools/costs failed")
+    return {name: cost["value"] for name, cost in json.loads(done.stdout)["costs"].items()}
+
+
+class Recordings:
+    """The recordings of a group, made in turn, so that what slows the machine for some seconds doesn't meet one setting only."""
+
+    def __init__(self, folder):
+        self.folder, self.count = folder, 0
+
+    def once(self, setting):
+        """One recording in which the sender kept to its times, or the last of some tries."""
+        for _ in range(TRIES):
+            self.count += 1
+            recorded = rig.record(self.folder, setting, self.folder / f"{self.count}.rec")
+            if recorded.late < MOST_LATE:
+                break
+            recorded.path.unlink()
+        else:
+            raise rig.Failed("the sender doesn't keep to its times: other work has its processor")
+        return recorded
+
+    def of(self, group):
+        """Of each setting of the group its recordings."""
+        settings = [group.base, *(case.setting for case in group.cases)]
+        made = {setting.name: [] for setting in settings}
+        for _ in range(TIMES):
+            for setting in settings:
+                made[setting.name].append(self.once(setting))
+        return made
+
+
+def kept_of(group, made):
+    """What is kept of a group's recordings: costs and arrivals of the base, and all measured values."""
+    bases = sorted(((costs_of(each.path), place) for place, each in enumerate(made[group.base.name])), key=lambda pair: pair[0].get("packet", 0))
+    costs, place = bases[len(bases) // 2]
+    seen, head = seen_in(group.base, made[group.base.name][place])
+    numbers = {f"va{number}": number for number in range(1, group.base.devices + 1)}
+    settings = {setting.name: setting for setting in (group.base, *(case.setting for case in group.cases))}
+    return {"kernel": head.get("kernel", ""), "costs": costs, "arrivals": predicting.arrivals_at(seen, numbers, visible=group.base.poller == "softirq"),
+            "measured": {name: [values_of(settings[name], each) for each in recorded] for name, recorded in made.items()}}
+
+
+# ---- predicted and measured
+
+@dataclass
+class Line:
+    """One value of one setting."""
+
+    setting: str
+    name: str
+    measured: list
+    predicted: int
+    limit: int  # 0 for a value of the base, which is the rig's own check
+    sent: int
+
+    @property
+    def median(self):
+        return statistics.median(self.measured)
+
+    @property
+    def error(self):
+        return predicting.error_of(self.name, self.median, self.predicted, self.sent)
+
+    @property
+    def is_steady(self):
+        """Whether at least two of the recordings agree about it."""
+        values = sorted(self.measured)
+        return any(abs(predicting.error_of(self.name, high, low, self.sent)) <= max(self.limit, 5) for low, high in zip(values, values[1:]))
+
+    def __str__(self):
+        unit, by = predicting.MEASURED[self.name]
+        low, middle, high, value = (f"{each / by:.4g}" if by > 1 else f"{each:.0f}" for each in
+                                    (min(self.measured), self.median, max(self.measured), self.predicted))
+        return f"{self.setting}: {self.name} {middle} [{low}, {high}] {unit}, predicted {value} ({self.error:+.1f} %)"
+
+
+def lines_of(program, setting, limits, kept):
+    """The lines of a setting, predicted from what was kept."""
+    values = predicting.predicted(program, kept["arrivals"], {**kept["costs"], **options_of(setting)})
+    measured = kept["measured"][setting.name]
+    return [Line(setting.name, name, [each[name] for each in measured], values[name], limit, measured[0]["sent"]) for name, limit in limits.items()
+            if all(name in each for each in measured)]
+
+
+def own_check(group):
+    """The values by which the rig is judged at the setting that was recorded."""
+    return dict.fromkeys(("runs", "squeezed") if group.base.devices > 1 else ("polls", "dropped", "used_p50"), 0)
+
+
+def is_poor(lines):
+    return predicting.grade_of([(line.name, line.median, line.predicted, line.error) for line in lines]) == "poor"
+
+
+class Sum:
+    """What passed, failed and was skipped."""
+
+    def __init__(self):
+        self.passed = self.failed = self.skipped = 0
+
+    def skip(self, why):
+        self.skipped += 1
+        print(f"skipped: live: {why}")
+
+    def take(self, line, is_kept):
+        """Judges a line."""
+        print(line)
+        if abs(line.error) <= line.limit:
+            self.passed += 1
+        elif not is_kept and not line.is_steady:
+            self.skip(f"{line.setting}: no two recordings agree about {line.name}")
+        else:
+            self.failed += 1
+            print(f"FAILED: it may be {line.limit} % off")
+
+    def end(self):
+        print(f"{self.passed} passed, {self.failed} failed" + (f", {self.skipped} skipped" if self.skipped else ""))
+        return self.failed > 0
+
+
+def is_off(lines):
+    """Whether a prediction is further off than it may be."""
+    return any(abs(line.error) > line.limit for line in lines)
+
+
+def judged(program, group, kept):
+    """The lines of the base, and those of the settings that are predicted from it."""
+    return (lines_of(program, group.base, own_check(group), kept),
+            [line for case in group.cases for line in lines_of(program, case.setting, case.limits, kept)])
+
+
+def check_kept(program, total):
+    """The recording that the repository has."""
+    for place, group in enumerate(GROUPS):
+        own, lines = judged(program, group, read_kept(place))
+        for line in own:
+            print(line)
+        for line in lines:
+            total.take(line, is_kept=True)
+
+
+def check_here(program, folder, total):
+    """Records on this machine; what is off is recorded a second time, as anything may have slowed the machine. Returns what may be kept."""
+    all_kept = []
+    for group in GROUPS:
+        with tempfile.TemporaryDirectory() as scratch:
+            rig.build(Path(scratch))
+            for _ in range(2):
+                kept = kept_of(group, Recordings(Path(scratch)).of(group))
+                own, lines = judged(program, group, kept)
+                if not is_poor(own) and not is_off(lines):
+                    break
+        all_kept.append(kept)
+        for line in own:
+            print(line)
+        if is_poor(own):
+            for line in lines:
+                total.skip(f"{line}: the recorded setting itself isn't predicted well, so the machine is disturbed")
+            continue
+        for line in lines:
+            total.take(line, is_kept=False)
+    if folder and not total.failed and not total.skipped:
+        write_kept(Path(folder), all_kept)
+
+
+# ---- what the repository keeps
+
+def read_kept(place, folder=HERE / "kept"):
+    kept = json.loads((folder / f"{place + 1}.json").read_text(encoding="utf-8"))
+    return {**kept, "arrivals": gzip.decompress((folder / f"{place + 1}.csv.gz").read_bytes()).decode("ascii")}
+
+
+def write_kept(folder, all_kept):
+    folder.mkdir(exist_ok=True)
+    for place, kept in enumerate(all_kept, 1):
+        (folder / f"{place}.csv.gz").write_bytes(gzip.compress(kept["arrivals"].encode("ascii"), 9, mtime=0))
+        others = {name: value for name, value in kept.items() if name != "arrivals"}
+        (folder / f"{place}.json").write_text(json.dumps(others, indent=1) + "\n", encoding="utf-8")
+
+
+def main(words):
+    what, program, *others = words
+    total = Sum()
+    if what == "kept":
+        check_kept(program, total)
+    elif what == "here":
+        lacks = rig.missing()
+        if lacks:
+            total.skip(f"needs {', '.join(lacks)}")
+        else:
+            try:
+                check_here(program, others[0] if others else None, total)
+            except (rig.Failed, toolbox.Refusal, OSError) as error:
+                total.skip(f"the rig failed: {error}")
+    return total.end()
+
+
+if __name__ == "__main__":
+    sys.exit(main(sys.argv[1:]))
