@@ -43,6 +43,7 @@ class Event:
     time: int
     name: str
     said: str
+    pid: int = 0
 
     def parts(self, pattern):
         """What the event says, by the pattern of its kind."""
@@ -61,11 +62,13 @@ def events_of(lines, lost, first=1):
     """The events of these lines, the first of which has that number. If the kernel lost some, a list has a note."""
     for number, line in enumerate(lines, first):
         found = LINE.match(line)
+        if not line.endswith("\n") and (first > 1 or not found):
+            raise Refusal(f"it is cut: line {number} isn't whole")
         if loss := LOST.search(line):
             lost.append(f"line {number} of the recording: the kernel lost {loss[1] or loss[2] or loss[3]} events")
         elif found:
             yield Event(number, found["task"], int(found["cpu"]), found["flags"] or "", seconds(found["seconds"], found["fraction"]), name_of(found),
-                        found["said"].rstrip())
+                        found["said"].rstrip(), int(found["pid"]))
         elif not NO_EVENT.match(line):
             raise Refusal(f"line {number}: no line of ftrace, `trace-cmd report` or `perf script`: {line.strip()[:60]!r}")
 

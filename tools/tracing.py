@@ -17,7 +17,7 @@ FILTERS = {"irq/softirq_entry": f"vec == {NET_RX}", "irq/softirq_exit": f"vec ==
            "timer/hrtimer_expire_entry": "function.function == napi_watchdog"}
 READS = ("recvfrom", "recvmsg", "recvmmsg", "read", "readv")
 MARK = "fintaqush mark"
-MARKS = 8  # at the beginning, and at the end
+MARKS = 16  # at the beginning, and at the end
 MEGABYTE = 1 << 20
 
 
@@ -152,10 +152,15 @@ class Instance:
 
     def mark(self):
         """Writes marks, by which the counter's time is that of CLOCK_MONOTONIC."""
-        for number in range(len(self.marks), len(self.marks) + MARKS):
-            before = time.monotonic_ns()
-            self.write("trace_marker", f"{MARK} {number}")
-            self.marks[number] = before, time.monotonic_ns()
+        marker = os.open(f"{self.path}/trace_marker", os.O_WRONLY)
+        try:
+            for number in range(len(self.marks), len(self.marks) + MARKS):
+                text = f"{MARK} {number}".encode()
+                before = time.monotonic_ns()
+                os.write(marker, text)
+                self.marks[number] = before, time.monotonic_ns()
+        finally:
+            os.close(marker)
 
     def begin(self):
         self.write("tracing_on", "1")

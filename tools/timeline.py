@@ -1,0 +1,303 @@
+"""What happens on the processors of a recording: polls, interrupts, wake-ups and reads, each with the time that it takes."""
+
+from toolbox import Refusal
+
+import re
+from collections import Counter, defaultdict, deque
+
+from recording import NET_RX, POLLED, SENT, SOFTIRQ, is_by_thread
+
+HANDLER = re.compile(r"irq=(\d{1,9})(?: name=(.*))?")
+SWITCH = re.compile(r"prev_comm=.* prev_pid=(\d{1,9}) prev_prio=-?\d+ prev_state=(\S+) ==> next_comm=(.*) next_pid=(\d{1,9}) next_prio=-?\d+")
+SHORT_SWITCH = re.compile(r".*:(\d{1,9}) \[-?\d+\] (\S+) ==> (.*):(\d{1,9}) \[-?\d+\]")  # as trace-cmd writes it
+EXPIRES = re.compile(r"hrtimer=(\S+) .*\bexpires=(\d{1,20})")
+EXPIRED = re.compile(r"hrtimer=(\S+) .*\bnow=(\d{1,20})")
+RETURNED = re.compile(r"0x([0-9a-f]{1,16})$")
+WATCHDOG = "napi_watchdog"
+TIMER = f"the timer of {WATCHDOG}"
+# Interrupts between processors, after which a softirq or a thread begins.
+BETWEEN = {"call_function_single", "call_function", "reschedule", "ipi"}
+SOON = 50_000  # ns, from the end of an interrupt to what it asked for
+SAME_CLOCK = 1_000_000  # ns
+
+
+class Taken:
+    """How much time of a processor something takes in all, which may be nested."""
+
+    def __init__(self):
+        self.depth, self.since, self.total = 0, 0, 0
+
+    def begin(self, time):
+        if self.depth == 0:
+            self.since = time
+        self.depth += 1
+
+    def end(self, time):
+        if self.depth:
+            self.depth -= 1
+            if self.depth == 0:
+                self.total += time - self.since
+
+    def until(self, time):
+        return self.total + (time - self.since if self.depth else 0)
+
+
+class Processor:
+    """What is under way on a processor."""
+
+    def __init__(self):
+        self.handlers = []  # those that began: each its name, when, and whether napi_watchdog ran in it
+        self.ended = None  # the name, the duration and the end of the last handler
+        self.by_handlers, self.above_tasks = Taken(), Taken()
+        self.softirq = self.thread = None  # since when the next poll's time counts there, and what was taken until then
+        self.is_first, self.by = False, None  # whether no poll was made since that began, and the handler that asked for it
+        self.task, self.before = ("", 0, 0), ("", 0, 0)  # the task that runs, and the one before it: name, number, beginning
+        self.due = None  # of the NAPI timer that expired last
+
+
+class Reads:
+    """The reads of a program: packets are read in the order in which they are delivered."""
+
+    def __init__(self):
+        self.tasks, self.called = set(), {}  # the program's; and those in a call: when it began, what was taken then, and when it slept last
+        self.delivered = deque()  # of each packet that waits for its read: when its poll ended, and whether that gave it only
+        self.ahead = []  # reads before the end of the packet's poll: each when, and whether the program had slept
+        self.last = None  # the last read: task, time, processor, what was taken there until then, packets
+        self.calls, self.uses, self.wakes, self.on = [], [], [], Counter()
+        self.count, self.unmatched, self.is_by_recv = 0, 0, False
+
+    def deliver(self, time, work):
+        """A poll ended, which gave so many packets; those that were read ahead are of this one."""
+        known = self.ahead[:work]
+        if work == 1 and known and known[0][1]:
+            self.wakes.append(known[0][0] - time)
+        self.unmatched += len(self.ahead) - len(known)
+        self.ahead.clear()
+        self.delivered.extend([(time, work == 1)] * (work - len(known)))
+
+    def enter(self, processor, event):
+        self.tasks.add(event.pid)
+        self.called[event.pid] = [event.time, processor.above_tasks.until(event.time), None]
+
+    def sleep(self, task, time, is_waiting):
+        """A task leaves its processor; if it does so within a call, no packet waits for it."""
+        if is_waiting and task in self.called:
+            self.called[task][2] = time
+        if self.last and self.last[0] == task:
+            self.last = None
+
+    def leave(self, processor, event):
+        """A read returns."""
+        by_recv = event.name.startswith("sys_exit_recv")
+        found = RETURNED.search(event.said)
+        called = self.called.pop(event.pid, None)
+        if by_recv and not self.is_by_recv:
+            tasks = self.tasks
+            self.__init__()
+            self.tasks, self.is_by_recv = tasks, True
+        if self.is_by_recv and not by_recv or not found or not 0 < int(found[1], 16) < 1 << 31:
+            return
+        taken = processor.above_tasks.until(event.time)
+        packets = int(found[1], 16) if event.name.endswith("recvmmsg") else 1
+        self.count += packets
+        self.on[event.cpu] += 1
+        while called and called[2] and self.delivered and self.delivered[0][0] < called[2]:
+            self.delivered.popleft()
+            self.unmatched += 1
+        self.take(event, called, taken, packets)
+        self.last = event.pid, event.time, event.cpu, taken, packets
+
+    def take(self, event, called, taken, packets):
+        """The read packets are the ones that were delivered first."""
+        known = [self.delivered.popleft() for _ in range(min(packets, len(self.delivered)))]
+        slept = bool(called and called[2])
+        self.ahead += [(event.time, slept)] * (packets - len(known))
+        if len(known) == packets and self.last and self.last[::2] == (event.pid, event.cpu, packets) and known[-1][0] <= self.last[1]:
+            self.uses.append((event.time - self.last[1] - (taken - self.last[3])) / packets)
+        if len(known) == packets and called and not slept and known[-1][0] <= called[0]:
+            self.calls.append((event.time - called[0] - (taken - called[1])) / packets)
+        if packets == 1 and known and known[0][1] and slept and called[2] <= known[0][0]:
+            self.wakes.append(event.time - known[0][0])
+
+
+class Timeline:
+    """Adds up the times of a recording."""
+
+    def __init__(self, pairs=(), polled=(), irq=None):
+        self.irq, self.polled, self.senders = irq, set(polled), {sender for sender, _ in pairs}
+        self.on = defaultdict(Processor)
+        self.is_coarse, self.has_tasks, self.has_handlers = True, False, False
+        self.polls, self.strays, self.by_threads, self.where = [], 0, 0, Counter()  # packets and ns of each poll
+        self.handlers, self.without = defaultdict(list), 0  # the handlers that runs followed; how many runs followed none
+        self.wakes, self.busy_wakes = defaultdict(list), defaultdict(list)  # by packets and by timers, of a processor that slept, or had other tasks
+        self.due = {}  # of each timer
+        self.waiting, self.came, self.dropped, self.unmatched, self.sent_on = deque(), 0, 0, 0, Counter()
+        self.poll_end, self.was_full = 0, False  # of the last poll
+        self.reads = Reads()
+        self.tasks, self.first, self.last = defaultdict(Counter), 0, 0
+
+    def add(self, event):
+        self.is_coarse = self.is_coarse and event.time % 1000 == 0
+        self.first = self.first or event.time
+        self.last = event.time
+        processor, name = self.on[event.cpu], event.name
+        if name.startswith("softirq_"):
+            self.softirq(processor, event)
+        elif name.startswith("hrtimer_"):
+            self.timer(processor, event)
+        elif name.startswith("sys_enter_"):
+            self.reads.enter(processor, event)
+        elif name.startswith("sys_exit_"):
+            self.reads.leave(processor, event)
+        elif name.endswith(("_entry", "_exit")):
+            self.handler(processor, event)
+        elif name == "napi_poll":
+            self.poll(processor, event)
+        elif name == "sched_switch":
+            self.switch(processor, event)
+        elif name == "net_dev_xmit":
+            self.packet(event)
+
+    def handler(self, processor, event):
+        """A handler begins or ends: that of a card's interrupt, of one between processors, or of the local timer."""
+        kind, _, end = event.name.rpartition("_")
+        self.has_handlers = True
+        if end == "entry":
+            name = (event.parts(HANDLER)[1] or "") if kind == "irq_handler" else kind
+            processor.handlers.append([name, event.time, False])
+            processor.by_handlers.begin(event.time)
+            processor.above_tasks.begin(event.time)
+        elif processor.handlers:
+            name, began, has_expired = processor.handlers.pop()
+            processor.by_handlers.end(event.time)
+            processor.above_tasks.end(event.time)
+            if kind == "irq_handler" and name == self.irq:
+                self.handlers[name].append(event.time - began)
+            if kind == "irq_handler" or has_expired or name in BETWEEN:
+                processor.ended = (TIMER if has_expired else name, event.time - began, event.time)
+
+    def timer(self, processor, event):
+        """NAPI's timer is set, or expires within the handler that is under way."""
+        if WATCHDOG not in event.said:
+            return
+        if event.name == "hrtimer_start":
+            timer, due = event.parts(EXPIRES)
+            self.due[timer] = int(due)
+        elif event.name == "hrtimer_expire_entry":
+            timer, now = event.parts(EXPIRED)
+            due = self.due.pop(timer, int(now))
+            processor.due = due if abs(int(now) - event.time) < SAME_CLOCK else event.time - max(0, int(now) - due)
+            if processor.handlers:
+                processor.handlers[-1][2] = True
+
+    def softirq(self, processor, event):
+        """NET_RX begins, which the last handler asked for, or ends."""
+        if event.name == "softirq_raise" or int(event.parts(SOFTIRQ)[0]) != NET_RX:
+            return
+        if event.name == "softirq_entry":
+            processor.softirq = event.time, processor.by_handlers.until(event.time)
+            self.begin(processor, event.time)
+            processor.above_tasks.begin(event.time)
+        else:
+            processor.softirq, processor.ended = None, None
+            processor.above_tasks.end(event.time)
+
+    @staticmethod
+    def begin(processor, time):
+        """Polls begin, by a softirq or a thread."""
+        asked = processor.ended if processor.ended and time - processor.ended[2] <= SOON else None
+        processor.is_first, processor.by, processor.ended = True, asked, None
+
+    def switch(self, processor, event):
+        found = SWITCH.match(event.said) or SHORT_SWITCH.match(event.said)
+        if not found:
+            raise Refusal(f"line {event.line}: sched_switch says {event.said[:60]!r}, which isn't read here")
+        task, state, name, pid = found.groups()
+        self.has_tasks = True
+        if processor.task[0]:
+            self.tasks[event.cpu][processor.task[0]] += event.time - processor.task[2]
+        self.reads.sleep(int(task), event.time, not state.startswith("R"))
+        processor.before, processor.task, processor.thread = processor.task, (name, int(pid), event.time), None
+        if name.startswith("napi/"):
+            processor.thread = event.time, processor.above_tasks.until(event.time)
+            self.begin(processor, event.time)
+
+    def packet(self, event):
+        """A packet is sent, which comes to a device."""
+        sender, _, code = event.parts(SENT)
+        if sender in self.senders:
+            self.sent_on[event.cpu] += 1
+            if code in ("0", "0x0"):
+                self.came += 1
+                self.waiting.append((event.time, event.cpu))
+            else:
+                self.dropped += code in ("1", "0x1")
+
+    def poll(self, processor, event):
+        device, work, budget = event.parts(POLLED)
+        work, by_thread = int(work), is_by_thread(event)
+        began = processor.thread if by_thread else processor.softirq
+        mark = event.time, (processor.above_tasks if by_thread else processor.by_handlers).until(event.time)
+        if began and by_thread:
+            processor.thread = mark
+        elif began:
+            processor.softirq = mark
+        if not self.polled or device in self.polled:
+            self.strays += not began
+            if began:
+                self.polls.append((work, mark[0] - began[0] - (mark[1] - began[1])))
+                self.by_threads += by_thread
+                self.where[event.cpu] += 1
+                if processor.is_first:
+                    self.run_begins(processor, began[0], work, event.cpu)
+            self.deliver(event.time, work, work < int(budget), began[0] if began else self.poll_end)
+            self.poll_end, self.was_full = event.time, work >= int(budget)
+        processor.is_first, processor.by, processor.due, processor.ended = False, None, None, None
+
+    def run_begins(self, processor, began, work, cpu):
+        """The first poll of a softirq or a thread: which handler asked for it, and how long it took from its cause to its beginning."""
+        name, took, _ = processor.by or (None, 0, 0)
+        if name is not None and not self.irq:
+            self.handlers[name].append(took)
+        self.without += name is None and not self.was_full
+        if processor.due is not None:
+            self.add_wake("timers", processor, processor.due, began - processor.due - took)
+        elif work and self.waiting and self.poll_end <= self.waiting[0][0] <= began:
+            came, sent_on = self.waiting[0]
+            if sent_on == cpu:
+                self.wakes["packets"].append(began - came - took)
+            else:
+                self.add_wake("packets", processor, came, began - came - took)
+
+    def add_wake(self, kind, processor, time, took):
+        """Adds what a wake-up took, if neither the program nor a poll had the processor then; if that is another task's, it counts apart."""
+        name, pid, since = processor.before if processor.task[0].startswith("napi/") else processor.task
+        if not self.has_tasks or name.startswith("swapper") and since <= time:
+            self.wakes[kind].append(took)
+        elif name and since <= time and pid not in self.reads.tasks and not name.startswith(("napi/", "ksoftirqd/")):
+            self.busy_wakes[kind].append(took)
+
+    def deliver(self, time, work, is_empty, began):
+        """A poll gave the packets that wait longest; if it wasn't full, all that came before it."""
+        for _ in range(work):
+            if self.waiting:
+                self.waiting.popleft()
+            else:
+                self.unmatched += 1
+        while is_empty and self.waiting and self.waiting[0][0] < began:
+            self.waiting.popleft()
+            self.unmatched += 1
+        self.reads.deliver(time, work)
+
+    def delivered(self):
+        """How many packets the polls gave."""
+        return sum(work for work, _ in self.polls)
+
+    def processor(self):
+        """The processor that polls most, if any does."""
+        return self.where.most_common(1)[0][0] if self.where else None
+
+    def shares(self, cpu):
+        """What part of the recording each task had on a processor."""
+        whole = self.last - self.first
+        return {name: took / whole for name, took in self.tasks[cpu].most_common()} if whole else {}
