@@ -12,7 +12,7 @@ from recording import NET_RX, POLLED, SENT, SOFTIRQ, is_by_thread
 
 BACKLOG = "(no_device)"  # as napi_poll names the instance of a processor's backlog
 TIMER = re.compile(r"hrtimer=\S+ function=(\w+)")
-SWITCH = re.compile(r"prev_comm=(.*) prev_pid=(\d{1,9}) prev_prio=(\d{1,3}) .*==> next_comm=(.*) next_pid=\d{1,9} ")
+SWITCH = re.compile(r"prev_comm=(.*) prev_pid=(\d{1,9}) prev_prio=(\d{1,3}) .*==> next_comm=(.*) next_pid=(\d{1,9}) ")
 KERNEL_TASKS = re.compile(r"swapper|ksoftirqd/|napi/|migration/|rcu|cpuhp/|idle_inject/")  # tasks that poll, or that take no time to speak of
 EARLY = 100_000  # ns: a packet's event follows its arrival, and may be that late
 REAL_TIME = 100  # below it a priority is that of a real-time task, which no other task disturbs
@@ -53,9 +53,9 @@ class Receiving:
         elif event.name == "sched_switch":
             self.add_switch(event)
         elif event.name.startswith("sys_exit_"):
-            self.reading[event.task] = event.time
-        elif event.name.startswith("sys_enter_") and event.task in self.reading:
-            self.reads.append((self.reading.pop(event.task), event.time))
+            self.reading[event.pid] = event.time
+        elif event.name.startswith("sys_enter_") and event.pid in self.reading:
+            self.reads.append((self.reading.pop(event.pid), event.time))
 
     def add_packet(self, event):
         sender, _, code = event.parts(SENT)
@@ -69,7 +69,7 @@ class Receiving:
     def add_poll(self, event):
         device, work, _ = event.parts(POLLED)
         by_thread = is_by_thread(event)
-        key = event.task if by_thread else event.cpu
+        key = ("thread", event.pid) if by_thread else event.cpu
         if device in self.polled:
             self.ended.append(event.time)
             self.begun.append(self.mark.get(key, 0))
@@ -85,11 +85,11 @@ class Receiving:
         found = SWITCH.match(event.said)
         if not found:
             raise Refusal(f"line {event.line}: sched_switch says {shown(event.said[:60])!r}, which isn't read here")
-        last, process, priority, following = found.groups()
+        last, process, priority, following, thread = found.groups()
         self.tasks[event.cpu][last, int(process), int(priority)] += event.time - self.running.get(event.cpu, self.span[0])
         self.running[event.cpu] = event.time
         if following.startswith("napi/"):
-            self.mark[following] = event.time
+            self.mark["thread", int(thread)] = event.time
 
     # ---- what follows
 
