@@ -29,8 +29,10 @@ from recording import check_lost, events_in  # noqa: E402
 from rig import Setting, Traffic  # noqa: E402
 
 TIMES = 3  # that each setting is recorded
-TRIES = 3  # until a recording is one in which the sender kept to its times
-MOST_LATE = 300_000  # ns
+TRIES = 4  # until a recording is one that nothing disturbed
+MOST_LATE = 500_000  # ns, of the sender's bursts
+MOST_STOLEN = 1  # hundredths of a second, which a hypervisor took
+MOST_OFF = 12  # %, of the recorded setting's own values
 NO_LIMIT = 65536  # packets of a socket's buffer, which holds all
 
 OVERLOAD = Traffic("fixed", 15000, 1500, 8, pace=10400, gso=8, filter=3900)
@@ -113,16 +115,15 @@ class Recordings:
         self.folder, self.count = folder, 0
 
     def once(self, setting):
-        """One recording in which the sender kept to its times, or the last of some tries."""
+        """One recording that nothing disturbed: the sender kept to its times, and no hypervisor took the processors."""
         for _ in range(TRIES):
             self.count += 1
             recorded = rig.record(self.folder, setting, self.folder / f"{self.count}.rec")
-            if recorded.late < MOST_LATE:
-                break
+            if recorded.late < MOST_LATE and recorded.stolen <= MOST_STOLEN:
+                return recorded
             recorded.path.unlink()
-        else:
-            raise rig.Failed("the sender doesn't keep to its times: other work has its processor")
-        return recorded
+        raise rig.Failed(f"{TRIES} recordings by {setting.name} were disturbed: the last one's sender was {recorded.late / 1000:.0f} us late, and a "
+                         f"hypervisor took {recorded.stolen} hundredths of a second from its processors")
 
     def of(self, group):
         """Of each setting of the group its recordings."""
@@ -193,7 +194,8 @@ def own_check(group):
 
 
 def is_poor(lines):
-    return predicting.grade_of([(line.name, line.median, line.predicted, line.error) for line in lines]) == "poor"
+    """Whether the recorded setting itself is predicted so badly that the machine was disturbed."""
+    return any(abs(line.error) > MOST_OFF for line in lines)
 
 
 class Sum:

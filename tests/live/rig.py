@@ -15,6 +15,7 @@ HERE = Path(__file__).resolve().parent
 RECORD = HERE.parent.parent / "tools" / "record"
 PORT = 9000
 SENDS, RECEIVES = 2, 3  # the processors: of the sender, and of the receiver with what polls for it
+QUIET_TRIES = 30
 USE_NS = 2000  # what the receiver works on each packet
 SYSCTLS = ("net.core.netdev_budget", "net.core.netdev_max_backlog")
 NEEDS = {"ip": "iproute2", "ethtool": "ethtool", "chrt": "util-linux", "taskset": "util-linux", "cc": "gcc"}
@@ -61,8 +62,8 @@ class Recorded:
 
     path: Path
     reads: list  # (the packet's number, when it was read, in ns), in this order
-    sent: int
     late: int  # ns, of the latest burst
+    stolen: int  # hundredths of a second that the hypervisor took from the two processors meanwhile
 
 
 def missing():
@@ -89,6 +90,21 @@ def build(folder):
     """Compiles the sender and the receiver."""
     for name in ("sender", "receiver"):
         run("cc", "-O2", "-o", folder / name, HERE / f"{name}.c", "-lm")
+
+
+def stolen():
+    """What a hypervisor took from the two processors so far, in hundredths of a second."""
+    lines = (line.split() for line in Path("/proc/stat").read_text(encoding="ascii").splitlines())
+    return sum(int(fields[8]) for fields in lines if fields[0] in (f"cpu{SENDS}", f"cpu{RECEIVES}"))
+
+
+def wait_for_quiet():
+    """Waits until the hypervisor takes nothing from the two processors, for some seconds at most."""
+    for _ in range(QUIET_TRIES):
+        before = stolen()
+        time.sleep(0.3)
+        if stolen() == before:
+            return
 
 
 def to_front(process):
@@ -212,20 +228,23 @@ class Rig:
         traffic, read = self.setting.traffic, self.folder / "read"
         receiver = self.receiver(read) if self.setting.devices == 1 else None
         recorder = self.recorder(path)
+        before = stolen()
         address = "10.99.0.255" if self.setting.devices > 1 else "10.99.0.2"
         said = self.within(self.out, "chrt", "-f", 1, "taskset", "-c", SENDS, self.folder / "sender", address, PORT, traffic.period, traffic.burst,
                            traffic.count, traffic.pace, traffic.gso, traffic.kind)
+        taken = stolen() - before
         if receiver and receiver.wait():
             raise Failed("the receiver failed")
         said_by_record = recorder.stderr.read()
         if recorder.wait():
             raise Failed(f"tools/record failed: {said_by_record.strip()[:200]}")
-        sent, _, late = map(int, re.match(r"sent (\d+) failed (\d+) latest (\d+)", said).groups())
+        late = int(re.match(r"sent \d+ failed \d+ latest (\d+)", said)[1])
         reads = [tuple(map(int, line.split(","))) for line in read.read_text(encoding="ascii").splitlines()] if receiver else []
-        return Recorded(path, reads, sent, late)
+        return Recorded(path, reads, late, taken)
 
 
 def record(folder, setting, path):
     """One recording by this setting."""
+    wait_for_quiet()
     with Rig(folder, setting) as rig:
         return rig.record(path)

@@ -1,0 +1,196 @@
+"""What is set on a recorded machine, what else could be set there, and how it is set: for tools/advise."""
+
+from toolbox import Refusal, ran, shown
+
+import contextlib
+import itertools
+import os
+import re
+from dataclasses import dataclass
+
+import observed
+from machine_report import OPTIONS
+from receiving import BACKLOG
+
+VETH_RING = 256  # of veth's driver, which ethtool doesn't report
+SOCKET = 65536  # packets: a socket's buffer isn't recorded in packets, so it holds all
+FLUSHES = (20_000, 50_000, 100_000, 200_000, 500_000)  # ns
+DEFERRALS = 2
+COALESCED = (0, 8_000, 25_000, 50_000, 100_000)  # ns
+LARGER = (1, 2, 4, 8, 16)
+NOT_MODELLED = ("GRO's merging of packets", "the scheduler's choice among tasks, and hypervisors", "busy polling", "RPS after a device's own polls",
+                "adaptive coalescing")
+WRITE = 'echo "$3" > "/sys/class/net/$1/$2"'  # whose arguments are never a part of the command
+
+
+def number_in(head, key, default):
+    """A number of the head."""
+    found = re.fullmatch(r"\d{1,15}", head.get(key, ""))
+    return int(found[0]) if found else default
+
+
+def within_range(option, value):
+    low, high, _ = OPTIONS[option]
+    return max(low, min(high, value))
+
+
+def options_of(head, device, is_apart):
+    """The machine's options for what was set when this was recorded."""
+    of_core = lambda name, default: number_in(head, f"sysctl.net.core.{name}", default)  # noqa: E731
+    of_device = lambda name, default: number_in(head, f"device.{device}.{name}", default)  # noqa: E731
+    options = {"budget": of_core("netdev_budget", 300), "time-limit": 1000 * of_core("netdev_budget_usecs", 8000), "socket": SOCKET, "apart": is_apart}
+    if head.get("polled") == BACKLOG:
+        options.update(backlog=1, ring=of_core("netdev_max_backlog", 1000) + 1, weight=of_core("dev_weight", 64) * of_core("dev_weight_rx_bias", 1))
+    else:
+        options.update({"ring": of_device("ethtool.ring.rx", VETH_RING), "defer-hard-irqs": of_device("napi_defer_hard_irqs", 0),
+                        "gro-flush-timeout": of_device("gro_flush_timeout", 0), "threaded": min(1, of_device("threaded", 0)),
+                        "rx-nsecs": 1000 * of_device("ethtool.coalesce.rx-usecs", 0), "rx-frames": of_device("ethtool.coalesce.rx-frames", 0)})
+    return {name: within_range(name, value) for name, value in options.items()}
+
+
+def unmodelled_in(head, device):
+    """What is set on this machine that the model doesn't have."""
+    if number_in(head, "sysctl.net.core.busy_read", 0) or number_in(head, "sysctl.net.core.busy_poll", 0):
+        yield "busy polling is on (net.core.busy_read, busy_poll)"
+    if head.get(f"device.{device}.ethtool.coalesce.adaptive-rx") == "on":
+        yield "adaptive coalescing is on (ethtool -C adaptive-rx)"
+    before, after = map(int, head.get("udp.RcvbufErrors", "0 0").split())
+    if after > before:
+        yield f"{after - before} packets were dropped at a full socket, which isn't modelled: see net.core.rmem_max and SO_RCVBUF"
+    if head.get("polled", "").split() == [device] and re.search("[1-9a-f]", head.get(f"device.{device}.rx-0.rps_cpus", "0")):
+        yield "RPS moves packets on after these polls (rps_cpus)"
+
+
+def rings_of(head, device, options):
+    """The sizes of ring or backlog that can be set."""
+    now = options["ring"]
+    if options.get("backlog"):
+        return sorted({within_range("ring", (now - 1) * times + 1) for times in LARGER})
+    most = number_in(head, f"device.{device}.ethtool.ring.most.rx", now)
+    return sorted({min(most, now * times) for times in LARGER})
+
+
+def candidates(head, device, options, has_program):
+    """All settings that are tried, that of the recording first."""
+    deferrals, coalescing, threads = [{}], [{}], [{}]
+    if not options.get("backlog"):
+        if {f"device.{device}.napi_defer_hard_irqs", f"device.{device}.gro_flush_timeout"} <= head.keys():
+            deferrals += [{"defer-hard-irqs": 0, "gro-flush-timeout": 0}, *({"defer-hard-irqs": DEFERRALS, "gro-flush-timeout": flush} for flush in FLUSHES)]
+        if f"device.{device}.threaded" in head:
+            threads += [{"threaded": 0}, {"threaded": 1}]
+        if f"device.{device}.ethtool.coalesce.rx-usecs" in head and head.get(f"device.{device}.ethtool.coalesce.adaptive-rx") != "on":
+            coalescing += [{"rx-nsecs": time} for time in COALESCED]
+    places = [{}, {"apart": 0}, {"apart": 1}] if has_program else [{}]
+    rings = [{"ring": ring} for ring in rings_of(head, device, options)]
+    tried = [options]
+    for changes in itertools.product(deferrals, coalescing, threads, places, [{}, *rings]):
+        chosen = {**options, **{name: value for change in changes for name, value in change.items()}}
+        is_both = chosen.get("gro-flush-timeout") and chosen.get("rx-nsecs") and chosen["rx-nsecs"] != options.get("rx-nsecs")
+        if chosen not in tried and not is_both:
+            tried.append(chosen)
+    return tried
+
+
+# ---- how it is set
+
+@dataclass
+class Change:
+    """One thing that is set: `kind` is sysctl, sysfs, ring, coalesce, threads or program."""
+
+    kind: str
+    name: str
+    value: object
+    before: object
+
+
+class Machine:
+    """The recorded machine, if this is it."""
+
+    def __init__(self, head, device, processor):
+        self.head, self.device, self.netns, self.processor = head, device, head.get("netns", ""), processor
+        self.pids = [int(each) for each in head.get("program.pids", "").split()]
+
+    def other_processor(self):
+        """A processor for the program, apart from the one that polls."""
+        online = self.head.get("online", "0")
+        found = [number for part in online.split(",") for first, _, last in [part.partition("-")] for number in range(int(first), int(last or first) + 1)]
+        return next((number for number in found if number != self.processor), None)
+
+    def changes(self, chosen, now):
+        """What is set so that this is chosen, in an order in which it can be."""
+        is_new = lambda name: chosen.get(name) != now.get(name)  # noqa: E731
+        changes = []
+        for name in ("napi_defer_hard_irqs", "gro_flush_timeout", "threaded"):
+            option = name.removeprefix("napi_").replace("_", "-")
+            if is_new(option):
+                changes.append(Change("sysfs", name, chosen[option], now[option]))
+        if is_new("threaded") and chosen["threaded"]:
+            changes.append(Change("threads", self.device, self.processor, None))
+        if is_new("ring") and chosen.get("backlog"):
+            changes.append(Change("sysctl", "netdev_max_backlog", chosen["ring"] - 1, now["ring"] - 1))
+        elif is_new("ring"):
+            changes.append(Change("ring", "rx", chosen["ring"], now["ring"]))
+        if is_new("rx-nsecs"):
+            changes.append(Change("coalesce", "rx-usecs", chosen["rx-nsecs"] // 1000, now["rx-nsecs"] // 1000))
+        if is_new("apart"):
+            changes.append(Change("program", self.head.get("program", ""), self.other_processor() if chosen["apart"] else self.processor, None))
+        return changes
+
+    def line_of(self, change):
+        """The line for a shell that sets it."""
+        front = f"ip netns exec {self.netns} " if self.netns else ""
+        attribute = f"/sys/class/net/{self.device}/{change.name}"
+        return {"sysctl": f"sysctl -w net.core.{change.name}={change.value}",
+                "sysfs": f"{front}sh -c 'echo {change.value} > {attribute}'" if front else f"echo {change.value} > {attribute}",
+                "threads": f"for task in $(pgrep '^napi/{self.device}-'); do taskset -pc {change.value} $task; done",
+                "ring": f"{front}ethtool -G {self.device} rx {change.value}",
+                "coalesce": f"{front}ethtool -C {self.device} rx-usecs {change.value}",
+                "program": f"for task in $(pgrep -x '{change.name[:15]}'); do taskset -apc {change.value} $task; done"}[change.kind]
+
+    def set(self, change, value):
+        """Sets it on this machine."""
+        within = observed.within(self.netns)
+        if change.kind == "sysctl":
+            with open(f"/proc/sys/net/core/{change.name}", "w", encoding="ascii") as file:
+                file.write(f"{value}\n")
+        elif change.kind == "sysfs":
+            self.run([*within, "sh", "-c", WRITE, "sh", self.device, change.name, str(value)])
+        elif change.kind in ("ring", "coalesce"):
+            self.run([*within, "ethtool", "-G" if change.kind == "ring" else "-C", self.device, change.name, str(value)])
+
+    @staticmethod
+    def run(command):
+        status, _, said = ran(command)
+        if status != 0:
+            raise Refusal(f"{shown(' '.join(command))[:120]}: {shown(said.decode('utf-8', 'replace').strip())[:200]}")
+
+    def move(self, change):
+        """Pins tasks to a processor. Returns where each one was allowed before."""
+        if change.kind == "threads":
+            tasks = [task for task, _ in observed.tasks_named(lambda name: name.startswith(f"napi/{change.name}-"))]
+        else:
+            tasks = [int(task) for pid in self.pids if os.path.isdir(f"/proc/{pid}/task") for task in os.listdir(f"/proc/{pid}/task")]
+        before = {}
+        for task in tasks:
+            with contextlib.suppress(ProcessLookupError):
+                before[task] = os.sched_getaffinity(task)
+                os.sched_setaffinity(task, {change.value})
+        return before
+
+    @staticmethod
+    def move_back(before):
+        for task, processors in before.items():
+            with contextlib.suppress(OSError):
+                os.sched_setaffinity(task, processors)
+
+    @contextlib.contextmanager
+    def with_changes(self, changes):
+        """Sets all of it, and restores it, also after a failure or a signal."""
+        with contextlib.ExitStack() as undo:
+            for change in changes:
+                if change.kind in ("threads", "program"):
+                    undo.callback(self.move_back, self.move(change))
+                else:
+                    undo.callback(self.set, change, change.before)
+                    self.set(change, change.value)
+            yield
