@@ -64,7 +64,7 @@ def events_of(lines, lost, first=1):
         found = LINE.match(line)
         if not line.endswith("\n") and (first > 1 or not found):
             raise Refusal(f"it is cut: line {number} isn't whole")
-        if loss := LOST.search(line):
+        if ("LOST" in line or "DROPPED" in line) and (loss := LOST.search(line)):
             lost.append(f"line {number} of the recording: the kernel lost {loss[1] or loss[2] or loss[3]} events")
         elif found:
             yield Event(number, found["task"], int(found["cpu"]), found["flags"] or "", seconds(found["seconds"], found["fraction"]), name_of(found),
