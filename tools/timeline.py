@@ -19,6 +19,7 @@ TIMER = f"the timer of {WATCHDOG}"
 BETWEEN = {"call_function_single", "call_function", "reschedule", "ipi"}
 SOON = 50_000  # ns, from the end of an interrupt to what it asked for
 SAME_CLOCK = 1_000_000  # ns
+EARLY = 100_000  # ns, by which a packet may be polled before its sender's event, which follows the sending
 
 
 class Taken:
@@ -50,6 +51,7 @@ class Processor:
         self.ended = None  # the name, the duration and the end of the last handler
         self.by_handlers, self.above_tasks = Taken(), Taken()
         self.softirq = self.thread = None  # since when the next poll's time counts there, and what was taken until then
+        self.full = None  # the device of the last poll, its end and what was taken until then, if it was full
         self.is_first, self.by = False, None  # whether no poll was made since that began, and the handler that asked for it
         self.task, self.before = ("", 0, 0), ("", 0, 0)  # the task that runs, and the one before it: name, number, beginning
         self.due = None  # of the NAPI timer that expired last
@@ -134,6 +136,7 @@ class Timeline:
         self.wakes, self.busy_wakes = defaultdict(list), defaultdict(list)  # by packets and by timers, of a processor that slept, or had other tasks
         self.due = {}  # of each timer
         self.waiting, self.came, self.dropped, self.unmatched, self.sent_on = deque(), 0, 0, 0, Counter()
+        self.owed = 0  # packets that were polled before they came
         self.poll_end, self.was_full = 0, False  # of the last poll
         self.reads = Reads()
         self.tasks, self.first, self.last = defaultdict(Counter), 0, 0
@@ -231,7 +234,10 @@ class Timeline:
             self.sent_on[event.cpu] += 1
             if code in ("0", "0x0"):
                 self.came += 1
-                self.waiting.append((event.time, event.cpu))
+                if self.owed and event.time - self.poll_end < EARLY:
+                    self.owed -= 1
+                else:
+                    self.waiting.append((event.time, event.cpu))
             else:
                 self.dropped += code in ("1", "0x1")
 
@@ -244,6 +250,9 @@ class Timeline:
             processor.thread = mark
         elif began:
             processor.softirq = mark
+        if began and processor.is_first and processor.full and processor.full[0] == device and began[0] - processor.full[1] <= SOON:
+            began = processor.full[1:]  # it goes on with what the full poll left
+        processor.full = (device, *mark) if work >= int(budget) else None
         if not self.polled or device in self.polled:
             self.strays += not began
             if began:
@@ -281,11 +290,13 @@ class Timeline:
 
     def deliver(self, time, work, is_empty, began):
         """A poll gave the packets that wait longest; if it wasn't full, all that came before it."""
+        self.unmatched += self.owed
+        self.owed = 0
         for _ in range(work):
             if self.waiting:
                 self.waiting.popleft()
             else:
-                self.unmatched += 1
+                self.owed += 1
         while is_empty and self.waiting and self.waiting[0][0] < began:
             self.waiting.popleft()
             self.unmatched += 1
