@@ -74,7 +74,7 @@ class Line:
 
 
 def cost_line(points, known, source):
-    """The line over polls (packets, ns). It is a refusal if the line explains nothing, so that the mean of the times would be the better answer."""
+    """The line over polls (packets, ns). It is a refusal if the mean of the times is as near to them as the line."""
     start, slope, kept = fitted(points, known)
     count, mean_x = len(kept), sum(x for x, _ in kept) / len(kept)
     mean_y = sum(y for _, y in kept) / count
@@ -83,10 +83,9 @@ def cost_line(points, known, source):
     explained = 1 - left / whole if whole else 1.0
     error = sqrt(left / max(1, count - 2))
     by_slope, by_start = WIDE * error / sqrt(spread), WIDE * error * sqrt(1 / count + mean_x * mean_x / spread)
-    if explained <= 0 or slope <= by_slope and whole:
-        raise Refusal(f"what a packet costs isn't known: over {count} polls the time doesn't grow with the packets (the line explains {100 * explained:.0f} %, "
-                      f"a packet is {slope:.0f} ns give or take {by_slope:.0f}), so the fit is worse than useless: record more varied traffic, "
-                      "on a processor that does nothing else")
+    if explained <= 0:
+        raise Refusal(f"what a packet costs isn't known: over {count} polls of {min(kept)[0]} to {max(kept)[0]} packets the time doesn't grow with them, so the "
+                      "line is worse than useless: record more varied traffic, on a processor that does nothing else")
     off = median(abs(y - start - slope * x) / max(1, start + slope * x) for x, y in kept)
     poll = Cost(start, max(0, start - by_start), start + by_start, count, source, round(explained, 4))
     packet = Cost(slope, max(0, slope - by_slope), slope + by_slope, count, source, round(explained, 4))

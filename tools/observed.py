@@ -133,12 +133,12 @@ def pairs_in(netns):
 
 
 def peer_of(name, netns):
-    """The other end of a veth pair, if exactly one device is found: each end has the number of the other one."""
+    """The other end of a veth pair, if exactly one device is found: each end has the number of the other one, and of its namespace."""
     own = next((link for link in pairs_in(netns) if link["ifname"] == name), {})
     if "link" in own or "link_index" not in own:
         return own.get("link", "")
-    others = ["", *(line.split()[0] for line in output_of(["ip", "netns"]).splitlines() if line.strip())]
-    found = [link["ifname"] for other in others if other != (netns or "") for link in pairs_in(other)
+    named = dict(re.findall(r"nsid (\d+) .*netns name: ([^)\s]+)", output_of(["ip", *(["-n", netns] if netns else []), "netns", "list-id"])))
+    found = [link["ifname"] for link in pairs_in(named.get(str(own.get("link_netnsid")), ""))
              if (link["ifindex"], link.get("link_index")) == (own["link_index"], own["ifindex"])]
     return found[0] if len(found) == 1 else ""
 

@@ -58,17 +58,24 @@ def name_of(found):
     return found["name"] or ("sys_exit_" if found["is_exit"] else "sys_enter_") + found["call"]
 
 
+NEXT = re.compile(r"next_comm=(.*) next_pid=(\d{1,9}) ")
+
+
 def events_of(lines, lost, first=1):
     """The events of these lines, the first of which has that number. If the kernel lost some, a list has a note."""
+    names = {}  # of the tasks, by their numbers: ftrace keeps a few only, and writes `<...>` for the others
     for number, line in enumerate(lines, first):
         found = LINE.match(line)
         if not line.endswith("\n") and (first > 1 or not found):
             raise Refusal(f"it is cut: line {number} isn't whole")
-        if loss := LOST.search(line):
+        if ("LOST" in line or "DROPPED" in line) and (loss := LOST.search(line)):
             lost.append(f"line {number} of the recording: the kernel lost {loss[1] or loss[2] or loss[3]} events")
         elif found:
-            yield Event(number, found["task"], int(found["cpu"]), found["flags"] or "", seconds(found["seconds"], found["fraction"]), name_of(found),
-                        found["said"].rstrip(), int(found["pid"]))
+            name, task = name_of(found), found["task"]
+            if name == "sched_switch" and (named := NEXT.search(found["said"])):
+                names[named[2]] = named[1]
+            yield Event(number, names.get(found["pid"], task) if task == "<...>" else task, int(found["cpu"]), found["flags"] or "",
+                        seconds(found["seconds"], found["fraction"]), name, found["said"].rstrip(), int(found["pid"]))
         elif not NO_EVENT.match(line):
             raise Refusal(f"line {number}: no line of ftrace, `trace-cmd report` or `perf script`: {line.strip()[:60]!r}")
 

@@ -19,6 +19,7 @@ TIMER = f"the timer of {WATCHDOG}"
 BETWEEN = {"call_function_single", "call_function", "reschedule", "ipi"}
 SOON = 50_000  # ns, from the end of an interrupt to what it asked for
 SAME_CLOCK = 1_000_000  # ns
+EARLY = 100_000  # ns, by which a packet may be polled before its sender's event, which follows the sending
 
 
 class Taken:
@@ -50,6 +51,7 @@ class Processor:
         self.ended = None  # the name, the duration and the end of the last handler
         self.by_handlers, self.above_tasks = Taken(), Taken()
         self.softirq = self.thread = None  # since when the next poll's time counts there, and what was taken until then
+        self.full = None  # the device of the last poll, its end and what was taken until then, if it was full
         self.is_first, self.by = False, None  # whether no poll was made since that began, and the handler that asked for it
         self.task, self.before = ("", 0, 0), ("", 0, 0)  # the task that runs, and the one before it: name, number, beginning
         self.due = None  # of the NAPI timer that expired last
@@ -58,17 +60,19 @@ class Processor:
 class Reads:
     """The reads of a program: packets are read in the order in which they are delivered."""
 
-    def __init__(self):
-        self.tasks, self.called = set(), {}  # the program's; and those in a call: when it began, what was taken then, and when it slept last
+    def __init__(self, tasks=()):
+        self.tasks, self.is_by_recv = set(tasks), False
+        self.called = {}  # of each task that is in a call: when it began, and what was taken then
+        self.slept = {}  # of each task that slept since its last read: when it did so last, and whether in a call
         self.delivered = deque()  # of each packet that waits for its read: when its poll ended, and whether that gave it only
         self.ahead = []  # reads before the end of the packet's poll: each when, and whether the program had slept
-        self.last = None  # the last read: task, time, processor, what was taken there until then, packets
+        self.last = None  # the last read, if its task has had the processor since: task, time, processor, packets, what was taken there until then
         self.calls, self.uses, self.wakes, self.on = [], [], [], Counter()
-        self.count, self.unmatched, self.is_by_recv = 0, 0, False
+        self.count, self.unmatched = 0, 0
 
-    def deliver(self, time, work):
-        """A poll ended, which gave so many packets; those that were read ahead are of this one."""
-        known = self.ahead[:work]
+    def deliver(self, began, time, work):
+        """A poll ended, which gave so many packets; those that were read since it began are of this one."""
+        known = [read for read in self.ahead if read[0] >= began][:work]
         if work == 1 and known and known[0][1]:
             self.wakes.append(known[0][0] - time)
         self.unmatched += len(self.ahead) - len(known)
@@ -77,46 +81,46 @@ class Reads:
 
     def enter(self, processor, event):
         self.tasks.add(event.pid)
-        self.called[event.pid] = [event.time, processor.above_tasks.until(event.time), None]
+        self.called[event.pid] = event.time, processor.above_tasks.until(event.time)
 
-    def sleep(self, task, time, is_waiting):
-        """A task leaves its processor; if it does so within a call, no packet waits for it."""
-        if is_waiting and task in self.called:
-            self.called[task][2] = time
+    def leave_processor(self, task, time, is_sleep):
+        if is_sleep and task in self.tasks:
+            self.slept[task] = time, task in self.called
         if self.last and self.last[0] == task:
             self.last = None
 
     def leave(self, processor, event):
         """A read returns."""
         by_recv = event.name.startswith("sys_exit_recv")
-        found = RETURNED.search(event.said)
-        called = self.called.pop(event.pid, None)
-        if by_recv and not self.is_by_recv:
-            tasks = self.tasks
-            self.__init__()
-            self.tasks, self.is_by_recv = tasks, True
+        found, called = RETURNED.search(event.said), self.called.pop(event.pid, None)
+        if by_recv and not self.is_by_recv and self.count:  # what it read by other calls wasn't packets
+            waiting = self.delivered
+            self.__init__(self.tasks)
+            self.delivered = waiting
+        self.is_by_recv = self.is_by_recv or by_recv
         if self.is_by_recv and not by_recv or not found or not 0 < int(found[1], 16) < 1 << 31:
             return
-        taken = processor.above_tasks.until(event.time)
         packets = int(found[1], 16) if event.name.endswith("recvmmsg") else 1
         self.count += packets
         self.on[event.cpu] += 1
-        while called and called[2] and self.delivered and self.delivered[0][0] < called[2]:
-            self.delivered.popleft()
+        slept, is_in_call = self.slept.pop(event.pid, (None, False))
+        while is_in_call and self.delivered and self.delivered[0][0] < slept:
+            self.delivered.popleft()  # a read that sleeps finds no packet, so these weren't for it
             self.unmatched += 1
-        self.take(event, called, taken, packets)
-        self.last = event.pid, event.time, event.cpu, taken, packets
+        taken = processor.above_tasks.until(event.time)
+        self.take(event, called, slept, taken, packets)
+        self.last = event.pid, event.time, event.cpu, packets, taken
 
-    def take(self, event, called, taken, packets):
-        """The read packets are the ones that were delivered first."""
+    def take(self, event, called, slept, taken, packets):
+        """The packets that are read are those that were delivered first."""
         known = [self.delivered.popleft() for _ in range(min(packets, len(self.delivered)))]
-        slept = bool(called and called[2])
-        self.ahead += [(event.time, slept)] * (packets - len(known))
-        if len(known) == packets and self.last and self.last[::2] == (event.pid, event.cpu, packets) and known[-1][0] <= self.last[1]:
-            self.uses.append((event.time - self.last[1] - (taken - self.last[3])) / packets)
-        if len(known) == packets and called and not slept and known[-1][0] <= called[0]:
-            self.calls.append((event.time - called[0] - (taken - called[1])) / packets)
-        if packets == 1 and known and known[0][1] and slept and called[2] <= known[0][0]:
+        self.ahead += [(event.time, slept is not None)] * (packets - len(known))
+        if len(known) == packets:
+            if self.last and (self.last[0], *self.last[2:4]) == (event.pid, event.cpu, packets) and known[-1][0] <= self.last[1]:
+                self.uses.append((event.time - self.last[1] - (taken - self.last[4])) / packets)
+            if called and slept is None and known[-1][0] <= called[0]:
+                self.calls.append((event.time - called[0] - (taken - called[1])) / packets)
+        if packets == 1 and known and known[0][1] and slept is not None and slept <= known[0][0]:
             self.wakes.append(event.time - known[0][0])
 
 
@@ -132,6 +136,7 @@ class Timeline:
         self.wakes, self.busy_wakes = defaultdict(list), defaultdict(list)  # by packets and by timers, of a processor that slept, or had other tasks
         self.due = {}  # of each timer
         self.waiting, self.came, self.dropped, self.unmatched, self.sent_on = deque(), 0, 0, 0, Counter()
+        self.owed = 0  # packets that were polled before they came
         self.poll_end, self.was_full = 0, False  # of the last poll
         self.reads = Reads()
         self.tasks, self.first, self.last = defaultdict(Counter), 0, 0
@@ -216,7 +221,7 @@ class Timeline:
         self.has_tasks = True
         if processor.task[0]:
             self.tasks[event.cpu][processor.task[0]] += event.time - processor.task[2]
-        self.reads.sleep(int(task), event.time, not state.startswith("R"))
+        self.reads.leave_processor(int(task), event.time, not state.startswith("R"))
         processor.before, processor.task, processor.thread = processor.task, (name, int(pid), event.time), None
         if name.startswith("napi/"):
             processor.thread = event.time, processor.above_tasks.until(event.time)
@@ -229,7 +234,10 @@ class Timeline:
             self.sent_on[event.cpu] += 1
             if code in ("0", "0x0"):
                 self.came += 1
-                self.waiting.append((event.time, event.cpu))
+                if self.owed and event.time - self.poll_end < EARLY:
+                    self.owed -= 1
+                else:
+                    self.waiting.append((event.time, event.cpu))
             else:
                 self.dropped += code in ("1", "0x1")
 
@@ -242,6 +250,9 @@ class Timeline:
             processor.thread = mark
         elif began:
             processor.softirq = mark
+        if began and processor.is_first and processor.full and processor.full[0] == device and began[0] - processor.full[1] <= SOON:
+            began = processor.full[1:]  # it goes on with what the full poll left
+        processor.full = (device, *mark) if work >= int(budget) else None
         if not self.polled or device in self.polled:
             self.strays += not began
             if began:
@@ -279,15 +290,17 @@ class Timeline:
 
     def deliver(self, time, work, is_empty, began):
         """A poll gave the packets that wait longest; if it wasn't full, all that came before it."""
+        self.unmatched += self.owed
+        self.owed = 0
         for _ in range(work):
             if self.waiting:
                 self.waiting.popleft()
             else:
-                self.unmatched += 1
+                self.owed += 1
         while is_empty and self.waiting and self.waiting[0][0] < began:
             self.waiting.popleft()
             self.unmatched += 1
-        self.reads.deliver(time, work)
+        self.reads.deliver(began, time, work)
 
     def delivered(self):
         """How many packets the polls gave."""

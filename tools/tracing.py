@@ -48,6 +48,7 @@ class Instance:
     def __init__(self, folder):
         self.folder = folder
         self.path = f"{folder}/instances/{NAME.format(os.getpid())}"
+        self.processors = None  # those that are recorded, if not all
         self.marks = {}  # of each number when it was written, by CLOCK_MONOTONIC, before and after
 
     def __enter__(self):
@@ -109,6 +110,7 @@ class Instance:
     def set_buffers(self, megabytes, processors):
         """Sets the buffer of each processor, and which processors are recorded."""
         self.write("tracing_on", "0")
+        self.processors = processors
         try:
             self.write("buffer_size_kb", str(megabytes * 1024))
         except OSError as error:
@@ -152,15 +154,17 @@ class Instance:
 
     def mark(self):
         """Writes marks, by which the counter's time is that of CLOCK_MONOTONIC."""
-        marker = os.open(f"{self.path}/trace_marker", os.O_WRONLY)
+        marker, before = os.open(f"{self.path}/trace_marker", os.O_WRONLY), os.sched_getaffinity(0)
         try:
+            os.sched_setaffinity(0, self.processors or before)  # the others write no marks
             for number in range(len(self.marks), len(self.marks) + MARKS):
                 text = f"{MARK} {number}".encode()
-                before = time.monotonic_ns()
+                begin = time.monotonic_ns()
                 os.write(marker, text)
-                self.marks[number] = before, time.monotonic_ns()
+                self.marks[number] = begin, time.monotonic_ns()
         finally:
             os.close(marker)
+            os.sched_setaffinity(0, before)
 
     def begin(self):
         self.write("tracing_on", "1")
@@ -212,7 +216,10 @@ class Stamps:
     def changed(self, line):
         """The line with its time in seconds, and no bracket in a task's name, after which a line's parts are known."""
         found = self.LINE.match(line)
-        if not found or self.clock != "tsc":
+        if not found:
             return line
+        front = found[1][:16].replace(b"[", b"_") + found[1][16:]
+        if self.clock != "tsc":
+            return front + found[2] + found[3]
         at = self.time + (int(found[2]) - self.stamp) * self.took // self.ticks
-        return b"%b%d.%09d%b" % (found[1][:16].replace(b"[", b"_") + found[1][16:], at // 10**9, at % 10**9, found[3])
+        return b"%b%d.%09d%b" % (front, at // 10**9, at % 10**9, found[3])

@@ -1,9 +1,13 @@
-"""Tests of tools/costs, on recordings that are made by given costs."""
+"""Tests of tools/costs, on recordings that are made by given costs, and on real ones by plain searches in their lines."""
 
+import json
 import random
 import re
+import statistics
 import unittest
 
+import timing
+from timing import Made
 from tooltest import HERE, InFolder, run
 
 
@@ -57,9 +61,11 @@ class Costs(InFolder):
         text = recorded(2100, 1500, 330)
         self.assertEqual(self.words(text), {"interrupt": 2100, "poll": 1500, "packet": 330})
         told = self.told(text)
-        self.assertIn("interrupt 2100 ns: 200 handlers of eth0-rx-0, half of them from 2100 to 2100\n", told)
-        self.assertIn("poll 1500 ns, packet 330 ns: 600 polls of 0 to 64 packets, of which 30 lie far off and are left out; the line tells 100 %", told)
-        self.assertTrue(told.endswith("use: not in a recording\n--interrupt 2100 --poll 1500 --packet 330\n"))
+        self.assertIn("interrupt 2100 ns (2100 to 2100): 200 handlers of eth0-rx-0 (200), half of them from 2100 to 2100\n", told)
+        self.assertIn("poll 1500 ns (1500 to 1500), packet 330 ns (330 to 330): 600 polls of 0 to 64 packets by softirqs, of which 30 lie far off and "
+                      "are left out; the line explains 100 %", told)
+        self.assertIn("wake: not known: record net/net_dev_xmit", told)
+        self.assertTrue(told.endswith("use: not known: no read of a program is recorded (tools/record --program)\n--interrupt 2100 --poll 1500 --packet 330\n"))
 
     def test_costs_that_vary(self):
         """Within 3 %, also where stamps are of microseconds; and it says how far the polls lie from the line."""
@@ -70,7 +76,7 @@ class Costs(InFolder):
                 wanted = {"interrupt": 2000, "poll": 3000, "packet": 400}[name]
                 self.assertTrue(abs(value - wanted) <= wanted * (0.03 if name != "poll" or unit == 1 else 0.1), (name, value))
             told = self.told(text)
-            self.assertRegex(told, r"the line tells (99|100) % of how the others differ, and half of them are within [0-3] % of it\n")
+            self.assertRegex(told, r"the line explains (99|100) % of how the others differ, and half of them are within [0-3] % of it\n")
             self.assertEqual("time stamps are of microseconds" in told, unit == 1000)
 
     def test_whose_handlers_count(self):
@@ -85,7 +91,7 @@ class Costs(InFolder):
 
     def test_what_it_refuses(self):
         text = recorded(1, 1, 1)
-        for without, why in (("softirq_entry", "0 polls in softirqs that it has whole"), ("napi_poll", "0 polls in softirqs")):
+        for without, why in (("softirq_entry", "0 polls in softirqs or threads that it has whole"), ("napi_poll", "0 polls in softirqs or threads")):
             done = run("costs", "-", text="".join(line for line in text.splitlines(True) if without not in line))
             self.assertEqual((done.returncode, done.stdout), (1, ""))
             self.assertIn(why, done.stderr)
@@ -93,6 +99,240 @@ class Costs(InFolder):
         self.assertIn("each poll gave 1 packets, so what a poll and what a packet costs can't be told apart", done.stderr)
         self.assertIn("line 1: no line of ftrace", run("costs", "-", text="what\n").stderr)
         self.assertIn("there is no such file", run("costs", "none").stderr)
+
+
+class Modelled(InFolder):
+    """Costs that a recording was made by are those that come out, to a nanosecond."""
+
+    COSTS = {"interrupt": 1700, "poll": 2600, "packet": 410, "wake": 3300, "use": 5200, "app-wake": 2450, "read": 900}
+    PAIR = ("--pair", "va1:vb1")
+
+    def costs(self, made, *words):
+        done = run("costs", "-", "--json", *self.PAIR, *words, text=made if isinstance(made, str) else made.text())
+        self.assertEqual((done.stderr, done.returncode), ("", 0))
+        told = json.loads(done.stdout)
+        return told, {name: cost["value"] for name, cost in told["costs"].items()}
+
+    def wanted(self, *names):
+        return {name: self.COSTS[name] for name in names}
+
+    def rounds(self, reader, count=60):
+        """Softirqs of one to three polls, and the reads of what they gave."""
+        made, chance = Made(**self.COSTS), random.Random(4)
+        made.reader = reader
+        made.switch(made.time - 9000, timing.POLLER, "other-5", "swapper/3-0")
+        made.call(made.time - 8000)
+        made.switch(made.time - 7000, reader, "server-60", "swapper/9-0")
+        for place in range(count):
+            works = [1] if place % 2 else [chance.randrange(2, 40) for _ in range(1 + place % 3)]
+            made.time = made.read(made.softirq_round(works), sum(works)) + 150_000
+        return made
+
+    def test_softirqs_by_interrupts_between_processors(self):
+        """The program reads on another processor. Packets that came alone tell app-wake, the others use."""
+        made = self.rounds(reader=5)
+        told, costs = self.costs(made)
+        self.assertEqual(costs, self.wanted("interrupt", "poll", "packet", "wake", "use", "app-wake"))
+        self.assertEqual((told["apart"], told["threaded"], told["processor"], told["dropped"]), (1, 0, timing.POLLER, 0))
+        self.assertEqual(told["options"], "--interrupt 1700 --poll 2600 --packet 410 --wake 3300 --use 5200 --app-wake 2450")
+        self.assertEqual([told["costs"][name]["count"] for name in ("interrupt", "wake", "app-wake")], [60, 60, 30])
+        self.assertEqual(told["costs"]["poll"]["explained"], 1)
+        self.assertEqual([told["costs"]["poll"][end] for end in ("low", "high")], [2600, 2600])
+
+    def test_a_program_on_the_processor_that_polls_has_no_app_wake(self):
+        told, costs = self.costs(self.rounds(reader=timing.POLLER))
+        self.assertEqual(costs, self.wanted("interrupt", "poll", "packet", "wake", "use"))
+        self.assertEqual(told["apart"], 0)
+
+    def test_packets_that_are_dropped_are_no_packets_of_polls(self):
+        made = self.rounds(reader=5)
+        for place in range(200):
+            made.sent(10**12 + place * 1_000_003, 1, code=1)
+        told, costs = self.costs(made)
+        self.assertEqual((costs["wake"], told["dropped"]), (3300, 200))
+
+    def test_threads_by_timers_and_by_packets(self):
+        """A wake-up by a timer counts from when that was due, not from when it ran."""
+        for share in (0, 1, 3):  # of four rounds, those by a timer
+            made, chance = Made(**self.COSTS), random.Random(6)
+            made.switch(made.time - 9000, timing.POLLER, "other-5", "swapper/3-0")
+            for place in range(120):
+                by_timer = place > 0 and place % 4 < share
+                end = made.thread_round(chance.randrange(1, 30), by_timer)
+                made.time = end + 20_000
+            told, costs = self.costs(made)
+            self.assertEqual((costs, told["threaded"]), (self.wanted("interrupt", "poll", "packet", "wake"), 1))
+            self.assertEqual("by timers" in " ".join(told["text"]), share > 0)
+
+    def test_polls_that_no_interrupt_asks_for(self):
+        """As those of a sender that shares the processor; what isn't known to be 0 isn't told."""
+        made = self.rounds(reader=5)
+        made.lines = [line for line in made.lines if "call_function_single" not in line[1]]
+        self.assertNotIn("interrupt", self.costs(made)[1])
+        made.handler(made.time + 10**6, "local_timer")
+        self.assertEqual(self.costs(made)[1]["interrupt"], 0)
+
+    def test_a_stream_has_no_use(self):
+        """Its reads aren't packets: here each takes what several packets brought."""
+        made = self.rounds(reader=5)
+        reads = [line for line in made.lines if "sys_recvmsg ->" in line[1]]
+        gone = set(reads[1::2])
+        made.lines = [line for line in made.lines if line not in gone]
+        told, costs = self.costs(made)
+        self.assertNotIn("use", costs)
+        self.assertTrue(any(line.startswith("use: not known: ") and "so a read isn't a packet's" in line for line in told["text"]))
+
+    def test_a_quiet_recording_has_no_use(self):
+        """The distance of packets that come alone isn't their use."""
+        made = Made(**self.COSTS)
+        made.reader = 5
+        made.switch(made.time - 9000, timing.POLLER, "other-5", "swapper/3-0")
+        made.switch(made.time - 9000, 5, "server-60", "swapper/5-0")
+        for place in range(40):
+            made.time = made.read(made.softirq_round([1] if place % 4 else [2, 1]), 1 if place % 4 else 3) + 100_000
+        _, costs = self.costs(made)
+        self.assertEqual(costs["use"], 5200)
+        lone = Made(**self.COSTS)
+        lone.reader = 5
+        lone.switch(lone.time - 9000, timing.POLLER, "other-5", "swapper/3-0")
+        for place in range(40):
+            end = lone.softirq_round([1, 0] if place % 2 else [1])
+            lone.time = lone.read(end, 1) + 100_000
+        told, costs = self.costs(lone)
+        self.assertNotIn("use", costs)
+        self.assertIn("use: not known: of 40 packets 0 waited while another one was used; record a higher load", told["text"])
+
+    def test_another_device_is_left_out(self):
+        made = self.rounds(reader=5)
+        for place in range(100):
+            made.event(10**12 + place * 999_999, 1, "other-5", "softirq_entry: vec=3 [action=NET_RX]")
+            made.event(10**12 + place * 999_999 + 77_777, 1, "other-5", f"napi_poll: napi poll on napi struct 0 for device eth9 work {place % 9} budget 64")
+            made.event(10**12 + place * 999_999 + 77_778, 1, "other-5", "softirq_exit: vec=3 [action=NET_RX]")
+        told, costs = self.costs(made, "--device", "vb1")
+        self.assertEqual((costs["poll"], costs["packet"], told["polls_on"]), (2600, 410, {str(timing.POLLER): told["polls"]}))
+
+    def test_a_fit_that_is_worse_than_useless(self):
+        """Times that fall with the packets; and, with a note, times that have nothing to do with them."""
+        def made(time_of):
+            made = Made(**self.COSTS)
+            for _ in range(200):
+                work = chance.randrange(1, 4)
+                made.costs["poll"], made.costs["packet"] = time_of(work), 0
+                made.time = made.softirq_round([work]) + 50_000
+            return made.text()
+
+        chance = random.Random(1)
+        done = run("costs", "-", text=made(lambda work: 20_000 // work))
+        self.assertEqual((done.returncode, done.stdout), (1, ""))
+        self.assertEqual(done.stderr, "costs: -: what a packet costs isn't known: over 200 polls of 1 to 3 packets the time doesn't grow with them, so the line is "
+                         "worse than useless: record more varied traffic, on a processor that does nothing else\n")
+        done = run("costs", "-", text=made(lambda work: chance.randrange(1000, 90_000)))
+        self.assertTrue("worse than useless" in done.stderr or "isn't told apart from 0" in done.stdout)
+
+    def test_a_run_that_goes_on_with_what_a_full_poll_left(self):
+        """Its first poll counts from the end of the full one, also if the kernel took 4000 ns to come back."""
+        made = Made(**self.COSTS)
+        made.costs["interrupt"] = 0
+        for place in range(60):
+            begin = made.time
+            made.event(begin, timing.POLLER, "<idle>-0", "softirq_entry: vec=3 [action=NET_RX]")
+            end = made.polled(begin, "<idle>-0", 64)
+            made.event(end + 100, timing.POLLER, "<idle>-0", "softirq_exit: vec=3 [action=NET_RX]")
+            made.event(end + 4000, timing.POLLER, "<idle>-0", "softirq_entry: vec=3 [action=NET_RX]")
+            made.costs["poll"] -= 4000
+            end = made.polled(end + 4000, "<idle>-0", 10 + place % 5)
+            made.costs["poll"] += 4000
+            made.event(end + 100, timing.POLLER, "<idle>-0", "softirq_exit: vec=3 [action=NET_RX]")
+            made.time = end + 90_000
+        _, costs = self.costs(made)
+        self.assertEqual((costs["poll"], costs["packet"]), (2600, 410))
+
+    def test_names_that_ftrace_did_not_keep(self):
+        """`<...>` is the task that the processor was given to."""
+        made, chance = Made(**self.COSTS), random.Random(6)
+        made.switch(made.time - 9000, timing.POLLER, "other-5", "swapper/3-0")
+        for place in range(60):
+            made.time = made.thread_round(chance.randrange(1, 30), False) + 20_000
+        told, costs = self.costs(made.text().replace("napi/vb1-9-50 [", "<...>-50 ["))
+        self.assertEqual((costs, told["threaded"]), (self.wanted("interrupt", "poll", "packet", "wake"), 1))
+
+    def test_a_packet_whose_event_comes_after_its_poll(self):
+        """The sender's event follows the sending: a poll on another processor may be quicker."""
+        made = self.rounds(reader=5)
+        made.time = made.read(made.softirq_round([1], is_early=True), 1) + 100_000
+        for _ in range(9):
+            made.time = made.read(made.softirq_round([1]), 1) + 100_000
+        told, costs = self.costs(made)
+        self.assertEqual((costs["wake"], told["costs"]["wake"]["count"]), (3300, 69))
+
+    def test_other_tasks_are_told(self):
+        """A quarter of the time is another task's."""
+        made = self.rounds(reader=5)
+        begin, end = min(made.lines)[0], max(made.lines)[0]
+        made.event(end + (end - begin) // 3, timing.POLLER, "hog-8", "sched_switch: prev_comm=hog prev_pid=8 prev_prio=120 prev_state=R ==> "
+                   "next_comm=swapper/3 next_pid=0 next_prio=120")
+        made.switch(end + 1, timing.POLLER, "swapper/3-0", "hog-8", "R")
+        told, _ = self.costs(made)
+        self.assertAlmostEqual(told["tasks"]["hog"], 0.25, delta=0.01)
+
+
+class Recorded(InFolder):
+    """Real recordings: a backlog by RPS, a thread with deferral, and a program on another processor. Plain searches find the same."""
+
+    def check(self, name, device, counts):
+        path = HERE / f"recorded-{name}.rec"
+        events = timing.searched(path.read_text())
+        done = run("costs", path, "--json")
+        self.assertEqual((done.stderr, done.returncode), ("", 0))
+        told = json.loads(done.stdout)
+        found = {cost: (each["value"], each["count"]) for cost, each in told["costs"].items()}
+        polls = list(timing.poll_times(events, device))
+        runs = [place for *_, place in polls if place is not None]
+        interrupts = [took for took in (timing.before_run(events, place) for place in runs) if took is not None]
+        wakes = list(timing.wakes_of(events, device))
+        uses, calls, lone = timing.reads_of(events, device)
+        self.assertEqual((told["polls"], told["polled"], told["processor"]), (len(polls), [device], 3))
+        self.assertEqual([len(each) for each in (polls, interrupts, wakes, uses, lone)], counts)
+        for cost, values in (("interrupt", interrupts), ("wake", wakes), ("use", uses)):
+            self.assertEqual(found[cost], (timing.middle(values), len(values)), cost)
+        self.check_line(polls, told["costs"])
+        return found, calls, lone
+
+    def check_line(self, polls, costs):
+        """The straight line of the least squares, without what lies over three deviations off the line over all."""
+        points = [(work, took) for work, took, *_ in polls]
+        for _ in range(2):
+            slope, start = statistics.linear_regression(*zip(*points))
+            far = 3 * 1.4826 * statistics.median(abs(took - start - slope * work) for work, took in points)
+            kept, points = points, [(work, took) for work, took in points if abs(took - start - slope * work) <= far]
+        self.assertEqual((costs["poll"]["count"], costs["poll"]["value"], costs["packet"]["value"]), (len(kept), round(start), round(slope)))
+        self.assertTrue(0 < costs["poll"]["explained"] < 1)
+        self.assertTrue(costs["packet"]["low"] < slope < costs["packet"]["high"])
+
+    def test_a_backlog(self):
+        found, _, _ = self.check("backlog", "(no_device)", [22, 22, 13, 104, 1])
+        self.assertNotIn("app-wake", found)
+
+    def test_a_thread_with_timers(self):
+        found, _, _ = self.check("thread", "vb7", [33, 33, 32, 9, 17])
+        self.assertNotIn("app-wake", found)
+
+    def test_a_program_on_another_processor(self):
+        found, calls, lone = self.check("apart", "vb7", [31, 25, 26, 36, 9])
+        self.assertEqual(found["app-wake"], (timing.middle(max(0, each - statistics.median(calls)) for each in lone), 9))
+
+    def test_what_it_refuses(self):
+        """Cut anywhere, with lost events, of a kernel without the events, or of another version."""
+        text = (HERE / "recorded-backlog.rec").read_text()
+        for changed, why in ((text[:-30], "isn't whole"), (text[: text.rindex("\n", 0, -2) + 1], "it is cut: 622 of 623 events are there"),
+                             (text[:1000], "it is cut: its head has no end"), ("", "it is empty"), ("fintaqush-recording 1\n", "its head has no end"),
+                             (text.replace("\nlost 0\n", "\nlost 5\n"), "the kernel lost 5 events, so what it tells isn't known"),
+                             (text.replace("recording 1", "recording 2"), "another version of tools/record wrote it"),
+                             (text.replace("\nlines 623", "\nlines 9"), "it is cut: 623 of 9 events"),
+                             (re.sub(r".*(napi_poll|softirq_e).*\n", "", text).replace("lines 623", "lines 513"), "0 polls of (no_device) in softirqs or threads")):
+            done = run("costs", "-", text=changed)
+            self.assertEqual((done.returncode, done.stdout, done.stderr.count("\n")), (1, "", 1), done.stderr)
+            self.assertIn(why, done.stderr)
 
 
 if __name__ == "__main__":

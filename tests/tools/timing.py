@@ -1,0 +1,228 @@
+"""Recordings that are made by given costs, and costs of a recording by plain searches in its lines."""
+
+import re
+from statistics import median
+
+SENDER, POLLER = 2, 3  # processors
+
+
+class Made:
+    """A recording as ftrace writes it, of packets on a veth pair, by given costs in ns."""
+
+    def __init__(self, **costs):
+        self.costs, self.lines, self.time, self.reader = costs, [], 10**12, POLLER
+        self.timer = self.slept = None
+
+    def event(self, time, cpu, task, said):
+        self.lines.append((time, f"{task.rjust(20)} [{cpu:03}] ..s1. {time // 10**9}.{time % 10**9:09}: {said}"))
+
+    def text(self):
+        return "".join(f"{line}\n" for _, line in sorted(self.lines, key=lambda line: line[0]))
+
+    def switch(self, time, cpu, before, after, state="S"):
+        comm, pid = before.rsplit("-", 1)
+        name, number = after.rsplit("-", 1)
+        self.event(time, cpu, before, f"sched_switch: prev_comm={comm} prev_pid={pid} prev_prio=120 prev_state={state} ==> "
+                                      f"next_comm={name} next_pid={number} next_prio=120")
+
+    def sent(self, time, count, code=0):
+        for _ in range(count):
+            self.event(time, SENDER, "sender-7", f"net_dev_xmit: dev=va1 skbaddr=0 len=100 rc={code}")
+
+    def handler(self, time, name, inner=None):
+        """An interrupt's handler on the polling processor; returns when it has ended."""
+        end = time + self.costs["interrupt"]
+        self.event(time, POLLER, "<idle>-0", f"{name}_entry: vector=251")
+        if inner:
+            self.event(time + 1, POLLER, "<idle>-0", inner)
+        self.event(end, POLLER, "<idle>-0", f"{name}_exit: vector=251")
+        return end
+
+    def polled(self, time, task, work, name="vb1"):
+        end = time + self.costs["poll"] + work * self.costs["packet"]
+        self.lines.append((end, f"{task.rjust(20)} [{POLLER:03}] b.... {end // 10**9}.{end % 10**9:09}: napi_poll: "
+                                f"napi poll on napi struct 0 for device {name} work {work} budget 64"))
+        return end
+
+    def softirq_round(self, works, is_early=False):
+        """Packets come, an interrupt between processors asks for a softirq, and that polls; returns when it has ended. An early one ends before
+        the events of its packets, which follow the sending."""
+        if not is_early:
+            self.sent(self.time, works[0])
+        time = self.handler(self.time + self.costs["wake"], "call_function_single")
+        self.event(time, POLLER, "<idle>-0", "softirq_entry: vec=3 [action=NET_RX]")
+        for place, work in enumerate(works):
+            if place:
+                self.sent(time + 1, work)
+            time = self.polled(time, "<idle>-0", work)
+        self.event(time, POLLER, "<idle>-0", "softirq_exit: vec=3 [action=NET_RX]")
+        if is_early:
+            self.sent(time + 700, works[0])
+        return time
+
+    def thread_round(self, work, by_timer):
+        """Packets wait for the thread's timer, or wake it; the poll sets the timer again."""
+        due = self.timer if by_timer else self.time
+        self.sent(due - 500 if by_timer else due, work)
+        begin = due + self.costs["wake"]
+        inner = f"hrtimer_expire_entry: hrtimer=1 function=napi_watchdog now={begin}"
+        time = self.handler(begin, "local_timer", inner) if by_timer else self.handler(begin, "reschedule")
+        self.switch(time, POLLER, "swapper/3-0", "napi/vb1-9-50", "R")
+        end = self.polled(time, "napi/vb1-9-50", work)
+        self.timer = end + 100_000
+        self.event(end - 1, POLLER, "napi/vb1-9-50", f"hrtimer_start: hrtimer=1 function=napi_watchdog expires={self.timer} softexpires=0 mode=REL|PINNED")
+        self.switch(end + 10, POLLER, "napi/vb1-9-50", "swapper/3-0")
+        return end + 10
+
+    def call(self, time):
+        self.event(time, self.reader, "server-60", "sys_recvmsg(fd: 3, msg: 0x1, flags: 0)")
+
+    def read(self, end, count):
+        """The program, which sleeps in a call, wakes after the poll's end, reads all, and sleeps again."""
+        read, use = self.costs["read"], self.costs["use"]
+        time = end + self.costs["app-wake"]
+        self.switch(time, self.reader, "swapper/9-0", "server-60", "R")
+        time += read
+        for place in range(count):
+            self.event(time, self.reader, "server-60", "sys_recvmsg -> 0x64")
+            time += use - read
+            self.call(time)
+            time += read
+        self.switch(time, self.reader, "server-60", "swapper/9-0")
+        return time
+
+
+def searched(text):
+    """The events of tools/record's file: time, processor, task, its number, and what is told. What follows searches them backwards."""
+    events = []
+    for line in text[text.index("\ntrace\n") + 7:].splitlines():
+        found = re.match(r"\s*(\S.*)-(\d+)\s+\[(\d+)\] \S+ +(\d+)\.(\d{9}): (\S.*)", line)
+        if found:
+            events.append((int(found[4]) * 10**9 + int(found[5]), int(found[3]), found[1], int(found[2]), found[6]))
+    return events
+
+
+def on(events, cpu, until):
+    """The events on a processor before one of them, the last one first."""
+    return [event for event in events[:until] if event[1] == cpu][::-1]
+
+
+def poll_times(events, device):
+    """Of each poll its packets and its time, if its beginning is known, with the place of what it began with, if that wasn't another poll."""
+    for place, (time, cpu, _, _, said) in enumerate(events):
+        found = re.match(rf"napi_poll: .* for device {re.escape(device)} work (\d+) ", said)
+        if not found:
+            continue
+        handlers, depth = 0, []
+        for event in on(events, cpu, place):
+            name = event[4].split(":")[0]
+            is_own = name in ("softirq_entry", "napi_poll") or name == "sched_switch" and "next_comm=napi/" in event[4]
+            if is_own:
+                yield int(found[1]), time - event[0] - handlers, time, (events.index(event) if name != "napi_poll" else None)
+                break
+            if name in ("softirq_exit", "sched_switch"):
+                break
+            if name.endswith("_exit"):
+                depth.append(event[0])
+            elif name.endswith("_entry") and "hrtimer" not in name and depth:
+                handlers += depth.pop() - event[0]
+
+
+def before_run(events, place):
+    """The duration of the interrupt that a run or a thread follows within 50 us, or None: one between processors, or of NAPI's timer."""
+    end = has_timer = None
+    for event in on(events, events[place][1], place):
+        name = event[4].split(":")[0]
+        if end is None and events[place][0] - event[0] > 50_000:
+            return None
+        if name.startswith("hrtimer_expire_entry"):
+            has_timer = True
+        elif name.endswith("_exit") and name.startswith(("call_function_single", "reschedule", "local_timer")) and end is None:
+            end, has_timer, kind = event[0], False, name[:-5]
+        elif end is not None and name == f"{kind}_entry":
+            if kind != "local_timer" or has_timer:
+                return end - event[0]
+            end = None
+        elif end is None and name in ("napi_poll", "softirq_exit"):
+            return None
+    return None
+
+
+def middle(values):
+    return round(median(values))
+
+
+def stolen(events, cpu, begin, end):
+    """How long handlers and softirqs had a processor between two times at which none was under way."""
+    total, depth, since = 0, 0, 0
+    for time, where, _, _, said in events:
+        if where == cpu and begin <= time <= end:
+            kind = said.split(":")[0]
+            if kind.endswith("_entry") and "hrtimer" not in kind:
+                since = since if depth else time
+                depth += 1
+            elif kind.endswith("_exit") and depth:
+                depth -= 1
+                total += 0 if depth else time - since
+    return total
+
+
+def packet_ends(events, device):
+    """Of each polled packet when its poll ended, and whether it was the only one there. The k-th is read by the k-th read."""
+    return [(time, work == 1) for work, time in polls_of(events, device) for _ in range(work)]
+
+
+def polls_of(events, device):
+    found = ((re.match(rf"napi_poll: .* for device {re.escape(device)} work (\d+) ", said), time) for time, _, _, _, said in events)
+    return [(int(match[1]), time) for match, time in found if match]
+
+
+def reads_of(events, device):
+    """The uses, the calls that found a packet, and how long lone packets waited for a program that slept."""
+    reads = [(time, cpu) for time, cpu, task, _, said in events if task == "server" and re.match(r"sys_recvmsg -> 0x", said)]
+    calls = [time for time, _, task, _, said in events if task == "server" and said.startswith("sys_recvmsg(")]
+    leaves = [(time, " prev_state=S " in said) for time, _, task, _, said in events if task == "server" and said.startswith("sched_switch: prev_comm=server")]
+    ends = packet_ends(events, device)
+    uses, found, lone = [], [], []
+    for place, ((time, cpu), (end, is_lone)) in enumerate(zip(reads, ends)):
+        before = reads[place - 1] if place else (0, cpu)
+        away = [each for each in leaves if before[0] < each[0] < time]
+        if place and end <= before[0] and before[1] == cpu and not away:
+            uses.append(time - before[0] - stolen(events, cpu, before[0], time))
+        call = max((each for each in calls if each < time), default=None)
+        if call is not None and call >= end and not any(leave > before[0] and sleeps for leave, sleeps in away):
+            found.append(time - call - stolen(events, cpu, call, time))
+        slept = max((leave for leave, sleeps in away if sleeps), default=None)
+        if is_lone and slept is not None and (slept <= end):
+            lone.append(max(0, time - end))
+    return uses, found, lone
+
+
+def wakes_of(events, device):
+    """How long it took from what asked for each run to its beginning, less the interrupt: from a packet, or from when a timer was due."""
+    came = [time for time, _, _, _, said in events if re.match(r"net_dev_xmit: dev=va7 .*rc=0$", said)]
+    taken = last = 0
+    for place, (time, cpu, _, _, said) in enumerate(events):
+        found = re.match(rf"napi_poll: .* for device {re.escape(device)} work (\d+) ", said)
+        if not found:
+            continue
+        earlier = on(events, cpu, place)
+        begin = next((each for each in earlier if each[4].startswith(("softirq_entry", "napi_poll", "softirq_exit", "sched_switch"))), None)
+        if begin and (begin[4].startswith("softirq_entry") or "next_comm=napi/" in begin[4]):
+            at = events.index(begin)
+            expired = next((each for each in on(events, cpu, at) if each[4].startswith(("hrtimer_expire_entry", "napi_poll"))), None)
+            took = before_run(events, at) or 0
+            if expired and expired[4].startswith("hrtimer"):
+                due = next(re.search(r"expires=(\d+)", each[4])[1] for each in events[:at][::-1] if each[4].startswith("hrtimer_start"))
+                yield begin[0] - int(due) - took
+            elif found[1] != "0" and last <= came[taken] <= begin[0] and had_other(events, cpu, came[taken], at):
+                yield begin[0] - came[taken] - took
+        taken, last = taken + int(found[1]), time
+
+
+def had_other(events, cpu, time, until):
+    """Whether a task that is neither the program nor one that polls had the processor at a time, up to the beginning of the run."""
+    switches = [each for each in events[:until + 1] if each[1] == cpu and each[4].startswith("sched_switch")]
+    if switches and switches[-1][0] == events[until][0] and "next_comm=napi/" in switches[-1][4]:
+        switches.pop()
+    return bool(switches) and switches[-1][0] <= time and not re.search(r"next_comm=(server|napi/|ksoftirqd/)", switches[-1][4])
