@@ -37,13 +37,13 @@ def visible_times(seen):
         yield entries[place] if processor == seen.processor and place < len(entries) else time
 
 
-def measured_of(seen, head, used=None):
+def measured_of(seen, head, used=None, packet=0):
     """The values of a recording with that head. Of each packet that was used `used` has when it was sent and when its use ended, if that is known
-    otherwise than by the program's recorded reads."""
+    otherwise than by the program's recorded reads. `packet` is what a packet costs, in ns."""
     before, after = map(int, head.get(f"softnet.{seen.processor}.squeezed", "0 0").split())
     values = {"sent": len(seen.sent), "dropped": seen.dropped, "polls": len(seen.ended), "runs": seen.runs, "squeezed": after - before,
               "timers": seen.timers[seen.processor]}
-    for name, pairs in (("delivered", seen.delivered()), ("used", used or seen.used())):
+    for name, pairs in (("delivered", seen.delivered(packet)), ("used", used or seen.used())):
         waits = sorted(end - time for time, end in pairs)
         if waits:
             values.update({f"{name}_p50": percentile(waits, 500), f"{name}_p99": percentile(waits, 990)})
@@ -68,7 +68,7 @@ def error_of(name, measured, value, packets):
 def compared(measured, values):
     """Name, measured value, predicted value and error in % of each value that was measured."""
     return [(name, measured[name], values[name], error_of(name, measured[name], values[name], measured["sent"]))
-            for name in MEASURED if name in measured and name in values]
+            for name in MEASURED if name in measured and name in values and (measured[name] or values[name] or name == "dropped")]
 
 
 def grade_of(rows):

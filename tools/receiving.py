@@ -122,17 +122,18 @@ class Receiving:
         """When each packet was sent that wasn't dropped."""
         return [time for time, has in zip(self.sent, self.has_come) if has]
 
-    def delivered(self):
-        """Of each packet that was delivered when it was sent and when its poll ended, in the order in which one instance delivers them; nothing if
-        the polls of several were recorded, or if packets and polls don't agree."""
+    def delivered(self, cost=0):
+        """Of each packet that was delivered when it was sent and when it was delivered, in the order in which one instance delivers them: so long
+        before its poll's end as the packets after it cost. Nothing if the polls of several instances were recorded, or if packets and polls
+        don't agree."""
         came = self.came()
         if len(set(self.sent_by)) != 1 or sum(self.work) > len(came) or not self.ended:
             return []
         pairs, place = [], 0
         for ended, work in zip(self.ended, self.work):
-            pairs += [(time, ended) for time in came[place : place + work]]
+            pairs += [(time, ended - cost * (work - number)) for number, time in enumerate(came[place : place + work], 1)]
             place += work
-        return [(min(pair), pair[1]) for pair in pairs] if agree(pairs) else []
+        return [(time, max(time, end)) for time, end in pairs] if agree(pairs) else []
 
     def used(self):
         """Of each packet that the program used when it was sent and when the next read began; nothing if reads and packets don't agree."""
@@ -141,7 +142,7 @@ class Receiving:
             return []
         first = self.begun[0] or pairs[0][0]
         reads = [read for read in self.reads if read[0] >= first]
-        # A poll's end isn't a packet's: it may be read as soon as it is sent.
+        # A packet may be read before its poll ends.
         is_whole = abs(len(reads) - len(pairs)) <= max(2, len(pairs) // 200) and agree([(time, read[0]) for read, (time, _) in zip(reads, pairs)])
         return [(time, max(time, read[1])) for read, (time, _) in zip(reads, pairs)] if is_whole else []
 

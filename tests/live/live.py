@@ -1,11 +1,10 @@
-"""Compares what napi_machine predicts with what this machine's Linux does, or with what one did: the test of tests/live.sh.
+"""Compares what napi_machine predicts with what Linux does: the test of tests/live.sh.
 
-    live.py kept PROGRAM          the recording that the repository has
-    live.py here PROGRAM [FOLDER] records here; with FOLDER, keeps what was recorded there, in place of the repository's
-    live.py table PROGRAM         the table of docs/TIMING.md; live.py picture PROGRAM FILE draws it
+    live.py test PROGRAM          compares with the recording that the repository keeps, and then with recordings made here, if they can be
+    live.py keep PROGRAM FOLDER   records here, and keeps costs, arrivals and measured values in that folder if all predictions hold
 
-Costs and arrivals come from one setting's recording, and other settings are predicted by them. Each line compares the median of three
-recordings. The last line is `N passed, M failed`, with `, K skipped` if something was skipped.
+Costs and arrivals come from one setting's recording, and other settings are predicted from them. Each line compares the median of three
+recordings. The last line is `N passed, M failed, K skipped`.
 """
 
 import gzip
@@ -14,6 +13,7 @@ import statistics
 import subprocess
 import sys
 import tempfile
+import time
 from dataclasses import dataclass
 from pathlib import Path
 
@@ -29,14 +29,15 @@ from recording import check_lost, events_in  # noqa: E402
 from rig import Setting, Traffic  # noqa: E402
 
 TIMES = 3  # that each setting is recorded
-TRIES = 4  # until a recording is one that nothing disturbed
-MOST_LATE = 500_000  # ns, of the sender's bursts
+TRIES = 5  # until a recording is one that nothing disturbed
+MOST_SECONDS = 240  # for all recordings; what isn't recorded by then is skipped
+MOST_LATE = 2_000_000  # ns, of the sender's bursts
 MOST_STOLEN = 1  # hundredths of a second, which a hypervisor took
 MOST_OFF = 12  # %, of the recorded setting's own values
 NO_LIMIT = 65536  # packets of a socket's buffer, which holds all
 
 OVERLOAD = Traffic("fixed", 15000, 1500, 8, pace=10400, gso=8, filter=3900)
-STEADY = Traffic("poisson", 60, 1, 6000)
+STEADY = Traffic("poisson", 60, 1, 5000)
 BROADCAST = Traffic("mixed", 3000, 24, 150, gso=64)
 
 
@@ -111,12 +112,14 @@ def costs_of(path):
 class Recordings:
     """The recordings of a group, made in turn, so that what slows the machine for some seconds doesn't meet one setting only."""
 
-    def __init__(self, folder):
-        self.folder, self.count = folder, 0
+    def __init__(self, folder, until):
+        self.folder, self.until, self.count = folder, until, 0
 
     def once(self, setting):
         """One recording that nothing disturbed: the sender kept to its times, and no hypervisor took the processors."""
         for _ in range(TRIES):
+            if time.monotonic() > self.until:
+                raise rig.Failed(f"it isn't quiet enough within {MOST_SECONDS} s")
             self.count += 1
             recorded = rig.record(self.folder, setting, self.folder / f"{self.count}.rec")
             if recorded.late < MOST_LATE and recorded.stolen <= MOST_STOLEN:
@@ -220,7 +223,7 @@ class Sum:
             print(f"FAILED: it may be {line.limit} % off")
 
     def end(self):
-        print(f"{self.passed} passed, {self.failed} failed" + (f", {self.skipped} skipped" if self.skipped else ""))
+        print(f"{self.passed} passed, {self.failed} failed, {self.skipped} skipped")
         return self.failed > 0
 
 
@@ -245,28 +248,38 @@ def check_kept(program, total):
             total.take(line, is_kept=True)
 
 
-def check_here(program, folder, total):
-    """Records on this machine; what is off is recorded a second time, as anything may have slowed the machine. Returns what may be kept."""
-    all_kept = []
+def check_here(program, total):
+    """Records on this machine. What is off is recorded a second time, as anything may have slowed the machine. Returns what may be kept."""
+    every, until = [], time.monotonic() + MOST_SECONDS
     for group in GROUPS:
         with tempfile.TemporaryDirectory() as scratch:
             rig.build(Path(scratch))
             for _ in range(2):
-                kept = kept_of(group, Recordings(Path(scratch)).of(group))
+                kept = kept_of(group, Recordings(Path(scratch), until).of(group))
                 own, lines = judged(program, group, kept)
                 if not is_poor(own) and not is_off(lines):
                     break
-        all_kept.append(kept)
-        for line in own:
-            print(line)
-        if is_poor(own):
-            for line in lines:
-                total.skip(f"{line}: the recorded setting itself isn't predicted well, so the machine is disturbed")
-            continue
+        every.append(kept)
+        print(*own, sep="\n")
         for line in lines:
-            total.take(line, is_kept=False)
-    if folder and not total.failed and not total.skipped:
-        write_kept(Path(folder), all_kept)
+            if is_poor(own):
+                total.skip(f"{line.setting}: {line.name}: needs a quiet machine: the recorded setting itself isn't predicted well")
+            else:
+                total.take(line, is_kept=False)
+    return every
+
+
+def test_here(program, total):
+    """The same, where that can be done. Returns what may be kept, if all of it was recorded."""
+    lacks = rig.missing()
+    if lacks:
+        total.skip(f"recordings made here: needs {', '.join(lacks)}")
+        return []
+    try:
+        return check_here(program, total)
+    except (rig.Failed, toolbox.Refusal, OSError) as error:
+        total.skip(f"recordings made here: needs a quiet machine: {error}")
+        return []
 
 
 # ---- what the repository keeps
@@ -287,17 +300,13 @@ def write_kept(folder, all_kept):
 def main(words):
     what, program, *others = words
     total = Sum()
-    if what == "kept":
+    if what == "test":
         check_kept(program, total)
-    elif what == "here":
-        lacks = rig.missing()
-        if lacks:
-            total.skip(f"needs {', '.join(lacks)}")
-        else:
-            try:
-                check_here(program, others[0] if others else None, total)
-            except (rig.Failed, toolbox.Refusal, OSError) as error:
-                total.skip(f"the rig failed: {error}")
+        test_here(program, total)
+    else:
+        every = test_here(program, total)
+        if every and not total.failed and not total.skipped:
+            write_kept(Path(others[0]), every)
     return total.end()
 
 

@@ -1,0 +1,86 @@
+"""Prints the table of predicted and measured values from the recording that the repository keeps, puts it into docs/TIMING.md, or draws it.
+
+    table.py PROGRAM                prints the table
+    table.py PROGRAM --check PAGE   whether the page has that table between its marks; the exit status is 1 if it hasn't
+    table.py PROGRAM --into PAGE    puts it there
+    table.py PROGRAM --draw FILE    draws it, by gnuplot, as .png or .svg
+"""
+
+import sys
+from pathlib import Path
+
+from live import GROUPS, judged, read_kept
+import predicting
+from drawing import BLUE, GREY, TERMINALS, by_gnuplot, head
+
+BEGIN, END = "<!-- predicted and measured: begin -->", "<!-- predicted and measured: end -->"
+NAMES = {"dropped": "packets dropped", "polls": "polls", "runs": "runs", "squeezed": "squeezed runs", "used_p50": "median wait to the end of use, ms"}
+PANELS = {"median wait to the end of use, ms": ("used_p50",), "packets dropped": ("dropped",), "polls, runs and squeezed runs": ("polls", "runs", "squeezed")}
+
+
+def text_of(name, value):
+    """A value for a reader: a count, or a wait in ms."""
+    return f"{value / 10**6:.3g}" if name.startswith("used") else f"{value:.0f}"
+
+
+def rows_of(program):
+    """Of each group: its base's name, the lines of the base, and the predicted lines."""
+    for place, group in enumerate(GROUPS):
+        yield group.base.name, *judged(program, group, read_kept(place))
+
+
+def table_of(program):
+    """The table as a page has it."""
+    lines = ["| Setting | Value | Predicted | Measured, median of three (range) | Off |", "|---|---|---|---|---|"]
+    for base, _, predicted in rows_of(program):
+        lines += [f"| {line.setting}; costs and arrivals from a recording with {base} | {NAMES[line.name]} | {text_of(line.name, line.predicted)} | "
+                  f"{text_of(line.name, line.median)} ({text_of(line.name, min(line.measured))} to {text_of(line.name, max(line.measured))}) | "
+                  f"{line.error:+.1f} % |" for line in predicted]
+    return "\n".join(lines) + "\n"
+
+
+def page_with(text, table):
+    """A page with the table between its marks."""
+    before, begin, rest = text.partition(BEGIN)
+    _, end, after = rest.partition(END)
+    if not begin or not end:
+        raise SystemExit(f"table: the page lacks {BEGIN} or {END}")
+    return f"{before}{BEGIN}\n{table}{END}{after}"
+
+
+def script_of(program, kind):
+    """The text for gnuplot: a panel for each kind of value, and for each setting what was measured, with its range, and predicted."""
+    groups = [[*own, *predicted] for _, own, predicted in rows_of(program)]
+    text = [*head(kind, (900, 400)), "set multiplot layout 1,3", "set style data histograms", "set style histogram clustered gap 1 errorbars lw 1",
+            "set bars 0.6", "set xtics rotate by -30 noenhanced font 'sans,8'", "set tmargin 3", "set bmargin 8", "set rmargin 4"]
+    for number, (title, names) in enumerate(PANELS.items()):
+        chosen = [line for lines in groups for line in lines if line.name in names and (line.limit or line.name == "used_p50")]
+        scale = 10**6 if "ms" in title else 1
+        text += [f"$panel{number} << END"]
+        for line in chosen:
+            label = line.setting if len(names) == 1 else f"{line.setting}: {line.name}"
+            low, middle, high, value = (each / scale for each in (min(line.measured), line.median, max(line.measured), line.predicted))
+            text.append(f'"{label}" {middle:.6g} {low:.6g} {high:.6g} {value:.6g} {value:.6g} {value:.6g}')
+        text += ["END", f"set title '{title}' font 'sans,9'", "set logscale y" if scale > 1 else "unset logscale y",
+                 "set yrange [0.01:*]" if scale > 1 else "set yrange [0:*]", "set format y '%g'", "set key top right vertical" if number == 0 else "unset key",
+                 f"plot $panel{number} using 2:3:4:xtic(1) lc rgb {GREY} title 'measured', '' using 5:6:7 lc rgb {BLUE} title 'predicted'"]
+    return "\n".join([*text, "unset multiplot", ""])
+
+
+def main(program, what="", path=""):
+    table = table_of(program) if what != "--draw" else ""
+    if what == "--draw":
+        Path(path).write_bytes(by_gnuplot(script_of(program, TERMINALS[Path(path).suffix])))
+    elif what in ("--into", "--check"):
+        old = Path(path).read_text(encoding="utf-8")
+        new = page_with(old, table)
+        if what == "--check":
+            return old != new
+        Path(path).write_text(new, encoding="utf-8")
+    else:
+        print(table, end="")
+    return 0
+
+
+if __name__ == "__main__":
+    sys.exit(main(*sys.argv[1:]))
