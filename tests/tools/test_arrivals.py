@@ -1,5 +1,7 @@
 """Tests of the arrivals that from-pcap, from-ftrace and traffic write. Expected rows are written by hand."""
 
+import gzip
+import re
 import struct
 import subprocess
 import unittest
@@ -99,16 +101,54 @@ class FromFtrace(Arrivals):
         rows, notes, said = self.made("from-ftrace", """cpus=2
    a-1  [000] b....  5.000000007: net_dev_xmit: dev=va1 skbaddr=0 len=61 rc=0
    a-1  [001] b....  5.000001008: net_dev_xmit: dev=vb1 skbaddr=0 len=62 rc=0
-CPU:1 [7 EVENTS DROPPED]
    a-1  [000] b....  5.000001008: net_dev_xmit: dev=va1 skbaddr=0 len=63 rc=16
+   a-1  [000] b....  5.000001009: net_dev_xmit: dev=vb1 skbaddr=0 len=66 rc=1
    a-1  [000] ..s1.  5.000001009: napi_poll: napi poll on napi struct 0 for device vb1 work 1 budget 64
    a-1  [000] b....  5.000002007: net_dev_xmit: dev=eth0 skbaddr=0 len=64 rc=0
    a-1  [000] b....  6.000000007: net_dev_xmit: dev=va1 skbaddr=0 len=65 rc=0
 """)
-        self.assertEqual(rows, ["0,1,61", "1001,2,62", "1000000000,1,65"])
-        self.assertEqual(notes, ["line 4 of the recording: the kernel lost 7 events", "device 1 is vb1, 2 packets", "device 2 is va1, 1 packets",
+        self.assertEqual(rows, ["0,1,61", "1001,2,62", "1002,2,66", "1000000000,1,65"])
+        self.assertEqual(notes, ["device 1 is vb1, 2 packets", "device 2 is va1, 2 packets", "a row: packets that a full ring or backlog dropped: vb1, 1",
                                  "no row: packets that weren't sent: va1, rc=16, 1", "no row: packets of a device that is in no pair: eth0, 1"])
-        self.assertEqual(said, "made.csv: 2 devices, 3 rows; 5 notes\n")
+        self.assertEqual(said, "made.csv: 2 devices, 4 rows; 5 notes\n")
+
+    def test_a_recording_made_in_trouble(self):
+        """Of 121 packets a backlog of 6 dropped three, which arrived too. The file names the pair; the rows are what its lines say."""
+        text = (HERE / "recorded-backlog.rec").read_text()
+        sent = re.findall(r" (\d+)\.(\d{9}): net_dev_xmit: dev=va7 skbaddr=\S+ len=(\d+) rc=[01]$", text, re.M)
+        times = [int(whole) * 10**9 + int(part) for whole, part, _ in sent]
+        rows, notes, said = self.made("from-ftrace", text)
+        self.assertEqual(rows, [f"{time - times[0]},1,{size}" for time, (_, _, size) in zip(times, sent)])
+        self.assertEqual(notes, ["device 1 is vb7, 121 packets", "device 2 is va7, 0 packets", "a row: packets that a full ring or backlog dropped: va7, 3"])
+        self.assertEqual(said, "made.csv: 2 devices, 121 rows; 3 notes\n")
+        softnet = dict(re.findall(r"^(softnet\.\d\.dropped) (\d+ \d+)$", text, re.M))
+        self.assertEqual(sum(int(after) - int(before) for before, after in map(str.split, softnet.values())), 3)
+        rows, _, _ = self.made("from-ftrace", gzip.compress(text.encode()))
+        self.assertEqual(len(rows), 121)
+
+    def test_recordings_that_it_refuses(self):
+        """By one line each, and nothing is written."""
+        text = (HERE / "recorded-backlog.rec").read_text()
+        event = "   a-1  [000] b....  5.000001: net_dev_xmit: dev=va1 skbaddr=0 len=61 rc=0\n"
+        without = re.sub(r".*net_dev_xmit: .*\n", "", text)
+        lines = sum(not line.startswith("#") for line in without.split("\ntrace\n")[1].splitlines())
+        without = without.replace("\nlines 623\n", f"\nlines {lines}\n")
+        for changed, why in (
+                (b"", "it is empty"), (event + "CPU:1 [LOST 7 EVENTS]\n" + event, "line 2 of the recording: the kernel lost 7 events, so what it tells isn't known"),
+                (event + "CPU:1 [7 EVENTS DROPPED]\n", "the kernel lost 7 events"), (text.replace("\nlost 0\n", "\nlost 12\n"), "the kernel lost 12 events"),
+                (event[:-20], "line 1: "), (event + event[:30], "it is cut: line 2 isn't whole"), (text[:-9], "isn't whole"), (text[:900], "its head has no end"),
+                (text[: text.rindex("\n", 0, -2) + 1], "it is cut: 622 of 623 events are there"), (without, "there is no packet in it: record the event net/net_dev_xmit"),
+                (without.replace("\nlost 0", "\nmissing net/net_dev_xmit\nlost 0"), "the kernel that recorded it has no event net/net_dev_xmit"),
+                (b"PERFILE2 and more", "this is the file of `perf record`: take the text of `perf script --ns`"),
+                (b"\x17\x08\x44tracing6", "this is the file of `trace-cmd record`"), (b"\xd4\xc3\xb2\xa1\x02\0\x04\0", "this is a capture, which tools/from-pcap reads"),
+                (b"\x0a\x0d\x0d\x0a\x1c\0\0\0", "this is a capture"), (b"moment,device,bytes\n0,1,60\n", "line 1: no line of ftrace"),
+                (gzip.compress(text.encode())[:-700], "it isn't whole"), (b"\x1f\x8bxx", "it isn't whole"), (text.replace("recording 1", "recording 7"), "another version")):
+            self.write("recorded", "")
+            (self.folder / "recorded").write_bytes(changed if isinstance(changed, bytes) else changed.encode())
+            done = run("from-ftrace", "recorded", "made", "--arrivals", folder=self.folder)
+            self.assertEqual((done.returncode, done.stdout, done.stderr.count("\n"), self.names()), (1, "", 1, ["recorded"]), done.stderr)
+            self.assertTrue(done.stderr.startswith("from-ftrace: recorded: "), done.stderr)
+            self.assertIn(why, done.stderr)
 
     def test_a_recording(self):
         """The packets of the trace that another converter made, in their order and with the sizes, and moments that round to its own."""

@@ -25,7 +25,8 @@ if not os.path.exists(MACHINE):
     del WRITERS["what-if"]
 SERIES_HEAD = "row,moment,device,state,waiting,arrived,dropped,polled,in_flight,limit,avail,stopped,polls,work,squeezed\n"
 CAPTURED = "100.000000 eth0  In  ifindex 2 02:00:00:00:00:01 ethertype IPv4 (0x0800), length 60: 10.0.0.1 > 10.0.0.2: UDP\n"
-ALL = ["raise", "report2json", "traffic", "compare-runs", "compare-recording", "plot", "from-ftrace", "from-pcap", "sweep", "steps", "what-if", "costs"]
+ALL = ["raise", "report2json", "traffic", "compare-runs", "compare-recording", "plot", "from-ftrace", "from-pcap", "sweep", "steps", "what-if", "costs",
+       "record"]
 # As somebody has it, and as a machine has it that tells no locale.
 USUAL = dict(os.environ)
 BARE = {"PATH": os.environ["PATH"], "HOME": os.environ.get("HOME", "/"), "CI": "true"}
@@ -272,7 +273,7 @@ class Surroundings(InFolder):
         os.mkfifo(self.folder / "fifo.csv")
         words = {"compare-runs": ["--"], "plot": ["--script"], "from-pcap": ["made"], "from-ftrace": ["made"]}
         for tool in ALL:
-            if tool in ("traffic", "sweep", "steps", "what-if"):
+            if tool in ("traffic", "sweep", "steps", "what-if", "record"):
                 continue
             process = self.start(tool, ["fifo.csv", *words.get(tool, [])], stdout=subprocess.PIPE)
             until, end = time.monotonic() + MOST_SECONDS, None

@@ -1,0 +1,263 @@
+"""Tests of tools/record: what it refuses, and, as root where the kernel traces, recordings of a veth pair of their own."""
+
+import os
+import re
+import select
+import shutil
+import signal
+import subprocess
+import sys
+import time
+import unittest
+
+from tooltest import TOP, InFolder, run
+
+IN_MOUNTS = ["unshare", "-m", "sh", "-c", 'cd /sys/kernel/tracing && { [ -d instances ] || mount -t tracefs nodev .; } 2> /dev/null && cd /sys/kernel/tracing && eval "$1"', "sh"]
+# A program that reads so many packets, under a name of its own; and one that sends bursts again and again, the first one of so many packets,
+# each of one more up to the last.
+SERVER = """import socket, sys
+open("/proc/self/comm", "w").write(sys.argv[1])
+end = socket.socket(socket.AF_INET, socket.SOCK_DGRAM)
+end.setsockopt(socket.SOL_SOCKET, 33, 1 << 26)
+end.bind(("10.98.0.2", 9))
+print("ready", flush=True)
+for _ in range(int(sys.argv[2])):
+    end.recv(2000)
+"""
+CLIENT = """import socket, sys, time
+times, first, last = map(int, sys.argv[1:4])
+out = socket.socket(socket.AF_INET, socket.SOCK_DGRAM)
+for _ in range(times):
+    for packets in range(first, last + 1):
+        for _ in range(packets):
+            out.sendto(b"x" * 100, ("10.98.0.2", 9))
+        time.sleep(float(sys.argv[4]))
+"""
+
+
+def in_tracing(command):
+    """What a shell command prints in the folder of tracefs; None if it fails, as where nothing can be traced."""
+    done = subprocess.run([*IN_MOUNTS, command], capture_output=True, text=True, check=False)
+    return done.stdout if done.returncode == 0 else None
+
+
+def why_not():
+    """Why this machine can't record."""
+    if os.geteuid() != 0:
+        return "record needs root"
+    if not (shutil.which("ip") and shutil.which("unshare")):
+        return "record's tests need ip and unshare (Debian: apt install iproute2 util-linux)"
+    if in_tracing("ls events/napi/napi_poll") is None:
+        return "record needs tracefs with the event napi_poll"
+    return subprocess.run(["ip", "netns"], capture_output=True, check=False).returncode and "record's tests need network namespaces"
+
+
+WHY_NOT = why_not()
+
+
+class Refused(InFolder):
+    """What needs no tracing."""
+
+    def refused(self, *words, status=1, **options):
+        done = subprocess.run([sys.executable, "-BES", TOP / "tools/record", *words], capture_output=True, text=True, check=False, cwd=self.folder, **options)
+        self.assertEqual((done.returncode, done.stdout, self.names()), (status, "", []), done.stderr)
+        return done.stderr
+
+    def test_words(self):
+        for words in ([], ["--device", "lo"], ["--out", "x"], ["0", "--device", "lo", "--out", "x"], ["5", "6", "--device", "lo", "--out", "x"],
+                      ["--device", "lo", "--out", "x", "--buffer", "0"], ["--device", "lo", "--out", "x", "--processors", "3-1"]):
+            self.assertIn("usage: record", self.refused(*words, status=2))
+
+    def test_without_root_it_says_so_at_once(self):
+        front = [] if os.geteuid() else ["unshare", "-U"]  # where nobody is root
+        done = subprocess.run([*front, sys.executable, "-BES", TOP / "tools/record", "--device", "none", "--out", "none/x"], capture_output=True, text=True, check=False)
+        self.assertEqual((done.stderr, done.stdout, done.returncode), ("record: only root may record: sudo tools/record ..\n", "", 1))
+
+    @unittest.skipIf(os.geteuid(), "record needs root")
+    def test_what_is_not_there(self):
+        for words, why in ((["--device", "none9"], "--device none9: there is no such device; one in a network namespace needs --netns"),
+                           (["--device", "../lo"], "--device ../lo: no name of a device"), (["--device=-lo"], "--device -lo: no name of a device"),
+                           (["--device", "lo;id"], "--device lo;id: there is no such device; one in a network namespace needs --netns"),
+                           (["--device", "lo", "--netns", "none9"], "--netns none9: there is no such network namespace; `ip netns` lists them"),
+                           (["--device", "lo", "--netns", "../x"], "--netns ../x: there is no such network namespace; `ip netns` lists them"),
+                           (["--device", "lo", "--sender", "a", "--sender", "b"], "2 --sender for 1 --device"),
+                           (["--device", "lo", "--program", "4194305"], "--program 4194305: there is no such process"),
+                           (["--device", "lo", "--program", 'a"b'], '--program a"b: a name of printable ASCII characters without quotes, or a process\'s number'),
+                           (["--device", "lo", "--buffer", "65536"], "more than half of the free memory")):
+            said = self.refused("1", *words, "--out", "x")
+            self.assertTrue(said.count("\n") == 1 and said.startswith("record: ") and why in said, said)
+        (self.folder / "folder").mkdir()
+        for out, why in (("folder", "folder: this is a folder"), ("none/x", "none: there is no such folder")):
+            done = run("record", "1", "--device", "lo", "--out", out, folder=self.folder)
+            self.assertEqual((done.returncode, done.stderr), (1, f"record: {why}\n"))
+
+
+@unittest.skipIf(WHY_NOT, str(WHY_NOT))
+class Recorded(InFolder):
+    """On a veth pair whose ends are in namespaces of their own."""
+
+    def setUp(self):
+        super().setUp()
+        number = os.getpid() % 100000
+        self.sending, self.receiving = f"fqs{number}", f"fqr{number}"
+        self.ends = f"fqa{number}", f"fqb{number}"
+        self.program = f"fqserver{number}"
+        for name in (self.sending, self.receiving):
+            self.ip("netns", "add", name)
+            self.addCleanup(self.ip, "netns", "del", name)
+        addresses = "02:00:00:00:00:01", "02:00:00:00:00:02"
+        self.ip("link", "add", self.ends[0], "address", addresses[0], "netns", self.sending, "type", "veth",
+                "peer", "name", self.ends[1], "address", addresses[1], "netns", self.receiving)
+        for place, name in enumerate((self.sending, self.receiving)):  # nothing but what is sent goes over the pair
+            subprocess.run(["ip", "netns", "exec", name, "sh", "-c", "echo 1 > /proc/sys/net/ipv6/conf/all/disable_ipv6"], stderr=subprocess.DEVNULL, check=False)
+            self.ip("-n", name, "addr", "add", f"10.98.0.{place + 1}/24", "dev", self.ends[place])
+            self.ip("-n", name, "link", "set", self.ends[place], "up")
+            self.ip("-n", name, "neigh", "replace", f"10.98.0.{2 - place}", "lladdr", addresses[1 - place], "dev", self.ends[place])
+
+    def ip(self, *words):
+        subprocess.run(["ip", *words], check=True)
+
+    def start(self, *words, seconds="1"):
+        """The tool, once it records."""
+        command = [sys.executable, "-BES", TOP / "tools/record", seconds, "--device", self.ends[1], "--netns", self.receiving, "--out", self.folder / "made", *words]
+        process = subprocess.Popen(command, stdout=subprocess.PIPE, stderr=subprocess.PIPE, cwd=self.folder,
+                                   preexec_fn=lambda: signal.signal(signal.SIGINT, signal.SIG_DFL))
+        self.addCleanup(process.communicate)
+        self.addCleanup(process.kill)
+        said = b""
+        while b"recording for" not in said:
+            self.assertTrue(select.select([process.stderr], [], [], 60)[0])
+            said += os.read(process.stderr.fileno(), 1000)
+            self.assertIsNone(process.poll(), said)
+        self.assertEqual(said, f"record: recording for {seconds} s\n".encode())
+        return process
+
+    def send(self, *numbers):
+        subprocess.run(["ip", "netns", "exec", self.sending, sys.executable, "-c", CLIENT, *map(str, numbers)], check=True)
+
+    def serve(self, count):
+        """A program that reads so many packets."""
+        process = subprocess.Popen(["ip", "netns", "exec", self.receiving, sys.executable, "-c", SERVER, self.program, str(count)], stdout=subprocess.PIPE)
+        self.addCleanup(process.communicate)
+        self.addCleanup(process.kill)
+        self.assertEqual(process.stdout.readline(), b"ready\n")
+        return process
+
+    def head(self):
+        head, _, body = (self.folder / "made").read_text(errors="replace").partition("\ntrace\n")
+        first, *lines = head.split("\n")
+        self.assertEqual(first, "fintaqush-recording 1")
+        return dict(line.split(" ", 1) for line in lines), body
+
+    def check_gone(self, process):
+        """No instance and no file but the recording is left, and tracing is as it was."""
+        self.assertNotIn(f"fintaqush-{process.pid}", in_tracing("ls instances").split())
+        self.assertIn(self.names(), ([], ["made"]))
+
+    def test_a_recording(self):
+        """Forty bursts of one to forty packets, which a program reads. Numbers come from what was sent, and from the kernel's files."""
+        server = self.serve(820)
+        set_before = in_tracing("cat current_tracer tracing_on trace_clock events/enable buffer_size_kb saved_cmdlines_size")
+        process = self.start("--program", self.program, seconds="3")
+        self.send(1, 1, 40, 0.005)
+        out, said = process.communicate(timeout=120)
+        self.assertEqual((said, process.returncode), (b"", 0))
+        self.check_gone(process)
+        self.assertEqual(in_tracing("cat current_tracer tracing_on trace_clock events/enable buffer_size_kb saved_cmdlines_size"), set_before)
+        head, body = self.head()
+        self.assertEqual([head[key] for key in ("device", "netns", "sender", "pair", "lost", "program", "program.pids", f"sent.{self.ends[0]}")],
+                         [self.ends[1], self.receiving, self.ends[0], f"{self.ends[0]}:{self.ends[1]}", "0", self.program, str(server.pid), "820"])
+        for key in ("netdev_budget", "netdev_max_backlog", "dev_weight", "netdev_budget_usecs"):
+            self.assertEqual(head[f"sysctl.net.core.{key}"], (TOP.parent / f"/proc/sys/net/core/{key}").read_text().strip())
+        self.assertEqual([head[f"device.{self.ends[1]}.{key}"] for key in ("threaded", "napi_defer_hard_irqs", "gro_flush_timeout", "rx-0.rps_cpus")], ["0"] * 4)
+        self.assertEqual(head["kernel"], os.uname().release)
+        before, after = map(int, head[f"device.{self.ends[1]}.statistics.rx_packets"].split())
+        self.assertEqual(after - before, 820)
+        before, after = map(int, head["udp.InDatagrams"].split())
+        self.assertEqual(after - before, 820)
+        lines = [line for line in body.splitlines() if not line.startswith("#")]
+        self.assertEqual(len(lines), int(head["lines"]))
+        self.assertEqual(len(re.findall(r"sys_recv\w+ -> 0x64\n", body)), 820)
+        self.assertTrue(all(f" {name}: " in body for name in ("napi_poll", "softirq_entry", "softirq_exit", "sched_switch")))
+        self.assertNotIn("netdev_rss_key", "".join(head))
+        self.assertTrue(out.decode().startswith(f"{self.folder}/made: 3."), out)
+        self.assertIn(f"; 820 packets of {self.ends[0]}\n", out.decode())
+        done = run("from-ftrace", "made", "arrivals", "--arrivals", folder=self.folder)
+        self.assertEqual((done.stderr, done.returncode), ("", 0))
+        self.assertEqual((self.folder / "arrivals.csv").read_text().count(",1,142\n"), 820)
+        self.check_clock(lines, head)
+
+    def check_clock(self, lines, head):
+        """Times are of CLOCK_MONOTONIC, and rise on each processor; with the processor's counter they have nine digits."""
+        stamps = [re.match(r".{16}-\d+\s+\[(\d+)\] \S+ +(\d+)\.(\d+): ", line) for line in lines]
+        self.assertTrue(all(stamps))
+        self.assertEqual({len(found[3]) for found in stamps}, {9 if head["clock"] == "tsc" else 6})
+        times = [(int(found[1]), int(found[2]) * 10**9 + int(found[3].ljust(9, "0"))) for found in stamps]
+        for cpu in {cpu for cpu, _ in times}:
+            own = [at for where, at in times if where == cpu]
+            self.assertEqual(own, sorted(own))
+        now = time.monotonic_ns()
+        self.assertTrue(all(now - 120 * 10**9 < at < now for _, at in times))
+        self.assertTrue(2.5e9 < max(times, key=lambda each: each[1])[1] - min(times, key=lambda each: each[1])[1] < 30e9)
+
+    def test_an_end_by_a_signal(self):
+        for number in (signal.SIGINT, signal.SIGTERM, signal.SIGHUP):
+            process = self.start(seconds="60")
+            self.assertIn(f"fintaqush-{process.pid}", in_tracing("ls instances").split())
+            process.send_signal(number)
+            out, said = process.communicate(timeout=60)
+            self.assertEqual((out, said, process.returncode), (b"", b"record: interrupted\n", 128 + number))
+            self.assertEqual(self.names(), [])
+            self.check_gone(process)
+
+    def test_what_a_killed_one_left_is_removed(self):
+        """And what one that lives has is kept."""
+        process = self.start(seconds="60")
+        process.kill()
+        process.communicate()
+        self.assertIn(f"fintaqush-{process.pid}", in_tracing("ls instances").split())
+        for name in self.names():
+            (self.folder / name).unlink()
+        in_tracing(f"mkdir instances/fintaqush-{os.getpid()}")
+        self.addCleanup(in_tracing, f"rmdir instances/fintaqush-{os.getpid()}")
+        other = self.start()
+        self.assertEqual(other.wait(60), 0)
+        left = in_tracing("ls instances").split()
+        self.assertNotIn(f"fintaqush-{process.pid}", left)
+        self.assertIn(f"fintaqush-{os.getpid()}", left)
+
+    def test_a_buffer_that_fills_up(self):
+        """Slowly, it ends before an event is lost; at once, it says how many were, and the other tools reject it."""
+        process = self.start("--buffer", "1", seconds="60")
+        while process.poll() is None:
+            self.send(20, 40, 40, 0.02)
+        said = process.communicate(timeout=60)[1]
+        self.assertRegex(said.decode(), r"^record: a buffer of 1 MB is nearly full after \d+\.\d s, so it ended; a longer recording needs a larger --buffer\n$")
+        self.assertEqual((process.returncode, self.head()[0]["lost"]), (0, "0"))
+        process = self.start("--buffer", "1", seconds="3")
+        process.send_signal(signal.SIGSTOP)
+        self.send(1, 40000, 40000, 0)
+        process.send_signal(signal.SIGCONT)
+        said = process.communicate(timeout=60)[1].decode()
+        self.assertEqual(process.returncode, 1)
+        lost = self.head()[0]["lost"]
+        self.assertIn(f"record: the kernel lost {lost} events, so other tools reject it: record for a shorter time, or by a larger --buffer\n", said)
+        for tool, words in (("costs", []), ("from-ftrace", ["arrivals", "--arrivals"])):
+            done = run(tool, "made", *words, folder=self.folder)
+            self.assertEqual((done.returncode, done.stderr.count("\n")), (1, 1))
+            self.assertIn(f"the kernel lost {lost} events", done.stderr)
+
+    def test_some_processors(self):
+        process = self.start("--processors", "0")
+        self.assertEqual(process.wait(60), 0)
+        self.assertEqual(set(re.findall(r"^.{16}-\d+\s+\[(\d+)\]", self.head()[1], re.M)), {"000"})
+
+    def test_a_disk_that_is_full(self):
+        process = subprocess.run(["bash", "-c", 'ulimit -f 1; trap "" XFSZ; exec "$0" "$@"', sys.executable, "-BES", TOP / "tools/record", "1",
+                                  "--device", "lo", "--out", "made"], capture_output=True, text=True, check=False, cwd=self.folder)
+        self.assertEqual((process.returncode, process.stdout, self.names()), (1, "", []))
+        self.assertEqual(process.stderr.splitlines()[-1], "record: File too large")
+
+
+if __name__ == "__main__":
+    unittest.main()
