@@ -61,7 +61,7 @@ def predicted(made, arrivals, settings):
 
 def error_of(name, measured, value, packets):
     """How far a prediction is from what was measured, in %; of few drops by the packets, as a ratio of two small numbers says nothing."""
-    least = packets / FEW if name in ("dropped", "timers", "squeezed") else 1
+    least = max(FEW / 10, packets / FEW) if name in ("dropped", "timers", "squeezed") else 1
     return 100 * (value - measured) / max(measured, least)
 
 

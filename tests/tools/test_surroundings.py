@@ -20,13 +20,14 @@ REPORT = "list\ntotal devices 0 runs 0 polls 0 work 0 squeezed 0\n"
 WRITERS = {"raise": [TRACE], "report2json": ["-"], "traffic": [], "compare-runs": [TRACE, "--budget", "1", "--"],
            "plot": [TRACE, "--script"], "compare-recording": [TOP / "examples/linux-veth-small-budget", "--budget", "64"],
            "from-ftrace": [HERE / "soft-tcp.txt", "made", *(f"--pair=va{number}:vb{number}" for number in range(1, 7))],
-           "from-pcap": ["captured", "made"], "costs": [HERE / "soft-tcp.txt"], "what-if": ["arrivals", "--without-parallel"]}
+           "from-pcap": ["captured", "made"], "costs": [HERE / "soft-tcp.txt"], "what-if": ["arrivals", "--without-parallel"],
+           "advise": [HERE / "recorded-apart.rec"]}
 if not os.path.exists(MACHINE):
-    del WRITERS["what-if"]
+    del WRITERS["what-if"], WRITERS["advise"]
 SERIES_HEAD = "row,moment,device,state,waiting,arrived,dropped,polled,in_flight,limit,avail,stopped,polls,work,squeezed\n"
 CAPTURED = "100.000000 eth0  In  ifindex 2 02:00:00:00:00:01 ethertype IPv4 (0x0800), length 60: 10.0.0.1 > 10.0.0.2: UDP\n"
 ALL = ["raise", "report2json", "traffic", "compare-runs", "compare-recording", "plot", "from-ftrace", "from-pcap", "sweep", "steps", "what-if", "costs",
-       "record"]
+       "record", "advise"]
 # As somebody has it, and as a machine has it that tells no locale.
 USUAL = dict(os.environ)
 BARE = {"PATH": os.environ["PATH"], "HOME": os.environ.get("HOME", "/"), "CI": "true"}
@@ -273,7 +274,7 @@ class Surroundings(InFolder):
         os.mkfifo(self.folder / "fifo.csv")
         words = {"compare-runs": ["--"], "plot": ["--script"], "from-pcap": ["made"], "from-ftrace": ["made"]}
         for tool in ALL:
-            if tool in ("traffic", "sweep", "steps", "what-if", "record"):
+            if tool in ("traffic", "sweep", "steps", "what-if", "record", "advise"):
                 continue
             process = self.start(tool, ["fifo.csv", *words.get(tool, [])], stdout=subprocess.PIPE)
             until, end = time.monotonic() + MOST_SECONDS, None
