@@ -1,13 +1,14 @@
 """Checks of a program of the receiving machine (napi_machine, or bench/machine.cc), for tests/machine.sh: what it prints is what the
 plain model prints, or what queueing theory or a recording of Linux says. PROGRAM is a command, e.g. `python3 -B tests/machine_model.py`.
 
-    python3 -B tests/machine.py examples|random|faults|texts|options|ends|queue|livelock|recorded PROGRAM [SEED COUNT]
+    python3 -B tests/machine.py examples|random|one_queue|faults|texts|options|ends|queue|livelock|recorded PROGRAM [SEED COUNT]
     python3 -B tests/machine.py simulated REPORT FILE
 """
 import itertools
 import os
 import pathlib
 import random
+import re
 import shlex
 import subprocess
 import sys
@@ -163,6 +164,26 @@ def cases_of(settings, rows, printed, calls):
         "coalescing": settings["rx-nsecs"] > 0 and polls_on,
         "coalescing by frames": settings["rx-nsecs"] > 0 and settings["rx-frames"] > 1 and polls_on,
         "apart": calls["wake_application"] > 1, "apart, refused": calls["wake_application"] > 1 and total["refused"] > 0}
+
+
+# ---- what a setting doesn't change
+
+LIMITS = "--budget", "--window", "--time-limit", "--queues"
+
+
+def one_queue(program, seed="1", count="60"):
+    """With one queue on a processor, budgets, windows and time limits change nothing of a report but its runs, squeezed and late."""
+    chance = random.Random(int(seed))
+    for _ in range(int(count)):
+        arguments = [each for each in random_options(chance) if "=" in each and not each.startswith(LIMITS)]
+        settings = machine_model.settings_of(arguments)
+        text = text_of((moment, 1, size) for moment, _, size in random_rows(chance, {**settings, "queues": 1}))
+        limits = [[f"--budget={budget}", f"--window={window}", f"--time-limit={limit}"] for budget, window, limit in (
+            (1, 65535, 10**9), (65535, 1, 10**9), (65535, 65535, 1), (16, 8, 10000), (300, 1024, 8000000), (65535, 65535, 10**9))]
+        reports = [re.sub(r"(runs|squeezed|late) \d+", r"\1 .", ran(program, arguments + each, text)[0]) for each in limits]
+        if not reports[0] or len(set(reports)) != 1:
+            return [f"{' '.join(arguments)}\n{text[:3000]}", *reports]
+    return []
 
 
 # ---- what is refused
@@ -373,8 +394,8 @@ def simulated(report, waited):
     return wrong + [f"{other}: and no total" for line, other in lines[-1:] if other or not line.startswith("total ")]
 
 
-CHECKS = {"examples": examples, "random": random_arrivals, "faults": faults, "texts": texts, "options": options, "ends": ends,
-          "queue": queue, "livelock": livelock, "recorded": recorded, "simulated": simulated}
+CHECKS = {"examples": examples, "random": random_arrivals, "one_queue": one_queue, "faults": faults, "texts": texts,
+          "options": options, "ends": ends, "queue": queue, "livelock": livelock, "recorded": recorded, "simulated": simulated}
 
 if __name__ == "__main__":
     found = CHECKS[sys.argv[1]](*sys.argv[2:])
