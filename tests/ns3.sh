@@ -67,13 +67,20 @@ check 'a squeezed run is a run' rows 'of("late") <= of("squeezed") && of("squeez
 check 'shares of the processor are at most all of it' rows 'of("interrupt%") + of("poll%") + of("use%") <= 100.2'
 check 'the table has a row for each' [ "$(awk 'NR > 1 && /^ *(none|[0-9]+)  / && NF >= 13' "$scratch/table" | wc -l)" = 15 ]
 
+# Sent, dropped, used, latency, shares and interrupts are columns 5 to 17.
+check 'budgets of 16, 64 and 300 differ only in their runs' awk 'NR > 1 && $1 > 0 && $2 == 0 {
+        row = ""; for (i = 5; i <= 17; i++) row = row " " $i
+        if ($4 in before && before[$4] != row) { print; wrong = 1 }
+        before[$4] = row; n++ }
+    END { exit wrong || n != 9 }' "$scratch/bottleneck.txt"
+
 # used BUDGET DEFER: of 400000 packets a second.
 used() {
     awk -v budget="$1" -v defer="$2" 'NR == 1 { for (i = 1; i <= NF; i++) at[$i] = i; next }
         $1 == budget && $2 == defer && $at["load"] == 400000 { print $at["used"] }' "$scratch/bottleneck.txt"
 }
-check 'at 400000 packets a second deferred interrupts leave more to the application, and no budget does' \
-    [ "$(used 300 2)" -gt "$((2 * $(used 300 0)))" -a "$(used 16 0)" -lt "$((2 * $(used 300 0)))" ]
+check 'at 400000 packets a second deferred interrupts leave more to the application, and polling more than interrupts without it' \
+    [ "$(used 300 2)" -gt "$((10 * $(used 300 0)))" -a "$(used 300 0)" -gt "$((4 * $(used 0 0)))" ]
 
 # ---- the machine of napi_machine, on the same arrivals
 

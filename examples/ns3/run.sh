@@ -45,9 +45,10 @@ unset key
 budgets = '0 16 300 300'
 deferrals = '0 0 0 2'
 names = '"interrupts without polling" "budget 16" "budget 300" "budget 300, deferral by 100 µs"'
-colours = '#888888 #1b9e77 #d95f02 #7570b3'
+colours = '#888888 #9fdcc4 #d95f02 #7570b3'
+widths = '2 7 2 2'
 file = '$to/bottleneck.txt'
-drawn = 'with linespoints pt 7 ps 0.5 lw 2 lc rgb word(colours, i)'
+drawn = 'with linespoints pt 7 ps 0.5 lw word(widths, i) lc rgb word(colours, i)'
 of(i, value) = \$1 == word(budgets, i) && \$2 == word(deferrals, i) ? value : NaN
 set datafile missing NaN
 set title 'latency, 99th percentile, ms'
