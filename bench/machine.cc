@@ -23,18 +23,19 @@ static uint64_t held_product(uint64_t a, uint64_t b) { return b && a > MOST / b 
 // ---- options
 
 enum Option {
-    PROCESSORS, QUEUES, RING, SOCKET, BACKLOG, BUDGET, WEIGHT, WINDOW, TIME_LIMIT, RX_NSECS, RX_FRAMES, DEFER_HARD_IRQS, GRO_FLUSH_TIMEOUT, THREADED,
-    APART, APP_WAKE, INTERRUPT, POLL, PACKET, USE, WAKE, OPTIONS
+    PROCESSORS, QUEUES, RING, SOCKET, BACKLOG, BUDGET, WEIGHT, WINDOW, TIME_LIMIT, RX_NSECS, RX_FRAMES, DEFER_HARD_IRQS,
+    GRO_FLUSH_TIMEOUT, THREADED, APART, APP_WAKE, INTERRUPT, POLL, PACKET, USE, WAKE, OPTIONS
 };
 struct Range {
     const char *name;
     uint64_t low, high;
 };
 static const uint64_t LONGEST = 1000000000;
-static const Range ranges[OPTIONS] = {{"processors", 1, 64}, {"queues", 1, 64}, {"ring", 1, 65536}, {"socket", 1, 65536}, {"backlog", 0, 1},
-    {"budget", 0, 65535}, {"weight", 1, 64}, {"window", 1, 65535}, {"time-limit", 1, LONGEST}, {"rx-nsecs", 0, LONGEST}, {"rx-frames", 0, 65535},
-    {"defer-hard-irqs", 0, 65535}, {"gro-flush-timeout", 0, LONGEST}, {"threaded", 0, 1}, {"apart", 0, 1}, {"app-wake", 0, LONGEST},
-    {"interrupt", 0, LONGEST}, {"poll", 0, LONGEST}, {"packet", 0, LONGEST}, {"use", 0, LONGEST}, {"wake", 0, LONGEST}};
+static const Range ranges[OPTIONS] = {{"processors", 1, 64}, {"queues", 1, 64}, {"ring", 1, 65536}, {"socket", 1, 65536},
+    {"backlog", 0, 1}, {"budget", 0, 65535}, {"weight", 1, 64}, {"window", 1, 65535}, {"time-limit", 1, LONGEST},
+    {"rx-nsecs", 0, LONGEST}, {"rx-frames", 0, 65535}, {"defer-hard-irqs", 0, 65535}, {"gro-flush-timeout", 0, LONGEST},
+    {"threaded", 0, 1}, {"apart", 0, 1}, {"app-wake", 0, LONGEST}, {"interrupt", 0, LONGEST}, {"poll", 0, LONGEST},
+    {"packet", 0, LONGEST}, {"use", 0, LONGEST}, {"wake", 0, LONGEST}};
 static uint64_t settings[OPTIONS] = {1, 1, 256, 512, 0, 300, 64, 1024, 8000000, 0, 0, 0, 0, 0, 0, 0, 4000, 1000, 1000, 2000, 0};
 
 /* The number that these digits write, at most 2^64 - 1; with a divisor its remainder, of any number. */
@@ -60,7 +61,8 @@ static void read_options(int count, char **arguments) {
         const char *sign = std::strchr(arguments[i], '=');
         const size_t length = sign ? static_cast<size_t>(sign - arguments[i]) : std::strlen(arguments[i]);
         const Range *found = std::find_if(ranges, ranges + OPTIONS, [&](const Range &range) {
-            return length == std::strlen(range.name) + 2 && !std::strncmp(arguments[i], "--", 2) && !std::strncmp(arguments[i] + 2, range.name, length - 2);
+            return length == std::strlen(range.name) + 2 && !std::strncmp(arguments[i], "--", 2) &&
+                   !std::strncmp(arguments[i] + 2, range.name, length - 2);
         });
         const char *text = sign ? sign + 1 : i + 1 < count ? arguments[++i] : "";
         bool is_one = found != ranges + OPTIONS && !given[found - ranges];
@@ -106,7 +108,8 @@ class Waits {
     }
     void print() const {
         const uint64_t mean = count ? static_cast<uint64_t>(sum / count) : 0;
-        std::printf(" mean %lu wait50 %lu wait90 %lu wait99 %lu wait999 %lu most %lu\n", mean, least(500), least(900), least(990), least(999), most);
+        std::printf(" mean %lu wait50 %lu wait90 %lu wait99 %lu wait999 %lu most %lu\n", mean, least(500), least(900), least(990),
+            least(999), most);
     }
 
   private:
@@ -343,7 +346,8 @@ class Processor {
 
     /* Whether the run makes another poll; if not, it is ended. */
     bool goes_on() {
-        const bool is_spent = run_work >= settings[BUDGET] || run_polls >= settings[WINDOW], is_over = clock - run_began >= settings[TIME_LIMIT];
+        const bool is_spent = run_work >= settings[BUDGET] || run_polls >= settings[WINDOW];
+        const bool is_over = clock - run_began >= settings[TIME_LIMIT];
         if (!is_spent && !is_over) {
             if (own.size()) return true;
             if (!again.size() && list.size()) {
@@ -537,7 +541,8 @@ static void read_arrivals(std::vector<Processor> &processors) {
 static void print_application(size_t of, const Processor &each) {
     const uint64_t used = held_product(each.waits.count, settings[USE]), woken = held_product(each.application.wakes, settings[APP_WAKE]);
     const uint64_t end = each.application.end;
-    std::printf("application %lu end %lu wakes %lu use %lu idle %lu\n", of, end, each.application.wakes, used, end - std::min(end, held(used, woken)));
+    const uint64_t idle = end - std::min(end, held(used, woken));
+    std::printf("application %lu end %lu wakes %lu use %lu idle %lu\n", of, end, each.application.wakes, used, idle);
 }
 
 static void report(const std::vector<Processor> &processors) {
@@ -546,8 +551,8 @@ static void report(const std::vector<Processor> &processors) {
         for (size_t of = 0; of < processors.size(); of++) {
             const Device *device = processors[of].devices[at].get();
             if (!device) continue;
-            std::printf("device %lu arrived %lu dropped %lu polled %lu interrupts %lu polls %lu", at * processors.size() + of + 1, device->arrived,
-                device->dropped, device->waits.count, device->interrupts, device->polls);
+            std::printf("device %lu arrived %lu dropped %lu polled %lu interrupts %lu polls %lu", at * processors.size() + of + 1,
+                device->arrived, device->dropped, device->waits.count, device->interrupts, device->polls);
             device->waits.print();
             devices++;
             arrived += device->arrived;
@@ -556,17 +561,18 @@ static void report(const std::vector<Processor> &processors) {
         }
     for (size_t of = 0; of < processors.size(); of++) {
         const Processor &each = processors[of];
-        std::printf("processor %lu interrupts %lu timers %lu runs %lu polls %lu work %lu squeezed %lu late %lu refused %lu used %lu", of, each.interrupts, each.expired,
-            each.runs, each.polls, each.work, each.squeezed, each.late, each.refused, each.waits.count);
+        std::printf("processor %lu interrupts %lu timers %lu runs %lu polls %lu work %lu squeezed %lu late %lu refused %lu used %lu", of,
+            each.interrupts, each.expired, each.runs, each.polls, each.work, each.squeezed, each.late, each.refused, each.waits.count);
         each.waits.print();
         const uint64_t busy = held(each.interrupting, held(each.polling, each.using_));
-        std::printf("time %lu end %lu interrupt %lu poll %lu use %lu idle %lu\n", of, each.clock, each.interrupting, each.polling, each.using_,
-            each.clock - std::min(each.clock, busy));
+        std::printf("time %lu end %lu interrupt %lu poll %lu use %lu idle %lu\n", of, each.clock, each.interrupting, each.polling,
+            each.using_, each.clock - std::min(each.clock, busy));
         if (settings[APART]) print_application(of, each);
         refused += each.refused;
         used += each.waits.count;
     }
-    std::printf("total devices %lu arrived %lu dropped %lu polled %lu refused %lu used %lu\n", devices, arrived, dropped, polled, refused, used);
+    std::printf("total devices %lu arrived %lu dropped %lu polled %lu refused %lu used %lu\n", devices, arrived, dropped, polled, refused,
+        used);
 }
 
 int main(int count, char **arguments) {

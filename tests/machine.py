@@ -1,13 +1,14 @@
 """Checks of a program of the receiving machine (napi_machine, or bench/machine.cc), for tests/machine.sh: what it prints is what the
 plain model prints, or what queueing theory or a recording of Linux says. PROGRAM is a command, e.g. `python3 -B tests/machine_model.py`.
 
-    python3 -B tests/machine.py examples|random|faults|texts|options|ends|queue|livelock|recorded PROGRAM [SEED COUNT]
+    python3 -B tests/machine.py examples|random|one_queue|faults|texts|options|ends|queue|livelock|recorded PROGRAM [SEED COUNT]
     python3 -B tests/machine.py simulated REPORT FILE
 """
 import itertools
 import os
 import pathlib
 import random
+import re
 import shlex
 import subprocess
 import sys
@@ -22,8 +23,8 @@ HEADER = "moment,device,bytes"
 
 
 def ran(program, arguments, text):
-    done = subprocess.run([*shlex.split(program), *arguments], input=text if isinstance(text, bytes) else text.encode(), capture_output=True,
-                          check=False, timeout=600)
+    command, sent = [*shlex.split(program), *arguments], text if isinstance(text, bytes) else text.encode()
+    done = subprocess.run(command, input=sent, capture_output=True, check=False, timeout=600)
     return done.stdout.decode("latin-1"), done.stderr.decode("latin-1"), done.returncode
 
 
@@ -81,10 +82,11 @@ def examples(program):
 def random_options(chance):
     """Costs that are the same, or 0, or fall on the grid of the arrivals, make ties."""
     costs = (0, 1, 500, 1000, 1000, 2000, 4000, chance.randrange(20000), chance.randrange(10**6))
-    choices = {"processors": (1, 2, 3, chance.randint(1, 64)), "queues": (1, 1, 2, 3, 8, 64), "ring": (1, 2, 4, 16, 256), "socket": (1, 2, 8, 512),
-               "backlog": (0, 1), "budget": (0, 1, 2, 3, 16, 64, 300), "weight": (1, 2, 3, 8, 64), "window": (1, 2, 3, 1024),
-               "time-limit": (1, 1000, 5000, 20000, 8000000), "rx-nsecs": (0, 1, 500, 3000, 20000, 100000), "rx-frames": (0, 1, 2, 5),
-               "defer-hard-irqs": (0, 1, 2, 2, 9), "gro-flush-timeout": (0, 500, 1000, 20000, 20000), "threaded": (0, 1), "apart": (0, 1)}
+    choices = {
+        "processors": (1, 2, 3, chance.randint(1, 64)), "queues": (1, 1, 2, 3, 8, 64), "ring": (1, 2, 4, 16, 256), "socket": (1, 2, 8, 512),
+        "backlog": (0, 1), "budget": (0, 1, 2, 3, 16, 64, 300), "weight": (1, 2, 3, 8, 64), "window": (1, 2, 3, 1024),
+        "time-limit": (1, 1000, 5000, 20000, 8000000), "rx-nsecs": (0, 1, 500, 3000, 20000, 100000), "rx-frames": (0, 1, 2, 5),
+        "defer-hard-irqs": (0, 1, 2, 2, 9), "gro-flush-timeout": (0, 500, 1000, 20000, 20000), "threaded": (0, 1), "apart": (0, 1)}
     share, arguments = chance.choice((0.15, 0.4, 0.8)), []
     for name in chance.sample(list(OPTIONS), len(OPTIONS)):
         if chance.random() < share:
@@ -105,7 +107,8 @@ def random_rows(chance, settings):
     for _ in range(chance.choice((0, 1, 5, 50, 300, 1500))):
         if chance.random() < 0.6:
             moment += chance.randint(0, pause) // grid * grid
-        yield (moment, chance.choice(devices), chance.choice((1, 60, 1514, 65535)), chance.choice(flows))[:4 if settings["queues"] > 1 else 3]
+        row = moment, chance.choice(devices), chance.choice((1, 60, 1514, 65535)), chance.choice(flows)
+        yield row if settings["queues"] > 1 else row[:3]
 
 
 def counted(calls, name):
@@ -147,17 +150,40 @@ def cases_of(settings, rows, printed, calls):
     for line in printed.splitlines():
         if line.startswith("processor"):
             of.update(values(line))
-    runs_on = of["polls"] > 1
+    polls_on = of["polls"] > 1
     return {
         "dropped": total["dropped"] > 0, "refused": total["refused"] > 0, "squeezed": of["squeezed"] > of["late"], "late": of["late"] > 0,
         "interrupts without polling": calls["end_lone_interrupt"] > 0, "several runs": of["runs"] > 10, "no packet": not rows,
-        "several processors": settings["processors"] > 1 and of["runs"] > 1, "no cost": 0 in (settings["poll"], settings["packet"], settings["use"]),
+        "several processors": settings["processors"] > 1 and of["runs"] > 1,
+        "no cost": 0 in (settings["poll"], settings["packet"], settings["use"]),
         "several devices": total["devices"] > settings["processors"], "full weight": of["work"] > 2 * settings["weight"],
-        "several packets of a moment": len({row[0] for row in rows}) < len(rows), "an interrupted use": calls["go_on_with_rest"] > 0,
-        "NAPI timers": of["timers"] > 0, "threads": settings["threaded"] and runs_on, "threads with timers": settings["threaded"] and of["timers"] > 0,
-        "queues": settings["queues"] > 1 and total["devices"] > 1, "backlog": settings["backlog"] and runs_on, "wake": settings["wake"] > 0 and runs_on,
-        "coalescing": settings["rx-nsecs"] > 0 and runs_on, "coalescing by frames": settings["rx-nsecs"] > 0 and settings["rx-frames"] > 1 and runs_on,
+        "several packets at one time": len({row[0] for row in rows}) < len(rows), "an interrupted use": calls["go_on_with_rest"] > 0,
+        "NAPI timers": of["timers"] > 0, "threads": settings["threaded"] and polls_on,
+        "threads with timers": settings["threaded"] and of["timers"] > 0, "queues": settings["queues"] > 1 and total["devices"] > 1,
+        "backlog": settings["backlog"] and polls_on, "wake": settings["wake"] > 0 and polls_on,
+        "coalescing": settings["rx-nsecs"] > 0 and polls_on,
+        "coalescing by frames": settings["rx-nsecs"] > 0 and settings["rx-frames"] > 1 and polls_on,
         "apart": calls["wake_application"] > 1, "apart, refused": calls["wake_application"] > 1 and total["refused"] > 0}
+
+
+# ---- what a setting doesn't change
+
+LIMITS = "--budget", "--window", "--time-limit", "--queues"
+
+
+def one_queue(program, seed="1", count="60"):
+    """With one queue on a processor, budgets, windows and time limits change nothing of a report but its runs, squeezed and late."""
+    chance = random.Random(int(seed))
+    for _ in range(int(count)):
+        arguments = [each for each in random_options(chance) if "=" in each and not each.startswith(LIMITS)]
+        settings = machine_model.settings_of(arguments)
+        text = text_of((moment, 1, size) for moment, _, size in random_rows(chance, {**settings, "queues": 1}))
+        limits = [[f"--budget={budget}", f"--window={window}", f"--time-limit={limit}"] for budget, window, limit in (
+            (1, 65535, 10**9), (65535, 1, 10**9), (65535, 65535, 1), (16, 8, 10000), (300, 1024, 8000000), (65535, 65535, 10**9))]
+        reports = [re.sub(r"(runs|squeezed|late) \d+", r"\1 .", ran(program, arguments + each, text)[0]) for each in limits]
+        if not reports[0] or len(set(reports)) != 1:
+            return [f"{' '.join(arguments)}\n{text[:3000]}", *reports]
+    return []
 
 
 # ---- what is refused
@@ -168,13 +194,15 @@ def faults(program):
     good = "0,1,60\n"
     for rows, number, name, row in (
             (None, 1, "BadHeader", 0), ("moment,device,event,value\n", 1, "BadHeader", 0), ("moment,device,bytes,2\n", 1, "BadHeader", 0),
-            ("moment,device,bytes,flow\n", 1, "BadHeader", 0),
-            (" moment,device,bytes\n", 1, "BadHeader", 0), ("0,1\n", 2, "BadFields", 2), ("0,1,60,\n", 2, "BadFields", 2), ("x,1,60,60\n", 2, "BadFields", 2),
-            ("x,1,60\n", 3, "BadNumber", 2), (",1,60\n", 3, "BadNumber", 2), ("0,+1,60\n", 3, "BadNumber", 2), ("0,1,6e1\n", 3, "BadNumber", 2),
-            ("0,1, 60\n", 3, "BadNumber", 2), (f"{'0' * 21},1,60\n", 3, "BadNumber", 2), ("x,0,0\n", 3, "BadNumber", 2), ("0,0,60\n", 5, "OutOfRange", 2),
-            ("0,129,60\n", 5, "OutOfRange", 2), ("0,1,0\n", 5, "OutOfRange", 2), ("0,1,65536\n", 5, "OutOfRange", 2),
-            (f"{2**62},1,60\n", 5, "OutOfRange", 2), (f"{'9' * 20},1,60\n", 5, "OutOfRange", 2), (f"7,1,60\n{2**64 + 7},1,60\n", 5, "OutOfRange", 3),
-            ("7,1,60\n6,1,60\n", 8, "Falls", 3), ("7,1,60\n6,0,60\n", 5, "OutOfRange", 3), ("7,1,60\n6,128,60\n0,x,60\n", 8, "Falls", 3)):
+            ("moment,device,bytes,flow\n", 1, "BadHeader", 0), (" moment,device,bytes\n", 1, "BadHeader", 0),
+            ("0,1\n", 2, "BadFields", 2), ("0,1,60,\n", 2, "BadFields", 2), ("x,1,60,60\n", 2, "BadFields", 2),
+            ("x,1,60\n", 3, "BadNumber", 2), (",1,60\n", 3, "BadNumber", 2), ("0,+1,60\n", 3, "BadNumber", 2),
+            ("0,1,6e1\n", 3, "BadNumber", 2), ("0,1, 60\n", 3, "BadNumber", 2), (f"{'0' * 21},1,60\n", 3, "BadNumber", 2),
+            ("x,0,0\n", 3, "BadNumber", 2),
+            ("0,0,60\n", 5, "OutOfRange", 2), ("0,129,60\n", 5, "OutOfRange", 2), ("0,1,0\n", 5, "OutOfRange", 2),
+            ("0,1,65536\n", 5, "OutOfRange", 2), (f"{2**62},1,60\n", 5, "OutOfRange", 2), (f"{'9' * 20},1,60\n", 5, "OutOfRange", 2),
+            (f"7,1,60\n{2**64 + 7},1,60\n", 5, "OutOfRange", 3), ("7,1,60\n6,1,60\n", 8, "Falls", 3),
+            ("7,1,60\n6,0,60\n", 5, "OutOfRange", 3), ("7,1,60\n6,128,60\n0,x,60\n", 8, "Falls", 3)):
         text = "" if rows is None else rows if number == 1 else f"{HEADER}\n{good}{rows}"
         for arguments in (["--processors", "2"], ["--processors=2", "--budget=0"]):
             wrong += not_faulty(program, arguments, text, f"arrivals fault {number} {name} row {row}\n")
@@ -185,9 +213,11 @@ def faults_of_flows(program):
     """With --queues above 1 a fourth column, and queues that are within the processor's 64."""
     wrong, four = [], "moment,device,bytes,flow"
     for rows, number, name, row in (
-            (f"{HEADER}\n0,1,60\n", 1, "BadHeader", 0), (f"{four}\n0,1,60\n", 2, "BadFields", 1), (f"{four}\n0,1,60,\n", 3, "BadNumber", 1),
-            (f"{four}\n0,1,60,{'1' * 21}\n", 3, "BadNumber", 1), (f"{four}\n0,1,60,1,\n", 2, "BadFields", 1), (f"{four}\n0,1,60,x\n", 3, "BadNumber", 1),
-            (f"{four}\n0,1,60,0\n0,22,60,1\n", 5, "OutOfRange", 2), (f"{four}\n5,22,60,0\n4,22,60,1\n", 5, "OutOfRange", 2),
+            (f"{HEADER}\n0,1,60\n", 1, "BadHeader", 0), (f"{four}\n0,1,60\n", 2, "BadFields", 1),
+            (f"{four}\n0,1,60,1,\n", 2, "BadFields", 1), (f"{four}\n0,1,60,\n", 3, "BadNumber", 1),
+            (f"{four}\n0,1,60,x\n", 3, "BadNumber", 1),
+            (f"{four}\n0,1,60,{'1' * 21}\n", 3, "BadNumber", 1), (f"{four}\n0,1,60,0\n0,22,60,1\n", 5, "OutOfRange", 2),
+            (f"{four}\n5,22,60,0\n4,22,60,1\n", 5, "OutOfRange", 2),
             (f"{four}\n5,22,60,0\n4,22,60,0\n", 8, "Falls", 2)):
         wrong += not_faulty(program, ["--queues", "3"], rows, f"arrivals fault {number} {name} row {row}\n")
     same(program, ["--queues", "3"], f"{four}\n0,22,60,0\n0,1,60,{'9' * 20}\n0,1,60,{2**64 + 1}\n0,1,60,{'2'.zfill(20)}\n")
@@ -197,7 +227,8 @@ def faults_of_flows(program):
 
 def not_faulty(program, arguments, text, line):
     wanted = "", line, 2
-    return [f"{text!r} gives {printed}, and not {wanted}" for printed in (modelled(arguments, text), ran(program, arguments, text)) if printed != wanted]
+    both = modelled(arguments, text), ran(program, arguments, text)
+    return [f"{text!r} gives {printed}, and not {wanted}" for printed in both if printed != wanted]
 
 
 def texts(program):
@@ -205,20 +236,19 @@ def texts(program):
     plain = f"{HEADER}\n0,1,60\n{2**62 - 1},128,65535\n"
     zeros = f"{HEADER}\n{'0' * 20},{'1'.zfill(20)},{'60'.zfill(20)}\n{2**62 - 1},128,65535\n"
     quoted = "".join(",".join(f'"{field}"' for field in line.split(",")) + "\n" for line in plain.splitlines())
+    others = [plain.replace("\n", end) for end in ("\r\n", "\r", "\n\n")] + [plain.rstrip(), "\ufeff" + plain, zeros, quoted]
     wanted = same(program, ["--processors", "2"], plain)
     same(program, ["--processors", "2"], f"{HEADER}\n")
-    return [f"{text!r} gives {printed}" for text in (plain.rstrip(), plain.replace("\n", "\r\n"), plain.replace("\n", "\r"),
-                                                    plain.replace("\n", "\n\n"), "\ufeff" + plain, zeros, quoted)
-            if (printed := ran(program, ["--processors", "2"], text)) != (wanted, "", 0)]
+    return [f"{text!r} gives {printed}" for text in others if (printed := ran(program, ["--processors", "2"], text)) != (wanted, "", 0)]
 
 
 def options(program):
     """Options that are refused, before anything is read, and the ends of each range, which aren't."""
     wrong = []
-    refused = [["-h"], ["--"], ["-"], ["x"], [""], ["--budget"], ["--budget="], ["--budget=x"], ["--budget", "+1"], ["--budget", " 1"], ["--budg", "1"],
-               ["-budget", "1"], ["--budget", "1", "--budget", "1"], ["--budget=1", "--budget", "2"], ["--mode", "serial"], ["--budget", "1", "2"],
-               ["--budget", "--weight"], ["--budget", "1.0"], [b"--budget\xff=1"], ["--budget", b"\xff"], ["--slice", "1"], ["--longest", "1"],
-               ["--threaded"], ["--rx_nsecs", "1"]]
+    refused = [["-h"], ["--"], ["-"], ["x"], [""], ["--budget"], ["--budget="], ["--budget=x"], ["--budget", "+1"], ["--budget", " 1"],
+               ["--budg", "1"], ["-budget", "1"], ["--budget", "1", "--budget", "1"], ["--budget=1", "--budget", "2"], ["--mode", "serial"],
+               ["--budget", "1", "2"], ["--budget", "--weight"], ["--budget", "1.0"], [b"--budget\xff=1"], ["--budget", b"\xff"],
+               ["--slice", "1"], ["--longest", "1"], ["--threaded"], ["--rx_nsecs", "1"]]
     taken = []
     for name, (low, high, _) in OPTIONS.items():
         refused += [[f"--{name}", str(high + 1)], [f"--{name}={'1'.zfill(11)}"], [f"--{name}", "99999999999999999999"]]
@@ -244,7 +274,8 @@ def ends(program):
     if (done.stdout, done.stderr, done.returncode) != ("", "arrivals fault 10 ReadFailed\n", 2):
         wrong.append(f"a reader that fails: {done}")
     with open("/dev/full", "wb") as full:
-        done = subprocess.run(shlex.split(program), input=text_of([(0, 1, 60)]), stdout=full, stderr=subprocess.PIPE, text=True, check=False)
+        done = subprocess.run(shlex.split(program), input=text_of([(0, 1, 60)]), stdout=full, stderr=subprocess.PIPE, text=True,
+                              check=False)
     if (done.stderr, done.returncode) != ("output fault 15 OutputFailed\n", 4):
         wrong.append(f"a writer that fails: {done}")
     return wrong
@@ -259,8 +290,8 @@ def poisson(rate, length, seed):
 
 
 def queue(program):
-    """M/D/1: packets of a Poisson process, each polled in a run of its own, which alone takes time. A packet has left when it is
-    delivered, on average its cost c and r c / (2 (1 - r)) behind its arrival, at load r (Pollaczek and Khinchine)."""
+    """M/D/1: packets of a Poisson process, each polled in a run of its own, and nothing else takes time. A packet has left when it is
+    delivered, on average its cost c and r c / (2 (1 - r)) after its arrival, at load r (Pollaczek and Khinchine)."""
     wrong, cost = [], 1000
     given = {"budget": 1, "weight": 1, "interrupt": 0, "poll": 0, "packet": cost, "use": 0, "ring": 65536, "socket": 65536}
     for load in (0.3, 0.6, 0.8):
@@ -283,7 +314,10 @@ def livelock(program):
 
     def used_by(text, **given):
         out, _, status = ran(program, [f"--{name.replace('_', '-')}={value}" for name, value in given.items()], text)
-        return values(out.splitlines()[-1].removeprefix("total "))["used"] if status == 0 else wrong.append(f"{given}: status {status}") or 0
+        if status != 0:
+            wrong.append(f"{given}: status {status}")
+            return 0
+        return values(out.splitlines()[-1].removeprefix("total "))["used"]
 
     if used_by(slow, budget=0) < packets:
         wrong.append("at 100000 packets a second interrupts without polling suffice")
@@ -291,7 +325,7 @@ def livelock(program):
         used[budget] = used_by(rows, budget=budget)
     print("used at 400000 packets a second, by budget:", used)
     if any(count > packets // 100 for count in used.values()):
-        wrong.append("hardly any is used, by no budget")
+        wrong.append("no budget leaves more than 1 % to the application")
     for period in (200_000, 400_000, 800_000):
         count, theory = used_by(rows, rx_nsecs=period), packets * (period - 4 * 5000 - period * 2 // 5) / (period * 2 // 5 * 2)
         print(f"used with an interrupt each {period // 1000} us: {count}, by theory {theory:.0f}")
@@ -302,17 +336,18 @@ def livelock(program):
 
 # ---- what Linux did
 
-# Recordings as ftrace's text, whose arrivals are known to a microsecond and whose costs are fitted; and traces, known to a millisecond, which
-# take the costs of the second of them. Each with its budget. No card interrupted, and nobody used what was received.
-RECORDED = (("tests/tools/soft-tcp", 300), ("tests/tools/soft-gso-23", 23), ("examples/linux-veth-bursts", 300), ("examples/linux-veth-small-budget", 64))
+# Recordings as ftrace's text, with arrivals to a microsecond and costs that are fitted; and traces, with arrivals to a millisecond, which
+# take the costs of the second recording. Each with its budget. No card interrupted, and no application used what was received.
+RECORDED = (("tests/tools/soft-tcp", 300), ("tests/tools/soft-gso-23", 23), ("examples/linux-veth-bursts", 300),
+            ("examples/linux-veth-small-budget", 64))
 
 
-def made_by(tool, *words):
-    return subprocess.run([sys.executable, "-BES", TOP / "tools" / tool, *words], capture_output=True, text=True, check=True).stdout
+def made_by(tool, *arguments):
+    return subprocess.run([sys.executable, "-BES", TOP / "tools" / tool, *arguments], capture_output=True, text=True, check=True).stdout
 
 
 def recorded_arrivals(name, folder):
-    """The arrivals of a recording, and the words for its costs where they are known."""
+    """The arrivals of a recording, and the options for its costs if they are known."""
     if not (text := TOP / f"{name}.txt").exists():
         rows = (line.split(",") for line in (TOP / f"{name}.csv").read_text(encoding="ascii").splitlines())
         rows = sorted((int(row[0]) * 10**6, row[1], row[3]) for row in rows if row[2] == "rx")
@@ -323,9 +358,9 @@ def recorded_arrivals(name, folder):
 
 
 def recorded(program):
-    """Runs and squeezes beside those that Linux made, with the difference: costs vary from poll to poll, a sender that shares the processor
-    waits for the runs, which arrivals don't, and the recordings don't tell which processor a packet came to. All packets are polled, and runs
-    and squeezes are no more than three times apart."""
+    """Compares runs and squeezes with those that Linux made, and prints the differences: costs vary from poll to poll, a sender that shares
+    the processor waits for the runs, which arrivals don't, and the recordings don't say which processor a packet came to. All packets are
+    polled, and runs and squeezes differ by a factor of at most three."""
     wrong, costs = [], []
     for name, budget in RECORDED:
         with tempfile.TemporaryDirectory() as folder:
@@ -334,32 +369,33 @@ def recorded(program):
         out, _, status = ran(program, ["--budget", str(budget), "--interrupt", "0", "--use", "0", *costs], text)
         if status != 0:
             return [*wrong, f"{name}: status {status}"]
-        told = values(next(line for line in out.splitlines() if line.startswith("processor")))
+        counts = values(next(line for line in out.splitlines() if line.startswith("processor")))
         work = [int(line.split()[3]) for line in (TOP / f"{name}.work").read_text(encoding="ascii").splitlines()]
         theirs = {"runs": len(work), "squeezed": sum(each >= budget for each in work)}
         print(f"{name} at a budget of {budget}, {' '.join(costs)}: " + ", ".join(
-            f"{each} {told[each]}, recorded {theirs[each]} ({told[each] - theirs[each]:+})" for each in theirs))
-        if told["work"] != text.count("\n") - 1:
-            wrong.append(f"{name}: {told['work']} packets of {text.count(chr(10)) - 1} are polled")
-        wrong += [f"{name}: {each} {told[each]}, recorded {theirs[each]}" for each in theirs
-                  if theirs[each] and not theirs[each] <= 3 * told[each] <= 9 * theirs[each]]
+            f"{each} {counts[each]}, recorded {theirs[each]} ({counts[each] - theirs[each]:+})" for each in theirs))
+        if counts["work"] != text.count("\n") - 1:
+            wrong.append(f"{name}: {counts['work']} packets of {text.count(chr(10)) - 1} are polled")
+        wrong += [f"{name}: {each} {counts[each]}, recorded {theirs[each]}" for each in theirs
+                  if theirs[each] and not theirs[each] <= 3 * counts[each] <= 9 * theirs[each]]
     return wrong
 
 
 def simulated(report, waited):
-    """A report of the machine tells what a simulation tells of the same arrivals, which has each wait in place of their percentiles."""
-    def told(line):
-        counts, sign, waits = line.partition(" waits")
-        return f"{counts} {machine_model.told_waits(list(map(int, waits.split())))}" if sign else line
+    """Compares a report of the machine with that of a simulation of the same arrivals, which has each wait in place of their percentiles,
+    and no total."""
+    def with_percentiles(line):
+        counts, sign, waits = line.rstrip("\n").partition(" waits")
+        return f"{counts} {machine_model.wait_fields(list(map(int, waits.split())))}" if sign else counts
 
     with open(report, encoding="ascii") as mine, open(waited, encoding="ascii") as theirs:
-        lines = [(line.rstrip("\n"), told(other.rstrip("\n"))) for line, other in itertools.zip_longest(mine, theirs, fillvalue="")]
-    return [f"{line}\n    the simulation: {other}" for line, other in lines[:-1] if line != other] + [f"{other}: and no total" for line, other in lines[-1:]
-                                                                                                   if other or not line.startswith("total ")]
+        lines = [(line.rstrip("\n"), with_percentiles(other)) for line, other in itertools.zip_longest(mine, theirs, fillvalue="")]
+    wrong = [f"{line}\n    the simulation: {other}" for line, other in lines[:-1] if line != other]
+    return wrong + [f"{other}: and no total" for line, other in lines[-1:] if other or not line.startswith("total ")]
 
 
-CHECKS = {"examples": examples, "random": random_arrivals, "faults": faults, "texts": texts, "options": options, "ends": ends, "queue": queue,
-          "livelock": livelock, "recorded": recorded, "simulated": simulated}
+CHECKS = {"examples": examples, "random": random_arrivals, "one_queue": one_queue, "faults": faults, "texts": texts,
+          "options": options, "ends": ends, "queue": queue, "livelock": livelock, "recorded": recorded, "simulated": simulated}
 
 if __name__ == "__main__":
     found = CHECKS[sys.argv[1]](*sys.argv[2:])

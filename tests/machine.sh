@@ -32,6 +32,7 @@ fi
 [ -n "${MACHINE:-}" ] || check 'napi_machine is built' "$top/scripts/build.sh" napi_machine
 check 'it prints the reports worked out by hand' of_model examples "$program"
 check 'it prints the bytes of the model' of_model random "$program" 2 1000
+check 'with one queue no budget changes more than runs and squeezes' of_model one_queue "$program"
 check 'its faults' of_model faults "$program"
 check 'its texts' of_model texts "$program"
 check 'its options' of_model options "$program"

@@ -18,7 +18,9 @@ OPTIONS = {
     "budget": (0, 65535, 300), "weight": (1, 64, 64), "window": (1, 65535, 1024), "time-limit": (1, LONGEST, 8000000),
     "rx-nsecs": (0, LONGEST, 0), "rx-frames": (0, 65535, 0), "defer-hard-irqs": (0, 65535, 0), "gro-flush-timeout": (0, LONGEST, 0),
     "threaded": (0, 1, 0), "apart": (0, 1, 0), "app-wake": (0, LONGEST, 0),
-    "interrupt": (0, LONGEST, 4000), "poll": (0, LONGEST, 1000), "packet": (0, LONGEST, 1000), "use": (0, LONGEST, 2000), "wake": (0, LONGEST, 0)}
+    "interrupt": (0, LONGEST, 4000), "poll": (0, LONGEST, 1000), "packet": (0, LONGEST, 1000), "use": (0, LONGEST, 2000),
+    "wake": (0, LONGEST, 0)}
+COUNTS = "interrupts", "timers", "runs", "polls", "work", "squeezed", "late", "refused"  # of a processor
 APPLICATION = "application"  # among the tasks, beside the numbers of devices
 
 
@@ -95,7 +97,7 @@ class Processor:
     rest: Optional[tuple] = None  # of an interrupted use: when its packet arrived, and the time left
     tasks: deque = field(default_factory=deque)  # with --threaded: what is runnable
     application: Application = field(default_factory=Application)
-    counts: dict = field(default_factory=lambda: dict.fromkeys(("interrupts", "timers", "runs", "polls", "work", "squeezed", "late", "refused"), 0))
+    counts: dict = field(default_factory=lambda: dict.fromkeys(COUNTS, 0))
     times: dict = field(default_factory=lambda: dict.fromkeys(("interrupt", "poll", "use"), 0))
     waits: list = field(default_factory=list)  # of the packets used
 

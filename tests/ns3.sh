@@ -1,7 +1,7 @@
 #!/usr/bin/env bash
 # tests/ns3.sh: the simulation of examples/ns3. This library's queue limit gives the numbers of ns-3's own, call by call; each packet
-# is counted once; runs keep their budget; napi_machine (MACHINE=FILE: another build) tells the same of the same arrivals. Where ns-3 isn't installed it says so, and passes over it. The last line is
-# `N passed, M failed`.
+# is counted once; runs keep their budget; the plain program of the bench and napi_machine (MACHINE=FILE: another build) report the same of
+# the same arrivals. If ns-3 isn't installed it says so, and passes over it. The last line is `N passed, M failed`.
 set -uo pipefail
 unset CDPATH
 top=$(dirname "$(dirname "$(readlink -f "$0")")")
@@ -55,43 +55,61 @@ done
 
 # ---- what was simulated, by the names of its columns
 
-# rows CONDITION: there are twelve rows, of four budgets and three loads, and it holds of each.
+# rows CONDITION: there are fifteen rows, of five settings and three loads, and it holds of each.
 rows() {
     awk "NR == 1 { for (i = 1; i <= NF; i++) at[\$i] = i; next } function of(name) { return \$at[name] } { n++; if (!($1)) { print; wrong = 1 } }
-        END { exit wrong || n != 12 }" "$scratch/bottleneck.txt"
+        END { exit wrong || n != 15 }" "$scratch/bottleneck.txt"
 }
 check 'what was sent came or was dropped by the queue disc' rows 'of("sent") > 0 && of("sent") == of("arrived") + of("disc_full")'
 check 'what came was used or dropped once' rows 'of("used") > 0 && of("arrived") == of("ring_full") + of("socket_full") + of("used")'
 check 'no run gave more than budget and weight' rows 'of("budget") == 0 ? of("most") == 0 : of("most") < of("budget") + 64'
 check 'a squeezed run is a run' rows 'of("late") <= of("squeezed") && of("squeezed") <= of("runs") && of("runs") <= of("polls") && (of("budget") == 0) == (of("runs") == 0)'
 check 'shares of the processor are at most all of it' rows 'of("interrupt%") + of("poll%") + of("use%") <= 100.2'
-check 'the table has a row for each' [ "$(awk 'NR > 1 && NF == 12' "$scratch/table" | wc -l)" = 12 ]
+check 'the table has a row for each' [ "$(awk 'NR > 1 && /^ *(none|[0-9]+)  / && NF >= 13' "$scratch/table" | wc -l)" = 15 ]
 
-used() { awk -v budget="$1" 'NR == 1 { for (i = 1; i <= NF; i++) at[$i] = i; next } $1 == budget && $2 == 400000 { print $at["used"] }' "$scratch/bottleneck.txt"; }
-check 'at 400000 packets a second a smaller budget leaves more to the application' \
-    [ "$(used 16)" -gt "$(used 64)" -a "$(used 64)" -gt "$(used 300)" -a "$(used 300)" -gt "$(used 0)" ]
+# Sent, dropped, used, latency, shares and interrupts are columns 5 to 17.
+check 'budgets of 16, 64 and 300 differ only in their runs' awk 'NR > 1 && $1 > 0 && $2 == 0 {
+        row = ""; for (i = 5; i <= 17; i++) row = row " " $i
+        if ($4 in before && before[$4] != row) { print; wrong = 1 }
+        before[$4] = row; n++ }
+    END { exit wrong || n != 9 }' "$scratch/bottleneck.txt"
+
+# used BUDGET DEFER: of 400000 packets a second.
+used() {
+    awk -v budget="$1" -v defer="$2" 'NR == 1 { for (i = 1; i <= NF; i++) at[$i] = i; next }
+        $1 == budget && $2 == defer && $at["load"] == 400000 { print $at["used"] }' "$scratch/bottleneck.txt"
+}
+check 'at 400000 packets a second deferred interrupts leave more to the application, and polling more than interrupts without it' \
+    [ "$(used 300 2)" -gt "$((10 * $(used 300 0)))" -a "$(used 300 0)" -gt "$((4 * $(used 0 0)))" ]
 
 # ---- the machine of napi_machine, on the same arrivals
 
-# machine BUDGET LOAD: its counts and waits exactly.
+# machine PROGRAM BUDGET DEFER LOAD: its counts and waits exactly, of what was simulated.
 machine() {
-    "$scratch/bottleneck" --budget="$1" --load="$2" --arrivals="$scratch/arrivals" --report="$scratch/report" > "$scratch/again" &&
-        timeout 300 "$machine" --budget "$1" --window 65535 < "$scratch/arrivals" > "$scratch/machine.report" &&
+    local options=(--defer-hard-irqs "$3" --gro-flush-timeout 50000)
+    "$scratch/bottleneck" --budget="$2" --defer="$3" --flush=50000 --load="$4" --arrivals="$scratch/arrivals" --report="$scratch/report" \
+        > "$scratch/again" &&
+        timeout 300 "$1" --budget "$2" --window 65535 "${options[@]}" < "$scratch/arrivals" > "$scratch/machine.report" &&
         python3 -B "$top/tests/machine.py" simulated "$scratch/machine.report" "$scratch/report"
 }
+programs=("$scratch/plain")
+check 'the plain program of the bench is compiled' g++ -std=c++17 -O2 "$top/bench/machine.cc" -o "$scratch/plain"
 machine=${MACHINE:-$top/crates/napi_machine/out/napi_machine}
 if [ -n "${MACHINE:-}" ]; then
-    is_there=yes
+    programs+=("$machine")
 elif [ -d "$top/crates/napi_machine" ]; then
     check 'napi_machine is built' "$top/scripts/build.sh" napi_machine
-    is_there=yes
+    programs+=("$machine")
 else
-    is_there=
-    echo 'ns3: passed over: napi_machine: its crate does not stand yet'
+    echo 'ns3: passed over: napi_machine: its crate is not there'
 fi
-for budget in ${is_there:+0 16 64 300}; do
-    for load in 100000 250000 400000; do
-        check "napi_machine tells what was simulated, at a budget of $budget and $load packets a second" machine "$budget" "$load"
+for program in "${programs[@]}"; do
+    for setting in '0 0' '16 0' '64 0' '300 0' '300 2' '16 1'; do
+        read -r budget defer <<< "$setting"
+        for load in 100000 250000 400000; do
+            check "${program##*/} reports what was simulated, at a budget of $budget, $defer deferrals and $load packets a second" \
+                machine "$program" "$budget" "$defer" "$load"
+        done
     done
 done
 

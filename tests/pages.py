@@ -71,9 +71,9 @@ def source_words():
 
 def names(page):
     """Words in code that no source has, nor the kernel or a program outside: a name that was changed there, or never was."""
-    # That page names the kernel's functions, rule by rule.
+    # Those pages name the kernel's functions, rule by rule.
     known = source_words() | OUTSIDE
-    for code in re.findall(r"`([^`\n]+)`", "" if page.name == "RULES.md" else page.read_text()):
+    for code in re.findall(r"`([^`\n]+)`", "" if page.name in ("RULES.md", "TIMING.md") else page.read_text()):
         for word in re.findall(r"[A-Za-z_]\w+", "" if re.match(r"(rt|git) ", code) else code):
             if word not in known and not (word.endswith("_") and any(name.startswith(word) for name in known)):
                 yield f"no source has {word}"

@@ -54,7 +54,8 @@ static Ptr<QueueLimits> MakeLimits(const std::string &whose) {
 }
 
 /* A sender with its link to a card of the receiver. */
-static void Connect(Sender &sender, uint32_t number, Ptr<Node> receiver, Receiver *processor, Ptr<QueueLimits> limits, std::ostream *calls) {
+static void Connect(Sender &sender, uint32_t number, Ptr<Node> receiver, Receiver *processor, Ptr<QueueLimits> limits,
+                    std::ostream *calls) {
     NodeContainer node(1);
     InternetStackHelper().Install(node);
     PointToPointHelper link;
@@ -81,8 +82,8 @@ static double Microseconds(std::vector<int64_t> &latencies, size_t percent) {
     return static_cast<double>(latencies[(latencies.size() - 1) * percent / 100]) / 1000;
 }
 
-/* Shares are of the time until the last packet was used or dropped. */
-static void Print(uint32_t budget, uint32_t load, const std::vector<Sender> &senders, Counts &counts, Time length) {
+/* Shares are of the time until nothing more happens. */
+static void Print(const Settings &settings, uint32_t load, const std::vector<Sender> &senders, Counts &counts, Time length) {
     uint64_t sent = 0, dropped = 0, stops = 0;
     int64_t limit = 0;
     for (const Sender &sender : senders) {
@@ -92,40 +93,46 @@ static void Print(uint32_t budget, uint32_t load, const std::vector<Sender> &sen
         limit = std::max(limit, sender.limits->Limit());
     }
     const auto share = [length](Time sum) { return 100 * sum.GetSeconds() / length.GetSeconds(); };
-    std::printf("%u %u %lu %lu %lu %lu %lu %lu %.4f %.1f %.1f %.1f %.1f %.1f %lu %lu %lu %lu %lu %lu %lu %ld\n", budget, load, sent, dropped, counts.arrived,
-        counts.ring_full, counts.socket_full, counts.used, length.GetSeconds(), Microseconds(counts.latencies, 50), Microseconds(counts.latencies, 99),
-        share(counts.interrupting), share(counts.polling), share(counts.using_), counts.interrupts, counts.runs, counts.polls, counts.squeezed,
-        counts.late, counts.most, stops, limit);
+    std::printf("%u %u %ld %u %lu %lu %lu %lu %lu %lu %.4f %.1f %.1f %.1f %.1f %.1f %lu %lu %lu %lu %lu %lu %lu %lu %ld\n", settings.budget,
+        settings.defer_hard_irqs, settings.gro_flush_timeout.GetNanoSeconds(), load, sent, dropped, counts.arrived, counts.ring_full,
+        counts.socket_full, counts.used, length.GetSeconds(), Microseconds(counts.latencies, 50), Microseconds(counts.latencies, 99),
+        share(counts.interrupting), share(counts.polling), share(counts.using_), counts.interrupts, counts.timers, counts.runs, counts.polls,
+        counts.squeezed, counts.late, counts.most, stops, limit);
 }
 
 int main(int argc, char **argv) {
-    uint32_t budget = 64, load = 100000;
+    uint32_t budget = 64, load = 100000, defer = 0, flush = 0;
     double seconds = 0.2;
     bool head = false;
     std::string whose = "fintaqush", file, arrivals, report;
-    CommandLine words("A receiver that polls under a budget, and senders under a queue limit.");
-    words.AddValue("budget", "packets of a polling run; 0: interrupts without polling", budget);
-    words.AddValue("load", "packets a second, of all senders", load);
-    words.AddValue("limits", "whose queue limit: fintaqush or ns3", whose);
-    words.AddValue("seconds", "simulated time in which packets are sent", seconds);
-    words.AddValue("calls", "a file for the calls on the queue limits, each with what is available then", file);
-    words.AddValue("arrivals", "a file for the arrivals at the cards, as napi_machine reads them", arrivals);
-    words.AddValue("report", "a file for what napi_machine would report, with each wait", report);
-    words.AddValue("head", "print the names of the columns, and end", head);
-    words.Parse(argc, argv);
+    CommandLine options("A receiver that polls under a budget, and senders under a queue limit.");
+    options.AddValue("budget", "packets of a polling run; 0: interrupts without polling", budget);
+    options.AddValue("defer", "napi_defer_hard_irqs: polls without a packet before a card may interrupt again", defer);
+    options.AddValue("flush", "gro_flush_timeout: ns until the next such poll", flush);
+    options.AddValue("load", "packets a second, of all senders", load);
+    options.AddValue("limits", "whose queue limit: fintaqush or ns3", whose);
+    options.AddValue("seconds", "simulated time in which packets are sent", seconds);
+    options.AddValue("calls", "a file for the calls on the queue limits, each with what is available then", file);
+    options.AddValue("arrivals", "a file for the arrivals at the cards, as napi_machine reads them", arrivals);
+    options.AddValue("report", "a file for what napi_machine would report, with each wait", report);
+    options.AddValue("head", "print the names of the columns, and end", head);
+    options.Parse(argc, argv);
     if (head) {
-        std::puts("budget load sent disc_full arrived ring_full socket_full used seconds p50_us p99_us interrupt% poll% use% interrupts runs polls squeezed late most stops limit");
+        std::puts("budget defer flush load sent disc_full arrived ring_full socket_full used seconds p50_us p99_us interrupt% poll% use% "
+                  "interrupts timers runs polls squeezed late most stops limit");
         return 0;
     }
-    if (budget > 65535 || load == 0 || (whose != "fintaqush" && whose != "ns3")) {
-        std::cerr << "bottleneck: a budget of 0 to 65535, a load from 1, limits of fintaqush or ns3\n";
+    if (budget > 65535 || defer > 65535 || flush > 1000000000 || load == 0 || (whose != "fintaqush" && whose != "ns3")) {
+        std::cerr << "bottleneck: a budget and a defer of 0 to 65535, a flush of 0 to 1000000000, a load from 1, limits of fintaqush or "
+                     "ns3\n";
         return 64;
     }
     std::map<std::string, std::ofstream> files;
     for (const std::string &name : {file, arrivals, report})
         if (!name.empty()) files[name].open(name);
     const auto opened = [&files](const std::string &name) -> std::ostream * { return name.empty() ? nullptr : &files[name]; };
-    Receiver receiver(budget, SENDERS, opened(arrivals));
+    const Settings settings{budget, defer, NanoSeconds(flush)};
+    Receiver receiver(settings, SENDERS, opened(arrivals));
     Ptr<Node> node = CreateObject<Node>();
     std::vector<Sender> senders(SENDERS);
     const Time length = Seconds(seconds);
@@ -138,7 +145,7 @@ int main(int argc, char **argv) {
         Simulator::Schedule(Seconds(senders[i].gap->GetValue()), &Burst, &senders[i]);
     }
     Simulator::Run();
-    Print(budget, load, senders, receiver.counts, Simulator::Now());
+    Print(settings, load, senders, receiver.counts, Simulator::Now());
     if (!report.empty()) receiver.Print(files[report]);
     for (auto &[name, out] : files) {
         out.close();

@@ -1,9 +1,10 @@
 /* A receiver with one processor: its cards put packets into the library's rings and interrupt; a softirq polls them by the
- * library's driven run; an application uses what was delivered. With a budget of 0 each packet interrupts and nothing is polled.
+ * library's driven runs; an application uses what was delivered. With a budget of 0 each packet interrupts and nothing is polled. With
+ * deferral (napi_defer_hard_irqs, gro_flush_timeout) a card stays masked after a poll, and a timer asks for the next one.
  *
- * Interrupts go before a run's next poll, and a run before the application; but behind a run that left packets behind the
- * application has a slice, as ksoftirqd and an application take turns. Nothing is preempted. What ends at a moment ends before a packet
- * of that moment comes. This is the machine of napi_machine, which gives the same counts and waits for the same arrivals. */
+ * Softirqs run before tasks, and an interrupt goes before a run's next poll. A poll takes packet after packet, also those that arrive
+ * meanwhile. An interrupt interrupts the application, and nothing else. What ends at a time ends before timers expire, and both before a
+ * packet of that time arrives. This is the machine of napi_machine, which reports the same counts and waits for the same arrivals. */
 #ifndef FINTAQUSH_NS3_RECEIVER_H
 #define FINTAQUSH_NS3_RECEIVER_H
 
@@ -11,6 +12,7 @@
 #include <algorithm>
 #include <cstring>
 #include <deque>
+#include <functional>
 #include <ns3/net-device.h>
 #include <ns3/packet.h>
 #include <ostream>
@@ -20,30 +22,39 @@ enum : uint32_t { CONTROLLER = 0, CARD = 1, SOFTIRQ = 2 };
 enum : uint32_t { RING = 256, WEIGHT = 64, WINDOW = 65535, SOCKET = 512 };
 
 /* What each piece of work takes: made up, of the order of a small machine's. */
-static const ns3::Time INTERRUPT = ns3::MicroSeconds(4), POLL = ns3::MicroSeconds(1), PACKET = ns3::MicroSeconds(1), USE = ns3::MicroSeconds(2);
-/* The application's slice, and how long a run lasts at most (netdev_budget_usecs). */
-static const ns3::Time SLICE = ns3::MicroSeconds(100), LONGEST = ns3::MilliSeconds(2);
+static const ns3::Time INTERRUPT = ns3::MicroSeconds(4), POLL = ns3::MicroSeconds(1);
+static const ns3::Time PACKET = ns3::MicroSeconds(1), USE = ns3::MicroSeconds(2);
+/* How long a run lasts at most (netdev_budget_usecs). */
+static const ns3::Time TIME_LIMIT = ns3::MilliSeconds(8);
+
+struct Settings {
+    uint32_t budget;
+    uint32_t defer_hard_irqs;
+    ns3::Time gro_flush_timeout;
+};
 
 struct Card {
     fq_handle ring = FQ_NONE;
     fq_napi napi = fq_napi_new(CONTROLLER);
-    std::vector<ns3::Ptr<const ns3::Packet>> slots{RING + WEIGHT + 1};
-    std::vector<int64_t> came = std::vector<int64_t>(RING + WEIGHT + 1); /* in ns */
+    std::vector<ns3::Ptr<const ns3::Packet>> slots{RING + 1}; /* of the ring, and of the packet that is polled */
+    std::vector<int64_t> came = std::vector<int64_t>(RING + 1); /* in ns */
     uint64_t next = 0, arrived = 0, dropped = 0, interrupts = 0, polls = 0;
     std::vector<int64_t> waits; /* until each was delivered */
     uint32_t waiting = 0; /* packets in its ring */
-    bool raised = false, masked = false;
+    uint32_t deferrals = 0; /* that are left */
+    bool raised = false, masked = false, fired = false;
 };
 
 struct Counts {
-    uint64_t arrived = 0, ring_full = 0, socket_full = 0, used = 0, interrupts = 0, runs = 0, polls = 0, work = 0, squeezed = 0, late = 0, most = 0;
+    uint64_t arrived = 0, ring_full = 0, socket_full = 0, used = 0, interrupts = 0, timers = 0;
+    uint64_t runs = 0, polls = 0, work = 0, squeezed = 0, late = 0, most = 0; /* most: of a run's work */
     ns3::Time interrupting, polling, using_, end;
     std::vector<int64_t> latencies, waits; /* from the sender's socket, and from the card, to the end of its use, in ns */
 };
 
 class Receiver {
   public:
-    Receiver(uint32_t budget, size_t cards, std::ostream *arrivals) : budget(budget), cards(cards), arrivals(arrivals) {
+    Receiver(Settings settings, size_t cards, std::ostream *arrivals) : settings(settings), cards(cards), arrivals(arrivals) {
         if (arrivals) *arrivals << "moment,device,bytes\n";
         must("list", fq_list_new(&list));
         for (Card &card : this->cards) {
@@ -57,9 +68,11 @@ class Receiver {
         for (Card &card : cards) must("free", fq_free(&card.ring));
     }
 
-    /* A packet comes to a card, behind what ends at this moment. */
+    /* A packet comes to a card, after the work that ends and the timers that expire at this time. */
     bool Arrive(size_t at, ns3::Ptr<const ns3::Packet> packet) {
-        ns3::Simulator::ScheduleNow([this, at, copy = ns3::Ptr<const ns3::Packet>(packet->Copy())] { Put(at, copy); });
+        ns3::Simulator::ScheduleNow([this, at, copy = ns3::Ptr<const ns3::Packet>(packet->Copy())] {
+            ns3::Simulator::ScheduleNow([this, at, copy] { Put(at, copy); });
+        });
         return true;
     }
 
@@ -72,12 +85,13 @@ class Receiver {
         for (size_t i = 0; i < cards.size(); i++) {
             const Card &card = cards[i];
             if (!card.arrived) continue;
-            out << "device " << i + 1 << " arrived " << card.arrived << " dropped " << card.dropped << " polled " << card.waits.size() << " interrupts "
-                << card.interrupts << " polls " << card.polls << " waits";
+            out << "device " << i + 1 << " arrived " << card.arrived << " dropped " << card.dropped << " polled " << card.waits.size()
+                << " interrupts " << card.interrupts << " polls " << card.polls << " waits";
             list(card.waits);
         }
-        out << "processor 0 interrupts " << counts.interrupts << " runs " << counts.runs << " polls " << counts.polls << " work " << counts.work
-            << " squeezed " << counts.squeezed << " late " << counts.late << " refused " << counts.socket_full << " used " << counts.used << " waits";
+        out << "processor 0 interrupts " << counts.interrupts << " timers " << counts.timers << " runs " << counts.runs << " polls "
+            << counts.polls << " work " << counts.work << " squeezed " << counts.squeezed << " late " << counts.late << " refused "
+            << counts.socket_full << " used " << counts.used << " waits";
         list(counts.waits);
         const int64_t idle = (counts.end - counts.interrupting - counts.polling - counts.using_).GetNanoSeconds();
         out << "time 0 end " << counts.end.GetNanoSeconds() << " interrupt " << counts.interrupting.GetNanoSeconds() << " poll "
@@ -98,6 +112,7 @@ class Receiver {
         card.arrived++;
         const int64_t now = ns3::Simulator::Now().GetNanoSeconds();
         if (arrivals) *arrivals << now << ',' << at + 1 << ',' << packet->GetSize() << '\n';
+        if (!work) counts.end = ns3::Simulator::Now();
         const uint32_t said = fq_ring_put(&card.ring, card.next, packet->GetSize());
         if (said == FQ_FULL) {
             counts.ring_full++;
@@ -110,79 +125,125 @@ class Receiver {
         card.next = (card.next + 1) % card.slots.size();
         card.waiting++;
         card.raised |= !card.masked;
-        if (!busy) Work();
+        Disturb();
     }
 
-    /* The processor is free: it takes up what is next, and all that takes time. */
-    void Work() {
-        busy = true;
-        for (size_t i = 0; i < cards.size(); i++)
-            if (cards[i].raised) return Interrupt(i);
+    /* An idle processor begins, and a packet's use is interrupted if a card asks for it. */
+    void Disturb() {
+        const ns3::Time now = ns3::Simulator::Now();
+        if (!work) counts.end = now;
+        else if (work == &counts.using_ && std::any_of(cards.begin(), cards.end(), Asks)) {
+            work_end.Cancel();
+            rest = use_left - (now - began);
+            counts.using_ += now - began;
+            counts.end = now;
+        } else return;
+        TakeUp();
+    }
+
+    static bool Asks(const Card &card) { return card.raised || card.fired; }
+
+    /* The first work that there is. */
+    void TakeUp() {
+        work = nullptr;
+        const auto asking = std::find_if(cards.begin(), cards.end(), Asks);
+        if (asking != cards.end()) return Interrupt(*asking);
         if (running) return NextPoll();
-        if (slice.IsStrictlyPositive() && !socket.empty()) return Use();
-        slice = ns3::Time(0);
-        if (std::any_of(cards.begin(), cards.end(), [](const Card &card) { return card.masked; })) return BeginRun();
-        if (!socket.empty()) return Use();
-        busy = false;
+        uint32_t listed;
+        must("len", fq_list_len(&list, &listed));
+        if (listed) return BeginRun();
+        if (rest.IsStrictlyPositive()) return Use(rest);
+        if (socket.empty()) return;
+        in_use = socket.front();
+        socket.pop_front();
+        Use(USE);
     }
 
-    template <typename Then> void After(ns3::Time cost, ns3::Time &sum, Then then) {
-        sum += cost;
-        ns3::Simulator::Schedule(cost, [this, then] {
+    /* Work of this length, which counts in this sum; what is done at its end may begin more of it. */
+    void After(ns3::Time length, ns3::Time &sum, std::function<void()> then) {
+        work = &sum;
+        began = ns3::Simulator::Now();
+        work_end = ns3::Simulator::Schedule(length, [this, length, then] {
+            *work += length;
+            work = nullptr;
             counts.end = ns3::Simulator::Now();
             then();
-            Work();
+            if (!work) TakeUp();
         });
     }
 
-    void Interrupt(size_t at) {
-        Card &card = cards[at];
-        counts.interrupts++;
-        card.interrupts++;
-        card.raised = false;
-        if (budget == 0) return After(INTERRUPT + PACKET, counts.interrupting, [this, &card] {
-            Deliver(card, Take(card, 1));
-            card.raised = card.waiting > 0;
-        });
+    void Interrupt(Card &card) {
+        if (card.fired) {
+            card.fired = false;
+            counts.timers++;
+        } else {
+            card.raised = false;
+            counts.interrupts++;
+            card.interrupts++;
+            if (settings.budget == 0) return After(INTERRUPT + PACKET, counts.interrupting, [this, &card] {
+                Deliver(card, Take(card));
+                card.raised = card.waiting > 0;
+            });
+            card.masked = true;
+        }
         must("schedule", fq_napi_schedule(&card.napi, CARD), FQ_GRANTED);
         must("hand", fq_napi_hand(&card.napi, CARD, FQ_LIST));
-        must("push", fq_list_push(&list, static_cast<uint32_t>(at)));
-        card.masked = true;
+        must("push", fq_list_push(&list, static_cast<uint32_t>(&card - cards.data())));
         After(INTERRUPT, counts.interrupting, [] {});
     }
 
     void BeginRun() {
-        must("begin", fq_run_begin(&list, budget, WEIGHT, WINDOW));
+        must("begin", fq_run_begin(&list, settings.budget, WEIGHT, WINDOW));
         running = true;
-        began = ns3::Simulator::Now();
+        run_began = ns3::Simulator::Now();
         NextPoll();
     }
 
     void NextPoll() {
         uint32_t id;
-        if (ns3::Simulator::Now() - began >= LONGEST) return EndRun(true);
+        if (ns3::Simulator::Now() - run_began >= TIME_LIMIT) return EndRun(true);
         const uint32_t said = fq_run_next(&list, &id);
         if (said == FQ_DONE) return EndRun(false);
         must("next", said);
         must("take", fq_napi_take(&cards[id].napi, SOFTIRQ, FQ_LIST), FQ_TAKEN);
         cards[id].polls++;
-        const std::vector<uint64_t> packets = Take(cards[id], WEIGHT);
-        After(POLL + PACKET * static_cast<int64_t>(packets.size()), counts.polling, [this, id, packets] {
-            Deliver(cards[id], packets);
-            must("polled", fq_run_polled(&list, static_cast<uint32_t>(packets.size()), EndPoll(cards[id], packets.size())));
+        After(POLL, counts.polling, [this, id] { NextPacket(id, 0); });
+    }
+
+    /* Packet after packet, until the weight or an empty ring. */
+    void NextPacket(uint32_t id, uint32_t count) {
+        if (count == WEIGHT || !cards[id].waiting) return must("polled", fq_run_polled(&list, count, EndPoll(cards[id], count)));
+        After(PACKET, counts.polling, [this, id, count, number = Take(cards[id])] {
+            Deliver(cards[id], number);
+            NextPacket(id, count + 1);
         });
     }
 
-    /* napi_complete_done, or the whole weight: then it is polled again behind the others. */
-    fq_next EndPoll(Card &card, size_t count) {
+    /* napi_complete_done and the driver after it, or the whole weight: then it is polled again after the others. */
+    fq_next EndPoll(Card &card, uint32_t count) {
         if (count == WEIGHT) {
             must("hand", fq_napi_hand(&card.napi, SOFTIRQ, FQ_LIST));
             return FQ_NEXT_REPOLL;
         }
         must("complete", fq_napi_complete(&card.napi, SOFTIRQ), FQ_RELEASED);
-        card.masked = false;
-        card.raised = card.waiting > 0;
+        card.masked = IsDeferred(card, count);
         return FQ_NEXT_GONE;
+    }
+
+    /* Whether the card stays masked, and a timer asks for the next poll. */
+    bool IsDeferred(Card &card, uint32_t count) {
+        if (count) card.deferrals = settings.defer_hard_irqs;
+        if (!card.deferrals) return false;
+        card.deferrals--;
+        if (!settings.gro_flush_timeout.IsStrictlyPositive()) return false;
+        /* after the work that ends at that time */
+        ns3::Simulator::Schedule(settings.gro_flush_timeout, [this, &card] {
+            ns3::Simulator::ScheduleNow([this, &card] {
+                card.fired = true;
+                Disturb();
+            });
+        });
+        return true;
     }
 
     /* A run that time alone ended is late, and squeezed, as the kernel counts both. */
@@ -196,52 +257,50 @@ class Receiver {
         counts.squeezed += report.squeezed || is_over;
         counts.late += is_over && !report.squeezed;
         counts.most = std::max<uint64_t>(counts.most, report.work);
-        slice = SLICE;
-        Work();
+        TakeUp();
     }
 
-    void Use() {
-        const Waiting packet = socket.front();
-        socket.pop_front();
-        slice -= USE;
-        After(USE, counts.using_, [this, packet] {
+    /* The rest of the application's use of a packet, or the whole. */
+    void Use(ns3::Time length) {
+        rest = ns3::Time(0);
+        use_left = length;
+        After(length, counts.using_, [this] {
             const int64_t now = ns3::Simulator::Now().GetNanoSeconds();
             counts.used++;
-            counts.latencies.push_back(now - packet.born);
-            counts.waits.push_back(now - packet.came);
+            counts.latencies.push_back(now - in_use.born);
+            counts.waits.push_back(now - in_use.came);
         });
     }
 
-    std::vector<uint64_t> Take(Card &card, size_t most) {
-        fq_packet out[WEIGHT];
+    uint64_t Take(Card &card) {
+        fq_packet packet;
         size_t count;
-        must("poll", fq_ring_poll(&card.ring, most, out, WEIGHT, &count));
-        std::vector<uint64_t> numbers;
-        for (size_t i = 0; i < count; i++) numbers.push_back(out[i].number);
-        card.waiting -= static_cast<uint32_t>(count);
-        return numbers;
+        must("poll", fq_ring_poll(&card.ring, 1, &packet, 1, &count));
+        card.waiting--;
+        return packet.number;
     }
 
-    /* Into the application's socket: behind the headers of IP and UDP stands when the packet was sent. */
-    void Deliver(Card &card, const std::vector<uint64_t> &numbers) {
-        for (uint64_t number : numbers) {
-            uint8_t head[36];
-            int64_t born;
-            card.slots[number]->CopyData(head, sizeof head);
-            std::memcpy(&born, head + 28, sizeof born);
-            card.slots[number] = nullptr;
-            card.waits.push_back(ns3::Simulator::Now().GetNanoSeconds() - card.came[number]);
-            if (socket.size() == SOCKET) counts.socket_full++;
-            else socket.push_back({born, card.came[number]});
-        }
+    /* Into the application's socket: the time when the packet was sent follows the headers of IP and UDP. */
+    void Deliver(Card &card, uint64_t number) {
+        uint8_t head[36];
+        int64_t born;
+        card.slots[number]->CopyData(head, sizeof head);
+        std::memcpy(&born, head + 28, sizeof born);
+        card.slots[number] = nullptr;
+        card.waits.push_back(ns3::Simulator::Now().GetNanoSeconds() - card.came[number]);
+        if (socket.size() == SOCKET) counts.socket_full++;
+        else socket.push_back({born, card.came[number]});
     }
 
-    uint32_t budget;
+    Settings settings;
     std::vector<Card> cards;
     fq_handle list = FQ_NONE;
     std::ostream *arrivals;
     std::deque<Waiting> socket;
-    bool busy = false, running = false;
-    ns3::Time began, slice;
+    ns3::Time *work = nullptr; /* the sum that the work under way counts in */
+    ns3::EventId work_end;
+    ns3::Time began, run_began, use_left, rest; /* rest: of an interrupted use */
+    Waiting in_use{};
+    bool running = false;
 };
 #endif

@@ -1,7 +1,7 @@
 #!/usr/bin/env bash
 # examples/ns3/run.sh [FOLDER [LOAD ..]]: builds the example and runs it over the offered loads, in packets a second, with interrupts
-# alone and with budgets of 16, 64 and 300. Prints a table, and leaves in the folder (out/ns3 at the top) all columns as
-# bottleneck.txt and, where there is gnuplot, bottleneck.png. Status 69 if there is no ns-3.
+# without polling, with budgets of 16, 64 and 300, and with 300 and deferred interrupts. Prints a table, and leaves in the folder (out/ns3
+# at the top) all columns as bottleneck.txt and, if there is gnuplot, bottleneck.png. Status 69 if there is no ns-3.
 set -euo pipefail
 unset CDPATH
 here=$(dirname "$(readlink -f "${BASH_SOURCE[0]}")")
@@ -12,20 +12,24 @@ to=$(readlink -f "$to")
 [ $# -gt 0 ] || set -- 25000 50000 75000 100000 125000 150000 175000 200000 225000 250000 275000 300000 325000 350000 375000 400000
 "$here/build.sh" "$to"
 
+# Each a budget, napi_defer_hard_irqs, and gro_flush_timeout in ns.
+settings=('0 0 0' '16 0 0' '64 0 0' '300 0 0' '300 2 100000')
 "$to/bottleneck" --head=1 > "$to/bottleneck.new"
-for budget in 0 16 64 300; do
+for setting in "${settings[@]}"; do
+    read -r budget defer flush <<< "$setting"
     for load in "$@"; do
-        "$to/bottleneck" --budget="$budget" --load="$load"
+        "$to/bottleneck" --budget="$budget" --defer="$defer" --flush="$flush" --load="$load"
     done
 done >> "$to/bottleneck.new"
 mv "$to/bottleneck.new" "$to/bottleneck.txt"
 
 awk 'NR == 1 { for (i = 1; i <= NF; i++) at[$i] = i
-        print "budget  packets/s  used/s  dropped%  p50 ms  p99 ms  interrupts%  polls%  application%  squeezed runs"; next }
+        print "budget  deferral  packets/s  used/s  dropped%  p50 ms  p99 ms  interrupts%  polls%  application%  squeezed runs"; next }
     $at["load"] % 50000 == 0 { dropped = $at["disc_full"] + $at["ring_full"] + $at["socket_full"]
-        printf "%6s %10d %7d %9.1f %7.2f %7.2f %12.1f %7.1f %13.1f %14s\n", $at["budget"] == 0 ? "none" : $at["budget"], $at["load"],
-            $at["used"] / $at["seconds"], 100 * dropped / $at["sent"], $at["p50_us"] / 1000, $at["p99_us"] / 1000, $at["interrupt%"],
-            $at["poll%"], $at["use%"], $at["squeezed"] " of " $at["runs"] }' "$to/bottleneck.txt"
+        printf "%6s %9s %10d %7d %9.1f %7.2f %7.2f %12.1f %7.1f %13.1f %14s\n", $at["budget"] == 0 ? "none" : $at["budget"],
+            $at["defer"] == 0 ? "none" : $at["flush"] / 1000 " us", $at["load"], $at["used"] / $at["seconds"], 100 * dropped / $at["sent"],
+            $at["p50_us"] / 1000, $at["p99_us"] / 1000, $at["interrupt%"], $at["poll%"], $at["use%"],
+            $at["squeezed"] " of " $at["runs"] }' "$to/bottleneck.txt"
 
 command -v gnuplot > /dev/null || { echo 'run: no gnuplot, so no picture' >&2; exit 0; }
 gnuplot << END
@@ -38,23 +42,25 @@ set grid ytics lc '#dddddd' lt 1
 set xlabel 'offered load, thousand packets a second'
 set xrange [0:400]
 unset key
-budgets = '0 16 64 300'
-colours = '#888888 #1b9e77 #d95f02 #7570b3'
-name(b) = b eq '0' ? 'interrupts alone' : 'budget ' . b
+budgets = '0 16 300 300'
+deferrals = '0 0 0 2'
+names = '"interrupts without polling" "budget 16" "budget 300" "budget 300, deferral by 100 µs"'
+colours = '#888888 #9fdcc4 #d95f02 #7570b3'
+widths = '2 7 2 2'
 file = '$to/bottleneck.txt'
-drawn = 'with linespoints pt 7 ps 0.5 lw 2 lc rgb word(colours, i)'
-of(b, value) = \$1 == b ? value : NaN
+drawn = 'with linespoints pt 7 ps 0.5 lw word(widths, i) lc rgb word(colours, i)'
+of(i, value) = \$1 == word(budgets, i) && \$2 == word(deferrals, i) ? value : NaN
 set datafile missing NaN
 set title 'latency, 99th percentile, ms'
 set logscale y
-plot for [i = 1:4] file using (\$2 / 1000):(of(word(budgets, i), \$11 / 1000)) skip 1 @drawn
+plot for [i = 1:4] file using (\$4 / 1000):(of(i, \$13 / 1000)) skip 1 @drawn
 unset logscale
 set title 'dropped packets, %'
 set yrange [0:100]
 set key top left Left reverse samplen 1.5 font 'sans,9'
-plot for [i = 1:4] file using (\$2 / 1000):(of(word(budgets, i), 100.0 * (\$4 + \$6 + \$7) / \$3)) skip 1 @drawn \
-    title name(word(budgets, i))
+plot for [i = 1:4] file using (\$4 / 1000):(of(i, 100.0 * (\$6 + \$8 + \$9) / \$5)) skip 1 @drawn \
+    title word(names, i)
 unset key
 set title 'the processor''s time for the application, %'
-plot for [i = 1:4] file using (\$2 / 1000):(of(word(budgets, i), \$14)) skip 1 @drawn
+plot for [i = 1:4] file using (\$4 / 1000):(of(i, \$16)) skip 1 @drawn
 END
