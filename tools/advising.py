@@ -20,6 +20,7 @@ COALESCED = (0, 8_000, 25_000, 50_000, 100_000)  # ns
 LARGER = (1, 2, 4, 8, 16)
 NOT_MODELLED = ("GRO's merging of packets", "the scheduler's choice among tasks, and hypervisors", "busy polling", "RPS after a device's own polls",
                 "adaptive coalescing")
+COMM = 15  # characters of a task's name that the kernel keeps
 WRITE = 'echo "$3" > "/sys/class/net/$1/$2"'  # whose arguments are never a part of the command
 
 
@@ -93,6 +94,11 @@ def candidates(head, device, options, has_program):
 
 # ---- how it is set
 
+def thread_of(device):
+    """How the names of a device's NAPI threads begin."""
+    return f"napi/{device}-"[:COMM]
+
+
 @dataclass
 class Change:
     """One thing that is set: `kind` is sysctl, sysfs, ring, coalesce, threads or program."""
@@ -136,16 +142,26 @@ class Machine:
             changes.append(Change("program", self.head.get("program", ""), self.other_processor() if chosen["apart"] else self.processor, None))
         return changes
 
+    def notes_on(self, changes):
+        """What the lines that set it don't say."""
+        for change in changes:
+            if change.kind == "threads":
+                yield f"the thread is pinned to processor {change.value}, which polls now; any other one that does nothing else is as good"
+            elif change.kind == "sysfs" and change.name == "threaded" and not change.value:
+                yield "without a thread the processor polls that takes the interrupt, or on which a veth pair's sender runs"
+            elif change.kind == "program" and change.value != self.processor:
+                yield f"processor {change.value} should do nothing else; what waking the program there takes isn't in the recording unless it was apart"
+
     def line_of(self, change):
         """The line for a shell that sets it."""
         front = f"ip netns exec {self.netns} " if self.netns else ""
         attribute = f"/sys/class/net/{self.device}/{change.name}"
         return {"sysctl": f"sysctl -w net.core.{change.name}={change.value}",
                 "sysfs": f"{front}sh -c 'echo {change.value} > {attribute}'" if front else f"echo {change.value} > {attribute}",
-                "threads": f"for task in $(pgrep '^napi/{self.device}-'); do taskset -pc {change.value} $task; done",
+                "threads": f"for task in $(pgrep '^{thread_of(self.device)}'); do taskset -pc {change.value} $task; done",
                 "ring": f"{front}ethtool -G {self.device} rx {change.value}",
                 "coalesce": f"{front}ethtool -C {self.device} rx-usecs {change.value}",
-                "program": f"for task in $(pgrep -x '{change.name[:15]}'); do taskset -apc {change.value} $task; done"}[change.kind]
+                "program": f"for task in $(pgrep -x '{change.name[:COMM]}'); do taskset -apc {change.value} $task; done"}[change.kind]
 
     def set(self, change, value):
         """Sets it on this machine."""
@@ -167,7 +183,7 @@ class Machine:
     def move(self, change):
         """Pins tasks to a processor. Returns where each one was allowed before."""
         if change.kind == "threads":
-            tasks = [task for task, _ in observed.tasks_named(lambda name: name.startswith(f"napi/{change.name}-"))]
+            tasks = [task for task, _ in observed.tasks_named(lambda name: name.startswith(thread_of(change.name)))]
         else:
             tasks = [int(task) for pid in self.pids if os.path.isdir(f"/proc/{pid}/task") for task in os.listdir(f"/proc/{pid}/task")]
         before = {}

@@ -11,12 +11,29 @@ OPTIONS = {
     "threaded": (0, 1, 0), "apart": (0, 1, 0), "app-wake": (0, LONGEST, 0),
     "interrupt": (0, LONGEST, 4000), "poll": (0, LONGEST, 1000), "packet": (0, LONGEST, 1000), "use": (0, LONGEST, 2000), "wake": (0, LONGEST, 0)}
 COSTS = ("interrupt", "poll", "packet", "use", "wake", "app-wake")
-# What Linux calls each option that can be set there.
-LINUX = {
-    "queues": "ethtool -L combined", "ring": "ethtool -G rx, or net.core.netdev_max_backlog", "socket": "SO_RCVBUF, in packets",
-    "backlog": "rps_cpus", "budget": "net.core.netdev_budget", "weight": "net.core.dev_weight", "time-limit": "net.core.netdev_budget_usecs",
-    "rx-nsecs": "ethtool -C rx-usecs", "rx-frames": "ethtool -C rx-frames", "defer-hard-irqs": "napi_defer_hard_irqs",
-    "gro-flush-timeout": "gro_flush_timeout", "threaded": "threaded", "apart": "taskset"}
+# What each option is, and where Linux has it.
+MEANS = {
+    "processors": "processors that receive; device d is on processor (d - 1) mod N",
+    "queues": "queues of a device, chosen by the flow (ethtool -L)",
+    "ring": "packets that a ring holds (ethtool -G rx); of a backlog net.core.netdev_max_backlog plus 1",
+    "socket": "packets that the socket holds (SO_RCVBUF)",
+    "backlog": "1: the backlog of a processor, as of RPS (rps_cpus)",
+    "budget": "packets after which a run ends (net.core.netdev_budget); 0: no polls, an interrupt for each packet",
+    "weight": "packets of a poll: 64, of a backlog net.core.dev_weight",
+    "window": "polls after which a run ends; Linux has no such limit",
+    "time-limit": "the time after which a run ends (net.core.netdev_budget_usecs, in us there)",
+    "rx-nsecs": "the time from a packet to the interrupt (ethtool -C rx-usecs, in us there)",
+    "rx-frames": "packets after which the interrupt comes earlier (ethtool -C rx-frames); 0: none",
+    "defer-hard-irqs": "empty polls before interrupts are enabled again (napi_defer_hard_irqs)",
+    "gro-flush-timeout": "the time between such polls (gro_flush_timeout)",
+    "threaded": "1: threads poll (threaded)",
+    "apart": "1: the application has a processor of its own (taskset)",
+    "app-wake": "what waking the application there takes",
+    "interrupt": "what an interrupt takes",
+    "poll": "what a poll takes without its packets",
+    "packet": "what a packet takes in a poll",
+    "use": "what the application takes for a packet",
+    "wake": "what waking an idle processor takes"}
 IN_NS = ("time-limit", "rx-nsecs", "gro-flush-timeout", *COSTS)
 LINES = ("device", "processor", "time", "application", "total")
 SHARES = ("interrupt", "poll", "use", "idle")

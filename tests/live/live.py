@@ -9,6 +9,7 @@ recordings. The last line is `N passed, M failed, K skipped`.
 
 import gzip
 import json
+import signal
 import statistics
 import subprocess
 import sys
@@ -33,7 +34,6 @@ TRIES = 5  # until a recording is one that nothing disturbed
 MOST_SECONDS = 240  # for all recordings; what isn't recorded by then is skipped
 MOST_LATE = 2_000_000  # ns, of the sender's bursts
 MOST_STOLEN = 1  # hundredths of a second, which a hypervisor took
-MOST_OFF = 12  # %, of the recorded setting's own values
 NO_LIMIT = 65536  # packets of a socket's buffer, which holds all
 
 OVERLOAD = Traffic("fixed", 15000, 1500, 8, pace=10400, gso=8, filter=3900)
@@ -197,8 +197,8 @@ def own_check(group):
 
 
 def is_poor(lines):
-    """Whether the recorded setting itself is predicted so badly that the machine was disturbed."""
-    return any(abs(line.error) > MOST_OFF for line in lines)
+    """Whether the recorded setting itself isn't predicted well, as on a machine that is disturbed."""
+    return predicting.grade_of([(line.name, line.median, line.predicted, line.error) for line in lines]) != "good"
 
 
 class Sum:
@@ -209,11 +209,11 @@ class Sum:
 
     def skip(self, why):
         self.skipped += 1
-        print(f"skipped: live: {why}")
+        print(f"skipped: live: {why}", flush=True)
 
     def take(self, line, is_kept):
         """Judges a line."""
-        print(line)
+        print(line, flush=True)
         if abs(line.error) <= line.limit:
             self.passed += 1
         elif not is_kept and not line.is_steady:
@@ -311,4 +311,5 @@ def main(words):
 
 
 if __name__ == "__main__":
+    signal.signal(signal.SIGTERM, lambda *_: sys.exit(128 + signal.SIGTERM))  # so that devices and settings are restored
     sys.exit(main(sys.argv[1:]))
