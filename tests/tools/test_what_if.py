@@ -81,14 +81,15 @@ class WhatIf(InFolder):
         self.assertEqual((one, two), (self.modelled(plain), self.modelled(with_flows, "--queues", "2")))
 
     def test_the_band_of_costs(self):
-        """A packet at 0 and two at 9900 ns, an interrupt of 4000, a poll of 1000 and packets of 1000: they wait 6000, 6000 and 7000 ns. With deferral
-        and a timer of 5000, which fires at 11000, the interrupt ends at 15000, and they wait 6000, 7100 and 8100. With costs 20 % lower
-        4800, 4800 and 5600; with the timer, which fires at 9800, 4800, 4700 and 5500, which is less. A timer of 10000 stays worse."""
+        """A packet at 0 and two at 9900 ns, an interrupt of 4000, a poll of 1000 and packets of 1000 ns, which are used when the polls have ended: they
+        wait 6000, 7000 and 7000 ns. With deferral and a timer of 5000 ns, which fires at 11000, the polls end at 18000: 6000, 8100 and 8100. With
+        costs 20 % lower 4800, 5600 and 5600; with the timer, which fires at 9800, 4800, 5500 and 5500. A timer of 10000 ns stays worse."""
         self.arrivals.write_text(HEADER + "0,1,60\n9900,1,60\n9900,1,60\n")
         words = ["--use", "0", "--defer-hard-irqs", "1", "--gro-flush-timeout"]
         self.assertEqual(self.said(*words, "0,10000"), "")
-        self.assertEqual(self.said(*words, "0,5000"), "what-if: with costs 20 % lower the order by the 99th percentile of that wait changes: "
-                         "gro-flush-timeout 0 and gro-flush-timeout 5000\n")
+        self.assertEqual(self.said(*words, "0,5000"), "".join(
+            f"what-if: with costs 20 % lower the order by {what} changes: gro-flush-timeout 0 and gro-flush-timeout 5000\n"
+            for what in ("the median wait to the end of use", "the 99th percentile of that wait")))
         for others in (["--band", "0"], ["--band", "5"], ["--part", "1/1"]):
             self.assertEqual(self.said(*words, "0,5000", *others), "")
         out = self.folder / "rows"
@@ -103,14 +104,14 @@ class WhatIf(InFolder):
         return done.stderr
 
     def test_a_budget_with_one_queue(self):
-        """It changes runs and squeezes, and the tool says so; with three queues it doesn't say that."""
-        self.assertEqual(self.said("--budget", "16,300", "--band", "0"), "")
+        """It changes squeezes only, and the tool says so; with three queues it doesn't say that."""
+        self.assertEqual(self.said("--budget", "2,300", "--band", "0"), "")
         self.arrivals.write_text(HEADER + "".join(f"{1000 * place},1,60\n" for place in range(400)))
         told = self.said("--budget", "16,300", "--band", "0")
-        self.assertEqual(told, "what-if: with one queue on each processor net.core.netdev_budget changes no latency and no drops, only how many runs there "
-                         "are and how many are squeezed\n")
+        self.assertEqual(told, "what-if: with one queue on each processor net.core.netdev_budget changes no latency and no drops, only how many runs are "
+                         "squeezed\n")
         small, usual = self.rows("--budget", "16,300", "--band", "0")
-        for name in ("runs", "squeezed", "budget"):
+        for name in ("squeezed", "budget"):
             self.assertNotEqual(small.pop(name), usual.pop(name))
         self.assertEqual(small, usual)
 
