@@ -4,6 +4,7 @@ and what other tasks their processor ran.
 
 from toolbox import Refusal, shown
 
+import bisect
 import re
 from array import array
 from collections import Counter, defaultdict
@@ -14,6 +15,8 @@ BACKLOG = "(no_device)"  # as napi_poll names the instance of a processor's back
 TIMER = re.compile(r"hrtimer=\S+ function=(\w+)")
 SWITCH = re.compile(r"prev_comm=(.*) prev_pid=(\d{1,9}) prev_prio=(\d{1,3}) .*==> next_comm=(.*) next_pid=(\d{1,9}) ")
 KERNEL_TASKS = re.compile(r"swapper|ksoftirqd/|napi/|migration/|rcu|cpuhp/|idle_inject/")  # tasks that poll, or that take no time to speak of
+FULL = 64  # packets, a poll's weight
+MOST_UNREAD = 64  # packets that wait for the program when a recording begins
 EARLY = 100_000  # ns: a packet's event follows its arrival, and may be that late
 REAL_TIME = 100  # below it a priority is that of a real-time task, which no other task disturbs
 
@@ -122,29 +125,42 @@ class Receiving:
         """When each packet was sent that wasn't dropped."""
         return [time for time, has in zip(self.sent, self.has_come) if has]
 
+    def waiting_before(self, came):
+        """How many packets of the first polls had been sent before the recording began. A poll that isn't full takes all that came before it."""
+        given, least = 0, None
+        for ended, begun, work in zip(self.ended, self.begun, self.work):
+            given += work
+            if begun and work < FULL:
+                more = given - bisect.bisect_left(came, begun)
+                least = more if least is None else min(least, more)
+        return max(0, least or 0)
+
     def delivered(self, cost=0):
         """Of each packet that was delivered when it was sent and when it was delivered, in the order in which one instance delivers them: so long
         before its poll's end as the packets after it cost. Nothing if the polls of several instances were recorded, or if packets and polls
         don't agree."""
         came = self.came()
-        if len(set(self.sent_by)) != 1 or sum(self.work) > len(came) or not self.ended:
+        if len(set(self.sent_by)) != 1 or not self.ended:
             return []
-        pairs, place = [], 0
+        place = -self.waiting_before(came)
+        pairs = []
         for ended, work in zip(self.ended, self.work):
-            pairs += [(time, ended - cost * (work - number)) for number, time in enumerate(came[place : place + work], 1)]
+            pairs += [(came[place + number], ended - cost * (work - 1 - number)) for number in range(max(0, -place), min(work, len(came) - place))]
             place += work
-        return [(time, max(time, end)) for time, end in pairs] if agree(pairs) else []
+        return [(time, max(time, end)) for time, end in pairs] if place <= len(came) and agree(pairs) else []
 
     def used(self):
         """Of each packet that the program used when it was sent and when the next read began; nothing if reads and packets don't agree."""
-        pairs = self.delivered()
-        if not pairs or not self.reads:
-            return []
-        first = self.begun[0] or pairs[0][0]
-        reads = [read for read in self.reads if read[0] >= first]
-        # A packet may be read before its poll ends.
-        is_whole = abs(len(reads) - len(pairs)) <= max(2, len(pairs) // 200) and agree([(time, read[0]) for read, (time, _) in zip(reads, pairs)])
-        return [(time, max(time, read[1])) for read, (time, _) in zip(reads, pairs)] if is_whole else []
+        pairs, reads = self.delivered(), self.reads
+        place = next((place for place, read in enumerate(reads) if pairs and read[0] >= pairs[0][0]), len(reads))
+        # The first reads may be of packets that were delivered before the recording began.
+        for skipped in range(MOST_UNREAD):
+            known = reads[place + skipped :]
+            if abs(len(known) - len(pairs)) > max(4, len(pairs) // 50):
+                break
+            if agree([(time, read[0]) for read, (time, _) in zip(known, pairs)]):
+                return [(time, max(time, read[1])) for read, (time, _) in zip(known, pairs)]
+        return []
 
     def other_tasks(self, known):
         """The shares of the polling processor's time that tasks had which neither poll, nor send, nor are in `known`, process numbers: those

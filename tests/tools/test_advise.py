@@ -226,9 +226,17 @@ class Seen(unittest.TestCase):
             text = text.replace(line, "")
         self.assertEqual((self.seen(text).used(), len(self.seen(text).delivered())), ([], 40))
 
+    def test_packets_from_before_the_recording(self):
+        """The first poll's packets are none of those that were sent, and the program reads them first."""
+        whole, lines = quiet(count=6), quiet(count=6).text().splitlines(True)
+        sent = next(place for place, line in enumerate(lines) if "net_dev_xmit" in line)
+        text = "".join(lines[:sent] + lines[sent + 5 :])
+        self.assertEqual(self.seen(text).delivered(), self.seen(whole.text()).delivered()[5:])
+        self.assertEqual(self.seen(text).used(), self.seen(whole.text()).used()[5:])
+
     def test_a_packet_that_is_polled_before_its_event(self):
         """The sender's event may follow the poll by some us; then the wait counts as 0. If that is so for many, packets and polls don't agree."""
-        made = quiet(count=4, works=(100,))
+        made = quiet(count=8, works=(50,))
         made.softirq_round([3], is_early=True)
         waits = [end - begin for begin, end in self.seen(made.text()).delivered()]
         self.assertEqual((len(waits), waits[-3:]), (403, [0, 0, 0]))
