@@ -9,6 +9,7 @@ import subprocess
 import sys
 import time
 import unittest
+from pathlib import Path
 
 from tooltest import TOP, InFolder, run
 
@@ -41,18 +42,10 @@ def in_tracing(command):
     return done.stdout if done.returncode == 0 else None
 
 
-def why_not():
-    """Why this machine can't record."""
-    if os.geteuid() != 0:
-        return "record needs root"
-    if not (shutil.which("ip") and shutil.which("unshare")):
-        return "record's tests need ip and unshare (Debian: apt install iproute2 util-linux)"
-    if in_tracing("ls events/napi/napi_poll") is None:
-        return "record needs tracefs with the event napi_poll"
-    return subprocess.run(["ip", "netns"], capture_output=True, check=False).returncode and "record's tests need network namespaces"
-
-
-WHY_NOT = why_not()
+IS_ROOT = os.geteuid() == 0
+HAS_IP = shutil.which("ip") is not None
+HAS_NAMESPACES = IS_ROOT and HAS_IP and subprocess.run(["unshare", "-m", "-n", "true"], capture_output=True, check=False).returncode == 0
+HAS_TRACING = HAS_NAMESPACES and in_tracing("ls events/napi/napi_poll") is not None
 
 
 class Refused(InFolder):
@@ -73,7 +66,8 @@ class Refused(InFolder):
         done = subprocess.run([*front, sys.executable, "-BES", TOP / "tools/record", "--device", "none", "--out", "none/x"], capture_output=True, text=True, check=False)
         self.assertEqual((done.stderr, done.stdout, done.returncode), ("record: only root may record: sudo tools/record ..\n", "", 1))
 
-    @unittest.skipIf(os.geteuid(), "record needs root")
+    @unittest.skipUnless(IS_ROOT, "root")
+    @unittest.skipUnless(HAS_IP, "ip")
     def test_what_is_not_there(self):
         for words, why in ((["--device", "none9"], "--device none9: there is no such device; one in a network namespace needs --netns"),
                            (["--device", "../lo"], "--device ../lo: no name of a device"), (["--device=-lo"], "--device -lo: no name of a device"),
@@ -92,7 +86,10 @@ class Refused(InFolder):
             self.assertEqual((done.returncode, done.stderr), (1, f"record: {why}\n"))
 
 
-@unittest.skipIf(WHY_NOT, str(WHY_NOT))
+@unittest.skipUnless(IS_ROOT, "root")
+@unittest.skipUnless(HAS_IP, "ip")
+@unittest.skipUnless(HAS_NAMESPACES, "namespaces")
+@unittest.skipUnless(HAS_TRACING, "tracing")
 class Recorded(InFolder):
     """On a veth pair whose ends are in namespaces of their own."""
 
@@ -158,6 +155,7 @@ class Recorded(InFolder):
         """Forty bursts of one to forty packets, which a program reads. Numbers come from what was sent, and from the kernel's files."""
         server = self.serve(820)
         set_before = in_tracing("cat current_tracer tracing_on trace_clock events/enable buffer_size_kb saved_cmdlines_size")
+        settings = {path.name: path.read_text().strip() for path in Path("/proc/sys/net/core").glob("*[a-z]") if os.access(path, os.R_OK)}
         process = self.start("--program", self.program, seconds="3")
         self.send(1, 1, 40, 0.005)
         out, said = process.communicate(timeout=120)
@@ -167,8 +165,8 @@ class Recorded(InFolder):
         head, body = self.head()
         self.assertEqual([head[key] for key in ("device", "netns", "sender", "pair", "lost", "program", "program.pids", f"sent.{self.ends[0]}")],
                          [self.ends[1], self.receiving, self.ends[0], f"{self.ends[0]}:{self.ends[1]}", "0", self.program, str(server.pid), "820"])
-        for key in ("netdev_budget", "netdev_max_backlog", "dev_weight", "netdev_budget_usecs"):
-            self.assertEqual(head[f"sysctl.net.core.{key}"], (TOP.parent / f"/proc/sys/net/core/{key}").read_text().strip())
+        for key in ("netdev_budget", "netdev_max_backlog", "dev_weight", "netdev_budget_usecs", "busy_poll", "rps_sock_flow_entries"):
+            self.assertIn(head[f"sysctl.net.core.{key}"], (settings[key], Path(f"/proc/sys/net/core/{key}").read_text().strip()))
         self.assertEqual([head[f"device.{self.ends[1]}.{key}"] for key in ("threaded", "napi_defer_hard_irqs", "gro_flush_timeout", "rx-0.rps_cpus")], ["0"] * 4)
         self.assertEqual(head["kernel"], os.uname().release)
         before, after = map(int, head[f"device.{self.ends[1]}.statistics.rx_packets"].split())
@@ -227,25 +225,22 @@ class Recorded(InFolder):
         self.assertIn(f"fintaqush-{os.getpid()}", left)
 
     def test_a_buffer_that_fills_up(self):
-        """Slowly, it ends before an event is lost; at once, it says how many were, and the other tools reject it."""
+        """Slowly, it ends before an event is lost; at once, it says how many were, and the old file stays."""
         process = self.start("--buffer", "1", seconds="60")
         while process.poll() is None:
             self.send(20, 40, 40, 0.02)
         said = process.communicate(timeout=60)[1]
         self.assertRegex(said.decode(), r"^record: a buffer of 1 MB is nearly full after \d+\.\d s, so it ended; a longer recording needs a larger --buffer\n$")
         self.assertEqual((process.returncode, self.head()[0]["lost"]), (0, "0"))
+        before = (self.folder / "made").read_bytes()
         process = self.start("--buffer", "1", seconds="3")
         process.send_signal(signal.SIGSTOP)
         self.send(1, 40000, 40000, 0)
         process.send_signal(signal.SIGCONT)
         said = process.communicate(timeout=60)[1].decode()
-        self.assertEqual(process.returncode, 1)
-        lost = self.head()[0]["lost"]
-        self.assertIn(f"record: the kernel lost {lost} events, so other tools reject it: record for a shorter time, or by a larger --buffer\n", said)
-        for tool, words in (("costs", []), ("from-ftrace", ["arrivals", "--arrivals"])):
-            done = run(tool, "made", *words, folder=self.folder)
-            self.assertEqual((done.returncode, done.stderr.count("\n")), (1, 1))
-            self.assertIn(f"the kernel lost {lost} events", done.stderr)
+        self.assertRegex(said, r"^record: the kernel lost \d+ events, so the recording isn't written: record for a shorter time, or by a larger --buffer\n$")
+        self.assertEqual((process.returncode, self.names()), (1, ["made"]))
+        self.assertEqual((self.folder / "made").read_bytes(), before)
 
     def test_some_processors(self):
         process = self.start("--processors", "0")

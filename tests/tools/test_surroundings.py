@@ -342,7 +342,7 @@ class Surroundings(InFolder):
         (self.folder / "bytes").write_bytes(b"\xff\xfe")
         words = {"compare-runs": ["--"], "plot": ["--script"], "from-pcap": ["made"], "from-ftrace": ["made"], "what-if": ["--without-parallel"]}
         for tool in ALL:
-            if tool in ("traffic", "sweep", "compare-recording", "steps"):
+            if tool in ("traffic", "sweep", "compare-recording", "steps", "record"):
                 continue
             for name in ("folder.csv", "none.csv", b"\xff.csv", "bytes", "/dev/zero"):
                 done = run(tool, name, *words.get(tool, []), folder=self.folder)
