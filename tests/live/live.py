@@ -1,7 +1,7 @@
 """Compares what napi_machine predicts with what Linux does: the test of tests/live.sh.
 
     live.py test PROGRAM          compares with the recording that the repository keeps, and then with recordings made here, if they can be
-    live.py keep PROGRAM FOLDER   records here, and keeps costs, arrivals and measured values in that folder if all predictions hold
+    live.py keep PROGRAM FOLDER   records here, and keeps in that folder costs, arrivals and measured values of what is predicted well enough
 
 Costs and arrivals come from one setting's recording, and other settings are predicted from them. Each line compares the median of three
 recordings. The last line is `N passed, M failed, K skipped`.
@@ -15,6 +15,7 @@ import subprocess
 import sys
 import tempfile
 import time
+from concurrent.futures import ProcessPoolExecutor
 from dataclasses import dataclass
 from pathlib import Path
 
@@ -30,7 +31,7 @@ from recording import check_lost, events_in  # noqa: E402
 from rig import Setting, Traffic  # noqa: E402
 
 TIMES = 3  # that each setting is recorded
-TRIES = 5  # until a recording is one that nothing disturbed
+TRIES = 8  # until a recording is one that nothing disturbed
 MOST_SECONDS = 240  # for all recordings; what isn't recorded by then is skipped
 MOST_LATE = 2_000_000  # ns, of the sender's bursts
 MOST_STOLEN = 1  # hundredths of a second, which a hypervisor took
@@ -139,14 +140,19 @@ class Recordings:
 
 
 def kept_of(group, made):
-    """What is kept of a group's recordings: costs and arrivals of the base, and all measured values."""
-    bases = sorted(((costs_of(each.path), place) for place, each in enumerate(made[group.base.name])), key=lambda pair: pair[0].get("packet", 0))
-    costs, place = bases[len(bases) // 2]
-    seen, head = seen_in(group.base, made[group.base.name][place])
-    numbers = {f"va{number}": number for number in range(1, group.base.devices + 1)}
+    """What is kept of a group's recordings: all measured values, and costs and arrivals of the base's middle recording."""
     settings = {setting.name: setting for setting in (group.base, *(case.setting for case in group.cases))}
-    return {"kernel": head.get("kernel", ""), "costs": costs, "arrivals": predicting.arrivals_at(seen, numbers, visible=group.base.poller == "softirq"),
-            "measured": {name: [values_of(settings[name], each) for each in recorded] for name, recorded in made.items()}}
+    every = [(settings[name], recorded) for name, each in made.items() for recorded in each]
+    with ProcessPoolExecutor() as pool:
+        values = list(pool.map(values_of, *zip(*every)))
+    measured = {name: [value for (setting, _), value in zip(every, values) if setting.name == name] for name in settings}
+    own = measured[group.base.name]
+    place = sorted(range(TIMES), key=lambda each: own[each].get("used_p50", 0))[TIMES // 2]
+    middle = made[group.base.name][place]
+    seen, head = seen_in(group.base, middle)
+    numbers = {f"va{number}": number for number in range(1, group.base.devices + 1)}
+    return {"kernel": head.get("kernel", ""), "costs": costs_of(middle.path), "measured": measured,
+            "arrivals": predicting.arrivals_at(seen, numbers, visible=group.base.poller == "softirq")}
 
 
 # ---- predicted and measured
@@ -248,38 +254,39 @@ def check_kept(program, total):
             total.take(line, is_kept=True)
 
 
-def check_here(program, total):
-    """Records on this machine. What is off is recorded a second time, as anything may have slowed the machine. Returns what may be kept."""
-    every, until = [], time.monotonic() + MOST_SECONDS
-    for group in GROUPS:
-        with tempfile.TemporaryDirectory() as scratch:
-            rig.build(Path(scratch))
-            for _ in range(2):
-                kept = kept_of(group, Recordings(Path(scratch), until).of(group))
-                own, lines = judged(program, group, kept)
-                if not is_poor(own) and not is_off(lines):
-                    break
-        every.append(kept)
-        print(*own, sep="\n")
-        for line in lines:
-            if is_poor(own):
-                total.skip(f"{line.setting}: {line.name}: needs a quiet machine: the recorded setting itself isn't predicted well")
-            else:
-                total.take(line, is_kept=False)
-    return every
+def recorded_group(program, group, until):
+    """What may be kept of a group, with its lines. What is off is recorded a second time, as anything may have slowed the machine."""
+    with tempfile.TemporaryDirectory() as scratch:
+        rig.build(Path(scratch))
+        for left in (1, 0):
+            kept = kept_of(group, Recordings(Path(scratch), until).of(group))
+            own, lines = judged(program, group, kept)
+            if not left or not is_poor(own) and not is_off(lines):
+                return kept, own, lines
 
 
-def test_here(program, total):
-    """The same, where that can be done. Returns what may be kept, if all of it was recorded."""
+def check_here(program, folder, total):
+    """Records on this machine, and keeps in a folder, if one is named, what holds."""
     lacks = rig.missing()
     if lacks:
         total.skip(f"recordings made here: needs {', '.join(lacks)}")
-        return []
-    try:
-        return check_here(program, total)
-    except (rig.Failed, toolbox.Refusal, OSError) as error:
-        total.skip(f"recordings made here: needs a quiet machine: {error}")
-        return []
+        return
+    until = time.monotonic() + MOST_SECONDS
+    for place, group in enumerate(GROUPS):
+        try:
+            kept, own, lines = recorded_group(program, group, until)
+        except (rig.Failed, toolbox.Refusal, OSError) as error:
+            total.skip(f"{group.base.name}, and what is predicted from it: needs a quiet machine: {error}")
+            continue
+        print(*own, sep="\n", flush=True)
+        if is_poor(own):
+            total.skip(f"{', '.join(case.setting.name for case in group.cases)}: needs a quiet machine: {group.base.name} itself isn't predicted well")
+            continue
+        bad = total.failed + total.skipped
+        for line in lines:
+            total.take(line, is_kept=False)
+        if folder and bad == total.failed + total.skipped:
+            write_kept(folder, place, kept)
 
 
 # ---- what the repository keeps
@@ -289,12 +296,11 @@ def read_kept(place, folder=HERE / "kept"):
     return {**kept, "arrivals": gzip.decompress((folder / f"{place + 1}.csv.gz").read_bytes()).decode("ascii")}
 
 
-def write_kept(folder, all_kept):
+def write_kept(folder, place, kept):
     folder.mkdir(exist_ok=True)
-    for place, kept in enumerate(all_kept, 1):
-        (folder / f"{place}.csv.gz").write_bytes(gzip.compress(kept["arrivals"].encode("ascii"), 9, mtime=0))
-        others = {name: value for name, value in kept.items() if name != "arrivals"}
-        (folder / f"{place}.json").write_text(json.dumps(others, indent=1) + "\n", encoding="utf-8")
+    (folder / f"{place + 1}.csv.gz").write_bytes(gzip.compress(kept["arrivals"].encode("ascii"), 9, mtime=0))
+    others = {name: value for name, value in kept.items() if name != "arrivals"}
+    (folder / f"{place + 1}.json").write_text(json.dumps(others, indent=1) + "\n", encoding="utf-8")
 
 
 def main(words):
@@ -302,11 +308,7 @@ def main(words):
     total = Sum()
     if what == "test":
         check_kept(program, total)
-        test_here(program, total)
-    else:
-        every = test_here(program, total)
-        if every and not total.failed and not total.skipped:
-            write_kept(Path(others[0]), every)
+    check_here(program, Path(others[0]) if others else None, total)
     return total.end()
 
 

@@ -211,7 +211,7 @@ class Rig:
     def recorder(self, path):
         """tools/record at work, as somebody calls it."""
         names = range(1, self.setting.devices + 1)
-        process = subprocess.Popen([RECORD, "1", "--netns", self.into, "--program", "receiver", "--out", path,
+        process = subprocess.Popen([RECORD, "1", "--netns", self.into, "--processors", f"{SENDS},{RECEIVES}", "--program", "receiver", "--out", path,
                                     *(word for name in names for word in ("--device", f"vb{name}", "--sender", f"va{name}"))],
                                    stdout=subprocess.DEVNULL, stderr=subprocess.PIPE, text=True)
         self.undo.callback(process.wait)

@@ -151,7 +151,7 @@ class Advise(InFolder):
         made.switch(end + 10**7, timing.POLLER, "cc1-77", "swapper/3-0")
         told = self.object(file_of(made))
         self.assertEqual((list(told["other_tasks"]), 0.2 < told["other_tasks"]["cc1"] < 0.3), (["cc1"], True))
-        self.assertIn("other tasks had processor 3 too (cc1 24 %): the prediction needs a processor of its own", self.advised(file_of(made)).stdout)
+        self.assertIn("other tasks used processor 3 too (cc1 24 %): the prediction needs a processor of its own", self.advised(file_of(made)).stdout)
         self.assertEqual(self.object(file_of(quiet()))["other_tasks"], {})
 
     def test_what_is_set_and_not_modelled(self):
