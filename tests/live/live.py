@@ -1,7 +1,9 @@
 """Compares what napi_machine predicts with what Linux does: the test of tests/live.sh.
 
     live.py test PROGRAM          compares with the recording that the repository keeps, and then with recordings made here, if they can be
-    live.py keep PROGRAM FOLDER   records here, and keeps in that folder costs, arrivals and measured values of what is predicted well enough
+    live.py keep PROGRAM FOLDER [N ..]
+                                  records here, all groups or those with these numbers, and keeps in that folder costs, arrivals and measured
+                                  values of what is predicted well enough
 
 Costs and arrivals come from one setting's recording, and other settings are predicted from them. Each line compares the median of three
 recordings. The last line is `N passed, M failed, K skipped`.
@@ -202,9 +204,9 @@ def own_check(group):
     return dict.fromkeys(("runs", "squeezed") if group.base.devices > 1 else ("polls", "dropped", "used_p50"), 0)
 
 
-def is_poor(lines):
-    """Whether the recorded setting itself isn't predicted well, as on a machine that is disturbed."""
-    return predicting.grade_of([(line.name, line.median, line.predicted, line.error) for line in lines]) != "good"
+def grade_of(lines):
+    """How well the recorded setting itself is predicted: good, fair or poor."""
+    return predicting.grade_of([(line.name, line.median, line.predicted, line.error) for line in lines])
 
 
 class Sum:
@@ -217,13 +219,14 @@ class Sum:
         self.skipped += 1
         print(f"skipped: live: {why}", flush=True)
 
-    def take(self, line, is_kept):
-        """Judges a line."""
+    def take(self, line, is_good=True):
+        """Judges a line; one that is off fails if the recorded setting is predicted well, and two of the three recordings agree about the value."""
         print(line, flush=True)
         if abs(line.error) <= line.limit:
             self.passed += 1
-        elif not is_kept and not line.is_steady:
-            self.skip(f"{line.setting}: no two recordings agree about {line.name}")
+        elif not is_good or not line.is_steady:
+            why = f"no two recordings agree about {line.name}" if is_good else "the recorded setting itself isn't predicted well"
+            self.skip(f"{line.setting}: needs a quiet machine: {why}")
         else:
             self.failed += 1
             print(f"FAILED: it may be {line.limit} % off")
@@ -251,7 +254,7 @@ def check_kept(program, total):
         for line in own:
             print(line)
         for line in lines:
-            total.take(line, is_kept=True)
+            total.take(line)
 
 
 def recorded_group(program, group, until):
@@ -261,30 +264,32 @@ def recorded_group(program, group, until):
         for left in (1, 0):
             kept = kept_of(group, Recordings(Path(scratch), until).of(group))
             own, lines = judged(program, group, kept)
-            if not left or not is_poor(own) and not is_off(lines):
+            if not left or not is_off(lines):
                 return kept, own, lines
 
 
-def check_here(program, folder, total):
-    """Records on this machine, and keeps in a folder, if one is named, what holds."""
+def check_here(program, folder, numbers, total):
+    """Records these groups on this machine, and keeps in a folder, if one is named, what holds."""
     lacks = rig.missing()
     if lacks:
         total.skip(f"recordings made here: needs {', '.join(lacks)}")
         return
     until = time.monotonic() + MOST_SECONDS
-    for place, group in enumerate(GROUPS):
+    for place in numbers:
+        group = GROUPS[place]
         try:
             kept, own, lines = recorded_group(program, group, until)
         except (rig.Failed, toolbox.Refusal, OSError) as error:
             total.skip(f"{group.base.name}, and what is predicted from it: needs a quiet machine: {error}")
             continue
         print(*own, sep="\n", flush=True)
-        if is_poor(own):
+        grade = grade_of(own)
+        if grade == "poor":
             total.skip(f"{', '.join(case.setting.name for case in group.cases)}: needs a quiet machine: {group.base.name} itself isn't predicted well")
             continue
         bad = total.failed + total.skipped
         for line in lines:
-            total.take(line, is_kept=False)
+            total.take(line, grade == "good")
         if folder and bad == total.failed + total.skipped:
             write_kept(folder, place, kept)
 
@@ -308,7 +313,7 @@ def main(words):
     total = Sum()
     if what == "test":
         check_kept(program, total)
-    check_here(program, Path(others[0]) if others else None, total)
+    check_here(program, Path(others[0]) if others else None, [int(number) - 1 for number in others[1:]] or range(len(GROUPS)), total)
     return total.end()
 
 
