@@ -16,6 +16,7 @@ from drawing import BLUE, GREY, TERMINALS, by_gnuplot, head
 BEGIN, END = "<!-- predicted and measured: begin -->", "<!-- predicted and measured: end -->"
 NAMES = {"dropped": "packets dropped", "polls": "polls", "runs": "runs", "squeezed": "squeezed runs", "used_p50": "median wait to the end of use, ms"}
 PANELS = {"median wait to the end of use, ms": ("used_p50",), "packets dropped": ("dropped",), "polls, runs and squeezed runs": ("polls", "runs", "squeezed")}
+WIDTHS = (0.36, 0.26, 0.38)
 
 
 def text_of(name, value):
@@ -31,11 +32,10 @@ def rows_of(program):
 
 def table_of(program):
     """The table as a page has it."""
-    lines = ["| Setting | Value | Predicted | Measured, median of three (range) | Off |", "|---|---|---|---|---|"]
+    lines = ["| Setting | Predicted from a recording with | Value | Predicted | Measured: median of three, range | Difference |", "|---|---|---|---|---|---|"]
     for base, _, predicted in rows_of(program):
-        lines += [f"| {line.setting}; costs and arrivals from a recording with {base} | {NAMES[line.name]} | {text_of(line.name, line.predicted)} | "
-                  f"{text_of(line.name, line.median)} ({text_of(line.name, min(line.measured))} to {text_of(line.name, max(line.measured))}) | "
-                  f"{line.error:+.1f} % |" for line in predicted]
+        lines += [f"| {line.setting} | {base} | {NAMES[line.name]} | {text_of(line.name, line.predicted)} | {text_of(line.name, line.median)}, "
+                  f"{text_of(line.name, min(line.measured))} to {text_of(line.name, max(line.measured))} | {line.error:+.1f} % |" for line in predicted]
     return "\n".join(lines) + "\n"
 
 
@@ -48,21 +48,27 @@ def page_with(text, table):
     return f"{before}{BEGIN}\n{table}{END}{after}"
 
 
+def label_of(line, is_named):
+    """What is below a pair of bars, in short lines."""
+    parts = line.setting.replace("threaded, ", "threaded,~").replace("instances, ", "instances,~").replace("deferral ", "deferral~").replace("backlog of", "backlog~of").split("~")
+    return "\\n".join([*parts, *([NAMES[line.name]] if is_named else [])])
+
+
 def script_of(program, kind):
     """The text for gnuplot: a panel for each kind of value, and for each setting what was measured, with its range, and predicted."""
-    groups = [[*own, *predicted] for _, own, predicted in rows_of(program)]
-    text = [*head(kind, (900, 400)), "set multiplot layout 1,3", "set style data histograms", "set style histogram clustered gap 1 errorbars lw 1",
-            "set bars 0.6", "set xtics rotate by -30 noenhanced font 'sans,8'", "set tmargin 3", "set bmargin 8", "set rmargin 4"]
+    lines = [line for _, _, predicted in rows_of(program) for line in predicted]
+    text = [*head(kind, (960, 340)), "set multiplot", "set style data histograms", "set style histogram clustered gap 1 errorbars lw 1.5",
+            "set bars 0.6", "set xtics noenhanced font 'sans,8'", "set tmargin 3", "set bmargin 5", "set lmargin 7", "set rmargin 1", "set format y '%g'"]
     for number, (title, names) in enumerate(PANELS.items()):
-        chosen = [line for lines in groups for line in lines if line.name in names and (line.limit or line.name == "used_p50")]
         scale = 10**6 if "ms" in title else 1
         text += [f"$panel{number} << END"]
-        for line in chosen:
-            label = line.setting if len(names) == 1 else f"{line.setting}: {line.name}"
-            low, middle, high, value = (each / scale for each in (min(line.measured), line.median, max(line.measured), line.predicted))
-            text.append(f'"{label}" {middle:.6g} {low:.6g} {high:.6g} {value:.6g} {value:.6g} {value:.6g}')
-        text += ["END", f"set title '{title}' font 'sans,9'", "set logscale y" if scale > 1 else "unset logscale y",
-                 "set yrange [0.01:*]" if scale > 1 else "set yrange [0:*]", "set format y '%g'", "set key top right vertical" if number == 0 else "unset key",
+        for line in lines:
+            if line.name in names:
+                low, middle, high, value = (each / scale for each in (min(line.measured), line.median, max(line.measured), line.predicted))
+                text.append(f'"{label_of(line, len(names) > 1)}" {middle:.6g} {low:.6g} {high:.6g} {value:.6g} {value:.6g} {value:.6g}')
+        text += ["END", f"set title '{title}' font 'sans,9'", f"set size {WIDTHS[number]},1", f"set origin {sum(WIDTHS[:number]):.2f},0",
+                 *(["set logscale y", "set yrange [0.01:20]"] if scale > 1 else ["unset logscale y", "set yrange [0:*]"]),
+                 "set key inside top right vertical" if number == 0 else "unset key",
                  f"plot $panel{number} using 2:3:4:xtic(1) lc rgb {GREY} title 'measured', '' using 5:6:7 lc rgb {BLUE} title 'predicted'"]
     return "\n".join([*text, "unset multiplot", ""])
 
