@@ -257,6 +257,15 @@ def check_kept(program, total):
             total.take(line)
 
 
+def check_page(program, total):
+    """The table of docs/TIMING.md is that of this recording."""
+    done = subprocess.run([sys.executable, "-B", HERE / "table.py", program, "--check", TOP / "docs/TIMING.md"], check=False)
+    total.passed += done.returncode == 0
+    total.failed += done.returncode != 0
+    if done.returncode:
+        print("FAILED: docs/TIMING.md has another table; tests/live/table.py PROGRAM --into docs/TIMING.md puts it there")
+
+
 def recorded_group(program, group, until):
     """What may be kept of a group, with its lines. What is off is recorded a second time, as anything may have slowed the machine."""
     with tempfile.TemporaryDirectory() as scratch:
@@ -313,6 +322,7 @@ def main(words):
     total = Sum()
     if what == "test":
         check_kept(program, total)
+        check_page(program, total)
     check_here(program, Path(others[0]) if others else None, [int(number) - 1 for number in others[1:]] or range(len(GROUPS)), total)
     return total.end()
 
