@@ -1,6 +1,6 @@
 """The pages beside the repository: links lead, files and names are there, claims name clauses that are (claims.py), programs that they
-show are compiled (snippets.py), commands do what they say (page_commands.py), README.md and the doors' pages keep their number of words, the site and the
-manual pages are whole (site_pages.py).
+show are compiled (snippets.py), commands do what they say (page_commands.py), README.md and the doors' pages keep their number of
+words, the site and the manual pages are whole (site_pages.py).
 """
 import functools
 import pathlib
@@ -117,6 +117,19 @@ def door_of():
     return found
 
 
+def unprinted(crates, names, surface):
+    """Traits of these names, and public calls of them or of types of these names, aliases too, that a surface hasn't word for word."""
+    texts = [path.read_text() for crate in crates for path in sorted((TOP / "crates" / crate / "src").glob("*.rt"))]
+    of = {*names, *(alias[2] for text in texts for alias in re.finditer(r"^pub type (\w+).*= (\w+)", text, re.M) if alias[1] in names)}
+    for text in texts:
+        traits = re.findall(r"^(pub trait (\w+).*?^\})", text, re.M | re.S)
+        yield from (name for whole, name in traits if name in of and whole not in surface)
+        for call in re.finditer(r"^( *)pub (?:const |unsafe )*fn (\w+).*?(?=\n\1\{\}?$| \{$)", text, re.M | re.S):
+            head = re.findall(r"^impl(?:<.*>)? ?(?:\w+ for )?(\w+).*$", text[: call.start()], re.M)[-1:] if call[1] else [call[2]]
+            if of & {*head} and call[0] not in surface:
+                yield f"{head[0]}::{call[2]}" if call[1] else call[2]
+
+
 def door_page(page):
     """A door's page tells of each crate behind it and claims what is there; `scripts/surface.sh` prints all that it passes on."""
     door = page.parent.name
@@ -126,9 +139,9 @@ def door_page(page):
     yield from claims.judge(page, [door, *behind, *programs])
     surface = subprocess.run(["scripts/surface.sh", door], cwd=TOP, capture_output=True, text=True, check=True).stdout
     passed_on = " ".join(re.findall(r"pub use ([^;]*);", (page.parent / "src/lib.rt").read_text()))
-    for name in re.findall(r"\b\w+\b(?=[,}\s]|$)", re.sub(r"\w+::", "", passed_on)):
-        if not re.search(rf"\b{name}\b", surface):
-            yield f"scripts/surface.sh doesn't print {name}"
+    names = re.findall(r"\b\w+\b(?=[,}\s]|$)", re.sub(r"\w+::", "", passed_on))
+    missing = [name for name in names if not re.search(rf"\b{name}\b", surface)]
+    yield from (f"scripts/surface.sh doesn't print {name}" for name in [*missing, *unprinted([door, *behind], names, surface)])
 
 
 def door_rules(_page):
