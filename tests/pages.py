@@ -94,9 +94,9 @@ def leftovers(page):
 def lengths(_page):
     """Words of README.md beside commands and tables, and of each door's page."""
     count = {page: len(page.read_text().split()) for page in pages()}
-    first = len(re.sub(r"^    .*$", "", (TOP / "README.md").read_text(), flags=re.M).split())
+    first = len(re.sub(r"^(    |\|).*$", "", (TOP / "README.md").read_text(), flags=re.M).split())
     if first > README_WORDS:
-        yield f"{first} words beside commands, of at most {README_WORDS}"
+        yield f"{first} words beside commands and tables, of at most {README_WORDS}"
     yield from (f"{door}: {words} words, of at most {DOOR_WORDS}" for door in DOORS
                 if (words := count.get(TOP / "crates" / door / "README.md", 0)) > DOOR_WORDS)
 
