@@ -22,7 +22,7 @@ MADE = re.compile(r"(^|/)out(/|$)|include/linux/|crates/first|NAME|FOLDER|FILE|P
 # Crates that use the library's doors, beside those named for tests.
 USERS = ("bench_", "example_", "uses_")
 # Words in code that are others': the kernel's, a file format's, an instruction's, and what stands for a file.
-OUTSIDE = {"time_after", "softnet_stat", "virtio_net", "sysexits", "btr", "mb", "MACHINES"}
+OUTSIDE = {"__do_softirq", "time_after", "softnet_stat", "virtio_net", "sysexits", "btr", "mb", "MACHINES"}
 
 
 def pages():
