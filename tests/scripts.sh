@@ -65,6 +65,17 @@ sums 1 '2 passed, 1 failed, 0 skipped' unknown
 sums 1 '2 passed, 1 failed, 0 skipped' uncounted
 sums 1 '4 passed, 1 failed, 2 skipped' part broken
 check 'tests/needs.txt has what tests need, and nothing else' python3 -B "$top/tests/needs.py"
+check 'scripts/test-packages.sh lists the packages' grep -qx gnuplot-nox <("$top/scripts/test-packages.sh" --list)
+# without_root: in a copy that everybody may read.
+without_root() {
+    local status=0 as=()
+    mkdir -p "$scratch/free/scripts" "$scratch/free/tests" && cp "$top"/scripts/{test-packages,arguments}.sh "$scratch/free/scripts"
+    chmod -R a+rX "$scratch"
+    [ "$(id -u)" != 0 ] || as=(setpriv --reuid=65534 --regid=65534 --clear-groups)
+    "${as[@]}" "$scratch/free/scripts/test-packages.sh" > "$scratch/out" 2>&1 || status=$?
+    [ "$status $(cat "$scratch/out")" = '69 test-packages.sh: only root may install packages: run it with sudo' ]
+}
+! command -v apt-get > /dev/null || check 'and asks for root in a line' without_root
 
 # A gate of one crate, whose prover is a shell under the prover's name.
 mkdir -p "$scratch/rt-edit-x"
