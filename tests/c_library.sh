@@ -1,8 +1,8 @@
 #!/usr/bin/env bash
 # tests/c_library.sh [SEED]: the C library: its header against what the archive exports and against the numbers that are proved; the
 # examples, and random calls beside a model, compiled with warnings as errors by each compiler there is, run and compared, also under
-# sanitizers and valgrind; and what has to be refused by compilers. What needs clang or
-# valgrind is skipped without it. The last line is `N passed, M failed, K skipped`.
+# sanitizers and valgrind; and what has to be refused by compilers. What needs clang or valgrind is skipped
+# without it. The last line is `N passed, M failed, K skipped`.
 set -uo pipefail
 unset CDPATH
 top=$(dirname "$(dirname "$(readlink -f "$0")")")

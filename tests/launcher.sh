@@ -1,6 +1,6 @@
 #!/usr/bin/env bash
 # Tries the launcher. What building is about is tried in a small checkout of its own, with a kit that proves nothing and makes a
-# program of a few lines; what faults are about, on the real program. The last line is `N passed, M failed`.
+# program of a few lines; what faults are about, on the real program. The last line is `N passed, M failed, K skipped`.
 set -u
 unset CDPATH
 # A signal that whoever called this ignores can't be tried, and a shell can't take it back by itself.
@@ -160,7 +160,7 @@ a whole number, 1..=65535 (see ./replay --help)
 a closed output % $launcher $two >&- % 4 output fault 15 OutputFailed
 a full one % $launcher --json $two 2>&1 > /dev/full | tail -n 1; (exit \${PIPESTATUS[0]}) % 4 replay: the report couldn't be written as JSON
 a report as JSON % $launcher --json $two | cmp - <($launcher $two | $top/tools/report2json) % 0 
-the kernel's log ends in a line % replay /proc/kmsg % *@(trace fault 1 BadHeader row 0|replay: /proc/kmsg: a read of it failed|\
+the kernel's log ends in a line % replay /proc/kmsg % *@(trace fault 1 BadHeader row 0*|replay: /proc/kmsg: a read of it failed|\
 replay: /proc/kmsg: it can't be read: operation not permitted)
 END
 

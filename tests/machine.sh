@@ -2,7 +2,7 @@
 # tests/machine.sh: the receiving machine. bench/machine.cc, and napi_machine where it stands, give the bytes of the plain model
 # (machine_model.py) on random arrivals with random words; napi_machine's faults and words, the mean of M/D/1, livelock, and its runs and
 # squeezes beside those of a running Linux, with the difference. MACHINE=FILE names another build of napi_machine. The last line is
-# `N passed, M failed`.
+# `N passed, M failed, K skipped`.
 set -uo pipefail
 unset CDPATH
 top=$(dirname "$(dirname "$(readlink -f "$0")")")

@@ -1,7 +1,7 @@
 #!/usr/bin/env bash
 # tests/ns3.sh: the simulation of examples/ns3. This library's queue limit gives the numbers of ns-3's own, call by call; each packet
-# is counted once; runs keep their budget; napi_machine (MACHINE=FILE: another build) tells the same of the same arrivals. It is skipped without ns-3. The last
-# line is `N passed, M failed, K skipped`.
+# is counted once; runs keep their budget; napi_machine (MACHINE=FILE: another build) tells the same of the same arrivals. It is skipped
+# without ns-3. The last line is `N passed, M failed, K skipped`.
 set -uo pipefail
 unset CDPATH
 top=$(dirname "$(dirname "$(readlink -f "$0")")")
