@@ -91,6 +91,13 @@ def leftovers(page):
     yield from (f"a merge left {line}" for line in re.findall(r"^(?:<{7}|={7}|>{7})(?: .*)?$", page.read_text(), re.M))
 
 
+def ratios(page):
+    """A ratio between two programs says which one is slower or faster."""
+    for line in page.read_text().splitlines():
+        if "times as fast" in line:
+            yield f"{line[:60]} ..: it doesn't say which one is slower"
+
+
 def lengths(_page):
     """Words of README.md beside commands and tables, and of each door's page."""
     count = {page: len(page.read_text().split()) for page in pages()}
@@ -206,7 +213,7 @@ def commands(all_pages):
 def checks():
     """Pairs of a page and what is wrong with it."""
     for page in pages():
-        for check in (links, named_files, names, kits, leftovers, snippets.snippets):
+        for check in (links, named_files, names, kits, leftovers, ratios, snippets.snippets):
             yield page, check(page)
     for door in DOORS:
         yield TOP / "crates" / door / "README.md", door_page(TOP / "crates" / door / "README.md")
