@@ -1,8 +1,8 @@
 #!/usr/bin/env bash
-# tests/machine.sh: the receiving machine. The plain model (machine_model.py), bench/machine.cc, and napi_machine if its crate is there
+# tests/machine.sh: the receiving machine. The plain model (machine_model.py), bench/machine.cc, and napi_machine
 # print the reports that were worked out by hand (machine_examples.txt), and both programs the model's bytes on random arrivals with
 # random options. Then napi_machine's faults and options, the mean of M/D/1, livelock, and its runs and squeezes compared with those of a
-# running Linux. MACHINE=FILE names another build of napi_machine. The last line is `N passed, M failed`.
+# running Linux. MACHINE=FILE names another build of napi_machine. The last line is `N passed, M failed, K skipped`.
 set -uo pipefail
 unset CDPATH
 top=$(dirname "$(dirname "$(readlink -f "$0")")")
@@ -13,22 +13,15 @@ trap 'rm -rf "$scratch"' EXIT
 of_model() { timeout 900 python3 -B "$top/tests/machine.py" "$@"; }
 
 check 'the model prints the reports worked out by hand' of_model examples "python3 -B '$top/tests/machine_model.py'"
-if command -v g++ > /dev/null; then
+if has g++ 'the program of the bench'; then
     check 'the program of the bench is compiled' g++ -std=c++17 -O2 -Wall -Wextra -Werror "$top/bench/machine.cc" -o "$scratch/machine"
     check 'it prints the reports worked out by hand' of_model examples "$scratch/machine"
     check 'it prints the bytes of the model' of_model random "$scratch/machine" 1 1000
     check 'its faults' of_model faults "$scratch/machine"
     check 'its options' of_model options "$scratch/machine"
-else
-    echo 'machine: passed over: the program of the bench: there is no g++'
 fi
 
 program=${MACHINE:-$top/crates/napi_machine/out/napi_machine}
-if [ -z "${MACHINE:-}" ] && [ ! -d "$top/crates/napi_machine" ]; then
-    echo 'machine: passed over: napi_machine: its crate is not there'
-    sum_up
-    exit
-fi
 [ -n "${MACHINE:-}" ] || check 'napi_machine is built' "$top/scripts/build.sh" napi_machine
 check 'it prints the reports worked out by hand' of_model examples "$program"
 check 'it prints the bytes of the model' of_model random "$program" 2 1000
