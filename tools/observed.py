@@ -4,6 +4,7 @@ from toolbox import Refusal, ran, shown
 
 import contextlib
 import glob
+import gzip
 import json
 import os
 import re
@@ -78,6 +79,23 @@ def by_ethtool(name, netns):
                     yield f"ethtool.{part}.{front}{'-'.join(key.lower().split())}", value
 
 
+def driver_of(name, netns):
+    """The driver of a device."""
+    found = re.search(r"^driver: (\S+)", output_of([*within(netns), "ethtool", "-i", name]), re.M)
+    if found:
+        yield "driver", found[1]
+
+
+def ticks():
+    """How many times a second the kernel's clock ticks, which netdev_budget_usecs is rounded to, if its configuration is there."""
+    release = os.uname().release
+    for path, opener in (("/proc/config.gz", gzip.open), (f"/boot/config-{release}", open), (f"/lib/modules/{release}/config", open)):
+        with contextlib.suppress(OSError, EOFError), opener(path, "rt", encoding="utf-8", errors="replace") as file:
+            if found := re.search(r"^CONFIG_HZ=(\d+)$", file.read(), re.M):
+                yield "hz", found[1]
+                return
+
+
 def interrupts_of(name):
     """The processors of a device's interrupts, by their numbers."""
     real = os.path.realpath(f"/sys/class/net/{name}/device")
@@ -147,6 +165,7 @@ def of_kernel():
     """The kernel, the processors, and all of net.core that is no secret."""
     system = os.uname()
     yield "kernel", system.release
+    yield from ticks()
     yield "machine", system.machine
     yield "online", text_in("/sys/devices/system/cpu/online")
     yield "clocksource", text_in("/sys/devices/system/clocksource/clocksource0/current_clocksource")
@@ -162,7 +181,7 @@ def settings_of_device(name, netns):
     for key, value in of.items():
         if not key.startswith(counts) and value:
             yield f"device.{name}.{key}", value
-    more = [by_ethtool(name, netns), threads_of(name)]
+    more = [driver_of(name, netns), by_ethtool(name, netns), threads_of(name)]
     for key, value in (pair for each in (more if netns else [*more, interrupts_of(name)]) for pair in each):
         if value:
             yield f"device.{name}.{key}", value

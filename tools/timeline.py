@@ -15,8 +15,10 @@ EXPIRED = re.compile(r"hrtimer=(\S+) .*\bnow=(\d{1,20})")
 RETURNED = re.compile(r"0x([0-9a-f]{1,16})$")
 WATCHDOG = "napi_watchdog"
 TIMER = f"the timer of {WATCHDOG}"
-# Interrupts between processors, after which a softirq or a thread begins.
+# Interrupts between processors, after which a softirq or a thread may begin; and all whose events have an entry and an exit.
 BETWEEN = {"call_function_single", "call_function", "reschedule", "ipi"}
+HANDLERS = BETWEEN | {"irq_handler", "local_timer", "irq_work", "x86_platform_ipi", "thermal_apic", "threshold_apic", "deferred_error_apic",
+                      "error_apic", "spurious_apic"}
 SOON = 50_000  # ns, from the end of an interrupt to what it asked for
 SAME_CLOCK = 1_000_000  # ns
 EARLY = 100_000  # ns, by which a packet may be polled before its sender's event, which follows the sending
@@ -135,7 +137,7 @@ class Timeline:
         self.handlers, self.without = defaultdict(list), 0  # the handlers that runs followed; how many runs followed none
         self.wakes, self.busy_wakes = defaultdict(list), defaultdict(list)  # by packets and by timers, of a processor that slept, or had other tasks
         self.due = {}  # of each timer
-        self.waiting, self.came, self.dropped, self.unmatched, self.sent_on = deque(), 0, 0, 0, Counter()
+        self.waiting, self.came, self.dropped, self.given, self.unmatched, self.sent_on = deque(), 0, 0, 0, 0, Counter()
         self.owed = 0  # packets that were polled before they came
         self.poll_end, self.was_full = 0, False  # of the last poll
         self.reads = Reads()
@@ -154,7 +156,7 @@ class Timeline:
             self.reads.enter(processor, event)
         elif name.startswith("sys_exit_"):
             self.reads.leave(processor, event)
-        elif name.endswith(("_entry", "_exit")):
+        elif name.rpartition("_")[0] in HANDLERS:
             self.handler(processor, event)
         elif name == "napi_poll":
             self.poll(processor, event)
@@ -290,6 +292,7 @@ class Timeline:
 
     def deliver(self, time, work, is_empty, began):
         """A poll gave the packets that wait longest; if it wasn't full, all that came before it."""
+        self.given += work
         self.unmatched += self.owed
         self.owed = 0
         for _ in range(work):
@@ -301,10 +304,6 @@ class Timeline:
             self.waiting.popleft()
             self.unmatched += 1
         self.reads.deliver(began, time, work)
-
-    def delivered(self):
-        """How many packets the polls gave."""
-        return sum(work for work, _ in self.polls)
 
     def processor(self):
         """The processor that polls most, if any does."""

@@ -101,7 +101,7 @@ class Instance:
         with open("/proc/cpuinfo", encoding="utf-8", errors="replace") as file:
             flags = file.read()
         with contextlib.suppress(OSError), open("/sys/devices/system/clocksource/clocksource0/current_clocksource", encoding="ascii") as file:
-            if "constant_tsc" in flags and "nonstop_tsc" in flags and file.read().strip() in ("tsc", "kvm-clock"):
+            if "constant_tsc" in flags and "nonstop_tsc" in flags and file.read().strip() == "tsc":
                 self.write("trace_clock", "x86-tsc")
                 return "tsc"
         self.write("trace_clock", "mono")

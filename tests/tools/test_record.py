@@ -242,6 +242,22 @@ class Recorded(InFolder):
         self.assertEqual((process.returncode, self.names()), (1, ["made"]))
         self.assertEqual((self.folder / "made").read_bytes(), before)
 
+    def test_a_machine_without_an_even_counter(self):
+        """CLOCK_MONOTONIC is taken then, and times have six digits."""
+        tool = f"""import runpy, sys
+sys.path.insert(0, "{TOP}/tools")
+sys.argv[0] = "record"
+import tracing
+tracing.Instance.set_clock = lambda self: self.write("trace_clock", "mono") or "mono"
+runpy.run_path("{TOP}/tools/record", run_name="__main__")
+"""
+        done = subprocess.run([sys.executable, "-BEs", "-c", tool, "3", "--device", "lo", "--out", "made"], capture_output=True, text=True,
+                              check=False, cwd=self.folder)
+        self.assertEqual(done.returncode, 0, done.stderr)
+        head, body = self.head()
+        self.assertEqual(head["clock"], "mono")
+        self.check_clock([line for line in body.splitlines() if not line.startswith("#")], head)
+
     def test_some_processors(self):
         process = self.start("--processors", "0")
         self.assertEqual(process.wait(60), 0)
