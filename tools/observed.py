@@ -15,11 +15,13 @@ COUNTED = {"processed": 0, "dropped": 1, "squeezed": 2, "rps": 9, "flow_limit": 
 PROCESSOR = 12  # and that of the processor's number, which kernels before 5.10 don't have
 SECRET = {"netdev_rss_key"}
 # What the shell reads of a device, whose name is its argument and never a part of it.
-DEVICE = 'cd "/sys/class/net/$1" 2> /dev/null || exit 3; grep -s "" mtu tx_queue_len threaded napi_defer_hard_irqs gro_flush_timeout ifindex iflink ' \
-         'operstate queues/*/rps_cpus queues/*/rps_flow_cnt queues/*/xps_cpus statistics/rx_dropped statistics/rx_packets statistics/rx_missed_errors; exit 0'
+DEVICE = """cd "/sys/class/net/$1" 2> /dev/null || exit 3
+grep -s "" mtu tx_queue_len threaded napi_defer_hard_irqs gro_flush_timeout ifindex iflink operstate queues/*/rps_cpus queues/*/rps_flow_cnt \
+    queues/*/xps_cpus statistics/rx_dropped statistics/rx_packets statistics/rx_missed_errors
+exit 0"""
 ETHTOOL = {"ring": "-g", "coalesce": "-c", "channels": "-l", "feature": "-k"}
-FEATURES = {"generic-receive-offload", "large-receive-offload", "rx-gro-hw", "rx-gro-list", "rx-udp-gro-forwarding", "tcp-segmentation-offload",
-            "generic-segmentation-offload", "tx-udp-segmentation", "receive-hashing", "ntuple-filters"}
+FEATURES = {"generic-receive-offload", "large-receive-offload", "rx-gro-hw", "rx-gro-list", "rx-udp-gro-forwarding", "receive-hashing",
+            "tcp-segmentation-offload", "generic-segmentation-offload", "tx-udp-segmentation", "ntuple-filters"}
 PACKAGES = {"ip": "iproute2", "ethtool": "ethtool"}
 
 
@@ -61,13 +63,14 @@ def of_device(name, netns):
     """What sysfs has of a device."""
     status, out, _ = ran([*within(netns), "sh", "-c", DEVICE, "sh", name])
     if status != 0:
-        raise Refusal(f"--device {shown(name)}: there is no such device" + (f" in {shown(netns)}" if netns else "; one in a network namespace needs --netns"))
+        raise Refusal(f"--device {shown(name)}: there is no such device" +
+                      (f" in {shown(netns)}" if netns else "; one in a network namespace needs --netns"))
     lines = [line.partition(":") for line in out.decode("utf-8", "replace").splitlines()]
     return {path.replace("queues/", "").replace("/", "."): value for path, _, value in lines}
 
 
 def by_ethtool(name, netns):
-    """What ethtool tells of a device: the rings, how interrupts are coalesced, the channels, what is offloaded."""
+    """What ethtool prints of a device: the rings, how interrupts are coalesced, the channels, what is offloaded."""
     for part, option in ETHTOOL.items():
         front = ""
         for line in output_of([*within(netns), "ethtool", option, name]).splitlines():
@@ -155,7 +158,8 @@ def peer_of(name, netns):
     own = next((link for link in pairs_in(netns) if link["ifname"] == name), {})
     if "link" in own or "link_index" not in own:
         return own.get("link", "")
-    named = dict(re.findall(r"nsid (\d+) .*netns name: ([^)\s]+)", output_of(["ip", *(["-n", netns] if netns else []), "netns", "list-id"])))
+    listed = output_of(["ip", *(["-n", netns] if netns else []), "netns", "list-id"])
+    named = dict(re.findall(r"nsid (\d+) .*netns name: ([^)\s]+)", listed))
     found = [link["ifname"] for link in pairs_in(named.get(str(own.get("link_netnsid")), ""))
              if (link["ifindex"], link.get("link_index")) == (own["link_index"], own["ifindex"])]
     return found[0] if len(found) == 1 else ""
@@ -199,15 +203,16 @@ def counters(devices, netns):
     told = [line.split() for line in output_of([*within(netns), "cat", "/proc/net/snmp"]).splitlines() if line.startswith("Udp: ")]
     counted |= {f"udp.{name}": int(value) for name, value in zip(*told[:2]) if value.isdigit()} if len(told) >= 2 else {}
     for device in devices:
-        counted |= {f"device.{device}.{key}": int(value) for key, value in of_device(device, netns).items() if key.startswith("statistics.")}
+        counted |= {f"device.{device}.{key}": int(value) for key, value in of_device(device, netns).items()
+                    if key.startswith("statistics.")}
     return counted
 
 
 def lacking(netns):
     """What isn't installed, and how it is."""
-    return [f"{name} isn't installed (Debian: apt install {PACKAGES[name]}), so {what}" for name, what in (
-        ("ethtool", "rings, coalescing and offloads aren't recorded"), ("ip", "the other end of a veth pair isn't found: name it by --sender"))
-        if not shutil.which(name) and not (name == "ip" and netns)]
+    without = {"ethtool": "rings, coalescing and offloads aren't recorded", "ip": "the other end of a veth pair isn't found: name it by --sender"}
+    return [f"{name} isn't installed (Debian: apt install {PACKAGES[name]}), so {what}" for name, what in without.items()
+            if not shutil.which(name) and not (name == "ip" and netns)]
 
 
 def now():

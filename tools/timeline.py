@@ -8,7 +8,7 @@ from collections import Counter, defaultdict, deque
 from recording import NET_RX, POLLED, SENT, SOFTIRQ, is_by_thread
 
 HANDLER = re.compile(r"irq=(\d{1,9})(?: name=(.*))?")
-SWITCH = re.compile(r"prev_comm=.* prev_pid=(\d{1,9}) prev_prio=-?\d+ prev_state=(\S+) ==> next_comm=(.*) next_pid=(\d{1,9}) next_prio=-?\d+")
+SWITCH = re.compile(r"prev_comm=.* prev_pid=(\d{1,9}) prev_prio=-?\d+ prev_state=(\S+) ==> next_comm=(.*) next_pid=(\d{1,9}) ")
 SHORT_SWITCH = re.compile(r".*:(\d{1,9}) \[-?\d+\] (\S+) ==> (.*):(\d{1,9}) \[-?\d+\]")  # as trace-cmd writes it
 EXPIRES = re.compile(r"hrtimer=(\S+) .*\bexpires=(\d{1,20})")
 EXPIRED = re.compile(r"hrtimer=(\S+) .*\bnow=(\d{1,20})")
@@ -68,7 +68,8 @@ class Reads:
         self.slept = {}  # of each task that slept since its last read: when it did so last, and whether in a call
         self.delivered = deque()  # of each packet that waits for its read: when its poll ended, and whether that gave it only
         self.ahead = []  # reads before the end of the packet's poll: each when, and whether the program had slept
-        self.last = None  # the last read, if its task has had the processor since: task, time, processor, packets, what was taken there until then
+        # The last read, if its task has had the processor since: task, time, processor, packets, what was taken there until then.
+        self.last = None
         self.calls, self.uses, self.wakes, self.on = [], [], [], Counter()
         self.count, self.unmatched = 0, 0
 
@@ -135,7 +136,8 @@ class Timeline:
         self.is_coarse, self.has_tasks, self.has_handlers = True, False, False
         self.polls, self.strays, self.by_threads, self.where = [], 0, 0, Counter()  # packets and ns of each poll
         self.handlers, self.without = defaultdict(list), 0  # the handlers that runs followed; how many runs followed none
-        self.wakes, self.busy_wakes = defaultdict(list), defaultdict(list)  # by packets and by timers, of a processor that slept, or had other tasks
+        # By packets and by timers, of a processor that slept; and of one that had another task.
+        self.wakes, self.busy_wakes = defaultdict(list), defaultdict(list)
         self.due = {}  # of each timer
         self.waiting, self.came, self.dropped, self.given, self.unmatched, self.sent_on = deque(), 0, 0, 0, 0, Counter()
         self.owed = 0  # packets that were polled before they came
@@ -283,7 +285,7 @@ class Timeline:
                 self.add_wake("packets", processor, came, began - came - took)
 
     def add_wake(self, kind, processor, time, took):
-        """Adds what a wake-up took, if neither the program nor a poll had the processor then; if that is another task's, it counts apart."""
+        """Adds the time of a wake-up, if neither the program nor a poll had the processor; if another task had it, it counts apart."""
         name, pid, since = processor.before if processor.task[0].startswith("napi/") else processor.task
         if not self.has_tasks or name.startswith("swapper") and since <= time:
             self.wakes[kind].append(took)

@@ -257,7 +257,7 @@ class Recorded(InFolder):
         self.send(1, 40000, 40000, 0)
         process.send_signal(signal.SIGCONT)
         said = process.communicate(timeout=60)[1].decode()
-        self.assertRegex(said, r"^record: the kernel lost \d+ events, so the recording isn't written: record for a shorter time, or by a larger --buffer\n$")
+        self.assertRegex(said, r"^record: the kernel lost \d+ events, so the recording isn't written: record for a shorter time, or with a larger --buffer\n$")
         self.assertEqual((process.returncode, self.names(), (self.folder / "made").read_text()), (1, ["made"], "old\n"))
 
     def test_a_machine_without_an_even_counter(self):
