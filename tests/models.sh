@@ -1,8 +1,8 @@
 #!/usr/bin/env bash
 # tests/models.sh: that everything ends, by the models in Promela of models/. First that each function which a line of theirs names is
 # as it was when the model was last read beside it (models/stands_for.txt has the checksums). Then, where spin is installed, each
-# model: no deadlock and no failed assertion, and what is to hold under weak fairness; and each planted fault is refused. Without
-# spin it says so, and passes over these. The last line is `N passed, M failed`. Needs python3; spin needs a C compiler.
+# model: no deadlock and no failed assertion, and what is to hold under weak fairness; and each planted fault is refused. They
+# are skipped without spin. The last line is `N passed, M failed, K skipped`. Needs python3; spin needs a C compiler.
 #
 # usage: tests/models.sh            all of it
 #        tests/models.sh --look     only prints the functions whose text has changed, status 1 where there is one
@@ -57,8 +57,7 @@ esac
 check 'what the models stand for is as it was' look
 check 'each function that they name is there' eval '! grep "^nothing" "$models/stands_for.txt"'
 
-if ! command -v spin > /dev/null || ! command -v cc > /dev/null; then
-    echo 'models: passed over: there is no spin, or no C compiler'
+if ! has spin 'the search of each model' || ! has cc 'the search of each model'; then
     sum_up
     exit
 fi
