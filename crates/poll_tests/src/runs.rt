@@ -1,8 +1,8 @@
 //! Runs over a bench, by each kind of list; and the acts of a list of them.
 
 use poll_engine::{
-    Act, ActList, Bench, Device, Next, Once, PlainList, PollList, RunReport, SoftList, run_softirq,
-    shared_list,
+    Act, ActList, Bench, BusyReport, Device, Next, Once, PlainList, PollList, RunReport, SoftList,
+    ThreadReport, run_softirq, shared_list,
 };
 use rx_ring::Packet;
 use std::test::Fail;
@@ -30,6 +30,14 @@ impl Bench for Cards {
                 Next::Gone
             },
         }
+    }
+
+    fn poll_thread(&mut self, _id: u32, _weight: u32, _most: u32) -> ThreadReport {
+        ThreadReport::NONE
+    }
+
+    fn busy_poll(&mut self, _id: u32, _weight: u32, _rounds: u32) -> BusyReport {
+        BusyReport::NONE
     }
 }
 
