@@ -50,7 +50,7 @@ module _ {R : Type 0} where
   abbrev pub SameList : SharedList R → SharedList R → Type 0
   SameList before after = (after.pass.table_id ≡ before.pass.table_id) × (pushers_of after ≡ pushers_of before)
 
-  -- between these moments the poller pushed the first instances, popped the second ones, and found the queue empty so often
+  -- between these moments the poller pushed the first instances, popped the second ones, and found the queue empty at least so often
   abbrev pub PopsCame : SharedList R → List ℕ → List ℕ → ℕ → SharedList R → Type 0
   PopsCame before pushed came found after =
       SameList before after

@@ -13,7 +13,7 @@ pub trait PollList {
     ghost entries: { Self → List ℕ };
 
     /// `moves before pushed came found after`: between these two moments the poller pushed the first numbers, the second
-    /// ones came behind the entries, each in order, and the list was found empty so often.
+    /// ones came behind the entries, each in order, and the list was found empty at least so often.
     ghost moves: { Self → List ℕ → List ℕ → ℕ → Self → Type 0 };
 
     /// `is_all taken after`: when the list was left so, nothing had come that isn't in these entries, or there was no
