@@ -1,8 +1,9 @@
 /*
  * Fintaqush for C: the packet polling core of Linux 6.6 (NAPI) and byte queue limits, in user space. docs/C.md is the guide.
  *
- * Every call answers one number of enum fq_status, no number twice; of several that hold, the first that is named with the call. A
- * call that the object's state doesn't have answers FQ_NOT_ALLOWED and changes nothing.
+ * A call whose type is uint32_t, and whose comment names FQ_.., returns a number of enum fq_status; of several that hold, the first that
+ * is named with the call. The other calls return a value, the length of a text, a struct or nothing, as their comments say. A call
+ * that the object's state doesn't have returns FQ_NOT_ALLOWED and changes nothing.
  *
  * What the caller owes, since nothing here can test it:
  * - A pointer leads to a whole object of its type, or to as many as its count says; none is null (also for a count of 0), and
@@ -13,7 +14,9 @@
  * - A struct fq_handle or fq_dql isn't copied, and only calls write its fields. A handle that isn't set is all zero.
  * - No call from a signal handler, nor from the forked child of a process with threads.
  *
- * No call waits, locks or starts a thread. fq_ring_new, fq_ring_split, fq_tx_new, fq_list_new, fq_shared_new, fq_shared_bare and
+ * No call blocks, sleeps, locks or starts a thread. fq_seat_interrupt, fq_seat_interrupt_masked, fq_seat_end, fq_seat_end_watched,
+ * fq_seat_end_unmasked and fq_control_step call again as long as a try returns FQ_CHANGED, because another thread changed the instance:
+ * some thread always gets on, but the number of tries has no bound. fq_ring_new, fq_ring_split, fq_tx_new, fq_list_new, fq_shared_new, fq_shared_bare and
  * fq_replay take memory, where all else is as they want it; refused any, they give back what they took, and nothing has changed.
  * fq_free, fq_abandon and fq_ring_finish give memory back. No other call does either.
  *
@@ -143,7 +146,9 @@ enum fq_kind { FQ_LIST = 0, FQ_THREAD = 1 };
  * and is polled again behind all others; wasn't there. */
 enum fq_next { FQ_NEXT_GONE = 0, FQ_NEXT_AGAIN = 1, FQ_NEXT_AGAIN_THREAD = 2, FQ_NEXT_REPOLL = 3, FQ_NEXT_ABSENT = 4 };
 
-/* The bits of a state word: those of the kernel's NAPI_STATE_.., and whether it lies on a list or with its thread, untaken. */
+/* The bits of a state word: those of the kernel's NAPI_STATE_.., and two of this library, whether the instance is on a poll list or was
+ * handed to its thread, and wasn't taken yet. docs/FORMATS.md and reports as JSON call these two QUEUED and TO_THREAD. FQ_BIT_LISTED is
+ * not the kernel's NAPI_STATE_LISTED, which is bit 4 and isn't here. */
 #define FQ_BIT_SCHED (UINT64_C(1) << 0)
 #define FQ_BIT_MISSED (UINT64_C(1) << 1)
 #define FQ_BIT_DISABLE (UINT64_C(1) << 2)
@@ -522,7 +527,7 @@ FQ_CHECKED static inline uint32_t fq_control_step(struct fq_handle *control, boo
 
 struct fq_run_report {
     uint32_t polls, work;
-    bool squeezed; /* the budget or the window was spent */
+    bool squeezed; /* the run stopped because its budget or its window was used up, whether or not anything was left */
 };
 
 /* A list, with room for 64 numbers: more devices want more lists, as of one for each processor. */

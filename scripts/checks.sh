@@ -1,7 +1,9 @@
 #!/usr/bin/env bash
-# For tests to source, which have a folder of their own in `scratch`: checks are counted, and their sum is the last line.
+# For tests to source, which have a folder of their own in `scratch`, and the repository in `top`: checks are counted, and what is
+# skipped. Their sum is the last line.
 passed=0
 failed=0
+skipped=0
 
 # check NAME COMMAND ..: counts its status. What it wrote is shown where it fails.
 check() {
@@ -16,8 +18,34 @@ check() {
     fi
 }
 
-# sum_up: `N passed, M failed`, and whether none did.
+# skip WHAT NEED ..: counts what isn't tried, because these are missing, with the Debian packages that have them. Each of them is in
+# tests/needs.txt.
+skip() {
+    local what=$1 need packages line
+    shift
+    line="skipped: $(basename "$0" .sh): $what needs"
+    for need in "$@"; do
+        if ! packages=$(awk -v need="$need" '$1 == need { $1 = ""; print substr($0, 2); found = 1 } END { exit !found }' "$top/tests/needs.txt"); then
+            failed=$((failed + 1))
+            echo "$(basename "$0" .sh): tests/needs.txt lacks $need, which $what needs"
+            return
+        fi
+        line+=" $need"
+        [ "$packages" = - ] || line+=" (Debian: $packages)"
+    done
+    skipped=$((skipped + 1))
+    echo "$line"
+}
+
+# has PROGRAM WHAT: whether it is installed; what needs it is skipped else.
+has() {
+    command -v "$1" > /dev/null && return
+    skip "$2" "$1"
+    return 1
+}
+
+# sum_up: `N passed, M failed, K skipped`, and whether none failed.
 sum_up() {
-    echo "$passed passed, $failed failed"
+    echo "$passed passed, $failed failed, $skipped skipped"
     [ "$failed" = 0 ]
 }

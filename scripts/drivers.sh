@@ -27,7 +27,7 @@ way() {
     BUILT=$scratch/$name timeout -k 20 300 "$top/examples/$driver/run.sh" "$@" > "$scratch/run" 2>&1 || status=$?
     if [ "$status" = 69 ]; then
         cat "$scratch/run"
-        echo "$driver: passed over: the driver on a device"
+        skip 'the driver on a device' "$(sed -n 's/^[a-z]*: this needs \([^ ,]*\).*/\1/p' "$scratch/run" | tail -n 1)"
         over=1
         return
     fi

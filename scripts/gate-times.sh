@@ -58,7 +58,7 @@ stamp() {
         [ "${BASH_REMATCH[3]}" = proved ] || word["${BASH_REMATCH[1]} $part"]=failed
     elif [[ $1 =~ ^(rt:\ )?must-fail\ ([a-z0-9_]+)/ ]]; then
         count[${BASH_REMATCH[2]}]=$((${count[${BASH_REMATCH[2]}]:-0} + 1))
-    elif [[ $1 =~ ^[0-9]+\ passed,\ [0-9]+\ failed$ ]]; then
+    elif [[ $1 =~ ^[0-9]+\ passed,\ [0-9]+\ failed(,\ [0-9]+\ skipped)?$ ]]; then
         sums+=("$(seconds "$now") $1")
     fi
 }

@@ -54,10 +54,11 @@ def shown(name):
 
 
 def version():
+    number = re.search(r'^#define FQ_VERSION "(.*)"$', read(f"{TOP}/include/fintaqush.h"), re.M)[1]
     sources, of_kit = (subprocess.run(["/usr/bin/env", *it], capture_output=True, text=True, check=False).stdout.strip()
                        for it in (("git", "-C", TOP, "describe", "--always", "--dirty"), ("rt", "version")))
     serial, every = ("proved and built" if crates()[name].is_built() else "not built here yet" for name in ("napi_serial", "napi_replay"))
-    return (f"replay of Fintaqush: the NAPI polling of Linux 6.6, traces of version 1 and 2\n"
+    return (f"replay of Fintaqush {number}\nit replays traces of version 1 and 2 by the NAPI polling of Linux 6.6\n"
             f"sources: {sources or 'no git history here'}\n"
             f"program of serial mode: {serial}\nprogram of every mode: {every}\nkit: {of_kit or 'no rt on PATH'}\n")
 

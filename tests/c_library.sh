@@ -1,7 +1,8 @@
 #!/usr/bin/env bash
 # tests/c_library.sh [SEED]: the C library: its header against what the archive exports and against the numbers that are proved; the
 # examples, and random calls beside a model, compiled with warnings as errors by each compiler there is, run and compared, also under
-# sanitizers and valgrind; and what has to be refused by compilers. The last line is `N passed, M failed`.
+# sanitizers and valgrind; and what has to be refused by compilers. What needs clang or valgrind is skipped
+# without it. The last line is `N passed, M failed, K skipped`.
 set -uo pipefail
 unset CDPATH
 top=$(dirname "$(dirname "$(readlink -f "$0")")")
@@ -91,7 +92,7 @@ check 'each number has its name' each_has_a_name
 
 compilers=(gcc g++)
 for compiler in clang clang++; do
-    command -v "$compiler" > /dev/null && compilers+=("$compiler")
+    ! has "$compiler" "the examples by $compiler" || compilers+=("$compiler")
 done
 for compiler in "${compilers[@]}"; do
     case $compiler in *++) language=cpp ;; *) language=c ;; esac
@@ -244,7 +245,7 @@ export ASAN_OPTIONS=detect_leaks=1
 sanitized 'addresses, leaks and undefined behaviour' -fsanitize=address,undefined
 sanitized 'threads' -fsanitize=thread
 
-if command -v valgrind > /dev/null; then
+if has valgrind 'the examples and random calls under valgrind'; then
     for source in "$examples"/*.c "$examples"/*.cpp; do
         name=$(basename "$source")
         [ "${name##*.}" = c ] && compiler=gcc || compiler=g++

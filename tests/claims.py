@@ -1,7 +1,8 @@
-"""What pages claim beside the sources: each function and clause that a claim names is there.
+"""What pages claim, compared with the sources: each function and clause that a claim names is there, and the function is public.
 
 A claim is a bullet of a door's page under a heading of what is proved. Its last lines name the contracts that carry it, as
-`` `Type::call`: `clause`, `clause`; `other` ``; a function without clauses behind it has one contract without a name.
+`` `Type::call`: `clause`, `clause`; `other` ``; a function without clauses after it has one contract without a name. A program's
+functions are its own, and count as public.
 """
 import pathlib
 import re
@@ -11,14 +12,14 @@ OWNER = re.compile(r"(?:unsafe )?impl(?:<.*?>)? (?:.* for )?(?:&'?\w* ?)?(\w+)|(
 
 
 def clauses_of(path):
-    """Pairs of a function of a file, alone and with its type before it, and the names of its clauses."""
-    owner, names, indent = None, None, ""
+    """Pairs of a public function of a file, alone and with its type before it, and the names of its clauses."""
+    owner, names, indent, of_all = None, None, "", (path.parent / "main.rt").exists()
     for line in path.read_text().splitlines():
         if not line.startswith(" ") and (place := OWNER.match(line)):
-            owner = place[1] or place[2]
+            owner, of_trait = place[1] or place[2], bool(re.match(r"pub trait|(?:unsafe )?impl(?:<.*?>)? .* for ", line))
         elif line == "}":
             owner = None
-        if start := FUNCTION.match(line):
+        if (start := FUNCTION.match(line)) and (of_all or re.match(r" *pub (?!\()", line) or owner and of_trait):
             indent, names = start[1], set()
             yield start[2], names
             if indent and owner:

@@ -1,6 +1,6 @@
 #!/usr/bin/env bash
-# tests/dpdk.sh: as tests/xdp.sh, the driver of examples/dpdk. Where there is no DPDK, no root, no `ip`, no /dev/net/tun or no right to
-# make a namespace it says so, and passes over it. The last line is `N passed, M failed`.
+# tests/dpdk.sh: as tests/xdp.sh, the driver of examples/dpdk. It is skipped if there is no DPDK, no root, no `ip`, no /dev/net/tun or no
+# right to make a namespace. The last line is `N passed, M failed, K skipped`.
 set -uo pipefail
 unset CDPATH
 top=$(dirname "$(dirname "$(readlink -f "$0")")")
@@ -12,7 +12,7 @@ driver=dpdk
 . "$top/scripts/drivers.sh"
 
 if ! pkg-config --exists libdpdk 2> /dev/null; then
-    echo 'dpdk: passed over: there is no DPDK (Debian: libdpdk-dev, pkg-config)'
+    skip 'the driver on a device' libdpdk
 elif build plain; then
     for words in '' 'many' 'napi --two' 'napi --budget 0' 'napi --budget 65536' 'one --budget 16 --min x' 'busy power'; do
         refuses "--no-huge -m 64 --no-shconf --no-pci --no-telemetry --log-level 4 -- $words"

@@ -1,7 +1,7 @@
 #!/usr/bin/env bash
 # scripts/gate.py on a crate of two functions and four must-fail edits: one that is refused beside one that its contract lets through,
 # one of the same function, and one that doesn't compile; on a crate of one of each and a misnamed one; and on what stops `rt ci`: a crate
-# that isn't listed, and a link. The last line is `N passed, M failed`.
+# that isn't listed, and a link. The last line is `N passed, M failed, K skipped`.
 set -uo pipefail
 unset CDPATH
 top=$(dirname "$(dirname "$(readlink -f "$0")")")

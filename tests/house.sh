@@ -1,6 +1,6 @@
 #!/usr/bin/env bash
 # tests/house.sh: the measures of the house, by scripts/house.sh --check; each crate is a test, and so is a line of 140 columns that
-# passes, and one of 141 that is refused. The last line is `N passed, M failed`. Needs python3.
+# passes, and one of 141 that is refused. The last line is `N passed, M failed, K skipped`. Needs python3.
 set -uo pipefail
 top=$(dirname "$(dirname "$(readlink -f "$0")")")
 scratch=$(mktemp -d)

@@ -1,7 +1,7 @@
 #!/usr/bin/env bash
 # scripts/install.sh: into a prefix and below a DESTDIR; programs that find the library by pkg-config and by CMake; each program and
 # tool as it is installed, from another folder, and the package for Python; and all of it removed again. scripts/package.sh likewise,
-# in a root of its own. What needs a program that isn't installed is passed over, and says so. The last line is `N passed, M failed`.
+# in a root of its own. What needs a program that isn't installed is skipped. The last line is `N passed, M failed, K skipped`.
 set -uo pipefail
 unset CDPATH
 top=$(dirname "$(dirname "$(readlink -f "$0")")")
@@ -121,7 +121,7 @@ check 'a relative prefix is refused' ends_with 64 install prefix
 check 'no prefix is refused' ends_with 64 install --library
 check 'installs' install --python "$prefix"
 export PKG_CONFIG_PATH=$prefix/lib/pkgconfig
-if command -v pkg-config > /dev/null; then
+if has pkg-config 'programs by pkg-config'; then
     check 'a program by pkg-config' linked
     check 'its library is the shared one' needs "$scratch/threads" libfintaqush.so.1
     check 'a static program by pkg-config' linked -static
@@ -129,7 +129,7 @@ if command -v pkg-config > /dev/null; then
 fi
 check 'the shared library needs libc alone' needs_libc_alone "$prefix/lib/libfintaqush.so"
 check 'the shared library gives the calls alone, each of its version' exports_calls_alone "$prefix/lib/libfintaqush.so"
-if command -v cmake > /dev/null; then
+if has cmake 'programs by CMake'; then
     check 'programs by CMake' by_cmake
 fi
 for file in "$prefix"/bin/*; do
@@ -140,7 +140,7 @@ done
 check 'no tool is left out' [ "$(ls "$prefix/bin" | grep -cv '^napi_')" = "$(find "$top/tools" -maxdepth 1 -type f -perm -100 | wc -l)" ]
 check 'the tools work' there tools_work "$prefix/bin"
 check 'the package for Python' there python_replays "$prefix"
-if command -v man > /dev/null; then check 'manual pages' pages_are_whole "$prefix"; else echo 'passed over: manual pages: there is no man'; fi
+! has man 'manual pages' || check 'manual pages' pages_are_whole "$prefix"
 touch "$prefix/lib/another"
 check 'uninstalls' install --uninstall "$prefix"
 check 'what others put there stays' [ -e "$prefix/lib/another" ]
@@ -154,7 +154,7 @@ check 'nothing is left there' is_empty_of_files "$scratch/stage"
 # by_dpkg WORD ..: in a root of its own, which has none of what it depends on.
 by_dpkg() { dpkg --root="$scratch/root" --force-not-root --force-depends --force-script-chrootless --log=/dev/null "$@"; }
 
-if command -v dpkg-deb > /dev/null; then
+if has dpkg-deb 'the Debian package'; then
     package=$scratch/fintaqush_${version}_$(dpkg --print-architecture).deb
     mkdir -p "$scratch/root/var/lib/dpkg"/{info,updates}
     : > "$scratch/root/var/lib/dpkg/status"
@@ -169,8 +169,6 @@ if command -v dpkg-deb > /dev/null; then
     check 'its files are whole' sh -c '[ -z "$(dpkg --root="$1" --verify fintaqush)" ]' sh "$scratch/root"
     check 'it is removed' by_dpkg -r fintaqush
     check 'nothing of it is left' is_empty_of_files "$scratch/root/usr"
-else
-    echo 'passed over: the package: there is no dpkg-deb'
 fi
 
 sum_up

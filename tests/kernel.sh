@@ -2,10 +2,11 @@
 # tests/kernel.sh: Linux's own functions beside the program. They are taken by their names out of Debian's packages
 # linux-source-6.12 and, for the queue limit, linux-source-6.1 (or all of them out of the folder LINUX of sources) into a scratch
 # folder, built there over tests/kernel/, and play the same traces as napi_serial: each report has to be the same, byte by byte.
-# A report that isn't is shown with its smallest trace. Where the sources aren't at hand it says so, and passes over it. Nothing of
-# the kernel's is kept in the repository. The last line is `N passed, M failed`. Needs python3 and a C compiler.
+# A report that isn't is shown with its smallest trace. It is skipped if the sources can't be had. Nothing of the kernel's is
+# kept in the repository. The last line is `N passed, M failed, K skipped`. Needs python3 and a C compiler.
 #
-# usage: [LINUX=FOLDER] tests/kernel.sh [--traces N] [--small ROWS] [--seed N]
+# usage: [LINUX=FOLDER] tests/kernel.sh [--fetch | [--traces N] [--small ROWS] [--seed N]]
+#   --fetch       only fetches the sources, with status 1 if they can't be had
 #   --traces N    random traces (5000)
 #   --small ROWS  all traces of up to so many rows behind the first ones (4)
 #   --seed N      the first random trace (1)
@@ -19,20 +20,26 @@ trap 'rm -rf "$scratch"' EXIT
 # shellcheck source=scripts/checks.sh
 . "$top/scripts/checks.sh"
 
+# pass_over NEED
 pass_over() {
-    echo "kernel: passed over: $*"
-    echo '0 passed, 0 failed'
-    exit 0
+    [ -z "${fetch:-}" ] || exit 1
+    skip "the comparison with Linux's own functions" "$1"
+    sum_up
+    exit
 }
-command -v python3 > /dev/null || pass_over 'there is no python3'
-command -v cc > /dev/null || pass_over 'there is no C compiler'
+[ "${1:-}" != --fetch ] || fetch=1
+[ -n "${fetch:-}" ] || command -v cc > /dev/null || pass_over cc
 limit=(lib/dynamic_queue_limits.c include/linux/dynamic_queue_limits.h)
 "$top/scripts/linux_source.sh" 6.12 "$scratch/6.12" Makefile net/core/dev.c include/linux/{netdevice,list}.h "${limit[@]}" || {
     [ $? = 69 ] || { echo "0 passed, 1 failed"; exit 1; }
-    pass_over 'there are no sources of Linux'
+    pass_over linux-source
 }
-# Kernels after 6.6 detect stalls of a queue; this stays off here, so a limit of theirs stands in where 6.1's isn't at hand.
-"$top/scripts/linux_source.sh" 6.1 "$scratch/6.1" Makefile "${limit[@]}" > /dev/null || cp -r "$scratch/6.12" "$scratch/6.1"
+# Kernels after 6.6 detect stalls of a queue; this stays off here, so a limit of theirs stands in if 6.1's can't be had.
+"$top/scripts/linux_source.sh" 6.1 "$scratch/6.1" Makefile "${limit[@]}" > /dev/null || {
+    [ -z "${fetch:-}" ] || exit 1
+    cp -r "$scratch/6.12" "$scratch/6.1"
+}
+[ -z "${fetch:-}" ] || exit 0
 
 release() { sed -n 's/^\(VERSION\|PATCHLEVEL\|SUBLEVEL\) = //p' "$scratch/$1/Makefile" | paste -s -d .; }
 

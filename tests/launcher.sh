@@ -1,6 +1,6 @@
 #!/usr/bin/env bash
 # Tries the launcher. What building is about is tried in a small checkout of its own, with a kit that proves nothing and makes a
-# program of a few lines; what faults are about, on the real program. The last line is `N passed, M failed`.
+# program of a few lines; what faults are about, on the real program. The last line is `N passed, M failed, K skipped`.
 set -u
 unset CDPATH
 # A signal that whoever called this ignores can't be tried, and a shell can't take it back by itself.
@@ -53,9 +53,10 @@ signalled() {
 # meanwhile; the program does what DOES says, first; TRIES are more words of an unproved run.
 small_checkout() {
     rm -rf "$small" bin
-    mkdir -p "$small"/{.git,tools,docs} bin
+    mkdir -p "$small"/{.git,tools,docs,include} bin
     cp -r "$top/replay" "$top/scripts" "$small/"
     cp "$top/docs/usage.txt" "$small/docs"
+    cp "$top/include/fintaqush.h" "$small/include"
     [ $# != 0 ] || set -- low: side: 'high: low  # a note' wide:low apart:low 'napi_serial: high side csv' 'napi_replay: high side wide'
     printf '%s\n' "$@" > "$small/crates.txt"
     for row in "$@"; do
@@ -114,6 +115,7 @@ number='moment, device and value are one to twenty digits, without sign, space o
 empty='the empty lines above it are no rows' fields='a row has four fields, and this one has' h="$header\\n"
 all='--mode --pollers --budget --weight --window --unproved --json --build --version --help'
 two=$top/examples/two-packets.csv
+version=$(sed -n 's/^#define FQ_VERSION "\(.*\)"$/\1/p' "$top/include/fintaqush.h")
 
 # The real program, on files of these bytes: its fault, and the launcher's line.
 check 'the real program stands, or is built' "$top/scripts/build.sh" napi_serial
@@ -158,7 +160,7 @@ a whole number, 1..=65535 (see ./replay --help)
 a closed output % $launcher $two >&- % 4 output fault 15 OutputFailed
 a full one % $launcher --json $two 2>&1 > /dev/full | tail -n 1; (exit \${PIPESTATUS[0]}) % 4 replay: the report couldn't be written as JSON
 a report as JSON % $launcher --json $two | cmp - <($launcher $two | $top/tools/report2json) % 0 
-the kernel's log ends in a line % replay /proc/kmsg % *@(trace fault 1 BadHeader row 0|replay: /proc/kmsg: a read of it failed|\
+the kernel's log ends in a line % replay /proc/kmsg % *@(trace fault 1 BadHeader row 0*|replay: /proc/kmsg: a read of it failed|\
 replay: /proc/kmsg: it can't be read: operation not permitted)
 END
 
@@ -197,7 +199,7 @@ ls cache/fintaqush/*/one.rlib % 0 $answer|format
 and not beside it % ls -d $small/.git % 2 *
 
 no word for a mode builds what serial mode needs % small_checkout; replay trace.csv 2> made; began % 0 $answer|high low napi_serial side
-the version tells which program stands % replay --version % 0 replay of*version 1 and 2|sources:*|\
+the version, and which programs are built % replay --version % 0 replay of Fintaqush $version|it replays traces of version 1 and 2*|sources:*|\
 program of serial mode: proved and built|program of every mode: not built here yet|kit: stand-in
 --mode serial too % small_checkout; replay trace.csv --mode serial 2> made; began % 0 napi_serial --mode serial|*|high low napi_serial side
 threads mode has another % small_checkout; built --mode threads; tail -n 2 made; began % 0 napi_replay *|*|high low napi_replay side wide

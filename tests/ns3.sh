@@ -1,7 +1,7 @@
 #!/usr/bin/env bash
 # tests/ns3.sh: the simulation of examples/ns3. This library's queue limit gives the numbers of ns-3's own, call by call; each packet
-# is counted once; runs keep their budget; napi_machine (MACHINE=FILE: another build) tells the same of the same arrivals. Where ns-3 isn't installed it says so, and passes over it. The last line is
-# `N passed, M failed`.
+# is counted once; runs keep their budget; napi_machine (MACHINE=FILE: another build) tells the same of the same arrivals. It is skipped
+# without ns-3. The last line is `N passed, M failed, K skipped`.
 set -uo pipefail
 unset CDPATH
 top=$(dirname "$(dirname "$(readlink -f "$0")")")
@@ -13,9 +13,9 @@ timeout 1200 "$top/examples/ns3/run.sh" "$scratch" 100000 250000 400000 > "$scra
 status=$?
 if [ "$status" = 69 ]; then
     cat "$scratch/errors"
-    echo 'ns3: passed over: there is no ns-3'
-    echo '0 passed, 0 failed'
-    exit 0
+    skip 'the simulation' ns-3
+    sum_up
+    exit
 fi
 check 'the example is built and run' [ "$status" = 0 ]
 if [ "$status" != 0 ]; then
@@ -80,16 +80,10 @@ machine() {
         python3 -B "$top/tests/machine.py" simulated "$scratch/machine.report" "$scratch/report"
 }
 machine=${MACHINE:-$top/crates/napi_machine/out/napi_machine}
-if [ -n "${MACHINE:-}" ]; then
-    is_there=yes
-elif [ -d "$top/crates/napi_machine" ]; then
+if [ -z "${MACHINE:-}" ]; then
     check 'napi_machine is built' "$top/scripts/build.sh" napi_machine
-    is_there=yes
-else
-    is_there=
-    echo 'ns3: passed over: napi_machine: its crate does not stand yet'
 fi
-for budget in ${is_there:+0 16 64 300}; do
+for budget in 0 16 64 300; do
     for load in 100000 250000 400000; do
         check "napi_machine tells what was simulated, at a budget of $budget and $load packets a second" machine "$budget" "$load"
     done
@@ -106,10 +100,8 @@ check 'a budget that is too large is refused' refused 64 "$scratch/bottleneck" -
 check 'calls that can not be written are told' refused 74 "$scratch/bottleneck" --load=1000 --calls=/dev/full
 check 'arrivals that can not be written are told' refused 74 "$scratch/bottleneck" --load=1000 --arrivals=/dev/full
 check 'limits without words are refused' refused 64 "$scratch/limits"
-if command -v gnuplot > /dev/null; then
+if has gnuplot 'its picture'; then
     check 'the picture is drawn' [ "$(head -c 4 "$scratch/bottleneck.png" | tail -c 3)" = PNG ]
-else
-    echo 'ns3: passed over: there is no gnuplot, so no picture'
 fi
 
 sum_up

@@ -13,6 +13,8 @@ import shutil
 import subprocess
 import tempfile
 
+import needs
+
 TOP = pathlib.Path(__file__).resolve().parent.parent
 LIST = TOP / "tests/commands.txt"
 LONGEST = 900  # seconds; nothing is judged by its time
@@ -32,11 +34,15 @@ def listed(*names):
     return subprocess.run(["git", "ls-files", *names], cwd=TOP, capture_output=True, text=True, check=True).stdout.split()
 
 
+SKIPPED = []  # what was, a line each
+
+
 @functools.cache
 def is_missing(program, what):
-    """Whether a program isn't installed; what is passed over for it is told, once."""
+    """Whether a program isn't installed; what needs it is skipped, and named once."""
     if not shutil.which(program):
-        print(f"passed over: {what}: there is no {program}")
+        SKIPPED.append(needs.skipped("pages", what, program))
+        print(SKIPPED[-1])
     return not shutil.which(program)
 
 

@@ -2,16 +2,16 @@
 # tests/pages.sh [--static]: the pages beside the repository. The files that they name are there, each script is told of, and each
 # command of each page and manual page is run, and prints what the page says; or tests/commands.txt says which other test runs it, or
 # why none does. It needs the programs built; with --static it runs no command, and needs none. What needs a program that isn't
-# installed is passed over, and says so. The last line is `N passed, M failed`.
+# installed is skipped. The last line is `N passed, M failed, K skipped`.
 set -u
 cd "$(dirname "$(dirname "$(readlink -f "${BASH_SOURCE[0]}")")")" || exit 1
 programs=(napi_machine napi_replay napi_series napi_serial)
 stale=$(python3 -B -c 'import sys; sys.path.insert(0, "scripts"); import build
 print(*(it for it in sys.argv[1:] if not build.crates()[it].is_built()))' "${programs[@]}") || stale=${programs[*]}
 if [ "${1:-}" = --static ]; then
-    echo 'passed over: the commands of the pages'
+    echo 'left out by --static: the commands of the pages'
 elif [ -n "$stale" ]; then
-    echo "pages: these aren't built as they are: $stale. \`scripts/build.sh $stale\` builds them; --static passes over commands"
+    echo "pages: these aren't built as they are: $stale. \`scripts/build.sh $stale\` builds them; --static leaves commands out"
     echo '0 passed, 1 failed'
     exit 1
 fi

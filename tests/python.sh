@@ -1,7 +1,7 @@
 #!/usr/bin/env bash
 # bindings/python over the shared library that scripts/install.sh makes: its tests, in the checkout and as it is installed, from another
-# folder; its example; what a library that is missing or another one comes to; and its types, if there is a mypy. Without python3, or
-# rt, which proves and builds the library, it says so and passes over. The last line is `N passed, M failed`.
+# folder; its example; what a library that is missing or another one comes to; and its types, if there is a mypy. It is skipped
+# without rt, which proves and builds the library. The last line is `N passed, M failed, K skipped`.
 set -uo pipefail
 unset CDPATH PYTHONPATH FINTAQUSH_LIB
 top=$(dirname "$(dirname "$(readlink -f "$0")")")
@@ -12,8 +12,8 @@ package=$top/bindings/python
 prefix=$scratch/prefix
 export PYTHONDONTWRITEBYTECODE=1
 
-for program in python3 rt; do
-    command -v "$program" > /dev/null || { echo "python: passed over: there is no $program"; sum_up; exit; }
+for program in rt cc; do
+    has "$program" 'the package for Python' || { sum_up; exit; }
 done
 cd "$scratch" || exit 1
 files() { find "$package" | sort; }
@@ -57,10 +57,8 @@ FINTAQUSH_LIB=$scratch/none check 'a library that is missing' said_in_a_line "$s
 check 'one that has no call' of_no_call
 check 'one of another version' of_another_version
 check 'one that is none' no_library_at_all
-if command -v mypy > /dev/null; then
+if has mypy 'the types of the package for Python'; then
     check 'its types' mypy --strict --cache-dir="$scratch/mypy" "$package/fintaqush"
-else
-    echo 'python: passed over: its types: there is no mypy'
 fi
 check 'nothing is left in the checkout' nothing_is_left
 sum_up

@@ -1,7 +1,7 @@
 #!/usr/bin/env bash
 # bindings/rust: what it declares of the C library beside its header; that it builds without a network, its tests and examples,
 # what the compiler has to refuse, for the reason that its doc test names, and all of it under valgrind where that is installed.
-# Where there is no cargo it says so and passes over what needs one. The last line is `N passed, M failed`.
+# What needs cargo or valgrind is skipped without it. The last line is `N passed, M failed, K skipped`.
 set -uo pipefail
 unset CDPATH
 top=$(dirname "$(dirname "$(readlink -f "$0")")")
@@ -36,7 +36,7 @@ check 'each unsafe says why it is sound' each_unsafe_has_its_reason
 check 'what is not safe is declared in sys.rs alone' unsafe_calls_are_declared_in_sys_alone
 
 if ! cargo --version > "$scratch/log" 2>&1; then
-    echo 'rust: passed over: there is no cargo, which builds and tests the crate'
+    skip 'the build and the tests of the crate' cargo
     ends
 fi
 
@@ -102,7 +102,7 @@ done
 
 # ---- under valgrind, where a thread runs at a time
 
-if command -v valgrind > /dev/null; then
+if has valgrind 'its tests under valgrind'; then
     watched() {
         timeout 300 valgrind -q --fair-sched=yes --leak-check=full --errors-for-leak-kinds=definite --error-exitcode=9 "$@"
     }
@@ -110,8 +110,6 @@ if command -v valgrind > /dev/null; then
     watched_threads() { watched "$scratch/target/debug/examples/threads" 2000 | grep -x '2000 packets, each once and in order'; }
     check 'valgrind: its tests' watched_tests
     check 'valgrind: the example threads' watched_threads
-else
-    echo 'rust: passed over: there is no valgrind'
 fi
 check 'nothing is left in the checkout' nothing_is_left
 ends

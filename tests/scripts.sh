@@ -1,6 +1,6 @@
 #!/usr/bin/env bash
-# What scripts of bench/, examples/ and scripts/ refuse, and scripts/gate-times.sh on a gate that proves nothing. The last line is
-# `N passed, M failed`.
+# What scripts of bench/, examples/ and scripts/ refuse; how ./test counts and names what its scripts skip, and that tests/needs.txt has
+# all that they need; and scripts/gate-times.sh on a gate that proves nothing. The last line is `N passed, M failed, K skipped`.
 set -uo pipefail
 unset CDPATH
 top=$(dirname "$(dirname "$(readlink -f "$0")")")
@@ -27,10 +27,55 @@ TRACES=$scratch/none refuses bench/replay.sh
 refuses bench/traces.sh
 refuses bench/traces.sh "$scratch/traces" 1e5
 refuses examples/compare.sh "$scratch/none"
+refuses scripts/test-packages.sh more
+refuses scripts/test-packages.sh --list more
 refuses scripts/site.sh
 refuses scripts/site.sh a b
 refuses scripts/site.sh ''
 check 'a refused script makes nothing' [ ! -e "$scratch/traces" ]
+
+# ./test on a repository of five scripts: three skip something, and two of these say so in a way that doesn't count.
+mkdir -p "$scratch/low/scripts" "$scratch/low/tests"
+cp "$top/test" "$scratch/low"
+cp "$top/scripts/checks.sh" "$scratch/low/scripts"
+printf '%s\n' '# needs' 'spin spin' 'root -' 'cc gcc libc6-dev' > "$scratch/low/tests/needs.txt"
+# script NAME LINE ..: one that counts two checks, and has these lines between them.
+script() {
+    { printf '%s\n' '#!/bin/bash' 'top=$(dirname "$(dirname "$(readlink -f "$0")")") scratch=$(mktemp -d)' '. "$top/scripts/checks.sh"' \
+        'check one true' "${@:2}" 'check two true' 'sum_up'; } > "$scratch/low/tests/$1.sh"
+    chmod +x "$scratch/low/tests/$1.sh"
+}
+script whole
+script part "skip 'the search' spin cc" "skip 'the card' root"
+script unknown "skip 'the search' none"
+script uncounted "echo 'skipped: the search needs spin'"
+script broken 'check three false'
+# sums STATUS LINE NAME ..: ./test on these scripts ends so.
+sums() {
+    local status=0
+    "$scratch/low/test" "${@:3}" > "$scratch/out" 2>&1 || status=$?
+    check "./test ${*:3}" [ "$status $(tail -n 1 "$scratch/out")" = "$1 $2" ]
+}
+sums 0 '2 passed, 0 failed, 0 skipped' whole
+sums 0 '4 passed, 0 failed, 2 skipped' whole part
+check 'it names what was skipped, with the packages' grep -qxF '    part: the search needs spin (Debian: spin) cc (Debian: gcc libc6-dev)' "$scratch/out"
+check 'and what no package gives' grep -qxF '    part: the card needs root' "$scratch/out"
+check 'and how to install them' grep -q 'scripts/test-packages.sh installs the packages' "$scratch/out"
+sums 1 '2 passed, 1 failed, 0 skipped' unknown
+sums 1 '2 passed, 1 failed, 0 skipped' uncounted
+sums 1 '4 passed, 1 failed, 2 skipped' part broken
+check 'tests/needs.txt has what tests need, and nothing else' python3 -B "$top/tests/needs.py"
+check 'scripts/test-packages.sh lists the packages' grep -qx gnuplot-nox <("$top/scripts/test-packages.sh" --list)
+# without_root: in a copy that everybody may read.
+without_root() {
+    local status=0 as=()
+    mkdir -p "$scratch/free/scripts" "$scratch/free/tests" && cp "$top"/scripts/{test-packages,arguments}.sh "$scratch/free/scripts"
+    chmod -R a+rX "$scratch"
+    [ "$(id -u)" != 0 ] || as=(setpriv --reuid=65534 --regid=65534 --clear-groups)
+    "${as[@]}" "$scratch/free/scripts/test-packages.sh" > "$scratch/out" 2>&1 || status=$?
+    [ "$status $(cat "$scratch/out")" = '69 test-packages.sh: only root may install packages: run it with sudo' ]
+}
+! command -v apt-get > /dev/null || check 'and asks for root in a line' without_root
 
 # A gate of one crate, whose prover is a shell under the prover's name.
 mkdir -p "$scratch/rt-edit-x"

@@ -1,7 +1,7 @@
 #!/usr/bin/env bash
 # scripts/take.sh: what it takes and what it refuses, and a program over `tx_ring`, proved and run in the repository that took it.
 # `rt` takes the libraries that a checkout on this machine has built, and proves the rest there from nothing, which takes some
-# minutes. The last line is `N passed, M failed`.
+# minutes. The last line is `N passed, M failed, K skipped`.
 set -uo pipefail
 unset CDPATH
 top=$(dirname "$(dirname "$(readlink -f "$0")")")

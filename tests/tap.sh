@@ -1,7 +1,7 @@
 #!/usr/bin/env bash
 # tests/tap.sh: the driver of examples/tap on real packets, in each of its ways, by examples/tap/run.sh: what the kernel counted is
-# what the driver counted, a disable and an enable under load, and a trace that replays to the same counts. Where there is no root,
-# no `ip`, no /dev/net/tun or no right to make a namespace it says so, and passes over it. The last line is `N passed, M failed`.
+# what the driver counted, a disable and an enable under load, and a trace that replays to the same counts. It is skipped if
+# there is no root, no `ip`, no /dev/net/tun or no right to make a namespace. The last line is `N passed, M failed, K skipped`.
 set -uo pipefail
 unset CDPATH
 top=$(dirname "$(dirname "$(readlink -f "$0")")")

@@ -1,7 +1,7 @@
 #!/usr/bin/env bash
 # tests/tools.sh: tries the tools of tools/, and napi_series on whole runs, by tests/tools/test_*.py. What needs gnuplot, GNU
-# parallel, tcpdump, Chromium or a slurmd is skipped where they aren't there, and says so. PROGRAM=FILE, SERIES=FILE and MACHINE=FILE name
-# other builds of napi_replay, napi_series and napi_machine. The last line is `N passed, M failed`.
+# parallel, tcpdump, Chromium or a slurmd is skipped without it. PROGRAM=FILE, SERIES=FILE and MACHINE=FILE name
+# other builds of napi_replay, napi_series and napi_machine. The last line is `N passed, M failed, K skipped`.
 set -u
 tests=$(cd "$(dirname "$(readlink -f "$0")")" && pwd)
 if ! command -v python3 > /dev/null; then
@@ -15,10 +15,6 @@ for program in napi_replay napi_serial napi_series napi_machine; do
         napi_machine) named=${MACHINE:-} ;;
         *) named=${PROGRAM:-} ;;
     esac
-    if [ ! -d "$tests/../crates/$program" ]; then
-        echo "tools: passed over: $program, whose crate does not stand yet; bench/machine.cc tries its tools"
-        continue
-    fi
     if [ -z "$named" ] && ! "$tests/../scripts/build.sh" "$program"; then
         echo "0 passed, 1 failed"
         exit 1

@@ -1,8 +1,8 @@
 #!/usr/bin/env bash
 # tests/virtio.sh: the driver of examples/virtio on the card of a virtual machine by its run.sh, which compares the counts of driver, card,
-# guest's kernel and other end, with disables and enables under load; the same under sanitizers; three planted mistakes are found. Where
-# there is no root, no `ip`, no right to make a namespace, no TAP, no QEMU, static busybox, kmod or cpio, or no Debian kernel at hand
-# it says so, and passes over it: it downloads nothing. The last line is `N passed, M failed`.
+# guest's kernel and other end, with disables and enables under load; the same under sanitizers; three planted mistakes are found. It
+# is skipped if there is no root, no `ip`, no right to make a namespace, no TAP, no QEMU, static busybox, kmod or cpio, or no Debian
+# kernel (scripts/test-packages.sh --fetch): it downloads nothing. The last line is `N passed, M failed, K skipped`.
 set -uo pipefail
 unset CDPATH
 top=$(dirname "$(dirname "$(readlink -f "$0")")")

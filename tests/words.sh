@@ -131,10 +131,8 @@ from_short_pipe() { printf 'moment,dev' | "$@"; }
 want 2 'trace fault 10 ReadFailed'
 broken 'a folder as input' from_folder
 broken 'memory that nobody may read' from_memory
-if command -v python3 > /dev/null; then
-    broken 'a read that fails within a row' from_half
-    broken 'a read that fails behind a row' from_half_of_the_rows
-fi
+broken 'a read that fails within a row' from_half
+broken 'a read that fails behind a row' from_half_of_the_rows
 want 4 'memory fault 11 OutOfMemory'
 broken 'zeros without end' from_zeros
 broken 'a line without end' from_line

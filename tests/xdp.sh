@@ -1,8 +1,8 @@
 #!/usr/bin/env bash
 # tests/xdp.sh: the driver of examples/xdp on real packets by its run.sh, which compares the counts of driver, socket, card and other
-# end: with two threads and with one, with a small budget, and under sanitizers; three planted mistakes are found. Where there is no
-# root, no `ip`, no `ethtool`, no AF_XDP or no right to make a namespace it says so, and passes over it. The last line is
-# `N passed, M failed`.
+# end: with two threads and with one, with a small budget, and under sanitizers; three planted mistakes are found. It is skipped if
+# there is no root, no `ip`, no `ethtool`, no AF_XDP or no right to make a namespace. The last line is
+# `N passed, M failed, K skipped`.
 set -uo pipefail
 unset CDPATH
 top=$(dirname "$(dirname "$(readlink -f "$0")")")

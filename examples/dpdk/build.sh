@@ -4,7 +4,7 @@ set -euo pipefail
 unset CDPATH
 here=$(dirname "$(readlink -f "${BASH_SOURCE[0]}")")
 to=$(readlink -f "${1:?a folder}")
-pkg-config --exists libdpdk 2> /dev/null || { echo 'dpdk: there is no DPDK (Debian: libdpdk-dev, pkg-config)' >&2; exit 69; }
+pkg-config --exists libdpdk 2> /dev/null || { echo "dpdk: this needs libdpdk, of Debian's packages libdpdk-dev and pkg-config" >&2; exit 69; }
 [ -e "$to/libfintaqush.a" ] || "$here/../../scripts/c_library.sh" "$to"
 flags=(-std=gnu11 -O2 -Wall -Wextra -Wshadow -Werror -pthread "${@:2}")
 # shellcheck disable=SC2046

@@ -4,6 +4,7 @@
 start_port() {
     local processors
     processors=$(awk '/^Cpus_allowed_list/ { print $2 }' /proc/self/status)
+    kernel=/dev/net/tun
     RUNTIME_DIRECTORY=$scratch start ip netns exec "$space" "$built/dpdk" --no-huge -m 128 --no-shconf --no-pci --no-telemetry --log-level 4 \
         --lcores "0@($processors)" --vdev net_tap0,iface=fq0 -- "$@"
     inside sh -c 'echo 1 > /proc/sys/net/ipv6/conf/fq0/disable_ipv6' 2> /dev/null

@@ -9,7 +9,7 @@ here=$(dirname "$(readlink -f "${BASH_SOURCE[0]}")")
 . "$here/../driver/driver.sh"
 . "$here/port.sh"
 make_spaces dpdk "fqdpdk-$$"
-[ -c /dev/net/tun ] || over 'there is no /dev/net/tun'
+[ -c /dev/net/tun ] || over /dev/net/tun
 built=${BUILT:-$scratch}
 [ -n "${BUILT:-}" ] || "$here/build.sh" "$built" || exit
 

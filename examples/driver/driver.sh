@@ -3,20 +3,21 @@
 . "$(dirname "${BASH_SOURCE[0]}")/../tap/device.sh"
 patience=${PATIENCE:-120}
 
+# over NEED [WHY]: the driver can't run here without it.
 over() {
-    echo "$name: $1" >&2
+    echo "$name: this needs $1${2:+, $2}" >&2
     exit 69
 }
 
 # make_spaces NAME SPACE ..: the first one has the load, in `space`.
 make_spaces() {
     name=$1 spaces=("${@:2}") space=$2
-    [ "$(id -u)" = 0 ] || over 'this takes root'
-    command -v ip > /dev/null || over 'there is no ip (Debian: iproute2)'
+    [ "$(id -u)" = 0 ] || over root
+    command -v ip > /dev/null || over ip "of Debian's package iproute2"
     scratch=$(mktemp -d)
     trap remove_spaces EXIT
     for space in "${spaces[@]}"; do
-        ip netns add "$space" 2> /dev/null || over 'no network namespace can be made'
+        ip netns add "$space" 2> /dev/null || over namespaces 'and none can be made'
         inside sh -c 'for of in all default; do echo 1 > /proc/sys/net/ipv6/conf/$of/disable_ipv6; done' 2> /dev/null
     done
     space=$2
@@ -69,7 +70,7 @@ pings() {
     check "$1 pings are answered" answered "$1" "$said"
 }
 
-# start COMMAND ..: the driver
+# start COMMAND ..: the driver, which ends with status 69 if the kernel lacks or refuses what is in `kernel`
 start() {
     : > "$scratch/err"
     "$@" > "$scratch/out" 2>> "$scratch/err" &
@@ -77,7 +78,7 @@ start() {
     wait_for has_begun && told on 1 && return
     kill -KILL "$driver" 2> /dev/null
     wait "$driver"
-    [ $? != 69 ] || over "$(cat "$scratch/err")"
+    [ $? != 69 ] || over "$kernel" "$(cat "$scratch/err")"
     check 'the driver begins' false
 }
 has_begun() { told on 1 || has_ended "$driver"; }
@@ -87,7 +88,7 @@ drive() {
     local turn load
     pings 3000 1400 16
     echo "a second of UDP: $(load udp 7 1 1400)"
-    ip netns exec "$space" "$built/load" udp 7 0 600 > "$scratch/load" 2>&1 &
+    ip netns exec "$space" "$built/load" udp 7 0 600 > "$scratch/load.out" 2>&1 &
     load=$!
     for turn in 1 2 3 4 5 6 7 8 9 10; do
         flows || check 'both ways under load' false

@@ -7,7 +7,7 @@ here=$(dirname "$(readlink -f "${BASH_SOURCE[0]}")")
 top=$here/../..
 to=$(readlink -f "${1:?a folder}")
 if ! echo '#include <ns3/dynamic-queue-limits.h>' | g++ -std=c++17 -E -x c++ - > /dev/null 2>&1; then
-    echo "build: there is no ns-3 here: Debian's package libns3-dev has it" >&2
+    echo "build: this needs ns-3, of Debian's package libns3-dev" >&2
     exit 69
 fi
 "$top/scripts/c_library.sh" "$to"

@@ -18,7 +18,7 @@ find_kernel() {
             [ -z "$image" ] || [ ! -d "$modules/kernel/drivers/vfio" ] || return 0
         done
     done
-    over 'there is no Debian kernel with vfio'
+    over linux-image "a Debian kernel with vfio (scripts/test-packages.sh --fetch)"
 }
 
 # make_initramfs PROGRAM ..: busybox, `init`, these programs in /bin with their libraries, and the modules for virtio and vfio, in the order
@@ -66,13 +66,13 @@ has_booted() { wrote 'GUEST ready' 1 || has_ended "$machine"; }
 # open_machine: builds the driver, and boots a machine in which vfio-pci has the card; status 69 where there is nothing to make it of.
 open_machine() {
     local program
-    for program in qemu-system-x86_64 busybox depmod modprobe cpio; do
-        command -v "$program" > /dev/null || over "there is no $program"
+    for program in qemu-system-x86_64 busybox kmod cpio; do
+        command -v "$program" > /dev/null || over "$program"
     done
-    ! ldd "$(command -v busybox)" > /dev/null 2>&1 || over 'busybox is no static one (Debian: busybox-static)'
+    ! ldd "$(command -v busybox)" > /dev/null 2>&1 || over busybox "the static one of Debian's package busybox-static"
     find_kernel
     make_spaces virtio "fqvirtio-$$"
-    ip -n "$space" tuntap add dev fq0 mode tap 2> /dev/null || over 'no TAP device can be made'
+    ip -n "$space" tuntap add dev fq0 mode tap 2> /dev/null || over /dev/net/tun 'and no TAP device can be made'
     ip -n "$space" addr add 10.99.0.1/24 dev fq0
     built=${BUILT:-$scratch}
     [ -n "${BUILT:-}" ] || "$here/build.sh" "$built" || exit

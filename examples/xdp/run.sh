@@ -9,15 +9,16 @@ here=$(dirname "$(readlink -f "${BASH_SOURCE[0]}")")
 . "$here/../driver/driver.sh"
 make_spaces xdp "fqxdp-$$" "fqxdpcard-$$"
 far=${spaces[1]}
-command -v ethtool > /dev/null || over 'there is no ethtool'
+command -v ethtool > /dev/null || over ethtool "of Debian's package ethtool"
 built=${BUILT:-$scratch}
 [ -n "${BUILT:-}" ] || "$here/build.sh" "$built" || exit
 
-ip -n "$space" link add fq0 numrxqueues 1 numtxqueues 1 type veth peer name fq1 netns "$far" numrxqueues 1 numtxqueues 1 || over 'no veth pair can be made'
+ip -n "$space" link add fq0 numrxqueues 1 numtxqueues 1 type veth peer name fq1 netns "$far" numrxqueues 1 numtxqueues 1 || over veth 'and no pair can be made'
 inside ethtool -K fq0 tx off > /dev/null 2>&1 # a checksum that the card would make is none in the frame
 ip -n "$space" addr add 10.99.0.1/24 dev fq0
 ip -n "$space" link set fq0 up
 ip -n "$far" link set fq1 up
+kernel=AF_XDP
 start ip netns exec "$far" "$built/xdp" fq1 "$@"
 drive
 

@@ -5,7 +5,7 @@ import shutil
 import unittest
 
 from prefixes import report_of
-from tooltest import HEADER, REPLAY, TOP, InFolder, run
+from tooltest import HEADER, REPLAY, TOP, InFolder, run, skip_without
 
 
 class Plot(InFolder):
@@ -117,7 +117,7 @@ class Plot(InFolder):
         self.assertIn("heading = 'the same by both'", run("plot", trace, "--script", "--beside", "").stdout)
         self.assertRegex(run("plot", trace, "--script", "--weight", "59", "--beside", "").stdout, "heading = 'alike by both, at most 3 apart'")
 
-    @unittest.skipUnless(shutil.which("gnuplot"), "gnuplot isn't installed")
+    @skip_without("gnuplot")
     def test_no_legend_stands_on_a_line_or_a_title(self):
         """Title, headings and legends have a line each, at least nine pixels apart."""
         self.plot(self.ROWS)
@@ -146,7 +146,7 @@ class Plot(InFolder):
         self.assertIn("--beside: No closing quotation", run("plot", TOP / "examples/bursts.csv", "--beside", "'").stderr)
         self.assertEqual(run("plot").returncode, 2)
 
-    @unittest.skipUnless(shutil.which("gnuplot"), "gnuplot isn't installed")
+    @skip_without("gnuplot")
     def test_pictures(self):
         trace = self.write("my_{trace}.csv", (TOP / "examples/bursts.csv").read_text())
         for end, first in ((".svg", b"<?xml"), (".png", b"\x89PNG"), (".html", b"<!DOCTYPE html>")):
@@ -163,7 +163,7 @@ class Plot(InFolder):
         self.assertFalse("src=&quot;/" in page, "a page that can't be moved")
         self.assertEqual(self.names(), ["my_{trace}.csv", "picture.html", "picture.png", "picture.svg"])
 
-    @unittest.skipUnless(shutil.which("gnuplot"), "gnuplot isn't installed")
+    @skip_without("gnuplot")
     def test_names_are_no_commands(self):
         name = "`touch a`'; system 'touch b'; <script>'\".csv"
         self.write(name, (TOP / "examples/bursts.csv").read_text())
@@ -180,7 +180,7 @@ class Plot(InFolder):
             done = run(tool, trace, "--out", "none/x.png", *words, folder=self.folder, PROGRAM="/none", SERIES="/none")
             self.assertEqual((done.stderr, done.returncode), (f"{tool}: none: there is no such folder\n", 1))
 
-    @unittest.skipUnless(shutil.which("gnuplot"), "gnuplot isn't installed")
+    @skip_without("gnuplot")
     def test_every_example(self):
         for trace in sorted((TOP / "examples").glob("*.csv")):
             done = run("plot", trace, "--out", self.folder / "picture.png")

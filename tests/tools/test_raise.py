@@ -57,6 +57,15 @@ class Raise(InFolder):
         self.assertEqual(self.raised(self.BURST, *words, "--restarts", "1"), [*rows[:5], "2,0,softirq,0", rows[5], "3,0,softirq,0"])
         self.assertEqual(self.raised(self.BURST), rows)
 
+    def test_a_run_that_is_not_squeezed(self):
+        """With a weight of 1 each full poll is to be repeated, and the run stops with the device on the list, but without a squeeze.
+        The kernel starts another run after it, too."""
+        rows = self.BURST.splitlines()[1:]
+        raised = self.raised(self.BURST, "--weight", "1")
+        self.assertEqual(raised, [*rows[:5], *["2,0,softirq,0"] * 3, rows[5]])
+        report = self.replay("\n".join([HEADER.strip(), *raised, ""]), "--weight", "1")
+        self.assertEqual([line[-2:] for line in report if line[0] == "softirq"], [["squeezed", "0"]] * 5)
+
     def test_a_trace_of_version_2(self):
         """With a budget of 1 runs are raised until all of its nine packets are polled, with the usual one none is. Busy rows stay."""
         text = (TOP / "examples/busy-poll.csv").read_text()

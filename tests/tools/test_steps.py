@@ -67,7 +67,7 @@ class Steps(InFolder):
                                 f"{queues[one][13]} free" + (", stopped" if queues[one][15] == "1" else "") if one in queues else ""]
                                for one, line in devices.items()]}
 
-    @unittest.skipUnless(BROWSER, "no Chromium is installed")
+    @unittest.skipUnless(BROWSER, "chromium")
     def test_what_is_shown_is_what_the_reports_tell(self):
         for name, words in (("two-packets", []), ("queue-limit", []), ("two-queues", []), ("busy-poll", []), ("two-packets", ["--weight", "1"])):
             header, *rows = (TOP / f"examples/{name}.csv").read_text().splitlines()
@@ -81,7 +81,7 @@ class Steps(InFolder):
             self.assertEqual([{part: step[part] for part in ("place", "list", "devices")} for step in told], walk, name)
             self.assertTrue(all(step["said"] for step in told))
 
-    @unittest.skipUnless(BROWSER, "no Chromium is installed")
+    @unittest.skipUnless(BROWSER, "chromium")
     def test_a_page_is_no_wider_than_a_phone(self):
         """A browser's window is 500 wide at least, so the page is shown in a frame of 360."""
         page = self.steps(TOP / "examples/two-queues.csv")

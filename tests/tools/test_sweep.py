@@ -10,7 +10,7 @@ import unittest
 from concurrent.futures import ThreadPoolExecutor
 from pathlib import Path
 
-from tooltest import HEADER, REPLAY, TOP, InFolder, run
+from tooltest import HEADER, REPLAY, TOP, InFolder, run, skip_without
 
 
 def slurm_block():
@@ -63,7 +63,7 @@ class Sweep(InFolder):
         self.assertIn("8 rows in", done.stderr)
         self.check_rows()
 
-    @unittest.skipUnless(shutil.which("parallel"), "GNU parallel isn't installed")
+    @skip_without("parallel")
     def test_by_parallel(self):
         self.assertEqual(self.sweep().returncode, 0)
         self.check_rows()
@@ -262,14 +262,14 @@ SHELL=/bin/bash exec bash -c "$*"  # as sshd does
                    "--sshloginfile", machines, *words, path=f"{self.folder}/bin:{os.environ['PATH']}", HOSTS=str(asked))
         return done, asked.read_text().split()
 
-    @unittest.skipUnless(shutil.which("parallel"), "GNU parallel isn't installed")
+    @skip_without("parallel")
     def test_two_machines(self):
         done, asked = self.by_ssh("one", "two")
         self.assertEqual(done.returncode, 0, done.stderr)
         self.assertEqual(set(asked), {"one", "two"})
         self.check_rows()
 
-    @unittest.skipUnless(shutil.which("parallel"), "GNU parallel isn't installed")
+    @skip_without("parallel")
     def test_a_machine_that_is_dead(self):
         """What it was given is played by the other one, and no row is lost."""
         done, asked = self.by_ssh("dead", "two")
@@ -278,7 +278,7 @@ SHELL=/bin/bash exec bash -c "$*"  # as sshd does
         self.assertIn("8 rows in", done.stderr)
         self.check_rows()
 
-    @unittest.skipUnless(shutil.which("parallel"), "GNU parallel isn't installed")
+    @skip_without("parallel")
     def test_machines_that_are_all_dead(self):
         """No row, a status that says so, and the next call plays them."""
         done, asked = self.by_ssh("dead")
@@ -310,7 +310,7 @@ SHELL=/bin/bash exec bash -c "$*"  # as sshd does
         self.assertEqual((parts[0], sorted(parts[1:])), (whole[0], sorted(whole[1:])))
         self.assertEqual(len(whole), 13)
 
-    @unittest.skipUnless(has_slurm(), "no slurmd answers here")
+    @unittest.skipUnless(has_slurm(), "slurmd")
     def test_the_block_for_slurm(self):
         self.by_slurm("--wait")
 

@@ -4,13 +4,12 @@ import json
 import os
 import re
 import resource
-import shutil
 import struct
 import subprocess
 import sys
 import unittest
 
-from tooltest import HEADER, HERE, REPLAY, TOP, InFolder, run
+from tooltest import HEADER, HERE, REPLAY, TOP, InFolder, run, skip_without
 
 PAIRS = [word for number in range(1, 7) for word in ("--pair", f"va{number}:vb{number}")]
 
@@ -156,7 +155,7 @@ CPU:1 [7 EVENTS DROPPED]
         done = subprocess.run(["bash", "-n", self.recipe()], capture_output=True, text=True, check=False)
         self.assertEqual((done.stderr, done.returncode), ("", 0))
 
-    @unittest.skipUnless(os.environ.get("RECORD"), "RECORD=yes records on this machine, as root")
+    @unittest.skipUnless(os.environ.get("RECORD"), "RECORD=yes")
     def test_the_recipe_records(self):
         done = subprocess.run(["unshare", "-m", "bash", self.recipe()], cwd=self.folder, capture_output=True, text=True, check=False)
         self.assertEqual((done.stderr, done.returncode), ("", 0))
@@ -233,7 +232,7 @@ class FromPcap(InFolder):
         self.assertEqual((done.stderr, done.returncode), ("", 0))
         return [(self.folder / f"made.{end}").read_text().splitlines() for end in ("csv", "notes")]
 
-    HAS_TCPDUMP = unittest.skipUnless(shutil.which("tcpdump"), "tcpdump isn't installed")
+    HAS_TCPDUMP = skip_without("tcpdump")
     # What one interface sees, whose address ends in 1: five others, a broadcast of theirs, and what it sends itself.
     SEEN = [(100 * place, *((1, 10 + place) if place % 2 else (10 + place, 1)), 60 + place) for place in range(10)] + [
         (1100, 255, 11, 90), (1200, 255, 1, 91)]

@@ -4,11 +4,10 @@ import csv
 import io
 import json
 import os
-import shutil
 import sys
 import unittest
 
-from tooltest import HAS_MACHINE, MACHINE, TOP, InFolder, run
+from tooltest import HAS_MACHINE, MACHINE, TOP, InFolder, run, skip_without
 
 sys.path.insert(0, str(TOP / "tests"))
 import machine_model  # noqa: E402
@@ -105,13 +104,13 @@ class WhatIf(InFolder):
         none.chmod(0o755)
         self.assertEqual(self.rows(*words, "--resume", "--out", out, "--program", none), self.rows(*words))
 
-    @unittest.skipUnless(shutil.which("parallel"), "GNU parallel isn't installed")
+    @skip_without("parallel")
     def test_by_parallel(self):
         words = ["--budget", "1,2", "--load", "1,2"]
         done = run("what-if", self.arrivals, *words)
         self.assertEqual((done.returncode, list(csv.DictReader(io.StringIO(done.stdout)))), (0, self.rows(*words)))
 
-    @unittest.skipUnless(shutil.which("gnuplot"), "gnuplot isn't installed")
+    @skip_without("gnuplot")
     def test_the_picture(self):
         for name, begins in (("x.png", b"\x89PNG"), ("x.svg", b"<?xml")):
             self.rows("--budget", "1,300", "--load", "0.5,1,2", "--plot", self.folder / name)

@@ -21,7 +21,14 @@ if not os.path.exists(MACHINE) and shutil.which("g++"):
     atexit.register(shutil.rmtree, built)
     MACHINE = f"{built}/machine"
     subprocess.run(["g++", "-std=c++17", "-O2", TOP / "bench/machine.cc", "-o", MACHINE], check=True)
-HAS_MACHINE = unittest.skipUnless(os.path.exists(MACHINE), "napi_machine doesn't stand, and g++ isn't installed")
+HAS_MACHINE = unittest.skipUnless(os.path.exists(MACHINE), "g++")
+
+
+def skip_without(program):
+    """Skips a test where this program, a name of tests/needs.txt, isn't installed."""
+    return unittest.skipUnless(shutil.which(program), program)
+
+
 HEADER = "moment,device,event,value\n"
 
 

@@ -54,7 +54,9 @@ class Next(enum.IntEnum):
 
 
 class Word(enum.IntFlag):
-    """The bits of a state word: the kernel's NAPI_STATE_.., and whether it lies on a list or with its thread, untaken."""
+    """The bits of a state word: the kernel's NAPI_STATE_.., and two of the library: on a list (LISTED) or handed to its thread
+    (WITH_THREAD), and not taken yet. Reports as JSON call these two QUEUED and TO_THREAD. The kernel's own NAPI_STATE_LISTED is
+    another bit, 4, which isn't here."""
     SCHED = 1 << 0
     MISSED = 1 << 1
     DISABLE = 1 << 2

@@ -110,9 +110,10 @@ pub const FQ_BIT_IN_BUSY_POLL: u64 = 1 << 6;
 pub const FQ_BIT_THREADED: u64 = 1 << 8;
 /// `NAPI_STATE_SCHED_THREADED`.
 pub const FQ_BIT_SCHED_THREADED: u64 = 1 << 9;
-/// It lies on a list, and nobody has taken it.
+/// The library's own: the instance is on a list, and wasn't taken yet. Reports as JSON call it `QUEUED`. It isn't the kernel's
+/// `NAPI_STATE_LISTED`, which is bit 4 and isn't here.
 pub const FQ_BIT_LISTED: u64 = 1 << 32;
-/// It was handed to its thread, which hasn't taken it.
+/// The library's own: the instance was handed to its thread, and wasn't taken yet. Reports as JSON call it `TO_THREAD`.
 pub const FQ_BIT_WITH_THREAD: u64 = 1 << 33;
 
 /// A byte queue limit. It isn't copied, and only calls write its fields.

@@ -1,0 +1,122 @@
+"""What a door gives its users, from the sources: each public item that it passes on, its methods and the traits that it has, with
+`///`, signatures and clauses. scripts/surface.sh begins it.
+"""
+import pathlib
+import re
+import sys
+
+CRATES = pathlib.Path(__file__).resolve().parent.parent / "crates"
+ITEM = re.compile(r"pub (?:const |unsafe )*(fn|struct|enum|trait|type|const) (\w+)")
+
+
+def passed_on(crate):
+    """Pairs of a crate and the names that this one passes on of it, in the order of its `pub use`; its own names as one."""
+    text, found = (CRATES / crate / "src/lib.rt").read_text(), {}
+    for place, names in re.findall(r"^pub use (?:crate::)?(\w+)::((?:\w|::|[{},\s])+);", text, re.M):
+        of = place if (CRATES / place / "src").is_dir() else crate
+        found[of] = [*found.get(of, []), *re.findall(r"\b\w+\b(?!::)", names)]
+    return found.items()
+
+
+def parts(lines):
+    """Each line that isn't a `///` or an attribute, by its place, with the `///` above it."""
+    doc = []
+    for at, line in enumerate(lines):
+        if line.lstrip().startswith("///"):
+            doc.append(line)
+        elif not line.lstrip().startswith("#["):
+            yield at, doc, line
+            doc = []
+
+
+def to_body(lines, at):
+    """A function's lines up to its body, or a constant's or an alias's to its end."""
+    depth = re.match(" *", lines[at])[0]
+    shown = []
+    for line in lines[at:]:
+        if line in (f"{depth}{{", f"{depth}{{}}"):
+            break
+        shown.append(re.sub(r" \{$", "", line))
+        if re.match(rf"{depth}\S", line) and line.endswith((" {", ";")):
+            break
+    return shown
+
+
+def to_brace(lines, at):
+    """The lines of a struct, an enum or a trait, without a struct's private fields and what is said of these."""
+    shown, doc, is_private, is_struct = [], [], False, " struct " in lines[at]
+    for line in lines[at:]:
+        is_field = is_struct and re.match(r"    [a-z_]+: ", line)
+        is_private = bool(is_field) or is_private and not re.match(r"    \S|\}", line)
+        if line.lstrip().startswith("//"):
+            doc.append(line)
+            continue
+        shown += [] if is_private else [*doc, line]
+        doc = []
+        if line.endswith(";") and line == lines[at] or line.startswith("}"):
+            return shown
+    return shown
+
+
+def block(lines, at):
+    """The lines of an `impl` without what is private: its head, what a trait's relations are, and each public call."""
+    head = re.sub(r" \{.*$", "", " ".join(it.strip() for it in lines[at : next(n for n in range(at, len(lines)) if "{" in lines[n]) + 1]))
+    end = at if lines[at].endswith("{}") else next(n for n in range(at, len(lines)) if lines[n].startswith("}"))
+    shown = [head, ""]
+    is_trait = re.search(r" for ", re.sub(r"<[^<>]*>", "", head))
+    for place, doc, line in parts(lines[:end]):
+        if place <= at:
+            continue
+        if ITEM.match(line, 4) and line.startswith("    pub "):
+            shown += [*doc, *to_body(lines, place), ""]
+        elif is_trait and re.match(r"    ghost (?!use )\w+", line):
+            last = next(n for n in range(place, end) if lines[n].endswith(";"))
+            shown += [*lines[place : last + 1], ""]
+    return shown if len(shown) > 2 or is_trait else []
+
+
+def type_of(line):
+    """The type that an `impl` is of."""
+    text = re.sub(r"^impl(<(?:[^<>]|<[^<>]*>)*>)? *", "", line)
+    return re.match(r"\w*", text.rpartition(" for ")[2] if " for " in text else text)[0]
+
+
+def items(crate, names):
+    """These items of a crate, each with its methods."""
+    found = []
+    for path in sorted((CRATES / crate / "src").glob("*.rt")):
+        lines = path.read_text().splitlines()
+        for at, doc, line in parts(lines):
+            item = ITEM.match(line)
+            if item and item[2] in names:
+                shown = to_brace(lines, at) if item[1] in ("struct", "enum", "trait") else to_body(lines, at)
+                found.append([*doc, *shown, ""])
+            elif line.startswith("impl") and type_of(line) in names:
+                found.append(block(lines, at))
+    return [line for part in found for line in part]
+
+
+def aliased(crate, name):
+    """The type that an alias stands for, with the crate that has it, if the name is an alias."""
+    texts = {path: path.read_text() for path in sorted(CRATES.glob("*/src/*.rt"))}
+    own = "\n".join(text for path, text in texts.items() if path.parts[-3] == crate)
+    if alias := re.search(rf"^pub type {name}\b(?:<[^=]*>)? =\s+(\w+)", own, re.M):
+        homes = [path.parts[-3] for path, text in texts.items() if re.search(rf"^pub (struct|enum) {alias[1]}\b", text, re.M)]
+        return next(((home, alias[1]) for home in sorted(homes, key=lambda it: it != crate)), None)
+    return None
+
+
+def surface(door):
+    told = set()
+    for crate, names in passed_on(door):
+        print(f"// {crate}\n")
+        print("\n".join(items(crate, names)))
+        for name in names:
+            if (of := aliased(crate, name)) and of not in told:
+                told.add(of)
+                print(f"// {of[0]}, whose {of[1]} {name} is\n")
+                print("\n".join(items(of[0], [of[1]])))
+
+
+if __name__ == "__main__":
+    surface(sys.argv[1])

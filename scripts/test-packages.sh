@@ -1,0 +1,45 @@
+#!/usr/bin/env bash
+# scripts/test-packages.sh [--list | --fetch]: installs on Debian all packages that a test of this repository needs (tests/needs.txt),
+# and fetches the kernel sources and the kernel image that tests read, into out/ and ~/.cache/fintaqush. Then ./test skips only what
+# needs no package. --list only prints the packages to install, --fetch only fetches, which needs no root.
+# Exit status: 0; 64 other arguments; 69 no root, or no apt-get; 70 a package couldn't be installed or fetched.
+set -euo pipefail
+unset CDPATH
+top=$(dirname "$(dirname "$(readlink -f "${BASH_SOURCE[0]}")")")
+. "$top/scripts/arguments.sh"
+at_most 1 "$@"
+
+stop() {
+    echo "test-packages.sh: $2" >&2
+    exit "$1"
+}
+
+# What is only fetched begins with linux-.
+packages() { awk '!/^#/ && NF && $2 != "-" && $1 !~ /^linux-/ { for (i = 2; i <= NF; i++) print $i }' "$top/tests/needs.txt" | sort -u; }
+
+fetch() {
+    "$top/tests/kernel.sh" --fetch || stop 70 'the sources of Linux could not be fetched'
+    local image=~/.cache/fintaqush/linux-image room name
+    [ ! -d "$image/boot" ] || return 0
+    room=$(mktemp -d)
+    trap "rm -rf '$room'" EXIT
+    name=$(apt-cache depends linux-image-cloud-amd64 | grep -o 'linux-image-[0-9].*') || stop 70 'there is no package linux-image-cloud-amd64'
+    mkdir -p "$image"
+    (cd "$room" && apt-get download "$name") && dpkg-deb -x "$room"/linux-image-*.deb "$image" || stop 70 "$name could not be fetched"
+}
+
+case ${1-all} in
+--list) packages ;;
+--fetch) fetch ;;
+all)
+    command -v apt-get > /dev/null || stop 69 'there is no apt-get: this installs packages of Debian'
+    [ "$(id -u)" = 0 ] || stop 69 'only root may install packages: run it with sudo'
+    # shellcheck disable=SC2046 # names of packages
+    apt-get update && DEBIAN_FRONTEND=noninteractive apt-get install -y --no-install-recommends $(packages) ||
+        stop 70 'apt-get could not install them all; its messages are above'
+    # What is fetched belongs to the user who runs the tests.
+    if [ -n "${SUDO_USER:-}" ]; then sudo -H -u "$SUDO_USER" "$0" --fetch; else fetch; fi
+    echo 'All packages are there: ./test skips only what needs no package.'
+    ;;
+*) refuse "it takes no '${1//[^[:print:]]/?}'" ;;
+esac
