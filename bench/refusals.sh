@@ -122,17 +122,24 @@ refuse_ends() {
 }
 
 # refuse_until KIND: until the program makes no call with that number. The report has to be as ever, but for the line of the
-# library's call that was refused. Leaves the calls refused in `count`.
+# library's call that was refused, which says what was: memory, or the start of a thread. Leaves the calls refused in `count`.
 refuse_until() {
     count=0
+    rm -f "$folder/starts"
+    export STARTS="$folder/starts"
+    refuse "$1" 0
+    unset STARTS
     refuse "$1" 1
     while [ -e "$folder/refused" ]; do
         count=$((count + 1))
-        [ "$status" = 0 ] && [ ! -s "$folder/err" ] && sed 's/, refused once$//' "$folder/out" | cmp -s - "$folder/report" || {
+        what='refused once'
+        # Memory that the start of a thread asks for: the thread could not be started.
+        if [ "$1" = REFUSE_THREAD ] || grep -qx "$count" "$folder/starts"; then what='a start refused once'; fi
+        [ "$status" = 0 ] && [ ! -s "$folder/err" ] && sed "s/, $what\$//" "$folder/out" | cmp -s - "$folder/report" || {
             cat "$folder/out" "$folder/err" >&2
-            fail "$mode $1=$count: status $status"
+            fail "$mode $1=$count: status $status, where its line is to end by: $what"
         }
-        sed -n '/, refused once$/p' "$folder/out" >> "$folder/once"
+        sed -n 's/, \(a start \)\{0,1\}refused once$/, refused once/p' "$folder/out" >> "$folder/once"
         refuse "$1" $((count + 1))
     done
     is_whole || fail "$mode $1: nothing was refused, and another report was written"

@@ -5,7 +5,7 @@
    Left out, so that the states are few: a waiting call that tries again is one step (waiting.pml has these loops); the weight,
    the ring's places and the window of a list are 1; memory is sequentially consistent; memory is never refused.
    FAULT plants one: 1 a thread that isn't woken, 2 a wake before its push, 3 a thread that is never told, 4 a hand-on without a
-   wake, 5 a refused start that isn't passed on. */
+   wake, 5 a refused start that isn't passed on, 6 a poller that never started is waited for: a deadlock. */
 #ifndef WORKERS
 #define WORKERS 1
 #endif
@@ -209,7 +209,7 @@ init {
     :: WITH_THREAD -> unpolled = true; thread_ended = true                      /* poll_tasks/tasks begin */
     :: else -> thread_ended = true                                              /* poll_seats/thread_poller is_idle */
     fi;                                                                         /* poll_tasks/tasks begin */
-    if :: run Poller() :: unpolled = true; poller_ended = true fi;              /* poll_tasks/tasks begin */
+    if :: run Poller() :: unpolled = true; poller_ended = (FAULT != 6) fi;     /* poll_tasks/tasks begin */
     if :: unpolled && FAULT != 5 -> refused = true :: else fi;                  /* poll_tasks/driving drive */
     number = 0;
     do

@@ -1,11 +1,12 @@
 #!/usr/bin/env bash
-# scripts/c_library.sh FOLDER: proves and builds the C library, where that isn't done yet, and puts libfintaqush.a into the folder:
-# the exports of napi_c, the replay of replay_c, and the kit's heap that they call. It asks for no library but C's own. Standard
-# output stays empty.
+# scripts/c_library.sh FOLDER: proves and builds the C library, where that isn't done yet, and puts libfintaqush.a into the folder, which
+# it makes if it isn't there: the exports of napi_c, the replay of replay_c, and the kit's heap that they call. The archive needs no
+# library but C's own. Standard output stays empty.
 set -euo pipefail
 unset CDPATH
 crates=$(dirname "$(dirname "$(readlink -f "${BASH_SOURCE[0]}")")")/crates
-to=$(readlink -f "${1:?a folder}")
+mkdir -p "${1:?a folder}"
+to=$(readlink -f "$1")
 command -v rt > /dev/null || { echo 'c_library: there is no rt on PATH, which proves and builds it' >&2; exit 69; }
 "$crates/../scripts/build.sh" napi_c replay_c
 scratch=$(mktemp -d)

@@ -86,7 +86,7 @@ tools_work() {
         "$1/from-ftrace" "$top/tests/tools/soft-tcp.txt" made $(printf -- '--pair va%d:vb%d ' 1 1 2 2 3 3 4 4 5 5 6 6) &&
         diff made.csv "$top/tests/tools/soft-tcp.csv" && "$1/traffic" | "$1/napi_serial" > report &&
         echo '1.000000 02:00:00:00:00:02 > 02:00:00:00:00:01, ethertype IPv4 (0x0800), length 60: UDP' | "$1/from-pcap" - captured &&
-        "$1/costs" "$top/tests/tools/soft-tcp.txt" --words > words && "$1/traffic" --arrivals > arrivals &&
+        "$1/costs" "$top/tests/tools/soft-tcp.txt" --words > words && "$1/costs" "$top/tests/tools/recorded-apart.rec" --json > json && "$1/traffic" --arrivals > arrivals &&
         { [ ! -e "$1/napi_machine" ] || [ "$("$1/what-if" arrivals --budget 16,64 | wc -l)" = 3 ]; } &&
         { "$1/raise" "$trace" --buget 3; [ "$?" = 2 ]; }
 }

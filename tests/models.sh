@@ -62,18 +62,29 @@ if ! has spin 'the search of each model' || ! has cc 'the search of each model';
     exit
 fi
 
-# build NAME MODEL -DWORD=N ..: the model's search as a program.
+# build NAME MODEL -DWORD=N ..: the model's search as two programs. Deadlocks are seen only by the one without the claims: with a claim
+# `search` looks for cycles that break it, and an end that nobody expected is no error.
 build() {
-    local folder=$scratch/$1
-    mkdir -p "$folder" && cd "$folder" && spin -a "${@:3}" "$models/$2" && cc -O1 -w -DCOLLAPSE -DVECTORSZ=1024 -DNFAIR=3 -o search pan.c
+    local folder=$scratch/$1 flags=(-O1 -w -DCOLLAPSE -DVECTORSZ=1024)
+    mkdir -p "$folder" && cd "$folder" && spin -a "${@:3}" "$models/$2" || return
+    cc "${flags[@]}" -DNFAIR=3 -o search pan.c && cc "${flags[@]}" -DNOCLAIM -DSAFETY -o search_safe pan.c
 }
 
-# search NAME PROPERTY: whether it holds; `safe` is that there is no deadlock and no failed assertion.
+# search NAME PROPERTY: prints `holds`, `broken`, or `unknown` if the search didn't end or failed in another way. `safe` is that there is
+# no deadlock and no failed assertion; any other property is broken only by a cycle that breaks it.
 search() {
-    local words=(-a -f -N "$2")
-    [ "$2" != safe ] || words=(-noclaim)
-    (cd "$scratch/$1" && timeout 600 ./search -m1000000 "${words[@]}" > "$2.log" 2>&1)
-    grep -q 'errors: 0$' "$scratch/$1/$2.log" && ! grep -q 'max search depth too small\|out of memory\|Search not completed' "$scratch/$1/$2.log"
+    local words=(./search -a -f -N "$2") log=$scratch/$1/$2.log breaks='acceptance cycle'
+    [ "$2" != safe ] || words=(./search_safe) breaks='invalid end state|assertion violated'
+    (cd "$scratch/$1" && timeout 600 "${words[@]}" -m1000000 > "$log" 2>&1)
+    if grep -qE 'max search depth too small|out of memory' "$log"; then
+        echo unknown
+    elif grep -q 'errors: 0$' "$log" && ! grep -q 'Search not completed' "$log"; then
+        echo holds
+    elif grep -qE "errors: [1-9]" "$log" && grep -qE "^pan:[0-9]+: ($breaks)" "$log"; then
+        echo broken
+    else
+        echo unknown
+    fi
 }
 
 # Each line: a name, a model, its words, and then what is to hold, or `refused` and a property that has to fail.
@@ -88,6 +99,7 @@ a-wake-before-its-push wake.pml -DACTS=2,-DFAULT=2 refused polled
 a-thread-that-is-never-told wake.pml -DACTS=2,-DFAULT=3 refused ends
 a-hand-on-without-a-wake wake.pml -DACTS=3,-DFAULT=4 refused polled
 a-refused-start-not-passed-on wake.pml -DACTS=2,-DFAULT=5 refused ends
+a-refused-poller-that-is-waited-for wake.pml -DACTS=2,-DFAULT=6 refused safe
 a-schedule-that-ignores-disable waiting.pml -DENDLESS=1,-DFAULT=1 refused taken
 a-repoll-that-ignores-disable waiting.pml -DENDLESS=1,-DFAULT=2 refused taken
 a-completion-by-load-and-store waiting.pml -DENDLESS=0,-DFAULT=3 refused safe
@@ -96,15 +108,22 @@ PLAN
 
 # try NAME MODEL WORDS [refused] PROPERTY ..: `+ CLAIM` or `- CLAIM` for each.
 try() {
-    local name=$1 model=$2 words property wanted=0
+    local name=$1 model=$2 words property wanted=holds found
     IFS=, read -r -a words <<< "$3"
     shift 3
-    if [ "$1" = refused ]; then wanted=1; shift; fi
+    if [ "$1" = refused ]; then
+        wanted=broken
+        shift
+    fi
     build "$name" "$model" "${words[@]}" > "$scratch/$name.log" 2>&1 || { echo "- $name is built"; return; }
     for property in "$@"; do
-        search "$name" "$property"
-        if [ $? = "$wanted" ]; then echo "+ $name $property"; else echo "- $name $property"; fi
-        [ "$wanted" = 1 ] || sed -n "s/^ *\([0-9.e+]*\) states, stored.*/$name, $property: \1 states/p" "$scratch/$name/$property.log"
+        found=$(search "$name" "$property")
+        if [ "$found" = "$wanted" ]; then echo "+ $name $property"; else
+            echo "- $name $property"
+            echo "$name, $property: $found, and not $wanted"
+            tail -n 20 "$scratch/$name/$property.log"
+        fi
+        [ "$wanted" = broken ] || sed -n "s/^ *\([0-9.e+]*\) states, stored.*/$name, $property: \1 states/p" "$scratch/$name/$property.log"
     done
 }
 while read -r -a words; do

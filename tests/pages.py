@@ -1,6 +1,6 @@
 """The pages beside the repository: links lead, files and names are there, claims name clauses that are (claims.py), programs that they
-show are compiled (snippets.py), commands do what they say (page_commands.py), README.md and the doors' pages keep their number of
-words, the site and the manual pages are whole (site_pages.py).
+show are compiled (snippets.py), commands do what they say (page_commands.py), README.md keeps its number of words, the site and the
+manual pages are whole (site_pages.py).
 """
 import functools
 import pathlib
@@ -16,7 +16,7 @@ from page_commands import SKIPPED, is_missing, listed
 
 TOP = pathlib.Path(__file__).resolve().parent.parent
 DOORS = "napi_model dql_core rx_ring tx_ring napi_word napi_calls poll_engine device_model replay machine".split()
-README_WORDS, DOOR_WORDS = 700, 1000
+README_WORDS = 700
 # What is made, or stands in somebody else's folder.
 MADE = re.compile(r"(^|/)out(/|$)|include/linux/|crates/first|NAME|FOLDER|FILE|PROGRAM|TRACE|DOOR|\.\.\./|^\.\.?/\.\./|[*<>{}$]|^/")
 # Crates that use the library's doors, beside those named for tests.
@@ -99,13 +99,10 @@ def ratios(page):
 
 
 def lengths(_page):
-    """Words of README.md beside commands and tables, and of each door's page."""
-    count = {page: len(page.read_text().split()) for page in pages()}
+    """Words of README.md beside commands and tables: no other page has a limit."""
     first = len(re.sub(r"^(    |\|).*$", "", (TOP / "README.md").read_text(), flags=re.M).split())
     if first > README_WORDS:
         yield f"{first} words beside commands and tables, of at most {README_WORDS}"
-    yield from (f"{door}: {words} words, of at most {DOOR_WORDS}" for door in DOORS
-                if (words := count.get(TOP / "crates" / door / "README.md", 0)) > DOOR_WORDS)
 
 
 def needs_of_crates():

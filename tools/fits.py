@@ -27,8 +27,8 @@ class Cost:
         return f"{self.value:.0f} ns ({self.low:.0f} to {self.high:.0f})"
 
     def as_object(self):
-        return {"value": round(self.value), "low": round(self.low), "high": round(self.high), "count": self.count, "explained": self.explained,
-                "half": [round(each) for each in self.middle] or None, "from": self.source}
+        return {"value": round(self.value), "low": round(self.low), "high": round(self.high), "count": self.count,
+                "explained": self.explained, "half": [round(each) for each in self.middle] or None, "from": self.source}
 
 
 def cost_of(times, source, less=0):
@@ -84,8 +84,8 @@ def cost_line(points, known, source):
     error = sqrt(left / max(1, count - 2))
     by_slope, by_start = WIDE * error / sqrt(spread), WIDE * error * sqrt(1 / count + mean_x * mean_x / spread)
     if explained <= 0:
-        raise Refusal(f"what a packet costs isn't known: over {count} polls of {min(kept)[0]} to {max(kept)[0]} packets the time doesn't grow with them, so the "
-                      "line is worse than useless: record more varied traffic, on a processor that does nothing else")
+        raise Refusal(f"what a packet costs isn't known: over {count} polls of {min(kept)[0]} to {max(kept)[0]} packets the time doesn't "
+                      "grow with them, so the line is worse than useless: record more varied traffic, on a processor that does nothing else")
     off = median(abs(y - start - slope * x) / max(1, start + slope * x) for x, y in kept)
     poll = Cost(start, max(0, start - by_start), start + by_start, count, source, round(explained, 4))
     packet = Cost(slope, max(0, slope - by_slope), slope + by_slope, count, source, round(explained, 4))

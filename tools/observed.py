@@ -4,6 +4,7 @@ from toolbox import Refusal, ran, shown
 
 import contextlib
 import glob
+import gzip
 import json
 import os
 import re
@@ -14,11 +15,13 @@ COUNTED = {"processed": 0, "dropped": 1, "squeezed": 2, "rps": 9, "flow_limit": 
 PROCESSOR = 12  # and that of the processor's number, which kernels before 5.10 don't have
 SECRET = {"netdev_rss_key"}
 # What the shell reads of a device, whose name is its argument and never a part of it.
-DEVICE = 'cd "/sys/class/net/$1" 2> /dev/null || exit 3; grep -s "" mtu tx_queue_len threaded napi_defer_hard_irqs gro_flush_timeout ifindex iflink ' \
-         'operstate queues/*/rps_cpus queues/*/rps_flow_cnt queues/*/xps_cpus statistics/rx_dropped statistics/rx_packets statistics/rx_missed_errors; exit 0'
+DEVICE = """cd "/sys/class/net/$1" 2> /dev/null || exit 3
+grep -s "" mtu tx_queue_len threaded napi_defer_hard_irqs gro_flush_timeout ifindex iflink operstate queues/*/rps_cpus queues/*/rps_flow_cnt \
+    queues/*/xps_cpus statistics/rx_dropped statistics/rx_packets statistics/rx_missed_errors
+exit 0"""
 ETHTOOL = {"ring": "-g", "coalesce": "-c", "channels": "-l", "feature": "-k"}
-FEATURES = {"generic-receive-offload", "large-receive-offload", "rx-gro-hw", "rx-gro-list", "rx-udp-gro-forwarding", "tcp-segmentation-offload",
-            "generic-segmentation-offload", "tx-udp-segmentation", "receive-hashing", "ntuple-filters"}
+FEATURES = {"generic-receive-offload", "large-receive-offload", "rx-gro-hw", "rx-gro-list", "rx-udp-gro-forwarding", "receive-hashing",
+            "tcp-segmentation-offload", "generic-segmentation-offload", "tx-udp-segmentation", "ntuple-filters"}
 PACKAGES = {"ip": "iproute2", "ethtool": "ethtool"}
 
 
@@ -60,13 +63,14 @@ def of_device(name, netns):
     """What sysfs has of a device."""
     status, out, _ = ran([*within(netns), "sh", "-c", DEVICE, "sh", name])
     if status != 0:
-        raise Refusal(f"--device {shown(name)}: there is no such device" + (f" in {shown(netns)}" if netns else "; one in a network namespace needs --netns"))
+        raise Refusal(f"--device {shown(name)}: there is no such device" +
+                      (f" in {shown(netns)}" if netns else "; one in a network namespace needs --netns"))
     lines = [line.partition(":") for line in out.decode("utf-8", "replace").splitlines()]
     return {path.replace("queues/", "").replace("/", "."): value for path, _, value in lines}
 
 
 def by_ethtool(name, netns):
-    """What ethtool tells of a device: the rings, how interrupts are coalesced, the channels, what is offloaded."""
+    """What ethtool prints of a device: the rings, how interrupts are coalesced, the channels, what is offloaded."""
     for part, option in ETHTOOL.items():
         front = ""
         for line in output_of([*within(netns), "ethtool", option, name]).splitlines():
@@ -76,6 +80,23 @@ def by_ethtool(name, netns):
             for key, value in found:
                 if value != "n/a" and (part != "feature" or key in FEATURES):
                     yield f"ethtool.{part}.{front}{'-'.join(key.lower().split())}", value
+
+
+def driver_of(name, netns):
+    """The driver of a device."""
+    found = re.search(r"^driver: (\S+)", output_of([*within(netns), "ethtool", "-i", name]), re.M)
+    if found:
+        yield "driver", found[1]
+
+
+def ticks():
+    """How many times a second the kernel's clock ticks, which netdev_budget_usecs is rounded to, if its configuration is there."""
+    release = os.uname().release
+    for path, opener in (("/proc/config.gz", gzip.open), (f"/boot/config-{release}", open), (f"/lib/modules/{release}/config", open)):
+        with contextlib.suppress(OSError, EOFError), opener(path, "rt", encoding="utf-8", errors="replace") as file:
+            if found := re.search(r"^CONFIG_HZ=(\d+)$", file.read(), re.M):
+                yield "hz", found[1]
+                return
 
 
 def interrupts_of(name):
@@ -137,7 +158,8 @@ def peer_of(name, netns):
     own = next((link for link in pairs_in(netns) if link["ifname"] == name), {})
     if "link" in own or "link_index" not in own:
         return own.get("link", "")
-    named = dict(re.findall(r"nsid (\d+) .*netns name: ([^)\s]+)", output_of(["ip", *(["-n", netns] if netns else []), "netns", "list-id"])))
+    listed = output_of(["ip", *(["-n", netns] if netns else []), "netns", "list-id"])
+    named = dict(re.findall(r"nsid (\d+) .*netns name: ([^)\s]+)", listed))
     found = [link["ifname"] for link in pairs_in(named.get(str(own.get("link_netnsid")), ""))
              if (link["ifindex"], link.get("link_index")) == (own["link_index"], own["ifindex"])]
     return found[0] if len(found) == 1 else ""
@@ -147,6 +169,7 @@ def of_kernel():
     """The kernel, the processors, and all of net.core that is no secret."""
     system = os.uname()
     yield "kernel", system.release
+    yield from ticks()
     yield "machine", system.machine
     yield "online", text_in("/sys/devices/system/cpu/online")
     yield "clocksource", text_in("/sys/devices/system/clocksource/clocksource0/current_clocksource")
@@ -162,7 +185,7 @@ def settings_of_device(name, netns):
     for key, value in of.items():
         if not key.startswith(counts) and value:
             yield f"device.{name}.{key}", value
-    more = [by_ethtool(name, netns), threads_of(name)]
+    more = [driver_of(name, netns), by_ethtool(name, netns), threads_of(name)]
     for key, value in (pair for each in (more if netns else [*more, interrupts_of(name)]) for pair in each):
         if value:
             yield f"device.{name}.{key}", value
@@ -180,15 +203,16 @@ def counters(devices, netns):
     told = [line.split() for line in output_of([*within(netns), "cat", "/proc/net/snmp"]).splitlines() if line.startswith("Udp: ")]
     counted |= {f"udp.{name}": int(value) for name, value in zip(*told[:2]) if value.isdigit()} if len(told) >= 2 else {}
     for device in devices:
-        counted |= {f"device.{device}.{key}": int(value) for key, value in of_device(device, netns).items() if key.startswith("statistics.")}
+        counted |= {f"device.{device}.{key}": int(value) for key, value in of_device(device, netns).items()
+                    if key.startswith("statistics.")}
     return counted
 
 
 def lacking(netns):
     """What isn't installed, and how it is."""
-    return [f"{name} isn't installed (Debian: apt install {PACKAGES[name]}), so {what}" for name, what in (
-        ("ethtool", "rings, coalescing and offloads aren't recorded"), ("ip", "the other end of a veth pair isn't found: name it by --sender"))
-        if not shutil.which(name) and not (name == "ip" and netns)]
+    without = {"ethtool": "rings, coalescing and offloads aren't recorded", "ip": "the other end of a veth pair isn't found: name it by --sender"}
+    return [f"{name} isn't installed (Debian: apt install {PACKAGES[name]}), so {what}" for name, what in without.items()
+            if not shutil.which(name) and not (name == "ip" and netns)]
 
 
 def now():

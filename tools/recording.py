@@ -14,10 +14,10 @@ from arrivals import seconds
 
 MOST_LINE = 4096  # characters
 HEAD = "fintaqush-recording 1"
-OTHERS = {b"PERFILE2": "this is the file of `perf record`: take the text of `perf script --ns`", b"\x17\x08Dtraci": "this is the file of `trace-cmd "
-          "record`: take the text of `trace-cmd report -t`", b"\xd4\xc3\xb2\xa1": "this is a capture, which tools/from-pcap reads", b"\xa1\xb2\xc3\xd4":
-          "this is a capture, which tools/from-pcap reads", b"M<\xb2\xa1": "this is a capture, which tools/from-pcap reads", b"\n\r\r\n":
-          "this is a capture, which tools/from-pcap reads", b"\x7fELF": "this is a program"}
+CAPTURE = "this is a capture, which tools/from-pcap reads"
+OTHERS = {b"PERFILE2": "this is the file of `perf record`: take the text of `perf script --ns`", b"\xd4\xc3\xb2\xa1": CAPTURE,
+          b"\x17\x08Dtraci": "this is the file of `trace-cmd record`: take the text of `trace-cmd report -t`", b"\xa1\xb2\xc3\xd4": CAPTURE,
+          b"M<\xb2\xa1": CAPTURE, b"\n\r\r\n": CAPTURE, b"\x7fELF": "this is a program"}  # by their first bytes
 NET_RX = 3  # the number of the softirq that polls (NET_RX_SOFTIRQ)
 
 # As ftrace and trace-cmd write it, `TASK-PID [CPU] FLAGS TIME: NAME:`, and as perf does, `TASK PID[/TID] [CPU] TIME: [COUNT] SYSTEM:NAME:`.
@@ -146,7 +146,8 @@ def events_in(recording, lost, head=None):
 def check_lost(lost):
     """Refuses a recording of which the kernel lost events."""
     if lost:
-        raise Refusal(f"{lost[0]}, so what it tells isn't known: record for a shorter time, or with a larger buffer (tools/record --buffer)")
+        raise Refusal(f"{lost[0]}, so its numbers would be wrong: record for a shorter time, or with a larger buffer (tools/record "
+                      "--buffer)")
 
 
 def is_by_thread(event):

@@ -8,15 +8,17 @@ from collections import Counter, defaultdict, deque
 from recording import NET_RX, POLLED, SENT, SOFTIRQ, is_by_thread
 
 HANDLER = re.compile(r"irq=(\d{1,9})(?: name=(.*))?")
-SWITCH = re.compile(r"prev_comm=.* prev_pid=(\d{1,9}) prev_prio=-?\d+ prev_state=(\S+) ==> next_comm=(.*) next_pid=(\d{1,9}) next_prio=-?\d+")
+SWITCH = re.compile(r"prev_comm=.* prev_pid=(\d{1,9}) prev_prio=-?\d+ prev_state=(\S+) ==> next_comm=(.*) next_pid=(\d{1,9}) ")
 SHORT_SWITCH = re.compile(r".*:(\d{1,9}) \[-?\d+\] (\S+) ==> (.*):(\d{1,9}) \[-?\d+\]")  # as trace-cmd writes it
 EXPIRES = re.compile(r"hrtimer=(\S+) .*\bexpires=(\d{1,20})")
 EXPIRED = re.compile(r"hrtimer=(\S+) .*\bnow=(\d{1,20})")
 RETURNED = re.compile(r"0x([0-9a-f]{1,16})$")
 WATCHDOG = "napi_watchdog"
 TIMER = f"the timer of {WATCHDOG}"
-# Interrupts between processors, after which a softirq or a thread begins.
+# Interrupts between processors, after which a softirq or a thread may begin; and all whose events have an entry and an exit.
 BETWEEN = {"call_function_single", "call_function", "reschedule", "ipi"}
+HANDLERS = BETWEEN | {"irq_handler", "local_timer", "irq_work", "x86_platform_ipi", "thermal_apic", "threshold_apic", "deferred_error_apic",
+                      "error_apic", "spurious_apic"}
 SOON = 50_000  # ns, from the end of an interrupt to what it asked for
 SAME_CLOCK = 1_000_000  # ns
 EARLY = 100_000  # ns, by which a packet may be polled before its sender's event, which follows the sending
@@ -66,7 +68,8 @@ class Reads:
         self.slept = {}  # of each task that slept since its last read: when it did so last, and whether in a call
         self.delivered = deque()  # of each packet that waits for its read: when its poll ended, and whether that gave it only
         self.ahead = []  # reads before the end of the packet's poll: each when, and whether the program had slept
-        self.last = None  # the last read, if its task has had the processor since: task, time, processor, packets, what was taken there until then
+        # The last read, if its task has had the processor since: task, time, processor, packets, what was taken there until then.
+        self.last = None
         self.calls, self.uses, self.wakes, self.on = [], [], [], Counter()
         self.count, self.unmatched = 0, 0
 
@@ -133,9 +136,10 @@ class Timeline:
         self.is_coarse, self.has_tasks, self.has_handlers = True, False, False
         self.polls, self.strays, self.by_threads, self.where = [], 0, 0, Counter()  # packets and ns of each poll
         self.handlers, self.without = defaultdict(list), 0  # the handlers that runs followed; how many runs followed none
-        self.wakes, self.busy_wakes = defaultdict(list), defaultdict(list)  # by packets and by timers, of a processor that slept, or had other tasks
+        # By packets and by timers, of a processor that slept; and of one that had another task.
+        self.wakes, self.busy_wakes = defaultdict(list), defaultdict(list)
         self.due = {}  # of each timer
-        self.waiting, self.came, self.dropped, self.unmatched, self.sent_on = deque(), 0, 0, 0, Counter()
+        self.waiting, self.came, self.dropped, self.given, self.unmatched, self.sent_on = deque(), 0, 0, 0, 0, Counter()
         self.owed = 0  # packets that were polled before they came
         self.poll_end, self.was_full = 0, False  # of the last poll
         self.reads = Reads()
@@ -154,7 +158,7 @@ class Timeline:
             self.reads.enter(processor, event)
         elif name.startswith("sys_exit_"):
             self.reads.leave(processor, event)
-        elif name.endswith(("_entry", "_exit")):
+        elif name.rpartition("_")[0] in HANDLERS:
             self.handler(processor, event)
         elif name == "napi_poll":
             self.poll(processor, event)
@@ -281,7 +285,7 @@ class Timeline:
                 self.add_wake("packets", processor, came, began - came - took)
 
     def add_wake(self, kind, processor, time, took):
-        """Adds what a wake-up took, if neither the program nor a poll had the processor then; if that is another task's, it counts apart."""
+        """Adds the time of a wake-up, if neither the program nor a poll had the processor; if another task had it, it counts apart."""
         name, pid, since = processor.before if processor.task[0].startswith("napi/") else processor.task
         if not self.has_tasks or name.startswith("swapper") and since <= time:
             self.wakes[kind].append(took)
@@ -290,6 +294,7 @@ class Timeline:
 
     def deliver(self, time, work, is_empty, began):
         """A poll gave the packets that wait longest; if it wasn't full, all that came before it."""
+        self.given += work
         self.unmatched += self.owed
         self.owed = 0
         for _ in range(work):
@@ -301,10 +306,6 @@ class Timeline:
             self.waiting.popleft()
             self.unmatched += 1
         self.reads.deliver(began, time, work)
-
-    def delivered(self):
-        """How many packets the polls gave."""
-        return sum(work for work, _ in self.polls)
 
     def processor(self):
         """The processor that polls most, if any does."""

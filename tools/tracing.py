@@ -10,11 +10,12 @@ import time
 
 PLACES = ("/sys/kernel/tracing", "/sys/kernel/debug/tracing")
 NAME = "fintaqush-{}"
+CLOCK_SOURCE = "/sys/devices/system/clocksource/clocksource0/current_clocksource"
 NEW_MOUNTS, RECURSIVE, PRIVATE = 0x20000, 0x4000, 0x40000  # CLONE_NEWNS, MS_REC, MS_PRIVATE
 NET_RX = 3
 POLLS = ("napi/napi_poll", "irq/softirq_entry", "irq/softirq_exit")  # nothing is known without them
-FILTERS = {"irq/softirq_entry": f"vec == {NET_RX}", "irq/softirq_exit": f"vec == {NET_RX}", "timer/hrtimer_start": "function.function == napi_watchdog",
-           "timer/hrtimer_expire_entry": "function.function == napi_watchdog"}
+FILTERS = {"irq/softirq_entry": f"vec == {NET_RX}", "irq/softirq_exit": f"vec == {NET_RX}",
+           "timer/hrtimer_start": "function.function == napi_watchdog", "timer/hrtimer_expire_entry": "function.function == napi_watchdog"}
 READS = ("recvfrom", "recvmsg", "recvmmsg", "read", "readv")
 MARK = "fintaqush mark"
 MARKS = 16  # at the beginning, and at the end
@@ -27,14 +28,14 @@ def mount_tracefs():
         if os.path.isdir(f"{place}/instances"):
             return place
     if not os.path.isdir(PLACES[0]):
-        raise Refusal("this kernel has no tracing: it needs one with CONFIG_FTRACE and CONFIG_ENABLE_DEFAULT_TRACERS, as Debian's and Fedora's are")
+        raise Refusal("this kernel has no tracing: boot one with CONFIG_FTRACE, as Debian's linux-image-amd64 is")
     import ctypes
     libc = ctypes.CDLL(None, use_errno=True)
     for call in ((libc.unshare, NEW_MOUNTS), (libc.mount, None, b"/", None, RECURSIVE | PRIVATE, None),
                  (libc.mount, b"nodev", PLACES[0].encode(), b"tracefs", 0, None)):
         if call[0](*call[1:]) != 0:
-            raise Refusal(f"tracefs can't be mounted: {os.strerror(ctypes.get_errno())}; a container needs CAP_SYS_ADMIN for it, and a kernel "
-                          "that is locked down has no tracing")
+            raise Refusal(f"tracefs can't be mounted: {os.strerror(ctypes.get_errno())}; a container needs CAP_SYS_ADMIN for it, and a "
+                          "kernel that is locked down has no tracing")
     return PLACES[0]
 
 
@@ -97,11 +98,11 @@ class Instance:
         return os.path.exists(f"{self.path}/{name}")
 
     def set_clock(self):
-        """Chooses the processor's counter, which keeps nanoseconds, if it runs evenly; else CLOCK_MONOTONIC, whose text has microseconds."""
+        """Chooses the processor's counter, if the kernel keeps time by it, because the text of any other clock has only microseconds."""
         with open("/proc/cpuinfo", encoding="utf-8", errors="replace") as file:
             flags = file.read()
-        with contextlib.suppress(OSError), open("/sys/devices/system/clocksource/clocksource0/current_clocksource", encoding="ascii") as file:
-            if "constant_tsc" in flags and "nonstop_tsc" in flags and file.read().strip() in ("tsc", "kvm-clock"):
+        with contextlib.suppress(OSError), open(CLOCK_SOURCE, encoding="ascii") as file:
+            if "constant_tsc" in flags and "nonstop_tsc" in flags and file.read().strip() == "tsc":
                 self.write("trace_clock", "x86-tsc")
                 return "tsc"
         self.write("trace_clock", "mono")
@@ -127,7 +128,8 @@ class Instance:
         """The events to record, of each its filter if there is one: those of all recordings, then a program's reads."""
         vectors = f"{self.path}/events/irq_vectors"
         names = os.listdir(vectors) if os.path.isdir(vectors) else []
-        interrupts = [f"irq_vectors/{name}" for name in sorted(names) if name.endswith(("_entry", "_exit"))] or ["ipi/ipi_entry", "ipi/ipi_exit"]
+        interrupts = [f"irq_vectors/{name}" for name in sorted(names) if name.endswith(("_entry", "_exit"))]
+        interrupts = interrupts or ["ipi/ipi_entry", "ipi/ipi_exit"]
         events = [*POLLS, "net/net_dev_xmit", "irq/irq_handler_entry", "irq/irq_handler_exit", *interrupts, "sched/sched_switch",
                   "timer/hrtimer_start", "timer/hrtimer_expire_entry"]
         chosen = {name: FILTERS.get(name) for name in events}
@@ -177,8 +179,8 @@ class Instance:
     def statistics(self):
         """Of each processor its entries, its bytes, and the events that it lost."""
         for name in sorted(os.listdir(f"{self.path}/per_cpu")):
-            values = {key: int(value) for key, _, value in (line.partition(": ") for line in self.read(f"per_cpu/{name}/stats").splitlines())
-                      if value.isdigit()}
+            lines = (line.partition(": ") for line in self.read(f"per_cpu/{name}/stats").splitlines())
+            values = {key: int(value) for key, _, value in lines if value.isdigit()}
             lost = sum(values.get(each, 0) for each in ("overrun", "commit overrun", "dropped events"))
             yield values.get("entries", 0), values.get("bytes", 0), lost
 

@@ -19,10 +19,10 @@ spent() { cat "/proc/$driver/task/"*/schedstat | awk '{ sum += $1 } END { printf
 under() {
     local time clock
     time=$(spent) clock=$(date +%s%N)
-    "$@" > "$scratch/load"
+    "$@" > "$scratch/load.out"
     time=$(($(spent) - time)) clock=$(($(date +%s%N) - clock))
     awk -v time="$time" -v clock="$clock" '{ for (i = 1; i < NF; i++) { if ($i == "p50_us") half = " " $(i + 1); if ($i == "p99_us") most = "/" $(i + 1) } }
-        END { printf "%.0f%s%s\n", time * 1000 / clock, half, most }' "$scratch/load"
+        END { printf "%.0f%s%s\n", time * 1000 / clock, half, most }' "$scratch/load.out"
 }
 
 row() {

@@ -88,7 +88,7 @@ drive() {
     local turn load
     pings 3000 1400 16
     echo "a second of UDP: $(load udp 7 1 1400)"
-    ip netns exec "$space" "$built/load" udp 7 0 600 > "$scratch/load" 2>&1 &
+    ip netns exec "$space" "$built/load" udp 7 0 600 > "$scratch/load.out" 2>&1 &
     load=$!
     for turn in 1 2 3 4 5 6 7 8 9 10; do
         flows || check 'both ways under load' false

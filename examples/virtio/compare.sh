@@ -21,7 +21,7 @@ row() {
     shift 2
     # shellcheck disable=SC2207
     before=($(numbers "$what")) rx=$(counter tx_packets) tx=$(counter rx_packets)
-    load "$@" > "$scratch/load"
+    load "$@" > "$scratch/load.out"
     rx=$(($(counter tx_packets) - rx)) tx=$(($(counter rx_packets) - tx))
     # shellcheck disable=SC2207
     after=($(numbers "$what"))

@@ -19,7 +19,7 @@ check() {
 }
 
 start_load() {
-    ip netns exec "$space" "$built/load" udp 7 0 600 > "$scratch/load" 2>&1 &
+    ip netns exec "$space" "$built/load" udp 7 0 600 > "$scratch/load.out" 2>&1 &
     load=$!
 }
 end_load() {

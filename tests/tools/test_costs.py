@@ -326,7 +326,7 @@ class Recorded(InFolder):
         text = (HERE / "recorded-backlog.rec").read_text()
         for changed, why in ((text[:-30], "isn't whole"), (text[: text.rindex("\n", 0, -2) + 1], "it is cut: 622 of 623 events are there"),
                              (text[:1000], "it is cut: its head has no end"), ("", "it is empty"), ("fintaqush-recording 1\n", "its head has no end"),
-                             (text.replace("\nlost 0\n", "\nlost 5\n"), "the kernel lost 5 events, so what it tells isn't known"),
+                             (text.replace("\nlost 0\n", "\nlost 5\n"), "the kernel lost 5 events, so its numbers would be wrong"),
                              (text.replace("recording 1", "recording 2"), "another version of tools/record wrote it"),
                              (text.replace("\nlines 623", "\nlines 9"), "it is cut: 623 of 9 events"),
                              (re.sub(r".*(napi_poll|softirq_e).*\n", "", text).replace("lines 623", "lines 513"), "0 polls of (no_device) in softirqs or threads")):

@@ -2,6 +2,7 @@
 
 import os
 import re
+import runpy
 import select
 import shutil
 import signal
@@ -10,6 +11,7 @@ import sys
 import time
 import unittest
 from pathlib import Path
+from types import SimpleNamespace
 
 from tooltest import TOP, InFolder, run
 
@@ -84,6 +86,29 @@ class Refused(InFolder):
         for out, why in (("folder", "folder: this is a folder"), ("none/x", "none: there is no such folder")):
             done = run("record", "1", "--device", "lo", "--out", out, folder=self.folder)
             self.assertEqual((done.returncode, done.stderr), (1, f"record: {why}\n"))
+
+
+class Waits(unittest.TestCase):
+    """How long it records, by buffers that are made up: of each look the bytes in the fullest of them."""
+
+    def looks(self, sizes, seconds):
+        """Whether it ends early, and after how many looks."""
+        sys.path.insert(0, str(TOP / "tools"))
+        wait = runpy.run_path(str(TOP / "tools/record"))["wait"]
+        wait.__globals__["LOOKS"] = 0.001
+        left = iter(sizes)
+        taken = []
+        instance = SimpleNamespace(statistics=lambda: [(0, 7, 0), (0, taken.append(next(left)) or taken[-1], 0)])
+        return wait(instance, SimpleNamespace(seconds=seconds, buffer=1)), len(taken)
+
+    def test_it_ends_before_a_buffer_is_full(self):
+        """Four looks ahead of nine tenths of 2^20 bytes: by 50000 a look the 14th has 700000, and with 200000 more it is near 943718, the 15th past it."""
+        self.assertEqual(self.looks(range(50_000, 10**7, 50_000), 60), (True, 15))
+        self.assertEqual(self.looks([100_000, 500_000], 60), (True, 2))
+
+    def test_it_ends_in_time(self):
+        is_full, count = self.looks([0] * 10**6, 0.05)
+        self.assertTrue(not is_full and 1 <= count <= 60)
 
 
 @unittest.skipUnless(IS_ROOT, "root")
@@ -224,23 +249,32 @@ class Recorded(InFolder):
         self.assertNotIn(f"fintaqush-{process.pid}", left)
         self.assertIn(f"fintaqush-{os.getpid()}", left)
 
-    def test_a_buffer_that_fills_up(self):
-        """Slowly, it ends before an event is lost; at once, it says how many were, and the old file stays."""
-        process = self.start("--buffer", "1", seconds="60")
-        while process.poll() is None:
-            self.send(20, 40, 40, 0.02)
-        said = process.communicate(timeout=60)[1]
-        self.assertRegex(said.decode(), r"^record: a buffer of 1 MB is nearly full after \d+\.\d s, so it ended; a longer recording needs a larger --buffer\n$")
-        self.assertEqual((process.returncode, self.head()[0]["lost"]), (0, "0"))
-        before = (self.folder / "made").read_bytes()
+    def test_events_that_are_lost(self):
+        """While it can't look at its buffers more comes than they hold. It says how many were lost, and the old file stays."""
+        self.write("made", "old\n")
         process = self.start("--buffer", "1", seconds="3")
         process.send_signal(signal.SIGSTOP)
         self.send(1, 40000, 40000, 0)
         process.send_signal(signal.SIGCONT)
         said = process.communicate(timeout=60)[1].decode()
-        self.assertRegex(said, r"^record: the kernel lost \d+ events, so the recording isn't written: record for a shorter time, or by a larger --buffer\n$")
-        self.assertEqual((process.returncode, self.names()), (1, ["made"]))
-        self.assertEqual((self.folder / "made").read_bytes(), before)
+        self.assertRegex(said, r"^record: the kernel lost \d+ events, so the recording isn't written: record for a shorter time, or with a larger --buffer\n$")
+        self.assertEqual((process.returncode, self.names(), (self.folder / "made").read_text()), (1, ["made"], "old\n"))
+
+    def test_a_machine_without_an_even_counter(self):
+        """CLOCK_MONOTONIC is taken then, and times have six digits."""
+        tool = f"""import runpy, sys
+sys.path.insert(0, "{TOP}/tools")
+sys.argv[0] = "record"
+import tracing
+tracing.Instance.set_clock = lambda self: self.write("trace_clock", "mono") or "mono"
+runpy.run_path("{TOP}/tools/record", run_name="__main__")
+"""
+        done = subprocess.run([sys.executable, "-BEs", "-c", tool, "3", "--device", "lo", "--out", "made"], capture_output=True, text=True,
+                              check=False, cwd=self.folder)
+        self.assertEqual(done.returncode, 0, done.stderr)
+        head, body = self.head()
+        self.assertEqual(head["clock"], "mono")
+        self.check_clock([line for line in body.splitlines() if not line.startswith("#")], head)
 
     def test_some_processors(self):
         process = self.start("--processors", "0")

@@ -5,7 +5,7 @@ ghost use Rattle.napi_model.specs.Serial.{state_of};
 
 use anyhow::Result;
 use napi_model::{Done, Kind, Prep, SerialNapi};
-use poll_engine::{Bench, Next, Once};
+use poll_engine::{Bench, BusyReport, Next, Once, ThreadReport};
 use rx_ring::{Batch, Packet, RxCtx, RxIn, ring};
 use std::alloc::Global;
 
@@ -114,5 +114,13 @@ impl Bench for Cards {
                 next: Next::Absent,
             },
         }
+    }
+
+    fn poll_thread(&mut self, _id: u32, _weight: u32, _most: u32) -> ThreadReport {
+        ThreadReport::NONE
+    }
+
+    fn busy_poll(&mut self, _id: u32, _weight: u32, _rounds: u32) -> BusyReport {
+        BusyReport::NONE
     }
 }

@@ -12,7 +12,7 @@ use crate::serial_receive::{SerialOpener, SerialReceive};
 use device_places::PLACES;
 use device_transmit::{Transmit, TransmitSides};
 use napi_model::Kind;
-use poll_runs::{Bench, BusyReport, DirectBench, Next, Once, ThreadReport};
+use poll_runs::{Bench, BusyReport, Next, Once, ThreadReport};
 use std::alloc::{AllocError, Global};
 use std::mem;
 
@@ -172,10 +172,14 @@ impl<S: SpentSide, O: Opener<S> + Drop> DeviceBench<S, O> {
 }
 
 impl<S: ReceiveSide, O: Opener<S>> Bench for DeviceBench<S, O> {
-    ghost use Rattle.device_bench.specs.Bench.{IsPoll};
+    ghost use Rattle.device_bench.specs.Bench.{IsBusyPoll, IsPoll, IsThreadPolls};
     ghost use Rattle.device_bench.specs.DeviceBench.{ShowsTransmits, devices_of, waiting_of};
 
     ghost polls = { IsPoll devices_of ShowsTransmits waiting_of };
+
+    ghost thread_polls = { IsThreadPolls devices_of ShowsTransmits waiting_of };
+
+    ghost busy_polls = { IsBusyPoll devices_of ShowsTransmits waiting_of };
 
     fn poll_once(&mut self, id: u32, weight: u32) -> Once {
         if id < PLACES {
@@ -188,15 +192,6 @@ impl<S: ReceiveSide, O: Opener<S>> Bench for DeviceBench<S, O> {
             next: Next::Absent,
         }
     }
-}
-
-impl<S: ReceiveSide, O: Opener<S>> DirectBench for DeviceBench<S, O> {
-    ghost use Rattle.device_bench.specs.Bench.{IsBusyPoll, IsThreadPolls};
-    ghost use Rattle.device_bench.specs.DeviceBench.{ShowsTransmits, devices_of, waiting_of};
-
-    ghost thread_polls = { IsThreadPolls devices_of ShowsTransmits waiting_of };
-
-    ghost busy_polls = { IsBusyPoll devices_of ShowsTransmits waiting_of };
 
     fn poll_thread(&mut self, id: u32, weight: u32, most: u32) -> ThreadReport {
         if id < PLACES {
@@ -204,11 +199,7 @@ impl<S: ReceiveSide, O: Opener<S>> DirectBench for DeviceBench<S, O> {
                 return device.poll_thread(weight, most);
             }
         }
-        ThreadReport {
-            polls: 0,
-            work: 0,
-            next: Next::Absent,
-        }
+        ThreadReport::NONE
     }
 
     fn busy_poll(&mut self, id: u32, weight: u32, rounds: u32) -> BusyReport {

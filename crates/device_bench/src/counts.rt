@@ -40,10 +40,10 @@ pub struct DeviceCounts {
     pub again: u64,
     /// Completions that were answered Released.
     pub released: u64,
-    /// Completions that were answered Held.
-    pub held: u64,
     /// The state word.
     pub word: u64,
+    /// Completions that were answered Held.
+    pub held: u64,
     /// The transmit side.
     pub tx: TxCounts,
 }
@@ -64,8 +64,8 @@ impl DeviceCounts {
         disabled: 0,
         again: 0,
         released: 0,
-        held: 0,
         word: 0,
+        held: 0,
         tx: TxCounts::NONE,
     };
 }

@@ -12,7 +12,7 @@ ghost use Rattle.device_bench.specs.Waiting.{count, is_listed};
 
 use crate::counts::DeviceCounts;
 use napi_model::Kind;
-use poll_runs::DirectBench;
+use poll_runs::Bench;
 use std::alloc::{AllocError, Global};
 
 /// At most sixteen devices by their numbers, on which the rows of a trace play. A call on a number that has no device
@@ -20,7 +20,7 @@ use std::alloc::{AllocError, Global};
 ///
 /// A bench states by ghost members what it shows of itself: each call makes of its devices and transmit sides exactly
 /// what the rules make of them.
-pub trait ReplayBench: DirectBench {
+pub trait ReplayBench: Bench {
     /// The devices, by their numbers.
     ghost devices: { Self → Devices };
 

@@ -53,7 +53,7 @@ impl<R: Wait + Copy + Drop> Opener<SharedReceive<R>> for SharedOpener<R> {
             held: 0,
             capacity: capacity as usize,
             seen,
-            put: 0,
+            arrived: 0,
         })
     }
 }

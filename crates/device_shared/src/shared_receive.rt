@@ -34,8 +34,8 @@ pub struct SharedReceive<R: Wait + Drop> {
     pub(crate) capacity: usize,
     // What the state word tells.
     pub(crate) seen: Seen,
-    // How many packets were put; it stays at its greatest value.
-    pub(crate) put: u64,
+    // How many packets came, those that found no room among them; it stays at its greatest value. A packet is numbered by it.
+    pub(crate) arrived: u64,
 }
 
 impl<R: Wait + Drop> Model for SharedReceive<R> {
@@ -72,12 +72,12 @@ impl<R: Wait + Drop> ReceiveSide for SharedReceive<R> {
     ghost side = { λ s. s };
 
     fn put(&mut self, bytes: u32) -> bool {
+        self.arrived = self.arrived.saturating_add(1);
         if self.held >= self.capacity {
             return false;
         }
-        self.put = self.put.saturating_add(1);
         let packet = Packet {
-            number: self.put,
+            number: self.arrived,
             bytes,
         };
         let Ok(()) = self.input.put(packet) else {
@@ -201,7 +201,7 @@ impl<R: Wait + Drop> SpentSide for SharedReceive<R> {
             held: _,
             capacity: _,
             seen: _,
-            put: _,
+            arrived: _,
         } = self;
         let Some(seats) = seats else { unreachable!() };
         let Seats { interrupt, turn } = seats;

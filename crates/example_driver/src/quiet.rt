@@ -4,7 +4,7 @@
 
 use crate::card::{CARD, Card, Driver, POLLER};
 use napi_model::{Done, Kind};
-use poll_engine::{Bench, Next, Once};
+use poll_engine::{Bench, BusyReport, Next, Once, ThreadReport};
 
 /// A bench of one card.
 #[derive(Drop)]
@@ -44,5 +44,13 @@ impl Bench for QuietBench {
             }
         };
         Once { work, next }
+    }
+
+    fn poll_thread(&mut self, _id: u32, _weight: u32, _most: u32) -> ThreadReport {
+        ThreadReport::NONE
+    }
+
+    fn busy_poll(&mut self, _id: u32, _weight: u32, _rounds: u32) -> BusyReport {
+        BusyReport::NONE
     }
 }

@@ -9,7 +9,7 @@ ghost use Rattle.example_driver.specs.declared.card.TheConstants.{POLLER};
 
 use crate::card::{CARD, Card, Driver, POLLER};
 use napi_model::{Done, Kind};
-use poll_engine::{Bench, Next, Once};
+use poll_engine::{Bench, BusyReport, Next, Once, ThreadReport};
 use rx_ring::beside;
 
 /// A bench of one card.
@@ -87,5 +87,13 @@ impl Bench for StatedBench {
             work: 0,
             next: Next::Absent,
         }
+    }
+
+    fn poll_thread(&mut self, _id: u32, _weight: u32, _most: u32) -> ThreadReport {
+        ThreadReport::NONE
+    }
+
+    fn busy_poll(&mut self, _id: u32, _weight: u32, _rounds: u32) -> BusyReport {
+        BusyReport::NONE
     }
 }

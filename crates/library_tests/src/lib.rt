@@ -7,6 +7,8 @@ mod bed;
 #[cfg(test)]
 mod busy;
 #[cfg(test)]
+mod by_turns;
+#[cfg(test)]
 mod calls;
 #[cfg(test)]
 mod contention;

@@ -9,27 +9,53 @@ mod traces;
 mod workers;
 
 use anyhow::Result;
+use poll_engine::WorkFault;
+
+// What a line says of a call that was refused memory once.
+const fn once(refused: bool) -> &'static str {
+    if refused { ", refused once" } else { "" }
+}
+
+// What a line says of a run that was refused once: memory, or the start of a thread.
+const fn once_by(fault: Option<WorkFault>) -> &'static str {
+    match fault {
+        None => "",
+        Some(WorkFault::SpawnFailed) => ", a start refused once",
+        Some(_) => ", refused once",
+    }
+}
 
 fn main(rt: HostRuntime) -> Result<()> {
     let alloc = rt.alloc();
     let calls = [
-        ("a ring", rings::ring_is_made(alloc)?),
-        ("a transmit ring", rings::transmit_ring_is_made(alloc)?),
-        ("a table", rings::table_is_made(alloc)?),
-        ("an instance", rings::instance_is_made(&rt, alloc)?),
-        ("a list", rings::list_is_made(&rt, alloc)?),
-        ("a bench", benches::bench_is_made(alloc)?),
-        ("a shared bench", benches::shared_bench_is_made(&rt, alloc)?),
-        ("a trace", traces::trace_is_read(alloc)?),
-        ("a scripted device", traces::script_is_made(alloc)?),
-        ("a run of workers", workers::workers_are_run(&rt, alloc)?),
-        ("a run that is held", stops::acts_are_stopped(&rt, alloc)?),
-        ("the words", traces::words_are_read(alloc)?),
-        ("a line", traces::line_is_told(alloc)?),
+        ("a ring", once(rings::ring_is_made(alloc)?)),
+        (
+            "a transmit ring",
+            once(rings::transmit_ring_is_made(alloc)?),
+        ),
+        ("a table", once(rings::table_is_made(alloc)?)),
+        ("an instance", once(rings::instance_is_made(&rt, alloc)?)),
+        ("a list", once(rings::list_is_made(&rt, alloc)?)),
+        ("a bench", once(benches::bench_is_made(alloc)?)),
+        (
+            "a shared bench",
+            once(benches::shared_bench_is_made(&rt, alloc)?),
+        ),
+        ("a trace", once(traces::trace_is_read(alloc)?)),
+        ("a scripted device", once(traces::script_is_made(alloc)?)),
+        (
+            "a run of workers",
+            once_by(workers::workers_are_run(&rt, alloc)?),
+        ),
+        (
+            "a run that is held",
+            once_by(stops::acts_are_stopped(&rt, alloc)?),
+        ),
+        ("the words", once(traces::words_are_read(alloc)?)),
+        ("a line", once(traces::line_is_told(alloc)?)),
     ];
     for (call, refused) in calls {
-        let again = if refused { ", refused once" } else { "" };
-        println!(rt; "{call}{again}")?;
+        println!(rt; "{call}{refused}")?;
     }
     Ok(())
 }

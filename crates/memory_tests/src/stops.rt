@@ -101,12 +101,16 @@ fn count<R: Threads + Wait + Sync>(rt: &R, alloc: Global) -> Result<(u32, Option
     Ok((made[0].load(Ordering::SeqCst), fault))
 }
 
-pub(crate) fn acts_are_stopped<R: Threads + Wait + Sync>(rt: &R, alloc: Global) -> Result<bool> {
+// What refused the first run, if anything did. Another one goes through then.
+pub(crate) fn acts_are_stopped<R: Threads + Wait + Sync>(
+    rt: &R,
+    alloc: Global,
+) -> Result<Option<WorkFault>> {
     let (made, fault) = count(rt, alloc)?;
     match fault {
         None => {
             ensure!(made == ACTS, "{made} acts were made");
-            return Ok(false);
+            return Ok(None);
         }
         Some(WorkFault::OutOfMemory) => {
             ensure!(
@@ -121,7 +125,7 @@ pub(crate) fn acts_are_stopped<R: Threads + Wait + Sync>(rt: &R, alloc: Global) 
             );
         }
     }
-    let (again, fault) = count(rt, alloc)?;
-    ensure!(fault.is_none() && again == ACTS, "refused twice");
-    Ok(true)
+    let (again, other) = count(rt, alloc)?;
+    ensure!(other.is_none() && again == ACTS, "refused twice");
+    Ok(fault)
 }

@@ -45,19 +45,18 @@ fn stations(alloc: Global) -> Result<Vec<Station<ActList>>, AllocError>
     }
 }
 
-// A run by two pollers; none where memory was refused, or a thread's start for want of it.
+// A run by two pollers; else what refused it, memory or the start of a thread.
 fn run<R: Threads + Wait + Sync>(
     rt: &R,
     alloc: Global,
     stations: Vec<Station<ActList>>,
-) -> Result<Option<Vec<Finished<ActList>>>>
+) -> Result<std::result::Result<Vec<Finished<ActList>>, WorkFault>>
     requires { All IsStation (vec_items stations) }
 {
     ensure!(have_distinct_numbers(&stations), "one number twice");
     match run_workers(rt, alloc, stations, 2, 300, 64, 1024, &OpenGate) {
-        Ok(done) => Ok(Some(done)),
-        Err(WorkFault::OutOfMemory | WorkFault::SpawnFailed) => Ok(None),
         Err(WorkFault::GateShut) => Err(WorkFault::GateShut.into()),
+        run => Ok(run),
     }
 }
 
@@ -74,14 +73,20 @@ fn are_polled(done: Vec<Finished<ActList>>) -> bool {
     true
 }
 
-pub(crate) fn workers_are_run<R: Threads + Wait + Sync>(rt: &R, alloc: Global) -> Result<bool> {
-    let first = run(rt, alloc, stations(alloc)?)?;
-    if let Some(done) = first {
-        ensure!(are_polled(done), "a packet isn't polled");
-        return Ok(false);
-    }
+// What refused the first run, if anything did. Another one goes through then.
+pub(crate) fn workers_are_run<R: Threads + Wait + Sync>(
+    rt: &R,
+    alloc: Global,
+) -> Result<Option<WorkFault>> {
+    let fault = match run(rt, alloc, stations(alloc)?)? {
+        Ok(done) => {
+            ensure!(are_polled(done), "a packet isn't polled");
+            return Ok(None);
+        }
+        Err(fault) => fault,
+    };
     let again = run(rt, alloc, stations(alloc)?)?;
-    let done = again.context("refused twice")?;
+    let done = again.ok().context("refused twice")?;
     ensure!(are_polled(done), "a packet isn't polled");
-    Ok(true)
+    Ok(Some(fault))
 }

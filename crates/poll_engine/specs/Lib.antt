@@ -1,3 +1,4 @@
+pub use Rattle.poll_runs.specs.Batches
 pub use Rattle.poll_runs.specs.Plan
 pub use Rattle.poll_runs.specs.Function
 pub use Rattle.poll_runs.specs.Laws

@@ -9,9 +9,9 @@
 pub use poll_interrupts::{Act, ActList, Device, Finished, Station};
 pub use poll_list::{ListBack, ListFault, ListIn, SharedList, end_list, shared_list};
 pub use poll_runs::{
-    Bench, BusyInstance, BusyReport, DirectBench, Instance, Next, Once, PlainList, PollList,
-    RunReport, SoftList, ThreadReport, no_other_arrivals, plain_list_afterwards, poll_busy_of,
-    poll_once_of, poll_thread_of, run_is_function, run_is_shown, run_softirq, runs_agree,
+    Bench, BusyInstance, BusyReport, Instance, Next, Once, PlainList, PollList, RunReport,
+    SoftList, ThreadReport, no_other_arrivals, plain_list_afterwards, poll_busy_of, poll_once_of,
+    poll_thread_of, run_is_function, run_is_shown, run_softirq, runs_agree,
 };
 pub use poll_shared::{busy_instance, poll_instance, poll_instance_by_thread};
 pub use poll_tasks::{Gate, OpenGate};

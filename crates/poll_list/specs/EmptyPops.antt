@@ -1,11 +1,15 @@
 -- How often the poller of a shared list found its queue empty.
-use Rattle.std.specs.Prelude.{◌≡◌, ℕ, ◌+◌, ◌%◌, ◌^◌}
+use Rattle.std.specs.Prelude.{◌≡◌, ℕ, ◌+◌, ◌-◌, ◌^◌, ◌≤◌, min}
 use Rattle.poll_list.specs.declared.pops.Pops.{Pops}
 
--- how many pops found the queue empty, as a word counts them
+-- how many pops found the queue empty; it stays at its greatest value
 abbrev pub found_empty : Pops → ℕ
 found_empty pops = pops.empty
 
 -- one more did
 abbrev pub CountsOne : Pops → Pops → Type 0
-CountsOne before after = found_empty after ≡ (found_empty before + 1) % 2 ^ 64
+CountsOne before after = found_empty after ≡ min (found_empty before + 1) (2 ^ 64 - 1)
+
+-- so many more did at least
+abbrev pub CountsMore : ℕ → Pops → Pops → Type 0
+CountsMore found before after = min (found_empty before + found) (2 ^ 64 - 1) ≤ found_empty after

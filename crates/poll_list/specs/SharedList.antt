@@ -2,7 +2,7 @@
 use Rattle.std.specs.Prelude.{◌≡◌, ℕ, ◌+◌, ◌<◌, ◌≤◌, List, [], ◌++◌, map, length, slice_index_or, ◌⊎◌}
 use Rattle.crossbeam_queue.specs.Passes.{view}
 use Rattle.{std.specs.List.All, poll_list.specs.declared.{list_in.ListIn.ListIn, shared.SharedList.SharedList, list_rule.Returned.Returned}}
-use Rattle.poll_list.specs.{PushOrder.{Push, returned_end, ids_of, pushes_by, IsReturned, WasEmpty, returned_pushes}, EmptyPops.CountsOne}
+use Rattle.poll_list.specs.{PushOrder.{Push, returned_end, ids_of, pushes_by, IsReturned, WasEmpty, returned_pushes}, EmptyPops.{CountsMore, CountsOne}}
 
 module _ {R : Type 0} where
   -- the instances that were pushed at this end, in order
@@ -50,12 +50,13 @@ module _ {R : Type 0} where
   abbrev pub SameList : SharedList R → SharedList R → Type 0
   SameList before after = (after.pass.table_id ≡ before.pass.table_id) × (pushers_of after ≡ pushers_of before)
 
-  -- between these moments the poller pushed the first instances, and popped the second ones
-  abbrev pub PopsCame : SharedList R → List ℕ → List ℕ → SharedList R → Type 0
-  PopsCame before pushed came after =
+  -- between these moments the poller pushed the first instances, popped the second ones, and found the queue empty at least so often
+  abbrev pub PopsCame : SharedList R → List ℕ → List ℕ → ℕ → SharedList R → Type 0
+  PopsCame before pushed came found after =
       SameList before after
       × (own_pushes after ≡ own_pushes before ++ pushed)
       × (popped_by after ≡ popped_by before ++ came)
+      × CountsMore found before.pops after.pops
 
   -- short of 64 entries, the poller had found the queue empty
   abbrev pub IsAllPopped : List ℕ → SharedList R → Type 0

@@ -11,7 +11,7 @@ use std::sync::Wait;
 /// Counts the pops that found the queue empty. Nothing but a pop counts one.
 #[derive(Drop)]
 pub struct Pops {
-    // It goes round, so that one more is always another number.
+    // It stays at its greatest value.
     empty: u64,
 }
 
@@ -40,7 +40,7 @@ impl Pops {
     {
         let popped = queue.pop_as::<PoppedLast, R>(rt, pass);
         if popped.is_none() {
-            self.empty = self.empty.wrapping_add(1);
+            self.empty = self.empty.saturating_add(1);
         }
         popped
     }

@@ -47,6 +47,7 @@ pub(crate) fn fill<R: Wait>(
     ensures most { length into.old ≤ most → length into.new ≤ most }
     ensures all { length into.new < most → WasEmpty (view pass.new) }
     ensures empty { length into.new < most → CountsOne pops.old pops.new }
+    ensures full { most ≤ length into.new → pops.new ≡ pops.old }
 {
     for _ in into.ids().len()..most {
         match pops.pop(rt, queue, pass) {
@@ -79,6 +80,7 @@ fn push_own<R: Wait>(rt: &R, queue: &PushQueue, pass: &mut EndPass, hand: &mut S
 impl<R: Wait> PollList for SharedList<R> {
     ghost use Rattle.std.proofs.Common.{rules, arith};
     ghost use Rattle.std.proofs.lemmas.Grind.{common_steps};
+    ghost use Rattle.poll_runs.specs.Batches.{empties};
     ghost use Rattle.poll_list.specs.SharedList.{FindsEmpty, HandsHavePlace, HandsHaveRoom, IsAllPopped, PopsCame, in_hand};
 
     ghost entries = { in_hand };
@@ -100,7 +102,7 @@ impl<R: Wait> PollList for SharedList<R> {
     /// Takes what is in the poller's hands, and then pops until the queue is empty or 64 are taken.
     fn splice(&mut self, to: &mut SoftList) -> usize
         requires { to.old ≡ [] }
-        ensures given { (came : List ℕ) × PopsCame self.old [] came self.new
+        ensures given { (came : List ℕ) × PopsCame self.old [] came (empties to.new) self.new
             × (to.new ≡ in_hand self.old ++ came) }
         ensures nothing_kept { in_hand self.new ≡ [] }
         ensures all { IsAllPopped to.new self.new }
@@ -125,7 +127,7 @@ impl<R: Wait> PollList for SharedList<R> {
     /// be repolled, and these last.
     fn put_back(&mut self, rest: &SoftList, repoll: &SoftList)
         requires { HandsHaveRoom self.old (length rest.now + length repoll.now) }
-        ensures back { (came : List ℕ) × PopsCame self.old [] came self.new
+        ensures back { (came : List ℕ) × PopsCame self.old [] came (empties (in_hand self.new)) self.new
             × (in_hand self.new ≡ rest.now ++ (in_hand self.old ++ came) ++ repoll.now) }
         ensures all { IsAllPopped (in_hand self.new) self.new }
         ensures empty { length (in_hand self.new) < 64 → FindsEmpty self.old self.new }
@@ -145,9 +147,14 @@ impl<R: Wait> PollList for SharedList<R> {
         self.hand.append_all(repoll);
     }
 
-    ghost stays = { Prim.search rules };
+    ghost stays = { λ list. (Prim.search rules, Prim.search rules, Prim.search rules, omega arith) };
 
-    ghost joins = { Prim.search (rules, common_steps) };
+    ghost joins = { λ first second third pushed more came later n m h k. (
+      Prim.search (rules, common_steps, h.0, k.0),
+      Prim.search (rules, common_steps, h.1, k.1),
+      Prim.search (rules, common_steps, h.2, k.2),
+      omega (arith, h.3, k.3),
+    ) };
 
     ghost room_to_push = { λ list n room. omega (arith, room) };
 

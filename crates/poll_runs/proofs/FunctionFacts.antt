@@ -22,9 +22,9 @@ unspent budget window polls h =
     ]
 
 -- a list of one thread keeps these words
-own-joins : (a b c pushed more came later : List ℕ) → OwnPushes a pushed came b → OwnPushes b more later c
-    → OwnPushes a (pushed ++ more) (came ++ later) c
-own-joins a b c pushed more came later h k =
+own-joins : (a b c pushed more came later : List ℕ) (n m : ℕ) → OwnPushes a pushed came n b → OwnPushes b more later m c
+    → OwnPushes a (pushed ++ more) (came ++ later) (n + m) c
+own-joins a b c pushed more came later n m h k =
     let one : came ≡ pushed = h in let two : later ≡ more = k in
     ap (λ (xs : List ℕ). xs ++ later) one ∙ ap (λ (xs : List ℕ). pushed ++ xs) two
 

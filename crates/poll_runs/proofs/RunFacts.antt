@@ -9,6 +9,7 @@ use Rattle.poll_runs.specs.declared.{polling_run.PollingRun.PollingRun, run.RunR
 use Rattle.poll_runs.{specs.declared.bench.Next.TheVariants.{Gone, Again, Repoll}, proofs.PollFacts.{arrivals-append, arrivals-one}}
 use Rattle.poll_runs.proofs.PollFacts.{ids-append, length-ids, repolled-append, repolled-one, taken-le, work-push}
 use Rattle.napi_model.specs.declared.state.Kind.{Kind}
+use Rattle.poll_runs.specs.Batches.{empties, empties_of}
 
 -- batches stay batches as polls are added
 pub batches-push : (takes : List Poll → List ℕ → Type 0) (polls : List Poll) (poll : Poll) (taken : List ℕ) (batches : List (List ℕ))
@@ -40,8 +41,13 @@ pub not-spent : (budget window : ℕ) (polls : List Poll) → work_of polls < bu
     → is_spent budget window polls ≡ false
 not-spent budget window polls money room = rw (lt-leb budget (work_of polls) money, lt-leb window (length polls) room) refl
 
+-- one more batch
+empties-more : (batches : List (List ℕ)) (batch : List ℕ) → empties_of (batches ++ batch ∷ []) ≡ empties_of batches + empties batch
+empties-more [] batch = omega arith
+empties-more (first ∷ batches) batch = omega (arith, empties-more batches batch)
+
 -- the first splice
-pub going-start : {L : Type 0} (entries : L → List ℕ) (moves : L → List ℕ → List ℕ → L → Type 0) (is_all : List ℕ → L → Type 0)
+pub going-start : {L : Type 0} (entries : L → List ℕ) (moves : L → List ℕ → List ℕ → ℕ → L → Type 0) (is_all : List ℕ → L → Type 0)
     (budget window : ℕ) (start list : L) (own : List ℕ)
     → 0 < budget → 0 < window
     → Takes entries moves is_all start own list
@@ -55,7 +61,9 @@ going-start entries moves is_all budget window start list own money room s = rec
     record {
       when = list;
       came = s.came;
+      found = empties own;
       moved = s.moved;
+      emptied = omega arith;
       whole = s.gives;
       all = s.all;
       no_repoll = refl;
@@ -65,7 +73,9 @@ going-start entries moves is_all budget window start list own money room s = rec
   );
   not_empty = tt;
   front = sym (append-nil own);
+  found = empties own;
   moved = s.moved;
+  emptied = omega arith;
   joined = rw (append-nil own, s.nothing_kept, append-nil own) s.gives;
   again = refl;
   goes_on = λ n h. absurd (omega arith);
@@ -73,7 +83,7 @@ going-start entries moves is_all budget window start list own money room s = rec
   summed = refl;
 }
 
-pub run-begins : {L : Type 0} (entries : L → List ℕ) (moves : L → List ℕ → List ℕ → L → Type 0) (is_all : List ℕ → L → Type 0)
+pub run-begins : {L : Type 0} (entries : L → List ℕ) (moves : L → List ℕ → List ℕ → ℕ → L → Type 0) (is_all : List ℕ → L → Type 0)
     (start list : L) (run : PollingRun)
     → 0 < run.budget → 0 < run.window → run.asked ≡ None → Begins entries moves is_all start run list
     → IsGoing entries moves is_all start [] list run
@@ -81,16 +91,16 @@ run-begins entries moves is_all start list run money room rests b =
     rw (rests, b.repoll, b.polls, b.work) (going-start entries moves is_all run.budget run.window start list run.own money room b.takes)
 
 -- a run whose own list was filled, as far as there was something
-pub record Filled {L : Type 0} (entries : L → List ℕ) (moves : L → List ℕ → List ℕ → L → Type 0) (is_all : List ℕ → L → Type 0)
+pub record Filled {L : Type 0} (entries : L → List ℕ) (moves : L → List ℕ → List ℕ → ℕ → L → Type 0) (is_all : List ℕ → L → Type 0)
     (budget window : ℕ) (start : L) (polls : List Poll) (list : L) (own repoll : List ℕ) (count sum : ℕ) : Type 0 where
   pub going : Going entries moves is_all budget window start polls list own repoll count sum
   pub none : own ≡ [] → (repoll ≢ []) ⊎ IsBatch entries moves is_all budget window start polls []
 
 -- a further batch, or none
-pub going-spliced : {L : Type 0} (entries : L → List ℕ) (moves : L → List ℕ → List ℕ → L → Type 0) (is_all : List ℕ → L → Type 0)
+pub going-spliced : {L : Type 0} (entries : L → List ℕ) (moves : L → List ℕ → List ℕ → ℕ → L → Type 0) (is_all : List ℕ → L → Type 0)
     (budget window : ℕ) (start : L) (polls : List Poll) (list after : L) (given : List ℕ) (count sum : ℕ)
-    → ((a b c : L) (pushed more came later : List ℕ) → moves a pushed came b → moves b more later c
-    → moves a (pushed ++ more) (came ++ later) c)
+    → ((a b c : L) (pushed more came later : List ℕ) (n m : ℕ) → moves a pushed came n b → moves b more later m c
+    → moves a (pushed ++ more) (came ++ later) (n + m) c)
     → sum < budget → count < window
     → Takes entries moves is_all list given after
     → Going entries moves is_all budget window start polls list [] [] count sum
@@ -100,8 +110,9 @@ going-spliced {L} entries moves is_all budget window start polls list after give
     taken : ids polls ≡ g.first ++ concat g.further
     taken = sym (append-nil (ids polls)) ∙ g.front
 
-    moved : moves start (arrivals polls) (g.came ++ s.came) after
-    moved = rw (append-nil (arrivals polls)) at (joins start list after (arrivals polls) [] g.came s.came g.moved s.moved)
+    moved : moves start (arrivals polls) (g.came ++ s.came) (g.found + empties given) after
+    moved =
+        rw (append-nil (arrivals polls)) at (joins start list after (arrivals polls) [] g.came s.came g.found (empties given) g.moved s.moved)
 
     whole : (g.first ++ concat g.further) ++ given ≡ entries start ++ (g.came ++ s.came)
     whole =
@@ -112,7 +123,9 @@ going-spliced {L} entries moves is_all budget window start polls list after give
     batch = record {
       when = after;
       came = g.came ++ s.came;
+      found = g.found + empties given;
       moved = moved;
+      emptied = omega arith;
       whole = rw taken whole;
       all = s.all;
       no_repoll = sym g.again;
@@ -128,7 +141,9 @@ going-spliced {L} entries moves is_all budget window start polls list after give
         batches = g.batches;
         not_empty = g.not_empty;
         front = g.front;
+        found = g.found + empties given;
         moved = moved;
+        emptied = omega (arith, g.emptied);
         joined = rw (s.nothing_kept, e) whole;
         again = g.again;
         goes_on = g.goes_on;
@@ -146,7 +161,9 @@ going-spliced {L} entries moves is_all budget window start polls list after give
             batches-more (IsBatch entries moves is_all budget window start) polls [] (g.first ∷ g.further) given g.batches taken batch;
         not_empty = not-empty-push g.further given g.not_empty (λ h. let bad : id ∷ own ≡ [] = e ∙ h in cc bad);
         front = rw (taken, e, concat-append g.further (given ∷ []), append-nil given) (append_assoc g.first (concat g.further) given);
+        found = g.found + empties given;
         moved = moved;
+        emptied = omega (arith, g.emptied, empties-more (g.first ∷ g.further) given);
         joined =
             rw (s.nothing_kept, concat-append g.further (given ∷ []), append-nil given, ← append_assoc g.first (concat g.further) given)
             (append-nil _ ∙ whole);
@@ -158,11 +175,11 @@ going-spliced {L} entries moves is_all budget window start polls list after give
       none = λ h. cc h;
     }
 
-pub going-filled : {L : Type 0} (entries : L → List ℕ) (moves : L → List ℕ → List ℕ → L → Type 0) (is_all : List ℕ → L → Type 0)
+pub going-filled : {L : Type 0} (entries : L → List ℕ) (moves : L → List ℕ → List ℕ → ℕ → L → Type 0) (is_all : List ℕ → L → Type 0)
     (has_room : L → ℕ → Type 0)
     (budget window : ℕ) (start : L) (polls : List Poll) (list after : L) (own repoll filled : List ℕ) (count sum : ℕ)
-    → ((a b c : L) (pushed more came later : List ℕ) → moves a pushed came b → moves b more later c
-    → moves a (pushed ++ more) (came ++ later) c)
+    → ((a b c : L) (pushed more came later : List ℕ) (n m : ℕ) → moves a pushed came n b → moves b more later m c
+    → moves a (pushed ++ more) (came ++ later) (n + m) c)
     → sum < budget → count < window
     → Refills entries moves is_all has_room own list repoll filled after
     → Going entries moves is_all budget window start polls list own repoll count sum
@@ -175,7 +192,7 @@ going-filled entries moves is_all has_room budget window start polls list after 
     going-spliced entries moves is_all budget window start polls list after filled count sum joins money room r.takes g
 
 -- the room that is left where the own list was filled, and how much the run holds
-pub filled-room : {L : Type 0} (entries : L → List ℕ) (moves : L → List ℕ → List ℕ → L → Type 0) (is_all : List ℕ → L → Type 0)
+pub filled-room : {L : Type 0} (entries : L → List ℕ) (moves : L → List ℕ → List ℕ → ℕ → L → Type 0) (is_all : List ℕ → L → Type 0)
     (has_room : L → ℕ → Type 0)
     (list after : L) (own repoll filled : List ℕ) → Refills entries moves is_all has_room own list repoll filled after
     → has_room list (length own + length repoll) → length own + length repoll ≤ 64
@@ -187,7 +204,7 @@ filled-room entries moves is_all has_room list after [] [] filled r room few =
     (subst (λ (n : ℕ). has_room after n) same r.room, omega (arith, r.most))
 
 -- the same where a number was handed on that was the run's
-pub handed-room : {L : Type 0} (entries : L → List ℕ) (moves : L → List ℕ → List ℕ → L → Type 0) (has_room : L → ℕ → Type 0)
+pub handed-room : {L : Type 0} (entries : L → List ℕ) (moves : L → List ℕ → List ℕ → ℕ → L → Type 0) (has_room : L → ℕ → Type 0)
     (list after : L) (next : Next) (id n : ℕ) (repoll : List ℕ)
     → ((at : L) (n : ℕ) → has_room at (n + 1) → has_room at n) → HandsOn entries moves has_room list (is_arrival next) id after
     → has_room list ((n + length repoll) + 1) → (n + length repoll) + 1 ≤ 64
@@ -206,20 +223,20 @@ handed-room entries moves has_room list after Repoll id n repoll less h room few
     (rw h (subst (λ (m : ℕ). has_room list m) same room), omega (arith, few, same))
 
 -- what one poll pushed, and what came by it
-pub pushed-by : {L : Type 0} (entries : L → List ℕ) (moves : L → List ℕ → List ℕ → L → Type 0) (has_room : L → ℕ → Type 0)
+pub pushed-by : {L : Type 0} (entries : L → List ℕ) (moves : L → List ℕ → List ℕ → ℕ → L → Type 0) (has_room : L → ℕ → Type 0)
     (list after : L) (arrival : Bool) (id : ℕ)
-    → ((at : L) → moves at [] [] at) → HandsOn entries moves has_room list arrival id after
-    → (came : List ℕ) × moves list (cond arrival (id ∷ []) []) came after × (entries after ≡ entries list ++ came)
+    → ((at : L) → moves at [] [] 0 at) → HandsOn entries moves has_room list arrival id after
+    → (came : List ℕ) × moves list (cond arrival (id ∷ []) []) came 0 after × (entries after ≡ entries list ++ came)
 pushed-by entries moves has_room list after true id stays h = (h.came, h.moved, h.entries_after)
 pushed-by entries moves has_room list after false id stays h = ([], rw h (stays list), rw h (sym (append-nil (entries list))))
 
 -- one more poll
-pub going-poll : {L : Type 0} (entries : L → List ℕ) (moves : L → List ℕ → List ℕ → L → Type 0) (is_all : List ℕ → L → Type 0)
+pub going-poll : {L : Type 0} (entries : L → List ℕ) (moves : L → List ℕ → List ℕ → ℕ → L → Type 0) (is_all : List ℕ → L → Type 0)
     (has_room : L → ℕ → Type 0)
     (budget window : ℕ) (start : L) (polls : List Poll) (list after : L) (own repoll : List ℕ) (count sum : ℕ) (poll : Poll)
-    → ((at : L) → moves at [] [] at)
-    → ((a b c : L) (pushed more came later : List ℕ) → moves a pushed came b → moves b more later c
-    → moves a (pushed ++ more) (came ++ later) c)
+    → ((at : L) → moves at [] [] 0 at)
+    → ((a b c : L) (pushed more came later : List ℕ) (n m : ℕ) → moves a pushed came n b → moves b more later m c
+    → moves a (pushed ++ more) (came ++ later) (n + m) c)
     → sum < budget → count < window
     → HandsOn entries moves has_room list (is_arrival poll.once.next) poll.id after
     → Going entries moves is_all budget window start polls list (poll.id ∷ own) repoll count sum
@@ -235,9 +252,12 @@ going-poll entries moves is_all has_room budget window start polls list after ow
       batches = batches-push (IsBatch entries moves is_all budget window start) polls poll [] (g.first ∷ g.further) g.batches;
       not_empty = g.not_empty;
       front = rw (ids-append polls (poll ∷ [])) (append_assoc (ids polls) (poll.id ∷ []) own ∙ g.front);
+      found = g.found + 0;
       moved =
           rw (arrivals-append polls (poll ∷ []), arrivals-one poll)
-          (joins start list after (arrivals polls) (cond (is_arrival poll.once.next) (poll.id ∷ []) []) g.came pushed.0 g.moved pushed.1);
+          (joins start list after (arrivals polls) (cond (is_arrival poll.once.next) (poll.id ∷ []) []) g.came pushed.0 g.found 0 g.moved
+          pushed.1);
+      emptied = omega (arith, g.emptied);
       joined =
           rw (pushed.2, ← append_assoc (g.first ++ concat g.further) (entries list) pushed.0, g.joined)
           (append_assoc (entries start) g.came pushed.0);
@@ -262,11 +282,11 @@ going-poll entries moves is_all has_room budget window start polls list after ow
     ]
 
 -- what the run leaves
-pub going-ends : {L : Type 0} (entries : L → List ℕ) (moves : L → List ℕ → List ℕ → L → Type 0) (is_all : List ℕ → L → Type 0)
+pub going-ends : {L : Type 0} (entries : L → List ℕ) (moves : L → List ℕ → List ℕ → ℕ → L → Type 0) (is_all : List ℕ → L → Type 0)
     (budget window : ℕ) (start : L) (polls : List Poll) (list after : L) (own repoll : List ℕ) (count sum : ℕ) (report : RunReport)
-    → ((a b c : L) (pushed more came later : List ℕ) → moves a pushed came b → moves b more later c
-    → moves a (pushed ++ more) (came ++ later) c)
-    → ((came : List ℕ) × moves list [] came after × (entries after ≡ own ++ (entries list ++ came) ++ repoll))
+    → ((a b c : L) (pushed more came later : List ℕ) (n m : ℕ) → moves a pushed came n b → moves b more later m c
+    → moves a (pushed ++ more) (came ++ later) (n + m) c)
+    → ((came : List ℕ) × moves list [] came (empties (entries after)) after × (entries after ≡ own ++ (entries list ++ came) ++ repoll))
     → is_all (entries after) after
     → report.polls ≡ count → report.work ≡ sum → report.squeezed ≡ (nat_le budget sum || nat_le window count)
     → Going entries moves is_all budget window start polls list own repoll count sum
@@ -283,7 +303,11 @@ going-ends entries moves is_all budget window start polls list after own repoll 
       batches = g.batches;
       not_empty = g.not_empty;
       front = g.front;
-      moved = rw (append-nil (arrivals polls)) at (joins start list after (arrivals polls) [] g.came back.0 g.moved back.1);
+      found = g.found + empties (entries after);
+      moved =
+          rw (append-nil (arrivals polls)) at
+          (joins start list after (arrivals polls) [] g.came back.0 g.found (empties (entries after)) g.moved back.1);
+      emptied = omega (arith, g.emptied);
       joined =
           rw (← append_assoc (g.first ++ concat g.further) (entries list) back.0, g.joined) (append_assoc (entries start) g.came back.0);
       left = rw (← g.again) back.2;
@@ -296,12 +320,13 @@ going-ends entries moves is_all budget window start polls list after own repoll 
     }
 
 -- it ends by what it gives back and tells
-pub run-ends : {L : Type 0} (entries : L → List ℕ) (moves : L → List ℕ → List ℕ → L → Type 0) (is_all : List ℕ → L → Type 0) (start : L)
+pub run-ends : {L : Type 0} (entries : L → List ℕ) (moves : L → List ℕ → List ℕ → ℕ → L → Type 0) (is_all : List ℕ → L → Type 0) (start : L)
     (polls : List Poll)
     (list after : L) (run : PollingRun) (report : RunReport)
-    → ((a b c : L) (pushed more came later : List ℕ) → moves a pushed came b → moves b more later c
-    → moves a (pushed ++ more) (came ++ later) c)
-    → run.asked ≡ None → ((came : List ℕ) × moves list [] came after × (entries after ≡ run.own ++ (entries list ++ came) ++ run.repoll))
+    → ((a b c : L) (pushed more came later : List ℕ) (n m : ℕ) → moves a pushed came n b → moves b more later m c
+    → moves a (pushed ++ more) (came ++ later) (n + m) c)
+    → run.asked ≡ None
+    → ((came : List ℕ) × moves list [] came (empties (entries after)) after × (entries after ≡ run.own ++ (entries list ++ came) ++ run.repoll))
     → is_all (entries after) after
     → report ≡ record { polls = run.polls; work = run.work; squeezed = has_spent run }
     → IsGoing entries moves is_all start polls list run → IsOver entries moves is_all start polls run

@@ -1,7 +1,7 @@
 -- A polling run whose polls its caller makes, and where it stands between them.
-use Rattle.std.specs.{Prelude.{◌≡◌, ◌≢◌, ◌⊎◌, ℕ, ◌+◌, ◌<◌, ◌==◌, ◌||◌, Bool, false, List, [], ◌∷◌, ◌++◌, length, take}, List.AllByRecursion}
+use Rattle.std.specs.{Prelude.{◌≡◌, ◌≢◌, ◌⊎◌, ℕ, ◌+◌, ◌<◌, ◌≤◌, ◌==◌, ◌||◌, Bool, false, List, [], ◌∷◌, ◌++◌, length, take}, List.AllByRecursion}
 use Rattle.{std.specs.List.{concat, list_any}, poll_runs.specs.{Polls.{Poll, arrivals, ids, repolled, work_of}, Run.{AreBatches, IsBatch}}}
-use Rattle.poll_runs.specs.{Run.is_spent, Turn.asked_for, declared.{bench.Once.Once, polling_run.PollingRun.PollingRun}}
+use Rattle.poll_runs.specs.{Batches.empties_of, Run.is_spent, Turn.asked_for, declared.{bench.Once.Once, polling_run.PollingRun.PollingRun}}
 
 -- what was taken from the list and isn't polled: the number that is being polled, and then the rest
 abbrev pub ahead : PollingRun → List ℕ
@@ -23,7 +23,7 @@ pub record SameSettings (before after : PollingRun) : Type 0 where
 
 -- Where a run over a list stands that made these polls: the batches that it took, and all that came until now. It took no
 -- poll and no batch that a polling run doesn't take.
-pub record Going {L : Type 0} (entries : L → List ℕ) (moves : L → List ℕ → List ℕ → L → Type 0) (is_all : List ℕ → L → Type 0)
+pub record Going {L : Type 0} (entries : L → List ℕ) (moves : L → List ℕ → List ℕ → ℕ → L → Type 0) (is_all : List ℕ → L → Type 0)
     (budget window : ℕ) (start : L) (polls : List Poll) (list : L) (ahead repoll : List ℕ) (count sum : ℕ) : Type 0 where
   pub first : List ℕ
   pub further : List (List ℕ)
@@ -31,7 +31,9 @@ pub record Going {L : Type 0} (entries : L → List ℕ) (moves : L → List ℕ
   pub batches : AreBatches (IsBatch entries moves is_all budget window start) polls [] (first ∷ further)
   pub not_empty : AllByRecursion (λ batch. batch ≢ []) further
   pub front : ids polls ++ ahead ≡ first ++ concat further
-  pub moved : moves start (arrivals polls) came list
+  pub found : ℕ
+  pub moved : moves start (arrivals polls) came found list
+  pub emptied : empties_of (first ∷ further) ≤ found
   pub joined : (first ++ concat further) ++ entries list ≡ entries start ++ came
   pub again : repoll ≡ repolled polls
   pub goes_on : (n : ℕ) → n < length polls → is_spent budget window (take n polls) ≡ false
@@ -39,14 +41,14 @@ pub record Going {L : Type 0} (entries : L → List ℕ) (moves : L → List ℕ
   pub summed : sum ≡ work_of polls
 
 -- it is this run's
-abbrev pub IsGoing : {L : Type 0} → (L → List ℕ) → (L → List ℕ → List ℕ → L → Type 0) → (List ℕ → L → Type 0) → L → List Poll → L
+abbrev pub IsGoing : {L : Type 0} → (L → List ℕ) → (L → List ℕ → List ℕ → ℕ → L → Type 0) → (List ℕ → L → Type 0) → L → List Poll → L
     → PollingRun → Type 0
 IsGoing entries moves is_all start polls list run =
     Going entries moves is_all run.budget run.window start polls list (ahead run) run.repoll run.polls run.work
 
 -- no poll follows these: budget or window is spent, or all is polled, and something is to be repolled or one more batch would
 -- be empty
-abbrev pub IsOver : {L : Type 0} → (L → List ℕ) → (L → List ℕ → List ℕ → L → Type 0) → (List ℕ → L → Type 0) → L → List Poll → PollingRun
+abbrev pub IsOver : {L : Type 0} → (L → List ℕ) → (L → List ℕ → List ℕ → ℕ → L → Type 0) → (List ℕ → L → Type 0) → L → List Poll → PollingRun
     → Type 0
 IsOver entries moves is_all start polls run =
     is_spent run.budget run.window polls ≡ false

@@ -1,4 +1,5 @@
 pub mod Polls
+pub mod Batches
 pub mod Thread
 pub mod Plain
 pub mod Run

@@ -6,8 +6,8 @@ abbrev pub all_held : List ℕ → List ℕ
 all_held list = list
 
 -- what came is what its own poller pushed: there are no other arrivals
-abbrev pub OwnPushes : List ℕ → List ℕ → List ℕ → List ℕ → Type 0
-OwnPushes before pushed came after = came ≡ pushed
+abbrev pub OwnPushes : List ℕ → List ℕ → List ℕ → ℕ → List ℕ → Type 0
+OwnPushes before pushed came found after = came ≡ pushed
 
 -- nothing is left behind
 abbrev pub NothingBehind : List ℕ → List ℕ → Type 0

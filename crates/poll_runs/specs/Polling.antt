@@ -168,6 +168,10 @@ module _ {P : Type 0} (thread : Bool) (weight : ℕ) where
 abbrev pub no_report : BusyReport
 no_report = record { polls = 0; work = 0; held = 0; bytes = 0; next = Absent }
 
+-- no caller busy polls: nothing was polled, and the bench stays as it is
+abbrev pub NoBusyPolls : {B : Type 0} → B → ℕ → ℕ → ℕ → BusyReport → B → Type 0
+NoBusyPolls before id weight rounds report after = (report ≡ no_report) × (after ≡ before)
+
 -- one poll more
 abbrev pub and_poll : {P : Type 0} → (List P → ℕ) → BusyReport → List P → BusyReport
 and_poll bytes r packets = record r { polls = r.polls + 1; work = r.work + length packets; bytes = r.bytes + bytes packets }

@@ -1,16 +1,20 @@
 -- The polling run (`net_rx_action`), told by its batches: over whole lists, by what the list states of itself (its entries,
 -- what was pushed and came between two moments, and that nothing was left behind).
-use Rattle.std.specs.{Prelude.{◌≡◌, ◌≢◌, ◌⊎◌, ℕ, ◌<◌, Bool, ◌||◌, nat_le, false, List, [], ◌∷◌, ◌++◌, length, take}, List.AllByRecursion}
+use Rattle.std.specs.{Prelude.{◌≡◌, ◌≢◌, ◌⊎◌, ℕ, ◌+◌, ◌<◌, ◌≤◌, Bool, ◌||◌, nat_le, false, List, [], ◌∷◌, ◌++◌, length, take}, List.AllByRecursion}
 use Rattle.{std.specs.List.concat, poll_runs.specs.{Polls.{Poll, arrivals, ids, repolled, work_of}, declared.run.RunReport.RunReport}}
+use Rattle.poll_runs.specs.Batches.{empties, empties_of}
 
 -- A batch that a run takes after these polls is all that the list holds then: with what was taken before, which is what
 -- was polled, it is what the list held at the start and what came until then. It is taken only where no poll asked for a
 -- repoll, and budget and window are left.
-pub record IsBatch {L : Type 0} (entries : L → List ℕ) (moves : L → List ℕ → List ℕ → L → Type 0) (is_all : List ℕ → L → Type 0)
+pub record IsBatch {L : Type 0} (entries : L → List ℕ) (moves : L → List ℕ → List ℕ → ℕ → L → Type 0) (is_all : List ℕ → L → Type 0)
     (budget window : ℕ) (start : L) (earlier : List Poll) (batch : List ℕ) : Type 0 where
   pub when : L
   pub came : List ℕ
-  pub moved : moves start (arrivals earlier) came when
+  pub found : ℕ
+  pub moved : moves start (arrivals earlier) came found when
+  -- it was taken until the list was found empty, or 64 were taken
+  pub emptied : empties batch ≤ found
   pub whole : ids earlier ++ batch ≡ entries start ++ came
   pub all : is_all batch when
   pub no_repoll : repolled earlier ≡ []
@@ -28,7 +32,7 @@ is_spent budget window polls = nat_le budget (work_of polls) || nat_le window (l
 
 -- A run over a list, with these polls: its first batch and further ones, what of them it didn't poll, the arrivals that no
 -- batch took, and all arrivals.
-pub record IsRun {L : Type 0} (entries : L → List ℕ) (moves : L → List ℕ → List ℕ → L → Type 0) (is_all : List ℕ → L → Type 0)
+pub record IsRun {L : Type 0} (entries : L → List ℕ) (moves : L → List ℕ → List ℕ → ℕ → L → Type 0) (is_all : List ℕ → L → Type 0)
     (budget window : ℕ) (start : L) (polls : List Poll) (after : L) (report : RunReport) : Type 0 where
   pub first : List ℕ
   pub further : List (List ℕ)
@@ -40,7 +44,10 @@ pub record IsRun {L : Type 0} (entries : L → List ℕ) (moves : L → List ℕ
   -- the numbers polled are a prefix of the batches joined
   pub front : ids polls ++ rest ≡ first ++ concat further
   -- batches and late arrivals are what the list held at the start and then the arrivals
-  pub moved : moves start (arrivals polls) came after
+  pub found : ℕ
+  pub moved : moves start (arrivals polls) came found after
+  -- so often the list was found empty: for each batch, and as the rest came back, once at least, unless 64 were taken before
+  pub emptied : empties_of (first ∷ further) + empties (entries after) ≤ found
   pub joined : (first ++ concat further) ++ late ≡ entries start ++ came
   -- the list afterwards: the unpolled rest, then the late arrivals, then what is to be repolled
   pub left : entries after ≡ rest ++ late ++ repolled polls

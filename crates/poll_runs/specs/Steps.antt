@@ -16,7 +16,7 @@ pub record HoldsNothing (run : PollingRun) : Type 0 where
   pub work : run.work ≡ 0
 
 -- a run begins with what one splice gives, and nothing is polled
-pub record Begins {L : Type 0} (entries : L → List ℕ) (moves : L → List ℕ → List ℕ → L → Type 0) (is_all : List ℕ → L → Type 0)
+pub record Begins {L : Type 0} (entries : L → List ℕ) (moves : L → List ℕ → List ℕ → ℕ → L → Type 0) (is_all : List ℕ → L → Type 0)
     (before : L) (run : PollingRun) (after : L) : Type 0 where
   pub takes : Takes entries moves is_all before run.own after
   pub repoll : run.repoll ≡ []
@@ -24,7 +24,7 @@ pub record Begins {L : Type 0} (entries : L → List ℕ) (moves : L → List �
   pub work : run.work ≡ 0
 
 -- its own list is filled where it may be, and its first number, if there is one, is the answer
-pub record Asks {L : Type 0} (entries : L → List ℕ) (moves : L → List ℕ → List ℕ → L → Type 0) (is_all : List ℕ → L → Type 0)
+pub record Asks {L : Type 0} (entries : L → List ℕ) (moves : L → List ℕ → List ℕ → ℕ → L → Type 0) (is_all : List ℕ → L → Type 0)
     (has_room : L → ℕ → Type 0) (run : PollingRun) (list : L) (answer : Option ℕ) (own : List ℕ) (after : L) : Type 0 where
   pub filled : List ℕ
   pub refills : Refills entries moves is_all has_room run.own list run.repoll filled after

@@ -34,3 +34,7 @@ pub record IsThreadPolling (weight most : ℕ) (polls : List Once) (report : Thr
   pub count : report.polls ≡ length polls
   pub sum : report.work ≡ sum_by (λ once. once.work) polls
   pub last : report.next ≡ last_next polls
+
+-- no thread polls: there are no polls, and the bench stays as it is
+abbrev pub NoThreadPolls : {B : Type 0} → B → ℕ → ℕ → ℕ → List Once → B → Type 0
+NoThreadPolls before id weight most polls after = (polls ≡ []) × (after ≡ before)

@@ -1,7 +1,8 @@
 //! What is polled.
 
 ghost use Rattle.std.specs.Prelude.{ℕ, List, ◌≤◌};
-ghost use Rattle.poll_runs.specs.Thread.{IsThreadPolling};
+ghost use Rattle.poll_runs.specs.Polling.{NoBusyPolls};
+ghost use Rattle.poll_runs.specs.Thread.{IsThreadPolling, NoThreadPolls};
 ghost use Rattle.poll_runs.specs.declared.bench.BusyReport.{BusyReport};
 ghost use Rattle.poll_runs.specs.declared.bench.Once.{Once};
 
@@ -59,6 +60,15 @@ pub struct BusyReport {
     pub next: Next,
 }
 
+impl ThreadReport {
+    /// Nothing was polled.
+    pub const NONE: ThreadReport = ThreadReport {
+        polls: 0,
+        work: 0,
+        next: Next::Absent,
+    };
+}
+
 impl BusyReport {
     /// Nothing was polled.
     pub const NONE: BusyReport = BusyReport {
@@ -70,11 +80,22 @@ impl BusyReport {
     };
 }
 
-/// Instances that are polled from a list by their numbers. Each bench states by a relation what its polls do.
+/// Instances that are polled by their numbers: from a list, by their threads, and by callers that busy poll. Each bench states
+/// by relations what its polls do. A bench that is only polled from a list returns [`ThreadReport::NONE`] and
+/// [`BusyReport::NONE`] from the other two calls, and leaves their relations at the defaults, which say just that.
 pub trait Bench {
     /// `polls before id weight answer after`: a poll of this instance from the list, with this weight, leads from the
     /// one bench to the other with this answer.
     ghost polls: { Self → ℕ → ℕ → Once → Self → Type 0 };
+
+    /// `thread_polls before id weight most polls after`: the polling of this instance by its thread leads from the one
+    /// bench to the other by these polls, a take that finds nothing and the handing over after a last `Repoll` included.
+    /// By default nothing is polled and the bench stays as it is.
+    ghost thread_polls: { Self → ℕ → ℕ → ℕ → List Once → Self → Type 0 } = { NoThreadPolls };
+
+    /// `busy_polls before id weight rounds report after`: busy polling of this instance for so many rounds leads from the one
+    /// bench to the other with this report. By default nothing is polled and the bench stays as it is.
+    ghost busy_polls: { Self → ℕ → ℕ → ℕ → BusyReport → Self → Type 0 } = { NoBusyPolls };
 
     /// Takes an instance from the list and polls it once with this weight, in 1..=64 (`napi_poll`). An instance that
     /// isn't to be taken is [`Next::Absent`].
@@ -82,17 +103,6 @@ pub trait Bench {
         requires weight { (1 ≤ weight) × (weight ≤ 64) }
         ensures leads { polls self.old id weight result self.new }
         ensures bound { result.work ≤ weight };
-}
-
-/// A bench whose instances are polled beside the list too, by their threads and by callers that busy poll.
-pub trait DirectBench: Bench {
-    /// `thread_polls before id weight most polls after`: the polling of this instance by its thread leads from the one
-    /// bench to the other by these polls, a take that finds nothing and the handing over after a last `Repoll` included.
-    ghost thread_polls: { Self → ℕ → ℕ → ℕ → List Once → Self → Type 0 };
-
-    /// `busy_polls before id weight rounds report after`: busy polling of this instance for so many rounds leads from the one
-    /// bench to the other with this report.
-    ghost busy_polls: { Self → ℕ → ℕ → ℕ → BusyReport → Self → Type 0 };
 
     /// Takes an instance as its thread does and polls it until no repoll is asked and a take finds it handed to the
     /// thread no more, at most `most` times, in 1..=131072 (`napi_threaded_poll`).

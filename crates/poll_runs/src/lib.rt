@@ -21,7 +21,7 @@ mod polling_run;
 mod run;
 mod soft;
 
-pub use bench::{Bench, BusyReport, DirectBench, Next, Once, ThreadReport};
+pub use bench::{Bench, BusyReport, Next, Once, ThreadReport};
 pub use busy_polling::poll_busy_of;
 pub use instance::{BusyInstance, Instance};
 pub use laws::{

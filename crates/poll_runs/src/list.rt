@@ -1,6 +1,7 @@
 //! What holds the numbers of the instances that were handed over.
 
 ghost use Rattle.std.specs.Prelude.{◌≡◌, ◌+◌, ◌≤◌, ℕ, List, [], ◌∷◌, ◌++◌, length};
+ghost use Rattle.poll_runs.specs.Batches.{empties};
 
 use crate::soft::SoftList;
 
@@ -11,9 +12,9 @@ pub trait PollList {
     /// hands.
     ghost entries: { Self → List ℕ };
 
-    /// `moves before pushed came after`: between these two moments the poller pushed the first numbers, and the second
-    /// ones came behind the entries, each in order.
-    ghost moves: { Self → List ℕ → List ℕ → Self → Type 0 };
+    /// `moves before pushed came found after`: between these two moments the poller pushed the first numbers, the second
+    /// ones came behind the entries, each in order, and the list was found empty at least so often.
+    ghost moves: { Self → List ℕ → List ℕ → ℕ → Self → Type 0 };
 
     /// `is_all taken after`: when the list was left so, nothing had come that isn't in these entries, or there was no
     /// room for more. A list of one thread leaves nothing behind.
@@ -28,7 +29,7 @@ pub trait PollList {
     /// Puts a number at the list's tail (`list_add_tail` in `____napi_schedule`).
     fn push(&mut self, id: u32)
         requires { can_push self.old }
-        ensures pushed { (came : List ℕ) × moves self.old (id ∷ []) came self.new
+        ensures pushed { (came : List ℕ) × moves self.old (id ∷ []) came 0 self.new
             × (entries self.new ≡ entries self.old ++ came) }
         ensures room { (n : ℕ) → has_room self.old (n + 1) → has_room self.new n };
 
@@ -36,7 +37,7 @@ pub trait PollList {
     /// (`list_splice_init`).
     fn splice(&mut self, to: &mut SoftList) -> usize
         requires { to.old ≡ [] }
-        ensures given { (came : List ℕ) × moves self.old [] came self.new
+        ensures given { (came : List ℕ) × moves self.old [] came (empties to.new) self.new
             × (to.new ≡ entries self.old ++ came) }
         ensures nothing_kept { entries self.new ≡ [] }
         ensures all { is_all to.new self.new }
@@ -48,15 +49,15 @@ pub trait PollList {
     /// `list_splice_tail` and `list_splice` at the end of `net_rx_action`).
     fn put_back(&mut self, rest: &SoftList, repoll: &SoftList)
         requires { has_room self.old (length rest.now + length repoll.now) }
-        ensures back { (came : List ℕ) × moves self.old [] came self.new
+        ensures back { (came : List ℕ) × moves self.old [] came (empties (entries self.new)) self.new
             × (entries self.new ≡ rest.now ++ (entries self.old ++ came) ++ repoll.now) }
         ensures all { is_all (entries self.new) self.new };
 
-    /// A list that stays as it is: nothing was pushed, and nothing came.
-    ghost stays: { (list : Self) → moves list [] [] list };
+    /// A list that stays as it is: nothing was pushed, nothing came, and nothing was looked for.
+    ghost stays: { (list : Self) → moves list [] [] 0 list };
 
     /// What was pushed and came up to a second moment, and from there to a third one, joined.
-    ghost joins: { (first second third : Self) (pushed more came later : List ℕ) → moves first pushed came second → moves second more later third → moves first (pushed ++ more) (came ++ later) third };
+    ghost joins: { (first second third : Self) (pushed more came later : List ℕ) (n m : ℕ) → moves first pushed came n second → moves second more later m third → moves first (pushed ++ more) (came ++ later) (n + m) third };
 
     /// Room for one number and more is room for a push.
     ghost room_to_push: { (list : Self) (n : ℕ) → has_room list (n + 1) → can_push list };

@@ -8,7 +8,7 @@ use crate::serving::{Serves, serve};
 use crate::unseating::unseat;
 use napi_calls::{Caller, Kept};
 use poll_list::SharedList;
-use poll_runs::{Bench, Next, Once, RunReport, run_softirq};
+use poll_runs::{Bench, BusyReport, Next, Once, RunReport, ThreadReport, run_softirq};
 use poll_tasks::{Bell, Gate, Pace, Pause, Setting, Task, Turned};
 use rx_ring::Batch;
 use std::sync::Wait;
@@ -43,6 +43,14 @@ impl<'n, R: Wait> Bench for SeatBench<'n, R> {
                 next: Next::Absent,
             },
         }
+    }
+
+    fn poll_thread(&mut self, _id: u32, _weight: u32, _most: u32) -> ThreadReport {
+        ThreadReport::NONE
+    }
+
+    fn busy_poll(&mut self, _id: u32, _weight: u32, _rounds: u32) -> BusyReport {
+        BusyReport::NONE
     }
 }
 

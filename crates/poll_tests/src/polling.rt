@@ -25,7 +25,7 @@ const fn once(work: u32, next: Next) -> Once {
     Once { work, next }
 }
 
-/// A disabled instance over a ring of eight, with its two callers and packets of so many bytes in the ring.
+/// A disabled instance, with its two callers and packets of so many bytes in its ring.
 struct Bed {
     input: RxIn,
     napi: Napi,
@@ -51,11 +51,11 @@ fn pop(rt: &impl Abort, napi: &Napi, callers: &mut Vec<Caller>) -> Caller
     caller
 }
 
-fn make_bed(rt: &impl Abort, alloc: Global, bytes: &[u32]) -> Bed
+fn make_bed(rt: &impl Abort, alloc: Global, capacity: usize, bytes: &[u32]) -> Bed
     ensures { (ctx : RxCtx) × (ring_of_instance result.napi ≡ ring_name ctx)
         × IsOneRing result.input ctx }
 {
-    let made = ring(alloc, 8);
+    let made = ring(alloc, capacity);
     let Ok((mut input, ctx)) = made else {
         panic!(rt; "no ring")
     };
@@ -140,7 +140,7 @@ fn an_instance_on_the_list_that_is_being_disabled(rt: HostRuntime) -> Result<(),
         first,
         second,
         control,
-    } = make_bed(&rt, rt.alloc(), &[60, 60, 60]);
+    } = make_bed(&rt, rt.alloc(), 4, &[60, 60, 60]);
     let control = control.enable(&rt, &napi, false);
     let mut first = handed(&rt, &napi, first, Kind::List);
     let control = control.mark(&napi);
@@ -171,7 +171,7 @@ fn play_by_thread<R: Abort + Wait>(rt: &R, alloc: Global, most: u32, want: Threa
         first,
         second,
         control,
-    } = make_bed(rt, alloc, &[60, 60, 60]);
+    } = make_bed(rt, alloc, 4, &[60, 60, 60]);
     let control = control.enable(rt, &napi, true);
     let mut batch = Batch::new();
     let (second, report) = poll_instance_by_thread(rt, &napi, second, 2, most, &mut batch);
@@ -213,7 +213,7 @@ fn busy_polling_gives_the_next_packets_and_hands_over(rt: HostRuntime) -> Result
         first,
         second,
         control,
-    } = make_bed(&rt, rt.alloc(), &[1, 2, 4, 8, 16, 32]);
+    } = make_bed(&rt, rt.alloc(), 8, &[1, 2, 4, 8, 16, 32]);
     let mut batch = Batch::new();
     let (first, refused) = busy_instance(&rt, &napi, first, 2, 2, &mut batch);
     assert_eq!(rt; refused, BusyReport::NONE);

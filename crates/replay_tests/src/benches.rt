@@ -2,7 +2,7 @@
 
 use device_model::{DeviceCounts, DeviceState, ReplayBench, SerialBench, TxCounts};
 use napi_model::Kind;
-use poll_engine::{Bench, BusyReport, DirectBench, Next, ThreadReport};
+use poll_engine::{Bench, BusyReport, Next, ThreadReport};
 use std::test::Fail;
 use tx_ring::TxState;
 
@@ -39,8 +39,8 @@ fn a_device_is_counted(rt: HostRuntime) -> Result<(), Fail> {
         disabled: 0,
         again: 0,
         released: 0,
-        held: 0,
         word: 4_294_967_297,
+        held: 0,
         tx,
     };
     assert!(rt; bench.is_attached(1));

@@ -5,7 +5,7 @@ use crate::sides::told_of;
 use crate::worked::joined;
 use device_model::{ReplayBench, SharedBench, TraceFault};
 use napi_model::Kind;
-use poll_engine::{Bench, DirectBench, Next};
+use poll_engine::{Bench, Next};
 use replay::{ReplayFault, Settings, replay_serial, replay_shared};
 use std::alloc::{AllocError, Global};
 use std::test::Fail;

@@ -8,7 +8,7 @@ ghost use Rattle.poll_engine.specs.Polls.{At, Chain, Poll};
 ghost use Rattle.poll_engine.specs.Run.{IsRun};
 ghost use Rattle.uses_poll_engine.specs.Polled.{Polls};
 
-use poll_engine::{Bench, Next, Once, PlainList, RunReport, run_softirq};
+use poll_engine::{Bench, BusyReport, Next, Once, PlainList, RunReport, ThreadReport, run_softirq};
 
 /// A card with so many packets.
 #[derive(Drop)]
@@ -29,6 +29,14 @@ impl Bench for Card {
             Next::Gone
         };
         Once { work, next }
+    }
+
+    fn poll_thread(&mut self, _id: u32, _weight: u32, _most: u32) -> ThreadReport {
+        ThreadReport::NONE
+    }
+
+    fn busy_poll(&mut self, _id: u32, _weight: u32, _rounds: u32) -> BusyReport {
+        BusyReport::NONE
     }
 }
 

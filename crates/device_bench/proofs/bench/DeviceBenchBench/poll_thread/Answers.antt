@@ -2,7 +2,7 @@ use Rattle.std.proofs.Common.{rules, ◌≡◌, ◌<◌, [], ap, length, slice_s
 use Rattle.{device_bench.specs.{Device.{polled_by_thread}}, device_places.specs.Places.at}
 use Rattle.device_bench.proofs.{BenchFacts.{kept-changed, here-at, sound-at}, DeviceFacts.thread-keeps, SideFacts.{set-back, sides-set}}
 use Rattle.{device_bench.proofs.Waiting.waiting-more, device_places.proofs.PlaceFacts.at-index, std.specs.Prelude.is_some}
-use Rattle.device_bench.proofs.bench.DeviceBenchDirectBench.poll_thread.Goals as goal
+use Rattle.device_bench.proofs.bench.DeviceBenchBench.poll_thread.Goals as goal
 
 pub invariant_of-self : goal.invariant_of-self
 invariant_of-self g c =

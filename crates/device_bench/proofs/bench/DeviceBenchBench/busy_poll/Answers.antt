@@ -1,6 +1,6 @@
 use Rattle.{std.{proofs.Common.{ap, refl, sym, arith}, specs.Prelude.is_some}, device_bench.proofs.BenchFacts.{kept-changed, here-at}}
 use Rattle.device_bench.proofs.{BenchFacts.sound-at, DeviceFacts.busy-keeps, SideFacts.sides-set, Waiting.waiting-more}
-use Rattle.device_bench.proofs.bench.DeviceBenchDirectBench.busy_poll.Goals as goal
+use Rattle.device_bench.proofs.bench.DeviceBenchBench.busy_poll.Goals as goal
 
 pub invariant_of-self : goal.invariant_of-self
 invariant_of-self g c =
