@@ -294,7 +294,7 @@ class Processor {
         if (kind == A_USE) waits.add(clock - packet);
         else if (kind == A_POLL) next_packet();
         else if (kind == A_PACKET) end_packet();
-        else if (settings[BUDGET] == 0) end_lone_interrupt();
+        else if (settings[BUDGET] == 0) end_interrupt_without_polling();
         if (under_way == NOTHING) take_up();
     }
 
@@ -330,7 +330,7 @@ class Processor {
         start(AN_INTERRUPT, settings[INTERRUPT]);
     }
 
-    void end_lone_interrupt() {
+    void end_interrupt_without_polling() {
         Device &device = *devices[busy];
         deliver(device, device.ring.take());
         raised = (raised & ~(1ull << busy)) | static_cast<uint64_t>(device.ring.size() > 0) << busy;

@@ -125,7 +125,7 @@ def counted(calls, name):
 def random_arrivals(program, seed="1", count="300"):
     """The model's bytes on so many arrivals, which together reach each case of the rules."""
     chance, reached, calls = random.Random(int(seed)), Counter(), Counter()
-    for name in ("go_on_with_rest", "wake_application", "end_lone_interrupt"):
+    for name in ("go_on_with_rest", "wake_application", "end_interrupt_without_polling"):
         counted(calls, name)
     for _ in range(int(count)):
         arguments = random_options(chance)
@@ -153,7 +153,7 @@ def cases_of(settings, rows, printed, calls):
     polls_on = of["polls"] > 1
     return {
         "dropped": total["dropped"] > 0, "refused": total["refused"] > 0, "squeezed": of["squeezed"] > of["late"], "late": of["late"] > 0,
-        "interrupts without polling": calls["end_lone_interrupt"] > 0, "several runs": of["runs"] > 10, "no packet": not rows,
+        "interrupts without polling": calls["end_interrupt_without_polling"] > 0, "several runs": of["runs"] > 10, "no packet": not rows,
         "several processors": settings["processors"] > 1 and of["runs"] > 1,
         "no cost": 0 in (settings["poll"], settings["packet"], settings["use"]),
         "several devices": total["devices"] > settings["processors"], "full weight": of["work"] > 2 * settings["weight"],

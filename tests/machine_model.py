@@ -226,7 +226,8 @@ def interrupt(processor):
         device.interrupts += 1
         processor.counts["interrupts"] += 1
         if settings["budget"] == 0:
-            start(processor, "interrupt", settings["interrupt"] + settings["packet"], lambda: end_lone_interrupt(processor, device))
+            length = settings["interrupt"] + settings["packet"]
+            start(processor, "interrupt", length, lambda: end_interrupt_without_polling(processor, device))
             return True
         device.masked = True
     (processor.tasks if settings["threaded"] else processor.poll_list).append(number)
@@ -234,7 +235,7 @@ def interrupt(processor):
     return True
 
 
-def end_lone_interrupt(processor, device):
+def end_interrupt_without_polling(processor, device):
     """Without polling, each interrupt delivers one packet."""
     deliver(processor, device, device.ring.popleft())
     device.raised = bool(device.ring)
