@@ -2,7 +2,7 @@
 
 ghost use Rattle.std.specs.Prelude.{◌≡◌, ◌*◌, ◌≤◌, ◌++◌, Some, IfOk, OnOk, length, string_bytes};
 ghost use Rattle.machine_model.specs.Machine.{device_report};
-ghost use Rattle.machine_report.specs.Report.{application_line, device_line, device_lines, lines_of_devices, lines_of_processors, processor_in, processor_line, processor_lines, sums_of_devices, sums_of_processors, text_of, time_line, total_line, with_device};
+ghost use Rattle.machine_report.specs.Report.{application_idle, application_line, application_use, device_line, device_lines, lines_of_devices, lines_of_processors, processor_in, processor_line, processor_lines, sums_of_devices, sums_of_processors, text_of, time_line, total_line, with_device};
 ghost use Rattle.replay_text.specs.Lines.{ended};
 
 use machine_model::{ApplicationReport, DeviceReport, Machine, ProcessorReport, WaitCounts};
@@ -148,7 +148,30 @@ fn add_time(text: &mut String, number: u32, processor: &ProcessorReport) -> Resu
     Ok(())
 }
 
-// Adds the line of an application that has a processor of its own.
+// What the uses of an application on a processor of its own took.
+fn application_use(settings: &Settings, processor: &ProcessorReport) -> u64
+    ensures { result ≡ application_use settings.now processor.now }
+{
+    let cost = u64::from(settings.use_time);
+    processor.waits.count.saturating_mul(cost)
+}
+
+// How long that processor was idle: what is left of its last end without waking and uses.
+fn application_idle(
+    settings: &Settings,
+    processor: &ProcessorReport,
+    application: &ApplicationReport,
+) -> u64
+    ensures { result ≡ application_idle settings.now processor.now application.now }
+{
+    let cost = u64::from(settings.app_wake);
+    let awake = application
+        .end
+        .saturating_sub(application.wakes.saturating_mul(cost));
+    awake.saturating_sub(application_use(settings, processor))
+}
+
+// Adds the line of an application on a processor of its own.
 fn add_application(
     text: &mut String,
     settings: &Settings,
@@ -159,18 +182,12 @@ fn add_application(
     ensures { OnOk result (string_bytes text.new ≡ string_bytes text.old
         ++ ended (application_line settings.now number processor.now application.now)) }
 {
-    let waking = application
-        .wakes
-        .saturating_mul(u64::from(settings.app_wake));
-    let using = processor
-        .waits
-        .count
-        .saturating_mul(u64::from(settings.use_time));
-    let idle = application.end.saturating_sub(waking).saturating_sub(using);
+    let used = application_use(settings, processor);
+    let idle = application_idle(settings, processor, application);
     writeln!(
         text,
         "application {} end {} wakes {} use {} idle {}",
-        number, application.end, application.wakes, using, idle
+        number, application.end, application.wakes, used, idle
     )?;
     Ok(())
 }
