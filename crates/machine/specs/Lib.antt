@@ -1,8 +1,6 @@
 pub use Rattle.machine_words.specs.Usual
 pub use Rattle.machine_words.specs.Words
 pub use Rattle.machine_words.specs.declared.settings.Settings
-pub use Rattle.machine_model.specs.Fates
-pub use Rattle.machine_model.specs.Laws
 pub use Rattle.machine_model.specs.Machine
 pub use Rattle.machine_model.specs.Processor
 pub use Rattle.replay_words.specs.declared.words.WordFault
@@ -10,7 +8,6 @@ pub use Rattle.replay_text.specs.Written
 pub use Rattle.machine_report.specs.Answer
 pub use Rattle.machine_report.specs.Arrivals
 pub use Rattle.machine_report.specs.Fault
-pub use Rattle.machine_report.specs.Lives
 pub use Rattle.machine_report.specs.Reading
 pub use Rattle.machine_report.specs.Report
 pub use Rattle.machine_report.specs.declared.arrival.Arrival

@@ -2,4 +2,3 @@ pub mod FaultFacts
 pub mod ReadingFacts
 pub mod ReportFacts
 pub mod TakingFacts
-pub mod LivesFacts

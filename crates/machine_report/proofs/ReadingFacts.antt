@@ -7,7 +7,8 @@ use Rattle.csv.specs.{Machine.next_record, Reading.{default_config, reader_state
 use Rattle.{csv.specs.declared.{reader.Reader.Reader, parser.State.State}, device_rows.specs.Source.{StandsAt, TakesNext}}
 use Rattle.device_rows.{specs.Trace.records_of, proofs.{RecordsFacts.{next-end, next-short, records-all}, RowsFacts.records-next}}
 use Rattle.{device_rows.proofs.RowsFacts.records-none, machine_report.specs.Arrivals.{arrival_of, arrivals_after, arrivals_of, is_title}}
-use Rattle.machine_report.specs.{Arrivals.{of_three, three_of}, Reading.{HasGiven, records_in}, declared.arrival.Arrival.Arrival}
+use Rattle.machine_words.specs.declared.settings.Settings.{Settings}
+use Rattle.machine_report.specs.{Arrivals.{four_of, of_four}, Reading.{HasGiven, records_in}, declared.arrival.Arrival.Arrival}
 use Rattle.machine_report.specs.declared.{arrivals.Arrivals.Arrivals, fault.MachineFault.MachineFault}
 
 -- one record, and then those that the reader has left
@@ -50,36 +51,36 @@ all-in : (state : State) (bytes : List ℕ) → state ≡ State.StartRecord → 
 unfolding records_of
 all-in state bytes e = rw e refl
 
-module _ (processors : ℕ) where
-  arrivals-none : (records : List (List (List ℕ))) → records ≡ [] → arrivals_of processors records ≡ Err MachineFault.BadHeader
+module _ (s : Settings) where
+  arrivals-none : (records : List (List (List ℕ))) → records ≡ [] → arrivals_of s records ≡ Err MachineFault.BadHeader
   unfolding arrivals_of
   arrivals-none records e = rw e refl
 
   arrivals-other : (records rest : List (List (List ℕ))) (fields : List (List ℕ)) → records ≡ fields ∷ rest
-      → is_title (three_of fields) ≡ false
-      → arrivals_of processors records ≡ Err MachineFault.BadHeader
+      → is_title s.queues (four_of s.queues fields) ≡ false
+      → arrivals_of s records ≡ Err MachineFault.BadHeader
   unfolding arrivals_of
   arrivals-other records rest fields e h = rw (e, h) refl
 
   arrivals-behind : (records rest : List (List (List ℕ))) (fields : List (List ℕ)) → records ≡ fields ∷ rest
-      → is_title (three_of fields) ≡ true
-      → arrivals_of processors records ≡ arrivals_after processors [] rest
+      → is_title s.queues (four_of s.queues fields) ≡ true
+      → arrivals_of s records ≡ arrivals_after s [] rest
   unfolding arrivals_of
   arrivals-behind records rest fields e h = rw (e, h) refl
 
-  after-end : (earlier : List Arrival) → arrivals_after processors earlier [] ≡ Ok earlier
+  after-end : (earlier : List Arrival) → arrivals_after s earlier [] ≡ Ok earlier
   unfolding arrivals_after
   after-end earlier = refl
 
   after-bad : (earlier : List Arrival) (fields : List (List ℕ)) (records : List (List (List ℕ))) (fault : MachineFault)
-      → arrival_of processors earlier fields ≡ Err fault
-      → arrivals_after processors earlier (fields ∷ records) ≡ Err fault
+      → arrival_of s earlier fields ≡ Err fault
+      → arrivals_after s earlier (fields ∷ records) ≡ Err fault
   unfolding arrivals_after
   after-bad earlier fields records fault e = rw e refl
 
   after-good : (earlier : List Arrival) (fields : List (List ℕ)) (records : List (List (List ℕ))) (arrival : Arrival)
-      → arrival_of processors earlier fields ≡ Ok arrival
-      → arrivals_after processors earlier (fields ∷ records) ≡ arrivals_after processors (earlier ++ arrival ∷ []) records
+      → arrival_of s earlier fields ≡ Ok arrival
+      → arrivals_after s earlier (fields ∷ records) ≡ arrivals_after s (earlier ++ arrival ∷ []) records
   unfolding arrivals_after
   after-good earlier fields records arrival e = rw e refl
 
@@ -88,30 +89,30 @@ pub last-push : (first : ℕ) (earlier : List Arrival) (arrival : Arrival)
 last-push first earlier arrival = grind (arith, common_steps)
 
 -- a first record that is none, or another one
-pub refused-start : {R : Type 0} (remaining : R → Option (List ℕ)) (reader after : Reader R) (fields : List (List ℕ)) (processors : ℕ)
+pub refused-start : {R : Type 0} (remaining : R → Option (List ℕ)) (reader after : Reader R) (fields : List (List ℕ)) (s : Settings)
     (bytes : List ℕ) → reader_state reader ≡ State.StartRecord
     → TakesNext remaining (next_record default_config (reader_state reader) [] [] (strip_bom bytes)) false fields after
-    → arrivals_of processors (records_of bytes) ≡ Err MachineFault.BadHeader
-refused-start remaining reader after fields processors bytes at h = grind (arith, common_steps, all-in, arrivals-none, none-in)
+    → arrivals_of s (records_of bytes) ≡ Err MachineFault.BadHeader
+refused-start remaining reader after fields s bytes at h = grind (arith, common_steps, all-in, arrivals-none, none-in)
 
 between-start : (state : State) → state ≡ State.StartRecord → ends_at_end state ≡ false
 between-start state e = ap ends_at_end e
 
-pub refused-title : {R : Type 0} (remaining : R → Option (List ℕ)) (reader after : Reader R) (fields : List (List ℕ)) (processors : ℕ)
+pub refused-title : {R : Type 0} (remaining : R → Option (List ℕ)) (reader after : Reader R) (fields : List (List ℕ)) (s : Settings)
     (bytes : List ℕ) → reader_state reader ≡ State.StartRecord
     → TakesNext remaining (next_record default_config (reader_state reader) [] [] (strip_bom bytes)) true fields after
-    → is_title (three_of fields) ≡ false
-    → arrivals_of processors (records_of bytes) ≡ Err MachineFault.BadHeader
-refused-title remaining reader after fields processors bytes at h other =
+    → is_title s.queues (four_of s.queues fields) ≡ false
+    → arrivals_of s (records_of bytes) ≡ Err MachineFault.BadHeader
+refused-title remaining reader after fields s bytes at h other =
     let (rest, stands, between, one) = more-in remaining reader after fields (strip_bom bytes) (between-start _ at) h in
-    arrivals-other processors _ _ fields (all-in _ bytes at ∙ one) other
+    arrivals-other s _ _ fields (all-in _ bytes at ∙ one) other
 
 -- behind the titles
 pub given-start : {R : Type 0} (remaining : R → Option (List ℕ)) (reader : Reader R) (arrivals : Arrivals R) (fields : List (List ℕ))
     (bytes : List ℕ) → reader_state reader ≡ State.StartRecord
     → TakesNext remaining (next_record default_config (reader_state reader) [] [] (strip_bom bytes)) true fields arrivals.reader
-    → is_title (three_of fields) ≡ true
-    → arrivals.rows ≡ 0 → arrivals.last ≡ 0 → HasGiven remaining arrivals [] (arrivals_of arrivals.processors (records_of bytes))
+    → is_title arrivals.settings.queues (four_of arrivals.settings.queues fields) ≡ true
+    → arrivals.rows ≡ 0 → arrivals.last ≡ 0 → HasGiven remaining arrivals [] (arrivals_of arrivals.settings (records_of bytes))
 given-start remaining reader arrivals fields bytes at h titled rows last = search (rules, all-in, arrivals-behind, between-start, more-in)
 
 module _ {R : Type 0} (remaining : R → Option (List ℕ)) (old : Arrivals R) (earlier : List Arrival)
@@ -122,31 +123,31 @@ module _ {R : Type 0} (remaining : R → Option (List ℕ)) (old : Arrivals R) (
       → TakesNext remaining (next_record default_config (reader_state old.reader) [] [] bytes) false fields after)
       → all ≡ Ok earlier
   given-end after fields h = given.gives
-      ∙ ap (arrivals_after old.processors earlier) (none-in remaining old.reader after fields given.left (h given.left given.stands))
-      ∙ after-end old.processors earlier
+      ∙ ap (arrivals_after old.settings earlier) (none-in remaining old.reader after fields given.left (h given.left given.stands))
+      ∙ after-end old.settings earlier
 
   abbrev Takes : Reader R → List (List ℕ) → Type 0
   Takes after fields = (bytes : List ℕ) → StandsAt remaining old.reader bytes
       → TakesNext remaining (next_record default_config (reader_state old.reader) [] [] bytes) true fields after
 
   told-as : (row : ℕ) (fields : List (List ℕ)) → row ≡ old.rows + 1
-      → arrival_of old.processors earlier fields ≡ of_three old.processors row old.last (three_of fields)
+      → arrival_of old.settings earlier fields ≡ of_four old.settings row old.last (four_of old.settings.queues fields)
   told-as row fields rows = grind (arith, common_steps)
 
   -- at a faulty row
   pub given-fault : (after : Reader R) (fields : List (List ℕ)) (row : ℕ) (fault : MachineFault) → Takes after fields → row ≡ old.rows + 1
-      → of_three old.processors row old.last (three_of fields) ≡ Err fault → all ≡ Err fault
+      → of_four old.settings row old.last (four_of old.settings.queues fields) ≡ Err fault → all ≡ Err fault
   given-fault after fields row fault h rows told =
       let (rest, stands, between, one) = more-in remaining old.reader after fields given.left given.between (h given.left given.stands) in
-      given.gives ∙ ap (arrivals_after old.processors earlier) one
-      ∙ after-bad old.processors earlier fields _ fault (told-as row fields rows ∙ told)
+      given.gives ∙ ap (arrivals_after old.settings earlier) one
+      ∙ after-bad old.settings earlier fields _ fault (told-as row fields rows ∙ told)
 
   -- one more
   pub given-next : (new : Arrivals R) (fields : List (List ℕ)) (arrival : Arrival) → Takes new.reader fields
-      → new.processors ≡ old.processors → new.rows ≡ old.rows + 1
-      → new.last ≡ arrival.moment → of_three old.processors new.rows old.last (three_of fields) ≡ Ok arrival
+      → new.settings ≡ old.settings → new.rows ≡ old.rows + 1
+      → new.last ≡ arrival.moment → of_four old.settings new.rows old.last (four_of old.settings.queues fields) ≡ Ok arrival
       → HasGiven remaining new (earlier ++ arrival ∷ []) all
-  given-next new fields arrival h processors rows last told =
+  given-next new fields arrival h settings rows last told =
       let (rest, stands, between, one) =
       more-in remaining old.reader new.reader fields given.left given.between (h given.left given.stands) in
       record {
@@ -155,7 +156,7 @@ module _ {R : Type 0} (remaining : R → Option (List ℕ)) (old : Arrivals R) (
         between = between;
         rows = omega (arith, rows, given.rows, length-append earlier (arrival ∷ []));
         last = last ∙ sym (last-push 0 earlier arrival);
-        gives = given.gives ∙ ap (arrivals_after old.processors earlier) one
-            ∙ after-good old.processors earlier fields _ arrival (told-as new.rows fields rows ∙ told)
-            ∙ ap (λ n. arrivals_after n (earlier ++ arrival ∷ []) (records_in (reader_state new.reader) rest)) (sym processors);
+        gives = given.gives ∙ ap (arrivals_after old.settings earlier) one
+            ∙ after-good old.settings earlier fields _ arrival (told-as new.rows fields rows ∙ told)
+            ∙ ap (λ n. arrivals_after n (earlier ++ arrival ∷ []) (records_in (reader_state new.reader) rest)) (sym settings);
       }

@@ -2,6 +2,7 @@
 use Rattle.std.proofs.{Common.{arith, ◌≡◌, ◌∙◌, ℕ, ◌+◌, [], ◌++◌, Option, List, refl, add-one, append-nil, sym}, lemmas.Grind.common_steps}
 use Rattle.machine_model.specs.declared.{device.DeviceReport.DeviceReport, processor.ProcessorReport.ProcessorReport}
 use Rattle.machine_report.specs.{declared.report.Totals.Totals, Report.{device_lines, lines_of_devices, lines_of_processors, none_counted}}
+use Rattle.machine_words.specs.declared.settings.Settings.{Settings}
 use Rattle.machine_report.specs.Report.{processor_lines, sums_of_devices, sums_of_processors, with_device, with_processor}
 
 pub more-devices : (device : ℕ → Option DeviceReport) (n : ℕ)
@@ -14,10 +15,10 @@ pub more-device-sums : (device : ℕ → Option DeviceReport) (n : ℕ)
 unfolding sums_of_devices
 more-device-sums device n = rw (add-one n) refl
 
-pub more-processors : (processor : ℕ → Option ProcessorReport) (n : ℕ)
-    → lines_of_processors processor (n + 1) ≡ lines_of_processors processor n ++ processor_lines n (processor n)
+pub more-processors : (s : Settings) (processor : ℕ → Option ProcessorReport) (n : ℕ)
+    → lines_of_processors s processor (n + 1) ≡ lines_of_processors s processor n ++ processor_lines s n (processor n)
 unfolding lines_of_processors
-more-processors processor n = rw (add-one n) refl
+more-processors s processor n = rw (add-one n) refl
 
 pub more-processor-sums : (processor : ℕ → Option ProcessorReport) (t : Totals) (n : ℕ)
     → sums_of_processors processor t (n + 1) ≡ with_processor (processor n) (sums_of_processors processor t n)
@@ -34,10 +35,10 @@ pub one_device_sum : (device : ℕ → Option DeviceReport) (n : ℕ) (told : Op
     → after ≡ with_device told before → after ≡ sums_of_devices device (n + 1)
 one_device_sum device n told before after is so_far added = added ∙ (λ i. with_device (is i) (so_far i)) ∙ sym (more-device-sums device n)
 
-pub one_processor : (processor : ℕ → Option ProcessorReport) (n : ℕ) (told : Option ProcessorReport) (start before after : List ℕ)
-    → told ≡ processor n → before ≡ start ++ lines_of_processors processor n
-    → after ≡ before ++ processor_lines n told → after ≡ start ++ lines_of_processors processor (n + 1)
-one_processor processor n told start before after is so_far added = grind (arith, common_steps, more-processors)
+pub one_processor : (s : Settings) (processor : ℕ → Option ProcessorReport) (n : ℕ) (told : Option ProcessorReport) (start before after : List ℕ)
+    → told ≡ processor n → before ≡ start ++ lines_of_processors s processor n
+    → after ≡ before ++ processor_lines s n told → after ≡ start ++ lines_of_processors s processor (n + 1)
+one_processor s processor n told start before after is so_far added = grind (arith, common_steps, more-processors)
 
 pub one_processor_sum : (processor : ℕ → Option ProcessorReport) (t : Totals) (n : ℕ) (told : Option ProcessorReport)
     (before after : Totals) → told ≡ processor n
@@ -56,9 +57,9 @@ pub no_device_sum : (device : ℕ → Option DeviceReport) → none_counted ≡ 
 unfolding sums_of_devices
 no_device_sum device = refl
 
-pub no_processors : (processor : ℕ → Option ProcessorReport) (text : List ℕ) → text ≡ text ++ lines_of_processors processor 0
+pub no_processors : (s : Settings) (processor : ℕ → Option ProcessorReport) (text : List ℕ) → text ≡ text ++ lines_of_processors s processor 0
 unfolding lines_of_processors
-no_processors processor text = sym (append-nil text)
+no_processors s processor text = sym (append-nil text)
 
 pub no_processor_sum : (processor : ℕ → Option ProcessorReport) (t : Totals) → t ≡ sums_of_processors processor t 0
 unfolding sums_of_processors

@@ -14,13 +14,13 @@ Takes (arrival ∷ arrivals) before after =
 -- came to
 pub record IsReportOf (s : Settings) (bytes text : List ℕ) : Type 0 where
   pub arrivals : List Arrival
-  pub read : arrivals_of s.processors (records_of bytes) ≡ Ok arrivals
+  pub read : arrivals_of s (records_of bytes) ≡ Ok arrivals
   pub behind : Machine
   pub taken : Takes arrivals (opened_machine s) behind
   pub finished : Machine
   pub finishes : Finishes behind finished
-  pub told : text ≡ text_of s.processors finished
+  pub told : text ≡ text_of s finished
 
 -- the fault is the first one of the bytes
 abbrev pub IsFaultOf : Settings → List ℕ → MachineFault → Type 0
-IsFaultOf s bytes fault = arrivals_of s.processors (records_of bytes) ≡ Err fault
+IsFaultOf s bytes fault = arrivals_of s (records_of bytes) ≡ Err fault

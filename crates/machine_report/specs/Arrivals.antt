@@ -1,8 +1,9 @@
 -- The arrivals of a text, or its first fault, as a function of its records. See docs/FORMATS.md, "Arrivals".
-use Rattle.std.specs.Prelude.{ℕ, ◌+◌, ◌*◌, ◌^◌, ◌<◌, ◌≤◌, ◌==◌, ◌&&◌, Bool, false, nat_le, nat_lt, List, [], ◌∷◌, ◌++◌, length, fold}
-use Rattle.std.specs.{Prelude.{Option, Some, None, if◌then◌else◌, Result, Ok, Err, codes}, Str.bytes_eq}
+use Rattle.std.specs.Prelude.{ℕ, ◌+◌, ◌-◌, ◌*◌, ◌%◌, ◌^◌, ◌<◌, ◌≤◌, ◌==◌, ◌&&◌, ◌||◌, Bool, false, nat_le, nat_lt, List, [], ◌∷◌, ◌++◌}
+use Rattle.std.specs.{Prelude.{length, fold, Option, Some, None, if◌then◌else◌, Result, Ok, Err, codes}, Str.bytes_eq}
 use Rattle.csv.specs.Records.{field_at}
-use Rattle.{device_rows.specs.{Record.{is_numeral, numeral}, Row.is_within}, machine_report.specs.declared.arrival.Arrival.Arrival}
+use Rattle.{device_rows.specs.{Record.{is_numeral, numeral}, Row.is_within}, machine_words.specs.declared.settings.Settings.Settings}
+use Rattle.machine_report.specs.declared.arrival.{Arrival.Arrival, Numbers.Numbers}
 use Rattle.machine_report.specs.declared.fault.MachineFault.{MachineFault, TheVariants.{BadHeader, BadFields, BadNumber, OutOfRange, Falls}}
 
 -- a chain of steps that ends at the first fault
@@ -11,58 +12,82 @@ abbrev pub ◌>>=◌ : {A B : Type 0} → Result A MachineFault → (A → Resul
 (Ok x) >>= next = next x
 (Err fault) >>= next = Err fault
 
--- the three fields of a record that has three
-abbrev pub Three : Type 0
-Three = List ℕ × List ℕ × List ℕ
+-- how many fields a record has: with several queues it has a flow too
+abbrev pub width : ℕ → ℕ
+width queues = if queues == 1 then 3 else 4
 
-abbrev pub three_from : Option (List ℕ) → Option (List ℕ) → Option (List ℕ) → Option Three
-three_from (Some moment) (Some device) (Some bytes) = Some (moment, device, bytes)
-three_from _ _ _ = None
+-- the flow of a record, which is 0 with one queue
+abbrev pub flow_of : ℕ → List (List ℕ) → Option (List ℕ)
+flow_of queues fields = if queues == 1 then Some (codes "0") else field_at fields 3
 
-unfoldable pub three_of : List (List ℕ) → Option Three
-three_of fields = if length fields == 3 then three_from (field_at fields 0) (field_at fields 1) (field_at fields 2) else None
+-- moment, device, bytes and flow
+abbrev pub Four : Type 0
+Four = List ℕ × List ℕ × List ℕ × List ℕ
 
--- the titles `moment,device,bytes`
-abbrev pub is_title : Option Three → Bool
-is_title None = false
-is_title (Some three) = bytes_eq three.0 (codes "moment") && (bytes_eq three.1 (codes "device") && bytes_eq three.2 (codes "bytes"))
+abbrev pub four_from : Option (List ℕ) → Option (List ℕ) → Option (List ℕ) → Option (List ℕ) → Option Four
+four_from (Some moment) (Some device) (Some bytes) (Some flow) = Some (moment, device, bytes, flow)
+four_from _ _ _ _ = None
 
--- row n of these numbers, behind a row of moment `last`: a moment below 2^62 that doesn't fall, one of 64 devices for each
--- processor, and 1 to 65535 bytes
-unfoldable pub ranged : ℕ → ℕ → ℕ → ℕ → ℕ → ℕ → Result Arrival MachineFault
-ranged processors n last moment device bytes =
-    if nat_lt moment (2 ^ 62) && (is_within 1 (64 * processors) device && is_within 1 65535 bytes)
-    then (if nat_le last moment then Ok (record { moment = moment; device = device }) else Err (Falls n))
+unfoldable pub four_of : ℕ → List (List ℕ) → Option Four
+four_of queues fields =
+    if length fields == width queues
+    then four_from (field_at fields 0) (field_at fields 1) (field_at fields 2) (flow_of queues fields)
+    else None
+
+-- the header `moment,device,bytes`, and with several queues `moment,device,bytes,flow`
+abbrev pub is_title : ℕ → Option Four → Bool
+is_title queues None = false
+is_title queues (Some four) =
+    bytes_eq four.0 (codes "moment")
+    && (bytes_eq four.1 (codes "device") && (bytes_eq four.2 (codes "bytes") && (queues == 1 || bytes_eq four.3 (codes "flow"))))
+
+-- the queue that receives a flow of a device: each device has so many queues of its own
+abbrev pub queue_of : ℕ → ℕ → ℕ → ℕ
+queue_of queues device flow = (device - 1) * queues + flow % queues + 1
+
+-- the arrival of row n with these numbers, after a row at `last`: a moment below 2^62 that doesn't fall, a device and a queue of the
+-- processors, which have 64 each, and 1 to 65535 bytes
+unfoldable pub ranged : Settings → ℕ → ℕ → Numbers → Result Arrival MachineFault
+ranged s n last row =
+    let most = 64 * s.processors in
+    let queue = queue_of s.queues row.device row.flow in
+    if nat_lt row.moment (2 ^ 62) && (is_within 1 most row.device && (is_within 1 65535 row.bytes && nat_le queue most))
+    then (if nat_le last row.moment then Ok (record { moment = row.moment; device = queue }) else Err (Falls n))
     else Err (OutOfRange n)
 
--- where its three fields are numbers
-unfoldable pub of_three : ℕ → ℕ → ℕ → Option Three → Result Arrival MachineFault
-of_three processors n last None = Err (BadFields n)
-of_three processors n last (Some three) =
-    if is_numeral three.0 && (is_numeral three.1 && is_numeral three.2)
-    then ranged processors n last (numeral three.0) (numeral three.1) (numeral three.2)
+-- if its fields are numbers
+unfoldable pub of_four : Settings → ℕ → ℕ → Option Four → Result Arrival MachineFault
+of_four s n last None = Err (BadFields n)
+of_four s n last (Some four) =
+    if is_numeral four.0 && (is_numeral four.1 && (is_numeral four.2 && is_numeral four.3))
+    then ranged s n last (record {
+      moment = numeral four.0;
+      device = numeral four.1;
+      bytes = numeral four.2;
+      flow = numeral four.3;
+    })
     else Err (BadNumber n)
 
 -- the moment of the last of these arrivals, 0 before the first
 abbrev pub last_moment : List Arrival → ℕ
 last_moment earlier = fold (λ _ arrival. arrival.moment) 0 earlier
 
--- the arrival that a record tells behind these earlier ones, or the first fault that it has
-abbrev pub arrival_of : ℕ → List Arrival → List (List ℕ) → Result Arrival MachineFault
-arrival_of processors earlier fields = of_three processors (length earlier + 1) (last_moment earlier) (three_of fields)
+-- the arrival that a record has after these earlier ones, or its first fault
+abbrev pub arrival_of : Settings → List Arrival → List (List ℕ) → Result Arrival MachineFault
+arrival_of s earlier fields = of_four s (length earlier + 1) (last_moment earlier) (four_of s.queues fields)
 
 -- the earlier arrivals and those of the records, or the first fault of these
-unfoldable pub arrivals_after : ℕ → List Arrival → List (List (List ℕ)) → Result (List Arrival) MachineFault
-arrivals_after processors earlier [] = Ok earlier
-arrivals_after processors earlier (fields ∷ records) =
-    arrival_of processors earlier fields >>= (λ arrival. arrivals_after processors (earlier ++ arrival ∷ []) records)
+unfoldable pub arrivals_after : Settings → List Arrival → List (List (List ℕ)) → Result (List Arrival) MachineFault
+arrivals_after s earlier [] = Ok earlier
+arrivals_after s earlier (fields ∷ records) =
+    arrival_of s earlier fields >>= (λ arrival. arrivals_after s (earlier ++ arrival ∷ []) records)
 
 -- the arrivals of all records of a text, or the first fault
-unfoldable pub arrivals_of : ℕ → List (List (List ℕ)) → Result (List Arrival) MachineFault
-arrivals_of processors [] = Err BadHeader
-arrivals_of processors (header ∷ records) = if is_title (three_of header) then arrivals_after processors [] records else Err BadHeader
+unfoldable pub arrivals_of : Settings → List (List (List ℕ)) → Result (List Arrival) MachineFault
+arrivals_of s [] = Err BadHeader
+arrivals_of s (header ∷ records) = if is_title s.queues (four_of s.queues header) then arrivals_after s [] records else Err BadHeader
 
--- its device is one of the processors', and its moment is small
+-- its queue is one of the processors', and its moment is small
 pub record IsInRange (processors : ℕ) (arrival : Arrival) : Type 0 where
   pub device_from : 1 ≤ arrival.device
   pub device_to : arrival.device ≤ 64 * processors

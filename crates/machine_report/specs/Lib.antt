@@ -4,4 +4,3 @@ pub mod Endless
 pub mod Fault
 pub mod Reading
 pub mod Report
-pub mod Lives

@@ -16,7 +16,7 @@ pub record HasGiven {R : Type 0} (remaining : R → Option (List ℕ)) (arrivals
   pub between : ends_at_end (reader_state arrivals.reader) ≡ false
   pub rows : arrivals.rows ≡ length earlier
   pub last : arrivals.last ≡ last_moment earlier
-  pub gives : all ≡ arrivals_after arrivals.processors earlier (records_in (reader_state arrivals.reader) left)
+  pub gives : all ≡ arrivals_after arrivals.settings earlier (records_in (reader_state arrivals.reader) left)
 
 -- the next one, or the end
 abbrev pub GivesNext : {R : Type 0} → (R → Option (List ℕ)) → Arrivals R → List Arrival → Result (List Arrival) MachineFault

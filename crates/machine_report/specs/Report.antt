@@ -1,6 +1,7 @@
 -- The report's text, word by word. See docs/FORMATS.md, "The machine's report".
 use Rattle.std.specs.Prelude.{ℕ, zero, suc, ◌+◌, ◌-◌, ◌*◌, List, [], ◌∷◌, ◌++◌, Option, Some, None, codes, decimal, option_map, slice_get}
-use Rattle.machine_model.specs.declared.{waits.WaitCounts.WaitCounts, device.DeviceReport.DeviceReport}
+use Rattle.machine_model.specs.declared.{application.ApplicationReport.ApplicationReport, device.DeviceReport.DeviceReport}
+use Rattle.{machine_model.specs.declared.waits.WaitCounts.WaitCounts, machine_words.specs.declared.settings.Settings.Settings}
 use Rattle.machine_model.specs.{declared.processor.ProcessorReport.ProcessorReport, Machine.{Machine, device_report, processor_report}}
 use Rattle.{machine_model.specs.Waits.held, replay_text.specs.Lines.{ended, words}, machine_report.specs.declared.report.Totals.Totals}
 
@@ -31,8 +32,8 @@ device_lines number (Some d) = ended (device_line number d)
 
 abbrev pub processor_line : ℕ → ProcessorReport → List ℕ
 processor_line number p =
-    words (codes "processor" ∷ decimal number ∷ codes "interrupts" ∷ decimal p.counts.interrupts ∷ codes "runs" ∷ decimal p.counts.runs
-    ∷ codes "polls" ∷ decimal p.counts.polls
+    words (codes "processor" ∷ decimal number ∷ codes "interrupts" ∷ decimal p.counts.interrupts ∷ codes "timers" ∷ decimal p.counts.timers
+    ∷ codes "runs" ∷ decimal p.counts.runs ∷ codes "polls" ∷ decimal p.counts.polls
     ∷ codes "work" ∷ decimal p.counts.work ∷ codes "squeezed" ∷ decimal p.counts.squeezed ∷ codes "late" ∷ decimal p.counts.late
     ∷ codes "refused" ∷ decimal p.counts.refused
     ∷ codes "used" ∷ decimal p.waits.count ∷ waits_text p.waits ∷ [])
@@ -47,9 +48,31 @@ time_line number p =
     ∷ codes "poll" ∷ decimal p.counts.poll_time
     ∷ codes "use" ∷ decimal p.counts.use_time ∷ codes "idle" ∷ decimal (idle_of p) ∷ [])
 
-abbrev pub processor_lines : ℕ → Option ProcessorReport → List ℕ
-processor_lines number None = []
-processor_lines number (Some p) = ended (processor_line number p) ++ ended (time_line number p)
+-- ---- the application on a processor of its own
+
+-- what its uses took
+abbrev pub application_use : Settings → ProcessorReport → ℕ
+application_use s p = held (p.waits.count * s.use_time)
+
+-- what is left of its last end without waking and uses
+abbrev pub application_idle : Settings → ProcessorReport → ApplicationReport → ℕ
+application_idle s p a = a.end - held (a.wakes * s.app_wake) - application_use s p
+
+abbrev pub application_line : Settings → ℕ → ProcessorReport → ApplicationReport → List ℕ
+application_line s number p a =
+    words (codes "application" ∷ decimal number ∷ codes "end" ∷ decimal a.end ∷ codes "wakes" ∷ decimal a.wakes
+    ∷ codes "use" ∷ decimal (application_use s p) ∷ codes "idle" ∷ decimal (application_idle s p a) ∷ [])
+
+abbrev pub application_lines : Settings → ℕ → ProcessorReport → Option ApplicationReport → List ℕ
+application_lines s number p None = []
+application_lines s number p (Some a) = ended (application_line s number p a)
+
+-- ---- all lines of a processor
+
+abbrev pub processor_lines : Settings → ℕ → Option ProcessorReport → List ℕ
+processor_lines s number None = []
+processor_lines s number (Some p) =
+    ended (processor_line number p) ++ (ended (time_line number p) ++ application_lines s number p p.application)
 
 -- ---- the total
 
@@ -86,9 +109,9 @@ sums_of_devices device zero = none_counted
 sums_of_devices device (suc n) = with_device (device (suc n)) (sums_of_devices device n)
 
 -- the lines of processors 0 to n - 1, and the sums with theirs
-unfoldable pub lines_of_processors : (ℕ → Option ProcessorReport) → ℕ → List ℕ
-lines_of_processors processor zero = []
-lines_of_processors processor (suc n) = lines_of_processors processor n ++ processor_lines n (processor n)
+unfoldable pub lines_of_processors : Settings → (ℕ → Option ProcessorReport) → ℕ → List ℕ
+lines_of_processors s processor zero = []
+lines_of_processors s processor (suc n) = lines_of_processors s processor n ++ processor_lines s n (processor n)
 
 unfoldable pub sums_of_processors : (ℕ → Option ProcessorReport) → Totals → ℕ → Totals
 sums_of_processors processor t zero = t
@@ -98,9 +121,9 @@ sums_of_processors processor t (suc n) = with_processor (processor n) (sums_of_p
 abbrev pub processor_in : Machine → ℕ → Option ProcessorReport
 processor_in machine number = option_map processor_report (slice_get machine number)
 
--- of each device that a packet came for, rising, and each processor, what is told of it; and the total
-abbrev pub text_of : ℕ → Machine → List ℕ
-text_of processors machine =
+-- the lines of the devices that a packet came for, rising, those of the processors, and the total
+abbrev pub text_of : Settings → Machine → List ℕ
+text_of s machine =
     let device : ℕ → Option DeviceReport = λ n. device_report n machine in
-    lines_of_devices device (64 * processors) ++ (lines_of_processors (processor_in machine) processors
-    ++ ended (total_line (sums_of_processors (processor_in machine) (sums_of_devices device (64 * processors)) processors)))
+    lines_of_devices device (64 * s.processors) ++ (lines_of_processors s (processor_in machine) s.processors
+    ++ ended (total_line (sums_of_processors (processor_in machine) (sums_of_devices device (64 * s.processors)) s.processors)))

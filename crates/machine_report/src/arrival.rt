@@ -1,96 +1,145 @@
-//! An arrival, as a record tells it.
+//! One arrival, as a record of the text has it.
 
-ghost use Rattle.std.specs.Prelude.{◌≡◌, ◌≤◌, IfOk, option_map};
+ghost use Rattle.std.specs.Prelude.{◌≡◌, ◌≤◌, ◌*◌, IfOk, option_map};
 ghost use Rattle.csv.specs.Records.{fields_of};
-ghost use Rattle.machine_report.specs.Arrivals.{IsInRange, is_title, of_three, ranged, three_of};
+ghost use Rattle.machine_report.specs.Arrivals.{IsInRange, flow_of, four_of, is_title, of_four, queue_of, ranged, width};
 
 use crate::fault::MachineFault;
 use csv::ByteRecord;
 use device_rows::number_below_21;
+use machine_words::Settings;
 
-/// A packet comes for a device.
+/// A packet arrives for a queue.
 #[derive(Clone, Copy, Debug, PartialEq, Eq)]
 pub struct Arrival {
     /// When, in nanoseconds, below 2^62.
     pub moment: u64,
-    /// The device's number, 1 to 64 for each processor.
+    /// The number of the queue, 1 to 64 for each processor. With one queue it is the device's number.
     pub device: u32,
 }
 
-// The three fields of a record that has three.
-#[tactic(auto, unfolding(crate::specs::Arrivals::three_of))]
-fn three_of(fields: &ByteRecord) -> Option<(&[u8], &[u8], &[u8])>
-    ensures { option_map (λ three. (three.0.now, three.1.now, three.2.now)) result
-        ≡ three_of (fields_of fields.now) }
+/// The numbers of a row. With one queue `flow` is 0.
+#[derive(Clone, Copy)]
+pub(crate) struct Numbers {
+    moment: u128,
+    device: u128,
+    bytes: u128,
+    flow: u128,
+}
+
+// How many fields a record has.
+fn width(queues: u32) -> usize
+    ensures { result ≡ width queues }
 {
-    if fields.len() != 3 {
+    if queues == 1 { 3 } else { 4 }
+}
+
+// The flow of a record: its fourth field, and 0 with one queue.
+fn flow_of(queues: u32, fields: &ByteRecord) -> Option<&[u8]>
+    ensures { option_map (λ flow. flow.now) result ≡ flow_of queues (fields_of fields.now) }
+{
+    if queues == 1 {
+        Some(b"0".as_slice())
+    } else {
+        fields.get(3)
+    }
+}
+
+// The fields of a record that has as many as there are to be.
+#[tactic(auto, unfolding(crate::specs::Arrivals::four_of))]
+fn four_of(queues: u32, fields: &ByteRecord) -> Option<(&[u8], &[u8], &[u8], &[u8])>
+    ensures { option_map (λ four. (four.0.now, four.1.now, four.2.now, four.3.now)) result
+        ≡ four_of queues (fields_of fields.now) }
+{
+    if fields.len() != width(queues) {
         return None;
     }
     let moment = fields.get(0)?;
     let device = fields.get(1)?;
     let bytes = fields.get(2)?;
-    Some((moment, device, bytes))
+    let flow = flow_of(queues, fields)?;
+    Some((moment, device, bytes, flow))
 }
 
-/// Whether a record is the titles `moment,device,bytes`.
-pub(crate) fn is_title(fields: &ByteRecord) -> bool
-    ensures { result ≡ is_title (three_of (fields_of fields.now)) }
+/// Whether a record is the header: `moment,device,bytes`, and `flow` with several queues.
+pub(crate) fn is_title(queues: u32, fields: &ByteRecord) -> bool
+    ensures { result ≡ is_title queues (four_of queues (fields_of fields.now)) }
 {
-    let Some((moment, device, bytes)) = three_of(fields) else {
+    let Some((moment, device, bytes, flow)) = four_of(queues, fields) else {
         return false;
     };
-    moment == b"moment".as_slice() && device == b"device".as_slice() && bytes == b"bytes".as_slice()
+    moment == b"moment".as_slice()
+        && device == b"device".as_slice()
+        && bytes == b"bytes".as_slice()
+        && (queues == 1 || flow == b"flow".as_slice())
 }
 
-// Row `row` of these numbers, behind a row of moment `last`.
+// The number of the queue that receives a flow of a device.
+fn queue_of(queues: u32, device: u32, flow: u128) -> u32
+    requires queues { (1 ≤ queues) × (queues ≤ 64) }
+    requires device { (1 ≤ device) × (device ≤ 4096) }
+    ensures { result ≡ queue_of queues device flow }
+{
+    (device - 1) * queues + (flow % u128::from(queues)) as u32 + 1
+}
+
+// The arrival of row `row` with these numbers, after a row at `last`.
 #[tactic(auto, unfolding(crate::specs::Arrivals::ranged))]
 fn ranged(
-    processors: u32,
+    settings: &Settings,
     row: u64,
     last: u64,
-    moment: u128,
-    device: u128,
-    bytes: u128,
+    numbers: &Numbers,
 ) -> Result<Arrival, MachineFault>
-    requires { processors ≤ 64 }
-    ensures arrival { result ≡ ranged processors row last moment device bytes }
-    ensures range { IfOk result (IsInRange processors) }
+    ensures arrival { result ≡ ranged settings.now row last numbers.now }
+    ensures range { IfOk result (IsInRange settings.now.processors) }
 {
-    let is_device = 1 <= device && device <= 64 * u128::from(processors);
-    if moment < 1 << 62 && is_device && 1 <= bytes && bytes <= 65535 {
-        if u128::from(last) > moment {
-            return Err(MachineFault::Falls { row });
-        }
-        Ok(Arrival {
-            moment: moment as u64,
-            device: device as u32,
-        })
-    } else {
-        Err(MachineFault::OutOfRange { row })
+    let most = 64 * settings.processors;
+    let is_device = 1 <= numbers.device && numbers.device <= u128::from(most);
+    if !(numbers.moment < 1 << 62 && is_device && 1 <= numbers.bytes && numbers.bytes <= 65535) {
+        return Err(MachineFault::OutOfRange { row });
     }
+    let queue = queue_of(settings.queues, numbers.device as u32, numbers.flow);
+    if queue > most {
+        return Err(MachineFault::OutOfRange { row });
+    }
+    if u128::from(last) > numbers.moment {
+        return Err(MachineFault::Falls { row });
+    }
+    Ok(Arrival {
+        moment: numbers.moment as u64,
+        device: queue,
+    })
 }
 
-/// Row `row`, behind a row of moment `last`, that a record tells, or the first fault that it has.
-#[tactic(auto, unfolding(crate::specs::Arrivals::of_three))]
+/// Returns the arrival that a record has as row `row`, after a row at `last`, or its first fault.
+#[tactic(auto, unfolding(crate::specs::Arrivals::of_four))]
 pub(crate) fn arrival_of(
-    processors: u32,
+    settings: &Settings,
     row: u64,
     last: u64,
     fields: &ByteRecord,
 ) -> Result<Arrival, MachineFault>
-    requires { processors ≤ 64 }
-    ensures arrival { result ≡ of_three processors row last (three_of (fields_of fields.now)) }
-    ensures range { IfOk result (IsInRange processors) }
+    ensures arrival { result
+        ≡ of_four settings.now row last (four_of settings.now.queues (fields_of fields.now)) }
+    ensures range { IfOk result (IsInRange settings.now.processors) }
 {
-    let Some((moment, device, bytes)) = three_of(fields) else {
+    let Some((moment, device, bytes, flow)) = four_of(settings.queues, fields) else {
         return Err(MachineFault::BadFields { row });
     };
-    let (Some(moment), Some(device), Some(bytes)) = (
+    let (Some(moment), Some(device), Some(bytes), Some(flow)) = (
         number_below_21(moment),
         number_below_21(device),
         number_below_21(bytes),
+        number_below_21(flow),
     ) else {
         return Err(MachineFault::BadNumber { row });
     };
-    ranged(processors, row, last, moment, device, bytes)
+    let numbers = Numbers {
+        moment,
+        device,
+        bytes,
+        flow,
+    };
+    ranged(settings, row, last, &numbers)
 }

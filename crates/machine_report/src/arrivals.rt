@@ -1,26 +1,24 @@
 //! The arrivals of a text, one row at a time.
 
-ghost use Rattle.std.specs.Prelude.{◌≤◌};
-
 use crate::arrival::{Arrival, arrival_of, is_title};
 use crate::fault::MachineFault;
 use csv::{ByteRecord, Reader};
 use device_rows::{Next, next_record, reader_of};
+use machine_words::Settings;
 use std::alloc::Global;
 use std::io::Read;
 
-// Room for the bytes of any row with numbers of twenty digits, so that the record grows for no row in its ranges.
+// Room for the bytes of any row with four numbers of twenty digits, so that no row in its ranges makes the record grow.
 const RECORD_BYTES: usize = 96;
 
-/// The arrivals of a text, which are read one row at a time.
+/// The arrivals of a text, read one row at a time.
 #[derive(Drop)]
 pub struct Arrivals<R> {
     reader: Reader<R>,
     fields: ByteRecord,
-    processors: u32,
+    settings: Settings,
     rows: u64,
     last: u64,
-    ghost few: { processors ≤ 64 },
 }
 
 impl<R: Read + Drop> Arrivals<R> {
@@ -33,46 +31,54 @@ impl<R: Read + Drop> Arrivals<R> {
     ghost use Rattle.machine_report.specs.declared.arrival.Arrival.{Arrival};
     ghost use Rattle.machine_report.specs.declared.fault.MachineFault.{MachineFault};
 
-    /// The arrivals of a text for so many processors, of which only the first record was read.
-    pub fn new(alloc: Global, source: R, processors: u32) -> Result<Arrivals<R>, MachineFault>
-        requires { processors ≤ 64 }
+    /// Reads the header of a text of arrivals for a machine of these settings.
+    ///
+    /// # Errors
+    ///
+    /// `BadHeader` if the first record isn't `moment,device,bytes`, or with several queues `moment,device,bytes,flow`; `ReadFailed`,
+    /// `OutOfMemory`.
+    pub fn new(alloc: Global, source: R, settings: &Settings) -> Result<Arrivals<R>, MachineFault>
         ensures opened { IfOk result (λ arrivals. IsOpen arrivals.reader) }
-        ensures processors { IfOk result (λ arrivals. arrivals.processors ≡ processors) }
+        ensures settings { IfOk result (λ arrivals. arrivals.settings ≡ settings.now) }
         ensures start { IfOk result (λ arrivals. (bytes : List ℕ) → R.remaining source ≡ Some bytes
-            → HasGiven R.remaining arrivals [] (arrivals_of processors (records_of bytes))) }
+            → HasGiven R.remaining arrivals [] (arrivals_of settings.now (records_of bytes))) }
         ensures fault { IfErr result (IsFaultBy IsReadFailure
-            (λ bytes fault. arrivals_of processors (records_of bytes) ≡ Err fault)
+            (λ bytes fault. arrivals_of settings.now (records_of bytes) ≡ Err fault)
             (R.remaining source)) }
     {
         let mut reader = reader_of(alloc, source);
-        let mut fields = ByteRecord::with_capacity(alloc, RECORD_BYTES, 3)?;
+        let mut fields = ByteRecord::with_capacity(alloc, RECORD_BYTES, 4)?;
         match next_record(&mut reader, &mut fields) {
             Next::Record => {}
             Next::End => return Err(MachineFault::BadHeader),
             Next::ReadFailed => return Err(MachineFault::ReadFailed),
             Next::OutOfMemory => return Err(MachineFault::OutOfMemory),
         }
-        if !is_title(&fields) {
+        if !is_title(settings.queues, &fields) {
             return Err(MachineFault::BadHeader);
         }
         Ok(Arrivals {
             reader,
             fields,
-            processors,
+            settings: *settings,
             rows: 0,
             last: 0,
         })
     }
 
-    /// The next arrival, or `None` at the end of the text. Behind a fault there are no more.
+    /// Returns the next arrival, or `None` at the end of the text.
+    ///
+    /// # Errors
+    ///
+    /// The fault of the row, `ReadFailed` or `OutOfMemory`. After a fault it isn't called again.
     pub fn next(&mut self) -> Result<Option<Arrival>, MachineFault>
         requires { IsOpen self.old.reader }
         ensures opened { IfOk result (λ next. IfSome next (λ _. IsOpen self.new.reader)) }
         ensures arrival { IfOk result (λ next. (earlier : List Arrival)
             (all : Result (List Arrival) MachineFault) → HasGiven R.remaining self.old earlier all
             → GivesNext R.remaining self.new earlier all next) }
-        ensures range { IfOk result (λ next. IfSome next (IsInRange self.old.processors)) }
-        ensures processors { self.new.processors ≡ self.old.processors }
+        ensures range { IfOk result (λ next. IfSome next (IsInRange self.old.settings.processors)) }
+        ensures settings { self.new.settings ≡ self.old.settings }
         ensures fault { IfErr result (λ fault. (earlier : List Arrival)
             (all : Result (List Arrival) MachineFault) → HasGiven R.remaining self.old earlier all
             → IsReadFailure fault ⊎ (all ≡ Err fault)) }
@@ -87,7 +93,7 @@ impl<R: Read + Drop> Arrivals<R> {
         let Some(row) = self.rows.checked_add(1) else {
             return Err(MachineFault::ReadFailed);
         };
-        let arrival = arrival_of(self.processors, row, self.last, &self.fields)?;
+        let arrival = arrival_of(&self.settings, row, self.last, &self.fields)?;
         self.rows = row;
         self.last = arrival.moment;
         Ok(Some(arrival))

@@ -5,12 +5,10 @@
 mod arrival;
 mod arrivals;
 mod fault;
-mod laws;
 mod report;
 mod run;
 
 pub use arrival::Arrival;
 pub use arrivals::Arrivals;
 pub use fault::{MachineFault, fault_line, status};
-pub use laws::reports_live;
 pub use run::run_machine;

@@ -1,11 +1,12 @@
 //! The report's text.
 
-ghost use Rattle.std.specs.Prelude.{◌≡◌, ◌≤◌, ◌*◌, ◌++◌, Some, IfOk, OnOk, length, string_bytes};
+ghost use Rattle.std.specs.Prelude.{◌≡◌, ◌*◌, ◌≤◌, ◌++◌, Some, IfOk, OnOk, length, string_bytes};
 ghost use Rattle.machine_model.specs.Machine.{device_report};
-ghost use Rattle.machine_report.specs.Report.{device_line, device_lines, lines_of_devices, lines_of_processors, processor_in, processor_line, processor_lines, sums_of_devices, sums_of_processors, text_of, time_line, total_line, with_device};
+ghost use Rattle.machine_report.specs.Report.{application_idle, application_line, application_use, device_line, device_lines, lines_of_devices, lines_of_processors, processor_in, processor_line, processor_lines, sums_of_devices, sums_of_processors, text_of, time_line, total_line, with_device};
 ghost use Rattle.replay_text.specs.Lines.{ended};
 
-use machine_model::{DeviceReport, Machine, ProcessorReport, WaitCounts};
+use machine_model::{ApplicationReport, DeviceReport, Machine, ProcessorReport, WaitCounts};
+use machine_words::Settings;
 use std::alloc::{AllocError, Global};
 use std::fmt;
 
@@ -108,9 +109,10 @@ fn add_work(text: &mut String, number: u32, processor: &ProcessorReport) -> Resu
 {
     writeln!(
         text,
-        "processor {} interrupts {} runs {} polls {} work {} squeezed {} late {} refused {} used {} {}",
+        "processor {} interrupts {} timers {} runs {} polls {} work {} squeezed {} late {} refused {} used {} {}",
         number,
         processor.counts.interrupts,
+        processor.counts.timers,
         processor.counts.runs,
         processor.counts.polls,
         processor.counts.work,
@@ -146,17 +148,65 @@ fn add_time(text: &mut String, number: u32, processor: &ProcessorReport) -> Resu
     Ok(())
 }
 
-// Adds the two lines of a processor.
+// What the uses of an application on a processor of its own took.
+fn application_use(settings: &Settings, processor: &ProcessorReport) -> u64
+    ensures { result ≡ application_use settings.now processor.now }
+{
+    let cost = u64::from(settings.use_time);
+    processor.waits.count.saturating_mul(cost)
+}
+
+// How long that processor was idle: what is left of its last end without waking and uses.
+fn application_idle(
+    settings: &Settings,
+    processor: &ProcessorReport,
+    application: &ApplicationReport,
+) -> u64
+    ensures { result ≡ application_idle settings.now processor.now application.now }
+{
+    let cost = u64::from(settings.app_wake);
+    let awake = application
+        .end
+        .saturating_sub(application.wakes.saturating_mul(cost));
+    awake.saturating_sub(application_use(settings, processor))
+}
+
+// Adds the line of an application on a processor of its own.
+fn add_application(
+    text: &mut String,
+    settings: &Settings,
+    number: u32,
+    processor: &ProcessorReport,
+    application: &ApplicationReport,
+) -> Result<(), AllocError>
+    ensures { OnOk result (string_bytes text.new ≡ string_bytes text.old
+        ++ ended (application_line settings.now number processor.now application.now)) }
+{
+    let used = application_use(settings, processor);
+    let idle = application_idle(settings, processor, application);
+    writeln!(
+        text,
+        "application {} end {} wakes {} use {} idle {}",
+        number, application.end, application.wakes, used, idle
+    )?;
+    Ok(())
+}
+
+// Adds the lines of a processor.
 fn add_processor(
     text: &mut String,
+    settings: &Settings,
     number: u32,
     processor: &ProcessorReport,
 ) -> Result<(), AllocError>
     ensures { OnOk result (string_bytes text.new
-        ≡ string_bytes text.old ++ processor_lines number (Some processor.now)) }
+        ≡ string_bytes text.old ++ processor_lines settings.now number (Some processor.now)) }
 {
     add_work(text, number, processor)?;
     add_time(text, number, processor)?;
+    if let Some(application) = processor.application {
+        add_application(text, settings, number, processor, &application)?;
+    }
     Ok(())
 }
 
@@ -244,36 +294,35 @@ fn add_devices(text: &mut String, machine: &Machine, devices: u32) -> Result<Tot
 fn add_processors(
     text: &mut String,
     machine: &Machine,
-    processors: u32,
+    settings: &Settings,
     totals: &mut Totals,
 ) -> Result<(), AllocError>
-    requires { processors ≡ length machine.now }
+    requires { settings.now.processors ≡ length machine.now }
     ensures text { OnOk result (string_bytes text.new ≡ string_bytes text.old
-        ++ lines_of_processors (processor_in machine.now) processors) }
+        ++ lines_of_processors settings.now (processor_in machine.now) settings.now.processors) }
     ensures totals { OnOk result (totals.new
-        ≡ sums_of_processors (processor_in machine.now) totals.old processors) }
+        ≡ sums_of_processors (processor_in machine.now) totals.old settings.now.processors) }
 {
-    for number in 0..processors {
+    for number in 0..settings.processors {
         let processor = machine.processor(number as usize);
-        add_processor(text, number, &processor)?;
+        add_processor(text, settings, number, &processor)?;
         totals.count_processor(&processor);
     }
     Ok(())
 }
 
-/// The report of a machine. The only error is want of memory.
+/// Returns the report of a machine of these settings. The only error is out of memory.
 pub(crate) fn report_of(
     alloc: Global,
     machine: &Machine,
-    processors: u32,
+    settings: &Settings,
 ) -> Result<String, AllocError>
-    requires count { processors ≡ length machine.now }
-    requires few { processors ≤ 64 }
-    ensures { IfOk result (λ text. string_bytes text ≡ text_of processors machine.now) }
+    requires { settings.now.processors ≡ length machine.now }
+    ensures { IfOk result (λ text. string_bytes text ≡ text_of settings.now machine.now) }
 {
     let mut text = String::new(alloc);
-    let mut totals = add_devices(&mut text, machine, 64 * processors)?;
-    add_processors(&mut text, machine, processors, &mut totals)?;
+    let mut totals = add_devices(&mut text, machine, 64 * settings.processors)?;
+    add_processors(&mut text, machine, settings, &mut totals)?;
     add_totals(&mut text, &totals)?;
     Ok(text)
 }

@@ -26,7 +26,7 @@ fn take_all<R: Read + Drop>(
     machine: &mut Machine,
 ) -> Result<(), MachineFault>
     requires opened { IsOpen arrivals.old.reader }
-    requires processors { arrivals.old.processors ≡ length machine.old }
+    requires processors { arrivals.old.settings.processors ≡ length machine.old }
     ensures taken { OnOk result ((all : Result (List Arrival) MachineFault)
         → HasGiven R.remaining arrivals.old [] all
         → (given : List Arrival) × (all ≡ Ok given) × Takes given machine.old machine.new) }
@@ -57,10 +57,10 @@ fn text_of_all<R: Read + Drop>(
         (IsFaultBy IsReadFailure (IsFaultOf settings.now) (R.remaining reader)) }
 {
     let mut machine = Machine::new(alloc, settings)?;
-    let mut arrivals = Arrivals::new(alloc, reader, settings.processors)?;
+    let mut arrivals = Arrivals::new(alloc, reader, settings)?;
     take_all(alloc, &mut arrivals, &mut machine)?;
-    machine.finish();
-    let text = report_of(alloc, &machine, settings.processors)?;
+    machine.finish()?;
+    let text = report_of(alloc, &machine, settings)?;
     Ok(text)
 }
 

@@ -4,13 +4,13 @@ use Rattle.machine_report.proofs.report.add_processors.Goals as goal
 
 pub loop-number-init : goal.loop-number-init
 loop-number-init c = record {
-  text = no_processors (processor_in c.args.machine.now) (string_bytes c.args.text.now);
+  text = no_processors c.args.settings.now (processor_in c.args.machine.now) (string_bytes c.args.text.now);
   totals = no_processor_sum (processor_in c.args.machine.now) c.args.totals.now;
 }
 
 pub loop-number-preserved : goal.loop-number-preserved
 loop-number-preserved c = record {
-  text = one_processor (processor_in c.args.machine.now) c.loop-number.number
+  text = one_processor c.args.settings.now (processor_in c.args.machine.now) c.loop-number.number
       (Some c.processor-processor.result) _ _ _ c.processor-processor.ensures c.loop-number.invariant.text
       c.in_ok-add_processor.ensures;
   totals =

@@ -7,8 +7,8 @@ pub returns : goal.returns
 returns c =
     let processor = processor_in c.args.machine.now in
     let sums : c.add_processors.new.totals ≡ sums_of_processors processor
-    (sums_of_devices (λ n. device_report n c.args.machine.now) (64 * c.args.processors)) c.args.processors
-    = c.in_ok-add_processors.ensures.totals ∙ ap (λ t. sums_of_processors processor t c.args.processors) c.in_ok-totals.ensures.totals in
+    (sums_of_devices (λ n. device_report n c.args.machine.now) (64 * c.args.settings.now.processors)) c.args.settings.now.processors
+    = c.in_ok-add_processors.ensures.totals ∙ ap (λ t. sums_of_processors processor t c.args.settings.now.processors) c.in_ok-totals.ensures.totals in
     rw (sym sums)
     (three_parts _ _ _ _ _ _ _ c.new-text.ensures.bytes c.in_ok-totals.ensures.text c.in_ok-add_processors.ensures.text
     c.in_ok-add_totals.ensures)

@@ -6,7 +6,7 @@ use Rattle.machine_report.proofs.run.take_all.Given as goal
 abbrev pub invariant-rows : goal.invariant-rows
 invariant-rows g l = record {
   opened : IsOpen l.arrivals.reader;
-  processors : l.arrivals.processors ≡ length l.machine;
+  processors : l.arrivals.settings.processors ≡ length l.machine;
   count : length l.machine ≡ length l.fn.machine;
   given : (all : Result (List Arrival) MachineFault) → HasGiven g.R.Read.remaining l.fn.arrivals [] all
       → (earlier : List Arrival) × HasGiven g.R.Read.remaining l.arrivals earlier all × Takes earlier l.fn.machine l.machine;

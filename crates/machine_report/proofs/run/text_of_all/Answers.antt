@@ -15,6 +15,6 @@ returns-clause-text g c = λ bytes known.
       behind = c.take_all.new.machine;
       taken = rw c.in_ok-machine.ensures.machine at taken;
       finished = c.finish.new.self;
-      finishes = c.finish.ensures.finishes;
+      finishes = c.in_ok-finish.ensures.finishes;
       told = c.in_ok-text.ensures;
     }
