@@ -44,7 +44,7 @@ fn asks(place: &Option<Device>) -> bool
 }
 
 // The timer of the device in this place, if there is one and one is set.
-fn timer(place: &Option<Device>, device: u32) -> Option<Timer>
+fn timer_in(place: &Option<Device>, device: u32) -> Option<Timer>
     ensures { result ≡ timer_at device place.now }
 {
     let at = place.as_ref()?.timer()?;
@@ -109,7 +109,7 @@ impl Devices {
     {
         let mut best = None;
         for (number, place) in self.places.iter().enumerate() {
-            best = sooner(best, timer(place, number as u32));
+            best = sooner(best, timer_in(place, number as u32));
         }
         best
     }
