@@ -1,7 +1,7 @@
 -- What is true of each processor.
-use Rattle.std.specs.Prelude.{◌≡◌, ◌≤◌, ◌<◌, Bool, true, false, is_some, List, ℕ, length, sum_by, Option, Some, None, if◌then◌else◌}
+use Rattle.std.specs.Prelude.{◌≡◌, ◌≤◌, ◌<◌, ◌&&◌, not, Bool, true, false, is_some, List, ℕ, length, sum_by, Option, Some, None, if◌then◌else◌}
 use Rattle.{std.specs.Option.option_map_or, machine_words.specs.declared.settings.Settings.Settings, machine_model.specs.Device.DeviceView}
-use Rattle.machine_model.specs.{Devices.Devices, Shown.{listed, weight_in}, Softirq.{SoftirqView, asked_in}, Processor.ProcessorView}
+use Rattle.machine_model.specs.{Devices.Devices, Shown.{listed, weight_in}, Softirq.{SoftirqView, asked_in}, Processor.{ProcessorView, is_polling}}
 use Rattle.machine_model.specs.declared.{device.Phase.{Phase, TheVariants.Scheduled}, processor.Work.{Work, TheVariants.{Poll, Packet}}}
 
 -- how many devices are scheduled
@@ -25,10 +25,14 @@ abbrev pub given_by : Work → ℕ
 given_by (Packet packet) = packet.given
 given_by _ = 0
 
+-- there is a poll list, and not threads or interrupts only
+abbrev pub has_list : Settings → Bool
+has_list s = is_polling s && not s.threaded
+
 pub record Kept (settings : Settings) (work : Work) (devices : Devices) (softirq : SoftirqView) : Type 0 where
-  -- each number on the list and in the run is that of a scheduled device; with threads there is none
+  -- each number on the list and in the run is that of a scheduled device
   pub few : listed softirq ≤ all_scheduled devices
-  pub threads : settings.threaded ≡ true → listed softirq ≡ 0
+  pub unused : has_list settings ≡ false → listed softirq ≡ 0
   -- the run polls the device that is polled
   pub asked : asked_in softirq.run ≡ (if settings.threaded then None else polled_by work)
   -- the run's weight is the machine's, and a poll gives no more

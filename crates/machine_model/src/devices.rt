@@ -1,7 +1,7 @@
 //! The devices of a processor.
 
 ghost use Rattle.std.specs.Prelude.{◌≡◌, ◌≤◌, ◌<◌, ◌+◌, ◌-◌, ◌++◌, IfSome, OnOk, length, replicate, None};
-ghost use Rattle.machine_model.specs.Devices.{asks_at, sooner, timer_at};
+ghost use Rattle.machine_model.specs.Devices.{asks_at, soonest_from, sooner, timer_at};
 ghost use Rattle.machine_model.specs.Kept.{all_scheduled};
 
 use crate::device::{Device, DeviceReport};
@@ -62,6 +62,18 @@ fn sooner(first: Option<Timer>, second: Option<Timer>) -> Option<Timer>
     }
 }
 
+// The soonest timer of the devices in these places.
+fn soonest_in(places: &[Option<Device>]) -> Option<Timer>
+    requires { length places.now ≤ 64 }
+    ensures { result ≡ soonest_from 0 places.now }
+{
+    let mut best = None;
+    for (number, place) in places.iter().enumerate() {
+        best = sooner(best, timer_in(place, number as u32));
+    }
+    best
+}
+
 // Makes the places up to a number.
 fn make_place(places: &mut Vec<Option<Device>>, number: usize) -> Result<(), AllocError>
     requires number { number < 64 }
@@ -107,11 +119,7 @@ impl Devices {
     pub(crate) fn soonest(&self) -> Option<Timer>
         ensures { result ≡ soonest_from 0 self.now }
     {
-        let mut best = None;
-        for (number, place) in self.places.iter().enumerate() {
-            best = sooner(best, timer_in(place, number as u32));
-        }
-        best
+        soonest_in(&self.places)
     }
 
     /// Makes a device at its first packet, with a ring for so many packets. Fails if there is no memory for it.

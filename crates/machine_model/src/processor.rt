@@ -5,9 +5,10 @@ ghost use Rattle.std.specs.Option.{option_map};
 ghost use Rattle.poll_runs.specs.declared.bench.Next.TheVariants.{Gone, Repoll};
 ghost use Rattle.device_places.specs.Places.{at};
 ghost use Rattle.machine_model.specs.Devices.{asks_at};
-ghost use Rattle.machine_model.specs.Kept.{IsKept, polled_by};
+ghost use Rattle.machine_model.specs.Kept.{IsKept, all_scheduled, polled_by};
 ghost use Rattle.machine_model.specs.Machine.{ArrivesAt, FinishesAt, processor_report, report_of};
-ghost use Rattle.machine_model.specs.Processor.{Advances, arrives, begins_run, delivers, disturbed, ends_current, ends_interrupt, ends_poll, ends_run, goes_on, interrupts, is_due, is_polling, leaves_softirq, looks, opened_processor, rests, runs_first, set_aside, spent, step, takes_up, upcoming, uses, woken};
+ghost use Rattle.machine_model.specs.Processor.{Advances, arrives, begins_run, delivers, disturbed, ends_current, ends_interrupt, ends_poll, ends_run, goes_on, interrupts, is_due, is_polling, leaves_softirq, looks, opened_processor, rests, runs_first, scheduled, set_aside, spent, step, takes_up, upcoming, uses, woken};
+ghost use Rattle.machine_model.specs.Shown.{listed};
 ghost use Rattle.machine_model.specs.Waits.{held};
 ghost use Rattle.machine_model.specs.declared.processor.Work.TheVariants.{Nothing};
 
@@ -192,7 +193,13 @@ fn end_after(clock: u64, time: u32) -> u64
 
 impl Processor {
     // The instance of a device is scheduled (`____napi_schedule`).
-    fn schedule(&mut self, number: u32) -> Result<(), AllocError> {
+    fn schedule(&mut self, number: u32) -> Result<(), AllocError>
+        requires work { self.old.work ≡ Nothing }
+        requires polling { is_polling self.old.settings ≡ true }
+        requires few { listed self.old.softirq < all_scheduled self.old.devices }
+        requires room { listed self.old.softirq < 64 }
+        ensures { OnOk result (self.new ≡ scheduled number self.old) }
+    {
         if self.settings.threaded {
             self.tasks.push_thread(number)
         } else {
@@ -388,6 +395,7 @@ impl Processor {
     // An interrupt without polling delivers the oldest packet.
     #[tactic(auto, unfolding(crate::specs::Processor::ends_interrupt))]
     fn end_interrupt(&mut self, number: u32) -> Result<(), AllocError>
+        requires { is_polling self.old.settings ≡ false }
         ensures { OnOk result (self.new ≡ ends_interrupt number self.old) }
     {
         if let Some(came) = self.devices.take_next(number as usize, false) {

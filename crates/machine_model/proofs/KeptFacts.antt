@@ -1,0 +1,144 @@
+-- What is true of each processor stays so.
+use Rattle.std.proofs.Common.{◌≡◌, ◌∙◌, ℕ, ◌+◌, ◌<◌, ◌≤◌, Bool, true, false, Some, None, length, refl, sym, arith}
+use Rattle.std.{proofs.lemmas.Grind.common_steps, specs.Prelude.{◌==◌, if◌then◌else◌, is_some}}
+use Rattle.machine_words.specs.declared.settings.Settings.{Settings}
+use Rattle.{poll_runs.specs.declared.bench.Next.TheVariants.{Gone, Repoll}, device_places.specs.Places.{at, changed}}
+use Rattle.machine_model.specs.{Device.{polled}, Devices.{Devices}, Processor.is_polling, Shown.listed}
+use Rattle.machine_model.specs.Kept.{Kept, all_scheduled, given_by, has_list, polled_by}
+use Rattle.machine_model.specs.Softirq.{SoftirqView, asked_in, begun, ended, next_of, polled_once, pushed}
+use Rattle.machine_model.specs.declared.processor.Work.{Work, TheVariants.{Nothing, Poll}}
+use Rattle.machine_model.proofs.ListedFacts.{asked-polled, listed-begun, listed-ended, listed-polled, listed-pushed, next-keeps}
+use Rattle.machine_model.proofs.{ListedFacts.weight-polled, PlacesFacts.{scheduled-polled}}
+
+-- devices change, and at least as many are scheduled
+pub kept-devices : (s : Settings) (w : Work) (ds es : Devices) (q : SoftirqView) → Kept s w ds q → all_scheduled ds ≤ all_scheduled es
+    → Kept s w es q
+kept-devices s w ds es q k more =
+    record { few = omega (arith, k.few, more); unused = k.unused; asked = k.asked; weight = k.weight; within = k.within }
+
+-- other work, of the same device if it is a poll
+pub kept-work : (s : Settings) (w v : Work) (ds : Devices) (q : SoftirqView) → Kept s w ds q → polled_by v ≡ polled_by w
+    → given_by v < s.weight → Kept s v ds q
+kept-work s w v ds q k same within =
+    record { few = k.few; unused = k.unused; asked = rw same k.asked; weight = k.weight; within = within }
+
+-- with threads any device may be polled
+pub kept-thread : (s : Settings) (w v : Work) (ds : Devices) (q : SoftirqView) → Kept s w ds q → s.threaded ≡ true
+    → given_by v < s.weight → Kept s v ds q
+kept-thread s w v ds q k threaded within =
+    record { few = k.few; unused = k.unused; asked = rw threaded (rw threaded at k.asked); weight = k.weight; within = within }
+
+list-is : (s : Settings) → is_polling s ≡ true → s.threaded ≡ false → has_list s ≡ true
+list-is s polling threaded = grind (arith, common_steps)
+
+no-list : (s : Settings) → is_polling s ≡ false → has_list s ≡ false
+no-list s polling = grind (arith, common_steps)
+
+-- without polling the devices may change as they like
+pub kept-lone : (s : Settings) (w : Work) (ds es : Devices) (q : SoftirqView) → Kept s w ds q → is_polling s ≡ false → Kept s w es q
+kept-lone s w ds es q k lone =
+    let none : listed q ≡ 0 = k.unused (no-list s lone) in
+    record { few = omega (arith, none); unused = k.unused; asked = k.asked; weight = k.weight; within = k.within }
+
+pub kept-pushed : (s : Settings) (w : Work) (ds : Devices) (q : SoftirqView) (n : ℕ) → Kept s w ds q → is_polling s ≡ true
+    → s.threaded ≡ false → listed q < all_scheduled ds → Kept s w ds (pushed n q)
+kept-pushed s w ds q n k polling threaded few =
+    let list = list-is s polling threaded in
+    record {
+      few = omega (arith, few, listed-pushed n q);
+      unused = λ none. cc (list, none);
+      asked = k.asked;
+      weight = k.weight;
+      within = k.within;
+    }
+
+-- a run begins
+pub kept-begun : (s : Settings) (w : Work) (ds : Devices) (q : SoftirqView) (moment : ℕ) → Kept s w ds q → q.run ≡ None
+    → polled_by w ≡ None → is_polling s ≡ true → s.threaded ≡ false → Kept s w ds (begun moment s.budget s.weight s.window q)
+kept-begun s w ds q moment k none idle polling threaded =
+    let list = list-is s polling threaded in
+    record {
+      few = omega (arith, k.few, listed-begun moment s.budget s.weight s.window q none);
+      unused = λ not. cc (list, not);
+      asked = rw (threaded, idle) refl;
+      weight = λ some. refl;
+      within = k.within;
+    }
+
+-- the run asks for a device, or for none
+pub kept-next : (s : Settings) (w v : Work) (ds : Devices) (q : SoftirqView) → Kept s w ds q → asked_in q.run ≡ None
+    → asked_in (next_of q).run ≡ (if s.threaded then None else polled_by v) → given_by v < s.weight → Kept s v ds (next_of q)
+kept-next s w v ds q k none asked within =
+    let same = next-keeps q none in
+    record {
+      few = omega (arith, k.few, same.listed);
+      unused = λ not. same.listed ∙ k.unused not;
+      asked = asked;
+      weight = λ some. same.weight ∙ k.weight (sym same.some ∙ some);
+      within = within;
+    }
+
+pub run-ended : (q : SoftirqView) → (ended q).run ≡ None
+unfolding ended
+run-ended q = refl
+
+pub kept-ended : (s : Settings) (w : Work) (ds : Devices) (q : SoftirqView) → Kept s w ds q → asked_in q.run ≡ None
+    → polled_by w ≡ None → Kept s w ds (ended q)
+kept-ended s w ds q k none idle =
+    let same = listed-ended q none in
+    record {
+      few = omega (arith, k.few, same);
+      unused = λ not. same ∙ k.unused not;
+      asked = rw (run-ended q, idle) (nothing s.threaded);
+      weight = λ some. absurd (cc (run-ended q, some));
+      within = k.within;
+    }
+  where
+    nothing : (b : Bool) → None ≡ (if b then None else None)
+    nothing true = refl
+    nothing false = refl
+
+-- a poll of the run ends
+pub kept-polled : (s : Settings) (w : Work) (ds : Devices) (q : SoftirqView) (now given n : ℕ) → Kept s w ds q → s.threaded ≡ false
+    → asked_in q.run ≡ Some n → 1 ≤ s.weight
+    → Kept s Nothing (changed (polled now given s) n ds)
+    (polled_once (record { work = given; next = if given == s.weight then Repoll else Gone }) q)
+kept-polled s w ds q now given n k threaded asked least =
+    let once = record { work = given; next = if given == s.weight then Repoll else Gone } in
+    let count = listed-polled (given == s.weight) given n q asked in
+    let same = weight-polled once q in
+    record {
+      few = omega (arith, k.few, count, scheduled-polled now given s n ds);
+      unused = λ not. omega (arith, count, k.unused not);
+      asked = asked-polled once q ∙ (rw threaded refl);
+      weight = λ some. same.0 ∙ k.weight (sym same.1 ∙ some);
+      within = least;
+    }
+
+-- a poll of a thread ends
+pub kept-alone : (s : Settings) (w : Work) (ds es : Devices) (q : SoftirqView) → Kept s w ds q → s.threaded ≡ true → 1 ≤ s.weight
+    → Kept s Nothing es q
+kept-alone s w ds es q k threaded least =
+    let none : listed q ≡ 0 = k.unused (threads s threaded) in
+    record {
+      few = omega (arith, none);
+      unused = k.unused;
+      asked = rw threaded (rw threaded at k.asked);
+      weight = k.weight;
+      within = least;
+    }
+  where
+    threads : (s : Settings) → s.threaded ≡ true → has_list s ≡ false
+    threads s threaded = grind (arith, common_steps)
+
+-- a list that isn't empty is one of a machine without threads
+pub list-unthreaded : (s : Settings) (w : Work) (ds : Devices) (q : SoftirqView) → Kept s w ds q → 0 < length q.list
+    → s.threaded ≡ false
+list-unthreaded s w ds q k some = by s.threaded refl
+  where
+    threads : s.threaded ≡ true → has_list s ≡ false
+    threads threaded = grind (arith, common_steps)
+
+    by : (b : Bool) → s.threaded ≡ b → b ≡ false
+    by true threaded = absurd (omega (arith, some, k.unused (threads threaded)))
+    by false threaded = refl

@@ -1,0 +1,87 @@
+-- How many numbers stand on the poll list and in its run, behind each call, and of what weight the run is.
+use Rattle.std.proofs.lemmas.Grind.{common_steps}
+use Rattle.std.proofs.Common.{◌≡◌, ℕ, ◌+◌, Bool, true, false, Option, Some, None, List, [], ◌∷◌, ◌++◌, drop, length, length-append, refl}
+use Rattle.std.{proofs.Common.arith, specs.Prelude.{is_some, slice_get, if◌then◌else◌, option_map}}
+use Rattle.poll_runs.specs.Turn.{asked_for}
+use Rattle.{poll_runs.specs.declared.bench.{Next.TheVariants.{Gone, Repoll}, Once.Once}, machine_model.specs.Softirq.{RunView, SoftirqView}}
+use Rattle.machine_model.specs.Softirq.{asked_in, begun, ended, filled, is_spent, next_from, next_of, pushed, polled_once, polled_run}
+use Rattle.machine_model.specs.Shown.{weight_in, listed}
+
+pub listed-pushed : (n : ℕ) (q : SoftirqView) → listed (pushed n q) ≡ listed q + 1
+listed-pushed n q = omega (arith, length-append q.list (n ∷ []))
+
+-- what a call keeps
+pub record Same (q r : SoftirqView) : Type 0 where
+  pub listed : listed r ≡ listed q
+  pub some : is_some r.run ≡ is_some q.run
+  pub weight : weight_in r.run ≡ weight_in q.run
+
+-- one poll more, or none, only moves numbers
+next-moves : (own repoll list : List ℕ)
+    → length ((filled own repoll list).1)
+    + (length (asked_for (slice_get (filled own repoll list).0 0) ++ drop 1 (filled own repoll list).0) + length repoll)
+    ≡ length list + (length own + length repoll)
+next-moves own repoll list = grind (arith, common_steps)
+
+next-same : (list : List ℕ) (run : Option RunView) (began : ℕ) → asked_in run ≡ None
+    → let q : SoftirqView = record { list = list; run = run; began = began } in Same q (next_of q)
+unfolding next_of
+next-same list None began none = record { listed = refl; some = refl; weight = refl }
+next-same list (Some r) began none = by (is_spent r)
+  where
+    before : SoftirqView
+    before = record { list = list; run = Some r; began = began }
+
+    by : (b : Bool) → Same before (if b then before else next_from (filled r.own r.repoll list) r before)
+    by true = record { listed = refl; some = refl; weight = refl }
+    by false = record { listed = rw none (next-moves r.own r.repoll list); some = refl; weight = refl }
+
+pub next-keeps : (q : SoftirqView) → asked_in q.run ≡ None → Same q (next_of q)
+unfolding next_of
+next-keeps q none = next-same q.list q.run q.began none
+
+begun-same : (list : List ℕ) (run : Option RunView) (began moment budget weight window : ℕ) → run ≡ None
+    → let q : SoftirqView = record { list = list; run = run; began = began } in listed (begun moment budget weight window q) ≡ listed q
+begun-same list run began moment budget weight window none = grind (arith, common_steps)
+
+pub listed-begun : (moment budget weight window : ℕ) (q : SoftirqView) → q.run ≡ None
+    → listed (begun moment budget weight window q) ≡ listed q
+listed-begun moment budget weight window q none = begun-same q.list q.run q.began moment budget weight window none
+
+ended-same : (list : List ℕ) (run : Option RunView) (began : ℕ) → asked_in run ≡ None
+    → let q : SoftirqView = record { list = list; run = run; began = began } in listed (ended q) ≡ listed q
+unfolding ended
+ended-same list run began none = grind (arith, common_steps)
+
+pub listed-ended : (q : SoftirqView) → asked_in q.run ≡ None → listed (ended q) ≡ listed q
+listed-ended q none = ended-same q.list q.run q.began none
+
+-- a poll that gave its whole weight puts its number back, any other lets it go
+polled-moves : (full : Bool) (work n : ℕ) (list : List ℕ) (run : Option RunView) (began : ℕ) → asked_in run ≡ Some n
+    → let q : SoftirqView = record { list = list; run = run; began = began } in
+    listed (polled_once (record { work = work; next = if full then Repoll else Gone }) q) + (if full then 0 else 1) ≡ listed q
+unfolding polled_once
+polled-moves full work n list run began asked = grind (arith, common_steps)
+
+pub listed-polled : (full : Bool) (work n : ℕ) (q : SoftirqView) → asked_in q.run ≡ Some n
+    → listed (polled_once (record { work = work; next = if full then Repoll else Gone }) q) + (if full then 0 else 1) ≡ listed q
+listed-polled full work n q asked = polled-moves full work n q.list q.run q.began asked
+
+polled-rests : (run : Option RunView) (once : Once) → asked_in (option_map (polled_run once) run) ≡ None
+polled-rests run once = grind (arith, common_steps)
+
+pub asked-polled : (once : Once) (q : SoftirqView) → asked_in (polled_once once q).run ≡ None
+unfolding polled_once
+asked-polled once q = polled-rests q.run once
+
+polled-weighs : (run : Option RunView) (once : Once)
+    → (weight_in (option_map (polled_run once) run) ≡ weight_in run) × (is_some (option_map (polled_run once) run) ≡ is_some run)
+polled-weighs run once = grind (arith, common_steps)
+
+pub weight-polled : (once : Once) (q : SoftirqView)
+    → (weight_in (polled_once once q).run ≡ weight_in q.run) × (is_some (polled_once once q).run ≡ is_some q.run)
+unfolding polled_once
+weight-polled once q = polled-weighs q.run once
+
+pub run-some : (n : ℕ) (run : Option RunView) → asked_in run ≡ Some n → is_some run ≡ true
+run-some n run asked = grind (arith, common_steps)
