@@ -6,3 +6,4 @@ pub mod KeptFacts
 pub mod ApplicationFacts
 pub mod StepFacts
 pub mod MachineFacts
+pub mod LeftFacts

@@ -73,11 +73,11 @@ pub same-next : (backlog : Bool) (d : DeviceView) → is_scheduled (without_next
 same-next backlog d = grind (arith, common_steps)
 
 unmasked-open : (phase : Phase) → is_masked phase ≡ false → is_scheduled phase ≡ false
-unmasked-open phase open = grind (arith, common_steps)
+unmasked-open phase clear = grind (arith, common_steps)
 
 notified-open : (moment : ℕ) (s : Settings) (d : DeviceView) → is_scheduled d.phase ≡ false → is_scheduled (notified moment s d).phase ≡ false
 unfolding notified
-notified-open moment s d open = grind (arith, common_steps)
+notified-open moment s d clear = grind (arith, common_steps)
 
 pub same-packet : (moment : ℕ) (s : Settings) (d : DeviceView) → is_scheduled (after_packet moment s d).phase ≡ is_scheduled d.phase
 unfolding after_packet

@@ -3,6 +3,7 @@ use Rattle.std.specs.Prelude.{◌≡◌, ℕ, zero, suc, ◌+◌, ◌-◌, ◌<�
 use Rattle.std.specs.{Prelude.{◌++◌, drop, length, position, slice_get, Option, Some, None, is_some, if◌then◌else◌}, Option.option_map_or}
 use Rattle.{circular_buffer.specs.Buffer.{buffer}, device_places.specs.Places.{at, changed}}
 use Rattle.{machine_words.specs.declared.settings.Settings.Settings, poll_runs.specs.declared.bench.Next.TheVariants.{Gone, Repoll}}
+use Rattle.poll_runs.specs.declared.bench.Once.Once
 use Rattle.machine_model.specs.Device.{after_packet, delivered, expired, interrupted, polled, raised_again, without_next}
 use Rattle.machine_model.specs.Devices.{Devices, asks_at, has_room_at, is_fired_at, next_packet_at, soonest_from, with_device}
 use Rattle.machine_model.specs.Softirq.{RunView, SoftirqView, begun, asked_in, ended, is_spent, next_of, polled_once, pushed}
@@ -150,7 +151,7 @@ ends_poll number given p =
     let full = given == p.settings.weight in
     let counts = record p.counts { polls = held (p.counts.polls + 1); work = held (p.counts.work + given) } in
     let q = record p { devices = changed (polled p.clock given p.settings) number p.devices; counts = counts } in
-    let once = record { work = given; next = if full then Repoll else Gone } in
+    let once : Once = record { work = given; next = if full then Repoll else Gone } in
     if p.settings.threaded then record q { tasks = if full then Thread number ∷ q.tasks else q.tasks }
     else record q { softirq = polled_once once q.softirq }
 
@@ -206,7 +207,7 @@ disturbed moment p =
 -- What happens next if no packet arrives: work under way ends, or a timer before that end expires.
 abbrev pub upcoming : ProcessorView → Upcoming
 upcoming p =
-    let first = λ timer. if is_busy p.work && nat_le p.ends timer.at then Ends else Expires timer in
+    let first = λ (timer : Timer). if is_busy p.work && nat_le p.ends timer.at then Ends else Expires timer in
     option_map_or first (soonest_from 0 p.devices) (if is_busy p.work then Ends else Never)
 
 abbrev pub happens : Upcoming → ProcessorView → ProcessorView

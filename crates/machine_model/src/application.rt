@@ -17,7 +17,7 @@ pub struct ApplicationReport {
 
 /// What the application does on a processor of its own.
 #[derive(Clone, Copy, Debug, PartialEq, Eq)]
-pub(crate) enum Activity {
+pub enum Activity {
     /// It sleeps.
     Asleep,
     /// It wakes up.

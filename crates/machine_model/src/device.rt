@@ -28,7 +28,7 @@ pub struct DeviceCounts {
 
 impl DeviceCounts {
     /// Nothing was counted.
-    pub(crate) const NONE: DeviceCounts = DeviceCounts {
+    pub const NONE: DeviceCounts = DeviceCounts {
         arrived: 0,
         dropped: 0,
         polled: 0,
@@ -48,7 +48,7 @@ pub struct DeviceReport {
 
 /// How a device asks for a poll, or waits for it. In the first three it isn't masked.
 #[derive(Clone, Copy, Debug, PartialEq, Eq)]
-pub(crate) enum Phase {
+pub enum Phase {
     /// It asks for nothing.
     Quiet,
     /// The card waits for more frames until that time (`rx-usecs`).

@@ -11,9 +11,11 @@ use std::marker::Model;
 
 /// A timer that is set: when it expires, and the number of its device.
 #[derive(Clone, Copy, Debug, PartialEq, Eq)]
-pub(crate) struct Timer {
-    pub(crate) at: u64,
-    pub(crate) device: u32,
+pub struct Timer {
+    /// When it expires, in nanoseconds.
+    pub at: u64,
+    /// The number of its device.
+    pub device: u32,
 }
 
 /// The devices of a processor, each at its number there; each is made by its first packet.

@@ -2,7 +2,8 @@
 //!
 //! `specs/` is its definition: `Waits` has how waits are counted, `Device`, `Devices`, `Softirq` and `Application` what happens to
 //! a device, a poll list and an application, `Processor` what a processor takes up and what happens as time passes, `Machine` what
-//! arrivals make of all. `Shown` and `Kept` relate the program to it.
+//! arrivals make of all. `Shown` and `Kept` relate the program to it. Crates that state laws of the definition name its types
+//! (`Phase`, `Work` and the like), which are exported for that.
 #![tactic(auto)]
 
 mod application;
@@ -14,8 +15,10 @@ mod softirq;
 mod tasks;
 mod waits;
 
-pub use application::ApplicationReport;
-pub use device::{DeviceCounts, DeviceReport};
+pub use application::{Activity, ApplicationReport};
+pub use device::{DeviceCounts, DeviceReport, Phase};
+pub use devices::Timer;
 pub use machine::Machine;
-pub use processor::{ProcessorCounts, ProcessorReport};
+pub use processor::{InHand, ProcessorCounts, ProcessorReport, Rest, Upcoming, Work};
+pub use tasks::Task;
 pub use waits::{WaitCounts, Waits};

@@ -25,15 +25,18 @@ use std::marker::Model;
 
 /// A packet that a poll took: its device, when it arrived, and how many packets the poll gave before it.
 #[derive(Clone, Copy, Debug, PartialEq, Eq)]
-pub(crate) struct InHand {
-    pub(crate) device: u32,
-    pub(crate) came: u64,
-    pub(crate) given: u32,
+pub struct InHand {
+    /// The number of its device.
+    pub device: u32,
+    /// When it arrived, in nanoseconds.
+    pub came: u64,
+    /// The packets that its poll gave before it.
+    pub given: u32,
 }
 
 /// A piece of work of a processor.
 #[derive(Clone, Copy, Debug, PartialEq, Eq)]
-pub(crate) enum Work {
+pub enum Work {
     /// Nothing is under way.
     Nothing,
     /// The interrupt of a device.
@@ -48,14 +51,16 @@ pub(crate) enum Work {
 
 /// What is left of a use that was interrupted: when its packet arrived, and the time that it still takes.
 #[derive(Clone, Copy, Debug, PartialEq, Eq)]
-pub(crate) struct Rest {
-    pub(crate) came: u64,
-    pub(crate) left: u64,
+pub struct Rest {
+    /// When its packet arrived, in nanoseconds.
+    pub came: u64,
+    /// The time that it still takes, in nanoseconds.
+    pub left: u64,
 }
 
 /// What happens next if no packet arrives.
 #[derive(Clone, Copy, Debug, PartialEq, Eq)]
-pub(crate) enum Upcoming {
+pub enum Upcoming {
     /// Nothing.
     Never,
     /// The work under way ends.
@@ -106,7 +111,7 @@ pub struct ProcessorReport {
 
 impl ProcessorCounts {
     /// Nothing was counted.
-    pub(crate) const NONE: ProcessorCounts = ProcessorCounts {
+    pub const NONE: ProcessorCounts = ProcessorCounts {
         interrupts: 0,
         timers: 0,
         runs: 0,

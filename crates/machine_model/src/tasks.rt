@@ -6,7 +6,7 @@ use std::marker::Model;
 
 /// A task that is runnable.
 #[derive(Clone, Copy, Debug, PartialEq, Eq)]
-pub(crate) enum Task {
+pub enum Task {
     /// The application.
     Application,
     /// The thread that polls a device (`napi_threaded_poll`).
