@@ -1,10 +1,11 @@
-//! Behind the door `machine`: the words after the program's name, and the receiving machine that they ask for.
+//! Internal crate of the facade `machine`: the settings of the receiving machine, and the arguments that ask for them.
 #![tactic(auto)]
 
 mod settings;
 mod words;
 
 pub use settings::{
-    MOST_BUDGET, MOST_PLACES, MOST_PROCESSORS, MOST_TIME, MOST_WEIGHT, MOST_WINDOW, Settings,
+    MOST_BUDGET, MOST_DEFERRALS, MOST_FRAMES, MOST_PLACES, MOST_PROCESSORS, MOST_QUEUES, MOST_TIME,
+    MOST_WEIGHT, MOST_WINDOW, Settings,
 };
 pub use words::parse_words;
