@@ -29,7 +29,7 @@ at-apart f m n ds other = at-apart-from f m n ds (at m ds) other
 -- what holds of the entry that changes, and of each other as it was
 pub at-either : {A : Type 0} (Q : Bool → Option A → Type 0) (f : A → A) (m n : ℕ) (ds : Places A)
     → ((m == n) ≡ true → Q true (map_at f (at n ds))) → ((m == n) ≡ false → Q false (at n ds)) → Q (m == n) (at n (changed f m ds))
-at-either Q f m n ds here apart = by (m == n) refl
+at-either {A = A} Q f m n ds here apart = by (m == n) refl
   where
     by : (b : Bool) → (m == n) ≡ b → Q b (at n (changed f m ds))
     by true same = rw (at-here f m n ds same) (here same)
@@ -39,8 +39,12 @@ at-either Q f m n ds here apart = by (m == n) refl
 pub at-kept : {A B : Type 0} → (g : Option A → B) (f : A → A) (m n : ℕ) (ds : Places A) → ((d : A) → g (Some (f d)) ≡ g (Some d))
     → g (at n (changed f m ds)) ≡ g (at n ds)
 unfolding map_at
-at-kept g f m n ds same = at-either (λ b o. g o ≡ g (at n ds)) f m n ds (λ here. by (at n ds)) (λ other. refl)
+at-kept {A = A} g f m n ds same = at-either (λ b o. g o ≡ g (at n ds)) f m n ds (λ here. by (at n ds)) (λ other. refl)
   where
     by : (o : Option A) → g (map_at f o) ≡ g o
     by None = refl
     by (Some d) = same d
+
+-- entries that are made are empty
+pub at-made : {A : Type 0} (n count : ℕ) (ds : Places A) → at n (ds ++ replicate count None) ≡ at n ds
+at-made n count ds = grind (arith, common_steps)

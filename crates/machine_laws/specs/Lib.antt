@@ -1,1 +1,3 @@
 pub mod Lives
+pub mod Fates
+pub mod Times

@@ -1,10 +1,29 @@
-//! Laws of the receiving machine, which hold for every setting and every arrival. Each is the contract of a function that does
-//! nothing; `specs/` has their statements.
+//! Internal crate of the facade `machine`: laws of the receiving machine, which hold for all settings and all arrivals.
+//!
+//! Each law is the contract of a function that does nothing. `specs/` has their statements: `Lives` says what the life of a
+//! processor is, `Fates` what becomes of packets, `Times` what time and work come to.
 #![tactic(auto)]
 
+ghost use Rattle.machine_laws.specs.Fates.{DeliversInOrder, TellsOfDevice};
 ghost use Rattle.machine_laws.specs.Lives.{RunsAsOne};
+ghost use Rattle.machine_laws.specs.Times.{WorksWithin};
 
-/// What happens on a processor until a time is determined.
+/// What happens on a processor up to a time is determined.
 pub fn runs_as_one()
     ensures { RunsAsOne }
+{}
+
+/// A run's work is below budget and weight together.
+pub fn works_within()
+    ensures { WorksWithin }
+{}
+
+/// A packet that found room in its device's ring is delivered once and in its order, or it is still there.
+pub fn delivers_in_order()
+    ensures { DeliversInOrder }
+{}
+
+/// The counts of a device and its waits are those of its packets.
+pub fn tells_of_device()
+    ensures { TellsOfDevice }
 {}
