@@ -60,10 +60,10 @@ seen-walk g b n x = record {
   asks = λ m p h asked. record { seen = h.seen };
   over = λ late p free h. seen-over g n x late p h;
   start = λ p h none polling some. record { seen = h.seen };
-  resume = λ rest p free h is. record { seen = h.seen };
+  resume = λ rest p free h is quiet. record { seen = h.seen };
   settle = λ tasks p h is. record { seen = h.seen };
   thread = λ m more p free h threaded is. record { seen = h.seen };
-  uses = λ came more p free h none is. record { seen = h.seen };
+  uses = λ came more p free h none is quiet. record { seen = h.seen };
   stays = λ p free h still. h;
 }
 
@@ -127,10 +127,10 @@ hand-walk n = record {
   asks = λ m p h asked. record { none = refl };
   over = λ late p free h. hand-over late p;
   start = λ p h none polling some. record { settings = refl };
-  resume = λ rest p free h is. record { none = refl };
+  resume = λ rest p free h is quiet. record { none = refl };
   settle = λ tasks p h is. record { settings = refl };
   thread = λ m more p free h threaded is. record { none = refl };
-  uses = λ came more p free h none is. record { none = refl };
+  uses = λ came more p free h none is quiet. record { none = refl };
   stays = λ p free h still. record { none = rw free.nothing refl };
 }
 

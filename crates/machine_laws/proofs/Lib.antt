@@ -5,4 +5,6 @@ pub mod EndFacts
 pub mod FateFacts
 pub mod TallyFacts
 pub mod SocketFacts
+pub mod TimerFacts
+pub mod TimeFacts
 pub mod LifeFacts

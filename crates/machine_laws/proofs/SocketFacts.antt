@@ -53,7 +53,7 @@ same-looks n given p nothing =
 -- what holds of what is delivered, of what was used and of the application as what is under way ends
 pub record Feeds (Q : Option (ℕ × ℕ) → List ℕ → ApplicationView → Type 0) (p : ProcessorView) : Type 0 where
   pub none : Q None [] p.application
-  pub gives : (m came : ℕ) → Q (Some (m, came)) [] (fed p.ends came p.settings p.application)
+  pub gives : (m came : ℕ) → delivery_of p.work p ≡ Some (m, came) → Q (Some (m, came)) [] (fed p.ends came p.settings p.application)
   pub uses : (came : ℕ) → Q None (came ∷ []) (used p.ends came p.application)
 
 pub record Fed (Q : Option (ℕ × ℕ) → List ℕ → ApplicationView → Type 0) (p : ProcessorView) (w : Work) (q : ProcessorView) : Type 0 where
@@ -74,60 +74,62 @@ delivers-fed : (n came : ℕ) (p : ProcessorView) → ((delivers n came p).appli
 unfolding delivers
 delivers-fed n came p = (refl, refl, refl)
 
-feeds-work : (Q : Option (ℕ × ℕ) → List ℕ → ApplicationView → Type 0) (w : Work) (p : ProcessorView) (counts : ProcessorCounts) → Feeds Q p
+feeds-work : (Q : Option (ℕ × ℕ) → List ℕ → ApplicationView → Type 0) (w : Work) (p : ProcessorView) (counts : ProcessorCounts) → p.work ≡ w
+    → Feeds Q p
     → Fed Q p w (ends_by w (record p { clock = p.ends; work = Nothing; counts = counts }))
 unfolding ends_interrupt
-feeds-work Q Nothing p counts f = record { application = f.none; rest = refl; unused = refl }
-feeds-work Q (Interrupt m) p counts f =
-    let t = by (is_polling p.settings) (next_packet_at false (at m p.devices)) in
+feeds-work Q Nothing p counts is f = record { application = f.none; rest = refl; unused = refl }
+feeds-work Q (Interrupt m) p counts is f =
+    let t = by (is_polling p.settings) (next_packet_at false (at m p.devices)) refl refl in
     record { application = t.0; rest = t.1; unused = t.2 }
   where
     q : ProcessorView
     q = record p { clock = p.ends; work = Nothing; counts = counts }
 
-    by : (b : Bool) (o : Option ℕ)
+    by : (b : Bool) (o : Option ℕ) → is_polling p.settings ≡ b → next_packet_at false (at m p.devices) ≡ o
         → let r = delivers_oldest m o q in
         let e : ProcessorView = if b then q else record r { devices = changed raised_again m r.devices } in
         (Q (if b then None else option_map (λ (came : ℕ). (m, came)) o) [] e.application) × (e.rest ≡ p.rest) × (used_by e.work ≡ [])
-    by true o = (f.none, refl, refl)
-    by false None = (f.none, refl, refl)
-    by false (Some came) =
+    by true o polling found = (f.none, refl, refl)
+    by false None polling found = (f.none, refl, refl)
+    by false (Some came) polling found =
         let r : ProcessorView = record q { devices = changed (without_next false) m q.devices } in
         let d = delivers-fed m came r in
         (
-          subst (λ (a : ApplicationView). Q (Some (m, came)) [] a) (sym d.0) (f.gives m came),
+          subst (λ (a : ApplicationView). Q (Some (m, came)) [] a) (sym d.0) (f.gives m came (ap (λ (w : Work). delivery_of w p) is ∙ rw (polling, found) refl)),
           d.1,
           ap used_by d.2,
         )
-feeds-work Q (Poll m) p counts f =
+feeds-work Q (Poll m) p counts is f =
     let q : ProcessorView = record p { clock = p.ends; work = Nothing; counts = counts } in
     feeds-same Q p q (looks m 0 q) (Poll m) f.none refl (same-looks m 0 q refl)
-feeds-work Q (Packet hand) p counts f =
+feeds-work Q (Packet hand) p counts is f =
     let q : ProcessorView = record p { clock = p.ends; work = Nothing; counts = counts } in
     let r = delivers hand.device hand.came q in
     let d = delivers-fed hand.device hand.came q in
     feeds-same Q p r (looks hand.device (hand.given + 1) r) (Packet hand)
-    (subst (λ (a : ApplicationView). Q (Some (hand.device, hand.came)) [] a) (sym d.0) (f.gives hand.device hand.came)) d.1
+    (subst (λ (a : ApplicationView). Q (Some (hand.device, hand.came)) [] a) (sym d.0)
+    (f.gives hand.device hand.came (ap (λ (w : Work). delivery_of w p) is))) d.1
     (same-looks hand.device (hand.given + 1) r d.2)
-feeds-work Q (Use came) p counts f = record { application = f.uses came; rest = refl; unused = refl }
+feeds-work Q (Use came) p counts is f = record { application = f.uses came; rest = refl; unused = refl }
 
 pub feeds : (Q : Option (ℕ × ℕ) → List ℕ → ApplicationView → Type 0) (p : ProcessorView) → Feeds Q p → Fed Q p p.work (ends_current p)
 unfolding ends_current
-feeds Q p f = feeds-work Q p.work p (spent p.work (p.ends - p.clock) p.counts) f
+feeds Q p f = feeds-work Q p.work p (spent p.work (p.ends - p.clock) p.counts) refl f
 
 -- ---- what holds as work is taken up
 
 -- nothing is used: what a use was interrupted of and the socket have
-pub record Holds (xs : List ℕ) (refused : ℕ) (waits : WaitsView) (p : ProcessorView) : Type 0 where
+pub record Holds (xs : List ℕ) (r : ℕ) (v : WaitsView) (p : ProcessorView) : Type 0 where
   pub items : resting p.rest ++ p.application.socket.items ≡ xs
-  pub refused : p.application.refused ≡ refused
-  pub waits : p.application.waits ≡ waits
+  pub refused : p.application.refused ≡ r
+  pub waits : p.application.waits ≡ v
 
 -- and with the packet that is used; no use was interrupted then
-pub record Uses (xs : List ℕ) (refused : ℕ) (waits : WaitsView) (p : ProcessorView) : Type 0 where
+pub record Uses (xs : List ℕ) (r : ℕ) (v : WaitsView) (p : ProcessorView) : Type 0 where
   pub items : used_by p.work ++ (resting p.rest ++ p.application.socket.items) ≡ xs
-  pub refused : p.application.refused ≡ refused
-  pub waits : p.application.waits ≡ waits
+  pub refused : p.application.refused ≡ r
+  pub waits : p.application.waits ≡ v
   pub alone : (came : ℕ) → p.work ≡ Use came → p.rest ≡ None
 
 hold-scheduled : (xs : List ℕ) (r : ℕ) (v : WaitsView) (b : Bool) (n : ℕ) (p : ProcessorView) → Holds xs r v p
@@ -167,7 +169,7 @@ use-walk xs r v = record {
   asks = λ n p h asked. record { items = h.items; refused = h.refused; waits = h.waits; alone = λ came is. cc is };
   over = λ late p free h. use-over xs r v late p h;
   start = λ p h none polling some. record { items = h.items; refused = h.refused; waits = h.waits };
-  resume = λ rest p free h is. record {
+  resume = λ rest p free h is quiet. record {
     items = ap (λ (o : Option Rest). resting o ++ p.application.socket.items) (sym is) ∙ h.items;
     refused = h.refused;
     waits = h.waits;
@@ -180,7 +182,7 @@ use-walk xs r v = record {
     waits = h.waits;
     alone = λ came same. cc same;
   };
-  uses = λ came more p free h none is. record {
+  uses = λ came more p free h none is quiet. record {
     items = ap (λ (o : Option Rest). came ∷ (resting o ++ more)) none
         ∙ (sym is ∙ (ap (λ (o : Option Rest). resting o ++ p.application.socket.items) (sym none) ∙ h.items));
     refused = h.refused;
@@ -301,7 +303,7 @@ pub moved : (s : Settings) (p : ProcessorView) → p.settings ≡ s → s.apart 
 moved s p settings here =
     feeds (Moved p.ends p.application) p (record {
       none = moved-none p.ends p.application [] p.application refl refl (λ xs before. same-waits xs p.application.waits before);
-      gives = λ m came. moved-gives p.settings p.ends m came p.application (ap (λ (x : Settings). x.apart) settings ∙ here);
+      gives = λ m came is. moved-gives p.settings p.ends m came p.application (ap (λ (x : Settings). x.apart) settings ∙ here);
       uses = λ came. moved-uses p.ends came p.application;
     })
 

@@ -46,13 +46,13 @@ pub record Walk (P Q : ProcessorView → Type 0) : Type 0 where
   pub start : (p : ProcessorView) → P p → p.softirq.run ≡ None → is_polling p.settings ≡ true → not (length p.softirq.list == 0) ≡ true
       → P (started p)
   pub resume : (rest : Rest) (p : ProcessorView) → Free p → P p → p.rest ≡ Some rest
-      → Q (begins (Use rest.came) rest.left (record p { rest = None }))
+      → position asks_at p.devices ≡ None → Q (begins (Use rest.came) rest.left (record p { rest = None }))
   pub settle : (tasks : List Task) (p : ProcessorView) → P p → tasks ≡ runnable (length p.application.socket.items == 0) p.tasks
       → P (record p { tasks = tasks })
   pub thread : (n : ℕ) (more : List Task) (p : ProcessorView) → Free p → P p → p.settings.threaded ≡ true → p.tasks ≡ Thread n ∷ more
       → Q (polls n (record p { tasks = more }))
   pub uses : (came : ℕ) (more : List ℕ) (p : ProcessorView) → Free p → P p → p.rest ≡ None → p.application.socket.items ≡ came ∷ more
-      → Q (uses (came ∷ more) p)
+      → position asks_at p.devices ≡ None → Q (uses (came ∷ more) p)
   pub stays : (p : ProcessorView) → Free p → P p → Still p → Q p
 
 pub either : (Q : ProcessorView → Type 0) (b : Bool) (x y : ProcessorView) → (b ≡ true → Q x) → (b ≡ false → Q y) → Q (if b then x else y)
@@ -74,10 +74,10 @@ pub record Out (p : ProcessorView) : Type 0 where
   pub rest : p.rest ≡ None
 
 walk-uses : (P Q : ProcessorView → Type 0) → Walk P Q → (items : List ℕ) (p : ProcessorView) → p.application.socket.items ≡ items
-    → Free p → P p → p.rest ≡ None
+    → Free p → P p → p.rest ≡ None → position asks_at p.devices ≡ None
     → (p.application.socket.items ≡ [] → Still p) → Q (uses items p)
-walk-uses P Q w [] p is free held none still = w.stays p free held (still is)
-walk-uses P Q w (came ∷ more) p is free held none still = w.uses came more p free held none is
+walk-uses P Q w [] p is free held none quiet still = w.stays p free held (still is)
+walk-uses P Q w (came ∷ more) p is free held none quiet still = w.uses came more p free held none is quiet
 
 walk-tasks : (P Q : ProcessorView → Type 0) → Walk P Q → (tasks : List Task) (p : ProcessorView) → Out p → P (record p { tasks = tasks })
     → p.settings.threaded ≡ true
@@ -94,7 +94,7 @@ walk-tasks P Q w [] p out held threaded =
     })
 walk-tasks P Q w (Application ∷ more) p out held threaded =
     let q : ProcessorView = record p { tasks = Application ∷ more } in
-    walk-uses P Q w p.application.socket.items q refl (record { nothing = out.free.nothing; unasked = out.free.unasked }) held out.rest
+    walk-uses P Q w p.application.socket.items q refl (record { nothing = out.free.nothing; unasked = out.free.unasked }) held out.rest out.quiet
     (λ empty. record {
       quiet = out.quiet;
       idle = out.idle;
@@ -126,7 +126,7 @@ walk-out P Q w p out held =
       socket = λ s own. absurd (cc (apart, own));
       tasks = λ t. absurd (cc (single, t));
     }))
-    (λ own. walk-uses P Q w p.application.socket.items p refl out.free held out.rest
+    (λ own. walk-uses P Q w p.application.socket.items p refl out.free held out.rest out.quiet
     (λ empty. record {
       quiet = out.quiet;
       idle = out.idle;
@@ -140,7 +140,7 @@ walk-leaves : (P Q : ProcessorView → Type 0) → Walk P Q → (o : Option Rest
     → position asks_at p.devices ≡ None → p.softirq.run ≡ None
     → (is_polling p.settings && not (length p.softirq.list == 0)) ≡ false
     → Q (leaves_softirq o p)
-walk-leaves P Q w (Some rest) p is free held quiet idle list = w.resume rest p free held is
+walk-leaves P Q w (Some rest) p is free held quiet idle list = w.resume rest p free held is quiet
 walk-leaves P Q w None p is free held quiet idle list =
     walk-out P Q w p (record { free = free; quiet = quiet; idle = idle; list = list; rest = is }) held
 

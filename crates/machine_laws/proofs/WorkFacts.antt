@@ -285,13 +285,13 @@ work-walk s = record {
   asks = λ n p h asked. work-asks s n p h asked;
   over = λ late p free h. work-over s late p h;
   start = λ p h none polling some. work-start s p h some;
-  resume = λ rest p free h is.
+  resume = λ rest p free h is quiet.
       goes-begins s (Use rest.came) rest.left (record p { rest = None })
       (record { settings = h.settings; run = h.run; soft = h.soft; threads = h.threads })
       (asked-idle s.threaded (asked_in p.softirq.run) free.unasked) (λ no. refl) (fits s);
   settle = λ tasks p h is. work-settle s tasks (length p.application.socket.items == 0) p h is;
   thread = λ n more p free h threaded is. work-thread s n more p free h threaded is;
-  uses = λ came more p free h none is.
+  uses = λ came more p free h none is quiet.
       goes-begins s (Use came) p.settings.use_time
       (record p { application = record p.application { socket = buffer more p.application.socket.capacity } })
       (record { settings = h.settings; run = h.run; soft = h.soft; threads = h.threads })

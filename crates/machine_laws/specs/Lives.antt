@@ -1,7 +1,7 @@
 -- The life of a processor: packets that arrive, and what happens between them.
 use Rattle.std.specs.Prelude.{◌≡◌, ◌≤◌, ◌<◌, ℕ, ◌-◌, ◌/◌, ◌%◌, ◌^◌, ◌==◌, true, false, List, [], ◌∷◌, Some, slice_get, if◌then◌else◌}
 use Rattle.{machine_words.specs.declared.settings.Settings.Settings, machine_model.specs.Processor.{ProcessorView, Advances, arrives}}
-use Rattle.machine_model.specs.Machine.{Arrives, Finishes, FinishesAt, Machine, opened_machine}
+use Rattle.machine_model.specs.{Application.went_on, Machine.{Arrives, Finishes, Machine, opened_machine}}
 use Rattle.machine_model.specs.Processor.{is_due, opened_processor, step}
 
 -- Law: what happens on a processor up to a time is determined.
@@ -61,7 +61,7 @@ pub record Ended (s : Settings) (packets : List (ℕ × ℕ)) (p : ProcessorView
   pub ready : ProcessorView
   pub lived : Lived s (2 ^ 64 - 1) packets ready
   pub none : is_due (2 ^ 64 - 1) ready ≡ false
-  pub finishes : FinishesAt ready p
+  pub finishes : p ≡ record ready { application = went_on (2 ^ 64 - 1) ready.settings.use_time ready.application }
 
 -- Law: each processor of a machine lived so, with the packets of its own devices; and when the machine has finished nothing is left.
 abbrev pub EachLives : Type 0

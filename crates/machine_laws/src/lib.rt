@@ -4,13 +4,23 @@
 //! processor is, `Fates` what becomes of packets, `Times` what time and work come to.
 #![tactic(auto)]
 
-ghost use Rattle.machine_laws.specs.Fates.{DeliversInOrder, TellsOfDevice};
-ghost use Rattle.machine_laws.specs.Lives.{RunsAsOne};
+ghost use Rattle.machine_laws.specs.Fates.{DeliversInOrder, TellsOfDevice, TellsOfUse, UsesInOrder};
+ghost use Rattle.machine_laws.specs.Lives.{ArrivesAsOne, EachLives, RunsAsOne};
 ghost use Rattle.machine_laws.specs.Times.{WorksWithin};
 
 /// What happens on a processor up to a time is determined.
 pub fn runs_as_one()
     ensures { RunsAsOne }
+{}
+
+/// An arrival makes exactly one machine of each.
+pub fn arrives_as_one()
+    ensures { ArrivesAsOne }
+{}
+
+/// Each processor of a machine lived as these laws say, with the packets of its own devices.
+pub fn each_lives()
+    ensures { EachLives }
 {}
 
 /// A run's work is below budget and weight together.
@@ -26,4 +36,14 @@ pub fn delivers_in_order()
 /// The counts of a device and its waits are those of its packets.
 pub fn tells_of_device()
     ensures { TellsOfDevice }
+{}
+
+/// A packet that found a place in the socket is used once and in its order, or it is still there.
+pub fn uses_in_order()
+    ensures { UsesInOrder }
+{}
+
+/// The refused packets and the waits of those used are counted as they are.
+pub fn tells_of_use()
+    ensures { TellsOfUse }
 {}
