@@ -163,7 +163,7 @@ pub if-same : {A B : Type 0} (g : A → B) (b : Bool) (x y : A) (z : B) → g x 
 if-same g true x y z first second = first
 if-same g false x y z first second = second
 
-queued-blind : Blind queued
+pub queued-blind : Blind queued
 unfolding queued interrupted
 queued-blind = record {
   interrupted = λ polling d.
@@ -183,15 +183,15 @@ taken-blind = record {
   expired = λ d. refl;
 }
 
-queued-raised : (d : DeviceView) → queued (Some (raised_again d)) ≡ queued (Some d)
+pub queued-raised : (d : DeviceView) → queued (Some (raised_again d)) ≡ queued (Some d)
 unfolding queued
 queued-raised d = refl
 
-queued-delivered : (now came : ℕ) (d : DeviceView) → queued (Some (device.delivered now came d)) ≡ queued (Some d)
+pub queued-delivered : (now came : ℕ) (d : DeviceView) → queued (Some (device.delivered now came d)) ≡ queued (Some d)
 unfolding queued
 queued-delivered now came d = refl
 
-queued-polled : (now given : ℕ) (s : Settings) (d : DeviceView) → queued (Some (polled now given s d)) ≡ queued (Some d)
+pub queued-polled : (now given : ℕ) (s : Settings) (d : DeviceView) → queued (Some (polled now given s d)) ≡ queued (Some d)
 unfolding queued polled completed
 queued-polled now given s d =
     let e : DeviceView = record d { counts = record d.counts { polls = held (d.counts.polls + 1) } } in
@@ -247,7 +247,7 @@ unfolding queued
 next-none true d plain is = (next-taken d 0 (length d.taken == 0) refl).1 is
 next-none false d plain is = ap (λ (xs : List ℕ). d.taken ++ drop 1 xs) (front-none d.ring is) ∙ ap (λ (xs : List ℕ). d.taken ++ xs) (sym (front-none d.ring is))
 
-next-some-at : (backlog : Bool) (o : Option DeviceView) (c : ℕ) → (backlog ≡ false → taken_in o ≡ []) → next_packet_at backlog o ≡ Some c
+pub next-some-at : (backlog : Bool) (o : Option DeviceView) (c : ℕ) → (backlog ≡ false → taken_in o ≡ []) → next_packet_at backlog o ≡ Some c
     → c ∷ queued (map_at (without_next backlog) o) ≡ queued o
 unfolding map_at
 next-some-at backlog None c plain is = cc is
@@ -260,7 +260,7 @@ next-none-at backlog None plain is = refl
 next-none-at backlog (Some d) plain is = next-none backlog d plain is
 
 -- of the devices of a processor, only that one changes
-look-some : (backlog : Bool) (m n c : ℕ) (ds : Devices) → (backlog ≡ false → taken_in (at n ds) ≡ [])
+pub look-some : (backlog : Bool) (m n c : ℕ) (ds : Devices) → (backlog ≡ false → taken_in (at n ds) ≡ [])
     → next_packet_at backlog (at m ds) ≡ Some c
     → (if m == n then c ∷ [] else []) ++ queued (at n (changed (without_next backlog) m ds)) ≡ queued (at n ds)
 look-some backlog m n c ds plain is =
@@ -268,7 +268,7 @@ look-some backlog m n c ds plain is =
     (λ here. next-some-at backlog (at n ds) c plain (subst (λ (k : ℕ). next_packet_at backlog (at k ds) ≡ Some c) (eqb-true m n here) is))
     (λ other. refl)
 
-look-none : (backlog : Bool) (m n : ℕ) (ds : Devices) → (backlog ≡ false → taken_in (at n ds) ≡ [])
+pub look-none : (backlog : Bool) (m n : ℕ) (ds : Devices) → (backlog ≡ false → taken_in (at n ds) ≡ [])
     → next_packet_at backlog (at m ds) ≡ None → queued (at n (changed (without_next backlog) m ds)) ≡ queued (at n ds)
 look-none backlog m n ds plain is =
     at-either (λ b o. queued o ≡ queued (at n ds)) (without_next backlog) m n ds
@@ -307,11 +307,11 @@ looks-more s n m given now more xs ds l = record {
 abbrev pub IsPlain : Settings → ℕ → Devices → Type 0
 IsPlain s n ds = (s.backlog && is_polling s) ≡ false → taken_in (at n ds) ≡ []
 
-unbacked : (a b : Bool) → a ≡ false → (a && b) ≡ false
+pub unbacked : (a b : Bool) → a ≡ false → (a && b) ≡ false
 unbacked false b is = refl
 unbacked true b is = cc is
 
-unpolled : (a b : Bool) → b ≡ false → (a && b) ≡ false
+pub unpolled : (a b : Bool) → b ≡ false → (a && b) ≡ false
 unpolled false b is = refl
 unpolled true false is = refl
 unpolled true true is = cc is
@@ -446,7 +446,7 @@ made-taken capacity (Some d) = refl
 pub room-made : (capacity n : ℕ) (ds : Devices) → has_room_at (at n (with_device capacity n ds)) ≡ has_room (made_at capacity (at n ds))
 room-made capacity n ds = ap has_room_at (with-here capacity n ds)
 
-arrived-queued : (s : Settings) (moment m n : ℕ) (p : ProcessorView)
+pub arrived-queued : (s : Settings) (moment m n : ℕ) (p : ProcessorView)
     → queued (at n (changed (after_packet moment p.settings) m (with_device p.settings.ring m p.devices)))
     ≡ queued (at n p.devices) ++ (if m == n && finds_room n p then moment ∷ [] else [])
 arrived-queued s moment m n p =

@@ -248,7 +248,7 @@ use-disturbed s xs r v moment p goes u =
 
 -- ---- an application on the same processor
 
-fed-here : (s : Settings) (now came : ℕ) (a : ApplicationView) → s.apart ≡ false
+pub fed-here : (s : Settings) (now came : ℕ) (a : ApplicationView) → s.apart ≡ false
     → fed now came s a ≡ (if has_place a then put came a else refuses a)
 unfolding fed
 fed-here s now came a here = rw here refl

@@ -7,7 +7,7 @@ use Rattle.machine_laws.specs.{Lives.{Event, InTurn, behind, next, packet}, Time
 use Rattle.machine_model.specs.declared.processor.{Work.{Work, TheVariants.{Nothing, Interrupt, Poll, Packet, Use}}, Rest.Rest, InHand.InHand}
 use Rattle.machine_model.specs.declared.{processor.{Upcoming.{Upcoming, TheVariants.{Never, Expires}}, ProcessorCounts.ProcessorCounts}, tasks.Task.TheVariants.Thread}
 use Rattle.poll_runs.specs.declared.bench.{Next.TheVariants.{Gone, Repoll}, Once.Once}
-use Rattle.machine_model.specs.{Device.{after_packet, expired, interrupted, polled, raised_again, without_next}, Softirq.{polled_once, pushed}, Waits.held}
+use Rattle.machine_model.specs.{Device.{after_packet, timer_of, expired, interrupted, polled, raised_again, without_next}, Softirq.{polled_once, pushed}, Waits.held}
 use Rattle.machine_model.specs.{Device.DeviceView, Devices.{Devices, asks_at, has_room_at, is_fired_at, next_packet_at, with_device}}
 use Rattle.machine_model.specs.Application.{ApplicationView, fed, has_place, put, refuses, used}
 use Rattle.machine_model.specs.Processor.{ProcessorView, arrives, begins, delivers, delivers_oldest, disturbed, ends_by, ends_current, ends_interrupt}
@@ -17,8 +17,8 @@ use Rattle.machine_laws.proofs.{TableFacts.{at-kept, map_at}, WalkFacts.{Walk, e
 use Rattle.machine_laws.proofs.WorkFacts.{Goes, goes-devices, goes-on, goes-unasked, looks-by, stirred, work-ended, work-stirred}
 use Rattle.machine_laws.proofs.FateFacts.{IsPlain, arrived-queued, at-arrived, look-none, look-some, next-some-at, plain-of, plain-on, queued, queued-blind}
 use Rattle.machine_laws.proofs.FateFacts.{made_at, queued-delivered, queued-polled, queued-raised, unbacked, unpolled}
-use Rattle.machine_laws.proofs.TimerFacts.{AllLate, Late, NextBy, NotBefore, late-less, later-not, lates-delivered, lates-expired, lates-interrupted}
-use Rattle.machine_laws.proofs.TimerFacts.{lates-next, late-packet, lates-polled, lates-raised, next-is, not-due, timer_in}
+use Rattle.machine_laws.proofs.TimerFacts.{AllLate, Late, LateUp, NextBy, NotBefore, late-less, later-not, lates-delivered, lates-expired, lates-interrupted}
+use Rattle.machine_laws.proofs.TimerFacts.{lates-next, late-packet, lates-polled, lates-raised, next-is, next-late, not-due, timer_in}
 use Rattle.machine_laws.proofs.SocketFacts.{Fed, Feeds, feeds, fed-here}
 use Rattle.machine_model.specs.declared.processor.Upcoming.TheVariants as upcomings
 use Rattle.machine_model.specs.Device as device
@@ -104,13 +104,13 @@ timed-begins : (s : Settings) (t : ℕ) (w : Work) (time : ℕ) (p : ProcessorVi
     → ((hand : InHand) → w ≡ Packet hand → ⊥)
     → ((came : ℕ) → w ≡ Use came → (p.clock ≡ t) × (IsFair s → held (came + use_cost s) ≤ held (p.clock + time)))
     → Timed s t (begins w time p)
-timed-begins s t w time p b busy unpacked use = record {
+timed-begins s t w time p b busy unpacked used-up = record {
   settings = b.settings;
   clock = b.clock;
   idle = λ idle. absurd (cc (busy, idle));
   ends = λ yes. (omega (arith, b.fits), omega (arith, b.fits, b.up), omega arith);
-  low = λ came is. omega (arith, (use came is).0);
-  using = λ fair came is. (use came is).1 fair;
+  low = λ came is. omega (arith, (used-up came is).0);
+  using = λ fair came is. (used-up came is).1 fair;
   hand = λ hand is. absurd (unpacked hand is);
   timers = b.timers;
   came = b.came;
@@ -320,7 +320,7 @@ pub record Kept (t : ℕ) (ds : Devices) (w : Work) : Type 0 where
   pub hand : (hand : InHand) → w ≡ Packet hand → hand.came ≤ t
 
 same-came : (h g : InHand) → Packet h ≡ Packet g → h.came ≡ g.came
-same-came h g is = ap (λ (x : InHand). x.came) (cc is)
+same-came h g is = let same : h ≡ g = cc is in ap (λ (x : InHand). x.came) same
 
 looks-kept : (s : Settings) (t m given : ℕ) (ds : Devices) → t < 2 ^ 64 → ((n : ℕ) → s.backlog ≡ false → taken_in (at n ds) ≡ []) → AllLate t ds → Came t ds
     → Looks (λ es w. Kept t es w) s t m given ds
@@ -416,14 +416,8 @@ polling-of : (b c : Bool) → (b && not c) ≡ true → b ≡ true
 polling-of true c is = refl
 polling-of false c is = cc is
 
-same-delivery : (a b c d : ℕ) → Some (a, b) ≡ Some (c, d) → b ≡ d
-same-delivery a b c d is = by (some-is (a, b) (c, d) is)
-  where
-    some-is : (x y : ℕ × ℕ) → Some x ≡ Some y → x ≡ y
-    some-is x y e = cc e
-
-    by : (a, b) ≡ (c, d) → b ≡ d
-    by e = ap (λ (x : ℕ × ℕ). x.1) e
+same-delivery : (x y : ℕ × ℕ) → Some x ≡ Some y → x.1 ≡ y.1
+same-delivery x y is = let same : x ≡ y = cc is in ap (λ (z : ℕ × ℕ). z.1) same
 
 -- with polling only a packet in hand is delivered
 hand-delivery : (s : Settings) (t : ℕ) (w : Work) (p : ProcessorView) (m came : ℕ) → is_polling p.settings ≡ true
@@ -432,7 +426,7 @@ hand-delivery s t Nothing p m came polling hands is = cc is
 hand-delivery s t (Interrupt n) p m came polling hands is = cc (rw polling at is)
 hand-delivery s t (Poll n) p m came polling hands is = cc is
 hand-delivery s t (Packet hand) p m came polling hands is =
-    omega (arith, hands hand refl, same-delivery hand.device hand.came m came is)
+    omega (arith, hands hand refl, same-delivery (hand.device, hand.came) (m, came) is)
 hand-delivery s t (Use other) p m came polling hands is = cc is
 
 ready-ended : (s : Settings) (t : ℕ) (p : ProcessorView) → Timed s t p → is_busy p.work ≡ true → AllLate p.ends p.devices
@@ -673,10 +667,10 @@ pub record Rises (s : Settings) (t u : ℕ) (p q : ProcessorView) : Type 0 where
   pub clock : p.clock ≤ q.clock
 
 rises-happens : (s : Settings) (t until : ℕ) (u : Upcoming) (p : ProcessorView) → until < 2 ^ 64 → Goes s p
-    → ((n : ℕ) → IsPlain p.settings n p.devices) → Timed s t p → NextBy u p → is_by until u p ≡ true
+    → ((n : ℕ) → IsPlain p.settings n p.devices) → Timed s t p → NextBy u p → LateUp t u → is_by until u p ≡ true
     → Rises s t (time_by u p t) p (happens u p) × (time_by u p t ≤ until)
-rises-happens s t until Never p fits goes plain h by due = cc due
-rises-happens s t until upcomings.Ends p fits goes plain h by due =
+rises-happens s t until Never p fits goes plain h by late due = cc due
+rises-happens s t until upcomings.Ends p fits goes plain h by late due =
     let e = h.ends by.0 in
     let q = ends_current p in
     let g = work-ended s p goes in
@@ -688,13 +682,13 @@ rises-happens s t until upcomings.Ends p fits goes plain h by due =
       },
       leb-true p.ends until due,
     )
-rises-happens s t until (Expires timer) p fits goes plain h by due =
+rises-happens s t until (Expires timer) p fits goes plain h by late due =
     let u = timer.at in
     let below : u ≤ until = leb-true u until due in
     let small : u < 2 ^ 64 = omega (arith, below, fits) in
     let q : ProcessorView = record p { devices = changed expired timer.device p.devices } in
     let g = goes-devices s p q goes refl refl refl refl in
-    let less : t ≤ u = first-timer p t u h in
+    let less : t ≤ u = late in
     let k = timed-later s t u p h less by in
     let r : Timed s u q = record {
       settings = k.settings;
@@ -713,3 +707,128 @@ rises-happens s t until (Expires timer) p fits goes plain h by due =
       record { time = less; timed = timed-disturbed s u q small g r; clock = clock-disturbed s u q small g r },
       below,
     )
+
+late-arrived : (s : Settings) (moment n m : ℕ) (p : ProcessorView) → moment < 2 ^ 64 → Late moment (timer_in (at m p.devices))
+    → Late moment (timer_in (at m (changed (after_packet moment p.settings) n (with_device p.settings.ring n p.devices))))
+unfolding made_at
+late-arrived s moment n m p fits late =
+    at-arrived (λ same o. Late moment (timer_in o)) p.settings moment p.settings.ring n m p.devices
+    (λ here.
+    late-packet moment moment p.settings (made_at p.settings.ring (at m p.devices)) (omega arith) fits
+    (late-made moment p.settings.ring (at m p.devices) late))
+    (λ other. late)
+  where
+    late-made : (t capacity : ℕ) (o : Option DeviceView) → Late t (timer_in o) → Late t (timer_of (made_at capacity o).phase)
+    late-made t capacity None before = tt
+    late-made t capacity (Some d) before = before
+
+rises-arrives : (s : Settings) (t moment n : ℕ) (p : ProcessorView) → moment < 2 ^ 64 → Goes s p → Timed s t p → t ≤ moment
+    → is_due moment p ≡ false → Rises s t moment p (arrives moment n p)
+unfolding arrives
+rises-arrives s t moment n p fits goes h less none =
+    let k = timed-later s t moment p h less (not-due moment p none) in
+    let devices = with_device p.settings.ring n p.devices in
+    let clock : ℕ = if is_busy p.work then p.clock else moment in
+    let arrived = changed (after_packet moment p.settings) n devices in
+    let q : ProcessorView = record p { clock = clock; devices = arrived } in
+    let g = goes-devices s p q goes refl refl refl refl in
+    let at-busy : is_busy p.work ≡ true → clock ≡ p.clock = λ busy. rw busy refl in
+    let at-idle : is_busy p.work ≡ false → clock ≡ moment = λ idle. rw idle refl in
+    let bound : clock ≤ moment + s.wake =
+    clock-either (is_busy p.work) (λ busy. k.clock) (λ idle. omega arith) in
+    let rises : p.clock ≤ clock = clock-more (is_busy p.work) (λ idle. k.idle idle) in
+    let r : Timed s moment q = record {
+      settings = k.settings;
+      clock = bound;
+      idle = λ idle. omega (arith, at-idle idle);
+      ends = λ busy. let e = k.ends busy in (omega (arith, at-busy busy, e.0), e.1, e.2);
+      low = λ came is. omega (arith, at-busy (ap is_busy is), k.low came is);
+      using = k.using;
+      hand = k.hand;
+      timers = λ m. late-arrived s moment n m p fits (k.timers m);
+      came = λ m.
+          subst (λ (xs : List ℕ). AllByRecursion (λ x. x ≤ moment) xs) (sym (arrived-queued s moment n m p))
+          (both (λ x. x ≤ moment) (queued (at m p.devices)) (if n == m && finds_room m p then moment ∷ [] else []) (k.came m)
+          (one (n == m && finds_room m p)));
+      socket = k.socket;
+      rest = k.rest;
+    } in
+    either (λ x. Rises s t moment p x) (has_room_at (at n devices)) (disturbed moment q) q
+    (λ room. record {
+      time = less;
+      timed = timed-disturbed s moment q fits g r;
+      clock = omega (arith, rises, clock-disturbed s moment q fits g r);
+    })
+    (λ full. record { time = less; timed = r; clock = rises })
+  where
+    one : (b : Bool) → AllByRecursion (λ x. x ≤ moment) (if b then moment ∷ [] else [])
+    one true = (omega arith, tt)
+    one false = tt
+
+    clock-either : (b : Bool) → (b ≡ true → p.clock ≤ moment + s.wake) → (b ≡ false → moment ≤ moment + s.wake)
+        → (if b then p.clock else moment) ≤ moment + s.wake
+    clock-either true first second = first refl
+    clock-either false first second = second refl
+
+    clock-more : (b : Bool) → (b ≡ false → p.clock ≤ moment) → p.clock ≤ (if b then p.clock else moment)
+    clock-more true low = omega arith
+    clock-more false low = low refl
+
+-- what holds at the time of the last event
+pub record Since (s : Settings) (until : ℕ) (events : List Event) : Type 0 where
+  pub timed : Timed s (now s events) (behind s events)
+  pub within : now s events ≤ until
+
+plains : (s : Settings) (events : List Event) → (n : ℕ) → IsPlain (behind s events).settings n (behind s events).devices
+plains s events n = plain-of s n (behind s events) (goes-on s events).rests.settings (plain-on s n events)
+
+opened-timed : (s : Settings) → Timed s 0 (behind s [])
+unfolding behind queued
+opened-timed s = record {
+  settings = refl;
+  clock = omega arith;
+  idle = λ idle. omega arith;
+  ends = λ busy. cc busy;
+  low = λ came is. cc is;
+  using = λ fair came is. cc is;
+  hand = λ hand is. cc is;
+  timers = λ n. tt;
+  came = λ n. tt;
+  socket = λ fair. tt;
+  rest = λ fair rest is. cc is;
+}
+
+pub since : (s : Settings) (until : ℕ) (events : List Event) → until < 2 ^ 64 → InTurn s until events → Since s until events
+unfolding behind InTurn step now
+since s until [] fits turns = record { timed = opened-timed s; within = omega arith }
+since s until (packet moment n ∷ earlier) fits turns =
+    let before = since s moment earlier (omega (arith, turns.0, fits)) turns.2 in
+    let r =
+    rises-arrives s (now s earlier) moment n (behind s earlier) (omega (arith, turns.0, fits)) (goes-on s earlier) before.timed before.within
+    turns.1 in
+    record { timed = r.timed; within = turns.0 }
+since s until (next ∷ earlier) fits turns =
+    let before = since s until earlier fits turns.1 in
+    let p = behind s earlier in
+    let r =
+    rises-happens s (now s earlier) until (upcoming p) p fits (goes-on s earlier) (plains s earlier) before.timed (next-is p)
+    (next-late (now s earlier) p before.timed.timers) turns.0 in
+    record { timed = r.0.timed; within = r.1 }
+
+pub rises : (s : Settings) (until : ℕ) (event : Event) (earlier : List Event) → until < 2 ^ 64 → InTurn s until (event ∷ earlier)
+    → (behind s earlier).clock ≤ (behind s (event ∷ earlier)).clock
+unfolding behind InTurn step
+rises s until (packet moment n) earlier fits turns =
+    let small : moment < 2 ^ 64 = omega (arith, turns.0, fits) in
+    let before = since s moment earlier small turns.2 in
+    (rises-arrives s (now s earlier) moment n (behind s earlier) small (goes-on s earlier) before.timed before.within turns.1).clock
+rises s until next earlier fits turns =
+    let before = since s until earlier fits turns.1 in
+    let p = behind s earlier in
+    (rises-happens s (now s earlier) until (upcoming p) p fits (goes-on s earlier) (plains s earlier) before.timed (next-is p)
+    (next-late (now s earlier) p before.timed.timers) turns.0).0.clock
+
+pub clocks-never-fall : ClocksNeverFall
+clocks-never-fall s until event earlier fits turns =
+    let l = since s until (event ∷ earlier) fits turns in
+    (rises s until event earlier fits turns, omega (arith, l.timed.clock, l.within))

@@ -201,7 +201,7 @@ late-coalesced m until Scheduled less late = late
 late-coalesced m until (Deferred other) less late = late
 late-coalesced m until Fired less late = late
 
-late-packet : (m moment : ℕ) (s : Settings) (d : DeviceView) → m ≤ moment → moment < 2 ^ 64 → Late m (timer_of d.phase)
+pub late-packet : (m moment : ℕ) (s : Settings) (d : DeviceView) → m ≤ moment → moment < 2 ^ 64 → Late m (timer_of d.phase)
     → Late m (timer_of (after_packet moment s d).phase)
 unfolding notified
 late-packet m moment s d less fits late =
@@ -217,3 +217,52 @@ pub lates-packet : (m moment : ℕ) (s : Settings) (k : ℕ) (ds : Devices) → 
     → AllLate m (changed (after_packet moment s) k ds)
 lates-packet m moment s k ds less fits all =
     late-changed m (after_packet moment s) k ds (λ d late. late-packet m moment s d less fits late) all
+
+-- ---- the soonest timer is one that is set
+
+abbrev pub LateTimer : ℕ → Option Timer → Type 0
+LateTimer t None = Unit {0}
+LateTimer t (Some timer) = t ≤ timer.at
+
+late-either : (t : ℕ) (b : Bool) (x y : Timer) → t ≤ x.at → t ≤ y.at → LateTimer t (if b then Some x else Some y)
+late-either t true x y first second = first
+late-either t false x y first second = second
+
+late-sooner : (t : ℕ) (a b : Option Timer) → LateTimer t a → LateTimer t b → LateTimer t (sooner a b)
+late-sooner t None b first second = second
+late-sooner t (Some x) None first second = first
+late-sooner t (Some x) (Some y) first second = late-either t (nat_le x.at y.at) x y first second
+
+late-timer : (t k : ℕ) (o : Option ℕ) → Late t o → LateTimer t (option_map (λ (at : ℕ). record { at = at; device = k }) o)
+late-timer t k None late = tt
+late-timer t k (Some u) late = late
+
+late-soonest : (t k : ℕ) (ds : Devices) → AllLate t ds → LateTimer t (soonest_from k ds)
+unfolding soonest_from
+late-soonest t k [] all = tt
+late-soonest t k (place ∷ more) all =
+    late-sooner t (timer_at k place) (soonest_from (k + 1) more)
+    (subst (λ (o : Option Timer). LateTimer t o) (sym (timer-same k place)) (late-timer t k (timer_in place) (all 0)))
+    (late-soonest t (k + 1) more (λ n. all (suc n)))
+
+abbrev pub LateUp : ℕ → Upcoming → Type 0
+LateUp t Never = Unit {0}
+LateUp t Ends = Unit {0}
+LateUp t (Expires timer) = t ≤ timer.at
+
+late-up : (t : ℕ) (o : Option Timer) (p : ProcessorView) → LateTimer t o
+    → LateUp t (option_map_or (λ (timer : Timer). if is_busy p.work && nat_le p.ends timer.at then Ends else Expires timer) o
+    (if is_busy p.work then Ends else Never))
+late-up t None p late = by (is_busy p.work)
+  where
+    by : (b : Bool) → LateUp t (if b then Ends else Never)
+    by true = tt
+    by false = tt
+late-up t (Some timer) p late = by (is_busy p.work && nat_le p.ends timer.at)
+  where
+    by : (b : Bool) → LateUp t (if b then Ends else Expires timer)
+    by true = tt
+    by false = late
+
+pub next-late : (t : ℕ) (p : ProcessorView) → AllLate t p.devices → LateUp t (upcoming p)
+next-late t p all = late-up t (soonest_from 0 p.devices) p (late-soonest t 0 p.devices all)

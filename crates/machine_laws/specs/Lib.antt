@@ -1,3 +1,4 @@
 pub mod Lives
 pub mod Fates
 pub mod Times
+pub mod Applications

@@ -6,7 +6,7 @@
 
 ghost use Rattle.machine_laws.specs.Fates.{DeliversInOrder, TellsOfDevice, TellsOfUse, UsesInOrder};
 ghost use Rattle.machine_laws.specs.Lives.{ArrivesAsOne, EachLives, RunsAsOne};
-ghost use Rattle.machine_laws.specs.Times.{WorksWithin};
+ghost use Rattle.machine_laws.specs.Times.{ClocksNeverFall, WorksWithin};
 
 /// What happens on a processor up to a time is determined.
 pub fn runs_as_one()
@@ -21,6 +21,11 @@ pub fn arrives_as_one()
 /// Each processor of a machine lived as these laws say, with the packets of its own devices.
 pub fn each_lives()
     ensures { EachLives }
+{}
+
+/// A processor's clock never falls.
+pub fn clocks_never_fall()
+    ensures { ClocksNeverFall }
 {}
 
 /// A run's work is below budget and weight together.
