@@ -7,4 +7,6 @@ pub mod TallyFacts
 pub mod SocketFacts
 pub mod TimerFacts
 pub mod TimeFacts
+pub mod LeastFacts
+pub mod ApplicationFacts
 pub mod LifeFacts

@@ -420,7 +420,7 @@ same-delivery : (x y : ℕ × ℕ) → Some x ≡ Some y → x.1 ≡ y.1
 same-delivery x y is = let same : x ≡ y = cc is in ap (λ (z : ℕ × ℕ). z.1) same
 
 -- with polling only a packet in hand is delivered
-hand-delivery : (s : Settings) (t : ℕ) (w : Work) (p : ProcessorView) (m came : ℕ) → is_polling p.settings ≡ true
+pub hand-delivery : (s : Settings) (t : ℕ) (w : Work) (p : ProcessorView) (m came : ℕ) → is_polling p.settings ≡ true
     → ((hand : InHand) → w ≡ Packet hand → held (hand.came + s.packet) ≤ t) → delivery_of w p ≡ Some (m, came) → held (came + s.packet) ≤ t
 hand-delivery s t Nothing p m came polling hands is = cc is
 hand-delivery s t (Interrupt n) p m came polling hands is = cc (rw polling at is)
@@ -622,7 +622,7 @@ clock-walk c = record {
   stays = λ p free h still. h;
 }
 
-clock-takes : (s : Settings) (p : ProcessorView) → Goes s p → (takes_up p).clock ≡ p.clock
+pub clock-takes : (s : Settings) (p : ProcessorView) → Goes s p → (takes_up p).clock ≡ p.clock
 clock-takes s p goes =
     (walk-any (Clocked p.clock) (Clocked p.clock) (clock-walk p.clock) p (goes-unasked s p goes) (λ busy. record { clock = refl })
     (λ idle. record { clock = refl })).clock

@@ -73,10 +73,10 @@ Follows use_time before ((came, end) ∷ more) = (held (before + use_time) ≤ e
 -- an application that took `placed`, refused `refused` and has used `uses`
 pub record Serves (s : Settings) (placed turned_away : List ℕ) (uses : List (ℕ × ℕ)) (a : ApplicationView) : Type 0 where
   -- each packet that found a place is used once and in its order, or it is in its hand or in the socket
-  pub order : placed ≡ map (λ x. x.0) uses ++ (in_hand a.activity ++ a.socket.items)
+  pub order : placed ≡ map (λ (x : ℕ × ℕ). x.0) uses ++ (in_hand a.activity ++ a.socket.items)
   -- the refused packets and the waits from arrival to the end of the use are counted as they are
   pub refused : a.refused ≡ held (length turned_away)
-  pub waits : a.waits ≡ counting (map (λ x. x.1 - x.0) uses) no_waits
+  pub waits : a.waits ≡ counting (map (λ (x : ℕ × ℕ). x.1 - x.0) uses) no_waits
   -- uses don't overlap
   pub follows : Follows s.use_time 0 uses
   -- it sleeps only while the socket is empty
@@ -99,4 +99,4 @@ ApplicationEnds = (s : Settings) (until : ℕ) (events : List Event) → until <
     let a = (behind s events).application in
     let b = went_on (2 ^ 64 - 1) s.use_time a in
     let uses = used_all s ds ++ ended_until (2 ^ 64 - 1) s.use_time a in
-    Serves s (placed_all true s ds) (placed_all false s ds) uses b × (b.activity ≡ Asleep) × (placed_all true s ds ≡ map (λ x. x.0) uses)
+    Serves s (placed_all true s ds) (placed_all false s ds) uses b × (b.activity ≡ Asleep) × (placed_all true s ds ≡ map (λ (x : ℕ × ℕ). x.0) uses)

@@ -6,7 +6,7 @@
 
 ghost use Rattle.machine_laws.specs.Fates.{DeliversInOrder, TellsOfDevice, TellsOfUse, UsesInOrder};
 ghost use Rattle.machine_laws.specs.Lives.{ArrivesAsOne, EachLives, RunsAsOne};
-ghost use Rattle.machine_laws.specs.Times.{ClocksNeverFall, WorksWithin};
+ghost use Rattle.machine_laws.specs.Times.{ClocksNeverFall, NoWaitIsLess, WorksWithin};
 
 /// What happens on a processor up to a time is determined.
 pub fn runs_as_one()
@@ -26,6 +26,11 @@ pub fn each_lives()
 /// A processor's clock never falls.
 pub fn clocks_never_fall()
     ensures { ClocksNeverFall }
+{}
+
+/// With polling, no packet waits less than the work that it takes.
+pub fn no_wait_is_less()
+    ensures { NoWaitIsLess }
 {}
 
 /// A run's work is below budget and weight together.
