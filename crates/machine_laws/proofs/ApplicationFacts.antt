@@ -219,18 +219,22 @@ works-with s t placed away [] uses a w = by (is_over t a) refl
         → Works s t placed away (uses ++ (if b then use_of a else [])) (if b then goes_on s.use_time a else a)
     by true over = let parts = over-parts t a over in works-goes s t placed away uses a w parts.0 parts.1
     by false stays = subst (λ (xs : List (ℕ × ℕ)). Works s t placed away xs a) (sym (append-nil uses)) w
-works-with s t placed away (came ∷ items) uses a w = by (is_over t a) refl
+works-with s t placed away (came ∷ items) uses a w =
+    by (is_over t a) refl (λ v. works-with s t placed away items (uses ++ use_of a) (goes_on s.use_time a) v)
   where
     by : (b : Bool) → is_over t a ≡ b
+        → (Works s t placed away (uses ++ use_of a) (goes_on s.use_time a)
+        → Works s t placed away ((uses ++ use_of a) ++ ended_with items t s.use_time (goes_on s.use_time a))
+        (went_on_with items t s.use_time (goes_on s.use_time a)))
         → Works s t placed away (uses ++ (if b then use_of a ++ ended_with items t s.use_time (goes_on s.use_time a) else []))
         (if b then went_on_with items t s.use_time (goes_on s.use_time a) else a)
-    by true over =
+    by true over next =
         let parts = over-parts t a over in
         let rest = ended_with items t s.use_time (goes_on s.use_time a) in
         subst (λ (xs : List (ℕ × ℕ)). Works s t placed away xs (went_on_with items t s.use_time (goes_on s.use_time a)))
         (append_assoc uses (use_of a) rest)
-        (works-with s t placed away items (uses ++ use_of a) (goes_on s.use_time a) (works-goes s t placed away uses a w parts.0 parts.1))
-    by false stays = subst (λ (xs : List (ℕ × ℕ)). Works s t placed away xs a) (sym (append-nil uses)) w
+        (next (works-goes s t placed away uses a w parts.0 parts.1))
+    by false stays next = subst (λ (xs : List (ℕ × ℕ)). Works s t placed away xs a) (sym (append-nil uses)) w
 
 pub works-went : (s : Settings) (t : ℕ) (placed away : List ℕ) (uses : List (ℕ × ℕ)) (a : ApplicationView) → Works s t placed away uses a
     → Works s t placed away (uses ++ ended_until t s.use_time a) (went_on t s.use_time a)
@@ -354,7 +358,7 @@ works-fed s now came placed away uses b fits w = by (has_place b)
 
 pub works-all : (s : Settings) (t : ℕ) (ds : List (ℕ × ℕ)) → s.apart ≡ true → t < 2 ^ 64 → Rising t ds
     → Works s t (placed_all true s ds) (placed_all false s ds) (used_all s ds) (fed_all s ds)
-unfolding placed_all used_all fed_all Rising Follows last_end
+unfolding placed_all used_all fed_all Rising Follows last_end counting
 works-all s t [] apart fits rising = record {
   serves = record {
     order = refl;
@@ -423,13 +427,15 @@ asleep-with time [] a is fits = by (is_over (2 ^ 64 - 1) a) refl
     by : (b : Bool) → is_over (2 ^ 64 - 1) a ≡ b → is_awake (if b then goes_on time a else a).activity ≡ false
     by true over = (goes-items time a [] is fits).2 refl
     by false stays = not-over (2 ^ 64 - 1) a (omega (arith, fits)) stays
-asleep-with time (came ∷ items) a is fits = by (is_over (2 ^ 64 - 1) a) refl
+asleep-with time (came ∷ items) a is fits =
+    by (is_over (2 ^ 64 - 1) a) refl (λ same small. asleep-with time items (goes_on time a) same small)
   where
     by : (b : Bool) → is_over (2 ^ 64 - 1) a ≡ b
+        → ((goes_on time a).socket.items ≡ items → (goes_on time a).end < 2 ^ 64
+        → is_awake (went_on_with items (2 ^ 64 - 1) time (goes_on time a)).activity ≡ false)
         → is_awake (if b then went_on_with items (2 ^ 64 - 1) time (goes_on time a) else a).activity ≡ false
-    by true over =
-        let g = goes-items time a (came ∷ items) is fits in asleep-with time items (goes_on time a) (g.1 came items refl) g.0
-    by false stays = not-over (2 ^ 64 - 1) a (omega (arith, fits)) stays
+    by true over next = let g = goes-items time a (came ∷ items) is fits in next (g.1 came items refl) g.0
+    by false stays next = not-over (2 ^ 64 - 1) a (omega (arith, fits)) stays
 
 pub asleep-went : (time : ℕ) (a : ApplicationView) → a.end < 2 ^ 64 → is_awake (went_on (2 ^ 64 - 1) time a).activity ≡ false
 unfolding went_on

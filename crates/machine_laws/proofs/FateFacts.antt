@@ -63,7 +63,7 @@ seen-walk g b n x = record {
   resume = λ rest p free h is quiet. record { seen = h.seen };
   settle = λ tasks p h is. record { seen = h.seen };
   thread = λ m more p free h threaded is. record { seen = h.seen };
-  uses = λ came more p free h none is quiet. record { seen = h.seen };
+  uses = λ came more p free h none is quiet first. record { seen = h.seen };
   stays = λ p free h still. h;
 }
 
@@ -130,7 +130,7 @@ hand-walk n = record {
   resume = λ rest p free h is quiet. record { none = refl };
   settle = λ tasks p h is. record { settings = refl };
   thread = λ m more p free h threaded is. record { none = refl };
-  uses = λ came more p free h none is quiet. record { none = refl };
+  uses = λ came more p free h none is quiet first. record { none = refl };
   stays = λ p free h still. record { none = rw free.nothing refl };
 }
 

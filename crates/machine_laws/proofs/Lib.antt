@@ -9,4 +9,6 @@ pub mod TimerFacts
 pub mod TimeFacts
 pub mod LeastFacts
 pub mod ApplicationFacts
+pub mod ApartFacts
+pub mod OtherFacts
 pub mod LifeFacts

@@ -54,7 +54,7 @@ same-looks n given p nothing =
 pub record Feeds (Q : Option (ℕ × ℕ) → List ℕ → ApplicationView → Type 0) (p : ProcessorView) : Type 0 where
   pub none : Q None [] p.application
   pub gives : (m came : ℕ) → delivery_of p.work p ≡ Some (m, came) → Q (Some (m, came)) [] (fed p.ends came p.settings p.application)
-  pub uses : (came : ℕ) → Q None (came ∷ []) (used p.ends came p.application)
+  pub uses : (came : ℕ) → p.work ≡ Use came → Q None (came ∷ []) (used p.ends came p.application)
 
 pub record Fed (Q : Option (ℕ × ℕ) → List ℕ → ApplicationView → Type 0) (p : ProcessorView) (w : Work) (q : ProcessorView) : Type 0 where
   pub application : Q (delivery_of w p) (used_by w) q.application
@@ -111,7 +111,7 @@ feeds-work Q (Packet hand) p counts is f =
     (subst (λ (a : ApplicationView). Q (Some (hand.device, hand.came)) [] a) (sym d.0)
     (f.gives hand.device hand.came (ap (λ (w : Work). delivery_of w p) is))) d.1
     (same-looks hand.device (hand.given + 1) r d.2)
-feeds-work Q (Use came) p counts is f = record { application = f.uses came; rest = refl; unused = refl }
+feeds-work Q (Use came) p counts is f = record { application = f.uses came is; rest = refl; unused = refl }
 
 pub feeds : (Q : Option (ℕ × ℕ) → List ℕ → ApplicationView → Type 0) (p : ProcessorView) → Feeds Q p → Fed Q p p.work (ends_current p)
 unfolding ends_current
@@ -182,7 +182,7 @@ use-walk xs r v = record {
     waits = h.waits;
     alone = λ came same. cc same;
   };
-  uses = λ came more p free h none is quiet. record {
+  uses = λ came more p free h none is quiet first. record {
     items = ap (λ (o : Option Rest). came ∷ (resting o ++ more)) none
         ∙ (sym is ∙ (ap (λ (o : Option Rest). resting o ++ p.application.socket.items) (sym none) ∙ h.items));
     refused = h.refused;
@@ -304,7 +304,7 @@ moved s p settings here =
     feeds (Moved p.ends p.application) p (record {
       none = moved-none p.ends p.application [] p.application refl refl (λ xs before. same-waits xs p.application.waits before);
       gives = λ m came is. moved-gives p.settings p.ends m came p.application (ap (λ (x : Settings). x.apart) settings ∙ here);
-      uses = λ came. moved-uses p.ends came p.application;
+      uses = λ came is. moved-uses p.ends came p.application;
     })
 
 -- ---- over a life

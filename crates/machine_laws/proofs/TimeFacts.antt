@@ -230,7 +230,7 @@ timed-walk s t = record {
   thread = λ n more p free h threaded is.
       timed-begins s t (Poll n) p.settings.poll (record p { tasks = more })
       (base-of s t p (record p { tasks = more }) h.base refl refl refl refl refl) refl (λ hand same. cc same) (λ came same. cc same);
-  uses = λ came more p free h none is quiet. timed-uses s t came more p h is quiet;
+  uses = λ came more p free h none is quiet first. timed-uses s t came more p h is quiet;
   stays = λ p free h still. timed-stays s t p free.nothing still.quiet h;
 }
 
@@ -447,7 +447,7 @@ ready-ended s t p h busy late plain =
           (λ fair. hand-delivery s u p.work p m came (ap (λ (x : Settings). is_polling x) h.settings ∙ polling-of (is_polling s) s.apart fair)
           h.hand is)
           (served-later s t u p.application.socket.items e.1 h.socket));
-      uses = λ came. served-later s t u p.application.socket.items e.1 h.socket;
+      uses = λ came is. served-later s t u p.application.socket.items e.1 h.socket;
     }) in
     let left : Left s u q.rest = subst (λ (x : Option Rest). Left s u x) (sym f.rest) (left-later s t u p.rest e.1 h.rest) in
     record {
@@ -618,7 +618,7 @@ clock-walk c = record {
   resume = λ rest p free h is quiet. record { clock = h.clock };
   settle = λ tasks p h is. record { clock = h.clock };
   thread = λ n more p free h threaded is. record { clock = h.clock };
-  uses = λ came more p free h none is quiet. record { clock = h.clock };
+  uses = λ came more p free h none is quiet first. record { clock = h.clock };
   stays = λ p free h still. h;
 }
 
@@ -666,7 +666,7 @@ pub record Rises (s : Settings) (t u : ℕ) (p q : ProcessorView) : Type 0 where
   pub timed : Timed s u q
   pub clock : p.clock ≤ q.clock
 
-rises-happens : (s : Settings) (t until : ℕ) (u : Upcoming) (p : ProcessorView) → until < 2 ^ 64 → Goes s p
+pub rises-happens : (s : Settings) (t until : ℕ) (u : Upcoming) (p : ProcessorView) → until < 2 ^ 64 → Goes s p
     → ((n : ℕ) → IsPlain p.settings n p.devices) → Timed s t p → NextBy u p → LateUp t u → is_by until u p ≡ true
     → Rises s t (time_by u p t) p (happens u p) × (time_by u p t ≤ until)
 rises-happens s t until Never p fits goes plain h by late due = cc due
@@ -722,7 +722,7 @@ late-arrived s moment n m p fits late =
     late-made t capacity None before = tt
     late-made t capacity (Some d) before = before
 
-rises-arrives : (s : Settings) (t moment n : ℕ) (p : ProcessorView) → moment < 2 ^ 64 → Goes s p → Timed s t p → t ≤ moment
+pub rises-arrives : (s : Settings) (t moment n : ℕ) (p : ProcessorView) → moment < 2 ^ 64 → Goes s p → Timed s t p → t ≤ moment
     → is_due moment p ≡ false → Rises s t moment p (arrives moment n p)
 unfolding arrives
 rises-arrives s t moment n p fits goes h less none =
@@ -779,7 +779,7 @@ pub record Since (s : Settings) (until : ℕ) (events : List Event) : Type 0 whe
   pub timed : Timed s (now s events) (behind s events)
   pub within : now s events ≤ until
 
-plains : (s : Settings) (events : List Event) → (n : ℕ) → IsPlain (behind s events).settings n (behind s events).devices
+pub plains : (s : Settings) (events : List Event) → (n : ℕ) → IsPlain (behind s events).settings n (behind s events).devices
 plains s events n = plain-of s n (behind s events) (goes-on s events).rests.settings (plain-on s n events)
 
 opened-timed : (s : Settings) → Timed s 0 (behind s [])

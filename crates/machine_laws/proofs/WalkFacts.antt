@@ -19,6 +19,12 @@ NoTask [] items = Unit {0}
 NoTask (Application ∷ more) items = items ≡ []
 NoTask (Thread number ∷ more) items = ⊥
 
+-- the application is the first task
+abbrev pub IsFirst : List Task → Type 0
+IsFirst [] = ⊥
+IsFirst (Application ∷ more) = Unit {0}
+IsFirst (Thread number ∷ more) = ⊥
+
 -- nothing is taken up
 pub record Still (p : ProcessorView) : Type 0 where
   pub quiet : position asks_at p.devices ≡ None
@@ -52,7 +58,7 @@ pub record Walk (P Q : ProcessorView → Type 0) : Type 0 where
   pub thread : (n : ℕ) (more : List Task) (p : ProcessorView) → Free p → P p → p.settings.threaded ≡ true → p.tasks ≡ Thread n ∷ more
       → Q (polls n (record p { tasks = more }))
   pub uses : (came : ℕ) (more : List ℕ) (p : ProcessorView) → Free p → P p → p.rest ≡ None → p.application.socket.items ≡ came ∷ more
-      → position asks_at p.devices ≡ None → Q (uses (came ∷ more) p)
+      → position asks_at p.devices ≡ None → (p.settings.apart ≡ true → IsFirst p.tasks) → Q (uses (came ∷ more) p)
   pub stays : (p : ProcessorView) → Free p → P p → Still p → Q p
 
 pub either : (Q : ProcessorView → Type 0) (b : Bool) (x y : ProcessorView) → (b ≡ true → Q x) → (b ≡ false → Q y) → Q (if b then x else y)
@@ -74,10 +80,10 @@ pub record Out (p : ProcessorView) : Type 0 where
   pub rest : p.rest ≡ None
 
 walk-uses : (P Q : ProcessorView → Type 0) → Walk P Q → (items : List ℕ) (p : ProcessorView) → p.application.socket.items ≡ items
-    → Free p → P p → p.rest ≡ None → position asks_at p.devices ≡ None
+    → Free p → P p → p.rest ≡ None → position asks_at p.devices ≡ None → (p.settings.apart ≡ true → IsFirst p.tasks)
     → (p.application.socket.items ≡ [] → Still p) → Q (uses items p)
-walk-uses P Q w [] p is free held none quiet still = w.stays p free held (still is)
-walk-uses P Q w (came ∷ more) p is free held none quiet still = w.uses came more p free held none is quiet
+walk-uses P Q w [] p is free held none quiet first still = w.stays p free held (still is)
+walk-uses P Q w (came ∷ more) p is free held none quiet first still = w.uses came more p free held none is quiet first
 
 walk-tasks : (P Q : ProcessorView → Type 0) → Walk P Q → (tasks : List Task) (p : ProcessorView) → Out p → P (record p { tasks = tasks })
     → p.settings.threaded ≡ true
@@ -95,6 +101,7 @@ walk-tasks P Q w [] p out held threaded =
 walk-tasks P Q w (Application ∷ more) p out held threaded =
     let q : ProcessorView = record p { tasks = Application ∷ more } in
     walk-uses P Q w p.application.socket.items q refl (record { nothing = out.free.nothing; unasked = out.free.unasked }) held out.rest out.quiet
+    (λ apart. tt)
     (λ empty. record {
       quiet = out.quiet;
       idle = out.idle;
@@ -127,6 +134,7 @@ walk-out P Q w p out held =
       tasks = λ t. absurd (cc (single, t));
     }))
     (λ own. walk-uses P Q w p.application.socket.items p refl out.free held out.rest out.quiet
+    (λ apart. absurd (cc (apart, own)))
     (λ empty. record {
       quiet = out.quiet;
       idle = out.idle;

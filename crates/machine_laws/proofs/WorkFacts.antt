@@ -291,7 +291,7 @@ work-walk s = record {
       (asked-idle s.threaded (asked_in p.softirq.run) free.unasked) (λ no. refl) (fits s);
   settle = λ tasks p h is. work-settle s tasks (length p.application.socket.items == 0) p h is;
   thread = λ n more p free h threaded is. work-thread s n more p free h threaded is;
-  uses = λ came more p free h none is quiet.
+  uses = λ came more p free h none is quiet first.
       goes-begins s (Use came) p.settings.use_time
       (record p { application = record p.application { socket = buffer more p.application.socket.capacity } })
       (record { settings = h.settings; run = h.run; soft = h.soft; threads = h.threads })

@@ -100,3 +100,23 @@ ApplicationEnds = (s : Settings) (until : ℕ) (events : List Event) → until <
     let b = went_on (2 ^ 64 - 1) s.use_time a in
     let uses = used_all s ds ++ ended_until (2 ^ 64 - 1) s.use_time a in
     Serves s (placed_all true s ds) (placed_all false s ds) uses b × (b.activity ≡ Asleep) × (placed_all true s ds ≡ map (λ (x : ℕ × ℕ). x.0) uses)
+
+-- ---- the receiving side
+
+-- settings that differ at most in the application: in its socket, in its use and in what waking it takes
+abbrev pub changed_application : Settings → Settings → Settings
+changed_application s t = record s {
+  socket = t.socket;
+  socket_in = t.socket_in;
+  use_time = t.use_time;
+  use_in = t.use_in;
+  app_wake = t.app_wake;
+  app_wake_in = t.app_wake_in;
+}
+
+-- Law: with any other application on a processor of its own, all else of the receiving processor is the same, and so is what happens
+-- when.
+abbrev pub ReceivingIsApart : Type 0
+ReceivingIsApart = (s t : Settings) (events : List Event) → s.apart ≡ true → let u = changed_application s t in
+    (behind u events ≡ record (behind s events) { settings = u; application = (behind u events).application })
+    × ((until : ℕ) → InTurn s until events → InTurn u until events)

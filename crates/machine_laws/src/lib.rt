@@ -4,6 +4,7 @@
 //! processor is, `Fates` what becomes of packets, `Times` what time and work come to.
 #![tactic(auto)]
 
+ghost use Rattle.machine_laws.specs.Applications.{ApplicationEnds, ApplicationIsFed, ApplicationServes, ReceivingIsApart};
 ghost use Rattle.machine_laws.specs.Fates.{DeliversInOrder, TellsOfDevice, TellsOfUse, UsesInOrder};
 ghost use Rattle.machine_laws.specs.Lives.{ArrivesAsOne, EachLives, RunsAsOne};
 ghost use Rattle.machine_laws.specs.Times.{ClocksNeverFall, NoWaitIsLess, WorksWithin};
@@ -56,4 +57,25 @@ pub fn uses_in_order()
 /// The refused packets and the waits of those used are counted as they are.
 pub fn tells_of_use()
     ensures { TellsOfUse }
+{}
+
+/// On a processor of its own the application is what the deliveries make of it.
+pub fn application_is_fed()
+    ensures { ApplicationIsFed }
+{}
+
+/// On a processor of its own the application uses each packet that found a place once and in its order. Uses don't overlap, its
+/// idle time isn't negative, it sleeps only while the socket is empty, and it is woken at most once for each packet that it uses.
+pub fn application_serves()
+    ensures { ApplicationServes }
+{}
+
+/// After the end the application sleeps, and all that found a place was used.
+pub fn application_ends()
+    ensures { ApplicationEnds }
+{}
+
+/// With any other application on a processor of its own, all else of the receiving processor is the same.
+pub fn receiving_is_apart()
+    ensures { ReceivingIsApart }
 {}
