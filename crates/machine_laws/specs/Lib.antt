@@ -1,0 +1,4 @@
+pub mod Lives
+pub mod Fates
+pub mod Times
+pub mod Applications
