@@ -2,7 +2,8 @@
 use Rattle.std.specs.Prelude.{◌≡◌, ℕ, ◌+◌, ◌<◌, ◌≤◌, List, [], ◌++◌, map, length, slice_index_or, ◌⊎◌}
 use Rattle.crossbeam_queue.specs.Passes.{view}
 use Rattle.{std.specs.List.All, poll_list.specs.declared.{list_in.ListIn.ListIn, shared.SharedList.SharedList, list_rule.Returned.Returned}}
-use Rattle.poll_list.specs.{PushOrder.{Push, returned_end, ids_of, pushes_by, IsReturned, WasEmpty, returned_pushes}, EmptyPops.{CountsMore, CountsOne}}
+use Rattle.poll_list.specs.PushOrder.{Push, returned_end, ids_of, pushes_by, IsReturned, WasEmpty, returned_pushes}
+use Rattle.poll_list.specs.EmptyPops.{CountsMore, CountsOne}
 
 module _ {R : Type 0} where
   -- the instances that were pushed at this end, in order

@@ -127,7 +127,8 @@ impl<R: Wait> PollList for SharedList<R> {
     /// be repolled, and these last.
     fn put_back(&mut self, rest: &SoftList, repoll: &SoftList)
         requires { HandsHaveRoom self.old (length rest.now + length repoll.now) }
-        ensures back { (came : List ℕ) × PopsCame self.old [] came (empties (in_hand self.new)) self.new
+        ensures back { (came : List ℕ)
+            × PopsCame self.old [] came (empties (in_hand self.new)) self.new
             × (in_hand self.new ≡ rest.now ++ (in_hand self.old ++ came) ++ repoll.now) }
         ensures all { IsAllPopped (in_hand self.new) self.new }
         ensures empty { length (in_hand self.new) < 64 → FindsEmpty self.old self.new }

@@ -112,7 +112,8 @@ going-spliced {L} entries moves is_all budget window start polls list after give
 
     moved : moves start (arrivals polls) (g.came ++ s.came) (g.found + empties given) after
     moved =
-        rw (append-nil (arrivals polls)) at (joins start list after (arrivals polls) [] g.came s.came g.found (empties given) g.moved s.moved)
+        rw (append-nil (arrivals polls)) at
+        (joins start list after (arrivals polls) [] g.came s.came g.found (empties given) g.moved s.moved)
 
     whole : (g.first ++ concat g.further) ++ given ≡ entries start ++ (g.came ++ s.came)
     whole =
@@ -326,7 +327,8 @@ pub run-ends : {L : Type 0} (entries : L → List ℕ) (moves : L → List ℕ �
     → ((a b c : L) (pushed more came later : List ℕ) (n m : ℕ) → moves a pushed came n b → moves b more later m c
     → moves a (pushed ++ more) (came ++ later) (n + m) c)
     → run.asked ≡ None
-    → ((came : List ℕ) × moves list [] came (empties (entries after)) after × (entries after ≡ run.own ++ (entries list ++ came) ++ run.repoll))
+    → ((came : List ℕ) × moves list [] came (empties (entries after)) after
+    × (entries after ≡ run.own ++ (entries list ++ came) ++ run.repoll))
     → is_all (entries after) after
     → report ≡ record { polls = run.polls; work = run.work; squeezed = has_spent run }
     → IsGoing entries moves is_all start polls list run → IsOver entries moves is_all start polls run

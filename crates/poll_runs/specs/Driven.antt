@@ -1,5 +1,6 @@
 -- A polling run whose polls its caller makes, and where it stands between them.
-use Rattle.std.specs.{Prelude.{◌≡◌, ◌≢◌, ◌⊎◌, ℕ, ◌+◌, ◌<◌, ◌≤◌, ◌==◌, ◌||◌, Bool, false, List, [], ◌∷◌, ◌++◌, length, take}, List.AllByRecursion}
+use Rattle.std.specs.Prelude.{◌≡◌, ◌≢◌, ◌⊎◌, ℕ, ◌+◌, ◌<◌, ◌≤◌, ◌==◌, ◌||◌, Bool, false, List, [], ◌∷◌, ◌++◌, length, take}
+use Rattle.std.specs.List.{AllByRecursion}
 use Rattle.{std.specs.List.{concat, list_any}, poll_runs.specs.{Polls.{Poll, arrivals, ids, repolled, work_of}, Run.{AreBatches, IsBatch}}}
 use Rattle.poll_runs.specs.{Batches.empties_of, Run.is_spent, Turn.asked_for, declared.{bench.Once.Once, polling_run.PollingRun.PollingRun}}
 
@@ -48,8 +49,8 @@ IsGoing entries moves is_all start polls list run =
 
 -- no poll follows these: budget or window is spent, or all is polled, and something is to be repolled or one more batch would
 -- be empty
-abbrev pub IsOver : {L : Type 0} → (L → List ℕ) → (L → List ℕ → List ℕ → ℕ → L → Type 0) → (List ℕ → L → Type 0) → L → List Poll → PollingRun
-    → Type 0
+abbrev pub IsOver : {L : Type 0} → (L → List ℕ) → (L → List ℕ → List ℕ → ℕ → L → Type 0) → (List ℕ → L → Type 0) → L → List Poll
+    → PollingRun → Type 0
 IsOver entries moves is_all start polls run =
     is_spent run.budget run.window polls ≡ false
     → (ahead run ≡ []) × ((repolled polls ≢ []) ⊎ IsBatch entries moves is_all run.budget run.window start polls [])

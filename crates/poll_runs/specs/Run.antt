@@ -1,6 +1,7 @@
 -- The polling run (`net_rx_action`), told by its batches: over whole lists, by what the list states of itself (its entries,
 -- what was pushed and came between two moments, and that nothing was left behind).
-use Rattle.std.specs.{Prelude.{◌≡◌, ◌≢◌, ◌⊎◌, ℕ, ◌+◌, ◌<◌, ◌≤◌, Bool, ◌||◌, nat_le, false, List, [], ◌∷◌, ◌++◌, length, take}, List.AllByRecursion}
+use Rattle.std.specs.Prelude.{◌≡◌, ◌≢◌, ◌⊎◌, ℕ, ◌+◌, ◌<◌, ◌≤◌, Bool, ◌||◌, nat_le, false, List, [], ◌∷◌, ◌++◌, length, take}
+use Rattle.std.specs.List.{AllByRecursion}
 use Rattle.{std.specs.List.concat, poll_runs.specs.{Polls.{Poll, arrivals, ids, repolled, work_of}, declared.run.RunReport.RunReport}}
 use Rattle.poll_runs.specs.Batches.{empties, empties_of}
 

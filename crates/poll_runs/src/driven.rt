@@ -50,7 +50,8 @@ pub(crate) fn hand_on<L: PollList>(next: Next, id: u32, list: &mut L, repoll: &m
 // Gives the list back what the run holds, and tells what it did.
 fn give_back<L: PollList>(run: &PollingRun, list: &mut L) -> RunReport
     requires room { L.has_room list.old (length run.now.own + length run.now.repoll) }
-    ensures back { (came : List _) × L.moves list.old [] came (empties (L.entries list.new)) list.new
+    ensures back { (came : List _)
+        × L.moves list.old [] came (empties (L.entries list.new)) list.new
         × (L.entries list.new ≡ run.now.own ++ (L.entries list.old ++ came) ++ run.now.repoll) }
     ensures all { L.is_all (L.entries list.new) list.new }
     ensures report { result ≡ record {
@@ -230,7 +231,8 @@ impl PollingRun {
         ensures early { (start : _) (polls : List Poll)
             → IsGoing L.entries L.moves L.is_all start polls list.old self
             → (result.polls ≡ length polls) × (result.work ≡ work_of polls) }
-        ensures back { (came : List _) × L.moves list.old [] came (empties (L.entries list.new)) list.new
+        ensures back { (came : List _)
+            × L.moves list.old [] came (empties (L.entries list.new)) list.new
             × (L.entries list.new ≡ self.own ++ (L.entries list.old ++ came) ++ self.repoll) }
         ensures report { result
             ≡ record { polls = self.polls; work = self.work; squeezed = has_spent self } }
@@ -252,7 +254,8 @@ impl PollingRun {
         ensures early { (start : _) (polls : List Poll)
             → IsGoing L.entries L.moves L.is_all start polls list.old self.old
             → (result.polls ≡ length polls) × (result.work ≡ work_of polls) }
-        ensures back { (came : List _) × L.moves list.old [] came (empties (L.entries list.new)) list.new
+        ensures back { (came : List _)
+            × L.moves list.old [] came (empties (L.entries list.new)) list.new
             × (L.entries list.new
             ≡ self.old.own ++ (L.entries list.old ++ came) ++ self.old.repoll) }
         ensures report { result ≡ record {

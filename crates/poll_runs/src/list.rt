@@ -49,7 +49,8 @@ pub trait PollList {
     /// `list_splice_tail` and `list_splice` at the end of `net_rx_action`).
     fn put_back(&mut self, rest: &SoftList, repoll: &SoftList)
         requires { has_room self.old (length rest.now + length repoll.now) }
-        ensures back { (came : List ℕ) × moves self.old [] came (empties (entries self.new)) self.new
+        ensures back { (came : List ℕ)
+            × moves self.old [] came (empties (entries self.new)) self.new
             × (entries self.new ≡ rest.now ++ (entries self.old ++ came) ++ repoll.now) }
         ensures all { is_all (entries self.new) self.new };
 
