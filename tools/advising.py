@@ -14,7 +14,7 @@ from receiving import BACKLOG
 
 VETH_RING = 256  # of veth's driver, which ethtool doesn't report
 SOCKET = 65536  # packets: a socket's buffer isn't recorded in packets, so it holds all
-FLUSHES = (20_000, 50_000, 100_000, 200_000, 500_000)  # ns
+FLUSHES = (0, 20_000, 50_000, 100_000, 200_000, 500_000)  # ns
 DEFERRALS = 2
 COALESCED = (0, 8_000, 25_000, 50_000, 100_000)  # ns
 LARGER = (1, 2, 4, 8, 16)
@@ -39,9 +39,11 @@ def options_of(head, device, is_apart):
     """The machine's options for what was set when this was recorded."""
     of_core = lambda name, default: number_in(head, f"sysctl.net.core.{name}", default)  # noqa: E731
     of_device = lambda name, default: number_in(head, f"device.{device}.{name}", default)  # noqa: E731
-    options = {"budget": of_core("netdev_budget", 300), "time-limit": 1000 * of_core("netdev_budget_usecs", 8000), "socket": SOCKET, "apart": is_apart}
+    options = {"budget": of_core("netdev_budget", 300), "time-limit": 1000 * of_core("netdev_budget_usecs", 8000), "socket": SOCKET,
+               "apart": is_apart}
     if head.get("polled") == BACKLOG:
-        options.update(backlog=1, ring=of_core("netdev_max_backlog", 1000) + 1, weight=of_core("dev_weight", 64) * of_core("dev_weight_rx_bias", 1))
+        options.update(backlog=1, ring=of_core("netdev_max_backlog", 1000) + 1,
+                       weight=of_core("dev_weight", 64) * of_core("dev_weight_rx_bias", 1))
     else:
         options.update({"ring": of_device("ethtool.ring.rx", VETH_RING), "defer-hard-irqs": of_device("napi_defer_hard_irqs", 0),
                         "gro-flush-timeout": of_device("gro_flush_timeout", 0), "threaded": min(1, of_device("threaded", 0)),
@@ -76,7 +78,7 @@ def candidates(head, device, options, has_program):
     deferrals, coalescing, threads = [{}], [{}], [{}]
     if not options.get("backlog"):
         if {f"device.{device}.napi_defer_hard_irqs", f"device.{device}.gro_flush_timeout"} <= head.keys():
-            deferrals += [{"defer-hard-irqs": 0, "gro-flush-timeout": 0}, *({"defer-hard-irqs": DEFERRALS, "gro-flush-timeout": flush} for flush in FLUSHES)]
+            deferrals += [{"defer-hard-irqs": DEFERRALS if flush else 0, "gro-flush-timeout": flush} for flush in FLUSHES]
         if f"device.{device}.threaded" in head:
             threads += [{"threaded": 0}, {"threaded": 1}]
         if f"device.{device}.ethtool.coalesce.rx-usecs" in head and head.get(f"device.{device}.ethtool.coalesce.adaptive-rx") != "on":
@@ -118,9 +120,12 @@ class Machine:
 
     def other_processor(self):
         """A processor for the program, apart from the one that polls."""
-        online = self.head.get("online", "0")
-        found = [number for part in online.split(",") for first, _, last in [part.partition("-")] for number in range(int(first), int(last or first) + 1)]
-        return next((number for number in found if number != self.processor), None)
+        for part in self.head.get("online", "0").split(","):
+            first, _, last = part.partition("-")
+            for number in range(int(first), int(last or first) + 1):
+                if number != self.processor:
+                    return number
+        return None
 
     def changes(self, chosen, now):
         """What is set so that this is chosen, in an order in which it can be."""
@@ -150,7 +155,8 @@ class Machine:
             elif change.kind == "sysfs" and change.name == "threaded" and not change.value:
                 yield "without a thread the processor polls that takes the interrupt, or on which a veth pair's sender runs"
             elif change.kind == "program" and change.value != self.processor:
-                yield f"processor {change.value} should do nothing else; what waking the program there takes isn't in the recording unless it was apart"
+                yield (f"processor {change.value} should do nothing else; what waking the program there takes isn't in the recording unless it was "
+                       "apart")
 
     def line_of(self, change):
         """The line for a shell that sets it."""

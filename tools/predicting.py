@@ -8,8 +8,8 @@ from arrivals import arrivals_text
 from machine_report import option_words, values_of
 
 # Of each measured value: its name in the machine's report, its unit, and by what it is divided for that unit.
-MEASURED = {"dropped": ("packets", 1), "polls": ("polls", 1), "runs": ("runs", 1), "squeezed": ("runs", 1), "delivered_p50": ("us", 1000), "delivered_p99": ("us", 1000),
-            "used_p50": ("us", 1000), "used_p99": ("us", 1000)}
+MEASURED = {"dropped": ("packets", 1), "polls": ("polls", 1), "runs": ("runs", 1), "squeezed": ("runs", 1), "delivered_p50": ("us", 1000),
+            "delivered_p99": ("us", 1000), "used_p50": ("us", 1000), "used_p99": ("us", 1000)}
 GRADES = ((15, "good"), (40, "fair"))  # the largest error, in %, that a grade allows
 SIZE = 60  # bytes of an arrival, which the machine doesn't use
 FEW = 100  # drops and timers of fewer than one in so many packets aren't compared by their ratio

@@ -73,6 +73,8 @@ def missing():
         return ["root", *lacks]
     if (os.cpu_count() or 1) < 4:
         lacks.append("4 processors")
+    elif not lacks and subprocess.run(["chrt", "-f", "1", "true"], capture_output=True, check=False).returncode:
+        lacks.append("leave to use SCHED_FIFO")
     if not Path("/sys/kernel/tracing").is_dir():
         lacks.append("a kernel with tracing")
     return lacks

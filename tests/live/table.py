@@ -14,8 +14,11 @@ import predicting
 from drawing import BLUE, GREY, TERMINALS, by_gnuplot, head
 
 BEGIN, END = "<!-- predicted and measured: begin -->", "<!-- predicted and measured: end -->"
-NAMES = {"dropped": "packets dropped", "polls": "polls", "runs": "runs", "squeezed": "squeezed runs", "used_p50": "median wait to the end of use, ms"}
-PANELS = {"median wait to the end of use, ms": ("used_p50",), "packets dropped": ("dropped",), "polls, runs and squeezed runs": ("polls", "runs", "squeezed")}
+NAMES = {"dropped": "packets dropped", "polls": "polls", "runs": "runs", "squeezed": "squeezed runs",
+         "used_p50": "median wait to the end of use, ms"}
+PANELS = {"median wait to the end of use, ms": ("used_p50",), "packets dropped": ("dropped",),
+          "polls, runs and squeezed runs": ("polls", "runs", "squeezed")}
+BREAKS = {"threaded, ": "threaded,~", "instances, ": "instances,~", "deferral ": "deferral~", "backlog of": "backlog~of"}
 WIDTHS = (0.36, 0.26, 0.38)
 
 
@@ -32,7 +35,8 @@ def rows_of(program):
 
 def table_of(program):
     """The table as a page has it."""
-    lines = ["| Setting | Predicted from a recording with | Value | Predicted | Measured: median of three, range | Difference |", "|---|---|---|---|---|---|"]
+    lines = ["| Setting | Predicted from a recording with | Value | Predicted | Measured: median of three, range | Difference |",
+             "|---|---|---|---|---|---|"]
     for base, _, predicted in rows_of(program):
         lines += [f"| {line.setting} | {base} | {NAMES[line.name]} | {text_of(line.name, line.predicted)} | {text_of(line.name, line.median)}, "
                   f"{text_of(line.name, min(line.measured))} to {text_of(line.name, max(line.measured))} | {line.error:+.1f} % |" for line in predicted]
@@ -50,8 +54,10 @@ def page_with(text, table):
 
 def label_of(line, is_named):
     """What is below a pair of bars, in short lines."""
-    parts = line.setting.replace("threaded, ", "threaded,~").replace("instances, ", "instances,~").replace("deferral ", "deferral~").replace("backlog of", "backlog~of").split("~")
-    return "\\n".join([*parts, *([NAMES[line.name]] if is_named else [])])
+    text = line.setting
+    for words, broken in BREAKS.items():
+        text = text.replace(words, broken)
+    return "\\n".join([*text.split("~"), *([NAMES[line.name]] if is_named else [])])
 
 
 def script_of(program, kind):

@@ -131,6 +131,7 @@ class Surroundings(InFolder):
         for number in (signal.SIGTERM, signal.SIGHUP):
             for tool, words, variables in (("raise", [TRACE, "--out", old], {"PROGRAM": held}), ("plot", [TRACE, "--out", old], by_path),
                                            ("steps", [TRACE, "--out", "page.html"], {"PROGRAM": held}),
+                                           ("advise", [HERE / "recorded-apart.rec", "--plot", old], {"MACHINE": held}),
                                            ("sweep", [TRACE, "--without-parallel", "--resume", "--out", "rows"], {"PROGRAM": held})):
                 process = self.start(tool, words, variables=variables, stdout=subprocess.PIPE)
                 until = time.monotonic() + MOST_SECONDS
