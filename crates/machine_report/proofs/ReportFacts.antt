@@ -57,7 +57,8 @@ pub no_device_sum : (device : ℕ → Option DeviceReport) → none_counted ≡ 
 unfolding sums_of_devices
 no_device_sum device = refl
 
-pub no_processors : (s : Settings) (processor : ℕ → Option ProcessorReport) (text : List ℕ) → text ≡ text ++ lines_of_processors s processor 0
+pub no_processors : (s : Settings) (processor : ℕ → Option ProcessorReport) (text : List ℕ)
+    → text ≡ text ++ lines_of_processors s processor 0
 unfolding lines_of_processors
 no_processors s processor text = sym (append-nil text)
 

@@ -3,7 +3,7 @@ use Rattle.std.specs.Prelude.{ℕ, zero, suc, ◌+◌, ◌-◌, ◌*◌, List, [
 use Rattle.machine_model.specs.declared.{application.ApplicationReport.ApplicationReport, device.DeviceReport.DeviceReport}
 use Rattle.{machine_model.specs.declared.waits.WaitCounts.WaitCounts, machine_words.specs.declared.settings.Settings.Settings}
 use Rattle.machine_model.specs.{declared.processor.ProcessorReport.ProcessorReport, Machine.{Machine, device_report, processor_report}}
-use Rattle.{machine_model.specs.Waits.held, replay_text.specs.Lines.{ended, words}, machine_report.specs.declared.report.Totals.Totals}
+use Rattle.{machine_model.specs.Waits.held, replay_text.specs.Lines.{ended, words}, machine_report.specs.declared.report.{ApplicationLine.ApplicationLine, Totals.Totals}}
 
 -- what is told of waits
 unfoldable pub waits_text : WaitCounts → List ℕ
@@ -50,22 +50,20 @@ time_line number p =
 
 -- ---- the application on a processor of its own
 
--- what its uses took
-abbrev pub application_use : Settings → ProcessorReport → ℕ
-application_use s p = held (p.waits.count * s.use_time)
+-- what its uses took, and what is left of its last end without waking and uses
+unfoldable pub application_of : Settings → ℕ → ProcessorReport → ApplicationReport → ApplicationLine
+application_of s number p a =
+    let used = held (p.waits.count * s.use_time) in
+    record { number = number; end = a.end; wakes = a.wakes; used = used; idle = a.end - held (a.wakes * s.app_wake) - used }
 
--- what is left of its last end without waking and uses
-abbrev pub application_idle : Settings → ProcessorReport → ApplicationReport → ℕ
-application_idle s p a = a.end - held (a.wakes * s.app_wake) - application_use s p
-
-abbrev pub application_line : Settings → ℕ → ProcessorReport → ApplicationReport → List ℕ
-application_line s number p a =
-    words (codes "application" ∷ decimal number ∷ codes "end" ∷ decimal a.end ∷ codes "wakes" ∷ decimal a.wakes
-    ∷ codes "use" ∷ decimal (application_use s p) ∷ codes "idle" ∷ decimal (application_idle s p a) ∷ [])
+abbrev pub application_line : ApplicationLine → List ℕ
+application_line a =
+    words (codes "application" ∷ decimal a.number ∷ codes "end" ∷ decimal a.end ∷ codes "wakes" ∷ decimal a.wakes
+    ∷ codes "use" ∷ decimal a.used ∷ codes "idle" ∷ decimal a.idle ∷ [])
 
 abbrev pub application_lines : Settings → ℕ → ProcessorReport → Option ApplicationReport → List ℕ
 application_lines s number p None = []
-application_lines s number p (Some a) = ended (application_line s number p a)
+application_lines s number p (Some a) = ended (application_line (application_of s number p a))
 
 -- ---- all lines of a processor
 

@@ -2,7 +2,7 @@
 
 ghost use Rattle.std.specs.Prelude.{◌≡◌, ◌*◌, ◌≤◌, ◌++◌, Some, IfOk, OnOk, length, string_bytes};
 ghost use Rattle.machine_model.specs.Machine.{device_report};
-ghost use Rattle.machine_report.specs.Report.{application_idle, application_line, application_use, device_line, device_lines, lines_of_devices, lines_of_processors, processor_in, processor_line, processor_lines, sums_of_devices, sums_of_processors, text_of, time_line, total_line, with_device};
+ghost use Rattle.machine_report.specs.Report.{application_line, application_of, device_line, device_lines, lines_of_devices, lines_of_processors, processor_in, processor_line, processor_lines, sums_of_devices, sums_of_processors, text_of, time_line, total_line, with_device};
 ghost use Rattle.replay_text.specs.Lines.{ended};
 
 use machine_model::{ApplicationReport, DeviceReport, Machine, ProcessorReport, WaitCounts};
@@ -38,6 +38,31 @@ impl fmt::Display for Totals {
             f,
             "total devices {} arrived {} dropped {} polled {} refused {} used {}",
             self.devices, self.arrived, self.dropped, self.polled, self.refused, self.used
+        )
+    }
+}
+
+/// The numbers of the line of an application on a processor of its own.
+#[derive(Clone, Copy)]
+pub(crate) struct ApplicationLine {
+    number: u32,
+    end: u64,
+    wakes: u64,
+    used: u64,
+    idle: u64,
+}
+
+impl fmt::Display for ApplicationLine {
+    ghost use Rattle.std.specs.Prelude.{Some};
+    ghost use Rattle.machine_report.specs.Report.{application_line};
+
+    ghost output = { λ line. Some (application_line line) };
+
+    fn fmt<W: fmt::Write>(&self, f: &mut fmt::Formatter<W>) -> fmt::Result {
+        write!(
+            f,
+            "application {} end {} wakes {} use {} idle {}",
+            self.number, self.end, self.wakes, self.used, self.idle
         )
     }
 }
@@ -148,47 +173,38 @@ fn add_time(text: &mut String, number: u32, processor: &ProcessorReport) -> Resu
     Ok(())
 }
 
-// What the uses of an application on a processor of its own took.
-fn application_use(settings: &Settings, processor: &ProcessorReport) -> u64
-    ensures { result ≡ application_use settings.now processor.now }
-{
-    let cost = u64::from(settings.use_time);
-    processor.waits.count.saturating_mul(cost)
-}
-
-// How long that processor was idle: what is left of its last end without waking and uses.
-fn application_idle(
-    settings: &Settings,
-    processor: &ProcessorReport,
-    application: &ApplicationReport,
-) -> u64
-    ensures { result ≡ application_idle settings.now processor.now application.now }
-{
-    let cost = u64::from(settings.app_wake);
-    let awake = application
-        .end
-        .saturating_sub(application.wakes.saturating_mul(cost));
-    awake.saturating_sub(application_use(settings, processor))
-}
-
-// Adds the line of an application on a processor of its own.
-fn add_application(
-    text: &mut String,
+// The numbers of the line of an application on a processor of its own.
+#[tactic(auto, unfolding(crate::specs::Report::application_of))]
+fn application_of(
     settings: &Settings,
     number: u32,
     processor: &ProcessorReport,
     application: &ApplicationReport,
-) -> Result<(), AllocError>
-    ensures { OnOk result (string_bytes text.new ≡ string_bytes text.old
-        ++ ended (application_line settings.now number processor.now application.now)) }
+) -> ApplicationLine
+    ensures { result ≡ application_of settings.now number processor.now application.now }
 {
-    let used = application_use(settings, processor);
-    let idle = application_idle(settings, processor, application);
-    writeln!(
-        text,
-        "application {} end {} wakes {} use {} idle {}",
-        number, application.end, application.wakes, used, idle
-    )?;
+    let end = application.end;
+    let wakes = application.wakes;
+    let waking = wakes.saturating_mul(u64::from(settings.app_wake));
+    let used = processor
+        .waits
+        .count
+        .saturating_mul(u64::from(settings.use_time));
+    ApplicationLine {
+        number,
+        end,
+        wakes,
+        used,
+        idle: end.saturating_sub(waking).saturating_sub(used),
+    }
+}
+
+// Adds the line of an application on a processor of its own.
+fn add_application(text: &mut String, application: &ApplicationLine) -> Result<(), AllocError>
+    ensures { OnOk result (string_bytes text.new
+        ≡ string_bytes text.old ++ ended (application_line application.now)) }
+{
+    writeln!(text, "{application}")?;
     Ok(())
 }
 
@@ -205,7 +221,8 @@ fn add_processor(
     add_work(text, number, processor)?;
     add_time(text, number, processor)?;
     if let Some(application) = processor.application {
-        add_application(text, settings, number, processor, &application)?;
+        let line = application_of(settings, number, processor, &application);
+        add_application(text, &line)?;
     }
     Ok(())
 }

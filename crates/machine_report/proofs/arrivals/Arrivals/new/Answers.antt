@@ -14,7 +14,8 @@ returns-in-End-clause-fault g c bytes known =
 pub returns-then-not-is_title-clause-fault : goal.returns-then-not-is_title-clause-fault
 returns-then-not-is_title-clause-fault g c bytes known =
     let found : c.next_record.result ≡ Next.Record = search rules in
-    let other : is_title c.args.settings.now.queues (four_of c.args.settings.now.queues (fields_of c.next_record.new.fields)) ≡ false = search rules in
+    let queues = c.args.settings.now.queues in
+    let other : is_title queues (four_of queues (fields_of c.next_record.new.fields)) ≡ false = search rules in
     inr (refused-title g.R.Read.remaining c.reader_of-reader.result c.next_record.new.reader
     (fields_of c.next_record.new.fields) c.args.settings.now bytes c.reader_of-reader.ensures.state
     (c.next_record.ensures.record found (strip_bom bytes) (c.reader_of-reader.ensures.start bytes known)) other)
@@ -22,6 +23,7 @@ returns-then-not-is_title-clause-fault g c bytes known =
 pub returns-clause-start : goal.returns-clause-start
 returns-clause-start g c bytes known =
     let found : c.next_record.result ≡ Next.Record = search rules in
-    let titled : is_title c.args.settings.now.queues (four_of c.args.settings.now.queues (fields_of c.next_record.new.fields)) ≡ true = search rules in
+    let queues = c.args.settings.now.queues in
+    let titled : is_title queues (four_of queues (fields_of c.next_record.new.fields)) ≡ true = search rules in
     given-start g.R.Read.remaining c.reader_of-reader.result _ (fields_of c.next_record.new.fields) bytes c.reader_of-reader.ensures.state
     (c.next_record.ensures.record found (strip_bom bytes) (c.reader_of-reader.ensures.start bytes known)) titled refl refl
