@@ -1,6 +1,6 @@
 -- How much is left to be done on a processor: whatever happens leaves less.
 use Rattle.std.proofs.Common.{◌≡◌, ◌∙◌, ℕ, zero, suc, ◌+◌, ◌-◌, ◌*◌, ◌<◌, ◌≤◌, Bool, true, false, Option, Some, None, List, [], ◌∷◌, ◌++◌}
-use Rattle.std.proofs.Common.{◌⊎◌, inl, inr, length, length-append, drop, refl, sym, rules, arith}
+use Rattle.std.proofs.Common.{◌⊎◌, inl, inr, length, length-append, drop, ap, refl, sym, rules, arith}
 use Rattle.std.proofs.lemmas.{List.Quantifiers.position-Some, Bool.eqb-true, Grind.common_steps}
 use Rattle.std.specs.Prelude.{◌==◌, ◌&&◌, if◌then◌else◌, is_some, nat_le, nat_lt, not, position, slice_get, sum_by}
 use Rattle.std.specs.Option.{option_map, option_map_or}
@@ -207,7 +207,7 @@ soonest-is number (o ∷ more) timer is =
     by (inl here) below =
         let same = named number o timer here in
         let first : timer.device - number ≡ zero = omega (arith, same) in
-        (omega (arith, same), rw (first, same) here)
+        (omega (arith, same), rw first (ap (λ (n : ℕ). timer_at n o) same ∙ here))
     by (inr later) below =
         let rest = below later in
         let next : timer.device - number ≡ suc (timer.device - (number + 1)) = omega (arith, rest.0) in
@@ -709,7 +709,7 @@ by-unasked (Poll n) p asked idle = looks-unasked n 0 p (λ threaded. rw threaded
 by-unasked (Packet packet) p asked idle =
     let same = delivers-same packet.device packet.came p in
     looks-unasked packet.device (packet.given + 1) (delivers packet.device packet.came p)
-    (λ threaded. rw same.0 (rw (sym same.1 ∙ threaded) at asked)) idle
+    (λ threaded. rw same.0 (rw (sym (ap (λ (s : Settings). s.threaded) same.1) ∙ threaded) at asked)) idle
 by-unasked (Use came) p asked idle = asked ∙ if-none p.settings.threaded None refl
 
 current-unasked : (p : ProcessorView) → IsKept p → (ends_current p).work ≡ Nothing → asked_in (ends_current p).softirq.run ≡ None
