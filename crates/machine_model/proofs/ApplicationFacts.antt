@@ -75,11 +75,12 @@ went-few [] moment use_time a = by (is_over moment a)
     by : (b : Bool) → length (if b then goes_on use_time a else a).socket.items ≤ length a.socket.items
     by true = goes-few use_time a
     by false = omega arith
-went-few (x ∷ xs) moment use_time a = by (is_over moment a)
+went-few (x ∷ xs) moment use_time a = by (is_over moment a) (went-few xs moment use_time (goes_on use_time a))
   where
-    by : (b : Bool) → length (if b then went_on_with xs moment use_time (goes_on use_time a) else a).socket.items ≤ length a.socket.items
-    by true = omega (arith, went-few xs moment use_time (goes_on use_time a), goes-few use_time a)
-    by false = omega arith
+    by : (b : Bool) → length (went_on_with xs moment use_time (goes_on use_time a)).socket.items ≤ length (goes_on use_time a).socket.items
+        → length (if b then went_on_with xs moment use_time (goes_on use_time a) else a).socket.items ≤ length a.socket.items
+    by true rest = omega (arith, rest, goes-few use_time a)
+    by false rest = omega arith
 
 on-few : (b : Bool) (now use_time : ℕ) (a : ApplicationView)
     → length (if b then went_on now use_time a else a).socket.items ≤ length a.socket.items

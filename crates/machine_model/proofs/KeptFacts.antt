@@ -1,14 +1,19 @@
 -- What is true of each processor stays so.
-use Rattle.std.proofs.Common.{◌≡◌, ◌∙◌, ℕ, ◌+◌, ◌<◌, ◌≤◌, Bool, true, false, Some, None, length, refl, sym, arith}
+use Rattle.std.proofs.Common.{◌≡◌, ◌∙◌, ℕ, ◌+◌, ◌<◌, ◌≤◌, Bool, true, false, Option, Some, None, length, refl, sym, arith}
 use Rattle.std.{proofs.lemmas.Grind.common_steps, specs.Prelude.{◌==◌, if◌then◌else◌, is_some}}
 use Rattle.machine_words.specs.declared.settings.Settings.{Settings}
 use Rattle.{poll_runs.specs.declared.bench.Next.TheVariants.{Gone, Repoll}, device_places.specs.Places.{at, changed}}
-use Rattle.machine_model.specs.{Device.{polled}, Devices.{Devices}, Processor.is_polling, Shown.listed}
+use Rattle.poll_runs.specs.declared.bench.Once.{Once}
+use Rattle.machine_model.specs.{Device.{polled}, Devices.{Devices}, Processor.is_polling, Shown.{held_in, listed}}
 use Rattle.machine_model.specs.Kept.{Kept, all_scheduled, given_by, has_list, polled_by}
-use Rattle.machine_model.specs.Softirq.{SoftirqView, asked_in, begun, ended, next_of, polled_once, pushed}
+use Rattle.machine_model.specs.Softirq.{RunView, SoftirqView, asked_in, begun, ended, next_of, polled_once, pushed}
 use Rattle.machine_model.specs.declared.processor.Work.{Work, TheVariants.{Nothing, Poll}}
 use Rattle.machine_model.proofs.ListedFacts.{asked-polled, listed-begun, listed-ended, listed-polled, listed-pushed, next-keeps}
 use Rattle.machine_model.proofs.{ListedFacts.weight-polled, PlacesFacts.{scheduled-polled}}
+
+pub if-none : (b : Bool) (o : Option ℕ) → o ≡ None → (if b then None else o) ≡ None
+if-none true o none = refl
+if-none false o none = none
 
 -- devices change, and at least as many are scheduled
 pub kept-devices : (s : Settings) (w : Work) (ds es : Devices) (q : SoftirqView) → Kept s w ds q → all_scheduled ds ≤ all_scheduled es
@@ -89,14 +94,10 @@ kept-ended s w ds q k none idle =
     record {
       few = omega (arith, k.few, same);
       unused = λ not. same ∙ k.unused not;
-      asked = rw (run-ended q, idle) (nothing s.threaded);
+      asked = rw (run-ended q) (sym (if-none s.threaded (polled_by w) idle));
       weight = λ some. absurd (cc (run-ended q, some));
       within = k.within;
     }
-  where
-    nothing : (b : Bool) → None ≡ (if b then None else None)
-    nothing true = refl
-    nothing false = refl
 
 -- a poll of the run ends
 pub kept-polled : (s : Settings) (w : Work) (ds : Devices) (q : SoftirqView) (now given n : ℕ) → Kept s w ds q → s.threaded ≡ false
@@ -104,7 +105,7 @@ pub kept-polled : (s : Settings) (w : Work) (ds : Devices) (q : SoftirqView) (no
     → Kept s Nothing (changed (polled now given s) n ds)
     (polled_once (record { work = given; next = if given == s.weight then Repoll else Gone }) q)
 kept-polled s w ds q now given n k threaded asked least =
-    let once = record { work = given; next = if given == s.weight then Repoll else Gone } in
+    let once : Once = record { work = given; next = if given == s.weight then Repoll else Gone } in
     let count = listed-polled (given == s.weight) given n q asked in
     let same = weight-polled once q in
     record {
@@ -141,4 +142,33 @@ list-unthreaded s w ds q k some = by s.threaded refl
 
     by : (b : Bool) → s.threaded ≡ b → b ≡ false
     by true threaded = absurd (omega (arith, some, k.unused (threads threaded)))
+    by false threaded = refl
+
+-- while nothing is polled nothing is asked
+pub kept-idle : (s : Settings) (w : Work) (ds : Devices) (q : SoftirqView) → Kept s w ds q → polled_by w ≡ None
+    → asked_in q.run ≡ None
+kept-idle s w ds q k idle = k.asked ∙ if-none s.threaded (polled_by w) idle
+
+-- the run's device is the one that is polled
+pub kept-asks : (s : Settings) (w : Work) (ds : Devices) (q : SoftirqView) (n : ℕ) → Kept s w ds q → s.threaded ≡ false
+    → polled_by w ≡ Some n → asked_in q.run ≡ Some n
+kept-asks s w ds q n k threaded polled = k.asked ∙ rw (threaded, polled) refl
+
+asked-listed : (q : SoftirqView) (n : ℕ) → asked_in q.run ≡ Some n → 1 ≤ listed q
+asked-listed q n asked = by q.run asked
+  where
+    by : (run : Option RunView) → asked_in run ≡ Some n → 1 ≤ length q.list + held_in run
+    by None asked = cc asked
+    by (Some r) asked = rw asked (omega arith)
+
+-- a run that asks for a device is one of a machine without threads
+pub asks-unthreaded : (s : Settings) (w : Work) (ds : Devices) (q : SoftirqView) (n : ℕ) → Kept s w ds q → asked_in q.run ≡ None
+    → asked_in (next_of q).run ≡ Some n → s.threaded ≡ false
+asks-unthreaded s w ds q n k none asked = by s.threaded refl
+  where
+    threads : s.threaded ≡ true → has_list s ≡ false
+    threads threaded = grind (arith, common_steps)
+
+    by : (b : Bool) → s.threaded ≡ b → b ≡ false
+    by true threaded = absurd (omega (arith, asked-listed (next_of q) n asked, (next-keeps q none).listed, k.unused (threads threaded)))
     by false threaded = refl

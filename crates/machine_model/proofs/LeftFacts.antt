@@ -1,6 +1,6 @@
 -- How much is left to be done on a processor: whatever happens leaves less.
 use Rattle.std.proofs.Common.{◌≡◌, ◌∙◌, ℕ, zero, suc, ◌+◌, ◌-◌, ◌*◌, ◌<◌, ◌≤◌, Bool, true, false, Option, Some, None, List, [], ◌∷◌, ◌++◌}
-use Rattle.std.proofs.Common.{◌⊎◌, inl, inr, length, length-append, drop, refl, sym, rules, arith}
+use Rattle.std.proofs.Common.{◌⊎◌, inl, inr, length, length-append, drop, ap, refl, sym, rules, arith}
 use Rattle.std.proofs.lemmas.{List.Quantifiers.position-Some, Bool.eqb-true, Grind.common_steps}
 use Rattle.std.specs.Prelude.{◌==◌, ◌&&◌, if◌then◌else◌, is_some, nat_le, nat_lt, not, position, slice_get, sum_by}
 use Rattle.std.specs.Option.{option_map, option_map_or}
@@ -11,15 +11,16 @@ use Rattle.machine_model.specs.declared.processor.{InHand.InHand, Rest.Rest, Upc
 use Rattle.machine_model.specs.declared.{processor.Upcoming.TheVariants.{Ends, Expires, Never}, tasks.Task.{Task, TheVariants.{Application, Thread}}}
 use Rattle.machine_model.specs.Device.{DeviceView, completed, delivered, expired, interrupted, is_fired, next_packet, polled, raised_again}
 use Rattle.machine_model.specs.Device.{spliced, timer_of, without_next}
-use Rattle.machine_model.specs.Devices.{Devices, asks_at, next_packet_at, soonest_from, sooner, timer_at}
+use Rattle.machine_model.specs.Devices.{Devices, asks_at, is_fired_at, next_packet_at, soonest_from, sooner, timer_at}
 use Rattle.machine_model.specs.Softirq.{RunView, SoftirqView, asked_in, begun, ended, filled, is_spent, next_from, next_of, polled_once, polled_run, pushed}
+use Rattle.machine_model.specs.Waits.{held}
 use Rattle.machine_model.specs.Tasks.{after_first, applications, runnable, with_application}
 use Rattle.machine_model.specs.{Application.{ApplicationView, fed, has_place, used}, Kept.{IsKept, polled_by}, Processor.ProcessorView}
 use Rattle.machine_model.specs.Processor.{begins, begins_run, delivers, delivers_oldest, disturbed, ends_by, ends_current, ends_interrupt, ends_poll}
 use Rattle.machine_model.specs.Processor.{ends_run, goes_on, happens, interrupts, is_busy, is_by, is_due, is_polling, leaves_softirq, looks, polls, rests}
 use Rattle.machine_model.specs.Processor.{runs, runs_first, scheduled, set_aside, spent, step, takes_up, upcoming, uses, woken}
 use Rattle.poll_runs.specs.declared.bench.Next.TheVariants.{Gone, Repoll}
-use Rattle.machine_model.proofs.{ApplicationFacts.fed-few, ListedFacts.asked-polled, PlacesFacts.{at-changed, map_at, sum-changed}}
+use Rattle.machine_model.proofs.{ApplicationFacts.fed-few, KeptFacts.if-none, ListedFacts.asked-polled, PlacesFacts.{at-changed, map_at, sum-changed}}
 
 -- ---- devices
 
@@ -84,11 +85,36 @@ drop-first (x ∷ xs) came is = omega arith
 drop-none : (xs : List ℕ) → length (drop 1 xs) ≤ length xs
 drop-none xs = grind (arith, common_steps)
 
+one-fewer : (w a r t : ℕ) → a + 1 ≡ r → w * (a + t) + w ≡ w * (r + t)
+one-fewer w a r t is = rw (← is) (omega arith)
+
+fewer : (w a r t : ℕ) → a ≤ r → w * (a + t) ≤ w * (r + t)
+fewer w a r t most = by (r - a) (omega (arith, most))
+  where
+    by : (d : ℕ) → a + d ≡ r → w * (a + t) ≤ w * (r + t)
+    by d is = rw (← is) (omega arith)
+
 weight-next : (w : ℕ) (backlog : Bool) (d : DeviceView) (came : ℕ) → next_packet backlog d ≡ Some came
     → weight_of w (without_next backlog d) + w ≡ weight_of w d
 unfolding weight_of
-weight-next w true d came is = grind (arith, common_steps, drop-first)
-weight-next w false d came is = grind (arith, common_steps, drop-first)
+weight-next w true d came is = by (length d.taken == 0) refl is
+  where
+    by : (b : Bool) → (length d.taken == 0) ≡ b → (let e = if b then record d { ring = []; taken = d.ring } else d in slice_get e.taken 0 ≡ Some came)
+        → (let e = if b then record d { ring = []; taken = d.ring } else d in
+        w * (length e.ring + length (drop 1 e.taken)) + 5 * e.deferrals + phase_weight e.phase + w
+        ≡ w * (length d.ring + length d.taken) + 5 * d.deferrals + phase_weight d.phase)
+    by true none is =
+        omega (
+          arith,
+          one-fewer w (length (drop 1 d.ring)) (length d.ring) 0 (drop-first d.ring came is),
+          same (length d.taken) (eqb-true (length d.taken) 0 none),
+        )
+      where
+        same : (t : ℕ) → t ≡ 0 → w * (length d.ring + t) ≡ w * (length d.ring + 0)
+        same t none = rw none refl
+    by false some is = omega (arith, one-fewer w (length (drop 1 d.taken)) (length d.taken) (length d.ring) (drop-first d.taken came is))
+weight-next w false d came is =
+    omega (arith, one-fewer w (length (drop 1 d.ring)) (length d.ring) (length d.taken) (drop-first d.ring came is))
 
 taken-less : (w : ℕ) (backlog : Bool) (o : Option DeviceView) (came : ℕ) → next_packet_at backlog o ≡ Some came
     → weight_at w (map_at (without_next backlog) o) + w ≤ weight_at w o
@@ -98,7 +124,23 @@ taken-less w backlog (Some d) came is = omega (arith, weight-next w backlog d ca
 
 weight-looked : (w : ℕ) (backlog : Bool) (d : DeviceView) → weight_of w (without_next backlog d) ≤ weight_of w d
 unfolding weight_of
-weight-looked w backlog d = grind (arith, common_steps, drop-none)
+weight-looked w true d = by (length d.taken == 0) refl
+  where
+    by : (b : Bool) → (length d.taken == 0) ≡ b
+        → (let e = if b then record d { ring = []; taken = d.ring } else d in
+        w * (length e.ring + length (drop 1 e.taken)) + 5 * e.deferrals + phase_weight e.phase
+        ≤ w * (length d.ring + length d.taken) + 5 * d.deferrals + phase_weight d.phase)
+    by true none =
+        omega (
+          arith,
+          fewer w (length (drop 1 d.ring)) (length d.ring) 0 (drop-none d.ring),
+          same (length d.taken) (eqb-true (length d.taken) 0 none),
+        )
+      where
+        same : (t : ℕ) → t ≡ 0 → w * (length d.ring + t) ≡ w * (length d.ring + 0)
+        same t none = rw none refl
+    by false some = omega (arith, fewer w (length (drop 1 d.taken)) (length d.taken) (length d.ring) (drop-none d.taken))
+weight-looked w false d = omega (arith, fewer w (length (drop 1 d.ring)) (length d.ring) (length d.taken) (drop-none d.ring))
 
 looked-most : (w : ℕ) (backlog : Bool) (o : Option DeviceView) → weight_at w (map_at (without_next backlog) o) ≤ weight_at w o + 0
 unfolding map_at weight_at
@@ -155,16 +197,19 @@ pub soonest-is : (number : ℕ) (xs : Devices) (timer : Timer) → soonest_from 
     → (number ≤ timer.device) × (timer_at timer.device (at (timer.device - number) xs) ≡ Some timer)
 unfolding soonest_from
 soonest-is number [] timer is = cc is
-soonest-is number (o ∷ more) timer is = by (either (timer_at number o) (soonest_from (number + 1) more) timer is)
+soonest-is number (o ∷ more) timer is =
+    by (either (timer_at number o) (soonest_from (number + 1) more) timer is) (λ later. soonest-is (number + 1) more timer later)
   where
     by : (timer_at number o ≡ Some timer) ⊎ (soonest_from (number + 1) more ≡ Some timer)
+        → (soonest_from (number + 1) more ≡ Some timer
+        → (number + 1 ≤ timer.device) × (timer_at timer.device (at (timer.device - (number + 1)) more) ≡ Some timer))
         → (number ≤ timer.device) × (timer_at timer.device (at (timer.device - number) (o ∷ more)) ≡ Some timer)
-    by (inl here) =
+    by (inl here) below =
         let same = named number o timer here in
         let first : timer.device - number ≡ zero = omega (arith, same) in
-        (omega (arith, same), rw (first, same) here)
-    by (inr later) =
-        let rest = soonest-is (number + 1) more timer later in
+        (omega (arith, same), rw first (ap (λ (n : ℕ). timer_at n o) same ∙ here))
+    by (inr later) below =
+        let rest = below later in
         let next : timer.device - number ≡ suc (timer.device - (number + 1)) = omega (arith, rest.0) in
         (omega (arith, rest.0), rw next rest.1)
 
@@ -299,21 +344,27 @@ idle-left w p nothing = rw nothing (omega arith)
 
 -- ---- what is taken up
 
+schedules-less : (w n time : ℕ) (polling : Bool) (q : ProcessorView)
+    → left w (begins (Interrupt n) time (if polling then scheduled n q else q)) ≤ base w q + 3
+unfolding left left_by base
+schedules-less w n time true q =
+    by-if (λ r. left w (begins (Interrupt n) time r) ≤ base w q + 3) q.settings.threaded (record q { tasks = q.tasks ++ Thread n ∷ [] })
+    (record q { softirq = pushed n q.softirq }) (λ e. omega (arith, threads-thread q.tasks n)) (λ e. omega (arith, entries-pushed n q.softirq))
+schedules-less w n time false q = omega arith
+
 interrupts-less : (w n : ℕ) (p : ProcessorView) → asks_at (at n p.devices) ≡ true → left w (interrupts n p) ≤ base w p
-unfolding left left_by base interrupts
+unfolding base interrupts
 interrupts-less w n p up =
     let polling = is_polling p.settings in
-    let less = weights-less w 3 (interrupted polling) n p.devices (weight-interrupted w polling (at n p.devices) up) in
-    by polling p.settings.threaded less
-  where
-    by : (polling threaded : Bool) → weights w (changed (interrupted (is_polling p.settings)) n p.devices) + 3 ≤ weights w p.devices
-        → (let q = record p { devices = changed (interrupted (is_polling p.settings)) n p.devices } in
-        let r = if polling then (if threaded then record q { tasks = q.tasks ++ Thread n ∷ [] } else record q { softirq = pushed n q.softirq }) else q in
-        weights w r.devices + length r.application.socket.items + 2 * entries r.softirq + 2 * threads r.tasks + rest_weight r.rest + 1
-        ≤ weights w p.devices + length p.application.socket.items + 2 * entries p.softirq + 2 * threads p.tasks + rest_weight p.rest)
-    by true true less = omega (arith, less, threads-thread p.tasks n)
-    by true false less = omega (arith, less, entries-pushed n p.softirq)
-    by false threaded less = omega (arith, less)
+    let time = if polling then p.settings.interrupt else p.settings.interrupt + p.settings.packet in
+    let counts = if is_fired_at (at n p.devices) then record p.counts { timers = held (p.counts.timers + 1) }
+    else record p.counts { interrupts = held (p.counts.interrupts + 1) } in
+    let q = record p { devices = changed (interrupted polling) n p.devices; counts = counts } in
+    omega (
+      arith,
+      schedules-less w n time polling q,
+      weights-less w 3 (interrupted polling) n p.devices (weight-interrupted w polling (at n p.devices) up),
+    )
 
 uses-less : (w : ℕ) (items : List ℕ) (p : ProcessorView) → p.application.socket.items ≡ items → p.work ≡ Nothing
     → left w (uses items p) ≤ base w p
@@ -485,49 +536,47 @@ lone-less w n p least = by (next_packet_at false (at n p.devices)) refl
 abbrev pub extra : ℕ → ℕ
 extra given = if given == 0 then 0 else 327677
 
+after-poll : (w n given : ℕ) (full : Bool) (q : ProcessorView)
+    → (let once : Once = record { work = given; next = if full then Repoll else Gone } in
+    base w (if q.settings.threaded then record q { tasks = if full then Thread n ∷ q.tasks else q.tasks }
+    else record q { softirq = polled_once once q.softirq })
+    ≤ base w q + (if full then 2 else 0))
+unfolding base
+after-poll w n given true q =
+    let once : Once = record { work = given; next = Repoll } in
+    by-if (λ r. base w r ≤ base w q + 2) q.settings.threaded (record q { tasks = Thread n ∷ q.tasks })
+    (record q { softirq = polled_once once q.softirq }) (λ e. omega arith) (λ e. omega (arith, entries-polled once q.softirq))
+after-poll w n given false q =
+    let once : Once = record { work = given; next = Gone } in
+    by-if (λ r. base w r ≤ base w q + 0) q.settings.threaded (record q { tasks = q.tasks })
+    (record q { softirq = polled_once once q.softirq }) (λ e. omega arith) (λ e. omega (arith, entries-polled once q.softirq))
+
+bound : (defer : ℕ) (full none : Bool) → defer ≤ 65535 → (full ≡ true → none ≡ true → ⊥)
+    → (if full then 2 else 0) + (if full then 0 else (if none then 0 else 5 * defer)) ≤ (if none then 0 else 327677)
+bound defer true true most not = absurd (not refl refl)
+bound defer true false most not = omega arith
+bound defer false true most not = omega arith
+bound defer false false most not = omega (arith, most)
+
 poll-less : (w n given : ℕ) (p : ProcessorView) → base w (ends_poll n given p) ≤ base w p + extra given
 unfolding base ends_poll
-poll-less w n given p = by p.settings.threaded (given == p.settings.weight) refl (given == 0) refl
-  where
-    least : (given == p.settings.weight) ≡ true → (given == 0) ≡ true → ⊥
-    least full none = omega (arith, eqb-true given p.settings.weight full, eqb-true given 0 none, p.settings.weight_in.0)
-
-    most : weights w (changed (polled p.clock given p.settings) n p.devices)
-        ≤ weights w p.devices + (if given == p.settings.weight then 0 else (if given == 0 then 0 else 5 * p.settings.defer_hard_irqs))
-    most =
-        weights-most w (if given == p.settings.weight then 0 else (if given == 0 then 0 else 5 * p.settings.defer_hard_irqs))
-        (polled p.clock given p.settings) n p.devices (weight-polled w p.clock given p.settings (at n p.devices))
-
-    by : (threaded full : Bool) → (given == p.settings.weight) ≡ full → (none : Bool) → (given == 0) ≡ none
-        → (let q = record p { devices = changed (polled p.clock given p.settings) n p.devices } in
-        let once = record { work = given; next = if full then Repoll else Gone } in
-        let r = if threaded then record q { tasks = if full then Thread n ∷ q.tasks else q.tasks } else record q { softirq = polled_once once q.softirq } in
-        weights w r.devices + length r.application.socket.items + 2 * entries r.softirq + 2 * threads r.tasks + rest_weight r.rest
-        ≤ weights w p.devices + length p.application.socket.items + 2 * entries p.softirq + 2 * threads p.tasks + rest_weight p.rest
-        + (if none then 0 else 327677))
-    by threaded true full true none = absurd (least full none)
-    by true true full false none = let m = rw (full, none) at most in omega (arith, m)
-    by true false full true none = let m = rw (full, none) at most in omega (arith, m)
-    by true false full false none = let m = rw (full, none) at most in omega (arith, m, p.settings.defer_hard_irqs_in)
-    by false true full false none =
-        let m = rw (full, none) at most in omega (arith, m, entries-polled (record { work = given; next = Repoll }) p.softirq)
-    by false false full true none =
-        let m = rw (full, none) at most in omega (arith, m, entries-polled (record { work = given; next = Gone }) p.softirq)
-    by false false full false none =
-        let m = rw (full, none) at most in
-        omega (arith, m, entries-polled (record { work = given; next = Gone }) p.softirq, p.settings.defer_hard_irqs_in)
+poll-less w n given p =
+    let s = p.settings in
+    let full = given == s.weight in
+    let counts = record p.counts { polls = held (p.counts.polls + 1); work = held (p.counts.work + given) } in
+    let q = record p { devices = changed (polled p.clock given s) n p.devices; counts = counts } in
+    omega (
+      arith,
+      after-poll w n given full q,
+      weights-most w (if full then 0 else (if given == 0 then 0 else 5 * s.defer_hard_irqs)) (polled p.clock given s) n p.devices
+          (weight-polled w p.clock given s (at n p.devices)),
+      bound s.defer_hard_irqs full (given == 0) s.defer_hard_irqs_in
+          (λ full none. omega (arith, eqb-true given s.weight full, eqb-true given 0 none, s.weight_in.0)),
+    )
 
 poll-work : (n given : ℕ) (p : ProcessorView) → (ends_poll n given p).work ≡ p.work
 unfolding ends_poll
-poll-work n given p = by p.settings.threaded
-  where
-    by : (threaded : Bool)
-        → (let q = record p { devices = changed (polled p.clock given p.settings) n p.devices } in
-        (if threaded then record q { tasks = if given == p.settings.weight then Thread n ∷ q.tasks else q.tasks }
-        else record q { softirq = polled_once (record { work = given; next = if given == p.settings.weight then Repoll else Gone }) q.softirq }).work
-        ≡ p.work)
-    by true = refl
-    by false = refl
+poll-work n given p = by-if (λ q. q.work ≡ p.work) p.settings.threaded _ _ (λ e. refl) (λ e. refl)
 
 poll-left : (w n given : ℕ) (p : ProcessorView) → p.work ≡ Nothing → left w (ends_poll n given p) ≤ base w p + extra given
 poll-left w n given p nothing =
@@ -645,27 +694,23 @@ lone-softirq n p = by (next_packet_at false (at n p.devices))
     by None = refl
     by (Some came) = refl
 
-none-if : (b : Bool) → (if b then None else None) ≡ None
-none-if true = refl
-none-if false = refl
-
 delivers-same : (n came : ℕ) (p : ProcessorView) → ((delivers n came p).softirq ≡ p.softirq) × ((delivers n came p).settings ≡ p.settings)
 unfolding delivers
 delivers-same n came p = (refl, refl)
 
 by-unasked : (work : Work) (p : ProcessorView) → asked_in p.softirq.run ≡ (if p.settings.threaded then None else polled_by work)
     → (ends_by work p).work ≡ Nothing → asked_in (ends_by work p).softirq.run ≡ None
-by-unasked Nothing p asked idle = asked ∙ none-if p.settings.threaded
+by-unasked Nothing p asked idle = asked ∙ if-none p.settings.threaded None refl
 by-unasked (Interrupt n) p asked idle =
-    let none : asked_in p.softirq.run ≡ None = asked ∙ none-if p.settings.threaded in
+    let none : asked_in p.softirq.run ≡ None = asked ∙ if-none p.settings.threaded None refl in
     by-if (λ q. asked_in q.softirq.run ≡ None) (is_polling p.settings) p (ends_interrupt n p) (λ e. none)
     (λ e. rw (lone-softirq n p) none)
 by-unasked (Poll n) p asked idle = looks-unasked n 0 p (λ threaded. rw threaded at asked) idle
 by-unasked (Packet packet) p asked idle =
     let same = delivers-same packet.device packet.came p in
     looks-unasked packet.device (packet.given + 1) (delivers packet.device packet.came p)
-    (λ threaded. rw same.0 (rw (sym same.1 ∙ threaded) at asked)) idle
-by-unasked (Use came) p asked idle = asked ∙ none-if p.settings.threaded
+    (λ threaded. rw same.0 (rw (sym (ap (λ (s : Settings). s.threaded) same.1) ∙ threaded) at asked)) idle
+by-unasked (Use came) p asked idle = asked ∙ if-none p.settings.threaded None refl
 
 current-unasked : (p : ProcessorView) → IsKept p → (ends_current p).work ≡ Nothing → asked_in (ends_current p).softirq.run ≡ None
 unfolding ends_current
@@ -698,10 +743,10 @@ disturbs-unasked : (moment : ℕ) (work : Work) (p : ProcessorView) → p.work �
     → asked_in p.softirq.run ≡ (if p.settings.threaded then None else polled_by work) → (asked : Bool)
     → (let r = if is_busy work then (if asked then set_aside moment work p else p) else woken moment asked p in
     r.work ≡ Nothing → asked_in r.softirq.run ≡ None)
-disturbs-unasked moment Nothing p is asked true idle = asked ∙ none-if p.settings.threaded
-disturbs-unasked moment Nothing p is asked false idle = asked ∙ none-if p.settings.threaded
-disturbs-unasked moment (Use came) p is asked true idle = asked ∙ none-if p.settings.threaded
-disturbs-unasked moment (Use came) p is asked false idle = asked ∙ none-if p.settings.threaded
+disturbs-unasked moment Nothing p is asked true idle = asked ∙ if-none p.settings.threaded None refl
+disturbs-unasked moment Nothing p is asked false idle = asked ∙ if-none p.settings.threaded None refl
+disturbs-unasked moment (Use came) p is asked true idle = asked ∙ if-none p.settings.threaded None refl
+disturbs-unasked moment (Use came) p is asked false idle = asked ∙ if-none p.settings.threaded None refl
 disturbs-unasked moment (Interrupt n) p is asked true idle = cc (is, idle)
 disturbs-unasked moment (Interrupt n) p is asked false idle = cc (is, idle)
 disturbs-unasked moment (Poll n) p is asked true idle = cc (is, idle)
@@ -721,8 +766,9 @@ expires-less : (w : ℕ) (timer : Timer) (p : ProcessorView) → soonest_from 0 
     → left w (record p { devices = changed expired timer.device p.devices }) < left w p
 unfolding left base
 expires-less w timer p is =
-    let here = (soonest-is 0 p.devices timer is).1 in
-    omega (arith, weights-less w 1 expired timer.device p.devices (expired-less w timer.device timer (at timer.device p.devices) (here)))
+    let zeroth : timer.device - 0 ≡ timer.device = omega arith in
+    let here = rw zeroth at (soonest-is 0 p.devices timer is).1 in
+    omega (arith, weights-less w 1 expired timer.device p.devices (expired-less w timer.device timer (at timer.device p.devices) here))
 
 -- ---- each step leaves less
 

@@ -4,6 +4,7 @@ pub mod SoftirqFacts
 pub mod ListedFacts
 pub mod KeptFacts
 pub mod ApplicationFacts
+pub mod TimerFacts
 pub mod StepFacts
 pub mod MachineFacts
 pub mod LeftFacts

@@ -465,10 +465,10 @@ impl Processor {
         match self.work {
             Work::Nothing => {}
             Work::Interrupt(number) => {
+                self.work = Work::Nothing;
                 if !is_polling(&self.settings) {
                     self.end_interrupt(number)?;
                 }
-                self.work = Work::Nothing;
             }
             Work::Poll(number) => self.look(number, 0)?,
             Work::Packet(packet) => {
@@ -627,7 +627,8 @@ impl Processor {
         ensures { OnOk result (ArrivesAt moment number self.old self.new) }
     {
         self.advance(moment)?;
-        self.come(alloc, moment, number)
+        self.come(alloc, moment, number)?;
+        Ok(())
     }
 
     /// After the last packet: the processor advances until nothing is left, and then the application goes on until it sleeps.
@@ -636,7 +637,8 @@ impl Processor {
     {
         self.advance(u64::MAX)?;
         self.application
-            .go_on_until(u64::MAX, self.settings.use_time)
+            .go_on_until(u64::MAX, self.settings.use_time)?;
+        Ok(())
     }
 
     /// What is reported of a device, if a packet arrived for it.
