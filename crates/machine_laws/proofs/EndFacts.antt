@@ -3,7 +3,7 @@ use Rattle.std.proofs.Common.{◌≡◌, ℕ, ◌+◌, ◌-◌, Bool, true, fals
 use Rattle.std.specs.{Option.option_map_or, Prelude.{if◌then◌else◌, option_map}}
 use Rattle.{machine_words.specs.declared.settings.Settings.Settings, device_places.specs.Places.{at, changed}}
 use Rattle.{machine_laws.specs.Fates.delivery_of, poll_runs.specs.declared.bench.{Next.TheVariants.{Gone, Repoll}, Once.Once}}
-use Rattle.std.{specs.Prelude.◌==◌, proofs.Common.◌∷◌}
+use Rattle.std.{specs.Prelude.{◌==◌, nat_lt}, proofs.Common.◌∷◌}
 use Rattle.machine_model.specs.declared.{processor.ProcessorCounts.ProcessorCounts, tasks.Task.TheVariants.Thread}
 use Rattle.machine_model.specs.{Kept.polled_by, Softirq.polled_once, Waits.held}
 use Rattle.std.proofs.Common.{ap}
@@ -18,7 +18,7 @@ pub record Looks (Q : Devices → Work → Type 0) (s : Settings) (now m given :
       → Q (changed (without_next s.backlog) m devices) (Packet (record { device = m; came = came; given = given }))
   pub none : next_packet_at s.backlog (at m devices) ≡ None
       → Q (changed (polled now given s) m (changed (without_next s.backlog) m devices)) Nothing
-  pub full : Q (changed (polled now given s) m devices) Nothing
+  pub full : nat_lt given s.weight ≡ false → Q (changed (polled now given s) m devices) Nothing
 
 -- what holds of what is delivered, of the devices and of the work as what is under way ends
 pub record Ends (Q : Option (ℕ × ℕ) → Devices → Work → Type 0) (p : ProcessorView) : Type 0 where
@@ -49,7 +49,7 @@ pub ends-looks : (Q : Devices → Work → Type 0) (n given : ℕ) (p : Processo
 ends-looks Q n given p nothing l =
     let q : ProcessorView = record p { devices = changed (without_next p.settings.backlog) n p.devices } in
     looks-by (λ r. Q r.devices r.work) n given p (λ came is less. l.some came is) (λ none. ends-polled Q n given q nothing (l.none none))
-    (λ full. ends-polled Q n given p nothing l.full)
+    (λ full. ends-polled Q n given p nothing (l.full full))
 
 ends-packet : (Q : Devices → Work → Type 0) (n came given : ℕ) (p : ProcessorView) → p.work ≡ Nothing
     → Looks Q p.settings p.clock n given (changed (delivered p.clock came) n p.devices)

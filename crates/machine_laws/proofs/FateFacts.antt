@@ -292,7 +292,7 @@ looks-hold s n m given now xs ds plain is = record {
   none = λ none.
       at-kept queued (polled now given s) m n (changed (without_next s.backlog) m ds) (queued-polled now given s)
       ∙ (look-none s.backlog m n ds plain none ∙ is);
-  full = at-kept queued (polled now given s) m n ds (queued-polled now given s) ∙ is;
+  full = λ most. at-kept queued (polled now given s) m n ds (queued-polled now given s) ∙ is;
 }
 
 looks-more : (s : Settings) (n m given now : ℕ) (more xs : List ℕ) (ds : Devices)
@@ -300,7 +300,7 @@ looks-more : (s : Settings) (n m given now : ℕ) (more xs : List ℕ) (ds : Dev
 looks-more s n m given now more xs ds l = record {
   some = λ came next. ap (λ (ys : List ℕ). more ++ ys) (l.some came next);
   none = λ none. ap (λ (ys : List ℕ). more ++ ys) (l.none none);
-  full = ap (λ (ys : List ℕ). more ++ ys) l.full;
+  full = λ most. ap (λ (ys : List ℕ). more ++ ys) (l.full most);
 }
 
 -- nothing is taken without a backlog, nor without polling
@@ -503,7 +503,7 @@ looks-plain s n m given now ds single is =
     record {
       some = λ came some. next;
       none = λ none. at-kept taken_in (polled now given s) m n (changed (without_next s.backlog) m ds) (taken-polled now given s) ∙ next;
-      full = at-kept taken_in (polled now given s) m n ds (taken-polled now given s) ∙ is;
+      full = λ most. at-kept taken_in (polled now given s) m n ds (taken-polled now given s) ∙ is;
     }
 
 backed : (a b : Bool) → (a && b) ≡ false → (b ≡ false → ⊥) → a ≡ false

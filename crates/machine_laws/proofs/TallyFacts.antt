@@ -116,7 +116,7 @@ looks-given s n m given now batch old ds g =
       none = λ none.
           given-then now batch old (tally (at n ds)) (tally (at n (changed (polled now given s) m (changed (without_next s.backlog) m ds)))) g
           (at-kept tally (polled now given s) m n (changed (without_next s.backlog) m ds) (tally-polled now given s) ∙ next);
-      full =
+      full = λ most.
           given-then now batch old (tally (at n ds)) (tally (at n (changed (polled now given s) m ds))) g
           (at-kept tally (polled now given s) m n ds (tally-polled now given s));
     }
@@ -188,7 +188,7 @@ ends-there n p = record {
           some = λ came some. next;
           none = λ none.
               at-kept is_some (polled p.ends given p.settings) m n (changed (without_next backlog) m ds) (λ d. refl) ∙ next;
-          full = at-kept is_some (polled p.ends given p.settings) m n ds (λ d. refl) ∙ is;
+          full = λ most. at-kept is_some (polled p.ends given p.settings) m n ds (λ d. refl) ∙ is;
         }
 
 there-blind : Blind {A = Bool} is_some

@@ -342,7 +342,7 @@ looks-kept s t m given ds fits plain timers came = record {
         (λ n. subst (λ (xs : List ℕ). AllByRecursion (λ x. x ≤ t) xs) (sym (look-none s.backlog m n ds (plain n) none)) (came n));
     hand = λ hand same. cc same;
   };
-  full = record {
+  full = λ most. record {
     timers = lates-polled t t given s m ds (omega arith) fits timers;
     came = came-changed t (polled t given s) m ds (queued-polled t given s) came;
     hand = λ hand same. cc same;
