@@ -155,7 +155,7 @@ fews-walk s n count = record {
   settle = λ tasks p h is. record { few = h.few };
   thread = λ m more p free h threaded is. record { few = h.few };
   uses = λ came more p free h none is quiet first. record { few = h.few };
-  stays = λ p free h still. h;
+  stays = λ p free h still settled. h;
 }
 
 fews-takes : (s : Settings) (n count : ℕ) (p : ProcessorView) → Goes s p → Few s count (at n p.devices) → Few s count (at n (takes_up p).devices)
@@ -321,7 +321,7 @@ ends-few : (s : Settings) (n count : ℕ) (p : ProcessorView) → Goes s p → S
     → (is_polling s ≡ false → count ≡ 0) → Ends (λ o ds w. Few s (emptied_by n p.work p count) (at n ds)) p
 unfolding defer_in
 ends-few s n count p goes stands few lone = record {
-  rest = λ none. few-count s count (emptied_by n p.work p count) (at n p.devices) (emptied-rest n count p.work p none) few;
+  rest = λ none polls. few-count s count (emptied_by n p.work p count) (at n p.devices) (emptied-rest n count p.work p none) few;
   silent = λ m is single none.
       few-lone s n count p (changed raised_again m p.devices) (ap polled_by is) (zero single) few
       (at-kept defer_in raised_again m n p.devices (λ d. refl));

@@ -22,7 +22,7 @@ pub record Looks (Q : Devices → Work → Type 0) (s : Settings) (now m given :
 
 -- what holds of what is delivered, of the devices and of the work as what is under way ends
 pub record Ends (Q : Option (ℕ × ℕ) → Devices → Work → Type 0) (p : ProcessorView) : Type 0 where
-  pub rest : polled_by p.work ≡ None → Q None p.devices Nothing
+  pub rest : polled_by p.work ≡ None → ((m : ℕ) → p.work ≡ Interrupt m → is_polling p.settings ≡ true) → Q None p.devices Nothing
   pub silent : (m : ℕ) → p.work ≡ Interrupt m → is_polling p.settings ≡ false → next_packet_at false (at m p.devices) ≡ None
       → Q None (changed raised_again m p.devices) Nothing
   pub lone : (m came : ℕ) → p.work ≡ Interrupt m → is_polling p.settings ≡ false → next_packet_at false (at m p.devices) ≡ Some came
@@ -71,7 +71,7 @@ ends-work : (Q : Option (ℕ × ℕ) → Devices → Work → Type 0) (w : Work)
     → let q : ProcessorView = record p { clock = p.ends; work = Nothing; counts = counts } in
     Q (delivery_of w p) (ends_by w q).devices (ends_by w q).work
 unfolding ends_interrupt
-ends-work Q Nothing p counts is e = e.rest (ap polled_by is)
+ends-work Q Nothing p counts is e = e.rest (ap polled_by is) (λ m same. cc (is, same))
 ends-work Q (Interrupt m) p counts is e = by (is_polling p.settings) refl
   where
     q : ProcessorView
@@ -83,14 +83,14 @@ ends-work Q (Interrupt m) p counts is e = by (is_polling p.settings) refl
     by : (b : Bool) → is_polling p.settings ≡ b
         → Q (if b then None else option_map (λ (came : ℕ). (m, came)) o) (if b then q else ends_interrupt m q).devices
         (if b then q else ends_interrupt m q).work
-    by true polling = e.rest (ap polled_by is)
+    by true polling = e.rest (ap polled_by is) (λ k same. polling)
     by false lone = ends-lone Q m q o refl (λ none. e.silent m is lone none) (λ came some. e.lone m came is lone some)
 ends-work Q (Poll m) p counts is e =
     ends-looks (Q None) m 0 (record p { clock = p.ends; work = Nothing; counts = counts }) refl (e.poll m is)
 ends-work Q (Packet hand) p counts is e =
     ends-packet (Q (Some (hand.device, hand.came))) hand.device hand.came (hand.given + 1)
     (record p { clock = p.ends; work = Nothing; counts = counts }) refl (e.packet hand is)
-ends-work Q (Use came) p counts is e = e.rest (ap polled_by is)
+ends-work Q (Use came) p counts is e = e.rest (ap polled_by is) (λ m same. cc (is, same))
 
 -- what is under way ends
 pub ends : (Q : Option (ℕ × ℕ) → Devices → Work → Type 0) (p : ProcessorView) → Ends Q p

@@ -443,7 +443,7 @@ stand-walk s n =
       uses = λ came more p free h none is quiet first. record {
         even = even-of s n 0 (by_thread s 0) p (uses (came ∷ more) p) h.even refl refl refl (no-thread s);
       };
-      stays = λ p free h still. record {
+      stays = λ p free h still settled. record {
         even =
             even-of s n 0 (by_thread s (polled_at n p.work)) p p h.even refl refl refl
             (ap (λ (w : Work). by_thread s (polled_at n w)) free.nothing ∙ no-thread s);
